@@ -1,0 +1,5 @@
+pub mod Keys
+pub mod Puts
+pub mod Records
+pub mod Sectors
+pub mod Steps

@@ -1,0 +1,38 @@
+-- The program's calls and replies as those of the definitions.
+use Rattle.std.specs.Prelude.{List, ℕ, Option, Some, None, Result, Ok, Err}
+use Rattle.std.specs.Borrow.{Bor}
+use Rattle.dbm_model.specs.Calls as model
+use Rattle.dbm_file.specs.Faults.{fault_of}
+use Rattle.dbm_file.specs.declared.fault.Fault.{Fault}
+use Rattle.dbm_file.specs.declared.calls.StoreMode.{StoreMode}
+use Rattle.dbm_file.specs.declared.calls.StoreMode.TheVariants.{Replace}
+use Rattle.dbm_file.specs.declared.calls.StoreReply.{StoreReply}
+use Rattle.dbm_file.specs.declared.calls.StoreReply.TheVariants as stored
+use Rattle.dbm_file.specs.declared.calls.Call.{Call}
+use Rattle.dbm_file.specs.declared.calls.Call.TheVariants.{Store, Fetch}
+use Rattle.dbm_file.specs.declared.calls.Reply.{Reply}
+use Rattle.dbm_file.specs.declared.calls.Reply.TheVariants.{Stored, Bytes, NoRecord, Refused}
+
+abbrev pub mode_of : StoreMode → model.Mode
+mode_of Replace = model.Replace
+
+abbrev pub call_of : Call → model.Call
+call_of (Store key content mode) = model.Store key content (mode_of mode)
+call_of (Fetch key) = model.Fetch key
+
+abbrev pub reply_of : Reply → model.Reply
+reply_of Stored = model.Stored
+reply_of (Bytes bytes) = model.Bytes bytes
+reply_of NoRecord = model.NoRecord
+reply_of (Refused fault) = model.Refused (fault_of fault)
+
+-- what a store answers
+abbrev pub store_reply : Result StoreReply Fault → model.Reply
+store_reply (Ok stored.Stored) = model.Stored
+store_reply (Err fault) = model.Refused (fault_of fault)
+
+-- what a fetch answers
+abbrev pub fetch_reply : Result (Option (Bor (List ℕ))) Fault → model.Reply
+fetch_reply (Ok None) = model.NoRecord
+fetch_reply (Ok (Some content)) = model.Bytes content.now
+fetch_reply (Err fault) = model.Refused (fault_of fault)

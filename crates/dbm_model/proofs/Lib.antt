@@ -1,0 +1,10 @@
+pub mod Bodies
+pub mod Buckets
+pub mod CaseLemmas
+pub mod Metas
+pub mod Numbers
+pub mod RunLemmas
+pub mod Runs
+pub mod Texts
+pub mod WordLemmas
+pub mod Writes

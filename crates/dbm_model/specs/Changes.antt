@@ -1,0 +1,33 @@
+-- What calls do to the map, told from the replies alone.
+use Rattle.std.specs.Prelude.{◌≡◌, ◌⊎◌, true, false}
+use Rattle.std.specs.FinMap.{insert, remove}
+use Rattle.dbm_model.specs.Calls.{Call, Store, Delete, Reply, Stored, Deleted, Refused, Device, is_changing}
+use Rattle.dbm_model.specs.Pairs.{Contents}
+use Rattle.dbm_model.specs.States.{Handle}
+use Rattle.dbm_model.specs.Steps.{Step}
+
+-- the map after a call that was answered so
+abbrev pub map_after : Contents → Call → Reply → Contents
+map_after map (Store key content mode) Stored = insert map key content
+map_after map (Delete key) Deleted = remove map key
+map_after map call reply = map
+
+-- the map that a change asks for, done or not
+abbrev pub map_asked : Contents → Call → Contents
+map_asked map (Store key content mode) = insert map key content
+map_asked map (Delete key) = remove map key
+map_asked map call = map
+
+-- only an acknowledged change changes the map of a handle that stays usable
+abbrev pub OnlyAcknowledgedChanges : Type 0
+OnlyAcknowledgedChanges = (before after : Handle) (call : Call) (reply : Reply) → Step before call reply after → after.state.usable ≡ true → after.state.map ≡ map_after before.state.map call reply
+
+-- a handle breaks only by a fault of the device in a change, and its file then stands for the old map or the new one
+abbrev pub OnlyChangesBreak : Type 0
+OnlyChangesBreak = (before after : Handle) (call : Call) (reply : Reply) → Step before call reply after → before.state.usable ≡ true → after.state.usable ≡ false →
+    (is_changing call ≡ true) × (reply ≡ Refused Device) × ((after.state.map ≡ before.state.map) ⊎ (after.state.map ≡ map_asked before.state.map call))
+
+-- a broken handle stays broken, and its map stays
+abbrev pub BrokenStays : Type 0
+BrokenStays = (before after : Handle) (call : Call) (reply : Reply) → Step before call reply after → before.state.usable ≡ false →
+    (after.state.usable ≡ false) × (after.state.map ≡ before.state.map)

@@ -1,0 +1,47 @@
+-- Small runs, worked out by hand.
+use Rattle.std.specs.Prelude.{ℕ, false, true, List, [], ◌∷◌}
+use Rattle.std.specs.FinMap.{empty}
+use Rattle.dbm_model.specs.Calls.{Insert, Replace, Call, Store, Fetch, Delete, First, Next, Error, Reply, Stored, Kept, Deleted, Absent, Bytes, NoRecord, End, Number, Refused, NoPass, Full}
+use Rattle.dbm_model.specs.States.{Handle, fresh}
+use Rattle.dbm_model.specs.Steps.{Run}
+
+-- a new database of that limit over a device that has not failed
+abbrev pub new_database : ℕ → Handle
+new_database limit = record { state = fresh empty limit true; faults = 0; is_short = false }
+
+-- a new database may answer the calls so
+pub record MayAnswer (limit : ℕ) (calls : List Call) (replies : List Reply) : Type 0 where
+  pub after : Handle
+  pub run : Run (new_database limit) calls replies after
+
+abbrev pub one : ℕ → List ℕ
+one byte = byte ∷ []
+
+-- a content is stored and fetched, an insert keeps it, no bytes are a key too, and what is deleted is gone
+abbrev pub StoresAndDeletes : Type 0
+StoresAndDeletes = MayAnswer 100
+    (Store (one 0x6b) (one 0x76) Replace ∷ Fetch (one 0x6b) ∷ Store (one 0x6b) (one 0x77) Insert ∷ Fetch (one 0x6b) ∷ Store [] [] Replace ∷ Fetch [] ∷ Fetch (one 0x00)
+    ∷ Delete (one 0x6b) ∷ Delete (one 0x6b) ∷ Error ∷ [])
+    (Stored ∷ Bytes (one 0x76) ∷ Kept ∷ Bytes (one 0x76) ∷ Stored ∷ Bytes [] ∷ NoRecord ∷ Deleted ∷ Absent ∷ Number 0 ∷ [])
+
+-- at the limit a new key is refused, and a key that is there is not; the first fault is kept
+abbrev pub StopsAtLimit : Type 0
+StopsAtLimit = MayAnswer 1
+    (Store (one 0x61) (one 0x01) Replace ∷ Store (one 0x62) (one 0x01) Replace ∷ Store (one 0x61) (one 0x03) Insert ∷ Store (one 0x61) (one 0x02) Replace ∷ Fetch (one 0x61) ∷ Next ∷ Error ∷ [])
+    (Stored ∷ Refused Full ∷ Kept ∷ Stored ∷ Bytes (one 0x02) ∷ Refused NoPass ∷ Number 6 ∷ [])
+
+-- a pass has to be begun, ends at once where there is no key, and its fault is told
+abbrev pub PassesOverNothing : Type 0
+PassesOverNothing = MayAnswer 100 (Next ∷ First ∷ Next ∷ Error ∷ []) (Refused NoPass ∷ End ∷ End ∷ Number 7 ∷ [])
+
+-- neither a fetch nor an insert that keeps the content ends a pass
+abbrev pub PassesOn : Type 0
+PassesOn = MayAnswer 100
+    (Store (one 0x61) (one 0x01) Replace ∷ First ∷ Fetch (one 0x61) ∷ Store (one 0x61) (one 0x02) Insert ∷ Next ∷ Next ∷ [])
+    (Stored ∷ Bytes (one 0x61) ∷ Bytes (one 0x01) ∷ Kept ∷ End ∷ End ∷ [])
+
+-- a store ends a pass
+abbrev pub EndsPass : Type 0
+EndsPass = MayAnswer 100
+    (Store (one 0x61) (one 0x01) Replace ∷ First ∷ Store (one 0x61) (one 0x02) Replace ∷ Next ∷ First ∷ [])
+    (Stored ∷ Bytes (one 0x61) ∷ Stored ∷ Refused NoPass ∷ Bytes (one 0x61) ∷ [])

@@ -1,0 +1,47 @@
+-- The state of an open database, as its callers know it. It has no page and no file.
+use Rattle.std.specs.Prelude.{ℕ, Bool, true, Option, Some, None}
+use Rattle.std.specs.FinSet.{FinSet}
+use Rattle.dbm_model.specs.Calls.{Fault, number_of}
+use Rattle.dbm_model.specs.Pairs.{Contents, key_cmp}
+
+abbrev pub Keys : Type 0
+Keys = FinSet key_cmp
+
+pub record State : Type 0 where
+  pub map : Contents
+  -- how many pairs there may be
+  pub limit : ℕ
+  -- the first fault since the opening or the last dbm_clearerr
+  pub error : Option Fault
+  -- the keys that a pass has yet to give, where one was begun and no change ended it
+  pub pass : Option Keys
+  -- opened for changes
+  pub writable : Bool
+  -- no change has been left in doubt
+  pub usable : Bool
+
+-- just opened
+abbrev pub fresh : Contents → ℕ → Bool → State
+fresh map limit writable = record { map = map; limit = limit; error = None; pass = None; writable = writable; usable = true }
+
+-- the first fault is kept
+abbrev pub first_fault : Option Fault → Fault → Option Fault
+first_fault None fault = Some fault
+first_fault (Some earlier) fault = Some earlier
+
+-- after a refusal (POSIX: the error condition of the database is set)
+abbrev pub flagged : Fault → State → State
+flagged fault s = record s { error = first_fault s.error fault }
+
+-- what dbm_error gives
+abbrev pub error_number : Option Fault → ℕ
+error_number None = 0
+error_number (Some fault) = number_of fault
+
+-- an open database together with what its callers can't choose
+pub record Handle : Type 0 where
+  pub state : State
+  -- how often the device below has failed
+  pub faults : ℕ
+  -- the file may lack room for a change
+  pub is_short : Bool

@@ -1,0 +1,172 @@
+-- How far a script has been answered.
+use Rattle.std.proofs.Common.{◌≡◌, ◌≢◌, ◌⊎◌, inl, inr, ℕ, suc, ◌+◌, ◌<◌, ◌≤◌, ◌==◌, nat_lt, Bool, true, false, cond, List, [], ◌∷◌, ◌++◌, length, take, map, Option, Some, None, IfSome, Result, Ok, Err, OnOk, IfOk, is_ok, refl, sym, ap, subst, ◌∙◌, arith, append-nil, append_assoc}
+use Rattle.std.specs.Io.KnownBytes.{Appends}
+use Rattle.std.proofs.lemmas.List.{take_all, length-take-le}
+use Rattle.std.proofs.lemmas.Bool.Decides.{leb_tells}
+use Rattle.dbm_model.specs.Calls.{Call, Reply}
+use Rattle.dbm_model.specs.Lines.{lines_of, onto_line, call_of, call_of_words, words_in, reply_line, bad_line}
+use Rattle.dbm_model.specs.Scripts.{calls_in, answer_of}
+use Rattle.dbm_model.specs.States.{Handle}
+use Rattle.dbm_model.specs.Steps.{Step, Run}
+use Rattle.dbm_model.proofs.Runs.{run-push}
+use Rattle.dbm_tool.specs.Offered.{offered, offered_script}
+use Rattle.dbm_tool.specs.Reading.{line_bytes, after_line, ReadsLine, IsCounted}
+use Rattle.dbm_tool.specs.Scripts.{RunsTo, AnswersScript, AnswersLine}
+
+-- the first line of a text and the lines of the rest
+first_line : (x : ℕ) (xs : List ℕ) → lines_of (x ∷ xs) ≡ line_bytes (x ∷ xs) ∷ lines_of (after_line (x ∷ xs))
+first_line x [] = elim (x == 10) as (λ b. cond b ([] ∷ []) ((x ∷ []) ∷ []) ≡ cond b [] (x ∷ []) ∷ lines_of (cond b [] [])) [ true ↦ refl | false ↦ refl ]
+first_line x (y ∷ ys) = elim (x == 10) as (λ b. cond b ([] ∷ lines_of (y ∷ ys)) (onto_line x (lines_of (y ∷ ys))) ≡ cond b [] (x ∷ line_bytes (y ∷ ys)) ∷ lines_of (cond b (y ∷ ys) (after_line (y ∷ ys)))) [
+  | true ↦ refl
+  | false ↦ ap (onto_line x) (first_line y ys)
+]
+
+-- a call of a line that is not longer than the limit
+limited : ℕ → List ℕ → Option Call
+limited limit line = cond (nat_lt limit (length line)) None (call_of_words (words_in line))
+
+-- a byte past the limit tells as much as the whole line
+limited-take : (limit : ℕ) (line : List ℕ) → limited limit (take (suc limit) line) ≡ limited limit line
+unfolding limited
+limited-take limit line = elim (leb_tells (suc limit) (length line)) [
+  | inl w ↦ elim (leb_tells (suc limit) (length (take (suc limit) line))) [
+    | inl cut ↦ rw (w.0, cut.0) refl
+    | inr cut ↦ absurd (omega (arith, cut.1, length-take-le (suc limit) line w.1))
+  ]
+  | inr w ↦ rw (take_all (suc limit) line (omega (arith, w.1))) refl
+]
+
+call_of-take : (line : List ℕ) → call_of (take 8193 line) ≡ call_of line
+unfolding limited
+call_of-take line = limited-take 8192 line
+
+-- the first line of a script and the rest
+first_call : (x : ℕ) (xs line : List ℕ) → line ≡ take 8193 (line_bytes (x ∷ xs)) → offered_script (x ∷ xs) ≡ offered (call_of line) ∷ offered_script (after_line (x ∷ xs))
+first_call x xs line h = ap (λ lines. map offered (map call_of lines)) (first_line x xs) ∙ ap (λ call. offered call ∷ offered_script (after_line (x ∷ xs))) (sym (ap call_of h ∙ call_of-take (line_bytes (x ∷ xs))))
+
+calls_in-push : (script : List (Option Call)) (call : Option Call) → calls_in (script ++ call ∷ []) ≡ calls_in script ++ calls_in (call ∷ [])
+calls_in-push [] call = refl
+calls_in-push (None ∷ script) call = calls_in-push script call
+calls_in-push (Some earlier ∷ script) call = ap (λ calls. earlier ∷ calls) (calls_in-push script call)
+
+answer_of-bad : (before after : Handle) (script : List (Option Call)) (replies : List Reply) → Run before (calls_in script) replies after → answer_of (script ++ None ∷ []) replies ≡ answer_of script replies ++ bad_line
+answer_of-bad before after [] replies run = refl
+answer_of-bad before after (None ∷ script) replies run = ap (λ text. bad_line ++ text) (answer_of-bad before after script replies run) ∙ sym (append_assoc bad_line (answer_of script replies) bad_line)
+answer_of-bad before after (Some call ∷ script) [] run = absurd run
+answer_of-bad before after (Some call ∷ script) (reply ∷ replies) run = ap (λ text. reply_line reply ++ text) (answer_of-bad run.0 after script replies run.2) ∙ sym (append_assoc (reply_line reply) (answer_of script replies) bad_line)
+
+answer_of-call : (before after : Handle) (script : List (Option Call)) (replies : List Reply) (call : Call) (reply : Reply) → Run before (calls_in script) replies after → answer_of (script ++ Some call ∷ []) (replies ++ reply ∷ []) ≡ answer_of script replies ++ reply_line reply
+answer_of-call before after [] [] call reply run = append-nil (reply_line reply)
+answer_of-call before after [] (other ∷ replies) call reply run = absurd run
+answer_of-call before after (None ∷ script) replies call reply run = ap (λ text. bad_line ++ text) (answer_of-call before after script replies call reply run) ∙ sym (append_assoc bad_line (answer_of script replies) (reply_line reply))
+answer_of-call before after (Some earlier ∷ script) [] call reply run = absurd run
+answer_of-call before after (Some earlier ∷ script) (other ∷ replies) call reply run = ap (λ text. reply_line other ++ text) (answer_of-call run.0 after script replies call reply run.2) ∙ sym (append_assoc (reply_line other) (answer_of script replies) (reply_line reply))
+
+joined : (a b c : Option (List ℕ)) (first second : List ℕ) → Appends a b first → Appends b c second → Appends a c (first ++ second)
+joined None b c first second p q = tt
+joined (Some x) None c first second p q = absurd p
+joined (Some x) (Some y) None first second p q = absurd q
+joined (Some x) (Some y) (Some z) first second p q = q ∙ ap (λ text. text ++ second) p ∙ append_assoc x first second
+
+-- of a script, what was answered and what is left
+abbrev pub IsLeft : Option (List ℕ) → Option (List ℕ) → List (Option Call) → Type 0
+IsLeft None now done = Unit {0}
+IsLeft (Some text) None done = ⊥
+IsLeft (Some text) (Some rest) done = done ++ offered_script rest ≡ offered_script text
+
+-- how far a script has been answered
+pub record IsAnswered (before after : Handle) (first now old new : Option (List ℕ)) : Type 0 where
+  pub done : List (Option Call)
+  pub answered : AnswersScript done before after old new
+  pub left : IsLeft first now done
+
+pub at_start : (h : Handle) (first old : Option (List ℕ)) → IsAnswered h h first first old old
+at_start h None None = record { done = []; answered = record { replies = []; run = refl; written = tt }; left = tt }
+at_start h None (Some text) = record { done = []; answered = record { replies = []; run = refl; written = sym (append-nil text) }; left = tt }
+at_start h (Some script) None = record { done = []; answered = record { replies = []; run = refl; written = tt }; left = refl }
+at_start h (Some script) (Some text) = record { done = []; answered = record { replies = []; run = refl; written = sym (append-nil text) }; left = refl }
+
+one_more : (before mid after : Handle) (old now new : Option (List ℕ)) (done : List (Option Call)) (call : Option Call) → AnswersScript done before mid old now → AnswersLine call mid after (λ text. Appends now new text) → AnswersScript (done ++ call ∷ []) before after old new
+one_more before mid after old now new done None h answer = record {
+  replies = h.replies;
+  run = rw (calls_in-push done None, append-nil (calls_in done), answer.0) h.run;
+  written = rw (answer_of-bad before mid done h.replies h.run) (joined old now new (answer_of done h.replies) bad_line h.written answer.1);
+}
+one_more before mid after old now new done (Some call) h answer = record {
+  replies = h.replies ++ answer.0 ∷ [];
+  run = rw (calls_in-push done (Some call)) (run-push before mid after (calls_in done) h.replies call answer.0 h.run answer.1);
+  written = rw (answer_of-call before mid done h.replies call answer.0 h.run) (joined old now new (answer_of done h.replies) (reply_line answer.0) h.written answer.2);
+}
+
+left_after : (first now next : Option (List ℕ)) (line : List ℕ) (done : List (Option Call)) → IsLeft first now done → IfSome now (λ text. ReadsLine 8193 text true line next) → IsLeft first next (done ++ offered (call_of line) ∷ [])
+left_after None now next line done h r = tt
+left_after (Some text) None next line done h r = absurd h
+left_after (Some text) (Some []) next line done h r = let e = r.0 in cc
+left_after (Some text) (Some (x ∷ xs)) next line done h r = rw (r.2) (append_assoc done (offered (call_of line) ∷ []) (offered_script (after_line (x ∷ xs))) ∙ ap (λ rest. done ++ rest) (sym (first_call x xs line r.1)) ∙ h)
+
+-- a line was read and answered
+pub go_on : (before mid after : Handle) (first now next old written new : Option (List ℕ)) (line : List ℕ) → IsAnswered before mid first now old written → IfSome now (λ text. ReadsLine 8193 text true line next) → AnswersLine (offered (call_of line)) mid after (λ text. Appends written new text) → IsAnswered before after first next old new
+go_on before mid after first now next old written new line h read answer = record {
+  done = h.done ++ offered (call_of line) ∷ [];
+  answered = one_more before mid after old written new h.done (offered (call_of line)) h.answered answer;
+  left = left_after first now next line h.done h.left read;
+}
+
+-- what is said where the writing went well
+pub said : {E : Type 0} (r : Result Unit E) (call : Option Call) (before after : Handle) (Says : List ℕ → Type 0) → is_ok r ≡ true → AnswersLine call before after (λ text. OnOk r (Says text)) → AnswersLine call before after Says
+said (Ok u) None before after Says ok answer = answer
+said (Ok u) (Some call) before after Says ok answer = answer
+said (Err e) call before after Says ok answer = cc
+
+-- the same of what is read
+pub read_well : {E : Type 0} (r : Result Bool E) (more : Bool) (P : Bool → Type 0) → r ≡ Ok more → IfOk r P → P more
+read_well (Ok b) more P e h = let same : b ≡ more = cc in rw (← same) h
+read_well (Err e) more P same h = cc
+
+-- no call leads from a handle to itself
+pub no_call : (h : Handle) → RunsTo h h
+no_call h = record { calls = []; replies = []; run = refl }
+
+-- the calls that were made stand
+pub stand : (before after : Handle) (first now old new : Option (List ℕ)) → IsAnswered before after first now old new → RunsTo before after
+stand before after first now old new h = record { calls = calls_in h.done; replies = h.answered.replies; run = h.answered.run }
+
+-- so does a call whose reply was not written
+pub stand_with : (before mid after : Handle) (first now old new : Option (List ℕ)) (call : Option Call) (Says : List ℕ → Type 0) → IsAnswered before mid first now old new → AnswersLine call mid after Says → RunsTo before after
+stand_with before mid after first now old new None Says h answer = rw (answer.0) (stand before mid first now old new h)
+stand_with before mid after first now old new (Some call) Says h answer = record {
+  calls = calls_in h.done ++ call ∷ [];
+  replies = h.answered.replies ++ answer.0 ∷ [];
+  run = run-push before mid after (calls_in h.done) h.answered.replies call answer.0 h.answered.run answer.1;
+}
+
+whole : (before after : Handle) (text : List ℕ) (now next old new : Option (List ℕ)) (line : List ℕ) (done : List (Option Call)) → IsLeft (Some text) now done → AnswersScript done before after old new → IfSome now (λ text. ReadsLine 8193 text false line next) → AnswersScript (offered_script text) before after old new
+whole before after text None next old new line done left h read = absurd left
+whole before after text (Some []) next old new line done left h read = subst (λ (script : List (Option Call)). AnswersScript script before after old new) (sym (append-nil done) ∙ left) h
+whole before after text (Some (x ∷ xs)) next old new line done left h read = let e = read.0 in cc
+
+-- at the end of the text the whole script is answered
+pub at_end : (before after : Handle) (first now next old new : Option (List ℕ)) (line : List ℕ) → IsAnswered before after first now old new → IfSome now (λ text. ReadsLine 8193 text false line next) → IfSome first (λ text. AnswersScript (offered_script text) before after old new)
+at_end before after None now next old new line h read = tt
+at_end before after (Some text) now next old new line h read = whole before after text now next old new line h.done h.left h.answered read
+
+-- and nothing is left of the text
+pub nothing_left : (before after : Handle) (first now next old new : Option (List ℕ)) (line : List ℕ) → IsAnswered before after first now old new → IfSome now (λ text. ReadsLine 8193 text false line next) → IfSome first (λ text. next ≡ Some [])
+nothing_left before after None now next old new line h read = tt
+nothing_left before after (Some text) None next old new line h read = absurd h.left
+nothing_left before after (Some text) (Some []) next old new line h read = read.1
+nothing_left before after (Some text) (Some (x ∷ xs)) next old new line h read = let e = read.0 in cc
+
+-- more is counted where more is read
+pub counted_on : (first now next : Option (List ℕ)) (start before after : ℕ) → IsCounted first start now before → IsCounted now before next after → IsCounted first start next after
+counted_on None now next start before after h more = tt
+counted_on (Some text) None next start before after h more = absurd h
+counted_on (Some text) (Some rest) None start before after h more = absurd more
+counted_on (Some text) (Some rest) (Some later) start before after h more = omega (arith, h, more)
+
+-- a text of which nothing is left has no more bytes than the count began with
+pub not_longer : (first next : Option (List ℕ)) (start after : ℕ) → IsCounted first start next after → IfSome first (λ text. next ≡ Some []) → IfSome first (λ text. length text ≤ start)
+not_longer None next start after h end = tt
+not_longer (Some text) None start after h end = absurd h
+not_longer (Some text) (Some []) start after h end = omega (arith, h)
+not_longer (Some text) (Some (x ∷ xs)) start after h end = cc

@@ -1,0 +1,5 @@
+pub mod Reading
+pub mod Splits
+pub mod Requests
+pub mod Answering
+pub mod Flushing

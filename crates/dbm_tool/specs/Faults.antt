@@ -1,0 +1,19 @@
+-- How a fault is told.
+use Rattle.std.specs.Prelude.{ℕ, List, ◌++◌, codes}
+use Rattle.std.specs.Fmt.{decimal}
+use Rattle.dbm_model.specs.Calls.{number_of}
+use Rattle.dbm_model.specs.Lines.{with_line_feed}
+use Rattle.dbm_file.specs.Faults.{fault_of}
+use Rattle.dbm_tool.specs.declared.engine_fault.EngineFault.{EngineFault}
+use Rattle.dbm_tool.specs.declared.engine_fault.EngineFault.TheVariants.{Memory, Read, Write, Line, Db}
+
+abbrev pub fault_text : EngineFault → List ℕ
+fault_text Memory = codes "fault 1"
+fault_text Read = codes "read"
+fault_text Write = codes "write"
+fault_text (Line n) = codes "line " ++ decimal n
+fault_text (Db fault) = codes "fault " ++ decimal (number_of (fault_of fault))
+
+-- the one line that tells a fault
+abbrev pub fault_line : EngineFault → List ℕ
+fault_line fault = with_line_feed (codes "dbmtool: " ++ fault_text fault)

@@ -1,0 +1,5 @@
+pub mod Faults
+pub mod Offered
+pub mod Reading
+pub mod Requests
+pub mod Scripts

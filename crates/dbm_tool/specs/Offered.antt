@@ -1,0 +1,13 @@
+-- The calls that a script may ask for so far.
+use Rattle.std.specs.Prelude.{ℕ, List, Option, Some, None, map}
+use Rattle.dbm_model.specs.Calls.{Mode, Insert, Replace, Call, Store, Fetch}
+use Rattle.dbm_model.specs.Scripts.{script_of}
+
+-- a store that replaces, and a fetch; a line of another call is bad
+abbrev pub offered : Option Call → Option Call
+offered (Some (Store key content Replace)) = Some (Store key content Replace)
+offered (Some (Fetch key)) = Some (Fetch key)
+offered _ = None
+
+abbrev pub offered_script : List ℕ → List (Option Call)
+offered_script text = map offered (script_of text)

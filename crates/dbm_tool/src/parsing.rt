@@ -1,0 +1,110 @@
+// Lines as requests.
+ghost use Rattle.std.specs.Prelude.{◌≡◌, ◌==◌, ◌≤◌, ◌*◌, ◌∷◌, [], IfSome, IfNone, length, position, codes, Option};
+ghost use Rattle.std.specs.Option.{option_map};
+ghost use Rattle.dbm_model.specs.Words.{bytes_of};
+ghost use Rattle.dbm_model.specs.Lines.{words_in, call_of, call_of_words};
+ghost use Rattle.dbm_tool.specs.Offered.{offered};
+ghost use Rattle.dbm_tool.specs.Requests.{asked};
+
+/// The bytes that a line may have.
+pub const LONGEST: usize = 8192;
+
+/// The bytes that a word of a line may stand for.
+pub const ROOM: usize = LONGEST / 2;
+
+/// What a line asks for.
+#[derive(Clone, Copy)]
+pub enum Request<'a> {
+    Store { key: &'a [u8], content: &'a [u8] },
+    Fetch { key: &'a [u8] },
+    /// No call that is offered.
+    Bad,
+}
+
+/// Reads a line without its line feed. The bytes of the words go to `key` and `content`.
+pub fn request_of<'a>(
+    line: &[u8],
+    key: &'a mut [u8; ROOM],
+    content: &'a mut [u8; ROOM],
+) -> Request<'a>
+    ensures { asked result ≡ offered (call_of line.now) }
+{
+    if line.len() > LONGEST {
+        return Request::Bad;
+    }
+    match split_word(line) {
+        Some((b"F", rest)) => fetch_request(rest, key),
+        Some((b"S", rest)) => store_request(rest, key, content),
+        _ => Request::Bad,
+    }
+}
+
+/// The request of a fetch, of the words after its name.
+fn fetch_request<'a>(words: &[u8], key: &'a mut [u8; ROOM]) -> Request<'a>
+    requires { length words.now ≤ 8192 }
+    ensures { asked result ≡ offered (call_of_words (codes "F" ∷ words_in words.now)) }
+{
+    if split_word(words).is_some() {
+        return Request::Bad;
+    }
+    match decode_word(words, key) {
+        Some(key) => Request::Fetch { key },
+        None => Request::Bad,
+    }
+}
+
+/// The request of a store, of the words after its name.
+fn store_request<'a>(
+    words: &[u8],
+    key: &'a mut [u8; ROOM],
+    content: &'a mut [u8; ROOM],
+) -> Request<'a>
+    requires { length words.now ≤ 8192 }
+    ensures { asked result ≡ offered (call_of_words (codes "S" ∷ words_in words.now)) }
+{
+    let Some((first, second)) = split_word(words) else {
+        return Request::Bad;
+    };
+    if split_word(second).is_some() {
+        return Request::Bad;
+    }
+    match (decode_word(first, key), decode_word(second, content)) {
+        (Some(key), Some(content)) => Request::Store { key, content },
+        _ => Request::Bad,
+    }
+}
+
+/// The word before the first space, and what is behind the space, if there is one.
+fn split_word(line: &[u8]) -> Option<(&[u8], &[u8])>
+    ensures split { IfSome result (λ parts. words_in line.now ≡ parts.0.now ∷ words_in parts.1.now) }
+    ensures shorter { IfSome result (λ parts. (length parts.0.now ≤ length line.now) × (length parts.1.now ≤ length line.now)) }
+    ensures single { IfNone result (words_in line.now ≡ line.now ∷ []) }
+{
+    let end = first_space(line)?;
+    Some((&line[..end], &line[end + 1..]))
+}
+
+/// Where the first space of a line stands, if there is one.
+fn first_space(line: &[u8]) -> Option<usize>
+    ensures { result ≡ position (λ byte. byte == 32) line.now }
+{
+    line.iter().position(|byte| *byte == b' ')
+}
+
+/// The bytes that a word stands for, put into `room`, if it is one.
+fn decode_word<'a>(word: &[u8], room: &'a mut [u8]) -> Option<&'a [u8]>
+    requires { length word.now ≤ 2 * length room.old }
+    ensures { option_map (λ bytes. bytes.now) result ≡ bytes_of word.now }
+{
+    if word == b".".as_slice() {
+        return Some(&[]);
+    }
+    if word.is_empty() || word.len() % 2 == 1 {
+        return None;
+    }
+    let bytes = &mut room[..word.len() / 2];
+    match hex::decode_to_slice(word, bytes) {
+        Ok(()) => Some(bytes),
+        Err(_) => None,
+    }
+}

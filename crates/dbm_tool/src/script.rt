@@ -1,0 +1,141 @@
+// The engine of a script.
+ghost use Rattle.std.specs.Prelude.{◌≡◌, ◌≤◌, ◌⊎◌, IfErr, OnOk, IfSome, Some, [], length};
+ghost use Rattle.std.specs.Io.KnownBytes.{Appends};
+ghost use Rattle.dbm_model.specs.Lines.{call_of};
+ghost use Rattle.dbm_model.specs.Calls.{Store, Fetch, Replace};
+ghost use Rattle.dbm_file.specs.Database.{handle_of};
+ghost use Rattle.dbm_tool.specs.Offered.{offered, offered_script};
+ghost use Rattle.dbm_tool.specs.Scripts.{RunsTo, AnswersScript, AnswersLine};
+
+use crate::EngineFault;
+use crate::lines::{KEPT, read_line};
+use crate::parsing::{ROOM, Request, request_of};
+use crate::replies::{
+    DIGITS, write_bad_line, write_content, write_no_record, write_refused, write_stored,
+};
+use arrayvec::ArrayVec;
+use dbm_file::{Db, StoreMode, StoreReply};
+use sect_dev::SectorDev;
+use std::alloc::Global;
+use std::io::{self, BufRead, Write};
+
+/// What the engine keeps between lines, so that no line takes memory.
+#[derive(Drop)]
+struct Buffers {
+    line: ArrayVec<u8, KEPT>,
+    key: [u8; ROOM],
+    content: [u8; ROOM],
+    digits: [u8; DIGITS],
+}
+
+impl Buffers {
+    fn new() -> Buffers {
+        Buffers {
+            line: ArrayVec::new(),
+            key: [0; ROOM],
+            content: [0; ROOM],
+            digits: [0; DIGITS],
+        }
+    }
+}
+
+/// Reads lines to the end, makes the call that each asks for, and writes one line for each: the reply,
+/// or `-1 line` where the line asks for no call. A line may have 8,192 bytes without its line feed, and
+/// a text 4,294,967,295. `Memory` comes before anything is read, `Read` where reading fails or the text
+/// is too long, and `Write` where writing fails; the calls made so far stand.
+pub fn script_engine<D: SectorDev, R: BufRead, W: Write>(
+    alloc: Global,
+    db: &mut Db<D>,
+    reader: &mut R,
+    writer: &mut W,
+) -> Result<(), EngineFault>
+    ensures read { OnOk result (IfSome (R.remaining reader.old) (λ text. R.remaining reader.new ≡ Some [])) }
+    ensures size { OnOk result (IfSome (R.remaining reader.old) (λ text. length text ≤ 4294967295)) }
+    ensures answer { OnOk result (IfSome (R.remaining reader.old) (λ text.
+        AnswersScript (offered_script text) (handle_of db.old) (handle_of db.new) (W.contents writer.old) (W.contents writer.new))) }
+
+    // Whatever it answers, the calls made so far stand.
+    ensures stands { RunsTo (handle_of db.old) (handle_of db.new) }
+    ensures memory { result ≡ Err EngineFault.Memory → (db.new ≡ db.old) × ((reader.new ≡ reader.old) × (writer.new ≡ writer.old)) }
+    ensures only { IfErr result (λ e. (e ≡ EngineFault.Memory) ⊎ ((e ≡ EngineFault.Read) ⊎ (e ≡ EngineFault.Write))) }
+{
+    let Ok(mut buffers) = Box::new(alloc, Buffers::new()) else {
+        return Err(EngineFault::Memory);
+    };
+    run_lines(db, reader, writer, &mut buffers)
+}
+
+/// The engine with its buffers.
+fn run_lines<D: SectorDev, R: BufRead, W: Write>(
+    db: &mut Db<D>,
+    reader: &mut R,
+    writer: &mut W,
+    buffers: &mut Buffers,
+) -> Result<(), EngineFault>
+    ensures read { OnOk result (IfSome (R.remaining reader.old) (λ text. R.remaining reader.new ≡ Some [])) }
+    ensures size { OnOk result (IfSome (R.remaining reader.old) (λ text. length text ≤ 4294967295)) }
+    ensures answer { OnOk result (IfSome (R.remaining reader.old) (λ text.
+        AnswersScript (offered_script text) (handle_of db.old) (handle_of db.new) (W.contents writer.old) (W.contents writer.new))) }
+    ensures stands { RunsTo (handle_of db.old) (handle_of db.new) }
+    ensures only { IfErr result (λ e. (e ≡ EngineFault.Read) ⊎ (e ≡ EngineFault.Write)) }
+{
+    let mut left = u32::MAX;
+    for _ in 0..u64::MAX {
+        let more = read_line(reader, &mut buffers.line, &mut left);
+        if !more.map_err(|_| EngineFault::Read)? {
+            return Ok(());
+        }
+        answer_line(db, buffers, writer).map_err(|_| EngineFault::Write)?;
+    }
+    Err(EngineFault::Read)
+}
+
+/// Makes the call that the line asks for, and writes the line that answers it.
+fn answer_line<D: SectorDev, W: Write>(
+    db: &mut Db<D>,
+    buffers: &mut Buffers,
+    writer: &mut W,
+) -> io::Result<()>
+    ensures { AnswersLine (offered (call_of buffers.old.line.items)) (handle_of db.old) (handle_of db.new)
+        (λ text. OnOk result (Appends (W.contents writer.old) (W.contents writer.new) text)) }
+{
+    let line = buffers.line.as_slice();
+    match request_of(line, &mut buffers.key, &mut buffers.content) {
+        Request::Store { key, content } => answer_store(db, key, content, writer),
+        Request::Fetch { key } => answer_fetch(db, key, &mut buffers.digits, writer),
+        Request::Bad => write_bad_line(writer),
+    }
+}
+
+/// Stores, and writes the reply.
+fn answer_store<D: SectorDev, W: Write>(
+    db: &mut Db<D>,
+    key: &[u8],
+    content: &[u8],
+    writer: &mut W,
+) -> io::Result<()>
+    ensures { AnswersLine (Some (Store key.now content.now Replace)) (handle_of db.old) (handle_of db.new)
+        (λ text. OnOk result (Appends (W.contents writer.old) (W.contents writer.new) text)) }
+{
+    match db.store(key, content, StoreMode::Replace) {
+        Ok(StoreReply::Stored) => write_stored(writer),
+        Err(fault) => write_refused(writer, fault),
+    }
+}
+
+/// Fetches, and writes the reply before the next call ends the content that is lent.
+fn answer_fetch<D: SectorDev, W: Write>(
+    db: &mut Db<D>,
+    key: &[u8],
+    digits: &mut [u8; DIGITS],
+    writer: &mut W,
+) -> io::Result<()>
+    ensures { AnswersLine (Some (Fetch key.now)) (handle_of db.old) (handle_of db.new)
+        (λ text. OnOk result (Appends (W.contents writer.old) (W.contents writer.new) text)) }
+{
+    match db.fetch(key) {
+        Ok(Some(content)) => write_content(writer, content, digits),
+        Ok(None) => write_no_record(writer),
+        Err(fault) => write_refused(writer, fault),
+    }
+}

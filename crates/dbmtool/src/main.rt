@@ -1,0 +1,29 @@
+//! The program: its words and its standard streams.
+#![tactic(auto)]
+
+use dbm_tool::{out_of_memory, tool};
+use std::env;
+use std::io::{self, BufReader, BufWriter, Write};
+use std::process::ExitCode;
+
+fn main(rt: HostRuntime) -> ExitCode {
+    let mut faults = rt.stderr();
+    let status = run(&rt, &mut faults).unwrap_or_else(|_| out_of_memory(&mut faults));
+    ExitCode::from(status)
+}
+
+/// The exit status. An error where there is no memory for the words or the streams.
+fn run<F: Write>(rt: &HostRuntime, faults: &mut F) -> io::Result<u8> {
+    let alloc = rt.alloc();
+    let mut words: Vec<String> = Vec::new(alloc);
+    for word in env::args(rt)?.skip(1) {
+        words.push(word)?;
+    }
+    let mut texts: Vec<&str> = Vec::with_capacity(alloc, words.len())?;
+    for word in words.iter() {
+        texts.push(word.as_str())?;
+    }
+    let mut input = BufReader::new(alloc, rt.stdin())?;
+    let mut output = BufWriter::new(alloc, rt.stdout())?;
+    Ok(tool(alloc, texts.as_slice(), &mut input, &mut output, faults))
+}

@@ -1,0 +1,8 @@
+pub mod Fields
+pub mod PageLaws
+pub mod Overlays
+pub mod PageLists
+mod Places
+pub mod StagedPages
+pub mod Runs
+pub mod Memory

@@ -1,0 +1,18 @@
+//! Pages of four sectors over a device, and stores of pages that change whole or not at all.
+#![tactic(auto)]
+
+mod byte_change;
+mod mem_pages;
+mod page;
+mod sectors;
+mod staged;
+mod store;
+#[cfg(test)]
+mod tests;
+
+pub use byte_change::replace_byte;
+pub use mem_pages::MemPages;
+pub use page::{PAGE_LEN, Page, SECTORS_PER_PAGE};
+pub use sectors::{read_page, write_page};
+pub use staged::{find_staged, is_among, put_staged};
+pub use store::{PageFault, PageStore};

@@ -1,0 +1,57 @@
+-- What the calls of a sector device do, and what a stop may leave.
+use Rattle.std.specs.Prelude.{◌≡◌, ◌⊎◌, ◌+◌, ◌-◌, ◌^◌, ◌≤◌, ℕ, min, ◌==◌, if◌then◌else◌, List, Result, OnErr}
+
+-- the content of each sector
+abbrev pub Image : Type 0
+Image = ℕ → List ℕ
+
+-- the image with this content in that sector
+abbrev pub with_sector : Image → ℕ → List ℕ → Image
+with_sector image n content = λ m. if m == n then content else image m
+
+-- which contents a sector may have
+abbrev pub Candidates : Type 1
+Candidates = ℕ → List ℕ → Type 0
+
+-- an image takes one candidate for each sector, independently of the others
+abbrev pub IsImageOf : Candidates → Image → Type 0
+IsImageOf candidate image = (n : ℕ) → candidate n (image n)
+
+-- no sector has a candidate that it did not have before
+abbrev pub NoNewCandidate : Candidates → Candidates → Type 0
+NoNewCandidate old new = (m : ℕ) (c : List ℕ) → new m c → old m c
+
+-- the same candidates, and this content for sector n
+abbrev pub with_candidate : Candidates → ℕ → List ℕ → Candidates
+with_candidate candidate n content = λ m c. candidate m c ⊎ ((m ≡ n) × (c ≡ content))
+
+-- each sector's only candidate is its content in the image
+abbrev pub IsStable : Candidates → Image → Type 0
+IsStable candidate image = (m : ℕ) (c : List ℕ) → candidate m c → c ≡ image m
+
+-- a failed write has happened or not
+abbrev pub IsWrittenOrNot : Image → ℕ → List ℕ → Image → Type 0
+IsWrittenOrNot old n content new = (new ≡ old) ⊎ (new ≡ with_sector old n content)
+
+-- Time goes on: a stop since t may have left what it may have left before, or what it may leave now.
+-- X is what is left: an image, or what the layers above read in one.
+pub record Elapses {X : Type 0} (before now : ℕ) (past since : ℕ → X → Type 0) (may_leave : X → Type 0) : Type 0 where
+  pub later : before ≤ now
+  pub nothing_else : (t : ℕ) (x : X) → t ≤ before → since t x → past t x ⊎ may_leave x
+  pub keeps : (t : ℕ) (x : X) → t ≤ before → past t x → since t x
+
+-- the count of faults rose, unless it stands at its greatest value
+abbrev pub MoreFaults : ℕ → ℕ → Type 0
+MoreFaults before now = min (before + 1) (2 ^ 64 - 1) ≤ now
+
+-- an `Err` comes only with a fault
+pub record HasCause {T E : Type 0} (before now : ℕ) (result : Result T E) : Type 0 where
+  pub later : before ≤ now
+  pub fault : OnErr result (MoreFaults before now)
+
+-- Whatever a stop at some moment since old may leave has P.
+pub record LeavesOnly {D X : Type 0} (moment : D → ℕ) (left_since : D → ℕ → X → Type 0) (old new : D) (P : X → Type 0) : Type 0 where
+  pub later : moment old ≤ moment new
+  pub each : (x : X) → left_since new (moment old) x → P x
+  -- for a run that began earlier
+  pub before : (t : ℕ) (x : X) → t ≤ moment old → left_since new t x → left_since old t x ⊎ P x

@@ -1,0 +1,168 @@
+//! A device that fails some calls on purpose.
+ghost use Rattle.std.specs.Prelude.{◌≡◌, ◌⊎◌, ◌+◌, ◌-◌, ◌^◌, ◌<◌, min, ◌↔◌, ℕ, Bool, IsTrue, IsErr, OnOk, OnErr, true, false};
+ghost use Rattle.sect_dev.specs.Device.{with_sector, IsImageOf, NoNewCandidate, with_candidate, IsStable, IsWrittenOrNot, Elapses, HasCause, MoreFaults};
+
+use crate::{DevFault, SectorDev};
+
+/// Which of the calls to come fail. The next call is call 0.
+pub trait Plan: Drop {
+    /// Whether a read or a write that fails is passed on before.
+    const LATE: bool;
+
+    ghost LATE: { Bool };
+
+    ghost fails: { Self → ℕ → Bool };
+
+    /// Counts a call, and says whether it fails.
+    fn count(&mut self) -> bool
+        ensures now { result ≡ fails self.old 0 }
+        ensures next { (i : ℕ) → fails self.new i ≡ fails self.old (i + 1) };
+}
+
+/// A device that fails calls of read, write and sync by a plan, and counts each as a fault. `Fuse`,
+/// `FailOnce` and `FailLate` are the plans that there are.
+#[derive(Drop)]
+pub struct Failing<D: SectorDev, P: Plan> {
+    inner: D,
+    plan: P,
+    refused: u64,
+}
+
+// Counts a fault.
+fn refuse(refused: &mut u64) -> Result<(), DevFault>
+    ensures fails { IsErr result }
+    ensures count { refused.new ≡ min (refused.old + 1) (2 ^ 64 - 1) }
+    ensures cause { HasCause refused.old refused.new result }
+{
+    *refused = refused.saturating_add(1);
+    Err(DevFault)
+}
+
+impl<D: SectorDev, P: Plan> Failing<D, P> {
+    ghost use Rattle.sect_dev.specs.Failing.{inner_of, plan_of, all_faults};
+
+    pub(crate) fn with_plan(inner: D, plan: P) -> Failing<D, P>
+        ensures inner { inner_of result ≡ inner }
+        ensures plan { plan_of result ≡ plan }
+        ensures faults { all_faults D.faults result ≡ D.faults inner }
+    {
+        Failing {
+            inner,
+            plan,
+            refused: 0,
+        }
+    }
+
+    /// Gives the device back.
+    pub fn into_inner(self) -> D
+        ensures { result ≡ inner_of self }
+    {
+        let Failing {
+            inner,
+            plan: _,
+            refused: _,
+        } = self;
+        inner
+    }
+}
+
+impl<D: SectorDev, P: Plan> SectorDev for Failing<D, P> {
+    ghost use Rattle.sect_dev.specs.Failing.{inner_of, plan_of, all_faults, FollowsPlan};
+
+    ghost sectors = { λ f. D.sectors f.inner };
+
+    ghost honest = { λ f. D.honest f.inner };
+
+    ghost seen = { λ f. D.seen f.inner };
+
+    ghost candidate = { λ f. D.candidate f.inner };
+
+    ghost moment = { λ f. D.moment f.inner };
+
+    ghost left_since = { λ f. D.left_since f.inner };
+
+    ghost faults = { λ f. D.faults f.inner + f.refused };
+
+    ghost fits = { λ f. D.fits f.inner };
+
+    ghost seen_may_stay = { λ f. D.seen_may_stay f.inner };
+
+    ghost counts_now = { λ f. D.counts_now f.inner };
+
+    ghost only_now = { λ f. D.only_now f.inner };
+
+    fn capacity(&self) -> u32 {
+        self.inner.capacity()
+    }
+
+    fn read(&mut self, n: u32, out: &mut [u8; 512]) -> Result<(), DevFault>
+        requires { n < D.sectors (inner_of self.old) }
+        ensures read { D.honest (inner_of self.old) → OnOk result (out.new ≡ D.seen (inner_of self.old) n) }
+        ensures seen { D.honest (inner_of self.old) → D.seen (inner_of self.new) ≡ D.seen (inner_of self.old) }
+        ensures candidates { D.honest (inner_of self.old) → NoNewCandidate (D.candidate (inner_of self.old)) (D.candidate (inner_of self.new)) }
+        ensures keeps { D.honest (inner_of self.old) → NoNewCandidate (D.candidate (inner_of self.new)) (D.candidate (inner_of self.old)) }
+        ensures time { D.honest (inner_of self.old) → Elapses (D.moment (inner_of self.old)) (D.moment (inner_of self.new)) (D.left_since (inner_of self.old)) (D.left_since (inner_of self.new)) (IsImageOf (D.candidate (inner_of self.new))) }
+        ensures honesty { D.honest (inner_of self.new) ↔ D.honest (inner_of self.old) }
+        ensures cause { HasCause (all_faults D.faults self.old) (all_faults D.faults self.new) result }
+        ensures size { D.sectors (inner_of self.new) ≡ D.sectors (inner_of self.old) }
+
+        ensures plan { FollowsPlan P.fails D.faults self.old self.new result }
+        ensures kept { IsTrue (P.fails (plan_of self.old) 0) → P.LATE ≡ false → inner_of self.new ≡ inner_of self.old }
+        ensures passed_on { D.honest (inner_of self.old) → IsTrue (P.fails (plan_of self.old) 0) → P.LATE ≡ true → (out.new ≡ D.seen (inner_of self.old) n) ⊎ MoreFaults (D.faults (inner_of self.old)) (D.faults (inner_of self.new)) }
+    {
+        let fails = self.plan.count();
+        if fails && !P::LATE {
+            return refuse(&mut self.refused);
+        }
+        let outcome = self.inner.read(n, out);
+        if fails {
+            return refuse(&mut self.refused);
+        }
+        outcome
+    }
+
+    fn write(&mut self, n: u32, from: &[u8; 512]) -> Result<(), DevFault>
+        requires { n < D.sectors (inner_of self.old) }
+        ensures written { D.honest (inner_of self.old) → OnOk result (D.seen (inner_of self.new) ≡ with_sector (D.seen (inner_of self.old)) n from.now) }
+        ensures failed { D.honest (inner_of self.old) → OnErr result (IsWrittenOrNot (D.seen (inner_of self.old)) n from.now (D.seen (inner_of self.new))) }
+        ensures candidates { D.honest (inner_of self.old) → NoNewCandidate (with_candidate (D.candidate (inner_of self.old)) n from.now) (D.candidate (inner_of self.new)) }
+        ensures keeps { D.honest (inner_of self.old) → NoNewCandidate (D.candidate (inner_of self.new)) (D.candidate (inner_of self.old)) }
+        ensures time { D.honest (inner_of self.old) → Elapses (D.moment (inner_of self.old)) (D.moment (inner_of self.new)) (D.left_since (inner_of self.old)) (D.left_since (inner_of self.new)) (IsImageOf (D.candidate (inner_of self.new))) }
+        ensures honesty { D.honest (inner_of self.new) ↔ D.honest (inner_of self.old) }
+        ensures cause { HasCause (all_faults D.faults self.old) (all_faults D.faults self.new) result }
+        ensures size { D.sectors (inner_of self.new) ≡ D.sectors (inner_of self.old) }
+
+        ensures plan { FollowsPlan P.fails D.faults self.old self.new result }
+        ensures kept { IsTrue (P.fails (plan_of self.old) 0) → P.LATE ≡ false → inner_of self.new ≡ inner_of self.old }
+        ensures passed_on { D.honest (inner_of self.old) → IsTrue (P.fails (plan_of self.old) 0) → P.LATE ≡ true → (D.seen (inner_of self.new) ≡ with_sector (D.seen (inner_of self.old)) n from.now) ⊎ MoreFaults (D.faults (inner_of self.old)) (D.faults (inner_of self.new)) }
+    {
+        let fails = self.plan.count();
+        if fails && !P::LATE {
+            return refuse(&mut self.refused);
+        }
+        let outcome = self.inner.write(n, from);
+        if fails {
+            return refuse(&mut self.refused);
+        }
+        outcome
+    }
+
+    fn sync(&mut self) -> Result<(), DevFault>
+        ensures stable { D.honest (inner_of self.old) → OnOk result (IsStable (D.candidate (inner_of self.new)) (D.seen (inner_of self.new))) }
+        ensures seen { D.honest (inner_of self.old) → OnOk result (D.seen (inner_of self.new) ≡ D.seen (inner_of self.old)) }
+        ensures candidates { D.honest (inner_of self.old) → NoNewCandidate (D.candidate (inner_of self.old)) (D.candidate (inner_of self.new)) }
+        ensures keeps { D.honest (inner_of self.old) → OnErr result (NoNewCandidate (D.candidate (inner_of self.new)) (D.candidate (inner_of self.old))) }
+        ensures time { D.honest (inner_of self.old) → Elapses (D.moment (inner_of self.old)) (D.moment (inner_of self.new)) (D.left_since (inner_of self.old)) (D.left_since (inner_of self.new)) (IsImageOf (D.candidate (inner_of self.new))) }
+        ensures honesty { D.honest (inner_of self.new) ↔ D.honest (inner_of self.old) }
+        ensures cause { HasCause (all_faults D.faults self.old) (all_faults D.faults self.new) result }
+        ensures size { D.sectors (inner_of self.new) ≡ D.sectors (inner_of self.old) }
+
+        ensures plan { FollowsPlan P.fails D.faults self.old self.new result }
+        ensures kept { IsTrue (P.fails (plan_of self.old) 0) → inner_of self.new ≡ inner_of self.old }
+    {
+        if self.plan.count() {
+            return refuse(&mut self.refused);
+        }
+        self.inner.sync()
+    }
+}

@@ -1,0 +1,45 @@
+//! A device that fails from some call on.
+ghost use Rattle.std.specs.Prelude.{◌≡◌, ◌≤◌, ◌↔◌, ℕ, IsTrue};
+
+use crate::SectorDev;
+use crate::failing::{Failing, Plan};
+
+/// Passes so many calls on, and fails every one after, which it doesn't pass on.
+pub type Fuse<D> = Failing<D, AllAfter>;
+
+/// Fails all calls after so many.
+#[derive(Drop)]
+pub struct AllAfter {
+    calls_left: u64,
+}
+
+impl Plan for AllAfter {
+    ghost use Rattle.std.specs.Prelude.{leb, false};
+
+    const LATE: bool = false;
+
+    ghost LATE = { false };
+
+    ghost fails = { λ p i. leb p.calls_left i };
+
+    fn count(&mut self) -> bool {
+        if self.calls_left == 0 {
+            return true;
+        }
+        self.calls_left -= 1;
+        false
+    }
+}
+
+impl<D: SectorDev> Failing<D, AllAfter> {
+    ghost use Rattle.sect_dev.specs.Failing.{inner_of, plan_of, all_faults};
+
+    /// A device that passes `k` calls on.
+    pub fn new(dev: D, k: u64) -> Fuse<D>
+        ensures inner { inner_of result ≡ dev }
+        ensures faults { all_faults D.faults result ≡ D.faults dev }
+        ensures fails { (i : ℕ) → IsTrue (⟦<AllAfter as Plan>⟧.fails (plan_of result) i) ↔ (k ≤ i) }
+    {
+        Failing::with_plan(dev, AllAfter { calls_left: k })
+    }
+}

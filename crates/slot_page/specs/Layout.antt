@@ -1,0 +1,32 @@
+-- The bytes of a bucket page, test by test.
+use Rattle.std.specs.Prelude.{◌≡◌, ◌≢◌, ◌⊎◌, ℕ, zero, suc, ◌+◌, ◌*◌, ◌<◌, ◌≤◌, List, AllPairs, slice_index}
+use Rattle.dbm_model.specs.Reading.{kind_of, slot_count, low, slot_of, key_of, IsClear}
+use Rattle.slot_page.specs.declared.slot.Slot.{Slot}
+use Rattle.slot_page.specs.Slots.{as_spelled, first_slots}
+
+-- where the record of slot i ends
+abbrev pub end_of : List ℕ → ℕ → ℕ
+end_of bytes zero = 2048
+end_of bytes (suc i) = (slot_of bytes i).offset
+
+pub record HasGoodHeader (bytes : List ℕ) : Type 0 where
+  pub kind : (kind_of bytes ≡ 3) ⊎ (kind_of bytes ≡ 4)
+  pub zero5 : slice_index bytes 5 ≡ 0
+  pub zero14 : slice_index bytes 14 ≡ 0
+  pub zero15 : slice_index bytes 15 ≡ 0
+
+-- each of the first n records ends where it should
+abbrev pub AreInPlace : List ℕ → ℕ → Type 0
+AreInPlace bytes n = (i : ℕ) → i < n → (slot_of bytes i).offset + (slot_of bytes i).key_len + (slot_of bytes i).content_len ≡ end_of bytes i
+
+-- no two of the slots have one key
+abbrev pub HaveDistinctKeys : List ℕ → List Slot → Type 0
+HaveDistinctKeys bytes slots = AllPairs (λ s t. key_of bytes (as_spelled s) ≢ key_of bytes (as_spelled t)) slots
+
+pub record IsLaidOut (bytes : List ℕ) : Type 0 where
+  pub header : HasGoodHeader bytes
+  pub room : 16 + 6 * slot_count bytes ≤ low bytes
+  pub in_place : AreInPlace bytes (slot_count bytes)
+  pub low_is : low bytes ≡ end_of bytes (slot_count bytes)
+  pub gap : IsClear bytes (16 + 6 * slot_count bytes) (low bytes)
+  pub distinct : HaveDistinctKeys bytes (first_slots bytes (slot_count bytes))

@@ -1,0 +1,15 @@
+//! The pairs in one page: a bucket's head page or an overflow page.
+#![tactic(auto)]
+
+mod bucket;
+mod laws;
+mod layout;
+mod reading;
+mod slot;
+
+pub use bucket::{add, decode, empty, find, fits, pair_at, remove, room, set_next};
+pub use laws::{one_list, one_spelling, reads_as_bucket};
+pub use slot::{Slot, Slots};
+
+#[cfg(test)]
+mod tests;

@@ -1,0 +1,48 @@
+#!/usr/bin/env bash
+# The program's words, statuses, output and messages.
+set -u
+top=$(cd "$(dirname "$0")/.." && pwd)
+work=$(mktemp -d)
+trap 'rm -rf "$work"' EXIT
+bad=0
+
+# expects STATUS OUTPUT MESSAGE INPUT WORDS.. ('*' as a message: any that isn't empty)
+expects() {
+  local status=$1 output=$2 message=$3 input=$4 got=0
+  shift 4
+  printf -- "$input" | "$top/dbmtool" "$@" > "$work/out" 2> "$work/err" || got=$?
+  printf -- "$output" > "$work/wanted"
+  if [ "$got" != "$status" ] || { [ "$output" != '*' ] && ! cmp -s "$work/out" "$work/wanted"; }; then
+    echo "dbmtool $*: status $got"; cat "$work/out"; bad=1
+  fi
+  if [ "$message" = '*' ]; then
+    [ -s "$work/err" ] || { echo "dbmtool $*: no message"; bad=1; }
+  elif [ "$(cat "$work/err")" != "$message" ]; then
+    echo "dbmtool $*:"; cat "$work/err"; bad=1
+  fi
+}
+
+expects 0 '0\n76\n' '' 'S 6b 76\nF 6b\n' script --memory 100
+expects 0 '0\n.\nnone\n' '' 'S . .\nF .\nF 00' script --memory 100
+expects 0 '-1 line\n-1 line\n-1 line\n-1 line\nnone\n' '' 'Q\nS 6\nF 6b 6b\n\nF 6B\n' script --memory 100
+expects 0 '0\n-1 fault 6\n0\n02\n' '' 'S 61 01\nS 62 01\nS 61 02\nF 61\n' script --memory 1
+expects 0 '' '' '' script --memory 1000000
+expects 2 '' 'dbmtool: fault 13' 'S 6b 76\n' script --memory 0
+expects 2 '' 'dbmtool: fault 13' 'S 6b 76\n' script --memory 1000001
+expects 3 '' '*' '' script --memory 4294967296
+expects 3 '' '*' '' script --memory many
+expects 3 '' '*' '' script
+expects 3 '' '*' '' store t
+expects 3 '' '*' ''
+expects 0 '*' '' '' --help
+
+long=$(head -c 4050 /dev/zero | tr '\0' '0')
+expects 0 "0\n$long\n-1 fault 5\n" '' "S 6b $long\nF 6b\nS 6b ${long}00\n" script --memory 100
+
+# a full device
+if [ -e /dev/full ]; then
+  got=0
+  printf 'F 6b\n' | "$top/dbmtool" script --memory 100 > /dev/full 2> "$work/err" || got=$?
+  [ "$got" = 2 ] && [ "$(cat "$work/err")" = 'dbmtool: write' ] || { echo "/dev/full: status $got"; cat "$work/err"; bad=1; }
+fi
+exit $bad
