@@ -1,0 +1,10 @@
+//! Where a key belongs: its hash, and the bucket of a hash while buckets are added one at a time (linear hashing).
+#![tactic(auto)]
+
+mod fnv;
+mod growth;
+#[cfg(test)]
+mod tests;
+
+pub use fnv::hash;
+pub use growth::Shape;
