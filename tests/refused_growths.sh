@@ -1,6 +1,5 @@
 #!/usr/bin/env bash
-# One growth refused in the built program, each in turn. The answer is then fault 1, or the full right answer, or
-# the answer of a database whose device in memory refused that growth, which is a fault of the device.
+# One growth refused in the built program, each in turn. It then ends with fault 1, or gives the full right answer.
 set -eu
 top=$(cd "$(dirname "$0")/.." && pwd)
 program=$top/crates/dbmtool/out/dbmtool
@@ -9,7 +8,6 @@ trap 'rm -rf "$work"' EXIT
 cc -shared -fPIC -O1 -o "$work/refuse.so" "$top/tests/refuse.c" -ldl
 printf 'S 6b 76\nF 6b\n' > "$work/script"
 printf '0\n76\n' > "$work/right"
-printf -- '-1 fault 2\n-1 fault 3\n' > "$work/device"
 printf 'dbmtool: fault 1\n' > "$work/memory"
 
 run() {
@@ -21,18 +19,16 @@ run 0
 [ "$status" = 0 ] && cmp -s "$work/out" "$work/right" || { echo "refused without a refused growth"; exit 1; }
 growths=$(sed -n 's/^growths //p' "$work/err")
 [ "${growths:-0}" -gt 0 ] || { echo "no growth was counted"; exit 1; }
-memory=0; device=0; right=0
+memory=0; right=0
 for n in $(seq 1 "$growths"); do
   run "$n"
   if [ "$status" = 2 ] && cmp -s "$work/err" "$work/memory"; then
     memory=$((memory + 1))
   elif [ "$status" = 0 ] && [ ! -s "$work/err" ] && cmp -s "$work/out" "$work/right"; then
     right=$((right + 1))
-  elif { [ "$status" = 2 ] && printf 'dbmtool: fault 2\n' | cmp -s - "$work/err"; } || { printf 'dbmtool: fault 3\n' | cmp -s - "$work/err" && [ "$status" = 2 ] && cmp -s "$work/out" "$work/device"; }; then
-    device=$((device + 1))
   else
     echo "growth $n of $growths refused: status $status"; cat "$work/out" "$work/err"; exit 1
   fi
 done
-echo "$growths growths: fault 1 after $memory, a fault of the device after $device, the right answer after $right"
+echo "$growths growths: fault 1 after $memory, the right answer after $right"
 [ "$memory" -gt 0 ]

@@ -1,5 +1,5 @@
 -- How far a script has been answered.
-use Rattle.std.proofs.Common.{◌≡◌, ◌≢◌, ◌⊎◌, inl, inr, ℕ, suc, ◌+◌, ◌<◌, ◌≤◌, ◌==◌, nat_lt, Bool, true, false, cond, List, [], ◌∷◌, ◌++◌, length, take, map, Option, Some, None, IfSome, Result, Ok, Err, OnOk, IfOk, is_ok, refl, sym, ap, subst, ◌∙◌, arith, append-nil, append_assoc}
+use Rattle.std.proofs.Common.{◌≡◌, inl, inr, ℕ, suc, ◌≤◌, ◌==◌, nat_lt, Bool, true, false, cond, List, [], ◌∷◌, ◌++◌, length, take, map, Option, Some, None, IfSome, Result, Ok, Err, OnOk, IfOk, is_ok, refl, sym, ap, subst, ◌∙◌, arith, append-nil, append_assoc}
 use Rattle.std.specs.Io.KnownBytes.{Appends}
 use Rattle.std.proofs.lemmas.List.{take_all, length-take-le}
 use Rattle.std.proofs.lemmas.Bool.Decides.{leb_tells}
@@ -7,7 +7,7 @@ use Rattle.dbm_model.specs.Calls.{Call, Reply}
 use Rattle.dbm_model.specs.Lines.{lines_of, onto_line, call_of, call_of_words, words_in, reply_line, bad_line}
 use Rattle.dbm_model.specs.Scripts.{calls_in, answer_of}
 use Rattle.dbm_model.specs.States.{Handle}
-use Rattle.dbm_model.specs.Steps.{Step, Run}
+use Rattle.dbm_model.specs.Steps.{Run}
 use Rattle.dbm_model.proofs.Runs.{run-push}
 use Rattle.dbm_tool.specs.Offered.{offered, offered_script}
 use Rattle.dbm_tool.specs.Reading.{line_bytes, after_line, ReadsLine, IsCounted}

@@ -3,3 +3,4 @@ pub mod Splits
 pub mod Requests
 pub mod Answering
 pub mod Flushing
+pub mod Rooms

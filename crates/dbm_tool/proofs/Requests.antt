@@ -1,7 +1,6 @@
 -- Lines that ask for no call that is offered.
-use Rattle.std.proofs.Common.{◌≡◌, ◌==◌, ℕ, Bool, true, false, cond, List, [], ◌∷◌, codes, Option, Some, None, IfSome, is_some, refl, sym, ap, ◌∙◌}
-use Rattle.std.specs.List.{slice_split, onto_first}
-use Rattle.dbm_model.specs.Calls.{Call}
+use Rattle.std.proofs.Common.{◌≡◌, ◌==◌, ℕ, true, false, cond, List, [], ◌∷◌, codes, Option, Some, None, IfSome, is_some, refl}
+use Rattle.std.specs.List.{onto_first}
 use Rattle.dbm_model.specs.Lines.{words_in, call_of_words, pair_call}
 use Rattle.dbm_model.specs.Words.{bytes_of}
 use Rattle.std.specs.Prelude.{option_and_then}

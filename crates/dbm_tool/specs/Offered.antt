@@ -1,6 +1,6 @@
 -- The calls that a script may ask for so far.
 use Rattle.std.specs.Prelude.{ℕ, List, Option, Some, None, map}
-use Rattle.dbm_model.specs.Calls.{Mode, Insert, Replace, Call, Store, Fetch}
+use Rattle.dbm_model.specs.Calls.{Replace, Call, Store, Fetch}
 use Rattle.dbm_model.specs.Scripts.{script_of}
 
 -- a store that replaces, and a fetch; a line of another call is bad

@@ -1,5 +1,5 @@
 -- What a line asks for.
-use Rattle.std.specs.Prelude.{ℕ, List, Option, Some, None}
+use Rattle.std.specs.Prelude.{Option, Some, None}
 use Rattle.dbm_model.specs.Calls.{Replace, Call}
 use Rattle.dbm_model.specs.Calls as model
 use Rattle.dbm_tool.specs.declared.parsing.Request.{Request}

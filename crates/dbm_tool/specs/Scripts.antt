@@ -8,6 +8,8 @@ use Rattle.dbm_model.specs.Scripts.{calls_in, answer_of}
 use Rattle.dbm_model.specs.States.{Handle, fresh}
 use Rattle.dbm_model.specs.Steps.{Step, Run}
 use Rattle.dbm_model.specs.Sizes.{is_limit}
+use Rattle.dbm_words.specs.CommandLine.{IsPlan}
+use Rattle.dbm_words.specs.declared.plan.Plan.TheVariants.{Script}
 use Rattle.dbm_tool.specs.Offered.{offered_script}
 
 -- some run of calls leads from one handle to the other
@@ -35,7 +37,8 @@ pub record AnswersInMemory (limit : ℕ) (text : List ℕ) (old new : Option (Li
   pub after : Handle
   pub answers : AnswersScript (offered_script text) before after old new
 
--- the same for some limit
-pub record AnswersNew (text : List ℕ) (old new : Option (List ℕ)) : Type 0 where
+-- the same for the limit that the words ask for
+pub record AnswersWords (words : List (List ℕ)) (text : List ℕ) (old new : Option (List ℕ)) : Type 0 where
   pub limit : ℕ
+  pub plan : IsPlan words (Script limit)
   pub answers : AnswersInMemory limit text old new

@@ -1,12 +1,12 @@
 // The program over its words.
-ghost use Rattle.std.specs.Prelude.{◌≡◌, ◌⊎◌, OnOk, OnErr, IfOk, IfSome, true, false};
+ghost use Rattle.std.specs.Prelude.{◌≡◌, ◌⊎◌, OnOk, OnErr, IfOk, IfErr, IfSome, map, true, false};
 ghost use Rattle.std.specs.Io.KnownBytes.{Appends};
 ghost use Rattle.std.specs.FinMap.{empty};
 ghost use Rattle.dbm_model.specs.States.{fresh};
 ghost use Rattle.dbm_file.specs.Database.{state_of};
 ghost use Rattle.dbm_model.specs.Sizes.{is_limit};
-ghost use Rattle.dbm_tool.specs.Faults.{fault_line};
-ghost use Rattle.dbm_tool.specs.Scripts.{AnswersInMemory, AnswersNew};
+ghost use Rattle.dbm_tool.specs.Faults.{fault_line, told_in_memory};
+ghost use Rattle.dbm_tool.specs.Scripts.{AnswersInMemory, AnswersWords};
 
 use crate::{EngineFault, script_engine};
 use dbm_file::{Access, Db, Fault, OpenHow, needed_sectors};
@@ -38,9 +38,9 @@ pub fn tool<R: BufRead, O: Write, F: Write>(
     ensures status { (result ≡ 0) ⊎ ((result ≡ 2) ⊎ (result ≡ 3)) }
     ensures quiet { result ≡ 0 → faults.new ≡ faults.old }
 
-    // Either help was asked for, or the script was answered by a run of a new database.
+    // Either help was asked for, or the script was answered by a run of a new database, as the words ask.
     ensures done { result ≡ 0 → (input.new ≡ input.old) ⊎ IfSome (R.remaining input.old) (λ text.
-        AnswersNew text (O.contents output.old) (O.contents output.new)) }
+        AnswersWords (map (λ word. word.now) words.now) text (O.contents output.old) (O.contents output.new)) }
 {
     match read_words(alloc, words) {
         Ok(Plan::Script { memory }) => {
@@ -111,19 +111,30 @@ fn script_in_memory<R: BufRead, O: Write>(
         AnswersInMemory limit text (O.contents output.old) (O.contents output.new))) }
     ensures limit { is_limit limit ≡ false → result ≡ Err (EngineFault.Db Fault.BadLimit) }
 {
-    let mut db = new_in_memory(alloc, limit).map_err(EngineFault::Db)?;
+    let mut db = new_in_memory(alloc, limit).map_err(in_memory)?;
     let done = script_engine(alloc, &mut db, input, output);
     let (_, closed) = db.close();
     let flushed = output.flush();
     done?;
-    closed.map_err(EngineFault::Db)?;
+    closed.map_err(in_memory)?;
     flushed.map_err(|_| EngineFault::Write)
+}
+
+/// Tells a fault of a database in memory. Its device fails only where a growth is refused.
+fn in_memory(fault: Fault) -> EngineFault
+    ensures { result ≡ told_in_memory fault }
+{
+    match fault {
+        Fault::Device | Fault::Broken => EngineFault::Memory,
+        other => EngineFault::Db(other),
+    }
 }
 
 /// A new database in memory, of at most `limit` pairs.
 fn new_in_memory(alloc: Global, limit: u32) -> Result<Db<MemDev>, Fault>
     ensures fresh { IfOk result (λ db. (state_of db ≡ fresh empty limit true) × (is_limit limit ≡ true)) }
     ensures limit { is_limit limit ≡ false → result ≡ Err Fault.BadLimit }
+    ensures only { is_limit limit ≡ true → IfErr result (λ e. e ≡ Fault.Device) }
 {
     let Some(sectors) = needed_sectors(limit) else {
         return Err(Fault::BadLimit);

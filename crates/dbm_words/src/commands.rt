@@ -1,4 +1,8 @@
 // The commands and their options.
+ghost use Rattle.std.specs.Prelude.{◌≡◌, IfOk, Some, false};
+ghost use Rattle.clap.specs.Words.{app_of, rule_of};
+ghost use Rattle.dbm_words.specs.CommandLine.{command_line, memory_rule};
+
 use clap::{Arg, Command, value_parser};
 use std::alloc::{AllocError, Global};
 
@@ -23,22 +27,24 @@ Example:
   echo 'S 6b 76' | dbmtool script --memory 100";
 
 /// The whole command line.
-pub fn command<'a>(alloc: Global) -> Result<Command<'a>, AllocError> {
+pub fn command<'a>(alloc: Global) -> Result<Command<'a>, AllocError>
+    ensures { IfOk result (λ c. app_of c ≡ command_line) }
+{
+    let script = Command::new(alloc, SCRIPT)
+        .about("Runs the calls on standard input, and answers each on a line of its own")
+        .after_help(SCRIPT_LINES)
+        .arg(memory_option(alloc))?;
     Command::new(alloc, NAME)
         .about("Keeps pairs of a key and a content, as the dbm interface does.")
         .subcommand_required(true)
         .after_help(EXAMPLE)
-        .subcommand(script_command(alloc)?)
+        .subcommand(script)
 }
 
-fn script_command<'a>(alloc: Global) -> Result<Command<'a>, AllocError> {
-    Command::new(alloc, SCRIPT)
-        .about("Runs the calls on standard input, and answers each on a line of its own")
-        .after_help(SCRIPT_LINES)
-        .arg(memory_option(alloc))
-}
-
-fn memory_option<'a>(alloc: Global) -> Arg<'a> {
+fn memory_option<'a>(alloc: Global) -> Arg<'a>
+    ensures rule { rule_of result ≡ memory_rule }
+    ensures local { result.global ≡ false }
+{
     Arg::new(alloc, MEMORY)
         .long(MEMORY)
         .value_name("N")

@@ -1,5 +1,7 @@
 // The words after the program's name.
-ghost use Rattle.std.specs.Prelude.{◌≡◌, ◌++◌, ◌∷◌, [], IfErr, IfOk};
+ghost use Rattle.std.specs.Prelude.{◌≡◌, ◌⊎◌, ◌∷◌, IfErr, IfOk, IfSome, map, codes, true};
+ghost use Rattle.clap.specs.Words.{kind_of, subcommand_rows_of, takes};
+ghost use Rattle.dbm_words.specs.CommandLine.{IsPlan, Names, command_line};
 ghost use Rattle.dbm_words.specs.Sorting.{IsSorted};
 
 use crate::Plan;
@@ -29,7 +31,9 @@ pub enum WordsError {
 /// Reads the words after the program's name. `Help` where help is among the words, and `Usage` where they
 /// are no plan: no command, an unknown one, an option too many or too few, or a number that is no `u32`.
 pub fn read_words(alloc: Global, words: &[&str]) -> Result<Plan, WordsError>
+    ensures plan { IfOk result (IsPlan (map (λ word. word.now) words.now)) }
     ensures sorted { IfErr result IsSorted }
+    ensures passes { takes command_line (codes "dbmtool" ∷ map (λ word. word.now) words.now) ≡ true → IfErr result (λ e. (e ≡ WordsError.Memory) ⊎ (e ≡ WordsError.NoPlan)) }
 {
     let Ok(named) = with_name(alloc, words) else {
         return Err(WordsError::Memory);
@@ -37,14 +41,17 @@ pub fn read_words(alloc: Global, words: &[&str]) -> Result<Plan, WordsError>
     let Ok(command) = command(alloc) else {
         return Err(WordsError::Memory);
     };
-    match command.try_get_matches_from(named.as_slice()) {
-        Ok(matches) => chosen(&matches).ok_or(WordsError::NoPlan),
-        Err(refusal) => Err(sorted(refusal)),
-    }
+    let matches = match command.try_get_matches_from(named.as_slice()) {
+        Ok(matches) => matches,
+        Err(refusal) => return Err(sorted(refusal)),
+    };
+    chosen(&matches).ok_or(WordsError::NoPlan)
 }
 
 /// The words with the program's name in front, as the parser wants them.
-fn with_name<'a>(alloc: Global, words: &[&'a str]) -> Result<Vec<&'a str>, AllocError> {
+fn with_name<'a>(alloc: Global, words: &[&'a str]) -> Result<Vec<&'a str>, AllocError>
+    ensures { IfOk result (λ named. map (λ word. word.now) named.items ≡ codes "dbmtool" ∷ map (λ word. word.now) words.now) }
+{
     let mut named = Vec::new(alloc);
     named.push(NAME)?;
     for word in words {
@@ -54,7 +61,9 @@ fn with_name<'a>(alloc: Global, words: &[&'a str]) -> Result<Vec<&'a str>, Alloc
 }
 
 /// The plan that the words name.
-fn chosen(matches: &ArgMatches<'_>) -> Option<Plan> {
+fn chosen(matches: &ArgMatches<'_>) -> Option<Plan>
+    ensures { IfSome result (Names (subcommand_rows_of matches.now)) }
+{
     let (name, options) = matches.subcommand()?;
     if name != SCRIPT {
         return None;
@@ -65,7 +74,8 @@ fn chosen(matches: &ArgMatches<'_>) -> Option<Plan> {
 
 /// Tells help and want of memory from a mistake.
 fn sorted(refusal: Refusal) -> WordsError
-    ensures { IsSorted result }
+    ensures sorted { IsSorted result }
+    ensures memory { kind_of refusal ≡ ErrorKind.OutOfMemory → result ≡ WordsError.Memory }
 {
     if refusal.kind() == ErrorKind::OutOfMemory {
         return WordsError::Memory;

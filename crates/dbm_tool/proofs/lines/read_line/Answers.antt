@@ -1,4 +1,4 @@
-use Rattle.std.proofs.Common.{◌≡◌, ℕ, List, Option, Some, None, rules, lit<}
+use Rattle.std.proofs.Common.{◌≡◌, Some, None, rules, lit<}
 use Rattle.dbm_tool.proofs.Reading.{Gives, at_end, at_feed, more_room, no_room, not_full, is_full, one_counted}
 use Rattle.dbm_tool.proofs.lines.read_line.Goals as goal
 use Rattle.dbm_tool.proofs.lines.read_line.Goals.{then-not-is_full, else-not-is_full}

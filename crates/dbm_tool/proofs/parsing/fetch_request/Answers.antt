@@ -1,4 +1,4 @@
-use Rattle.std.proofs.Common.{◌≡◌, ◌∷◌, sym, ◌∙◌}
+use Rattle.std.proofs.Common.{sym, ◌∙◌}
 use Rattle.dbm_tool.proofs.Requests.{from_some, fetch_of_more}
 use Rattle.dbm_tool.proofs.parsing.fetch_request.Goals as goal
 

@@ -1,4 +1,4 @@
-use Rattle.std.proofs.Common.{◌==◌, ℕ, IfNone}
+use Rattle.std.proofs.Common.{◌==◌, ℕ}
 use Rattle.dbm_tool.proofs.Splits.{split_there, split_nowhere}
 use Rattle.dbm_tool.proofs.parsing.split_word.Goals as goal
 

@@ -1,4 +1,4 @@
-use Rattle.std.proofs.Common.{◌≡◌, ℕ, true, IfSome, rules}
+use Rattle.std.proofs.Common.{◌≡◌, true, IfSome, rules}
 use Rattle.std.specs.FinMap.{empty}
 use Rattle.dbm_model.specs.States.{fresh}
 use Rattle.dbm_file.specs.Database.{handle_of, state_of}

@@ -1,10 +1,8 @@
-use Rattle.std.proofs.Common.{◌≡◌, ℕ, Bool, true, false, Ok, IfSome, is_ok, rules}
+use Rattle.std.proofs.Common.{◌≡◌, true, IfSome, is_ok, rules}
 use Rattle.dbm_model.specs.Lines.{call_of}
-use Rattle.dbm_file.specs.Database.{handle_of}
 use Rattle.dbm_tool.specs.Offered.{offered}
 use Rattle.dbm_tool.specs.Reading.{ReadsLine, IsCounted}
-use Rattle.dbm_tool.specs.Scripts.{AnswersLine}
-use Rattle.dbm_tool.proofs.Answering.{at_start, go_on, stand, stand_with, at_end, said, read_well, counted_on}
+use Rattle.dbm_tool.proofs.Answering.{go_on, stand, stand_with, said, counted_on}
 use Rattle.dbm_tool.proofs.script.run_lines.Goals as goal
 
 pub returns-in_err-map_err-clause-stands : goal.returns-in_err-map_err-clause-stands

@@ -1,0 +1,6 @@
+mod Images
+mod Headers
+mod Writes
+mod Results
+mod Openings
+mod Blanks

@@ -1,0 +1,79 @@
+use Rattle.std.proofs.Common.{◌≡◌, ◌<◌, ◌≤◌, ◌+◌, ◌-◌, ℕ, suc, List, ◌∷◌, false, ◌&&◌, Bool, leb, ltb, ◌∙◌, sym, ap, arith}
+use Rattle.std.proofs.lemmas.Bool.{and_from, and_left, and_right, le-leb, lt-leb, lt-ltb, le-ltb}
+use Rattle.sect_dev.specs.Device.{Image, IsImageOf}
+use Rattle.sect_dev.specs.Moments.{followed_by}
+use Rattle.page_io.specs.Page.{page_at, own_number}
+use Rattle.page_io.specs.Store.{Pages, pages_from, are_in_order}
+use Rattle.redo_area.proofs.recovery.check_images.Goals as goal
+use Rattle.redo_area.proofs.recovery.check_images.Goals.{then-own-least-via-then-own-least, then-own-least-via-else-own-least+then-from-own}
+
+next_in_order : (least end : ℕ) (page : List ℕ) (pages : Pages) → least ≤ own_number page → own_number page < end → are_in_order least end (page ∷ pages) ≡ are_in_order (own_number page + 1) end pages
+next_in_order least end page pages low high =
+    ap (λ (b : Bool). b && are_in_order (own_number page + 1) end pages) (and_from (leb least (own_number page)) (ltb (own_number page) end) (le-leb least (own_number page) low) (lt-ltb (own_number page) end high))
+
+too_low : (least end : ℕ) (page : List ℕ) (pages : Pages) → own_number page < least → are_in_order least end (page ∷ pages) ≡ false
+too_low least end page pages lt =
+    ap (λ (b : Bool). b && are_in_order (own_number page + 1) end pages) (and_left (leb least (own_number page)) (ltb (own_number page) end) (lt-leb least (own_number page) lt))
+
+too_high : (least end : ℕ) (page : List ℕ) (pages : Pages) → end ≤ own_number page → are_in_order least end (page ∷ pages) ≡ false
+too_high least end page pages le =
+    ap (λ (b : Bool). b && are_in_order (own_number page + 1) end pages) (and_right (leb least (own_number page)) (ltb (own_number page) end) (le-ltb (own_number page) end le))
+
+-- the images that are left begin with this one
+split : (at : ℕ → List ℕ) (start count i : ℕ) → i < count → pages_from at (start + i) (count - i) ≡ at (start + i) ∷ pages_from at (start + i + 1) (count - (i + 1))
+split at start count i lt = let left : count - i ≡ suc (count - (i + 1)) = omega arith in ap (pages_from at (start + i)) left
+
+pub returns-then-own-least-clause-checked : goal.returns-then-own-least-clause-checked
+returns-then-own-least-clause-checked g c h =
+    let dev = g.D.SectorDev in
+    let at = page_at (dev.seen c.args.dev.now) in
+    let end = c.args.end in
+    let place : ℕ = c.args.start + c.loop-i.i in
+    let rest = pages_from at (place + 1) (c.args.count - (c.loop-i.i + 1)) in
+    let inv = c.loop-i.invariant in
+    let bytes = c.in_ok-read_page.ensures.read (inv.honesty.1 h) ∙ ap (λ (s : Image). page_at s place) (inv.seen h) in
+    let num : c.from-own.result ≡ own_number (at place) = c.from-own.ensures ∙ c.own.ensures.number ∙ ap own_number bytes in
+    let so_far = inv.checked h ∙ ap (are_in_order c.loop-i.least end) (split at c.args.start c.args.count c.loop-i.i c.loop-i-test.true) in
+    let bad : are_in_order c.loop-i.least end (at place ∷ rest) ≡ false = elim c.then-own-least.branch as (λ x. are_in_order c.loop-i.least end (at place ∷ rest) ≡ false) [
+      | then-own-least-via-then-own-least w ↦ too_low c.loop-i.least end (at place) rest (omega (arith, num, w.if-own-least.true))
+      | then-own-least-via-else-own-least+then-from-own w ↦ too_high c.loop-i.least end (at place) rest (omega (arith, num, w.if-from-own.true, w.from.ensures))
+    ] in
+    sym (so_far ∙ bad)
+
+pub loop-i-preserved : goal.loop-i-preserved
+loop-i-preserved g c =
+    let dev = g.D.SectorDev in
+    let first = c.args.dev.now in
+    let before = c.loop-i.dev in
+    let after = c.read_page.new.dev in
+    let at = page_at (dev.seen first) in
+    let end = c.args.end in
+    let i = c.loop-i.i in
+    let place : ℕ = c.args.start + i in
+    let inv = c.loop-i.invariant in
+    let h1 = inv.honesty.1 in
+    let left : ℕ = c.args.count - (i + 1) in
+    record {
+      size = c.read_page.ensures.size ∙ inv.size;
+      small = omega arith;
+      honesty = (λ h. inv.honesty.0 (c.read_page.ensures.honesty.0 h), λ h. c.read_page.ensures.honesty.1 (inv.honesty.1 h));
+      faults = omega (arith, c.read_page.ensures.cause.later, inv.faults);
+      seen = λ h. c.read_page.ensures.seen (h1 h) ∙ inv.seen h;
+      candidates = λ h m x may. inv.candidates h m x (c.read_page.ensures.candidates (h1 h) m x may);
+      moments = λ h. followed_by dev.moment dev.left_since first before after (IsImageOf (dev.candidate first)) (IsImageOf (dev.candidate before)) (inv.moments h) (c.read_page.ensures.any_moment (h1 h))
+          (λ image is m. inv.candidates h m (image m) (is m));
+      checked = λ h.
+          let bytes = c.in_ok-read_page.ensures.read (h1 h) ∙ ap (λ (s : Image). page_at s place) (inv.seen h) in
+          let num : c.from-own.result ≡ own_number (at place) = c.from-own.ensures ∙ c.own.ensures.number ∙ ap own_number bytes in
+          let next : own_number (at place) + 1 ≡ c.from-own.result + 1 = omega (arith, num) in
+          let more : place + 1 ≡ c.args.start + (i + 1) = omega arith in
+          inv.checked h ∙ ap (are_in_order c.loop-i.least end) (split at c.args.start c.args.count i c.loop-i-test.true)
+          ∙ next_in_order c.loop-i.least end (at place) (pages_from at (place + 1) left) (omega (arith, num, c.if-own-least.false)) (omega (arith, num, c.if-from-own.false, c.from.ensures))
+          ∙ ap (λ (k : ℕ). are_in_order k end (pages_from at (place + 1) left)) next ∙ ap (λ (k : ℕ). are_in_order (c.from-own.result + 1) end (pages_from at k left)) more;
+    }
+
+pub returns-clause-checked : goal.returns-clause-checked
+returns-clause-checked g c h =
+    let at = page_at (g.D.SectorDev.seen c.args.dev.now) in
+    let none : c.args.count - c.loop-i.i ≡ 0 = omega arith in
+    sym (c.loop-i.invariant.checked h ∙ ap (λ (k : ℕ). are_in_order c.loop-i.least c.args.end (pages_from at (c.args.start + c.loop-i.i) k)) none)

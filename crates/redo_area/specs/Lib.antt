@@ -1,0 +1,5 @@
+pub mod Header
+pub mod File
+pub mod Rests
+pub mod Opening
+pub mod Pagers

@@ -1,0 +1,36 @@
+-- What opening a device answers.
+use Rattle.std.specs.Prelude.{◌≡◌, ◌≢◌, ◌≤◌, ℕ, [], true, Bool, if◌then◌else◌, Option, Some, None, Result, IfErr}
+use Rattle.sect_dev.specs.Device.{Image, Candidates, IsImageOf, IsStable, MoreFaults}
+use Rattle.page_io.specs.Store.{Settled, State, blank, file_of, nothing}
+use Rattle.redo_area.specs.Header.{has_magic}
+use Rattle.redo_area.specs.File.{settled}
+use Rattle.redo_area.specs.declared.open_fault.OpenFault.{OpenFault}
+use Rattle.redo_area.specs.declared.open_fault.OpenFault.TheVariants.{Memory, Device, Blank, NotOurs, Damaged}
+
+abbrev pub refusal_by : Settled → Bool → Option OpenFault
+refusal_by blank ours = Some Blank
+refusal_by (file_of pages) ours = None
+refusal_by nothing ours = if ours then Some Damaged else Some NotOurs
+
+-- why an image does not open, if it does not
+abbrev pub refusal_of : ℕ → Image → Option OpenFault
+refusal_of capacity image = refusal_by (settled capacity image) (has_magic (image 0))
+
+-- the one image that is left is one that the device had at the start, and does not open
+pub record IsRefused (capacity : ℕ) (start now : Candidates) (seen : Image) (answer : OpenFault) : Type 0 where
+  pub stable : IsStable now seen
+  pub at_start : IsImageOf start seen
+  pub fault : refusal_of capacity seen ≡ Some answer
+
+-- a store as opening leaves it
+pub record IsFresh (pages : ℕ) (state : State) : Type 0 where
+  pub staged : state.staged ≡ []
+  pub capacity : state.capacity ≡ pages
+  pub usable : state.usable ≡ true
+  pub writable : state.writable ≡ true
+
+-- Device comes only with a fault of the device, and no memory is taken
+pub record HasOpenCause {T D : Type 0} (before now : ℕ) (result : Result T (D × OpenFault)) : Type 0 where
+  pub later : before ≤ now
+  pub fault : IfErr result (λ e. e.1 ≡ Device → MoreFaults before now)
+  pub no_memory : IfErr result (λ e. e.1 ≢ Memory)

@@ -1,0 +1,22 @@
+// Why a device does not open.
+use thiserror::Error;
+
+/// Why a device does not open as a store of pages.
+#[derive(Clone, Copy, Debug, PartialEq, Eq, Error)]
+pub enum OpenFault {
+    /// A growth of memory was refused. Opening takes no memory, so no call answers this.
+    #[error("out of memory")]
+    Memory,
+    /// A call of the device failed.
+    #[error("the device failed")]
+    Device,
+    /// The first sector is all zeros.
+    #[error("the device is blank")]
+    Blank,
+    /// The first sector has another magic.
+    #[error("the device holds something else")]
+    NotOurs,
+    /// The commit sector or a redo image breaks a rule of the format.
+    #[error("the file is damaged")]
+    Damaged,
+}

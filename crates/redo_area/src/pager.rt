@@ -1,0 +1,127 @@
+// A store of pages over a device.
+ghost use Rattle.std.specs.Prelude.{◌≡◌, ◌≢◌, ◌≤◌, ◌<◌, ◌+◌, ◌*◌, ◌/◌, ◌^◌, ◌↔◌, ℕ, true, false, length, [], IfOk, IfErr};
+ghost use Rattle.sect_dev.specs.Moments.{Reads};
+ghost use Rattle.page_io.specs.Page.{page_at};
+ghost use Rattle.page_io.specs.Store.{bytes_of, file_pages, are_in_order};
+ghost use Rattle.redo_area.specs.File.{settled};
+ghost use Rattle.redo_area.specs.Rests.{RestsIfUsable, SettlesTo};
+
+mod opening;
+
+use crate::steps::commit_pages;
+use page_io::{Page, PageFault, PageStore, find_staged, is_among, put_staged, read_page};
+use sect_dev::SectorDev;
+
+/// A store of pages over a device. A commit that a stop cuts short is whole or absent when the device
+/// is opened again.
+#[derive(Drop)]
+pub struct Pager<D: SectorDev> {
+    dev: D,
+    staged: Vec<Page>,
+    end: u32,
+    usable: bool,
+    ghost least: { 4 ≤ end },
+    ghost fits: { end ≤ D.sectors dev / 4 },
+    ghost order: { are_in_order 1 (2 ^ 32) (bytes_of staged.items) ≡ true },
+    ghost rests: { RestsIfUsable (D.honest dev) usable (D.sectors dev / 4) end (D.candidate dev) (D.seen dev) },
+}
+
+impl<D: SectorDev> PageStore for Pager<D> {
+    ghost use Rattle.page_io.specs.Counts.{counts_end};
+    ghost use Rattle.redo_area.specs.Rests.{seen_settles, only_seen, quarter_fits};
+
+    ghost state = { λ p. record { staged = bytes_of p.staged.items; end = p.end; capacity = D.sectors p.dev / 4; usable = p.usable; writable = true } };
+
+    ghost committed = { λ p. file_pages (page_at (D.seen p.dev)) p.end };
+
+    ghost honest = { λ p. D.honest p.dev };
+
+    ghost faults = { λ p. D.faults p.dev };
+
+    ghost settles_to = { λ p. SettlesTo (D.sectors p.dev / 4) (D.candidate p.dev) };
+
+    ghost moment = { λ p. D.moment p.dev };
+
+    ghost settled_since = { λ p. Reads D.left_since (settled (D.sectors p.dev / 4)) p.dev };
+
+    ghost reserved = { 0 };
+
+    ghost committed_may_stay = { λ p h usable. record { image = D.seen p.dev; is_image = D.seen_may_stay p.dev h; reads = seen_settles (D.sectors p.dev / 4) p.end (D.candidate p.dev) (D.seen p.dev) (p.rests h usable) } };
+
+    ghost only_committed = { λ p y h usable w s. only_seen (D.sectors p.dev / 4) p.end (D.candidate p.dev) (D.seen p.dev) y (p.rests h usable) s };
+
+    ghost only_now = { λ p y h s. record { image = s.left; is_image = D.only_now p.dev s.left h s.is_left; reads = s.reads } };
+
+    ghost counts_now = { λ p t y h le s. record { left = s.image; is_left = D.counts_now p.dev t s.image h le s.is_image; reads = s.reads } };
+
+    ghost ends = { λ p. counts_end (page_at (D.seen p.dev)) p.end p.least };
+
+    ghost in_range = { λ p. (p.least, p.fits, quarter_fits (D.sectors p.dev) (D.fits p.dev)) };
+
+    ghost in_order = { λ p. p.order };
+
+    fn read(&mut self, n: u32, page: &mut Page) -> Result<(), PageFault> {
+        if !self.usable {
+            return Err(PageFault::Broken);
+        }
+        if find_staged(self.staged.as_slice(), n, page) {
+            return Ok(());
+        }
+        if n < 1 || self.end <= n {
+            return Err(PageFault::Damaged);
+        }
+        if read_page(&mut self.dev, n, page).is_err() {
+            return Err(PageFault::Device);
+        }
+        Ok(())
+    }
+
+    fn stage(&mut self, n: u32, page: &Page) -> Result<(), PageFault> {
+        if !self.usable {
+            return Err(PageFault::Broken);
+        }
+        if put_staged(&mut self.staged, page).is_err() {
+            return Err(PageFault::Memory);
+        }
+        Ok(())
+    }
+
+    fn unstage(&mut self) {
+        self.staged.clear();
+    }
+
+    fn commit(&mut self, new_end: u32) -> Result<(), PageFault> {
+        if !self.usable {
+            return Err(PageFault::Broken);
+        }
+        let room = self.capacity().saturating_sub(self.end.max(new_end));
+        if self.staged.len() > room as usize {
+            return Err(PageFault::NoRoom);
+        }
+        let old_end = self.end;
+        self.usable = false;
+        if commit_pages(&mut self.dev, old_end, new_end, self.staged.as_slice()).is_err() {
+            return Err(PageFault::Device);
+        }
+        self.staged.clear();
+        self.end = new_end;
+        self.usable = true;
+        Ok(())
+    }
+
+    fn end(&self) -> u32 {
+        self.end
+    }
+
+    fn capacity(&self) -> u32 {
+        self.dev.capacity() / 4
+    }
+
+    fn is_staged(&self, n: u32) -> bool {
+        is_among(self.staged.as_slice(), n)
+    }
+
+    fn is_broken(&self) -> bool {
+        !self.usable
+    }
+}

@@ -1,0 +1,83 @@
+// How a store comes over a device.
+ghost use Rattle.std.specs.Prelude.{◌≡◌, ◌≢◌, ◌≤◌, ◌<◌, ◌+◌, ◌/◌, ◌↔◌, true, length, [], IfOk, IfErr};
+ghost use Rattle.sect_dev.specs.Device.{Image, IsImageOf, LeavesOnly};
+ghost use Rattle.page_io.specs.Store.{bytes_of, blank, file_of, AreNumbered};
+ghost use Rattle.redo_area.specs.File.{settled, SettlesAsBefore, IsBlankOr};
+ghost use Rattle.redo_area.specs.Rests.{SettlesTo};
+ghost use Rattle.redo_area.specs.Opening.{IsFresh, IsRefused, HasOpenCause};
+ghost use Rattle.redo_area.specs.Pagers.{device_of, device_after};
+
+use crate::format::format_pages;
+use crate::recovery::recover;
+use crate::{OpenFault, Pager};
+use page_io::{Page, PageStore};
+use sect_dev::SectorDev;
+use std::alloc::Global;
+
+impl<D: SectorDev> Pager<D> {
+    /// Makes a file of these pages, numbered from 1 on, and opens it. The only fault is Device; what a
+    /// failed call leaves of a blank device is blank or the whole file.
+    pub fn format(alloc: Global, dev: D, pages: &[Page]) -> Result<Pager<D>, (D, OpenFault)>
+        requires numbered { AreNumbered (bytes_of pages.now) }
+        requires least { 3 ≤ length pages.now }
+        requires room { length pages.now < D.sectors dev / 4 }
+
+        // Where every image was blank at the start, every image of every moment since is blank or the whole file.
+        ensures any_moment { D.honest dev → ((image : Image) → IsImageOf (D.candidate dev) image → settled (D.sectors dev / 4) image ≡ blank) → LeavesOnly D.moment D.left_since dev (device_after result)
+            (λ image. IsBlankOr (bytes_of pages.now) (settled (D.sectors dev / 4) image)) }
+        ensures state { IfOk result (λ pager. ⟦<Pager<D> as PageStore>⟧.state pager
+            ≡ record { staged = []; end = length pages.now + 1; capacity = D.sectors dev / 4; usable = true; writable = true }) }
+        ensures committed { D.honest dev → IfOk result (λ pager. ⟦<Pager<D> as PageStore>⟧.committed pager ≡ bytes_of pages.now) }
+        ensures honesty { D.honest (device_after result) ↔ D.honest dev }
+        ensures cause { HasOpenCause (D.faults dev) (D.faults (device_after result)) result }
+        ensures only { IfErr result (λ e. e.1 ≡ OpenFault.Device) }
+        ensures size { D.sectors (device_after result) ≡ D.sectors dev }
+    {
+        let mut dev = dev;
+        if format_pages(&mut dev, pages).is_err() {
+            return Err((dev, OpenFault::Device));
+        }
+        Ok(Pager {
+            dev,
+            staged: Vec::new(alloc),
+            end: pages.len() as u32 + 1,
+            usable: true,
+        })
+    }
+
+    /// Opens a device that a stop may have left, for writing: an armed commit is ended first.
+    pub fn open(alloc: Global, dev: D) -> Result<Pager<D>, (D, OpenFault)>
+        requires { 16 ≤ D.sectors dev }
+
+        // Every image of every moment settles as one does that the device had at the start.
+        ensures any_moment { D.honest dev → LeavesOnly D.moment D.left_since dev (device_after result) (SettlesAsBefore (D.sectors dev / 4) (D.candidate dev)) }
+
+        // The committed pages are those that an image settled to at the start.
+        ensures committed { D.honest dev → IfOk result (λ pager. SettlesTo (D.sectors dev / 4) (D.candidate dev) (file_of (⟦<Pager<D> as PageStore>⟧.committed pager))) }
+        ensures state { IfOk result (λ pager. IsFresh (D.sectors dev / 4) (⟦<Pager<D> as PageStore>⟧.state pager)) }
+
+        // Every fault but Device is that of the one image that is left.
+        ensures refused { D.honest dev → IfErr result (λ e. e.1 ≢ OpenFault.Device → IsRefused (D.sectors dev / 4) (D.candidate dev) (D.candidate e.0) (D.seen e.0) e.1) }
+        ensures honesty { D.honest (device_after result) ↔ D.honest dev }
+        ensures cause { HasOpenCause (D.faults dev) (D.faults (device_after result)) result }
+        ensures size { D.sectors (device_after result) ≡ D.sectors dev }
+    {
+        let mut dev = dev;
+        match recover(&mut dev) {
+            Ok(end) => Ok(Pager {
+                dev,
+                staged: Vec::new(alloc),
+                end,
+                usable: true,
+            }),
+            Err(fault) => Err((dev, fault)),
+        }
+    }
+
+    /// The device as it is. Staged pages are lost.
+    pub fn into_dev(self) -> D
+        ensures { result ≡ device_of self }
+    {
+        self.dev
+    }
+}

@@ -1,0 +1,185 @@
+// The end of a commit that a stop cut short.
+ghost use Rattle.std.specs.Prelude.{◌≡◌, ◌≢◌, ◌≤◌, ◌<◌, ◌+◌, ◌*◌, ◌/◌, ◌↔◌, ℕ, List, true, false, IfOk, IfErr, OnOk, IsErrOf};
+ghost use Rattle.sect_dev.specs.Device.{Image, IsImageOf, IsStable, NoNewCandidate, HasCause, MoreFaults, LeavesOnly};
+ghost use Rattle.page_io.specs.Page.{page_at, KeepsWhere};
+ghost use Rattle.page_io.specs.Store.{file_of, nothing, file_pages, overlaid, are_in_order};
+ghost use Rattle.redo_area.specs.Header.{header_of};
+ghost use Rattle.redo_area.specs.declared.header.Header.TheVariants.{Armed};
+ghost use Rattle.redo_area.specs.File.{settled, redo_images, SettlesAsBefore, IsOutsideAll, IsAtRest, IsArmed};
+ghost use Rattle.redo_area.specs.Opening.{IsRefused};
+
+use crate::OpenFault;
+use crate::header::{Header, clear_sector, read_header};
+use crate::steps::put_header;
+use page_io::{Page, read_page, write_page};
+use sect_dev::{DevFault, SectorDev};
+
+/// Copies the redo images home. It answers false where a number is out of range, which an honest
+/// device doesn't give for images that were checked.
+fn copy_images<D: SectorDev>(
+    dev: &mut D,
+    start: u32,
+    count: u32,
+    end: u32,
+) -> Result<bool, DevFault>
+    requires room { 4 * (start + count) ≤ D.sectors dev.old }
+    requires above { end ≤ start }
+    requires in_order { D.honest dev.old → are_in_order 1 end (redo_images (D.seen dev.old) start count) ≡ true }
+    ensures any_moment { D.honest dev.old → LeavesOnly D.moment D.left_since dev.old dev.new (KeepsWhere (D.candidate dev.old) (IsOutsideAll (redo_images (D.seen dev.old) start count))) }
+    ensures candidates { D.honest dev.old → (m : ℕ) (c : List ℕ) → IsOutsideAll (redo_images (D.seen dev.old) start count) m → D.candidate dev.new m c → D.candidate dev.old m c }
+    ensures good { D.honest dev.old → IfOk result (λ good. good ≡ true) }
+    ensures others { D.honest dev.old → IfOk result (λ good. (m : ℕ) → IsOutsideAll (redo_images (D.seen dev.old) start count) m → D.seen dev.new m ≡ D.seen dev.old m) }
+    ensures written { D.honest dev.old → IfOk result (λ good. (n : ℕ) → page_at (D.seen dev.new) n ≡ overlaid (redo_images (D.seen dev.old) start count) (page_at (D.seen dev.old)) n) }
+    ensures honesty { D.honest dev.new ↔ D.honest dev.old }
+    ensures cause { HasCause (D.faults dev.old) (D.faults dev.new) result }
+    ensures size { D.sectors dev.new ≡ D.sectors dev.old }
+{
+    let mut page = Page::blank();
+    for i in 0..count {
+        read_page(dev, start + i, &mut page)?;
+        let own = page.own();
+        if own < 1 || end <= own {
+            return Ok(false);
+        }
+        write_page(dev, own, &page)?;
+    }
+    Ok(true)
+}
+
+/// Copies the redo images home, and clears the commit sector. It answers false as `copy_images` does.
+fn replay<D: SectorDev>(dev: &mut D, start: u32, count: u32, end: u32) -> Result<bool, DevFault>
+    requires armed { D.honest dev.old → IsArmed (D.sectors dev.old / 4) end start (redo_images (D.seen dev.old) start count) (D.candidate dev.old) (D.seen dev.old) }
+    requires least { 4 ≤ end }
+    requires above { end ≤ start }
+    requires room { start + count ≤ D.sectors dev.old / 4 }
+
+    // Every image of every moment since the start settles to the pages with the images in place.
+    ensures any_moment { D.honest dev.old → LeavesOnly D.moment D.left_since dev.old dev.new
+        (λ image. settled (D.sectors dev.old / 4) image ≡ file_of (file_pages (overlaid (redo_images (D.seen dev.old) start count) (page_at (D.seen dev.old))) end)) }
+    ensures good { D.honest dev.old → IfOk result (λ good. good ≡ true) }
+    ensures rest { D.honest dev.old → IfOk result (λ good. IsAtRest (D.sectors dev.old / 4) end (D.candidate dev.new) (D.seen dev.new)) }
+    ensures pages { D.honest dev.old → IfOk result (λ good. file_pages (page_at (D.seen dev.new)) end ≡ file_pages (overlaid (redo_images (D.seen dev.old) start count) (page_at (D.seen dev.old))) end) }
+    ensures honesty { D.honest dev.new ↔ D.honest dev.old }
+    ensures cause { HasCause (D.faults dev.old) (D.faults dev.new) result }
+    ensures size { D.sectors dev.new ≡ D.sectors dev.old }
+{
+    let good = copy_images(dev, start, count, end)?;
+    if !good {
+        return Ok(false);
+    }
+    dev.sync()?;
+    put_header(dev, &clear_sector(end))?;
+    Ok(true)
+}
+
+/// Whether the redo images have numbers from 1 on that rise and are below the end.
+fn check_images<D: SectorDev>(
+    dev: &mut D,
+    start: u32,
+    count: u32,
+    end: u32,
+) -> Result<bool, DevFault>
+    requires { 4 * (start + count) ≤ D.sectors dev.old }
+    ensures checked { D.honest dev.old → IfOk result (λ good. good ≡ are_in_order 1 end (redo_images (D.seen dev.old) start count)) }
+    ensures seen { D.honest dev.old → D.seen dev.new ≡ D.seen dev.old }
+    ensures candidates { D.honest dev.old → NoNewCandidate (D.candidate dev.old) (D.candidate dev.new) }
+    ensures any_moment { D.honest dev.old → LeavesOnly D.moment D.left_since dev.old dev.new (IsImageOf (D.candidate dev.old)) }
+    ensures honesty { D.honest dev.new ↔ D.honest dev.old }
+    ensures cause { HasCause (D.faults dev.old) (D.faults dev.new) result }
+    ensures size { D.sectors dev.new ≡ D.sectors dev.old }
+{
+    let mut page = Page::blank();
+    let mut least: u64 = 1;
+    for i in 0..count {
+        read_page(dev, start + i, &mut page)?;
+        let own = u64::from(page.own());
+        if own < least || u64::from(end) <= own {
+            return Ok(false);
+        }
+        least = own + 1;
+    }
+    Ok(true)
+}
+
+/// Syncs, and reads the commit sector.
+fn look<D: SectorDev>(dev: &mut D) -> Result<[u8; 512], DevFault>
+    requires { 0 < D.sectors dev.old }
+    ensures any_moment { D.honest dev.old → LeavesOnly D.moment D.left_since dev.old dev.new (IsImageOf (D.candidate dev.old)) }
+    ensures start { D.honest dev.old → IsImageOf (D.candidate dev.old) (D.seen dev.new) }
+    ensures stable { D.honest dev.old → OnOk result (IsStable (D.candidate dev.new) (D.seen dev.new)) }
+    ensures read { D.honest dev.old → IfOk result (λ content. content ≡ D.seen dev.new 0) }
+    ensures honesty { D.honest dev.new ↔ D.honest dev.old }
+    ensures cause { HasCause (D.faults dev.old) (D.faults dev.new) result }
+    ensures size { D.sectors dev.new ≡ D.sectors dev.old }
+{
+    let mut content = [0; 512];
+    dev.sync()?;
+    dev.read(0, &mut content)?;
+    Ok(content)
+}
+
+/// Ends a commit whose commit sector is armed. It answers false where the redo images are damaged.
+fn finish_armed<D: SectorDev>(
+    dev: &mut D,
+    end: u32,
+    start: u32,
+    count: u32,
+) -> Result<bool, DevFault>
+    requires stable { D.honest dev.old → IsStable (D.candidate dev.old) (D.seen dev.old) }
+    requires header { D.honest dev.old → header_of (D.sectors dev.old / 4) (D.seen dev.old 0) ≡ Armed end start count }
+    requires least { 4 ≤ end }
+    requires above { end ≤ start }
+    requires room { start + count ≤ D.sectors dev.old / 4 }
+
+    // Every image of every moment settles as the device does at the start.
+    ensures any_moment { D.honest dev.old → LeavesOnly D.moment D.left_since dev.old dev.new
+        (λ image. settled (D.sectors dev.old / 4) image ≡ settled (D.sectors dev.old / 4) (D.seen dev.old)) }
+    ensures rest { D.honest dev.old → IfOk result (λ good. good ≡ true → IsAtRest (D.sectors dev.old / 4) end (D.candidate dev.new) (D.seen dev.new)) }
+
+    // At false nothing was changed, and the images are damaged.
+    ensures refused { D.honest dev.old → IfOk result (λ good. good ≡ false → IsStable (D.candidate dev.new) (D.seen dev.new)
+        × (D.seen dev.new ≡ D.seen dev.old) × (settled (D.sectors dev.old / 4) (D.seen dev.old) ≡ nothing)) }
+    ensures honesty { D.honest dev.new ↔ D.honest dev.old }
+    ensures cause { HasCause (D.faults dev.old) (D.faults dev.new) result }
+    ensures size { D.sectors dev.new ≡ D.sectors dev.old }
+{
+    let sound = check_images(dev, start, count, end)?;
+    if !sound {
+        return Ok(false);
+    }
+    let good = replay(dev, start, count, end)?;
+    Ok(good)
+}
+
+/// Settles what a stop may have left, and answers the end.
+pub fn recover<D: SectorDev>(dev: &mut D) -> Result<u32, OpenFault>
+    requires { 16 ≤ D.sectors dev.old }
+
+    // Every image of every moment settles as one does that the device had at the start.
+    ensures any_moment { D.honest dev.old → LeavesOnly D.moment D.left_since dev.old dev.new (SettlesAsBefore (D.sectors dev.old / 4) (D.candidate dev.old)) }
+    ensures rest { D.honest dev.old → IfOk result (λ end. IsAtRest (D.sectors dev.old / 4) end (D.candidate dev.new) (D.seen dev.new)) }
+    ensures end { IfOk result (λ end. (4 ≤ end) × (end ≤ D.sectors dev.old / 4)) }
+    ensures refused { D.honest dev.old → IfErr result (λ e. e ≢ OpenFault.Device → IsRefused (D.sectors dev.old / 4) (D.candidate dev.old) (D.candidate dev.new) (D.seen dev.new) e) }
+    ensures later { D.faults dev.old ≤ D.faults dev.new }
+    ensures cause { IsErrOf result OpenFault.Device → MoreFaults (D.faults dev.old) (D.faults dev.new) }
+    ensures no_memory { IfErr result (λ e. e ≢ OpenFault.Memory) }
+    ensures honesty { D.honest dev.new ↔ D.honest dev.old }
+    ensures size { D.sectors dev.new ≡ D.sectors dev.old }
+{
+    let capacity = dev.capacity() / 4;
+    let content = match look(dev) {
+        Ok(content) => content,
+        Err(_) => return Err(OpenFault::Device),
+    };
+    match read_header(capacity, &content) {
+        Header::Blank => Err(OpenFault::Blank),
+        Header::Clear { end } => Ok(end),
+        Header::Armed { end, start, count } => match finish_armed(dev, end, start, count) {
+            Ok(true) => Ok(end),
+            Ok(false) => Err(OpenFault::Damaged),
+            Err(_) => Err(OpenFault::Device),
+        },
+        Header::NotOurs => Err(OpenFault::NotOurs),
+        Header::Damaged => Err(OpenFault::Damaged),
+    }
+}

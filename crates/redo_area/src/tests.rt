@@ -1,0 +1,312 @@
+ghost use Rattle.std.specs.Prelude.{◌≡◌, ◌≤◌, ◌<◌, ◌/◌, ℕ, [], true, IfOk, IsTrue};
+ghost use Rattle.page_io.specs.Page.{own_number};
+ghost use Rattle.page_io.specs.Store.{has_page};
+
+use crate::{OpenFault, Pager};
+use page_io::{Page, PageFault, PageStore, write_page};
+use sect_dev::{DevFault, Fuse, MemDev, SectorDev};
+use std::alloc::Global;
+use std::process::Abort;
+use std::test::Fail;
+
+// A page with its own number, filled with a byte.
+fn numbered(n: u32, fill: u8) -> Page
+    ensures { own_number result.bytes ≡ n }
+{
+    let mut page = Page {
+        bytes: [fill; 2048],
+    };
+    page.set_own(n);
+    page
+}
+
+// A commit sector, of numbers below 256.
+fn sector(state: u8, end: u8, start: u8, count: u8) -> [u8; 512] {
+    let mut bytes = [0; 512];
+    bytes[..8].copy_from_slice(b"DBMREDO1");
+    bytes[11] = state;
+    bytes[15] = end;
+    bytes[19] = start;
+    bytes[23] = count;
+    bytes
+}
+
+// Opens a device, which is a device's fault where there is no room for a file.
+fn opened<D: SectorDev>(alloc: Global, dev: D) -> Result<Pager<D>, (D, OpenFault)> {
+    if dev.capacity() < 16 {
+        return Err((dev, OpenFault::Device));
+    }
+    Pager::open(alloc, dev)
+}
+
+// A file of pages 1 to 3, in 15 device calls.
+fn new_file<D: SectorDev>(alloc: Global, dev: D) -> Result<Pager<D>, (D, OpenFault)>
+    requires { 64 ≤ D.sectors dev }
+    ensures { IfOk result (λ pager. ⟦<Pager<D> as PageStore>⟧.state pager
+        ≡ record { staged = []; end = 4; capacity = D.sectors dev / 4; usable = true; writable = true }) }
+{
+    Pager::format(
+        alloc,
+        dev,
+        &[numbered(1, 7), numbered(2, 7), numbered(3, 7)],
+    )
+}
+
+// The device of a new file of 16 pages.
+fn new_device(alloc: Global) -> MemDev {
+    match new_file(alloc, MemDev::new(alloc, 64)) {
+        Ok(pager) => pager.into_dev(),
+        Err((dev, _)) => dev,
+    }
+}
+
+// Whether page 4 can be the first new page of a commit.
+fn grows_by_page_4<S: PageStore>(store: &S) -> bool
+    ensures { IsTrue result → (n : ℕ) → (S.state store.now).end ≤ n → n < 5 → has_page (S.state store.now).staged n ≡ true }
+{
+    store.end() == 4 && store.is_staged(4)
+}
+
+// A commit of pages 1 to 4 to a new file, stopped after so many of its device calls.
+fn stopped(alloc: Global, calls: u64) -> Result<MemDev, Fail> {
+    let fuse = Fuse::new(MemDev::new(alloc, 64), calls.saturating_add(15));
+    match new_file(alloc, fuse) {
+        Ok(mut pager) => {
+            pager.stage(4, &numbered(4, 9))?;
+            pager.stage(1, &numbered(1, 9))?;
+            pager.stage(3, &numbered(3, 9))?;
+            pager.stage(2, &numbered(2, 9))?;
+            if !grows_by_page_4(&pager) {
+                return Err(PageFault::Damaged.into());
+            }
+            let answer = pager.commit(5);
+            if answer.is_err() != (calls < 38) {
+                return Err(PageFault::Damaged.into());
+            }
+            Ok(pager.into_dev().into_inner())
+        }
+        Err((_, fault)) => Err(fault.into()),
+    }
+}
+
+// The commit sector of a device.
+fn first_sector(dev: &mut MemDev) -> Result<[u8; 512], DevFault> {
+    let mut content = [255; 512];
+    if dev.capacity() == 0 {
+        return Err(DevFault);
+    }
+    dev.read(0, &mut content)?;
+    Ok(content)
+}
+
+// Marks of unsynced writes in turn.
+const ALTERNATING: [bool; 16] = [
+    true, false, true, false, true, false, true, false, true, false, true, false, true, false,
+    true, false,
+];
+
+const OTHER: [bool; 16] = [
+    false, true, false, true, false, true, false, true, false, true, false, true, false, true,
+    false, true,
+];
+
+#[derive(Clone, Copy, Debug, PartialEq, Eq)]
+enum Found {
+    Old,
+    New,
+    Neither,
+}
+
+// Which pages a store has.
+fn pages_of<S: PageStore>(store: &mut S) -> Result<Found, Fail> {
+    let (fill, wanted) = match store.end() {
+        4 => (7, Found::Old),
+        5 => (9, Found::New),
+        _ => return Ok(Found::Neither),
+    };
+    let mut page = Page::blank();
+    for n in 1..store.end() {
+        store.read(n, &mut page)?;
+        if page != numbered(n, fill) {
+            return Ok(Found::Neither);
+        }
+    }
+    Ok(wanted)
+}
+
+// What opening a device with this commit sector answers.
+fn open_fault(
+    alloc: Global,
+    mut dev: MemDev,
+    content: &[u8; 512],
+) -> Result<Option<OpenFault>, Fail> {
+    if dev.capacity() == 0 {
+        return Err(DevFault.into());
+    }
+    dev.write(0, content)?;
+    match opened(alloc, dev) {
+        Ok(_) => Ok(None),
+        Err((_, fault)) => Ok(Some(fault)),
+    }
+}
+
+#[test]
+fn a_stop_before_each_call_leaves_old_or_new(rt: HostRuntime) -> Result<(), Fail> {
+    let alloc = rt.alloc();
+    for calls in 0..39 {
+        let dev = stopped(alloc, calls)?;
+        for marks in [[false; 16], [true; 16], ALTERNATING, OTHER] {
+            // The armed sector is call 17, and call 18 syncs it.
+            let wanted = if calls > 18 || calls == 18 && marks[0] {
+                Found::New
+            } else {
+                Found::Old
+            };
+            match opened(alloc, dev.crashed(alloc, &marks)?) {
+                Ok(mut pager) => assert_eq!(rt;
+                    pages_of(&mut pager)?,
+                    wanted,
+                    "after {calls} calls"
+                ),
+                Err((_, fault)) => return Err(fault.into()),
+            }
+        }
+    }
+    Ok(())
+}
+
+// How many device calls end an armed commit of four pages: a sync and a read, four reads of an image to check it, four
+// reads and four writes of each to copy it, a sync, and the clear sector with its sync.
+const RECOVERY: u64 = 2 + 16 + 32 + 1 + 2;
+
+#[test]
+fn recovery_may_be_stopped_too(rt: HostRuntime) -> Result<(), Fail> {
+    let alloc = rt.alloc();
+    for calls in 0..RECOVERY + 1 {
+        let armed = stopped(alloc, 19)?.crashed(alloc, &[])?;
+        let (dev, opens) = match opened(alloc, Fuse::new(armed, calls)) {
+            Ok(pager) => (pager.into_dev().into_inner(), true),
+            Err((dev, _)) => (dev.into_inner(), false),
+        };
+        assert_eq!(rt; opens, calls == RECOVERY, "after {calls} calls");
+        for marks in [[false; 16], [true; 16], ALTERNATING, OTHER] {
+            match opened(alloc, dev.crashed(alloc, &marks)?) {
+                Ok(mut pager) => assert_eq!(rt;
+                    pages_of(&mut pager)?,
+                    Found::New,
+                    "after {calls} calls"
+                ),
+                Err((_, fault)) => return Err(fault.into()),
+            }
+        }
+    }
+    Ok(())
+}
+
+#[test]
+fn commit_sectors_are_spelled_so(rt: HostRuntime) -> Result<(), Fail> {
+    let alloc = rt.alloc();
+    assert_eq!(rt; first_sector(&mut new_device(alloc))?, sector(0, 4, 0, 0));
+    assert_eq!(rt; first_sector(&mut stopped(alloc, 19)?)?, sector(1, 5, 5, 4));
+    Ok(())
+}
+
+#[test]
+fn bad_commit_sectors_are_refused(rt: HostRuntime) -> Result<(), Fail> {
+    let alloc = rt.alloc();
+    let mut other_magic = sector(0, 4, 0, 0);
+    other_magic[7] = b'2';
+    let mut behind = sector(0, 4, 0, 0);
+    behind[24] = 1;
+    let mut last = sector(0, 4, 0, 0);
+    last[511] = 1;
+    let cases = [
+        ([0; 512], Some(OpenFault::Blank)),
+        (other_magic, Some(OpenFault::NotOurs)),
+        (behind, Some(OpenFault::Damaged)),
+        (last, Some(OpenFault::Damaged)),
+        (sector(2, 4, 0, 0), Some(OpenFault::Damaged)),
+        (sector(0, 3, 0, 0), Some(OpenFault::Damaged)),
+        (sector(0, 17, 0, 0), Some(OpenFault::Damaged)),
+        (sector(0, 4, 4, 0), Some(OpenFault::Damaged)),
+        (sector(0, 4, 0, 1), Some(OpenFault::Damaged)),
+        (sector(1, 5, 5, 0), Some(OpenFault::Damaged)),
+        (sector(1, 5, 4, 1), Some(OpenFault::Damaged)),
+        (sector(1, 4, 16, 1), Some(OpenFault::Damaged)),
+        (sector(0, 4, 0, 0), None),
+        (sector(0, 16, 0, 0), None),
+    ];
+    for (i, (content, wanted)) in cases.iter().enumerate() {
+        assert_eq!(rt;
+            open_fault(alloc, MemDev::new(alloc, 64), content)?,
+            *wanted,
+            "case {i}"
+        );
+    }
+    Ok(())
+}
+
+#[test]
+fn bad_images_are_refused(rt: HostRuntime) -> Result<(), Fail> {
+    let alloc = rt.alloc();
+    let cases = [
+        ([1, 4], None),
+        ([0, 4], Some(OpenFault::Damaged)),
+        ([4, 4], Some(OpenFault::Damaged)),
+        ([4, 1], Some(OpenFault::Damaged)),
+        ([1, 5], Some(OpenFault::Damaged)),
+    ];
+    for (own, wanted) in cases {
+        let mut dev = MemDev::new(alloc, 64);
+        write_page(&mut dev, 5, &numbered(own[0], 9))?;
+        write_page(&mut dev, 6, &numbered(own[1], 9))?;
+        assert_eq!(rt;
+            open_fault(alloc, dev, &sector(1, 5, 5, 2))?,
+            wanted,
+            "with {own:?}"
+        );
+    }
+    Ok(())
+}
+
+#[test]
+fn opening_a_clear_file_is_two_calls(rt: HostRuntime) -> Result<(), Fail> {
+    let alloc = rt.alloc();
+    for calls in 0..3 {
+        let fuse = Fuse::new(new_device(alloc), calls);
+        let fault = match opened(alloc, fuse) {
+            Ok(_) => None,
+            Err((_, fault)) => Some(fault),
+        };
+        assert_eq!(rt;
+            fault,
+            if calls < 2 {
+                Some(OpenFault::Device)
+            } else {
+                None
+            }
+        );
+    }
+    Ok(())
+}
+
+#[test]
+fn staged_pages_are_read_and_forgotten(rt: HostRuntime) -> Result<(), Fail> {
+    let alloc = rt.alloc();
+    match opened(alloc, new_device(alloc)) {
+        Ok(mut pager) => {
+            assert_eq!(rt; (pager.end(), pager.capacity()), (4, 16));
+            let mut page = Page::blank();
+            pager.stage(2, &numbered(2, 9))?;
+            assert!(rt; pager.is_staged(2) && !pager.is_staged(3) && !pager.is_broken());
+            pager.read(2, &mut page)?;
+            assert_eq!(rt; page, numbered(2, 9));
+            pager.unstage();
+            pager.read(2, &mut page)?;
+            assert_eq!(rt; page, numbered(2, 7));
+            assert_eq!(rt; pager.read(4, &mut page), Err(PageFault::Damaged));
+        }
+        Err((_, fault)) => return Err(fault.into()),
+    }
+    Ok(())
+}
