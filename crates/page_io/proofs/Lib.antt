@@ -1,4 +1,5 @@
 pub mod Fields
+pub mod PlainPages
 pub mod PageLaws
 pub mod Overlays
 pub mod PageLists
@@ -6,3 +7,4 @@ mod Places
 pub mod StagedPages
 pub mod Runs
 pub mod Memory
+pub mod Views

@@ -1,7 +1,9 @@
 pub mod Page
+pub mod Plain
 pub mod Store
 pub mod Answers
 pub mod Kept
 pub mod ByteChange
 pub mod Counts
 pub mod MemPages
+pub mod Views

@@ -4,6 +4,7 @@
 mod byte_change;
 mod mem_pages;
 mod page;
+mod plain;
 mod sectors;
 mod staged;
 mod store;

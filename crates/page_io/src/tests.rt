@@ -57,6 +57,21 @@ fn fields_lie_where_they_are_put(rt: HostRuntime) -> Result<(), Fail> {
 }
 
 #[test]
+fn a_page_without_slots(rt: HostRuntime) -> Result<(), Fail> {
+    let mut page = Page::plain(2, 2, 0x0708_090a);
+    page.set_numbers(16, &[3, 0x0102_0304]);
+    let bytes = [
+        0, 0, 0, 2, 2, 0, 0, 0, 7, 8, 9, 10, 0, 0, 0, 0, 0, 0, 0, 3, 1, 2, 3, 4, 0,
+    ];
+    assert_eq!(rt; &page.bytes[..25], bytes.as_slice());
+    assert!(rt; page.is_plain(2, 2) && !page.is_plain(3, 2) && !page.is_plain(2, 5));
+    assert!(rt; page.is_clear(24, 2048) && page.is_clear(23, 23) && !page.is_clear(23, 2048));
+    page.set_low(1);
+    assert!(rt; !page.is_plain(2, 2));
+    Ok(())
+}
+
+#[test]
 fn a_written_page_is_read_back(rt: HostRuntime) -> Result<(), Fail> {
     let mut dev = MemDev::new(rt.alloc(), 16);
     let mut page = numbered(2, 7);

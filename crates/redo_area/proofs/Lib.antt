@@ -4,3 +4,4 @@ mod Writes
 mod Results
 mod Openings
 mod Blanks
+mod Staging

@@ -1,6 +1,6 @@
-ghost use Rattle.std.specs.Prelude.{◌≡◌, ◌≤◌, ◌<◌, ◌/◌, ℕ, [], true, IfOk, IsTrue};
+ghost use Rattle.std.specs.Prelude.{◌≡◌, ◌≤◌, ◌<◌, ◌/◌, ℕ, [], true, IfOk, OnOk, IsTrue, length};
 ghost use Rattle.page_io.specs.Page.{own_number};
-ghost use Rattle.page_io.specs.Store.{has_page};
+ghost use Rattle.page_io.specs.Store.{has_page, AllBelow};
 
 use crate::{OpenFault, Pager};
 use page_io::{Page, PageFault, PageStore, write_page};
@@ -39,22 +39,37 @@ fn opened<D: SectorDev>(alloc: Global, dev: D) -> Result<Pager<D>, (D, OpenFault
     Pager::open(alloc, dev)
 }
 
-// A file of pages 1 to 3, in 15 device calls.
-fn new_file<D: SectorDev>(alloc: Global, dev: D) -> Result<Pager<D>, (D, OpenFault)>
+// Pages 1 to 3, each filled with a byte.
+fn filled() -> [Page; 3] {
+    [numbered(1, 7), numbered(2, 7), numbered(3, 7)]
+}
+
+// Pages 1 to 4, each filled with another byte.
+fn refilled() -> [Page; 4] {
+    [
+        numbered(1, 9),
+        numbered(2, 9),
+        numbered(3, 9),
+        numbered(4, 9),
+    ]
+}
+
+// A file of three pages, in 15 device calls.
+fn new_file<D: SectorDev>(
+    alloc: Global,
+    dev: D,
+    pages: &[Page; 3],
+) -> Result<Pager<D>, (D, OpenFault)>
     requires { 64 ≤ D.sectors dev }
     ensures { IfOk result (λ pager. ⟦<Pager<D> as PageStore>⟧.state pager
         ≡ record { staged = []; end = 4; capacity = D.sectors dev / 4; usable = true; writable = true }) }
 {
-    Pager::format(
-        alloc,
-        dev,
-        &[numbered(1, 7), numbered(2, 7), numbered(3, 7)],
-    )
+    Pager::format(alloc, dev, pages)
 }
 
 // The device of a new file of 16 pages.
 fn new_device(alloc: Global) -> MemDev {
-    match new_file(alloc, MemDev::new(alloc, 64)) {
+    match new_file(alloc, MemDev::new(alloc, 64), &filled()) {
         Ok(pager) => pager.into_dev(),
         Err((dev, _)) => dev,
     }
@@ -67,15 +82,27 @@ fn grows_by_page_4<S: PageStore>(store: &S) -> bool
     store.end() == 4 && store.is_staged(4)
 }
 
-// A commit of pages 1 to 4 to a new file, stopped after so many of its device calls.
-fn stopped(alloc: Global, calls: u64) -> Result<MemDev, Fail> {
+// Stages a page under its own number, which has to be 1 to 4.
+fn stage<S: PageStore>(store: &mut S, page: &Page) -> Result<(), PageFault>
+    ensures below { AllBelow 5 (S.state store.old).staged → AllBelow 5 (S.state store.new).staged }
+    ensures some { OnOk result (0 < length (S.state store.new).staged) }
+{
+    let n = page.own();
+    if n < 1 || 4 < n {
+        return Err(PageFault::Damaged);
+    }
+    store.stage(n, page)
+}
+
+// A commit of new pages 1 to 4 to a new file of old ones, stopped after so many of its device calls.
+fn stopped(alloc: Global, calls: u64, old: &[Page; 3], new: &[Page; 4]) -> Result<MemDev, Fail> {
     let fuse = Fuse::new(MemDev::new(alloc, 64), calls.saturating_add(15));
-    match new_file(alloc, fuse) {
+    match new_file(alloc, fuse, old) {
         Ok(mut pager) => {
-            pager.stage(4, &numbered(4, 9))?;
-            pager.stage(1, &numbered(1, 9))?;
-            pager.stage(3, &numbered(3, 9))?;
-            pager.stage(2, &numbered(2, 9))?;
+            stage(&mut pager, &new[3])?;
+            stage(&mut pager, &new[0])?;
+            stage(&mut pager, &new[2])?;
+            stage(&mut pager, &new[1])?;
             if !grows_by_page_4(&pager) {
                 return Err(PageFault::Damaged.into());
             }
@@ -117,21 +144,31 @@ enum Found {
     Neither,
 }
 
-// Which pages a store has.
-fn pages_of<S: PageStore>(store: &mut S) -> Result<Found, Fail> {
-    let (fill, wanted) = match store.end() {
-        4 => (7, Found::Old),
-        5 => (9, Found::New),
-        _ => return Ok(Found::Neither),
-    };
-    let mut page = Page::blank();
-    for n in 1..store.end() {
-        store.read(n, &mut page)?;
-        if page != numbered(n, fill) {
-            return Ok(Found::Neither);
+// Whether a store has exactly these pages.
+fn has_pages<S: PageStore>(store: &mut S, pages: &[Page]) -> Result<bool, PageFault> {
+    let mut found = Page::blank();
+    for (page, n) in pages.iter().zip(1..) {
+        store.read(n, &mut found)?;
+        if found != *page {
+            return Ok(false);
         }
     }
-    Ok(wanted)
+    Ok(store.end() as usize == pages.len().saturating_add(1))
+}
+
+// Which pages a store has.
+fn pages_of<S: PageStore>(
+    store: &mut S,
+    old: &[Page; 3],
+    new: &[Page; 4],
+) -> Result<Found, PageFault> {
+    if store.end() == 5 && has_pages(store, new)? {
+        return Ok(Found::New);
+    }
+    if has_pages(store, old)? {
+        return Ok(Found::Old);
+    }
+    Ok(Found::Neither)
 }
 
 // What opening a device with this commit sector answers.
@@ -150,11 +187,15 @@ fn open_fault(
     }
 }
 
-#[test]
-fn a_stop_before_each_call_leaves_old_or_new(rt: HostRuntime) -> Result<(), Fail> {
-    let alloc = rt.alloc();
+// Stops a commit before each of its 38 calls, and looks what the device then opens with.
+fn every_stop<R: Abort>(
+    rt: &R,
+    alloc: Global,
+    old: &[Page; 3],
+    new: &[Page; 4],
+) -> Result<(), Fail> {
     for calls in 0..39 {
-        let dev = stopped(alloc, calls)?;
+        let dev = stopped(alloc, calls, old, new)?;
         for marks in [[false; 16], [true; 16], ALTERNATING, OTHER] {
             // The armed sector is call 17, and call 18 syncs it.
             let wanted = if calls > 18 || calls == 18 && marks[0] {
@@ -164,13 +205,151 @@ fn a_stop_before_each_call_leaves_old_or_new(rt: HostRuntime) -> Result<(), Fail
             };
             match opened(alloc, dev.crashed(alloc, &marks)?) {
                 Ok(mut pager) => assert_eq!(rt;
-                    pages_of(&mut pager)?,
+                    pages_of(&mut pager, old, new)?,
                     wanted,
                     "after {calls} calls"
                 ),
                 Err((_, fault)) => return Err(fault.into()),
             }
         }
+    }
+    Ok(())
+}
+
+#[test]
+fn a_stop_before_each_call_leaves_old_or_new(rt: HostRuntime) -> Result<(), Fail> {
+    every_stop(&rt, rt.alloc(), &filled(), &refilled())
+}
+
+// A page of a header and the numbers of four bytes behind it, then zeros up to its last bytes.
+fn page_of(header: &[u8; 16], numbers: &[u32], last: &[u8]) -> Page {
+    let mut page = Page::blank();
+    page.put(0, header);
+    if numbers.len() <= 508 {
+        page.set_numbers(16, numbers);
+    }
+    if last.len() <= 2048 {
+        page.put(2048 - last.len(), last);
+    }
+    page
+}
+
+// A new database of limit 100: the meta page, its segment page and the empty head page of its one bucket.
+fn new_database() -> [Page; 3] {
+    let mut meta = page_of(
+        &[0, 0, 0, 1, 1, 0, 0, 0, 0, 0, 0, 0, 0, 0, 0, 0],
+        &[1, 100, 0, 0, 0, 0, 0, 1],
+        &[],
+    );
+    meta.set_u32_at(64, 2);
+    [
+        meta,
+        page_of(&[0, 0, 0, 2, 2, 0, 0, 0, 0, 0, 0, 0, 0, 0, 0, 0], &[3], &[]),
+        page_of(&[0, 0, 0, 3, 3, 0, 0, 0, 0, 0, 0, 0, 8, 0, 0, 0], &[], &[]),
+    ]
+}
+
+// The same database with nine pairs of one byte each, keys 61 to 69, after the split of its bucket.
+fn nine_pairs() -> [Page; 4] {
+    let mut meta = page_of(
+        &[0, 0, 0, 1, 1, 0, 0, 0, 0, 0, 0, 0, 0, 0, 0, 0],
+        &[1, 100, 9, 1, 0, 0, 0, 1],
+        &[],
+    );
+    meta.set_u32_at(64, 2);
+    let mut three = page_of(
+        &[0, 0, 0, 3, 3, 0, 0, 5, 0, 0, 0, 0, 0x07, 0xf6, 0, 0],
+        &[],
+        &[0x69, 9, 0x67, 7, 0x65, 5, 0x63, 3, 0x61, 1],
+    );
+    let mut four = page_of(
+        &[0, 0, 0, 4, 3, 0, 0, 4, 0, 0, 0, 0, 0x07, 0xf8, 0, 0],
+        &[],
+        &[0x68, 8, 0x66, 6, 0x64, 4, 0x62, 2],
+    );
+    for (i, offset) in [0xfe, 0xfc, 0xfa, 0xf8, 0xf6].iter().enumerate() {
+        three.put(16 + 6 * i, &[0x07, *offset, 0, 1, 0, 1]);
+        if i < 4 {
+            four.put(16 + 6 * i, &[0x07, *offset, 0, 1, 0, 1]);
+        }
+    }
+    [
+        meta,
+        page_of(
+            &[0, 0, 0, 2, 2, 0, 0, 0, 0, 0, 0, 0, 0, 0, 0, 0],
+            &[3, 4],
+            &[],
+        ),
+        three,
+        four,
+    ]
+}
+
+#[test]
+fn a_ninth_pair_is_stopped_before_each_call(rt: HostRuntime) -> Result<(), Fail> {
+    every_stop(&rt, rt.alloc(), &new_database(), &nine_pairs())
+}
+
+// What a device call did.
+#[derive(Clone, Copy, Debug, PartialEq, Eq)]
+enum Did {
+    Wrote(u32),
+    Synced,
+    Neither,
+}
+
+// Which sector alone differs, 64 where none or more than one does.
+fn sector_changed(before: &mut MemDev, after: &mut MemDev) -> Result<u32, DevFault> {
+    let mut changed = 64;
+    let (mut old, mut new) = ([0; 512], [0; 512]);
+    for n in 0..64 {
+        if n < before.capacity() && n < after.capacity() {
+            before.read(n, &mut old)?;
+            after.read(n, &mut new)?;
+        }
+        if old != new && changed < 64 {
+            return Ok(64);
+        }
+        if old != new {
+            changed = n;
+        }
+    }
+    Ok(changed)
+}
+
+// What the call did that lies between two stops.
+fn told(before: &mut MemDev, after: &mut MemDev) -> Result<Did, DevFault> {
+    let changed = sector_changed(before, after)?;
+    if before.pending() > 0 && after.pending() == 0 && changed == 64 {
+        return Ok(Did::Synced);
+    }
+    if after.pending() == before.pending().saturating_add(1) && changed < 64 {
+        return Ok(Did::Wrote(changed));
+    }
+    Ok(Did::Neither)
+}
+
+// Call `i` of a commit of four pages to a file of three: the images at pages 5 to 8, the armed sector, the pages at their
+// own numbers, the clear sector, and a sync behind each of these.
+fn wanted_call(i: u32) -> Did {
+    match i {
+        0..=15 => Did::Wrote(20 + i),
+        17 => Did::Wrote(0),
+        19..=34 => Did::Wrote(i - 15),
+        36 => Did::Wrote(0),
+        16 | 18 | 35 | 37 => Did::Synced,
+        _ => Did::Neither,
+    }
+}
+
+#[test]
+fn the_calls_of_a_commit_come_in_order(rt: HostRuntime) -> Result<(), Fail> {
+    let alloc = rt.alloc();
+    let mut before = stopped(alloc, 0, &filled(), &refilled())?;
+    for i in 0..38 {
+        let mut after = stopped(alloc, i as u64 + 1, &filled(), &refilled())?;
+        assert_eq!(rt; told(&mut before, &mut after)?, wanted_call(i), "call {i}");
+        before = after;
     }
     Ok(())
 }
@@ -183,7 +362,7 @@ const RECOVERY: u64 = 2 + 16 + 32 + 1 + 2;
 fn recovery_may_be_stopped_too(rt: HostRuntime) -> Result<(), Fail> {
     let alloc = rt.alloc();
     for calls in 0..RECOVERY + 1 {
-        let armed = stopped(alloc, 19)?.crashed(alloc, &[])?;
+        let armed = stopped(alloc, 19, &filled(), &refilled())?.crashed(alloc, &[])?;
         let (dev, opens) = match opened(alloc, Fuse::new(armed, calls)) {
             Ok(pager) => (pager.into_dev().into_inner(), true),
             Err((dev, _)) => (dev.into_inner(), false),
@@ -192,7 +371,7 @@ fn recovery_may_be_stopped_too(rt: HostRuntime) -> Result<(), Fail> {
         for marks in [[false; 16], [true; 16], ALTERNATING, OTHER] {
             match opened(alloc, dev.crashed(alloc, &marks)?) {
                 Ok(mut pager) => assert_eq!(rt;
-                    pages_of(&mut pager)?,
+                    pages_of(&mut pager, &filled(), &refilled())?,
                     Found::New,
                     "after {calls} calls"
                 ),
@@ -207,7 +386,10 @@ fn recovery_may_be_stopped_too(rt: HostRuntime) -> Result<(), Fail> {
 fn commit_sectors_are_spelled_so(rt: HostRuntime) -> Result<(), Fail> {
     let alloc = rt.alloc();
     assert_eq!(rt; first_sector(&mut new_device(alloc))?, sector(0, 4, 0, 0));
-    assert_eq!(rt; first_sector(&mut stopped(alloc, 19)?)?, sector(1, 5, 5, 4));
+    assert_eq!(rt;
+        first_sector(&mut stopped(alloc, 19, &filled(), &refilled())?)?,
+        sector(1, 5, 5, 4)
+    );
     Ok(())
 }
 

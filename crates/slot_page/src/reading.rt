@@ -37,19 +37,6 @@ fn has_good_header(page: &Page) -> bool
         && page.bytes[15] == 0
 }
 
-/// Whether the bytes from `from` up to `to` are zero.
-fn is_clear(bytes: &[u8], from: usize, to: usize) -> bool
-    requires { (from ≤ to) × (to ≤ length bytes.now) }
-    ensures { IsTrue result ↔ IsClear bytes.now from to }
-{
-    for k in from..to {
-        if bytes[k] != 0 {
-            return false;
-        }
-    }
-    true
-}
-
 /// The first `count` slots, where each record ends where it should.
 fn slots_in_place(page: &Page, count: usize) -> Option<Slots>
     requires { 16 + 6 * count ≤ 2048 }
@@ -135,7 +122,7 @@ pub fn read_slots(page: &Page) -> Option<Slots>
     if low != end_at(page, count) {
         return None;
     }
-    if !is_clear(&page.bytes, HEADER_LEN + SLOT_LEN * count, low) {
+    if !page.is_clear(HEADER_LEN + SLOT_LEN * count, low) {
         return None;
     }
     if !have_distinct_keys(page, &slots) {

@@ -1,7 +1,7 @@
 // How a store comes over a device.
 ghost use Rattle.std.specs.Prelude.{◌≡◌, ◌≢◌, ◌≤◌, ◌<◌, ◌+◌, ◌/◌, ◌↔◌, true, length, [], IfOk, IfErr};
 ghost use Rattle.sect_dev.specs.Device.{Image, IsImageOf, LeavesOnly};
-ghost use Rattle.page_io.specs.Store.{bytes_of, blank, file_of, AreNumbered};
+ghost use Rattle.page_io.specs.Store.{bytes_of, blank, file_of};
 ghost use Rattle.redo_area.specs.File.{settled, SettlesAsBefore, IsBlankOr};
 ghost use Rattle.redo_area.specs.Rests.{SettlesTo};
 ghost use Rattle.redo_area.specs.Opening.{IsFresh, IsRefused, HasOpenCause};
@@ -15,10 +15,9 @@ use sect_dev::SectorDev;
 use std::alloc::Global;
 
 impl<D: SectorDev> Pager<D> {
-    /// Makes a file of these pages, numbered from 1 on, and opens it. The only fault is Device; what a
-    /// failed call leaves of a blank device is blank or the whole file.
+    /// Makes a file of these pages, from page 1 on, and opens it. The only fault is Device; what a failed
+    /// call leaves of a blank device is blank or the whole file.
     pub fn format(alloc: Global, dev: D, pages: &[Page]) -> Result<Pager<D>, (D, OpenFault)>
-        requires numbered { AreNumbered (bytes_of pages.now) }
         requires least { 3 ≤ length pages.now }
         requires room { length pages.now < D.sectors dev / 4 }
 

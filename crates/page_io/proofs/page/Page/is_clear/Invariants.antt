@@ -1,0 +1,5 @@
+use Rattle.dbm_model.specs.Reading.{IsClear}
+use Rattle.page_io.proofs.page.Page.is_clear.Given as goal
+
+abbrev pub invariant-loop-k : goal.invariant-loop-k
+invariant-loop-k l = IsClear l.self.bytes l.from l.k
