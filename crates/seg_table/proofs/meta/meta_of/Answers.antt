@@ -1,0 +1,13 @@
+use Rattle.std.proofs.Common.{ap, ◌∙◌}
+use Rattle.dbm_model.specs.Address as address
+use Rattle.dbm_model.specs.Numbers.{numbers_at}
+use Rattle.seg_table.proofs.Metas.{fields_read}
+use Rattle.seg_table.proofs.meta.meta_of.Goals as goal
+
+pub returns-clause-found : goal.returns-clause-found
+returns-clause-found c =
+    let bytes = c.args.page.now.bytes in
+    let shape = c.in_ok-shape.ensures.found in
+    fields_read bytes c.segments_of.result.items c.u32_at-3.result c.u32_at-4.result c.in_ok-shape.shape.level c.in_ok-shape.shape.split c.u32_at-5.result c.u32_at-6.result
+    c.u32_at-3.ensures c.u32_at-4.ensures (ap (λ (s : address.Shape). s.level) shape ∙ c.u32_at.ensures) (ap (λ (s : address.Shape). s.split) shape ∙ c.u32_at-2.ensures)
+    c.u32_at-5.ensures c.u32_at-6.ensures (c.segments_of.ensures ∙ ap (numbers_at bytes 64) c.u32_at-count.ensures)

@@ -1,0 +1,6 @@
+use Rattle.std.proofs.Common.{◌≡◌}
+use Rattle.dbm_model.specs.Numbers.{numbers_at}
+use Rattle.seg_table.proofs.meta.segments_of.Given as goal
+
+abbrev pub invariant-loop-i : goal.invariant-loop-i
+invariant-loop-i l = l.segments.items ≡ numbers_at l.page.bytes 64 l.i

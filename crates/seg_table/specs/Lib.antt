@@ -1,0 +1,4 @@
+pub mod MetaPages
+pub mod Segments
+pub mod Heads
+pub mod Answers

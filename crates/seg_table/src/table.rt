@@ -1,0 +1,104 @@
+//! The table of segments: a map from bucket to head page.
+
+ghost use Rattle.std.specs.Prelude.{◌≡◌, ◌<◌, ◌≤◌, ◌+◌, ◌/◌, ◌%◌, ℕ, List, IfOk, OnOk, OnErr, IsErrOf, length, slice_index};
+ghost use Rattle.dbm_model.specs.Space.{Space};
+ghost use Rattle.page_io.specs.Answers.{HasDeviceCause};
+ghost use Rattle.page_io.specs.Store.{IsKnown};
+ghost use Rattle.page_io.specs.Views.{shown, said, StagesOnly, ReadsOnly, MayEnd};
+ghost use Rattle.page_io.specs.declared.store.PageFault.TheVariants.{Damaged};
+ghost use Rattle.free_pages.specs.FreeList.{HasEnds};
+ghost use Rattle.seg_table.specs.MetaPages.{says};
+ghost use Rattle.seg_table.specs.Segments.{IsSpelledSegment};
+ghost use Rattle.seg_table.specs.Heads.{AreHeads, HasEntry, CanSet, IsHeadSet, AddsSegment};
+ghost use Rattle.seg_table.specs.Answers.{IsHeadAnswer, IsSetAnswer};
+
+use crate::Meta;
+use crate::segment::{HEADS_AT, PER_SEGMENT, SEGMENT, segment_ok};
+use free_pages::{FreeState, take};
+use page_io::{Page, PageFault, PageStore};
+
+/// Reads the page of segment `s`, which is Damaged where it is no such page.
+fn read_segment<S: PageStore>(
+    store: &mut S,
+    meta: &Meta,
+    s: usize,
+    page: &mut Page,
+) -> Result<(), PageFault>
+    requires { s < length meta.now.segments.items }
+    ensures reads { ReadsOnly S.PageStore store.old store.new }
+    ensures cause { HasDeviceCause (S.faults store.old) (S.faults store.new) result }
+    ensures answer { IsHeadAnswer (S.state store.old) result }
+    ensures known { OnOk result (IsKnown (S.state store.old) (slice_index meta.now.segments.items s)) }
+    ensures segment { OnOk result (IsSpelledSegment page.new.bytes (slice_index meta.now.segments.items s)) }
+    ensures found { S.honest store.old → OnOk result (page.new.bytes ≡ shown S.PageStore store.old (slice_index meta.now.segments.items s)) }
+    ensures whole { S.honest store.old → (heads : List ℕ) → AreHeads (said S.PageStore store.old) (says meta.now) heads → IsErrOf result Damaged → ⊥ }
+{
+    store.read(meta.segments[s], page)?;
+    if segment_ok(page, meta, s) {
+        Ok(())
+    } else {
+        Err(PageFault::Damaged)
+    }
+}
+
+/// The head page of a bucket. Damaged is answered where the bucket's segment page is none.
+pub fn head_of<S: PageStore>(store: &mut S, meta: &Meta, bucket: u32) -> Result<u32, PageFault>
+    requires { bucket / 508 < length meta.now.segments.items }
+    ensures reads { ReadsOnly S.PageStore store.old store.new }
+    ensures cause { HasDeviceCause (S.faults store.old) (S.faults store.new) result }
+    ensures answer { IsHeadAnswer (S.state store.old) result }
+    ensures entry { S.honest store.old → IfOk result (λ head. HasEntry (said S.PageStore store.old (slice_index meta.now.segments.items (bucket / 508))) (bucket % 508) head) }
+
+    // Where the segment pages say the heads, it is the bucket's, and never Damaged.
+    ensures exact { S.honest store.old → (heads : List ℕ) → AreHeads (said S.PageStore store.old) (says meta.now) heads → bucket < length heads → IfOk result (λ head. head ≡ slice_index heads bucket) }
+    ensures whole { S.honest store.old → (heads : List ℕ) → AreHeads (said S.PageStore store.old) (says meta.now) heads → IsErrOf result Damaged → ⊥ }
+{
+    let mut page = Page::blank();
+    read_segment(store, meta, bucket as usize / PER_SEGMENT, &mut page)?;
+    Ok(page.u32_at(HEADS_AT + 4 * (bucket as usize % PER_SEGMENT)))
+}
+
+/// Sets the head page of a bucket that there is, or of the next one, which can be read once the shape has grown. Where that
+/// is the first of a segment, a page is taken for the segment. One page is staged.
+///
+/// NoRoom is answered where no page can be taken, Damaged where the bucket's segment page is none or `take` says so. At
+/// `Err` a page may have been taken from `space` that no segment has.
+pub fn set_head<S: PageStore>(
+    store: &mut S,
+    meta: &mut Meta,
+    space: &mut FreeState,
+    bucket: u32,
+    head: u32,
+) -> Result<(), PageFault>
+    requires few { bucket < 125000 }
+    requires next { bucket / 508 ≤ length meta.old.segments.items }
+    ensures stages { StagesOnly S.PageStore store.old store.new }
+    ensures few { length (S.state store.new).staged ≤ length (S.state store.old).staged + 1 }
+    ensures cause { HasDeviceCause (S.faults store.old) (S.faults store.new) result }
+    ensures answer { IsSetAnswer S.reserved (S.state store.old) space.old result }
+    ensures err { OnErr result (says meta.new ≡ says meta.old) }
+    ensures err_state { OnErr result (S.state store.new ≡ S.state store.old) }
+    ensures ok { OnOk result (AddsSegment (says meta.old) (says meta.new) bucket) }
+    ensures ends { HasEnds space.old → HasEnds space.new }
+    ensures may_end { MayEnd (S.state store.old) space.old.file_end → OnOk result (MayEnd (S.state store.new) space.new.file_end) }
+
+    // Where the segment pages say the heads, they then say them with this one, and it is never Damaged.
+    ensures exact { S.honest store.old → (heads : List ℕ) (s : Space) → CanSet (said S.PageStore store.old) (says meta.old) space.old heads bucket head s →
+        OnOk result (IsHeadSet (said S.PageStore store.old) (said S.PageStore store.new) (says meta.old) (says meta.new) space.new heads bucket head s) }
+    ensures whole { S.honest store.old → (heads : List ℕ) (s : Space) → CanSet (said S.PageStore store.old) (says meta.old) space.old heads bucket head s → IsErrOf result Damaged → ⊥ }
+{
+    let s = bucket as usize / PER_SEGMENT;
+    let at = HEADS_AT + 4 * (bucket as usize % PER_SEGMENT);
+    if s == meta.segments.len() {
+        let n = take(store, space)?;
+        let mut page = Page::plain(n, SEGMENT, 0);
+        page.set_u32_at(at, head);
+        store.stage(n, &page)?;
+        meta.segments.push(n);
+        return Ok(());
+    }
+    let mut page = Page::blank();
+    read_segment(store, meta, s, &mut page)?;
+    page.set_u32_at(at, head);
+    store.stage(meta.segments[s], &page)
+}
