@@ -1,5 +1,5 @@
 -- The pages of a store: those that it has, and those that are staged over them.
-use Rattle.std.specs.Prelude.{◌≡◌, ◌⊎◌, ◌==◌, ◌<◌, ◌≤◌, ℕ, zero, suc, ◌+◌, ◌-◌, Bool, true, false, ◌&&◌, nat_le, nat_lt, if◌then◌else◌, List, [], ◌∷◌, slice_index_or, length, map}
+use Rattle.std.specs.Prelude.{◌≡◌, ◌⊎◌, ◌==◌, ◌<◌, ◌≤◌, ℕ, zero, suc, ◌+◌, ◌-◌, Bool, true, false, ◌&&◌, nat_le, nat_lt, if◌then◌else◌, List, [], ◌∷◌, slice_index_or, map}
 use Rattle.page_io.specs.Page.{own_number}
 use Rattle.page_io.specs.declared.page.Page.{Page}
 
@@ -23,10 +23,6 @@ file_pages page end = pages_from page 1 (end - 1)
 -- page n of the pages of a file
 abbrev pub page_of : Pages → ℕ → List ℕ
 page_of pages n = slice_index_or pages (n - 1) []
-
--- each page of a file has its own number
-abbrev pub AreNumbered : Pages → Type 0
-AreNumbered pages = (i : ℕ) → i < length pages → own_number (slice_index_or pages i []) ≡ i + 1
 
 -- this page in the place of the one that it names
 abbrev pub with_page : (ℕ → List ℕ) → List ℕ → ℕ → List ℕ

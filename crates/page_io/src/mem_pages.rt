@@ -1,7 +1,7 @@
 // A store of pages in memory, with no device under it.
 ghost use Rattle.std.specs.Prelude.{◌≡◌, ◌≤◌, ◌<◌, ◌+◌, ◌^◌, ℕ, true, length, slice_index_or, [], IfOk};
 ghost use Rattle.page_io.specs.Page.{own_number};
-ghost use Rattle.page_io.specs.Store.{bytes_of, file_pages, page_of, overlaid, are_in_order, AreNumbered};
+ghost use Rattle.page_io.specs.Store.{bytes_of, file_pages, page_of, overlaid, are_in_order};
 
 use crate::{Page, PageFault, PageStore, find_staged, is_among, put_staged};
 use std::alloc::{AllocError, Global};
@@ -36,7 +36,6 @@ impl MemPages {
     pub fn new(alloc: Global, pages: &[Page], capacity: u32) -> Result<MemPages, AllocError>
         requires least { 3 ≤ length pages.now }
         requires fits { length pages.now < capacity }
-        requires numbered { AreNumbered (bytes_of pages.now) }
         ensures state { IfOk result (λ store. ⟦<MemPages as PageStore>⟧.state store
             ≡ record { staged = []; end = length pages.now + 1; capacity = capacity; usable = true; writable = true }) }
         ensures committed { IfOk result (λ store. ⟦<MemPages as PageStore>⟧.committed store ≡ bytes_of pages.now) }

@@ -1,0 +1,66 @@
+-- What the staging of one page changes.
+use Rattle.std.proofs.Common.{◌≡◌, inl, inr, ⊎_elim, ℕ, ◌+◌, ◌<◌, ◌≤◌, ◌^◌, true, List, length, Result, Ok, Err, OnOk, OnErr, refl, sym, ◌∙◌, ap, subst, arith}
+use Rattle.std.proofs.lemmas.Bool.{cases_eq}
+use Rattle.dbm_model.specs.Pages.{Body}
+use Rattle.dbm_model.specs.Reading as model
+use Rattle.page_io.specs.Page.{own_number}
+use Rattle.page_io.specs.Store.{State, put_page, are_in_order, IsKnown}
+use Rattle.page_io.specs.Views.{said, StagesOnly, MayEnd, MayEndWith}
+use Rattle.page_io.specs.declared.store.PageStore.{Ghosts}
+use Rattle.page_io.proofs.StagedPages.{has_page-put, has_page-put_other}
+use Rattle.page_io.proofs.Views.{length-put, end_stays, same_said, others_said}
+
+abbrev pub IsPut : State → List ℕ → State → Type 0
+IsPut old bytes new = new ≡ record old { staged = put_page old.staged bytes }
+
+-- either the page is staged, or nothing is
+by_result : {T E : Type 0} (P : State → Type 0) (old new : State) (bytes : List ℕ) (result : Result T E) → OnOk result (IsPut old bytes new) → OnErr result (new ≡ old) → P old → P (record old { staged = put_page old.staged bytes }) → P new
+by_result P old new bytes (Ok x) put same kept staged = subst P (sym put) staged
+by_result P old new bytes (Err e) put same kept staged = subst P (sym same) kept
+
+module _ {T E : Type 0} (old new : State) (bytes : List ℕ) (result : Result T E) (ok : OnOk result (IsPut old bytes new)) (err : OnErr result (new ≡ old)) where
+  pub few_more : are_in_order 1 (2 ^ 32) old.staged ≡ true → length new.staged ≤ length old.staged + 1
+  few_more order = by_result (λ st. length st.staged ≤ length old.staged + 1) old new bytes result ok err (omega arith) (length-put old.staged bytes order)
+
+  pub still_known : (n : ℕ) → IsKnown old n → IsKnown new n
+  still_known n known = by_result (λ st. IsKnown st n) old new bytes result ok err known
+      (⊎_elim (λ has. elim (cases_eq (own_number bytes) n) [
+        | inl same ↦ inl (has_page-put old.staged bytes n same)
+        | inr other ↦ inl (has_page-put_other old.staged bytes n other ∙ has)
+      ]) (λ within. inr within) known)
+
+  pub may_still_end : (end : ℕ) → own_number bytes < end → MayEnd old end → MayEnd new end
+  may_still_end end lt may = by_result (λ st. MayEnd st end) old new bytes result ok err may (end_stays old end bytes may lt)
+
+-- once it is staged
+pub may_then_end : {T E : Type 0} (old new : State) (bytes : List ℕ) (result : Result T E) → OnOk result (IsPut old bytes new) → (end : ℕ) → MayEndWith old (own_number bytes) end → OnOk result (MayEnd new end)
+may_then_end old new bytes (Ok x) put end may = subst (λ (st : State). MayEnd st end) (sym put) (may bytes refl)
+may_then_end old new bytes (Err e) put end may = tt
+
+-- what is said of a result that is `Ok`
+pub on_ok : {T E P Q : Type 0} (result : Result T E) → OnOk result P → (P → Q) → OnOk result Q
+on_ok (Ok x) p then = then p
+on_ok (Err e) p then = tt
+
+-- other pages say what they said
+pub others_still : {S T E : Type 0} (s : Ghosts S) (old new : S) (bytes : List ℕ) (result : Result T E) → OnOk result (IsPut (s.state old) bytes (s.state new)) → OnErr result (s.state new ≡ s.state old)
+    → StagesOnly s old new → s.honest old → (n : ℕ) → (n ≡ own_number bytes → ⊥) → said s new n ≡ said s old n
+others_still s old new bytes (Ok x) put same only honest n other = others_said s old new (own_number bytes) n bytes only honest put refl other
+others_still s old new bytes (Err e) put same only honest n other = ap (λ (at : ℕ → Body). at n) (same_said s old new (record { same = same; stages_only = only }) honest)
+
+-- the own number, by both of its names
+pub own_same : (bytes : List ℕ) → own_number bytes ≡ model.own_number bytes
+unfolding own_number
+own_same bytes = refl
+
+-- what holds in any case
+pub if_ok : {T E P : Type 0} (result : Result T E) → P → OnOk result P
+if_ok (Ok x) p = p
+if_ok (Err e) p = tt
+
+-- where a page of that number may end the file, in a state that was kept
+pub with_own : (old new : State) (n m end : ℕ) → new ≡ old → n ≡ m → MayEndWith old n end → MayEndWith new m end
+with_own old new n m end same number may = subst (λ (st : State). MayEndWith st m end) (sym same) (subst (λ (k : ℕ). MayEndWith old k end) number may)
+
+pub known_same : (old new : State) (n : ℕ) → new ≡ old → IsKnown old n → IsKnown new n
+known_same old new n same known = subst (λ (st : State). IsKnown st n) (sym same) known

@@ -1,0 +1,41 @@
+use Rattle.std.proofs.Common.{◌≡◌, inr, false, refl, sym, ◌∙◌, ap, Err, arith}
+use Rattle.std.proofs.lemmas.Result.{err_from_is_err_and}
+use Rattle.page_io.specs.declared.store.PageFault.TheVariants.{Damaged}
+use Rattle.page_io.proofs.Views.{reads_then}
+use Rattle.bucket_chain.proofs.ReadPages.{still_honest, link_before, link_after}
+use Rattle.bucket_chain.proofs.Walks.{walk_goes_on, walk_is_here, some_page, not_too_long}
+use Rattle.bucket_chain.proofs.SpotLemmas.{spot_found, is_full}
+use Rattle.bucket_chain.proofs.puts.find_spot.Goals as goal
+use Rattle.bucket_chain.proofs.puts.find_spot.Goals.{then-has_room-via-then-has_room, then-has_room-via-else-has_room+then-next-eq0}
+
+pub returns-in_err-next-clause-whole : goal.returns-in_err-next-clause-whole
+returns-in_err-next-clause-whole g c honest chain is damaged =
+    let walk = c.loop-step.invariant.walked honest in
+    let reads = c.loop-step.invariant.reads in
+    let here = walk_is_here _ _ _ _ _ _ _ chain is walk in
+    let some = some_page _ _ _ _ _ _ _ chain is walk in
+    let p = err_from_is_err_and c.from_residual.result c.from_residual.ensures.1 in
+    let fault : c.in_err-next.field-0.0 ≡ Damaged = let e = rw (p.1, p.2) at damaged in cc in
+    c.in_err-next.ensures.whole (still_honest g.S.PageStore _ _ reads honest) _ _ some (link_after g.S.PageStore _ _ reads honest _ _ _ _ here.link) (ap Err fault)
+
+pub returns-then-has_room-clause-found : goal.returns-then-has_room-clause-found
+returns-then-has_room-clause-found g c honest =
+    let link = link_before g.S.PageStore _ _ c.loop-step.invariant.reads honest _ _ _ _ c.in_ok-next.ensures.says in
+    let last : c.fits-has_room.result ≡ false → c.in_ok-next.next ≡ 0 = elim c.then-has_room.branch [
+      | then-has_room-via-then-has_room w ↦ λ e. absurd (let f = sym e ∙ w.if-has_room.true in cc)
+      | then-has_room-via-else-has_room+then-next-eq0 w ↦ λ e. w.if-next-eq0.true
+    ] in
+    spot_found _ _ (c.args.key.now, c.args.content.now) _ _ _ _ c.read_link.new.page.bytes c.fits-has_room.result (c.loop-step.invariant.walked honest) link c.in_ok-next.ensures.known.0 c.in_ok-next.ensures.link c.fits-has_room.ensures last
+
+pub loop-step-preserved : goal.loop-step-preserved
+loop-step-preserved g c = record {
+  kinds = inr refl;
+  reads = reads_then g.S.PageStore _ _ _ (g.met.S.PageStore.counts_now c.loop-step.store) c.loop-step.invariant.reads c.in_ok-next.ensures.reads;
+  walked = λ honest.
+      let link = link_before g.S.PageStore _ _ c.loop-step.invariant.reads honest _ _ _ _ c.in_ok-next.ensures.says in
+      walk_goes_on _ _ _ _ _ _ (c.loop-step.invariant.walked honest) _ _ link c.in_ok-next.ensures.known.0 c.if-next-eq0.false
+      (is_full (c.args.key.now, c.args.content.now) c.loop-step.at c.read_link.new.page.bytes c.fits-has_room.result c.in_ok-next.ensures.link.page.sound.fits c.fits-has_room.ensures c.if-has_room.false);
+}
+
+pub returns-clause-whole : goal.returns-clause-whole
+returns-clause-whole g c honest chain is damaged = not_too_long _ _ _ _ _ _ _ chain is (c.loop-step.invariant.walked honest) (omega arith)

@@ -1,0 +1,65 @@
+use Rattle.std.proofs.Common.{◌≡◌, inl, inr, refl, subst, ap, Err, arith}
+use Rattle.std.proofs.lemmas.Result.{err_from_is_err_and}
+use Rattle.page_io.specs.Store.{State, IsKnown}
+use Rattle.page_io.specs.declared.store.PageFault.TheVariants.{Damaged}
+use Rattle.page_io.proofs.Views.{reads_then}
+use Rattle.slot_page.specs.Contents.{pairs_of}
+use Rattle.bucket_chain.specs.Walks.{EndsWithout}
+use Rattle.bucket_chain.proofs.Headers.{header_of}
+use Rattle.bucket_chain.proofs.ReadPages.{reads_none, still_honest, link_before, link_after}
+use Rattle.bucket_chain.proofs.Walks.{walk_is_here, some_page, not_too_long}
+use Rattle.bucket_chain.proofs.KeyWalks.{absent_times}
+use Rattle.bucket_chain.proofs.Hits.{track_starts, track_goes_on, track_ends, track_hits}
+use Rattle.bucket_chain.proofs.removes.find_hit.Goals as goal
+
+pub loop-step-init : goal.loop-step-init
+loop-step-init g c = record {
+  kinds = inl refl;
+  prior_kinds = inl refl;
+  reads = reads_none g.S.PageStore c.args.store.now (g.met.S.PageStore.only_now c.args.store.now);
+  walked = λ honest. track_starts _ _ _ _;
+}
+
+pub returns-in_err-next-clause-whole : goal.returns-in_err-next-clause-whole
+returns-in_err-next-clause-whole g c honest chain is damaged =
+    let walk = (c.loop-step.invariant.walked honest).walk in
+    let reads = c.loop-step.invariant.reads in
+    let here = walk_is_here _ _ _ _ _ _ _ chain is walk in
+    let some = some_page _ _ _ _ _ _ _ chain is walk in
+    let p = err_from_is_err_and c.from_residual.result c.from_residual.ensures.1 in
+    let fault : c.in_err-next.field-0.0 ≡ Damaged = let e = rw (p.1, p.2) at damaged in cc in
+    c.in_err-next.ensures.whole (still_honest g.S.PageStore _ _ reads honest) _ _ some (link_after g.S.PageStore _ _ reads honest _ _ _ _ here.link) (ap Err fault)
+
+pub returns-in-Some-clause-held : goal.returns-in-Some-clause-held
+returns-in-Some-clause-held g c = record {
+  some = c.in_ok-next.ensures.known.0;
+  known = subst (λ (st : State). IsKnown st c.loop-step.at) c.loop-step.invariant.reads.same c.in_ok-next.ensures.known.1;
+  own = (header_of _ _ _ _ _ c.in_ok-next.ensures.link).own;
+  page = c.in_ok-next.ensures.link.page;
+  has = c.in-Some.ensures.found;
+  prior_kind = c.loop-step.invariant.prior_kinds;
+}
+
+pub returns-in-Some-clause-walked : goal.returns-in-Some-clause-walked
+returns-in-Some-clause-walked g c honest =
+    let bytes = c.read_link.new.page.bytes in
+    let link = link_before g.S.PageStore _ _ c.loop-step.invariant.reads honest _ _ _ _ c.in_ok-next.ensures.says in
+    track_hits _ _ _ _ _ _ _ _ (c.loop-step.invariant.walked honest) _ (pairs_of bytes) link c.in_ok-next.ensures.known.0 bytes c.in-Some.slot c.in_ok-next.ensures.link refl c.in-Some.ensures.found
+
+pub returns-then-next-eq0-clause-walked : goal.returns-then-next-eq0-clause-walked
+returns-then-next-eq0-clause-walked g c honest =
+    let link = link_before g.S.PageStore _ _ c.loop-step.invariant.reads honest _ _ _ _ c.in_ok-next.ensures.says in
+    track_ends _ _ _ _ _ _ _ _ (c.loop-step.invariant.walked honest) _ _ link c.in_ok-next.ensures.known.0 (EndsWithout c.args.key.now) (c.if-next-eq0.true, absent_times _ _ c.in_default.ensures.none)
+
+pub loop-step-preserved : goal.loop-step-preserved
+loop-step-preserved g c = record {
+  kinds = inr refl;
+  prior_kinds = c.loop-step.invariant.kinds;
+  reads = reads_then g.S.PageStore _ _ _ (g.met.S.PageStore.counts_now c.loop-step.store) c.loop-step.invariant.reads c.in_ok-next.ensures.reads;
+  walked = λ honest.
+      let link = link_before g.S.PageStore _ _ c.loop-step.invariant.reads honest _ _ _ _ c.in_ok-next.ensures.says in
+      track_goes_on _ _ _ _ _ _ _ _ (c.loop-step.invariant.walked honest) _ _ link c.in_ok-next.ensures.known.0 c.if-next-eq0.false (absent_times _ _ c.in_default.ensures.none);
+}
+
+pub returns-clause-whole : goal.returns-clause-whole
+returns-clause-whole g c honest chain is damaged = not_too_long _ _ _ _ _ _ _ chain is (c.loop-step.invariant.walked honest).walk (omega arith)

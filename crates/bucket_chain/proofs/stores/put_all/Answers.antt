@@ -1,0 +1,53 @@
+use Rattle.std.proofs.Common.{◌≡◌, ℕ, List, Err, map, take, fold, sym, subst, ap, arith}
+use Rattle.std.proofs.lemmas.Result.{err_from_is_err_and}
+use Rattle.std.proofs.lemmas.List.{length-map, take_all}
+use Rattle.dbm_model.specs.Pairs.{Pair, IsAllowed}
+use Rattle.dbm_model.specs.PairLists.{times}
+use Rattle.dbm_model.specs.Chain.{pairs_in}
+use Rattle.page_io.specs.Views.{said}
+use Rattle.page_io.specs.declared.store.PageFault.TheVariants.{Damaged}
+use Rattle.page_io.proofs.Views.{stages_then}
+use Rattle.bucket_chain.specs.Pairs.{pair_of}
+use Rattle.bucket_chain.specs.Changes.{BecomesPlaced, put_in}
+use Rattle.bucket_chain.proofs.Storing.{HavePut, one_put, not_put, not_before, next_pair, pair_there}
+use Rattle.bucket_chain.proofs.stores.put_all.Goals as goal
+
+pub returns-in_err-put-clause-whole : goal.returns-in_err-put-clause-whole
+returns-in_err-put-clause-whole g c honest placed is empty distinct damaged =
+    let p = err_from_is_err_and c.from_residual.result c.from_residual.ensures.1 in
+    let fault : c.in_err-put.field-0.0 ≡ Damaged = let e = rw (p.1, p.2) at damaged in cc in
+    let i = c.loop-pair.pair-index in
+    let pairs = c.args.pairs.now in
+    let so_far = c.loop-pair.invariant.put honest placed is empty distinct in
+    let there = pair_there pairs i c.pair-item.result c.loop-pair-test.true (sym c.pair-item.is) in
+    let absent = not_put _ _ _ _ _ placed (take i (map pair_of pairs)) c.pair-item.result.key.items so_far (not_before (map pair_of pairs) i (pair_of c.pair-item.result) (omega (arith, c.loop-pair-test.true, length-map pairs pair_of)) there distinct) in
+    c.in_err-put.ensures.whole (c.loop-pair.invariant.stages.honesty.1 honest) _ _ so_far.is_placed (subst (λ (k : List ℕ). times k (pairs_in (fold put_in placed (take i (map pair_of pairs))).0) ≡ 0) (sym c.deref.ensures.value) absent) (ap Err fault)
+
+pub loop-pair-preserved : goal.loop-pair-preserved
+loop-pair-preserved g c =
+    let st = g.S.PageStore in record {
+      stages = stages_then st _ _ _ (g.met.S.PageStore.counts_now c.loop-pair.store) c.loop-pair.invariant.stages c.in_ok-put.ensures.stages;
+      ends = λ e. c.in_ok-put.ensures.ends (c.loop-pair.invariant.ends e);
+      may_end = λ may. c.in_ok-put.ensures.may_end (c.loop-pair.invariant.may_end may);
+      put = λ honest placed is empty distinct.
+          let i = c.loop-pair.pair-index in
+          let pairs = c.args.pairs.now in
+          let item = c.pair-item.result in
+          let so_far = c.loop-pair.invariant.put honest placed is empty distinct in
+          let here = sym c.pair-item.is in
+          let there = pair_there pairs i item c.loop-pair-test.true here in
+          let none = not_before (map pair_of pairs) i (pair_of item) (omega (arith, c.loop-pair-test.true, length-map pairs pair_of)) there distinct in
+          let absent = not_put _ _ _ _ _ placed (take i (map pair_of pairs)) item.key.items so_far none in
+          let one : (c.deref.result.now, c.deref-in-loop-pair.result.now) ≡ pair_of item = (λ j. (c.deref.ensures.value j, c.deref-in-loop-pair.ensures.value j)) in
+          let allowed : IsAllowed (pair_of item) = subst IsAllowed (ap pair_of here) (c.requires i item c.loop-pair-test.true) in
+          let becomes = c.in_ok-put.ensures.exact (c.loop-pair.invariant.stages.honesty.1 honest) _ _ so_far.is_placed (subst (λ (k : List ℕ). times k (pairs_in (fold put_in placed (take i (map pair_of pairs))).0) ≡ 0) (sym c.deref.ensures.value) absent) in
+          subst (HavePut _ _ _ _ _ placed) (sym (next_pair pairs i item c.loop-pair-test.true here))
+          (one_put _ (said st c.loop-pair.store) (said st c.put.new.store) _ c.loop-pair.space c.put.new.space _ placed (take i (map pair_of pairs)) (pair_of item) so_far allowed none
+          (subst (λ (p : Pair). BecomesPlaced (said st c.loop-pair.store) (said st c.put.new.store) c.put.new.space (put_in (fold put_in placed (take i (map pair_of pairs))) p)) one becomes));
+    }
+
+pub returns-clause-exact : goal.returns-clause-exact
+returns-clause-exact g c honest placed is empty distinct =
+    let so_far = c.loop-pair.invariant.put honest placed is empty distinct in
+    let all = take_all c.loop-pair.pair-index (map pair_of c.args.pairs.now) (omega (arith, c.loop-pair-test.false, length-map c.args.pairs.now pair_of)) in
+    record { becomes = λ at first. subst (λ (ps : List Pair). BecomesPlaced at (said g.S.PageStore c.loop-pair.store) c.loop-pair.space (fold put_in placed ps)) all (so_far.becomes at first) }

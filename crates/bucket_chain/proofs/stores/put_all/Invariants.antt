@@ -1,0 +1,18 @@
+use Rattle.std.proofs.Common.{◌≡◌, [], map, take}
+use Rattle.page_io.specs.Views.{said, StagesOnly, MayEnd}
+use Rattle.dbm_model.specs.Chain.{pairs_in}
+use Rattle.free_pages.specs.FreeList.{HasEnds}
+use Rattle.bucket_chain.specs.Links.{HaveDistinctKeys}
+use Rattle.bucket_chain.specs.Pairs.{pair_of}
+use Rattle.bucket_chain.specs.Changes.{Placed, IsPlaced}
+use Rattle.bucket_chain.proofs.Storing.{HavePut}
+use Rattle.bucket_chain.proofs.stores.put_all.Given as goal
+
+abbrev pub invariant-loop-pair : goal.invariant-loop-pair
+invariant-loop-pair g l = record {
+  stages : StagesOnly g.S.PageStore l.fn.store l.store;
+  ends : HasEnds l.fn.space → HasEnds l.space;
+  may_end : MayEnd (g.S.PageStore.state l.fn.store) l.fn.space.file_end → MayEnd (g.S.PageStore.state l.store) l.space.file_end;
+  put : g.S.PageStore.honest l.fn.store → (placed : Placed) → IsPlaced (said g.S.PageStore l.fn.store) l.fn.space l.fn.head placed.0 placed.1 → pairs_in placed.0 ≡ [] → HaveDistinctKeys (map pair_of l.fn.pairs)
+      → HavePut (said g.S.PageStore l.fn.store) (said g.S.PageStore l.store) l.fn.space l.space l.fn.head placed (take l.pair-index (map pair_of l.fn.pairs));
+}

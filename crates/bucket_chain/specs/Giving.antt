@@ -1,0 +1,24 @@
+-- Overflow pages that are given to the free list, one after the other.
+use Rattle.std.specs.Prelude.{◌≡◌, ℕ, ◌≤◌}
+use Rattle.std.specs.List.{AllByRecursion}
+use Rattle.dbm_model.specs.Pages.{Body, FreePage}
+use Rattle.dbm_model.specs.Chain.{Chain, numbers}
+use Rattle.dbm_model.specs.Space.{Space, give, times_of}
+use Rattle.free_pages.specs.declared.free_state.FreeState.{FreeState}
+use Rattle.free_pages.specs.FreeList.{IsFreeList, IsApart}
+use Rattle.bucket_chain.specs.Chains.{number_or, AreLinked}
+
+-- a free page, whatever it names
+pub record IsFree (body : Body) : Type 0 where
+  pub next : ℕ
+  pub free : body ≡ FreePage next
+
+-- The overflow pages from page `first` up to page n, which follows them, were read and given; no other page was changed.
+pub record AreGiven (old new : ℕ → Body) (before after : FreeState) (first n : ℕ) : Type 0 where
+  pub pages : Chain
+  pub linked : AreLinked old pages n
+  pub first_is : first ≡ number_or pages n
+  pub numbered : AllByRecursion (λ leaf. 1 ≤ leaf.number) pages
+  pub given : (m : ℕ) → 1 ≤ times_of m (numbers pages) → IsFree (new m)
+  pub others : (m : ℕ) → times_of m (numbers pages) ≡ 0 → new m ≡ old m
+  pub list : (s : Space) → IsFreeList old before s → IsApart (numbers pages) s → IsFreeList new after (give (numbers pages) s)

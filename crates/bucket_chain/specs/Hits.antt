@@ -1,0 +1,59 @@
+-- Where a walk along a chain has found a key, and which page is before that one.
+use Rattle.std.specs.Prelude.{◌≡◌, ◌⊎◌, ℕ, ◌≤◌, List, [], ◌∷◌, ◌++◌, Option, Some, None}
+use Rattle.std.specs.List.{AllByRecursion}
+use Rattle.dbm_model.specs.Pairs.{Key}
+use Rattle.dbm_model.specs.Pages.{Body}
+use Rattle.dbm_model.specs.Chain.{Leaf, Chain}
+use Rattle.dbm_model.specs.Reading.{own_number}
+use Rattle.page_io.specs.Store.{State, IsKnown}
+use Rattle.slot_page.specs.Contents.{IsBucketPage, HasKeyAt, pairs_of}
+use Rattle.bucket_chain.specs.Links.{IsLink}
+use Rattle.bucket_chain.specs.Places.{place}
+use Rattle.bucket_chain.specs.Chains.{kind_behind}
+use Rattle.bucket_chain.specs.Walks.{IsWalk, LacksKey, EndsWithout, IsPairAt}
+use Rattle.bucket_chain.specs.declared.removes.Hit.{Hit}
+
+-- a head page or an overflow page
+abbrev pub IsLinkKind : ℕ → Type 0
+IsLinkKind kind = (kind ≡ 3) ⊎ (kind ≡ 4)
+
+-- the last of these pages
+pub record IsLast (pages : Chain) (n kind : ℕ) : Type 0 where
+  pub front : Chain
+  pub leaf : Leaf
+  pub parts : pages ≡ front ++ leaf ∷ []
+  pub number : n ≡ leaf.number
+  pub kind_is : kind ≡ kind_behind front
+
+-- the last of the pages that were passed, or 0 where none was
+abbrev pub IsPrior : Chain → ℕ → ℕ → Type 0
+IsPrior before n kind = ((before ≡ []) × (n ≡ 0)) ⊎ IsLast before n kind
+
+-- a walk that met no page 0
+pub record IsNumberedWalk (at : ℕ → Body) (head : ℕ) (Passed : Leaf → Type 0) (Last : Leaf → ℕ → Type 0) : Type 0 where
+  pub walk : IsWalk at head Passed Last
+  pub numbered : AllByRecursion (λ leaf. 1 ≤ leaf.number) (walk.before ++ walk.leaf ∷ [])
+
+-- the key's pair stands there in the page, and the next page is the one that it names
+abbrev pub IsHitAt : Key → List ℕ → Hit → Leaf → ℕ → Type 0
+IsHitAt key bytes hit leaf after = IsPairAt key bytes (place hit.page hit.slot) leaf after × (hit.next ≡ after)
+
+-- the walk ended at the page with the key
+pub record IsHit (at : ℕ → Body) (head : ℕ) (key : Key) (bytes : List ℕ) (hit : Hit) : Type 0 where
+  pub walked : IsNumberedWalk at head (LacksKey key) (IsHitAt key bytes hit)
+  pub link : IsLink bytes hit.page (kind_behind walked.walk.before) hit.next (pairs_of bytes)
+  pub prior : IsPrior walked.walk.before hit.prior hit.prior_kind
+
+-- or behind all pages
+abbrev pub IsHitOrNone : (ℕ → Body) → ℕ → Key → List ℕ → Option Hit → Type 0
+IsHitOrNone at head key bytes None = IsNumberedWalk at head (LacksKey key) (EndsWithout key)
+IsHitOrNone at head key bytes (Some hit) = IsHit at head key bytes hit
+
+-- On any device: the bytes are the hit's page, and the key's pair is in its slot.
+pub record IsHeldHit (state : State) (key : Key) (bytes : List ℕ) (hit : Hit) : Type 0 where
+  pub some : 1 ≤ hit.page
+  pub known : IsKnown state hit.page
+  pub own : own_number bytes ≡ hit.page
+  pub page : IsBucketPage bytes
+  pub has : HasKeyAt key (pairs_of bytes) hit.slot
+  pub prior_kind : IsLinkKind hit.prior_kind

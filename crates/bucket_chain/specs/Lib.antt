@@ -1,0 +1,10 @@
+pub mod Links
+pub mod Chains
+pub mod Pairs
+pub mod Walks
+pub mod Places
+pub mod Spots
+pub mod Hits
+pub mod Giving
+pub mod Changes
+pub mod Answers

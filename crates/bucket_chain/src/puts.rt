@@ -1,0 +1,101 @@
+//! One more pair in a chain.
+
+ghost use Rattle.std.specs.Prelude.{◌≡◌, ◌+◌, ◌≤◌, ◌<◌, ℕ, IfOk, OnOk, IsErrOf, length};
+ghost use Rattle.dbm_model.specs.Pairs.{IsAllowed};
+ghost use Rattle.dbm_model.specs.PairLists.{times};
+ghost use Rattle.dbm_model.specs.Chain.{Chain, pairs_in};
+ghost use Rattle.dbm_model.specs.Space.{Space};
+ghost use Rattle.page_io.specs.Answers.{HasDeviceCause};
+ghost use Rattle.page_io.specs.Store.{IsKnown};
+ghost use Rattle.page_io.specs.Views.{said, StagesOnly, ReadsOnly, MayEnd};
+ghost use Rattle.page_io.specs.declared.store.PageFault.TheVariants.{Damaged};
+ghost use Rattle.free_pages.specs.FreeList.{HasEnds};
+ghost use Rattle.bucket_chain.specs.Chains.{IsChainAt};
+ghost use Rattle.bucket_chain.specs.Walks.{IsRoomWalk};
+ghost use Rattle.bucket_chain.specs.Spots.{IsSpotPage, IsSpot};
+ghost use Rattle.bucket_chain.specs.Changes.{IsPlaced, BecomesPlaced, put_in};
+ghost use Rattle.bucket_chain.specs.Answers.{IsWalkAnswer, IsPutAnswer};
+
+use crate::link::{HEAD, OVERFLOW, read_link};
+use crate::staging::stage_page;
+use free_pages::{FreeState, take};
+use page_io::{Page, PageFault, PageStore};
+use slot_page::{add, empty, fits, set_next};
+
+/// The page to which a pair goes, or behind which a page is to be taken for it.
+#[derive(Clone, Copy)]
+pub struct Spot {
+    page: u32,
+    has_room: bool,
+}
+
+/// The first page of the chain with room for the pair, else its last page, read into `page`. At most `most` pages are
+/// read.
+fn find_spot<S: PageStore>(
+    store: &mut S,
+    head: u32,
+    most: u32,
+    key: &[u8],
+    content: &[u8],
+    page: &mut Page,
+) -> Result<Spot, PageFault>
+    ensures reads { ReadsOnly S.PageStore store.old store.new }
+    ensures cause { HasDeviceCause (S.faults store.old) (S.faults store.new) result }
+    ensures answer { IsWalkAnswer (S.state store.old) result }
+    ensures known { IfOk result (λ spot. (1 ≤ spot.page) × IsKnown (S.state store.old) spot.page) }
+    ensures page { IfOk result (λ spot. IsSpotPage (key.now, content.now) page.new.bytes spot) }
+    ensures found { S.honest store.old → IfOk result (λ spot. IsSpot (said S.PageStore store.old) head (key.now, content.now) page.new.bytes spot) }
+    ensures whole { S.honest store.old → (chain : Chain) → IsChainAt (said S.PageStore store.old) most head chain → IsErrOf result Damaged → ⊥ }
+{
+    let mut at = head;
+    let mut kind = HEAD;
+    for _step in 0..most {
+        let next = read_link(store, at, kind, page)?;
+        let has_room = fits(page, key, content);
+        if has_room || next == 0 {
+            return Ok(Spot { page: at, has_room });
+        }
+        at = next;
+        kind = OVERFLOW;
+    }
+    Err(PageFault::Damaged)
+}
+
+/// Adds a pair to the chain from page `head` on: to the first page that it fits, as the last slot, else to a page that is
+/// taken and becomes the last. The key must not be in the chain already. At most two pages are staged: the one that gets
+/// the pair, and where a page was taken the old last one. After an `Err` the caller has to unstage and to go back to its
+/// old `FreeState`. Damaged is answered as by `lookup`.
+pub fn put<S: PageStore>(
+    store: &mut S,
+    space: &mut FreeState,
+    head: u32,
+    key: &[u8],
+    content: &[u8],
+) -> Result<(), PageFault>
+    requires { IsAllowed (key.now, content.now) }
+    ensures stages { StagesOnly S.PageStore store.old store.new }
+    ensures few { length (S.state store.new).staged ≤ length (S.state store.old).staged + 2 }
+    ensures cause { HasDeviceCause (S.faults store.old) (S.faults store.new) result }
+    ensures answer { IsPutAnswer S.reserved (S.state store.old) space.old result }
+    ensures walked { S.honest store.old → OnOk result (IsRoomWalk (said S.PageStore store.old) head (key.now, content.now)) }
+    ensures ends { HasEnds space.old → HasEnds space.new }
+    ensures may_end { MayEnd (S.state store.old) space.old.file_end → OnOk result (MayEnd (S.state store.new) space.new.file_end) }
+
+    // On a chain and a free list that are read as such it leaves the model's, and is never Damaged.
+    ensures exact { S.honest store.old → (chain : Chain) (s : Space) → IsPlaced (said S.PageStore store.old) space.old head chain s → times key.now (pairs_in chain) ≡ 0 →
+        OnOk result (BecomesPlaced (said S.PageStore store.old) (said S.PageStore store.new) space.new (put_in (chain, s) (key.now, content.now))) }
+    ensures whole { S.honest store.old → (chain : Chain) (s : Space) → IsPlaced (said S.PageStore store.old) space.old head chain s → times key.now (pairs_in chain) ≡ 0 → IsErrOf result Damaged → ⊥ }
+{
+    let mut page = Page::blank();
+    let spot = find_spot(store, head, space.file_end, key, content, &mut page)?;
+    if spot.has_room {
+        add(&mut page, key, content);
+        return stage_page(store, &page);
+    }
+    let taken = take(store, space)?;
+    let mut last = empty(taken, OVERFLOW, 0);
+    add(&mut last, key, content);
+    stage_page(store, &last)?;
+    set_next(&mut page, taken);
+    stage_page(store, &page)
+}

@@ -1,0 +1,120 @@
+//! All pairs of a chain, stored anew.
+
+ghost use Rattle.std.specs.Prelude.{◌≡◌, ◌≤◌, ◌<◌, ◌∷◌, [], ℕ, All, map, OnOk, IsErrOf};
+ghost use Rattle.dbm_model.specs.Pairs.{IsAllowed};
+ghost use Rattle.dbm_model.specs.Chain.{Chain, Leaf, numbers, pairs_in};
+ghost use Rattle.dbm_model.specs.Sheets.{first_of};
+ghost use Rattle.dbm_model.specs.Space.{Space};
+ghost use Rattle.page_io.specs.Answers.{HasDeviceCause};
+ghost use Rattle.page_io.specs.Views.{said, StagesOnly, MayEnd};
+ghost use Rattle.page_io.specs.declared.store.PageFault.TheVariants.{Damaged};
+ghost use Rattle.free_pages.specs.FreeList.{HasEnds};
+ghost use Rattle.bucket_chain.specs.Pairs.{pair_of};
+ghost use Rattle.bucket_chain.specs.Walks.{IsRead};
+ghost use Rattle.bucket_chain.specs.Links.{HaveDistinctKeys};
+ghost use Rattle.bucket_chain.specs.Giving.{AreGiven};
+ghost use Rattle.bucket_chain.specs.Changes.{Placed, IsPlaced, BecomesPlaced, IsCleared, IsPutAll, store_in};
+ghost use Rattle.bucket_chain.specs.Answers.{IsStoreAnswer};
+
+use crate::Pair;
+use crate::link::{HEAD, OVERFLOW, read_link};
+use crate::puts::put;
+use crate::staging::stage_page;
+use free_pages::{FreeState, give};
+use page_io::{Page, PageFault, PageStore};
+use slot_page::empty;
+
+/// Gives the overflow pages of a chain, of which page `first` is the first, 0 for none.
+fn give_overflow<S: PageStore>(
+    store: &mut S,
+    space: &mut FreeState,
+    first: u32,
+) -> Result<(), PageFault>
+    ensures stages { StagesOnly S.PageStore store.old store.new }
+    ensures cause { HasDeviceCause (S.faults store.old) (S.faults store.new) result }
+    ensures answer { IsStoreAnswer (S.state store.old) result }
+    ensures ends { HasEnds space.old → HasEnds space.new }
+    ensures end { space.new.file_end ≡ space.old.file_end }
+    ensures may_end { MayEnd (S.state store.old) space.old.file_end → MayEnd (S.state store.new) space.new.file_end }
+    ensures given { S.honest store.old → OnOk result (AreGiven (said S.PageStore store.old) (said S.PageStore store.new) space.old space.new first 0) }
+    ensures whole { S.honest store.old → (head : ℕ) (leaf : Leaf) (rest : Chain) (s : Space) → IsPlaced (said S.PageStore store.old) space.old head (leaf ∷ rest) s → first ≡ first_of (numbers rest) → IsErrOf result Damaged → ⊥ }
+{
+    let mut page = Page::blank();
+    let mut at = first;
+    for _step in 0..space.file_end {
+        if at == 0 {
+            return Ok(());
+        }
+        let next = read_link(store, at, OVERFLOW, &mut page)?;
+        give(store, space, at)?;
+        at = next;
+    }
+    Err(PageFault::Damaged)
+}
+
+/// Gives the overflow pages of the chain from page `head` on, and empties its head page.
+fn clear<S: PageStore>(store: &mut S, space: &mut FreeState, head: u32) -> Result<(), PageFault>
+    ensures stages { StagesOnly S.PageStore store.old store.new }
+    ensures cause { HasDeviceCause (S.faults store.old) (S.faults store.new) result }
+    ensures answer { IsStoreAnswer (S.state store.old) result }
+    ensures walked { S.honest store.old → OnOk result (IsRead (said S.PageStore store.old) head) }
+    ensures ends { HasEnds space.old → HasEnds space.new }
+    ensures may_end { MayEnd (S.state store.old) space.old.file_end → OnOk result (MayEnd (S.state store.new) space.new.file_end) }
+    ensures exact { S.honest store.old → (chain : Chain) (s : Space) → IsPlaced (said S.PageStore store.old) space.old head chain s →
+        OnOk result (IsCleared (said S.PageStore store.old) (said S.PageStore store.new) space.new head (store_in (chain, s) [])) }
+    ensures whole { S.honest store.old → (chain : Chain) (s : Space) → IsPlaced (said S.PageStore store.old) space.old head chain s → IsErrOf result Damaged → ⊥ }
+{
+    let mut page = Page::blank();
+    let first = read_link(store, head, HEAD, &mut page)?;
+    give_overflow(store, space, first)?;
+    stage_page(store, &empty(head, HEAD, 0))
+}
+
+/// Puts pairs into an empty chain, in order.
+fn put_all<S: PageStore>(
+    store: &mut S,
+    space: &mut FreeState,
+    head: u32,
+    pairs: &[Pair],
+) -> Result<(), PageFault>
+    requires { All (λ pair. IsAllowed (pair_of pair)) pairs.now }
+    ensures stages { StagesOnly S.PageStore store.old store.new }
+    ensures cause { HasDeviceCause (S.faults store.old) (S.faults store.new) result }
+    ensures answer { IsStoreAnswer (S.state store.old) result }
+    ensures ends { HasEnds space.old → HasEnds space.new }
+    ensures may_end { MayEnd (S.state store.old) space.old.file_end → OnOk result (MayEnd (S.state store.new) space.new.file_end) }
+    ensures exact { S.honest store.old → (placed : Placed) → IsPlaced (said S.PageStore store.old) space.old head placed.0 placed.1 → pairs_in placed.0 ≡ [] → HaveDistinctKeys (map pair_of pairs.now) →
+        OnOk result (IsPutAll (said S.PageStore store.old) (said S.PageStore store.new) space.old space.new placed (map pair_of pairs.now)) }
+    ensures whole { S.honest store.old → (placed : Placed) → IsPlaced (said S.PageStore store.old) space.old head placed.0 placed.1 → pairs_in placed.0 ≡ [] → HaveDistinctKeys (map pair_of pairs.now) → IsErrOf result Damaged → ⊥ }
+{
+    for pair in pairs {
+        put(store, space, head, &pair.key, &pair.content)?;
+    }
+    Ok(())
+}
+
+/// Makes these the pairs of the chain from page `head` on: its overflow pages are given to the free list in chain order,
+/// its head page is emptied, and the pairs are added in order. After an `Err` the caller has to unstage and to go back to
+/// its old `FreeState`. Damaged is answered as by `lookup`, and where as many pages are free as the file has.
+pub fn store_all<S: PageStore>(
+    store: &mut S,
+    space: &mut FreeState,
+    head: u32,
+    pairs: &[Pair],
+) -> Result<(), PageFault>
+    requires { All (λ pair. IsAllowed (pair_of pair)) pairs.now }
+    ensures stages { StagesOnly S.PageStore store.old store.new }
+    ensures cause { HasDeviceCause (S.faults store.old) (S.faults store.new) result }
+    ensures answer { IsStoreAnswer (S.state store.old) result }
+    ensures walked { S.honest store.old → OnOk result (IsRead (said S.PageStore store.old) head) }
+    ensures ends { HasEnds space.old → HasEnds space.new }
+    ensures may_end { MayEnd (S.state store.old) space.old.file_end → OnOk result (MayEnd (S.state store.new) space.new.file_end) }
+
+    // On a chain and a free list that are read as such it leaves the model's, and is never Damaged.
+    ensures exact { S.honest store.old → (chain : Chain) (s : Space) → IsPlaced (said S.PageStore store.old) space.old head chain s → HaveDistinctKeys (map pair_of pairs.now) →
+        OnOk result (BecomesPlaced (said S.PageStore store.old) (said S.PageStore store.new) space.new (store_in (chain, s) (map pair_of pairs.now))) }
+    ensures whole { S.honest store.old → (chain : Chain) (s : Space) → IsPlaced (said S.PageStore store.old) space.old head chain s → HaveDistinctKeys (map pair_of pairs.now) → IsErrOf result Damaged → ⊥ }
+{
+    clear(store, space, head)?;
+    put_all(store, space, head, pairs)
+}
