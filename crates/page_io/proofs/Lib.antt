@@ -8,3 +8,4 @@ pub mod StagedPages
 pub mod Runs
 pub mod Memory
 pub mod Views
+pub mod Meanings

@@ -7,3 +7,4 @@ pub mod ByteChange
 pub mod Counts
 pub mod MemPages
 pub mod Views
+pub mod Meaning

@@ -2,6 +2,7 @@
 #![tactic(auto)]
 
 mod byte_change;
+mod laws;
 mod mem_pages;
 mod page;
 mod plain;
@@ -12,6 +13,7 @@ mod store;
 mod tests;
 
 pub use byte_change::replace_byte;
+pub use laws::{commits_stand, images_have_one_meaning};
 pub use mem_pages::MemPages;
 pub use page::{PAGE_LEN, Page, SECTORS_PER_PAGE};
 pub use sectors::{read_page, write_page};
