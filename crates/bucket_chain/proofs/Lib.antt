@@ -18,3 +18,4 @@ pub mod StagedPages
 pub mod StepLemmas
 pub mod Storing
 pub mod Walks
+pub mod PlacedChains

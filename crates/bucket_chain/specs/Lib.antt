@@ -7,4 +7,5 @@ pub mod Spots
 pub mod Hits
 pub mod Giving
 pub mod Changes
+pub mod Placements
 pub mod Answers

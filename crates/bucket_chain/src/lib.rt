@@ -1,6 +1,7 @@
 //! The chain of a bucket: its head page and its overflow pages.
 #![tactic(auto)]
 
+mod laws;
 mod link;
 mod loads;
 mod lookups;
@@ -12,6 +13,7 @@ mod staging;
 mod steps;
 mod stores;
 
+pub use laws::{chains_are_placed, puts_are_placements, removals_are_placements};
 pub use loads::load_all;
 pub use lookups::lookup;
 pub use pair::Pair;

@@ -6,3 +6,4 @@ pub mod Metas
 pub mod Segments
 pub mod Stagings
 pub mod Tables
+pub mod PlacementHeads

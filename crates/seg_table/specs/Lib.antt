@@ -1,4 +1,5 @@
 pub mod MetaPages
 pub mod Segments
 pub mod Heads
+pub mod Placements
 pub mod Answers

@@ -1,0 +1,17 @@
+-- What the table means for a placement: the segment pages say the head page of each bucket.
+use Rattle.std.specs.Prelude.{◌≡◌, ℕ, ◌*◌, ◌≤◌, ◌<◌, length, slice_index}
+use Rattle.dbm_model.specs.Pages.{Body}
+use Rattle.dbm_model.specs.Chain.{numbers}
+use Rattle.dbm_model.specs.Placement.{Placement, chain_at, IsGood}
+use Rattle.dbm_model.specs.Sheets.{first_of, heads_of, meta_of, lower_sheets, AreRead}
+use Rattle.seg_table.specs.Heads.{AreHeads}
+
+-- the heads that are read are those of the chains, and each stands in a segment that is there
+pub record HasHeads (at : ℕ → Body) (p : Placement) : Type 0 where
+  pub heads_are : AreHeads at (meta_of p) (heads_of p.chains)
+  pub room : length (heads_of p.chains) ≤ 508 * length p.segments
+  pub each : (bucket : ℕ) → bucket < length p.chains → slice_index (heads_of p.chains) bucket ≡ first_of (numbers (chain_at p bucket))
+
+-- where the pages but the meta page say a good placement, they have its heads
+abbrev pub PlacementsHaveHeads : Type 0
+PlacementsHaveHeads = (at : ℕ → Body) (p : Placement) → IsGood p → AreRead at (lower_sheets p) → HasHeads at p
