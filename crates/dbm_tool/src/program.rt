@@ -5,6 +5,7 @@ ghost use Rattle.std.specs.FinMap.{empty};
 ghost use Rattle.dbm_model.specs.States.{fresh};
 ghost use Rattle.dbm_file.specs.Database.{state_of};
 ghost use Rattle.dbm_model.specs.Sizes.{is_limit};
+ghost use Rattle.dbm_words.specs.CommandLine.{AreTaken};
 ghost use Rattle.dbm_tool.specs.Faults.{fault_line, told_in_memory};
 ghost use Rattle.dbm_tool.specs.Scripts.{AnswersInMemory, AnswersWords};
 
@@ -38,8 +39,8 @@ pub fn tool<R: BufRead, O: Write, F: Write>(
     ensures status { (result ≡ 0) ⊎ ((result ≡ 2) ⊎ (result ≡ 3)) }
     ensures quiet { result ≡ 0 → faults.new ≡ faults.old }
 
-    // Either help was asked for, or the script was answered by a run of a new database, as the words ask.
-    ensures done { result ≡ 0 → (input.new ≡ input.old) ⊎ IfSome (R.remaining input.old) (λ text.
+    // The script was answered by a run of a new database, as the words ask; where they name no command, nothing was read.
+    ensures done { result ≡ 0 → ((input.new ≡ input.old) × (AreTaken (map (λ word. word.now) words.now) → ⊥)) ⊎ IfSome (R.remaining input.old) (λ text.
         AnswersWords (map (λ word. word.now) words.now) text (O.contents output.old) (O.contents output.new)) }
 {
     match read_words(alloc, words) {

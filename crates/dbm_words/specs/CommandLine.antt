@@ -2,7 +2,7 @@
 use Rattle.std.specs.Prelude.{◌≡◌, List, ◌∷◌, Option, Some, None, Ok, pos, true, codes}
 use Rattle.std.specs.Str.Parse.{ParsesUnsigned}
 use Rattle.std.specs.declared.num.ParseIntError.{ParseIntError}
-use Rattle.clap.specs.Words.{App, Row, Rule, Text, new_app, new_rule, one_of, subcommand_of, with_rule, with_subcommand}
+use Rattle.clap.specs.Words.{App, Row, Rule, Text, new_app, new_rule, one_of, subcommand_of, takes, with_rule, with_subcommand}
 use Rattle.clap.specs.declared.builder.value_parser.ValueParser.TheVariants as parser
 use Rattle.dbm_words.specs.declared.plan.Plan.{Plan}
 use Rattle.dbm_words.specs.declared.plan.Plan.TheVariants.{Script}
@@ -29,3 +29,7 @@ Names (Some entered) (Script memory) = (entered.0 ≡ codes "script") × (text :
 -- what the words enter names the plan
 abbrev pub IsPlan : List Text → Plan → Type 0
 IsPlan words plan = Names (subcommand_of command_line (codes "dbmtool" ∷ words)) plan
+
+-- the parser takes the words: they are no mistake, and don't ask for help
+abbrev pub AreTaken : List Text → Type 0
+AreTaken words = takes command_line (codes "dbmtool" ∷ words) ≡ true

@@ -1,7 +1,7 @@
 // The words after the program's name.
-ghost use Rattle.std.specs.Prelude.{◌≡◌, ◌⊎◌, ◌∷◌, IfErr, IfOk, IfSome, map, codes, true};
-ghost use Rattle.clap.specs.Words.{kind_of, subcommand_rows_of, takes};
-ghost use Rattle.dbm_words.specs.CommandLine.{IsPlan, Names, command_line};
+ghost use Rattle.std.specs.Prelude.{◌≡◌, ◌⊎◌, ◌∷◌, IfErr, IfOk, IfSome, map, codes};
+ghost use Rattle.clap.specs.Words.{kind_of, subcommand_rows_of};
+ghost use Rattle.dbm_words.specs.CommandLine.{AreTaken, IsPlan, Names};
 ghost use Rattle.dbm_words.specs.Sorting.{IsSorted};
 
 use crate::Plan;
@@ -33,7 +33,7 @@ pub enum WordsError {
 pub fn read_words(alloc: Global, words: &[&str]) -> Result<Plan, WordsError>
     ensures plan { IfOk result (IsPlan (map (λ word. word.now) words.now)) }
     ensures sorted { IfErr result IsSorted }
-    ensures passes { takes command_line (codes "dbmtool" ∷ map (λ word. word.now) words.now) ≡ true → IfErr result (λ e. (e ≡ WordsError.Memory) ⊎ (e ≡ WordsError.NoPlan)) }
+    ensures passes { AreTaken (map (λ word. word.now) words.now) → IfErr result (λ e. (e ≡ WordsError.Memory) ⊎ (e ≡ WordsError.NoPlan)) }
 {
     let Ok(named) = with_name(alloc, words) else {
         return Err(WordsError::Memory);
