@@ -1,6 +1,6 @@
 //! One key less in a chain.
 
-ghost use Rattle.std.specs.Prelude.{◌≡◌, ◌+◌, ◌≤◌, ◌<◌, ℕ, List, false, IfOk, IfSome, OnOk, IsErrOf, length};
+ghost use Rattle.std.specs.Prelude.{◌≡◌, ◌+◌, ◌≤◌, ◌<◌, ℕ, List, false, IfOk, IfSome, OnOk, OnErr, IsErrOf, length};
 ghost use Rattle.dbm_model.specs.Pairs.{Pair};
 ghost use Rattle.dbm_model.specs.PairLists.{times};
 ghost use Rattle.dbm_model.specs.Chain.{Chain, pairs_in};
@@ -99,8 +99,8 @@ fn relink<S: PageStore>(
 
 /// Takes a key out of the chain from page `head` on, and answers whether it was there. An overflow page that becomes empty
 /// leaves the chain and is given to the free list. At most two pages are staged: the page, or where it becomes empty the
-/// one before it and the page given. After an `Err` the caller has to unstage and to go back to its old `FreeState`.
-/// Damaged is answered as by `lookup`, and where a page is to be given while as many are free as the file has.
+/// one before it and the page given. After an `Err` the caller has to unstage; the `FreeState` is the old one. Damaged is
+/// answered as by `lookup`, and where a page is to be given while as many are free as the file has.
 pub fn remove<S: PageStore>(
     store: &mut S,
     space: &mut FreeState,
@@ -113,6 +113,7 @@ pub fn remove<S: PageStore>(
     ensures answer { IsRemoveAnswer S.reserved (S.state store.old) result }
     ensures walked { S.honest store.old → IfOk result (λ was. IsKeyWalk (said S.PageStore store.old) head key.now was) }
     ensures absent { IfOk result (λ was. was ≡ false → (S.state store.new ≡ S.state store.old) × (space.new ≡ space.old)) }
+    ensures err { OnErr result (space.new ≡ space.old) }
     ensures end { space.new.file_end ≡ space.old.file_end }
     ensures ends { HasEnds space.old → HasEnds space.new }
     ensures may_end { MayEnd (S.state store.old) space.old.file_end → OnOk result (MayEnd (S.state store.new) space.new.file_end) }
