@@ -227,6 +227,8 @@ fn a_full_device_takes_no_page(rt: HostRuntime) -> Result<(), Fail> {
     let answer = put(&mut store, &mut space, 3, &[0x62], &[7; 1499]);
     assert_eq!(rt; answer, Err(PageFault::NoRoom));
     assert!(rt; !store.is_staged(3));
+    put(&mut store, &mut space, 3, &[0x62], &[7; 519])?;
+    assert!(rt; store.is_staged(3));
     Ok(())
 }
 
