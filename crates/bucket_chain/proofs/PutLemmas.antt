@@ -193,6 +193,12 @@ module _ (at : ℕ → Body) (state : FreeState) (head : ℕ) (pair : Pair) (cha
         kept = placed.free_is.kept ∙ ap state_of (sym (ap (λ (b : Bool). cond b s (after_take s)) roomy));
       }
 
+  -- it fits none
+  pub no_room : spot.has_room ≡ false → has_room pair chain ≡ false
+  no_room full =
+      ap (has_room pair) middle.parts ∙ room-append pair found.before (leaf_on spot bytes ∷ middle.later) found.passed ∙ ap (λ (b : Bool). b || has_room pair middle.later) (found.full full).0
+      ∙ ap (has_room pair) (middle.last (found.full full).1)
+
   -- it fits none, and a page is taken for it
   pub put_last : (at' : ℕ → Body) (new : ℕ) (state' : FreeState) → spot.has_room ≡ false → (new ≡ next_page s) × (state' ≡ state_of (after_take s)) → at' spot.page ≡ link_body (kind_behind found.before) new (pairs_of bytes)
       → at' new ≡ OverflowPage 0 (pair ∷ []) → ((n : ℕ) → (n ≡ spot.page → ⊥) → (n ≡ new → ⊥) → at' n ≡ at n) → BecomesPlaced at at' state' (put_in (chain, s) pair)

@@ -1,14 +1,14 @@
 //! One more pair in a chain.
 
-ghost use Rattle.std.specs.Prelude.{◌≡◌, ◌+◌, ◌≤◌, ◌<◌, ℕ, IfOk, OnOk, IsErrOf, length};
+ghost use Rattle.std.specs.Prelude.{◌≡◌, ◌+◌, ◌≤◌, ◌<◌, ℕ, true, IfOk, OnOk, IsErrOf, length};
 ghost use Rattle.dbm_model.specs.Pairs.{IsAllowed};
 ghost use Rattle.dbm_model.specs.PairLists.{times};
-ghost use Rattle.dbm_model.specs.Chain.{Chain, pairs_in};
+ghost use Rattle.dbm_model.specs.Chain.{Chain, pairs_in, has_room};
 ghost use Rattle.dbm_model.specs.Space.{Space};
 ghost use Rattle.page_io.specs.Answers.{HasDeviceCause};
 ghost use Rattle.page_io.specs.Store.{IsKnown};
 ghost use Rattle.page_io.specs.Views.{said, StagesOnly, ReadsOnly, MayEnd};
-ghost use Rattle.page_io.specs.declared.store.PageFault.TheVariants.{Damaged};
+ghost use Rattle.page_io.specs.declared.store.PageFault.TheVariants.{NoRoom, Damaged};
 ghost use Rattle.free_pages.specs.FreeList.{HasEnds};
 ghost use Rattle.bucket_chain.specs.Chains.{IsChainAt};
 ghost use Rattle.bucket_chain.specs.Walks.{IsRoomWalk};
@@ -85,6 +85,9 @@ pub fn put<S: PageStore>(
     ensures exact { S.honest store.old → (chain : Chain) (s : Space) → IsPlaced (said S.PageStore store.old) space.old head chain s → times key.now (pairs_in chain) ≡ 0 →
         OnOk result (BecomesPlaced (said S.PageStore store.old) (said S.PageStore store.new) space.new (put_in (chain, s) (key.now, content.now))) }
     ensures whole { S.honest store.old → (chain : Chain) (s : Space) → IsPlaced (said S.PageStore store.old) space.old head chain s → times key.now (pairs_in chain) ≡ 0 → IsErrOf result Damaged → ⊥ }
+
+    // Where the pair fits a page, no room is needed behind the file.
+    ensures room { S.honest store.old → (chain : Chain) (s : Space) → IsPlaced (said S.PageStore store.old) space.old head chain s → has_room (key.now, content.now) chain ≡ true → IsErrOf result NoRoom → ⊥ }
 {
     let mut page = Page::blank();
     let spot = find_spot(store, head, space.file_end, key, content, &mut page)?;

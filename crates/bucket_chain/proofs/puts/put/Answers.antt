@@ -12,7 +12,7 @@ use Rattle.page_io.proofs.Views.{stages_then, same_said, known_below}
 use Rattle.free_pages.specs.FreeList.{IsFreeList}
 use Rattle.bucket_chain.proofs.Headers.{own_is, header_of}
 use Rattle.bucket_chain.proofs.StagedPages.{on_ok, if_ok, with_own, known_same, own_same}
-use Rattle.bucket_chain.proofs.PutLemmas.{room_walk, lacks, put_here, put_last, new_apart, absent_none, added_says, linked_says, fresh_says, apart_alone}
+use Rattle.bucket_chain.proofs.PutLemmas.{room_walk, lacks, put_here, put_last, no_room, new_apart, absent_none, added_says, linked_says, fresh_says, apart_alone}
 use Rattle.bucket_chain.proofs.puts.put.Goals as goal
 
 pub stage_page-requires : goal.stage_page-requires
@@ -113,3 +113,9 @@ returns-clause-exact g c honest chain s placed none =
     let read = subst (λ (n : ℕ). at' n ≡ body_of n c.set_next.new.page.bytes) page_own says in
     put_last at c.args.space.now c.args.head p chain s c.find_spot.new.page.bytes c.in_ok-spot.spot placed found at' new c.take.new.space c.if-spot.false taken
     (linked_says at' c.find_spot.new.page.bytes c.set_next.new.page.bytes page found.next new found.before found.link c.set_next.ensures.page c.set_next.ensures.says read) last others)
+
+pub returns-in_err-taken-clause-room : goal.returns-in_err-taken-clause-room
+returns-in_err-taken-clause-room g c honest chain s placed fits none =
+    let p : Pair = (c.args.key.now, c.args.content.now) in
+    let full = no_room (said g.S.PageStore c.args.store.now) c.args.space.now c.args.head p chain s _ _ placed (c.in_ok-spot.ensures.found honest) c.if-spot.false in
+    absurd (let e = sym fits ∙ full in cc)
