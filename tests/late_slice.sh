@@ -9,7 +9,7 @@ cp -r "$top/crates" "$work/crates"
 crate=$work/crates/dbm_file
 cat >> "$crate/src/database.rt" <<'R'
 
-pub fn late<D: SectorDev>(db: &mut Db<D>) -> Result<usize, Fault> {
+pub fn late<S: PageStore>(db: &mut Database<S>) -> Result<usize, Fault> {
     let held = db.fetch(b"ab")?;
     let second = db.fetch(b"a")?;
     Ok(held.map_or(0, |s| s.len()).min(second.map_or(0, |s| s.len())))

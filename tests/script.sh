@@ -23,9 +23,10 @@ expects() {
 }
 
 expects 0 '0\n76\n' '' 'S 6b 76\nF 6b\n' script --memory 100
+expects 0 '0\n76\n1\n76\n0\n-1 absent\nnone\n' '' 'S 6b 76\nF 6b\nI 6b 77\nF 6b\nD 6b\nD 6b\nF 6b\n' script --memory 100
 expects 0 '0\n.\nnone\n' '' 'S . .\nF .\nF 00' script --memory 100
 expects 0 '-1 line\n-1 line\n-1 line\n-1 line\nnone\n' '' 'Q\nS 6\nF 6b 6b\n\nF 6B\n' script --memory 100
-expects 0 '0\n-1 fault 6\n0\n02\n' '' 'S 61 01\nS 62 01\nS 61 02\nF 61\n' script --memory 1
+expects 0 '0\n-1 fault 6\n1\n0\n02\n' '' 'S 61 01\nS 62 01\nI 61 03\nS 61 02\nF 61\n' script --memory 1
 expects 0 '' '' '' script --memory 1000000
 expects 2 '' 'dbmtool: fault 13' 'S 6b 76\n' script --memory 0
 expects 2 '' 'dbmtool: fault 13' 'S 6b 76\n' script --memory 1000001

@@ -1,13 +1,16 @@
 -- The pairs that were copied.
-use Rattle.std.proofs.Common.{◌≡◌, ◌≢◌, ℕ, ◌+◌, ◌<◌, ◌≤◌, List, [], ◌∷◌, ◌++◌, length, map, take, true, Result, Ok, Err, OnOk, sym, ap, ◌∙◌, subst, append_assoc, append-nil}
+use Rattle.std.proofs.Common.{◌≡◌, ◌≢◌, ℕ, zero, suc, ◌+◌, ◌<◌, ◌≤◌, List, [], ◌∷◌, ◌++◌, length, map, take, true, Result, Ok, Err, OnOk, sym, ap, ◌∙◌, subst, append_assoc, append-nil, arith}
 use Rattle.std.specs.Result.{is_ok}
 use Rattle.std.proofs.lemmas.List.{map-append, take_more}
 use Rattle.std.proofs.lemmas.List.Concat.{flat_map-append}
-use Rattle.std.specs.List.{HoldsAt}
-use Rattle.dbm_model.specs.Pairs.{Pair}
+use Rattle.std.specs.Prelude.{All}
+use Rattle.std.specs.List.{HoldsAt, AllByRecursion}
+use Rattle.dbm_model.specs.Pairs.{Pair, IsAllowed}
+use Rattle.dbm_model.specs.Slots.{taken}
 use Rattle.dbm_model.specs.Pages.{Body}
 use Rattle.dbm_model.specs.Chain.{Leaf, Chain, pairs_in}
-use Rattle.dbm_model.proofs.Chains.{AllByRecursion-right}
+use Rattle.dbm_model.proofs.Chains.{AllByRecursion-append, AllByRecursion-right}
+use Rattle.slot_page.specs.Contents.{IsBucketPage, pairs_of}
 use Rattle.bucket_chain.specs.Links.{SaysLink}
 use Rattle.bucket_chain.specs.Chains.{IsChainAt, BeginsAt}
 use Rattle.bucket_chain.specs.Walks.{SaysAll}
@@ -67,3 +70,20 @@ module _ (at : ℕ → Body) (head n kind step next : ℕ) (old new here : List 
       let rest = AllByRecursion-right (λ (leaf : Leaf). 1 ≤ leaf.number) before split.later (subst AreNumbered split.parts is.numbered) in
       let nothing = none_later split.later rest (sym split.next ∙ last) in
       all_now ∙ ap pairs_in (sym (append-nil before)) ∙ ap (λ (later : Chain). pairs_in (before ++ later)) (sym nothing) ∙ ap pairs_in (sym split.parts)
+
+-- ---- each pair of a page is small, on any file
+
+-- of pairs that fit a page
+small_in : (pairs : List Pair) → taken pairs ≤ 2032 → AllByRecursion IsAllowed pairs
+small_in [] fit = tt
+small_in (pair ∷ pairs) fit = (omega arith, small_in pairs (omega arith))
+
+-- one page more
+pub more_small : (bytes : List ℕ) (old new : List Pair) → IsBucketPage bytes → new ≡ old ++ pairs_of bytes → AllByRecursion IsAllowed old → AllByRecursion IsAllowed new
+more_small bytes old new page appended small = subst (AllByRecursion IsAllowed) (sym appended) (AllByRecursion-append IsAllowed old (pairs_of bytes) small (small_in (pairs_of bytes) page.sound.fits))
+
+-- pair by pair
+pub each_small : (pairs : List code.Pair) → AllByRecursion IsAllowed (map pair_of pairs) → All (λ pair. IsAllowed (pair_of pair)) pairs
+each_small [] small i d within = absurd (omega (arith, within))
+each_small (pair ∷ pairs) small zero d within = small.0
+each_small (pair ∷ pairs) small (suc i) d within = each_small pairs small.1 i d (omega (arith, within))

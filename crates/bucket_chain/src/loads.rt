@@ -1,7 +1,8 @@
 //! All pairs of a chain, read.
 
-ghost use Rattle.std.specs.Prelude.{◌≡◌, ◌++◌, ◌<◌, ℕ, length, map, IfOk, OnOk, IsErrOf};
+ghost use Rattle.std.specs.Prelude.{◌≡◌, ◌++◌, ◌<◌, ℕ, All, length, map, IfOk, OnOk, IsErrOf};
 ghost use Rattle.std.specs.List.{HoldsAt};
+ghost use Rattle.dbm_model.specs.Pairs.{IsAllowed};
 ghost use Rattle.dbm_model.specs.Chain.{Chain, pairs_in};
 ghost use Rattle.page_io.specs.Answers.{HasDeviceCause};
 ghost use Rattle.page_io.specs.Views.{said, ReadsOnly};
@@ -51,6 +52,7 @@ pub fn load_all<S: PageStore>(
     ensures reads { ReadsOnly S.PageStore store.old store.new }
     ensures cause { HasDeviceCause (S.faults store.old) (S.faults store.new) result }
     ensures answer { IsLoadAnswer (S.state store.old) result }
+    ensures small { IfOk result (λ pairs. All (λ pair. IsAllowed (pair_of pair)) pairs.items) }
     ensures walked { S.honest store.old → IfOk result (λ pairs. SaysAll (said S.PageStore store.old) head (map pair_of pairs.items)) }
 
     // Of a chain that is read as one it is the pairs, and never Damaged.

@@ -1,6 +1,6 @@
 //! Looking a key up.
 
-ghost use Rattle.std.specs.Prelude.{◌≡◌, ℕ, IfOk, IsErrOf};
+ghost use Rattle.std.specs.Prelude.{◌≡◌, ℕ, IfOk, IfSome, IsErrOf};
 ghost use Rattle.dbm_model.specs.Chain.{Chain};
 ghost use Rattle.page_io.specs.Answers.{HasDeviceCause};
 ghost use Rattle.page_io.specs.Views.{said, ReadsOnly};
@@ -8,6 +8,7 @@ ghost use Rattle.page_io.specs.declared.store.PageFault.TheVariants.{Damaged};
 ghost use Rattle.bucket_chain.specs.Chains.{IsChainAt};
 ghost use Rattle.bucket_chain.specs.Walks.{IsLookup, IsLookedUp};
 ghost use Rattle.bucket_chain.specs.Answers.{IsWalkAnswer};
+ghost use Rattle.slot_page.specs.Contents.{IsBucketPage, HasKeyAt, pairs_of};
 
 use crate::Place;
 use crate::link::{HEAD, OVERFLOW, read_link};
@@ -26,6 +27,7 @@ pub fn lookup<S: PageStore>(
     ensures reads { ReadsOnly S.PageStore store.old store.new }
     ensures cause { HasDeviceCause (S.faults store.old) (S.faults store.new) result }
     ensures answer { IsWalkAnswer (S.state store.old) result }
+    ensures held { IfOk result (λ place. IfSome place (λ at. IsBucketPage page.new.bytes × HasKeyAt key.now (pairs_of page.new.bytes) at.slot)) }
     ensures walked { S.honest store.old → IfOk result (λ place. IsLookup (said S.PageStore store.old) head key.now page.new.bytes place) }
 
     // On a chain that is read as one it answers the first of the key's pairs, and is never Damaged.

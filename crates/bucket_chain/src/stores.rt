@@ -7,7 +7,7 @@ ghost use Rattle.dbm_model.specs.Sheets.{first_of};
 ghost use Rattle.dbm_model.specs.Space.{Space};
 ghost use Rattle.page_io.specs.Answers.{HasDeviceCause};
 ghost use Rattle.page_io.specs.Views.{said, StagesOnly, MayEnd};
-ghost use Rattle.page_io.specs.declared.store.PageFault.TheVariants.{Damaged};
+ghost use Rattle.page_io.specs.declared.store.PageFault.TheVariants.{NoRoom, Damaged};
 ghost use Rattle.free_pages.specs.FreeList.{HasEnds};
 ghost use Rattle.bucket_chain.specs.Pairs.{pair_of};
 ghost use Rattle.bucket_chain.specs.Walks.{IsRead};
@@ -33,6 +33,7 @@ fn give_overflow<S: PageStore>(
     ensures stages { StagesOnly S.PageStore store.old store.new }
     ensures cause { HasDeviceCause (S.faults store.old) (S.faults store.new) result }
     ensures answer { IsStoreAnswer (S.state store.old) result }
+    ensures room { IsErrOf result NoRoom → ⊥ }
     ensures ends { HasEnds space.old → HasEnds space.new }
     ensures end { space.new.file_end ≡ space.old.file_end }
     ensures may_end { MayEnd (S.state store.old) space.old.file_end → MayEnd (S.state store.new) space.new.file_end }
@@ -57,6 +58,7 @@ fn clear<S: PageStore>(store: &mut S, space: &mut FreeState, head: u32) -> Resul
     ensures stages { StagesOnly S.PageStore store.old store.new }
     ensures cause { HasDeviceCause (S.faults store.old) (S.faults store.new) result }
     ensures answer { IsStoreAnswer (S.state store.old) result }
+    ensures room { IsErrOf result NoRoom → ⊥ }
     ensures walked { S.honest store.old → OnOk result (IsRead (said S.PageStore store.old) head) }
     ensures ends { HasEnds space.old → HasEnds space.new }
     ensures may_end { MayEnd (S.state store.old) space.old.file_end → OnOk result (MayEnd (S.state store.new) space.new.file_end) }
@@ -81,6 +83,7 @@ fn put_all<S: PageStore>(
     ensures stages { StagesOnly S.PageStore store.old store.new }
     ensures cause { HasDeviceCause (S.faults store.old) (S.faults store.new) result }
     ensures answer { IsStoreAnswer (S.state store.old) result }
+    ensures room { pairs.now ≡ [] → IsErrOf result NoRoom → ⊥ }
     ensures ends { HasEnds space.old → HasEnds space.new }
     ensures may_end { MayEnd (S.state store.old) space.old.file_end → OnOk result (MayEnd (S.state store.new) space.new.file_end) }
     ensures exact { S.honest store.old → (placed : Placed) → IsPlaced (said S.PageStore store.old) space.old head placed.0 placed.1 → pairs_in placed.0 ≡ [] → HaveDistinctKeys (map pair_of pairs.now) →
@@ -106,6 +109,7 @@ pub fn store_all<S: PageStore>(
     ensures stages { StagesOnly S.PageStore store.old store.new }
     ensures cause { HasDeviceCause (S.faults store.old) (S.faults store.new) result }
     ensures answer { IsStoreAnswer (S.state store.old) result }
+    ensures room { pairs.now ≡ [] → IsErrOf result NoRoom → ⊥ }
     ensures walked { S.honest store.old → OnOk result (IsRead (said S.PageStore store.old) head) }
     ensures ends { HasEnds space.old → HasEnds space.new }
     ensures may_end { MayEnd (S.state store.old) space.old.file_end → OnOk result (MayEnd (S.state store.new) space.new.file_end) }

@@ -5,23 +5,30 @@ use Rattle.dbm_model.specs.Calls as model
 use Rattle.dbm_file.specs.Faults.{fault_of}
 use Rattle.dbm_file.specs.declared.fault.Fault.{Fault}
 use Rattle.dbm_file.specs.declared.calls.StoreMode.{StoreMode}
-use Rattle.dbm_file.specs.declared.calls.StoreMode.TheVariants.{Replace}
+use Rattle.dbm_file.specs.declared.calls.StoreMode.TheVariants.{Insert, Replace}
 use Rattle.dbm_file.specs.declared.calls.StoreReply.{StoreReply}
 use Rattle.dbm_file.specs.declared.calls.StoreReply.TheVariants as stored
+use Rattle.dbm_file.specs.declared.calls.DeleteReply.{DeleteReply}
+use Rattle.dbm_file.specs.declared.calls.DeleteReply.TheVariants as deleted
 use Rattle.dbm_file.specs.declared.calls.Call.{Call}
-use Rattle.dbm_file.specs.declared.calls.Call.TheVariants.{Store, Fetch}
+use Rattle.dbm_file.specs.declared.calls.Call.TheVariants.{Store, Fetch, Delete}
 use Rattle.dbm_file.specs.declared.calls.Reply.{Reply}
-use Rattle.dbm_file.specs.declared.calls.Reply.TheVariants.{Stored, Bytes, NoRecord, Refused}
+use Rattle.dbm_file.specs.declared.calls.Reply.TheVariants.{Stored, Kept, Deleted, Absent, Bytes, NoRecord, Refused}
 
 abbrev pub mode_of : StoreMode → model.Mode
+mode_of Insert = model.Insert
 mode_of Replace = model.Replace
 
 abbrev pub call_of : Call → model.Call
 call_of (Store key content mode) = model.Store key content (mode_of mode)
 call_of (Fetch key) = model.Fetch key
+call_of (Delete key) = model.Delete key
 
 abbrev pub reply_of : Reply → model.Reply
 reply_of Stored = model.Stored
+reply_of Kept = model.Kept
+reply_of Deleted = model.Deleted
+reply_of Absent = model.Absent
 reply_of (Bytes bytes) = model.Bytes bytes
 reply_of NoRecord = model.NoRecord
 reply_of (Refused fault) = model.Refused (fault_of fault)
@@ -29,7 +36,14 @@ reply_of (Refused fault) = model.Refused (fault_of fault)
 -- what a store answers
 abbrev pub store_reply : Result StoreReply Fault → model.Reply
 store_reply (Ok stored.Stored) = model.Stored
+store_reply (Ok stored.Kept) = model.Kept
 store_reply (Err fault) = model.Refused (fault_of fault)
+
+-- what a delete answers
+abbrev pub delete_reply : Result DeleteReply Fault → model.Reply
+delete_reply (Ok deleted.Deleted) = model.Deleted
+delete_reply (Ok deleted.Absent) = model.Absent
+delete_reply (Err fault) = model.Refused (fault_of fault)
 
 -- what a fetch answers
 abbrev pub fetch_reply : Result (Option (Bor (List ℕ))) Fault → model.Reply

@@ -1,42 +1,40 @@
 -- What a caller sees of an open database.
-use Rattle.std.specs.Prelude.{◌≡◌, ◌<◌, nat_lt, true, List, length, None}
+use Rattle.std.specs.Prelude.{◌≡◌, ℕ, ◌+◌, ◌*◌, nat_lt, true, None, Option}
 use Rattle.std.specs.Option.{option_map}
-use Rattle.sect_dev.specs.declared.device.SectorDev as SectorDev
-use Rattle.dbm_model.specs.Calls.{Reply, Fetch}
-use Rattle.dbm_model.specs.Steps.{Step}
-use Rattle.dbm_model.specs.Pairs.{Key, Pair, contents_of}
-use Rattle.dbm_model.specs.States.{State, Handle}
+use Rattle.dbm_model.specs.Calls as model
+use Rattle.dbm_model.specs.Pages.{Meta}
+use Rattle.dbm_model.specs.Pairs.{Contents}
+use Rattle.dbm_model.specs.States.{Handle}
+use Rattle.page_io.specs.Store.{State}
+use Rattle.page_io.specs.declared.store.PageStore.{Ghosts}
+use Rattle.seg_table.specs.MetaPages.{says}
 use Rattle.dbm_file.specs.Faults.{fault_of}
-use Rattle.dbm_file.specs.PlainPage.{put, records_of, text_of}
-use Rattle.dbm_file.specs.declared.database.Db.{Db}
+use Rattle.dbm_file.specs.Holding.{Holds}
+use Rattle.dbm_file.specs.declared.database.Database.{Database}
 
--- the device below
-abbrev pub device_of : {D : Type 0} {dev : SectorDev.Ghosts D} → Db D dev → D
-device_of db = db.dev
+-- the store of pages below
+abbrev pub store_of : {S : Type 0} {s : Ghosts S} → Database S s → S
+store_of db = db.store
 
--- the pairs, as they stand in the page
-abbrev pub pairs_of : {D : Type 0} {dev : SectorDev.Ghosts D} → Db D dev → List Pair
-pairs_of db = db.page
+-- what is kept of the meta page
+abbrev pub meta_of : {S : Type 0} {s : Ghosts S} → Database S s → Meta
+meta_of db = says db.meta
 
-abbrev pub state_of : {D : Type 0} {dev : SectorDev.Ghosts D} → Db D dev → State
-state_of db = record {
-  map = contents_of db.page;
-  limit = db.limit;
-  error = option_map fault_of db.error;
-  pass = None;
-  writable = true;
-  usable = db.usable;
+abbrev pub pages_of : {S : Type 0} {s : Ghosts S} → Database S s → State
+pages_of {S} {s} db = s.state db.store
+
+-- the first fault since the opening
+abbrev pub error_of : {S : Type 0} {s : Ghosts S} → Database S s → Option model.Fault
+error_of db = option_map fault_of db.error
+
+-- Its file stands for the map. Of a broken one's file nothing is said: that stands in the clauses of the call that broke it.
+abbrev pub HoldsMap : {S : Type 0} {s : Ghosts S} → Database S s → Contents → Type 0
+HoldsMap {S} {s} db map = (pages_of db).usable ≡ true → Holds s (store_of db) (meta_of db) map
+
+-- the handle of a database whose file stands for the map
+abbrev pub handle_of : {S : Type 0} {s : Ghosts S} → Database S s → Contents → Handle
+handle_of {S} {s} db map = record {
+  state = record { map = map; limit = (meta_of db).limit; error = error_of db; pass = None; writable = true; usable = (pages_of db).usable };
+  faults = s.faults (store_of db);
+  is_short = nat_lt (pages_of db).capacity (2 * ((pages_of db).end + (meta_of db).pairs) + 8);
 }
-
--- a pair of 2,026 bytes may find no room where the records have more than 16
-abbrev pub handle_of : {D : Type 0} {dev : SectorDev.Ghosts D} → Db D dev → Handle
-handle_of {D} {dev} db = record { state = state_of db; faults = dev.faults db.dev; is_short = nat_lt 16 (length (records_of db.page)) }
-
--- the pair with those that stay would take more than a page
-abbrev pub Overfills : {D : Type 0} {dev : SectorDev.Ghosts D} → Db D dev → Pair → Type 0
-Overfills db pair = 2048 < length (text_of (put pair (pairs_of db)))
-
--- a fetch changes the handle by a step, and makes no device call
-pub record IsFetched {D : Type 0} {dev : SectorDev.Ghosts D} (old : Db D dev) (key : Key) (reply : Reply) (new : Db D dev) : Type 0 where
-  pub step : Step (handle_of old) (Fetch key) reply (handle_of new)
-  pub device : device_of new ≡ device_of old

@@ -2,11 +2,11 @@
 use Rattle.std.specs.Prelude.{⊤}
 use Rattle.std.specs.Borrow.{MutBor, Fml, RattleType, follows_so}
 use mathlib.Core.Option.{none}
-use Rattle.sect_dev.specs.declared.device.SectorDev as device
-use Rattle.dbm_file.specs.contracts.database.Db.{the_row}
-use Rattle.dbm_file.specs.declared.database.Db.{Db}
+use Rattle.page_io.specs.declared.store.PageStore as store
+use Rattle.dbm_file.specs.contracts.database.Database.{the_row}
+use Rattle.dbm_file.specs.declared.database.Database.{Database}
 
-module _ (D : RattleType) (dev : device.Ghosts D.Denot) where
+module _ (S : RattleType) (pages : store.Ghosts S.Denot) where
   -- once the lent slice has ended, the database is one of which P holds
-  abbrev pub EndsAs : MutBor (Db D.Denot dev) → (Db D.Denot dev → Type 0) → Fml
-  EndsAs s P = follows_so (the_row D dev) (the_row D dev) s.ghost_name none (λ _ _. ⊤) P
+  abbrev pub EndsAs : MutBor (Database S.Denot pages) → (Database S.Denot pages → Type 0) → Fml
+  EndsAs s P = follows_so (the_row S pages) (the_row S pages) s.ghost_name none (λ _ _. ⊤) P

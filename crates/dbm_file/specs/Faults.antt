@@ -1,5 +1,7 @@
 -- The program's faults as those of the definitions.
 use Rattle.dbm_model.specs.Calls as model
+use Rattle.page_io.specs.declared.store.PageFault.{PageFault}
+use Rattle.page_io.specs.declared.store.PageFault.TheVariants as page
 use Rattle.dbm_file.specs.declared.fault.Fault.{Fault}
 use Rattle.dbm_file.specs.declared.fault.Fault.TheVariants.{Memory, Device, Broken, ReadOnly, TooLong, Full, NoPass, NoRoom, Damaged, NotADatabase, Version, TooSmall, BadLimit, Missing, Exists}
 
@@ -19,3 +21,12 @@ fault_of TooSmall = model.TooSmall
 fault_of BadLimit = model.BadLimit
 fault_of Missing = model.Missing
 fault_of Exists = model.Exists
+
+-- as which fault a store's is told
+abbrev pub told : PageFault → Fault
+told page.Memory = Memory
+told page.Device = Device
+told page.Broken = Broken
+told page.ReadOnly = ReadOnly
+told page.NoRoom = NoRoom
+told page.Damaged = Damaged

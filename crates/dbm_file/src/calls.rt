@@ -11,7 +11,7 @@ pub enum Access {
 #[derive(Clone, Copy, Debug, PartialEq, Eq)]
 pub struct OpenHow {
     pub access: Access,
-    /// Make the database where there is none.
+    /// Make the database where the device is blank.
     pub create: bool,
     /// How many pairs a database that is made may have: 1 to 1,000,000.
     pub limit: u32,
@@ -20,6 +20,8 @@ pub struct OpenHow {
 /// What a store does where the key is there (POSIX: the store mode of `dbm_store`).
 #[derive(Clone, Copy, Debug, PartialEq, Eq)]
 pub enum StoreMode {
+    /// The old content stays, and the store answers `Kept`.
+    Insert,
     /// The new content takes the place of the old one.
     Replace,
 }
@@ -29,6 +31,34 @@ pub enum StoreMode {
 pub enum StoreReply {
     /// The pair is there; `dbm_store` gives 0.
     Stored,
+    /// The key was there, and its content stays; `dbm_store` gives 1.
+    Kept,
+}
+
+/// How a delete ended.
+#[derive(Clone, Copy, Debug, PartialEq, Eq)]
+pub enum DeleteReply {
+    /// The key is gone; `dbm_delete` gives 0.
+    Deleted,
+    /// The key wasn't there; `dbm_delete` gives a negative value.
+    Absent,
+}
+
+/// The numbers of an open database.
+#[derive(Clone, Copy, Debug, PartialEq, Eq)]
+pub struct Stat {
+    pub pairs: u32,
+    /// How many pairs there may be.
+    pub limit: u32,
+    pub buckets: u32,
+    /// The buckets are 2^level + split (Litwin 1980).
+    pub level: u32,
+    /// The bucket that is split next.
+    pub split: u32,
+    /// The pages of the file, page 0 among them.
+    pub pages: u32,
+    /// How many of them are free.
+    pub free: u32,
 }
 
 /// A call on an open database.
@@ -40,12 +70,18 @@ pub enum Call {
         mode: StoreMode,
     },
     Fetch(Octets),
+    Delete(Octets),
 }
 
 /// The reply to a call.
 #[derive(Debug, Drop)]
 pub enum Reply {
     Stored,
+    /// The key was there, and its content stays.
+    Kept,
+    Deleted,
+    /// The key was not there to be deleted.
+    Absent,
     /// The content.
     Bytes(Octets),
     /// The key is not there.

@@ -1,141 +1,199 @@
-// A database over a device.
-ghost use Rattle.std.specs.Prelude.{◌≡◌, ◌≤◌, length, is_some, if◌then◌else◌};
-ghost use Rattle.dbm_file.specs.OnDisk.{HoldsIfUsable};
+// A database over a store of pages.
+ghost use Rattle.std.specs.Prelude.{◌≡◌, [], true, is_some, if◌then◌else◌, Err, Some};
+ghost use Rattle.dbm_model.specs.Valid.{IsMeta};
+ghost use Rattle.seg_table.specs.MetaPages.{says};
 
-use crate::opening::prepare;
-use crate::page_sectors::put_page;
-use crate::plain_page::PlainPage;
-use crate::{Fault, OpenHow, StoreMode, StoreReply};
-use sect_dev::{DevFault, SectorDev};
+use crate::changes::{delete_pair, store_pair};
+use crate::looking::find_pair;
+use crate::{DeleteReply, Fault, Stat, StoreMode, StoreReply};
+use page_io::{Page, PageFault, PageStore};
+use redo_area::Pager;
+use seg_table::Meta;
+use slot_page::pair_at;
 use std::alloc::Global;
 
-/// An open database of pairs over a device of sectors.
+/// The most bytes that a key and its content may have together.
+const MAX_PAIR: usize = 2026;
+
+/// An open database over a device of sectors.
+pub type Db<D> = Database<Pager<D>>;
+
+/// An open database over a store of pages.
 #[derive(Drop)]
-pub struct Db<D: SectorDev> {
-    dev: D,
-    page: PlainPage,
-    limit: u32,
-    usable: bool,
-    error: Option<Fault>,
-    ghost size: { 16 ≤ D.sectors dev },
-    ghost few: { length page ≤ limit },
-    ghost held: { HoldsIfUsable (D.honest dev) usable (D.candidate dev) (D.seen dev) page },
+pub struct Database<S: PageStore> {
+    pub(crate) store: S,
+    pub(crate) meta: Meta,
+    pub(crate) page: Page,
+    pub(crate) error: Option<Fault>,
+    pub(crate) alloc: Global,
+    pub(crate) ghost idle: { (S.state store).staged ≡ [] },
+    pub(crate) ghost writable: { (S.state store).writable ≡ true },
+    pub(crate) ghost valid: { IsMeta (says meta) },
 }
 
-impl<D: SectorDev> Db<D> {
-    ghost use Rattle.std.specs.Prelude.{◌≡◌, ◌≢◌, ◌⊎◌, ◌≤◌, ◌<◌, ◌↔◌, OnOk, OnErr, IfOk, IfErr, IfSome, length, MatchResult, Option, None, Some, Result, true, [], if◌then◌else◌};
+impl<S: PageStore> Database<S> {
+    ghost use Rattle.std.specs.Prelude.{◌≡◌, ◌≢◌, ◌⊎◌, ◌↔◌, ◌+◌, ◌<◌, ◌≤◌, is_some, IsErrOf, OnOk, IfOk, IfErr, IfSome, Err, Ok, Option, Some, None, Result, length, MatchResult, true, false};
     ghost use Rattle.std.specs.Borrow.{sem};
+    ghost use Rattle.std.specs.FinMap.{get};
     ghost use Rattle.std.specs.Option.{option_map};
-    ghost use Rattle.std.specs.FinMap.{get, empty};
-    ghost use Rattle.sect_dev.specs.Device.{MoreFaults};
-    ghost use Rattle.dbm_model.specs.Calls.{Store};
-    ghost use Rattle.dbm_model.specs.States.{fresh};
-    ghost use Rattle.dbm_model.specs.Steps.{Step};
-    ghost use Rattle.dbm_file.specs.Calls.{mode_of, store_reply, fetch_reply};
-    ghost use Rattle.dbm_file.specs.Database.{state_of, handle_of, device_of, pairs_of, Overfills, IsFetched};
+    ghost use Rattle.dbm_model.specs.Calls.{Store, Delete};
+    ghost use Rattle.dbm_model.specs.Pairs.{Contents};
+    ghost use Rattle.dbm_model.specs.Valid.{buckets};
+    ghost use Rattle.dbm_file.specs.Tables.{shape_in, shape_for};
+    ghost use Rattle.dbm_file.specs.Calls.{mode_of, store_reply, delete_reply, fetch_reply};
+    ghost use Rattle.dbm_file.specs.Database.{store_of, meta_of, pages_of, HoldsMap};
+    ghost use Rattle.dbm_file.specs.Answers.{IsStep, Keeps};
+    ghost use Rattle.dbm_file.specs.Fetching.{IsFetched};
     ghost use Rattle.dbm_file.specs.Ending.{EndsAs};
-    ghost use Rattle.dbm_file.specs.Faults.{fault_of};
-    ghost use Rattle.dbm_file.specs.OnDisk.{HasPairs};
-    ghost use Rattle.dbm_file.specs.Opening.{refusal_of};
+    ghost use Rattle.dbm_file.specs.Trying.{with_error_of, IsRead};
+    ghost use Rattle.dbm_file.specs.Holding.{Holds};
+    ghost use Rattle.bucket_chain.specs.Answers.{IsWalkAnswer};
+    ghost use Rattle.page_io.specs.Answers.{HasDeviceCause};
+    ghost use Rattle.page_io.specs.declared.store.PageFault.TheVariants.{Damaged};
 
-    /// Opens a database on a device, or hands the device back with the fault. In this order: `TooSmall`
-    /// below 16 sectors, with no device call; `Device`; `NotADatabase` where sector 0 is not blank or
-    /// `create` is not set; `BadLimit` outside 1 to 1,000,000; `TooSmall` below `needed_sectors`;
-    /// `Device` again while the empty database is made.
-    pub fn open(_alloc: Global, dev: D, how: OpenHow) -> Result<Db<D>, (D, Fault)>
-        ensures too_small { D.sectors dev < 16 → result ≡ Err (dev, Fault.TooSmall) }
-        ensures opened { IfOk result (λ db. state_of db ≡ fresh empty how.limit true) }
-        ensures on_disk { D.honest dev → IfOk result (λ db. HasPairs (D.candidate (device_of db)) (D.seen (device_of db)) []) }
-
-        // On an honest device that does not fail, the answer is a function of what is asked for.
-        ensures answer { D.honest dev → 16 ≤ D.sectors dev → MatchResult result
-            (λ _. refusal_of (D.seen dev 0) how (D.sectors dev) ≡ None)
-            (λ e. (e.1 ≡ Fault.Device) ⊎ (Some (fault_of e.1) ≡ refusal_of (D.seen dev 0) how (D.sectors dev))) }
-        ensures device { IfErr result (λ e. e.1 ≡ Fault.Device → MoreFaults (D.faults dev) (D.faults e.0)) }
-        ensures only { IfErr result (λ e. (e.1 ≡ Fault.TooSmall) ⊎ ((e.1 ≡ Fault.Device) ⊎ ((e.1 ≡ Fault.NotADatabase) ⊎ (e.1 ≡ Fault.BadLimit)))) }
-        ensures honesty { MatchResult result (λ db. D.honest (device_of db) ↔ D.honest dev) (λ e. D.honest e.0 ↔ D.honest dev) }
-    {
-        if dev.capacity() < 16 {
-            return Err((dev, Fault::TooSmall));
-        }
-        let mut dev = dev;
-        let page = PlainPage::new();
-        match prepare(&mut dev, how) {
-            Ok(()) => Ok(Db {
-                dev,
-                page,
-                limit: how.limit,
-                usable: true,
-                error: None,
-            }),
-            Err(fault) => Err((dev, fault)),
-        }
-    }
-
-    /// The content that the key has. The slice lies in the database, and ends with the next call.
-    /// `Broken` where an earlier change was left in doubt. No device call is made.
+    /// The content that the key has (POSIX: `dbm_fetch`). The slice lies in the database, and ends with the next call. It
+    /// takes no memory. In this order: `Broken`; then `Device` or `Damaged` while pages are read.
     pub fn fetch(&mut self, key: &[u8]) -> Result<Option<&[u8]>, Fault>
-        ensures* after { sem 𝓛 (EndsAs D.row D.SectorDev self.entry (IsFetched self.old key.now (fetch_reply result))) }
-        ensures found { IfOk result (λ r. option_map (λ s. s.now) r ≡ get (state_of self.old).map key.now) }
+        ensures* after { sem 𝓛 (EndsAs S.row S.PageStore self.entry (IsFetched self.old key.now result)) }
         ensures short { IfOk result (λ r. IfSome r (λ content. length content.now ≤ 2026)) }
-        ensures broken { IfErr result (λ e. e ≡ Fault.Broken) }
+        ensures only { IfErr result (λ e. (e ≡ Fault.Broken) ⊎ ((e ≡ Fault.Device) ⊎ (e ≡ Fault.Damaged))) }
     {
-        if !self.usable {
+        if self.store.is_broken() {
             return refuse(&mut self.error, Fault::Broken);
         }
-        Ok(self.page.find(key))
+        match find_pair(&mut self.store, &self.meta, key, &mut self.page) {
+            Ok(None) => Ok(None),
+            Ok(Some(place)) => Ok(Some(pair_at(&self.page, place.slot).1)),
+            Err(fault) => refuse(&mut self.error, Fault::from(fault)),
+        }
     }
 
-    /// Stores a pair, and syncs the device. In this order: `Broken`; `TooLong` where key and content
-    /// together are above 2,026 bytes; `Full` where the key is new and the limit is reached; `NoRoom`
-    /// where the pairs would take more than 2,048 bytes; `Device`, after which the database is broken.
+    /// Stores a pair (POSIX: `dbm_store`), in one commit. In this order: `Broken`; `TooLong` where key and content together
+    /// are above 2,026 bytes; `Device` or `Damaged` while the key is looked up; `Kept`; `Full` where the key is new and the
+    /// limit is reached; then `Memory`, `Device`, `NoRoom` or `Damaged` as the work meets them. Where the commit fails by
+    /// `Device`, the database is broken, and opening the device again settles whether the pair is there.
     pub fn store(
         &mut self,
         key: &[u8],
         content: &[u8],
         mode: StoreMode,
     ) -> Result<StoreReply, Fault>
-        ensures step { Step (handle_of self.old) (Store key.now content.now (mode_of mode)) (store_reply result) (handle_of self.new) }
-        ensures no_room { result ≡ Err Fault.NoRoom → Overfills self.old (key.now, content.now) }
-        ensures only_with_room { Overfills self.old (key.now, content.now) → (result ≢ Ok StoreReply.Stored) × (result ≢ Err Fault.Device) }
-        ensures no_memory { result ≢ Err Fault.Memory }
-        ensures on_disk { D.honest (device_of self.new) → (state_of self.new).usable ≡ true → HasPairs (D.candidate (device_of self.new)) (D.seen (device_of self.new)) (pairs_of self.new) }
-        ensures honesty { D.honest (device_of self.new) ↔ D.honest (device_of self.old) }
+        ensures step { S.honest (store_of self.old) → (map : Contents) → HoldsMap self.old map → IsStep self.old self.new map (Store key.now content.now (mode_of mode)) (store_reply result) }
+        ensures shape { shape_in (meta_of self.new) ≡ shape_for (meta_of self.new).pairs (shape_in (meta_of self.old)) }
+        ensures too_long { (result ≡ Err Fault.TooLong) ↔ (((pages_of self.old).usable ≡ true) × (2026 < length key.now + length content.now)) }
+        ensures keeps { Keeps self.old self.new result }
+        ensures only { IfErr result (λ e. (e ≡ Fault.Broken) ⊎ ((e ≡ Fault.TooLong) ⊎ ((e ≡ Fault.Full) ⊎ ((e ≡ Fault.Memory) ⊎ ((e ≡ Fault.Device) ⊎ ((e ≡ Fault.NoRoom) ⊎ (e ≡ Fault.Damaged))))))) }
     {
-        if !self.usable {
-            return refuse(&mut self.error, Fault::Broken);
+        match self.try_store(key, content, mode) {
+            Ok(reply) => Ok(reply),
+            Err(fault) => refuse(&mut self.error, fault),
         }
-        if key.len() + content.len() > 2026 {
-            return refuse(&mut self.error, Fault::TooLong);
+    }
+
+    /// Deletes a key with its content (POSIX: `dbm_delete`), in one commit. In this order: `Broken`; `Device` or `Damaged`
+    /// while the key is looked up; `Absent`; then as `store`, and `Damaged` where the file counts no pair.
+    pub fn delete(&mut self, key: &[u8]) -> Result<DeleteReply, Fault>
+        ensures step { S.honest (store_of self.old) → (map : Contents) → HoldsMap self.old map → IsStep self.old self.new map (Delete key.now) (delete_reply result) }
+        ensures shape { shape_in (meta_of self.new) ≡ shape_in (meta_of self.old) }
+        ensures keeps { Keeps self.old self.new result }
+        ensures only { IfErr result (λ e. (e ≡ Fault.Broken) ⊎ ((e ≡ Fault.Memory) ⊎ ((e ≡ Fault.Device) ⊎ ((e ≡ Fault.NoRoom) ⊎ (e ≡ Fault.Damaged))))) }
+    {
+        match self.try_delete(key) {
+            Ok(reply) => Ok(reply),
+            Err(fault) => refuse(&mut self.error, fault),
         }
-        if !self.page.admits(key, self.limit) {
-            return refuse(&mut self.error, Fault::Full);
+    }
+
+    /// The numbers of the database. No device call is made; a broken database tells what it told before.
+    pub fn stat(&self) -> Stat
+        ensures { result ≡ record {
+          pairs = (meta_of self.now).pairs;
+          limit = (meta_of self.now).limit;
+          buckets = buckets (meta_of self.now);
+          level = (meta_of self.now).level;
+          split = (meta_of self.now).split;
+          pages = (pages_of self.now).end;
+          free = (meta_of self.now).free_count;
+        } }
+    {
+        Stat {
+            pairs: self.meta.pairs,
+            limit: self.meta.limit,
+            buckets: self.meta.shape.buckets(),
+            level: self.meta.shape.level,
+            split: self.meta.shape.split,
+            pages: self.store.end(),
+            free: self.meta.free_count,
         }
-        let StoreMode::Replace = mode;
-        let Some(page) = self.page.with_pair(key, content) else {
-            return refuse(&mut self.error, Fault::NoRoom);
-        };
-        if let Err(DevFault) = put_page(&mut self.dev, &page.bytes()) {
-            self.usable = false;
-            return refuse(&mut self.error, Fault::Device);
+    }
+
+    // `store`, with no look at the error.
+    fn try_store(
+        &mut self,
+        key: &[u8],
+        content: &[u8],
+        mode: StoreMode,
+    ) -> Result<StoreReply, Fault>
+        ensures step { S.honest (store_of self.old) → (map : Contents) → HoldsMap self.old map → IsStep self.old (with_error_of self.new result) map (Store key.now content.now (mode_of mode)) (store_reply result) }
+        ensures shape { shape_in (meta_of self.new) ≡ shape_for (meta_of self.new).pairs (shape_in (meta_of self.old)) }
+        ensures too_long { (result ≡ Err Fault.TooLong) ↔ (((pages_of self.old).usable ≡ true) × (2026 < length key.now + length content.now)) }
+        ensures keeps { Keeps self.old (with_error_of self.new result) result }
+        ensures only { IfErr result (λ e. (e ≡ Fault.Broken) ⊎ ((e ≡ Fault.TooLong) ⊎ ((e ≡ Fault.Full) ⊎ ((e ≡ Fault.Memory) ⊎ ((e ≡ Fault.Device) ⊎ ((e ≡ Fault.NoRoom) ⊎ (e ≡ Fault.Damaged))))))) }
+    {
+        if self.store.is_broken() {
+            return Err(Fault::Broken);
         }
-        self.page = page;
+        if key.len() + content.len() > MAX_PAIR {
+            return Err(Fault::TooLong);
+        }
+        let was_there = self.has(key)?;
+        if was_there && mode == StoreMode::Insert {
+            return Ok(StoreReply::Kept);
+        }
+        if !was_there && self.meta.pairs >= self.meta.limit {
+            return Err(Fault::Full);
+        }
+        store_pair(
+            self.alloc,
+            &mut self.store,
+            &mut self.meta,
+            key,
+            content,
+            was_there,
+        )?;
         Ok(StoreReply::Stored)
     }
 
-    /// Gives the device back. `Broken` where a change was left in doubt.
-    pub fn close(self) -> (D, Result<(), Fault>)
-        ensures device { result.0 ≡ device_of self }
-        ensures answer { result.1 ≡ (if (state_of self).usable then Ok tt else Err Fault.Broken) }
+    // `delete`, with no look at the error.
+    fn try_delete(&mut self, key: &[u8]) -> Result<DeleteReply, Fault>
+        ensures step { S.honest (store_of self.old) → (map : Contents) → HoldsMap self.old map → IsStep self.old (with_error_of self.new result) map (Delete key.now) (delete_reply result) }
+        ensures shape { shape_in (meta_of self.new) ≡ shape_in (meta_of self.old) }
+        ensures keeps { Keeps self.old (with_error_of self.new result) result }
+        ensures only { IfErr result (λ e. (e ≡ Fault.Broken) ⊎ ((e ≡ Fault.Memory) ⊎ ((e ≡ Fault.Device) ⊎ ((e ≡ Fault.NoRoom) ⊎ (e ≡ Fault.Damaged))))) }
     {
-        let Db {
-            dev,
-            page: _,
-            limit: _,
-            usable,
-            error: _,
-        } = self;
-        (dev, if usable { Ok(()) } else { Err(Fault::Broken) })
+        if self.store.is_broken() {
+            return Err(Fault::Broken);
+        }
+        if !self.has(key)? {
+            return Ok(DeleteReply::Absent);
+        }
+        if self.meta.pairs == 0 {
+            return Err(Fault::Damaged);
+        }
+        delete_pair(&mut self.store, &mut self.meta, key)?;
+        Ok(DeleteReply::Deleted)
+    }
+
+    // Whether the key is there.
+    fn has(&mut self, key: &[u8]) -> Result<bool, PageFault>
+        ensures reads { IsRead self.old self.new }
+        ensures cause { HasDeviceCause (S.faults (store_of self.old)) (S.faults (store_of self.new)) result }
+        ensures answer { IsWalkAnswer (pages_of self.old) result }
+        ensures exact { S.honest (store_of self.old) → (map : Contents) → Holds S.PageStore (store_of self.old) (meta_of self.old) map → IfOk result (λ there. there ≡ is_some (get map key.now)) }
+        ensures whole { S.honest (store_of self.old) → (map : Contents) → Holds S.PageStore (store_of self.old) (meta_of self.old) map → IsErrOf result Damaged → ⊥ }
+    {
+        let place = find_pair(&mut self.store, &self.meta, key, &mut self.page)?;
+        Ok(place.is_some())
     }
 }
 

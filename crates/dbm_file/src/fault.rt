@@ -1,6 +1,7 @@
 // What a call may be refused by.
 ghost use Rattle.std.specs.Prelude.{◌≡◌, pos};
 
+use page_io::PageFault;
 use thiserror::Error;
 
 /// Why a call or an opening was refused. Each fault has a number, which `dbm_error` gives.
@@ -77,6 +78,23 @@ impl Fault {
             Fault::BadLimit => 13,
             Fault::Missing => 14,
             Fault::Exists => 15,
+        }
+    }
+}
+
+impl From<PageFault> for Fault {
+    ghost use Rattle.dbm_file.specs.Faults.{told};
+
+    ghost from_gives = { λ page fault. fault ≡ told page };
+
+    fn from(fault: PageFault) -> Fault {
+        match fault {
+            PageFault::Memory => Fault::Memory,
+            PageFault::Device => Fault::Device,
+            PageFault::Broken => Fault::Broken,
+            PageFault::ReadOnly => Fault::ReadOnly,
+            PageFault::NoRoom => Fault::NoRoom,
+            PageFault::Damaged => Fault::Damaged,
         }
     }
 }

@@ -1,13 +1,14 @@
 // A list of calls, one after another.
-ghost use Rattle.std.specs.Prelude.{◌≡◌, ◌<◌, ◌≤◌, ◌+◌, ◌∷◌, [], IfOk, IfErr, IfSome, IsTrue, OnOk, map, vec_len, All};
-ghost use Rattle.dbm_model.specs.Steps.{Step, Run};
+ghost use Rattle.std.specs.Prelude.{◌≡◌, ◌<◌, ◌≤◌, ◌+◌, ◌∷◌, [], IfOk, IfErr, IfSome, IsTrue, OnOk, map, vec_len, All, length};
+ghost use Rattle.dbm_model.specs.Pairs.{Contents};
 ghost use Rattle.dbm_model.specs.Calls.{Fetch};
 ghost use Rattle.dbm_file.specs.Calls.{call_of, reply_of};
-ghost use Rattle.dbm_file.specs.Database.{handle_of};
+ghost use Rattle.dbm_file.specs.Database.{store_of, HoldsMap};
+ghost use Rattle.dbm_file.specs.Answers.{IsStep, IsRun, Goes};
 ghost use Rattle.dbm_file.specs.Rooms.{IsRoom, AreRooms, fetches_in, is_fetch};
 
-use crate::{Call, Db, Fault, Octets, Reply, StoreReply};
-use sect_dev::SectorDev;
+use crate::{Call, Database, DeleteReply, Fault, Octets, Reply, StoreReply};
+use page_io::PageStore;
 use std::alloc::{AllocError, Global};
 
 /// The bytes that a content may have.
@@ -16,8 +17,14 @@ const ROOM: usize = 2026;
 /// Makes the calls in order, and gives one reply a call. The list of the replies and the room of each
 /// content are reserved first: `Memory` there means that no call was made, and no call fails for memory
 /// of its reply afterwards.
-pub fn run<D: SectorDev>(alloc: Global, db: &mut Db<D>, calls: &[Call]) -> Result<Vec<Reply>, Fault>
-    ensures run { IfOk result (λ replies. Run (handle_of db.old) (map call_of calls.now) (map reply_of replies.items) (handle_of db.new)) }
+pub fn run<S: PageStore>(
+    alloc: Global,
+    db: &mut Database<S>,
+    calls: &[Call],
+) -> Result<Vec<Reply>, Fault>
+    ensures run { S.honest (store_of db.old) → (held : Contents) → HoldsMap db.old held → IfOk result (λ replies. IsRun db.old db.new held (map call_of calls.now) (map reply_of replies.items)) }
+    ensures one_each { IfOk result (λ replies. vec_len replies ≡ length calls.now) }
+    ensures goes { Goes db.old db.new }
     ensures memory { IfErr result (λ e. (e ≡ Fault.Memory) × (db.new ≡ db.old)) }
 {
     let Ok(mut replies) = Vec::with_capacity(alloc, calls.len()) else {
@@ -47,9 +54,10 @@ fn rooms_for(alloc: Global, calls: &[Call]) -> Result<Vec<Vec<u8>>, AllocError>
 }
 
 /// Makes a call. A fetch takes one of the rooms.
-fn answer<D: SectorDev>(db: &mut Db<D>, call: &Call, rooms: &mut Vec<Vec<u8>>) -> Reply
+fn answer<S: PageStore>(db: &mut Database<S>, call: &Call, rooms: &mut Vec<Vec<u8>>) -> Reply
     requires { AreRooms (vec_len rooms.old) rooms.old × (IsTrue (is_fetch call.now) → 0 < vec_len rooms.old) }
-    ensures step { Step (handle_of db.old) (call_of call.now) (reply_of result) (handle_of db.new) }
+    ensures step { S.honest (store_of db.old) → (held : Contents) → HoldsMap db.old held → IsStep db.old db.new held (call_of call.now) (reply_of result) }
+    ensures goes { Goes db.old db.new }
     ensures rooms { AreRooms (vec_len rooms.new) rooms.new }
     ensures taken { vec_len rooms.old ≡ fetches_in (call.now ∷ []) + vec_len rooms.new }
 {
@@ -57,17 +65,24 @@ fn answer<D: SectorDev>(db: &mut Db<D>, call: &Call, rooms: &mut Vec<Vec<u8>>) -
         Call::Store { key, content, mode } => {
             match db.store(key.as_slice(), content.as_slice(), *mode) {
                 Ok(StoreReply::Stored) => Reply::Stored,
+                Ok(StoreReply::Kept) => Reply::Kept,
                 Err(fault) => Reply::Refused(fault),
             }
         }
         Call::Fetch(key) => fetch_into(db, key.as_slice(), rooms.pop().unwrap()),
+        Call::Delete(key) => match db.delete(key.as_slice()) {
+            Ok(DeleteReply::Deleted) => Reply::Deleted,
+            Ok(DeleteReply::Absent) => Reply::Absent,
+            Err(fault) => Reply::Refused(fault),
+        },
     }
 }
 
 /// Fetches into a room.
-fn fetch_into<D: SectorDev>(db: &mut Db<D>, key: &[u8], mut room: Vec<u8>) -> Reply
+fn fetch_into<S: PageStore>(db: &mut Database<S>, key: &[u8], mut room: Vec<u8>) -> Reply
     requires { IsRoom room }
-    ensures { Step (handle_of db.old) (Fetch key.now) (reply_of result) (handle_of db.new) }
+    ensures step { S.honest (store_of db.old) → (held : Contents) → HoldsMap db.old held → IsStep db.old db.new held (Fetch key.now) (reply_of result) }
+    ensures goes { Goes db.old db.new }
 {
     match db.fetch(key) {
         Ok(Some(content)) => {

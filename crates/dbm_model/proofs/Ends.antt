@@ -10,24 +10,24 @@ use Rattle.dbm_model.proofs.Places.{sum_by-delete, delete_sound, replace_sound}
 use Rattle.dbm_model.proofs.Splits.{sum_by-opened}
 use Rattle.dbm_model.proofs.Bounds.{length-put}
 
-end_taken : (s : Space) → (after_take s).end ≤ s.end + 1
+pub end_taken : (s : Space) → (after_take s).end ≤ s.end + 1
 end_taken s = by_free s.free s.end where
   by_free : (free : List ℕ) (end : ℕ) → (after_take (record { free = free; end = end })).end ≤ end + 1
   by_free [] end = omega arith
   by_free (n ∷ rest) end = omega arith
 
-end_put : (p : Placement) (pair : Pair) → (put p pair).space.end ≤ p.space.end + 1
+pub end_put : (p : Placement) (pair : Pair) → (put p pair).space.end ≤ p.space.end + 1
 end_put p pair =
     elim (has_room pair (chain_at p (key_bucket p.shape pair.0))) as (λ b. (cond {A = Space} b p.space (after_take p.space)).end ≤ p.space.end + 1) [
       | true ↦ omega arith
       | false ↦ end_taken p.space
     ]
 
-end_fold : (pairs : List Pair) (p : Placement) → (fold put p pairs).space.end ≤ p.space.end + length pairs
+pub end_fold : (pairs : List Pair) (p : Placement) → (fold put p pairs).space.end ≤ p.space.end + length pairs
 end_fold [] p = omega arith
 end_fold (x ∷ pairs) p = let a = end_put p x in let b = end_fold pairs (put p x) in omega arith
 
-end_opened : (p : Placement) → (opened p).space.end ≤ p.space.end + 2
+pub end_opened : (p : Placement) → (opened p).space.end ≤ p.space.end + 2
 end_opened p =
     let given = give (drop 1 (numbers (chain_at p p.shape.split))) p.space in
     let headed = after_take given in

@@ -87,7 +87,7 @@ module _ (p : Placement) (at at' : ℕ → Body) (bucket : ℕ) (chain : Chain) 
       (subst (λ hs. AllByRecursion Q (segment_sheets p.segments hs)) (sym heads_stay) segments) chains)
       r.free_read
 
-first_of_add : (pair : Pair) (new : ℕ) (chain : Chain) → IsChain chain → first_of (numbers (add pair new chain)) ≡ first_of (numbers chain)
+pub first_of_add : (pair : Pair) (new : ℕ) (chain : Chain) → IsChain chain → first_of (numbers (add pair new chain)) ≡ first_of (numbers chain)
 first_of_add pair new [] h = absurd h
 first_of_add pair new (head ∷ rest) h = ap first_of (numbers-add pair new (head ∷ rest))
 

@@ -20,7 +20,7 @@ use Rattle.dbm_model.proofs.Frames.{kept, kept_chains, at_most_one}
 -- ---- segment pages
 
 -- the first pages, and the others with the heads that are left
-segments_split : (k : ℕ) (segments heads : List ℕ) → segment_sheets segments heads ≡ segment_sheets (take k segments) heads ++ segment_sheets (drop k segments) (drop (508 * k) heads)
+pub segments_split : (k : ℕ) (segments heads : List ℕ) → segment_sheets segments heads ≡ segment_sheets (take k segments) heads ++ segment_sheets (drop k segments) (drop (508 * k) heads)
 segments_split zero segments heads = refl
 segments_split (suc k) [] heads = refl
 segments_split (suc k) (n ∷ rest) heads =
@@ -41,14 +41,14 @@ segments_same (suc k) (n ∷ rest) heads more l =
     let others = ap (segment_sheets (take k rest)) left ∙ later in
     λ i. record { number = n; body = SegmentPage (here i) } ∷ others i
 
-first_of_bared : (chain : Chain) → first_of (numbers (bared chain)) ≡ first_of (numbers chain)
+pub first_of_bared : (chain : Chain) → first_of (numbers (bared chain)) ≡ first_of (numbers chain)
 first_of_bared [] = refl
 first_of_bared (head ∷ rest) = refl
 
 -- ---- the change
 
 -- of the pages of a list, those before a place and the others
-taken_dropped : (n k : ℕ) (ns : List ℕ) → times_of n ns ≡ times_of n (take k ns) + times_of n (drop k ns)
+pub taken_dropped : (n k : ℕ) (ns : List ℕ) → times_of n ns ≡ times_of n (take k ns) + times_of n (drop k ns)
 taken_dropped n k ns = ap (times_of n) (sym (take-append-drop k ns)) ∙ sum_by-append (λ m. cond (m == n) 1 0) (take k ns) (drop k ns)
 
 module _ (p : Placement) (h : IsSound p) (at at' : ℕ → Body) where
@@ -56,7 +56,7 @@ module _ (p : Placement) (h : IsSound p) (at at' : ℕ → Body) where
   below = let e = h.all_buckets in let l = h.split_in in omega arith
 
   -- the numbers of the pages that are rewritten
-  touched : (n : ℕ) → times_of n (map (λ sheet. sheet.number) (opened_sheets p))
+  pub touched : (n : ℕ) → times_of n (map (λ sheet. sheet.number) (opened_sheets p))
       ≡ times_of n (numbers (bared (chain_at p p.shape.split))) + times_of n ((new_head p).number ∷ []) + times_of n (drop (length (opened p).segments - 1) (opened p).segments) + times_of n (opened p).space.free
   touched n =
       let f : ℕ → ℕ = λ m. cond (m == n) 1 0 in
@@ -77,7 +77,7 @@ module _ (p : Placement) (h : IsSound p) (at at' : ℕ → Body) where
       omega arith
 
   -- how often a page comes afterwards, by its places
-  places : (n : ℕ) → times_of n (opened p).segments + times_of n (flat_map numbers (set p.chains p.shape.split []))
+  pub places : (n : ℕ) → times_of n (opened p).segments + times_of n (flat_map numbers (set p.chains p.shape.split []))
       + (times_of n (numbers (bared (chain_at p p.shape.split))) + times_of n ((new_head p).number ∷ []) + times_of n (opened p).space.free) ≤ 1
   places n =
       let f : ℕ → ℕ = λ m. cond (m == n) 1 0 in
@@ -94,7 +94,7 @@ module _ (p : Placement) (h : IsSound p) (at at' : ℕ → Body) where
       omega arith
 
   -- the heads are those of before, and the new one
-  heads_opened : heads_of (opened p).chains ≡ heads_of p.chains ++ (new_head p).number ∷ []
+  pub heads_opened : heads_of (opened p).chains ≡ heads_of p.chains ++ (new_head p).number ∷ []
   heads_opened =
       let head : Chain → ℕ = λ c. first_of (numbers c) in
       let chain = chain_at p p.shape.split in

@@ -6,9 +6,14 @@ use Rattle.std.proofs.lemmas.Bool.Decides.{leb_tells}
 use Rattle.dbm_model.specs.Calls.{Call, Reply}
 use Rattle.dbm_model.specs.Lines.{lines_of, onto_line, call_of, call_of_words, words_in, reply_line, bad_line}
 use Rattle.dbm_model.specs.Scripts.{calls_in, answer_of}
+use Rattle.dbm_model.specs.Pairs.{Contents}
 use Rattle.dbm_model.specs.States.{Handle}
 use Rattle.dbm_model.specs.Steps.{Run}
-use Rattle.dbm_model.proofs.Runs.{run-push}
+use Rattle.page_io.specs.declared.store.PageStore.{Ghosts}
+use Rattle.dbm_file.specs.Answers.{IsRun, Goes}
+use Rattle.dbm_file.specs.Database.{meta_of}
+use Rattle.dbm_file.specs.declared.database.Database.{Database}
+use Rattle.dbm_file.proofs.Runs.{goes_on_with}
 use Rattle.dbm_tool.specs.Offered.{offered, offered_script}
 use Rattle.dbm_tool.specs.Reading.{line_bytes, after_line, ReadsLine, IsCounted}
 use Rattle.dbm_tool.specs.Scripts.{RunsTo, AnswersScript, AnswersLine}
@@ -75,28 +80,29 @@ IsLeft (Some text) None done = ⊥
 IsLeft (Some text) (Some rest) done = done ++ offered_script rest ≡ offered_script text
 
 -- how far a script has been answered
-pub record IsAnswered (before after : Handle) (first now old new : Option (List ℕ)) : Type 0 where
+pub record IsAnswered {S : Type 0} {s : Ghosts S} (old new : Database S s) (held : Contents) (first now before after : Option (List ℕ)) : Type 0 where
   pub done : List (Option Call)
-  pub answered : AnswersScript done before after old new
+  pub answered : AnswersScript done old new held before after
   pub left : IsLeft first now done
 
-pub at_start : (h : Handle) (first old : Option (List ℕ)) → IsAnswered h h first first old old
-at_start h None None = record { done = []; answered = record { replies = []; run = refl; written = tt }; left = tt }
-at_start h None (Some text) = record { done = []; answered = record { replies = []; run = refl; written = sym (append-nil text) }; left = tt }
-at_start h (Some script) None = record { done = []; answered = record { replies = []; run = refl; written = tt }; left = refl }
-at_start h (Some script) (Some text) = record { done = []; answered = record { replies = []; run = refl; written = sym (append-nil text) }; left = refl }
+pub at_start : {S : Type 0} {s : Ghosts S} (db : Database S s) (held : Contents) (first before : Option (List ℕ)) → IsRun db db held [] [] → IsAnswered db db held first first before before
+at_start db held None None none = record { done = []; answered = record { replies = []; run = none; written = tt }; left = tt }
+at_start db held None (Some text) none = record { done = []; answered = record { replies = []; run = none; written = sym (append-nil text) }; left = tt }
+at_start db held (Some script) None none = record { done = []; answered = record { replies = []; run = none; written = tt }; left = refl }
+at_start db held (Some script) (Some text) none = record { done = []; answered = record { replies = []; run = none; written = sym (append-nil text) }; left = refl }
 
-one_more : (before mid after : Handle) (old now new : Option (List ℕ)) (done : List (Option Call)) (call : Option Call) → AnswersScript done before mid old now → AnswersLine call mid after (λ text. Appends now new text) → AnswersScript (done ++ call ∷ []) before after old new
-one_more before mid after old now new done None h answer = record {
-  replies = h.replies;
-  run = rw (calls_in-push done None, append-nil (calls_in done), answer.0) h.run;
-  written = rw (answer_of-bad before mid done h.replies h.run) (joined old now new (answer_of done h.replies) bad_line h.written answer.1);
-}
-one_more before mid after old now new done (Some call) h answer = record {
-  replies = h.replies ++ answer.0 ∷ [];
-  run = rw (calls_in-push done (Some call)) (run-push before mid after (calls_in done) h.replies call answer.0 h.run answer.1);
-  written = rw (answer_of-call before mid done h.replies call answer.0 h.run) (joined old now new (answer_of done h.replies) (reply_line answer.0) h.written answer.2);
-}
+module _ {S : Type 0} (s : Ghosts S) (old mid new : Database S s) (held : Contents) (limit : (meta_of mid).limit ≡ (meta_of old).limit) (goes : Goes mid new) where
+  one_more : (before now after : Option (List ℕ)) (done : List (Option Call)) (call : Option Call) (h : AnswersScript done old mid held before now) → AnswersLine call mid new h.run.left (λ text. Appends now after text) → AnswersScript (done ++ call ∷ []) old new held before after
+  one_more before now after done None h answer = record {
+    replies = h.replies;
+    run = rw (calls_in-push done None, append-nil (calls_in done), answer.0) h.run;
+    written = rw (answer_of-bad _ _ done h.replies h.run.run) (joined before now after (answer_of done h.replies) bad_line h.written answer.1);
+  }
+  one_more before now after done (Some call) h answer = record {
+    replies = h.replies ++ answer.0 ∷ [];
+    run = goes_on_with s old mid new held (calls_in done) h.replies call answer.0 limit goes h.run answer.1 _ _ (calls_in-push done (Some call)) refl;
+    written = rw (answer_of-call _ _ done h.replies call answer.0 h.run.run) (joined before now after (answer_of done h.replies) (reply_line answer.0) h.written answer.2);
+  }
 
 left_after : (first now next : Option (List ℕ)) (line : List ℕ) (done : List (Option Call)) → IsLeft first now done → IfSome now (λ text. ReadsLine 8193 text true line next) → IsLeft first next (done ++ offered (call_of line) ∷ [])
 left_after None now next line done h r = tt
@@ -105,57 +111,66 @@ left_after (Some text) (Some []) next line done h r = let e = r.0 in cc
 left_after (Some text) (Some (x ∷ xs)) next line done h r = rw (r.2) (append_assoc done (offered (call_of line) ∷ []) (offered_script (after_line (x ∷ xs))) ∙ ap (λ rest. done ++ rest) (sym (first_call x xs line r.1)) ∙ h)
 
 -- a line was read and answered
-pub go_on : (before mid after : Handle) (first now next old written new : Option (List ℕ)) (line : List ℕ) → IsAnswered before mid first now old written → IfSome now (λ text. ReadsLine 8193 text true line next) → AnswersLine (offered (call_of line)) mid after (λ text. Appends written new text) → IsAnswered before after first next old new
-go_on before mid after first now next old written new line h read answer = record {
+pub go_on : {S : Type 0} (s : Ghosts S) (old mid new : Database S s) (held : Contents) (first now next before written after : Option (List ℕ)) (line : List ℕ) → (meta_of mid).limit ≡ (meta_of old).limit → Goes mid new → (h : IsAnswered old mid held first now before written)
+    → IfSome now (λ text. ReadsLine 8193 text true line next) → AnswersLine (offered (call_of line)) mid new h.answered.run.left (λ text. Appends written after text) → IsAnswered old new held first next before after
+go_on s old mid new held first now next before written after line limit goes h read answer = record {
   done = h.done ++ offered (call_of line) ∷ [];
-  answered = one_more before mid after old written new h.done (offered (call_of line)) h.answered answer;
+  answered = one_more s old mid new held limit goes before written after h.done (offered (call_of line)) h.answered answer;
   left = left_after first now next line h.done h.left read;
 }
 
 -- what is said where the writing went well
-pub said : {E : Type 0} (r : Result Unit E) (call : Option Call) (before after : Handle) (Says : List ℕ → Type 0) → is_ok r ≡ true → AnswersLine call before after (λ text. OnOk r (Says text)) → AnswersLine call before after Says
-said (Ok u) None before after Says ok answer = answer
-said (Ok u) (Some call) before after Says ok answer = answer
-said (Err e) call before after Says ok answer = cc
+pub said : {S E : Type 0} {s : Ghosts S} (r : Result Unit E) (call : Option Call) (old new : Database S s) (held : Contents) (Says : List ℕ → Type 0) → is_ok r ≡ true → AnswersLine call old new held (λ text. OnOk r (Says text)) → AnswersLine call old new held Says
+said (Ok u) None old new held Says ok answer = answer
+said (Ok u) (Some call) old new held Says ok answer = answer
+said (Err e) call old new held Says ok answer = cc
 
 -- the same of what is read
 pub read_well : {E : Type 0} (r : Result Bool E) (more : Bool) (P : Bool → Type 0) → r ≡ Ok more → IfOk r P → P more
 read_well (Ok b) more P e h = let same : b ≡ more = cc in rw (← same) h
 read_well (Err e) more P same h = cc
 
--- no call leads from a handle to itself
-pub no_call : (h : Handle) → RunsTo h h
-no_call h = record { calls = []; replies = []; run = refl }
+-- no call leads from a database to itself
+pub no_call : {S : Type 0} {s : Ghosts S} (db : Database S s) (held : Contents) → IsRun db db held [] [] → RunsTo db db held
+no_call db held none = record { calls = []; replies = []; run = none }
 
 -- the calls that were made stand
-pub stand : (before after : Handle) (first now old new : Option (List ℕ)) → IsAnswered before after first now old new → RunsTo before after
-stand before after first now old new h = record { calls = calls_in h.done; replies = h.answered.replies; run = h.answered.run }
+pub stand : {S : Type 0} {s : Ghosts S} (old new : Database S s) (held : Contents) (first now before after : Option (List ℕ)) → IsAnswered old new held first now before after → RunsTo old new held
+stand old new held first now before after h = record { calls = calls_in h.done; replies = h.answered.replies; run = h.answered.run }
 
 -- so does a call whose reply was not written
-pub stand_with : (before mid after : Handle) (first now old new : Option (List ℕ)) (call : Option Call) (Says : List ℕ → Type 0) → IsAnswered before mid first now old new → AnswersLine call mid after Says → RunsTo before after
-stand_with before mid after first now old new None Says h answer = rw (answer.0) (stand before mid first now old new h)
-stand_with before mid after first now old new (Some call) Says h answer = record {
+pub stand_with : {S : Type 0} (s : Ghosts S) (old mid new : Database S s) (held : Contents) (first now before after : Option (List ℕ)) (call : Option Call) (Says : List ℕ → Type 0) → (meta_of mid).limit ≡ (meta_of old).limit → Goes mid new
+    → (h : IsAnswered old mid held first now before after) → AnswersLine call mid new h.answered.run.left Says → RunsTo old new held
+stand_with s old mid new held first now before after None Says limit goes h answer = rw (answer.0) (stand old mid held first now before after h)
+stand_with s old mid new held first now before after (Some call) Says limit goes h answer = record {
   calls = calls_in h.done ++ call ∷ [];
   replies = h.answered.replies ++ answer.0 ∷ [];
-  run = run-push before mid after (calls_in h.done) h.answered.replies call answer.0 h.answered.run answer.1;
+  run = goes_on_with s old mid new held (calls_in h.done) h.answered.replies call answer.0 limit goes h.answered.run answer.1 _ _ refl refl;
 }
 
-whole : (before after : Handle) (text : List ℕ) (now next old new : Option (List ℕ)) (line : List ℕ) (done : List (Option Call)) → IsLeft (Some text) now done → AnswersScript done before after old new → IfSome now (λ text. ReadsLine 8193 text false line next) → AnswersScript (offered_script text) before after old new
-whole before after text None next old new line done left h read = absurd left
-whole before after text (Some []) next old new line done left h read = subst (λ (script : List (Option Call)). AnswersScript script before after old new) (sym (append-nil done) ∙ left) h
-whole before after text (Some (x ∷ xs)) next old new line done left h read = let e = read.0 in cc
+whole : {S : Type 0} {s : Ghosts S} (old new : Database S s) (held : Contents) (text : List ℕ) (now next before after : Option (List ℕ)) (line : List ℕ) (done : List (Option Call)) → IsLeft (Some text) now done → AnswersScript done old new held before after
+    → IfSome now (λ text. ReadsLine 8193 text false line next) → AnswersScript (offered_script text) old new held before after
+whole old new held text None next before after line done left h read = absurd left
+whole old new held text (Some []) next before after line done left h read = subst (λ (script : List (Option Call)). AnswersScript script old new held before after) (sym (append-nil done) ∙ left) h
+whole old new held text (Some (x ∷ xs)) next before after line done left h read = let e = read.0 in cc
 
 -- at the end of the text the whole script is answered
-pub at_end : (before after : Handle) (first now next old new : Option (List ℕ)) (line : List ℕ) → IsAnswered before after first now old new → IfSome now (λ text. ReadsLine 8193 text false line next) → IfSome first (λ text. AnswersScript (offered_script text) before after old new)
-at_end before after None now next old new line h read = tt
-at_end before after (Some text) now next old new line h read = whole before after text now next old new line h.done h.left h.answered read
+pub at_end : {S : Type 0} {s : Ghosts S} (old new : Database S s) (held : Contents) (first now next before after : Option (List ℕ)) (line : List ℕ) → IsAnswered old new held first now before after → IfSome now (λ text. ReadsLine 8193 text false line next)
+    → IfSome first (λ text. AnswersScript (offered_script text) old new held before after)
+at_end old new held None now next before after line h read = tt
+at_end old new held (Some text) now next before after line h read = whole old new held text now next before after line h.done h.left h.answered read
 
 -- and nothing is left of the text
-pub nothing_left : (before after : Handle) (first now next old new : Option (List ℕ)) (line : List ℕ) → IsAnswered before after first now old new → IfSome now (λ text. ReadsLine 8193 text false line next) → IfSome first (λ text. next ≡ Some [])
-nothing_left before after None now next old new line h read = tt
-nothing_left before after (Some text) None next old new line h read = absurd h.left
-nothing_left before after (Some text) (Some []) next old new line h read = read.1
-nothing_left before after (Some text) (Some (x ∷ xs)) next old new line h read = let e = read.0 in cc
+pub nothing_left : (first now next : Option (List ℕ)) (start left : ℕ) (line : List ℕ) → IsCounted first start now left → IfSome now (λ text. ReadsLine 8193 text false line next) → IfSome first (λ text. next ≡ Some [])
+nothing_left None now next start left line h read = tt
+nothing_left (Some text) None next start left line h read = absurd h
+nothing_left (Some text) (Some []) next start left line h read = read.1
+nothing_left (Some text) (Some (x ∷ xs)) next start left line h read = let e = read.0 in cc
+
+-- nothing is read yet
+pub counted_first : (first : Option (List ℕ)) (n : ℕ) → IsCounted first n first n
+counted_first None n = tt
+counted_first (Some text) n = refl
 
 -- more is counted where more is read
 pub counted_on : (first now next : Option (List ℕ)) (start before after : ℕ) → IsCounted first start now before → IsCounted now before next after → IsCounted first start next after

@@ -1,10 +1,9 @@
--- Lines that ask for no call that is offered.
-use Rattle.std.proofs.Common.{◌≡◌, ◌==◌, ℕ, true, false, cond, List, [], ◌∷◌, codes, Option, Some, None, IfSome, is_some, refl}
+-- Lines of too many words.
+use Rattle.std.proofs.Common.{◌≡◌, ◌==◌, ℕ, true, false, cond, List, [], ◌∷◌, Option, Some, None, IfSome, is_some, refl, sym}
 use Rattle.std.specs.List.{onto_first}
 use Rattle.dbm_model.specs.Lines.{words_in, call_of_words, pair_call}
 use Rattle.dbm_model.specs.Words.{bytes_of}
 use Rattle.std.specs.Prelude.{option_and_then}
-use Rattle.dbm_tool.specs.Offered.{offered}
 
 -- the value of an option that has one
 pub from_some : {A : Type 0} (P : A → Type 0) (o : Option A) → IfSome o P → is_some o ≡ true → (x : A) × P x
@@ -23,19 +22,19 @@ first_word (x ∷ line) = elim (x == 32) as (λ b. (word : List ℕ) × (words :
   | false ↦ first_of_parts x (words_in line)
 ]
 
-no_pair : (key content : Option (List ℕ)) → None ≡ offered (option_and_then (λ k. option_and_then (pair_call (codes "F") k) content) key)
-no_pair None content = refl
-no_pair (Some key) None = refl
-no_pair (Some key) (Some content) = refl
+no_pair : (name : List ℕ) → ((k c : List ℕ) → pair_call name k c ≡ None) → (key content : Option (List ℕ)) → None ≡ option_and_then (λ k. option_and_then (pair_call name k) content) key
+no_pair name none None content = refl
+no_pair name none (Some key) None = refl
+no_pair name none (Some key) (Some content) = sym (none key content)
 
-many_words : (key : List ℕ) (word : List ℕ) (words : List (List ℕ)) → None ≡ offered (call_of_words (codes "F" ∷ key ∷ word ∷ words))
-many_words key word [] = no_pair (bytes_of key) (bytes_of word)
-many_words key word (more ∷ words) = refl
+many_words : (name : List ℕ) → ((k c : List ℕ) → pair_call name k c ≡ None) → (key word : List ℕ) (words : List (List ℕ)) → None ≡ call_of_words (name ∷ key ∷ word ∷ words)
+many_words name none key word [] = no_pair name none (bytes_of key) (bytes_of word)
+many_words name none key word (more ∷ words) = refl
 
--- a fetch has one word after its name
-pub fetch_of_more : (words key rest : List ℕ) → words_in words ≡ key ∷ words_in rest → None ≡ offered (call_of_words (codes "F" ∷ words_in words))
-fetch_of_more words key rest h = let first = first_word rest in rw (h, first.2) (many_words key first.0 first.1)
+-- a call of a key has one word after its name
+pub key_of_more : (name : List ℕ) → ((k c : List ℕ) → pair_call name k c ≡ None) → (words key rest : List ℕ) → words_in words ≡ key ∷ words_in rest → None ≡ call_of_words (name ∷ words_in words)
+key_of_more name none words key rest h = let first = first_word rest in rw (h, first.2) (many_words name none key first.0 first.1)
 
 -- a store has two words after its name
-pub store_of_more : (words key second content rest : List ℕ) → words_in words ≡ key ∷ words_in second → words_in second ≡ content ∷ words_in rest → None ≡ offered (call_of_words (codes "S" ∷ words_in words))
-store_of_more words key second content rest h more = let first = first_word rest in rw (h, more, first.2) refl
+pub store_of_more : (name words key second content rest : List ℕ) → words_in words ≡ key ∷ words_in second → words_in second ≡ content ∷ words_in rest → None ≡ call_of_words (name ∷ words_in words)
+store_of_more name words key second content rest h more = let first = first_word rest in rw (h, more, first.2) refl

@@ -4,7 +4,10 @@ ghost use Rattle.std.specs.Option.{option_map};
 ghost use Rattle.dbm_model.specs.Words.{bytes_of};
 ghost use Rattle.dbm_model.specs.Lines.{words_in, call_of, call_of_words};
 ghost use Rattle.dbm_tool.specs.Offered.{offered};
-ghost use Rattle.dbm_tool.specs.Requests.{asked};
+ghost use Rattle.dbm_model.specs.Calls.{Fetch, Delete};
+ghost use Rattle.dbm_tool.specs.Requests.{asked, store_name};
+
+use dbm_file::StoreMode;
 
 /// The bytes that a line may have.
 pub const LONGEST: usize = 8192;
@@ -15,8 +18,17 @@ pub const ROOM: usize = LONGEST / 2;
 /// What a line asks for.
 #[derive(Clone, Copy)]
 pub enum Request<'a> {
-    Store { key: &'a [u8], content: &'a [u8] },
-    Fetch { key: &'a [u8] },
+    Store {
+        key: &'a [u8],
+        content: &'a [u8],
+        mode: StoreMode,
+    },
+    Fetch {
+        key: &'a [u8],
+    },
+    Delete {
+        key: &'a [u8],
+    },
     /// No call that is offered.
     Bad,
 }
@@ -33,34 +45,41 @@ pub fn request_of<'a>(
         return Request::Bad;
     }
     match split_word(line) {
-        Some((b"F", rest)) => fetch_request(rest, key),
-        Some((b"S", rest)) => store_request(rest, key, content),
+        Some((b"S", rest)) => store_request(rest, StoreMode::Replace, key, content),
+        Some((b"I", rest)) => store_request(rest, StoreMode::Insert, key, content),
+        Some((b"F", rest)) => match key_request(rest, key) {
+            Some(key) => Request::Fetch { key },
+            None => Request::Bad,
+        },
+        Some((b"D", rest)) => match key_request(rest, key) {
+            Some(key) => Request::Delete { key },
+            None => Request::Bad,
+        },
         _ => Request::Bad,
     }
 }
 
-/// The request of a fetch, of the words after its name.
-fn fetch_request<'a>(words: &[u8], key: &'a mut [u8; ROOM]) -> Request<'a>
+/// The key that a fetch or a delete names, of the words after its name.
+fn key_request<'a>(words: &[u8], key: &'a mut [u8; ROOM]) -> Option<&'a [u8]>
     requires { length words.now ≤ 8192 }
-    ensures { asked result ≡ offered (call_of_words (codes "F" ∷ words_in words.now)) }
+    ensures fetch { option_map (λ key. Fetch key.now) result ≡ call_of_words (codes "F" ∷ words_in words.now) }
+    ensures delete { option_map (λ key. Delete key.now) result ≡ call_of_words (codes "D" ∷ words_in words.now) }
 {
     if split_word(words).is_some() {
-        return Request::Bad;
+        return None;
     }
-    match decode_word(words, key) {
-        Some(key) => Request::Fetch { key },
-        None => Request::Bad,
-    }
+    decode_word(words, key)
 }
 
 /// The request of a store, of the words after its name.
 fn store_request<'a>(
     words: &[u8],
+    mode: StoreMode,
     key: &'a mut [u8; ROOM],
     content: &'a mut [u8; ROOM],
 ) -> Request<'a>
     requires { length words.now ≤ 8192 }
-    ensures { asked result ≡ offered (call_of_words (codes "S" ∷ words_in words.now)) }
+    ensures { asked result ≡ call_of_words (store_name mode ∷ words_in words.now) }
 {
     let Some((first, second)) = split_word(words) else {
         return Request::Bad;
@@ -69,7 +88,7 @@ fn store_request<'a>(
         return Request::Bad;
     }
     match (decode_word(first, key), decode_word(second, content)) {
-        (Some(key), Some(content)) => Request::Store { key, content },
+        (Some(key), Some(content)) => Request::Store { key, content, mode },
         _ => Request::Bad,
     }
 }

@@ -1,13 +1,10 @@
 // The program over its words.
 ghost use Rattle.std.specs.Prelude.{◌≡◌, ◌⊎◌, OnOk, OnErr, IfOk, IfErr, IfSome, map, true, false};
 ghost use Rattle.std.specs.Io.KnownBytes.{Appends};
-ghost use Rattle.std.specs.FinMap.{empty};
-ghost use Rattle.dbm_model.specs.States.{fresh};
-ghost use Rattle.dbm_file.specs.Database.{state_of};
 ghost use Rattle.dbm_model.specs.Sizes.{is_limit};
 ghost use Rattle.dbm_words.specs.CommandLine.{AreTaken};
 ghost use Rattle.dbm_tool.specs.Faults.{fault_line, told_in_memory};
-ghost use Rattle.dbm_tool.specs.Scripts.{AnswersInMemory, AnswersWords};
+ghost use Rattle.dbm_tool.specs.Scripts.{IsNew, AnswersInMemory, AnswersWords};
 
 use crate::{EngineFault, script_engine};
 use dbm_file::{Access, Db, Fault, OpenHow, needed_sectors};
@@ -112,7 +109,10 @@ fn script_in_memory<R: BufRead, O: Write>(
         AnswersInMemory limit text (O.contents output.old) (O.contents output.new))) }
     ensures limit { is_limit limit ≡ false → result ≡ Err (EngineFault.Db Fault.BadLimit) }
 {
-    let mut db = new_in_memory(alloc, limit).map_err(in_memory)?;
+    let mut db = match new_in_memory(alloc, limit) {
+        Ok(db) => db,
+        Err(fault) => return Err(in_memory(fault)),
+    };
     let done = script_engine(alloc, &mut db, input, output);
     let (_, closed) = db.close();
     let flushed = output.flush();
@@ -133,7 +133,8 @@ fn in_memory(fault: Fault) -> EngineFault
 
 /// A new database in memory, of at most `limit` pairs.
 fn new_in_memory(alloc: Global, limit: u32) -> Result<Db<MemDev>, Fault>
-    ensures fresh { IfOk result (λ db. (state_of db ≡ fresh empty limit true) × (is_limit limit ≡ true)) }
+    ensures fresh { IfOk result (IsNew limit) }
+    ensures allowed { IfOk result (λ _. is_limit limit ≡ true) }
     ensures limit { is_limit limit ≡ false → result ≡ Err Fault.BadLimit }
     ensures only { is_limit limit ≡ true → IfErr result (λ e. e ≡ Fault.Device) }
 {

@@ -1,7 +1,7 @@
 // Replies as lines.
 ghost use Rattle.std.specs.Prelude.{◌≡◌, ◌≤◌, OnOk, length};
 ghost use Rattle.std.specs.Io.KnownBytes.{Appends};
-ghost use Rattle.dbm_model.specs.Calls.{Reply, Stored, Bytes, NoRecord, Refused};
+ghost use Rattle.dbm_model.specs.Calls.{Reply, Stored, Kept, Deleted, Absent, Bytes, NoRecord, Refused};
 ghost use Rattle.dbm_model.specs.Lines.{reply_line, bad_line};
 ghost use Rattle.dbm_file.specs.Faults.{fault_of};
 
@@ -19,6 +19,27 @@ pub fn write_stored<W: Write>(writer: &mut W) -> io::Result<()>
     ensures { OnOk result (Appends (W.contents writer.old) (W.contents writer.new) (reply_line Stored)) }
 {
     writer.write_all(b"0\n")
+}
+
+/// Writes the line of a store that left the old content.
+pub fn write_kept<W: Write>(writer: &mut W) -> io::Result<()>
+    ensures { OnOk result (Appends (W.contents writer.old) (W.contents writer.new) (reply_line Kept)) }
+{
+    writer.write_all(b"1\n")
+}
+
+/// Writes the line of a delete that took its key out.
+pub fn write_deleted<W: Write>(writer: &mut W) -> io::Result<()>
+    ensures { OnOk result (Appends (W.contents writer.old) (W.contents writer.new) (reply_line Deleted)) }
+{
+    writer.write_all(b"0\n")
+}
+
+/// Writes the line of a delete that found nothing.
+pub fn write_absent<W: Write>(writer: &mut W) -> io::Result<()>
+    ensures { OnOk result (Appends (W.contents writer.old) (W.contents writer.new) (reply_line Absent)) }
+{
+    writer.write_all(b"-1 absent\n")
 }
 
 /// Writes the line of a fetch that found nothing.

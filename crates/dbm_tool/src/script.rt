@@ -2,8 +2,11 @@
 ghost use Rattle.std.specs.Prelude.{◌≡◌, ◌≤◌, ◌⊎◌, IfErr, OnOk, IfSome, Some, [], length};
 ghost use Rattle.std.specs.Io.KnownBytes.{Appends};
 ghost use Rattle.dbm_model.specs.Lines.{call_of};
-ghost use Rattle.dbm_model.specs.Calls.{Store, Fetch, Replace};
-ghost use Rattle.dbm_file.specs.Database.{handle_of};
+ghost use Rattle.dbm_model.specs.Calls.{Store, Fetch, Delete};
+ghost use Rattle.dbm_model.specs.Pairs.{Contents};
+ghost use Rattle.dbm_file.specs.Answers.{Goes};
+ghost use Rattle.dbm_file.specs.Calls.{mode_of};
+ghost use Rattle.dbm_file.specs.Database.{store_of, HoldsMap};
 ghost use Rattle.dbm_tool.specs.Offered.{offered, offered_script};
 ghost use Rattle.dbm_tool.specs.Scripts.{RunsTo, AnswersScript, AnswersLine};
 
@@ -11,11 +14,12 @@ use crate::EngineFault;
 use crate::lines::{KEPT, read_line};
 use crate::parsing::{ROOM, Request, request_of};
 use crate::replies::{
-    DIGITS, write_bad_line, write_content, write_no_record, write_refused, write_stored,
+    DIGITS, write_absent, write_bad_line, write_content, write_deleted, write_kept,
+    write_no_record, write_refused, write_stored,
 };
 use arrayvec::ArrayVec;
-use dbm_file::{Db, StoreMode, StoreReply};
-use sect_dev::SectorDev;
+use dbm_file::{Database, DeleteReply, StoreMode, StoreReply};
+use page_io::PageStore;
 use std::alloc::Global;
 use std::io::{self, BufRead, Write};
 
@@ -43,19 +47,20 @@ impl Buffers {
 /// or `-1 line` where the line asks for no call. A line may have 8,192 bytes without its line feed, and
 /// a text 4,294,967,295. `Memory` comes before anything is read, `Read` where reading fails or the text
 /// is too long, and `Write` where writing fails; the calls made so far stand.
-pub fn script_engine<D: SectorDev, R: BufRead, W: Write>(
+pub fn script_engine<S: PageStore, R: BufRead, W: Write>(
     alloc: Global,
-    db: &mut Db<D>,
+    db: &mut Database<S>,
     reader: &mut R,
     writer: &mut W,
 ) -> Result<(), EngineFault>
     ensures read { OnOk result (IfSome (R.remaining reader.old) (λ text. R.remaining reader.new ≡ Some [])) }
     ensures size { OnOk result (IfSome (R.remaining reader.old) (λ text. length text ≤ 4294967295)) }
-    ensures answer { OnOk result (IfSome (R.remaining reader.old) (λ text.
-        AnswersScript (offered_script text) (handle_of db.old) (handle_of db.new) (W.contents writer.old) (W.contents writer.new))) }
+    ensures answer { S.honest (store_of db.old) → (held : Contents) → HoldsMap db.old held → OnOk result (IfSome (R.remaining reader.old) (λ text.
+        AnswersScript (offered_script text) db.old db.new held (W.contents writer.old) (W.contents writer.new))) }
 
     // Whatever it answers, the calls made so far stand.
-    ensures stands { RunsTo (handle_of db.old) (handle_of db.new) }
+    ensures stands { S.honest (store_of db.old) → (held : Contents) → HoldsMap db.old held → RunsTo db.old db.new held }
+    ensures goes { Goes db.old db.new }
     ensures memory { result ≡ Err EngineFault.Memory → (db.new ≡ db.old) × ((reader.new ≡ reader.old) × (writer.new ≡ writer.old)) }
     ensures only { IfErr result (λ e. (e ≡ EngineFault.Memory) ⊎ ((e ≡ EngineFault.Read) ⊎ (e ≡ EngineFault.Write))) }
 {
@@ -66,17 +71,18 @@ pub fn script_engine<D: SectorDev, R: BufRead, W: Write>(
 }
 
 /// The engine with its buffers.
-fn run_lines<D: SectorDev, R: BufRead, W: Write>(
-    db: &mut Db<D>,
+fn run_lines<S: PageStore, R: BufRead, W: Write>(
+    db: &mut Database<S>,
     reader: &mut R,
     writer: &mut W,
     buffers: &mut Buffers,
 ) -> Result<(), EngineFault>
     ensures read { OnOk result (IfSome (R.remaining reader.old) (λ text. R.remaining reader.new ≡ Some [])) }
     ensures size { OnOk result (IfSome (R.remaining reader.old) (λ text. length text ≤ 4294967295)) }
-    ensures answer { OnOk result (IfSome (R.remaining reader.old) (λ text.
-        AnswersScript (offered_script text) (handle_of db.old) (handle_of db.new) (W.contents writer.old) (W.contents writer.new))) }
-    ensures stands { RunsTo (handle_of db.old) (handle_of db.new) }
+    ensures answer { S.honest (store_of db.old) → (held : Contents) → HoldsMap db.old held → OnOk result (IfSome (R.remaining reader.old) (λ text.
+        AnswersScript (offered_script text) db.old db.new held (W.contents writer.old) (W.contents writer.new))) }
+    ensures stands { S.honest (store_of db.old) → (held : Contents) → HoldsMap db.old held → RunsTo db.old db.new held }
+    ensures goes { Goes db.old db.new }
     ensures only { IfErr result (λ e. (e ≡ EngineFault.Read) ⊎ (e ≡ EngineFault.Write)) }
 {
     let mut left = u32::MAX;
@@ -91,51 +97,74 @@ fn run_lines<D: SectorDev, R: BufRead, W: Write>(
 }
 
 /// Makes the call that the line asks for, and writes the line that answers it.
-fn answer_line<D: SectorDev, W: Write>(
-    db: &mut Db<D>,
+fn answer_line<S: PageStore, W: Write>(
+    db: &mut Database<S>,
     buffers: &mut Buffers,
     writer: &mut W,
 ) -> io::Result<()>
-    ensures { AnswersLine (offered (call_of buffers.old.line.items)) (handle_of db.old) (handle_of db.new)
+    ensures line { S.honest (store_of db.old) → (held : Contents) → HoldsMap db.old held → AnswersLine (offered (call_of buffers.old.line.items)) db.old db.new held
         (λ text. OnOk result (Appends (W.contents writer.old) (W.contents writer.new) text)) }
+    ensures goes { Goes db.old db.new }
 {
     let line = buffers.line.as_slice();
     match request_of(line, &mut buffers.key, &mut buffers.content) {
-        Request::Store { key, content } => answer_store(db, key, content, writer),
+        Request::Store { key, content, mode } => answer_store(db, key, content, mode, writer),
         Request::Fetch { key } => answer_fetch(db, key, &mut buffers.digits, writer),
+        Request::Delete { key } => answer_delete(db, key, writer),
         Request::Bad => write_bad_line(writer),
     }
 }
 
 /// Stores, and writes the reply.
-fn answer_store<D: SectorDev, W: Write>(
-    db: &mut Db<D>,
+fn answer_store<S: PageStore, W: Write>(
+    db: &mut Database<S>,
     key: &[u8],
     content: &[u8],
+    mode: StoreMode,
     writer: &mut W,
 ) -> io::Result<()>
-    ensures { AnswersLine (Some (Store key.now content.now Replace)) (handle_of db.old) (handle_of db.new)
+    ensures line { S.honest (store_of db.old) → (held : Contents) → HoldsMap db.old held → AnswersLine (Some (Store key.now content.now (mode_of mode))) db.old db.new held
         (λ text. OnOk result (Appends (W.contents writer.old) (W.contents writer.new) text)) }
+    ensures goes { Goes db.old db.new }
 {
-    match db.store(key, content, StoreMode::Replace) {
+    match db.store(key, content, mode) {
         Ok(StoreReply::Stored) => write_stored(writer),
+        Ok(StoreReply::Kept) => write_kept(writer),
         Err(fault) => write_refused(writer, fault),
     }
 }
 
 /// Fetches, and writes the reply before the next call ends the content that is lent.
-fn answer_fetch<D: SectorDev, W: Write>(
-    db: &mut Db<D>,
+fn answer_fetch<S: PageStore, W: Write>(
+    db: &mut Database<S>,
     key: &[u8],
     digits: &mut [u8; DIGITS],
     writer: &mut W,
 ) -> io::Result<()>
-    ensures { AnswersLine (Some (Fetch key.now)) (handle_of db.old) (handle_of db.new)
+    ensures line { S.honest (store_of db.old) → (held : Contents) → HoldsMap db.old held → AnswersLine (Some (Fetch key.now)) db.old db.new held
         (λ text. OnOk result (Appends (W.contents writer.old) (W.contents writer.new) text)) }
+    ensures goes { Goes db.old db.new }
 {
     match db.fetch(key) {
         Ok(Some(content)) => write_content(writer, content, digits),
         Ok(None) => write_no_record(writer),
+        Err(fault) => write_refused(writer, fault),
+    }
+}
+
+/// Deletes, and writes the reply.
+fn answer_delete<S: PageStore, W: Write>(
+    db: &mut Database<S>,
+    key: &[u8],
+    writer: &mut W,
+) -> io::Result<()>
+    ensures line { S.honest (store_of db.old) → (held : Contents) → HoldsMap db.old held → AnswersLine (Some (Delete key.now)) db.old db.new held
+        (λ text. OnOk result (Appends (W.contents writer.old) (W.contents writer.new) text)) }
+    ensures goes { Goes db.old db.new }
+{
+    match db.delete(key) {
+        Ok(DeleteReply::Deleted) => write_deleted(writer),
+        Ok(DeleteReply::Absent) => write_absent(writer),
         Err(fault) => write_refused(writer, fault),
     }
 }

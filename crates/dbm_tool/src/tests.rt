@@ -30,7 +30,7 @@ fn answer(alloc: Global, limit: u32, text: &[u8]) -> Result<Vec<u8>, Fail> {
 
 #[test]
 fn answers_each_line(rt: HostRuntime) -> Result<(), Fail> {
-    let scripts: [(u32, &[u8], &[u8]); 8] = [
+    let scripts: [(u32, &[u8], &[u8]); 9] = [
         (100, b"S 6b 76\nF 6b\n", b"0\n76\n"),
         (100, b"S . .\nF .\nF 00\n", b"0\n.\nnone\n"),
         (
@@ -46,7 +46,12 @@ fn answers_each_line(rt: HostRuntime) -> Result<(), Fail> {
         (100, b"S 6B fF\nF 6b", b"0\nff\n"),
         (
             100,
-            b"I 61 01\nD 61\n1\nN\nE\nC\n",
+            b"I 61 01\nI 61 02\nF 61\nD 61\nD 61\nF 61\n",
+            b"0\n1\n01\n0\n-1 absent\nnone\n",
+        ),
+        (
+            100,
+            b"1\nN\nE\nC\nI 61\nD 61 62\n",
             b"-1 line\n-1 line\n-1 line\n-1 line\n-1 line\n-1 line\n",
         ),
         (

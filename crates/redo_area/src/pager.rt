@@ -27,7 +27,13 @@ pub struct Pager<D: SectorDev> {
 }
 
 impl<D: SectorDev> PageStore for Pager<D> {
+    ghost use Rattle.std.specs.Prelude.{OnOk};
+    ghost use Rattle.sect_dev.specs.Device.{IsImageOf, LeavesOnly};
+    ghost use Rattle.page_io.specs.Answers.{HasDeviceCause, IsReadAnswer};
     ghost use Rattle.page_io.specs.Counts.{counts_end};
+    ghost use Rattle.page_io.specs.Kept.{KeepsPages};
+    ghost use Rattle.page_io.specs.Store.{overlaid, page_of};
+    ghost use Rattle.redo_area.specs.Pagers.{device_of};
     ghost use Rattle.redo_area.specs.Rests.{seen_settles, only_seen, quarter_fits};
 
     ghost state = { λ p. record { staged = bytes_of p.staged.items; end = p.end; capacity = D.sectors p.dev / 4; usable = p.usable; writable = true } };
@@ -60,7 +66,19 @@ impl<D: SectorDev> PageStore for Pager<D> {
 
     ghost in_order = { λ p. p.order };
 
-    fn read(&mut self, n: u32, page: &mut Page) -> Result<(), PageFault> {
+    /// As the trait says, and the device below keeps its size and what a stop may leave of it.
+    fn read(&mut self, n: u32, page: &mut Page) -> Result<(), PageFault>
+        ensures found { ⟦<Pager<D> as PageStore>⟧.honest self.old → OnOk result (page.new.bytes ≡ overlaid (⟦<Pager<D> as PageStore>⟧.state self.old).staged (page_of (⟦<Pager<D> as PageStore>⟧.committed self.old)) n) }
+        ensures answer { IsReadAnswer (⟦<Pager<D> as PageStore>⟧.state self.old) n result }
+        ensures state { ⟦<Pager<D> as PageStore>⟧.state self.new ≡ ⟦<Pager<D> as PageStore>⟧.state self.old }
+        ensures kept { ⟦<Pager<D> as PageStore>⟧.honest self.old → KeepsPages ⟦<Pager<D> as PageStore>⟧.committed ⟦<Pager<D> as PageStore>⟧.moment ⟦<Pager<D> as PageStore>⟧.settled_since ⟦<Pager<D> as PageStore>⟧.settles_to self.old self.new }
+        ensures honesty { ⟦<Pager<D> as PageStore>⟧.honest self.new ↔ ⟦<Pager<D> as PageStore>⟧.honest self.old }
+        ensures cause { HasDeviceCause (⟦<Pager<D> as PageStore>⟧.faults self.old) (⟦<Pager<D> as PageStore>⟧.faults self.new) result }
+
+        // Whenever a stop falls, it leaves an image that it could have left before.
+        ensures any_moment { D.honest (device_of self.old) → LeavesOnly D.moment D.left_since (device_of self.old) (device_of self.new) (IsImageOf (D.candidate (device_of self.old))) }
+        ensures size { D.sectors (device_of self.new) ≡ D.sectors (device_of self.old) }
+    {
         if !self.usable {
             return Err(PageFault::Broken);
         }

@@ -1,8 +1,8 @@
 -- What the table means for a placement: the segment pages say the head page of each bucket.
-use Rattle.std.specs.Prelude.{◌≡◌, ℕ, ◌*◌, ◌≤◌, ◌<◌, length, slice_index}
+use Rattle.std.specs.Prelude.{◌≡◌, ℕ, ◌*◌, ◌^◌, ◌≤◌, ◌<◌, length, slice_index}
 use Rattle.dbm_model.specs.Pages.{Body}
 use Rattle.dbm_model.specs.Chain.{numbers}
-use Rattle.dbm_model.specs.Placement.{Placement, chain_at, IsGood}
+use Rattle.dbm_model.specs.Placement.{Placement, chain_at, IsSound}
 use Rattle.dbm_model.specs.Sheets.{first_of, heads_of, meta_of, lower_sheets, AreRead}
 use Rattle.seg_table.specs.Heads.{AreHeads}
 
@@ -12,6 +12,6 @@ pub record HasHeads (at : ℕ → Body) (p : Placement) : Type 0 where
   pub room : length (heads_of p.chains) ≤ 508 * length p.segments
   pub each : (bucket : ℕ) → bucket < length p.chains → slice_index (heads_of p.chains) bucket ≡ first_of (numbers (chain_at p bucket))
 
--- where the pages but the meta page say a good placement, they have its heads
+-- where the pages but the meta page say a sound placement, whose pages are numbers of four bytes, they have its heads
 abbrev pub PlacementsHaveHeads : Type 0
-PlacementsHaveHeads = (at : ℕ → Body) (p : Placement) → IsGood p → AreRead at (lower_sheets p) → HasHeads at p
+PlacementsHaveHeads = (at : ℕ → Body) (p : Placement) → IsSound p → p.space.end ≤ 2 ^ 32 → AreRead at (lower_sheets p) → HasHeads at p

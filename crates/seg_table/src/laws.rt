@@ -2,7 +2,7 @@
 
 ghost use Rattle.seg_table.specs.Placements.{PlacementsHaveHeads};
 
-/// The segment pages of a good placement say the head page of each bucket.
+/// The segment pages of a sound placement say the head page of each bucket.
 pub fn placements_have_heads()
     ensures { PlacementsHaveHeads }
 {}

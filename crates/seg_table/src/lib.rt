@@ -10,5 +10,5 @@ mod tests;
 
 pub use laws::placements_have_heads;
 pub use meta::{Meta, MetaFault, read_meta, write_meta};
-pub use segment::segment_ok;
+pub use segment::{segment_of_one, segment_ok};
 pub use table::{head_of, set_head};

@@ -1,6 +1,6 @@
 //! The meta page: page 1.
 
-ghost use Rattle.std.specs.Prelude.{◌≡◌, ◌≢◌, ◌↔◌, ◌<◌, ◌≤◌, All, IsTrue, IsSome, IfSome, IfOk, IsOkAnd, Err};
+ghost use Rattle.std.specs.Prelude.{◌≡◌, ◌≢◌, ◌↔◌, ◌<◌, ◌≤◌, ◌∷◌, [], All, IsTrue, IsSome, IfSome, IfOk, IsOkAnd, Err};
 ghost use Rattle.dbm_model.specs.Bytes.{u32_at};
 ghost use Rattle.dbm_model.specs.Numbers.{IsNumber, numbers_at};
 ghost use Rattle.dbm_model.specs.Pages as model;
@@ -50,6 +50,38 @@ pub struct Meta {
     pub free_count: u32,
     /// The segment pages, in order.
     pub segments: ArrayVec<u32, 496>,
+}
+
+impl Meta {
+    /// The meta page of a new database of this limit: one empty bucket, in the segment of page `segment`.
+    pub fn of_empty(limit: u32, segment: u32) -> Meta
+        ensures { says result ≡ record { limit = limit; pairs = 0; level = 0; split = 0; free_head = 0; free_count = 0; segments = segment ∷ [] } }
+    {
+        let mut segments = ArrayVec::new();
+        segments.push(segment);
+        Meta {
+            limit,
+            pairs: 0,
+            shape: Shape::one_bucket(),
+            free_head: 0,
+            free_count: 0,
+            segments,
+        }
+    }
+
+    /// The same, without memory.
+    pub fn copied(&self) -> Meta
+        ensures { says result ≡ says self.now }
+    {
+        Meta {
+            limit: self.limit,
+            pairs: self.pairs,
+            shape: self.shape,
+            free_head: self.free_head,
+            free_count: self.free_count,
+            segments: ArrayVec::try_from(self.segments.as_slice()).unwrap(),
+        }
+    }
 }
 
 /// Why a page was not read as a meta page.

@@ -1,6 +1,9 @@
 //! Segment pages: the heads of 508 buckets each.
 
-ghost use Rattle.std.specs.Prelude.{◌≡◌, ◌<◌, ◌↔◌, IsTrue, length, slice_index};
+ghost use Rattle.std.specs.Prelude.{◌≡◌, ◌<◌, ◌↔◌, ◌∷◌, [], IsTrue, length, slice_index};
+ghost use Rattle.dbm_model.specs.Pages.{SegmentPage};
+ghost use Rattle.dbm_model.specs.Reading.{body_of};
+ghost use Rattle.page_io.specs.Page.{own_number};
 ghost use Rattle.seg_table.specs.MetaPages.{says};
 ghost use Rattle.seg_table.specs.Segments.{heads_in, IsSegment};
 
@@ -15,6 +18,17 @@ pub const PER_SEGMENT: usize = 508;
 
 /// Where the heads begin.
 pub const HEADS_AT: usize = 16;
+
+/// Page `n` as a segment page with one head, that of its first bucket.
+pub fn segment_of_one(n: u32, head: u32) -> Page
+    requires { 0 < head }
+    ensures says { body_of n result.bytes ≡ SegmentPage (head ∷ []) }
+    ensures number { own_number result.bytes ≡ n }
+{
+    let mut page = Page::plain(n, SEGMENT, 0);
+    page.set_u32_at(HEADS_AT, head);
+    page
+}
 
 /// How many buckets of segment `s` exist.
 fn heads_of(meta: &Meta, s: usize) -> usize

@@ -1,8 +1,19 @@
-use Rattle.std.proofs.Common.{true, refl}
+use Rattle.std.proofs.Common.{◌≡◌, ◌≤◌, inl, true, refl, subst, arith}
+use Rattle.dbm_file.specs.Database.{HoldsMap}
 use Rattle.dbm_file.specs.declared.calls.Access.TheVariants.{ReadWrite}
-use Rattle.dbm_tool.proofs.Rooms.{fails_by_device}
+use Rattle.dbm_file.specs.declared.calls.OpenHow.{OpenHow}
+use Rattle.dbm_tool.proofs.Rooms.{enough, makes_room, blank_there, opened_new}
 use Rattle.dbm_tool.proofs.program.new_in_memory.Goals as goal
 
+pub returns-in-Ok-clause-fresh : goal.returns-in-Ok-clause-fresh
+returns-in-Ok-clause-fresh c =
+    let how : OpenHow = record { access = ReadWrite; create = true; limit = c.args.limit } in
+    let found = c.in-Ok.ensures.stands tt (λ image is. inl (blank_there _ _ c.new.ensures.stable image is)) in
+    let new = opened_new how _ _ found.0 _ (blank_there _ _ c.new.ensures.stable) found.2 in
+    record { holds = subst (HoldsMap c.in-Ok.db) new.0 found.1; limited = new.1; no_error = c.in-Ok.ensures.fresh.no_error; usable = c.in-Ok.ensures.fresh.usable }
+
 pub returns-clause-only : goal.returns-clause-only
-returns-clause-only c =
-    λ allowed. fails_by_device _ (record { access = ReadWrite; create = true; limit = c.args.limit }) c.in-Some.sectors _ c.in-Err.fault c.new.ensures.blank refl c.in-Some.ensures c.new.ensures.size (c.in-Err.ensures.answer tt)
+returns-clause-only c allowed =
+    let how : OpenHow = record { access = ReadWrite; create = true; limit = c.args.limit } in
+    c.in-Err.ensures.opens tt (omega (arith, enough c.args.limit c.in-Some.sectors c.in-Some.ensures, c.new.ensures.size)) (λ image is. inl (blank_there _ _ c.new.ensures.stable image is))
+    (λ on_blank. makes_room how c.in-Some.sectors _ refl c.in-Some.ensures c.new.ensures.size)

@@ -1,6 +1,8 @@
-use Rattle.dbm_file.specs.Database.{handle_of}
+use Rattle.dbm_file.proofs.Runs.{no_run}
 use Rattle.dbm_tool.proofs.Answering.{no_call}
 use Rattle.dbm_tool.proofs.script.script_engine.Goals as goal
 
 pub returns-in_default-clause-stands : goal.returns-in_default-clause-stands
-returns-in_default-clause-stands g c = no_call (handle_of c.args.db.now)
+returns-in_default-clause-stands g c honest held holds =
+    let db = c.args.db.now in
+    no_call db held (no_run g.S.PageStore db held holds (λ x left. g.met.S.PageStore.only_now db.store x honest left) (λ x usable left. g.met.S.PageStore.only_committed db.store x honest usable db.writable left))

@@ -1,0 +1,228 @@
+-- Calls that change the file, as steps.
+use Rattle.std.proofs.Common.{◌≡◌, ◌⊎◌, ◌↔◌, inl, inr, ⊎_elim, ℕ, ◌≤◌, ◌<◌, ◌*◌, ◌+◌, true, false, cond, Option, Some, is_some, Result, Ok, Err, OnOk, IfErr, OnErr, IsErrOf, refl, sym, ◌∙◌, ap, subst, arith}
+use Rattle.std.specs.Prelude.{IsErrAnd}
+use Rattle.std.specs.Option.{option_map}
+use Rattle.std.proofs.lemmas.Bool.{lt-ltb}
+use Rattle.sect_dev.specs.Device.{LeavesOnly, MoreFaults}
+use Rattle.sect_dev.specs.Moments.{followed_by}
+use Rattle.dbm_model.specs.Calls as model
+use Rattle.dbm_model.specs.Pages.{Meta}
+use Rattle.dbm_model.specs.Pairs.{Contents}
+use Rattle.dbm_model.specs.States.{Handle, first_fault, flagged}
+use Rattle.dbm_model.specs.Steps.{Case, Changes, case_of, Answers, Suffers}
+use Rattle.page_io.specs.Store.{Settled, file_of}
+use Rattle.page_io.specs.Store as store
+use Rattle.page_io.specs.Answers.{HasDeviceCause}
+use Rattle.page_io.specs.Meaning.{ImageStandsFor}
+use Rattle.page_io.specs.declared.store.PageStore.{Ghosts}
+use Rattle.page_io.specs.declared.store.PageFault.{PageFault}
+use Rattle.page_io.specs.declared.store.PageFault.TheVariants as page
+use Rattle.dbm_file.specs.Faults.{fault_of, told}
+use Rattle.dbm_file.specs.Holding.{Holds, IsForgotten, StandsForEither, IsChanged}
+use Rattle.dbm_file.specs.Staging.{IsChangeAnswer}
+use Rattle.dbm_file.specs.Database.{store_of, meta_of, pages_of, error_of, handle_of}
+use Rattle.dbm_file.specs.Answers.{MayBeLeft, StandsForSome, Survives, IsStep, Keeps}
+use Rattle.dbm_file.specs.Trying.{with_fault, with_error_of, IsRead}
+use Rattle.dbm_file.specs.declared.fault.Fault.{Fault}
+use Rattle.dbm_file.specs.declared.fault.Fault.TheVariants.{Device, Broken}
+use Rattle.dbm_file.specs.declared.database.Database.{Database}
+use Rattle.dbm_file.proofs.ReadSteps.{kept_first, same_parts, still_meta, still_limit, still_usable, still_holds, still_survives, flagged_is}
+
+-- how a change of the file ended
+pub record IsEnded {S : Type 0} (s : Ghosts S) (old new : Database S s) (result : Result (Unit {0}) PageFault) : Type 0 where
+  pub ok : OnOk result (pages_of new ≡ record (pages_of old) { end = (pages_of new).end })
+  pub err : IfErr result (λ e. IsForgotten (pages_of old) (pages_of new) e × (meta_of new ≡ meta_of old))
+  pub limit : (meta_of new).limit ≡ (meta_of old).limit
+  pub error_is : new.error ≡ old.error
+  pub cause : HasDeviceCause (s.faults (store_of old)) (s.faults (store_of new)) result
+  pub answer : IsChangeAnswer (pages_of old) result
+
+-- and what it makes of a file that stood for the map
+pub record Turns {S : Type 0} (s : Ghosts S) (old new : Database S s) (map changed : Contents) (result : Result (Unit {0}) PageFault) : Type 0 where
+  pub exact : IsChanged s (store_of new) (meta_of new) map changed result
+  pub any_moment : LeavesOnly s.moment s.settled_since (store_of old) (store_of new) (StandsForEither map changed (meta_of old).limit)
+  pub unchanged : OnErr result ((pages_of new).usable ≡ true → LeavesOnly s.moment s.settled_since (store_of old) (store_of new) (λ settled. ImageStandsFor settled map (meta_of old).limit))
+  pub whole : IsErrOf result page.Damaged → ⊥
+  pub no_room : IsErrOf result page.NoRoom → (pages_of old).capacity < 2 * ((pages_of old).end + (meta_of old).pairs) + 8
+
+-- faults of a later part are faults of the whole
+more_later : (first mid last : ℕ) → first ≤ mid → MoreFaults mid last → MoreFaults first last
+more_later first mid last le more = omega (arith, le, more)
+
+-- What is known when a change begins: the call asks for it, after no more than a read. `only` is the store's law `only_committed`.
+pub record IsAsked {S : Type 0} (s : Ghosts S) (old mid : Database S s) (map changed : Contents) (call : model.Call) (said : model.Reply) : Type 0 where
+  pub read : IsRead old mid
+  pub usable : (pages_of old).usable ≡ true
+  pub honest : s.honest (store_of old)
+  pub holds : Holds s (store_of old) (meta_of old) map
+  pub only : (x : Settled) → s.settles_to (store_of old) x → x ≡ file_of (s.committed (store_of old))
+  pub falls : case_of (handle_of old map).state call ≡ Changes said changed
+
+module _ {S : Type 0} (s : Ghosts S) {old mid : Database S s} {map changed : Contents} {call : model.Call} {said : model.Reply} (asked : IsAsked s old mid map changed call said) where
+  pub mid_honest : s.honest (store_of mid)
+  mid_honest = asked.read.reads.stages_only.honesty.1 asked.honest
+
+  pub mid_usable : (pages_of mid).usable ≡ true
+  mid_usable = still_usable s old mid asked.read ∙ asked.usable
+
+  pub mid_holds : Holds s (store_of mid) (meta_of mid) map
+  mid_holds = still_holds s old mid map asked.read asked.honest asked.holds
+
+  mid_capacity : (pages_of mid).capacity ≡ (pages_of old).capacity
+  mid_capacity = ap (λ (st : store.State). st.capacity) asked.read.reads.same
+
+  mid_end : (pages_of mid).end ≡ (pages_of old).end
+  mid_end = ap (λ (st : store.State). st.end) asked.read.reads.same
+
+  abbrev before : Handle
+  before = handle_of old map
+
+  module _ (new : Database S s) where
+    stands_still : (x : Settled) (m : Contents) → ImageStandsFor x m (meta_of mid).limit → ImageStandsFor x m (meta_of old).limit
+    stands_still x m is = subst (λ (n : ℕ). ImageStandsFor x m n) (still_limit s old mid asked.read) is
+
+    -- what a stop leaves is one of the two maps
+    survives_change : (Left : Contents → Type 0) → Left map → Left changed → LeavesOnly s.moment s.settled_since (store_of mid) (store_of new) (StandsForEither map changed (meta_of mid).limit) → Survives old new Left
+    survives_change Left left also change =
+        followed_by s.moment s.settled_since (store_of old) (store_of mid) (store_of new) (StandsForSome Left (meta_of old).limit) (StandsForEither map changed (meta_of mid).limit)
+        (still_survives s old mid map asked.read asked.honest asked.holds asked.only Left left) change
+        (λ x. ⊎_elim (λ is. (map, left, stands_still x map is)) (λ is. (changed, also, stands_still x changed is)))
+
+    pub changed_step : IsEnded s mid new (Ok tt) → Turns s mid new map changed (Ok tt) → IsStep old new map call said
+    changed_step ended turns =
+        let usable_is = ap (λ (st : store.State). st.usable) ended.ok ∙ still_usable s old mid asked.read in
+        record {
+          left = changed;
+          step = record {
+            counts = omega (arith, asked.read.reads.stages_only.later, ended.cause.later);
+            answers = inl (subst (λ (c : Case). Answers before.state c said (handle_of new changed).state) (sym asked.falls)
+                (refl, same_parts changed _ _ _ _ _ _ (ended.limit ∙ still_limit s old mid asked.read) (ap (λ (o : Option Fault). option_map fault_of o) (ended.error_is ∙ asked.read.error_is)) usable_is));
+          };
+          holds = λ usable. turns.exact;
+          survives = λ usable. survives_change (MayBeLeft before (handle_of new changed) call) (inl refl) (inr (inl refl)) turns.any_moment;
+        }
+
+    module _ (e : PageFault) (ended : IsEnded s mid new (Err e)) (turns : Turns s mid new map changed (Err e)) where
+      abbrev after : Handle
+      after = handle_of (with_fault new (told e)) map
+
+      abbrev reply : model.Reply
+      reply = model.Refused (fault_of (told e))
+
+      error_is : error_of (with_fault new (told e)) ≡ first_fault (error_of old) (fault_of (told e))
+      error_is = ap (λ (o : Option Fault). option_map fault_of (cond (is_some o) o (Some (told e)))) (ended.error_is ∙ asked.read.error_is) ∙ kept_first old.error (told e)
+
+      -- the store is as usable as before
+      module _ (same : (pages_of new).usable ≡ (pages_of old).usable) where
+        state_is : after.state ≡ flagged (fault_of (told e)) before.state
+        state_is = flagged_is s old new map (told e) (ended.limit ∙ still_limit s old mid asked.read) (ended.error_is ∙ asked.read.error_is) same
+
+        short : e ≡ page.NoRoom → before.is_short ≡ true
+        short is = lt-ltb _ _ (omega (arith, turns.no_room (ap Err is), mid_capacity, mid_end, ap (λ (m : Meta). m.pairs) (still_meta s old mid asked.read)))
+
+        suffers : (e ≡ page.Broken) ⊎ ((e ≡ page.Memory) ⊎ ((e ≡ page.NoRoom) ⊎ ((e ≡ page.Damaged) ⊎ (e ≡ page.Device)))) → Suffers before (Changes said changed) reply after
+        suffers (inl is) = let broken = ended.answer.broken (ap Err is) in let was = mid_usable in absurd (cc)
+        suffers (inr (inl is)) = inr (inr (inl (ap (λ (f : PageFault). model.Refused (fault_of (told f))) is, state_is ∙ ap (λ (f : PageFault). flagged (fault_of (told f)) before.state) is)))
+        suffers (inr (inr (inl is))) = inr (inr (inr (ap (λ (f : PageFault). model.Refused (fault_of (told f))) is, short is, state_is ∙ ap (λ (f : PageFault). flagged (fault_of (told f)) before.state) is)))
+        suffers (inr (inr (inr (inl is)))) = absurd (turns.whole (ap Err is))
+        suffers (inr (inr (inr (inr is)))) =
+            inl (ap (λ (f : PageFault). model.Refused (fault_of (told f))) is, more_later _ _ _ asked.read.reads.stages_only.later (ended.cause.fault (ap Err is)), state_is ∙ ap (λ (f : PageFault). flagged (fault_of (told f)) before.state) is)
+
+        unchanged_step : IsStep old (with_fault new (told e)) map call reply
+        unchanged_step = record {
+          left = map;
+          step = record {
+            counts = omega (arith, asked.read.reads.stages_only.later, ended.cause.later);
+            answers = inr (subst (λ (c : Case). Suffers before c reply after) (sym asked.falls) (suffers ended.answer.only));
+          };
+          holds = λ is. turns.exact is;
+          survives = λ was.
+              followed_by s.moment s.settled_since (store_of old) (store_of mid) (store_of new) (StandsForSome (MayBeLeft before after call) (meta_of old).limit) (λ x. ImageStandsFor x map (meta_of mid).limit)
+              (still_survives s old mid map asked.read asked.honest asked.holds asked.only (MayBeLeft before after call) (inl refl)) (turns.unchanged (same ∙ asked.usable))
+              (λ x is. (map, inl refl, stands_still x map is));
+        }
+
+      -- the device broke it
+      broken_step : e ≡ page.Device → (pages_of new).usable ≡ false → IsStep old (with_fault new (told e)) map call reply
+      broken_step is broken = record {
+        left = map;
+        step = record {
+          counts = omega (arith, asked.read.reads.stages_only.later, ended.cause.later);
+          answers = inr (subst (λ (c : Case). Suffers before c reply after) (sym asked.falls) (inr (inl (
+            ap (λ (f : PageFault). model.Refused (fault_of (told f))) is,
+            more_later _ _ _ asked.read.reads.stages_only.later (ended.cause.fault (ap Err is)),
+            map,
+            inl refl,
+            same_parts map _ _ _ _ _ _ (ended.limit ∙ still_limit s old mid asked.read) (error_is ∙ ap (λ (f : PageFault). first_fault (error_of old) (fault_of (told f))) is) broken,
+          ))));
+        };
+        holds = λ now. turns.exact now;
+        survives = λ was. survives_change (MayBeLeft before after call) (inl refl) (inr (inr (broken, (said, asked.falls)))) turns.any_moment;
+      }
+
+      pub refused_step : IsStep old (with_fault new (told e)) map call reply
+      refused_step = ⊎_elim (λ same. unchanged_step (ap (λ (st : store.State). st.usable) same ∙ still_usable s old mid asked.read)) (λ broke. broken_step broke.0 (ap (λ (st : store.State). st.usable) broke.1)) ended.err.0
+
+-- a fault of the device is told as one, and so on
+told_device : (e : PageFault) → told e ≡ Device → e ≡ page.Device
+told_device page.Memory is = absurd (let x = is in cc)
+told_device page.Device is = refl
+told_device page.Broken is = absurd (let x = is in cc)
+told_device page.ReadOnly is = absurd (let x = is in cc)
+told_device page.NoRoom is = absurd (let x = is in cc)
+told_device page.Damaged is = absurd (let x = is in cc)
+
+told_broken : (e : PageFault) → told e ≡ Broken → e ≡ page.Broken
+told_broken page.Memory is = absurd (let x = is in cc)
+told_broken page.Device is = absurd (let x = is in cc)
+told_broken page.Broken is = refl
+told_broken page.ReadOnly is = absurd (let x = is in cc)
+told_broken page.NoRoom is = absurd (let x = is in cc)
+told_broken page.Damaged is = absurd (let x = is in cc)
+
+-- what a refused change leaves on any device
+module _ {S : Type 0} (s : Ghosts S) (old mid new : Database S s) (read : IsRead old mid) (usable : (pages_of old).usable ≡ true) (e : PageFault) (ended : IsEnded s mid new (Err e)) (honesty : s.honest (store_of new) ↔ s.honest (store_of mid)) where
+  sound : e ≡ page.Broken → ⊥
+  sound is = let broken = ended.answer.broken (ap Err is) in let was = still_usable s old mid read ∙ usable in absurd (cc)
+
+  -- the store is as before, but for what was forgotten
+  record IsAsBefore : Type 0 where
+    capacity : (pages_of new).capacity ≡ (pages_of old).capacity
+    end : (pages_of new).end ≡ (pages_of old).end
+    breaks : ((pages_of new).usable ≡ (pages_of old).usable) ⊎ ((e ≡ page.Device) × ((pages_of new).usable ≡ false))
+
+  as_before : IsForgotten (pages_of mid) (pages_of new) e → IsAsBefore
+  as_before (inl same) = record {
+    capacity = ap (λ (st : store.State). st.capacity) same ∙ ap (λ (st : store.State). st.capacity) read.reads.same;
+    end = ap (λ (st : store.State). st.end) same ∙ ap (λ (st : store.State). st.end) read.reads.same;
+    breaks = inl (ap (λ (st : store.State). st.usable) same ∙ still_usable s old mid read);
+  }
+  as_before (inr broke) = record {
+    capacity = ap (λ (st : store.State). st.capacity) broke.1 ∙ ap (λ (st : store.State). st.capacity) read.reads.same;
+    end = ap (λ (st : store.State). st.end) broke.1 ∙ ap (λ (st : store.State). st.end) read.reads.same;
+    breaks = inr (broke.0, ap (λ (st : store.State). st.usable) broke.1);
+  }
+
+  refused_keeps : (T : Type 0) → Keeps {T = T} old (with_fault new (told e)) (Err (told e))
+  refused_keeps T =
+      let was = as_before ended.err.0 in
+      record {
+        goes = record {
+          honesty = (λ h. read.reads.stages_only.honesty.0 (honesty.0 h), λ h. honesty.1 (read.reads.stages_only.honesty.1 h));
+          later = omega (arith, read.reads.stages_only.later, ended.cause.later);
+          limit = ended.limit ∙ still_limit s old mid read;
+          capacity = was.capacity;
+          still = λ broken. absurd (let x = broken in cc);
+        };
+        fault = λ is. more_later _ _ _ read.reads.stages_only.later (ended.cause.fault (ap Err (told_device e (let x = is in cc))));
+        no_error = tt;
+        error = ap (λ (o : Option Fault). option_map fault_of (cond (is_some o) o (Some (told e)))) (ended.error_is ∙ read.error_is) ∙ kept_first old.error (told e);
+        refused = (ended.err.1 ∙ still_meta s old mid read, was.end);
+        breaks = ⊎_elim (λ same. inl same) (λ broke. inr (ap Err (ap told broke.0), broke.1)) was.breaks;
+        broken = (λ is. absurd (sound (told_broken e (let x = is in cc))), λ broken. absurd (let x = broken in cc));
+      }
+
+  -- as a `?` answers it
+  pub told_keeps : {T : Type 0} (r : Result T Fault) → IsErrAnd r (λ fault. fault ≡ told e) → Keeps old (with_error_of new r) r
+  told_keeps {T} (Ok value) is = absurd is
+  told_keeps {T} (Err fault) is = subst (λ (f : Fault). Keeps {T = T} old (with_fault new f) (Err f)) (sym is) (refused_keeps T)

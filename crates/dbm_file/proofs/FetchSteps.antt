@@ -1,0 +1,142 @@
+-- A fetch, as a step.
+use Rattle.std.proofs.Common.{◌≡◌, ◌⊎◌, inl, inr, IfOk, IfErr, IfSome, ℕ, ◌<◌, ◌≤◌, zero, suc, List, [], ◌∷◌, length, true, false, cond, is_some, Option, Some, None, Result, Ok, Err, IsErrOf, slice_index_or, refl, sym, ◌∙◌, ap, subst, arith}
+use Rattle.std.specs.Borrow.{Bor}
+use Rattle.std.specs.List.{HoldsAt}
+use Rattle.std.specs.Option.{option_map}
+use Rattle.std.specs.FinMap.{get}
+use Rattle.sect_dev.specs.Device.{MoreFaults}
+use Rattle.dbm_model.specs.Calls as model
+use Rattle.dbm_model.specs.Pairs.{Key, Pair, Contents}
+use Rattle.dbm_model.specs.Slots.{taken}
+use Rattle.dbm_model.specs.Steps.{Case, Finds, Suffers, fetched}
+use Rattle.dbm_model.specs.Valid.{IsMeta}
+use Rattle.page_io.specs.Store.{Settled, file_of}
+use Rattle.page_io.specs.Answers.{HasDeviceCause}
+use Rattle.page_io.specs.declared.store.PageStore.{Ghosts}
+use Rattle.page_io.specs.declared.store.PageFault.{PageFault}
+use Rattle.page_io.specs.declared.store.PageFault.TheVariants as page
+use Rattle.bucket_chain.specs.Answers.{IsWalkAnswer}
+use Rattle.bucket_chain.specs.declared.place.Place.{Place}
+use Rattle.slot_page.specs.Contents.{pairs_of}
+use Rattle.dbm_file.specs.Calls.{fetch_reply}
+use Rattle.dbm_file.specs.Faults.{told}
+use Rattle.dbm_file.specs.Holding.{Holds}
+use Rattle.dbm_file.specs.Looking.{IsHeld, IsFound}
+use Rattle.dbm_file.specs.Fetching.{IsFetched}
+use Rattle.dbm_file.specs.Database.{store_of, meta_of, pages_of, handle_of}
+use Rattle.dbm_file.specs.Trying.{with_fault, IsRead}
+use Rattle.dbm_file.specs.declared.fault.Fault.{Fault}
+use Rattle.dbm_file.specs.declared.fault.Fault.TheVariants.{Device, Broken, Damaged}
+use Rattle.dbm_file.specs.declared.database.Database.{Database}
+use Rattle.dbm_file.proofs.Cases.{broken_fetch, fetch_rule, fetch_fails}
+use Rattle.dbm_file.proofs.ReadSteps.{found_step, walk_failed_step, broken_step, read_keeps, refused_keeps, broken_keeps}
+
+small_at : (pairs : List Pair) (i : ℕ) (d : Pair) → i < length pairs → taken pairs ≤ 2032 → length (slice_index_or pairs i d).1 ≤ 2026
+small_at [] i d lt fits = absurd (omega (arith, lt))
+small_at (pair ∷ pairs) zero d lt fits = omega (arith, fits)
+small_at (pair ∷ pairs) (suc i) d lt fits = small_at pairs i d (omega (arith, lt)) (omega (arith, fits))
+
+-- a content that was found in a page is short
+pub short_content : (key content found : List ℕ) (bytes : List ℕ) (place : Option Place) (at : Place) → place ≡ Some at → IfSome place (λ p. IsHeld key bytes p.slot) → HoldsAt (λ pair. pair ≡ (found, content)) (pairs_of bytes) at.slot
+    → length content ≤ 2026
+short_content key content found bytes place at is held read =
+    let here = subst (λ (o : Option Place). IfSome o (λ p. IsHeld key bytes p.slot)) is held in
+    omega (arith, small_at (pairs_of bytes) at.slot (found, content) here.has.0 here.page.sound.fits, ap (λ (pair : Pair). length pair.1) (read (found, content)))
+
+-- it is that of the key
+pub same_content : (key : Key) (old : Option (List ℕ)) (bytes : List ℕ) (place : Option Place) (at : Place) (pair : Bor (List ℕ) × Bor (List ℕ)) → place ≡ Some at → IsFound key old bytes place
+    → HoldsAt (λ p. p ≡ (pair.0.now, pair.1.now)) (pairs_of bytes) at.slot → option_map (λ (b : Bor (List ℕ)). b.now) (Some pair.1) ≡ old
+same_content key None bytes place at pair some is read = absurd (let e = sym some ∙ is in cc)
+same_content key (Some content) bytes None at pair some is read = absurd is
+same_content key (Some content) bytes (Some found) at pair some is read =
+    let same : at ≡ found = let e = some in cc in
+    ap Some (ap (λ (p : Pair). p.1) (sym (read (key, content)) ∙ ap (λ (p : Place). slice_index_or (pairs_of bytes) p.slot (key, content)) same ∙ is (key, content)))
+
+-- and where no place was found, it has none
+pub no_content : (key : Key) (old : Option (List ℕ)) (bytes : List ℕ) (place : Option Place) → place ≡ None → IsFound key old bytes place → None ≡ old
+no_content key None bytes place none is = refl
+no_content key (Some content) bytes None none is = absurd is
+no_content key (Some content) bytes (Some found) none is = absurd (let e = none in cc)
+
+finds : (found : Option (Bor (List ℕ))) → fetched (option_map (λ s. s.now) found) ≡ Finds (fetch_reply (Ok found))
+finds None = refl
+finds (Some slice) = refl
+
+-- a fetch that was answered
+pub fetched_well : {S : Type 0} (s : Ghosts S) (old new : Database S s) (key : Key) (found : Option (Bor (List ℕ))) → IsRead old new → (pages_of old).usable ≡ true
+    → (s.honest (store_of old) → (x : Settled) → s.settles_to (store_of old) x → x ≡ file_of (s.committed (store_of old)))
+    → (s.honest (store_of old) → (map : Contents) → Holds s (store_of old) (meta_of old) map → option_map (λ (b : Bor (List ℕ)). b.now) found ≡ get map key)
+    → IsFetched old key (Ok found) new
+fetched_well s old new key found read usable only is = record {
+  step = λ honest map held. found_step s old new map (model.Fetch key) read honest (held usable) (only honest) (fetch_reply (Ok found))
+      (fetch_rule (handle_of old map).state key (option_map (λ b. b.now) found) usable (sym (is honest map (held usable))) ∙ finds found);
+  keeps = read_keeps s old new read usable found;
+}
+
+-- a fetch that was refused, and whose fault was then kept as the first one
+module _ {S : Type 0} (s : Ghosts S) (db : Database S s) (key : Key) (idle : (pages_of db).staged ≡ []) (writable : (pages_of db).writable ≡ true) (valid : IsMeta (meta_of db)) where
+  abbrev kept_error : Option Fault → Database S s
+  kept_error e = record db { error = e; idle = idle; writable = writable; valid = valid }
+
+  module _ (error : Option Fault) (fault : Fault) (flag : error ≡ cond (is_some db.error) db.error (Some fault)) (r : Result (Option (Bor (List ℕ))) Fault) (is : r ≡ Err fault) where
+    flagged_fetch : (old : Database S s) → IsFetched old key (Err fault) (with_fault db fault) → IsFetched old key r (kept_error error)
+    flagged_fetch old f =
+        subst (λ (x : Result (Option (Bor (List ℕ))) Fault). IsFetched old key x (kept_error error)) (sym is)
+        (subst (λ (e : Option Fault). IsFetched old key (Err fault) (kept_error e)) (sym flag)
+        record {
+          step = λ honest map held.
+              let step = f.step honest map held in
+              record { left = step.left; step = step.step; holds = λ usable. step.holds usable; survives = λ usable. step.survives usable };
+          keeps = record {
+            goes = record { honesty = f.keeps.goes.honesty; later = f.keeps.goes.later; limit = f.keeps.goes.limit; capacity = f.keeps.goes.capacity; still = λ broken. f.keeps.goes.still broken };
+            fault = λ e. f.keeps.fault e;
+            no_error = f.keeps.no_error;
+            error = f.keeps.error;
+            refused = f.keeps.refused;
+            breaks = f.keeps.breaks;
+            broken = f.keeps.broken;
+          };
+        })
+
+    -- the database was broken
+    pub fetch_broken : fault ≡ Broken → (pages_of db).usable ≡ false → IsFetched db key r (kept_error error)
+    fetch_broken told_so broken = flagged_fetch db (subst (λ (f : Fault). IsFetched db key (Err f) (with_fault db f)) (sym told_so) record {
+      step = λ honest map held. broken_step s db map (model.Fetch key) broken (broken_fetch (handle_of db map).state key broken);
+      keeps = broken_keeps (Option (Bor (List ℕ))) s db broken;
+    })
+
+    -- the device failed
+    module _ (old : Database S s) (e : PageFault) (read : IsRead old db) (told_so : fault ≡ told e) (usable : (pages_of old).usable ≡ true) (answer : IsWalkAnswer {T = Option Place} (pages_of old) (Err e))
+        (cause : HasDeviceCause {T = Option Place} (s.faults (store_of old)) (s.faults (store_of db)) (Err e)) where
+      more : (e ≡ page.Broken) ⊎ ((e ≡ page.Damaged) ⊎ (e ≡ page.Device)) → told e ≡ Device → MoreFaults (s.faults (store_of old)) (s.faults (store_of db))
+      more (inl is) same = absurd (let x = sym same ∙ ap told is in cc)
+      more (inr (inl is)) same = absurd (let x = sym same ∙ ap told is in cc)
+      more (inr (inr is)) same = cause.fault (ap Err is)
+
+      sound : (e ≡ page.Broken) ⊎ ((e ≡ page.Damaged) ⊎ (e ≡ page.Device)) → told e ≡ Broken → ⊥
+      sound (inl is) same = let broken = answer.broken (ap Err is) in absurd (let x = broken in cc)
+      sound (inr (inl is)) same = absurd (let x = sym same ∙ ap told is in cc)
+      sound (inr (inr is)) same = absurd (let x = sym same ∙ ap told is in cc)
+
+      pub fetch_failed : (s.honest (store_of old) → (x : Settled) → s.settles_to (store_of old) x → x ≡ file_of (s.committed (store_of old)))
+          → (s.honest (store_of old) → (map : Contents) → Holds s (store_of old) (meta_of old) map → IsErrOf {T = Option Place} (Err e) page.Damaged → ⊥)
+          → IsFetched old key r (kept_error error)
+      fetch_failed only whole = flagged_fetch old (subst (λ (f : Fault). IsFetched old key (Err f) (with_fault db f)) (sym told_so) record {
+        step = λ honest map held.
+            let falls = fetch_rule (handle_of old map).state key (get map key) usable refl in
+            walk_failed_step s old db map (model.Fetch key) read honest (held usable) (only honest) (Option Place) e usable answer cause (whole honest map (held usable))
+            (λ reply after fails. subst (λ (rule : Case). Suffers (handle_of old map) rule reply after) (sym falls) (fetch_fails (handle_of old map) reply after fails (get map key)));
+        keeps = refused_keeps s old db read usable (Option (Bor (List ℕ))) (told e) (more answer.only) (sound answer.only);
+      })
+
+-- what a refused fetch answers
+pub only_these : (r : Result (Option (Bor (List ℕ))) Fault) (fault : Fault) → r ≡ Err fault → (fault ≡ Broken) ⊎ ((fault ≡ Device) ⊎ (fault ≡ Damaged)) → IfErr r (λ e. (e ≡ Broken) ⊎ ((e ≡ Device) ⊎ (e ≡ Damaged)))
+only_these r fault is one = subst (λ (x : Result (Option (Bor (List ℕ))) Fault). IfErr x (λ e. (e ≡ Broken) ⊎ ((e ≡ Device) ⊎ (e ≡ Damaged)))) (sym is) one
+
+pub lends_nothing : (r : Result (Option (Bor (List ℕ))) Fault) (fault : Fault) → r ≡ Err fault → IfOk r (λ found. IfSome found (λ content. length content.now ≤ 2026))
+lends_nothing r fault is = subst (λ (x : Result (Option (Bor (List ℕ))) Fault). IfOk x (λ found. IfSome found (λ content. length content.now ≤ 2026))) (sym is) tt
+
+pub walk_faults : (e : PageFault) (fault : Fault) → fault ≡ told e → (e ≡ page.Broken) ⊎ ((e ≡ page.Damaged) ⊎ (e ≡ page.Device)) → (fault ≡ Broken) ⊎ ((fault ≡ Device) ⊎ (fault ≡ Damaged))
+walk_faults e fault told_so (inl is) = inl (told_so ∙ ap told is)
+walk_faults e fault told_so (inr (inl is)) = inr (inr (told_so ∙ ap told is))
+walk_faults e fault told_so (inr (inr is)) = inr (inl (told_so ∙ ap told is))

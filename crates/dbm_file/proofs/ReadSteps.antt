@@ -1,0 +1,222 @@
+-- Calls that read pages at most, as steps.
+use Rattle.std.proofs.Common.{◌≡◌, ◌⊎◌, ◌↔◌, inl, inr, ℕ, Bool, true, false, cond, Option, Some, None, is_some, Ok, Err, IsErrOf, refl, sym, ◌∙◌, ap, subst, arith}
+use Rattle.std.specs.Prelude.{IsTrue}
+use Rattle.std.specs.Option.{option_map}
+use Rattle.sect_dev.specs.Device.{MoreFaults}
+use Rattle.sect_dev.specs.Moments.{weaker}
+use Rattle.dbm_model.specs.Calls as model
+use Rattle.dbm_model.specs.Pages.{Meta, MetaPage}
+use Rattle.dbm_model.specs.Pairs.{Contents}
+use Rattle.dbm_model.specs.States.{State, Handle, first_fault, flagged}
+use Rattle.dbm_model.specs.Steps.{Case, Refuses, Declines, Finds, case_of, Answers, Suffers, Fails, Step}
+use Rattle.dbm_model.specs.Meaning.{said_by}
+use Rattle.page_io.specs.Store.{Pages, Settled, file_of, page_of}
+use Rattle.page_io.specs.Store as store
+use Rattle.page_io.specs.Meaning.{FileStandsFor, ImageStandsFor}
+use Rattle.page_io.specs.Views.{ReadsOnly}
+use Rattle.page_io.specs.Answers.{HasDeviceCause}
+use Rattle.page_io.specs.declared.page.Page.{Page}
+use Rattle.page_io.specs.declared.store.PageStore.{Ghosts}
+use Rattle.page_io.specs.declared.store.PageFault.{PageFault}
+use Rattle.page_io.specs.declared.store.PageFault.TheVariants as page
+use Rattle.seg_table.specs.MetaPages.{says}
+use Rattle.bucket_chain.specs.Answers.{IsWalkAnswer}
+use Rattle.dbm_file.specs.Faults.{fault_of, told}
+use Rattle.dbm_file.specs.Holding.{Holds}
+use Rattle.dbm_file.specs.Database.{store_of, meta_of, pages_of, handle_of}
+use Rattle.dbm_file.specs.Answers.{MayBeLeft, StandsForSome, Survives, IsStep, Goes, Keeps}
+use Rattle.bucket_chain.proofs.ReadPages.{reads_none}
+use Rattle.dbm_file.specs.Trying.{with_fault, IsRead}
+use Rattle.dbm_file.specs.declared.fault.Fault.{Fault}
+use Rattle.dbm_file.specs.declared.fault.Fault.TheVariants.{Device, Broken}
+use Rattle.dbm_file.specs.declared.database.Database.{Database}
+
+-- the flag of the program is that of the definitions
+pub kept_first : (old : Option Fault) (fault : Fault) → option_map fault_of (cond (is_some old) old (Some fault)) ≡ first_fault (option_map fault_of old) (fault_of fault)
+kept_first None fault = refl
+kept_first (Some earlier) fault = refl
+
+abbrev state_with : Contents → ℕ → Option model.Fault → Bool → State
+state_with map limit error usable = record { map = map; limit = limit; error = error; pass = None; writable = true; usable = usable }
+
+pub same_parts : (map : Contents) (limit limit' : ℕ) (error error' : Option model.Fault) (usable usable' : Bool) → limit ≡ limit' → error ≡ error' → usable ≡ usable' → state_with map limit error usable ≡ state_with map limit' error' usable'
+same_parts map limit limit' error error' usable usable' l e u =
+    ap (λ (n : ℕ). state_with map n error usable) l ∙ ap (λ (f : Option model.Fault). state_with map limit' f usable) e ∙ ap (state_with map limit' error') u
+
+-- with no call of the store; `only` is its law `only_now`
+pub no_read : {S : Type 0} (s : Ghosts S) (db : Database S s) → ((y : Settled) → s.honest (store_of db) → s.settled_since (store_of db) (s.moment (store_of db)) y → s.settles_to (store_of db) y) → IsRead db db
+no_read s db only = record { reads = reads_none s (store_of db) only; meta_is = refl; error_is = refl }
+
+-- with another store, of which pages were read, and another page
+abbrev pub after_reads : {S : Type 0} (s : Ghosts S) (db : Database S s) (read : S) (page : Page) → ReadsOnly s (store_of db) read → Database S s
+after_reads s db read page reads = record db {
+  store = read;
+  page = page;
+  idle = ap (λ (st : store.State). st.staged) reads.same ∙ db.idle;
+  writable = ap (λ (st : store.State). st.writable) reads.same ∙ db.writable;
+}
+
+-- a store that isn't broken is usable
+pub not_broken : (test usable : Bool) → IsTrue test ↔ (usable ≡ false) → test ≡ false → usable ≡ true
+not_broken test true is told = refl
+not_broken test false is told = let broken = is.1 refl in cc
+
+-- what a read leaves
+module _ {S : Type 0} (s : Ghosts S) (old new : Database S s) (read : IsRead old new) where
+  pub still_meta : meta_of new ≡ meta_of old
+  still_meta = ap says read.meta_is
+
+  pub still_limit : (meta_of new).limit ≡ (meta_of old).limit
+  still_limit = ap (λ (m : Meta). m.limit) still_meta
+
+  pub still_usable : (pages_of new).usable ≡ (pages_of old).usable
+  still_usable = ap (λ (st : store.State). st.usable) read.reads.same
+
+module _ {S : Type 0} (s : Ghosts S) (old new : Database S s) (map : Contents) where
+  -- the state of a database with this fault
+  pub flagged_is : (fault : Fault) → (meta_of new).limit ≡ (meta_of old).limit → new.error ≡ old.error → (pages_of new).usable ≡ (pages_of old).usable
+      → (handle_of (with_fault new fault) map).state ≡ flagged (fault_of fault) (handle_of old map).state
+  flagged_is fault limit error usable =
+      same_parts map _ _ _ _ _ _ limit (ap (λ (e : Option Fault). option_map fault_of (cond (is_some e) e (Some fault))) error ∙ kept_first old.error fault) usable
+
+  pub same_state : (meta_of new).limit ≡ (meta_of old).limit → new.error ≡ old.error → (pages_of new).usable ≡ (pages_of old).usable → (handle_of new map).state ≡ (handle_of old map).state
+  same_state limit error usable = same_parts map _ _ _ _ _ _ limit (ap (λ (e : Option Fault). option_map fault_of e) error) usable
+
+  module _ (read : IsRead old new) where
+    -- the committed pages and the meta page stay
+    pub still_holds : s.honest (store_of old) → Holds s (store_of old) (meta_of old) map → Holds s (store_of new) (meta_of new) map
+    still_holds honest h =
+        let pages = sym (read.reads.stages_only.kept honest).committed in
+        let meta = sym (still_meta s old new read) in
+        record {
+          stands = subst (λ (m : Meta). FileStandsFor (s.committed (store_of new)) map m.limit) meta (subst (λ (ps : Pages). FileStandsFor ps map (meta_of old).limit) pages h.stands);
+          meta_is = subst (λ (m : Meta). said_by (page_of (s.committed (store_of new))) 1 ≡ MetaPage m) meta (subst (λ (ps : Pages). said_by (page_of ps) 1 ≡ MetaPage (meta_of old)) pages h.meta_is);
+        }
+
+    pub still_survives : s.honest (store_of old) → Holds s (store_of old) (meta_of old) map → ((x : Settled) → s.settles_to (store_of old) x → x ≡ file_of (s.committed (store_of old)))
+        → (Left : Contents → Type 0) → Left map → Survives old new Left
+    still_survives honest h only Left left =
+        weaker s.moment s.settled_since (store_of old) (store_of new) (StandsForSome Left (meta_of old).limit) (s.settles_to (store_of old)) (read.reads.stages_only.kept honest).any_moment
+        (λ x is. (map, left, subst (λ (y : Settled). ImageStandsFor y map (meta_of old).limit) (sym (only x is)) h.stands))
+
+module _ {S : Type 0} (s : Ghosts S) (old new : Database S s) (map : Contents) (call : model.Call) (read : IsRead old new) (honest : s.honest (store_of old)) (h : Holds s (store_of old) (meta_of old) map)
+    (only : (x : Settled) → s.settles_to (store_of old) x → x ≡ file_of (s.committed (store_of old))) where
+  abbrev before : Handle
+  before = handle_of old map
+
+  pub found_step : (reply : model.Reply) → case_of before.state call ≡ Finds reply → IsStep old new map call reply
+  found_step reply falls = record {
+    left = map;
+    step = record {
+      counts = read.reads.stages_only.later;
+      answers = inl (subst (λ (c : Case). Answers before.state c reply (handle_of new map).state) (sym falls)
+          (refl, same_state s old new map (still_limit s old new read) read.error_is (still_usable s old new read)));
+    };
+    holds = λ usable. still_holds s old new map read honest h;
+    survives = λ usable. still_survives s old new map read honest h only (MayBeLeft before (handle_of new map) call) (inl refl);
+  }
+
+  module _ (fault : Fault) where
+    abbrev refused : Database S s
+    refused = with_fault new fault
+
+    refused_state : (handle_of refused map).state ≡ flagged (fault_of fault) before.state
+    refused_state = flagged_is s old new map fault (still_limit s old new read) read.error_is (still_usable s old new read)
+
+    refused_step : (Step before call (model.Refused (fault_of fault)) (handle_of refused map)) → IsStep old refused map call (model.Refused (fault_of fault))
+    refused_step step = record {
+      left = map;
+      step = step;
+      holds = λ usable. still_holds s old new map read honest h;
+      survives = λ usable. still_survives s old new map read honest h only (MayBeLeft before (handle_of refused map) call) (inl refl);
+    }
+
+    told_step : (rule : Case) → case_of before.state call ≡ rule → Answers before.state rule (model.Refused (fault_of fault)) (handle_of refused map).state → IsStep old refused map call (model.Refused (fault_of fault))
+    told_step rule falls is = refused_step record {
+      counts = read.reads.stages_only.later;
+      answers = inl (subst (λ (c : Case). Answers before.state c (model.Refused (fault_of fault)) (handle_of refused map).state) (sym falls) is);
+    }
+
+    pub rejected_step : case_of before.state call ≡ Refuses (fault_of fault) → IsStep old refused map call (model.Refused (fault_of fault))
+    rejected_step falls = told_step (Refuses (fault_of fault)) falls (refl, refused_state)
+
+    pub declined_step : case_of before.state call ≡ Declines (fault_of fault) → IsStep old refused map call (model.Refused (fault_of fault))
+    declined_step falls = told_step (Declines (fault_of fault)) falls (refl, refused_state)
+
+    pub failed_step : fault ≡ Device → MoreFaults (s.faults (store_of old)) (s.faults (store_of new))
+        → ((reply : model.Reply) (after : Handle) → Fails before reply after → Suffers before (case_of before.state call) reply after)
+        → IsStep old refused map call (model.Refused (fault_of fault))
+    failed_step is more may = refused_step record {
+      counts = read.reads.stages_only.later;
+      answers = inr (may (model.Refused (fault_of fault)) (handle_of refused map)
+          (ap (λ (f : Fault). model.Refused (fault_of f)) is, more, refused_state ∙ ap (λ (f : Fault). flagged (fault_of f) before.state) is));
+    }
+
+  -- where a walk through the pages failed, the device did
+  pub walk_failed_step : (T : Type 0) (e : PageFault) → (pages_of old).usable ≡ true → IsWalkAnswer {T = T} (pages_of old) (Err e) → HasDeviceCause {T = T} (s.faults (store_of old)) (s.faults (store_of new)) (Err e)
+      → (IsErrOf {T = T} (Err e) page.Damaged → ⊥) → ((reply : model.Reply) (after : Handle) → Fails before reply after → Suffers before (case_of before.state call) reply after)
+      → IsStep old (with_fault new (told e)) map call (model.Refused (fault_of (told e)))
+  walk_failed_step T e usable answer cause whole may = device answer.only
+    where
+      device : (e ≡ page.Broken) ⊎ ((e ≡ page.Damaged) ⊎ (e ≡ page.Device)) → IsStep old (with_fault new (told e)) map call (model.Refused (fault_of (told e)))
+      device (inl is) = let broken = answer.broken (ap Err is) in absurd (let x = broken in cc)
+      device (inr (inl is)) = absurd (whole (ap Err is))
+      device (inr (inr is)) = failed_step (told e) (ap told is) (cause.fault (ap Err is)) may
+
+-- what a broken database answers
+pub broken_step : {S : Type 0} (s : Ghosts S) (old : Database S s) (map : Contents) (call : model.Call) → (pages_of old).usable ≡ false
+    → case_of (handle_of old map).state call ≡ Refuses model.Broken → IsStep old (with_fault old Broken) map call (model.Refused model.Broken)
+broken_step s old map call broken falls = record {
+  left = map;
+  step = record {
+    counts = omega arith;
+    answers = inl (subst (λ (c : Case). Answers (handle_of old map).state c (model.Refused model.Broken) (handle_of (with_fault old Broken) map).state) (sym falls)
+        (refl, flagged_is s old old map Broken refl refl refl));
+  };
+  holds = λ usable. absurd (let e = usable in cc);
+  survives = λ usable. absurd (let e = usable in cc);
+}
+
+module _ {S : Type 0} (s : Ghosts S) (old new : Database S s) (read : IsRead old new) (usable : (pages_of old).usable ≡ true) where
+  read_goes : Goes old new
+  read_goes = record {
+    honesty = read.reads.stages_only.honesty;
+    later = read.reads.stages_only.later;
+    limit = still_limit s old new read;
+    capacity = ap (λ (st : store.State). st.capacity) read.reads.same;
+    still = λ broken. absurd (let e = broken in cc);
+  }
+
+  pub read_keeps : {T : Type 0} (value : T) → Keeps old new (Ok value)
+  read_keeps value = record {
+    goes = read_goes;
+    fault = λ is. absurd (let e = is in cc);
+    no_error = ap (λ (e : Option Fault). option_map fault_of e) read.error_is;
+    error = tt;
+    refused = tt;
+    breaks = inl (still_usable s old new read);
+    broken = (λ is. absurd (let e = is in cc), λ broken. absurd (let e = broken in cc));
+  }
+
+  pub refused_keeps : (T : Type 0) (fault : Fault) → (fault ≡ Device → MoreFaults (s.faults (store_of old)) (s.faults (store_of new))) → (fault ≡ Broken → ⊥)
+      → Keeps {T = T} old (with_fault new fault) (Err fault)
+  refused_keeps T fault more sound = record {
+    goes = record { honesty = read_goes.honesty; later = read_goes.later; limit = read_goes.limit; capacity = read_goes.capacity; still = λ broken. read_goes.still broken };
+    fault = λ is. more (let e = is in cc);
+    no_error = tt;
+    error = ap (λ (e : Option Fault). option_map fault_of (cond (is_some e) e (Some fault))) read.error_is ∙ kept_first old.error fault;
+    refused = (still_meta s old new read, ap (λ (st : store.State). st.end) read.reads.same);
+    breaks = inl (still_usable s old new read);
+    broken = (λ is. absurd (sound (let e = is in cc)), λ broken. absurd (let e = broken in cc));
+  }
+
+pub broken_keeps : {S : Type 0} (T : Type 0) (s : Ghosts S) (old : Database S s) → (pages_of old).usable ≡ false → Keeps {T = T} old (with_fault old Broken) (Err Broken)
+broken_keeps T s old broken = record {
+  goes = record { honesty = (λ h. h, λ h. h); later = omega arith; limit = refl; capacity = refl; still = λ is. refl };
+  fault = λ is. absurd (let e = is in cc);
+  no_error = tt;
+  error = kept_first old.error Broken;
+  refused = (refl, refl);
+  breaks = inl refl;
+  broken = (λ is. broken, λ is. refl);
+}

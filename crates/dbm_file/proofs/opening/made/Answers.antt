@@ -1,0 +1,52 @@
+use Rattle.std.proofs.Common.{◌≡◌, ℕ, ◌/◌, sym, ap, ◌∙◌, subst}
+use Rattle.std.specs.FinMap.{empty}
+use Rattle.std.specs.Option.{option_map}
+use Rattle.sect_dev.specs.Moments.{weaker}
+use Rattle.dbm_model.specs.Meaning.{said_by}
+use Rattle.dbm_model.specs.Pages.{Meta, MetaPage}
+use Rattle.page_io.specs.Store.{Pages, bytes_of, page_of}
+use Rattle.page_io.specs.Meaning.{FileStandsFor}
+use Rattle.redo_area.specs.File.{settled, IsBlankOr}
+use Rattle.redo_area.specs.Pagers.{device_of}
+use Rattle.seg_table.specs.MetaPages.{says}
+use Rattle.dbm_file.specs.Faults.{fault_of}
+use Rattle.dbm_file.proofs.NewFiles.{was_asked, BlankOrNew, blank_or_new}
+use Rattle.dbm_file.proofs.opening.made.Goals as goal
+
+pub returns-in-Ok-clause-asked : goal.returns-in-Ok-clause-asked
+returns-in-Ok-clause-asked g c = was_asked c.args.how c.capacity.result (sym c.refusal_of.ensures ∙ ap (option_map fault_of) c.in_default.is)
+
+pub returns-in-Ok-clause-stands : goal.returns-in-Ok-clause-stands
+returns-in-Ok-clause-stands g c honest =
+    let m = c.of_empty-meta.result in
+    let same = sym (c.in-Ok.ensures.committed honest) in (
+      λ usable. record {
+        stands = subst (λ (ps : Pages). FileStandsFor ps empty m.limit) same c.pages_of_empty.ensures.stands;
+        meta_is = subst (λ (ps : Pages). said_by (page_of ps) 1 ≡ MetaPage (says m)) same c.pages_of_empty.ensures.meta;
+      },
+      ap (λ (n : Meta). n.limit) c.of_empty-meta.ensures,
+    )
+
+pub returns-in-Ok-clause-any_moment : goal.returns-in-Ok-clause-any_moment
+returns-in-Ok-clause-any_moment g c honest none =
+    let dev = g.D.SectorDev in
+    let old = c.args.dev in
+    let cap : ℕ = dev.sectors old / 4 in
+    let how = c.args.how in
+    let pages = bytes_of c.pages_of_empty.result in
+    let asked = was_asked how c.capacity.result (sym c.refusal_of.ensures ∙ ap (option_map fault_of) c.in_default.is) in
+    let stands = subst (FileStandsFor pages empty) (ap (λ (m : Meta). m.limit) c.of_empty-meta.ensures) c.pages_of_empty.ensures.stands in
+    weaker dev.moment dev.left_since old (device_of c.in-Ok.store) (λ image. BlankOrNew how.create how.limit (settled cap image)) (λ image. IsBlankOr pages (settled cap image)) (c.in-Ok.ensures.any_moment honest none)
+    (λ image or. blank_or_new pages how.limit how.create stands asked (settled cap image) or)
+
+pub returns-in-Err-clause-any_moment : goal.returns-in-Err-clause-any_moment
+returns-in-Err-clause-any_moment g c honest none =
+    let dev = g.D.SectorDev in
+    let old = c.args.dev in
+    let cap : ℕ = dev.sectors old / 4 in
+    let how = c.args.how in
+    let pages = bytes_of c.pages_of_empty.result in
+    let asked = was_asked how c.capacity.result (sym c.refusal_of.ensures ∙ ap (option_map fault_of) c.in_default.is) in
+    let stands = subst (FileStandsFor pages empty) (ap (λ (m : Meta). m.limit) c.of_empty-meta.ensures) c.pages_of_empty.ensures.stands in
+    weaker dev.moment dev.left_since old c.in-Err.dev (λ image. BlankOrNew how.create how.limit (settled cap image)) (λ image. IsBlankOr pages (settled cap image)) (c.in-Err.ensures.any_moment honest none)
+    (λ image or. blank_or_new pages how.limit how.create stands asked (settled cap image) or)

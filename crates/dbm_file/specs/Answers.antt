@@ -1,0 +1,76 @@
+-- How a call on a database is answered, and what it leaves.
+use Rattle.std.specs.Prelude.{◌≡◌, ◌⊎◌, ◌↔◌, ◌≤◌, ◌<◌, ℕ, true, false, length, List, take, slice_index_or, Option, Result, OnOk, OnErr, IfErr, IsErrOf}
+use Rattle.std.specs.FinMap.{empty}
+use Rattle.std.specs.Option.{option_map}
+use Rattle.sect_dev.specs.Device.{LeavesOnly, MoreFaults}
+use Rattle.dbm_model.specs.Calls as model
+use Rattle.dbm_model.specs.Calls.{Call, Reply}
+use Rattle.dbm_model.specs.Pairs.{Contents}
+use Rattle.dbm_model.specs.States.{Handle, first_fault}
+use Rattle.dbm_model.specs.Steps.{Case, Changes, case_of, Step, Run}
+use Rattle.page_io.specs.Store.{Settled}
+use Rattle.page_io.specs.Meaning.{ImageStandsFor}
+use Rattle.page_io.specs.declared.store.PageStore.{Ghosts}
+use Rattle.dbm_file.specs.Faults.{fault_of}
+use Rattle.dbm_file.specs.Database.{store_of, meta_of, pages_of, error_of, HoldsMap, handle_of}
+use Rattle.dbm_file.specs.declared.fault.Fault.{Fault}
+use Rattle.dbm_file.specs.declared.fault.Fault.TheVariants.{Device, Broken}
+use Rattle.dbm_file.specs.declared.database.Database.{Database}
+
+-- the call asks for a change to this map, by the rule that it falls under
+abbrev pub AsksFor : Handle → Call → Contents → Type 0
+AsksFor h call map = (reply : Reply) × (case_of h.state call ≡ Changes reply map)
+
+-- a map that a stop within the call may leave: that before, that after, or where the call broke the database the one that it asks for
+abbrev pub MayBeLeft : Handle → Handle → Call → Contents → Type 0
+MayBeLeft before after call map = (map ≡ before.state.map) ⊎ ((map ≡ after.state.map) ⊎ ((after.state.usable ≡ false) × AsksFor before call map))
+
+-- an image stands for one of these maps
+abbrev pub StandsForSome : (Contents → Type 0) → ℕ → Settled → Type 0
+StandsForSome Left limit settled = (map : Contents) × Left map × ImageStandsFor settled map limit
+
+-- every image of every moment since the old database stands for one of these maps
+abbrev pub Survives : {S : Type 0} {s : Ghosts S} → Database S s → Database S s → (Contents → Type 0) → Type 0
+Survives {S} {s} old new Left = LeavesOnly s.moment s.settled_since (store_of old) (store_of new) (StandsForSome Left (meta_of old).limit)
+
+-- A call on a database whose file stands for the map: a step of the model, and what a stop leaves within it.
+pub record IsStep {S : Type 0} {s : Ghosts S} (old new : Database S s) (map : Contents) (call : Call) (reply : Reply) : Type 0 where
+  pub left : Contents
+  pub step : Step (handle_of old map) call reply (handle_of new left)
+  pub holds : HoldsMap new left
+  pub survives : (pages_of old).usable ≡ true → Survives old new (MayBeLeft (handle_of old map) (handle_of new left) call)
+
+-- a map that a stop within these calls, answered so, may leave: that after some of them, or that which the one that broke the database asks for
+pub record MayBeLeftWithin (before after : Handle) (calls : List Call) (replies : List Reply) (map : Contents) : Type 0 where
+  pub made : ℕ
+  pub mid : Handle
+  pub run : Run before (take made calls) (take made replies) mid
+  pub left : (map ≡ mid.state.map) ⊎ ((after.state.usable ≡ false) × (made < length calls) × AsksFor mid (slice_index_or calls made model.Error) map)
+
+-- the same of a list of calls
+pub record IsRun {S : Type 0} {s : Ghosts S} (old new : Database S s) (map : Contents) (calls : List Call) (replies : List Reply) : Type 0 where
+  pub left : Contents
+  pub run : Run (handle_of old map) calls replies (handle_of new left)
+  pub holds : HoldsMap new left
+  pub survives : (pages_of old).usable ≡ true → Survives old new (MayBeLeftWithin (handle_of old map) (handle_of new left) calls replies)
+
+-- What any number of calls leave on any device.
+pub record Goes {S : Type 0} {s : Ghosts S} (old new : Database S s) : Type 0 where
+  pub honesty : s.honest (store_of new) ↔ s.honest (store_of old)
+  pub later : s.faults (store_of old) ≤ s.faults (store_of new)
+  pub limit : (meta_of new).limit ≡ (meta_of old).limit
+  pub capacity : (pages_of new).capacity ≡ (pages_of old).capacity
+  -- a broken one makes no device call
+  pub still : (pages_of old).usable ≡ false → store_of new ≡ store_of old
+
+-- What any call leaves on any device, whatever its bytes.
+pub record Keeps {S T : Type 0} {s : Ghosts S} (old new : Database S s) (result : Result T Fault) : Type 0 where
+  pub goes : Goes old new
+  pub fault : IsErrOf result Device → MoreFaults (s.faults (store_of old)) (s.faults (store_of new))
+  -- the first fault is kept
+  pub no_error : OnOk result (error_of new ≡ error_of old)
+  pub error : IfErr result (λ e. error_of new ≡ first_fault (error_of old) (fault_of e))
+  -- a refusal changes nothing, but that a fault of the device may break the database
+  pub refused : OnErr result ((meta_of new ≡ meta_of old) × ((pages_of new).end ≡ (pages_of old).end))
+  pub breaks : ((pages_of new).usable ≡ (pages_of old).usable) ⊎ (IsErrOf result Device × ((pages_of new).usable ≡ false))
+  pub broken : IsErrOf result Broken ↔ ((pages_of old).usable ≡ false)

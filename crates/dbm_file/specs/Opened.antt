@@ -1,0 +1,20 @@
+-- A database over a device.
+use Rattle.std.specs.Prelude.{◌≡◌, ℕ, ◌/◌, true, None, Result, Ok, Err}
+use Rattle.sect_dev.specs.declared.device.SectorDev.{Ghosts}
+use Rattle.page_io.specs.declared.store.PageStore as store
+use Rattle.redo_area.specs.Pagers.{device_of}
+use Rattle.redo_area.specs.declared.pager.Pager.{Pager}
+use Rattle.dbm_file.specs.Database.{store_of, meta_of, pages_of, error_of}
+use Rattle.dbm_file.specs.declared.fault.Fault.{Fault}
+use Rattle.dbm_file.specs.declared.database.Database.{Database}
+
+-- the device that an opening was given, whatever it answers
+abbrev pub device_after : {D : Type 0} {bound : Ghosts D} {s : store.Ghosts (Pager D bound)} → Result (Database (Pager D bound) s) (D × Fault) → D
+device_after (Ok db) = device_of (store_of db)
+device_after (Err e) = e.0
+
+-- a database as an opening leaves it
+pub record IsFresh {S : Type 0} {s : store.Ghosts S} (pages : ℕ) (db : Database S s) : Type 0 where
+  pub usable : (pages_of db).usable ≡ true
+  pub capacity : (pages_of db).capacity ≡ pages
+  pub no_error : error_of db ≡ None

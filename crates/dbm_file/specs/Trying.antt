@@ -1,0 +1,22 @@
+-- A call of a database before its error is looked at.
+use Rattle.std.specs.Prelude.{◌≡◌, is_some, if◌then◌else◌, Some, Result, Ok, Err}
+use Rattle.page_io.specs.Views.{ReadsOnly}
+use Rattle.page_io.specs.declared.store.PageStore.{Ghosts}
+use Rattle.dbm_file.specs.Database.{store_of}
+use Rattle.dbm_file.specs.declared.fault.Fault.{Fault}
+use Rattle.dbm_file.specs.declared.database.Database.{Database}
+
+-- with this fault, unless there is an earlier one
+abbrev pub with_fault : {S : Type 0} {s : Ghosts S} → Database S s → Fault → Database S s
+with_fault db fault = record db { error = if is_some db.error then db.error else Some fault }
+
+-- with the fault of a refusal
+abbrev pub with_error_of : {S T : Type 0} {s : Ghosts S} → Database S s → Result T Fault → Database S s
+with_error_of db (Ok value) = db
+with_error_of db (Err fault) = with_fault db fault
+
+-- pages may have been read, and nothing else has changed
+pub record IsRead {S : Type 0} {s : Ghosts S} (old new : Database S s) : Type 0 where
+  pub reads : ReadsOnly s (store_of old) (store_of new)
+  pub meta_is : new.meta ≡ old.meta
+  pub error_is : new.error ≡ old.error
