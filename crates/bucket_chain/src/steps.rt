@@ -1,6 +1,6 @@
 //! One step of a pass over a chain.
 
-ghost use Rattle.std.specs.Prelude.{◌≡◌, ◌≢◌, ◌⊎◌, ◌++◌, ◌-◌, ◌^◌, ℕ, min, List, IfOk, IsErrOf};
+ghost use Rattle.std.specs.Prelude.{◌≡◌, ◌≢◌, ◌⊎◌, ◌++◌, ◌-◌, ◌^◌, ◌<◌, ℕ, min, List, length, IfOk, IfSome, IsErrOf};
 ghost use Rattle.dbm_model.specs.Chain.{Chain};
 ghost use Rattle.page_io.specs.Answers.{HasDeviceCause};
 ghost use Rattle.page_io.specs.Views.{said, ReadsOnly};
@@ -8,6 +8,7 @@ ghost use Rattle.page_io.specs.declared.store.PageFault.TheVariants.{Damaged};
 ghost use Rattle.bucket_chain.specs.Chains.{IsChainAt};
 ghost use Rattle.bucket_chain.specs.Places.{Entry, entries, last_place, page_from, slot_from, IsFirst, IsStep};
 ghost use Rattle.bucket_chain.specs.Answers.{IsWalkAnswer};
+ghost use Rattle.slot_page.specs.Contents.{IsBucketPage, pairs_of};
 
 use crate::Place;
 use crate::link::{HEAD, OVERFLOW, read_link};
@@ -51,6 +52,7 @@ pub fn step<S: PageStore>(
     ensures reads { ReadsOnly S.PageStore store.old store.new }
     ensures cause { HasDeviceCause (S.faults store.old) (S.faults store.new) result }
     ensures answer { IsWalkAnswer (S.state store.old) result }
+    ensures held { IfOk result (λ place. IfSome place (λ at. IsBucketPage page.new.bytes × (at.slot < length (pairs_of page.new.bytes)))) }
     ensures stepped { S.honest store.old → IfOk result (λ place. IsStep (said S.PageStore store.old) head from page.new.bytes place) }
 
     // On a chain that is read as one it answers each place once, in order, and is never Damaged.

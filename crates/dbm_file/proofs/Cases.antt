@@ -1,11 +1,12 @@
 -- The rule that a call of a usable handle falls under.
 use Rattle.std.proofs.Common.{◌≡◌, inl, ℕ, ◌+◌, ◌<◌, ◌≤◌, true, false, cond, not, List, length, Option, Some, None, is_some, refl, ◌∙◌, ap}
 use Rattle.std.specs.Prelude.{nat_le}
-use Rattle.std.specs.FinMap.{get, insert, remove, len}
+use Rattle.std.specs.FinMap.{get, insert, remove, len, keys}
+use Rattle.std.specs.FinSet as set
 use Rattle.std.proofs.lemmas.Bool.{le-leb, lt-leb}
-use Rattle.dbm_model.specs.Calls.{Mode, Insert, Replace, Call, Store, Fetch, Delete, Reply, Stored, Kept, Deleted, Absent, TooLong, Full, Broken, ReadOnly}
-use Rattle.dbm_model.specs.States.{State, Handle}
-use Rattle.dbm_model.specs.Steps.{Refuses, Declines, Finds, Changes, fetched, stored, deleted, usable_case, broken_case, case_of, Suffers, Fails}
+use Rattle.dbm_model.specs.Calls.{Mode, Insert, Replace, Call, Store, Fetch, Delete, First, Next, Error, Clear, Reply, Number, Stored, Kept, Deleted, Absent, TooLong, Full, Broken, ReadOnly, NoPass}
+use Rattle.dbm_model.specs.States.{State, Keys, Handle, error_number}
+use Rattle.dbm_model.specs.Steps.{Tells, Refuses, Declines, Finds, Passes, Changes, fetched, stored, deleted, passed, usable_case, broken_case, case_of, Suffers, Fails}
 
 usable_rule : (s : State) (call : Call) → s.usable ≡ true → case_of s call ≡ usable_case s call
 usable_rule s call usable = ap (λ b. cond b (usable_case s call) (broken_case s call)) usable
@@ -86,3 +87,29 @@ module _ (h : Handle) (reply : Reply) (after : Handle) (fails : Fails h reply af
     | true ↦ fails
     | false ↦ inl fails
   ]
+
+-- calls of a pass
+pub broken_first : (s : State) → s.usable ≡ false → case_of s First ≡ Refuses Broken
+broken_first s broken = broken_rule s First broken
+
+pub broken_next : (s : State) → s.usable ≡ false → case_of s Next ≡ Refuses Broken
+broken_next s broken = broken_rule s Next broken
+
+pub first_rule : (s : State) → s.usable ≡ true → case_of s First ≡ Passes (set.from_list (keys s.map))
+first_rule s usable = usable_rule s First usable
+
+pub next_rule : (s : State) (left : Keys) → s.usable ≡ true → s.pass ≡ Some left → case_of s Next ≡ Passes left
+next_rule s left usable on = usable_rule s Next usable ∙ ap passed on
+
+pub no_pass_rule : (s : State) → s.usable ≡ true → s.pass ≡ None → case_of s Next ≡ Refuses NoPass
+no_pass_rule s usable off = usable_rule s Next usable ∙ ap passed off
+
+pub passes_fail : (h : Handle) (reply : Reply) (after : Handle) → Fails h reply after → (left : Keys) → Suffers h (Passes left) reply after
+passes_fail h reply after fails left = fails
+
+-- the error number can be asked for and cleared in a broken state too
+pub error_rule : (s : State) → case_of s Error ≡ Tells (Number (error_number s.error)) s
+error_rule s = elim s.usable as (λ b. cond b (usable_case s Error) (broken_case s Error) ≡ Tells (Number (error_number s.error)) s) [ true ↦ refl | false ↦ refl ]
+
+pub clear_rule : (s : State) → case_of s Clear ≡ Tells (Number 0) (record s { error = None })
+clear_rule s = elim s.usable as (λ b. cond b (usable_case s Clear) (broken_case s Clear) ≡ Tells (Number 0) (record s { error = None })) [ true ↦ refl | false ↦ refl ]

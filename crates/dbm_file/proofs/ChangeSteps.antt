@@ -1,5 +1,5 @@
 -- Calls that change the file, as steps.
-use Rattle.std.proofs.Common.{◌≡◌, ◌⊎◌, ◌↔◌, inl, inr, ⊎_elim, ℕ, ◌≤◌, ◌<◌, ◌*◌, ◌+◌, true, false, cond, Option, Some, is_some, Result, Ok, Err, OnOk, IfErr, OnErr, IsErrOf, refl, sym, ◌∙◌, ap, subst, arith}
+use Rattle.std.proofs.Common.{◌≡◌, ◌⊎◌, ◌↔◌, inl, inr, ⊎_elim, ℕ, ◌≤◌, ◌<◌, ◌*◌, ◌+◌, true, false, cond, Option, Some, None, is_some, Result, Ok, Err, OnOk, IfErr, OnErr, IsErrOf, refl, sym, ◌∙◌, ap, subst, arith}
 use Rattle.std.specs.Prelude.{IsErrAnd}
 use Rattle.std.specs.Option.{option_map}
 use Rattle.std.proofs.lemmas.Bool.{lt-ltb}
@@ -8,7 +8,7 @@ use Rattle.sect_dev.specs.Moments.{followed_by}
 use Rattle.dbm_model.specs.Calls as model
 use Rattle.dbm_model.specs.Pages.{Meta}
 use Rattle.dbm_model.specs.Pairs.{Contents}
-use Rattle.dbm_model.specs.States.{Handle, first_fault, flagged}
+use Rattle.dbm_model.specs.States.{Keys, Handle, first_fault, flagged}
 use Rattle.dbm_model.specs.Steps.{Case, Changes, case_of, Answers, Suffers}
 use Rattle.page_io.specs.Store.{Settled, file_of}
 use Rattle.page_io.specs.Store as store
@@ -20,13 +20,15 @@ use Rattle.page_io.specs.declared.store.PageFault.TheVariants as page
 use Rattle.dbm_file.specs.Faults.{fault_of, told}
 use Rattle.dbm_file.specs.Holding.{Holds, IsForgotten, StandsForEither, IsChanged}
 use Rattle.dbm_file.specs.Staging.{IsChangeAnswer}
-use Rattle.dbm_file.specs.Database.{store_of, meta_of, pages_of, error_of, handle_of}
+use Rattle.dbm_file.specs.Database.{store_of, meta_of, pages_of, error_of, cursor_of, handle_of}
+use Rattle.dbm_file.specs.Passing.{IsPass}
 use Rattle.dbm_file.specs.Answers.{MayBeLeft, StandsForSome, Survives, IsStep, Keeps}
 use Rattle.dbm_file.specs.Trying.{with_fault, with_error_of, IsRead}
 use Rattle.dbm_file.specs.declared.fault.Fault.{Fault}
 use Rattle.dbm_file.specs.declared.fault.Fault.TheVariants.{Device, Broken}
+use Rattle.dbm_file.specs.declared.passing.Cursor.{Cursor}
 use Rattle.dbm_file.specs.declared.database.Database.{Database}
-use Rattle.dbm_file.proofs.ReadSteps.{kept_first, same_parts, still_meta, still_limit, still_usable, still_holds, still_survives, flagged_is}
+use Rattle.dbm_file.proofs.ReadSteps.{kept_first, same_parts, at_own, same_pass, still_meta, still_limit, still_usable, still_holds, still_passes, still_survives, flagged_is}
 
 -- how a change of the file ended
 pub record IsEnded {S : Type 0} (s : Ghosts S) (old new : Database S s) (result : Result (Unit {0}) PageFault) : Type 0 where
@@ -34,12 +36,15 @@ pub record IsEnded {S : Type 0} (s : Ghosts S) (old new : Database S s) (result 
   pub err : IfErr result (λ e. IsForgotten (pages_of old) (pages_of new) e × (meta_of new ≡ meta_of old))
   pub limit : (meta_of new).limit ≡ (meta_of old).limit
   pub error_is : new.error ≡ old.error
+  pub pass_ends : OnOk result (new.pass ≡ None)
+  pub pass_stays : OnErr result (new.pass ≡ old.pass)
   pub cause : HasDeviceCause (s.faults (store_of old)) (s.faults (store_of new)) result
   pub answer : IsChangeAnswer (pages_of old) result
 
 -- and what it makes of a file that stood for the map
 pub record Turns {S : Type 0} (s : Ghosts S) (old new : Database S s) (map changed : Contents) (result : Result (Unit {0}) PageFault) : Type 0 where
   pub exact : IsChanged s (store_of new) (meta_of new) map changed result
+  pub kept : OnErr result ((pages_of new).usable ≡ true → s.committed (store_of new) ≡ s.committed (store_of old))
   pub any_moment : LeavesOnly s.moment s.settled_since (store_of old) (store_of new) (StandsForEither map changed (meta_of old).limit)
   pub unchanged : OnErr result ((pages_of new).usable ≡ true → LeavesOnly s.moment s.settled_since (store_of old) (store_of new) (λ settled. ImageStandsFor settled map (meta_of old).limit))
   pub whole : IsErrOf result page.Damaged → ⊥
@@ -50,15 +55,16 @@ more_later : (first mid last : ℕ) → first ≤ mid → MoreFaults mid last �
 more_later first mid last le more = omega (arith, le, more)
 
 -- What is known when a change begins: the call asks for it, after no more than a read. `only` is the store's law `only_committed`.
-pub record IsAsked {S : Type 0} (s : Ghosts S) (old mid : Database S s) (map changed : Contents) (call : model.Call) (said : model.Reply) : Type 0 where
+pub record IsAsked {S : Type 0} (s : Ghosts S) (old mid : Database S s) (map changed : Contents) (pass : Option Keys) (call : model.Call) (said : model.Reply) : Type 0 where
   pub read : IsRead old mid
   pub usable : (pages_of old).usable ≡ true
   pub honest : s.honest (store_of old)
   pub holds : Holds s (store_of old) (meta_of old) map
   pub only : (x : Settled) → s.settles_to (store_of old) x → x ≡ file_of (s.committed (store_of old))
-  pub falls : case_of (handle_of old map).state call ≡ Changes said changed
+  pub going : IsPass (s.committed (store_of old)) (meta_of old) (cursor_of old) pass
+  pub falls : case_of (handle_of old map pass).state call ≡ Changes said changed
 
-module _ {S : Type 0} (s : Ghosts S) {old mid : Database S s} {map changed : Contents} {call : model.Call} {said : model.Reply} (asked : IsAsked s old mid map changed call said) where
+module _ {S : Type 0} (s : Ghosts S) {old mid : Database S s} {map changed : Contents} {pass : Option Keys} {call : model.Call} {said : model.Reply} (asked : IsAsked s old mid map changed pass call said) where
   pub mid_honest : s.honest (store_of mid)
   mid_honest = asked.read.reads.stages_only.honesty.1 asked.honest
 
@@ -75,7 +81,7 @@ module _ {S : Type 0} (s : Ghosts S) {old mid : Database S s} {map changed : Con
   mid_end = ap (λ (st : store.State). st.end) asked.read.reads.same
 
   abbrev before : Handle
-  before = handle_of old map
+  before = handle_of old map pass
 
   module _ (new : Database S s) where
     stands_still : (x : Settled) (m : Contents) → ImageStandsFor x m (meta_of mid).limit → ImageStandsFor x m (meta_of old).limit
@@ -88,23 +94,23 @@ module _ {S : Type 0} (s : Ghosts S) {old mid : Database S s} {map changed : Con
         (still_survives s old mid map asked.read asked.honest asked.holds asked.only Left left) change
         (λ x. ⊎_elim (λ is. (map, left, stands_still x map is)) (λ is. (changed, also, stands_still x changed is)))
 
-    pub changed_step : IsEnded s mid new (Ok tt) → Turns s mid new map changed (Ok tt) → IsStep old new map call said
+    pub changed_step : IsEnded s mid new (Ok tt) → Turns s mid new map changed (Ok tt) → IsStep old new before call said
     changed_step ended turns =
         let usable_is = ap (λ (st : store.State). st.usable) ended.ok ∙ still_usable s old mid asked.read in
         record {
-          left = changed;
+          after = handle_of new changed None;
           step = record {
             counts = omega (arith, asked.read.reads.stages_only.later, ended.cause.later);
-            answers = inl (subst (λ (c : Case). Answers before.state c said (handle_of new changed).state) (sym asked.falls)
-                (refl, same_parts changed _ _ _ _ _ _ (ended.limit ∙ still_limit s old mid asked.read) (ap (λ (o : Option Fault). option_map fault_of o) (ended.error_is ∙ asked.read.error_is)) usable_is));
+            answers = inl (subst (λ (c : Case). Answers before.state c said (handle_of new changed None).state) (sym asked.falls)
+                (refl, same_parts changed None _ _ _ _ _ _ (ended.limit ∙ still_limit s old mid asked.read) (ap (λ (o : Option Fault). option_map fault_of o) (ended.error_is ∙ asked.read.error_is)) usable_is));
           };
-          holds = λ usable. turns.exact;
-          survives = λ usable. survives_change (MayBeLeft before (handle_of new changed) call) (inl refl) (inr (inl refl)) turns.any_moment;
+          is_at = at_own new changed None (λ usable. turns.exact) (λ usable. subst (λ (c : Option Cursor). IsPass (s.committed (store_of new)) (meta_of new) c None) (sym ended.pass_ends) tt);
+          survives = λ usable. survives_change (MayBeLeft before (handle_of new changed None) call) (inl refl) (inr (inl refl)) turns.any_moment;
         }
 
     module _ (e : PageFault) (ended : IsEnded s mid new (Err e)) (turns : Turns s mid new map changed (Err e)) where
       abbrev after : Handle
-      after = handle_of (with_fault new (told e)) map
+      after = handle_of (with_fault new (told e)) map pass
 
       abbrev reply : model.Reply
       reply = model.Refused (fault_of (told e))
@@ -115,7 +121,7 @@ module _ {S : Type 0} (s : Ghosts S) {old mid : Database S s} {map changed : Con
       -- the store is as usable as before
       module _ (same : (pages_of new).usable ≡ (pages_of old).usable) where
         state_is : after.state ≡ flagged (fault_of (told e)) before.state
-        state_is = flagged_is s old new map (told e) (ended.limit ∙ still_limit s old mid asked.read) (ended.error_is ∙ asked.read.error_is) same
+        state_is = flagged_is s old new map pass (told e) (ended.limit ∙ still_limit s old mid asked.read) (ended.error_is ∙ asked.read.error_is) same
 
         short : e ≡ page.NoRoom → before.is_short ≡ true
         short is = lt-ltb _ _ (omega (arith, turns.no_room (ap Err is), mid_capacity, mid_end, ap (λ (m : Meta). m.pairs) (still_meta s old mid asked.read)))
@@ -128,14 +134,15 @@ module _ {S : Type 0} (s : Ghosts S) {old mid : Database S s} {map changed : Con
         suffers (inr (inr (inr (inr is)))) =
             inl (ap (λ (f : PageFault). model.Refused (fault_of (told f))) is, more_later _ _ _ asked.read.reads.stages_only.later (ended.cause.fault (ap Err is)), state_is ∙ ap (λ (f : PageFault). flagged (fault_of (told f)) before.state) is)
 
-        unchanged_step : IsStep old (with_fault new (told e)) map call reply
+        unchanged_step : IsStep old (with_fault new (told e)) before call reply
         unchanged_step = record {
-          left = map;
+          after = after;
           step = record {
             counts = omega (arith, asked.read.reads.stages_only.later, ended.cause.later);
             answers = inr (subst (λ (c : Case). Suffers before c reply after) (sym asked.falls) (suffers ended.answer.only));
           };
-          holds = λ is. turns.exact is;
+          is_at = at_own (with_fault new (told e)) map pass (λ is. turns.exact is)
+              (λ is. same_pass _ _ _ _ _ _ pass (turns.kept is) ended.err.1 ended.pass_stays (still_passes s old mid pass asked.read asked.honest asked.going));
           survives = λ was.
               followed_by s.moment s.settled_since (store_of old) (store_of mid) (store_of new) (StandsForSome (MayBeLeft before after call) (meta_of old).limit) (λ x. ImageStandsFor x map (meta_of mid).limit)
               (still_survives s old mid map asked.read asked.honest asked.holds asked.only (MayBeLeft before after call) (inl refl)) (turns.unchanged (same ∙ asked.usable))
@@ -143,9 +150,9 @@ module _ {S : Type 0} (s : Ghosts S) {old mid : Database S s} {map changed : Con
         }
 
       -- the device broke it
-      broken_step : e ≡ page.Device → (pages_of new).usable ≡ false → IsStep old (with_fault new (told e)) map call reply
+      broken_step : e ≡ page.Device → (pages_of new).usable ≡ false → IsStep old (with_fault new (told e)) before call reply
       broken_step is broken = record {
-        left = map;
+        after = after;
         step = record {
           counts = omega (arith, asked.read.reads.stages_only.later, ended.cause.later);
           answers = inr (subst (λ (c : Case). Suffers before c reply after) (sym asked.falls) (inr (inl (
@@ -153,14 +160,14 @@ module _ {S : Type 0} (s : Ghosts S) {old mid : Database S s} {map changed : Con
             more_later _ _ _ asked.read.reads.stages_only.later (ended.cause.fault (ap Err is)),
             map,
             inl refl,
-            same_parts map _ _ _ _ _ _ (ended.limit ∙ still_limit s old mid asked.read) (error_is ∙ ap (λ (f : PageFault). first_fault (error_of old) (fault_of (told f))) is) broken,
+            same_parts map pass _ _ _ _ _ _ (ended.limit ∙ still_limit s old mid asked.read) (error_is ∙ ap (λ (f : PageFault). first_fault (error_of old) (fault_of (told f))) is) broken,
           ))));
         };
-        holds = λ now. turns.exact now;
+        is_at = at_own (with_fault new (told e)) map pass (λ now. absurd (let x = now in cc)) (λ now. absurd (let x = now in cc));
         survives = λ was. survives_change (MayBeLeft before after call) (inl refl) (inr (inr (broken, (said, asked.falls)))) turns.any_moment;
       }
 
-      pub refused_step : IsStep old (with_fault new (told e)) map call reply
+      pub refused_step : IsStep old (with_fault new (told e)) before call reply
       refused_step = ⊎_elim (λ same. unchanged_step (ap (λ (st : store.State). st.usable) same ∙ still_usable s old mid asked.read)) (λ broke. broken_step broke.0 (ap (λ (st : store.State). st.usable) broke.1)) ended.err.0
 
 -- a fault of the device is told as one, and so on
@@ -217,7 +224,7 @@ module _ {S : Type 0} (s : Ghosts S) (old mid new : Database S s) (read : IsRead
         fault = λ is. more_later _ _ _ read.reads.stages_only.later (ended.cause.fault (ap Err (told_device e (let x = is in cc))));
         no_error = tt;
         error = ap (λ (o : Option Fault). option_map fault_of (cond (is_some o) o (Some (told e)))) (ended.error_is ∙ read.error_is) ∙ kept_first old.error (told e);
-        refused = (ended.err.1 ∙ still_meta s old mid read, was.end);
+        refused = (ended.err.1 ∙ still_meta s old mid read, was.end, ended.pass_stays ∙ read.pass_is);
         breaks = ⊎_elim (λ same. inl same) (λ broke. inr (ap Err (ap told broke.0), broke.1)) was.breaks;
         broken = (λ is. absurd (sound (told_broken e (let x = is in cc))), λ broken. absurd (let x = broken in cc));
       }

@@ -18,18 +18,19 @@ use Rattle.page_io.specs.declared.store.PageFault.TheVariants as page
 use Rattle.bucket_chain.specs.Answers.{IsWalkAnswer}
 use Rattle.bucket_chain.specs.declared.place.Place.{Place}
 use Rattle.slot_page.specs.Contents.{pairs_of}
-use Rattle.dbm_file.specs.Calls.{fetch_reply}
+use Rattle.dbm_file.specs.Calls.{Lent, lent_reply}
 use Rattle.dbm_file.specs.Faults.{told}
 use Rattle.dbm_file.specs.Holding.{Holds}
 use Rattle.dbm_file.specs.Looking.{IsHeld, IsFound}
-use Rattle.dbm_file.specs.Fetching.{IsFetched}
+use Rattle.dbm_file.specs.Lending.{Lends}
 use Rattle.dbm_file.specs.Database.{store_of, meta_of, pages_of, handle_of}
 use Rattle.dbm_file.specs.Trying.{with_fault, IsRead}
 use Rattle.dbm_file.specs.declared.fault.Fault.{Fault}
 use Rattle.dbm_file.specs.declared.fault.Fault.TheVariants.{Device, Broken, Damaged}
 use Rattle.dbm_file.specs.declared.database.Database.{Database}
-use Rattle.dbm_file.proofs.Cases.{broken_fetch, fetch_rule, fetch_fails}
-use Rattle.dbm_file.proofs.ReadSteps.{found_step, walk_failed_step, broken_step, read_keeps, refused_keeps, broken_keeps}
+use Rattle.dbm_file.proofs.Cases.{fetch_rule, fetch_fails}
+use Rattle.dbm_file.proofs.Lends.{kept_error, flagged_lends}
+use Rattle.dbm_file.proofs.ReadSteps.{from_own, found_step, walk_failed_step, walk_more, walk_sound, read_keeps, refused_keeps}
 
 small_at : (pairs : List Pair) (i : ℕ) (d : Pair) → i < length pairs → taken pairs ≤ 2032 → length (slice_index_or pairs i d).1 ≤ 2026
 small_at [] i d lt fits = absurd (omega (arith, lt))
@@ -58,9 +59,13 @@ no_content key None bytes place none is = refl
 no_content key (Some content) bytes None none is = absurd is
 no_content key (Some content) bytes (Some found) none is = absurd (let e = none in cc)
 
-finds : (found : Option (Bor (List ℕ))) → fetched (option_map (λ s. s.now) found) ≡ Finds (fetch_reply (Ok found))
+finds : (found : Option (Bor (List ℕ))) → fetched (option_map (λ s. s.now) found) ≡ Finds (lent_reply model.NoRecord (Ok found))
 finds None = refl
 finds (Some slice) = refl
+
+-- a fetch leaves this
+abbrev IsFetched : {S : Type 0} {s : Ghosts S} → Database S s → Key → Lent → Database S s → Type 0
+IsFetched old key r new = Lends (model.Fetch key) (lent_reply model.NoRecord) old r new
 
 -- a fetch that was answered
 pub fetched_well : {S : Type 0} (s : Ghosts S) (old new : Database S s) (key : Key) (found : Option (Bor (List ℕ))) → IsRead old new → (pages_of old).usable ≡ true
@@ -68,73 +73,35 @@ pub fetched_well : {S : Type 0} (s : Ghosts S) (old new : Database S s) (key : K
     → (s.honest (store_of old) → (map : Contents) → Holds s (store_of old) (meta_of old) map → option_map (λ (b : Bor (List ℕ)). b.now) found ≡ get map key)
     → IsFetched old key (Ok found) new
 fetched_well s old new key found read usable only is = record {
-  step = λ honest map held. found_step s old new map (model.Fetch key) read honest (held usable) (only honest) (fetch_reply (Ok found))
-      (fetch_rule (handle_of old map).state key (option_map (λ b. b.now) found) usable (sym (is honest map (held usable))) ∙ finds found);
+  step = λ honest h at.
+      let map = h.state.map in
+      let pass = h.state.pass in
+      from_own at (found_step s old new map pass (model.Fetch key) read honest (at.map usable) (at.pass usable) (only honest) (lent_reply model.NoRecord (Ok found))
+      (fetch_rule (handle_of old map pass).state key (option_map (λ b. b.now) found) usable (sym (is honest map (at.map usable))) ∙ finds found));
   keeps = read_keeps s old new read usable found;
 }
 
--- a fetch that was refused, and whose fault was then kept as the first one
-module _ {S : Type 0} (s : Ghosts S) (db : Database S s) (key : Key) (idle : (pages_of db).staged ≡ []) (writable : (pages_of db).writable ≡ true) (valid : IsMeta (meta_of db)) where
-  abbrev kept_error : Option Fault → Database S s
-  kept_error e = record db { error = e; idle = idle; writable = writable; valid = valid }
-
-  module _ (error : Option Fault) (fault : Fault) (flag : error ≡ cond (is_some db.error) db.error (Some fault)) (r : Result (Option (Bor (List ℕ))) Fault) (is : r ≡ Err fault) where
-    flagged_fetch : (old : Database S s) → IsFetched old key (Err fault) (with_fault db fault) → IsFetched old key r (kept_error error)
-    flagged_fetch old f =
-        subst (λ (x : Result (Option (Bor (List ℕ))) Fault). IsFetched old key x (kept_error error)) (sym is)
-        (subst (λ (e : Option Fault). IsFetched old key (Err fault) (kept_error e)) (sym flag)
-        record {
-          step = λ honest map held.
-              let step = f.step honest map held in
-              record { left = step.left; step = step.step; holds = λ usable. step.holds usable; survives = λ usable. step.survives usable };
-          keeps = record {
-            goes = record { honesty = f.keeps.goes.honesty; later = f.keeps.goes.later; limit = f.keeps.goes.limit; capacity = f.keeps.goes.capacity; still = λ broken. f.keeps.goes.still broken };
-            fault = λ e. f.keeps.fault e;
-            no_error = f.keeps.no_error;
-            error = f.keeps.error;
-            refused = f.keeps.refused;
-            breaks = f.keeps.breaks;
-            broken = f.keeps.broken;
-          };
-        })
-
-    -- the database was broken
-    pub fetch_broken : fault ≡ Broken → (pages_of db).usable ≡ false → IsFetched db key r (kept_error error)
-    fetch_broken told_so broken = flagged_fetch db (subst (λ (f : Fault). IsFetched db key (Err f) (with_fault db f)) (sym told_so) record {
-      step = λ honest map held. broken_step s db map (model.Fetch key) broken (broken_fetch (handle_of db map).state key broken);
-      keeps = broken_keeps (Option (Bor (List ℕ))) s db broken;
-    })
-
-    -- the device failed
-    module _ (old : Database S s) (e : PageFault) (read : IsRead old db) (told_so : fault ≡ told e) (usable : (pages_of old).usable ≡ true) (answer : IsWalkAnswer {T = Option Place} (pages_of old) (Err e))
-        (cause : HasDeviceCause {T = Option Place} (s.faults (store_of old)) (s.faults (store_of db)) (Err e)) where
-      more : (e ≡ page.Broken) ⊎ ((e ≡ page.Damaged) ⊎ (e ≡ page.Device)) → told e ≡ Device → MoreFaults (s.faults (store_of old)) (s.faults (store_of db))
-      more (inl is) same = absurd (let x = sym same ∙ ap told is in cc)
-      more (inr (inl is)) same = absurd (let x = sym same ∙ ap told is in cc)
-      more (inr (inr is)) same = cause.fault (ap Err is)
-
-      sound : (e ≡ page.Broken) ⊎ ((e ≡ page.Damaged) ⊎ (e ≡ page.Device)) → told e ≡ Broken → ⊥
-      sound (inl is) same = let broken = answer.broken (ap Err is) in absurd (let x = broken in cc)
-      sound (inr (inl is)) same = absurd (let x = sym same ∙ ap told is in cc)
-      sound (inr (inr is)) same = absurd (let x = sym same ∙ ap told is in cc)
-
-      pub fetch_failed : (s.honest (store_of old) → (x : Settled) → s.settles_to (store_of old) x → x ≡ file_of (s.committed (store_of old)))
-          → (s.honest (store_of old) → (map : Contents) → Holds s (store_of old) (meta_of old) map → IsErrOf {T = Option Place} (Err e) page.Damaged → ⊥)
-          → IsFetched old key r (kept_error error)
-      fetch_failed only whole = flagged_fetch old (subst (λ (f : Fault). IsFetched old key (Err f) (with_fault db f)) (sym told_so) record {
-        step = λ honest map held.
-            let falls = fetch_rule (handle_of old map).state key (get map key) usable refl in
-            walk_failed_step s old db map (model.Fetch key) read honest (held usable) (only honest) (Option Place) e usable answer cause (whole honest map (held usable))
-            (λ reply after fails. subst (λ (rule : Case). Suffers (handle_of old map) rule reply after) (sym falls) (fetch_fails (handle_of old map) reply after fails (get map key)));
-        keeps = refused_keeps s old db read usable (Option (Bor (List ℕ))) (told e) (more answer.only) (sound answer.only);
+-- a fetch that failed, and whose fault was then kept as the first one
+module _ {S : Type 0} (s : Ghosts S) (db : Database S s) (key : Key) (idle : (pages_of db).staged ≡ []) (writable : (pages_of db).writable ≡ true) (valid : IsMeta (meta_of db))
+    (error : Option Fault) (fault : Fault) (flag : error ≡ cond (is_some db.error) db.error (Some fault)) (r : Lent) (is : r ≡ Err fault) (old : Database S s) (e : PageFault) (read : IsRead old db) (told_so : fault ≡ told e)
+    (usable : (pages_of old).usable ≡ true) (answer : IsWalkAnswer {T = Option Place} (pages_of old) (Err e)) (cause : HasDeviceCause {T = Option Place} (s.faults (store_of old)) (s.faults (store_of db)) (Err e)) where
+  pub fetch_failed : (s.honest (store_of old) → (x : Settled) → s.settles_to (store_of old) x → x ≡ file_of (s.committed (store_of old)))
+      → (s.honest (store_of old) → (map : Contents) → Holds s (store_of old) (meta_of old) map → IsErrOf {T = Option Place} (Err e) page.Damaged → ⊥)
+      → IsFetched old key r (kept_error s db idle writable valid error)
+  fetch_failed only whole = flagged_lends s db (model.Fetch key) model.NoRecord idle writable valid error fault flag r is old
+      (subst (λ (f : Fault). IsFetched old key (Err f) (with_fault db f)) (sym told_so) record {
+        step = λ honest h at.
+            let map = h.state.map in
+            let pass = h.state.pass in
+            let falls = fetch_rule (handle_of old map pass).state key (get map key) usable refl in
+            from_own at (walk_failed_step s old db map pass (model.Fetch key) read honest (at.map usable) (at.pass usable) (only honest) (Option Place) e usable answer cause (whole honest map (at.map usable))
+            (λ reply after fails. subst (λ (rule : Case). Suffers (handle_of old map pass) rule reply after) (sym falls) (fetch_fails (handle_of old map pass) reply after fails (get map key))));
+        keeps = refused_keeps s old db read usable (Option (Bor (List ℕ))) (told e) (walk_more s old db e answer cause) (walk_sound s old e usable answer);
       })
 
 -- what a refused fetch answers
-pub only_these : (r : Result (Option (Bor (List ℕ))) Fault) (fault : Fault) → r ≡ Err fault → (fault ≡ Broken) ⊎ ((fault ≡ Device) ⊎ (fault ≡ Damaged)) → IfErr r (λ e. (e ≡ Broken) ⊎ ((e ≡ Device) ⊎ (e ≡ Damaged)))
-only_these r fault is one = subst (λ (x : Result (Option (Bor (List ℕ))) Fault). IfErr x (λ e. (e ≡ Broken) ⊎ ((e ≡ Device) ⊎ (e ≡ Damaged)))) (sym is) one
-
-pub lends_nothing : (r : Result (Option (Bor (List ℕ))) Fault) (fault : Fault) → r ≡ Err fault → IfOk r (λ found. IfSome found (λ content. length content.now ≤ 2026))
-lends_nothing r fault is = subst (λ (x : Result (Option (Bor (List ℕ))) Fault). IfOk x (λ found. IfSome found (λ content. length content.now ≤ 2026))) (sym is) tt
+pub only_these : (r : Lent) (fault : Fault) → r ≡ Err fault → (fault ≡ Broken) ⊎ ((fault ≡ Device) ⊎ (fault ≡ Damaged)) → IfErr r (λ e. (e ≡ Broken) ⊎ ((e ≡ Device) ⊎ (e ≡ Damaged)))
+only_these r fault is one = subst (λ (x : Lent). IfErr x (λ e. (e ≡ Broken) ⊎ ((e ≡ Device) ⊎ (e ≡ Damaged)))) (sym is) one
 
 pub walk_faults : (e : PageFault) (fault : Fault) → fault ≡ told e → (e ≡ page.Broken) ⊎ ((e ≡ page.Damaged) ⊎ (e ≡ page.Device)) → (fault ≡ Broken) ⊎ ((fault ≡ Device) ⊎ (fault ≡ Damaged))
 walk_faults e fault told_so (inl is) = inl (told_so ∙ ap told is)

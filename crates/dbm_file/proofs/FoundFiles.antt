@@ -1,13 +1,23 @@
--- What a file that was found says.
-use Rattle.std.proofs.Common.{◌≡◌, ℕ, List, [], ap, ◌∙◌}
+-- A database as it was just opened, and what the file of one says.
+use Rattle.std.proofs.Common.{◌≡◌, ℕ, List, [], true, Option, None, sym, ap, subst, ◌∙◌}
+use Rattle.std.specs.FinMap.{len}
 use Rattle.dbm_model.specs.Pairs.{Contents}
 use Rattle.dbm_model.specs.Pages.{Meta, MetaPage}
 use Rattle.dbm_model.specs.Reading.{body_of}
-use Rattle.dbm_model.specs.Sheets.{meta_of}
+use Rattle.dbm_model.specs.Sheets as sheets
 use Rattle.dbm_model.specs.Valid.{IsMeta}
 use Rattle.dbm_model.proofs.GoodSheets.{sheets_valid}
-use Rattle.page_io.specs.Store.{Pages, page_of, overlaid}
-use Rattle.page_io.specs.Meaning.{FileStandsFor}
+use Rattle.dbm_model.specs.States.{Handle}
+use Rattle.page_io.specs.Store.{Pages, Settled, file_of, page_of, overlaid}
+use Rattle.page_io.specs.Meaning.{FileStandsFor, ImageStandsFor}
+use Rattle.page_io.specs.declared.store.PageStore as store
+use Rattle.dbm_file.specs.Database.{store_of, meta_of, pages_of, HoldsMap, handle_of, IsAt}
+use Rattle.dbm_file.specs.Opened.{IsFresh, IsOpenedAt}
+use Rattle.dbm_file.specs.Passing.{IsPass}
+use Rattle.dbm_file.specs.declared.passing.Cursor.{Cursor}
+use Rattle.dbm_file.specs.declared.database.Database.{Database}
+use Rattle.dbm_file.proofs.ReadSteps.{at_own, same_parts}
+use Rattle.dbm_file.proofs.Tables.{counted}
 
 -- bytes that a meta page may say
 pub record SaysMeta (bytes : List ℕ) : Type 0 where
@@ -18,7 +28,28 @@ pub record SaysMeta (bytes : List ℕ) : Type 0 where
 -- a file that stands for a map has a meta page, which is what is read of page 1 where nothing is staged
 pub says_meta : (pages staged : Pages) (map : Contents) (limit : ℕ) (bytes : List ℕ) → FileStandsFor pages map limit → staged ≡ [] → bytes ≡ overlaid staged (page_of pages) 1 → SaysMeta bytes
 says_meta pages staged map limit bytes stands none read = record {
-  meta = meta_of stands.placement;
+  meta = sheets.meta_of stands.placement;
   valid = (sheets_valid stands.placement stands.good).0.1;
   says = ap (body_of 1) (read ∙ ap (λ (s : Pages). overlaid s (page_of pages) 1) none) ∙ stands.spelled.0;
 }
+
+-- a database that was just opened is at a fresh handle
+pub opened_at : {S : Type 0} {s : store.Ghosts S} (pages : ℕ) (db : Database S s) (map : Contents) (limit : ℕ) → HoldsMap db map → (meta_of db).limit ≡ limit → IsFresh pages db → IsOpenedAt db map limit
+opened_at {S} {s} pages db map limit held limit_is fresh = record {
+  handle = handle_of db map None;
+  is_at = at_own db map None held (λ usable. subst (λ (c : Option Cursor). IsPass (s.committed (store_of db)) (meta_of db) c None) (sym fresh.no_pass) tt);
+  is_fresh = same_parts map None _ _ _ _ _ _ limit_is fresh.no_error fresh.usable;
+}
+
+-- a usable one holds a map that its file stands for, and its meta page counts the pairs
+pub counts_pairs : {S : Type 0} (s : store.Ghosts S) (db : Database S s) (h : Handle) → IsAt db h → h.state.usable ≡ true → ((meta_of db).pairs ≡ len h.state.map) × ((meta_of db).limit ≡ h.state.limit)
+counts_pairs s db h at usable =
+    let is_usable = sym (ap (λ (x : Handle). x.state.usable) at.shows) ∙ usable in
+    (sym (counted s (store_of db) (meta_of db) h.state.map (at.map is_usable)), sym (ap (λ (x : Handle). x.state.limit) at.shows))
+
+-- every image that is left of it stands for the map
+pub stands_for : {S : Type 0} (s : store.Ghosts S) (db : Database S s) (h : Handle) (y : Settled) → IsAt db h → h.state.usable ≡ true → ((pages_of db).usable ≡ true → y ≡ file_of (s.committed (store_of db))) → ImageStandsFor y h.state.map h.state.limit
+stands_for s db h y at usable only =
+    let is_usable = sym (ap (λ (x : Handle). x.state.usable) at.shows) ∙ usable in
+    subst (λ (n : ℕ). ImageStandsFor y h.state.map n) (sym (ap (λ (x : Handle). x.state.limit) at.shows))
+    (subst (λ (z : Settled). ImageStandsFor z h.state.map (meta_of db).limit) (sym (only is_usable)) (at.map is_usable).stands)

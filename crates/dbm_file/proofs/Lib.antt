@@ -6,10 +6,14 @@ pub mod FetchSteps
 pub mod Fillings
 pub mod Found
 pub mod FoundFiles
+pub mod Lends
 pub mod MetaStaging
 pub mod Midway
 pub mod NewFiles
 pub mod Openings
+pub mod PassKeys
+pub mod Passes
+pub mod PassSteps
 pub mod Plans
 pub mod ReadSteps
 pub mod Refusals

@@ -7,7 +7,7 @@ use Rattle.sect_dev.specs.Moments.{weaker}
 use Rattle.dbm_model.specs.Calls as model
 use Rattle.dbm_model.specs.Pages.{Meta, MetaPage}
 use Rattle.dbm_model.specs.Pairs.{Contents}
-use Rattle.dbm_model.specs.States.{State, Handle, first_fault, flagged}
+use Rattle.dbm_model.specs.States.{State, Keys, Handle, first_fault, flagged}
 use Rattle.dbm_model.specs.Steps.{Case, Refuses, Declines, Finds, case_of, Answers, Suffers, Fails, Step}
 use Rattle.dbm_model.specs.Meaning.{said_by}
 use Rattle.page_io.specs.Store.{Pages, Settled, file_of, page_of}
@@ -23,12 +23,14 @@ use Rattle.seg_table.specs.MetaPages.{says}
 use Rattle.bucket_chain.specs.Answers.{IsWalkAnswer}
 use Rattle.dbm_file.specs.Faults.{fault_of, told}
 use Rattle.dbm_file.specs.Holding.{Holds}
-use Rattle.dbm_file.specs.Database.{store_of, meta_of, pages_of, handle_of}
+use Rattle.dbm_file.specs.Database.{store_of, meta_of, pages_of, cursor_of, HoldsMap, HoldsPass, handle_of, IsAt}
+use Rattle.dbm_file.specs.Passing.{IsPass}
 use Rattle.dbm_file.specs.Answers.{MayBeLeft, StandsForSome, Survives, IsStep, Goes, Keeps}
 use Rattle.bucket_chain.proofs.ReadPages.{reads_none}
 use Rattle.dbm_file.specs.Trying.{with_fault, IsRead}
 use Rattle.dbm_file.specs.declared.fault.Fault.{Fault}
 use Rattle.dbm_file.specs.declared.fault.Fault.TheVariants.{Device, Broken}
+use Rattle.dbm_file.specs.declared.passing.Cursor.{Cursor}
 use Rattle.dbm_file.specs.declared.database.Database.{Database}
 
 -- the flag of the program is that of the definitions
@@ -36,16 +38,30 @@ pub kept_first : (old : Option Fault) (fault : Fault) → option_map fault_of (c
 kept_first None fault = refl
 kept_first (Some earlier) fault = refl
 
-abbrev state_with : Contents → ℕ → Option model.Fault → Bool → State
-state_with map limit error usable = record { map = map; limit = limit; error = error; pass = None; writable = true; usable = usable }
+abbrev state_with : Contents → Option Keys → ℕ → Option model.Fault → Bool → State
+state_with map pass limit error usable = record { map = map; limit = limit; error = error; pass = pass; writable = true; usable = usable }
 
-pub same_parts : (map : Contents) (limit limit' : ℕ) (error error' : Option model.Fault) (usable usable' : Bool) → limit ≡ limit' → error ≡ error' → usable ≡ usable' → state_with map limit error usable ≡ state_with map limit' error' usable'
-same_parts map limit limit' error error' usable usable' l e u =
-    ap (λ (n : ℕ). state_with map n error usable) l ∙ ap (λ (f : Option model.Fault). state_with map limit' f usable) e ∙ ap (state_with map limit' error') u
+pub same_parts : (map : Contents) (pass : Option Keys) (limit limit' : ℕ) (error error' : Option model.Fault) (usable usable' : Bool) → limit ≡ limit' → error ≡ error' → usable ≡ usable'
+    → state_with map pass limit error usable ≡ state_with map pass limit' error' usable'
+same_parts map pass limit limit' error error' usable usable' l e u =
+    ap (λ (n : ℕ). state_with map pass n error usable) l ∙ ap (λ (f : Option model.Fault). state_with map pass limit' f usable) e ∙ ap (state_with map pass limit' error') u
+
+-- a database at its own map and pass
+pub at_own : {S : Type 0} {s : Ghosts S} (db : Database S s) (map : Contents) (pass : Option Keys) → HoldsMap db map → HoldsPass db pass → IsAt db (handle_of db map pass)
+at_own db map pass held going = record { shows = refl; map = held; pass = going }
+
+-- a step from there is one from the handle that it is at
+pub from_own : {S : Type 0} {s : Ghosts S} {old new : Database S s} {h : Handle} {call : model.Call} {reply : model.Reply} → IsAt old h → IsStep old new (handle_of old h.state.map h.state.pass) call reply → IsStep old new h call reply
+from_own {S} {s} {old} {new} {h} {call} {reply} at step = subst (λ (x : Handle). IsStep old new x call reply) (sym at.shows) step
+
+-- the pass depends on the committed pages, the meta page and the cursor
+pub same_pass : (pages pages' : Pages) (m m' : Meta) (cursor cursor' : Option Cursor) (pass : Option Keys) → pages' ≡ pages → m' ≡ m → cursor' ≡ cursor → IsPass pages m cursor pass → IsPass pages' m' cursor' pass
+same_pass pages pages' m m' cursor cursor' pass p n c is =
+    subst (λ (x : Pages). IsPass x m' cursor' pass) (sym p) (subst (λ (x : Meta). IsPass pages x cursor' pass) (sym n) (subst (λ (x : Option Cursor). IsPass pages m x pass) (sym c) is))
 
 -- with no call of the store; `only` is its law `only_now`
 pub no_read : {S : Type 0} (s : Ghosts S) (db : Database S s) → ((y : Settled) → s.honest (store_of db) → s.settled_since (store_of db) (s.moment (store_of db)) y → s.settles_to (store_of db) y) → IsRead db db
-no_read s db only = record { reads = reads_none s (store_of db) only; meta_is = refl; error_is = refl }
+no_read s db only = record { reads = reads_none s (store_of db) only; meta_is = refl; error_is = refl; pass_is = refl }
 
 -- with another store, of which pages were read, and another page
 abbrev pub after_reads : {S : Type 0} (s : Ghosts S) (db : Database S s) (read : S) (page : Page) → ReadsOnly s (store_of db) read → Database S s
@@ -72,16 +88,17 @@ module _ {S : Type 0} (s : Ghosts S) (old new : Database S s) (read : IsRead old
   pub still_usable : (pages_of new).usable ≡ (pages_of old).usable
   still_usable = ap (λ (st : store.State). st.usable) read.reads.same
 
-module _ {S : Type 0} (s : Ghosts S) (old new : Database S s) (map : Contents) where
+module _ {S : Type 0} (s : Ghosts S) (old new : Database S s) (map : Contents) (pass : Option Keys) where
   -- the state of a database with this fault
   pub flagged_is : (fault : Fault) → (meta_of new).limit ≡ (meta_of old).limit → new.error ≡ old.error → (pages_of new).usable ≡ (pages_of old).usable
-      → (handle_of (with_fault new fault) map).state ≡ flagged (fault_of fault) (handle_of old map).state
+      → (handle_of (with_fault new fault) map pass).state ≡ flagged (fault_of fault) (handle_of old map pass).state
   flagged_is fault limit error usable =
-      same_parts map _ _ _ _ _ _ limit (ap (λ (e : Option Fault). option_map fault_of (cond (is_some e) e (Some fault))) error ∙ kept_first old.error fault) usable
+      same_parts map pass _ _ _ _ _ _ limit (ap (λ (e : Option Fault). option_map fault_of (cond (is_some e) e (Some fault))) error ∙ kept_first old.error fault) usable
 
-  pub same_state : (meta_of new).limit ≡ (meta_of old).limit → new.error ≡ old.error → (pages_of new).usable ≡ (pages_of old).usable → (handle_of new map).state ≡ (handle_of old map).state
-  same_state limit error usable = same_parts map _ _ _ _ _ _ limit (ap (λ (e : Option Fault). option_map fault_of e) error) usable
+  pub same_state : (meta_of new).limit ≡ (meta_of old).limit → new.error ≡ old.error → (pages_of new).usable ≡ (pages_of old).usable → (handle_of new map pass).state ≡ (handle_of old map pass).state
+  same_state limit error usable = same_parts map pass _ _ _ _ _ _ limit (ap (λ (e : Option Fault). option_map fault_of e) error) usable
 
+module _ {S : Type 0} (s : Ghosts S) (old new : Database S s) (map : Contents) where
   module _ (read : IsRead old new) where
     -- the committed pages and the meta page stay
     pub still_holds : s.honest (store_of old) → Holds s (store_of old) (meta_of old) map → Holds s (store_of new) (meta_of new) map
@@ -99,81 +116,104 @@ module _ {S : Type 0} (s : Ghosts S) (old new : Database S s) (map : Contents) w
         weaker s.moment s.settled_since (store_of old) (store_of new) (StandsForSome Left (meta_of old).limit) (s.settles_to (store_of old)) (read.reads.stages_only.kept honest).any_moment
         (λ x is. (map, left, subst (λ (y : Settled). ImageStandsFor y map (meta_of old).limit) (sym (only x is)) h.stands))
 
-module _ {S : Type 0} (s : Ghosts S) (old new : Database S s) (map : Contents) (call : model.Call) (read : IsRead old new) (honest : s.honest (store_of old)) (h : Holds s (store_of old) (meta_of old) map)
-    (only : (x : Settled) → s.settles_to (store_of old) x → x ≡ file_of (s.committed (store_of old))) where
-  abbrev before : Handle
-  before = handle_of old map
+-- what was kept of the pass stays right
+pub still_passes : {S : Type 0} (s : Ghosts S) (old new : Database S s) (pass : Option Keys) → IsRead old new → s.honest (store_of old) → IsPass (s.committed (store_of old)) (meta_of old) (cursor_of old) pass
+    → IsPass (s.committed (store_of new)) (meta_of new) (cursor_of new) pass
+still_passes s old new pass read honest going = same_pass _ _ _ _ _ _ pass (read.reads.stages_only.kept honest).committed (still_meta s old new read) read.pass_is going
 
-  pub found_step : (reply : model.Reply) → case_of before.state call ≡ Finds reply → IsStep old new map call reply
+module _ {S : Type 0} (s : Ghosts S) (old new : Database S s) (map : Contents) (pass : Option Keys) (call : model.Call) (read : IsRead old new) (honest : s.honest (store_of old)) (h : Holds s (store_of old) (meta_of old) map)
+    (going : IsPass (s.committed (store_of old)) (meta_of old) (cursor_of old) pass) (only : (x : Settled) → s.settles_to (store_of old) x → x ≡ file_of (s.committed (store_of old))) where
+  abbrev before : Handle
+  before = handle_of old map pass
+
+  pub found_step : (reply : model.Reply) → case_of before.state call ≡ Finds reply → IsStep old new before call reply
   found_step reply falls = record {
-    left = map;
+    after = handle_of new map pass;
     step = record {
       counts = read.reads.stages_only.later;
-      answers = inl (subst (λ (c : Case). Answers before.state c reply (handle_of new map).state) (sym falls)
-          (refl, same_state s old new map (still_limit s old new read) read.error_is (still_usable s old new read)));
+      answers = inl (subst (λ (c : Case). Answers before.state c reply (handle_of new map pass).state) (sym falls)
+          (refl, same_state s old new map pass (still_limit s old new read) read.error_is (still_usable s old new read)));
     };
-    holds = λ usable. still_holds s old new map read honest h;
-    survives = λ usable. still_survives s old new map read honest h only (MayBeLeft before (handle_of new map) call) (inl refl);
+    is_at = at_own new map pass (λ usable. still_holds s old new map read honest h) (λ usable. still_passes s old new pass read honest going);
+    survives = λ usable. still_survives s old new map read honest h only (MayBeLeft before (handle_of new map pass) call) (inl refl);
   }
 
   module _ (fault : Fault) where
     abbrev refused : Database S s
     refused = with_fault new fault
 
-    refused_state : (handle_of refused map).state ≡ flagged (fault_of fault) before.state
-    refused_state = flagged_is s old new map fault (still_limit s old new read) read.error_is (still_usable s old new read)
+    refused_state : (handle_of refused map pass).state ≡ flagged (fault_of fault) before.state
+    refused_state = flagged_is s old new map pass fault (still_limit s old new read) read.error_is (still_usable s old new read)
 
-    refused_step : (Step before call (model.Refused (fault_of fault)) (handle_of refused map)) → IsStep old refused map call (model.Refused (fault_of fault))
+    refused_step : (Step before call (model.Refused (fault_of fault)) (handle_of refused map pass)) → IsStep old refused before call (model.Refused (fault_of fault))
     refused_step step = record {
-      left = map;
+      after = handle_of refused map pass;
       step = step;
-      holds = λ usable. still_holds s old new map read honest h;
-      survives = λ usable. still_survives s old new map read honest h only (MayBeLeft before (handle_of refused map) call) (inl refl);
+      is_at = at_own refused map pass (λ usable. still_holds s old new map read honest h) (λ usable. still_passes s old new pass read honest going);
+      survives = λ usable. still_survives s old new map read honest h only (MayBeLeft before (handle_of refused map pass) call) (inl refl);
     }
 
-    told_step : (rule : Case) → case_of before.state call ≡ rule → Answers before.state rule (model.Refused (fault_of fault)) (handle_of refused map).state → IsStep old refused map call (model.Refused (fault_of fault))
+    told_step : (rule : Case) → case_of before.state call ≡ rule → Answers before.state rule (model.Refused (fault_of fault)) (handle_of refused map pass).state → IsStep old refused before call (model.Refused (fault_of fault))
     told_step rule falls is = refused_step record {
       counts = read.reads.stages_only.later;
-      answers = inl (subst (λ (c : Case). Answers before.state c (model.Refused (fault_of fault)) (handle_of refused map).state) (sym falls) is);
+      answers = inl (subst (λ (c : Case). Answers before.state c (model.Refused (fault_of fault)) (handle_of refused map pass).state) (sym falls) is);
     }
 
-    pub rejected_step : case_of before.state call ≡ Refuses (fault_of fault) → IsStep old refused map call (model.Refused (fault_of fault))
+    pub rejected_step : case_of before.state call ≡ Refuses (fault_of fault) → IsStep old refused before call (model.Refused (fault_of fault))
     rejected_step falls = told_step (Refuses (fault_of fault)) falls (refl, refused_state)
 
-    pub declined_step : case_of before.state call ≡ Declines (fault_of fault) → IsStep old refused map call (model.Refused (fault_of fault))
+    pub declined_step : case_of before.state call ≡ Declines (fault_of fault) → IsStep old refused before call (model.Refused (fault_of fault))
     declined_step falls = told_step (Declines (fault_of fault)) falls (refl, refused_state)
 
     pub failed_step : fault ≡ Device → MoreFaults (s.faults (store_of old)) (s.faults (store_of new))
         → ((reply : model.Reply) (after : Handle) → Fails before reply after → Suffers before (case_of before.state call) reply after)
-        → IsStep old refused map call (model.Refused (fault_of fault))
+        → IsStep old refused before call (model.Refused (fault_of fault))
     failed_step is more may = refused_step record {
       counts = read.reads.stages_only.later;
-      answers = inr (may (model.Refused (fault_of fault)) (handle_of refused map)
+      answers = inr (may (model.Refused (fault_of fault)) (handle_of refused map pass)
           (ap (λ (f : Fault). model.Refused (fault_of f)) is, more, refused_state ∙ ap (λ (f : Fault). flagged (fault_of f) before.state) is));
     }
 
   -- where a walk through the pages failed, the device did
   pub walk_failed_step : (T : Type 0) (e : PageFault) → (pages_of old).usable ≡ true → IsWalkAnswer {T = T} (pages_of old) (Err e) → HasDeviceCause {T = T} (s.faults (store_of old)) (s.faults (store_of new)) (Err e)
       → (IsErrOf {T = T} (Err e) page.Damaged → ⊥) → ((reply : model.Reply) (after : Handle) → Fails before reply after → Suffers before (case_of before.state call) reply after)
-      → IsStep old (with_fault new (told e)) map call (model.Refused (fault_of (told e)))
+      → IsStep old (with_fault new (told e)) before call (model.Refused (fault_of (told e)))
   walk_failed_step T e usable answer cause whole may = device answer.only
     where
-      device : (e ≡ page.Broken) ⊎ ((e ≡ page.Damaged) ⊎ (e ≡ page.Device)) → IsStep old (with_fault new (told e)) map call (model.Refused (fault_of (told e)))
+      device : (e ≡ page.Broken) ⊎ ((e ≡ page.Damaged) ⊎ (e ≡ page.Device)) → IsStep old (with_fault new (told e)) before call (model.Refused (fault_of (told e)))
       device (inl is) = let broken = answer.broken (ap Err is) in absurd (let x = broken in cc)
       device (inr (inl is)) = absurd (whole (ap Err is))
       device (inr (inr is)) = failed_step (told e) (ap told is) (cause.fault (ap Err is)) may
 
+-- a walk through pages that failed says Device only where the device did, and Broken never of a usable store
+pub walk_more : {S T : Type 0} (s : Ghosts S) (old new : Database S s) (e : PageFault) → IsWalkAnswer {T = T} (pages_of old) (Err e) → HasDeviceCause {T = T} (s.faults (store_of old)) (s.faults (store_of new)) (Err e) → told e ≡ Device
+    → MoreFaults (s.faults (store_of old)) (s.faults (store_of new))
+walk_more s old new e answer cause same = by_case answer.only
+  where
+    by_case : (e ≡ page.Broken) ⊎ ((e ≡ page.Damaged) ⊎ (e ≡ page.Device)) → MoreFaults (s.faults (store_of old)) (s.faults (store_of new))
+    by_case (inl is) = absurd (let x = sym same ∙ ap told is in cc)
+    by_case (inr (inl is)) = absurd (let x = sym same ∙ ap told is in cc)
+    by_case (inr (inr is)) = cause.fault (ap Err is)
+
+pub walk_sound : {S T : Type 0} (s : Ghosts S) (old : Database S s) (e : PageFault) → (pages_of old).usable ≡ true → IsWalkAnswer {T = T} (pages_of old) (Err e) → told e ≡ Broken → ⊥
+walk_sound s old e usable answer same = by_case answer.only
+  where
+    by_case : (e ≡ page.Broken) ⊎ ((e ≡ page.Damaged) ⊎ (e ≡ page.Device)) → ⊥
+    by_case (inl is) = let broken = answer.broken (ap Err is) in absurd (let x = broken in cc)
+    by_case (inr (inl is)) = absurd (let x = sym same ∙ ap told is in cc)
+    by_case (inr (inr is)) = absurd (let x = sym same ∙ ap told is in cc)
+
 -- what a broken database answers
-pub broken_step : {S : Type 0} (s : Ghosts S) (old : Database S s) (map : Contents) (call : model.Call) → (pages_of old).usable ≡ false
-    → case_of (handle_of old map).state call ≡ Refuses model.Broken → IsStep old (with_fault old Broken) map call (model.Refused model.Broken)
-broken_step s old map call broken falls = record {
-  left = map;
+pub broken_step : {S : Type 0} (s : Ghosts S) (old : Database S s) (map : Contents) (pass : Option Keys) (call : model.Call) → (pages_of old).usable ≡ false
+    → case_of (handle_of old map pass).state call ≡ Refuses model.Broken → IsStep old (with_fault old Broken) (handle_of old map pass) call (model.Refused model.Broken)
+broken_step s old map pass call broken falls = record {
+  after = handle_of (with_fault old Broken) map pass;
   step = record {
     counts = omega arith;
-    answers = inl (subst (λ (c : Case). Answers (handle_of old map).state c (model.Refused model.Broken) (handle_of (with_fault old Broken) map).state) (sym falls)
-        (refl, flagged_is s old old map Broken refl refl refl));
+    answers = inl (subst (λ (c : Case). Answers (handle_of old map pass).state c (model.Refused model.Broken) (handle_of (with_fault old Broken) map pass).state) (sym falls)
+        (refl, flagged_is s old old map pass Broken refl refl refl));
   };
-  holds = λ usable. absurd (let e = usable in cc);
+  is_at = at_own (with_fault old Broken) map pass (λ usable. absurd (let e = usable in cc)) (λ usable. absurd (let e = usable in cc));
   survives = λ usable. absurd (let e = usable in cc);
 }
 
@@ -205,7 +245,7 @@ module _ {S : Type 0} (s : Ghosts S) (old new : Database S s) (read : IsRead old
     fault = λ is. more (let e = is in cc);
     no_error = tt;
     error = ap (λ (e : Option Fault). option_map fault_of (cond (is_some e) e (Some fault))) read.error_is ∙ kept_first old.error fault;
-    refused = (still_meta s old new read, ap (λ (st : store.State). st.end) read.reads.same);
+    refused = (still_meta s old new read, ap (λ (st : store.State). st.end) read.reads.same, read.pass_is);
     breaks = inl (still_usable s old new read);
     broken = (λ is. absurd (sound (let e = is in cc)), λ broken. absurd (let e = broken in cc));
   }
@@ -216,7 +256,7 @@ broken_keeps T s old broken = record {
   fault = λ is. absurd (let e = is in cc);
   no_error = tt;
   error = kept_first old.error Broken;
-  refused = (refl, refl);
+  refused = (refl, refl, refl);
   breaks = inl refl;
   broken = (λ is. broken, λ is. refl);
 }

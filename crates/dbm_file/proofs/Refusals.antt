@@ -19,14 +19,14 @@ use Rattle.dbm_file.specs.declared.fault.Fault.{Fault}
 use Rattle.dbm_file.specs.declared.fault.Fault.TheVariants.{NotADatabase, Damaged}
 use Rattle.dbm_file.proofs.NewFiles.{BlankOrNew}
 
--- what holds of a value or an error, from another fact of it
-pub each_ok : {T E : Type 0} {P Q : T → Type 0} (result : Result T E) → IfOk result P → ((x : T) → P x → Q x) → IfOk result Q
-each_ok (Ok x) p then = then x p
-each_ok (Err e) p then = tt
-
+-- what holds of a value or an error, from other facts of it
 pub both_ok : {T E : Type 0} {P Q R : T → Type 0} (result : Result T E) → IfOk result P → IfOk result Q → ((x : T) → P x → Q x → R x) → IfOk result R
 both_ok (Ok x) p q then = then x p q
 both_ok (Err e) p q then = tt
+
+pub all_ok : {T E : Type 0} {P Q R U : T → Type 0} (result : Result T E) → IfOk result P → IfOk result Q → IfOk result R → ((x : T) → P x → Q x → R x → U x) → IfOk result U
+all_ok (Ok x) p q r then = then x p q r
+all_ok (Err e) p q r then = tt
 
 pub each_err : {T E : Type 0} {P Q : E → Type 0} (result : Result T E) → IfErr result P → ((e : E) → result ≡ Err e → P e → Q e) → IfErr result Q
 each_err (Ok x) p then = tt
@@ -126,9 +126,6 @@ what_stood pages start file settles all = by_case (all settles.image settles.is_
       stands = subst (λ (s : Settled). ImageStandsFor s some.0 some.1) settles.reads some.2;
       stood = record { image = settles.image; at_start = settles.is_image; stands = some.2 };
     }
-
-pub is_opened : (how : OpenHow) (pages : ℕ) (start : Candidates) (map : Contents) (limit held : ℕ) → StoodFor pages start map limit → held ≡ limit → IsOpened how pages start map held
-is_opened how pages start map limit held stood same = inl (subst (StoodFor pages start map) (sym same) stood)
 
 -- a file whose meta page is refused
 pub refused_file : (how : OpenHow) (sectors : ℕ) (start now : Candidates) (file : Pages) (fault : Fault) → SettlesTo (sectors / 4) start (file_of file) → RefusesMeta (page_of file 1) fault

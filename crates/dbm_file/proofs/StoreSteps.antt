@@ -12,7 +12,9 @@ use Rattle.seg_table.specs.declared.meta.Meta as code
 use Rattle.dbm_file.specs.Faults.{fault_of, told}
 use Rattle.dbm_file.specs.Holding.{Holds}
 use Rattle.dbm_file.specs.Calls.{mode_of, store_reply, delete_reply}
-use Rattle.dbm_file.specs.Database.{store_of, meta_of, pages_of, handle_of}
+use Rattle.dbm_model.specs.States.{Keys, Handle}
+use Rattle.dbm_file.specs.Database.{store_of, meta_of, pages_of, cursor_of, handle_of}
+use Rattle.dbm_file.specs.Passing.{IsPass}
 use Rattle.dbm_file.specs.Answers.{IsStep}
 use Rattle.dbm_file.specs.Trying.{with_fault, with_error_of, IsRead}
 use Rattle.dbm_file.specs.declared.fault.Fault.{Fault}
@@ -23,33 +25,36 @@ use Rattle.dbm_file.specs.declared.calls.DeleteReply.{DeleteReply}
 use Rattle.dbm_file.specs.declared.database.Database.{Database}
 use Rattle.dbm_file.proofs.Cases.{store_rule, delete_rule, changes, removes}
 use Rattle.dbm_file.proofs.ChangeSteps.{IsAsked}
+use Rattle.dbm_file.proofs.Lends.{kept_error, flagged_step}
 use Rattle.dbm_file.proofs.Tables.{counted}
 
-module _ {S : Type 0} (s : Ghosts S) (old mid : Database S s) (map : Contents) (key : List ℕ) (read : IsRead old mid) (usable : (pages_of old).usable ≡ true) (honest : s.honest (store_of old))
-    (h : Holds s (store_of old) (meta_of old) map) (only : (x : Settled) → s.settles_to (store_of old) x → x ≡ file_of (s.committed (store_of old))) where
+module _ {S : Type 0} (s : Ghosts S) (old mid : Database S s) (map : Contents) (pass : Option Keys) (key : List ℕ) (read : IsRead old mid) (usable : (pages_of old).usable ≡ true) (honest : s.honest (store_of old))
+    (h : Holds s (store_of old) (meta_of old) map) (going : IsPass (s.committed (store_of old)) (meta_of old) (cursor_of old) pass) (only : (x : Settled) → s.settles_to (store_of old) x → x ≡ file_of (s.committed (store_of old))) where
   -- a store of an allowed pair, whose key was there or not
   pub store_asked : (content : List ℕ) (mode : StoreMode) (there : Bool) → length key + length content ≤ 2026 → there ≡ is_some (get map key) → (there ≡ true → mode ≡ Replace) → (there ≡ false → mid.meta.pairs < mid.meta.limit)
-      → IsAsked s old mid map (insert map key content) (model.Store key content (mode_of mode)) model.Stored
+      → IsAsked s old mid map (insert map key content) pass (model.Store key content (mode_of mode)) model.Stored
   store_asked content mode there short is replaces few = record {
     read = read;
     usable = usable;
     honest = honest;
     holds = h;
     only = only;
-    falls = store_rule (handle_of old map).state key content (mode_of mode) usable refl short
-        ∙ changes (handle_of old map).state key content (get map key) (mode_of mode) (λ has. ap mode_of (replaces (is ∙ has)))
+    going = going;
+    falls = store_rule (handle_of old map pass).state key content (mode_of mode) usable refl short
+        ∙ changes (handle_of old map pass).state key content (get map key) (mode_of mode) (λ has. ap mode_of (replaces (is ∙ has)))
         (λ absent. omega (arith, few (is ∙ absent), counted s old.store (meta_of old) map h, ap (λ (m : code.Meta). m.limit) read.meta_is, ap (λ (m : code.Meta). m.pairs) read.meta_is));
   }
 
   -- a delete of a key that is there
-  pub delete_asked : is_some (get map key) ≡ true → IsAsked s old mid map (remove map key) (model.Delete key) model.Deleted
+  pub delete_asked : is_some (get map key) ≡ true → IsAsked s old mid map (remove map key) pass (model.Delete key) model.Deleted
   delete_asked is = record {
     read = read;
     usable = usable;
     honest = honest;
     holds = h;
     only = only;
-    falls = delete_rule (handle_of old map).state key usable refl ∙ removes (handle_of old map).state key (get map key) is;
+    going = going;
+    falls = delete_rule (handle_of old map pass).state key usable refl ∙ removes (handle_of old map pass).state key (get map key) is;
   }
 
 -- a file that counts no pair has no key
@@ -59,28 +64,21 @@ no_key s old map key h none there =
     let absent = ap (λ (m : Contents). is_some (get m key)) nothing ∙ ap is_some (get-empty key_cmp key) in
     absurd (let e = sym there ∙ absent in cc)
 
-module _ {S : Type 0} {s : Ghosts S} {old : Database S s} (new : Database S s) {map : Contents} {call : model.Call} (e : PageFault) (step : IsStep old (with_fault new (told e)) map call (model.Refused (fault_of (told e)))) where
+module _ {S : Type 0} {s : Ghosts S} {old : Database S s} (new : Database S s) {h : Handle} {call : model.Call} (e : PageFault) (step : IsStep old (with_fault new (told e)) h call (model.Refused (fault_of (told e)))) where
   -- what a `?` answers of a fault of the pages
-  pub store_told : (r : Result StoreReply Fault) → IsErrAnd r (λ fault. fault ≡ told e) → IsStep old (with_error_of new r) map call (store_reply r)
+  pub store_told : (r : Result StoreReply Fault) → IsErrAnd r (λ fault. fault ≡ told e) → IsStep old (with_error_of new r) h call (store_reply r)
   store_told (Ok value) is = absurd is
-  store_told (Err fault) is = subst (λ (f : Fault). IsStep old (with_fault new f) map call (model.Refused (fault_of f))) (sym is) step
+  store_told (Err fault) is = subst (λ (f : Fault). IsStep old (with_fault new f) h call (model.Refused (fault_of f))) (sym is) step
 
-  pub delete_told : (r : Result DeleteReply Fault) → IsErrAnd r (λ fault. fault ≡ told e) → IsStep old (with_error_of new r) map call (delete_reply r)
+  pub delete_told : (r : Result DeleteReply Fault) → IsErrAnd r (λ fault. fault ≡ told e) → IsStep old (with_error_of new r) h call (delete_reply r)
   delete_told (Ok value) is = absurd is
-  delete_told (Err fault) is = subst (λ (f : Fault). IsStep old (with_fault new f) map call (model.Refused (fault_of f))) (sym is) step
+  delete_told (Err fault) is = subst (λ (f : Fault). IsStep old (with_fault new f) h call (model.Refused (fault_of f))) (sym is) step
 
 -- the step of a call whose fault was then kept as the first one
-module _ {S : Type 0} (s : Ghosts S) (old db : Database S s) (map : Contents) (idle : (pages_of db).staged ≡ []) (writable : (pages_of db).writable ≡ true) (valid : IsMeta (meta_of db)) where
-  abbrev kept_error : Option Fault → Database S s
-  kept_error e = record db { error = e; idle = idle; writable = writable; valid = valid }
+module _ {S : Type 0} (s : Ghosts S) (old db : Database S s) (h : Handle) (idle : (pages_of db).staged ≡ []) (writable : (pages_of db).writable ≡ true) (valid : IsMeta (meta_of db)) (call : model.Call) (error : Option Fault) (fault : Fault)
+    (flag : error ≡ cond (is_some db.error) db.error (Some fault)) where
+  pub store_flagged : (r : Result StoreReply Fault) → r ≡ Err fault → IsStep old (with_fault db fault) h call (model.Refused (fault_of fault)) → IsStep old (kept_error s db idle writable valid error) h call (store_reply r)
+  store_flagged r is step = subst (λ (x : Result StoreReply Fault). IsStep old (kept_error s db idle writable valid error) h call (store_reply x)) (sym is) (flagged_step s old db h idle writable valid call error fault flag (model.Refused (fault_of fault)) step)
 
-  module _ (call : model.Call) (error : Option Fault) (fault : Fault) (flag : error ≡ cond (is_some db.error) db.error (Some fault)) where
-    flagged_step : (reply : model.Reply) → IsStep old (with_fault db fault) map call reply → IsStep old (kept_error error) map call reply
-    flagged_step reply step = subst (λ (e : Option Fault). IsStep old (kept_error e) map call reply) (sym flag)
-        record { left = step.left; step = step.step; holds = λ usable. step.holds usable; survives = λ usable. step.survives usable }
-
-    pub store_flagged : (r : Result StoreReply Fault) → r ≡ Err fault → IsStep old (with_fault db fault) map call (model.Refused (fault_of fault)) → IsStep old (kept_error error) map call (store_reply r)
-    store_flagged r is step = subst (λ (x : Result StoreReply Fault). IsStep old (kept_error error) map call (store_reply x)) (sym is) (flagged_step (model.Refused (fault_of fault)) step)
-
-    pub delete_flagged : (r : Result DeleteReply Fault) → r ≡ Err fault → IsStep old (with_fault db fault) map call (model.Refused (fault_of fault)) → IsStep old (kept_error error) map call (delete_reply r)
-    delete_flagged r is step = subst (λ (x : Result DeleteReply Fault). IsStep old (kept_error error) map call (delete_reply x)) (sym is) (flagged_step (model.Refused (fault_of fault)) step)
+  pub delete_flagged : (r : Result DeleteReply Fault) → r ≡ Err fault → IsStep old (with_fault db fault) h call (model.Refused (fault_of fault)) → IsStep old (kept_error s db idle writable valid error) h call (delete_reply r)
+  delete_flagged r is step = subst (λ (x : Result DeleteReply Fault). IsStep old (kept_error s db idle writable valid error) h call (delete_reply x)) (sym is) (flagged_step s old db h idle writable valid call error fault flag (model.Refused (fault_of fault)) step)

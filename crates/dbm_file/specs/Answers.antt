@@ -1,9 +1,6 @@
 -- How a call on a database is answered, and what it leaves.
-use Rattle.std.specs.Prelude.{◌≡◌, ◌⊎◌, ◌↔◌, ◌≤◌, ◌<◌, ℕ, true, false, length, List, take, slice_index_or, Option, Result, OnOk, OnErr, IfErr, IsErrOf}
-use Rattle.std.specs.FinMap.{empty}
-use Rattle.std.specs.Option.{option_map}
+use Rattle.std.specs.Prelude.{◌≡◌, ◌⊎◌, ◌↔◌, ◌≤◌, ℕ, true, false, List, [], ◌∷◌, Result, OnOk, OnErr, IfErr, IsErrOf}
 use Rattle.sect_dev.specs.Device.{LeavesOnly, MoreFaults}
-use Rattle.dbm_model.specs.Calls as model
 use Rattle.dbm_model.specs.Calls.{Call, Reply}
 use Rattle.dbm_model.specs.Pairs.{Contents}
 use Rattle.dbm_model.specs.States.{Handle, first_fault}
@@ -12,7 +9,7 @@ use Rattle.page_io.specs.Store.{Settled}
 use Rattle.page_io.specs.Meaning.{ImageStandsFor}
 use Rattle.page_io.specs.declared.store.PageStore.{Ghosts}
 use Rattle.dbm_file.specs.Faults.{fault_of}
-use Rattle.dbm_file.specs.Database.{store_of, meta_of, pages_of, error_of, HoldsMap, handle_of}
+use Rattle.dbm_file.specs.Database.{store_of, meta_of, pages_of, error_of, cursor_of, IsAt}
 use Rattle.dbm_file.specs.declared.fault.Fault.{Fault}
 use Rattle.dbm_file.specs.declared.fault.Fault.TheVariants.{Device, Broken}
 use Rattle.dbm_file.specs.declared.database.Database.{Database}
@@ -33,26 +30,26 @@ StandsForSome Left limit settled = (map : Contents) × Left map × ImageStandsFo
 abbrev pub Survives : {S : Type 0} {s : Ghosts S} → Database S s → Database S s → (Contents → Type 0) → Type 0
 Survives {S} {s} old new Left = LeavesOnly s.moment s.settled_since (store_of old) (store_of new) (StandsForSome Left (meta_of old).limit)
 
--- A call on a database whose file stands for the map: a step of the model, and what a stop leaves within it.
-pub record IsStep {S : Type 0} {s : Ghosts S} (old new : Database S s) (map : Contents) (call : Call) (reply : Reply) : Type 0 where
-  pub left : Contents
-  pub step : Step (handle_of old map) call reply (handle_of new left)
-  pub holds : HoldsMap new left
-  pub survives : (pages_of old).usable ≡ true → Survives old new (MayBeLeft (handle_of old map) (handle_of new left) call)
+-- A call on a database at this handle: a step of the model, and what a stop leaves within it.
+pub record IsStep {S : Type 0} {s : Ghosts S} (old new : Database S s) (before : Handle) (call : Call) (reply : Reply) : Type 0 where
+  pub after : Handle
+  pub step : Step before call reply after
+  pub is_at : IsAt new after
+  pub survives : (pages_of old).usable ≡ true → Survives old new (MayBeLeft before after call)
 
--- a map that a stop within these calls, answered so, may leave: that after some of them, or that which the one that broke the database asks for
-pub record MayBeLeftWithin (before after : Handle) (calls : List Call) (replies : List Reply) (map : Contents) : Type 0 where
-  pub made : ℕ
-  pub mid : Handle
-  pub run : Run before (take made calls) (take made replies) mid
-  pub left : (map ≡ mid.state.map) ⊎ ((after.state.usable ≡ false) × (made < length calls) × AsksFor mid (slice_index_or calls made model.Error) map)
+-- a map that a stop within these calls, answered so, may leave: one that a stop within one of them may
+abbrev pub MayBeLeftWithin : Handle → List Call → List Reply → Handle → Contents → Type 0
+MayBeLeftWithin before [] [] after map = (after ≡ before) × (map ≡ before.state.map)
+MayBeLeftWithin before (call ∷ calls) (reply ∷ replies) after map = (mid : Handle) × Step before call reply mid × ((MayBeLeft before mid call map × Run mid calls replies after) ⊎ MayBeLeftWithin mid calls replies after map)
+MayBeLeftWithin before [] (reply ∷ replies) after map = ⊥
+MayBeLeftWithin before (call ∷ calls) [] after map = ⊥
 
 -- the same of a list of calls
-pub record IsRun {S : Type 0} {s : Ghosts S} (old new : Database S s) (map : Contents) (calls : List Call) (replies : List Reply) : Type 0 where
-  pub left : Contents
-  pub run : Run (handle_of old map) calls replies (handle_of new left)
-  pub holds : HoldsMap new left
-  pub survives : (pages_of old).usable ≡ true → Survives old new (MayBeLeftWithin (handle_of old map) (handle_of new left) calls replies)
+pub record IsRun {S : Type 0} {s : Ghosts S} (old new : Database S s) (before : Handle) (calls : List Call) (replies : List Reply) : Type 0 where
+  pub after : Handle
+  pub run : Run before calls replies after
+  pub is_at : IsAt new after
+  pub survives : (pages_of old).usable ≡ true → Survives old new (MayBeLeftWithin before calls replies after)
 
 -- What any number of calls leave on any device.
 pub record Goes {S : Type 0} {s : Ghosts S} (old new : Database S s) : Type 0 where
@@ -71,6 +68,6 @@ pub record Keeps {S T : Type 0} {s : Ghosts S} (old new : Database S s) (result 
   pub no_error : OnOk result (error_of new ≡ error_of old)
   pub error : IfErr result (λ e. error_of new ≡ first_fault (error_of old) (fault_of e))
   -- a refusal changes nothing, but that a fault of the device may break the database
-  pub refused : OnErr result ((meta_of new ≡ meta_of old) × ((pages_of new).end ≡ (pages_of old).end))
+  pub refused : OnErr result ((meta_of new ≡ meta_of old) × ((pages_of new).end ≡ (pages_of old).end) × (cursor_of new ≡ cursor_of old))
   pub breaks : ((pages_of new).usable ≡ (pages_of old).usable) ⊎ (IsErrOf result Device × ((pages_of new).usable ≡ false))
   pub broken : IsErrOf result Broken ↔ ((pages_of old).usable ≡ false)

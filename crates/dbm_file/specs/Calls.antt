@@ -1,5 +1,5 @@
 -- The program's calls and replies as those of the definitions.
-use Rattle.std.specs.Prelude.{List, ℕ, Option, Some, None, Result, Ok, Err}
+use Rattle.std.specs.Prelude.{List, ℕ, ◌-◌, ◌^◌, ℤ, pos, negsuc, Option, Some, None, Result, Ok, Err}
 use Rattle.std.specs.Borrow.{Bor}
 use Rattle.dbm_model.specs.Calls as model
 use Rattle.dbm_file.specs.Faults.{fault_of}
@@ -11,9 +11,9 @@ use Rattle.dbm_file.specs.declared.calls.StoreReply.TheVariants as stored
 use Rattle.dbm_file.specs.declared.calls.DeleteReply.{DeleteReply}
 use Rattle.dbm_file.specs.declared.calls.DeleteReply.TheVariants as deleted
 use Rattle.dbm_file.specs.declared.calls.Call.{Call}
-use Rattle.dbm_file.specs.declared.calls.Call.TheVariants.{Store, Fetch, Delete}
+use Rattle.dbm_file.specs.declared.calls.Call.TheVariants.{Store, Fetch, Delete, First, Next, Error, Clear}
 use Rattle.dbm_file.specs.declared.calls.Reply.{Reply}
-use Rattle.dbm_file.specs.declared.calls.Reply.TheVariants.{Stored, Kept, Deleted, Absent, Bytes, NoRecord, Refused}
+use Rattle.dbm_file.specs.declared.calls.Reply.TheVariants.{Stored, Kept, Deleted, Absent, Bytes, NoRecord, End, Number, Refused}
 
 abbrev pub mode_of : StoreMode → model.Mode
 mode_of Insert = model.Insert
@@ -23,6 +23,15 @@ abbrev pub call_of : Call → model.Call
 call_of (Store key content mode) = model.Store key content (mode_of mode)
 call_of (Fetch key) = model.Fetch key
 call_of (Delete key) = model.Delete key
+call_of First = model.First
+call_of Next = model.Next
+call_of Error = model.Error
+call_of Clear = model.Clear
+
+-- a number by its 32 bits, so that no negative one is taken for another
+abbrev pub bits_of : ℤ → ℕ
+bits_of (pos n) = n
+bits_of (negsuc n) = 2 ^ 32 - 1 - n
 
 abbrev pub reply_of : Reply → model.Reply
 reply_of Stored = model.Stored
@@ -31,7 +40,13 @@ reply_of Deleted = model.Deleted
 reply_of Absent = model.Absent
 reply_of (Bytes bytes) = model.Bytes bytes
 reply_of NoRecord = model.NoRecord
+reply_of End = model.End
+reply_of (Number number) = model.Number (bits_of number)
 reply_of (Refused fault) = model.Refused (fault_of fault)
+
+-- a content or a key that lies in the database, or none
+abbrev pub Lent : Type 0
+Lent = Result (Option (Bor (List ℕ))) Fault
 
 -- what a store answers
 abbrev pub store_reply : Result StoreReply Fault → model.Reply
@@ -45,8 +60,8 @@ delete_reply (Ok deleted.Deleted) = model.Deleted
 delete_reply (Ok deleted.Absent) = model.Absent
 delete_reply (Err fault) = model.Refused (fault_of fault)
 
--- what a fetch answers
-abbrev pub fetch_reply : Result (Option (Bor (List ℕ))) Fault → model.Reply
-fetch_reply (Ok None) = model.NoRecord
-fetch_reply (Ok (Some content)) = model.Bytes content.now
-fetch_reply (Err fault) = model.Refused (fault_of fault)
+-- what a call answers that lends bytes, where this is its answer for none
+abbrev pub lent_reply : model.Reply → Lent → model.Reply
+lent_reply none (Ok None) = none
+lent_reply none (Ok (Some bytes)) = model.Bytes bytes.now
+lent_reply none (Err fault) = model.Refused (fault_of fault)

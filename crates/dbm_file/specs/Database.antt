@@ -1,15 +1,17 @@
 -- What a caller sees of an open database.
-use Rattle.std.specs.Prelude.{◌≡◌, ℕ, ◌+◌, ◌*◌, nat_lt, true, None, Option}
+use Rattle.std.specs.Prelude.{◌≡◌, ℕ, ◌+◌, ◌*◌, nat_lt, true, Option}
 use Rattle.std.specs.Option.{option_map}
 use Rattle.dbm_model.specs.Calls as model
 use Rattle.dbm_model.specs.Pages.{Meta}
 use Rattle.dbm_model.specs.Pairs.{Contents}
-use Rattle.dbm_model.specs.States.{Handle}
+use Rattle.dbm_model.specs.States.{Keys, Handle}
 use Rattle.page_io.specs.Store.{State}
 use Rattle.page_io.specs.declared.store.PageStore.{Ghosts}
 use Rattle.seg_table.specs.MetaPages.{says}
 use Rattle.dbm_file.specs.Faults.{fault_of}
 use Rattle.dbm_file.specs.Holding.{Holds}
+use Rattle.dbm_file.specs.Passing.{IsPass}
+use Rattle.dbm_file.specs.declared.passing.Cursor.{Cursor}
 use Rattle.dbm_file.specs.declared.database.Database.{Database}
 
 -- the store of pages below
@@ -23,18 +25,32 @@ meta_of db = says db.meta
 abbrev pub pages_of : {S : Type 0} {s : Ghosts S} → Database S s → State
 pages_of {S} {s} db = s.state db.store
 
--- the first fault since the opening
+-- where its pass stands, if one is on
+abbrev pub cursor_of : {S : Type 0} {s : Ghosts S} → Database S s → Option Cursor
+cursor_of db = db.pass
+
+-- the first fault since the opening or the last clearing
 abbrev pub error_of : {S : Type 0} {s : Ghosts S} → Database S s → Option model.Fault
 error_of db = option_map fault_of db.error
 
--- Its file stands for the map. Of a broken one's file nothing is said: that stands in the clauses of the call that broke it.
+-- its file stands for the map
 abbrev pub HoldsMap : {S : Type 0} {s : Ghosts S} → Database S s → Contents → Type 0
 HoldsMap {S} {s} db map = (pages_of db).usable ≡ true → Holds s (store_of db) (meta_of db) map
 
--- the handle of a database whose file stands for the map
-abbrev pub handle_of : {S : Type 0} {s : Ghosts S} → Database S s → Contents → Handle
-handle_of {S} {s} db map = record {
-  state = record { map = map; limit = (meta_of db).limit; error = error_of db; pass = None; writable = true; usable = (pages_of db).usable };
+-- its pass has these keys yet to give, or none is on
+abbrev pub HoldsPass : {S : Type 0} {s : Ghosts S} → Database S s → Option Keys → Type 0
+HoldsPass {S} {s} db pass = (pages_of db).usable ≡ true → IsPass (s.committed (store_of db)) (meta_of db) (cursor_of db) pass
+
+-- the handle of a database at this map and pass
+abbrev pub handle_of : {S : Type 0} {s : Ghosts S} → Database S s → Contents → Option Keys → Handle
+handle_of {S} {s} db map pass = record {
+  state = record { map = map; limit = (meta_of db).limit; error = error_of db; pass = pass; writable = true; usable = (pages_of db).usable };
   faults = s.faults (store_of db);
   is_short = nat_lt (pages_of db).capacity (2 * ((pages_of db).end + (meta_of db).pairs) + 8);
 }
+
+-- The database is at this handle of the definitions. Of a broken one's map and pass nothing is said: of its file the clauses of the call that broke it speak.
+pub record IsAt {S : Type 0} {s : Ghosts S} (db : Database S s) (h : Handle) : Type 0 where
+  pub shows : h ≡ handle_of db h.state.map h.state.pass
+  pub map : HoldsMap db h.state.map
+  pub pass : HoldsPass db h.state.pass

@@ -3,13 +3,14 @@ pub mod Faults
 pub mod Rooms
 pub mod Tables
 pub mod Looking
+pub mod Passing
 pub mod Splitting
 pub mod Staging
 pub mod Holding
 pub mod Database
 pub mod Answers
 pub mod Ending
-pub mod Fetching
+pub mod Lending
 pub mod Opening
 pub mod Opened
 pub mod Trying

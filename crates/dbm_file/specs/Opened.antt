@@ -4,7 +4,10 @@ use Rattle.sect_dev.specs.declared.device.SectorDev.{Ghosts}
 use Rattle.page_io.specs.declared.store.PageStore as store
 use Rattle.redo_area.specs.Pagers.{device_of}
 use Rattle.redo_area.specs.declared.pager.Pager.{Pager}
-use Rattle.dbm_file.specs.Database.{store_of, meta_of, pages_of, error_of}
+use Rattle.dbm_model.specs.Pairs.{Contents}
+use Rattle.dbm_model.specs.States.{Handle}
+use Rattle.dbm_model.specs.States as model
+use Rattle.dbm_file.specs.Database.{store_of, meta_of, pages_of, error_of, cursor_of, IsAt}
 use Rattle.dbm_file.specs.declared.fault.Fault.{Fault}
 use Rattle.dbm_file.specs.declared.database.Database.{Database}
 
@@ -18,3 +21,10 @@ pub record IsFresh {S : Type 0} {s : store.Ghosts S} (pages : ℕ) (db : Databas
   pub usable : (pages_of db).usable ≡ true
   pub capacity : (pages_of db).capacity ≡ pages
   pub no_error : error_of db ≡ None
+  pub no_pass : cursor_of db ≡ None
+
+-- just opened, its file stands for this map and limit
+pub record IsOpenedAt {S : Type 0} {s : store.Ghosts S} (db : Database S s) (map : Contents) (limit : ℕ) : Type 0 where
+  pub handle : Handle
+  pub is_at : IsAt db handle
+  pub is_fresh : handle.state ≡ model.fresh map limit true

@@ -1,18 +1,20 @@
--- Rooms for the contents that fetches give.
+-- Rooms for the contents and keys that calls give.
 use Rattle.std.specs.Prelude.{◌≡◌, ℕ, ◌≤◌, Bool, true, false, List, [], All, count_by, vec_len, vec_capacity}
 use Rattle.std.specs.Global.{Vec}
 use Rattle.dbm_file.specs.declared.calls.Call.{Call}
-use Rattle.dbm_file.specs.declared.calls.Call.TheVariants.{Store, Fetch, Delete}
+use Rattle.dbm_file.specs.declared.calls.Call.TheVariants.{Store, Fetch, Delete, First, Next, Error, Clear}
 
-abbrev pub is_fetch : Call → Bool
-is_fetch (Store key content mode) = false
-is_fetch (Fetch key) = true
-is_fetch (Delete key) = false
+abbrev pub gives_bytes : Call → Bool
+gives_bytes (Fetch key) = true
+gives_bytes First = true
+gives_bytes Next = true
+gives_bytes _ = false
 
-abbrev pub fetches_in : List Call → ℕ
-fetches_in calls = count_by is_fetch calls
+-- how many rooms the calls take
+abbrev pub rooms_in : List Call → ℕ
+rooms_in calls = count_by gives_bytes calls
 
--- empty, and with room for the longest content
+-- empty, and with room for the longest content or key
 pub record IsRoom (room : Vec ℕ) : Type 0 where
   pub empty : room.items ≡ []
   pub large : 2026 ≤ vec_capacity room

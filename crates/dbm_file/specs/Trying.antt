@@ -1,7 +1,10 @@
 -- A call of a database before its error is looked at.
-use Rattle.std.specs.Prelude.{◌≡◌, is_some, if◌then◌else◌, Some, Result, Ok, Err}
+use Rattle.std.specs.Prelude.{◌≡◌, ℕ, List, [], is_some, slice_index_or, if◌then◌else◌, Option, Some, None, Result, Ok, Err}
+use Rattle.dbm_model.specs.Calls as model
 use Rattle.page_io.specs.Views.{ReadsOnly}
 use Rattle.page_io.specs.declared.store.PageStore.{Ghosts}
+use Rattle.slot_page.specs.Contents.{pairs_of}
+use Rattle.dbm_file.specs.Faults.{fault_of}
 use Rattle.dbm_file.specs.Database.{store_of}
 use Rattle.dbm_file.specs.declared.fault.Fault.{Fault}
 use Rattle.dbm_file.specs.declared.database.Database.{Database}
@@ -20,3 +23,10 @@ pub record IsRead {S : Type 0} {s : Ghosts S} (old new : Database S s) : Type 0 
   pub reads : ReadsOnly s (store_of old) (store_of new)
   pub meta_is : new.meta ≡ old.meta
   pub error_is : new.error ≡ old.error
+  pub pass_is : new.pass ≡ old.pass
+
+-- what a pass replies, where the key of its next pair stands in a slot of the page
+abbrev pub slot_reply : List ℕ → Result (Option ℕ) Fault → model.Reply
+slot_reply bytes (Ok None) = model.End
+slot_reply bytes (Ok (Some slot)) = model.Bytes (slice_index_or (pairs_of bytes) slot ([], [])).0
+slot_reply bytes (Err fault) = model.Refused (fault_of fault)

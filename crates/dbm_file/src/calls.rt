@@ -71,6 +71,10 @@ pub enum Call {
     },
     Fetch(Octets),
     Delete(Octets),
+    First,
+    Next,
+    Error,
+    Clear,
 }
 
 /// The reply to a call.
@@ -82,9 +86,13 @@ pub enum Reply {
     Deleted,
     /// The key was not there to be deleted.
     Absent,
-    /// The content.
+    /// The content, or the key.
     Bytes(Octets),
     /// The key is not there.
     NoRecord,
+    /// The pass has given every key.
+    End,
+    /// The number of the first fault since the opening or the last clearing, or 0.
+    Number(i32),
     Refused(Fault),
 }

@@ -83,6 +83,7 @@ pub fn store_pair<S: PageStore>(
     // Where the file stands for a map, it then stands for the map with the pair, and at every moment for one of the two.
     ensures exact { S.honest store.old → (S.state store.old).usable ≡ true → (map : Contents) → Holds S.PageStore store.old (says meta.old) map → was_there ≡ is_some (get map key.now) →
         IsChanged S.PageStore store.new (says meta.new) map (insert map key.now content.now) result }
+    ensures kept { S.honest store.old → OnErr result ((S.state store.new).usable ≡ true → S.committed store.new ≡ S.committed store.old) }
     ensures any_moment { S.honest store.old → (S.state store.old).usable ≡ true → (map : Contents) → Holds S.PageStore store.old (says meta.old) map → was_there ≡ is_some (get map key.now) →
         LeavesOnly S.moment S.settled_since store.old store.new (StandsForEither map (insert map key.now content.now) meta.old.limit) }
     ensures unchanged { S.honest store.old → (S.state store.old).usable ≡ true → (map : Contents) → Holds S.PageStore store.old (says meta.old) map → was_there ≡ is_some (get map key.now) → OnErr result ((S.state store.new).usable ≡ true →
@@ -149,6 +150,7 @@ pub fn delete_pair<S: PageStore>(
     // Where the file stands for a map, it then stands for the map without the key, and at every moment for one of the two.
     ensures exact { S.honest store.old → (S.state store.old).usable ≡ true → (map : Contents) → Holds S.PageStore store.old (says meta.old) map → is_some (get map key.now) ≡ true →
         IsChanged S.PageStore store.new (says meta.new) map (remove map key.now) result }
+    ensures kept { S.honest store.old → OnErr result ((S.state store.new).usable ≡ true → S.committed store.new ≡ S.committed store.old) }
     ensures any_moment { S.honest store.old → (S.state store.old).usable ≡ true → (map : Contents) → Holds S.PageStore store.old (says meta.old) map → is_some (get map key.now) ≡ true →
         LeavesOnly S.moment S.settled_since store.old store.new (StandsForEither map (remove map key.now) meta.old.limit) }
     ensures unchanged { S.honest store.old → (S.state store.old).usable ≡ true → (map : Contents) → Holds S.PageStore store.old (says meta.old) map → is_some (get map key.now) ≡ true → OnErr result ((S.state store.new).usable ≡ true →

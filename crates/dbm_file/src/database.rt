@@ -5,6 +5,7 @@ ghost use Rattle.seg_table.specs.MetaPages.{says};
 
 use crate::changes::{delete_pair, store_pair};
 use crate::looking::find_pair;
+use crate::passing::{Cursor, next_pair};
 use crate::{DeleteReply, Fault, Stat, StoreMode, StoreReply};
 use page_io::{Page, PageFault, PageStore};
 use redo_area::Pager;
@@ -25,6 +26,7 @@ pub struct Database<S: PageStore> {
     pub(crate) meta: Meta,
     pub(crate) page: Page,
     pub(crate) error: Option<Fault>,
+    pub(crate) pass: Option<Cursor>,
     pub(crate) alloc: Global,
     pub(crate) ghost idle: { (S.state store).staged ≡ [] },
     pub(crate) ghost writable: { (S.state store).writable ≡ true },
@@ -32,29 +34,33 @@ pub struct Database<S: PageStore> {
 }
 
 impl<S: PageStore> Database<S> {
-    ghost use Rattle.std.specs.Prelude.{◌≡◌, ◌≢◌, ◌⊎◌, ◌↔◌, ◌+◌, ◌<◌, ◌≤◌, is_some, IsErrOf, OnOk, IfOk, IfErr, IfSome, Err, Ok, Option, Some, None, Result, length, MatchResult, true, false};
+    ghost use Rattle.std.specs.Prelude.{◌≡◌, ◌≢◌, ◌⊎◌, ◌↔◌, ◌+◌, ◌<◌, ◌≤◌, pos, is_some, IsErrOf, OnOk, IfOk, IfErr, IfSome, Err, Ok, Option, Some, None, Result, length, MatchResult, true, false};
     ghost use Rattle.std.specs.Borrow.{sem};
-    ghost use Rattle.std.specs.FinMap.{get};
+    ghost use Rattle.std.specs.FinMap.{get, len};
     ghost use Rattle.std.specs.Option.{option_map};
-    ghost use Rattle.dbm_model.specs.Calls.{Store, Delete};
+    ghost use Rattle.dbm_model.specs.Calls.{Call, Store, Fetch, Delete, First, Next, Error, Clear, NoRecord, End, Number};
     ghost use Rattle.dbm_model.specs.Pairs.{Contents};
+    ghost use Rattle.dbm_model.specs.States.{Keys, Handle, error_number};
+    ghost use Rattle.dbm_model.specs.Steps.{Passes, case_of};
     ghost use Rattle.dbm_model.specs.Valid.{buckets};
     ghost use Rattle.dbm_file.specs.Tables.{shape_in, shape_for};
-    ghost use Rattle.dbm_file.specs.Calls.{mode_of, store_reply, delete_reply, fetch_reply};
-    ghost use Rattle.dbm_file.specs.Database.{store_of, meta_of, pages_of, HoldsMap};
-    ghost use Rattle.dbm_file.specs.Answers.{IsStep, Keeps};
-    ghost use Rattle.dbm_file.specs.Fetching.{IsFetched};
+    ghost use Rattle.dbm_file.specs.Calls.{mode_of, store_reply, delete_reply, lent_reply};
+    ghost use Rattle.dbm_file.specs.Database.{store_of, meta_of, pages_of, error_of, IsAt};
+    ghost use Rattle.dbm_file.specs.Answers.{IsStep, Goes, Keeps};
+    ghost use Rattle.dbm_file.specs.Lending.{Lends};
+    ghost use Rattle.dbm_file.specs.Passing.{HasLeft};
     ghost use Rattle.dbm_file.specs.Ending.{EndsAs};
-    ghost use Rattle.dbm_file.specs.Trying.{with_error_of, IsRead};
+    ghost use Rattle.dbm_file.specs.Trying.{with_error_of, IsRead, slot_reply};
     ghost use Rattle.dbm_file.specs.Holding.{Holds};
     ghost use Rattle.bucket_chain.specs.Answers.{IsWalkAnswer};
     ghost use Rattle.page_io.specs.Answers.{HasDeviceCause};
+    ghost use Rattle.slot_page.specs.Contents.{IsBucketPage, pairs_of};
     ghost use Rattle.page_io.specs.declared.store.PageFault.TheVariants.{Damaged};
 
     /// The content that the key has (POSIX: `dbm_fetch`). The slice lies in the database, and ends with the next call. It
     /// takes no memory. In this order: `Broken`; then `Device` or `Damaged` while pages are read.
     pub fn fetch(&mut self, key: &[u8]) -> Result<Option<&[u8]>, Fault>
-        ensures* after { sem 𝓛 (EndsAs S.row S.PageStore self.entry (IsFetched self.old key.now result)) }
+        ensures* after { sem 𝓛 (EndsAs S.row S.PageStore self.entry (Lends (Fetch key.now) (lent_reply NoRecord) self.old result)) }
         ensures short { IfOk result (λ r. IfSome r (λ content. length content.now ≤ 2026)) }
         ensures only { IfErr result (λ e. (e ≡ Fault.Broken) ⊎ ((e ≡ Fault.Device) ⊎ (e ≡ Fault.Damaged))) }
     {
@@ -78,7 +84,7 @@ impl<S: PageStore> Database<S> {
         content: &[u8],
         mode: StoreMode,
     ) -> Result<StoreReply, Fault>
-        ensures step { S.honest (store_of self.old) → (map : Contents) → HoldsMap self.old map → IsStep self.old self.new map (Store key.now content.now (mode_of mode)) (store_reply result) }
+        ensures step { S.honest (store_of self.old) → (h : Handle) → IsAt self.old h → IsStep self.old self.new h (Store key.now content.now (mode_of mode)) (store_reply result) }
         ensures shape { shape_in (meta_of self.new) ≡ shape_for (meta_of self.new).pairs (shape_in (meta_of self.old)) }
         ensures too_long { (result ≡ Err Fault.TooLong) ↔ (((pages_of self.old).usable ≡ true) × (2026 < length key.now + length content.now)) }
         ensures keeps { Keeps self.old self.new result }
@@ -93,7 +99,7 @@ impl<S: PageStore> Database<S> {
     /// Deletes a key with its content (POSIX: `dbm_delete`), in one commit. In this order: `Broken`; `Device` or `Damaged`
     /// while the key is looked up; `Absent`; then as `store`, and `Damaged` where the file counts no pair.
     pub fn delete(&mut self, key: &[u8]) -> Result<DeleteReply, Fault>
-        ensures step { S.honest (store_of self.old) → (map : Contents) → HoldsMap self.old map → IsStep self.old self.new map (Delete key.now) (delete_reply result) }
+        ensures step { S.honest (store_of self.old) → (h : Handle) → IsAt self.old h → IsStep self.old self.new h (Delete key.now) (delete_reply result) }
         ensures shape { shape_in (meta_of self.new) ≡ shape_in (meta_of self.old) }
         ensures keeps { Keeps self.old self.new result }
         ensures only { IfErr result (λ e. (e ≡ Fault.Broken) ⊎ ((e ≡ Fault.Memory) ⊎ ((e ≡ Fault.Device) ⊎ ((e ≡ Fault.NoRoom) ⊎ (e ≡ Fault.Damaged))))) }
@@ -104,9 +110,71 @@ impl<S: PageStore> Database<S> {
         }
     }
 
+    /// Begins a pass over all keys, in no set order, and gives the first one, or `None` where there is none (POSIX:
+    /// `dbm_firstkey`). The slice lies in the database, and ends with the next call. It takes no memory. In this order:
+    /// `Broken`; then `Device` or `Damaged` while pages are read. Where it is refused, a pass that was on stays.
+    pub fn firstkey(&mut self) -> Result<Option<&[u8]>, Fault>
+        ensures* after { sem 𝓛 (EndsAs S.row S.PageStore self.entry (Lends First (lent_reply End) self.old result)) }
+        ensures short { IfOk result (λ r. IfSome r (λ key. length key.now ≤ 2026)) }
+        ensures only { IfErr result (λ e. (e ≡ Fault.Broken) ⊎ ((e ≡ Fault.Device) ⊎ (e ≡ Fault.Damaged))) }
+    {
+        if self.store.is_broken() {
+            return refuse(&mut self.error, Fault::Broken);
+        }
+        match self.advance(Cursor::START) {
+            Ok(Some(slot)) => Ok(Some(pair_at(&self.page, slot).0)),
+            Ok(None) => Ok(None),
+            Err(fault) => Err(fault),
+        }
+    }
+
+    /// The next key of the pass, each once, or `None` where it has given all, then and after that (POSIX: `dbm_nextkey`).
+    /// The slice lies in the database, and ends with the next call. It takes no memory. In this order: `Broken`; `NoPass`
+    /// where no pass was begun since the opening or the last `Stored` or `Deleted`; then `Device` or `Damaged` while pages
+    /// are read. A refusal leaves the pass where it is.
+    pub fn nextkey(&mut self) -> Result<Option<&[u8]>, Fault>
+        ensures* after { sem 𝓛 (EndsAs S.row S.PageStore self.entry (Lends Next (lent_reply End) self.old result)) }
+        ensures short { IfOk result (λ r. IfSome r (λ key. length key.now ≤ 2026)) }
+        ensures only { IfErr result (λ e. (e ≡ Fault.Broken) ⊎ ((e ≡ Fault.NoPass) ⊎ ((e ≡ Fault.Device) ⊎ (e ≡ Fault.Damaged)))) }
+    {
+        if self.store.is_broken() {
+            return refuse(&mut self.error, Fault::Broken);
+        }
+        let Some(cursor) = self.pass else {
+            return refuse(&mut self.error, Fault::NoPass);
+        };
+        match self.advance(cursor) {
+            Ok(Some(slot)) => Ok(Some(pair_at(&self.page, slot).0)),
+            Ok(None) => Ok(None),
+            Err(fault) => Err(fault),
+        }
+    }
+
+    /// The number of the first fault since the opening or the last clearing, or 0 (POSIX: `dbm_error`). No device call is
+    /// made, and a broken database tells it too.
+    pub fn error(&self) -> i32
+        ensures step { S.honest (store_of self.now) → (h : Handle) → IsAt self.now h → IsStep self.now self.now h Error (Number (error_number (error_of self.now))) }
+        ensures number { result ≡ pos (error_number (error_of self.now)) }
+    {
+        self.error.map_or(0, Fault::number)
+    }
+
+    /// Forgets the first fault, and gives 0 (POSIX: `dbm_clearerr`). No device call is made; the pass goes on, and a broken
+    /// database stays broken.
+    pub fn clearerr(&mut self) -> i32
+        ensures step { S.honest (store_of self.old) → (h : Handle) → IsAt self.old h → IsStep self.old self.new h Clear (Number 0) }
+        ensures zero { result ≡ pos 0 }
+        ensures clear { error_of self.new ≡ None }
+        ensures still { (store_of self.new ≡ store_of self.old) × (meta_of self.new ≡ meta_of self.old) }
+    {
+        self.error = None;
+        0
+    }
+
     /// The numbers of the database. No device call is made; a broken database tells what it told before.
     pub fn stat(&self) -> Stat
-        ensures { result ≡ record {
+        ensures counts { (h : Handle) → IsAt self.now h → h.state.usable ≡ true → (result.pairs ≡ len h.state.map) × (result.limit ≡ h.state.limit) }
+        ensures shown { result ≡ record {
           pairs = (meta_of self.now).pairs;
           limit = (meta_of self.now).limit;
           buckets = buckets (meta_of self.now);
@@ -134,7 +202,7 @@ impl<S: PageStore> Database<S> {
         content: &[u8],
         mode: StoreMode,
     ) -> Result<StoreReply, Fault>
-        ensures step { S.honest (store_of self.old) → (map : Contents) → HoldsMap self.old map → IsStep self.old (with_error_of self.new result) map (Store key.now content.now (mode_of mode)) (store_reply result) }
+        ensures step { S.honest (store_of self.old) → (h : Handle) → IsAt self.old h → IsStep self.old (with_error_of self.new result) h (Store key.now content.now (mode_of mode)) (store_reply result) }
         ensures shape { shape_in (meta_of self.new) ≡ shape_for (meta_of self.new).pairs (shape_in (meta_of self.old)) }
         ensures too_long { (result ≡ Err Fault.TooLong) ↔ (((pages_of self.old).usable ≡ true) × (2026 < length key.now + length content.now)) }
         ensures keeps { Keeps self.old (with_error_of self.new result) result }
@@ -161,12 +229,13 @@ impl<S: PageStore> Database<S> {
             content,
             was_there,
         )?;
+        self.pass = None;
         Ok(StoreReply::Stored)
     }
 
     // `delete`, with no look at the error.
     fn try_delete(&mut self, key: &[u8]) -> Result<DeleteReply, Fault>
-        ensures step { S.honest (store_of self.old) → (map : Contents) → HoldsMap self.old map → IsStep self.old (with_error_of self.new result) map (Delete key.now) (delete_reply result) }
+        ensures step { S.honest (store_of self.old) → (h : Handle) → IsAt self.old h → IsStep self.old (with_error_of self.new result) h (Delete key.now) (delete_reply result) }
         ensures shape { shape_in (meta_of self.new) ≡ shape_in (meta_of self.old) }
         ensures keeps { Keeps self.old (with_error_of self.new result) result }
         ensures only { IfErr result (λ e. (e ≡ Fault.Broken) ⊎ ((e ≡ Fault.Memory) ⊎ ((e ≡ Fault.Device) ⊎ ((e ≡ Fault.NoRoom) ⊎ (e ≡ Fault.Damaged))))) }
@@ -181,7 +250,34 @@ impl<S: PageStore> Database<S> {
             return Err(Fault::Damaged);
         }
         delete_pair(&mut self.store, &mut self.meta, key)?;
+        self.pass = None;
         Ok(DeleteReply::Deleted)
+    }
+
+    // Moves the pass to the pair behind the cursor, and gives its slot in the page. A refusal leaves the pass where it is,
+    // and the first fault is kept.
+    fn advance(&mut self, from: Cursor) -> Result<Option<usize>, Fault>
+        requires { (pages_of self.old).usable ≡ true }
+        ensures step { S.honest (store_of self.old) → (h : Handle) → IsAt self.old h → (call : Call) (keys : Keys) → case_of h.state call ≡ Passes keys → HasLeft (S.committed (store_of self.old)) (meta_of self.old) from keys →
+            IsStep self.old self.new h call (slot_reply self.new.page.bytes result) }
+        ensures held { IfOk result (λ found. IfSome found (λ slot. IsBucketPage self.new.page.bytes × (slot < length (pairs_of self.new.page.bytes)))) }
+        ensures keeps { Keeps self.old self.new result }
+        ensures only { IfErr result (λ e. (e ≡ Fault.Device) ⊎ (e ≡ Fault.Damaged)) }
+    {
+        match next_pair(&mut self.store, &self.meta, from, &mut self.page) {
+            Ok(Some((bucket, place))) => {
+                self.pass = Some(Cursor {
+                    bucket,
+                    behind: Some(place),
+                });
+                Ok(Some(place.slot))
+            }
+            Ok(None) => {
+                self.pass = Some(from);
+                Ok(None)
+            }
+            Err(fault) => refuse(&mut self.error, Fault::from(fault)),
+        }
     }
 
     // Whether the key is there.

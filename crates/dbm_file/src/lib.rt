@@ -9,6 +9,7 @@ mod fault;
 mod looking;
 mod octets;
 mod opening;
+mod passing;
 mod running;
 mod sizes;
 mod splitting;
@@ -23,6 +24,8 @@ pub use sizes::needed_sectors;
 
 #[cfg(test)]
 mod file_tests;
+#[cfg(test)]
+mod passing_tests;
 #[cfg(test)]
 mod stop_tests;
 #[cfg(test)]

@@ -14,10 +14,11 @@ ghost use Rattle.page_io.specs.Store.{blank, bytes_of, file_of, page_of};
 ghost use Rattle.redo_area.specs.File.{settled};
 ghost use Rattle.redo_area.specs.Opening.{IsFresh as IsFreshStore};
 ghost use Rattle.redo_area.specs.Pagers.{device_of};
-ghost use Rattle.dbm_file.specs.Database.{store_of, meta_of, HoldsMap};
+ghost use Rattle.dbm_model.specs.States.{Handle};
+ghost use Rattle.dbm_file.specs.Database.{store_of, meta_of, HoldsMap, IsAt};
 ghost use Rattle.dbm_file.specs.Faults.{fault_of};
 ghost use Rattle.dbm_file.specs.Opening.{making_fault, RefusesMeta, IsRefusedOpening, HasBlank, Makes, MayRemain, AllStand, IsOpened};
-ghost use Rattle.dbm_file.specs.Opened.{device_after, IsFresh};
+ghost use Rattle.dbm_file.specs.Opened.{device_after, IsFresh, IsOpenedAt};
 ghost use Rattle.seg_table.specs.MetaPages.{says};
 
 use crate::database::{Database, Db};
@@ -49,7 +50,7 @@ impl<D: SectorDev> Database<Pager<D>> {
         ensures any_moment { D.honest dev → LeavesOnly D.moment D.left_since dev (device_after result) (MayRemain how (D.sectors dev / 4) (D.candidate dev)) }
 
         // Where each image at the start is blank or stands for a map, what is opened holds one of these maps, or is new and empty.
-        ensures stands { D.honest dev → AllStand (D.sectors dev / 4) (D.candidate dev) → IfOk result (λ db. (map : Contents) × HoldsMap db map × IsOpened how (D.sectors dev / 4) (D.candidate dev) map (meta_of db).limit) }
+        ensures stands { D.honest dev → AllStand (D.sectors dev / 4) (D.candidate dev) → IfOk result (λ db. (map : Contents) × (limit : ℕ) × IsOpenedAt db map limit × IsOpened how (D.sectors dev / 4) (D.candidate dev) map limit) }
 
         // Nothing but the device then refuses it, where a database may be made on a blank device.
         ensures opens { D.honest dev → 16 ≤ D.sectors dev → AllStand (D.sectors dev / 4) (D.candidate dev) → (HasBlank (D.sectors dev / 4) (D.candidate dev) → making_fault how (D.sectors dev) ≡ None) → IfErr result (λ e. e.1 ≡ Fault.Device) }
@@ -77,6 +78,9 @@ impl<D: SectorDev> Database<Pager<D>> {
     pub fn close(self) -> (D, Result<(), Fault>)
         ensures device { result.0 ≡ device_of (store_of self) }
         ensures answer { result.1 ≡ (if (⟦<Pager<D> as PageStore>⟧.state (store_of self)).usable then Ok tt else Err Fault.Broken) }
+
+        // Every image that is now left stands for the map of the database that was closed.
+        ensures stands { D.honest result.0 → (h : Handle) → IsAt self h → h.state.usable ≡ true → (image : Image) → IsImageOf (D.candidate result.0) image → ImageStandsFor (settled (D.sectors result.0 / 4) image) h.state.map h.state.limit }
     {
         let usable = !self.store.is_broken();
         let dev = self.store.into_dev();
@@ -109,6 +113,7 @@ fn found<D: SectorDev>(alloc: Global, store: Pager<D>) -> Result<Db<D>, (D, Faul
             meta,
             page,
             error: None,
+            pass: None,
             alloc,
         }),
         Err(MetaFault::Version) => Err((store.into_dev(), Fault::Version)),
@@ -168,6 +173,7 @@ fn made<D: SectorDev>(alloc: Global, dev: D, how: OpenHow) -> Result<Db<D>, (D, 
             meta,
             page: Page::blank(),
             error: None,
+            pass: None,
             alloc,
         }),
         Err((dev, _)) => Err((dev, Fault::Device)),

@@ -1,28 +1,27 @@
 // A list of calls, one after another.
-ghost use Rattle.std.specs.Prelude.{◌≡◌, ◌<◌, ◌≤◌, ◌+◌, ◌∷◌, [], IfOk, IfErr, IfSome, IsTrue, OnOk, map, vec_len, All, length};
-ghost use Rattle.dbm_model.specs.Pairs.{Contents};
-ghost use Rattle.dbm_model.specs.Calls.{Fetch};
-ghost use Rattle.dbm_file.specs.Calls.{call_of, reply_of};
-ghost use Rattle.dbm_file.specs.Database.{store_of, HoldsMap};
+ghost use Rattle.std.specs.Prelude.{◌≡◌, ◌<◌, ◌≤◌, ◌+◌, ◌∷◌, [], IfOk, IfErr, IfSome, IsTrue, map, vec_len, length};
+ghost use Rattle.dbm_model.specs.States.{Handle};
+ghost use Rattle.dbm_file.specs.Calls.{call_of, reply_of, lent_reply};
+ghost use Rattle.dbm_file.specs.Database.{store_of, IsAt};
 ghost use Rattle.dbm_file.specs.Answers.{IsStep, IsRun, Goes};
-ghost use Rattle.dbm_file.specs.Rooms.{IsRoom, AreRooms, fetches_in, is_fetch};
+ghost use Rattle.dbm_file.specs.Rooms.{IsRoom, AreRooms, rooms_in, gives_bytes as call_gives_bytes};
 
 use crate::{Call, Database, DeleteReply, Fault, Octets, Reply, StoreReply};
 use page_io::PageStore;
 use std::alloc::{AllocError, Global};
 
-/// The bytes that a content may have.
+/// The bytes that a content or a key may have.
 const ROOM: usize = 2026;
 
 /// Makes the calls in order, and gives one reply a call. The list of the replies and the room of each
-/// content are reserved first: `Memory` there means that no call was made, and no call fails for memory
-/// of its reply afterwards.
+/// content and key are reserved first: `Memory` there means that no call was made, and no call fails for
+/// memory of its reply afterwards.
 pub fn run<S: PageStore>(
     alloc: Global,
     db: &mut Database<S>,
     calls: &[Call],
 ) -> Result<Vec<Reply>, Fault>
-    ensures run { S.honest (store_of db.old) → (held : Contents) → HoldsMap db.old held → IfOk result (λ replies. IsRun db.old db.new held (map call_of calls.now) (map reply_of replies.items)) }
+    ensures run { S.honest (store_of db.old) → (h : Handle) → IsAt db.old h → IfOk result (λ replies. IsRun db.old db.new h (map call_of calls.now) (map reply_of replies.items)) }
     ensures one_each { IfOk result (λ replies. vec_len replies ≡ length calls.now) }
     ensures goes { Goes db.old db.new }
     ensures memory { IfErr result (λ e. (e ≡ Fault.Memory) × (db.new ≡ db.old)) }
@@ -40,26 +39,33 @@ pub fn run<S: PageStore>(
     Ok(replies)
 }
 
-/// A room for each fetch.
+/// A room for each call that gives bytes.
 fn rooms_for(alloc: Global, calls: &[Call]) -> Result<Vec<Vec<u8>>, AllocError>
-    ensures { IfOk result (AreRooms (fetches_in calls.now)) }
+    ensures { IfOk result (AreRooms (rooms_in calls.now)) }
 {
     let mut rooms = Vec::new(alloc);
     for call in calls {
-        if let Call::Fetch(_) = call {
+        if gives_bytes(call) {
             rooms.push(Vec::with_capacity(alloc, ROOM)?)?;
         }
     }
     Ok(rooms)
 }
 
-/// Makes a call. A fetch takes one of the rooms.
+/// Whether the reply has a content or a key.
+fn gives_bytes(call: &Call) -> bool
+    ensures { result ≡ call_gives_bytes call.now }
+{
+    matches!(call, Call::Fetch(_) | Call::First | Call::Next)
+}
+
+/// Makes a call. One that gives bytes takes one of the rooms.
 fn answer<S: PageStore>(db: &mut Database<S>, call: &Call, rooms: &mut Vec<Vec<u8>>) -> Reply
-    requires { AreRooms (vec_len rooms.old) rooms.old × (IsTrue (is_fetch call.now) → 0 < vec_len rooms.old) }
-    ensures step { S.honest (store_of db.old) → (held : Contents) → HoldsMap db.old held → IsStep db.old db.new held (call_of call.now) (reply_of result) }
+    requires { AreRooms (vec_len rooms.old) rooms.old × (IsTrue (call_gives_bytes call.now) → 0 < vec_len rooms.old) }
+    ensures step { S.honest (store_of db.old) → (h : Handle) → IsAt db.old h → IsStep db.old db.new h (call_of call.now) (reply_of result) }
     ensures goes { Goes db.old db.new }
     ensures rooms { AreRooms (vec_len rooms.new) rooms.new }
-    ensures taken { vec_len rooms.old ≡ fetches_in (call.now ∷ []) + vec_len rooms.new }
+    ensures taken { vec_len rooms.old ≡ rooms_in (call.now ∷ []) + vec_len rooms.new }
 {
     match call {
         Call::Store { key, content, mode } => {
@@ -69,27 +75,35 @@ fn answer<S: PageStore>(db: &mut Database<S>, call: &Call, rooms: &mut Vec<Vec<u
                 Err(fault) => Reply::Refused(fault),
             }
         }
-        Call::Fetch(key) => fetch_into(db, key.as_slice(), rooms.pop().unwrap()),
+        Call::Fetch(key) => bytes_in(
+            rooms.pop().unwrap(),
+            db.fetch(key.as_slice()),
+            Reply::NoRecord,
+        ),
         Call::Delete(key) => match db.delete(key.as_slice()) {
             Ok(DeleteReply::Deleted) => Reply::Deleted,
             Ok(DeleteReply::Absent) => Reply::Absent,
             Err(fault) => Reply::Refused(fault),
         },
+        Call::First => bytes_in(rooms.pop().unwrap(), db.firstkey(), Reply::End),
+        Call::Next => bytes_in(rooms.pop().unwrap(), db.nextkey(), Reply::End),
+        Call::Error => Reply::Number(db.error()),
+        Call::Clear => Reply::Number(db.clearerr()),
     }
 }
 
-/// Fetches into a room.
-fn fetch_into<S: PageStore>(db: &mut Database<S>, key: &[u8], mut room: Vec<u8>) -> Reply
-    requires { IsRoom room }
-    ensures step { S.honest (store_of db.old) → (held : Contents) → HoldsMap db.old held → IsStep db.old db.new held (Fetch key.now) (reply_of result) }
-    ensures goes { Goes db.old db.new }
+/// The reply that gives bytes, which are copied into a room, or `none` where there are none.
+fn bytes_in(mut room: Vec<u8>, found: Result<Option<&[u8]>, Fault>, none: Reply) -> Reply
+    requires room { IsRoom room }
+    requires short { IfOk found (λ r. IfSome r (λ bytes. length bytes.now ≤ 2026)) }
+    ensures { reply_of result ≡ lent_reply (reply_of none) found.entry }
 {
-    match db.fetch(key) {
-        Ok(Some(content)) => {
-            room.extend_from_slice(content).unwrap();
+    match found {
+        Ok(Some(bytes)) => {
+            room.extend_from_slice(bytes).unwrap();
             Reply::Bytes(Octets::from(room))
         }
-        Ok(None) => Reply::NoRecord,
+        Ok(None) => none,
         Err(fault) => Reply::Refused(fault),
     }
 }

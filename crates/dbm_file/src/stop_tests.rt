@@ -216,8 +216,14 @@ fn a_failed_sync_leaves_a_change_in_doubt(rt: HostRuntime) -> Result<(), Fail> {
     assert_eq!(rt; put(&mut db, &[0x69], &[9; 2_026]), Err(Fault::Broken));
     assert_eq!(rt; db.delete(&[0x61]), Err(Fault::Broken));
     assert_eq!(rt; db.fetch(&[0x61]), Err(Fault::Broken));
+    assert_eq!(rt; db.firstkey(), Err(Fault::Broken));
+    assert_eq!(rt; db.nextkey(), Err(Fault::Broken));
+    assert_eq!(rt; db.error(), 2);
     assert_eq!(rt; db.stat(), before);
     assert_eq!(rt; before.pairs, 8);
+    assert_eq!(rt; db.clearerr(), 0);
+    assert_eq!(rt; db.error(), 0);
+    assert_eq!(rt; db.fetch(&[0x61]), Err(Fault::Broken));
     let (dev, answer) = db.close();
     assert_eq!(rt; answer, Err(Fault::Broken));
     let mut again = opened(alloc, dev.into_inner(), false, 0)?;

@@ -298,6 +298,36 @@ fn each_call_of_a_run_has_its_reply(rt: HostRuntime) -> Result<(), Fail> {
 }
 
 #[test]
+fn a_pass_and_the_error_number_are_asked_in_a_run(rt: HostRuntime) -> Result<(), Fail> {
+    let alloc = rt.alloc();
+    let mut db = new_database(alloc, 100)?;
+    let calls = vec![in alloc;
+        Call::Error,
+        Call::Next,
+        Call::Error,
+        store(alloc, b'a', 1, StoreMode::Replace)?,
+        Call::First,
+        Call::Next,
+        Call::Next,
+        store(alloc, b'a', 2, StoreMode::Insert)?,
+        Call::Next,
+        store(alloc, b'a', 2, StoreMode::Replace)?,
+        Call::Next,
+        Call::First,
+        Call::Clear,
+        Call::Next,
+        Call::Error,
+    ]?;
+    let replies = run(alloc, &mut db, &calls)?;
+    let text = format!(in alloc; "{replies:?}")?;
+    assert_eq!(rt;
+        text.as_str(),
+        "[Number(0), Refused(NoPass), Number(7), Stored, Bytes(Octets { bytes: [97] }), End, End, Kept, End, Stored, Refused(NoPass), Bytes(Octets { bytes: [97] }), Number(0), End, Number(0)]"
+    );
+    Ok(())
+}
+
+#[test]
 fn faults_are_numbered(rt: HostRuntime) {
     let faults = [
         Fault::Memory,

@@ -1,7 +1,7 @@
 -- Lines of too many words.
 use Rattle.std.proofs.Common.{◌≡◌, ◌==◌, ℕ, true, false, cond, List, [], ◌∷◌, Option, Some, None, IfSome, is_some, refl, sym}
 use Rattle.std.specs.List.{onto_first}
-use Rattle.dbm_model.specs.Lines.{words_in, call_of_words, pair_call}
+use Rattle.dbm_model.specs.Lines.{words_in, call_of_words, key_call, pair_call}
 use Rattle.dbm_model.specs.Words.{bytes_of}
 use Rattle.std.specs.Prelude.{option_and_then}
 
@@ -38,3 +38,15 @@ key_of_more name none words key rest h = let first = first_word rest in rw (h, f
 -- a store has two words after its name
 pub store_of_more : (name words key second content rest : List ℕ) → words_in words ≡ key ∷ words_in second → words_in second ≡ content ∷ words_in rest → None ≡ call_of_words (name ∷ words_in words)
 store_of_more name words key second content rest h more = let first = first_word rest in rw (h, more, first.2) refl
+
+-- a name of no such call
+pub no_name : (name rest : List ℕ) → ((key content : List ℕ) → (key_call name key ≡ None) × (pair_call name key content ≡ None)) → None ≡ call_of_words (name ∷ words_in rest)
+no_name name rest none = let first = first_word rest in rw (first.2) (by_words first.0 first.1)
+  where
+    by_key : (key : Option (List ℕ)) → None ≡ option_and_then (key_call name) key
+    by_key None = refl
+    by_key (Some key) = sym (none key []).0
+
+    by_words : (word : List ℕ) (words : List (List ℕ)) → None ≡ call_of_words (name ∷ word ∷ words)
+    by_words word [] = by_key (bytes_of word)
+    by_words word (more ∷ words) = many_words name (λ key content. (none key content).1) word more words

@@ -1,11 +1,10 @@
 // Lines as requests.
-ghost use Rattle.std.specs.Prelude.{◌≡◌, ◌==◌, ◌≤◌, ◌*◌, ◌∷◌, [], IfSome, IfNone, length, position, codes, Option};
+ghost use Rattle.std.specs.Prelude.{◌≡◌, ◌==◌, ◌≤◌, ◌*◌, ◌∷◌, [], IfSome, IfNone, length, position, codes, Option, None};
 ghost use Rattle.std.specs.Option.{option_map};
 ghost use Rattle.dbm_model.specs.Words.{bytes_of};
-ghost use Rattle.dbm_model.specs.Lines.{words_in, call_of, call_of_words};
-ghost use Rattle.dbm_tool.specs.Offered.{offered};
+ghost use Rattle.dbm_model.specs.Lines.{words_in, call_of, call_of_words, bare_call};
 ghost use Rattle.dbm_model.specs.Calls.{Fetch, Delete};
-ghost use Rattle.dbm_tool.specs.Requests.{asked, store_name};
+ghost use Rattle.dbm_tool.specs.Requests.{asked, store_name, IsNamed};
 
 use dbm_file::StoreMode;
 
@@ -29,7 +28,11 @@ pub enum Request<'a> {
     Delete {
         key: &'a [u8],
     },
-    /// No call that is offered.
+    First,
+    Next,
+    Error,
+    Clear,
+    /// No call.
     Bad,
 }
 
@@ -39,23 +42,64 @@ pub fn request_of<'a>(
     key: &'a mut [u8; ROOM],
     content: &'a mut [u8; ROOM],
 ) -> Request<'a>
-    ensures { asked result ≡ offered (call_of line.now) }
+    ensures { asked result ≡ call_of line.now }
 {
     if line.len() > LONGEST {
         return Request::Bad;
     }
-    match split_word(line) {
-        Some((b"S", rest)) => store_request(rest, StoreMode::Replace, key, content),
-        Some((b"I", rest)) => store_request(rest, StoreMode::Insert, key, content),
-        Some((b"F", rest)) => match key_request(rest, key) {
+    match line {
+        b"1" => Request::First,
+        b"N" => Request::Next,
+        b"E" => Request::Error,
+        b"C" => Request::Clear,
+        _ => request_with_words(line, key, content),
+    }
+}
+
+/// A call that has words after its name.
+#[derive(Clone, Copy)]
+enum Name {
+    Store(StoreMode),
+    Fetch,
+    Delete,
+}
+
+/// The request of a line that has words after a name.
+fn request_with_words<'a>(
+    line: &[u8],
+    key: &'a mut [u8; ROOM],
+    content: &'a mut [u8; ROOM],
+) -> Request<'a>
+    requires { length line.now ≤ 8192 }
+    ensures { bare_call line.now ≡ None → asked result ≡ call_of_words (words_in line.now) }
+{
+    let Some((name, rest)) = split_word(line) else {
+        return Request::Bad;
+    };
+    match name_of(name) {
+        Some(Name::Store(mode)) => store_request(rest, mode, key, content),
+        Some(Name::Fetch) => match key_request(rest, key) {
             Some(key) => Request::Fetch { key },
             None => Request::Bad,
         },
-        Some((b"D", rest)) => match key_request(rest, key) {
+        Some(Name::Delete) => match key_request(rest, key) {
             Some(key) => Request::Delete { key },
             None => Request::Bad,
         },
-        _ => Request::Bad,
+        None => Request::Bad,
+    }
+}
+
+/// The call of a name, if it has words after it.
+fn name_of(name: &[u8]) -> Option<Name>
+    ensures { IsNamed name.now result }
+{
+    match name {
+        b"S" => Some(Name::Store(StoreMode::Replace)),
+        b"I" => Some(Name::Store(StoreMode::Insert)),
+        b"F" => Some(Name::Fetch),
+        b"D" => Some(Name::Delete),
+        _ => None,
     }
 }
 

@@ -1,10 +1,12 @@
 // The program over its words.
 ghost use Rattle.std.specs.Prelude.{◌≡◌, ◌⊎◌, OnOk, OnErr, IfOk, IfErr, IfSome, map, true, false};
+ghost use Rattle.std.specs.FinMap.{empty};
 ghost use Rattle.std.specs.Io.KnownBytes.{Appends};
 ghost use Rattle.dbm_model.specs.Sizes.{is_limit};
 ghost use Rattle.dbm_words.specs.CommandLine.{AreTaken};
 ghost use Rattle.dbm_tool.specs.Faults.{fault_line, told_in_memory};
-ghost use Rattle.dbm_tool.specs.Scripts.{IsNew, AnswersInMemory, AnswersWords};
+ghost use Rattle.dbm_file.specs.Opened.{IsOpenedAt};
+ghost use Rattle.dbm_tool.specs.Scripts.{AnswersInMemory, AnswersWords};
 
 use crate::{EngineFault, script_engine};
 use dbm_file::{Access, Db, Fault, OpenHow, needed_sectors};
@@ -133,7 +135,7 @@ fn in_memory(fault: Fault) -> EngineFault
 
 /// A new database in memory, of at most `limit` pairs.
 fn new_in_memory(alloc: Global, limit: u32) -> Result<Db<MemDev>, Fault>
-    ensures fresh { IfOk result (IsNew limit) }
+    ensures fresh { IfOk result (λ db. IsOpenedAt db empty limit) }
     ensures allowed { IfOk result (λ _. is_limit limit ≡ true) }
     ensures limit { is_limit limit ≡ false → result ≡ Err Fault.BadLimit }
     ensures only { is_limit limit ≡ true → IfErr result (λ e. e ≡ Fault.Device) }

@@ -1,18 +1,19 @@
 // Replies as lines.
-ghost use Rattle.std.specs.Prelude.{◌≡◌, ◌≤◌, OnOk, length};
+ghost use Rattle.std.specs.Prelude.{◌≡◌, ◌≤◌, ℕ, pos, OnOk, IfOk, IfSome, length};
 ghost use Rattle.std.specs.Io.KnownBytes.{Appends};
-ghost use Rattle.dbm_model.specs.Calls.{Reply, Stored, Kept, Deleted, Absent, Bytes, NoRecord, Refused};
+ghost use Rattle.dbm_model.specs.Calls.{Reply, Stored, Kept, Deleted, Absent, Bytes, NoRecord, End, Number, Refused};
 ghost use Rattle.dbm_model.specs.Lines.{reply_line, bad_line};
+ghost use Rattle.dbm_file.specs.Calls.{lent_reply};
 ghost use Rattle.dbm_file.specs.Faults.{fault_of};
 
 use dbm_file::Fault;
 use std::io::{self, Write};
 
-/// The bytes that a content may have.
-pub const LONGEST_CONTENT: usize = 2026;
+/// The bytes that a content or a key may have.
+const LONGEST: usize = 2026;
 
-/// The digits of the longest content.
-pub const DIGITS: usize = 2 * LONGEST_CONTENT;
+/// The digits of the longest word.
+pub const DIGITS: usize = 2 * LONGEST;
 
 /// Writes the line of a call that stored its pair.
 pub fn write_stored<W: Write>(writer: &mut W) -> io::Result<()>
@@ -42,11 +43,43 @@ pub fn write_absent<W: Write>(writer: &mut W) -> io::Result<()>
     writer.write_all(b"-1 absent\n")
 }
 
-/// Writes the line of a fetch that found nothing.
-pub fn write_no_record<W: Write>(writer: &mut W) -> io::Result<()>
-    ensures { OnOk result (Appends (W.contents writer.old) (W.contents writer.new) (reply_line NoRecord)) }
+/// Writes the line of a fetch. The digits of a content go through `digits`.
+pub fn write_fetched<W: Write>(
+    writer: &mut W,
+    content: Result<Option<&[u8]>, Fault>,
+    digits: &mut [u8; DIGITS],
+) -> io::Result<()>
+    requires { IfOk content (λ r. IfSome r (λ bytes. length bytes.now ≤ 2026)) }
+    ensures { OnOk result (Appends (W.contents writer.old) (W.contents writer.new) (reply_line (lent_reply NoRecord content.entry))) }
 {
-    writer.write_all(b"none\n")
+    match content {
+        Ok(Some(content)) => write_bytes(writer, content, digits),
+        Ok(None) => writer.write_all(b"none\n"),
+        Err(fault) => write_refused(writer, fault),
+    }
+}
+
+/// Writes the line of a firstkey or a nextkey. The digits of a key go through `digits`.
+pub fn write_passed<W: Write>(
+    writer: &mut W,
+    key: Result<Option<&[u8]>, Fault>,
+    digits: &mut [u8; DIGITS],
+) -> io::Result<()>
+    requires { IfOk key (λ r. IfSome r (λ bytes. length bytes.now ≤ 2026)) }
+    ensures { OnOk result (Appends (W.contents writer.old) (W.contents writer.new) (reply_line (lent_reply End key.entry))) }
+{
+    match key {
+        Ok(Some(key)) => write_bytes(writer, key, digits),
+        Ok(None) => writer.write_all(b"end\n"),
+        Err(fault) => write_refused(writer, fault),
+    }
+}
+
+/// Writes the line of an error number.
+pub fn write_number<W: Write>(writer: &mut W, number: i32) -> io::Result<()>
+    ensures { (n : ℕ) → number ≡ pos n → OnOk result (Appends (W.contents writer.old) (W.contents writer.new) (reply_line (Number n))) }
+{
+    writeln!(writer, "{number}")
 }
 
 /// Writes the line of a line that asks for no call.
@@ -64,20 +97,16 @@ pub fn write_refused<W: Write>(writer: &mut W, fault: Fault) -> io::Result<()>
     writeln!(writer, "{}", fault.number())
 }
 
-/// Writes the line of a content. Its digits go through `digits`.
-pub fn write_content<W: Write>(
-    writer: &mut W,
-    content: &[u8],
-    digits: &mut [u8; DIGITS],
-) -> io::Result<()>
-    requires { length content.now ≤ 2026 }
-    ensures { OnOk result (Appends (W.contents writer.old) (W.contents writer.new) (reply_line (Bytes content.now))) }
+/// Writes the line of a content or a key. Its digits go through `digits`.
+fn write_bytes<W: Write>(writer: &mut W, bytes: &[u8], digits: &mut [u8; DIGITS]) -> io::Result<()>
+    requires { length bytes.now ≤ 2026 }
+    ensures { OnOk result (Appends (W.contents writer.old) (W.contents writer.new) (reply_line (Bytes bytes.now))) }
 {
-    if content.is_empty() {
+    if bytes.is_empty() {
         return writer.write_all(b".\n");
     }
-    let text = &mut digits[..2 * content.len()];
-    hex::encode_to_slice(content, text).unwrap();
+    let text = &mut digits[..2 * bytes.len()];
+    hex::encode_to_slice(bytes, text).unwrap();
     writer.write_all(text)?;
     writer.write_all(b"\n")
 }

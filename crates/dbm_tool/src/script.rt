@@ -2,20 +2,20 @@
 ghost use Rattle.std.specs.Prelude.{◌≡◌, ◌≤◌, ◌⊎◌, IfErr, OnOk, IfSome, Some, [], length};
 ghost use Rattle.std.specs.Io.KnownBytes.{Appends};
 ghost use Rattle.dbm_model.specs.Lines.{call_of};
-ghost use Rattle.dbm_model.specs.Calls.{Store, Fetch, Delete};
-ghost use Rattle.dbm_model.specs.Pairs.{Contents};
+ghost use Rattle.dbm_model.specs.Calls.{Store, Fetch, Delete, First, Next, Error, Clear};
+ghost use Rattle.dbm_model.specs.Scripts.{script_of};
+ghost use Rattle.dbm_model.specs.States.{Handle};
 ghost use Rattle.dbm_file.specs.Answers.{Goes};
 ghost use Rattle.dbm_file.specs.Calls.{mode_of};
-ghost use Rattle.dbm_file.specs.Database.{store_of, HoldsMap};
-ghost use Rattle.dbm_tool.specs.Offered.{offered, offered_script};
+ghost use Rattle.dbm_file.specs.Database.{store_of, IsAt};
 ghost use Rattle.dbm_tool.specs.Scripts.{RunsTo, AnswersScript, AnswersLine};
 
 use crate::EngineFault;
 use crate::lines::{KEPT, read_line};
 use crate::parsing::{ROOM, Request, request_of};
 use crate::replies::{
-    DIGITS, write_absent, write_bad_line, write_content, write_deleted, write_kept,
-    write_no_record, write_refused, write_stored,
+    DIGITS, write_absent, write_bad_line, write_deleted, write_fetched, write_kept, write_number,
+    write_passed, write_refused, write_stored,
 };
 use arrayvec::ArrayVec;
 use dbm_file::{Database, DeleteReply, StoreMode, StoreReply};
@@ -55,11 +55,11 @@ pub fn script_engine<S: PageStore, R: BufRead, W: Write>(
 ) -> Result<(), EngineFault>
     ensures read { OnOk result (IfSome (R.remaining reader.old) (λ text. R.remaining reader.new ≡ Some [])) }
     ensures size { OnOk result (IfSome (R.remaining reader.old) (λ text. length text ≤ 4294967295)) }
-    ensures answer { S.honest (store_of db.old) → (held : Contents) → HoldsMap db.old held → OnOk result (IfSome (R.remaining reader.old) (λ text.
-        AnswersScript (offered_script text) db.old db.new held (W.contents writer.old) (W.contents writer.new))) }
+    ensures answer { S.honest (store_of db.old) → (h : Handle) → IsAt db.old h → OnOk result (IfSome (R.remaining reader.old) (λ text.
+        AnswersScript (script_of text) db.old db.new h (W.contents writer.old) (W.contents writer.new))) }
 
     // Whatever it answers, the calls made so far stand.
-    ensures stands { S.honest (store_of db.old) → (held : Contents) → HoldsMap db.old held → RunsTo db.old db.new held }
+    ensures stands { S.honest (store_of db.old) → (h : Handle) → IsAt db.old h → RunsTo db.old db.new h }
     ensures goes { Goes db.old db.new }
     ensures memory { result ≡ Err EngineFault.Memory → (db.new ≡ db.old) × ((reader.new ≡ reader.old) × (writer.new ≡ writer.old)) }
     ensures only { IfErr result (λ e. (e ≡ EngineFault.Memory) ⊎ ((e ≡ EngineFault.Read) ⊎ (e ≡ EngineFault.Write))) }
@@ -79,9 +79,9 @@ fn run_lines<S: PageStore, R: BufRead, W: Write>(
 ) -> Result<(), EngineFault>
     ensures read { OnOk result (IfSome (R.remaining reader.old) (λ text. R.remaining reader.new ≡ Some [])) }
     ensures size { OnOk result (IfSome (R.remaining reader.old) (λ text. length text ≤ 4294967295)) }
-    ensures answer { S.honest (store_of db.old) → (held : Contents) → HoldsMap db.old held → OnOk result (IfSome (R.remaining reader.old) (λ text.
-        AnswersScript (offered_script text) db.old db.new held (W.contents writer.old) (W.contents writer.new))) }
-    ensures stands { S.honest (store_of db.old) → (held : Contents) → HoldsMap db.old held → RunsTo db.old db.new held }
+    ensures answer { S.honest (store_of db.old) → (h : Handle) → IsAt db.old h → OnOk result (IfSome (R.remaining reader.old) (λ text.
+        AnswersScript (script_of text) db.old db.new h (W.contents writer.old) (W.contents writer.new))) }
+    ensures stands { S.honest (store_of db.old) → (h : Handle) → IsAt db.old h → RunsTo db.old db.new h }
     ensures goes { Goes db.old db.new }
     ensures only { IfErr result (λ e. (e ≡ EngineFault.Read) ⊎ (e ≡ EngineFault.Write)) }
 {
@@ -102,7 +102,7 @@ fn answer_line<S: PageStore, W: Write>(
     buffers: &mut Buffers,
     writer: &mut W,
 ) -> io::Result<()>
-    ensures line { S.honest (store_of db.old) → (held : Contents) → HoldsMap db.old held → AnswersLine (offered (call_of buffers.old.line.items)) db.old db.new held
+    ensures line { S.honest (store_of db.old) → (h : Handle) → IsAt db.old h → AnswersLine (call_of buffers.old.line.items) db.old db.new h
         (λ text. OnOk result (Appends (W.contents writer.old) (W.contents writer.new) text)) }
     ensures goes { Goes db.old db.new }
 {
@@ -111,6 +111,10 @@ fn answer_line<S: PageStore, W: Write>(
         Request::Store { key, content, mode } => answer_store(db, key, content, mode, writer),
         Request::Fetch { key } => answer_fetch(db, key, &mut buffers.digits, writer),
         Request::Delete { key } => answer_delete(db, key, writer),
+        Request::First => answer_first(db, &mut buffers.digits, writer),
+        Request::Next => answer_next(db, &mut buffers.digits, writer),
+        Request::Error => answer_error(db, writer),
+        Request::Clear => answer_clear(db, writer),
         Request::Bad => write_bad_line(writer),
     }
 }
@@ -123,7 +127,7 @@ fn answer_store<S: PageStore, W: Write>(
     mode: StoreMode,
     writer: &mut W,
 ) -> io::Result<()>
-    ensures line { S.honest (store_of db.old) → (held : Contents) → HoldsMap db.old held → AnswersLine (Some (Store key.now content.now (mode_of mode))) db.old db.new held
+    ensures line { S.honest (store_of db.old) → (h : Handle) → IsAt db.old h → AnswersLine (Some (Store key.now content.now (mode_of mode))) db.old db.new h
         (λ text. OnOk result (Appends (W.contents writer.old) (W.contents writer.new) text)) }
     ensures goes { Goes db.old db.new }
 {
@@ -141,15 +145,11 @@ fn answer_fetch<S: PageStore, W: Write>(
     digits: &mut [u8; DIGITS],
     writer: &mut W,
 ) -> io::Result<()>
-    ensures line { S.honest (store_of db.old) → (held : Contents) → HoldsMap db.old held → AnswersLine (Some (Fetch key.now)) db.old db.new held
+    ensures line { S.honest (store_of db.old) → (h : Handle) → IsAt db.old h → AnswersLine (Some (Fetch key.now)) db.old db.new h
         (λ text. OnOk result (Appends (W.contents writer.old) (W.contents writer.new) text)) }
     ensures goes { Goes db.old db.new }
 {
-    match db.fetch(key) {
-        Ok(Some(content)) => write_content(writer, content, digits),
-        Ok(None) => write_no_record(writer),
-        Err(fault) => write_refused(writer, fault),
-    }
+    write_fetched(writer, db.fetch(key), digits)
 }
 
 /// Deletes, and writes the reply.
@@ -158,7 +158,7 @@ fn answer_delete<S: PageStore, W: Write>(
     key: &[u8],
     writer: &mut W,
 ) -> io::Result<()>
-    ensures line { S.honest (store_of db.old) → (held : Contents) → HoldsMap db.old held → AnswersLine (Some (Delete key.now)) db.old db.new held
+    ensures line { S.honest (store_of db.old) → (h : Handle) → IsAt db.old h → AnswersLine (Some (Delete key.now)) db.old db.new h
         (λ text. OnOk result (Appends (W.contents writer.old) (W.contents writer.new) text)) }
     ensures goes { Goes db.old db.new }
 {
@@ -167,4 +167,48 @@ fn answer_delete<S: PageStore, W: Write>(
         Ok(DeleteReply::Absent) => write_absent(writer),
         Err(fault) => write_refused(writer, fault),
     }
+}
+
+/// Begins a pass, and writes the reply before the next call ends the key that is lent.
+fn answer_first<S: PageStore, W: Write>(
+    db: &mut Database<S>,
+    digits: &mut [u8; DIGITS],
+    writer: &mut W,
+) -> io::Result<()>
+    ensures line { S.honest (store_of db.old) → (h : Handle) → IsAt db.old h → AnswersLine (Some First) db.old db.new h
+        (λ text. OnOk result (Appends (W.contents writer.old) (W.contents writer.new) text)) }
+    ensures goes { Goes db.old db.new }
+{
+    write_passed(writer, db.firstkey(), digits)
+}
+
+/// Goes on with a pass, and writes the reply before the next call ends the key that is lent.
+fn answer_next<S: PageStore, W: Write>(
+    db: &mut Database<S>,
+    digits: &mut [u8; DIGITS],
+    writer: &mut W,
+) -> io::Result<()>
+    ensures line { S.honest (store_of db.old) → (h : Handle) → IsAt db.old h → AnswersLine (Some Next) db.old db.new h
+        (λ text. OnOk result (Appends (W.contents writer.old) (W.contents writer.new) text)) }
+    ensures goes { Goes db.old db.new }
+{
+    write_passed(writer, db.nextkey(), digits)
+}
+
+/// Writes the error number.
+fn answer_error<S: PageStore, W: Write>(db: &mut Database<S>, writer: &mut W) -> io::Result<()>
+    ensures line { S.honest (store_of db.old) → (h : Handle) → IsAt db.old h → AnswersLine (Some Error) db.old db.new h
+        (λ text. OnOk result (Appends (W.contents writer.old) (W.contents writer.new) text)) }
+    ensures goes { Goes db.old db.new }
+{
+    write_number(writer, db.error())
+}
+
+/// Clears the error number, and writes the reply.
+fn answer_clear<S: PageStore, W: Write>(db: &mut Database<S>, writer: &mut W) -> io::Result<()>
+    ensures line { S.honest (store_of db.old) → (h : Handle) → IsAt db.old h → AnswersLine (Some Clear) db.old db.new h
+        (λ text. OnOk result (Appends (W.contents writer.old) (W.contents writer.new) text)) }
+    ensures goes { Goes db.old db.new }
+{
+    write_number(writer, db.clearerr())
 }

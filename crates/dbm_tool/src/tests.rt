@@ -30,7 +30,7 @@ fn answer(alloc: Global, limit: u32, text: &[u8]) -> Result<Vec<u8>, Fail> {
 
 #[test]
 fn answers_each_line(rt: HostRuntime) -> Result<(), Fail> {
-    let scripts: [(u32, &[u8], &[u8]); 9] = [
+    let scripts: [(u32, &[u8], &[u8]); 14] = [
         (100, b"S 6b 76\nF 6b\n", b"0\n76\n"),
         (100, b"S . .\nF .\nF 00\n", b"0\n.\nnone\n"),
         (
@@ -49,10 +49,27 @@ fn answers_each_line(rt: HostRuntime) -> Result<(), Fail> {
             b"I 61 01\nI 61 02\nF 61\nD 61\nD 61\nF 61\n",
             b"0\n1\n01\n0\n-1 absent\nnone\n",
         ),
+        (100, b"N\n1\nN\nE\n", b"-1 fault 7\nend\nend\n7\n"),
         (
             100,
-            b"1\nN\nE\nC\nI 61\nD 61 62\n",
-            b"-1 line\n-1 line\n-1 line\n-1 line\n-1 line\n-1 line\n",
+            b"S 61 01\n1\nF 61\nI 61 02\nN\nN\n",
+            b"0\n61\n01\n1\nend\nend\n",
+        ),
+        (
+            100,
+            b"S 61 01\n1\nS 61 02\nN\n1\n",
+            b"0\n61\n0\n-1 fault 7\n61\n",
+        ),
+        (
+            1,
+            b"S 61 01\nS 62 01\nN\nE\nC\nE\n",
+            b"0\n-1 fault 6\n-1 fault 7\n6\n0\n0\n",
+        ),
+        (100, b"S . 01\n1\nD .\nE\n", b"0\n.\n0\n0\n"),
+        (
+            100,
+            b"1 \nN 61\ne\nC\nI 61\nD 61 62\n 1\n",
+            b"-1 line\n-1 line\n-1 line\n0\n-1 line\n-1 line\n-1 line\n",
         ),
         (
             100,

@@ -19,6 +19,12 @@ returns-in_err-next-clause-whole g c honest chain passed left is split from dama
     let fault : c.in_err-next.field-0.0 ≡ Damaged = let e = rw (p.1, p.2) at damaged in cc in
     c.in_err-next.ensures.whole honest _ _ here.some here.link (ap Err fault)
 
+pub returns-then-look-slots-clause-held : goal.returns-then-look-slots-clause-held
+returns-then-look-slots-clause-held g c =
+    let page = c.in_ok-next.ensures.link.page in
+    let count = (counted c.read_link.new.page.bytes page).count_is in
+    (page, omega arith)
+
 pub returns-then-look-slots-clause-stepped : goal.returns-then-look-slots-clause-stepped
 returns-then-look-slots-clause-stepped g c honest =
     let looks = looks_at g (goal.at.returns-then-look-slots-clause-stepped g c).After-kind_in in

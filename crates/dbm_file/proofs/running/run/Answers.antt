@@ -4,21 +4,21 @@ use Rattle.std.proofs.lemmas.List.Sums.{sum_by-append}
 use Rattle.dbm_model.specs.Calls as model
 use Rattle.dbm_file.specs.Answers.{IsRun}
 use Rattle.dbm_file.specs.Calls.{call_of, reply_of}
-use Rattle.dbm_file.specs.Rooms.{fetches_in, is_fetch}
+use Rattle.dbm_file.specs.Rooms.{rooms_in, gives_bytes}
 use Rattle.dbm_file.specs.declared.calls.Call.{Call}
 use Rattle.dbm_file.proofs.Runs.{all_taken, no_run, goes_on_with, seen_next, seen_last, goes_nowhere, still_goes}
 use Rattle.dbm_file.proofs.running.run.Goals as goal
 
 -- the rooms of a call and those of the later ones
-first_room : (call : Call) (calls : List Call) → fetches_in (call ∷ calls) ≡ fetches_in (call ∷ []) + fetches_in calls
-first_room call calls = sum_by-append (λ (x : Call). cond (is_fetch x) 1 0) (call ∷ []) calls
+first_room : (call : Call) (calls : List Call) → rooms_in (call ∷ calls) ≡ rooms_in (call ∷ []) + rooms_in calls
+first_room call calls = sum_by-append (λ (x : Call). cond (gives_bytes x) 1 0) (call ∷ []) calls
 
 pub loop-call-init : goal.loop-call-init
 loop-call-init g c = record {
-  ran = λ honest held holds.
+  ran = λ honest h at.
       let db = c.args.db.now in
-      subst (λ (replies : List model.Reply). IsRun db db held [] replies) (sym (ap (map reply_of) c.in-Ok.ensures.items))
-      (no_run g.S.PageStore db held holds (λ x left. g.met.S.PageStore.only_now db.store x honest left) (λ x usable left. g.met.S.PageStore.only_committed db.store x honest usable db.writable left));
+      subst (λ (replies : List model.Reply). IsRun db db h [] replies) (sym (ap (map reply_of) c.in-Ok.ensures.items))
+      (no_run g.S.PageStore db h at (λ x left. g.met.S.PageStore.only_now db.store x honest left) (λ x usable left. g.met.S.PageStore.only_committed db.store x honest usable db.writable left));
   goes = goes_nowhere c.args.db.now;
   many = c.in-Ok.ensures.len;
   fits = c.in-Ok.ensures.capacity;
@@ -35,18 +35,18 @@ loop-call-preserved g c =
     let items : c.push.new.self.items ≡ c.loop-call.replies.items ++ c.answer-reply.result ∷ [] =
     c.push.ensures.items ∙ ap (λ r. cond (is_ok r) (c.loop-call.replies.items ++ c.answer-reply.result ∷ []) c.loop-call.replies.items) c.unwrap.ensures in
     record {
-      ran = λ honest held holds.
-          let run = so_far.ran honest held holds in
-          goes_on_with g.S.PageStore c.args.db.now c.loop-call.db c.answer-reply.new.db held _ _ (call_of call) (reply_of c.answer-reply.result) so_far.goes.limit c.answer-reply.ensures.goes run
-          (c.answer-reply.ensures.step (so_far.goes.honesty.1 honest) run.left run.holds) _ _
+      ran = λ honest h at.
+          let run = so_far.ran honest h at in
+          goes_on_with g.S.PageStore c.args.db.now c.loop-call.db c.answer-reply.new.db h _ _ (call_of call) (reply_of c.answer-reply.result) so_far.goes.limit c.answer-reply.ensures.goes run
+          (c.answer-reply.ensures.step (so_far.goes.honesty.1 honest) run.after run.is_at) _ _
           (seen_next call_of calls i call c.loop-call-test.true c.call-item.is) (seen_last reply_of c.loop-call.replies.items c.push.new.self.items c.answer-reply.result items);
       goes = still_goes c.args.db.now c.loop-call.db c.answer-reply.new.db so_far.goes c.answer-reply.ensures.goes;
       many = c.push.ensures.len ∙ ap (λ r. cond (is_ok r) (vec_len c.loop-call.replies + 1) (vec_len c.loop-call.replies)) c.unwrap.ensures ∙ ap (λ (n : ℕ). n + 1) so_far.many;
       fits = omega (arith, c.push.ensures.capacity);
-      rooms = record { many = omega (arith, c.answer-reply.ensures.taken, so_far.rooms.many, ap fetches_in left, first_room call (drop (i + 1) calls)); each = c.answer-reply.ensures.rooms.each };
+      rooms = record { many = omega (arith, c.answer-reply.ensures.taken, so_far.rooms.many, ap rooms_in left, first_room call (drop (i + 1) calls)); each = c.answer-reply.ensures.rooms.each };
     }
 
 pub returns-clause-run : goal.returns-clause-run
-returns-clause-run g c honest held holds =
-    subst (λ (calls : List Call). IsRun c.args.db.now c.loop-call.db held (map call_of calls) (map reply_of c.loop-call.replies.items))
-    (all_taken c.args.calls.now c.loop-call.call-index (omega (arith, c.loop-call-test.false))) (c.loop-call.invariant.ran honest held holds)
+returns-clause-run g c honest h at =
+    subst (λ (calls : List Call). IsRun c.args.db.now c.loop-call.db h (map call_of calls) (map reply_of c.loop-call.replies.items))
+    (all_taken c.args.calls.now c.loop-call.call-index (omega (arith, c.loop-call-test.false))) (c.loop-call.invariant.ran honest h at)

@@ -1,5 +1,5 @@
 use Rattle.std.proofs.Common.{◌≡◌, ◌≤◌, inl, true, refl, subst, arith}
-use Rattle.dbm_file.specs.Database.{HoldsMap}
+use Rattle.dbm_file.specs.Opened.{IsOpenedAt}
 use Rattle.dbm_file.specs.declared.calls.Access.TheVariants.{ReadWrite}
 use Rattle.dbm_file.specs.declared.calls.OpenHow.{OpenHow}
 use Rattle.dbm_tool.proofs.Rooms.{enough, makes_room, blank_there, opened_new}
@@ -9,8 +9,8 @@ pub returns-in-Ok-clause-fresh : goal.returns-in-Ok-clause-fresh
 returns-in-Ok-clause-fresh c =
     let how : OpenHow = record { access = ReadWrite; create = true; limit = c.args.limit } in
     let found = c.in-Ok.ensures.stands tt (λ image is. inl (blank_there _ _ c.new.ensures.stable image is)) in
-    let new = opened_new how _ _ found.0 _ (blank_there _ _ c.new.ensures.stable) found.2 in
-    record { holds = subst (HoldsMap c.in-Ok.db) new.0 found.1; limited = new.1; no_error = c.in-Ok.ensures.fresh.no_error; usable = c.in-Ok.ensures.fresh.usable }
+    let new = opened_new how _ _ found.0 found.1 (blank_there _ _ c.new.ensures.stable) found.3 in
+    subst (λ map. IsOpenedAt c.in-Ok.db map c.args.limit) new.0 (subst (IsOpenedAt c.in-Ok.db found.0) new.1 found.2)
 
 pub returns-clause-only : goal.returns-clause-only
 returns-clause-only c allowed =

@@ -1,25 +1,24 @@
 use Rattle.std.proofs.Common.{◌≡◌, true, IfSome, is_ok, rules}
 use Rattle.dbm_model.specs.Lines.{call_of}
 use Rattle.dbm_file.proofs.Runs.{no_run, goes_nowhere, still_goes}
-use Rattle.dbm_tool.specs.Offered.{offered}
 use Rattle.dbm_tool.specs.Reading.{ReadsLine, IsCounted}
 use Rattle.dbm_tool.proofs.Answering.{at_start, go_on, stand_with, said, counted_first, counted_on}
 use Rattle.dbm_tool.proofs.script.run_lines.Goals as goal
 
 pub loop-init : goal.loop-init
 loop-init g c = record {
-  answered = λ honest held holds.
+  answered = λ honest start at.
       let db = c.args.db.now in
-      at_start db held _ _ (no_run g.S.PageStore db held holds (λ x left. g.met.S.PageStore.only_now db.store x honest left) (λ x usable left. g.met.S.PageStore.only_committed db.store x honest usable db.writable left));
+      at_start db start _ _ (no_run g.S.PageStore db start at (λ x left. g.met.S.PageStore.only_now db.store x honest left) (λ x usable left. g.met.S.PageStore.only_committed db.store x honest usable db.writable left));
   goes = goes_nowhere c.args.db.now;
   counted = counted_first (g.R.Read.remaining c.args.reader.now) 4294967295;
 }
 
 pub returns-in_err-map_err-2-clause-stands : goal.returns-in_err-map_err-2-clause-stands
-returns-in_err-map_err-2-clause-stands g c honest held holds =
-    let h = c.loop.invariant.answered honest held holds in
-    stand_with g.S.PageStore _ _ _ held _ _ _ _ (offered (call_of c.read_line-more.new.line.items)) _ c.loop.invariant.goes.limit c.answer_line.ensures.goes h
-    (c.answer_line.ensures.line (c.loop.invariant.goes.honesty.1 honest) h.answered.run.left h.answered.run.holds)
+returns-in_err-map_err-2-clause-stands g c honest start at =
+    let h = c.loop.invariant.answered honest start at in
+    stand_with g.S.PageStore _ _ _ start _ _ _ _ (call_of c.read_line-more.new.line.items) _ c.loop.invariant.goes.limit c.answer_line.ensures.goes h
+    (c.answer_line.ensures.line (c.loop.invariant.goes.honesty.1 honest) h.answered.run.after h.answered.run.is_at)
 
 pub loop-preserved : goal.loop-preserved
 loop-preserved g c =
@@ -27,10 +26,10 @@ loop-preserved g c =
     let count : IsCounted (g.R.Read.remaining c.loop.reader) c.loop.left (g.R.Read.remaining c.read_line-more.new.reader) c.read_line-more.new.left = search rules in
     let wrote : is_ok c.answer_line.result ≡ true = search rules in
     record {
-      answered = λ honest held holds.
-          let h = c.loop.invariant.answered honest held holds in
-          let line = c.answer_line.ensures.line (c.loop.invariant.goes.honesty.1 honest) h.answered.run.left h.answered.run.holds in
-          go_on g.S.PageStore _ _ _ held _ _ _ _ _ _ _ c.loop.invariant.goes.limit c.answer_line.ensures.goes h read (said c.answer_line.result _ _ _ h.answered.run.left _ wrote line);
+      answered = λ honest start at.
+          let h = c.loop.invariant.answered honest start at in
+          let line = c.answer_line.ensures.line (c.loop.invariant.goes.honesty.1 honest) h.answered.run.after h.answered.run.is_at in
+          go_on g.S.PageStore _ _ _ start _ _ _ _ _ _ _ c.loop.invariant.goes.limit c.answer_line.ensures.goes h read (said c.answer_line.result _ _ _ h.answered.run.after _ wrote line);
       goes = still_goes _ _ _ c.loop.invariant.goes c.answer_line.ensures.goes;
       counted = counted_on _ _ _ _ _ _ c.loop.invariant.counted count;
     }

@@ -1,13 +1,13 @@
-use Rattle.dbm_model.specs.Pairs.{Contents}
+use Rattle.dbm_model.specs.States.{Handle}
 use Rattle.dbm_file.specs.Answers.{Goes}
-use Rattle.dbm_file.specs.Database.{store_of, HoldsMap}
+use Rattle.dbm_file.specs.Database.{store_of, IsAt}
 use Rattle.dbm_tool.specs.Reading.{IsCounted}
 use Rattle.dbm_tool.proofs.Answering.{IsAnswered}
 use Rattle.dbm_tool.proofs.script.run_lines.Given as goal
 
 abbrev pub invariant-loop : goal.invariant-loop
 invariant-loop g l = record {
-  answered : g.S.PageStore.honest (store_of l.initial.db) → (held : Contents) → HoldsMap l.initial.db held → IsAnswered l.initial.db l.db held (g.R.Read.remaining l.initial.reader) (g.R.Read.remaining l.reader) (g.W.Write.contents l.initial.writer) (g.W.Write.contents l.writer);
+  answered : g.S.PageStore.honest (store_of l.initial.db) → (h : Handle) → IsAt l.initial.db h → IsAnswered l.initial.db l.db h (g.R.Read.remaining l.initial.reader) (g.R.Read.remaining l.reader) (g.W.Write.contents l.initial.writer) (g.W.Write.contents l.writer);
   goes : Goes l.initial.db l.db;
   counted : IsCounted (g.R.Read.remaining l.initial.reader) 4294967295 (g.R.Read.remaining l.reader) l.left;
 }

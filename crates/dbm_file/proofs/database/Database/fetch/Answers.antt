@@ -1,7 +1,10 @@
 use Rattle.std.proofs.Common.{None, Some, inl, refl, ap, ◌∙◌}
 use Rattle.std.specs.FinMap.{get}
+use Rattle.dbm_model.specs.Calls.{Fetch, NoRecord}
 use Rattle.dbm_model.specs.Pairs.{Contents}
-use Rattle.dbm_file.proofs.FetchSteps.{short_content, same_content, no_content, fetched_well, fetch_broken, fetch_failed, only_these, lends_nothing, walk_faults}
+use Rattle.dbm_file.proofs.Cases.{broken_fetch}
+use Rattle.dbm_file.proofs.FetchSteps.{short_content, same_content, no_content, fetched_well, fetch_failed, only_these, walk_faults}
+use Rattle.dbm_file.proofs.Lends.{lends_broken, lends_nothing}
 use Rattle.dbm_file.proofs.ReadSteps.{not_broken, after_reads}
 use Rattle.dbm_file.proofs.Tables.{placed, is_table, map_placed}
 use Rattle.dbm_file.proofs.database.Database.fetch.Goals as goal
@@ -9,7 +12,7 @@ use Rattle.dbm_file.proofs.database.Database.fetch.Goals as goal
 pub returns-then-is_broken : goal.returns-then-is_broken
 returns-then-is_broken g c =
     let answer = c.refuse.ensures.answer in (
-      (refl, (λ _. tt), fetch_broken g.S.PageStore c.args.self.now c.args.key.now _ _ _ c.refuse.new.error _ c.refuse.ensures.flag c.refuse.result answer refl (c.is_broken.ensures.0 c.if-is_broken.true)),
+      (refl, (λ _. tt), lends_broken g.S.PageStore c.args.self.now (Fetch c.args.key.now) NoRecord _ _ _ c.refuse.new.error _ c.refuse.ensures.flag c.refuse.result answer refl (c.is_broken.ensures.0 c.if-is_broken.true) (λ h broken. broken_fetch h.state c.args.key.now broken)),
       record { after = tt; short = lends_nothing c.refuse.result _ answer; only = only_these c.refuse.result _ answer (inl refl) },
     )
 
@@ -22,7 +25,7 @@ returns-in-Ok-None g c =
       (
         refl,
         (λ _. tt),
-        fetched_well s db _ key None record { reads = c.find_pair.ensures.reads; meta_is = refl; error_is = refl } usable (λ honest x left. g.met.S.PageStore.only_committed db.store x honest usable db.writable left)
+        fetched_well s db _ key None record { reads = c.find_pair.ensures.reads; meta_is = refl; error_is = refl; pass_is = refl } usable (λ honest x left. g.met.S.PageStore.only_committed db.store x honest usable db.writable left)
             (λ honest map h.
             let found = c.in-Ok-None.ensures.exact honest (placed s db.store _ map h) (is_table s db.store _ map h (g.met.S.PageStore.ends db.store) db.idle) in
             no_content key _ _ _ c.in-Ok-None.field-0-is found ∙ ap (λ (m : Contents). get m key) (map_placed s db.store _ map h)),
@@ -39,7 +42,7 @@ returns-in-Ok-Some g c =
       (
         refl,
         (λ _. tt),
-        fetched_well s db _ key (Some c.pair_at.result.1) record { reads = c.find_pair.ensures.reads; meta_is = refl; error_is = refl } usable (λ honest x left. g.met.S.PageStore.only_committed db.store x honest usable db.writable left)
+        fetched_well s db _ key (Some c.pair_at.result.1) record { reads = c.find_pair.ensures.reads; meta_is = refl; error_is = refl; pass_is = refl } usable (λ honest x left. g.met.S.PageStore.only_committed db.store x honest usable db.writable left)
             (λ honest map h.
             let found = c.in-Ok-Some.ensures.exact honest (placed s db.store _ map h) (is_table s db.store _ map h (g.met.S.PageStore.ends db.store) db.idle) in
             same_content key _ _ _ _ c.pair_at.result c.in-Ok-Some.field-0-is found c.pair_at.ensures ∙ ap (λ (m : Contents). get m key) (map_placed s db.store _ map h)),
@@ -58,7 +61,7 @@ returns-in-Err g c =
       (
         refl,
         (λ _. tt),
-        fetch_failed s new c.args.key.now _ _ _ c.refuse-in-Err.new.error c.from.result c.refuse-in-Err.ensures.flag c.refuse-in-Err.result answer db c.in-Err.fault record { reads = all.reads; meta_is = refl; error_is = refl } c.from.ensures usable all.answer all.cause
+        fetch_failed s new c.args.key.now _ _ _ c.refuse-in-Err.new.error c.from.result c.refuse-in-Err.ensures.flag c.refuse-in-Err.result answer db c.in-Err.fault record { reads = all.reads; meta_is = refl; error_is = refl; pass_is = refl } c.from.ensures usable all.answer all.cause
             (λ honest x left. g.met.S.PageStore.only_committed db.store x honest usable db.writable left)
             (λ honest map h. all.whole honest (placed s db.store _ map h) (is_table s db.store _ map h (g.met.S.PageStore.ends db.store) db.idle)),
       ),

@@ -2,5 +2,5 @@ use Rattle.dbm_file.proofs.StoreSteps.{store_flagged}
 use Rattle.dbm_file.proofs.database.Database.store.Goals as goal
 
 pub returns-in-Err-clause-step : goal.returns-in-Err-clause-step
-returns-in-Err-clause-step g c honest map held =
-    store_flagged g.S.PageStore _ c.try_store.new.self map _ _ _ _ c.refuse.new.error c.in-Err.fault c.refuse.ensures.flag c.refuse.result c.refuse.ensures.answer (c.in-Err.ensures.step honest map held)
+returns-in-Err-clause-step g c honest h at =
+    store_flagged g.S.PageStore _ c.try_store.new.self h _ _ _ _ c.refuse.new.error c.in-Err.fault c.refuse.ensures.flag c.refuse.result c.refuse.ensures.answer (c.in-Err.ensures.step honest h at)

@@ -4,87 +4,100 @@ use Rattle.dbm_model.specs.Calls as model
 use Rattle.dbm_model.specs.Steps.{Case, Suffers}
 use Rattle.dbm_file.specs.Database.{handle_of}
 use Rattle.dbm_file.proofs.Cases.{broken_delete, delete_rule, delete_fails, absent}
-use Rattle.dbm_file.proofs.ReadSteps.{not_broken, found_step, walk_failed_step, broken_step}
+use Rattle.dbm_file.proofs.ReadSteps.{from_own, not_broken, found_step, walk_failed_step, broken_step}
 use Rattle.dbm_file.proofs.ChangeSteps.{mid_honest, mid_usable, mid_holds, changed_step, refused_step, told_keeps}
 use Rattle.dbm_file.proofs.StoreSteps.{delete_asked, no_key, delete_told}
 use Rattle.dbm_file.proofs.database.Database.try_delete.Goals as goal
 
 pub returns-then-is_broken-clause-step : goal.returns-then-is_broken-clause-step
-returns-then-is_broken-clause-step g c honest map held =
+returns-then-is_broken-clause-step g c honest h at =
+    let map = h.state.map in
+    let pass = h.state.pass in
     let db = c.args.self.now in
     let broken = c.is_broken.ensures.0 c.if-is_broken.true in
-    broken_step g.S.PageStore db map _ broken (broken_delete (handle_of db map).state c.args.key.now broken)
+    from_own at (broken_step g.S.PageStore db map pass _ broken (broken_delete (handle_of db map pass).state c.args.key.now broken))
 
 pub returns-in_err-has-clause-step : goal.returns-in_err-has-clause-step
-returns-in_err-has-clause-step g c honest map held =
+returns-in_err-has-clause-step g c honest h at =
+    let map = h.state.map in
+    let pass = h.state.pass in
     let s = g.S.PageStore in
     let db = c.args.self.now in
     let usable = not_broken _ _ c.is_broken.ensures c.if-is_broken.false in
-    let falls = delete_rule (handle_of db map).state c.args.key.now usable refl in
-    delete_told c.has.new.self c.in_err-has.field-0.0
-    (walk_failed_step s db c.has.new.self map _ c.in_err-has.ensures.reads honest (held usable) (λ x left. g.met.S.PageStore.only_committed db.store x honest usable db.writable left)
-    _ c.in_err-has.field-0.0 usable c.in_err-has.ensures.answer c.in_err-has.ensures.cause (c.in_err-has.ensures.whole honest map (held usable))
-    (λ reply after fails. subst (λ (rule : Case). Suffers (handle_of db map) rule reply after) (sym falls) (delete_fails (handle_of db map) reply after fails c.args.key.now (get map c.args.key.now))))
-    c.from_residual.result c.from_residual.ensures.1
+    let falls = delete_rule (handle_of db map pass).state c.args.key.now usable refl in
+    from_own at (delete_told c.has.new.self c.in_err-has.field-0.0
+    (walk_failed_step s db c.has.new.self map pass _ c.in_err-has.ensures.reads honest (at.map usable) (at.pass usable) (λ x left. g.met.S.PageStore.only_committed db.store x honest usable db.writable left)
+    _ c.in_err-has.field-0.0 usable c.in_err-has.ensures.answer c.in_err-has.ensures.cause (c.in_err-has.ensures.whole honest map (at.map usable))
+    (λ reply after fails. subst (λ (rule : Case). Suffers (handle_of db map pass) rule reply after) (sym falls) (delete_fails (handle_of db map pass) reply after fails c.args.key.now (get map c.args.key.now))))
+    c.from_residual.result c.from_residual.ensures.1)
 
 pub returns-then-not-branch-clause-step : goal.returns-then-not-branch-clause-step
-returns-then-not-branch-clause-step g c honest map held =
+returns-then-not-branch-clause-step g c honest h at =
+    let map = h.state.map in
+    let pass = h.state.pass in
     let s = g.S.PageStore in
     let db = c.args.self.now in
     let usable = not_broken _ _ c.is_broken.ensures c.if-is_broken.false in
-    let state = (handle_of db map).state in
-    let none = sym (c.in_ok-has.ensures.exact honest map (held usable)) ∙ c.if-not-branch.true in
+    let state = (handle_of db map pass).state in
+    let none = sym (c.in_ok-has.ensures.exact honest map (at.map usable)) ∙ c.if-not-branch.true in
     let falls = delete_rule state c.args.key.now usable refl ∙ absent state c.args.key.now (get map c.args.key.now) none in
-    found_step s db c.has.new.self map _ c.in_ok-has.ensures.reads honest (held usable) (λ x left. g.met.S.PageStore.only_committed db.store x honest usable db.writable left) model.Absent falls
+    from_own at (found_step s db c.has.new.self map pass _ c.in_ok-has.ensures.reads honest (at.map usable) (at.pass usable) (λ x left. g.met.S.PageStore.only_committed db.store x honest usable db.writable left) model.Absent falls)
 
 pub returns-then-self-eq0-clause-step : goal.returns-then-self-eq0-clause-step
-returns-then-self-eq0-clause-step g c honest map held =
+returns-then-self-eq0-clause-step g c honest h at =
+    let map = h.state.map in
     let db = c.args.self.now in
     let usable = not_broken _ _ c.is_broken.ensures c.if-is_broken.false in
-    let there = sym (c.in_ok-has.ensures.exact honest map (held usable)) ∙ c.if-not-branch.false in
-    absurd (no_key g.S.PageStore db map c.args.key.now (held usable) (omega (arith, c.if-self-eq0.true, ap (λ m. m.pairs) c.in_ok-has.ensures.reads.meta_is)) there)
+    let there = sym (c.in_ok-has.ensures.exact honest map (at.map usable)) ∙ c.if-not-branch.false in
+    absurd (no_key g.S.PageStore db map c.args.key.now (at.map usable) (omega (arith, c.if-self-eq0.true, ap (λ m. m.pairs) c.in_ok-has.ensures.reads.meta_is)) there)
 
 pub returns-in_err-delete_pair-clause-step : goal.returns-in_err-delete_pair-clause-step
-returns-in_err-delete_pair-clause-step g c honest map held =
+returns-in_err-delete_pair-clause-step g c honest h at =
+    let map = h.state.map in
+    let pass = h.state.pass in
     let s = g.S.PageStore in
     let db = c.args.self.now in
     let usable = not_broken _ _ c.is_broken.ensures c.if-is_broken.false in
-    let there = sym (c.in_ok-has.ensures.exact honest map (held usable)) ∙ c.if-not-branch.false in
-    let asked = delete_asked s db c.has.new.self map c.args.key.now c.in_ok-has.ensures.reads usable honest (held usable) (λ x left. g.met.S.PageStore.only_committed db.store x honest usable db.writable left) there in
+    let there = sym (c.in_ok-has.ensures.exact honest map (at.map usable)) ∙ c.if-not-branch.false in
+    let asked = delete_asked s db c.has.new.self map pass c.args.key.now c.in_ok-has.ensures.reads usable honest (at.map usable) (at.pass usable) (λ x left. g.met.S.PageStore.only_committed db.store x honest usable db.writable left) there in
     let all = c.in_err-delete_pair.ensures in
-    delete_told _ c.in_err-delete_pair.field-0.0
+    from_own at (delete_told _ c.in_err-delete_pair.field-0.0
     (refused_step s asked _ c.in_err-delete_pair.field-0.0
-    record { ok = tt; err = all.err; limit = all.limit; error_is = refl; cause = all.cause; answer = all.answer }
+    record { ok = tt; err = all.err; limit = all.limit; error_is = refl; pass_ends = tt; pass_stays = refl; cause = all.cause; answer = all.answer }
     record {
       exact = all.exact (mid_honest s asked) (mid_usable s asked) map (mid_holds s asked) there;
+      kept = all.kept (mid_honest s asked);
       any_moment = all.any_moment (mid_honest s asked) (mid_usable s asked) map (mid_holds s asked) there;
       unchanged = all.unchanged (mid_honest s asked) (mid_usable s asked) map (mid_holds s asked) there;
       whole = all.whole (mid_honest s asked) map (mid_holds s asked);
       no_room = all.no_room (mid_honest s asked) map (mid_holds s asked) there;
     })
-    c.from_residual-in_err-delete_pair.result c.from_residual-in_err-delete_pair.ensures.1
+    c.from_residual-in_err-delete_pair.result c.from_residual-in_err-delete_pair.ensures.1)
 
 pub returns-clause-step : goal.returns-clause-step
-returns-clause-step g c honest map held =
+returns-clause-step g c honest h at =
+    let map = h.state.map in
+    let pass = h.state.pass in
     let s = g.S.PageStore in
     let db = c.args.self.now in
     let usable = not_broken _ _ c.is_broken.ensures c.if-is_broken.false in
-    let there = sym (c.in_ok-has.ensures.exact honest map (held usable)) ∙ c.if-not-branch.false in
-    let asked = delete_asked s db c.has.new.self map c.args.key.now c.in_ok-has.ensures.reads usable honest (held usable) (λ x left. g.met.S.PageStore.only_committed db.store x honest usable db.writable left) there in
+    let there = sym (c.in_ok-has.ensures.exact honest map (at.map usable)) ∙ c.if-not-branch.false in
+    let asked = delete_asked s db c.has.new.self map pass c.args.key.now c.in_ok-has.ensures.reads usable honest (at.map usable) (at.pass usable) (λ x left. g.met.S.PageStore.only_committed db.store x honest usable db.writable left) there in
     let all = c.in_ok-delete_pair.ensures in
-    changed_step s asked _
-    record { ok = all.ok; err = tt; limit = all.limit; error_is = refl; cause = all.cause; answer = all.answer }
+    from_own at (changed_step s asked _
+    record { ok = all.ok; err = tt; limit = all.limit; error_is = refl; pass_ends = refl; pass_stays = tt; cause = all.cause; answer = all.answer }
     record {
       exact = all.exact (mid_honest s asked) (mid_usable s asked) map (mid_holds s asked) there;
+      kept = tt;
       any_moment = all.any_moment (mid_honest s asked) (mid_usable s asked) map (mid_holds s asked) there;
       unchanged = tt;
       whole = all.whole (mid_honest s asked) map (mid_holds s asked);
       no_room = all.no_room (mid_honest s asked) map (mid_holds s asked) there;
-    }
+    })
 
 pub returns-in_err-delete_pair-clause-keeps : goal.returns-in_err-delete_pair-clause-keeps
 returns-in_err-delete_pair-clause-keeps g c =
     let all = c.in_err-delete_pair.ensures in
     told_keeps g.S.PageStore c.args.self.now c.has.new.self _ c.in_ok-has.ensures.reads (not_broken _ _ c.is_broken.ensures c.if-is_broken.false) c.in_err-delete_pair.field-0.0
-    record { ok = tt; err = all.err; limit = all.limit; error_is = refl; cause = all.cause; answer = all.answer } all.honesty
+    record { ok = tt; err = all.err; limit = all.limit; error_is = refl; pass_ends = tt; pass_stays = refl; cause = all.cause; answer = all.answer } all.honesty
     c.from_residual-in_err-delete_pair.result c.from_residual-in_err-delete_pair.ensures.1

@@ -10,8 +10,9 @@ use Rattle.redo_area.specs.Rests.{only_seen}
 use Rattle.dbm_file.specs.Opened.{device_after}
 use Rattle.dbm_file.specs.Opening.{making_fault, IsRefusedOpening, MayRemain}
 use Rattle.dbm_file.specs.Faults.{fault_of}
+use Rattle.dbm_file.proofs.FoundFiles.{opened_at}
 use Rattle.dbm_file.proofs.NewFiles.{BlankOrNew}
-use Rattle.dbm_file.proofs.Refusals.{told_blank, told_not_ours, told_damaged, each_ok, both_ok, each_err, has_blank, all_blank, refused_blank, refused_not_ours, refused_damaged, blank_remains, refused_file, what_stood, is_opened}
+use Rattle.dbm_file.proofs.Refusals.{told_blank, told_not_ours, told_damaged, both_ok, all_ok, each_err, has_blank, all_blank, refused_blank, refused_not_ours, refused_damaged, blank_remains, refused_file, what_stood}
 use Rattle.dbm_file.proofs.opening.Database+Pager+D.open.Goals as goal
 
 pub returns-in-Err-default-NotOurs-clause-refused : goal.returns-in-Err-default-NotOurs-clause-refused
@@ -48,8 +49,8 @@ returns-in-Err-default-Blank-clause-stands g c honest all =
     let new = c.in-Err-default-Blank.dev in
     let how = c.args.how in
     let has = has_blank how (dev.sectors old) (dev.candidate old) (dev.candidate new) (dev.seen new) (told_blank (dev.sectors old / 4) (dev.candidate old) (dev.candidate new) (dev.seen new) c.in-Err-default-Blank.field-0-1 c.in-Err-default-Blank.field-0-1-is (c.in-Err-default-Blank.ensures.refused honest)) in
-    both_ok c.made.result c.made.ensures.asked (c.made.ensures.stands (c.in-Err-default-Blank.ensures.honesty.1 honest)) (λ db asked holds.
-    (empty, holds.0, inr (record { asked = asked; on_blank = has }, refl, holds.1)))
+    all_ok c.made.result c.made.ensures.asked c.made.ensures.fresh (c.made.ensures.stands (c.in-Err-default-Blank.ensures.honesty.1 honest)) (λ db asked fresh holds.
+    (empty, how.limit, opened_at _ db empty how.limit holds.0 holds.1 fresh, inr (record { asked = asked; on_blank = has }, refl, refl)))
 
 pub returns-in-Err-default-Blank-clause-any_moment : goal.returns-in-Err-default-Blank-clause-any_moment
 returns-in-Err-default-Blank-clause-any_moment g c honest =
@@ -90,8 +91,8 @@ returns-in-Ok-clause-stands g c honest all =
     let h1 = c.in-Ok.ensures.honesty.1 honest in
     let file = file_pages (page_at (dev.seen store.dev)) store.end in
     let what = what_stood cap (dev.candidate old) file (c.in-Ok.ensures.committed honest) all in
-    each_ok c.found.result (c.found.ensures.stands h1 what.map what.limit what.stands) (λ db both.
-    (what.map, both.0, is_opened c.args.how cap (dev.candidate old) what.map what.limit db.meta.limit what.stood both.1))
+    both_ok c.found.result c.found.ensures.fresh (c.found.ensures.stands h1 what.map what.limit what.stands) (λ db fresh both.
+    (what.map, what.limit, opened_at _ db what.map what.limit both.0 both.1 fresh, inl what.stood))
 
 pub returns-in-Ok-clause-refused : goal.returns-in-Ok-clause-refused
 returns-in-Ok-clause-refused g c honest large =

@@ -1,0 +1,79 @@
+use Rattle.std.proofs.Common.{◌≡◌, ◌∙◌, ℕ, ◌<◌, length, Option, Some, None, IfSome, Ok, Err, refl, inl, inr, subst, ap}
+use Rattle.dbm_model.specs.Calls.{Next, End}
+use Rattle.slot_page.specs.Contents.{IsBucketPage, pairs_of}
+use Rattle.dbm_file.specs.Trying.{slot_reply}
+use Rattle.dbm_file.specs.declared.fault.Fault.TheVariants.{NoPass}
+use Rattle.dbm_file.proofs.Cases.{broken_next}
+use Rattle.dbm_file.proofs.Lends.{lends_broken, lends_nothing, flagged_lends}
+use Rattle.dbm_file.proofs.ReadSteps.{not_broken}
+use Rattle.dbm_file.proofs.PassSteps.{next_step, passed_lends, keeps_as, keeps_err, lent_key, short_key, refused_by, no_pass_lends}
+use Rattle.dbm_file.proofs.database.Database.nextkey.Goals as goal
+
+pub returns-then-is_broken : goal.returns-then-is_broken
+returns-then-is_broken g c =
+    let answer = c.refuse.ensures.answer in (
+      (refl, (λ _. tt), lends_broken g.S.PageStore c.args.self.now Next End _ _ _ c.refuse.new.error _ c.refuse.ensures.flag c.refuse.result answer refl (c.is_broken.ensures.0 c.if-is_broken.true) (λ h broken. broken_next h.state broken)),
+      record { after = tt; short = lends_nothing c.refuse.result _ answer; only = refused_by _ c.refuse.result _ answer (inl refl) },
+    )
+
+pub returns-in_default : goal.returns-in_default
+returns-in_default g c =
+    let s = g.S.PageStore in
+    let db = c.args.self.now in
+    let usable = not_broken _ _ c.is_broken.ensures c.if-is_broken.false in
+    let answer = c.refuse-in_default.ensures.answer in (
+      (
+        refl,
+        (λ _. tt),
+        flagged_lends s db Next End _ _ _ c.refuse-in_default.new.error NoPass c.refuse-in_default.ensures.flag c.refuse-in_default.result answer db
+            (no_pass_lends s db c.in_default.is usable (λ y honest left. g.met.S.PageStore.only_now db.store y honest left) (λ honest x left. g.met.S.PageStore.only_committed db.store x honest usable db.writable left)),
+      ),
+      record { after = tt; short = lends_nothing c.refuse-in_default.result _ answer; only = refused_by _ c.refuse-in_default.result _ answer (inr (inl refl)) },
+    )
+
+pub returns-in-Ok-Some : goal.returns-in-Ok-Some
+returns-in-Ok-Some g c =
+    let s = g.S.PageStore in
+    let db = c.args.self.now in
+    let usable = not_broken _ _ c.is_broken.ensures c.if-is_broken.false in
+    let all = c.in-Ok-Some.ensures in
+    let bytes = c.advance.new.self.page.bytes in
+    let held = subst (λ (o : Option ℕ). IfSome o (λ slot. IsBucketPage bytes × (slot < length (pairs_of bytes)))) c.in-Ok-Some.field-0-is all.held in (
+      (
+        refl,
+        (λ _. tt),
+        passed_lends s db c.advance.new.self Next bytes (Ok c.in-Ok-Some.field-0) (Ok (Some c.pair_at.result.0)) (λ honest h at. next_step s db c.advance.new.self _ c.in-Some.cursor c.in-Some.is usable h at (all.step honest h at))
+            (ap (λ (o : Option ℕ). slot_reply bytes (Ok o)) c.in-Ok-Some.field-0-is ∙ lent_key bytes c.in-Ok-Some.slot c.pair_at.result c.pair_at.ensures) (keeps_as c.in-Ok-Some.field-0 (Some c.pair_at.result.0) all.keeps),
+      ),
+      record { after = tt; short = short_key bytes c.pair_at.result.0.now c.pair_at.result.1.now c.in-Ok-Some.slot held.0 held.1 c.pair_at.ensures; only = tt },
+    )
+
+pub returns-in-Ok-None : goal.returns-in-Ok-None
+returns-in-Ok-None g c =
+    let s = g.S.PageStore in
+    let db = c.args.self.now in
+    let usable = not_broken _ _ c.is_broken.ensures c.if-is_broken.false in
+    let all = c.in-Ok-None.ensures in
+    let bytes = c.advance.new.self.page.bytes in (
+      (
+        refl,
+        (λ _. tt),
+        passed_lends s db c.advance.new.self Next bytes (Ok c.in-Ok-None.field-0) (Ok None) (λ honest h at. next_step s db c.advance.new.self _ c.in-Some.cursor c.in-Some.is usable h at (all.step honest h at))
+            (ap (λ (o : Option ℕ). slot_reply bytes (Ok o)) c.in-Ok-None.field-0-is) (keeps_as c.in-Ok-None.field-0 None all.keeps),
+      ),
+      record { after = tt; short = tt; only = tt },
+    )
+
+pub returns-in-Err : goal.returns-in-Err
+returns-in-Err g c =
+    let s = g.S.PageStore in
+    let db = c.args.self.now in
+    let usable = not_broken _ _ c.is_broken.ensures c.if-is_broken.false in
+    let all = c.in-Err.ensures in (
+      (
+        refl,
+        (λ _. tt),
+        passed_lends s db c.advance.new.self Next c.advance.new.self.page.bytes (Err c.in-Err.fault) (Err c.in-Err.fault) (λ honest h at. next_step s db c.advance.new.self _ c.in-Some.cursor c.in-Some.is usable h at (all.step honest h at)) refl (keeps_err c.in-Err.fault all.keeps),
+      ),
+      record { after = tt; short = tt; only = inr (inr all.only) },
+    )
