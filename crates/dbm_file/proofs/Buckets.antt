@@ -1,5 +1,5 @@
 -- The bucket of a key in a placement: its head page, and its chain.
-use Rattle.std.proofs.Common.{◌≡◌, ℕ, ◌+◌, ◌*◌, ◌^◌, ◌<◌, ◌≤◌, List, length, get_or, Option, Some, None, refl, sym, ap, subst, ◌∙◌, arith}
+use Rattle.std.proofs.Common.{◌≡◌, ℕ, ◌<◌, List, length, get_or, Option, Some, None, refl, sym, ap, subst, ◌∙◌, arith}
 use Rattle.std.specs.Prelude.{All}
 use Rattle.std.specs.FinMap.{find, get}
 use Rattle.dbm_model.specs.Address.{Shape, buckets, address, hash_of}
@@ -8,8 +8,7 @@ use Rattle.dbm_model.specs.Pages.{Meta, Body}
 use Rattle.dbm_model.specs.Pairs.{Key, Pair, key_cmp}
 use Rattle.dbm_model.specs.Chain.{numbers, pairs_in}
 use Rattle.dbm_model.specs.Placement.{Placement, contents, key_bucket, chain_at, IsSound}
-use Rattle.dbm_model.specs.Sheets.{first_of, heads_of, meta_of, segment_sheets, lower_sheets, AreRead}
-use Rattle.dbm_model.specs.Valid as valid
+use Rattle.dbm_model.specs.Sheets.{first_of, heads_of, segment_sheets, lower_sheets, AreRead}
 use Rattle.dbm_model.proofs.AddressLemmas.{address_below}
 use Rattle.dbm_model.proofs.Stores.{looks_in_one_chain}
 use Rattle.free_pages.specs.declared.free_state.FreeState.{FreeState}

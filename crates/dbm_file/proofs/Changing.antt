@@ -1,5 +1,5 @@
 -- A change that is staged and then committed or forgotten.
-use Rattle.std.proofs.Common.{◌≡◌, ◌∙◌, inl, inr, ⊎_elim, ◌⊎◌, ℕ, ◌+◌, ◌*◌, ◌<◌, ◌≤◌, ◌^◌, Bool, true, false, ◌&&◌, leb, ltb, [], ◌∷◌, length, refl, Result, Ok, Err, IfOk, IfErr, OnOk, sym, ap, subst, arith}
+use Rattle.std.proofs.Common.{◌≡◌, ◌∙◌, inl, inr, ⊎_elim, ◌⊎◌, ℕ, ◌+◌, ◌*◌, ◌<◌, ◌≤◌, ◌^◌, true, ◌&&◌, leb, ltb, [], ◌∷◌, length, refl, Result, Ok, Err, IfOk, IfErr, OnOk, sym, ap, subst, arith}
 use Rattle.std.specs.Prelude.{IsOkAnd}
 use Rattle.std.proofs.lemmas.Bool.{and_parts, leb-true}
 use Rattle.sect_dev.specs.Device.{LeavesOnly}

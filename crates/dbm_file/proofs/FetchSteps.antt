@@ -1,10 +1,9 @@
 -- A fetch, as a step.
-use Rattle.std.proofs.Common.{◌≡◌, ◌⊎◌, inl, inr, IfOk, IfErr, IfSome, ℕ, ◌<◌, ◌≤◌, zero, suc, List, [], ◌∷◌, length, true, false, cond, is_some, Option, Some, None, Result, Ok, Err, IsErrOf, slice_index_or, refl, sym, ◌∙◌, ap, subst, arith}
+use Rattle.std.proofs.Common.{◌≡◌, ◌⊎◌, inl, inr, IfErr, IfSome, ℕ, ◌<◌, ◌≤◌, zero, suc, List, [], ◌∷◌, length, true, cond, is_some, Option, Some, None, Ok, Err, IsErrOf, slice_index_or, refl, sym, ◌∙◌, ap, subst, arith}
 use Rattle.std.specs.Borrow.{Bor}
 use Rattle.std.specs.List.{HoldsAt}
 use Rattle.std.specs.Option.{option_map}
 use Rattle.std.specs.FinMap.{get}
-use Rattle.sect_dev.specs.Device.{MoreFaults}
 use Rattle.dbm_model.specs.Calls as model
 use Rattle.dbm_model.specs.Pairs.{Key, Pair, Contents}
 use Rattle.dbm_model.specs.Slots.{taken}

@@ -1,5 +1,5 @@
 -- The meta page is staged last.
-use Rattle.std.proofs.Common.{◌≡◌, ℕ, ◌+◌, ◌<◌, ◌≤◌, Bool, true, false, cond, eqb, ltb, List, [], ◌∷◌, length, sym, ap, arith}
+use Rattle.std.proofs.Common.{◌≡◌, ℕ, ◌<◌, ◌≤◌, Bool, true, false, cond, eqb, ltb, List, [], ◌∷◌, length, ap, arith}
 use Rattle.page_io.specs.Page.{own_number}
 use Rattle.page_io.specs.Store.{Pages, State, put_page}
 use Rattle.page_io.specs.Views.{MayEnd}

@@ -1,5 +1,5 @@
 -- A placement midway in a change: one key deleted, one pair put.
-use Rattle.std.proofs.Common.{◌≡◌, ℕ, ◌+◌, ◌^◌, ◌<◌, ◌≤◌, Bool, true, false, List, [], ◌∷◌, cond, length, set, get_or, length-set, get_or-set_same, Option, Some, None, is_some, refl, sym, ap, subst, ◌∙◌, arith}
+use Rattle.std.proofs.Common.{◌≡◌, ℕ, ◌<◌, ◌≤◌, false, List, [], ◌∷◌, cond, length, set, get_or, length-set, get_or-set_same, Option, Some, None, is_some, refl, sym, ap, subst, ◌∙◌, arith}
 use Rattle.std.specs.Prelude.{All}
 use Rattle.std.specs.FinMap.{get, get-from_entries}
 use Rattle.std.proofs.lemmas.Cmp.{nat_list_cmp_total}
@@ -15,16 +15,15 @@ use Rattle.dbm_model.specs.Sheets.{first_of, heads_of}
 use Rattle.dbm_model.proofs.AddressLemmas.{address_below}
 use Rattle.dbm_model.proofs.Absent.{delete_absent}
 use Rattle.dbm_model.proofs.PairLists.{value_in, sum_by-flat_map-set}
-use Rattle.dbm_model.proofs.Places.{times_none, value_at, delete_sound, deleted_finds_none, put_sound}
+use Rattle.dbm_model.proofs.Places.{times_none, value_at, delete_sound, put_sound}
 use Rattle.page_io.specs.Views.{said, ReadsOnly}
 use Rattle.page_io.specs.declared.store.PageStore.{Ghosts}
 use Rattle.page_io.proofs.Views.{same_said}
 use Rattle.free_pages.specs.declared.free_state.FreeState.{FreeState}
-use Rattle.free_pages.specs.FreeList.{state_of}
 use Rattle.seg_table.specs.Heads.{AreHeads}
 use Rattle.bucket_chain.specs.Changes.{IsPlaced, BecomesPlaced, remove_from, put_in}
 use Rattle.bucket_chain.specs.Placements.{placed_for}
-use Rattle.bucket_chain.proofs.PlacedChains.{chains_placed, puts_placements, removals_placements}
+use Rattle.bucket_chain.proofs.PlacedChains.{puts_placements, removals_placements}
 use Rattle.dbm_file.specs.Tables.{shape_in}
 use Rattle.dbm_file.specs.Staging.{IsMidway}
 use Rattle.dbm_file.proofs.Buckets as buckets

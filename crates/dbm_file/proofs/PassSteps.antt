@@ -1,10 +1,9 @@
 -- Calls of a pass, as steps.
-use Rattle.std.proofs.Common.{◌≡◌, ◌⊎◌, ⊎_elim, inl, inr, IfOk, IfErr, IfSome, ℕ, zero, suc, ◌+◌, ◌<◌, ◌≤◌, List, [], ◌∷◌, length, true, false, cond, is_some, Option, Some, None, Result, Ok, Err, OnErr, IsErrOf, slice_index_or, refl, sym, ◌∙◌, ap, subst, arith}
+use Rattle.std.proofs.Common.{◌≡◌, ⊎_elim, inl, inr, IfErr, ℕ, zero, suc, ◌+◌, ◌<◌, ◌≤◌, List, [], ◌∷◌, length, true, cond, is_some, Option, Some, None, Result, Ok, Err, IsErrOf, slice_index_or, refl, sym, ◌∙◌, ap, subst, arith}
 use Rattle.std.specs.Borrow.{Bor}
 use Rattle.std.specs.List.{HoldsAt}
 use Rattle.std.specs.FinMap as finmap
 use Rattle.std.specs.FinSet as set
-use Rattle.std.specs.Option.{option_map}
 use Rattle.sect_dev.specs.Moments.{started}
 use Rattle.dbm_model.specs.Calls as model
 use Rattle.dbm_model.specs.Meaning.{said_by}
@@ -16,7 +15,6 @@ use Rattle.dbm_model.specs.States.{Keys, Handle, error_number}
 use Rattle.dbm_model.specs.Valid.{IsMeta}
 use Rattle.dbm_model.specs.Steps.{Case, Passes, GivesKey, Suffers, case_of, Answers}
 use Rattle.page_io.specs.Store.{Settled, Pages, file_of, page_of}
-use Rattle.page_io.specs.Store as store
 use Rattle.page_io.specs.Answers.{HasDeviceCause}
 use Rattle.page_io.specs.Meaning.{ImageStandsFor}
 use Rattle.page_io.specs.Views.{said}
@@ -34,7 +32,7 @@ use Rattle.dbm_file.specs.Holding.{Holds}
 use Rattle.dbm_file.specs.Lending.{Lends}
 use Rattle.dbm_file.specs.Passing.{IsBehind, IsNext, HasLeft, IsPass, keys_of}
 use Rattle.dbm_file.specs.Tables.{IsTable}
-use Rattle.dbm_file.specs.Database.{store_of, meta_of, pages_of, error_of, cursor_of, handle_of, IsAt}
+use Rattle.dbm_file.specs.Database.{store_of, meta_of, pages_of, error_of, handle_of, IsAt}
 use Rattle.dbm_file.specs.Trying.{with_fault, IsRead, slot_reply}
 use Rattle.dbm_file.specs.declared.fault.Fault.{Fault}
 use Rattle.dbm_file.specs.declared.fault.Fault.TheVariants.{Device, Broken, NoPass}

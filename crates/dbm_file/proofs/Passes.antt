@@ -6,7 +6,7 @@ use Rattle.dbm_model.specs.Address.{buckets}
 use Rattle.dbm_model.specs.Pages.{Meta, Body}
 use Rattle.dbm_model.specs.Pairs.{Pair}
 use Rattle.dbm_model.specs.Chain.{Chain, numbers, pairs_in}
-use Rattle.dbm_model.specs.Placement.{Placement, pairs_of, chain_at, IsGood}
+use Rattle.dbm_model.specs.Placement.{Placement, pairs_of, chain_at}
 use Rattle.dbm_model.specs.Sheets.{first_of, heads_of}
 use Rattle.page_io.specs.Store.{State}
 use Rattle.page_io.specs.Views.{said, ReadsOnly}

@@ -1,16 +1,14 @@
 -- What a change of a file that holds a map is to leave.
-use Rattle.std.proofs.Common.{◌≡◌, ◌∙◌, ℕ, ◌+◌, ◌<◌, ◌≤◌, Bool, true, false, [], length, Option, None, Some, is_some, List, sym, ap, arith}
-use Rattle.std.specs.FinMap.{get, insert, remove, len}
+use Rattle.std.proofs.Common.{◌≡◌, ◌∙◌, ℕ, ◌<◌, Bool, false, Option, is_some, List, sym, ap, arith}
+use Rattle.std.specs.FinMap.{get, insert, remove}
 use Rattle.dbm_model.specs.Pages.{Meta}
 use Rattle.dbm_model.specs.Pairs.{Key, Pair, Contents, IsAllowed}
 use Rattle.dbm_model.specs.PairLists.{HasBytes}
 use Rattle.dbm_model.specs.Placement.{Placement, contents, delete, store, IsGood, MayStore}
 use Rattle.dbm_model.proofs.Stores.{counts_keys, store_stays_good, delete_stays_good}
-use Rattle.page_io.specs.Views.{said}
 use Rattle.page_io.specs.declared.store.PageStore.{Ghosts}
-use Rattle.dbm_file.specs.Tables.{IsTable}
 use Rattle.dbm_file.specs.Holding.{Holds}
-use Rattle.dbm_file.proofs.Tables.{placed, meta_held, is_table, map_placed, counted}
+use Rattle.dbm_file.proofs.Tables.{placed, meta_held, map_placed}
 
 module _ {S : Type 0} (s : Ghosts S) (old : S) (m : Meta) (map : Contents) (holds : Holds s old m map) where
   abbrev pub now : Placement

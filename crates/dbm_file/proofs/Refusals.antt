@@ -13,7 +13,7 @@ use Rattle.redo_area.specs.Rests.{SettlesTo}
 use Rattle.redo_area.specs.declared.open_fault.OpenFault.{OpenFault}
 use Rattle.redo_area.specs.declared.open_fault.OpenFault.TheVariants as redo
 use Rattle.dbm_file.specs.Faults.{fault_of}
-use Rattle.dbm_file.specs.Opening.{making_fault, RefusesBy, RefusesMeta, IsRefusedOpening, HasBlank, MayRemain, AllStand, StoodFor, IsOpened}
+use Rattle.dbm_file.specs.Opening.{making_fault, RefusesBy, RefusesMeta, IsRefusedOpening, HasBlank, MayRemain, AllStand, StoodFor}
 use Rattle.dbm_file.specs.declared.calls.OpenHow.{OpenHow}
 use Rattle.dbm_file.specs.declared.fault.Fault.{Fault}
 use Rattle.dbm_file.specs.declared.fault.Fault.TheVariants.{NotADatabase, Damaged}

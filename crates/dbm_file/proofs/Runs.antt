@@ -1,5 +1,5 @@
 -- How runs of calls on a database go on.
-use Rattle.std.proofs.Common.{T, ℤ, pos, w32, to_z, of_z, ◌≡◌, ◌⊎◌, inl, inr, ⊎_elim, ℕ, zero, suc, ◌+◌, ◌<◌, ◌≤◌, List, [], ◌∷◌, ◌++◌, length, length-append, map, take, slice_index_or, true, false, refl, sym, ◌∙◌, ap, subst, arith}
+use Rattle.std.proofs.Common.{T, ℤ, pos, w32, to_z, of_z, ◌≡◌, inl, inr, ⊎_elim, ℕ, zero, suc, ◌+◌, ◌<◌, ◌≤◌, List, [], ◌∷◌, ◌++◌, length, map, take, slice_index_or, true, false, refl, sym, ◌∙◌, ap, subst, arith}
 use Rattle.std.specs.Int.Signed.{mag}
 use Rattle.std.proofs.lemmas.Bool.{lt-ltb}
 use Rattle.std.proofs.Math.Facts.{sfits_lit, to_z-of_z}

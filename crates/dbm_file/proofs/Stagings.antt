@@ -1,6 +1,6 @@
 -- The placement that the staged pages spell once the meta page is staged.
-use Rattle.std.proofs.Common.{Result, Ok, Err, IfOk, OnOk, ◌≡◌, ℕ, ◌+◌, ◌-◌, ◌==◌, Bool, true, is_some, List, [], ◌∷◌, cond, length, refl, sym, ap, subst, ◌∙◌, arith}
-use Rattle.std.specs.FinMap.{get, len, remove, len-remove}
+use Rattle.std.proofs.Common.{Result, Ok, Err, IfOk, OnOk, ◌≡◌, ℕ, ◌-◌, Bool, true, is_some, [], ◌∷◌, cond, length, sym, ap, ◌∙◌, arith}
+use Rattle.std.specs.FinMap.{get, len, len-remove}
 use Rattle.std.proofs.lemmas.Cmp.{nat_list_cmp_total}
 use Rattle.dbm_model.specs.Pages.{Meta, Body, MetaPage}
 use Rattle.dbm_model.specs.Space.{times_of}
@@ -11,7 +11,6 @@ use Rattle.dbm_model.proofs.Openings.{meta_rewrites}
 use Rattle.dbm_model.proofs.Places.{delete_sound, contents-delete}
 use Rattle.dbm_model.proofs.Stores.{counts_keys}
 use Rattle.free_pages.specs.declared.free_state.FreeState.{FreeState}
-use Rattle.free_pages.specs.FreeList.{state_of}
 use Rattle.dbm_file.specs.Tables.{shape_in, space_in, IsTable}
 use Rattle.dbm_file.specs.Staging.{IsMidway, IsStaged}
 

@@ -1,6 +1,6 @@
 -- What a store makes of a placement, step by step.
 use Rattle.std.proofs.Common.{◌≡◌, ◌∙◌, ◌+◌, ◌*◌, ◌≤◌, ℕ, Bool, true, false, cond, ltb, length, length-set, refl, sym, ap, is_some, arith}
-use Rattle.std.specs.FinMap.{get, insert, len, len-insert}
+use Rattle.std.specs.FinMap.{get, len, len-insert}
 use Rattle.std.proofs.lemmas.Cmp.{nat_list_cmp_total}
 use Rattle.dbm_model.specs.Pairs.{Pair, Contents, IsAllowed}
 use Rattle.dbm_model.specs.Placement.{Placement, contents, pairs_of, delete, replace, split, store, IsSound}

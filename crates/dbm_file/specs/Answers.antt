@@ -4,7 +4,7 @@ use Rattle.sect_dev.specs.Device.{LeavesOnly, MoreFaults}
 use Rattle.dbm_model.specs.Calls.{Call, Reply}
 use Rattle.dbm_model.specs.Pairs.{Contents}
 use Rattle.dbm_model.specs.States.{Handle, first_fault}
-use Rattle.dbm_model.specs.Steps.{Case, Changes, case_of, Step, Run}
+use Rattle.dbm_model.specs.Steps.{Changes, case_of, Step, Run}
 use Rattle.page_io.specs.Store.{Settled}
 use Rattle.page_io.specs.Meaning.{ImageStandsFor}
 use Rattle.page_io.specs.declared.store.PageStore.{Ghosts}

@@ -1,5 +1,5 @@
 -- What a caller sees of an open database.
-use Rattle.std.specs.Prelude.{◌≡◌, ℕ, ◌+◌, ◌*◌, nat_lt, true, Option}
+use Rattle.std.specs.Prelude.{◌≡◌, ◌+◌, ◌*◌, nat_lt, true, Option}
 use Rattle.std.specs.Option.{option_map}
 use Rattle.dbm_model.specs.Calls as model
 use Rattle.dbm_model.specs.Pages.{Meta}

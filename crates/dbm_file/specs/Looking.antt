@@ -1,7 +1,7 @@
 -- What a look for a key finds.
 use Rattle.std.specs.Prelude.{◌≡◌, ℕ, List, Option, Some, None}
 use Rattle.std.specs.List.{HoldsAt}
-use Rattle.dbm_model.specs.Pairs.{Key, Pair}
+use Rattle.dbm_model.specs.Pairs.{Key}
 use Rattle.slot_page.specs.Contents.{IsBucketPage, HasKeyAt, pairs_of}
 use Rattle.bucket_chain.specs.declared.place.Place.{Place}
 

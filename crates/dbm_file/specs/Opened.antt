@@ -1,5 +1,5 @@
 -- A database over a device.
-use Rattle.std.specs.Prelude.{◌≡◌, ℕ, ◌/◌, true, None, Result, Ok, Err}
+use Rattle.std.specs.Prelude.{◌≡◌, ℕ, true, None, Result, Ok, Err}
 use Rattle.sect_dev.specs.declared.device.SectorDev.{Ghosts}
 use Rattle.page_io.specs.declared.store.PageStore as store
 use Rattle.redo_area.specs.Pagers.{device_of}
@@ -7,7 +7,7 @@ use Rattle.redo_area.specs.declared.pager.Pager.{Pager}
 use Rattle.dbm_model.specs.Pairs.{Contents}
 use Rattle.dbm_model.specs.States.{Handle}
 use Rattle.dbm_model.specs.States as model
-use Rattle.dbm_file.specs.Database.{store_of, meta_of, pages_of, error_of, cursor_of, IsAt}
+use Rattle.dbm_file.specs.Database.{store_of, pages_of, error_of, cursor_of, IsAt}
 use Rattle.dbm_file.specs.declared.fault.Fault.{Fault}
 use Rattle.dbm_file.specs.declared.database.Database.{Database}
 

@@ -1,8 +1,7 @@
 -- What an opening finds, makes or refuses.
-use Rattle.std.specs.Prelude.{◌≡◌, ◌≢◌, ◌⊎◌, ℕ, ◌/◌, nat_lt, true, List, Option, Some, None, Result, Ok, Err, if◌then◌else◌}
+use Rattle.std.specs.Prelude.{◌≡◌, ◌≢◌, ◌⊎◌, ℕ, ◌/◌, nat_lt, true, List, Option, Some, None, if◌then◌else◌}
 use Rattle.std.specs.FinMap.{empty}
 use Rattle.sect_dev.specs.Device.{Image, Candidates, IsImageOf}
-use Rattle.sect_dev.specs.declared.device.SectorDev as device
 use Rattle.dbm_model.specs.Bytes.{u32_at}
 use Rattle.dbm_model.specs.Calls as model
 use Rattle.dbm_model.specs.Pages.{Meta, MetaPage}

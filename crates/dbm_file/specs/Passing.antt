@@ -4,7 +4,7 @@ use Rattle.std.specs.FinSet as set
 use Rattle.dbm_model.specs.Chain.{pairs_in}
 use Rattle.dbm_model.specs.Meaning.{said_by}
 use Rattle.dbm_model.specs.Pages.{Meta}
-use Rattle.dbm_model.specs.Pairs.{Pair, key_cmp}
+use Rattle.dbm_model.specs.Pairs.{Pair}
 use Rattle.dbm_model.specs.Placement.{Placement, chain_at}
 use Rattle.dbm_model.specs.States.{Keys}
 use Rattle.page_io.specs.Store.{Pages, page_of}

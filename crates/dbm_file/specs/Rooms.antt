@@ -2,7 +2,7 @@
 use Rattle.std.specs.Prelude.{◌≡◌, ℕ, ◌≤◌, Bool, true, false, List, [], All, count_by, vec_len, vec_capacity}
 use Rattle.std.specs.Global.{Vec}
 use Rattle.dbm_file.specs.declared.calls.Call.{Call}
-use Rattle.dbm_file.specs.declared.calls.Call.TheVariants.{Store, Fetch, Delete, First, Next, Error, Clear}
+use Rattle.dbm_file.specs.declared.calls.Call.TheVariants.{Fetch, First, Next}
 
 abbrev pub gives_bytes : Call → Bool
 gives_bytes (Fetch key) = true

@@ -1,10 +1,9 @@
 -- What a change stages.
-use Rattle.std.specs.Prelude.{◌≡◌, ◌⊎◌, ◌+◌, ◌^◌, ◌≤◌, ◌<◌, ℕ, false, length, Result, Ok, Err, IfErr, IsErrOf}
-use Rattle.dbm_model.specs.Address.{Shape, grown}
+use Rattle.std.specs.Prelude.{◌≡◌, ◌⊎◌, ◌+◌, ◌^◌, ◌≤◌, ◌<◌, ℕ, false, length, Result, IfErr, IsErrOf}
+use Rattle.dbm_model.specs.Address.{grown}
 use Rattle.dbm_model.specs.Pages.{Meta, Body}
-use Rattle.dbm_model.specs.Placement.{Placement, pairs_of, IsSound}
+use Rattle.dbm_model.specs.Placement.{Placement, IsSound}
 use Rattle.dbm_model.specs.Sheets.{meta_of, IsSpelled}
-use Rattle.dbm_model.specs.Valid.{IsMeta}
 use Rattle.free_pages.specs.declared.free_state.FreeState.{FreeState}
 use Rattle.page_io.specs.Store.{State}
 use Rattle.page_io.specs.Views.{MayEnd}

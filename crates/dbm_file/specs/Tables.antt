@@ -1,5 +1,5 @@
 -- The pages of a linear hash file, and what is kept of its meta page.
-use Rattle.std.specs.Prelude.{◌≡◌, ℕ, ◌+◌, ◌*◌, ◌^◌, length, nat_lt, if◌then◌else◌}
+use Rattle.std.specs.Prelude.{◌≡◌, ℕ, ◌*◌, length, nat_lt, if◌then◌else◌}
 use Rattle.dbm_model.specs.Address.{Shape, buckets, grown}
 use Rattle.dbm_model.specs.Pages.{Meta, Body}
 use Rattle.dbm_model.specs.Placement.{Placement, pairs_of, split, IsGood}

@@ -64,7 +64,7 @@ impl<D: SectorDev> Database<Pager<D>> {
         if dev.capacity() < MIN_SECTORS {
             return Err((dev, Fault::TooSmall));
         }
-        match Pager::open(alloc, dev) {
+        match Pager::open(alloc, dev, true) {
             Ok(store) => found(alloc, store),
             Err((dev, OpenFault::Blank)) => made(alloc, dev, how),
             Err((dev, OpenFault::Memory)) => Err((dev, Fault::Memory)),
@@ -90,7 +90,7 @@ impl<D: SectorDev> Database<Pager<D>> {
 
 /// The database of a file.
 fn found<D: SectorDev>(alloc: Global, store: Pager<D>) -> Result<Db<D>, (D, Fault)>
-    requires fresh { IsFreshStore (D.sectors (device_of store) / 4) (⟦<Pager<D> as PageStore>⟧.state store) }
+    requires fresh { IsFreshStore (D.sectors (device_of store) / 4) true (⟦<Pager<D> as PageStore>⟧.state store) }
     ensures fresh { IfOk result (IsFresh (D.sectors (device_of store) / 4)) }
     ensures any_moment { D.honest (device_of store) → LeavesOnly D.moment D.left_since (device_of store) (device_after result) (IsImageOf (D.candidate (device_of store))) }
     ensures stands { D.honest (device_of store) → (map : Contents) → (limit : ℕ) → FileStandsFor (⟦<Pager<D> as PageStore>⟧.committed store) map limit → IfOk result (λ db. HoldsMap db map × ((meta_of db).limit ≡ limit)) }

@@ -36,6 +36,7 @@ pub fn read_page<D: SectorDev>(dev: &mut D, n: u32, page: &mut Page) -> Result<(
     ensures read { D.honest dev.old → OnOk result (page.new.bytes ≡ page_at (D.seen dev.old) n) }
     ensures seen { D.honest dev.old → D.seen dev.new ≡ D.seen dev.old }
     ensures candidates { D.honest dev.old → NoNewCandidate (D.candidate dev.old) (D.candidate dev.new) }
+    ensures keeps { D.honest dev.old → NoNewCandidate (D.candidate dev.new) (D.candidate dev.old) }
     ensures any_moment { D.honest dev.old → LeavesOnly D.moment D.left_since dev.old dev.new (IsImageOf (D.candidate dev.old)) }
     ensures honesty { D.honest dev.new ↔ D.honest dev.old }
     ensures cause { HasCause (D.faults dev.old) (D.faults dev.new) result }

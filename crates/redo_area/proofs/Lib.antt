@@ -1,4 +1,7 @@
 mod Images
+mod Kept
+mod Orders
+pub mod ReadRuns
 mod Headers
 mod Writes
 mod Results

@@ -1,14 +1,17 @@
--- Why a device is refused, from what its commit sector says.
-use Rattle.std.proofs.Common.{◌≡◌, ℕ, List, Bool, true, false, cond, Some, sym, ◌∙◌, ap}
+-- What a device opens with, and why it is refused, from what its commit sector says.
+use Rattle.std.proofs.Common.{◌≡◌, ◌≢◌, ◌⊎◌, ⊎_elim, ℕ, List, [], Bool, true, false, cond, Some, sym, ◌∙◌, ap}
 use Rattle.sect_dev.specs.Device.{Image}
-use Rattle.page_io.specs.Store.{Settled, nothing}
+use Rattle.page_io.specs.Page.{page_at}
+use Rattle.page_io.specs.Store.{Pages, Settled, nothing, file_of, pages_from, file_pages, overlaid, are_in_order}
+use Rattle.page_io.specs.Counts.{length-pages_from}
 use Rattle.redo_area.specs.Header.{header_of, has_magic}
 use Rattle.redo_area.specs.declared.header.Header.{Header}
-use Rattle.redo_area.specs.declared.header.Header.TheVariants.{Blank, NotOurs, Damaged}
-use Rattle.redo_area.specs.File.{settled}
+use Rattle.redo_area.specs.declared.header.Header.TheVariants.{Blank, Clear, Armed, NotOurs, Damaged}
+use Rattle.redo_area.specs.File.{settled, redo_images}
 use Rattle.redo_area.specs.Opening.{refusal_by, refusal_of}
-use Rattle.redo_area.specs.declared.open_fault.OpenFault.TheVariants.{Blank as BlankFault, NotOurs as NotOursFault, Damaged as DamagedFault}
-use Rattle.redo_area.proofs.Images.{settled-blank, settled-not_ours, settled-damaged}
+use Rattle.redo_area.specs.declared.open_fault.OpenFault.{OpenFault}
+use Rattle.redo_area.specs.declared.open_fault.OpenFault.TheVariants.{Memory, Device, Blank as BlankFault, NotOurs as NotOursFault, Damaged as DamagedFault}
+use Rattle.redo_area.proofs.Images.{settled-blank, settled-clear, settled-armed, settled-disordered, settled-not_ours, settled-damaged}
 
 -- the sector as it was read, on a device whose capacity was found
 module _ (capacity found : ℕ) (seen : Image) (content : List ℕ) (same : found ≡ capacity) (read : content ≡ seen 0) where
@@ -31,3 +34,23 @@ module _ (capacity found : ℕ) (seen : Image) (content : List ℕ) (same : foun
 
   pub refused-images : settled capacity seen ≡ nothing → has_magic content ≡ true → refusal_of capacity seen ≡ Some DamagedFault
   refused-images none ours = refused-nothing true none ours
+
+  -- the file, with redo images in memory
+  pub found-clear : (end : ℕ) (redo : Pages) → Clear end ≡ header_of found content → redo ≡ [] → settled capacity seen ≡ file_of (file_pages (overlaid redo (page_at seen)) end)
+  found-clear end redo said none =
+      settled-clear capacity seen end (as_read (Clear end) said) ∙ ap (λ (ps : Pages). file_of (file_pages (overlaid ps (page_at seen)) end)) (sym none)
+
+  pub found-armed : (end start count : ℕ) (redo : Pages) → Armed end start count ≡ header_of found content → redo ≡ redo_images seen start count → are_in_order 1 end (redo_images seen start count) ≡ true
+      → settled capacity seen ≡ file_of (file_pages (overlaid redo (page_at seen)) end)
+  found-armed end start count redo said images order =
+      let long = length-pages_from (page_at seen) start count in
+      settled-armed capacity seen end start (redo_images seen start count) (as_read (Armed end start count) said ∙ ap (Armed end start) (sym long)) (ap (pages_from (page_at seen) start) long) order
+      ∙ ap (λ (ps : Pages). file_of (file_pages (overlaid ps (page_at seen)) end)) (sym images)
+
+  -- the fault of reading redo images
+  pub refused-armed : (fault : OpenFault) (end start count : ℕ) → Armed end start count ≡ header_of found content → has_magic content ≡ true
+      → (fault ≡ Device) ⊎ ((fault ≡ Memory) ⊎ (fault ≡ DamagedFault)) → (fault ≡ DamagedFault → are_in_order 1 end (redo_images seen start count) ≡ false)
+      → fault ≢ Device → fault ≢ Memory → refusal_of capacity seen ≡ Some fault
+  refused-armed fault end start count said ours only damaged device memory =
+      ⊎_elim (λ is. absurd (device is)) (λ rest. ⊎_elim (λ is. absurd (memory is))
+      (λ is. refused-images (settled-disordered capacity seen end start count (as_read (Armed end start count) said) (damaged is)) ours ∙ ap Some (sym is)) rest) only

@@ -2,4 +2,5 @@ pub mod Header
 pub mod File
 pub mod Rests
 pub mod Opening
+pub mod Reading
 pub mod Pagers

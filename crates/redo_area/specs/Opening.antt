@@ -2,7 +2,8 @@
 use Rattle.std.specs.Prelude.{◌≡◌, ◌≢◌, ◌≤◌, ℕ, [], true, Bool, if◌then◌else◌, Option, Some, None, Result, IfErr}
 use Rattle.sect_dev.specs.Device.{Image, Candidates, IsImageOf, IsStable, MoreFaults}
 use Rattle.page_io.specs.Store.{Settled, State, blank, file_of, nothing}
-use Rattle.redo_area.specs.Header.{has_magic}
+use Rattle.redo_area.specs.Header.{header_of, has_magic}
+use Rattle.redo_area.specs.declared.header.Header.TheVariants.{Armed}
 use Rattle.redo_area.specs.File.{settled}
 use Rattle.redo_area.specs.declared.open_fault.OpenFault.{OpenFault}
 use Rattle.redo_area.specs.declared.open_fault.OpenFault.TheVariants.{Memory, Device, Blank, NotOurs, Damaged}
@@ -16,6 +17,13 @@ refusal_by nothing ours = if ours then Some Damaged else Some NotOurs
 abbrev pub refusal_of : ℕ → Image → Option OpenFault
 refusal_of capacity image = refusal_by (settled capacity image) (has_magic (image 0))
 
+-- the commit sector of an image is armed
+pub record SaysArmed (capacity : ℕ) (image : Image) : Type 0 where
+  pub end : ℕ
+  pub start : ℕ
+  pub count : ℕ
+  pub header : header_of capacity (image 0) ≡ Armed end start count
+
 -- the one image that is left is one that the device had at the start, and does not open
 pub record IsRefused (capacity : ℕ) (start now : Candidates) (seen : Image) (answer : OpenFault) : Type 0 where
   pub stable : IsStable now seen
@@ -23,14 +31,14 @@ pub record IsRefused (capacity : ℕ) (start now : Candidates) (seen : Image) (a
   pub fault : refusal_of capacity seen ≡ Some answer
 
 -- a store as opening leaves it
-pub record IsFresh (pages : ℕ) (state : State) : Type 0 where
+pub record IsFresh (pages : ℕ) (for_writing : Bool) (state : State) : Type 0 where
   pub staged : state.staged ≡ []
   pub capacity : state.capacity ≡ pages
   pub usable : state.usable ≡ true
-  pub writable : state.writable ≡ true
+  pub writable : state.writable ≡ for_writing
 
--- Device comes only with a fault of the device, and no memory is taken
-pub record HasOpenCause {T D : Type 0} (before now : ℕ) (result : Result T (D × OpenFault)) : Type 0 where
+-- Device comes only with a fault of the device, and only opening for reading takes memory
+pub record HasOpenCause {T D : Type 0} (writable : Bool) (before now : ℕ) (result : Result T (D × OpenFault)) : Type 0 where
   pub later : before ≤ now
   pub fault : IfErr result (λ e. e.1 ≡ Device → MoreFaults before now)
-  pub no_memory : IfErr result (λ e. e.1 ≢ Memory)
+  pub no_memory : writable ≡ true → IfErr result (λ e. e.1 ≢ Memory)

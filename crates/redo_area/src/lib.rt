@@ -5,6 +5,7 @@ mod format;
 mod header;
 mod open_fault;
 mod pager;
+mod reading;
 mod recovery;
 mod steps;
 

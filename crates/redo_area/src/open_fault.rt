@@ -4,7 +4,7 @@ use thiserror::Error;
 /// Why a device does not open as a store of pages.
 #[derive(Clone, Copy, Debug, PartialEq, Eq, Error)]
 pub enum OpenFault {
-    /// A growth of memory was refused. Opening takes no memory, so no call answers this.
+    /// A growth of memory was refused. Only opening for reading takes memory, for redo images.
     #[error("out of memory")]
     Memory,
     /// A call of the device failed.

@@ -2,7 +2,7 @@
 ghost use Rattle.std.specs.Prelude.{◌≡◌, ◌≢◌, ◌≤◌, ◌<◌, ◌+◌, ◌*◌, ◌/◌, ◌^◌, ◌↔◌, ℕ, true, false, length, [], IfOk, IfErr};
 ghost use Rattle.sect_dev.specs.Moments.{Reads};
 ghost use Rattle.page_io.specs.Page.{page_at};
-ghost use Rattle.page_io.specs.Store.{bytes_of, file_pages, are_in_order};
+ghost use Rattle.page_io.specs.Store.{bytes_of, file_pages, overlaid, are_in_order};
 ghost use Rattle.redo_area.specs.File.{settled};
 ghost use Rattle.redo_area.specs.Rests.{RestsIfUsable, SettlesTo};
 
@@ -13,32 +13,38 @@ use page_io::{Page, PageFault, PageStore, find_staged, is_among, put_staged, rea
 use sect_dev::SectorDev;
 
 /// A store of pages over a device. A commit that a stop cuts short is whole or absent when the device
-/// is opened again.
+/// is opened again. One that was opened for reading alone never writes and never syncs.
 #[derive(Drop)]
 pub struct Pager<D: SectorDev> {
     dev: D,
     staged: Vec<Page>,
+    // The redo images of an armed file that was opened for reading alone.
+    redo: Vec<Page>,
     end: u32,
     usable: bool,
+    writable: bool,
     ghost least: { 4 ≤ end },
     ghost fits: { end ≤ D.sectors dev / 4 },
     ghost order: { are_in_order 1 (2 ^ 32) (bytes_of staged.items) ≡ true },
-    ghost rests: { RestsIfUsable (D.honest dev) usable (D.sectors dev / 4) end (D.candidate dev) (D.seen dev) },
+    ghost none: { writable ≡ true → bytes_of redo.items ≡ [] },
+    ghost rests: { RestsIfUsable (D.honest dev) usable writable (D.sectors dev / 4) end (bytes_of redo.items) (D.candidate dev) (D.seen dev) },
 }
 
 impl<D: SectorDev> PageStore for Pager<D> {
-    ghost use Rattle.std.specs.Prelude.{OnOk};
-    ghost use Rattle.sect_dev.specs.Device.{IsImageOf, LeavesOnly};
-    ghost use Rattle.page_io.specs.Answers.{HasDeviceCause, IsReadAnswer};
+    ghost use Rattle.std.specs.Prelude.{OnOk, IsErrOf};
+    ghost use Rattle.sect_dev.specs.Device.{LeavesOnly};
+    ghost use Rattle.page_io.specs.Answers.{HasDeviceCause, IsReadAnswer, IsCommitAnswer, IsRefusal};
     ghost use Rattle.page_io.specs.Counts.{counts_end};
     ghost use Rattle.page_io.specs.Kept.{KeepsPages};
-    ghost use Rattle.page_io.specs.Store.{overlaid, page_of};
+    ghost use Rattle.page_io.specs.Store.{IsEither, page_of, has_page, committed_with, AllBelow};
+    ghost use Rattle.page_io.specs.declared.store.PageFault.TheVariants.{Device};
     ghost use Rattle.redo_area.specs.Pagers.{device_of};
-    ghost use Rattle.redo_area.specs.Rests.{seen_settles, only_seen, quarter_fits};
+    ghost use Rattle.redo_area.specs.Reading.{OnlyReads};
+    ghost use Rattle.redo_area.specs.Rests.{only_seen, quarter_fits};
 
-    ghost state = { λ p. record { staged = bytes_of p.staged.items; end = p.end; capacity = D.sectors p.dev / 4; usable = p.usable; writable = true } };
+    ghost state = { λ p. record { staged = bytes_of p.staged.items; end = p.end; capacity = D.sectors p.dev / 4; usable = p.usable; writable = p.writable } };
 
-    ghost committed = { λ p. file_pages (page_at (D.seen p.dev)) p.end };
+    ghost committed = { λ p. file_pages (overlaid (bytes_of p.redo.items) (page_at (D.seen p.dev))) p.end };
 
     ghost honest = { λ p. D.honest p.dev };
 
@@ -52,21 +58,21 @@ impl<D: SectorDev> PageStore for Pager<D> {
 
     ghost reserved = { 0 };
 
-    ghost committed_may_stay = { λ p h usable. record { image = D.seen p.dev; is_image = D.seen_may_stay p.dev h; reads = seen_settles (D.sectors p.dev / 4) p.end (D.candidate p.dev) (D.seen p.dev) (p.rests h usable) } };
+    ghost committed_may_stay = { λ p h usable. record { image = D.seen p.dev; is_image = D.seen_may_stay p.dev h; reads = (p.rests h usable).settles } };
 
-    ghost only_committed = { λ p y h usable w s. only_seen (D.sectors p.dev / 4) p.end (D.candidate p.dev) (D.seen p.dev) y (p.rests h usable) s };
+    ghost only_committed = { λ p y h usable w s. only_seen (D.sectors p.dev / 4) (D.candidate p.dev) (D.seen p.dev) y _ ((p.rests h usable).at_rest w).stable (p.rests h usable).settles s };
 
     ghost only_now = { λ p y h s. record { image = s.left; is_image = D.only_now p.dev s.left h s.is_left; reads = s.reads } };
 
     ghost counts_now = { λ p t y h le s. record { left = s.image; is_left = D.counts_now p.dev t s.image h le s.is_image; reads = s.reads } };
 
-    ghost ends = { λ p. counts_end (page_at (D.seen p.dev)) p.end p.least };
+    ghost ends = { λ p. counts_end (overlaid (bytes_of p.redo.items) (page_at (D.seen p.dev))) p.end p.least };
 
     ghost in_range = { λ p. (p.least, p.fits, quarter_fits (D.sectors p.dev) (D.fits p.dev)) };
 
     ghost in_order = { λ p. p.order };
 
-    /// As the trait says, and the device below keeps its size and what a stop may leave of it.
+    /// As the trait says, and the device below is only read.
     fn read(&mut self, n: u32, page: &mut Page) -> Result<(), PageFault>
         ensures found { ⟦<Pager<D> as PageStore>⟧.honest self.old → OnOk result (page.new.bytes ≡ overlaid (⟦<Pager<D> as PageStore>⟧.state self.old).staged (page_of (⟦<Pager<D> as PageStore>⟧.committed self.old)) n) }
         ensures answer { IsReadAnswer (⟦<Pager<D> as PageStore>⟧.state self.old) n result }
@@ -75,8 +81,8 @@ impl<D: SectorDev> PageStore for Pager<D> {
         ensures honesty { ⟦<Pager<D> as PageStore>⟧.honest self.new ↔ ⟦<Pager<D> as PageStore>⟧.honest self.old }
         ensures cause { HasDeviceCause (⟦<Pager<D> as PageStore>⟧.faults self.old) (⟦<Pager<D> as PageStore>⟧.faults self.new) result }
 
-        // Whenever a stop falls, it leaves an image that it could have left before.
-        ensures any_moment { D.honest (device_of self.old) → LeavesOnly D.moment D.left_since (device_of self.old) (device_of self.new) (IsImageOf (D.candidate (device_of self.old))) }
+        // The device was neither written nor synced.
+        ensures only_reads { D.honest (device_of self.old) → OnlyReads D.SectorDev (device_of self.old) (device_of self.new) }
         ensures size { D.sectors (device_of self.new) ≡ D.sectors (device_of self.old) }
     {
         if !self.usable {
@@ -87,6 +93,9 @@ impl<D: SectorDev> PageStore for Pager<D> {
         }
         if n < 1 || self.end <= n {
             return Err(PageFault::Damaged);
+        }
+        if find_staged(self.redo.as_slice(), n, page) {
+            return Ok(());
         }
         if read_page(&mut self.dev, n, page).is_err() {
             return Err(PageFault::Device);
@@ -108,9 +117,33 @@ impl<D: SectorDev> PageStore for Pager<D> {
         self.staged.clear();
     }
 
-    fn commit(&mut self, new_end: u32) -> Result<(), PageFault> {
+    /// As the trait says, and a refusal makes no device call.
+    fn commit(&mut self, new_end: u32) -> Result<(), PageFault>
+        requires some { 0 < length (⟦<Pager<D> as PageStore>⟧.state self.old).staged }
+        requires least { 4 ≤ new_end }
+        requires below { AllBelow new_end (⟦<Pager<D> as PageStore>⟧.state self.old).staged }
+        requires grown { (n : ℕ) → (⟦<Pager<D> as PageStore>⟧.state self.old).end ≤ n → n < new_end → has_page (⟦<Pager<D> as PageStore>⟧.state self.old).staged n ≡ true }
+        ensures any_moment { ⟦<Pager<D> as PageStore>⟧.honest self.old → (⟦<Pager<D> as PageStore>⟧.state self.old).usable ≡ true → (⟦<Pager<D> as PageStore>⟧.state self.old).writable ≡ true
+            → LeavesOnly ⟦<Pager<D> as PageStore>⟧.moment ⟦<Pager<D> as PageStore>⟧.settled_since self.old self.new
+            (IsEither (⟦<Pager<D> as PageStore>⟧.committed self.old) (committed_with (⟦<Pager<D> as PageStore>⟧.committed self.old) (⟦<Pager<D> as PageStore>⟧.state self.old).staged new_end)) }
+        ensures committed { ⟦<Pager<D> as PageStore>⟧.honest self.old → OnOk result (⟦<Pager<D> as PageStore>⟧.committed self.new
+            ≡ committed_with (⟦<Pager<D> as PageStore>⟧.committed self.old) (⟦<Pager<D> as PageStore>⟧.state self.old).staged new_end) }
+        ensures ok { OnOk result (⟦<Pager<D> as PageStore>⟧.state self.new ≡ record (⟦<Pager<D> as PageStore>⟧.state self.old) { staged = []; end = new_end }) }
+        ensures refused { IfErr result (λ e. IsRefusal e → (⟦<Pager<D> as PageStore>⟧.state self.new ≡ ⟦<Pager<D> as PageStore>⟧.state self.old)
+            × (⟦<Pager<D> as PageStore>⟧.honest self.old → KeepsPages ⟦<Pager<D> as PageStore>⟧.committed ⟦<Pager<D> as PageStore>⟧.moment ⟦<Pager<D> as PageStore>⟧.settled_since ⟦<Pager<D> as PageStore>⟧.settles_to self.old self.new)) }
+        ensures breaks { IsErrOf result Device → ⟦<Pager<D> as PageStore>⟧.state self.new ≡ record (⟦<Pager<D> as PageStore>⟧.state self.old) { usable = false } }
+        ensures answer { IsCommitAnswer (⟦<Pager<D> as PageStore>⟧.state self.old) new_end result }
+        ensures honesty { ⟦<Pager<D> as PageStore>⟧.honest self.new ↔ ⟦<Pager<D> as PageStore>⟧.honest self.old }
+        ensures cause { HasDeviceCause (⟦<Pager<D> as PageStore>⟧.faults self.old) (⟦<Pager<D> as PageStore>⟧.faults self.new) result }
+
+        // The device is as it was.
+        ensures untouched { IfErr result (λ e. IsRefusal e → device_of self.new ≡ device_of self.old) }
+    {
         if !self.usable {
             return Err(PageFault::Broken);
+        }
+        if !self.writable {
+            return Err(PageFault::ReadOnly);
         }
         let room = self.capacity().saturating_sub(self.end.max(new_end));
         if self.staged.len() > room as usize {

@@ -32,11 +32,13 @@ fn sector(state: u8, end: u8, start: u8, count: u8) -> [u8; 512] {
 }
 
 // Opens a device, which is a device's fault where there is no room for a file.
-fn opened<D: SectorDev>(alloc: Global, dev: D) -> Result<Pager<D>, (D, OpenFault)> {
+fn opened<D: SectorDev>(alloc: Global, dev: D, writable: bool) -> Result<Pager<D>, (D, OpenFault)>
+    ensures { IfOk result (λ pager. (⟦<Pager<D> as PageStore>⟧.state pager).staged ≡ []) }
+{
     if dev.capacity() < 16 {
         return Err((dev, OpenFault::Device));
     }
-    Pager::open(alloc, dev)
+    Pager::open(alloc, dev, writable)
 }
 
 // Pages 1 to 3, each filled with a byte.
@@ -171,19 +173,20 @@ fn pages_of<S: PageStore>(
     Ok(Found::Neither)
 }
 
-// What opening a device with this commit sector answers.
+// What opening a device with this commit sector answers, and how many writes since the last sync it leaves.
 fn open_fault(
     alloc: Global,
     mut dev: MemDev,
     content: &[u8; 512],
-) -> Result<Option<OpenFault>, Fail> {
+    writable: bool,
+) -> Result<(Option<OpenFault>, usize), Fail> {
     if dev.capacity() == 0 {
         return Err(DevFault.into());
     }
     dev.write(0, content)?;
-    match opened(alloc, dev) {
-        Ok(_) => Ok(None),
-        Err((_, fault)) => Ok(Some(fault)),
+    match opened(alloc, dev, writable) {
+        Ok(pager) => Ok((None, pager.into_dev().pending())),
+        Err((dev, fault)) => Ok((Some(fault), dev.pending())),
     }
 }
 
@@ -203,7 +206,7 @@ fn every_stop<R: Abort>(
             } else {
                 Found::Old
             };
-            match opened(alloc, dev.crashed(alloc, &marks)?) {
+            match opened(alloc, dev.crashed(alloc, &marks)?, true) {
                 Ok(mut pager) => assert_eq!(rt;
                     pages_of(&mut pager, old, new)?,
                     wanted,
@@ -363,13 +366,13 @@ fn recovery_may_be_stopped_too(rt: HostRuntime) -> Result<(), Fail> {
     let alloc = rt.alloc();
     for calls in 0..RECOVERY + 1 {
         let armed = stopped(alloc, 19, &filled(), &refilled())?.crashed(alloc, &[])?;
-        let (dev, opens) = match opened(alloc, Fuse::new(armed, calls)) {
+        let (dev, opens) = match opened(alloc, Fuse::new(armed, calls), true) {
             Ok(pager) => (pager.into_dev().into_inner(), true),
             Err((dev, _)) => (dev.into_inner(), false),
         };
         assert_eq!(rt; opens, calls == RECOVERY, "after {calls} calls");
         for marks in [[false; 16], [true; 16], ALTERNATING, OTHER] {
-            match opened(alloc, dev.crashed(alloc, &marks)?) {
+            match opened(alloc, dev.crashed(alloc, &marks)?, true) {
                 Ok(mut pager) => assert_eq!(rt;
                     pages_of(&mut pager, &filled(), &refilled())?,
                     Found::New,
@@ -419,11 +422,15 @@ fn bad_commit_sectors_are_refused(rt: HostRuntime) -> Result<(), Fail> {
         (sector(0, 16, 0, 0), None),
     ];
     for (i, (content, wanted)) in cases.iter().enumerate() {
-        assert_eq!(rt;
-            open_fault(alloc, MemDev::new(alloc, 64), content)?,
-            *wanted,
-            "case {i}"
-        );
+        for writable in [true, false] {
+            // A write is pending, and opening for reading leaves it so.
+            let pending = if writable { 0 } else { 1 };
+            assert_eq!(rt;
+                open_fault(alloc, MemDev::new(alloc, 64), content, writable)?,
+                (*wanted, pending),
+                "case {i}"
+            );
+        }
     }
     Ok(())
 }
@@ -439,14 +446,17 @@ fn bad_images_are_refused(rt: HostRuntime) -> Result<(), Fail> {
         ([1, 5], Some(OpenFault::Damaged)),
     ];
     for (own, wanted) in cases {
-        let mut dev = MemDev::new(alloc, 64);
-        write_page(&mut dev, 5, &numbered(own[0], 9))?;
-        write_page(&mut dev, 6, &numbered(own[1], 9))?;
-        assert_eq!(rt;
-            open_fault(alloc, dev, &sector(1, 5, 5, 2))?,
-            wanted,
-            "with {own:?}"
-        );
+        for writable in [true, false] {
+            let mut dev = MemDev::new(alloc, 64);
+            write_page(&mut dev, 5, &numbered(own[0], 9))?;
+            write_page(&mut dev, 6, &numbered(own[1], 9))?;
+            let pending = if writable { 0 } else { 9 };
+            assert_eq!(rt;
+                open_fault(alloc, dev, &sector(1, 5, 5, 2), writable)?,
+                (wanted, pending),
+                "with {own:?}"
+            );
+        }
     }
     Ok(())
 }
@@ -456,7 +466,7 @@ fn opening_a_clear_file_is_two_calls(rt: HostRuntime) -> Result<(), Fail> {
     let alloc = rt.alloc();
     for calls in 0..3 {
         let fuse = Fuse::new(new_device(alloc), calls);
-        let fault = match opened(alloc, fuse) {
+        let fault = match opened(alloc, fuse, true) {
             Ok(_) => None,
             Err((_, fault)) => Some(fault),
         };
@@ -475,7 +485,7 @@ fn opening_a_clear_file_is_two_calls(rt: HostRuntime) -> Result<(), Fail> {
 #[test]
 fn staged_pages_are_read_and_forgotten(rt: HostRuntime) -> Result<(), Fail> {
     let alloc = rt.alloc();
-    match opened(alloc, new_device(alloc)) {
+    match opened(alloc, new_device(alloc), true) {
         Ok(mut pager) => {
             assert_eq!(rt; (pager.end(), pager.capacity()), (4, 16));
             let mut page = Page::blank();
@@ -487,6 +497,76 @@ fn staged_pages_are_read_and_forgotten(rt: HostRuntime) -> Result<(), Fail> {
             pager.read(2, &mut page)?;
             assert_eq!(rt; page, numbered(2, 7));
             assert_eq!(rt; pager.read(4, &mut page), Err(PageFault::Damaged));
+        }
+        Err((_, fault)) => return Err(fault.into()),
+    }
+    Ok(())
+}
+
+// A commit that was stopped with its armed sector on the disk and six of its sectors at home pending.
+fn armed(alloc: Global) -> Result<MemDev, Fail> {
+    stopped(alloc, 25, &filled(), &refilled())
+}
+
+#[test]
+fn an_armed_file_is_read_with_its_images(rt: HostRuntime) -> Result<(), Fail> {
+    let alloc = rt.alloc();
+    let mut before = armed(alloc)?;
+    assert_eq!(rt; before.pending(), 6);
+    match opened(alloc, armed(alloc)?, false) {
+        Ok(mut pager) => {
+            assert_eq!(rt; pages_of(&mut pager, &filled(), &refilled())?, Found::New);
+            let mut page = Page::blank();
+            pager.stage(2, &numbered(2, 8))?;
+            pager.read(2, &mut page)?;
+            assert_eq!(rt; page, numbered(2, 8));
+            let mut after = pager.into_dev();
+            assert_eq!(rt; after.pending(), 6);
+            assert_eq!(rt; sector_changed(&mut before, &mut after)?, 64);
+        }
+        Err((_, fault)) => return Err(fault.into()),
+    }
+    Ok(())
+}
+
+// How many device calls open that file for reading: a read of the commit sector, and four of each image.
+const READING: u64 = 1 + 16;
+
+#[test]
+fn a_failed_read_ends_opening_for_reading(rt: HostRuntime) -> Result<(), Fail> {
+    let alloc = rt.alloc();
+    for calls in 0..READING + 1 {
+        let fault = match opened(alloc, Fuse::new(armed(alloc)?, calls), false) {
+            Ok(_) => None,
+            Err((_, fault)) => Some(fault),
+        };
+        assert_eq!(rt;
+            fault,
+            if calls < READING {
+                Some(OpenFault::Device)
+            } else {
+                None
+            }
+        );
+    }
+    Ok(())
+}
+
+#[test]
+fn nothing_is_committed_for_reading(rt: HostRuntime) -> Result<(), Fail> {
+    let alloc = rt.alloc();
+    match opened(alloc, new_device(alloc), false) {
+        Ok(mut pager) => {
+            stage(&mut pager, &numbered(1, 9))?;
+            stage(&mut pager, &numbered(4, 9))?;
+            if !grows_by_page_4(&pager) {
+                return Err(PageFault::Damaged.into());
+            }
+            assert_eq!(rt; pager.commit(5), Err(PageFault::ReadOnly));
+            assert!(rt; pager.is_staged(4) && !pager.is_broken() && pager.end() == 4);
+            pager.unstage();
+            assert!(rt; has_pages(&mut pager, &filled())?);
+            assert_eq!(rt; pager.into_dev().pending(), 0);
         }
         Err((_, fault)) => return Err(fault.into()),
     }

@@ -1,6 +1,9 @@
+pub mod Course
 pub mod Device
 pub mod Failing
+pub mod File
 pub mod History
+pub mod Kept
 pub mod Mem
 pub mod Moments
 pub mod Plan

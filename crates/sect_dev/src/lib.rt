@@ -4,14 +4,20 @@
 mod device;
 mod fail_one;
 mod failing;
+mod file_dev;
 mod fuse;
+mod laws;
 mod mem;
 
 pub use device::{DevFault, SectorDev};
 pub use fail_one::{FailLate, FailOnce};
 pub use failing::{Failing, Plan};
+pub use file_dev::{FileDev, FileFault};
 pub use fuse::Fuse;
+pub use laws::premise_can_be_met;
 pub use mem::MemDev;
 
+#[cfg(test)]
+mod file_tests;
 #[cfg(test)]
 mod tests;

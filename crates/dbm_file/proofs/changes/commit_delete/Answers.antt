@@ -1,8 +1,7 @@
-use Rattle.std.proofs.Common.{◌≡◌, ◌∙◌, ◌<◌, ◌+◌, ◌*◌, ◌-◌, ℕ, Result, IfOk, OnOk, true, Err, ⊎_elim, is_some, length, sym, ap, subst, arith}
+use Rattle.std.proofs.Common.{◌≡◌, ◌∙◌, ℕ, Result, IfOk, OnOk, true, ⊎_elim, is_some, sym, ap, subst, arith}
 use Rattle.std.specs.FinMap.{get, remove}
 use Rattle.sect_dev.specs.Device.{LeavesOnly}
 use Rattle.std.proofs.lemmas.Result.{on_err_weaker}
-use Rattle.dbm_model.specs.Pages.{Meta}
 use Rattle.dbm_model.specs.Pairs.{Contents}
 use Rattle.dbm_model.specs.Placement.{Placement, contents, delete}
 use Rattle.page_io.specs.Store.{State}

@@ -1,4 +1,4 @@
-use Rattle.std.proofs.Common.{◌≡◌, ◌∙◌, ◌<◌, ◌+◌, ◌*◌, ℕ, Result, IfOk, OnOk, true, inl, inr, ⊎_elim, is_some, length, sym, ap, subst, arith}
+use Rattle.std.proofs.Common.{◌≡◌, ◌∙◌, ℕ, Result, IfOk, OnOk, true, ⊎_elim, is_some, ap, subst, arith}
 use Rattle.std.specs.FinMap.{get, insert}
 use Rattle.sect_dev.specs.Device.{LeavesOnly}
 use Rattle.std.proofs.lemmas.Result.{on_err_weaker}

@@ -1,16 +1,41 @@
+use Rattle.std.proofs.Common.{◌≡◌, ℕ, sym, ap, ◌∙◌, subst}
+use Rattle.dbm_model.specs.Meaning.{said_by}
+use Rattle.dbm_model.specs.Pages.{Meta, MetaPage}
+use Rattle.dbm_model.specs.Reading.{body_of}
+use Rattle.dbm_model.specs.Sheets.{meta_of}
+use Rattle.dbm_model.proofs.GoodSheets.{sheets_valid}
+use Rattle.page_io.specs.Meaning.{FileStandsFor}
 use Rattle.page_io.specs.Page.{page_at}
-use Rattle.page_io.specs.Store.{bytes_of, file_pages}
+use Rattle.page_io.specs.Store.{Pages, bytes_of, file_pages, overlaid, page_of}
+use Rattle.seg_table.specs.MetaPages.{says}
 use Rattle.dbm_file.proofs.FoundFiles.{says_meta}
 use Rattle.dbm_file.proofs.opening.found.Goals as goal
 
 pub returns-in-Err-Version-clause-opens : goal.returns-in-Err-Version-clause-opens
 returns-in-Err-Version-clause-opens g c honest map limit stands =
     let store = c.args.store in
-    let said = says_meta (file_pages (page_at (g.D.SectorDev.seen store.dev)) store.end) (bytes_of store.staged.items) map limit c.read.new.page.bytes stands c.requires.fresh.staged (c.in_default.ensures.found honest) in
+    let said = says_meta (file_pages (overlaid (bytes_of store.redo.items) (page_at (g.D.SectorDev.seen store.dev))) store.end) (bytes_of store.staged.items) map limit c.read.new.page.bytes stands c.requires.fresh.staged (c.in_default.ensures.found honest) in
     absurd ((c.in-Err-Version.ensures.body said.meta said.valid).1 said.says)
 
 pub returns-in-Err-Damaged-clause-opens : goal.returns-in-Err-Damaged-clause-opens
 returns-in-Err-Damaged-clause-opens g c honest map limit stands =
     let store = c.args.store in
-    let said = says_meta (file_pages (page_at (g.D.SectorDev.seen store.dev)) store.end) (bytes_of store.staged.items) map limit c.read.new.page.bytes stands c.requires.fresh.staged (c.in_default.ensures.found honest) in
+    let said = says_meta (file_pages (overlaid (bytes_of store.redo.items) (page_at (g.D.SectorDev.seen store.dev))) store.end) (bytes_of store.staged.items) map limit c.read.new.page.bytes stands c.requires.fresh.staged (c.in_default.ensures.found honest) in
     absurd ((c.in-Err-Damaged.ensures.body said.meta said.valid).1 said.says)
+
+pub returns-in-Ok-clause-stands : goal.returns-in-Ok-clause-stands
+returns-in-Ok-clause-stands g c honest map limit stands =
+    let store = c.args.store in
+    let file = file_pages (overlaid (bytes_of store.redo.items) (page_at (g.D.SectorDev.seen store.dev))) store.end in
+    let m = c.in-Ok.meta in
+    let meta = meta_of stands.placement in
+    let read = c.in_default.ensures.found honest ∙ ap (λ (s : Pages). overlaid s (page_of file) 1) c.requires.fresh.staged in
+    let is : says m ≡ meta = (c.in-Ok.ensures.body meta (sheets_valid stands.placement stands.good).0.1).1 (ap (body_of 1) read ∙ stands.spelled.0) in
+    let lim : m.limit ≡ limit = ap (λ (x : Meta). x.limit) is ∙ stands.limited in
+    let same = sym (c.in_default.ensures.kept honest).committed in (
+      λ usable. record {
+        stands = subst (λ (ps : Pages). FileStandsFor ps map m.limit) same (subst (λ (l : ℕ). FileStandsFor file map l) (sym lim) stands);
+        meta_is = subst (λ (ps : Pages). said_by (page_of ps) 1 ≡ MetaPage (says m)) same (stands.spelled.0 ∙ ap MetaPage (sym is));
+      },
+      lim,
+    )

@@ -1,4 +1,4 @@
-use Rattle.std.proofs.Common.{Ok, ap, sym, refl, ◌∙◌}
+use Rattle.std.proofs.Common.{Ok, ap, sym, ◌∙◌}
 use Rattle.dbm_model.specs.Calls as model
 use Rattle.dbm_file.specs.Calls.{call_of, store_reply, delete_reply}
 use Rattle.dbm_file.proofs.Runs.{same_step, same_store, told_number}

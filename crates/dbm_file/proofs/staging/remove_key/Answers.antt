@@ -1,5 +1,5 @@
 use Rattle.std.proofs.Common.{◌≡◌, Err, ap}
-use Rattle.std.proofs.lemmas.Result.{err_from_is_err_and, IfOk-weaker}
+use Rattle.std.proofs.lemmas.Result.{err_from_is_err_and}
 use Rattle.dbm_model.specs.Placement.{Placement, key_bucket, chain_at}
 use Rattle.dbm_model.specs.Sheets.{heads_of}
 use Rattle.page_io.specs.Views.{said}

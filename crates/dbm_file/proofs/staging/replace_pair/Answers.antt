@@ -1,22 +1,21 @@
-use Rattle.std.proofs.Common.{◌≡◌, ◌≤◌, ◌^◌, ◌∙◌, ℕ, false, Err, OnOk, get_or, sym, ap, subst, is_some}
+use Rattle.std.proofs.Common.{◌≡◌, ◌∙◌, Err, get_or, sym, ap, subst, is_some}
 use Rattle.std.specs.FinMap.{get}
 use Rattle.std.proofs.lemmas.Result.{err_from_is_err_and, on_ok_weaker}
 use Rattle.dbm_model.specs.Address.{address, hash_of}
-use Rattle.dbm_model.specs.Pages.{Body}
 use Rattle.dbm_model.specs.PairLists.{times}
 use Rattle.dbm_model.specs.Chain.{pairs_in}
-use Rattle.dbm_model.specs.Placement.{Placement, contents, key_bucket, chain_at, delete, replace}
+use Rattle.dbm_model.specs.Placement.{Placement, contents, key_bucket, chain_at, delete}
 use Rattle.dbm_model.specs.Sheets.{heads_of}
-use Rattle.dbm_model.proofs.Places.{delete_sound, deleted_finds_none}
+use Rattle.dbm_model.proofs.Places.{deleted_finds_none}
 use Rattle.page_io.specs.Views.{said, StagesOnly}
 use Rattle.page_io.specs.declared.store.PageFault.TheVariants.{Damaged}
-use Rattle.page_io.proofs.Views.{same_said, stages_then}
+use Rattle.page_io.proofs.Views.{stages_then}
 use Rattle.seg_table.specs.MetaPages.{says}
 use Rattle.bucket_chain.specs.Changes.{IsPlaced}
 use Rattle.dbm_file.specs.Tables.{shape_in}
 use Rattle.dbm_file.specs.Staging.{IsMidway}
 use Rattle.dbm_file.proofs.Buckets.{bucket_of, bucket_is}
-use Rattle.dbm_file.proofs.Midway.{midway_read, midway_same, midway_heads, midway_below, midway_chain, midway_once, midway_deleted, midway_put, nowhere, delete_none, not_in_chain, head_still}
+use Rattle.dbm_file.proofs.Midway.{midway_read, midway_same, midway_heads, midway_below, midway_chain, midway_once, midway_deleted, midway_put, delete_none, not_in_chain, head_still}
 use Rattle.dbm_file.proofs.staging.replace_pair.Given.{Over}
 use Rattle.dbm_file.proofs.staging.replace_pair.Goals.{In_ok-head, After-put, then-was_there+in_ok-remove, else-was_there}
 use Rattle.dbm_file.proofs.staging.replace_pair.Goals as goal

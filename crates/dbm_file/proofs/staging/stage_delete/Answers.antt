@@ -1,13 +1,10 @@
-use Rattle.std.proofs.Common.{◌≡◌, ◌∙◌, ◌-◌, ℕ, length, refl, sym, ap, arith}
+use Rattle.std.proofs.Common.{◌∙◌, ◌-◌, refl, sym, ap}
 use Rattle.dbm_model.specs.Pages.{Meta}
-use Rattle.dbm_model.specs.Placement.{Placement, delete}
-use Rattle.page_io.specs.Views.{said}
+use Rattle.dbm_model.specs.Placement.{delete}
 use Rattle.seg_table.specs.MetaPages.{says}
-use Rattle.dbm_file.specs.Tables.{space_in, IsTable}
-use Rattle.dbm_file.specs.Staging.{IsMidway}
+use Rattle.dbm_file.specs.Tables.{space_in}
 use Rattle.dbm_file.proofs.Midway.{midway_same}
 use Rattle.dbm_file.proofs.Stagings.{table_midway, midway_pairs, deleted_count, staged_at_last, staged_ok}
-use Rattle.dbm_file.proofs.staging.stage_delete.Given.{Over}
 use Rattle.dbm_file.proofs.staging.stage_delete.Goals.{After-remove_key}
 use Rattle.dbm_file.proofs.staging.stage_delete.Goals as goal
 

@@ -1,4 +1,4 @@
-use Rattle.std.proofs.Common.{◌≡◌, ℕ, sym, ap, subst, ◌∙◌}
+use Rattle.std.proofs.Common.{◌∙◌}
 use Rattle.page_io.specs.Views.{StagesOnly}
 use Rattle.page_io.proofs.Views.{after_stage, staged_said, others_said}
 use Rattle.bucket_chain.proofs.StagedPages.{own_same}

@@ -1,19 +1,17 @@
-use Rattle.std.proofs.Common.{◌≡◌, ◌∙◌, ◌+◌, ◌≤◌, ℕ, Bool, cond, Err, IfOk, length, refl, sym, ap, subst, arith, is_some}
-use Rattle.std.specs.FinMap.{get}
+use Rattle.std.proofs.Common.{◌≡◌, ◌∙◌, ◌+◌, ◌≤◌, Err, IfOk, length, refl, sym, ap, subst, arith}
 use Rattle.std.proofs.lemmas.Result.{err_from_is_err_and}
 use Rattle.dbm_model.specs.Pages.{Meta}
 use Rattle.dbm_model.specs.Pairs.{Pair}
-use Rattle.dbm_model.specs.Placement.{Placement, contents, pairs_of, replace, store}
+use Rattle.dbm_model.specs.Placement.{Placement, pairs_of, replace}
 use Rattle.page_io.specs.Store.{State}
 use Rattle.page_io.specs.Views.{said}
 use Rattle.page_io.specs.declared.store.PageFault.TheVariants.{Damaged, NoRoom}
 use Rattle.seg_table.specs.MetaPages.{says}
-use Rattle.dbm_file.specs.Tables.{space_in, split_where_full, IsTable}
-use Rattle.dbm_file.specs.Staging.{IsMidway, IsStaged}
+use Rattle.dbm_file.specs.Tables.{space_in, split_where_full}
+use Rattle.dbm_file.specs.Staging.{IsStaged}
 use Rattle.dbm_file.proofs.Midway.{midway_same}
 use Rattle.dbm_file.proofs.Stagings.{table_midway, midway_pairs, staged_at_last, staged_ok}
 use Rattle.dbm_file.proofs.StoredPairs.{replaced_end, at_most_one_more, counted_more, where_full, full_count}
-use Rattle.dbm_file.proofs.staging.stage_store.Given.{Over}
 use Rattle.dbm_file.proofs.staging.stage_store.Goals.{In_ok-replace_pair}
 use Rattle.dbm_file.proofs.staging.stage_store.Goals as goal
 

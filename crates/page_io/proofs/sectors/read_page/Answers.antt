@@ -24,6 +24,7 @@ loop-k-preserved g c =
       faults = omega (arith, c.read.ensures.cause.later, inv.faults);
       seen = λ h. c.read.ensures.seen (still h) ∙ inv.seen h;
       candidates = fewer;
+      keeps = λ h m x may. c.read.ensures.keeps (still h) m x (inv.keeps h m x may);
       moments = λ h. goes_on dev.moment dev.left_since first before after (IsImageOf (dev.candidate first)) _ (inv.moments h) (c.read.ensures.time (still h)) (λ image is m. fewer h m (image m) (is m));
       read = λ h.
           let here : content ≡ dev.seen first (4 * n + k) = c.in_ok-read.ensures.read (still h) ∙ ap (λ (s : Image). s (4 * n + k)) (inv.seen h) in

@@ -1,27 +1,11 @@
-use Rattle.std.proofs.Common.{◌≡◌, ◌<◌, ◌≤◌, ◌+◌, ◌-◌, ℕ, suc, List, ◌∷◌, false, ◌&&◌, Bool, leb, ltb, ◌∙◌, sym, ap, arith}
-use Rattle.std.proofs.lemmas.Bool.{and_from, and_left, and_right, le-leb, lt-leb, lt-ltb, le-ltb}
+use Rattle.std.proofs.Common.{◌≡◌, ◌+◌, ◌-◌, ℕ, ◌∷◌, false, ◌∙◌, sym, ap, arith}
 use Rattle.sect_dev.specs.Device.{Image, IsImageOf}
 use Rattle.sect_dev.specs.Moments.{followed_by}
 use Rattle.page_io.specs.Page.{page_at, own_number}
-use Rattle.page_io.specs.Store.{Pages, pages_from, are_in_order}
+use Rattle.page_io.specs.Store.{pages_from, are_in_order}
+use Rattle.redo_area.proofs.Orders.{next_in_order, too_low, too_high, split}
 use Rattle.redo_area.proofs.recovery.check_images.Goals as goal
 use Rattle.redo_area.proofs.recovery.check_images.Goals.{then-own-least-via-then-own-least, then-own-least-via-else-own-least+then-from-own}
-
-next_in_order : (least end : ℕ) (page : List ℕ) (pages : Pages) → least ≤ own_number page → own_number page < end → are_in_order least end (page ∷ pages) ≡ are_in_order (own_number page + 1) end pages
-next_in_order least end page pages low high =
-    ap (λ (b : Bool). b && are_in_order (own_number page + 1) end pages) (and_from (leb least (own_number page)) (ltb (own_number page) end) (le-leb least (own_number page) low) (lt-ltb (own_number page) end high))
-
-too_low : (least end : ℕ) (page : List ℕ) (pages : Pages) → own_number page < least → are_in_order least end (page ∷ pages) ≡ false
-too_low least end page pages lt =
-    ap (λ (b : Bool). b && are_in_order (own_number page + 1) end pages) (and_left (leb least (own_number page)) (ltb (own_number page) end) (lt-leb least (own_number page) lt))
-
-too_high : (least end : ℕ) (page : List ℕ) (pages : Pages) → end ≤ own_number page → are_in_order least end (page ∷ pages) ≡ false
-too_high least end page pages le =
-    ap (λ (b : Bool). b && are_in_order (own_number page + 1) end pages) (and_right (leb least (own_number page)) (ltb (own_number page) end) (le-ltb (own_number page) end le))
-
--- the images that are left begin with this one
-split : (at : ℕ → List ℕ) (start count i : ℕ) → i < count → pages_from at (start + i) (count - i) ≡ at (start + i) ∷ pages_from at (start + i + 1) (count - (i + 1))
-split at start count i lt = let left : count - i ≡ suc (count - (i + 1)) = omega arith in ap (pages_from at (start + i)) left
 
 pub returns-then-own-least-clause-checked : goal.returns-then-own-least-clause-checked
 returns-then-own-least-clause-checked g c h =

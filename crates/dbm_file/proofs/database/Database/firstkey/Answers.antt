@@ -1,4 +1,4 @@
-use Rattle.std.proofs.Common.{◌≡◌, ◌∙◌, ℕ, ◌<◌, length, Option, Some, None, IfSome, Ok, Err, refl, inl, inr, subst, ap}
+use Rattle.std.proofs.Common.{◌∙◌, ℕ, ◌<◌, length, Option, Some, None, IfSome, Ok, Err, refl, inl, inr, subst, ap}
 use Rattle.dbm_model.specs.Calls.{First, End}
 use Rattle.slot_page.specs.Contents.{IsBucketPage, pairs_of}
 use Rattle.dbm_file.specs.Trying.{slot_reply}

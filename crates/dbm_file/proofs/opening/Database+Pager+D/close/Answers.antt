@@ -1,4 +1,4 @@
-use Rattle.std.proofs.Common.{ℕ, ◌/◌, ◌∙◌, refl, ap, subst}
+use Rattle.std.proofs.Common.{◌/◌, ◌∙◌, refl, ap, subst}
 use Rattle.sect_dev.specs.Device.{IsImageOf}
 use Rattle.redo_area.specs.File.{settled}
 use Rattle.redo_area.specs.Rests.{only_seen}
@@ -11,7 +11,8 @@ returns-clause-stands g c honest h at usable image is =
     let store = c.args.self.store in
     let old = store.dev in
     let same = c.into_dev-dev.ensures in
+    let db = c.args.self in
     let there = subst (λ d. IsImageOf (dev.candidate d) image) same is in
     stands_for _ c.args.self h _ at usable (λ rests.
     ap (λ d. settled (dev.sectors d / 4) image) same
-    ∙ only_seen (dev.sectors old / 4) store.end (dev.candidate old) (dev.seen old) (settled (dev.sectors old / 4) image) (store.rests (subst dev.honest same honest) rests) (record { image = image; is_image = there; reads = refl }))
+    ∙ only_seen (dev.sectors old / 4) (dev.candidate old) (dev.seen old) (settled (dev.sectors old / 4) image) _ ((store.rests (subst dev.honest same honest) rests).at_rest db.writable).stable (store.rests (subst dev.honest same honest) rests).settles (record { image = image; is_image = there; reads = refl }))

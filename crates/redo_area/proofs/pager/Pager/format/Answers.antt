@@ -1,4 +1,8 @@
-use Rattle.std.proofs.Common.{◌/◌}
+use Rattle.std.proofs.Common.{◌≡◌, ◌/◌, ◌+◌, ℕ, [], length, true, sym, ◌∙◌, ap, arith, subst}
+use Rattle.page_io.specs.Store.{bytes_of}
+use Rattle.redo_area.specs.File.{IsAtRest}
+use Rattle.redo_area.specs.Rests.{rests_at}
+use Rattle.redo_area.proofs.Results.{from_ok}
 use Rattle.redo_area.proofs.Blanks.{blank_candidates}
 use Rattle.redo_area.proofs.pager.Pager.format.Goals as goal
 
@@ -7,6 +11,21 @@ returns-then-is_err-clause-any_moment g c honest none =
     let dev = g.D.SectorDev in
     let first = c.args.dev in
     c.format_pages.ensures.any_moment honest (blank_candidates (dev.sectors first / 4) (dev.candidate first) (dev.seen first) (g.met.D.SectorDev.seen_may_stay first honest) none)
+
+pub invariant_of-result-clause-rests : goal.invariant_of-result-clause-rests
+invariant_of-result-clause-rests g c still usable =
+    let dev = g.D.SectorDev in
+    let new = c.format_pages.new.dev in
+    let kept = c.new-2.result.items in
+    let none : kept ≡ [] = c.new-2.ensures.items in
+    let honest = c.format_pages.ensures.honesty.0 still in
+    let count = length c.args.pages.now in
+    let at_rest = λ (cap end : ℕ). IsAtRest cap end (dev.candidate new) (dev.seen new) in
+    let same : dev.sectors c.args.dev / 4 ≡ dev.sectors new / 4 = ap (λ (s : ℕ). s / 4) (sym c.format_pages.ensures.size) in
+    let ends : 1 + count ≡ count + 1 = omega arith in
+    let rest = from_ok c.format_pages.result (sym c.is_err.ensures.value ∙ c.if-is_err.false) (c.format_pages.ensures.rest honest) in
+    rests_at true (dev.sectors new / 4) (count + 1) (bytes_of kept) (dev.candidate new) (dev.seen new) (ap bytes_of none)
+    (subst (λ (end : ℕ). at_rest (dev.sectors new / 4) end) ends (subst (λ (cap : ℕ). at_rest cap (1 + count)) same rest))
 
 pub returns-clause-any_moment : goal.returns-clause-any_moment
 returns-clause-any_moment g c honest none =

@@ -1,6 +1,20 @@
-use Rattle.std.proofs.Common.{◌/◌, ℕ, sym, ◌∙◌}
-use Rattle.redo_area.proofs.Images.{settled-clear}
+use Rattle.std.proofs.Common.{◌≡◌, ◌/◌, ℕ, true, [], refl, sym, ◌∙◌, ap, subst}
+use Rattle.sect_dev.specs.Device.{IsImageOf}
+use Rattle.sect_dev.specs.Moments.{weaker}
+use Rattle.page_io.specs.Store.{bytes_of}
+use Rattle.redo_area.specs.File.{IsAtRest, SettlesAsBefore}
+use Rattle.redo_area.specs.Rests.{rests_at}
 use Rattle.redo_area.proofs.pager.Pager.open.Goals as goal
+
+pub invariant_of-result-clause-rests : goal.invariant_of-result-clause-rests
+invariant_of-result-clause-rests g c still usable =
+    let dev = g.D.SectorDev in
+    let new = c.recover.new.dev in
+    let kept = c.new-in-Ok.result.items in
+    let none : kept ≡ [] = c.new-in-Ok.ensures.items in
+    let at_rest = λ (cap : ℕ). IsAtRest cap c.in-Ok.end (dev.candidate new) (dev.seen new) in
+    let same : dev.sectors c.args.dev / 4 ≡ dev.sectors new / 4 = ap (λ (s : ℕ). s / 4) (sym c.recover.ensures.size) in
+    rests_at true (dev.sectors new / 4) c.in-Ok.end (bytes_of kept) (dev.candidate new) (dev.seen new) (ap bytes_of none) (subst at_rest same (c.in-Ok.ensures.rest (c.recover.ensures.honesty.0 still)))
 
 pub returns-in-Ok-clause-committed : goal.returns-in-Ok-clause-committed
 returns-in-Ok-clause-committed g c honest =
@@ -9,7 +23,24 @@ returns-in-Ok-clause-committed g c honest =
     let first = c.args.dev in
     let new = c.recover.new.dev in
     let cap : ℕ = dev.sectors first / 4 in
+    let kept = c.new-in-Ok.result.items in
+    let none : kept ≡ [] = c.new-in-Ok.ensures.items in
     let h1 = c.recover.ensures.honesty.1 honest in
     let run = c.recover.ensures.any_moment honest in
     let now = run.each (dev.seen new) (met.counts_now new (dev.moment first) (dev.seen new) h1 run.later (met.seen_may_stay new h1)) in
-    record { image = now.0; is_image = now.1; reads = sym now.2 ∙ settled-clear cap (dev.seen new) c.in-Ok.end (c.in-Ok.ensures.rest honest).header }
+    let rests = rests_at true cap c.in-Ok.end (bytes_of kept) (dev.candidate new) (dev.seen new) (ap bytes_of none) (c.in-Ok.ensures.rest honest) in
+    record { image = now.0; is_image = now.1; reads = sym now.2 ∙ rests.settles }
+
+pub returns-in-Ok-read_file-clause-any_moment : goal.returns-in-Ok-read_file-clause-any_moment
+returns-in-Ok-read_file-clause-any_moment g c honest =
+    let dev = g.D.SectorDev in
+    let first = c.args.dev in
+    weaker dev.moment dev.left_since first c.read_file.new.dev (SettlesAsBefore (dev.sectors first / 4) (dev.candidate first)) (IsImageOf (dev.candidate first)) (c.read_file.ensures.only_reads honest).any_moment
+    (λ image is. (image, is, refl))
+
+pub returns-in-Err-read_file-clause-any_moment : goal.returns-in-Err-read_file-clause-any_moment
+returns-in-Err-read_file-clause-any_moment g c honest =
+    let dev = g.D.SectorDev in
+    let first = c.args.dev in
+    weaker dev.moment dev.left_since first c.read_file.new.dev (SettlesAsBefore (dev.sectors first / 4) (dev.candidate first)) (IsImageOf (dev.candidate first)) (c.read_file.ensures.only_reads honest).any_moment
+    (λ image is. (image, is, refl))

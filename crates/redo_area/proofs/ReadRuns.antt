@@ -1,0 +1,31 @@
+-- Calls that only read, one after another.
+use Rattle.std.proofs.Common.{◌≡◌, refl, ◌∙◌}
+use Rattle.sect_dev.specs.Device.{Image, IsImageOf, NoNewCandidate, LeavesOnly}
+use Rattle.sect_dev.specs.Moments.{fewer_images, started, followed_by}
+use Rattle.sect_dev.specs.declared.device.SectorDev.{Ghosts}
+use Rattle.redo_area.specs.Reading.{OnlyReads}
+
+module _ {D : Type 0} (dev : Ghosts D) where
+  -- before the first
+  pub none_yet : (old : D) → ((image : Image) → dev.left_since old (dev.moment old) image → IsImageOf (dev.candidate old) image) → OnlyReads dev old old
+  none_yet old only_now = record {
+    seen = refl;
+    no_new = λ m c may. may;
+    no_lost = λ m c may. may;
+    any_moment = started dev.moment dev.left_since old (IsImageOf (dev.candidate old)) only_now;
+  }
+
+  -- one run after another
+  pub more_reads : (old mid new : D) → OnlyReads dev old mid → OnlyReads dev mid new → OnlyReads dev old new
+  more_reads old mid new first second = record {
+    seen = second.seen ∙ first.seen;
+    no_new = λ m c may. first.no_new m c (second.no_new m c may);
+    no_lost = λ m c may. second.no_lost m c (first.no_lost m c may);
+    any_moment = followed_by dev.moment dev.left_since old mid new (IsImageOf (dev.candidate old)) (IsImageOf (dev.candidate mid)) first.any_moment second.any_moment
+        (λ image is. fewer_images (dev.candidate old) (dev.candidate mid) image first.no_new is);
+  }
+
+  -- one call more
+  pub one_more : (old mid new : D) → OnlyReads dev old mid → dev.seen new ≡ dev.seen mid → NoNewCandidate (dev.candidate mid) (dev.candidate new)
+      → NoNewCandidate (dev.candidate new) (dev.candidate mid) → LeavesOnly dev.moment dev.left_since mid new (IsImageOf (dev.candidate mid)) → OnlyReads dev old new
+  one_more old mid new before seen no_new no_lost any_moment = more_reads old mid new before (record { seen = seen; no_new = no_new; no_lost = no_lost; any_moment = any_moment })

@@ -1,0 +1,20 @@
+use Rattle.std.proofs.Common.{◌≡◌, ◌≤◌, ◌+◌, ◌-◌, ◌↔◌, ◌^◌}
+use Rattle.page_io.specs.Page.{page_at}
+use Rattle.page_io.specs.Store.{bytes_of, pages_from, are_in_order}
+use Rattle.redo_area.specs.Reading.{OnlyReads}
+use Rattle.redo_area.proofs.reading.read_images.Given as goal
+
+abbrev pub invariant-loop-i : goal.invariant-loop-i
+invariant-loop-i g l =
+    let dev = g.D.SectorDev in
+    let first = l.fn.dev in
+    let at = page_at (dev.seen first) in
+    record {
+      size : dev.sectors l.dev ≡ dev.sectors first;
+      small : l.least ≤ 2 ^ 32;
+      honesty : dev.honest l.dev ↔ dev.honest first;
+      faults : dev.faults first ≤ dev.faults l.dev;
+      only_reads : dev.honest first → OnlyReads dev first l.dev;
+      checked : dev.honest first → are_in_order 1 l.end (pages_from at l.start l.count) ≡ are_in_order l.least l.end (pages_from at (l.start + l.i) (l.count - l.i));
+      images : dev.honest first → bytes_of l.images.items ≡ pages_from at l.start l.i;
+    }

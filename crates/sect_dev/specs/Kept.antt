@@ -1,0 +1,30 @@
+-- A course that is kept, for any changes: what a device in memory would have.
+use Rattle.std.specs.Prelude.{◌≡◌, ◌+◌, ◌*◌, ◌/◌, ◌<◌, ◌==◌, if◌then◌else◌, ℕ, zero, suc, true, false, List, [], ◌∷◌, length}
+use Rattle.sect_dev.specs.declared.mem.Event.{Event}
+use Rattle.sect_dev.specs.declared.mem.Event.TheVariants.{Wrote, Synced}
+use Rattle.sect_dev.specs.History.{content_after, IsCandidate}
+use Rattle.sect_dev.specs.Course.{Change, Course, StandsAt, IsKept}
+use Rattle.sect_dev.specs.Course.Change.{Writes, Syncs}
+
+-- the record after a change. A change that failed did not happen
+abbrev pub noted : Change → List Event → List Event
+noted (Writes at bytes true) events = if length bytes == 512 then Wrote (at / 512) bytes ∷ events else events
+noted (Writes at bytes false) events = events
+noted (Syncs true) events = Synced ∷ events
+noted (Syncs false) events = events
+
+-- the record of the first t changes, the newest first
+abbrev pub record_of : (ℕ → Change) → ℕ → List Event
+record_of changes zero = []
+record_of changes (suc t) = noted (changes t) (record_of changes t)
+
+abbrev pub memory_course : (ℕ → Change) → Course
+memory_course changes = record {
+  change = changes;
+  seen = λ t. content_after (record_of changes t);
+  candidate = λ t. IsCandidate (record_of changes t);
+  gave = λ t at bytes. (n i : ℕ) → at ≡ n * 512 + i → i < 512 → StandsAt (content_after (record_of changes t) n) i bytes;
+}
+
+abbrev pub PremiseCanBeMet : Type 0
+PremiseCanBeMet = (changes : ℕ → Change) → IsKept (memory_course changes)

@@ -1,0 +1,278 @@
+//! A device over a file.
+ghost use Rattle.std.specs.Prelude.{◌≡◌, ◌+◌, ◌-◌, ◌*◌, ◌^◌, ◌<◌, ◌≤◌, ◌&&◌, false, is_ok, is_some, IsErr, IfOk, IfErr, OnOk, length, take};
+ghost use Rattle.sect_dev.specs.Device.{HasCause};
+ghost use Rattle.sect_dev.specs.Course.{IsHonest, LeftFrom};
+ghost use Rattle.sect_dev.specs.Course.Change.{Writes, Syncs};
+
+use crate::{DevFault, SectorDev};
+use std::fs::{File, OpenOptions};
+use std::io;
+use std::os::fd::AsRawFd;
+use std::os::unix::fs::FileExt;
+use std::path::Path;
+use std::rt::Files;
+use thiserror::Error;
+
+/// Why a file was not opened.
+#[derive(Clone, Copy, Debug, PartialEq, Eq, Error)]
+pub enum FileFault {
+    /// The system had no memory for it.
+    #[error("no memory to open the file")]
+    Memory,
+    /// There is no such file, and none was to be made.
+    #[error("there is no such file")]
+    Missing,
+    /// The system refused the file, or its folder, for another cause.
+    #[error("the file was refused")]
+    Device,
+}
+
+/// A device over a file. Sector n is the 512 bytes from byte 512 n on, and what lies past the file's end reads as
+/// zeros. Each read and each write is one positioned call of the system (more where that was cut short), a sync is
+/// one, and nothing is buffered.
+///
+/// That it is honest is claimed nowhere. The crate's README says what that premise is.
+#[derive(Drop)]
+pub struct FileDev {
+    file: File,
+    capacity: u32,
+    // How many writes and syncs the system answered.
+    changes: u64,
+    faults: u64,
+    ghost fits: { capacity < 2 ^ 32 },
+}
+
+// Where a sector begins.
+fn offset_of(n: u32) -> u64
+    ensures { result ≡ n * 512 }
+{
+    u64::from(n) * 512
+}
+
+fn fault_of(error: &io::Error) -> FileFault
+    ensures { result ≡ FileFault.Missing → ⊥ }
+{
+    match error.kind() {
+        io::ErrorKind::OutOfMemory => FileFault::Memory,
+        _ => FileFault::Device,
+    }
+}
+
+// What is meant for a standard stream that was closed must not land in the file.
+fn above_standard(file: File) -> io::Result<File> {
+    if file.as_raw_fd() > 2 {
+        return Ok(file);
+    }
+    file.try_clone()
+}
+
+// Makes a file, and syncs its folder, so that a stop leaves the file's name.
+fn make<R: Files<File = File>>(rt: &R, path: &str) -> io::Result<File> {
+    let file = OpenOptions::new()
+        .read(true)
+        .write(true)
+        .create(true)
+        .open(rt, path)?;
+    let folder = match Path::new(path).parent() {
+        Some(parent) if !parent.as_str().is_empty() => parent.as_str(),
+        _ => ".",
+    };
+    File::open(rt, folder)?.sync_all()?;
+    Ok(file)
+}
+
+// Opens a file, or makes it where it is to be made. None where it isn't there.
+fn find<R: Files<File = File>>(
+    rt: &R,
+    path: &str,
+    write: bool,
+    create: bool,
+) -> io::Result<Option<File>>
+    ensures { IfOk result (λ file. is_some file ≡ false → (write && create) ≡ false) }
+{
+    let opened = OpenOptions::new().read(true).write(write).open(rt, path);
+    let file = match opened {
+        Err(error) if error.kind() == io::ErrorKind::NotFound => {
+            if !(write && create) {
+                return Ok(None);
+            }
+            make(rt, path)?
+        }
+        opened => opened?,
+    };
+    Ok(Some(above_standard(file)?))
+}
+
+impl FileDev {
+    ghost use Rattle.sect_dev.specs.File.{course, IsNext, Gave, IsSame};
+
+    /// Opens a file as a device of so many sectors, whatever its length: for reading and writing with `write`, else
+    /// for reading alone, and then each write fails. With `write` and `create` a file that isn't there is made, and
+    /// its folder is synced.
+    ///
+    /// `Missing` where the file isn't there and `write` and `create` aren't both set, `Memory` where the system has
+    /// no memory for it, and `Device` where the system refuses it, or the sync of its folder, for another cause.
+    pub fn open<R: Files<File = File>>(
+        rt: &R,
+        path: &str,
+        write: bool,
+        create: bool,
+        capacity: u32,
+    ) -> Result<FileDev, FileFault>
+        ensures size { IfOk result (λ dev. ⟦<FileDev as SectorDev>⟧.sectors dev ≡ capacity) }
+        ensures faults { IfOk result (λ dev. ⟦<FileDev as SectorDev>⟧.faults dev ≡ 0) }
+        ensures begins { IfOk result (λ dev. ⟦<FileDev as SectorDev>⟧.moment dev ≡ 0) }
+        ensures missing { IfErr result (λ fault. fault ≡ FileFault.Missing → (write && create) ≡ false) }
+    {
+        match find(rt, path, write, create) {
+            Ok(Some(file)) => Ok(FileDev {
+                file,
+                capacity,
+                changes: 0,
+                faults: 0,
+            }),
+            Ok(None) => Err(FileFault::Missing),
+            Err(error) => Err(fault_of(&error)),
+        }
+    }
+
+    // Asks the system for bytes of the file.
+    fn pread(&self, at: u64, out: &mut [u8]) -> io::Result<usize>
+        requires { 0 < length out.old }
+        ensures bound { IfOk result (λ k. k ≤ length out.new) }
+        ensures gave { IfOk result (λ k. Gave self.now at (take k out.new)) }
+    {
+        self.file.read_at(out, at)
+    }
+
+    // Asks it to write a sector.
+    fn pwrite(&self, at: u64, from: &[u8; 512]) -> io::Result<()>
+        ensures { IsNext self.now (Writes at from.now (is_ok result)) }
+    {
+        self.file.write_all_at(from, at)
+    }
+
+    // Asks it to sync the file.
+    fn fsync(&self) -> io::Result<()>
+        ensures { IsNext self.now (Syncs (is_ok result)) }
+    {
+        self.file.sync_all()
+    }
+
+    // Reads a sector, with zeros past the file's end.
+    fn fill(&self, n: u32, out: &mut [u8; 512]) -> io::Result<()>
+        ensures { IsHonest self.now.file → OnOk result (out.new ≡ (course self.now).seen self.now.changes n) }
+    {
+        let mut filled = 0;
+        for _ in 0..u64::MAX {
+            if filled >= out.len() {
+                return Ok(());
+            }
+            match self.pread(offset_of(n) + filled as u64, &mut out[filled..]) {
+                Ok(0) => {
+                    out[filled..].fill(0);
+                    return Ok(());
+                }
+                Ok(more) => filled += more,
+                Err(error) if error.kind() == io::ErrorKind::Interrupted => {}
+                Err(error) => return Err(error),
+            }
+        }
+        Err(io::ErrorKind::Interrupted.into())
+    }
+
+    // Counts a fault.
+    fn fail(&mut self) -> Result<(), DevFault>
+        ensures fails { IsErr result }
+        ensures same { IsSame self.old self.new }
+        ensures cause { HasCause self.old.faults self.new.faults result }
+    {
+        self.faults = self.faults.saturating_add(1);
+        Err(DevFault)
+    }
+
+    // Counts a change that the system answered.
+    fn note(&mut self, answer: io::Result<()>) -> Result<(), DevFault>
+        requires { self.old.changes < 2 ^ 64 - 1 }
+        ensures answer { is_ok result ≡ is_ok answer }
+        ensures changes { self.new.changes ≡ self.old.changes + 1 }
+        ensures file { self.new.file ≡ self.old.file }
+        ensures cause { HasCause self.old.faults self.new.faults result }
+        ensures size { self.new.capacity ≡ self.old.capacity }
+    {
+        self.changes += 1;
+        if answer.is_err() {
+            return self.fail();
+        }
+        Ok(())
+    }
+}
+
+impl SectorDev for FileDev {
+    ghost use Rattle.sect_dev.specs.File.{Goes, IsSame};
+    ghost use Rattle.sect_dev.specs.Course.{course_of, counts_now, only_now};
+
+    ghost sectors = { λ d. d.capacity };
+
+    ghost honest = { λ d. IsHonest d.file };
+
+    ghost seen = { λ d. (course_of d.file).seen d.changes };
+
+    ghost candidate = { λ d. (course_of d.file).candidate d.changes };
+
+    ghost moment = { λ d. d.changes };
+
+    ghost left_since = { λ d. LeftFrom (course_of d.file).candidate d.changes };
+
+    ghost faults = { λ d. d.faults };
+
+    ghost fits = { λ d. d.fits };
+
+    ghost seen_may_stay = { λ d h. h.kept.may_stay d.changes };
+
+    ghost counts_now = { λ d t image h le now. counts_now (course_of d.file).candidate d.changes t image le now };
+
+    ghost only_now = { λ d image h left. only_now (course_of d.file).candidate d.changes image left };
+
+    fn capacity(&self) -> u32 {
+        self.capacity
+    }
+
+    fn read(&mut self, n: u32, out: &mut [u8; 512]) -> Result<(), DevFault>
+        requires { n < ⟦<FileDev as SectorDev>⟧.sectors self.old }
+        ensures content { IsHonest self.old.file → OnOk result (out.new ≡ ⟦<FileDev as SectorDev>⟧.seen self.old n) }
+        ensures same { IsSame self.old self.new }
+        ensures cause { HasCause (⟦<FileDev as SectorDev>⟧.faults self.old) (⟦<FileDev as SectorDev>⟧.faults self.new) result }
+    {
+        if self.fill(n, out).is_err() {
+            return self.fail();
+        }
+        Ok(())
+    }
+
+    fn write(&mut self, n: u32, from: &[u8; 512]) -> Result<(), DevFault>
+        requires { n < ⟦<FileDev as SectorDev>⟧.sectors self.old }
+        ensures goes { Goes self.old self.new (Writes (n * 512) from.now (is_ok result)) (is_ok result) }
+        ensures whole { length from.now ≡ 512 }
+        ensures cause { HasCause (⟦<FileDev as SectorDev>⟧.faults self.old) (⟦<FileDev as SectorDev>⟧.faults self.new) result }
+        ensures size { ⟦<FileDev as SectorDev>⟧.sectors self.new ≡ ⟦<FileDev as SectorDev>⟧.sectors self.old }
+    {
+        if self.changes == u64::MAX {
+            return self.fail();
+        }
+        let answer = self.pwrite(offset_of(n), from);
+        self.note(answer)
+    }
+
+    fn sync(&mut self) -> Result<(), DevFault>
+        ensures goes { Goes self.old self.new (Syncs (is_ok result)) (is_ok result) }
+        ensures cause { HasCause (⟦<FileDev as SectorDev>⟧.faults self.old) (⟦<FileDev as SectorDev>⟧.faults self.new) result }
+        ensures size { ⟦<FileDev as SectorDev>⟧.sectors self.new ≡ ⟦<FileDev as SectorDev>⟧.sectors self.old }
+    {
+        if self.changes == u64::MAX {
+            return self.fail();
+        }
+        let answer = self.fsync();
+        self.note(answer)
+    }
+}
