@@ -54,13 +54,13 @@ pub record Turns {S : Type 0} (s : Ghosts S) (old new : Database S s) (map chang
 more_later : (first mid last : ℕ) → first ≤ mid → MoreFaults mid last → MoreFaults first last
 more_later first mid last le more = omega (arith, le, more)
 
--- What is known when a change begins: the call asks for it, after no more than a read. `only` is the store's law `only_committed`.
+-- What is known when a change begins: the call asks for it, after no more than a read.
 pub record IsAsked {S : Type 0} (s : Ghosts S) (old mid : Database S s) (map changed : Contents) (pass : Option Keys) (call : model.Call) (said : model.Reply) : Type 0 where
   pub read : IsRead old mid
   pub usable : (pages_of old).usable ≡ true
   pub honest : s.honest (store_of old)
   pub holds : Holds s (store_of old) (meta_of old) map
-  pub only : (x : Settled) → s.settles_to (store_of old) x → x ≡ file_of (s.committed (store_of old))
+  pub rests : (x : Settled) → s.settles_to (store_of old) x → ImageStandsFor x map (meta_of old).limit
   pub going : IsPass (s.committed (store_of old)) (meta_of old) (cursor_of old) pass
   pub falls : case_of (handle_of old map pass).state call ≡ Changes said changed
 
@@ -91,11 +91,12 @@ module _ {S : Type 0} (s : Ghosts S) {old mid : Database S s} {map changed : Con
     survives_change : (Left : Contents → Type 0) → Left map → Left changed → LeavesOnly s.moment s.settled_since (store_of mid) (store_of new) (StandsForEither map changed (meta_of mid).limit) → Survives old new Left
     survives_change Left left also change =
         followed_by s.moment s.settled_since (store_of old) (store_of mid) (store_of new) (StandsForSome Left (meta_of old).limit) (StandsForEither map changed (meta_of mid).limit)
-        (still_survives s old mid map asked.read asked.honest asked.holds asked.only Left left) change
+        (still_survives s old mid map asked.read asked.honest asked.rests Left left) change
         (λ x. ⊎_elim (λ is. (map, left, stands_still x map is)) (λ is. (changed, also, stands_still x changed is)))
 
-    pub changed_step : IsEnded s mid new (Ok tt) → Turns s mid new map changed (Ok tt) → IsStep old new before call said
-    changed_step ended turns =
+    -- `only` is the store's law `only_committed`
+    pub changed_step : IsEnded s mid new (Ok tt) → Turns s mid new map changed (Ok tt) → ((x : Settled) → s.settles_to (store_of new) x → x ≡ file_of (s.committed (store_of new))) → IsStep old new before call said
+    changed_step ended turns only =
         let usable_is = ap (λ (st : store.State). st.usable) ended.ok ∙ still_usable s old mid asked.read in
         record {
           after = handle_of new changed None;
@@ -104,11 +105,13 @@ module _ {S : Type 0} (s : Ghosts S) {old mid : Database S s} {map changed : Con
             answers = inl (subst (λ (c : Case). Answers before.state c said (handle_of new changed None).state) (sym asked.falls)
                 (refl, same_parts changed None _ _ _ _ _ _ (ended.limit ∙ still_limit s old mid asked.read) (ap (λ (o : Option Fault). option_map fault_of o) (ended.error_is ∙ asked.read.error_is)) usable_is));
           };
-          is_at = at_own new changed None (λ usable. turns.exact) (λ usable. subst (λ (c : Option Cursor). IsPass (s.committed (store_of new)) (meta_of new) c None) (sym ended.pass_ends) tt);
+          is_at = at_own new changed None (λ usable. turns.exact) (λ usable x left. subst (λ (y : Settled). ImageStandsFor y changed (meta_of new).limit) (sym (only x left)) turns.exact.stands) (λ usable. subst (λ (c : Option Cursor). IsPass (s.committed (store_of new)) (meta_of new) c None) (sym ended.pass_ends) tt);
           survives = λ usable. survives_change (MayBeLeft before (handle_of new changed None) call) (inl refl) (inr (inl refl)) turns.any_moment;
         }
 
-    module _ (e : PageFault) (ended : IsEnded s mid new (Err e)) (turns : Turns s mid new map changed (Err e)) where
+    -- `counts` is the store's law `counts_now`
+    module _ (e : PageFault) (ended : IsEnded s mid new (Err e)) (turns : Turns s mid new map changed (Err e))
+        (counts : (t : ℕ) (x : Settled) → t ≤ s.moment (store_of new) → s.settles_to (store_of new) x → s.settled_since (store_of new) t x) where
       abbrev after : Handle
       after = handle_of (with_fault new (told e)) map pass
 
@@ -134,6 +137,11 @@ module _ {S : Type 0} (s : Ghosts S) {old mid : Database S s} {map changed : Con
         suffers (inr (inr (inr (inr is)))) =
             inl (ap (λ (f : PageFault). model.Refused (fault_of (told f))) is, more_later _ _ _ asked.read.reads.stages_only.later (ended.cause.fault (ap Err is)), state_is ∙ ap (λ (f : PageFault). flagged (fault_of (told f)) before.state) is)
 
+        rests_on : (pages_of new).usable ≡ true → (x : Settled) → s.settles_to (store_of new) x → ImageStandsFor x map (meta_of new).limit
+        rests_on is x left =
+            let run = turns.unchanged is in
+            subst (λ (n : ℕ). ImageStandsFor x map n) (sym ended.limit) (run.each x (counts (s.moment (store_of mid)) x run.later left))
+
         unchanged_step : IsStep old (with_fault new (told e)) before call reply
         unchanged_step = record {
           after = after;
@@ -141,11 +149,11 @@ module _ {S : Type 0} (s : Ghosts S) {old mid : Database S s} {map changed : Con
             counts = omega (arith, asked.read.reads.stages_only.later, ended.cause.later);
             answers = inr (subst (λ (c : Case). Suffers before c reply after) (sym asked.falls) (suffers ended.answer.only));
           };
-          is_at = at_own (with_fault new (told e)) map pass (λ is. turns.exact is)
+          is_at = at_own (with_fault new (told e)) map pass (λ is. turns.exact is) (λ is. rests_on is)
               (λ is. same_pass _ _ _ _ _ _ pass (turns.kept is) ended.err.1 ended.pass_stays (still_passes s old mid pass asked.read asked.honest asked.going));
           survives = λ was.
               followed_by s.moment s.settled_since (store_of old) (store_of mid) (store_of new) (StandsForSome (MayBeLeft before after call) (meta_of old).limit) (λ x. ImageStandsFor x map (meta_of mid).limit)
-              (still_survives s old mid map asked.read asked.honest asked.holds asked.only (MayBeLeft before after call) (inl refl)) (turns.unchanged (same ∙ asked.usable))
+              (still_survives s old mid map asked.read asked.honest asked.rests (MayBeLeft before after call) (inl refl)) (turns.unchanged (same ∙ asked.usable))
               (λ x is. (map, inl refl, stands_still x map is));
         }
 
@@ -163,7 +171,7 @@ module _ {S : Type 0} (s : Ghosts S) {old mid : Database S s} {map changed : Con
             same_parts map pass _ _ _ _ _ _ (ended.limit ∙ still_limit s old mid asked.read) (error_is ∙ ap (λ (f : PageFault). first_fault (error_of old) (fault_of (told f))) is) broken,
           ))));
         };
-        is_at = at_own (with_fault new (told e)) map pass (λ now. absurd (let x = now in cc)) (λ now. absurd (let x = now in cc));
+        is_at = at_own (with_fault new (told e)) map pass (λ now. absurd (let x = now in cc)) (λ now. absurd (let x = now in cc)) (λ now. absurd (let x = now in cc));
         survives = λ was. survives_change (MayBeLeft before after call) (inl refl) (inr (inr (broken, (said, asked.falls)))) turns.any_moment;
       }
 

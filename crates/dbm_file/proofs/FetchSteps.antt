@@ -9,7 +9,6 @@ use Rattle.dbm_model.specs.Pairs.{Key, Pair, Contents}
 use Rattle.dbm_model.specs.Slots.{taken}
 use Rattle.dbm_model.specs.Steps.{Case, Finds, Suffers, fetched}
 use Rattle.dbm_model.specs.Valid.{IsMeta}
-use Rattle.page_io.specs.Store.{Settled, file_of}
 use Rattle.page_io.specs.Answers.{HasDeviceCause}
 use Rattle.page_io.specs.declared.store.PageStore.{Ghosts}
 use Rattle.page_io.specs.declared.store.PageFault.{PageFault}
@@ -68,14 +67,13 @@ IsFetched old key r new = Lends (model.Fetch key) (lent_reply model.NoRecord) ol
 
 -- a fetch that was answered
 pub fetched_well : {S : Type 0} (s : Ghosts S) (old new : Database S s) (key : Key) (found : Option (Bor (List ℕ))) → IsRead old new → (pages_of old).usable ≡ true
-    → (s.honest (store_of old) → (x : Settled) → s.settles_to (store_of old) x → x ≡ file_of (s.committed (store_of old)))
     → (s.honest (store_of old) → (map : Contents) → Holds s (store_of old) (meta_of old) map → option_map (λ (b : Bor (List ℕ)). b.now) found ≡ get map key)
     → IsFetched old key (Ok found) new
-fetched_well s old new key found read usable only is = record {
+fetched_well s old new key found read usable is = record {
   step = λ honest h at.
       let map = h.state.map in
       let pass = h.state.pass in
-      from_own at (found_step s old new map pass (model.Fetch key) read honest (at.map usable) (at.pass usable) (only honest) (lent_reply model.NoRecord (Ok found))
+      from_own at (found_step s old new map pass (model.Fetch key) read honest (at.map usable) (at.pass usable) (at.rests usable) (lent_reply model.NoRecord (Ok found))
       (fetch_rule (handle_of old map pass).state key (option_map (λ b. b.now) found) usable (sym (is honest map (at.map usable))) ∙ finds found));
   keeps = read_keeps s old new read usable found;
 }
@@ -84,16 +82,15 @@ fetched_well s old new key found read usable only is = record {
 module _ {S : Type 0} (s : Ghosts S) (db : Database S s) (key : Key) (idle : (pages_of db).staged ≡ []) (writable : (pages_of db).writable ≡ true) (valid : IsMeta (meta_of db))
     (error : Option Fault) (fault : Fault) (flag : error ≡ cond (is_some db.error) db.error (Some fault)) (r : Lent) (is : r ≡ Err fault) (old : Database S s) (e : PageFault) (read : IsRead old db) (told_so : fault ≡ told e)
     (usable : (pages_of old).usable ≡ true) (answer : IsWalkAnswer {T = Option Place} (pages_of old) (Err e)) (cause : HasDeviceCause {T = Option Place} (s.faults (store_of old)) (s.faults (store_of db)) (Err e)) where
-  pub fetch_failed : (s.honest (store_of old) → (x : Settled) → s.settles_to (store_of old) x → x ≡ file_of (s.committed (store_of old)))
-      → (s.honest (store_of old) → (map : Contents) → Holds s (store_of old) (meta_of old) map → IsErrOf {T = Option Place} (Err e) page.Damaged → ⊥)
+  pub fetch_failed : (s.honest (store_of old) → (map : Contents) → Holds s (store_of old) (meta_of old) map → IsErrOf {T = Option Place} (Err e) page.Damaged → ⊥)
       → IsFetched old key r (kept_error s db idle writable valid error)
-  fetch_failed only whole = flagged_lends s db (model.Fetch key) model.NoRecord idle writable valid error fault flag r is old
+  fetch_failed whole = flagged_lends s db (model.Fetch key) model.NoRecord idle writable valid error fault flag r is old
       (subst (λ (f : Fault). IsFetched old key (Err f) (with_fault db f)) (sym told_so) record {
         step = λ honest h at.
             let map = h.state.map in
             let pass = h.state.pass in
             let falls = fetch_rule (handle_of old map pass).state key (get map key) usable refl in
-            from_own at (walk_failed_step s old db map pass (model.Fetch key) read honest (at.map usable) (at.pass usable) (only honest) (Option Place) e usable answer cause (whole honest map (at.map usable))
+            from_own at (walk_failed_step s old db map pass (model.Fetch key) read honest (at.map usable) (at.pass usable) (at.rests usable) (Option Place) e usable answer cause (whole honest map (at.map usable))
             (λ reply after fails. subst (λ (rule : Case). Suffers (handle_of old map pass) rule reply after) (sym falls) (fetch_fails (handle_of old map pass) reply after fails (get map key))));
         keeps = refused_keeps s old db read usable (Option (Bor (List ℕ))) (told e) (walk_more s old db e answer cause) (walk_sound s old e usable answer);
       })

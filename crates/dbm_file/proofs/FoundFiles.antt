@@ -8,10 +8,10 @@ use Rattle.dbm_model.specs.Sheets as sheets
 use Rattle.dbm_model.specs.Valid.{IsMeta}
 use Rattle.dbm_model.proofs.GoodSheets.{sheets_valid}
 use Rattle.dbm_model.specs.States.{Handle}
-use Rattle.page_io.specs.Store.{Pages, Settled, file_of, page_of, overlaid}
+use Rattle.page_io.specs.Store.{Pages, Settled, page_of, overlaid}
 use Rattle.page_io.specs.Meaning.{FileStandsFor, ImageStandsFor}
 use Rattle.page_io.specs.declared.store.PageStore as store
-use Rattle.dbm_file.specs.Database.{store_of, meta_of, pages_of, HoldsMap, handle_of, IsAt}
+use Rattle.dbm_file.specs.Database.{store_of, meta_of, HoldsMap, Rests, handle_of, IsAt}
 use Rattle.dbm_file.specs.Opened.{IsFresh, IsOpenedAt}
 use Rattle.dbm_file.specs.Passing.{IsPass}
 use Rattle.dbm_file.specs.declared.passing.Cursor.{Cursor}
@@ -34,10 +34,10 @@ says_meta pages staged map limit bytes stands none read = record {
 }
 
 -- a database that was just opened is at a fresh handle
-pub opened_at : {S : Type 0} {s : store.Ghosts S} (pages : ℕ) (db : Database S s) (map : Contents) (limit : ℕ) → HoldsMap db map → (meta_of db).limit ≡ limit → IsFresh pages db → IsOpenedAt db map limit
-opened_at {S} {s} pages db map limit held limit_is fresh = record {
+pub opened_at : {S : Type 0} {s : store.Ghosts S} (pages : ℕ) (db : Database S s) (map : Contents) (limit : ℕ) → HoldsMap db map → Rests db map → (meta_of db).limit ≡ limit → IsFresh pages db → IsOpenedAt db map limit
+opened_at {S} {s} pages db map limit held rests limit_is fresh = record {
   handle = handle_of db map None;
-  is_at = at_own db map None held (λ usable. subst (λ (c : Option Cursor). IsPass (s.committed (store_of db)) (meta_of db) c None) (sym fresh.no_pass) tt);
+  is_at = at_own db map None held rests (λ usable. subst (λ (c : Option Cursor). IsPass (s.committed (store_of db)) (meta_of db) c None) (sym fresh.no_pass) tt);
   is_fresh = same_parts map None _ _ _ _ _ _ limit_is fresh.no_error fresh.usable;
 }
 
@@ -48,8 +48,7 @@ counts_pairs s db h at usable =
     (sym (counted s (store_of db) (meta_of db) h.state.map (at.map is_usable)), sym (ap (λ (x : Handle). x.state.limit) at.shows))
 
 -- every image that is left of it stands for the map
-pub stands_for : {S : Type 0} (s : store.Ghosts S) (db : Database S s) (h : Handle) (y : Settled) → IsAt db h → h.state.usable ≡ true → ((pages_of db).usable ≡ true → y ≡ file_of (s.committed (store_of db))) → ImageStandsFor y h.state.map h.state.limit
-stands_for s db h y at usable only =
+pub stands_for : {S : Type 0} (s : store.Ghosts S) (db : Database S s) (h : Handle) (y : Settled) → IsAt db h → h.state.usable ≡ true → s.settles_to (store_of db) y → ImageStandsFor y h.state.map h.state.limit
+stands_for s db h y at usable left =
     let is_usable = sym (ap (λ (x : Handle). x.state.usable) at.shows) ∙ usable in
-    subst (λ (n : ℕ). ImageStandsFor y h.state.map n) (sym (ap (λ (x : Handle). x.state.limit) at.shows))
-    (subst (λ (z : Settled). ImageStandsFor z h.state.map (meta_of db).limit) (sym (only is_usable)) (at.map is_usable).stands)
+    subst (λ (n : ℕ). ImageStandsFor y h.state.map n) (sym (ap (λ (x : Handle). x.state.limit) at.shows)) (at.rests is_usable y left)

@@ -26,7 +26,7 @@ pub flagged_step : {S : Type 0} (s : Ghosts S) (old db : Database S s) (h : Hand
 flagged_step s old db h idle writable valid call error fault flag reply step = subst (λ (e : Option Fault). IsStep old (kept_error s db idle writable valid e) h call reply) (sym flag) record {
   after = step.after;
   step = step.step;
-  is_at = record { shows = step.is_at.shows; map = λ usable. step.is_at.map usable; pass = λ usable. step.is_at.pass usable };
+  is_at = record { shows = step.is_at.shows; map = λ usable. step.is_at.map usable; rests = λ usable. step.is_at.rests usable; pass = λ usable. step.is_at.pass usable };
   survives = λ usable. step.survives usable;
 }
 
@@ -46,7 +46,7 @@ module _ {S : Type 0} (s : Ghosts S) (db : Database S s) (call : model.Call) (no
             record {
               after = step.after;
               step = step.step;
-              is_at = record { shows = step.is_at.shows; map = λ usable. step.is_at.map usable; pass = λ usable. step.is_at.pass usable };
+              is_at = record { shows = step.is_at.shows; map = λ usable. step.is_at.map usable; rests = λ usable. step.is_at.rests usable; pass = λ usable. step.is_at.pass usable };
               survives = λ usable. step.survives usable;
             };
         keeps = record {

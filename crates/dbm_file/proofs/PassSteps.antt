@@ -14,9 +14,8 @@ use Rattle.dbm_model.specs.Placement as placement
 use Rattle.dbm_model.specs.States.{Keys, Handle, error_number}
 use Rattle.dbm_model.specs.Valid.{IsMeta}
 use Rattle.dbm_model.specs.Steps.{Case, Passes, GivesKey, Suffers, case_of, Answers}
-use Rattle.page_io.specs.Store.{Settled, Pages, file_of, page_of}
+use Rattle.page_io.specs.Store.{Settled, Pages, page_of}
 use Rattle.page_io.specs.Answers.{HasDeviceCause}
-use Rattle.page_io.specs.Meaning.{ImageStandsFor}
 use Rattle.page_io.specs.Views.{said}
 use Rattle.page_io.specs.declared.store.PageStore.{Ghosts}
 use Rattle.page_io.specs.declared.store.PageFault.{PageFault}
@@ -42,7 +41,7 @@ use Rattle.dbm_file.proofs.Cases.{first_rule, next_rule, no_pass_rule, passes_fa
 use Rattle.dbm_file.proofs.Lends.{kept_error, flagged_step}
 use Rattle.dbm_file.proofs.Passes.{begins}
 use Rattle.dbm_file.proofs.PassKeys.{gives, all_keys}
-use Rattle.dbm_file.proofs.ReadSteps.{at_own, from_own, same_state, same_pass, still_limit, still_usable, still_meta, still_holds, still_survives, no_read, rejected_step, refused_keeps, walk_failed_step}
+use Rattle.dbm_file.proofs.ReadSteps.{at_own, from_own, same_state, same_pass, still_limit, still_usable, still_meta, still_holds, still_rests, still_survives, no_read, rejected_step, refused_keeps, walk_failed_step}
 use Rattle.dbm_file.proofs.Tables.{placed, is_table, map_placed, committed_said}
 
 -- the same database with its pass elsewhere
@@ -93,7 +92,7 @@ gives_next pages m cursor keys bytes found at has some next = by_case has.left h
 
 -- a call that falls under passing these keys
 module _ {S : Type 0} (s : Ghosts S) (old new : Database S s) (h : Handle) (at : IsAt old h) (call : model.Call) (keys : Keys) (read : IsRead old (with_pass new old.pass)) (honest : s.honest (store_of old)) (usable : (pages_of old).usable ≡ true)
-    (only : (x : Settled) → s.settles_to (store_of old) x → x ≡ file_of (s.committed (store_of old))) (falls : case_of h.state call ≡ Passes keys) where
+    (falls : case_of h.state call ≡ Passes keys) where
   abbrev map : Contents
   map = h.state.map
 
@@ -115,9 +114,9 @@ module _ {S : Type 0} (s : Ghosts S) (old new : Database S s) (h : Handle) (at :
       answers = inl (subst (λ (c : Case). Answers before.state c reply (handle_of new map (Some left)).state) (sym falls_own)
           (subst (GivesKey before.state keys reply) (sym (same_state s old mid map (Some left) (still_limit s old mid read) read.error_is (still_usable s old mid read))) given));
     };
-    is_at = at_own new map (Some left) (λ u. still_holds s old mid map read honest (at.map usable))
+    is_at = at_own new map (Some left) (λ u. still_holds s old mid map read honest (at.map usable)) (λ u. still_rests s old mid map read honest (at.rests usable))
         (λ u. same_pass _ _ _ _ (Some cursor) _ (Some left) (read.reads.stages_only.kept honest).committed (still_meta s old mid read) is has);
-    survives = λ u. still_survives s old mid map read honest (at.map usable) only (MayBeLeft before (handle_of new map (Some left)) call) (inl refl);
+    survives = λ u. still_survives s old mid map read honest (at.rests usable) (MayBeLeft before (handle_of new map (Some left)) call) (inl refl);
   }
 
   module _ (cursor : Cursor) (has : HasLeft (s.committed (store_of old)) (meta_of old) cursor keys) (bytes : List ℕ) (found : Option (ℕ × Place)) (next : IsNext has.placement has.left bytes found) where
@@ -133,13 +132,13 @@ module _ {S : Type 0} (s : Ghosts S) (old new : Database S s) (h : Handle) (at :
 
 -- a pass that failed
 pub pass_failed : {S : Type 0} (s : Ghosts S) (old new : Database S s) (h : Handle) → IsAt old h → (call : model.Call) (keys : Keys) → case_of h.state call ≡ Passes keys → IsRead old new → s.honest (store_of old) → (pages_of old).usable ≡ true
-    → ((x : Settled) → s.settles_to (store_of old) x → x ≡ file_of (s.committed (store_of old))) → (T : Type 0) (e : PageFault) → IsWalkAnswer {T = T} (pages_of old) (Err e) → HasDeviceCause {T = T} (s.faults (store_of old)) (s.faults (store_of new)) (Err e)
+    → (T : Type 0) (e : PageFault) → IsWalkAnswer {T = T} (pages_of old) (Err e) → HasDeviceCause {T = T} (s.faults (store_of old)) (s.faults (store_of new)) (Err e)
     → (IsErrOf {T = T} (Err e) page.Damaged → ⊥) → IsStep old (with_fault new (told e)) h call (model.Refused (fault_of (told e)))
-pass_failed s old new h at call keys falls read honest usable only T e answer cause whole =
+pass_failed s old new h at call keys falls read honest usable T e answer cause whole =
     let map = h.state.map in
     let pass = h.state.pass in
     let falls_own = ap (λ (x : Handle). case_of x.state call) (sym at.shows) ∙ falls in
-    from_own at (walk_failed_step s old new map pass call read honest (at.map usable) (at.pass usable) only T e usable answer cause whole
+    from_own at (walk_failed_step s old new map pass call read honest (at.map usable) (at.pass usable) (at.rests usable) T e usable answer cause whole
     (λ reply after fails. subst (λ (rule : Case). Suffers (handle_of old map pass) rule reply after) (sym falls_own) (passes_fail (handle_of old map pass) reply after fails keys)))
 
 -- and whose fault was then kept as the first one
@@ -205,12 +204,11 @@ pub lent_key : (bytes : List ℕ) (slot : ℕ) (pair : Bor (List ℕ) × Bor (Li
 lent_key bytes slot pair read = ap (λ (p : Pair). model.Bytes p.0) (read ([], []))
 
 -- what needs no page: the error number is told, or cleared
-module _ {S : Type 0} (s : Ghosts S) (old : Database S s) (h : Handle) (at : IsAt old h) (now : (x : Settled) → s.settled_since (store_of old) (s.moment (store_of old)) x → s.settles_to (store_of old) x)
-    (only : (x : Settled) → (pages_of old).usable ≡ true → s.settles_to (store_of old) x → x ≡ file_of (s.committed (store_of old))) where
+module _ {S : Type 0} (s : Ghosts S) (old : Database S s) (h : Handle) (at : IsAt old h) (now : (x : Settled) → s.settled_since (store_of old) (s.moment (store_of old)) x → s.settles_to (store_of old) x) where
   -- no device call is made
   stays : (Left : Contents → Type 0) → Left h.state.map → (pages_of old).usable ≡ true → Survives old old Left
   stays Left left usable = started s.moment s.settled_since (store_of old) (StandsForSome Left (meta_of old).limit)
-      (λ x is. (h.state.map, left, subst (λ (y : Settled). ImageStandsFor y h.state.map (meta_of old).limit) (sym (only x usable (now x is))) (at.map usable).stands))
+      (λ x is. (h.state.map, left, at.rests usable x (now x is)))
 
   pub error_step : IsStep old old h model.Error (model.Number (error_number (error_of old)))
   error_step =
@@ -221,7 +219,7 @@ module _ {S : Type 0} (s : Ghosts S) (old : Database S s) (h : Handle) (at : IsA
           counts = omega arith;
           answers = inl (subst (λ (c : Case). Answers own.state c (model.Number (error_number (error_of old))) own.state) (sym (error_rule own.state)) (refl, refl));
         };
-        is_at = at_own old h.state.map h.state.pass at.map at.pass;
+        is_at = at_own old h.state.map h.state.pass at.map at.rests at.pass;
         survives = λ usable. stays (MayBeLeft own own model.Error) (inl refl) usable;
       }
 
@@ -235,7 +233,7 @@ module _ {S : Type 0} (s : Ghosts S) (old : Database S s) (h : Handle) (at : IsA
           counts = omega arith;
           answers = inl (subst (λ (c : Case). Answers own.state c (model.Number 0) (handle_of new h.state.map h.state.pass).state) (sym (clear_rule own.state)) (refl, refl));
         };
-        is_at = at_own new h.state.map h.state.pass (λ usable. at.map usable) (λ usable. at.pass usable);
+        is_at = at_own new h.state.map h.state.pass (λ usable. at.map usable) (λ usable. at.rests usable) (λ usable. at.pass usable);
         survives = λ usable. stays (MayBeLeft own (handle_of new h.state.map h.state.pass) model.Clear) (inl refl) usable;
       }
 
@@ -272,13 +270,13 @@ next_step s db new reply cursor on usable h at step =
 
 -- no pass was begun
 pub no_pass_lends : {S : Type 0} (s : Ghosts S) (db : Database S s) → db.pass ≡ None → (pages_of db).usable ≡ true → ((y : Settled) → s.honest (store_of db) → s.settled_since (store_of db) (s.moment (store_of db)) y → s.settles_to (store_of db) y)
-    → (s.honest (store_of db) → (x : Settled) → s.settles_to (store_of db) x → x ≡ file_of (s.committed (store_of db))) → Lends model.Next (lent_reply model.End) db (Err NoPass) (with_fault db NoPass)
-no_pass_lends s db off usable now only = record {
+    → Lends model.Next (lent_reply model.End) db (Err NoPass) (with_fault db NoPass)
+no_pass_lends s db off usable now = record {
   step = λ honest h at.
       let map = h.state.map in
       let pass = h.state.pass in
       let none = not_going (s.committed (store_of db)) (meta_of db) pass (subst (λ (c : Option Cursor). IsPass (s.committed (store_of db)) (meta_of db) c pass) off (at.pass usable)) in
-      from_own at (rejected_step s db db map pass model.Next (no_read s db now) honest (at.map usable) (at.pass usable) (only honest) NoPass (no_pass_rule (handle_of db map pass).state usable none));
+      from_own at (rejected_step s db db map pass model.Next (no_read s db now) honest (at.map usable) (at.pass usable) (at.rests usable) NoPass (no_pass_rule (handle_of db map pass).state usable none));
   keeps = refused_keeps s db db (no_read s db now) usable (Option (Bor (List ℕ))) NoPass (λ is. absurd (let e = is in cc)) (λ is. absurd (let e = is in cc));
 }
 

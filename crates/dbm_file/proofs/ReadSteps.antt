@@ -23,7 +23,7 @@ use Rattle.seg_table.specs.MetaPages.{says}
 use Rattle.bucket_chain.specs.Answers.{IsWalkAnswer}
 use Rattle.dbm_file.specs.Faults.{fault_of, told}
 use Rattle.dbm_file.specs.Holding.{Holds}
-use Rattle.dbm_file.specs.Database.{store_of, meta_of, pages_of, cursor_of, HoldsMap, HoldsPass, handle_of, IsAt}
+use Rattle.dbm_file.specs.Database.{store_of, meta_of, pages_of, cursor_of, HoldsMap, HoldsPass, Rests, handle_of, IsAt}
 use Rattle.dbm_file.specs.Passing.{IsPass}
 use Rattle.dbm_file.specs.Answers.{MayBeLeft, StandsForSome, Survives, IsStep, Goes, Keeps}
 use Rattle.bucket_chain.proofs.ReadPages.{reads_none}
@@ -47,8 +47,8 @@ same_parts map pass limit limit' error error' usable usable' l e u =
     ap (λ (n : ℕ). state_with map pass n error usable) l ∙ ap (λ (f : Option model.Fault). state_with map pass limit' f usable) e ∙ ap (state_with map pass limit' error') u
 
 -- a database at its own map and pass
-pub at_own : {S : Type 0} {s : Ghosts S} (db : Database S s) (map : Contents) (pass : Option Keys) → HoldsMap db map → HoldsPass db pass → IsAt db (handle_of db map pass)
-at_own db map pass held going = record { shows = refl; map = held; pass = going }
+pub at_own : {S : Type 0} {s : Ghosts S} (db : Database S s) (map : Contents) (pass : Option Keys) → HoldsMap db map → Rests db map → HoldsPass db pass → IsAt db (handle_of db map pass)
+at_own db map pass held rests going = record { shows = refl; map = held; rests = rests; pass = going }
 
 -- a step from there is one from the handle that it is at
 pub from_own : {S : Type 0} {s : Ghosts S} {old new : Database S s} {h : Handle} {call : model.Call} {reply : model.Reply} → IsAt old h → IsStep old new (handle_of old h.state.map h.state.pass) call reply → IsStep old new h call reply
@@ -110,11 +110,13 @@ module _ {S : Type 0} (s : Ghosts S) (old new : Database S s) (map : Contents) w
           meta_is = subst (λ (m : Meta). said_by (page_of (s.committed (store_of new))) 1 ≡ MetaPage m) meta (subst (λ (ps : Pages). said_by (page_of ps) 1 ≡ MetaPage (meta_of old)) pages h.meta_is);
         }
 
-    pub still_survives : s.honest (store_of old) → Holds s (store_of old) (meta_of old) map → ((x : Settled) → s.settles_to (store_of old) x → x ≡ file_of (s.committed (store_of old)))
-        → (Left : Contents → Type 0) → Left map → Survives old new Left
-    still_survives honest h only Left left =
+    pub still_rests : s.honest (store_of old) → ((x : Settled) → s.settles_to (store_of old) x → ImageStandsFor x map (meta_of old).limit) → (x : Settled) → s.settles_to (store_of new) x → ImageStandsFor x map (meta_of new).limit
+    still_rests honest rests x left = subst (λ (n : ℕ). ImageStandsFor x map n) (sym (still_limit s old new read)) (rests x (read.reads.stages_only.now honest x left))
+
+    pub still_survives : s.honest (store_of old) → ((x : Settled) → s.settles_to (store_of old) x → ImageStandsFor x map (meta_of old).limit) → (Left : Contents → Type 0) → Left map → Survives old new Left
+    still_survives honest rests Left left =
         weaker s.moment s.settled_since (store_of old) (store_of new) (StandsForSome Left (meta_of old).limit) (s.settles_to (store_of old)) (read.reads.stages_only.kept honest).any_moment
-        (λ x is. (map, left, subst (λ (y : Settled). ImageStandsFor y map (meta_of old).limit) (sym (only x is)) h.stands))
+        (λ x is. (map, left, rests x is))
 
 -- what was kept of the pass stays right
 pub still_passes : {S : Type 0} (s : Ghosts S) (old new : Database S s) (pass : Option Keys) → IsRead old new → s.honest (store_of old) → IsPass (s.committed (store_of old)) (meta_of old) (cursor_of old) pass
@@ -122,7 +124,7 @@ pub still_passes : {S : Type 0} (s : Ghosts S) (old new : Database S s) (pass : 
 still_passes s old new pass read honest going = same_pass _ _ _ _ _ _ pass (read.reads.stages_only.kept honest).committed (still_meta s old new read) read.pass_is going
 
 module _ {S : Type 0} (s : Ghosts S) (old new : Database S s) (map : Contents) (pass : Option Keys) (call : model.Call) (read : IsRead old new) (honest : s.honest (store_of old)) (h : Holds s (store_of old) (meta_of old) map)
-    (going : IsPass (s.committed (store_of old)) (meta_of old) (cursor_of old) pass) (only : (x : Settled) → s.settles_to (store_of old) x → x ≡ file_of (s.committed (store_of old))) where
+    (going : IsPass (s.committed (store_of old)) (meta_of old) (cursor_of old) pass) (rests : (x : Settled) → s.settles_to (store_of old) x → ImageStandsFor x map (meta_of old).limit) where
   abbrev before : Handle
   before = handle_of old map pass
 
@@ -134,8 +136,8 @@ module _ {S : Type 0} (s : Ghosts S) (old new : Database S s) (map : Contents) (
       answers = inl (subst (λ (c : Case). Answers before.state c reply (handle_of new map pass).state) (sym falls)
           (refl, same_state s old new map pass (still_limit s old new read) read.error_is (still_usable s old new read)));
     };
-    is_at = at_own new map pass (λ usable. still_holds s old new map read honest h) (λ usable. still_passes s old new pass read honest going);
-    survives = λ usable. still_survives s old new map read honest h only (MayBeLeft before (handle_of new map pass) call) (inl refl);
+    is_at = at_own new map pass (λ usable. still_holds s old new map read honest h) (λ usable. still_rests s old new map read honest rests) (λ usable. still_passes s old new pass read honest going);
+    survives = λ usable. still_survives s old new map read honest rests (MayBeLeft before (handle_of new map pass) call) (inl refl);
   }
 
   module _ (fault : Fault) where
@@ -149,8 +151,8 @@ module _ {S : Type 0} (s : Ghosts S) (old new : Database S s) (map : Contents) (
     refused_step step = record {
       after = handle_of refused map pass;
       step = step;
-      is_at = at_own refused map pass (λ usable. still_holds s old new map read honest h) (λ usable. still_passes s old new pass read honest going);
-      survives = λ usable. still_survives s old new map read honest h only (MayBeLeft before (handle_of refused map pass) call) (inl refl);
+      is_at = at_own refused map pass (λ usable. still_holds s old new map read honest h) (λ usable. still_rests s old new map read honest rests) (λ usable. still_passes s old new pass read honest going);
+      survives = λ usable. still_survives s old new map read honest rests (MayBeLeft before (handle_of refused map pass) call) (inl refl);
     }
 
     told_step : (rule : Case) → case_of before.state call ≡ rule → Answers before.state rule (model.Refused (fault_of fault)) (handle_of refused map pass).state → IsStep old refused before call (model.Refused (fault_of fault))
@@ -213,7 +215,7 @@ broken_step s old map pass call broken falls = record {
     answers = inl (subst (λ (c : Case). Answers (handle_of old map pass).state c (model.Refused model.Broken) (handle_of (with_fault old Broken) map pass).state) (sym falls)
         (refl, flagged_is s old old map pass Broken refl refl refl));
   };
-  is_at = at_own (with_fault old Broken) map pass (λ usable. absurd (let e = usable in cc)) (λ usable. absurd (let e = usable in cc));
+  is_at = at_own (with_fault old Broken) map pass (λ usable. absurd (let e = usable in cc)) (λ usable. absurd (let e = usable in cc)) (λ usable. absurd (let e = usable in cc));
   survives = λ usable. absurd (let e = usable in cc);
 }
 

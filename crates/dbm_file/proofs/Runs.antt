@@ -12,7 +12,7 @@ use Rattle.dbm_model.specs.Pairs.{Contents}
 use Rattle.dbm_model.specs.States.{Handle}
 use Rattle.dbm_model.specs.Steps.{Step, Run}
 use Rattle.dbm_model.proofs.Runs.{run-push}
-use Rattle.page_io.specs.Store.{Settled, file_of}
+use Rattle.page_io.specs.Store.{Settled}
 use Rattle.page_io.specs.Meaning.{ImageStandsFor}
 use Rattle.page_io.specs.declared.store.PageStore.{Ghosts}
 use Rattle.dbm_file.specs.Calls.{bits_of}
@@ -68,14 +68,14 @@ module _ (call : Call) (reply : Reply) where
 
 -- no call made
 pub no_run : {S : Type 0} (s : Ghosts S) (db : Database S s) (h : Handle) → IsAt db h → ((x : Settled) → s.settled_since (store_of db) (s.moment (store_of db)) x → s.settles_to (store_of db) x)
-    → ((x : Settled) → (pages_of db).usable ≡ true → s.settles_to (store_of db) x → x ≡ file_of (s.committed (store_of db))) → IsRun db db h [] []
-no_run s db h at now only = record {
+    → IsRun db db h [] []
+no_run s db h at now = record {
   after = h;
   run = refl;
   is_at = at;
   survives = λ usable.
       started s.moment s.settled_since (store_of db) (StandsForSome (MayBeLeftWithin h [] [] h) (meta_of db).limit)
-      (λ x left. (h.state.map, (refl, refl), subst (λ (y : Settled). ImageStandsFor y h.state.map (meta_of db).limit) (sym (only x usable (now x left))) (at.map usable).stands));
+      (λ x left. (h.state.map, (refl, refl), at.rests usable x (now x left)));
 }
 
 -- one call more

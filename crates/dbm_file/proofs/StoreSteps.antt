@@ -5,7 +5,8 @@ use Rattle.std.specs.FinMap.{get, insert, remove, empty_of_len, get-empty}
 use Rattle.dbm_model.specs.Calls as model
 use Rattle.dbm_model.specs.Pairs.{Contents, key_cmp}
 use Rattle.dbm_model.specs.Valid.{IsMeta}
-use Rattle.page_io.specs.Store.{Settled, file_of}
+use Rattle.page_io.specs.Store.{Settled}
+use Rattle.page_io.specs.Meaning.{ImageStandsFor}
 use Rattle.page_io.specs.declared.store.PageStore.{Ghosts}
 use Rattle.page_io.specs.declared.store.PageFault.{PageFault}
 use Rattle.seg_table.specs.declared.meta.Meta as code
@@ -29,7 +30,7 @@ use Rattle.dbm_file.proofs.Lends.{kept_error, flagged_step}
 use Rattle.dbm_file.proofs.Tables.{counted}
 
 module _ {S : Type 0} (s : Ghosts S) (old mid : Database S s) (map : Contents) (pass : Option Keys) (key : List ℕ) (read : IsRead old mid) (usable : (pages_of old).usable ≡ true) (honest : s.honest (store_of old))
-    (h : Holds s (store_of old) (meta_of old) map) (going : IsPass (s.committed (store_of old)) (meta_of old) (cursor_of old) pass) (only : (x : Settled) → s.settles_to (store_of old) x → x ≡ file_of (s.committed (store_of old))) where
+    (h : Holds s (store_of old) (meta_of old) map) (going : IsPass (s.committed (store_of old)) (meta_of old) (cursor_of old) pass) (rests : (x : Settled) → s.settles_to (store_of old) x → ImageStandsFor x map (meta_of old).limit) where
   -- a store of an allowed pair, whose key was there or not
   pub store_asked : (content : List ℕ) (mode : StoreMode) (there : Bool) → length key + length content ≤ 2026 → there ≡ is_some (get map key) → (there ≡ true → mode ≡ Replace) → (there ≡ false → mid.meta.pairs < mid.meta.limit)
       → IsAsked s old mid map (insert map key content) pass (model.Store key content (mode_of mode)) model.Stored
@@ -38,7 +39,7 @@ module _ {S : Type 0} (s : Ghosts S) (old mid : Database S s) (map : Contents) (
     usable = usable;
     honest = honest;
     holds = h;
-    only = only;
+    rests = rests;
     going = going;
     falls = store_rule (handle_of old map pass).state key content (mode_of mode) usable refl short
         ∙ changes (handle_of old map pass).state key content (get map key) (mode_of mode) (λ has. ap mode_of (replaces (is ∙ has)))
@@ -52,7 +53,7 @@ module _ {S : Type 0} (s : Ghosts S) (old mid : Database S s) (map : Contents) (
     usable = usable;
     honest = honest;
     holds = h;
-    only = only;
+    rests = rests;
     going = going;
     falls = delete_rule (handle_of old map pass).state key usable refl ∙ removes (handle_of old map pass).state key (get map key) is;
   }

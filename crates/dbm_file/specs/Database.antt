@@ -5,7 +5,8 @@ use Rattle.dbm_model.specs.Calls as model
 use Rattle.dbm_model.specs.Pages.{Meta}
 use Rattle.dbm_model.specs.Pairs.{Contents}
 use Rattle.dbm_model.specs.States.{Keys, Handle}
-use Rattle.page_io.specs.Store.{State}
+use Rattle.page_io.specs.Store.{Settled, State}
+use Rattle.page_io.specs.Meaning.{ImageStandsFor}
 use Rattle.page_io.specs.declared.store.PageStore.{Ghosts}
 use Rattle.seg_table.specs.MetaPages.{says}
 use Rattle.dbm_file.specs.Faults.{fault_of}
@@ -37,6 +38,10 @@ error_of db = option_map fault_of db.error
 abbrev pub HoldsMap : {S : Type 0} {s : Ghosts S} → Database S s → Contents → Type 0
 HoldsMap {S} {s} db map = (pages_of db).usable ≡ true → Holds s (store_of db) (meta_of db) map
 
+-- every image that a stop may leave now stands for the map
+abbrev pub Rests : {S : Type 0} {s : Ghosts S} → Database S s → Contents → Type 0
+Rests {S} {s} db map = (pages_of db).usable ≡ true → (settled : Settled) → s.settles_to (store_of db) settled → ImageStandsFor settled map (meta_of db).limit
+
 -- its pass has these keys yet to give, or none is on
 abbrev pub HoldsPass : {S : Type 0} {s : Ghosts S} → Database S s → Option Keys → Type 0
 HoldsPass {S} {s} db pass = (pages_of db).usable ≡ true → IsPass (s.committed (store_of db)) (meta_of db) (cursor_of db) pass
@@ -53,4 +58,5 @@ handle_of {S} {s} db map pass = record {
 pub record IsAt {S : Type 0} {s : Ghosts S} (db : Database S s) (h : Handle) : Type 0 where
   pub shows : h ≡ handle_of db h.state.map h.state.pass
   pub map : HoldsMap db h.state.map
+  pub rests : Rests db h.state.map
   pub pass : HoldsPass db h.state.pass

@@ -15,7 +15,7 @@ ghost use Rattle.redo_area.specs.File.{settled};
 ghost use Rattle.redo_area.specs.Opening.{IsFresh as IsFreshStore};
 ghost use Rattle.redo_area.specs.Pagers.{device_of};
 ghost use Rattle.dbm_model.specs.States.{Handle};
-ghost use Rattle.dbm_file.specs.Database.{store_of, meta_of, HoldsMap, IsAt};
+ghost use Rattle.dbm_file.specs.Database.{store_of, meta_of, HoldsMap, Rests, IsAt};
 ghost use Rattle.dbm_file.specs.Faults.{fault_of};
 ghost use Rattle.dbm_file.specs.Opening.{making_fault, RefusesMeta, IsRefusedOpening, HasBlank, Makes, MayRemain, AllStand, IsOpened};
 ghost use Rattle.dbm_file.specs.Opened.{device_after, IsFresh, IsOpenedAt};
@@ -93,7 +93,7 @@ fn found<D: SectorDev>(alloc: Global, store: Pager<D>) -> Result<Db<D>, (D, Faul
     requires fresh { IsFreshStore (D.sectors (device_of store) / 4) true (⟦<Pager<D> as PageStore>⟧.state store) }
     ensures fresh { IfOk result (IsFresh (D.sectors (device_of store) / 4)) }
     ensures any_moment { D.honest (device_of store) → LeavesOnly D.moment D.left_since (device_of store) (device_after result) (IsImageOf (D.candidate (device_of store))) }
-    ensures stands { D.honest (device_of store) → (map : Contents) → (limit : ℕ) → FileStandsFor (⟦<Pager<D> as PageStore>⟧.committed store) map limit → IfOk result (λ db. HoldsMap db map × ((meta_of db).limit ≡ limit)) }
+    ensures stands { D.honest (device_of store) → (map : Contents) → (limit : ℕ) → FileStandsFor (⟦<Pager<D> as PageStore>⟧.committed store) map limit → IfOk result (λ db. HoldsMap db map × Rests db map × ((meta_of db).limit ≡ limit)) }
     ensures opens { D.honest (device_of store) → (map : Contents) → (limit : ℕ) → FileStandsFor (⟦<Pager<D> as PageStore>⟧.committed store) map limit → IfErr result (λ e. e.1 ≡ Fault.Device) }
     ensures refused { D.honest (device_of store) → IfErr result (λ e. e.1 ≢ Fault.Device → RefusesMeta (page_of (⟦<Pager<D> as PageStore>⟧.committed store) 1) e.1) }
     ensures device { IfErr result (λ e. e.1 ≡ Fault.Device → MoreFaults (D.faults (device_of store)) (D.faults e.0)) }
@@ -154,7 +154,7 @@ fn made<D: SectorDev>(alloc: Global, dev: D, how: OpenHow) -> Result<Db<D>, (D, 
     // Where every image was blank, every image of every moment since is blank or that of the new database.
     ensures any_moment { D.honest dev → ((image : Image) → IsImageOf (D.candidate dev) image → settled (D.sectors dev / 4) image ≡ blank) → LeavesOnly D.moment D.left_since dev (device_after result)
         (λ image. (settled (D.sectors dev / 4) image ≡ blank) ⊎ ((how.create ≡ true) × ImageStandsFor (settled (D.sectors dev / 4) image) empty how.limit)) }
-    ensures stands { D.honest dev → IfOk result (λ db. HoldsMap db empty × ((meta_of db).limit ≡ how.limit)) }
+    ensures stands { D.honest dev → IfOk result (λ db. HoldsMap db empty × Rests db empty × ((meta_of db).limit ≡ how.limit)) }
     ensures asked { IfOk result (λ db. how.create ≡ true) }
     ensures refused { IfErr result (λ e. e.1 ≢ Fault.Device → (making_fault how (D.sectors dev) ≡ Some (fault_of e.1)) × (e.0 ≡ dev)) }
     ensures device { IfErr result (λ e. e.1 ≡ Fault.Device → MoreFaults (D.faults dev) (D.faults e.0)) }

@@ -4,8 +4,9 @@ use Rattle.std.specs.Option.{option_map}
 use Rattle.sect_dev.specs.Moments.{weaker}
 use Rattle.dbm_model.specs.Meaning.{said_by}
 use Rattle.dbm_model.specs.Pages.{Meta, MetaPage}
-use Rattle.page_io.specs.Store.{Pages, bytes_of, page_of}
-use Rattle.page_io.specs.Meaning.{FileStandsFor}
+use Rattle.page_io.specs.Store.{Pages, Settled, State, bytes_of, page_of}
+use Rattle.page_io.specs.Meaning.{FileStandsFor, ImageStandsFor}
+use Rattle.redo_area.specs.Rests.{only_seen}
 use Rattle.redo_area.specs.File.{settled, IsBlankOr}
 use Rattle.redo_area.specs.Pagers.{device_of}
 use Rattle.seg_table.specs.MetaPages.{says}
@@ -19,11 +20,17 @@ returns-in-Ok-clause-asked g c = was_asked c.args.how c.capacity.result (sym c.r
 pub returns-in-Ok-clause-stands : goal.returns-in-Ok-clause-stands
 returns-in-Ok-clause-stands g c honest =
     let m = c.of_empty-meta.result in
-    let same = sym (c.in-Ok.ensures.committed honest) in (
+    let same = sym (c.in-Ok.ensures.committed honest) in
+    let stands = subst (λ (ps : Pages). FileStandsFor ps empty m.limit) same c.pages_of_empty.ensures.stands in
+    let dev = g.D.SectorDev in
+    let new = c.in-Ok.store in
+    let rest = new.rests (c.in-Ok.ensures.honesty.1 honest) in
+    let writable = ap (λ (st : State). st.writable) c.in-Ok.ensures.state in (
       λ usable. record {
-        stands = subst (λ (ps : Pages). FileStandsFor ps empty m.limit) same c.pages_of_empty.ensures.stands;
+        stands = stands;
         meta_is = subst (λ (ps : Pages). said_by (page_of ps) 1 ≡ MetaPage (says m)) same c.pages_of_empty.ensures.meta;
       },
+      (λ usable y left. subst (λ (z : Settled). ImageStandsFor z empty m.limit) (sym (only_seen (dev.sectors new.dev / 4) (dev.candidate new.dev) (dev.seen new.dev) y _ ((rest usable).at_rest writable).stable (rest usable).settles left)) stands),
       ap (λ (n : Meta). n.limit) c.of_empty-meta.ensures,
     )
 

@@ -18,7 +18,7 @@ loop-call-init g c = record {
   ran = λ honest h at.
       let db = c.args.db.now in
       subst (λ (replies : List model.Reply). IsRun db db h [] replies) (sym (ap (map reply_of) c.in-Ok.ensures.items))
-      (no_run g.S.PageStore db h at (λ x left. g.met.S.PageStore.only_now db.store x honest left) (λ x usable left. g.met.S.PageStore.only_committed db.store x honest usable db.writable left));
+      (no_run g.S.PageStore db h at (λ x left. g.met.S.PageStore.only_now db.store x honest left));
   goes = goes_nowhere c.args.db.now;
   many = c.in-Ok.ensures.len;
   fits = c.in-Ok.ensures.capacity;

@@ -1,4 +1,4 @@
-use Rattle.std.proofs.Common.{◌≡◌, ◌≤◌, inl, true, refl, subst, arith}
+use Rattle.std.proofs.Common.{inl, true, refl, subst, arith}
 use Rattle.dbm_file.specs.Opened.{IsOpenedAt}
 use Rattle.dbm_file.specs.declared.calls.Access.TheVariants.{ReadWrite}
 use Rattle.dbm_file.specs.declared.calls.OpenHow.{OpenHow}

@@ -9,7 +9,7 @@ pub loop-init : goal.loop-init
 loop-init g c = record {
   answered = λ honest start at.
       let db = c.args.db.now in
-      at_start db start _ _ (no_run g.S.PageStore db start at (λ x left. g.met.S.PageStore.only_now db.store x honest left) (λ x usable left. g.met.S.PageStore.only_committed db.store x honest usable db.writable left));
+      at_start db start _ _ (no_run g.S.PageStore db start at (λ x left. g.met.S.PageStore.only_now db.store x honest left));
   goes = goes_nowhere c.args.db.now;
   counted = counted_first (g.R.Read.remaining c.args.reader.now) 4294967295;
 }

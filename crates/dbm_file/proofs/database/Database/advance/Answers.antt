@@ -9,7 +9,7 @@ returns-in-Ok-Some-clause-step g c honest h at call keys falls has =
     let db = c.args.self.now in
     let all = c.in-Ok-Some.ensures in
     let next = all.exact honest has.placement has.left (left_table s db c.args.from keys has (g.met.S.PageStore.ends db.store) db.idle) has.behind in
-    given_step s db _ h at call keys record { reads = all.reads; meta_is = refl; error_is = refl; pass_is = refl } honest c.requires (λ x left. g.met.S.PageStore.only_committed db.store x honest c.requires db.writable left) falls
+    given_step s db _ h at call keys record { reads = all.reads; meta_is = refl; error_is = refl; pass_is = refl } honest c.requires falls
     c.args.from has _ _ next _ c.in-Ok-Some.field-0-is refl
 
 pub returns-in-Ok-None-clause-step : goal.returns-in-Ok-None-clause-step
@@ -18,7 +18,7 @@ returns-in-Ok-None-clause-step g c honest h at call keys falls has =
     let db = c.args.self.now in
     let all = c.in-Ok-None.ensures in
     let next = all.exact honest has.placement has.left (left_table s db c.args.from keys has (g.met.S.PageStore.ends db.store) db.idle) has.behind in
-    ended_step s db _ h at call keys record { reads = all.reads; meta_is = refl; error_is = refl; pass_is = refl } honest c.requires (λ x left. g.met.S.PageStore.only_committed db.store x honest c.requires db.writable left) falls
+    ended_step s db _ h at call keys record { reads = all.reads; meta_is = refl; error_is = refl; pass_is = refl } honest c.requires falls
     c.args.from has _ _ next c.in-Ok-None.field-0-is refl
 
 pub returns-in-Err-clause-step : goal.returns-in-Err-clause-step
@@ -29,5 +29,5 @@ returns-in-Err-clause-step g c honest h at call keys falls has =
     let new = after_reads s db c.next_pair.new.store c.next_pair.new.page all.reads in
     let table = left_table s db c.args.from keys has (g.met.S.PageStore.ends db.store) db.idle in
     pass_flagged s db new h _ _ _ call c.refuse.new.error c.from.result _ c.refuse.ensures.flag c.from.ensures _ c.refuse.result c.refuse.ensures.answer
-    (pass_failed s db new h at call keys falls record { reads = all.reads; meta_is = refl; error_is = refl; pass_is = refl } honest c.requires (λ x left. g.met.S.PageStore.only_committed db.store x honest c.requires db.writable left) _ c.in-Err.fault all.answer all.cause
+    (pass_failed s db new h at call keys falls record { reads = all.reads; meta_is = refl; error_is = refl; pass_is = refl } honest c.requires _ c.in-Err.fault all.answer all.cause
     (all.whole honest has.placement has.left table has.behind))

@@ -25,7 +25,7 @@ returns-in-Ok-None g c =
       (
         refl,
         (λ _. tt),
-        fetched_well s db _ key None record { reads = c.find_pair.ensures.reads; meta_is = refl; error_is = refl; pass_is = refl } usable (λ honest x left. g.met.S.PageStore.only_committed db.store x honest usable db.writable left)
+        fetched_well s db _ key None record { reads = c.find_pair.ensures.reads; meta_is = refl; error_is = refl; pass_is = refl } usable
             (λ honest map h.
             let found = c.in-Ok-None.ensures.exact honest (placed s db.store _ map h) (is_table s db.store _ map h (g.met.S.PageStore.ends db.store) db.idle) in
             no_content key _ _ _ c.in-Ok-None.field-0-is found ∙ ap (λ (m : Contents). get m key) (map_placed s db.store _ map h)),
@@ -42,7 +42,7 @@ returns-in-Ok-Some g c =
       (
         refl,
         (λ _. tt),
-        fetched_well s db _ key (Some c.pair_at.result.1) record { reads = c.find_pair.ensures.reads; meta_is = refl; error_is = refl; pass_is = refl } usable (λ honest x left. g.met.S.PageStore.only_committed db.store x honest usable db.writable left)
+        fetched_well s db _ key (Some c.pair_at.result.1) record { reads = c.find_pair.ensures.reads; meta_is = refl; error_is = refl; pass_is = refl } usable
             (λ honest map h.
             let found = c.in-Ok-Some.ensures.exact honest (placed s db.store _ map h) (is_table s db.store _ map h (g.met.S.PageStore.ends db.store) db.idle) in
             same_content key _ _ _ _ c.pair_at.result c.in-Ok-Some.field-0-is found c.pair_at.ensures ∙ ap (λ (m : Contents). get m key) (map_placed s db.store _ map h)),
@@ -62,7 +62,6 @@ returns-in-Err g c =
         refl,
         (λ _. tt),
         fetch_failed s new c.args.key.now _ _ _ c.refuse-in-Err.new.error c.from.result c.refuse-in-Err.ensures.flag c.refuse-in-Err.result answer db c.in-Err.fault record { reads = all.reads; meta_is = refl; error_is = refl; pass_is = refl } c.from.ensures usable all.answer all.cause
-            (λ honest x left. g.met.S.PageStore.only_committed db.store x honest usable db.writable left)
             (λ honest map h. all.whole honest (placed s db.store _ map h) (is_table s db.store _ map h (g.met.S.PageStore.ends db.store) db.idle)),
       ),
       record { after = tt; short = lends_nothing c.refuse-in-Err.result c.from.result answer; only = only_these c.refuse-in-Err.result c.from.result answer (walk_faults c.in-Err.fault c.from.result c.from.ensures all.answer.only) },

@@ -26,7 +26,7 @@ returns-in_default g c =
         refl,
         (λ _. tt),
         flagged_lends s db Next End _ _ _ c.refuse-in_default.new.error NoPass c.refuse-in_default.ensures.flag c.refuse-in_default.result answer db
-            (no_pass_lends s db c.in_default.is usable (λ y honest left. g.met.S.PageStore.only_now db.store y honest left) (λ honest x left. g.met.S.PageStore.only_committed db.store x honest usable db.writable left)),
+            (no_pass_lends s db c.in_default.is usable (λ y honest left. g.met.S.PageStore.only_now db.store y honest left)),
       ),
       record { after = tt; short = lends_nothing c.refuse-in_default.result _ answer; only = refused_by _ c.refuse-in_default.result _ answer (inr (inl refl)) },
     )

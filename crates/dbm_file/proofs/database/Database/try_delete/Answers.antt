@@ -2,6 +2,7 @@ use Rattle.std.proofs.Common.{◌∙◌, ap, sym, subst, refl, arith}
 use Rattle.std.specs.FinMap.{get}
 use Rattle.dbm_model.specs.Calls as model
 use Rattle.dbm_model.specs.Steps.{Case, Suffers}
+use Rattle.page_io.specs.Store.{State}
 use Rattle.dbm_file.specs.Database.{handle_of}
 use Rattle.dbm_file.proofs.Cases.{broken_delete, delete_rule, delete_fails, absent}
 use Rattle.dbm_file.proofs.ReadSteps.{from_own, not_broken, found_step, walk_failed_step, broken_step}
@@ -26,7 +27,7 @@ returns-in_err-has-clause-step g c honest h at =
     let usable = not_broken _ _ c.is_broken.ensures c.if-is_broken.false in
     let falls = delete_rule (handle_of db map pass).state c.args.key.now usable refl in
     from_own at (delete_told c.has.new.self c.in_err-has.field-0.0
-    (walk_failed_step s db c.has.new.self map pass _ c.in_err-has.ensures.reads honest (at.map usable) (at.pass usable) (λ x left. g.met.S.PageStore.only_committed db.store x honest usable db.writable left)
+    (walk_failed_step s db c.has.new.self map pass _ c.in_err-has.ensures.reads honest (at.map usable) (at.pass usable) (at.rests usable)
     _ c.in_err-has.field-0.0 usable c.in_err-has.ensures.answer c.in_err-has.ensures.cause (c.in_err-has.ensures.whole honest map (at.map usable))
     (λ reply after fails. subst (λ (rule : Case). Suffers (handle_of db map pass) rule reply after) (sym falls) (delete_fails (handle_of db map pass) reply after fails c.args.key.now (get map c.args.key.now))))
     c.from_residual.result c.from_residual.ensures.1)
@@ -41,7 +42,7 @@ returns-then-not-branch-clause-step g c honest h at =
     let state = (handle_of db map pass).state in
     let none = sym (c.in_ok-has.ensures.exact honest map (at.map usable)) ∙ c.if-not-branch.true in
     let falls = delete_rule state c.args.key.now usable refl ∙ absent state c.args.key.now (get map c.args.key.now) none in
-    from_own at (found_step s db c.has.new.self map pass _ c.in_ok-has.ensures.reads honest (at.map usable) (at.pass usable) (λ x left. g.met.S.PageStore.only_committed db.store x honest usable db.writable left) model.Absent falls)
+    from_own at (found_step s db c.has.new.self map pass _ c.in_ok-has.ensures.reads honest (at.map usable) (at.pass usable) (at.rests usable) model.Absent falls)
 
 pub returns-then-self-eq0-clause-step : goal.returns-then-self-eq0-clause-step
 returns-then-self-eq0-clause-step g c honest h at =
@@ -59,7 +60,7 @@ returns-in_err-delete_pair-clause-step g c honest h at =
     let db = c.args.self.now in
     let usable = not_broken _ _ c.is_broken.ensures c.if-is_broken.false in
     let there = sym (c.in_ok-has.ensures.exact honest map (at.map usable)) ∙ c.if-not-branch.false in
-    let asked = delete_asked s db c.has.new.self map pass c.args.key.now c.in_ok-has.ensures.reads usable honest (at.map usable) (at.pass usable) (λ x left. g.met.S.PageStore.only_committed db.store x honest usable db.writable left) there in
+    let asked = delete_asked s db c.has.new.self map pass c.args.key.now c.in_ok-has.ensures.reads usable honest (at.map usable) (at.pass usable) (at.rests usable) there in
     let all = c.in_err-delete_pair.ensures in
     from_own at (delete_told _ c.in_err-delete_pair.field-0.0
     (refused_step s asked _ c.in_err-delete_pair.field-0.0
@@ -71,7 +72,8 @@ returns-in_err-delete_pair-clause-step g c honest h at =
       unchanged = all.unchanged (mid_honest s asked) (mid_usable s asked) map (mid_holds s asked) there;
       whole = all.whole (mid_honest s asked) map (mid_holds s asked);
       no_room = all.no_room (mid_honest s asked) map (mid_holds s asked) there;
-    })
+    }
+    (λ t x le left. g.met.S.PageStore.counts_now c.delete_pair.new.store t x (all.honesty.1 (mid_honest s asked)) le left))
     c.from_residual-in_err-delete_pair.result c.from_residual-in_err-delete_pair.ensures.1)
 
 pub returns-clause-step : goal.returns-clause-step
@@ -82,7 +84,7 @@ returns-clause-step g c honest h at =
     let db = c.args.self.now in
     let usable = not_broken _ _ c.is_broken.ensures c.if-is_broken.false in
     let there = sym (c.in_ok-has.ensures.exact honest map (at.map usable)) ∙ c.if-not-branch.false in
-    let asked = delete_asked s db c.has.new.self map pass c.args.key.now c.in_ok-has.ensures.reads usable honest (at.map usable) (at.pass usable) (λ x left. g.met.S.PageStore.only_committed db.store x honest usable db.writable left) there in
+    let asked = delete_asked s db c.has.new.self map pass c.args.key.now c.in_ok-has.ensures.reads usable honest (at.map usable) (at.pass usable) (at.rests usable) there in
     let all = c.in_ok-delete_pair.ensures in
     from_own at (changed_step s asked _
     record { ok = all.ok; err = tt; limit = all.limit; error_is = refl; pass_ends = refl; pass_stays = tt; cause = all.cause; answer = all.answer }
@@ -93,7 +95,8 @@ returns-clause-step g c honest h at =
       unchanged = tt;
       whole = all.whole (mid_honest s asked) map (mid_holds s asked);
       no_room = all.no_room (mid_honest s asked) map (mid_holds s asked) there;
-    })
+    }
+    (λ x left. g.met.S.PageStore.only_committed c.delete_pair.new.store x (all.honesty.1 (mid_honest s asked)) (ap (λ (st : State). st.usable) all.ok ∙ mid_usable s asked) (ap (λ (st : State). st.writable) all.ok ∙ c.has.new.self.writable) left))
 
 pub returns-in_err-delete_pair-clause-keeps : goal.returns-in_err-delete_pair-clause-keeps
 returns-in_err-delete_pair-clause-keeps g c =

@@ -3,6 +3,7 @@ use Rattle.std.specs.FinMap.{get, len}
 use Rattle.dbm_model.specs.Calls as model
 use Rattle.dbm_model.specs.Steps.{Case, Suffers}
 use Rattle.dbm_file.specs.Calls.{mode_of}
+use Rattle.page_io.specs.Store.{State}
 use Rattle.dbm_file.specs.Database.{handle_of}
 use Rattle.dbm_file.specs.declared.calls.StoreMode.TheVariants.{Insert, Replace}
 use Rattle.dbm_file.specs.declared.fault.Fault.TheVariants.{TooLong, Full}
@@ -30,7 +31,7 @@ returns-then-key-content-gt-MAX_PAIR-clause-step g c honest h at =
     let db = c.args.self.now in
     let usable = not_broken _ _ c.is_broken.ensures c.if-is_broken.false in
     let falls = too_long_rule (handle_of db map pass).state c.args.key.now c.args.content.now (mode_of c.args.mode) usable refl c.if-key-content-gt-MAX_PAIR.true in
-    from_own at (rejected_step s db db map pass _ (no_read s db (λ y h left. g.met.S.PageStore.only_now db.store y h left)) honest (at.map usable) (at.pass usable) (λ x is. g.met.S.PageStore.only_committed db.store x honest usable db.writable is) TooLong falls)
+    from_own at (rejected_step s db db map pass _ (no_read s db (λ y h left. g.met.S.PageStore.only_now db.store y h left)) honest (at.map usable) (at.pass usable) (at.rests usable) TooLong falls)
 
 pub returns-in_err-was_there-clause-step : goal.returns-in_err-was_there-clause-step
 returns-in_err-was_there-clause-step g c honest h at =
@@ -43,7 +44,7 @@ returns-in_err-was_there-clause-step g c honest h at =
     let state = (handle_of db map pass).state in
     let falls = store_rule state c.args.key.now c.args.content.now (mode_of c.args.mode) usable refl c.if-key-content-gt-MAX_PAIR.false in
     from_own at (store_told c.has.new.self c.in_err-was_there.field-0.0
-    (walk_failed_step s db c.has.new.self map pass _ c.in_err-was_there.ensures.reads honest held (at.pass usable) (λ x left. g.met.S.PageStore.only_committed db.store x honest usable db.writable left)
+    (walk_failed_step s db c.has.new.self map pass _ c.in_err-was_there.ensures.reads honest held (at.pass usable) (at.rests usable)
     _ c.in_err-was_there.field-0.0 usable c.in_err-was_there.ensures.answer c.in_err-was_there.ensures.cause (c.in_err-was_there.ensures.whole honest map held)
     (λ reply after fails. subst (λ (rule : Case). Suffers (handle_of db map pass) rule reply after) (sym falls) (store_fails (handle_of db map pass) reply after fails c.args.key.now c.args.content.now (mode_of c.args.mode) (get map c.args.key.now))))
     c.from_residual.result c.from_residual.ensures.1)
@@ -61,7 +62,7 @@ returns-then-eq-clause-step g c honest h at =
     let state = (handle_of db map pass).state in
     let falls = store_rule state c.args.key.now c.args.content.now (mode_of c.args.mode) usable refl c.if-key-content-gt-MAX_PAIR.false
     ∙ kept state c.args.key.now c.args.content.now (get map c.args.key.now) (mode_of c.args.mode) there (ap mode_of inserts) in
-    from_own at (found_step s db c.has.new.self map pass _ c.in_ok-was_there.ensures.reads honest held (at.pass usable) (λ x left. g.met.S.PageStore.only_committed db.store x honest usable db.writable left) model.Kept falls)
+    from_own at (found_step s db c.has.new.self map pass _ c.in_ok-was_there.ensures.reads honest held (at.pass usable) (at.rests usable) model.Kept falls)
 
 pub returns-then-self-clause-step : goal.returns-then-self-clause-step
 returns-then-self-clause-step g c honest h at =
@@ -78,7 +79,7 @@ returns-then-self-clause-step g c honest h at =
     let many : db.meta.limit ≤ len map = omega (arith, c.if-self.true, counted s db.store _ map held, ap (λ m. m.limit) read.meta_is, ap (λ m. m.pairs) read.meta_is) in
     let falls = store_rule state c.args.key.now c.args.content.now (mode_of c.args.mode) usable refl c.if-key-content-gt-MAX_PAIR.false
     ∙ full state c.args.key.now c.args.content.now (get map c.args.key.now) (mode_of c.args.mode) absent many in
-    from_own at (declined_step s db c.has.new.self map pass _ read honest held (at.pass usable) (λ x left. g.met.S.PageStore.only_committed db.store x honest usable db.writable left) Full falls)
+    from_own at (declined_step s db c.has.new.self map pass _ read honest held (at.pass usable) (at.rests usable) Full falls)
 
 pub returns-in_err-store_pair-clause-step : goal.returns-in_err-store_pair-clause-step
 returns-in_err-store_pair-clause-step g c honest h at =
@@ -96,7 +97,7 @@ returns-in_err-store_pair-clause-step g c honest h at =
       | else-not-was_there-via-then-not-was_there+else-self w ↦ λ is. w.if-self.false
       | else-not-was_there-via-else-not-was_there w ↦ λ is. absurd (search rules)
     ] in
-    let asked = store_asked s db c.has.new.self map pass c.args.key.now c.in_ok-was_there.ensures.reads usable honest (at.map usable) (at.pass usable) (λ x left. g.met.S.PageStore.only_committed db.store x honest usable db.writable left)
+    let asked = store_asked s db c.has.new.self map pass c.args.key.now c.in_ok-was_there.ensures.reads usable honest (at.map usable) (at.pass usable) (at.rests usable)
     c.args.content.now c.args.mode c.in_ok-was_there.was_there c.if-key-content-gt-MAX_PAIR.false there replaces few in
     let all = c.in_err-store_pair.ensures in
     from_own at (store_told _ c.in_err-store_pair.field-0.0
@@ -109,7 +110,8 @@ returns-in_err-store_pair-clause-step g c honest h at =
       unchanged = all.unchanged (mid_honest s asked) (mid_usable s asked) map (mid_holds s asked) there;
       whole = all.whole (mid_honest s asked) map (mid_holds s asked) there;
       no_room = all.no_room (mid_honest s asked) map (mid_holds s asked) there;
-    })
+    }
+    (λ t x le left. g.met.S.PageStore.counts_now c.store_pair.new.store t x (all.honesty.1 (mid_honest s asked)) le left))
     c.from_residual-in_err-store_pair.result c.from_residual-in_err-store_pair.ensures.1)
 
 pub returns-clause-step : goal.returns-clause-step
@@ -128,7 +130,7 @@ returns-clause-step g c honest h at =
       | else-not-was_there-via-then-not-was_there+else-self w ↦ λ is. w.if-self.false
       | else-not-was_there-via-else-not-was_there w ↦ λ is. absurd (search rules)
     ] in
-    let asked = store_asked s db c.has.new.self map pass c.args.key.now c.in_ok-was_there.ensures.reads usable honest (at.map usable) (at.pass usable) (λ x left. g.met.S.PageStore.only_committed db.store x honest usable db.writable left)
+    let asked = store_asked s db c.has.new.self map pass c.args.key.now c.in_ok-was_there.ensures.reads usable honest (at.map usable) (at.pass usable) (at.rests usable)
     c.args.content.now c.args.mode c.in_ok-was_there.was_there c.if-key-content-gt-MAX_PAIR.false there replaces few in
     let all = c.in_ok-store_pair.ensures in
     from_own at (changed_step s asked _
@@ -140,7 +142,8 @@ returns-clause-step g c honest h at =
       unchanged = tt;
       whole = all.whole (mid_honest s asked) map (mid_holds s asked) there;
       no_room = all.no_room (mid_honest s asked) map (mid_holds s asked) there;
-    })
+    }
+    (λ x left. g.met.S.PageStore.only_committed c.store_pair.new.store x (all.honesty.1 (mid_honest s asked)) (ap (λ (st : State). st.usable) all.ok ∙ mid_usable s asked) (ap (λ (st : State). st.writable) all.ok ∙ c.has.new.self.writable) left))
 
 pub returns-in_err-store_pair-clause-keeps : goal.returns-in_err-store_pair-clause-keeps
 returns-in_err-store_pair-clause-keeps g c =

@@ -50,7 +50,7 @@ returns-in-Err-default-Blank-clause-stands g c honest all =
     let how = c.args.how in
     let has = has_blank how (dev.sectors old) (dev.candidate old) (dev.candidate new) (dev.seen new) (told_blank (dev.sectors old / 4) (dev.candidate old) (dev.candidate new) (dev.seen new) c.in-Err-default-Blank.field-0-1 c.in-Err-default-Blank.field-0-1-is (c.in-Err-default-Blank.ensures.refused refl honest)) in
     all_ok c.made.result c.made.ensures.asked c.made.ensures.fresh (c.made.ensures.stands (c.in-Err-default-Blank.ensures.honesty.1 honest)) (λ db asked fresh holds.
-    (empty, how.limit, opened_at _ db empty how.limit holds.0 holds.1 fresh, inr (record { asked = asked; on_blank = has }, refl, refl)))
+    (empty, how.limit, opened_at _ db empty how.limit holds.0 holds.1 holds.2 fresh, inr (record { asked = asked; on_blank = has }, refl, refl)))
 
 pub returns-in-Err-default-Blank-clause-any_moment : goal.returns-in-Err-default-Blank-clause-any_moment
 returns-in-Err-default-Blank-clause-any_moment g c honest =
@@ -92,7 +92,7 @@ returns-in-Ok-clause-stands g c honest all =
     let file = file_pages (overlaid (bytes_of store.redo.items) (page_at (dev.seen store.dev))) store.end in
     let what = what_stood cap (dev.candidate old) file (c.in-Ok.ensures.committed honest) all in
     both_ok c.found.result c.found.ensures.fresh (c.found.ensures.stands h1 what.map what.limit what.stands) (λ db fresh both.
-    (what.map, what.limit, opened_at _ db what.map what.limit both.0 both.1 fresh, inl what.stood))
+    (what.map, what.limit, opened_at _ db what.map what.limit both.0 both.1 both.2 fresh, inl what.stood))
 
 pub returns-in-Ok-clause-refused : goal.returns-in-Ok-clause-refused
 returns-in-Ok-clause-refused g c honest large =
