@@ -1,25 +1,24 @@
 -- Calls that change the file, as steps.
-use Rattle.std.proofs.Common.{◌≡◌, ◌⊎◌, ◌↔◌, inl, inr, ⊎_elim, ℕ, ◌≤◌, ◌<◌, ◌*◌, ◌+◌, true, false, cond, Option, Some, None, is_some, Result, Ok, Err, OnOk, IfErr, OnErr, IsErrOf, refl, sym, ◌∙◌, ap, subst, arith}
+use Rattle.std.proofs.Common.{◌≡◌, ◌⊎◌, inl, inr, ⊎_elim, ℕ, ◌≤◌, true, false, cond, Option, Some, None, is_some, Result, Ok, Err, OnOk, OnErr, refl, sym, ◌∙◌, ap, subst, arith}
 use Rattle.std.specs.Prelude.{IsErrAnd}
 use Rattle.std.specs.Option.{option_map}
 use Rattle.std.proofs.lemmas.Bool.{lt-ltb}
 use Rattle.sect_dev.specs.Device.{LeavesOnly, MoreFaults}
 use Rattle.sect_dev.specs.Moments.{followed_by}
 use Rattle.dbm_model.specs.Calls as model
-use Rattle.dbm_model.specs.Pages.{Meta}
+use Rattle.dbm_model.specs.Pages.{Meta, MetaPage}
 use Rattle.dbm_model.specs.Pairs.{Contents}
 use Rattle.dbm_model.specs.States.{Keys, Handle, first_fault, flagged}
 use Rattle.dbm_model.specs.Steps.{Case, Changes, case_of, Answers, Suffers}
-use Rattle.page_io.specs.Store.{Settled, file_of}
+use Rattle.dbm_model.specs.Meaning.{said_by}
+use Rattle.page_io.specs.Store.{Settled, Pages, file_of, page_of}
 use Rattle.page_io.specs.Store as store
-use Rattle.page_io.specs.Answers.{HasDeviceCause}
-use Rattle.page_io.specs.Meaning.{ImageStandsFor}
+use Rattle.page_io.specs.Meaning.{FileStandsFor, ImageStandsFor}
 use Rattle.page_io.specs.declared.store.PageStore.{Ghosts}
 use Rattle.page_io.specs.declared.store.PageFault.{PageFault}
 use Rattle.page_io.specs.declared.store.PageFault.TheVariants as page
 use Rattle.dbm_file.specs.Faults.{fault_of, told}
-use Rattle.dbm_file.specs.Holding.{Holds, IsForgotten, StandsForEither, IsChanged}
-use Rattle.dbm_file.specs.Staging.{IsChangeAnswer}
+use Rattle.dbm_file.specs.Holding.{Holds, IsForgotten, StandsForEither, IsEnded, Turns}
 use Rattle.dbm_file.specs.Database.{store_of, meta_of, pages_of, error_of, cursor_of, handle_of}
 use Rattle.dbm_file.specs.Passing.{IsPass}
 use Rattle.dbm_file.specs.Answers.{MayBeLeft, StandsForSome, Survives, IsStep, Keeps}
@@ -30,25 +29,12 @@ use Rattle.dbm_file.specs.declared.passing.Cursor.{Cursor}
 use Rattle.dbm_file.specs.declared.database.Database.{Database}
 use Rattle.dbm_file.proofs.ReadSteps.{kept_first, same_parts, at_own, same_pass, still_meta, still_limit, still_usable, still_holds, still_passes, still_survives, flagged_is}
 
--- how a change of the file ended
-pub record IsEnded {S : Type 0} (s : Ghosts S) (old new : Database S s) (result : Result (Unit {0}) PageFault) : Type 0 where
-  pub ok : OnOk result (pages_of new ≡ record (pages_of old) { end = (pages_of new).end })
-  pub err : IfErr result (λ e. IsForgotten (pages_of old) (pages_of new) e × (meta_of new ≡ meta_of old))
-  pub limit : (meta_of new).limit ≡ (meta_of old).limit
+-- how a change of the file ended, with what it leaves of the error and of the pass
+pub record IsDone {S : Type 0} (s : Ghosts S) (old new : Database S s) (result : Result (Unit {0}) PageFault) : Type 0 where
+  pub ends : IsEnded s (store_of old) (store_of new) (meta_of old) (meta_of new) result
   pub error_is : new.error ≡ old.error
   pub pass_ends : OnOk result (new.pass ≡ None)
   pub pass_stays : OnErr result (new.pass ≡ old.pass)
-  pub cause : HasDeviceCause (s.faults (store_of old)) (s.faults (store_of new)) result
-  pub answer : IsChangeAnswer (pages_of old) result
-
--- and what it makes of a file that stood for the map
-pub record Turns {S : Type 0} (s : Ghosts S) (old new : Database S s) (map changed : Contents) (result : Result (Unit {0}) PageFault) : Type 0 where
-  pub exact : IsChanged s (store_of new) (meta_of new) map changed result
-  pub kept : OnErr result ((pages_of new).usable ≡ true → s.committed (store_of new) ≡ s.committed (store_of old))
-  pub any_moment : LeavesOnly s.moment s.settled_since (store_of old) (store_of new) (StandsForEither map changed (meta_of old).limit)
-  pub unchanged : OnErr result ((pages_of new).usable ≡ true → LeavesOnly s.moment s.settled_since (store_of old) (store_of new) (λ settled. ImageStandsFor settled map (meta_of old).limit))
-  pub whole : IsErrOf result page.Damaged → ⊥
-  pub no_room : IsErrOf result page.NoRoom → (pages_of old).capacity < 2 * ((pages_of old).end + (meta_of old).pairs) + 8
 
 -- faults of a later part are faults of the whole
 more_later : (first mid last : ℕ) → first ≤ mid → MoreFaults mid last → MoreFaults first last
@@ -95,22 +81,22 @@ module _ {S : Type 0} (s : Ghosts S) {old mid : Database S s} {map changed : Con
         (λ x. ⊎_elim (λ is. (map, left, stands_still x map is)) (λ is. (changed, also, stands_still x changed is)))
 
     -- `only` is the store's law `only_committed`
-    pub changed_step : IsEnded s mid new (Ok tt) → Turns s mid new map changed (Ok tt) → ((x : Settled) → s.settles_to (store_of new) x → x ≡ file_of (s.committed (store_of new))) → IsStep old new before call said
+    pub changed_step : IsDone s mid new (Ok tt) → Turns s (store_of mid) (store_of new) (meta_of mid) (meta_of new) map changed (Ok tt) → ((x : Settled) → s.settles_to (store_of new) x → x ≡ file_of (s.committed (store_of new))) → IsStep old new before call said
     changed_step ended turns only =
-        let usable_is = ap (λ (st : store.State). st.usable) ended.ok ∙ still_usable s old mid asked.read in
+        let usable_is = ap (λ (st : store.State). st.usable) ended.ends.ok ∙ still_usable s old mid asked.read in
         record {
           after = handle_of new changed None;
           step = record {
-            counts = omega (arith, asked.read.reads.stages_only.later, ended.cause.later);
+            counts = omega (arith, asked.read.reads.stages_only.later, ended.ends.cause.later);
             answers = inl (subst (λ (c : Case). Answers before.state c said (handle_of new changed None).state) (sym asked.falls)
-                (refl, same_parts changed None _ _ _ _ _ _ (ended.limit ∙ still_limit s old mid asked.read) (ap (λ (o : Option Fault). option_map fault_of o) (ended.error_is ∙ asked.read.error_is)) usable_is));
+                (refl, same_parts changed None _ _ _ _ _ _ (ended.ends.limit ∙ still_limit s old mid asked.read) (ap (λ (o : Option Fault). option_map fault_of o) (ended.error_is ∙ asked.read.error_is)) usable_is));
           };
-          is_at = at_own new changed None (λ usable. turns.exact) (λ usable x left. subst (λ (y : Settled). ImageStandsFor y changed (meta_of new).limit) (sym (only x left)) turns.exact.stands) (λ usable. subst (λ (c : Option Cursor). IsPass (s.committed (store_of new)) (meta_of new) c None) (sym ended.pass_ends) tt);
+          is_at = at_own new changed None (λ usable. turns.done) (λ usable x left. subst (λ (y : Settled). ImageStandsFor y changed (meta_of new).limit) (sym (only x left)) turns.done.stands) (λ usable. subst (λ (c : Option Cursor). IsPass (s.committed (store_of new)) (meta_of new) c None) (sym ended.pass_ends) tt);
           survives = λ usable. survives_change (MayBeLeft before (handle_of new changed None) call) (inl refl) (inr (inl refl)) turns.any_moment;
         }
 
     -- `counts` is the store's law `counts_now`
-    module _ (e : PageFault) (ended : IsEnded s mid new (Err e)) (turns : Turns s mid new map changed (Err e))
+    module _ (e : PageFault) (ended : IsDone s mid new (Err e)) (turns : Turns s (store_of mid) (store_of new) (meta_of mid) (meta_of new) map changed (Err e))
         (counts : (t : ℕ) (x : Settled) → t ≤ s.moment (store_of new) → s.settles_to (store_of new) x → s.settled_since (store_of new) t x) where
       abbrev after : Handle
       after = handle_of (with_fault new (told e)) map pass
@@ -124,33 +110,42 @@ module _ {S : Type 0} (s : Ghosts S) {old mid : Database S s} {map changed : Con
       -- the store is as usable as before
       module _ (same : (pages_of new).usable ≡ (pages_of old).usable) where
         state_is : after.state ≡ flagged (fault_of (told e)) before.state
-        state_is = flagged_is s old new map pass (told e) (ended.limit ∙ still_limit s old mid asked.read) (ended.error_is ∙ asked.read.error_is) same
+        state_is = flagged_is s old new map pass (told e) (ended.ends.limit ∙ still_limit s old mid asked.read) (ended.error_is ∙ asked.read.error_is) same
 
         short : e ≡ page.NoRoom → before.is_short ≡ true
         short is = lt-ltb _ _ (omega (arith, turns.no_room (ap Err is), mid_capacity, mid_end, ap (λ (m : Meta). m.pairs) (still_meta s old mid asked.read)))
 
         suffers : (e ≡ page.Broken) ⊎ ((e ≡ page.Memory) ⊎ ((e ≡ page.NoRoom) ⊎ ((e ≡ page.Damaged) ⊎ (e ≡ page.Device)))) → Suffers before (Changes said changed) reply after
-        suffers (inl is) = let broken = ended.answer.broken (ap Err is) in let was = mid_usable in absurd (cc)
+        suffers (inl is) = let broken = ended.ends.answer.broken (ap Err is) in let was = mid_usable in absurd (cc)
         suffers (inr (inl is)) = inr (inr (inl (ap (λ (f : PageFault). model.Refused (fault_of (told f))) is, state_is ∙ ap (λ (f : PageFault). flagged (fault_of (told f)) before.state) is)))
         suffers (inr (inr (inl is))) = inr (inr (inr (ap (λ (f : PageFault). model.Refused (fault_of (told f))) is, short is, state_is ∙ ap (λ (f : PageFault). flagged (fault_of (told f)) before.state) is)))
         suffers (inr (inr (inr (inl is)))) = absurd (turns.whole (ap Err is))
         suffers (inr (inr (inr (inr is)))) =
-            inl (ap (λ (f : PageFault). model.Refused (fault_of (told f))) is, more_later _ _ _ asked.read.reads.stages_only.later (ended.cause.fault (ap Err is)), state_is ∙ ap (λ (f : PageFault). flagged (fault_of (told f)) before.state) is)
+            inl (ap (λ (f : PageFault). model.Refused (fault_of (told f))) is, more_later _ _ _ asked.read.reads.stages_only.later (ended.ends.cause.fault (ap Err is)), state_is ∙ ap (λ (f : PageFault). flagged (fault_of (told f)) before.state) is)
+
+        holds_on : (pages_of new).usable ≡ true → Holds s (store_of new) (meta_of new) map
+        holds_on is =
+            let pages = sym (turns.kept is) in
+            let m = sym ended.ends.err.1 in
+            record {
+              stands = subst (λ (n : Meta). FileStandsFor (s.committed (store_of new)) map n.limit) m (subst (λ (ps : Pages). FileStandsFor ps map (meta_of mid).limit) pages mid_holds.stands);
+              meta_is = subst (λ (n : Meta). said_by (page_of (s.committed (store_of new))) 1 ≡ MetaPage n) m (subst (λ (ps : Pages). said_by (page_of ps) 1 ≡ MetaPage (meta_of mid)) pages mid_holds.meta_is);
+            }
 
         rests_on : (pages_of new).usable ≡ true → (x : Settled) → s.settles_to (store_of new) x → ImageStandsFor x map (meta_of new).limit
         rests_on is x left =
             let run = turns.unchanged is in
-            subst (λ (n : ℕ). ImageStandsFor x map n) (sym ended.limit) (run.each x (counts (s.moment (store_of mid)) x run.later left))
+            subst (λ (n : ℕ). ImageStandsFor x map n) (sym ended.ends.limit) (run.each x (counts (s.moment (store_of mid)) x run.later left))
 
         unchanged_step : IsStep old (with_fault new (told e)) before call reply
         unchanged_step = record {
           after = after;
           step = record {
-            counts = omega (arith, asked.read.reads.stages_only.later, ended.cause.later);
-            answers = inr (subst (λ (c : Case). Suffers before c reply after) (sym asked.falls) (suffers ended.answer.only));
+            counts = omega (arith, asked.read.reads.stages_only.later, ended.ends.cause.later);
+            answers = inr (subst (λ (c : Case). Suffers before c reply after) (sym asked.falls) (suffers ended.ends.answer.only));
           };
-          is_at = at_own (with_fault new (told e)) map pass (λ is. turns.exact is) (λ is. rests_on is)
-              (λ is. same_pass _ _ _ _ _ _ pass (turns.kept is) ended.err.1 ended.pass_stays (still_passes s old mid pass asked.read asked.honest asked.going));
+          is_at = at_own (with_fault new (told e)) map pass (λ is. holds_on is) (λ is. rests_on is)
+              (λ is. same_pass _ _ _ _ _ _ pass (turns.kept is) ended.ends.err.1 ended.pass_stays (still_passes s old mid pass asked.read asked.honest asked.going));
           survives = λ was.
               followed_by s.moment s.settled_since (store_of old) (store_of mid) (store_of new) (StandsForSome (MayBeLeft before after call) (meta_of old).limit) (λ x. ImageStandsFor x map (meta_of mid).limit)
               (still_survives s old mid map asked.read asked.honest asked.rests (MayBeLeft before after call) (inl refl)) (turns.unchanged (same ∙ asked.usable))
@@ -162,13 +157,13 @@ module _ {S : Type 0} (s : Ghosts S) {old mid : Database S s} {map changed : Con
       broken_step is broken = record {
         after = after;
         step = record {
-          counts = omega (arith, asked.read.reads.stages_only.later, ended.cause.later);
+          counts = omega (arith, asked.read.reads.stages_only.later, ended.ends.cause.later);
           answers = inr (subst (λ (c : Case). Suffers before c reply after) (sym asked.falls) (inr (inl (
             ap (λ (f : PageFault). model.Refused (fault_of (told f))) is,
-            more_later _ _ _ asked.read.reads.stages_only.later (ended.cause.fault (ap Err is)),
+            more_later _ _ _ asked.read.reads.stages_only.later (ended.ends.cause.fault (ap Err is)),
             map,
             inl refl,
-            same_parts map pass _ _ _ _ _ _ (ended.limit ∙ still_limit s old mid asked.read) (error_is ∙ ap (λ (f : PageFault). first_fault (error_of old) (fault_of (told f))) is) broken,
+            same_parts map pass _ _ _ _ _ _ (ended.ends.limit ∙ still_limit s old mid asked.read) (error_is ∙ ap (λ (f : PageFault). first_fault (error_of old) (fault_of (told f))) is) broken,
           ))));
         };
         is_at = at_own (with_fault new (told e)) map pass (λ now. absurd (let x = now in cc)) (λ now. absurd (let x = now in cc)) (λ now. absurd (let x = now in cc));
@@ -176,7 +171,7 @@ module _ {S : Type 0} (s : Ghosts S) {old mid : Database S s} {map changed : Con
       }
 
       pub refused_step : IsStep old (with_fault new (told e)) before call reply
-      refused_step = ⊎_elim (λ same. unchanged_step (ap (λ (st : store.State). st.usable) same ∙ still_usable s old mid asked.read)) (λ broke. broken_step broke.0 (ap (λ (st : store.State). st.usable) broke.1)) ended.err.0
+      refused_step = ⊎_elim (λ same. unchanged_step (ap (λ (st : store.State). st.usable) same ∙ still_usable s old mid asked.read)) (λ broke. broken_step broke.0 (ap (λ (st : store.State). st.usable) broke.1)) ended.ends.err.0
 
 -- a fault of the device is told as one, and so on
 told_device : (e : PageFault) → told e ≡ Device → e ≡ page.Device
@@ -196,9 +191,9 @@ told_broken page.NoRoom is = absurd (let x = is in cc)
 told_broken page.Damaged is = absurd (let x = is in cc)
 
 -- what a refused change leaves on any device
-module _ {S : Type 0} (s : Ghosts S) (old mid new : Database S s) (read : IsRead old mid) (usable : (pages_of old).usable ≡ true) (e : PageFault) (ended : IsEnded s mid new (Err e)) (honesty : s.honest (store_of new) ↔ s.honest (store_of mid)) where
+module _ {S : Type 0} (s : Ghosts S) (old mid new : Database S s) (read : IsRead old mid) (usable : (pages_of old).usable ≡ true) (e : PageFault) (ended : IsDone s mid new (Err e)) where
   sound : e ≡ page.Broken → ⊥
-  sound is = let broken = ended.answer.broken (ap Err is) in let was = still_usable s old mid read ∙ usable in absurd (cc)
+  sound is = let broken = ended.ends.answer.broken (ap Err is) in let was = still_usable s old mid read ∙ usable in absurd (cc)
 
   -- the store is as before, but for what was forgotten
   record IsAsBefore : Type 0 where
@@ -220,19 +215,19 @@ module _ {S : Type 0} (s : Ghosts S) (old mid new : Database S s) (read : IsRead
 
   refused_keeps : (T : Type 0) → Keeps {T = T} old (with_fault new (told e)) (Err (told e))
   refused_keeps T =
-      let was = as_before ended.err.0 in
+      let was = as_before ended.ends.err.0 in
       record {
         goes = record {
-          honesty = (λ h. read.reads.stages_only.honesty.0 (honesty.0 h), λ h. honesty.1 (read.reads.stages_only.honesty.1 h));
-          later = omega (arith, read.reads.stages_only.later, ended.cause.later);
-          limit = ended.limit ∙ still_limit s old mid read;
+          honesty = (λ h. read.reads.stages_only.honesty.0 (ended.ends.honesty.0 h), λ h. ended.ends.honesty.1 (read.reads.stages_only.honesty.1 h));
+          later = omega (arith, read.reads.stages_only.later, ended.ends.cause.later);
+          limit = ended.ends.limit ∙ still_limit s old mid read;
           capacity = was.capacity;
           still = λ broken. absurd (let x = broken in cc);
         };
-        fault = λ is. more_later _ _ _ read.reads.stages_only.later (ended.cause.fault (ap Err (told_device e (let x = is in cc))));
+        fault = λ is. more_later _ _ _ read.reads.stages_only.later (ended.ends.cause.fault (ap Err (told_device e (let x = is in cc))));
         no_error = tt;
         error = ap (λ (o : Option Fault). option_map fault_of (cond (is_some o) o (Some (told e)))) (ended.error_is ∙ read.error_is) ∙ kept_first old.error (told e);
-        refused = (ended.err.1 ∙ still_meta s old mid read, was.end, ended.pass_stays ∙ read.pass_is);
+        refused = (ended.ends.err.1 ∙ still_meta s old mid read, was.end, ended.pass_stays ∙ read.pass_is);
         breaks = ⊎_elim (λ same. inl same) (λ broke. inr (ap Err (ap told broke.0), broke.1)) was.breaks;
         broken = (λ is. absurd (sound (told_broken e (let x = is in cc))), λ broken. absurd (let x = broken in cc));
       }

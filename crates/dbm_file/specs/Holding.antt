@@ -1,13 +1,17 @@
 -- What a store of pages holds, and what a change of it leaves.
-use Rattle.std.specs.Prelude.{◌≡◌, ◌⊎◌, ℕ, [], true, false, Result, Ok, Err}
+use Rattle.std.specs.Prelude.{◌≡◌, ◌⊎◌, ◌↔◌, ◌+◌, ◌*◌, ◌<◌, ℕ, [], true, false, Result, OnOk, OnErr, IfErr, IsErrOf}
+use Rattle.sect_dev.specs.Device.{LeavesOnly}
 use Rattle.dbm_model.specs.Pairs.{Contents}
 use Rattle.dbm_model.specs.Pages.{Meta, MetaPage}
 use Rattle.dbm_model.specs.Meaning.{said_by}
+use Rattle.dbm_model.specs.Valid.{IsMeta}
+use Rattle.page_io.specs.Answers.{HasDeviceCause}
 use Rattle.page_io.specs.Store.{Settled, State, page_of}
 use Rattle.page_io.specs.Meaning.{FileStandsFor, ImageStandsFor}
 use Rattle.page_io.specs.declared.store.PageStore.{Ghosts}
 use Rattle.page_io.specs.declared.store.PageFault.{PageFault}
-use Rattle.page_io.specs.declared.store.PageFault.TheVariants.{Device}
+use Rattle.page_io.specs.declared.store.PageFault.TheVariants.{Device, NoRoom, Damaged}
+use Rattle.dbm_file.specs.Staging.{IsChangeAnswer}
 
 -- the committed pages stand for the map, and the meta page says what is kept of it
 pub record Holds {S : Type 0} (s : Ghosts S) (store : S) (m : Meta) (map : Contents) : Type 0 where
@@ -22,7 +26,21 @@ StandsForEither old new limit settled = ImageStandsFor settled old limit ⊎ Ima
 abbrev pub IsForgotten : State → State → PageFault → Type 0
 IsForgotten old new fault = (new ≡ record old { staged = [] }) ⊎ ((fault ≡ Device) × (new ≡ record old { staged = []; usable = false }))
 
--- a change is done, or refused; where it broke the store, the file stands for the old map or for the new one
-abbrev pub IsChanged : {S : Type 0} (s : Ghosts S) (new : S) (m : Meta) (map changed : Contents) → Result Unit PageFault → Type 0
-IsChanged s new m map changed (Ok _) = Holds s new m changed
-IsChanged s new m map changed (Err fault) = (s.state new).usable ≡ true → Holds s new m map
+-- How a change ends on any device, where `before` and `after` are kept of the meta page: it is done, or refused with nothing changed, but that a fault of the device may break the store.
+pub record IsEnded {S : Type 0} (s : Ghosts S) (old new : S) (before after : Meta) (result : Result Unit PageFault) : Type 0 where
+  pub ok : OnOk result (s.state new ≡ record (s.state old) { end = (s.state new).end })
+  pub err : IfErr result (λ e. IsForgotten (s.state old) (s.state new) e × (after ≡ before))
+  pub valid : IsMeta after
+  pub limit : after.limit ≡ before.limit
+  pub cause : HasDeviceCause (s.faults old) (s.faults new) result
+  pub honesty : s.honest new ↔ s.honest old
+  pub answer : IsChangeAnswer (s.state old) result
+
+-- What it makes of a file that stood for the map: it stands for the changed one, or is as it was, and at every moment for one of the two.
+pub record Turns {S : Type 0} (s : Ghosts S) (old new : S) (before after : Meta) (map changed : Contents) (result : Result Unit PageFault) : Type 0 where
+  pub done : OnOk result (Holds s new after changed)
+  pub kept : OnErr result ((s.state new).usable ≡ true → s.committed new ≡ s.committed old)
+  pub any_moment : LeavesOnly s.moment s.settled_since old new (StandsForEither map changed before.limit)
+  pub unchanged : OnErr result ((s.state new).usable ≡ true → LeavesOnly s.moment s.settled_since old new (λ settled. ImageStandsFor settled map before.limit))
+  pub whole : IsErrOf result Damaged → ⊥
+  pub no_room : IsErrOf result NoRoom → (s.state old).capacity < 2 * ((s.state old).end + before.pairs) + 8

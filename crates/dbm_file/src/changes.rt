@@ -1,17 +1,14 @@
 //! Changes of the file, each in one commit.
 
-ghost use Rattle.std.specs.Prelude.{◌≡◌, ◌⊎◌, ◌↔◌, ◌+◌, ◌*◌, ◌<◌, ◌≤◌, [], true, false, is_some, IfOk, IfErr, OnOk, OnErr, IsErrOf, length, if◌then◌else◌};
-ghost use Rattle.std.specs.FinMap.{get, insert, remove, len};
-ghost use Rattle.sect_dev.specs.Device.{LeavesOnly};
+ghost use Rattle.std.specs.Prelude.{◌≡◌, ◌↔◌, ◌+◌, ◌<◌, [], true, false, is_some, IfErr, OnOk, if◌then◌else◌};
+ghost use Rattle.std.specs.FinMap.{get, insert, remove};
 ghost use Rattle.dbm_model.specs.Pairs.{Contents, IsAllowed};
 ghost use Rattle.dbm_model.specs.Valid.{IsMeta};
 ghost use Rattle.page_io.specs.Answers.{HasDeviceCause};
-ghost use Rattle.page_io.specs.declared.store.PageFault.TheVariants.{NoRoom, Damaged};
-ghost use Rattle.page_io.specs.Meaning.{ImageStandsFor};
 ghost use Rattle.seg_table.specs.MetaPages.{says};
 ghost use Rattle.dbm_file.specs.Tables.{shape_in, shape_for};
 ghost use Rattle.dbm_file.specs.Staging.{IsChangeAnswer};
-ghost use Rattle.dbm_file.specs.Holding.{Holds, IsForgotten, StandsForEither, IsChanged};
+ghost use Rattle.dbm_file.specs.Holding.{Holds, IsForgotten, IsEnded, Turns};
 
 use crate::committing::finish;
 use crate::staging::{stage_delete, stage_store};
@@ -42,15 +39,8 @@ fn commit_store<S: PageStore>(
     ensures cause { HasDeviceCause (S.faults store.old) (S.faults store.new) result }
     ensures honesty { S.honest store.new ↔ S.honest store.old }
     ensures answer { IsChangeAnswer (S.state store.old) result }
-    ensures exact { S.honest store.old → (S.state store.old).usable ≡ true → (map : Contents) → Holds S.PageStore store.old (says meta.old) map → was_there ≡ is_some (get map key.now) → OnOk result (Holds S.PageStore store.new (says meta.new) (insert map key.now content.now)) }
-    ensures kept { S.honest store.old → OnErr result ((S.state store.new).usable ≡ true → S.committed store.new ≡ S.committed store.old) }
-    ensures any_moment { S.honest store.old → (S.state store.old).usable ≡ true → (map : Contents) → Holds S.PageStore store.old (says meta.old) map → was_there ≡ is_some (get map key.now) →
-        LeavesOnly S.moment S.settled_since store.old store.new (StandsForEither map (insert map key.now content.now) meta.old.limit) }
-    ensures unchanged { S.honest store.old → (S.state store.old).usable ≡ true → (map : Contents) → Holds S.PageStore store.old (says meta.old) map → was_there ≡ is_some (get map key.now) → OnErr result ((S.state store.new).usable ≡ true →
-        LeavesOnly S.moment S.settled_since store.old store.new (λ settled. ImageStandsFor settled map meta.old.limit)) }
-    ensures whole { S.honest store.old → (map : Contents) → Holds S.PageStore store.old (says meta.old) map → was_there ≡ is_some (get map key.now) → IsErrOf result Damaged → ⊥ }
-    ensures no_room { S.honest store.old → (map : Contents) → Holds S.PageStore store.old (says meta.old) map → was_there ≡ is_some (get map key.now) → IsErrOf result NoRoom →
-        (S.state store.old).capacity < 2 * ((S.state store.old).end + meta.old.pairs) + 8 }
+    ensures turns { S.honest store.old → (S.state store.old).usable ≡ true → (map : Contents) → Holds S.PageStore store.old (says meta.old) map → was_there ≡ is_some (get map key.now) →
+        Turns S.PageStore store.old store.new (says meta.old) (says meta.new) map (insert map key.now content.now) result }
 {
     let staged = stage_store(alloc, store, meta, key, content, was_there);
     finish(store, staged)
@@ -70,27 +60,13 @@ pub fn store_pair<S: PageStore>(
     requires writable { (S.state store.old).writable ≡ true }
     requires valid { IsMeta (says meta.old) }
     requires room { was_there ≡ false → meta.old.pairs < meta.old.limit }
-    ensures ok { OnOk result (S.state store.new ≡ record (S.state store.old) { end = (S.state store.new).end }) }
-    ensures err { IfErr result (λ e. IsForgotten (S.state store.old) (S.state store.new) e × (says meta.new ≡ says meta.old)) }
-    ensures valid { IsMeta (says meta.new) }
-    ensures limit { meta.new.limit ≡ meta.old.limit }
+    ensures ends { IsEnded S.PageStore store.old store.new (says meta.old) (says meta.new) result }
     ensures pairs { OnOk result (meta.new.pairs ≡ (if was_there then meta.old.pairs else meta.old.pairs + 1)) }
     ensures shape { OnOk result (shape_in (says meta.new) ≡ shape_for meta.new.pairs (shape_in (says meta.old))) }
-    ensures cause { HasDeviceCause (S.faults store.old) (S.faults store.new) result }
-    ensures honesty { S.honest store.new ↔ S.honest store.old }
-    ensures answer { IsChangeAnswer (S.state store.old) result }
 
-    // Where the file stands for a map, it then stands for the map with the pair, and at every moment for one of the two.
-    ensures exact { S.honest store.old → (S.state store.old).usable ≡ true → (map : Contents) → Holds S.PageStore store.old (says meta.old) map → was_there ≡ is_some (get map key.now) →
-        IsChanged S.PageStore store.new (says meta.new) map (insert map key.now content.now) result }
-    ensures kept { S.honest store.old → OnErr result ((S.state store.new).usable ≡ true → S.committed store.new ≡ S.committed store.old) }
-    ensures any_moment { S.honest store.old → (S.state store.old).usable ≡ true → (map : Contents) → Holds S.PageStore store.old (says meta.old) map → was_there ≡ is_some (get map key.now) →
-        LeavesOnly S.moment S.settled_since store.old store.new (StandsForEither map (insert map key.now content.now) meta.old.limit) }
-    ensures unchanged { S.honest store.old → (S.state store.old).usable ≡ true → (map : Contents) → Holds S.PageStore store.old (says meta.old) map → was_there ≡ is_some (get map key.now) → OnErr result ((S.state store.new).usable ≡ true →
-        LeavesOnly S.moment S.settled_since store.old store.new (λ settled. ImageStandsFor settled map meta.old.limit)) }
-    ensures whole { S.honest store.old → (map : Contents) → Holds S.PageStore store.old (says meta.old) map → was_there ≡ is_some (get map key.now) → IsErrOf result Damaged → ⊥ }
-    ensures no_room { S.honest store.old → (map : Contents) → Holds S.PageStore store.old (says meta.old) map → was_there ≡ is_some (get map key.now) → IsErrOf result NoRoom →
-        (S.state store.old).capacity < 2 * ((S.state store.old).end + meta.old.pairs) + 8 }
+    // Where the file stands for a map, it then stands for the changed one, and at every moment for one of the two.
+    ensures turns { S.honest store.old → (S.state store.old).usable ≡ true → (map : Contents) → Holds S.PageStore store.old (says meta.old) map → was_there ≡ is_some (get map key.now) →
+        Turns S.PageStore store.old store.new (says meta.old) (says meta.new) map (insert map key.now content.now) result }
 {
     let mut changed = meta.copied();
     commit_store(alloc, store, &mut changed, key, content, was_there)?;
@@ -113,15 +89,8 @@ fn commit_delete<S: PageStore>(store: &mut S, meta: &mut Meta, key: &[u8]) -> Re
     ensures cause { HasDeviceCause (S.faults store.old) (S.faults store.new) result }
     ensures honesty { S.honest store.new ↔ S.honest store.old }
     ensures answer { IsChangeAnswer (S.state store.old) result }
-    ensures exact { S.honest store.old → (S.state store.old).usable ≡ true → (map : Contents) → Holds S.PageStore store.old (says meta.old) map → is_some (get map key.now) ≡ true → OnOk result (Holds S.PageStore store.new (says meta.new) (remove map key.now)) }
-    ensures kept { S.honest store.old → OnErr result ((S.state store.new).usable ≡ true → S.committed store.new ≡ S.committed store.old) }
-    ensures any_moment { S.honest store.old → (S.state store.old).usable ≡ true → (map : Contents) → Holds S.PageStore store.old (says meta.old) map → is_some (get map key.now) ≡ true →
-        LeavesOnly S.moment S.settled_since store.old store.new (StandsForEither map (remove map key.now) meta.old.limit) }
-    ensures unchanged { S.honest store.old → (S.state store.old).usable ≡ true → (map : Contents) → Holds S.PageStore store.old (says meta.old) map → is_some (get map key.now) ≡ true → OnErr result ((S.state store.new).usable ≡ true →
-        LeavesOnly S.moment S.settled_since store.old store.new (λ settled. ImageStandsFor settled map meta.old.limit)) }
-    ensures whole { S.honest store.old → (map : Contents) → Holds S.PageStore store.old (says meta.old) map → IsErrOf result Damaged → ⊥ }
-    ensures no_room { S.honest store.old → (map : Contents) → Holds S.PageStore store.old (says meta.old) map → is_some (get map key.now) ≡ true → IsErrOf result NoRoom →
-        (S.state store.old).capacity < 2 * ((S.state store.old).end + meta.old.pairs) + 8 }
+    ensures turns { S.honest store.old → (S.state store.old).usable ≡ true → (map : Contents) → Holds S.PageStore store.old (says meta.old) map → is_some (get map key.now) ≡ true →
+        Turns S.PageStore store.old store.new (says meta.old) (says meta.new) map (remove map key.now) result }
 {
     let staged = stage_delete(store, meta, key);
     finish(store, staged)
@@ -137,27 +106,13 @@ pub fn delete_pair<S: PageStore>(
     requires writable { (S.state store.old).writable ≡ true }
     requires valid { IsMeta (says meta.old) }
     requires some { 0 < meta.old.pairs }
-    ensures ok { OnOk result (S.state store.new ≡ record (S.state store.old) { end = (S.state store.new).end }) }
-    ensures err { IfErr result (λ e. IsForgotten (S.state store.old) (S.state store.new) e × (says meta.new ≡ says meta.old)) }
-    ensures valid { IsMeta (says meta.new) }
-    ensures limit { meta.new.limit ≡ meta.old.limit }
+    ensures ends { IsEnded S.PageStore store.old store.new (says meta.old) (says meta.new) result }
     ensures pairs { OnOk result (meta.new.pairs + 1 ≡ meta.old.pairs) }
     ensures shape { OnOk result (shape_in (says meta.new) ≡ shape_in (says meta.old)) }
-    ensures cause { HasDeviceCause (S.faults store.old) (S.faults store.new) result }
-    ensures honesty { S.honest store.new ↔ S.honest store.old }
-    ensures answer { IsChangeAnswer (S.state store.old) result }
 
-    // Where the file stands for a map, it then stands for the map without the key, and at every moment for one of the two.
-    ensures exact { S.honest store.old → (S.state store.old).usable ≡ true → (map : Contents) → Holds S.PageStore store.old (says meta.old) map → is_some (get map key.now) ≡ true →
-        IsChanged S.PageStore store.new (says meta.new) map (remove map key.now) result }
-    ensures kept { S.honest store.old → OnErr result ((S.state store.new).usable ≡ true → S.committed store.new ≡ S.committed store.old) }
-    ensures any_moment { S.honest store.old → (S.state store.old).usable ≡ true → (map : Contents) → Holds S.PageStore store.old (says meta.old) map → is_some (get map key.now) ≡ true →
-        LeavesOnly S.moment S.settled_since store.old store.new (StandsForEither map (remove map key.now) meta.old.limit) }
-    ensures unchanged { S.honest store.old → (S.state store.old).usable ≡ true → (map : Contents) → Holds S.PageStore store.old (says meta.old) map → is_some (get map key.now) ≡ true → OnErr result ((S.state store.new).usable ≡ true →
-        LeavesOnly S.moment S.settled_since store.old store.new (λ settled. ImageStandsFor settled map meta.old.limit)) }
-    ensures whole { S.honest store.old → (map : Contents) → Holds S.PageStore store.old (says meta.old) map → IsErrOf result Damaged → ⊥ }
-    ensures no_room { S.honest store.old → (map : Contents) → Holds S.PageStore store.old (says meta.old) map → is_some (get map key.now) ≡ true → IsErrOf result NoRoom →
-        (S.state store.old).capacity < 2 * ((S.state store.old).end + meta.old.pairs) + 8 }
+    // Where the file stands for a map, it then stands for the changed one, and at every moment for one of the two.
+    ensures turns { S.honest store.old → (S.state store.old).usable ≡ true → (map : Contents) → Holds S.PageStore store.old (says meta.old) map → is_some (get map key.now) ≡ true →
+        Turns S.PageStore store.old store.new (says meta.old) (says meta.new) map (remove map key.now) result }
 {
     let mut changed = meta.copied();
     commit_delete(store, &mut changed, key)?;

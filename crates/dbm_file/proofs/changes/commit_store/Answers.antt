@@ -53,44 +53,38 @@ pub returns-clause-answer : goal.returns-clause-answer
 returns-clause-answer g c =
     change_answer g.S.PageStore _ _ c.finish.new.store c.stage_store-staged.result c.finish.result c.stage_store-staged.ensures.stages _ c.requires.writable c.stage_store-staged.ensures.answer c.finish.ensures.answer c.finish.ensures.refused
 
-pub returns-clause-any_moment : goal.returns-clause-any_moment
-returns-clause-any_moment g c honest usable map holds was = moments g c map holds was honest usable
-
-pub returns-clause-whole : goal.returns-clause-whole
-returns-clause-whole g c honest map holds was damaged =
-    let staged = told_by g.S.PageStore _ _ c.finish.new.store c.stage_store-staged.result c.finish.result c.stage_store-staged.ensures.stages _ Damaged never_damaged c.finish.ensures.answer c.finish.ensures.refused damaged in
-    c.stage_store-staged.ensures.whole honest (plan g c map holds was) (table g c map holds was) (there g c map holds was) staged
-
-pub returns-clause-no_room : goal.returns-clause-no_room
-returns-clause-no_room g c honest map holds was room =
+pub returns-clause-turns : goal.returns-clause-turns
+returns-clause-turns g c honest usable map holds was =
     let staged = c.stage_store-staged.ensures in
-    let p = plan g c map holds was in
-    let in_table = table g c map holds was in
-    let pairs = ap (λ (m : Meta). m.pairs) in_table.meta_is in
-    let capacity = ap (λ (st : State). st.capacity) staged.stages.state in
-    let by = no_room_by g.S.PageStore _ _ c.finish.new.store c.stage_store-staged.result c.finish.result staged.stages _ c.finish.ensures.answer c.finish.ensures.refused room in
-    ⊎_elim (λ early. let most = staged.few honest p in_table (there g c map holds was) early in omega (arith, most, pairs, in_table.ends))
-    (λ late.
-    let is = subst (λ (q : Result ℕ PageFault). IfOk q (λ end. IsStaged (said g.S.PageStore c.stage_store-staged.new.store) (says c.stage_store-staged.new.meta) end (store p (pair g c map holds was)))) late.1 (staged.exact honest p in_table (may g c map holds was) (there g c map holds was)) in
-    let can = subst (λ (q : Result ℕ PageFault). IfOk q (MayCommit (g.S.PageStore.state c.stage_store-staged.new.store))) late.1 staged.may_commit in
-    let few = few_staged 1 late.0 _ (g.met.S.PageStore.in_order c.stage_store-staged.new.store) can.may_end.below (omega (arith, can.least)) in
-    let end = store_takes_few p (pair g c map holds was) in_table.good.sound c.requires.allowed in
-    lacks_few (g.S.PageStore.state c.stage_store-staged.new.store) late.0 _ _ _ late.2 can.may_end.least few (omega (arith, end, is.ends, in_table.ends, pairs)) capacity) by
-
-pub returns-clause-exact : goal.returns-clause-exact
-returns-clause-exact g c honest usable map holds was =
-    let staged = c.stage_store-staged.ensures in
-    let q = store (plan g c map holds was) (pair g c map holds was) in
-    let good = stored_good g.S.PageStore c.args.store.now (says c.args.meta.now) map holds (pair g c map holds was) (may g c map holds was) in
-    let is = stored_map g.S.PageStore c.args.store.now (says c.args.meta.now) map holds (pair g c map holds was) (may g c map holds was) in
-    subst (λ (changed : Contents). OnOk c.finish.result (Holds g.S.PageStore c.finish.new.store (says c.stage_store-staged.new.meta) changed)) is
-    (commit_ok _ c.stage_store-staged.result c.finish.result c.finish.ensures.refused (staged.exact honest (plan g c map holds was) (table g c map holds was) (may g c map holds was) (there g c map holds was))
-    (c.finish.ensures.committed (staged.stages.honesty.1 honest)) (λ end said committed. commit_holds g.S.PageStore c.stage_store-staged.new.store _ end q good said c.finish.new.store committed))
-
-pub returns-clause-unchanged : goal.returns-clause-unchanged
-returns-clause-unchanged g c honest usable map holds was =
-    let staged = c.stage_store-staged.ensures in
-    on_err_weaker c.finish.result
-    (λ run usable_now. leaves_old g.S.PageStore c.args.store.now c.stage_store-staged.new.store c.finish.new.store c.stage_store-staged.result c.finish.result staged.stages honest map map c.args.meta.now.limit holds.stands
-    (λ y is. g.met.S.PageStore.only_committed c.args.store.now y honest usable c.requires.writable is) (run usable_now))
-    (c.finish.ensures.unchanged (staged.stages.honesty.1 honest) (ap (λ (st : State). st.usable) staged.stages.state ∙ usable) (ap (λ (st : State). st.writable) staged.stages.state ∙ c.requires.writable))
+    record {
+      done =
+          let q = store (plan g c map holds was) (pair g c map holds was) in
+          let good = stored_good g.S.PageStore c.args.store.now (says c.args.meta.now) map holds (pair g c map holds was) (may g c map holds was) in
+          let is = stored_map g.S.PageStore c.args.store.now (says c.args.meta.now) map holds (pair g c map holds was) (may g c map holds was) in
+          subst (λ (changed : Contents). OnOk c.finish.result (Holds g.S.PageStore c.finish.new.store (says c.stage_store-staged.new.meta) changed)) is
+          (commit_ok _ c.stage_store-staged.result c.finish.result c.finish.ensures.refused (staged.exact honest (plan g c map holds was) (table g c map holds was) (may g c map holds was) (there g c map holds was))
+          (c.finish.ensures.committed (staged.stages.honesty.1 honest)) (λ end said committed. commit_holds g.S.PageStore c.stage_store-staged.new.store _ end q good said c.finish.new.store committed));
+      kept = on_err_weaker c.finish.result (λ same usable_now. same usable_now ∙ (staged.stages.kept honest).committed) (c.finish.ensures.kept (staged.stages.honesty.1 honest));
+      any_moment = moments g c map holds was honest usable;
+      unchanged =
+          on_err_weaker c.finish.result
+          (λ run usable_now. leaves_old g.S.PageStore c.args.store.now c.stage_store-staged.new.store c.finish.new.store c.stage_store-staged.result c.finish.result staged.stages honest map map c.args.meta.now.limit holds.stands
+          (λ y is. g.met.S.PageStore.only_committed c.args.store.now y honest usable c.requires.writable is) (run usable_now))
+          (c.finish.ensures.unchanged (staged.stages.honesty.1 honest) (ap (λ (st : State). st.usable) staged.stages.state ∙ usable) (ap (λ (st : State). st.writable) staged.stages.state ∙ c.requires.writable));
+      whole = λ damaged.
+          let early = told_by g.S.PageStore _ _ c.finish.new.store c.stage_store-staged.result c.finish.result c.stage_store-staged.ensures.stages _ Damaged never_damaged c.finish.ensures.answer c.finish.ensures.refused damaged in
+          c.stage_store-staged.ensures.whole honest (plan g c map holds was) (table g c map holds was) (there g c map holds was) early;
+      no_room = λ room.
+          let p = plan g c map holds was in
+          let in_table = table g c map holds was in
+          let pairs = ap (λ (m : Meta). m.pairs) in_table.meta_is in
+          let capacity = ap (λ (st : State). st.capacity) staged.stages.state in
+          let by = no_room_by g.S.PageStore _ _ c.finish.new.store c.stage_store-staged.result c.finish.result staged.stages _ c.finish.ensures.answer c.finish.ensures.refused room in
+          ⊎_elim (λ early. let most = staged.few honest p in_table (there g c map holds was) early in omega (arith, most, pairs, in_table.ends))
+          (λ late.
+          let is = subst (λ (q : Result ℕ PageFault). IfOk q (λ end. IsStaged (said g.S.PageStore c.stage_store-staged.new.store) (says c.stage_store-staged.new.meta) end (store p (pair g c map holds was)))) late.1 (staged.exact honest p in_table (may g c map holds was) (there g c map holds was)) in
+          let can = subst (λ (q : Result ℕ PageFault). IfOk q (MayCommit (g.S.PageStore.state c.stage_store-staged.new.store))) late.1 staged.may_commit in
+          let few = few_staged 1 late.0 _ (g.met.S.PageStore.in_order c.stage_store-staged.new.store) can.may_end.below (omega (arith, can.least)) in
+          let end = store_takes_few p (pair g c map holds was) in_table.good.sound c.requires.allowed in
+          lacks_few (g.S.PageStore.state c.stage_store-staged.new.store) late.0 _ _ _ late.2 can.may_end.least few (omega (arith, end, is.ends, in_table.ends, pairs)) capacity) by;
+    }

@@ -64,16 +64,9 @@ returns-in_err-delete_pair-clause-step g c honest h at =
     let all = c.in_err-delete_pair.ensures in
     from_own at (delete_told _ c.in_err-delete_pair.field-0.0
     (refused_step s asked _ c.in_err-delete_pair.field-0.0
-    record { ok = tt; err = all.err; limit = all.limit; error_is = refl; pass_ends = tt; pass_stays = refl; cause = all.cause; answer = all.answer }
-    record {
-      exact = all.exact (mid_honest s asked) (mid_usable s asked) map (mid_holds s asked) there;
-      kept = all.kept (mid_honest s asked);
-      any_moment = all.any_moment (mid_honest s asked) (mid_usable s asked) map (mid_holds s asked) there;
-      unchanged = all.unchanged (mid_honest s asked) (mid_usable s asked) map (mid_holds s asked) there;
-      whole = all.whole (mid_honest s asked) map (mid_holds s asked);
-      no_room = all.no_room (mid_honest s asked) map (mid_holds s asked) there;
-    }
-    (λ t x le left. g.met.S.PageStore.counts_now c.delete_pair.new.store t x (all.honesty.1 (mid_honest s asked)) le left))
+    record { ends = all.ends; error_is = refl; pass_ends = tt; pass_stays = refl }
+    (all.turns (mid_honest s asked) (mid_usable s asked) map (mid_holds s asked) there)
+    (λ t x le left. g.met.S.PageStore.counts_now c.delete_pair.new.store t x (all.ends.honesty.1 (mid_honest s asked)) le left))
     c.from_residual-in_err-delete_pair.result c.from_residual-in_err-delete_pair.ensures.1)
 
 pub returns-clause-step : goal.returns-clause-step
@@ -87,20 +80,13 @@ returns-clause-step g c honest h at =
     let asked = delete_asked s db c.has.new.self map pass c.args.key.now c.in_ok-has.ensures.reads usable honest (at.map usable) (at.pass usable) (at.rests usable) there in
     let all = c.in_ok-delete_pair.ensures in
     from_own at (changed_step s asked _
-    record { ok = all.ok; err = tt; limit = all.limit; error_is = refl; pass_ends = refl; pass_stays = tt; cause = all.cause; answer = all.answer }
-    record {
-      exact = all.exact (mid_honest s asked) (mid_usable s asked) map (mid_holds s asked) there;
-      kept = tt;
-      any_moment = all.any_moment (mid_honest s asked) (mid_usable s asked) map (mid_holds s asked) there;
-      unchanged = tt;
-      whole = all.whole (mid_honest s asked) map (mid_holds s asked);
-      no_room = all.no_room (mid_honest s asked) map (mid_holds s asked) there;
-    }
-    (λ x left. g.met.S.PageStore.only_committed c.delete_pair.new.store x (all.honesty.1 (mid_honest s asked)) (ap (λ (st : State). st.usable) all.ok ∙ mid_usable s asked) (ap (λ (st : State). st.writable) all.ok ∙ c.has.new.self.writable) left))
+    record { ends = all.ends; error_is = refl; pass_ends = refl; pass_stays = tt }
+    (all.turns (mid_honest s asked) (mid_usable s asked) map (mid_holds s asked) there)
+    (λ x left. g.met.S.PageStore.only_committed c.delete_pair.new.store x (all.ends.honesty.1 (mid_honest s asked)) (ap (λ (st : State). st.usable) all.ends.ok ∙ mid_usable s asked) (ap (λ (st : State). st.writable) all.ends.ok ∙ c.has.new.self.writable) left))
 
 pub returns-in_err-delete_pair-clause-keeps : goal.returns-in_err-delete_pair-clause-keeps
 returns-in_err-delete_pair-clause-keeps g c =
     let all = c.in_err-delete_pair.ensures in
     told_keeps g.S.PageStore c.args.self.now c.has.new.self _ c.in_ok-has.ensures.reads (not_broken _ _ c.is_broken.ensures c.if-is_broken.false) c.in_err-delete_pair.field-0.0
-    record { ok = tt; err = all.err; limit = all.limit; error_is = refl; pass_ends = tt; pass_stays = refl; cause = all.cause; answer = all.answer } all.honesty
+    record { ends = all.ends; error_is = refl; pass_ends = tt; pass_stays = refl }
     c.from_residual-in_err-delete_pair.result c.from_residual-in_err-delete_pair.ensures.1
