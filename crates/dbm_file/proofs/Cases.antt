@@ -29,6 +29,14 @@ fetch_rule s key old usable has = usable_rule s (Fetch key) usable ∙ ap fetche
 pub delete_rule : (s : State) (key : List ℕ) → s.usable ≡ true → s.writable ≡ true → case_of s (Delete key) ≡ deleted s key (get s.map key)
 delete_rule s key usable writable = usable_rule s (Delete key) usable ∙ ap (λ b. cond b (deleted s key (get s.map key)) (Refuses ReadOnly)) writable
 
+pub delete_read_only : (s : State) (key : List ℕ) → s.usable ≡ true → s.writable ≡ false → case_of s (Delete key) ≡ Refuses ReadOnly
+delete_read_only s key usable reads = usable_rule s (Delete key) usable ∙ ap (λ b. cond b (deleted s key (get s.map key)) (Refuses ReadOnly)) reads
+
+pub store_read_only : (s : State) (key content : List ℕ) (mode : Mode) → s.usable ≡ true → s.writable ≡ false → case_of s (Store key content mode) ≡ Refuses ReadOnly
+store_read_only s key content mode usable reads =
+    usable_rule s (Store key content mode) usable
+    ∙ ap (λ b. cond (not b) (Refuses ReadOnly) (cond (nat_le (length key + length content) 2026) (stored s key content mode (get s.map key)) (Refuses TooLong))) reads
+
 module _ (s : State) (key content : List ℕ) (mode : Mode) (usable : s.usable ≡ true) (writable : s.writable ≡ true) where
   by_length : case_of s (Store key content mode) ≡ cond (nat_le (length key + length content) 2026) (stored s key content mode (get s.map key)) (Refuses TooLong)
   by_length =

@@ -27,7 +27,7 @@ use Rattle.dbm_file.specs.declared.fault.Fault.{Fault}
 use Rattle.dbm_file.specs.declared.fault.Fault.TheVariants.{Device, Broken}
 use Rattle.dbm_file.specs.declared.passing.Cursor.{Cursor}
 use Rattle.dbm_file.specs.declared.database.Database.{Database}
-use Rattle.dbm_file.proofs.ReadSteps.{kept_first, same_parts, at_own, same_pass, still_meta, still_limit, still_usable, still_holds, still_passes, still_survives, flagged_is}
+use Rattle.dbm_file.proofs.ReadSteps.{kept_first, same_parts, at_own, same_pass, still_meta, still_limit, still_writable, still_usable, still_holds, still_passes, still_survives, flagged_is}
 
 -- how a change of the file ended, with what it leaves of the error and of the pass
 pub record IsDone {S : Type 0} (s : Ghosts S) (old new : Database S s) (result : Result (Unit {0}) PageFault) : Type 0 where
@@ -35,6 +35,11 @@ pub record IsDone {S : Type 0} (s : Ghosts S) (old new : Database S s) (result :
   pub error_is : new.error ≡ old.error
   pub pass_ends : OnOk result (new.pass ≡ None)
   pub pass_stays : OnErr result (new.pass ≡ old.pass)
+
+-- what is forgotten leaves a store as writable as it was
+forgotten_writable : (old new : store.State) (fault : PageFault) → IsForgotten old new fault → new.writable ≡ old.writable
+forgotten_writable old new fault (inl same) = ap (λ (st : store.State). st.writable) same
+forgotten_writable old new fault (inr broke) = ap (λ (st : store.State). st.writable) broke.1
 
 -- faults of a later part are faults of the whole
 more_later : (first mid last : ℕ) → first ≤ mid → MoreFaults mid last → MoreFaults first last
@@ -84,12 +89,13 @@ module _ {S : Type 0} (s : Ghosts S) {old mid : Database S s} {map changed : Con
     pub changed_step : IsDone s mid new (Ok tt) → Turns s (store_of mid) (store_of new) (meta_of mid) (meta_of new) map changed (Ok tt) → ((x : Settled) → s.settles_to (store_of new) x → x ≡ file_of (s.committed (store_of new))) → IsStep old new before call said
     changed_step ended turns only =
         let usable_is = ap (λ (st : store.State). st.usable) ended.ends.ok ∙ still_usable s old mid asked.read in
+        let writable_is = ap (λ (st : store.State). st.writable) ended.ends.ok ∙ still_writable s old mid asked.read in
         record {
           after = handle_of new changed None;
           step = record {
             counts = omega (arith, asked.read.reads.stages_only.later, ended.ends.cause.later);
             answers = inl (subst (λ (c : Case). Answers before.state c said (handle_of new changed None).state) (sym asked.falls)
-                (refl, same_parts changed None _ _ _ _ _ _ (ended.ends.limit ∙ still_limit s old mid asked.read) (ap (λ (o : Option Fault). option_map fault_of o) (ended.error_is ∙ asked.read.error_is)) usable_is));
+                (refl, same_parts changed None _ _ _ _ _ _ _ _ (ended.ends.limit ∙ still_limit s old mid asked.read) (ap (λ (o : Option Fault). option_map fault_of o) (ended.error_is ∙ asked.read.error_is)) writable_is usable_is));
           };
           is_at = at_own new changed None (λ usable. turns.done) (λ usable x left. subst (λ (y : Settled). ImageStandsFor y changed (meta_of new).limit) (sym (only x left)) turns.done.stands) (λ usable. subst (λ (c : Option Cursor). IsPass (s.committed (store_of new)) (meta_of new) c None) (sym ended.pass_ends) tt);
           survives = λ usable. survives_change (MayBeLeft before (handle_of new changed None) call) (inl refl) (inr (inl refl)) turns.any_moment;
@@ -110,7 +116,7 @@ module _ {S : Type 0} (s : Ghosts S) {old mid : Database S s} {map changed : Con
       -- the store is as usable as before
       module _ (same : (pages_of new).usable ≡ (pages_of old).usable) where
         state_is : after.state ≡ flagged (fault_of (told e)) before.state
-        state_is = flagged_is s old new map pass (told e) (ended.ends.limit ∙ still_limit s old mid asked.read) (ended.error_is ∙ asked.read.error_is) same
+        state_is = flagged_is s old new map pass (told e) (ended.ends.limit ∙ still_limit s old mid asked.read) (ended.error_is ∙ asked.read.error_is) (forgotten_writable (pages_of mid) (pages_of new) e ended.ends.err.0 ∙ still_writable s old mid asked.read) same
 
         short : e ≡ page.NoRoom → before.is_short ≡ true
         short is = lt-ltb _ _ (omega (arith, turns.no_room (ap Err is), mid_capacity, mid_end, ap (λ (m : Meta). m.pairs) (still_meta s old mid asked.read)))
@@ -163,7 +169,7 @@ module _ {S : Type 0} (s : Ghosts S) {old mid : Database S s} {map changed : Con
             more_later _ _ _ asked.read.reads.stages_only.later (ended.ends.cause.fault (ap Err is)),
             map,
             inl refl,
-            same_parts map pass _ _ _ _ _ _ (ended.ends.limit ∙ still_limit s old mid asked.read) (error_is ∙ ap (λ (f : PageFault). first_fault (error_of old) (fault_of (told f))) is) broken,
+            same_parts map pass _ _ _ _ _ _ _ _ (ended.ends.limit ∙ still_limit s old mid asked.read) (error_is ∙ ap (λ (f : PageFault). first_fault (error_of old) (fault_of (told f))) is) (forgotten_writable (pages_of mid) (pages_of new) e ended.ends.err.0 ∙ still_writable s old mid asked.read) broken,
           ))));
         };
         is_at = at_own (with_fault new (told e)) map pass (λ now. absurd (let x = now in cc)) (λ now. absurd (let x = now in cc)) (λ now. absurd (let x = now in cc));
@@ -222,6 +228,7 @@ module _ {S : Type 0} (s : Ghosts S) (old mid new : Database S s) (read : IsRead
           later = omega (arith, read.reads.stages_only.later, ended.ends.cause.later);
           limit = ended.ends.limit ∙ still_limit s old mid read;
           capacity = was.capacity;
+          writable = forgotten_writable (pages_of mid) (pages_of new) e ended.ends.err.0 ∙ still_writable s old mid read;
           still = λ broken. absurd (let x = broken in cc);
         };
         fault = λ is. more_later _ _ _ read.reads.stages_only.later (ended.ends.cause.fault (ap Err (told_device e (let x = is in cc))));

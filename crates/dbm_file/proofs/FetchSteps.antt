@@ -79,12 +79,12 @@ fetched_well s old new key found read usable is = record {
 }
 
 -- a fetch that failed, and whose fault was then kept as the first one
-module _ {S : Type 0} (s : Ghosts S) (db : Database S s) (key : Key) (idle : (pages_of db).staged ≡ []) (writable : (pages_of db).writable ≡ true) (valid : IsMeta (meta_of db))
+module _ {S : Type 0} (s : Ghosts S) (db : Database S s) (key : Key) (idle : (pages_of db).staged ≡ []) (access : (pages_of db).writable ≡ db.writable) (valid : IsMeta (meta_of db))
     (error : Option Fault) (fault : Fault) (flag : error ≡ cond (is_some db.error) db.error (Some fault)) (r : Lent) (is : r ≡ Err fault) (old : Database S s) (e : PageFault) (read : IsRead old db) (told_so : fault ≡ told e)
     (usable : (pages_of old).usable ≡ true) (answer : IsWalkAnswer {T = Option Place} (pages_of old) (Err e)) (cause : HasDeviceCause {T = Option Place} (s.faults (store_of old)) (s.faults (store_of db)) (Err e)) where
   pub fetch_failed : (s.honest (store_of old) → (map : Contents) → Holds s (store_of old) (meta_of old) map → IsErrOf {T = Option Place} (Err e) page.Damaged → ⊥)
-      → IsFetched old key r (kept_error s db idle writable valid error)
-  fetch_failed whole = flagged_lends s db (model.Fetch key) model.NoRecord idle writable valid error fault flag r is old
+      → IsFetched old key r (kept_error s db idle access valid error)
+  fetch_failed whole = flagged_lends s db (model.Fetch key) model.NoRecord idle access valid error fault flag r is old
       (subst (λ (f : Fault). IsFetched old key (Err f) (with_fault db f)) (sym told_so) record {
         step = λ honest h at.
             let map = h.state.map in

@@ -1,29 +1,23 @@
 -- A database as it was just opened, and what the file of one says.
-use Rattle.std.proofs.Common.{◌≡◌, ℕ, List, [], true, Option, None, sym, ap, subst, ◌∙◌}
-use Rattle.std.specs.FinMap.{len}
+use Rattle.std.proofs.Common.{◌≡◌, ℕ, List, [], Bool, true, false, cond, Option, None, Result, Ok, Err, IfOk, sym, ap, subst, ◌∙◌}
+use Rattle.std.specs.FinMap.{empty, len}
 use Rattle.dbm_model.specs.Pairs.{Contents}
-use Rattle.dbm_model.specs.Pages.{Meta, MetaPage}
 use Rattle.dbm_model.specs.Reading.{body_of}
 use Rattle.dbm_model.specs.Sheets as sheets
-use Rattle.dbm_model.specs.Valid.{IsMeta}
 use Rattle.dbm_model.proofs.GoodSheets.{sheets_valid}
 use Rattle.dbm_model.specs.States.{Handle}
 use Rattle.page_io.specs.Store.{Pages, Settled, page_of, overlaid}
 use Rattle.page_io.specs.Meaning.{FileStandsFor, ImageStandsFor}
 use Rattle.page_io.specs.declared.store.PageStore as store
 use Rattle.dbm_file.specs.Database.{store_of, meta_of, HoldsMap, Rests, handle_of, IsAt}
-use Rattle.dbm_file.specs.Opened.{IsFresh, IsOpenedAt}
+use Rattle.dbm_file.specs.Opened.{IsFresh, IsOpenedAt, OpensAs}
+use Rattle.dbm_file.specs.Opening.{is_exclusive, SaysMeta}
+use Rattle.dbm_file.specs.declared.calls.OpenHow.{OpenHow}
 use Rattle.dbm_file.specs.Passing.{IsPass}
 use Rattle.dbm_file.specs.declared.passing.Cursor.{Cursor}
 use Rattle.dbm_file.specs.declared.database.Database.{Database}
 use Rattle.dbm_file.proofs.ReadSteps.{at_own, same_parts}
 use Rattle.dbm_file.proofs.Tables.{counted}
-
--- bytes that a meta page may say
-pub record SaysMeta (bytes : List ℕ) : Type 0 where
-  pub meta : Meta
-  pub valid : IsMeta meta
-  pub says : body_of 1 bytes ≡ MetaPage meta
 
 -- a file that stands for a map has a meta page, which is what is read of page 1 where nothing is staged
 pub says_meta : (pages staged : Pages) (map : Contents) (limit : ℕ) (bytes : List ℕ) → FileStandsFor pages map limit → staged ≡ [] → bytes ≡ overlaid staged (page_of pages) 1 → SaysMeta bytes
@@ -34,11 +28,12 @@ says_meta pages staged map limit bytes stands none read = record {
 }
 
 -- a database that was just opened is at a fresh handle
-pub opened_at : {S : Type 0} {s : store.Ghosts S} (pages : ℕ) (db : Database S s) (map : Contents) (limit : ℕ) → HoldsMap db map → Rests db map → (meta_of db).limit ≡ limit → IsFresh pages db → IsOpenedAt db map limit
-opened_at {S} {s} pages db map limit held rests limit_is fresh = record {
+pub opened_at : {S : Type 0} {s : store.Ghosts S} (writable : Bool) (pages : ℕ) (db : Database S s) (map : Contents) (limit : ℕ) → HoldsMap db map → Rests db map → (meta_of db).limit ≡ limit → IsFresh writable pages db
+    → IsOpenedAt writable db map limit
+opened_at {S} {s} writable pages db map limit held rests limit_is fresh = record {
   handle = handle_of db map None;
   is_at = at_own db map None held rests (λ usable. subst (λ (c : Option Cursor). IsPass (s.committed (store_of db)) (meta_of db) c None) (sym fresh.no_pass) tt);
-  is_fresh = same_parts map None _ _ _ _ _ _ limit_is fresh.no_error fresh.usable;
+  is_fresh = same_parts map None _ _ _ _ _ _ _ _ limit_is fresh.no_error fresh.writable fresh.usable;
 }
 
 -- a usable one holds a map that its file stands for, and its meta page counts the pairs
@@ -52,3 +47,16 @@ pub stands_for : {S : Type 0} (s : store.Ghosts S) (db : Database S s) (h : Hand
 stands_for s db h y at usable left =
     let is_usable = sym (ap (λ (x : Handle). x.state.usable) at.shows) ∙ usable in
     subst (λ (n : ℕ). ImageStandsFor y h.state.map n) (sym (ap (λ (x : Handle). x.state.limit) at.shows)) (at.rests is_usable y left)
+
+-- a file that isn't emptied opens as it stands
+pub opens_kept : {S E : Type 0} {s : store.Ghosts S} (how : OpenHow) (map : Contents) (limit : ℕ) (r : Result (Database S s) E) → how.truncate ≡ false → is_exclusive how ≡ false → IfOk r (λ db. HoldsMap db map × Rests db map × ((meta_of db).limit ≡ limit))
+    → IfOk r (λ db. (is_exclusive how ≡ false) × OpensAs how map limit db)
+opens_kept how map limit (Ok db) kept may is = (
+  may,
+  record {
+    holds = subst (λ (b : Bool). HoldsMap db (cond b empty map)) (sym kept) is.0;
+    rests = subst (λ (b : Bool). Rests db (cond b empty map)) (sym kept) is.1;
+    limit_is = is.2 ∙ ap (λ (b : Bool). cond b how.limit limit) (sym kept);
+  },
+)
+opens_kept how map limit (Err e) kept may is = tt

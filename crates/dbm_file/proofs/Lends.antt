@@ -1,5 +1,5 @@
 -- Calls that lend bytes, as steps.
-use Rattle.std.proofs.Common.{◌≡◌, IfOk, IfSome, ℕ, ◌≤◌, List, [], length, true, false, cond, is_some, Option, Some, Err, sym, subst}
+use Rattle.std.proofs.Common.{◌≡◌, IfOk, IfSome, ℕ, ◌≤◌, List, [], length, false, cond, is_some, Option, Some, Err, sym, subst}
 use Rattle.std.specs.Borrow.{Bor}
 use Rattle.dbm_model.specs.Calls as model
 use Rattle.dbm_model.specs.States.{Handle}
@@ -17,13 +17,13 @@ use Rattle.dbm_file.specs.declared.database.Database.{Database}
 use Rattle.dbm_file.proofs.ReadSteps.{from_own, broken_step, broken_keeps}
 
 -- a database with another error
-abbrev pub kept_error : {S : Type 0} (s : Ghosts S) (db : Database S s) → (pages_of db).staged ≡ [] → (pages_of db).writable ≡ true → IsMeta (meta_of db) → Option Fault → Database S s
-kept_error s db idle writable valid e = record db { error = e; idle = idle; writable = writable; valid = valid }
+abbrev pub kept_error : {S : Type 0} (s : Ghosts S) (db : Database S s) → (pages_of db).staged ≡ [] → (pages_of db).writable ≡ db.writable → IsMeta (meta_of db) → Option Fault → Database S s
+kept_error s db idle access valid e = record db { error = e; idle = idle; told = access; valid = valid }
 
 -- the step of a call whose fault was then kept as the first one
-pub flagged_step : {S : Type 0} (s : Ghosts S) (old db : Database S s) (h : Handle) (idle : (pages_of db).staged ≡ []) (writable : (pages_of db).writable ≡ true) (valid : IsMeta (meta_of db)) (call : model.Call) (error : Option Fault) (fault : Fault)
-    → error ≡ cond (is_some db.error) db.error (Some fault) → (reply : model.Reply) → IsStep old (with_fault db fault) h call reply → IsStep old (kept_error s db idle writable valid error) h call reply
-flagged_step s old db h idle writable valid call error fault flag reply step = subst (λ (e : Option Fault). IsStep old (kept_error s db idle writable valid e) h call reply) (sym flag) record {
+pub flagged_step : {S : Type 0} (s : Ghosts S) (old db : Database S s) (h : Handle) (idle : (pages_of db).staged ≡ []) (access : (pages_of db).writable ≡ db.writable) (valid : IsMeta (meta_of db)) (call : model.Call) (error : Option Fault) (fault : Fault)
+    → error ≡ cond (is_some db.error) db.error (Some fault) → (reply : model.Reply) → IsStep old (with_fault db fault) h call reply → IsStep old (kept_error s db idle access valid error) h call reply
+flagged_step s old db h idle access valid call error fault flag reply step = subst (λ (e : Option Fault). IsStep old (kept_error s db idle access valid e) h call reply) (sym flag) record {
   after = step.after;
   step = step.step;
   is_at = record { shows = step.is_at.shows; map = λ usable. step.is_at.map usable; rests = λ usable. step.is_at.rests usable; pass = λ usable. step.is_at.pass usable };
@@ -31,10 +31,10 @@ flagged_step s old db h idle writable valid call error fault flag reply step = s
 }
 
 -- a call that was refused, and whose fault was then kept as the first one
-module _ {S : Type 0} (s : Ghosts S) (db : Database S s) (call : model.Call) (none : model.Reply) (idle : (pages_of db).staged ≡ []) (writable : (pages_of db).writable ≡ true) (valid : IsMeta (meta_of db))
+module _ {S : Type 0} (s : Ghosts S) (db : Database S s) (call : model.Call) (none : model.Reply) (idle : (pages_of db).staged ≡ []) (access : (pages_of db).writable ≡ db.writable) (valid : IsMeta (meta_of db))
     (error : Option Fault) (fault : Fault) (flag : error ≡ cond (is_some db.error) db.error (Some fault)) (r : Lent) (is : r ≡ Err fault) where
   abbrev new : Option Fault → Database S s
-  new e = kept_error s db idle writable valid e
+  new e = kept_error s db idle access valid e
 
   pub flagged_lends : (old : Database S s) → Lends call (lent_reply none) old (Err fault) (with_fault db fault) → Lends call (lent_reply none) old r (new error)
   flagged_lends old f =
@@ -50,7 +50,7 @@ module _ {S : Type 0} (s : Ghosts S) (db : Database S s) (call : model.Call) (no
               survives = λ usable. step.survives usable;
             };
         keeps = record {
-          goes = record { honesty = f.keeps.goes.honesty; later = f.keeps.goes.later; limit = f.keeps.goes.limit; capacity = f.keeps.goes.capacity; still = λ broken. f.keeps.goes.still broken };
+          goes = record { honesty = f.keeps.goes.honesty; later = f.keeps.goes.later; limit = f.keeps.goes.limit; capacity = f.keeps.goes.capacity; writable = f.keeps.goes.writable; still = λ broken. f.keeps.goes.still broken };
           fault = λ e. f.keeps.fault e;
           no_error = f.keeps.no_error;
           error = f.keeps.error;

@@ -2,6 +2,7 @@ pub mod Buckets
 pub mod Cases
 pub mod ChangeSteps
 pub mod Changing
+pub mod EmptyFiles
 pub mod FetchSteps
 pub mod Fillings
 pub mod Found

@@ -17,8 +17,10 @@ put_some (page ∷ pages) new = by_tests (ltb (own_number new) (own_number page)
 
 -- where the file could end without it, it can be committed with it
 pub can_commit : (old new : State) (end : ℕ) (bytes : List ℕ) → 4 ≤ old.end → own_number bytes ≡ 1 → new ≡ record old { staged = put_page old.staged bytes } → MayEnd old end → MayCommit new end
-can_commit old new end bytes least own put may = record {
-  may_end = may_still_end old new end bytes may (omega (arith, own, least, may.least)) put;
-  some = omega (arith, put_some old.staged bytes, ap (λ (st : State). length st.staged) put);
-  least = omega (arith, least, may.least);
-}
+can_commit old new end bytes least own put may =
+    let then = may_still_end old new end bytes may (omega (arith, own, least, may.least)) put in record {
+      below = then.below;
+      grown = then.grown;
+      some = omega (arith, put_some old.staged bytes, ap (λ (st : State). length st.staged) put);
+      least = omega (arith, least, may.least);
+    }

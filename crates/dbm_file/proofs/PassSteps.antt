@@ -41,7 +41,7 @@ use Rattle.dbm_file.proofs.Cases.{first_rule, next_rule, no_pass_rule, passes_fa
 use Rattle.dbm_file.proofs.Lends.{kept_error, flagged_step}
 use Rattle.dbm_file.proofs.Passes.{begins}
 use Rattle.dbm_file.proofs.PassKeys.{gives, all_keys}
-use Rattle.dbm_file.proofs.ReadSteps.{at_own, from_own, same_state, same_pass, still_limit, still_usable, still_meta, still_holds, still_rests, still_survives, no_read, rejected_step, refused_keeps, walk_failed_step}
+use Rattle.dbm_file.proofs.ReadSteps.{at_own, from_own, same_state, same_pass, still_limit, still_writable, still_usable, still_meta, still_holds, still_rests, still_survives, no_read, rejected_step, refused_keeps, walk_failed_step}
 use Rattle.dbm_file.proofs.Tables.{placed, is_table, map_placed, committed_said}
 
 -- the same database with its pass elsewhere
@@ -112,7 +112,7 @@ module _ {S : Type 0} (s : Ghosts S) (old new : Database S s) (h : Handle) (at :
     step = record {
       counts = read.reads.stages_only.later;
       answers = inl (subst (λ (c : Case). Answers before.state c reply (handle_of new map (Some left)).state) (sym falls_own)
-          (subst (GivesKey before.state keys reply) (sym (same_state s old mid map (Some left) (still_limit s old mid read) read.error_is (still_usable s old mid read))) given));
+          (subst (GivesKey before.state keys reply) (sym (same_state s old mid map (Some left) (still_limit s old mid read) read.error_is (still_writable s old mid read) (still_usable s old mid read))) given));
     };
     is_at = at_own new map (Some left) (λ u. still_holds s old mid map read honest (at.map usable)) (λ u. still_rests s old mid map read honest (at.rests usable))
         (λ u. same_pass _ _ _ _ (Some cursor) _ (Some left) (read.reads.stages_only.kept honest).committed (still_meta s old mid read) is has);
@@ -142,12 +142,12 @@ pass_failed s old new h at call keys falls read honest usable T e answer cause w
     (λ reply after fails. subst (λ (rule : Case). Suffers (handle_of old map pass) rule reply after) (sym falls_own) (passes_fail (handle_of old map pass) reply after fails keys)))
 
 -- and whose fault was then kept as the first one
-pub pass_flagged : {S : Type 0} (s : Ghosts S) (old db : Database S s) (h : Handle) (idle : (pages_of db).staged ≡ []) (writable : (pages_of db).writable ≡ true) (valid : IsMeta (meta_of db)) (call : model.Call) (error : Option Fault) (fault told_as : Fault)
+pub pass_flagged : {S : Type 0} (s : Ghosts S) (old db : Database S s) (h : Handle) (idle : (pages_of db).staged ≡ []) (access : (pages_of db).writable ≡ db.writable) (valid : IsMeta (meta_of db)) (call : model.Call) (error : Option Fault) (fault told_as : Fault)
     → error ≡ cond (is_some db.error) db.error (Some fault) → fault ≡ told_as → (bytes : List ℕ) (r : Result (Option ℕ) Fault) → r ≡ Err fault → IsStep old (with_fault db told_as) h call (model.Refused (fault_of told_as))
-    → IsStep old (kept_error s db idle writable valid error) h call (slot_reply bytes r)
-pass_flagged s old db h idle writable valid call error fault told_as flag same bytes r is step =
-    subst (λ (x : Result (Option ℕ) Fault). IsStep old (kept_error s db idle writable valid error) h call (slot_reply bytes x)) (sym is)
-    (flagged_step s old db h idle writable valid call error fault flag (model.Refused (fault_of fault)) (subst (λ (f : Fault). IsStep old (with_fault db f) h call (model.Refused (fault_of f))) (sym same) step))
+    → IsStep old (kept_error s db idle access valid error) h call (slot_reply bytes r)
+pass_flagged s old db h idle access valid call error fault told_as flag same bytes r is step =
+    subst (λ (x : Result (Option ℕ) Fault). IsStep old (kept_error s db idle access valid error) h call (slot_reply bytes x)) (sym is)
+    (flagged_step s old db h idle access valid call error fault flag (model.Refused (fault_of fault)) (subst (λ (f : Fault). IsStep old (with_fault db f) h call (model.Refused (fault_of f))) (sym same) step))
 
 -- a pass begins with all keys of the map
 pub all_left : {S : Type 0} (s : Ghosts S) (db : Database S s) (map : Contents) → Holds s (store_of db) (meta_of db) map → length (s.committed (store_of db)) + 1 ≡ (pages_of db).end → (pages_of db).staged ≡ []
@@ -190,7 +190,7 @@ keeps_err fault k = record {
 -- what an Ok leaves, with the pass elsewhere
 pub keeps_passed : {S T : Type 0} {s : Ghosts S} (old new : Database S s) (value : T) → Keeps old (with_pass new old.pass) (Ok value) → Keeps old new (Ok value)
 keeps_passed old new value k = record {
-  goes = record { honesty = k.goes.honesty; later = k.goes.later; limit = k.goes.limit; capacity = k.goes.capacity; still = λ broken. k.goes.still broken };
+  goes = record { honesty = k.goes.honesty; later = k.goes.later; limit = k.goes.limit; capacity = k.goes.capacity; writable = k.goes.writable; still = λ broken. k.goes.still broken };
   fault = λ is. k.fault is;
   no_error = k.no_error;
   error = tt;
@@ -223,9 +223,9 @@ module _ {S : Type 0} (s : Ghosts S) (old : Database S s) (h : Handle) (at : IsA
         survives = λ usable. stays (MayBeLeft own own model.Error) (inl refl) usable;
       }
 
-  pub cleared_step : (idle : (pages_of old).staged ≡ []) (writable : (pages_of old).writable ≡ true) (valid : IsMeta (meta_of old)) → IsStep old (kept_error s old idle writable valid None) h model.Clear (model.Number 0)
-  cleared_step idle writable valid =
-      let new = kept_error s old idle writable valid None in
+  pub cleared_step : (idle : (pages_of old).staged ≡ []) (access : (pages_of old).writable ≡ old.writable) (valid : IsMeta (meta_of old)) → IsStep old (kept_error s old idle access valid None) h model.Clear (model.Number 0)
+  cleared_step idle access valid =
+      let new = kept_error s old idle access valid None in
       let own = handle_of old h.state.map h.state.pass in
       from_own at record {
         after = handle_of new h.state.map h.state.pass;

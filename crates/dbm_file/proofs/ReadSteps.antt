@@ -38,13 +38,14 @@ pub kept_first : (old : Option Fault) (fault : Fault) → option_map fault_of (c
 kept_first None fault = refl
 kept_first (Some earlier) fault = refl
 
-abbrev state_with : Contents → Option Keys → ℕ → Option model.Fault → Bool → State
-state_with map pass limit error usable = record { map = map; limit = limit; error = error; pass = pass; writable = true; usable = usable }
+abbrev state_with : Contents → Option Keys → ℕ → Option model.Fault → Bool → Bool → State
+state_with map pass limit error writable usable = record { map = map; limit = limit; error = error; pass = pass; writable = writable; usable = usable }
 
-pub same_parts : (map : Contents) (pass : Option Keys) (limit limit' : ℕ) (error error' : Option model.Fault) (usable usable' : Bool) → limit ≡ limit' → error ≡ error' → usable ≡ usable'
-    → state_with map pass limit error usable ≡ state_with map pass limit' error' usable'
-same_parts map pass limit limit' error error' usable usable' l e u =
-    ap (λ (n : ℕ). state_with map pass n error usable) l ∙ ap (λ (f : Option model.Fault). state_with map pass limit' f usable) e ∙ ap (state_with map pass limit' error') u
+pub same_parts : (map : Contents) (pass : Option Keys) (limit limit' : ℕ) (error error' : Option model.Fault) (writable writable' usable usable' : Bool) → limit ≡ limit' → error ≡ error' → writable ≡ writable' → usable ≡ usable'
+    → state_with map pass limit error writable usable ≡ state_with map pass limit' error' writable' usable'
+same_parts map pass limit limit' error error' writable writable' usable usable' l e w u =
+    ap (λ (n : ℕ). state_with map pass n error writable usable) l ∙ ap (λ (f : Option model.Fault). state_with map pass limit' f writable usable) e
+    ∙ ap (λ (b : Bool). state_with map pass limit' error' b usable) w ∙ ap (state_with map pass limit' error' writable') u
 
 -- a database at its own map and pass
 pub at_own : {S : Type 0} {s : Ghosts S} (db : Database S s) (map : Contents) (pass : Option Keys) → HoldsMap db map → Rests db map → HoldsPass db pass → IsAt db (handle_of db map pass)
@@ -69,7 +70,7 @@ after_reads s db read page reads = record db {
   store = read;
   page = page;
   idle = ap (λ (st : store.State). st.staged) reads.same ∙ db.idle;
-  writable = ap (λ (st : store.State). st.writable) reads.same ∙ db.writable;
+  told = ap (λ (st : store.State). st.writable) reads.same ∙ db.told;
 }
 
 -- a store that isn't broken is usable
@@ -88,15 +89,18 @@ module _ {S : Type 0} (s : Ghosts S) (old new : Database S s) (read : IsRead old
   pub still_usable : (pages_of new).usable ≡ (pages_of old).usable
   still_usable = ap (λ (st : store.State). st.usable) read.reads.same
 
+  pub still_writable : (pages_of new).writable ≡ (pages_of old).writable
+  still_writable = ap (λ (st : store.State). st.writable) read.reads.same
+
 module _ {S : Type 0} (s : Ghosts S) (old new : Database S s) (map : Contents) (pass : Option Keys) where
   -- the state of a database with this fault
-  pub flagged_is : (fault : Fault) → (meta_of new).limit ≡ (meta_of old).limit → new.error ≡ old.error → (pages_of new).usable ≡ (pages_of old).usable
+  pub flagged_is : (fault : Fault) → (meta_of new).limit ≡ (meta_of old).limit → new.error ≡ old.error → (pages_of new).writable ≡ (pages_of old).writable → (pages_of new).usable ≡ (pages_of old).usable
       → (handle_of (with_fault new fault) map pass).state ≡ flagged (fault_of fault) (handle_of old map pass).state
-  flagged_is fault limit error usable =
-      same_parts map pass _ _ _ _ _ _ limit (ap (λ (e : Option Fault). option_map fault_of (cond (is_some e) e (Some fault))) error ∙ kept_first old.error fault) usable
+  flagged_is fault limit error writable usable =
+      same_parts map pass _ _ _ _ _ _ _ _ limit (ap (λ (e : Option Fault). option_map fault_of (cond (is_some e) e (Some fault))) error ∙ kept_first old.error fault) writable usable
 
-  pub same_state : (meta_of new).limit ≡ (meta_of old).limit → new.error ≡ old.error → (pages_of new).usable ≡ (pages_of old).usable → (handle_of new map pass).state ≡ (handle_of old map pass).state
-  same_state limit error usable = same_parts map pass _ _ _ _ _ _ limit (ap (λ (e : Option Fault). option_map fault_of e) error) usable
+  pub same_state : (meta_of new).limit ≡ (meta_of old).limit → new.error ≡ old.error → (pages_of new).writable ≡ (pages_of old).writable → (pages_of new).usable ≡ (pages_of old).usable → (handle_of new map pass).state ≡ (handle_of old map pass).state
+  same_state limit error writable usable = same_parts map pass _ _ _ _ _ _ _ _ limit (ap (λ (e : Option Fault). option_map fault_of e) error) writable usable
 
 module _ {S : Type 0} (s : Ghosts S) (old new : Database S s) (map : Contents) where
   module _ (read : IsRead old new) where
@@ -134,7 +138,7 @@ module _ {S : Type 0} (s : Ghosts S) (old new : Database S s) (map : Contents) (
     step = record {
       counts = read.reads.stages_only.later;
       answers = inl (subst (λ (c : Case). Answers before.state c reply (handle_of new map pass).state) (sym falls)
-          (refl, same_state s old new map pass (still_limit s old new read) read.error_is (still_usable s old new read)));
+          (refl, same_state s old new map pass (still_limit s old new read) read.error_is (still_writable s old new read) (still_usable s old new read)));
     };
     is_at = at_own new map pass (λ usable. still_holds s old new map read honest h) (λ usable. still_rests s old new map read honest rests) (λ usable. still_passes s old new pass read honest going);
     survives = λ usable. still_survives s old new map read honest rests (MayBeLeft before (handle_of new map pass) call) (inl refl);
@@ -145,7 +149,7 @@ module _ {S : Type 0} (s : Ghosts S) (old new : Database S s) (map : Contents) (
     refused = with_fault new fault
 
     refused_state : (handle_of refused map pass).state ≡ flagged (fault_of fault) before.state
-    refused_state = flagged_is s old new map pass fault (still_limit s old new read) read.error_is (still_usable s old new read)
+    refused_state = flagged_is s old new map pass fault (still_limit s old new read) read.error_is (still_writable s old new read) (still_usable s old new read)
 
     refused_step : (Step before call (model.Refused (fault_of fault)) (handle_of refused map pass)) → IsStep old refused before call (model.Refused (fault_of fault))
     refused_step step = record {
@@ -213,7 +217,7 @@ broken_step s old map pass call broken falls = record {
   step = record {
     counts = omega arith;
     answers = inl (subst (λ (c : Case). Answers (handle_of old map pass).state c (model.Refused model.Broken) (handle_of (with_fault old Broken) map pass).state) (sym falls)
-        (refl, flagged_is s old old map pass Broken refl refl refl));
+        (refl, flagged_is s old old map pass Broken refl refl refl refl));
   };
   is_at = at_own (with_fault old Broken) map pass (λ usable. absurd (let e = usable in cc)) (λ usable. absurd (let e = usable in cc)) (λ usable. absurd (let e = usable in cc));
   survives = λ usable. absurd (let e = usable in cc);
@@ -226,6 +230,7 @@ module _ {S : Type 0} (s : Ghosts S) (old new : Database S s) (read : IsRead old
     later = read.reads.stages_only.later;
     limit = still_limit s old new read;
     capacity = ap (λ (st : store.State). st.capacity) read.reads.same;
+    writable = still_writable s old new read;
     still = λ broken. absurd (let e = broken in cc);
   }
 
@@ -243,7 +248,7 @@ module _ {S : Type 0} (s : Ghosts S) (old new : Database S s) (read : IsRead old
   pub refused_keeps : (T : Type 0) (fault : Fault) → (fault ≡ Device → MoreFaults (s.faults (store_of old)) (s.faults (store_of new))) → (fault ≡ Broken → ⊥)
       → Keeps {T = T} old (with_fault new fault) (Err fault)
   refused_keeps T fault more sound = record {
-    goes = record { honesty = read_goes.honesty; later = read_goes.later; limit = read_goes.limit; capacity = read_goes.capacity; still = λ broken. read_goes.still broken };
+    goes = record { honesty = read_goes.honesty; later = read_goes.later; limit = read_goes.limit; capacity = read_goes.capacity; writable = read_goes.writable; still = λ broken. read_goes.still broken };
     fault = λ is. more (let e = is in cc);
     no_error = tt;
     error = ap (λ (e : Option Fault). option_map fault_of (cond (is_some e) e (Some fault))) read.error_is ∙ kept_first old.error fault;
@@ -254,7 +259,7 @@ module _ {S : Type 0} (s : Ghosts S) (old new : Database S s) (read : IsRead old
 
 pub broken_keeps : {S : Type 0} (T : Type 0) (s : Ghosts S) (old : Database S s) → (pages_of old).usable ≡ false → Keeps {T = T} old (with_fault old Broken) (Err Broken)
 broken_keeps T s old broken = record {
-  goes = record { honesty = (λ h. h, λ h. h); later = omega arith; limit = refl; capacity = refl; still = λ is. refl };
+  goes = record { honesty = (λ h. h, λ h. h); later = omega arith; limit = refl; capacity = refl; writable = refl; still = λ is. refl };
   fault = λ is. absurd (let e = is in cc);
   no_error = tt;
   error = kept_first old.error Broken;

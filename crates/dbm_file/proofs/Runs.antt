@@ -124,7 +124,7 @@ pub seen_last : {X Y : Type 0} (f : X → Y) (old new : List X) (x : X) → new 
 seen_last f old new x is = ap (map f) is ∙ map-append f old (x ∷ [])
 
 pub goes_nowhere : {S : Type 0} {s : Ghosts S} (db : Database S s) → Goes db db
-goes_nowhere db = record { honesty = (λ h. h, λ h. h); later = omega arith; limit = refl; capacity = refl; still = λ broken. refl }
+goes_nowhere db = record { honesty = (λ h. h, λ h. h); later = omega arith; limit = refl; capacity = refl; writable = refl; still = λ broken. refl }
 
 pub still_goes : {S : Type 0} {s : Ghosts S} (old mid new : Database S s) → Goes old mid → Goes mid new → Goes old new
 still_goes {S} {s} old mid new first second = record {
@@ -132,5 +132,6 @@ still_goes {S} {s} old mid new first second = record {
   later = omega (arith, first.later, second.later);
   limit = second.limit ∙ first.limit;
   capacity = second.capacity ∙ first.capacity;
+  writable = second.writable ∙ first.writable;
   still = λ broken. second.still (ap (λ (store : S). (s.state store).usable) (first.still broken) ∙ broken) ∙ first.still broken;
 }

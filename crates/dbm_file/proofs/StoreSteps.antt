@@ -1,5 +1,5 @@
 -- Stores and deletes that change the file, and their refusals by the pages below.
-use Rattle.std.proofs.Common.{◌≡◌, ℕ, ◌+◌, ◌<◌, ◌≤◌, List, [], length, Bool, true, false, cond, is_some, Option, Some, Result, Ok, Err, refl, sym, ◌∙◌, ap, subst, arith}
+use Rattle.std.proofs.Common.{◌≡◌, ℕ, ◌+◌, ◌<◌, ◌≤◌, List, [], length, Bool, true, false, cond, is_some, Option, Some, Result, Ok, Err, sym, ◌∙◌, ap, subst, arith}
 use Rattle.std.specs.Prelude.{IsErrAnd}
 use Rattle.std.specs.FinMap.{get, insert, remove, empty_of_len, get-empty}
 use Rattle.dbm_model.specs.Calls as model
@@ -29,7 +29,7 @@ use Rattle.dbm_file.proofs.ChangeSteps.{IsAsked}
 use Rattle.dbm_file.proofs.Lends.{kept_error, flagged_step}
 use Rattle.dbm_file.proofs.Tables.{counted}
 
-module _ {S : Type 0} (s : Ghosts S) (old mid : Database S s) (map : Contents) (pass : Option Keys) (key : List ℕ) (read : IsRead old mid) (usable : (pages_of old).usable ≡ true) (honest : s.honest (store_of old))
+module _ {S : Type 0} (s : Ghosts S) (old mid : Database S s) (map : Contents) (pass : Option Keys) (key : List ℕ) (read : IsRead old mid) (usable : (pages_of old).usable ≡ true) (writable : (pages_of old).writable ≡ true) (honest : s.honest (store_of old))
     (h : Holds s (store_of old) (meta_of old) map) (going : IsPass (s.committed (store_of old)) (meta_of old) (cursor_of old) pass) (rests : (x : Settled) → s.settles_to (store_of old) x → ImageStandsFor x map (meta_of old).limit) where
   -- a store of an allowed pair, whose key was there or not
   pub store_asked : (content : List ℕ) (mode : StoreMode) (there : Bool) → length key + length content ≤ 2026 → there ≡ is_some (get map key) → (there ≡ true → mode ≡ Replace) → (there ≡ false → mid.meta.pairs < mid.meta.limit)
@@ -41,7 +41,7 @@ module _ {S : Type 0} (s : Ghosts S) (old mid : Database S s) (map : Contents) (
     holds = h;
     rests = rests;
     going = going;
-    falls = store_rule (handle_of old map pass).state key content (mode_of mode) usable refl short
+    falls = store_rule (handle_of old map pass).state key content (mode_of mode) usable writable short
         ∙ changes (handle_of old map pass).state key content (get map key) (mode_of mode) (λ has. ap mode_of (replaces (is ∙ has)))
         (λ absent. omega (arith, few (is ∙ absent), counted s old.store (meta_of old) map h, ap (λ (m : code.Meta). m.limit) read.meta_is, ap (λ (m : code.Meta). m.pairs) read.meta_is));
   }
@@ -55,7 +55,7 @@ module _ {S : Type 0} (s : Ghosts S) (old mid : Database S s) (map : Contents) (
     holds = h;
     rests = rests;
     going = going;
-    falls = delete_rule (handle_of old map pass).state key usable refl ∙ removes (handle_of old map pass).state key (get map key) is;
+    falls = delete_rule (handle_of old map pass).state key usable writable ∙ removes (handle_of old map pass).state key (get map key) is;
   }
 
 -- a file that counts no pair has no key
@@ -76,10 +76,10 @@ module _ {S : Type 0} {s : Ghosts S} {old : Database S s} (new : Database S s) {
   delete_told (Err fault) is = subst (λ (f : Fault). IsStep old (with_fault new f) h call (model.Refused (fault_of f))) (sym is) step
 
 -- the step of a call whose fault was then kept as the first one
-module _ {S : Type 0} (s : Ghosts S) (old db : Database S s) (h : Handle) (idle : (pages_of db).staged ≡ []) (writable : (pages_of db).writable ≡ true) (valid : IsMeta (meta_of db)) (call : model.Call) (error : Option Fault) (fault : Fault)
+module _ {S : Type 0} (s : Ghosts S) (old db : Database S s) (h : Handle) (idle : (pages_of db).staged ≡ []) (access : (pages_of db).writable ≡ db.writable) (valid : IsMeta (meta_of db)) (call : model.Call) (error : Option Fault) (fault : Fault)
     (flag : error ≡ cond (is_some db.error) db.error (Some fault)) where
-  pub store_flagged : (r : Result StoreReply Fault) → r ≡ Err fault → IsStep old (with_fault db fault) h call (model.Refused (fault_of fault)) → IsStep old (kept_error s db idle writable valid error) h call (store_reply r)
-  store_flagged r is step = subst (λ (x : Result StoreReply Fault). IsStep old (kept_error s db idle writable valid error) h call (store_reply x)) (sym is) (flagged_step s old db h idle writable valid call error fault flag (model.Refused (fault_of fault)) step)
+  pub store_flagged : (r : Result StoreReply Fault) → r ≡ Err fault → IsStep old (with_fault db fault) h call (model.Refused (fault_of fault)) → IsStep old (kept_error s db idle access valid error) h call (store_reply r)
+  store_flagged r is step = subst (λ (x : Result StoreReply Fault). IsStep old (kept_error s db idle access valid error) h call (store_reply x)) (sym is) (flagged_step s old db h idle access valid call error fault flag (model.Refused (fault_of fault)) step)
 
-  pub delete_flagged : (r : Result DeleteReply Fault) → r ≡ Err fault → IsStep old (with_fault db fault) h call (model.Refused (fault_of fault)) → IsStep old (kept_error s db idle writable valid error) h call (delete_reply r)
-  delete_flagged r is step = subst (λ (x : Result DeleteReply Fault). IsStep old (kept_error s db idle writable valid error) h call (delete_reply x)) (sym is) (flagged_step s old db h idle writable valid call error fault flag (model.Refused (fault_of fault)) step)
+  pub delete_flagged : (r : Result DeleteReply Fault) → r ≡ Err fault → IsStep old (with_fault db fault) h call (model.Refused (fault_of fault)) → IsStep old (kept_error s db idle access valid error) h call (delete_reply r)
+  delete_flagged r is step = subst (λ (x : Result DeleteReply Fault). IsStep old (kept_error s db idle access valid error) h call (delete_reply x)) (sym is) (flagged_step s old db h idle access valid call error fault flag (model.Refused (fault_of fault)) step)

@@ -57,6 +57,7 @@ pub record Goes {S : Type 0} {s : Ghosts S} (old new : Database S s) : Type 0 wh
   pub later : s.faults (store_of old) ≤ s.faults (store_of new)
   pub limit : (meta_of new).limit ≡ (meta_of old).limit
   pub capacity : (pages_of new).capacity ≡ (pages_of old).capacity
+  pub writable : (pages_of new).writable ≡ (pages_of old).writable
   -- a broken one makes no device call
   pub still : (pages_of old).usable ≡ false → store_of new ≡ store_of old
 

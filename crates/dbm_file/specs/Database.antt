@@ -49,7 +49,7 @@ HoldsPass {S} {s} db pass = (pages_of db).usable ≡ true → IsPass (s.committe
 -- the handle of a database at this map and pass
 abbrev pub handle_of : {S : Type 0} {s : Ghosts S} → Database S s → Contents → Option Keys → Handle
 handle_of {S} {s} db map pass = record {
-  state = record { map = map; limit = (meta_of db).limit; error = error_of db; pass = pass; writable = true; usable = (pages_of db).usable };
+  state = record { map = map; limit = (meta_of db).limit; error = error_of db; pass = pass; writable = (pages_of db).writable; usable = (pages_of db).usable };
   faults = s.faults (store_of db);
   is_short = nat_lt (pages_of db).capacity (2 * ((pages_of db).end + (meta_of db).pairs) + 8);
 }

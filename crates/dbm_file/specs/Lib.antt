@@ -13,4 +13,5 @@ pub mod Ending
 pub mod Lending
 pub mod Opening
 pub mod Opened
+pub mod Named
 pub mod Trying

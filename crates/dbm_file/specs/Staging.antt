@@ -1,12 +1,11 @@
 -- What a change stages.
-use Rattle.std.specs.Prelude.{◌≡◌, ◌⊎◌, ◌+◌, ◌^◌, ◌≤◌, ◌<◌, ℕ, false, length, Result, IfErr, IsErrOf}
+use Rattle.std.specs.Prelude.{◌≡◌, ◌⊎◌, ◌+◌, ◌^◌, ◌≤◌, ◌<◌, ℕ, true, false, length, Result, IfErr, IsErrOf}
 use Rattle.dbm_model.specs.Address.{grown}
 use Rattle.dbm_model.specs.Pages.{Meta, Body}
 use Rattle.dbm_model.specs.Placement.{Placement, IsSound}
 use Rattle.dbm_model.specs.Sheets.{meta_of, IsSpelled}
 use Rattle.free_pages.specs.declared.free_state.FreeState.{FreeState}
-use Rattle.page_io.specs.Store.{State}
-use Rattle.page_io.specs.Views.{MayEnd}
+use Rattle.page_io.specs.Store.{State, AllBelow, has_page}
 use Rattle.page_io.specs.declared.store.PageFault.{PageFault}
 use Rattle.page_io.specs.declared.store.PageFault.TheVariants.{Memory, Device, Broken, NoRoom, Damaged}
 use Rattle.seg_table.specs.Heads.{AddsSegment}
@@ -32,9 +31,10 @@ pub record IsGrown (old new : Meta) : Type 0 where
   pub segments : AddsSegment old (record old { segments = new.segments }) (2 ^ old.level + old.split)
   pub rest : new ≡ record old { level = new.level; split = new.split; segments = new.segments }
 
--- the staged pages can be committed with this end
+-- the staged pages can be committed with this end: they are below it, and those behind the old end are among them
 pub record MayCommit (state : State) (end : ℕ) : Type 0 where
-  pub may_end : MayEnd state end
+  pub below : AllBelow end state.staged
+  pub grown : (n : ℕ) → state.end ≤ n → n < end → has_page state.staged n ≡ true
   pub some : 0 < length state.staged
   pub least : 4 ≤ end
 

@@ -27,9 +27,10 @@ pub struct Database<S: PageStore> {
     pub(crate) page: Page,
     pub(crate) error: Option<Fault>,
     pub(crate) pass: Option<Cursor>,
+    pub(crate) writable: bool,
     pub(crate) alloc: Global,
     pub(crate) ghost idle: { (S.state store).staged ≡ [] },
-    pub(crate) ghost writable: { (S.state store).writable ≡ true },
+    pub(crate) ghost told: { (S.state store).writable ≡ writable },
     pub(crate) ghost valid: { IsMeta (says meta) },
 }
 
@@ -74,8 +75,8 @@ impl<S: PageStore> Database<S> {
         }
     }
 
-    /// Stores a pair (POSIX: `dbm_store`), in one commit. In this order: `Broken`; `TooLong` where key and content together
-    /// are above 2,026 bytes; `Device` or `Damaged` while the key is looked up; `Kept`; `Full` where the key is new and the
+    /// Stores a pair (POSIX: `dbm_store`), in one commit. In this order: `Broken`; `ReadOnly`; `TooLong` where key and content
+    /// together are above 2,026 bytes; `Device` or `Damaged` while the key is looked up; `Kept`; `Full` where the key is new and the
     /// limit is reached; then `Memory`, `Device`, `NoRoom` or `Damaged` as the work meets them. Where the commit fails by
     /// `Device`, the database is broken, and opening the device again settles whether the pair is there.
     pub fn store(
@@ -86,9 +87,10 @@ impl<S: PageStore> Database<S> {
     ) -> Result<StoreReply, Fault>
         ensures step { S.honest (store_of self.old) → (h : Handle) → IsAt self.old h → IsStep self.old self.new h (Store key.now content.now (mode_of mode)) (store_reply result) }
         ensures shape { shape_in (meta_of self.new) ≡ shape_for (meta_of self.new).pairs (shape_in (meta_of self.old)) }
-        ensures too_long { (result ≡ Err Fault.TooLong) ↔ (((pages_of self.old).usable ≡ true) × (2026 < length key.now + length content.now)) }
+        ensures read_only { (result ≡ Err Fault.ReadOnly) ↔ (((pages_of self.old).usable ≡ true) × ((pages_of self.old).writable ≡ false)) }
+        ensures too_long { (result ≡ Err Fault.TooLong) ↔ (((pages_of self.old).usable ≡ true) × ((pages_of self.old).writable ≡ true) × (2026 < length key.now + length content.now)) }
         ensures keeps { Keeps self.old self.new result }
-        ensures only { IfErr result (λ e. (e ≡ Fault.Broken) ⊎ ((e ≡ Fault.TooLong) ⊎ ((e ≡ Fault.Full) ⊎ ((e ≡ Fault.Memory) ⊎ ((e ≡ Fault.Device) ⊎ ((e ≡ Fault.NoRoom) ⊎ (e ≡ Fault.Damaged))))))) }
+        ensures only { IfErr result (λ e. (e ≡ Fault.Broken) ⊎ ((e ≡ Fault.ReadOnly) ⊎ ((e ≡ Fault.TooLong) ⊎ ((e ≡ Fault.Full) ⊎ ((e ≡ Fault.Memory) ⊎ ((e ≡ Fault.Device) ⊎ ((e ≡ Fault.NoRoom) ⊎ (e ≡ Fault.Damaged)))))))) }
     {
         match self.try_store(key, content, mode) {
             Ok(reply) => Ok(reply),
@@ -96,13 +98,14 @@ impl<S: PageStore> Database<S> {
         }
     }
 
-    /// Deletes a key with its content (POSIX: `dbm_delete`), in one commit. In this order: `Broken`; `Device` or `Damaged`
-    /// while the key is looked up; `Absent`; then as `store`, and `Damaged` where the file counts no pair.
+    /// Deletes a key with its content (POSIX: `dbm_delete`), in one commit. In this order: `Broken`; `ReadOnly`; `Device` or
+    /// `Damaged` while the key is looked up; `Absent`; then as `store`, and `Damaged` where the file counts no pair.
     pub fn delete(&mut self, key: &[u8]) -> Result<DeleteReply, Fault>
         ensures step { S.honest (store_of self.old) → (h : Handle) → IsAt self.old h → IsStep self.old self.new h (Delete key.now) (delete_reply result) }
         ensures shape { shape_in (meta_of self.new) ≡ shape_in (meta_of self.old) }
+        ensures read_only { (result ≡ Err Fault.ReadOnly) ↔ (((pages_of self.old).usable ≡ true) × ((pages_of self.old).writable ≡ false)) }
         ensures keeps { Keeps self.old self.new result }
-        ensures only { IfErr result (λ e. (e ≡ Fault.Broken) ⊎ ((e ≡ Fault.Memory) ⊎ ((e ≡ Fault.Device) ⊎ ((e ≡ Fault.NoRoom) ⊎ (e ≡ Fault.Damaged))))) }
+        ensures only { IfErr result (λ e. (e ≡ Fault.Broken) ⊎ ((e ≡ Fault.ReadOnly) ⊎ ((e ≡ Fault.Memory) ⊎ ((e ≡ Fault.Device) ⊎ ((e ≡ Fault.NoRoom) ⊎ (e ≡ Fault.Damaged)))))) }
     {
         match self.try_delete(key) {
             Ok(reply) => Ok(reply),
@@ -204,12 +207,16 @@ impl<S: PageStore> Database<S> {
     ) -> Result<StoreReply, Fault>
         ensures step { S.honest (store_of self.old) → (h : Handle) → IsAt self.old h → IsStep self.old (with_error_of self.new result) h (Store key.now content.now (mode_of mode)) (store_reply result) }
         ensures shape { shape_in (meta_of self.new) ≡ shape_for (meta_of self.new).pairs (shape_in (meta_of self.old)) }
-        ensures too_long { (result ≡ Err Fault.TooLong) ↔ (((pages_of self.old).usable ≡ true) × (2026 < length key.now + length content.now)) }
+        ensures read_only { (result ≡ Err Fault.ReadOnly) ↔ (((pages_of self.old).usable ≡ true) × ((pages_of self.old).writable ≡ false)) }
+        ensures too_long { (result ≡ Err Fault.TooLong) ↔ (((pages_of self.old).usable ≡ true) × ((pages_of self.old).writable ≡ true) × (2026 < length key.now + length content.now)) }
         ensures keeps { Keeps self.old (with_error_of self.new result) result }
-        ensures only { IfErr result (λ e. (e ≡ Fault.Broken) ⊎ ((e ≡ Fault.TooLong) ⊎ ((e ≡ Fault.Full) ⊎ ((e ≡ Fault.Memory) ⊎ ((e ≡ Fault.Device) ⊎ ((e ≡ Fault.NoRoom) ⊎ (e ≡ Fault.Damaged))))))) }
+        ensures only { IfErr result (λ e. (e ≡ Fault.Broken) ⊎ ((e ≡ Fault.ReadOnly) ⊎ ((e ≡ Fault.TooLong) ⊎ ((e ≡ Fault.Full) ⊎ ((e ≡ Fault.Memory) ⊎ ((e ≡ Fault.Device) ⊎ ((e ≡ Fault.NoRoom) ⊎ (e ≡ Fault.Damaged)))))))) }
     {
         if self.store.is_broken() {
             return Err(Fault::Broken);
+        }
+        if !self.writable {
+            return Err(Fault::ReadOnly);
         }
         if key.len() + content.len() > MAX_PAIR {
             return Err(Fault::TooLong);
@@ -237,11 +244,15 @@ impl<S: PageStore> Database<S> {
     fn try_delete(&mut self, key: &[u8]) -> Result<DeleteReply, Fault>
         ensures step { S.honest (store_of self.old) → (h : Handle) → IsAt self.old h → IsStep self.old (with_error_of self.new result) h (Delete key.now) (delete_reply result) }
         ensures shape { shape_in (meta_of self.new) ≡ shape_in (meta_of self.old) }
+        ensures read_only { (result ≡ Err Fault.ReadOnly) ↔ (((pages_of self.old).usable ≡ true) × ((pages_of self.old).writable ≡ false)) }
         ensures keeps { Keeps self.old (with_error_of self.new result) result }
-        ensures only { IfErr result (λ e. (e ≡ Fault.Broken) ⊎ ((e ≡ Fault.Memory) ⊎ ((e ≡ Fault.Device) ⊎ ((e ≡ Fault.NoRoom) ⊎ (e ≡ Fault.Damaged))))) }
+        ensures only { IfErr result (λ e. (e ≡ Fault.Broken) ⊎ ((e ≡ Fault.ReadOnly) ⊎ ((e ≡ Fault.Memory) ⊎ ((e ≡ Fault.Device) ⊎ ((e ≡ Fault.NoRoom) ⊎ (e ≡ Fault.Damaged)))))) }
     {
         if self.store.is_broken() {
             return Err(Fault::Broken);
+        }
+        if !self.writable {
+            return Err(Fault::ReadOnly);
         }
         if !self.has(key)? {
             return Ok(DeleteReply::Absent);

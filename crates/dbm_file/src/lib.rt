@@ -5,8 +5,11 @@ mod calls;
 mod changes;
 mod committing;
 mod database;
+mod emptying;
 mod fault;
 mod looking;
+mod making;
+mod named;
 mod octets;
 mod opening;
 mod passing;
@@ -18,15 +21,7 @@ mod staging;
 pub use calls::{Access, Call, DeleteReply, OpenHow, Reply, Stat, StoreMode, StoreReply};
 pub use database::{Database, Db};
 pub use fault::Fault;
+pub use named::dbm_open;
 pub use octets::Octets;
 pub use running::run;
 pub use sizes::needed_sectors;
-
-#[cfg(test)]
-mod file_tests;
-#[cfg(test)]
-mod passing_tests;
-#[cfg(test)]
-mod stop_tests;
-#[cfg(test)]
-mod tests;

@@ -108,6 +108,7 @@ fn stage_meta<S: PageStore>(
     ensures meta { says meta.new ≡ record (says meta.old) { free_head = space.head; free_count = space.count } }
     ensures end { IfOk result (λ end. end ≡ space.file_end) }
     ensures may_commit { MayEnd (S.state store.old) space.file_end → IfOk result (MayCommit (S.state store.new)) }
+    ensures grows { MayEnd (S.state store.old) space.file_end → IfOk result (λ end. (S.state store.old).end ≤ end) }
     ensures page { S.honest store.old → OnOk result (said S.PageStore store.new 1 ≡ MetaPage (says meta.new)) }
     ensures others { S.honest store.old → (n : ℕ) → (n ≡ 1 → ⊥) → said S.PageStore store.new n ≡ said S.PageStore store.old n }
 {
@@ -148,6 +149,7 @@ pub fn stage_store<S: PageStore>(
     ensures pairs { OnOk result (meta.new.pairs ≡ (if was_there then meta.old.pairs else meta.old.pairs + 1)) }
     ensures shape { OnOk result (shape_in (says meta.new) ≡ shape_for meta.new.pairs (shape_in (says meta.old))) }
     ensures may_commit { IfOk result (MayCommit (S.state store.new)) }
+    ensures grows { IfOk result (λ end. (S.state store.old).end ≤ end) }
 
     // On the pages of a good placement it leaves the model's, is never Damaged, and takes few pages.
     ensures exact { S.honest store.old → (p : Placement) → IsTable (said S.PageStore store.old) (says meta.old) (S.state store.old).end p → MayStore p (key.now, content.now) → was_there ≡ is_some (get (contents p) key.now) →
@@ -200,6 +202,7 @@ pub fn stage_delete<S: PageStore>(
     ensures pairs { OnOk result (meta.new.pairs + 1 ≡ meta.old.pairs) }
     ensures shape { OnOk result (shape_in (says meta.new) ≡ shape_in (says meta.old)) }
     ensures may_commit { IfOk result (MayCommit (S.state store.new)) }
+    ensures grows { IfOk result (λ end. (S.state store.old).end ≤ end) }
 
     // On the pages of a good placement it leaves the model's, and is never Damaged.
     ensures exact { S.honest store.old → (p : Placement) → IsTable (said S.PageStore store.old) (says meta.old) (S.state store.old).end p → is_some (get (contents p) key.now) ≡ true →

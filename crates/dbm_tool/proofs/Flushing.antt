@@ -16,7 +16,7 @@ kept (Some xs) (Some ys) None text wrote keeps = absurd keeps
 kept (Some xs) (Some ys) (Some zs) text wrote keeps = keeps ∙ wrote
 
 -- the answer of a new database, after the last flush
-pub answered : {S E : Type 0} {s : Ghosts S} (r : Result Unit E) (limit : ℕ) (first old mid new : Option (List ℕ)) (db after : Database S s) (opened : IsOpenedAt db map.empty limit) → is_limit limit ≡ true
+pub answered : {S E : Type 0} {s : Ghosts S} (r : Result Unit E) (limit : ℕ) (first old mid new : Option (List ℕ)) (db after : Database S s) (opened : IsOpenedAt true db map.empty limit) → is_limit limit ≡ true
     → IfSome first (λ text. AnswersScript (script_of text) db after opened.handle old mid) → Keeps mid new → OnOk r (IfSome first (λ text. AnswersInMemory limit text old new))
 answered {S} {E} {s} r limit first old mid new db after opened allowed answers keeps = by_case r first answers
   where

@@ -1,6 +1,8 @@
 -- A device in memory is large enough, and blank.
-use Rattle.std.proofs.Common.{◌≡◌, inl, inr, ℕ, suc, ◌+◌, ◌*◌, ◌≤◌, true, false, cond, Some, None, refl, ap, subst, ◌∙◌, arith}
+use Rattle.std.proofs.Common.{◌≡◌, ◌⊎◌, inl, inr, ℕ, suc, ◌+◌, ◌*◌, ◌≤◌, Bool, true, false, cond, Option, Some, None, refl, ap, subst, ◌∙◌, arith}
 use Rattle.std.specs.FinMap.{empty}
+use Rattle.std.specs.Prelude.{nat_lt}
+use Rattle.std.proofs.lemmas.Bool.{le-ltb}
 use Rattle.std.proofs.lemmas.Bool.Decides.{leb_tells}
 use Rattle.sect_dev.specs.Device.{Image, Candidates, IsImageOf, IsStable}
 use Rattle.sect_dev.specs.Sector.{zeros}
@@ -12,8 +14,10 @@ use Rattle.redo_area.specs.Header.{header_of}
 use Rattle.redo_area.specs.File.{settled, settled_by}
 use Rattle.redo_area.specs.declared.header.Header.{Header}
 use Rattle.redo_area.specs.declared.header.Header.TheVariants.{Blank}
-use Rattle.dbm_file.specs.Opening.{room_fault, making_fault, IsOpened}
+use Rattle.dbm_file.specs.Opening.{writes, room_fault, making_fault, Allows, IsOpened}
 use Rattle.dbm_file.specs.declared.calls.OpenHow.{OpenHow}
+use Rattle.dbm_file.specs.declared.fault.Fault.{Fault}
+use Rattle.dbm_file.specs.declared.fault.Fault.TheVariants.{TooSmall}
 
 -- each allowed limit needs at least 16 sectors
 pub enough : (limit n : ℕ) → Some n ≡ sectors_for limit → 16 ≤ n
@@ -29,8 +33,8 @@ fits n = elim (leb_tells (suc n) n) [
 ]
 
 -- a database may be made on a blank device of so many sectors
-pub makes_room : (how : OpenHow) (n sectors : ℕ) → how.create ≡ true → Some n ≡ sectors_for how.limit → sectors ≡ n → making_fault how sectors ≡ None
-makes_room how n sectors create needed same = rw (create, ← needed, same) (fits n)
+pub makes_room : (how : OpenHow) (n sectors : ℕ) → how.create ≡ true → writes how.access ≡ true → Some n ≡ sectors_for how.limit → sectors ≡ n → making_fault how sectors ≡ None
+makes_room how n sectors create writing needed same = rw (create, writing, ← needed, same) (fits n)
 
 blank_header : (pages : ℕ) → header_of pages zeros ≡ Blank
 unfolding header_of zeros
@@ -43,5 +47,15 @@ blank_there pages candidate stable image is = ap (λ (h : Header). settled_by h 
 
 -- what is opened on one is new
 pub opened_new : (how : OpenHow) (pages : ℕ) (start : Candidates) (map : Contents) (limit : ℕ) → ((image : Image) → IsImageOf start image → settled pages image ≡ blank) → IsOpened how pages start map limit → (map ≡ empty) × (limit ≡ how.limit)
-opened_new how pages start map limit none (inl stood) = absurd (subst (λ (y : Settled). ImageStandsFor y map limit) (none stood.image stood.at_start) stood.stands)
+opened_new how pages start map limit none (inl stood) = absurd (subst (λ (y : Settled). ImageStandsFor y map limit) (none stood.0.image stood.0.at_start) stood.0.stands)
 opened_new how pages start map limit none (inr new) = (new.1, new.2)
+
+-- with 16 sectors nothing refuses an opening at once that doesn't empty the database
+pub large_enough : (sectors : ℕ) → 16 ≤ sectors → cond {A = Option Fault} (nat_lt sectors 16) (Some TooSmall) None ≡ None
+large_enough sectors le = ap (λ (b : Bool). cond {A = Option Fault} b (Some TooSmall) None) (le-ltb sectors 16 le)
+
+-- for writing, and with nothing emptied, no memory is wanted
+pub only_device : {A B : Type 0} → A ⊎ (B × ((false ≡ true) ⊎ (true ≡ false))) → A
+only_device (inl a) = a
+only_device (inr (b, inl e)) = absurd (cc)
+only_device (inr (b, inr e)) = absurd (cc)

@@ -135,7 +135,7 @@ fn in_memory(fault: Fault) -> EngineFault
 
 /// A new database in memory, of at most `limit` pairs.
 fn new_in_memory(alloc: Global, limit: u32) -> Result<Db<MemDev>, Fault>
-    ensures fresh { IfOk result (λ db. IsOpenedAt db empty limit) }
+    ensures fresh { IfOk result (λ db. IsOpenedAt true db empty limit) }
     ensures allowed { IfOk result (λ _. is_limit limit ≡ true) }
     ensures limit { is_limit limit ≡ false → result ≡ Err Fault.BadLimit }
     ensures only { is_limit limit ≡ true → IfErr result (λ e. e ≡ Fault.Device) }
@@ -146,6 +146,8 @@ fn new_in_memory(alloc: Global, limit: u32) -> Result<Db<MemDev>, Fault>
     let how = OpenHow {
         access: Access::ReadWrite,
         create: true,
+        exclusive: false,
+        truncate: false,
         limit,
     };
     match Db::open(alloc, MemDev::new(alloc, sectors), how) {

@@ -11,6 +11,8 @@ fn new_db(alloc: Global, limit: u32) -> Option<Db<MemDev>> {
     let how = OpenHow {
         access: Access::ReadWrite,
         create: true,
+        exclusive: false,
+        truncate: false,
         limit,
     };
     match Db::open(alloc, MemDev::new(alloc, 8000), how) {

@@ -1,4 +1,4 @@
-use Rattle.std.proofs.Common.{◌≡◌, ◌∙◌, ℕ, Result, IfOk, OnOk, true, ⊎_elim, is_some, sym, ap, subst, arith}
+use Rattle.std.proofs.Common.{◌≡◌, ◌∙◌, ◌≤◌, ℕ, Result, IfOk, OnOk, true, ⊎_elim, is_some, sym, ap, subst, arith}
 use Rattle.std.specs.FinMap.{get, remove}
 use Rattle.sect_dev.specs.Device.{LeavesOnly}
 use Rattle.std.proofs.lemmas.Result.{on_err_weaker}
@@ -74,6 +74,7 @@ returns-clause-turns g c honest usable map holds was =
           (λ late.
           let is = subst (λ (q : Result ℕ PageFault). IfOk q (λ end. IsStaged (said g.S.PageStore c.stage_delete-staged.new.store) (says c.stage_delete-staged.new.meta) end (delete (plan g c map holds) c.args.key.now))) late.1 (staged.exact honest (plan g c map holds) in_table (there g c map holds was)) in
           let can = subst (λ (q : Result ℕ PageFault). IfOk q (MayCommit (g.S.PageStore.state c.stage_delete-staged.new.store))) late.1 staged.may_commit in
-          let few = few_staged 1 late.0 _ (g.met.S.PageStore.in_order c.stage_delete-staged.new.store) can.may_end.below (omega (arith, can.least)) in
-          lacks_few (g.S.PageStore.state c.stage_delete-staged.new.store) late.0 _ _ _ late.2 can.may_end.least few (omega (arith, is.ends, in_table.ends)) (ap (λ (st : State). st.capacity) staged.stages.state)) by;
+          let grow = subst (λ (q : Result ℕ PageFault). IfOk q (λ end. (g.S.PageStore.state c.args.store.now).end ≤ end)) late.1 staged.grows in
+          let few = few_staged 1 late.0 _ (g.met.S.PageStore.in_order c.stage_delete-staged.new.store) can.below (omega (arith, can.least)) in
+          lacks_few (g.S.PageStore.state c.stage_delete-staged.new.store) late.0 _ _ _ late.2 (omega (arith, grow, ap (λ (st : State). st.end) staged.stages.state)) few (omega (arith, is.ends, in_table.ends)) (ap (λ (st : State). st.capacity) staged.stages.state)) by;
     }

@@ -1,6 +1,5 @@
-use Rattle.std.proofs.Common.{◌≡◌, ℕ, ◌/◌, sym, ap, ◌∙◌, subst}
+use Rattle.std.proofs.Common.{◌≡◌, ℕ, ◌/◌, None, sym, ap, ◌∙◌, subst}
 use Rattle.std.specs.FinMap.{empty}
-use Rattle.std.specs.Option.{option_map}
 use Rattle.sect_dev.specs.Moments.{weaker}
 use Rattle.dbm_model.specs.Meaning.{said_by}
 use Rattle.dbm_model.specs.Pages.{Meta, MetaPage}
@@ -10,12 +9,9 @@ use Rattle.redo_area.specs.Rests.{only_seen}
 use Rattle.redo_area.specs.File.{settled, IsBlankOr}
 use Rattle.redo_area.specs.Pagers.{device_of}
 use Rattle.seg_table.specs.MetaPages.{says}
-use Rattle.dbm_file.specs.Faults.{fault_of}
-use Rattle.dbm_file.proofs.NewFiles.{was_asked, BlankOrNew, blank_or_new}
-use Rattle.dbm_file.proofs.opening.made.Goals as goal
-
-pub returns-in-Ok-clause-asked : goal.returns-in-Ok-clause-asked
-returns-in-Ok-clause-asked g c = was_asked c.args.how c.capacity.result (sym c.refusal_of.ensures ∙ ap (option_map fault_of) c.in_default.is)
+use Rattle.dbm_file.specs.Opening.{making_fault}
+use Rattle.dbm_file.proofs.NewFiles.{BlankOrNew, blank_or_new}
+use Rattle.dbm_file.proofs.making.made.Goals as goal
 
 pub returns-in-Ok-clause-stands : goal.returns-in-Ok-clause-stands
 returns-in-Ok-clause-stands g c honest =
@@ -41,10 +37,11 @@ returns-in-Ok-clause-any_moment g c honest none =
     let cap : ℕ = dev.sectors old / 4 in
     let how = c.args.how in
     let pages = bytes_of c.pages_of_empty.result in
-    let asked = was_asked how c.capacity.result (sym c.refusal_of.ensures ∙ ap (option_map fault_of) c.in_default.is) in
+    let fault = making_fault how (dev.sectors old) in
+    let none_is : fault ≡ None = sym (ap (making_fault how) c.capacity.ensures) ∙ sym c.making_refusal.ensures ∙ c.in_default.is in
     let stands = subst (FileStandsFor pages empty) (ap (λ (m : Meta). m.limit) c.of_empty-meta.ensures) c.pages_of_empty.ensures.stands in
-    weaker dev.moment dev.left_since old (device_of c.in-Ok.store) (λ image. BlankOrNew how.create how.limit (settled cap image)) (λ image. IsBlankOr pages (settled cap image)) (c.in-Ok.ensures.any_moment honest none)
-    (λ image or. blank_or_new pages how.limit how.create stands asked (settled cap image) or)
+    weaker dev.moment dev.left_since old (device_of c.in-Ok.store) (λ image. BlankOrNew fault how.limit (settled cap image)) (λ image. IsBlankOr pages (settled cap image)) (c.in-Ok.ensures.any_moment honest none)
+    (λ image or. blank_or_new pages how.limit fault stands none_is (settled cap image) or)
 
 pub returns-in-Err-clause-any_moment : goal.returns-in-Err-clause-any_moment
 returns-in-Err-clause-any_moment g c honest none =
@@ -53,7 +50,8 @@ returns-in-Err-clause-any_moment g c honest none =
     let cap : ℕ = dev.sectors old / 4 in
     let how = c.args.how in
     let pages = bytes_of c.pages_of_empty.result in
-    let asked = was_asked how c.capacity.result (sym c.refusal_of.ensures ∙ ap (option_map fault_of) c.in_default.is) in
+    let fault = making_fault how (dev.sectors old) in
+    let none_is : fault ≡ None = sym (ap (making_fault how) c.capacity.ensures) ∙ sym c.making_refusal.ensures ∙ c.in_default.is in
     let stands = subst (FileStandsFor pages empty) (ap (λ (m : Meta). m.limit) c.of_empty-meta.ensures) c.pages_of_empty.ensures.stands in
-    weaker dev.moment dev.left_since old c.in-Err.dev (λ image. BlankOrNew how.create how.limit (settled cap image)) (λ image. IsBlankOr pages (settled cap image)) (c.in-Err.ensures.any_moment honest none)
-    (λ image or. blank_or_new pages how.limit how.create stands asked (settled cap image) or)
+    weaker dev.moment dev.left_since old c.in-Err.dev (λ image. BlankOrNew fault how.limit (settled cap image)) (λ image. IsBlankOr pages (settled cap image)) (c.in-Err.ensures.any_moment honest none)
+    (λ image or. blank_or_new pages how.limit fault stands none_is (settled cap image) or)

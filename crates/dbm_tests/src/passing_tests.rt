@@ -1,36 +1,26 @@
 //! A pass over a database.
 
-use super::*;
-use crate::passing::{Cursor, next_pair};
-use crate::tests::{new_database, opened, put, with_first};
-use page_io::{PageFault, PageStore};
+use crate::asking::{Ask, Told, first_wrong};
+use crate::databases::{closed, new_database, opened, put, with_first};
+use dbm_file::{Database, Fault};
+use page_io::PageStore;
 use sect_dev::FailOnce;
-use slot_page::pair_at;
 use std::test::Fail;
 
-/// The first byte of the next pair's key, and the cursor behind that pair.
-fn next_key<S: PageStore>(
-    db: &mut Database<S>,
-    from: Cursor,
-) -> Result<Option<(u8, Cursor)>, PageFault> {
-    let Some((bucket, place)) = next_pair(&mut db.store, &db.meta, from, &mut db.page)? else {
-        return Ok(None);
+/// Whether a pass gives just these keys of one byte, in this order.
+fn passes<S: PageStore>(db: &mut Database<S>, keys: &[u8]) -> Result<bool, Fault> {
+    let Some((first, others)) = keys.split_first() else {
+        return Ok(db.firstkey()?.is_none());
     };
-    let (key, _) = pair_at(&db.page, place.slot);
-    let behind = Some(place);
-    Ok(Some((key.first().copied().unwrap_or(0), Cursor { bucket, behind })))
-}
-
-/// Whether a pass gives just these keys.
-fn passes<S: PageStore>(db: &mut Database<S>, keys: &[u8]) -> Result<bool, PageFault> {
-    let mut cursor = Cursor::START;
-    for key in keys {
-        match next_key(db, cursor)? {
-            Some((found, behind)) if found == *key => cursor = behind,
-            _ => return Ok(false),
+    if db.firstkey()? != Some([*first].as_slice()) {
+        return Ok(false);
+    }
+    for key in others {
+        if db.nextkey()? != Some([*key].as_slice()) {
+            return Ok(false);
         }
     }
-    Ok(next_key(db, cursor)?.is_none())
+    Ok(db.nextkey()?.is_none())
 }
 
 #[test]
@@ -47,17 +37,6 @@ fn an_empty_bucket_is_passed_over(rt: HostRuntime) -> Result<(), Fail> {
         db.delete(&[*key])?;
     }
     assert!(rt; passes(&mut db, b"bdfh")?);
-    Ok(())
-}
-
-#[test]
-fn nothing_is_left_behind_the_last_bucket(rt: HostRuntime) -> Result<(), Fail> {
-    let mut db = with_first(rt.alloc(), 9)?;
-    let cursor = Cursor {
-        bucket: 2,
-        behind: None,
-    };
-    assert!(rt; next_key(&mut db, cursor)?.is_none());
     Ok(())
 }
 
@@ -103,30 +82,40 @@ fn a_pass_over_300_buckets_gives_each_key_once(rt: HostRuntime) -> Result<(), Fa
 #[test]
 fn a_fetch_between_does_a_pass_no_harm(rt: HostRuntime) -> Result<(), Fail> {
     let mut db = with_first(rt.alloc(), 9)?;
-    assert_eq!(rt; db.firstkey()?, Some(b"a".as_slice()));
+    let begins = [(Ask::First, Told::Bytes(b"a"))];
+    assert_eq!(rt; first_wrong(&mut db, &begins), None);
     for key in [b"c", b"e", b"g", b"i", b"b", b"d", b"f", b"h"] {
-        assert!(rt; db.fetch(b"b")?.is_some());
-        assert_eq!(rt; db.delete(b"z")?, DeleteReply::Absent);
-        assert_eq!(rt; db.nextkey()?, Some(key.as_slice()));
+        let table = [
+            (Ask::Fetch(b"b"), Told::Bytes(&[2])),
+            (Ask::Delete(b"z"), Told::Absent),
+            (Ask::Next, Told::Bytes(key)),
+        ];
+        assert_eq!(rt; first_wrong(&mut db, &table), None);
     }
-    assert_eq!(rt; db.nextkey()?, None);
-    assert_eq!(rt; db.nextkey()?, None);
-    assert_eq!(rt; db.firstkey()?, Some(b"a".as_slice()));
+    let ends = [
+        (Ask::Next, Told::Nothing),
+        (Ask::Next, Told::Nothing),
+        (Ask::First, Told::Bytes(b"a")),
+    ];
+    assert_eq!(rt; first_wrong(&mut db, &ends), None);
     Ok(())
 }
 
 #[test]
 fn a_change_ends_a_pass(rt: HostRuntime) -> Result<(), Fail> {
     let mut db = with_first(rt.alloc(), 9)?;
-    assert_eq!(rt; db.nextkey(), Err(Fault::NoPass));
-    assert_eq!(rt; db.firstkey()?, Some(b"a".as_slice()));
-    assert_eq!(rt; db.delete(b"i")?, DeleteReply::Deleted);
-    assert_eq!(rt; db.nextkey(), Err(Fault::NoPass));
-    assert_eq!(rt; db.error(), 7);
-    assert_eq!(rt; put(&mut db, b"k", &[0; 2_026]), Err(Fault::TooLong));
-    assert_eq!(rt; db.error(), 7);
-    assert_eq!(rt; db.clearerr(), 0);
-    assert_eq!(rt; db.error(), 0);
+    let table = [
+        (Ask::Next, Told::Refused(Fault::NoPass)),
+        (Ask::First, Told::Bytes(b"a")),
+        (Ask::Delete(b"i"), Told::Deleted),
+        (Ask::Next, Told::Refused(Fault::NoPass)),
+        (Ask::Error, Told::Number(7)),
+        (Ask::Put(b"k", &[0; 2_026]), Told::Refused(Fault::TooLong)),
+        (Ask::Error, Told::Number(7)),
+        (Ask::Clear, Told::Number(0)),
+        (Ask::Error, Told::Number(0)),
+    ];
+    assert_eq!(rt; first_wrong(&mut db, &table), None);
     Ok(())
 }
 
@@ -139,15 +128,17 @@ const FIRST: u64 = 8;
 #[test]
 fn a_failed_read_leaves_the_pass(rt: HostRuntime) -> Result<(), Fail> {
     let alloc = rt.alloc();
+    let table = [
+        (Ask::First, Told::Bytes(b"a")),
+        (Ask::First, Told::Refused(Fault::Device)),
+        (Ask::Next, Told::Bytes(b"c")),
+        (Ask::Error, Told::Number(2)),
+    ];
     for call in 0..FIRST {
-        let (dev, closed) = with_first(alloc, 9)?.close();
-        closed?;
+        let dev = closed(with_first(alloc, 9)?)?;
         let failing = FailOnce::new(dev, OPENING + FIRST + call);
         let mut db = opened(alloc, failing, false, 0)?;
-        assert_eq!(rt; db.firstkey()?, Some(b"a".as_slice()));
-        assert_eq!(rt; db.firstkey(), Err(Fault::Device), "{call}");
-        assert_eq!(rt; db.nextkey()?, Some(b"c".as_slice()), "{call}");
-        assert_eq!(rt; db.error(), 2, "{call}");
+        assert_eq!(rt; first_wrong(&mut db, &table), None, "{call}");
     }
     Ok(())
 }

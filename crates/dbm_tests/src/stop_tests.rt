@@ -1,8 +1,9 @@
 //! Stops and failed calls of the device, while a database is made, changed and opened.
 
-use super::*;
-use crate::file_tests::{eight_file, first_other, new_file, nine_file, page_at, set_page};
-use crate::tests::{NINE, closed, has_first, opened, opening, put, with_first};
+use crate::asking::{Ask, Told, first_wrong};
+use crate::databases::{NINE, closed, has_first, opened, opening, put, with_first};
+use crate::pages::{eight_file, first_other, new_file, nine_file, page_at, set_page};
+use dbm_file::{Db, Fault, StoreReply};
 use page_io::Page;
 use sect_dev::{DevFault, FailOnce, Fuse, MemDev, SectorDev};
 use std::alloc::Global;
@@ -211,19 +212,25 @@ fn a_failed_sync_leaves_a_change_in_doubt(rt: HostRuntime) -> Result<(), Fail> {
     let alloc = rt.alloc();
     let mut db = opened(alloc, FailOnce::new(eight_pairs(alloc)?, ARMING), false, 0)?;
     let before = db.stat();
-    assert_eq!(rt; put(&mut db, &[0x69], &[9]), Err(Fault::Device));
-    assert_eq!(rt; put(&mut db, &[0x69], &[9]), Err(Fault::Broken));
-    assert_eq!(rt; put(&mut db, &[0x69], &[9; 2_026]), Err(Fault::Broken));
-    assert_eq!(rt; db.delete(&[0x61]), Err(Fault::Broken));
-    assert_eq!(rt; db.fetch(&[0x61]), Err(Fault::Broken));
-    assert_eq!(rt; db.firstkey(), Err(Fault::Broken));
-    assert_eq!(rt; db.nextkey(), Err(Fault::Broken));
-    assert_eq!(rt; db.error(), 2);
-    assert_eq!(rt; db.stat(), before);
     assert_eq!(rt; before.pairs, 8);
-    assert_eq!(rt; db.clearerr(), 0);
-    assert_eq!(rt; db.error(), 0);
-    assert_eq!(rt; db.fetch(&[0x61]), Err(Fault::Broken));
+    let refusals = [
+        (Ask::Put(b"i", &[9]), Told::Refused(Fault::Device)),
+        (Ask::Put(b"i", &[9]), Told::Refused(Fault::Broken)),
+        (Ask::Put(b"i", &[9; 2_026]), Told::Refused(Fault::Broken)),
+        (Ask::Delete(b"a"), Told::Refused(Fault::Broken)),
+        (Ask::Fetch(b"a"), Told::Refused(Fault::Broken)),
+        (Ask::First, Told::Refused(Fault::Broken)),
+        (Ask::Next, Told::Refused(Fault::Broken)),
+        (Ask::Error, Told::Number(2)),
+    ];
+    assert_eq!(rt; first_wrong(&mut db, &refusals), None);
+    assert_eq!(rt; db.stat(), before);
+    let cleared = [
+        (Ask::Clear, Told::Number(0)),
+        (Ask::Error, Told::Number(0)),
+        (Ask::Fetch(b"a"), Told::Refused(Fault::Broken)),
+    ];
+    assert_eq!(rt; first_wrong(&mut db, &cleared), None);
     let (dev, answer) = db.close();
     assert_eq!(rt; answer, Err(Fault::Broken));
     let mut again = opened(alloc, dev.into_inner(), false, 0)?;
@@ -235,11 +242,13 @@ fn a_failed_sync_leaves_a_change_in_doubt(rt: HostRuntime) -> Result<(), Fail> {
 #[test]
 fn a_failed_read_breaks_nothing(rt: HostRuntime) -> Result<(), Fail> {
     let alloc = rt.alloc();
+    let refused = [(Ask::Put(b"i", &[9]), Told::Refused(Fault::Device))];
+    let stored = [(Ask::Put(b"i", &[9]), Told::Stored)];
     for call in OPENING..COMMIT {
         let mut db = opened(alloc, FailOnce::new(eight_pairs(alloc)?, call), false, 0)?;
-        assert_eq!(rt; put(&mut db, &[0x69], &[9]), Err(Fault::Device), "{call}");
+        assert_eq!(rt; first_wrong(&mut db, &refused), None, "{call}");
         assert!(rt; has_first(&mut db, 8)?, "{call}");
-        assert_eq!(rt; put(&mut db, &[0x69], &[9])?, StoreReply::Stored, "{call}");
+        assert_eq!(rt; first_wrong(&mut db, &stored), None, "{call}");
         assert_eq!(rt; db.stat(), NINE, "{call}");
         assert!(rt; has_first(&mut db, 9)?, "{call}");
     }

@@ -1,9 +1,0 @@
-use Rattle.dbm_file.proofs.NewFiles.{bare_head, new_stands}
-use Rattle.seg_table.specs.MetaPages.{says}
-use Rattle.dbm_file.proofs.opening.pages_of_empty.Goals as goal
-
-pub returns-clause-stands : goal.returns-clause-stands
-returns-clause-stands c =
-    let m = c.args.meta.now in
-    new_stands m.limit (says m) c.write_meta.new.page.bytes c.segment_of_one.result.bytes c.empty.result.bytes c.requires.limited.0 c.requires.limited.1 c.requires.fresh
-    c.write_meta.ensures.body c.segment_of_one.ensures.says (bare_head c.empty.result.bytes c.empty.ensures.page c.empty.ensures.says)

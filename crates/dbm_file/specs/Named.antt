@@ -1,0 +1,23 @@
+-- A database that was opened by the name of its file.
+use Rattle.std.specs.Prelude.{◌≡◌, ℕ, ◌/◌, false}
+use Rattle.sect_dev.specs.Device.{IsStable, LeavesOnly}
+use Rattle.sect_dev.specs.Moments.{Reads}
+use Rattle.sect_dev.specs.declared.device.SectorDev as device
+use Rattle.dbm_model.specs.Pairs.{Contents}
+use Rattle.page_io.specs.declared.store.PageStore as store
+use Rattle.redo_area.specs.File.{settled}
+use Rattle.redo_area.specs.Pagers.{device_of}
+use Rattle.redo_area.specs.declared.pager.Pager.{Pager}
+use Rattle.dbm_file.specs.Database.{store_of}
+use Rattle.dbm_file.specs.Opening.{writes, AllStand, IsOpened, MayRemain}
+use Rattle.dbm_file.specs.Opened.{IsOpenedAt}
+use Rattle.dbm_file.specs.declared.calls.OpenHow.{OpenHow}
+use Rattle.dbm_file.specs.declared.database.Database.{Database}
+
+-- As the file was at first: where each image of it was blank or stood for a map, the database holds one of these maps, or is new and empty; and every image of every moment since settles as one did, or stands for the empty database that was asked for.
+pub record OpensFile {D : Type 0} {bound : device.Ghosts D} {s : store.Ghosts (Pager D bound)} (how : OpenHow) (db : Database (Pager D bound) s) : Type 0 where
+  pub first : D
+  pub begins : bound.moment first ≡ 0
+  pub size : bound.sectors first ≡ 9001992
+  pub stands : bound.honest first → (writes how.access ≡ false → IsStable (bound.candidate first) (bound.seen first)) → AllStand (bound.sectors first / 4) (bound.candidate first) → (map : Contents) × (limit : ℕ) × IsOpenedAt (writes how.access) db map limit × IsOpened how (bound.sectors first / 4) (bound.candidate first) map limit
+  pub any_moment : bound.honest first → LeavesOnly bound.moment (Reads bound.left_since (settled (bound.sectors first / 4))) first (device_of (store_of db)) (MayRemain how (bound.sectors first / 4) (bound.candidate first))
