@@ -17,21 +17,20 @@ use Rattle.dbm_tool.specs.Reading.{line_bytes, after_line, ReadsLine, IsCounted}
 use Rattle.dbm_tool.specs.Scripts.{RunsTo, AnswersScript, AnswersLine}
 
 -- the first line of a text and the lines of the rest
-first_line : (x : ℕ) (xs : List ℕ) → lines_of (x ∷ xs) ≡ line_bytes (x ∷ xs) ∷ lines_of (after_line (x ∷ xs))
+pub first_line : (x : ℕ) (xs : List ℕ) → lines_of (x ∷ xs) ≡ line_bytes (x ∷ xs) ∷ lines_of (after_line (x ∷ xs))
 first_line x [] = elim (x == 10) as (λ b. cond b ([] ∷ []) ((x ∷ []) ∷ []) ≡ cond b [] (x ∷ []) ∷ lines_of (cond b [] [])) [ true ↦ refl | false ↦ refl ]
 first_line x (y ∷ ys) = elim (x == 10) as (λ b. cond b ([] ∷ lines_of (y ∷ ys)) (onto_line x (lines_of (y ∷ ys))) ≡ cond b [] (x ∷ line_bytes (y ∷ ys)) ∷ lines_of (cond b (y ∷ ys) (after_line (y ∷ ys)))) [
   | true ↦ refl
   | false ↦ ap (onto_line x) (first_line y ys)
 ]
 
--- a call of a line that is not longer than the limit
-limited : ℕ → List ℕ → Option Call
-limited limit line = cond (nat_lt limit (length line)) None (call_of_words (words_in line))
+-- what a line that is not longer than the limit says
+abbrev limited : {A : Type 0} → (List ℕ → Option A) → ℕ → List ℕ → Option A
+limited says limit line = cond (nat_lt limit (length line)) None (says line)
 
 -- a byte past the limit tells as much as the whole line
-limited-take : (limit : ℕ) (line : List ℕ) → limited limit (take (suc limit) line) ≡ limited limit line
-unfolding limited
-limited-take limit line = elim (leb_tells (suc limit) (length line)) [
+pub limited-take : {A : Type 0} (says : List ℕ → Option A) (limit : ℕ) (line : List ℕ) → limited says limit (take (suc limit) line) ≡ limited says limit line
+limited-take says limit line = elim (leb_tells (suc limit) (length line)) [
   | inl w ↦ elim (leb_tells (suc limit) (length (take (suc limit) line))) [
     | inl cut ↦ rw (w.0, cut.0) refl
     | inr cut ↦ absurd (omega (arith, cut.1, length-take-le (suc limit) line w.1))
@@ -40,8 +39,7 @@ limited-take limit line = elim (leb_tells (suc limit) (length line)) [
 ]
 
 call_of-take : (line : List ℕ) → call_of (take 8193 line) ≡ call_of line
-unfolding limited
-call_of-take line = limited-take 8192 line
+call_of-take line = limited-take (λ line. call_of_words (words_in line)) 8192 line
 
 -- the first line of a script and the rest
 first_call : (x : ℕ) (xs line : List ℕ) → line ≡ take 8193 (line_bytes (x ∷ xs)) → script_of (x ∷ xs) ≡ call_of line ∷ script_of (after_line (x ∷ xs))

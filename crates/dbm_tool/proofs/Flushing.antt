@@ -1,5 +1,5 @@
 -- What is written stays through a flush.
-use Rattle.std.proofs.Common.{◌≡◌, ◌∙◌, ℕ, true, List, Option, Some, None, Result, Ok, Err, IfSome, OnOk}
+use Rattle.std.proofs.Common.{◌≡◌, ◌⊎◌, ⊎_elim, ◌∙◌, sym, ℕ, true, List, Option, Some, None, Result, Ok, Err, IfSome, OnOk, OnErr}
 use Rattle.std.specs.FinMap as map
 use Rattle.std.specs.Io.KnownBytes.{Appends, Keeps}
 use Rattle.dbm_model.specs.Scripts.{script_of}
@@ -35,3 +35,8 @@ answered {S} {E} {s} r limit first old mid new db after opened allowed answers k
     by_case (Err e) first answers = tt
     by_case (Ok u) None answers = tt
     by_case (Ok u) (Some text) answers = of_text text answers
+
+-- at status 0 there was no failure
+pub done_if_zero : {T E P : Type 0} (r : Result T E) (status : ℕ) → OnErr r ((status ≡ 2) ⊎ (status ≡ 3)) → status ≡ 0 → OnOk r P → P
+done_if_zero (Ok x) status failed zero p = p
+done_if_zero (Err e) status failed zero p = absurd (⊎_elim (λ two. let e = sym two ∙ zero in cc) (λ three. let e = sym three ∙ zero in cc) failed)

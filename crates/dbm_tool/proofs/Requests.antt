@@ -4,6 +4,7 @@ use Rattle.std.specs.List.{onto_first}
 use Rattle.dbm_model.specs.Lines.{words_in, call_of_words, key_call, pair_call}
 use Rattle.dbm_model.specs.Words.{bytes_of}
 use Rattle.std.specs.Prelude.{option_and_then}
+use Rattle.dbm_tool.specs.Loading.{pair_of_words}
 
 -- the value of an option that has one
 pub from_some : {A : Type 0} (P : A → Type 0) (o : Option A) → IfSome o P → is_some o ≡ true → (x : A) × P x
@@ -35,9 +36,9 @@ many_words name none key word (more ∷ words) = refl
 pub key_of_more : (name : List ℕ) → ((k c : List ℕ) → pair_call name k c ≡ None) → (words key rest : List ℕ) → words_in words ≡ key ∷ words_in rest → None ≡ call_of_words (name ∷ words_in words)
 key_of_more name none words key rest h = let first = first_word rest in rw (h, first.2) (many_words name none key first.0 first.1)
 
--- a store has two words after its name
-pub store_of_more : (name words key second content rest : List ℕ) → words_in words ≡ key ∷ words_in second → words_in second ≡ content ∷ words_in rest → None ≡ call_of_words (name ∷ words_in words)
-store_of_more name words key second content rest h more = let first = first_word rest in rw (h, more, first.2) refl
+-- a pair has two words
+pub pair_of_more : (words key second content rest : List ℕ) → words_in words ≡ key ∷ words_in second → words_in second ≡ content ∷ words_in rest → None ≡ pair_of_words (words_in words)
+pair_of_more words key second content rest h more = let first = first_word rest in rw (h, more, first.2) refl
 
 -- a name of no such call
 pub no_name : (name rest : List ℕ) → ((key content : List ℕ) → (key_call name key ≡ None) × (pair_call name key content ≡ None)) → None ≡ call_of_words (name ∷ words_in rest)

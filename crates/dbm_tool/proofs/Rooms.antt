@@ -14,7 +14,7 @@ use Rattle.redo_area.specs.Header.{header_of}
 use Rattle.redo_area.specs.File.{settled, settled_by}
 use Rattle.redo_area.specs.declared.header.Header.{Header}
 use Rattle.redo_area.specs.declared.header.Header.TheVariants.{Blank}
-use Rattle.dbm_file.specs.Opening.{writes, room_fault, making_fault, Allows, IsOpened}
+use Rattle.dbm_file.specs.Opening.{writes, room_fault, making_fault, IsOpened}
 use Rattle.dbm_file.specs.declared.calls.OpenHow.{OpenHow}
 use Rattle.dbm_file.specs.declared.fault.Fault.{Fault}
 use Rattle.dbm_file.specs.declared.fault.Fault.TheVariants.{TooSmall}

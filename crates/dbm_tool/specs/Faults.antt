@@ -6,6 +6,8 @@ use Rattle.dbm_model.specs.Lines.{with_line_feed}
 use Rattle.dbm_file.specs.Faults.{fault_of}
 use Rattle.dbm_file.specs.declared.fault.Fault.{Fault}
 use Rattle.dbm_file.specs.declared.fault.Fault.TheVariants.{Device, Broken}
+use Rattle.dbm_tool.specs.declared.commands.Failure.{Failure}
+use Rattle.dbm_tool.specs.declared.commands.Failure.TheVariants as failure
 use Rattle.dbm_tool.specs.declared.engine_fault.EngineFault.{EngineFault}
 use Rattle.dbm_tool.specs.declared.engine_fault.EngineFault.TheVariants.{Memory, Read, Write, Line, Db}
 
@@ -25,3 +27,8 @@ abbrev pub told_in_memory : Fault → EngineFault
 told_in_memory Device = Memory
 told_in_memory Broken = Memory
 told_in_memory fault = Db fault
+
+-- the one line that tells a failure
+abbrev pub failure_line : Failure → List ℕ
+failure_line failure.NotHex = with_line_feed (codes "dbmtool: not hex")
+failure_line (failure.Fault fault) = fault_line fault

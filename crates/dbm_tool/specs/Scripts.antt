@@ -1,5 +1,5 @@
 -- What an engine does with a script.
-use Rattle.std.specs.Prelude.{◌≡◌, ℕ, List, true, Option, Some, None}
+use Rattle.std.specs.Prelude.{◌≡◌, ℕ, List, true, Option, Some, None, IfSome}
 use Rattle.std.specs.FinMap as map
 use Rattle.std.specs.Io.KnownBytes.{Appends}
 use Rattle.dbm_model.specs.Calls.{Call, Reply}
@@ -12,7 +12,9 @@ use Rattle.page_io.specs.declared.store.PageStore.{Ghosts}
 use Rattle.dbm_file.specs.Answers.{IsStep, IsRun}
 use Rattle.dbm_file.specs.declared.database.Database.{Database}
 use Rattle.dbm_words.specs.CommandLine.{IsPlan}
+use Rattle.dbm_words.specs.declared.plan.Plan.{Plan}
 use Rattle.dbm_words.specs.declared.plan.Plan.TheVariants.{Script}
+use Rattle.dbm_words.specs.declared.plan.Source.TheVariants.{Memory}
 
 -- some run of calls leads from one database, at this handle, to the other
 pub record RunsTo {S : Type 0} {s : Ghosts S} (old new : Database S s) (start : Handle) : Type 0 where
@@ -41,8 +43,13 @@ pub record AnswersInMemory (limit : ℕ) (text : List ℕ) (old new : Option (Li
   pub run : Run before (calls_in (script_of text)) replies after
   pub written : Appends old new (answer_of (script_of text) replies)
 
--- the same for the limit that the words ask for
-pub record AnswersWords (words : List (List ℕ)) (text : List ℕ) (old new : Option (List ℕ)) : Type 0 where
-  pub limit : ℕ
-  pub plan : IsPlan words (Script limit)
-  pub answers : AnswersInMemory limit text old new
+-- what is proved of a plan that was carried out: a script in memory was answered so
+abbrev pub Does : Plan → Option (List ℕ) → Option (List ℕ) → Option (List ℕ) → Type 0
+Does (Script (Memory limit)) input old new = IfSome input (λ text. AnswersInMemory limit text old new)
+Does _ input old new = Unit {0}
+
+-- the words are a plan, and it was carried out so
+pub record DoesWords (words : List (List ℕ)) (input old new : Option (List ℕ)) : Type 0 where
+  pub plan : Plan
+  pub is_plan : IsPlan words plan
+  pub does : Does plan input old new

@@ -1,9 +1,10 @@
-// Lines as requests.
+// Lines as requests and as pairs.
 ghost use Rattle.std.specs.Prelude.{◌≡◌, ◌==◌, ◌≤◌, ◌*◌, ◌∷◌, [], IfSome, IfNone, length, position, codes, Option, None};
 ghost use Rattle.std.specs.Option.{option_map};
 ghost use Rattle.dbm_model.specs.Words.{bytes_of};
 ghost use Rattle.dbm_model.specs.Lines.{words_in, call_of, call_of_words, bare_call};
 ghost use Rattle.dbm_model.specs.Calls.{Fetch, Delete};
+ghost use Rattle.dbm_tool.specs.Loading.{pair_of, pair_of_words};
 ghost use Rattle.dbm_tool.specs.Requests.{asked, store_name, IsNamed};
 
 use dbm_file::StoreMode;
@@ -125,15 +126,42 @@ fn store_request<'a>(
     requires { length words.now ≤ 8192 }
     ensures { asked result ≡ call_of_words (store_name mode ∷ words_in words.now) }
 {
-    let Some((first, second)) = split_word(words) else {
-        return Request::Bad;
-    };
+    match pair_in_words(words, key, content) {
+        Some((key, content)) => Request::Store { key, content, mode },
+        None => Request::Bad,
+    }
+}
+
+/// The pair of a line `key content` without its line feed, if it says one. The bytes of the words go to `key` and `content`.
+pub fn pair_in_line<'a>(
+    line: &[u8],
+    key: &'a mut [u8; ROOM],
+    content: &'a mut [u8; ROOM],
+) -> Option<(&'a [u8], &'a [u8])>
+    ensures { option_map (λ pair. (pair.0.now, pair.1.now)) result ≡ pair_of line.now }
+{
+    if line.len() > LONGEST {
+        return None;
+    }
+    pair_in_words(line, key, content)
+}
+
+/// The pair of a key and a content that are two words.
+fn pair_in_words<'a>(
+    words: &[u8],
+    key: &'a mut [u8; ROOM],
+    content: &'a mut [u8; ROOM],
+) -> Option<(&'a [u8], &'a [u8])>
+    requires { length words.now ≤ 8192 }
+    ensures { option_map (λ pair. (pair.0.now, pair.1.now)) result ≡ pair_of_words (words_in words.now) }
+{
+    let (first, second) = split_word(words)?;
     if split_word(second).is_some() {
-        return Request::Bad;
+        return None;
     }
     match (decode_word(first, key), decode_word(second, content)) {
-        (Some(key), Some(content)) => Request::Store { key, content, mode },
-        _ => Request::Bad,
+        (Some(key), Some(content)) => Some((key, content)),
+        _ => None,
     }
 }
 
@@ -155,7 +183,7 @@ fn first_space(line: &[u8]) -> Option<usize>
 }
 
 /// The bytes that a word stands for, put into `room`, if it is one.
-fn decode_word<'a>(word: &[u8], room: &'a mut [u8]) -> Option<&'a [u8]>
+pub fn decode_word<'a>(word: &[u8], room: &'a mut [u8]) -> Option<&'a [u8]>
     requires { length word.now ≤ 2 * length room.old }
     ensures { option_map (λ bytes. bytes.now) result ≡ bytes_of word.now }
 {

@@ -3,6 +3,7 @@ ghost use Rattle.std.specs.Prelude.{◌≡◌, ◌≤◌, ℕ, pos, OnOk, IfOk, 
 ghost use Rattle.std.specs.Io.KnownBytes.{Appends};
 ghost use Rattle.dbm_model.specs.Calls.{Reply, Stored, Kept, Deleted, Absent, Bytes, NoRecord, End, Number, Refused};
 ghost use Rattle.dbm_model.specs.Lines.{reply_line, bad_line};
+ghost use Rattle.dbm_model.specs.Words.{word_of};
 ghost use Rattle.dbm_file.specs.Calls.{lent_reply};
 ghost use Rattle.dbm_file.specs.Faults.{fault_of};
 
@@ -98,15 +99,31 @@ pub fn write_refused<W: Write>(writer: &mut W, fault: Fault) -> io::Result<()>
 }
 
 /// Writes the line of a content or a key. Its digits go through `digits`.
-fn write_bytes<W: Write>(writer: &mut W, bytes: &[u8], digits: &mut [u8; DIGITS]) -> io::Result<()>
+pub fn write_bytes<W: Write>(
+    writer: &mut W,
+    bytes: &[u8],
+    digits: &mut [u8; DIGITS],
+) -> io::Result<()>
     requires { length bytes.now ≤ 2026 }
     ensures { OnOk result (Appends (W.contents writer.old) (W.contents writer.new) (reply_line (Bytes bytes.now))) }
 {
+    write_word(writer, bytes, digits)?;
+    writer.write_all(b"\n")
+}
+
+/// Writes the word of a content or a key. Its digits go through `digits`.
+pub fn write_word<W: Write>(
+    writer: &mut W,
+    bytes: &[u8],
+    digits: &mut [u8; DIGITS],
+) -> io::Result<()>
+    requires { length bytes.now ≤ 2026 }
+    ensures { OnOk result (Appends (W.contents writer.old) (W.contents writer.new) (word_of bytes.now)) }
+{
     if bytes.is_empty() {
-        return writer.write_all(b".\n");
+        return writer.write_all(b".");
     }
     let text = &mut digits[..2 * bytes.len()];
     hex::encode_to_slice(bytes, text).unwrap();
-    writer.write_all(text)?;
-    writer.write_all(b"\n")
+    writer.write_all(text)
 }

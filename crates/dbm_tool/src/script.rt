@@ -11,37 +11,17 @@ ghost use Rattle.dbm_file.specs.Database.{store_of, IsAt};
 ghost use Rattle.dbm_tool.specs.Scripts.{RunsTo, AnswersScript, AnswersLine};
 
 use crate::EngineFault;
-use crate::lines::{KEPT, read_line};
-use crate::parsing::{ROOM, Request, request_of};
+use crate::buffers::Buffers;
+use crate::lines::read_line;
+use crate::parsing::{Request, request_of};
 use crate::replies::{
     DIGITS, write_absent, write_bad_line, write_deleted, write_fetched, write_kept, write_number,
     write_passed, write_refused, write_stored,
 };
-use arrayvec::ArrayVec;
 use dbm_file::{Database, DeleteReply, StoreMode, StoreReply};
 use page_io::PageStore;
 use std::alloc::Global;
 use std::io::{self, BufRead, Write};
-
-/// What the engine keeps between lines, so that no line takes memory.
-#[derive(Drop)]
-struct Buffers {
-    line: ArrayVec<u8, KEPT>,
-    key: [u8; ROOM],
-    content: [u8; ROOM],
-    digits: [u8; DIGITS],
-}
-
-impl Buffers {
-    fn new() -> Buffers {
-        Buffers {
-            line: ArrayVec::new(),
-            key: [0; ROOM],
-            content: [0; ROOM],
-            digits: [0; DIGITS],
-        }
-    }
-}
 
 /// Reads lines to the end, makes the call that each asks for, and writes one line for each: the reply,
 /// or `-1 line` where the line asks for no call. A line may have 8,192 bytes without its line feed, and

@@ -1,35 +1,128 @@
 -- The program's command line in the parser's words, and the plan that it gives.
-use Rattle.std.specs.Prelude.{◌≡◌, List, ◌∷◌, Option, Some, None, Ok, pos, true, codes}
+use Rattle.std.specs.Prelude.{◌≡◌, ℕ, List, [], ◌∷◌, Option, Some, None, Ok, is_some, pos, true, false, codes}
 use Rattle.std.specs.Str.Parse.{ParsesUnsigned}
 use Rattle.std.specs.declared.num.ParseIntError.{ParseIntError}
-use Rattle.clap.specs.Words.{App, Row, Rule, Text, new_app, new_rule, one_of, subcommand_of, takes, with_rule, with_subcommand}
+use Rattle.clap.specs.Words.{App, Row, Rule, Shape, Text, first_of, new_app, new_rule, one_of, subcommand_of, takes}
+use Rattle.clap.specs.declared.builder.action.ArgAction.TheVariants.{SetTrue}
 use Rattle.clap.specs.declared.builder.value_parser.ValueParser.TheVariants as parser
 use Rattle.dbm_words.specs.declared.plan.Plan.{Plan}
-use Rattle.dbm_words.specs.declared.plan.Plan.TheVariants.{Script}
+use Rattle.dbm_words.specs.declared.plan.Plan.TheVariants.{Create, Store, Insert, Fetch, Delete, List as ListKeys, Dump, Load, Stat, Script}
+use Rattle.dbm_words.specs.declared.plan.Source.{Source}
+use Rattle.dbm_words.specs.declared.plan.Source.TheVariants.{File, Memory}
+use Rattle.dbm_words.specs.declared.plan.Spelling.{Spelling}
+use Rattle.dbm_words.specs.declared.plan.Spelling.TheVariants as spelling
 
--- `--memory N`, which is required, and N a `u32`
-abbrev pub memory_rule : Rule
-memory_rule = record (new_rule (codes "memory")) { long = Some (codes "memory"); value_names = 1; parser = Some (parser.Signed (pos 0) (pos 4294967295)); required = true }
+-- ---- the words that the parser takes
 
--- `script --memory N`
-abbrev pub script_line : App
-script_line = with_rule (new_app (codes "script")) memory_rule
+-- a word in its place, which is required
+abbrev pub word_rule : Text → Rule
+word_rule id = record (new_rule id) { value_names = 1; required = true }
 
-abbrev pub requiring_subcommand : App → App
-requiring_subcommand app = record app { top = record app.top { subcommand_required = true } }
+-- `--NAME N`, and N a `u32`
+abbrev pub number_rule : Text → Rule
+number_rule name = record (new_rule name) { long = Some name; value_names = 1; parser = Some (parser.Signed (pos 0) (pos 4294967295)) }
 
-abbrev pub command_line : App
-command_line = with_subcommand (requiring_subcommand (new_app (codes "dbmtool"))) script_line.top
+-- `-x`
+abbrev pub hexadecimal_rule : Rule
+hexadecimal_rule = record (new_rule (codes "hexadecimal")) { short = Some 120; action = Some SetTrue }
 
--- the script command was entered, and the text of its option is the number
+abbrev pub line : Text → List Rule → Shape
+line name rules = record (new_app name).top { rules = rules }
+
+-- `NAME FILE`
+abbrev pub file_line : Text → Shape
+file_line name = line name (word_rule (codes "file") ∷ [])
+
+-- `NAME FILE KEY [-x]`
+abbrev pub key_line : Text → Shape
+key_line name = line name (word_rule (codes "file") ∷ word_rule (codes "key") ∷ hexadecimal_rule ∷ [])
+
+-- `NAME FILE KEY CONTENT [-x]`
+abbrev pub pair_line : Text → Shape
+pair_line name = line name (word_rule (codes "file") ∷ word_rule (codes "key") ∷ hexadecimal_rule ∷ word_rule (codes "content") ∷ [])
+
+-- `create FILE [--limit N]`
+abbrev pub create_line : Shape
+create_line = line (codes "create") (word_rule (codes "file") ∷ record (number_rule (codes "limit")) { defaults = codes "1000000" ∷ [] } ∷ [])
+
+-- `script [FILE] [--memory N]`
+abbrev pub script_line : Shape
+script_line = line (codes "script") (record (word_rule (codes "file")) { required = false } ∷ number_rule (codes "memory") ∷ [])
+
+-- `dbmtool`, whose name is none of the words that are read
+abbrev pub program_line : Shape
+program_line = record (new_app (codes "dbmtool")).top { no_binary_name = true; subcommand_required = true }
+
+-- `dbmtool`, and then one of the lines
+unfoldable pub command_line : App
+command_line = record {
+  top = record program_line { is_leaf = false };
+  subs = create_line ∷ pair_line (codes "store") ∷ pair_line (codes "insert") ∷ key_line (codes "fetch") ∷ key_line (codes "delete")
+      ∷ file_line (codes "list") ∷ file_line (codes "dump") ∷ file_line (codes "load") ∷ file_line (codes "stat") ∷ script_line ∷ [];
+}
+
+-- ---- the plan
+
+-- the parser entered this text under the id
+abbrev pub IsText : List Row → Text → Text → Type 0
+IsText rows id text = first_of id rows ≡ Some text
+
+-- the text under the id is the number
+abbrev pub IsNumber : List Row → Text → ℕ → Type 0
+IsNumber rows id number = (text : Text) × (one_of id rows ≡ Some text) × ParsesUnsigned {E = ParseIntError} 32 10 text (Ok number)
+
+abbrev pub flag_text : Spelling → Text
+flag_text spelling.Text = codes "false"
+flag_text spelling.Hexadecimal = codes "true"
+
+pub record IsKey (rows : List Row) (name word : Text) (spelled : Spelling) : Type 0 where
+  pub file : IsText rows (codes "file") name
+  pub key : IsText rows (codes "key") word
+  pub flag : one_of (codes "hexadecimal") rows ≡ Some (flag_text spelled)
+
+pub record IsPair (rows : List Row) (name word value : Text) (spelled : Spelling) : Type 0 where
+  pub key : IsKey rows name word spelled
+  pub content : IsText rows (codes "content") value
+
+-- what is given of FILE and `--memory`, one alone, is the source
+abbrev pub IsSource : List Row → Source → Type 0
+IsSource rows (File file) = IsText rows (codes "file") file.now × (first_of (codes "memory") rows ≡ None)
+IsSource rows (Memory limit) = (first_of (codes "file") rows ≡ None) × IsNumber rows (codes "memory") limit
+
+-- both of FILE and `--memory` are given, or neither
+abbrev pub LacksSource : List Row → Type 0
+LacksSource rows = is_some (first_of (codes "file") rows) ≡ is_some (first_of (codes "memory") rows)
+
+-- the command of this name, with what was entered for it, asks for the plan
+abbrev pub Asks : Text → List Row → Plan → Type 0
+Asks name rows (Create file limit) = (name ≡ codes "create") × IsText rows (codes "file") file.now × IsNumber rows (codes "limit") limit
+Asks name rows (Store file key content spelled) = (name ≡ codes "store") × IsPair rows file.now key.now content.now spelled
+Asks name rows (Insert file key content spelled) = (name ≡ codes "insert") × IsPair rows file.now key.now content.now spelled
+Asks name rows (Fetch file key spelled) = (name ≡ codes "fetch") × IsKey rows file.now key.now spelled
+Asks name rows (Delete file key spelled) = (name ≡ codes "delete") × IsKey rows file.now key.now spelled
+Asks name rows (ListKeys file) = (name ≡ codes "list") × IsText rows (codes "file") file.now
+Asks name rows (Dump file) = (name ≡ codes "dump") × IsText rows (codes "file") file.now
+Asks name rows (Load file) = (name ≡ codes "load") × IsText rows (codes "file") file.now
+Asks name rows (Stat file) = (name ≡ codes "stat") × IsText rows (codes "file") file.now
+Asks name rows (Script source) = (name ≡ codes "script") × IsSource rows source
+
 abbrev pub Names : Option (Text × List Row) → Plan → Type 0
 Names None plan = ⊥
-Names (Some entered) (Script memory) = (entered.0 ≡ codes "script") × (text : Text) × (one_of (codes "memory") entered.1 ≡ Some text) × ParsesUnsigned {E = ParseIntError} 32 10 text (Ok memory)
+Names (Some entered) plan = Asks entered.0 entered.1 plan
 
--- what the words enter names the plan
+-- what the words enter asks for the plan
 abbrev pub IsPlan : List Text → Plan → Type 0
-IsPlan words plan = Names (subcommand_of command_line (codes "dbmtool" ∷ words)) plan
+IsPlan words plan = Names (subcommand_of command_line words) plan
 
 -- the parser takes the words: they are no mistake, and don't ask for help
 abbrev pub AreTaken : List Text → Type 0
-AreTaken words = takes command_line (codes "dbmtool" ∷ words) ≡ true
+AreTaken words = takes command_line words ≡ true
+
+-- the script command was entered, and not with one source alone
+abbrev pub NamesNoSource : Option (Text × List Row) → Type 0
+NamesNoSource None = ⊥
+NamesNoSource (Some entered) = (entered.0 ≡ codes "script") × LacksSource entered.1
+
+-- what the words enter is a script with no source, or with two
+abbrev pub IsWithoutSource : List Text → Type 0
+IsWithoutSource words = NamesNoSource (subcommand_of command_line words)

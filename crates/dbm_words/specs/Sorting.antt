@@ -3,11 +3,12 @@ use Rattle.std.specs.Prelude.{◌≡◌, ◌≢◌, ◌⊎◌}
 use Rattle.clap.specs.Words.{kind_of}
 use Rattle.clap.specs.declared.error.kind.ErrorKind.TheVariants.{DisplayHelp, DisplayVersion, OutOfMemory}
 use Rattle.dbm_words.specs.declared.words.WordsError.{WordsError}
-use Rattle.dbm_words.specs.declared.words.WordsError.TheVariants.{Memory, Help, Usage, NoPlan}
+use Rattle.dbm_words.specs.declared.words.WordsError.TheVariants.{Memory, Help, Usage, ScriptSource, NoPlan}
 
 -- what is told as help was asked for, and what is told as a mistake is one
 abbrev pub IsSorted : WordsError → Type 0
 IsSorted Memory = Unit {0}
 IsSorted (Help text) = (kind_of text ≡ DisplayHelp) ⊎ (kind_of text ≡ DisplayVersion)
 IsSorted (Usage text) = (kind_of text ≢ OutOfMemory) × (kind_of text ≢ DisplayHelp) × (kind_of text ≢ DisplayVersion)
+IsSorted ScriptSource = Unit {0}
 IsSorted NoPlan = Unit {0}

@@ -1,54 +1,292 @@
 // The commands and their options.
-ghost use Rattle.std.specs.Prelude.{◌≡◌, IfOk, Some, false};
-ghost use Rattle.clap.specs.Words.{app_of, rule_of};
-ghost use Rattle.dbm_words.specs.CommandLine.{command_line, memory_rule};
+ghost use Rattle.std.specs.Prelude.{IfOk, codes};
+ghost use Rattle.dbm_words.specs.Building.{IsApp, IsRule, alone};
+ghost use Rattle.dbm_words.specs.CommandLine.{command_line, create_line, file_line, hexadecimal_rule, key_line, number_rule, pair_line, program_line, script_line, word_rule};
 
-use clap::{Arg, Command, value_parser};
+use clap::{Arg, ArgAction, Command, value_parser};
 use std::alloc::{AllocError, Global};
 
-/// The program's name, which its help and its faults show.
-pub const NAME: &str = "dbmtool";
+const NAME: &str = "dbmtool";
 
-/// The name of the script command.
+pub const CREATE: &str = "create";
+
+pub const STORE: &str = "store";
+
+pub const INSERT: &str = "insert";
+
+pub const FETCH: &str = "fetch";
+
+pub const DELETE: &str = "delete";
+
+pub const LIST: &str = "list";
+
+pub const DUMP: &str = "dump";
+
+pub const LOAD: &str = "load";
+
+pub const STAT: &str = "stat";
+
 pub const SCRIPT: &str = "script";
 
-/// The name of the option that asks for a database in memory.
+pub const FILE: &str = "file";
+
+pub const KEY: &str = "key";
+
+pub const CONTENT: &str = "content";
+
+pub const HEXADECIMAL: &str = "hexadecimal";
+
+pub const LIMIT: &str = "limit";
+
 pub const MEMORY: &str = "memory";
 
-const EXAMPLE: &str = "Example:\n  echo 'S 6b 76' | dbmtool script --memory 100";
+const FILE_HELP: &str = "The name of the database, without `.db`";
+
+const EXAMPLE: &str = "A KEY or CONTENT that begins with a hyphen is given in hexadecimal, with -x.
+
+Example:
+  dbmtool create colors
+  dbmtool store colors sky blue
+  dbmtool fetch colors sky";
 
 const SCRIPT_LINES: &str =
     "Each line is a call, its words one space apart and bytes in hexadecimal, `.` for none:
   S KEY CONTENT   stores a pair; answers `0`
+  I KEY CONTENT   stores a pair where KEY is new; answers `0`, or `1` where it is not
   F KEY           fetches; answers the content, or `none`
+  D KEY           deletes; answers `0`, or `-1 absent`
+  1               begins a pass; answers the first key, or `end`
+  N               goes on with the pass; answers the next key, or `end`
+  E               answers the error number
+  C               clears the error number; answers `0`
 A refused call is answered by `-1 fault N`, and a line that is no call by `-1 line`.
 
 Example:
   echo 'S 6b 76' | dbmtool script --memory 100";
 
-/// The whole command line.
+/// The whole command line, of the words after the program's name.
 pub fn command<'a>(alloc: Global) -> Result<Command<'a>, AllocError>
-    ensures { IfOk result (λ c. app_of c ≡ command_line) }
+    ensures { IfOk result (λ c. IsApp c command_line) }
 {
-    let script = Command::new(alloc, SCRIPT)
-        .about("Runs the calls on standard input, and answers each on a line of its own")
-        .after_help(SCRIPT_LINES)
-        .arg(memory_option(alloc))?;
-    Command::new(alloc, NAME)
-        .about("Keeps pairs of a key and a content, as the dbm interface does.")
-        .subcommand_required(true)
-        .after_help(EXAMPLE)
-        .subcommand(script)
+    program(alloc)?
+        .subcommand(create_command(alloc)?)?
+        .subcommand(store_command(alloc)?)?
+        .subcommand(insert_command(alloc)?)?
+        .subcommand(fetch_command(alloc)?)?
+        .subcommand(delete_command(alloc)?)?
+        .subcommand(list_command(alloc)?)?
+        .subcommand(dump_command(alloc)?)?
+        .subcommand(load_command(alloc)?)?
+        .subcommand(stat_command(alloc)?)?
+        .subcommand(script_command(alloc)?)
 }
 
-fn memory_option<'a>(alloc: Global) -> Arg<'a>
-    ensures rule { rule_of result ≡ memory_rule }
-    ensures local { result.global ≡ false }
+/// The program, with no command yet. Usage shows its name, although the words don't have it.
+fn program<'a>(alloc: Global) -> Result<Command<'a>, AllocError>
+    ensures { IfOk result (λ c. IsApp c (alone program_line)) }
 {
-    Arg::new(alloc, MEMORY)
-        .long(MEMORY)
+    Command::new(alloc, NAME)
+        .about("Keeps pairs of a key and a content in a file, as the dbm interface does.")
+        .no_binary_name(true)
+        .subcommand_required(true)
+        .after_help(EXAMPLE)
+        .bin_name(NAME)
+}
+
+fn create_command<'a>(alloc: Global) -> Result<Command<'a>, AllocError>
+    ensures { IfOk result (λ c. IsApp c (alone create_line)) }
+{
+    let limit = number(
+        alloc,
+        LIMIT,
+        "How many pairs it may have, from 1 to 1000000",
+    );
+    file_command(
+        alloc,
+        CREATE,
+        "Makes a new database",
+        "Example:\n  dbmtool create colors --limit 1000",
+    )?
+    .arg(limit.default_value("1000000"))
+}
+
+fn store_command<'a>(alloc: Global) -> Result<Command<'a>, AllocError>
+    ensures { IfOk result (λ c. IsApp c (alone (pair_line (codes "store")))) }
+{
+    pair_command(
+        alloc,
+        STORE,
+        "Stores a pair, in the place of one with its key",
+        "Example:\n  dbmtool store colors sky blue\n  dbmtool store colors 736b79 626c7565 -x",
+    )
+}
+
+fn insert_command<'a>(alloc: Global) -> Result<Command<'a>, AllocError>
+    ensures { IfOk result (λ c. IsApp c (alone (pair_line (codes "insert")))) }
+{
+    pair_command(
+        alloc,
+        INSERT,
+        "Stores a pair where its key is new; else changes nothing and exits with 1",
+        "Example:\n  dbmtool insert colors sky blue",
+    )
+}
+
+fn fetch_command<'a>(alloc: Global) -> Result<Command<'a>, AllocError>
+    ensures { IfOk result (λ c. IsApp c (alone (key_line (codes "fetch")))) }
+{
+    key_command(
+        alloc,
+        FETCH,
+        "Prints the content of a key; exits with 1 where there is none",
+        "Example:\n  dbmtool fetch colors sky",
+    )
+}
+
+fn delete_command<'a>(alloc: Global) -> Result<Command<'a>, AllocError>
+    ensures { IfOk result (λ c. IsApp c (alone (key_line (codes "delete")))) }
+{
+    key_command(
+        alloc,
+        DELETE,
+        "Deletes a pair by its key; exits with 1 where there is none",
+        "Example:\n  dbmtool delete colors sky",
+    )
+}
+
+fn list_command<'a>(alloc: Global) -> Result<Command<'a>, AllocError>
+    ensures { IfOk result (λ c. IsApp c (alone (file_line (codes "list")))) }
+{
+    file_command(
+        alloc,
+        LIST,
+        "Prints the keys in hexadecimal, one a line",
+        "Example:\n  dbmtool list colors",
+    )
+}
+
+fn dump_command<'a>(alloc: Global) -> Result<Command<'a>, AllocError>
+    ensures { IfOk result (λ c. IsApp c (alone (file_line (codes "dump")))) }
+{
+    file_command(
+        alloc,
+        DUMP,
+        "Prints the pairs in hexadecimal, one a line, as `load` reads them",
+        "Example:\n  dbmtool dump colors > colors.txt",
+    )
+}
+
+fn load_command<'a>(alloc: Global) -> Result<Command<'a>, AllocError>
+    ensures { IfOk result (λ c. IsApp c (alone (file_line (codes "load")))) }
+{
+    file_command(
+        alloc,
+        LOAD,
+        "Stores the pairs on standard input, as `dump` prints them",
+        "Example:\n  dbmtool load colors < colors.txt",
+    )
+}
+
+fn stat_command<'a>(alloc: Global) -> Result<Command<'a>, AllocError>
+    ensures { IfOk result (λ c. IsApp c (alone (file_line (codes "stat")))) }
+{
+    file_command(
+        alloc,
+        STAT,
+        "Prints how many pairs, buckets and pages there are, in seven lines",
+        "Example:\n  dbmtool stat colors",
+    )
+}
+
+fn script_command<'a>(alloc: Global) -> Result<Command<'a>, AllocError>
+    ensures { IfOk result (λ c. IsApp c (alone script_line)) }
+{
+    let memory = number(
+        alloc,
+        MEMORY,
+        "In place of FILE: a new database in memory, of at most N pairs (1 to 1000000)",
+    );
+    Command::new(alloc, SCRIPT)
+        .about("Runs the calls on standard input, and answers each on a line of its own")
+        .after_help(SCRIPT_LINES)
+        .arg(word(alloc, FILE, "FILE", FILE_HELP).required(false))?
+        .arg(memory)
+}
+
+/// A command of a pair, as `key_command` has a key.
+fn pair_command<'a>(
+    alloc: Global,
+    name: &'a str,
+    about: &'a str,
+    after: &'a str,
+) -> Result<Command<'a>, AllocError>
+    ensures { IfOk result (λ c. IsApp c (alone (pair_line name.now))) }
+{
+    key_command(alloc, name, about, after)?.arg(word(
+        alloc,
+        CONTENT,
+        "CONTENT",
+        "The pair's content, at most 2026 bytes with its key",
+    ))
+}
+
+/// A command of a key, which may be given in hexadecimal.
+fn key_command<'a>(
+    alloc: Global,
+    name: &'a str,
+    about: &'a str,
+    after: &'a str,
+) -> Result<Command<'a>, AllocError>
+    ensures { IfOk result (λ c. IsApp c (alone (key_line name.now))) }
+{
+    file_command(alloc, name, about, after)?
+        .arg(word(alloc, KEY, "KEY", "The pair's key"))?
+        .arg(hexadecimal(alloc))
+}
+
+/// A command of a file. Its help begins with `about` and ends with `after`.
+fn file_command<'a>(
+    alloc: Global,
+    name: &'a str,
+    about: &'a str,
+    after: &'a str,
+) -> Result<Command<'a>, AllocError>
+    ensures { IfOk result (λ c. IsApp c (alone (file_line name.now))) }
+{
+    Command::new(alloc, name)
+        .about(about)
+        .after_help(after)
+        .arg(word(alloc, FILE, "FILE", FILE_HELP))
+}
+
+/// A word that has to be given, in its place.
+fn word<'a>(alloc: Global, id: &'a str, shown: &'a str, help: &'a str) -> Arg<'a>
+    ensures { IsRule result (word_rule id.now) }
+{
+    Arg::new(alloc, id)
+        .value_name(shown)
+        .required(true)
+        .help(help)
+}
+
+/// An option whose value is a `u32`.
+fn number<'a>(alloc: Global, name: &'a str, help: &'a str) -> Arg<'a>
+    ensures { IsRule result (number_rule name.now) }
+{
+    Arg::new(alloc, name)
+        .long(name)
         .value_name("N")
         .value_parser(value_parser!(u32))
-        .required(true)
-        .help("Use a new database in memory, of at most N pairs (1 to 1000000)")
+        .help(help)
+}
+
+fn hexadecimal<'a>(alloc: Global) -> Arg<'a>
+    ensures { IsRule result hexadecimal_rule }
+{
+    Arg::new(alloc, HEXADECIMAL)
+        .short('x')
+        .action(ArgAction::SetTrue)
+        .help(
+            "The bytes are in hexadecimal, two digits each and `.` for none; so is what is printed",
+        )
 }

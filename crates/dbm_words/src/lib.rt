@@ -2,8 +2,12 @@
 #![tactic(auto)]
 
 mod commands;
+mod options;
 mod plan;
 mod words;
 
-pub use plan::Plan;
+pub use plan::{Plan, Source, Spelling};
 pub use words::{WordsError, read_words};
+
+#[cfg(test)]
+mod tests;

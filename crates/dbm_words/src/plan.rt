@@ -1,11 +1,75 @@
 // What the program may be asked to do.
 
-/// What the words ask for.
+/// What the words ask for. Each `file` is a name without `.db`, and each `key` and `content` is the word as it
+/// was given: what it spells is left to the caller.
 #[derive(Clone, Copy, Debug, PartialEq, Eq)]
-pub enum Plan {
-    /// Run the script on standard input.
-    Script {
-        /// How many pairs the database in memory may have.
-        memory: u32,
+pub enum Plan<'a> {
+    /// Make a new database.
+    Create {
+        file: &'a str,
+        /// How many pairs it may have.
+        limit: u32,
     },
+    /// Store a pair, in the place of one with its key.
+    Store {
+        file: &'a str,
+        key: &'a str,
+        content: &'a str,
+        spelling: Spelling,
+    },
+    /// Store a pair where its key is new.
+    Insert {
+        file: &'a str,
+        key: &'a str,
+        content: &'a str,
+        spelling: Spelling,
+    },
+    /// Print the content of a key, spelled as the key is.
+    Fetch {
+        file: &'a str,
+        key: &'a str,
+        spelling: Spelling,
+    },
+    /// Delete a pair.
+    Delete {
+        file: &'a str,
+        key: &'a str,
+        spelling: Spelling,
+    },
+    /// Print the keys.
+    List {
+        file: &'a str,
+    },
+    /// Print the pairs.
+    Dump {
+        file: &'a str,
+    },
+    /// Store the pairs on standard input.
+    Load {
+        file: &'a str,
+    },
+    /// Print the numbers of a database.
+    Stat {
+        file: &'a str,
+    },
+    /// Run the script on standard input.
+    Script(Source<'a>),
+}
+
+/// How a key and a content are spelled.
+#[derive(Clone, Copy, Debug, PartialEq, Eq)]
+pub enum Spelling {
+    /// The word's own bytes.
+    Text,
+    /// Hexadecimal digits in pairs, and `.` for no bytes.
+    Hexadecimal,
+}
+
+/// The database that a script runs on.
+#[derive(Clone, Copy, Debug, PartialEq, Eq)]
+pub enum Source<'a> {
+    /// The one of this name.
+    File(&'a str),
+    /// A new one in memory, of at most this many pairs.
+    Memory(u32),
 }

@@ -25,5 +25,5 @@ fn run<F: Write>(rt: &HostRuntime, faults: &mut F) -> io::Result<u8> {
     }
     let mut input = BufReader::new(alloc, rt.stdin())?;
     let mut output = BufWriter::new(alloc, rt.stdout())?;
-    Ok(tool(alloc, texts.as_slice(), &mut input, &mut output, faults))
+    Ok(tool(rt, alloc, texts.as_slice(), &mut input, &mut output, faults))
 }

@@ -1,8 +1,20 @@
-use Rattle.std.proofs.Common.{◌≡◌, ◌∷◌, ◌∙◌, inl, map, codes, ap, ap₂}
-use Rattle.clap.specs.Words.{takes}
+use Rattle.std.proofs.Common.{◌≡◌, ◌∙◌, IfErr, IfOk, inl, map, ap}
+use Rattle.clap.specs.Words.{app_of, takes}
+use Rattle.dbm_words.specs.CommandLine.{Names, NamesNoSource}
+use Rattle.dbm_words.specs.declared.words.WordsError.TheVariants.{ScriptSource}
+use Rattle.dbm_words.proofs.Reading.{of_words}
 use Rattle.dbm_words.proofs.words.read_words.Goals as goal
 
+pub returns-in-Ok-try_get_matches_from-clause-plan : goal.returns-in-Ok-try_get_matches_from-clause-plan
+returns-in-Ok-try_get_matches_from-clause-plan c = of_words c.in-Ok-try_get_matches_from.matches (app_of c.in-Ok.command) (map (λ word. word.now) c.args.words.now) (λ entered. IfOk c.chosen.result (Names entered))
+    c.in-Ok.ensures.shape c.in-Ok-try_get_matches_from.ensures.matches c.chosen.ensures.plan
+
+pub returns-in-Ok-try_get_matches_from-clause-source : goal.returns-in-Ok-try_get_matches_from-clause-source
+returns-in-Ok-try_get_matches_from-clause-source c = of_words c.in-Ok-try_get_matches_from.matches (app_of c.in-Ok.command) (map (λ word. word.now) c.args.words.now) (λ entered. IfErr c.chosen.result (λ e. e ≡ ScriptSource → NamesNoSource entered))
+    c.in-Ok.ensures.shape c.in-Ok-try_get_matches_from.ensures.matches c.chosen.ensures.source
+
+pub returns-in-Err-clause-source : goal.returns-in-Err-clause-source
+returns-in-Err-clause-source c = λ is. absurd (c.sorted.ensures.source is)
+
 pub returns-in-Err-clause-passes : goal.returns-in-Err-clause-passes
-returns-in-Err-clause-passes c =
-    let words_are : map (λ word. word.now) c.as_slice.result.now ≡ codes "dbmtool" ∷ map (λ word. word.now) c.args.words.now = ap (map (λ word. word.now)) c.as_slice.ensures.value ∙ c.in-Ok.ensures in
-    λ taken. inl (c.sorted.ensures.memory (c.in-Err.ensures.passes (ap₂ takes c.in-Ok-command.ensures words_are ∙ taken)))
+returns-in-Err-clause-passes c = λ taken. inl (c.sorted.ensures.memory (c.in-Err.ensures.passes (ap (λ a. takes a (map (λ word. word.now) c.args.words.now)) c.in-Ok.ensures.shape ∙ taken)))

@@ -1,0 +1,36 @@
+// The writes and syncs of stores as bare system calls: for each store of two pages, their images, the armed sector, the pages
+// themselves and the clear sector, each followed by a sync (redo_area). Arguments: the file, and how many stores.
+#define _GNU_SOURCE
+#include <fcntl.h>
+#include <stdlib.h>
+#include <unistd.h>
+
+static char sector[512];
+
+static void put(int file, long first, int count) {
+    for (int i = 0; i < count; i++)
+        if (pwrite(file, sector, 512, (first + i) * 512) != 512) exit(1);
+}
+
+static void settle(int file) {
+    if (fsync(file) != 0) exit(1);
+}
+
+int main(int count, char **words) {
+    if (count != 3) return 2;
+    int file = open(words[1], O_RDWR | O_CREAT, 0666);
+    if (file < 0) return 1;
+    for (long n = atol(words[2]); n > 0; n--) {
+        sector[0] = (char)n;
+        put(file, 4 * 1300, 8);
+        settle(file);
+        put(file, 0, 1);
+        settle(file);
+        put(file, 4, 4);
+        put(file, 4 * (3 + n % 1200), 4);
+        settle(file);
+        put(file, 0, 1);
+        settle(file);
+    }
+    return close(file) != 0;
+}

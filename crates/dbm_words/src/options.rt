@@ -1,0 +1,119 @@
+// The plan that a parse entered.
+ghost use Rattle.std.specs.Prelude.{◌≡◌, ◌⊎◌, IfErr, IfOk, IfSome, MatchOption, None, Some, codes};
+ghost use Rattle.clap.specs.Words.{first_of, found_of, one_of, rows_of, subcommand_rows_of};
+ghost use Rattle.dbm_words.specs.CommandLine.{Asks, IsNumber, IsSource, IsText, LacksSource, Names, NamesNoSource, flag_text};
+
+use crate::commands::{
+    CONTENT, CREATE, DELETE, DUMP, FETCH, FILE, HEXADECIMAL, INSERT, KEY, LIMIT, LIST, LOAD,
+    MEMORY, SCRIPT, STAT, STORE,
+};
+use crate::{Plan, Source, Spelling, WordsError};
+use clap::ArgMatches;
+
+/// The plan that the words name.
+pub fn chosen<'a>(matches: &ArgMatches<'a>) -> Result<Plan<'a>, WordsError>
+    ensures plan { IfOk result (Names (subcommand_rows_of matches.now)) }
+    ensures source { IfErr result (λ e. e ≡ WordsError.ScriptSource → NamesNoSource (subcommand_rows_of matches.now)) }
+    ensures others { IfErr result (λ e. (e ≡ WordsError.NoPlan) ⊎ (e ≡ WordsError.ScriptSource)) }
+{
+    let Some((name, options)) = matches.subcommand() else {
+        return Err(WordsError::NoPlan);
+    };
+    if name == SCRIPT {
+        return Ok(Plan::Script(source(options)?));
+    }
+    of_file(name, options).ok_or(WordsError::NoPlan)
+}
+
+/// The database that a script is to run on.
+fn source<'a>(options: &ArgMatches<'a>) -> Result<Source<'a>, WordsError>
+    ensures source { IfOk result (IsSource (rows_of (found_of options.now))) }
+    ensures lacks { IfErr result (λ e. e ≡ WordsError.ScriptSource → LacksSource (rows_of (found_of options.now))) }
+    ensures others { IfErr result (λ e. (e ≡ WordsError.NoPlan) ⊎ (e ≡ WordsError.ScriptSource)) }
+{
+    match (text(options, FILE), text(options, MEMORY)) {
+        (Some(file), None) => Ok(Source::File(file)),
+        (None, Some(_)) => match number(options, MEMORY) {
+            Some(limit) => Ok(Source::Memory(limit)),
+            None => Err(WordsError::NoPlan),
+        },
+        (Some(_), Some(_)) | (None, None) => Err(WordsError::ScriptSource),
+    }
+}
+
+/// The plan of a command on a file.
+fn of_file<'a>(name: &str, options: &ArgMatches<'a>) -> Option<Plan<'a>>
+    ensures { IfSome result (Asks name.now (rows_of (found_of options.now))) }
+{
+    let file = text(options, FILE)?;
+    match name {
+        CREATE => Some(Plan::Create {
+            file,
+            limit: number(options, LIMIT)?,
+        }),
+        LIST => Some(Plan::List { file }),
+        DUMP => Some(Plan::Dump { file }),
+        LOAD => Some(Plan::Load { file }),
+        STAT => Some(Plan::Stat { file }),
+        _ => of_key(name, options),
+    }
+}
+
+/// The plan of a command on a key in a file.
+fn of_key<'a>(name: &str, options: &ArgMatches<'a>) -> Option<Plan<'a>>
+    ensures { IfSome result (Asks name.now (rows_of (found_of options.now))) }
+{
+    let file = text(options, FILE)?;
+    let key = text(options, KEY)?;
+    let spelling = spelling(options)?;
+    match name {
+        STORE => Some(Plan::Store {
+            file,
+            key,
+            content: text(options, CONTENT)?,
+            spelling,
+        }),
+        INSERT => Some(Plan::Insert {
+            file,
+            key,
+            content: text(options, CONTENT)?,
+            spelling,
+        }),
+        FETCH => Some(Plan::Fetch {
+            file,
+            key,
+            spelling,
+        }),
+        DELETE => Some(Plan::Delete {
+            file,
+            key,
+            spelling,
+        }),
+        _ => None,
+    }
+}
+
+/// The word that was given under `id`.
+fn text<'a>(options: &ArgMatches<'a>, id: &str) -> Option<&'a str>
+    ensures { MatchOption result (first_of id.now (rows_of (found_of options.now)) ≡ None) (λ word. IsText (rows_of (found_of options.now)) id.now word.now) }
+{
+    options.get_str(id)
+}
+
+/// The number that was given under `id`, or that stands for it.
+fn number(options: &ArgMatches<'_>, id: &str) -> Option<u32>
+    ensures { IfSome result (IsNumber (rows_of (found_of options.now)) id.now) }
+{
+    options.get_one(id)
+}
+
+/// How the key and the content are spelled.
+fn spelling(options: &ArgMatches<'_>) -> Option<Spelling>
+    ensures { IfSome result (λ spelled. one_of (codes "hexadecimal") (rows_of (found_of options.now)) ≡ Some (flag_text spelled)) }
+{
+    if options.get_one::<bool>(HEXADECIMAL)? {
+        Some(Spelling::Hexadecimal)
+    } else {
+        Some(Spelling::Text)
+    }
+}

@@ -1,0 +1,98 @@
+#!/usr/bin/env bash
+# The program on real files: what each command prints on both streams, and its status.
+set -u
+top=$(cd "$(dirname "$0")/.." && pwd)
+program=$top/crates/dbmtool/out/dbmtool
+work=$(mktemp -d)
+trap 'rm -rf "$work"' EXIT
+cd "$work" || exit 1
+wrong=0
+
+# run STATUS OUTPUT FAULTS WORD..: standard input is the program's
+run() {
+  local wanted=$1 output=$2 faults=$3 status=0
+  shift 3
+  "$program" "$@" > out 2> err || status=$?
+  printf '%b' "$output" > right.out
+  printf '%b' "$faults" > right.err
+  if [ "$status" != "$wanted" ] || ! cmp -s out right.out || ! cmp -s err right.err; then
+    echo "dbmtool $*: status $status and not $wanted, or another text:"
+    head -c 400 out; head -c 400 err
+    wrong=1
+  fi
+}
+
+# a first key
+run 0 '' '' create t --limit 100 < /dev/null
+run 0 '' '' store t k v < /dev/null
+run 0 'v\n' '' fetch t k < /dev/null
+run 1 '' '' insert t k w < /dev/null
+run 0 '76\n' '' fetch t 6B -x < /dev/null
+run 0 '6b\n' '' list t < /dev/null
+run 0 '6b 76\n' '' dump t < /dev/null
+run 0 '' '' delete t k < /dev/null
+run 1 '' '' delete t k < /dev/null
+run 1 '' '' fetch t k < /dev/null
+run 3 '' 'dbmtool: not hex\n' fetch t 6 -x < /dev/null
+run 3 '' 'dbmtool: script needs FILE or --memory\n' script < /dev/null
+run 3 '' 'dbmtool: script needs FILE or --memory\n' script t --memory 5 < /dev/null
+run 0 '' '' store t . . -x < /dev/null
+run 0 '.\n' '' fetch t . -x < /dev/null
+
+# nine pairs, which take a second bucket
+run 0 '' '' create nine --limit 100 < /dev/null
+for digit in 1 2 3 4 5 6 7 8 9; do echo "6$digit 0$digit"; done > nine.text
+run 0 '' '' load nine < nine.text
+run 0 'pairs 9\nlimit 100\nbuckets 2\nlevel 1\nsplit 0\npages 5\nfree 0\n' '' stat nine < /dev/null
+"$program" dump nine > nine.again && cmp -s nine.text nine.again || { echo "a dump isn't what was loaded"; wrong=1; }
+
+# what is no database, and what is there or isn't
+printf 'hello' > other.db
+run 2 '' 'dbmtool: fault 10\n' fetch other a < /dev/null
+run 2 '' 'dbmtool: fault 15\n' create other < /dev/null
+[ "$(cat other.db)" = hello ] || { echo "a file of something else was changed"; wrong=1; }
+run 2 '' 'dbmtool: fault 14\n' fetch missing x < /dev/null
+[ ! -e missing.db ] || { echo "a fetch made a file"; wrong=1; }
+run 2 '' 'dbmtool: fault 13\n' create zero --limit 0 < /dev/null
+run 2 '' 'dbmtool: fault 15\n' create t < /dev/null
+
+# a new file that was cut
+run 0 '' '' create cut --limit 100 < /dev/null
+head -c 6144 cut.db > short && cp short cut.db
+run 0 'pairs 0\nlimit 100\nbuckets 1\nlevel 0\nsplit 0\npages 4\nfree 0\n' '' stat cut < /dev/null
+run 2 '' 'dbmtool: fault 9\n' fetch cut k < /dev/null
+
+# a bad line stops a load, with the earlier lines kept
+run 0 '' '' create few --limit 100 < /dev/null
+printf '61 FF\n62 .\nzz\n63 01\n' > few.text
+run 2 '' 'dbmtool: line 3\n' load few < few.text
+run 0 '61 ff\n62 .\n' '' dump few < /dev/null
+
+# a full database, a long pair, and a script on a file
+run 0 '' '' create one --limit 1 < /dev/null
+run 0 '' '' store one a 1 < /dev/null
+run 2 '' 'dbmtool: fault 6\n' store one b 1 < /dev/null
+run 2 '' 'dbmtool: fault 5\n' store t k "$(printf '%02026d' 0)" < /dev/null
+printf 'S 6b 76\nF 6b\nQ\nD 6b\n' > lines
+run 0 '0\n76\n-1 line\n0\n' '' script t < lines
+
+# usage names the word that was wrong
+for words in 'store t' 'verify t' 'fetch t k v' 'create t --limit x' '--unknown' ''; do
+  # shellcheck disable=SC2086
+  "$program" $words > out 2> err < /dev/null
+  [ $? = 3 ] && [ ! -s out ] && [ -s err ] || { echo "dbmtool $words: no usage"; wrong=1; }
+done
+grep -q -- '--unknown' <("$program" --unknown 2>&1) || { echo "usage doesn't name the wrong word"; wrong=1; }
+
+# help names each command, and ends with an example
+"$program" --help > out || wrong=1
+for command in create store insert fetch delete list dump load stat script; do
+  grep -qw "$command" out || { echo "the help has no $command"; wrong=1; }
+  "$program" "$command" --help > command.out || { echo "no help of $command"; wrong=1; }
+  grep -q "dbmtool $command" command.out || { echo "the help of $command has no example"; wrong=1; }
+done
+
+# output that can't be written, and input that can't be read
+"$program" dump nine > /dev/full 2> err; [ $? = 2 ] && [ "$(cat err)" = 'dbmtool: write' ] || { echo "a full output isn't told"; wrong=1; }
+run 2 '' 'dbmtool: read\n' load nine < .
+exit $wrong

@@ -1,0 +1,20 @@
+#!/usr/bin/env bash
+# The first session of README.md, line by line: each command prints what stands below it.
+set -u
+top=$(cd "$(dirname "$0")/.." && pwd)
+program=$top/crates/dbmtool/out/dbmtool
+work=$(mktemp -d)
+trap 'rm -rf "$work"' EXIT
+cd "$work" || exit 1
+ln -s "$program" dbmtool
+sed -n '/^## A first session$/,/^## /p' "$top/README.md" | sed -n 's/^    //p' > session
+commands=0
+while IFS= read -r line; do
+  case $line in
+    '$ '*) bash -c "${line#\$ }" >> found 2>&1 < /dev/null; commands=$((commands + 1)) ;;
+    *) printf '%s\n' "$line" >> wanted ;;
+  esac
+done < session
+diff wanted found || { echo "the session prints something else than README.md says (< README.md, > program)"; exit 1; }
+echo "$commands commands"
+[ "$commands" -ge 10 ]
