@@ -92,6 +92,16 @@ for command in create store insert fetch delete list dump load stat script; do
   grep -q "dbmtool $command" command.out || { echo "the help of $command has no example"; wrong=1; }
 done
 
+# a file that may be read and not written, for somebody who isn't root
+as=()
+[ "$(id -u)" != 0 ] || as=(setpriv --reuid=65534 --regid=65534 --clear-groups)
+chmod 755 . && cp "$program" dbmtool && chmod 755 dbmtool && chmod 444 nine.db
+"${as[@]}" ./dbmtool fetch nine 61 -x > out 2> err && [ "$(cat out)" = 01 ] || { echo "a file that may be read isn't: $(cat err)"; wrong=1; }
+"${as[@]}" ./dbmtool store nine 61 02 -x > out 2> err; [ $? = 2 ] && [ "$(cat err)" = 'dbmtool: fault 2' ] || { echo "a file that may not be written: $(cat err)"; wrong=1; }
+mkdir closed && chmod 555 closed
+"${as[@]}" ./dbmtool create closed/t > out 2> err; [ $? = 2 ] && [ "$(cat err)" = 'dbmtool: fault 2' ] || { echo "a folder that may not be written: $(cat err)"; wrong=1; }
+run 0 '01\n' '' fetch nine 61 -x < /dev/null
+
 # output that can't be written, and input that can't be read
 "$program" dump nine > /dev/full 2> err; [ $? = 2 ] && [ "$(cat err)" = 'dbmtool: write' ] || { echo "a full output isn't told"; wrong=1; }
 run 2 '' 'dbmtool: read\n' load nine < .

@@ -1,0 +1,26 @@
+#!/usr/bin/env bash
+# 10,000 pairs with keys of every length, and one with every byte value, in a real file: they are dumped in order, and the dump
+# loads back to the same dump.
+set -u
+top=$(cd "$(dirname "$0")/.." && pwd)
+program=$top/crates/dbmtool/out/dbmtool
+work=$(mktemp -d)
+trap 'rm -rf "$work"' EXIT
+cd "$work" || exit 1
+bytes=$(printf '%02x' $(seq 0 255))
+{
+  echo "$bytes $(printf '%02x' $(seq 255 -1 0))"
+  echo '. 00'
+  # the number in front makes each key another one; a content of 6 bytes leaves room for 2,020 bytes of key
+  awk 'BEGIN {
+    for (zeros = "00"; length(zeros) < 4040; ) zeros = zeros zeros
+    for (i = 0; i < 10000; i++) { rest = i % 2018; printf "%04x%s %012x\n", i, substr(zeros, 1, 2 * rest), i }
+  }'
+} > pairs
+LC_ALL=C sort -k1,1 pairs > sorted
+"$program" create first && "$program" load first < pairs && "$program" dump first > dumped || exit 1
+# `.`, the word of no bytes, stands before all digits, as no bytes before all bytes
+cmp sorted dumped || { echo "the dump isn't the pairs in order"; exit 1; }
+"$program" list first > listed && cut -d' ' -f1 dumped | cmp - listed || { echo "the list isn't the keys of the dump"; exit 1; }
+"$program" create second && "$program" load second < dumped && "$program" dump second | cmp - dumped || { echo "the dump doesn't load back"; exit 1; }
+echo "$(wc -l < dumped) pairs, in a file of $(stat -c %s first.db) bytes"
