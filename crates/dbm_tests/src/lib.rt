@@ -26,3 +26,5 @@ mod passing_tests;
 mod script_tests;
 #[cfg(test)]
 mod stop_tests;
+#[cfg(test)]
+mod tool_tests;
