@@ -3,20 +3,20 @@ use Rattle.std.proofs.Common.{◌≡◌, ℕ, ◌+◌, ◌≤◌, ◌==◌, Bool
 use Rattle.std.proofs.lemmas.List.{length-append, length-reverse}
 use Rattle.std.proofs.lemmas.List.Sums.{sum_by-append}
 use Rattle.dbm_model.specs.Pairs.{Pair}
-use Rattle.dbm_model.specs.Pages.{Body, HeadPage}
-use Rattle.dbm_model.specs.Chain.{Leaf, Chain, numbers}
-use Rattle.dbm_model.specs.Space.{Space, give, is_page, times_of}
-use Rattle.dbm_model.specs.Sheets.{first_of, free_sheets, AreRead}
-use Rattle.dbm_model.proofs.Chains.{AllByRecursion-right}
-use Rattle.dbm_model.proofs.Spaces.{times_head}
+use Rattle.page_model.specs.Pages.{Body, HeadPage}
+use Rattle.page_model.specs.Chain.{Leaf, Chain, numbers}
+use Rattle.page_model.specs.Space.{Space, give, is_page, times_of}
+use Rattle.page_model.specs.Sheets.{first_of, free_sheets, AreRead}
+use Rattle.page_model.proofs.Chains.{AllByRecursion-right}
+use Rattle.page_model.proofs.Spaces.{times_head}
 use Rattle.free_pages.specs.declared.free_state.FreeState.{FreeState}
 use Rattle.free_pages.specs.FreeList.{IsFreeList}
-use Rattle.bucket_chain.specs.Links.{HaveDistinctKeys, SaysLink}
-use Rattle.bucket_chain.specs.Walks.{IsRead}
+use Rattle.chain_walks.specs.Links.{HaveDistinctKeys, SaysLink}
+use Rattle.chain_walks.specs.Walks.{IsRead}
 use Rattle.bucket_chain.specs.Giving.{AreGiven}
 use Rattle.bucket_chain.specs.Changes.{IsPlaced, IsCleared, store_in}
-use Rattle.bucket_chain.proofs.Walks.{leaf_of, AreNumbered, one_next}
-use Rattle.bucket_chain.proofs.KeyWalks.{none_later}
+use Rattle.chain_walks.proofs.Walks.{leaf_of, AreNumbered, one_next}
+use Rattle.chain_walks.proofs.KeyWalks.{none_later}
 use Rattle.bucket_chain.proofs.Rewriting.{free_kept, not_there, not_here}
 use Rattle.bucket_chain.proofs.Givings.{AreGivenIn, given_split, still_free, times_given}
 

@@ -5,10 +5,10 @@ use Rattle.std.proofs.lemmas.List.Elements.{All-from_recursion}
 use Rattle.std.proofs.lemmas.List.Kept.{AllPairs-cons}
 use Rattle.std.proofs.lemmas.List.Sums.{sum_by-append, sum_by-cons}
 use Rattle.dbm_model.specs.Pairs.{Key, Pair}
-use Rattle.dbm_model.specs.PairLists.{has_key, times}
-use Rattle.dbm_model.specs.Chain.{Chain, pairs_in}
-use Rattle.bucket_chain.specs.Links.{HaveDistinctKeys}
-use Rattle.bucket_chain.proofs.KeyWalks.{has_key_is}
+use Rattle.page_model.specs.PairLists.{has_key, times}
+use Rattle.page_model.specs.Chain.{Chain, pairs_in}
+use Rattle.chain_walks.specs.Links.{HaveDistinctKeys}
+use Rattle.chain_walks.proofs.KeyWalks.{has_key_is}
 
 counted : (key : Key) (pair : Pair) (pairs : List Pair) → times key (pair ∷ pairs) ≡ cond (has_key key pair) 1 0 + times key pairs
 counted key pair pairs = sum_by-cons (λ (q : Pair). cond (has_key key q) 1 0) pair pairs

@@ -4,20 +4,20 @@ use Rattle.std.specs.Prelude.{remove as remove_at}
 use Rattle.std.specs.List.{AllByRecursion}
 use Rattle.std.proofs.lemmas.List.Edits.{length-remove}
 use Rattle.dbm_model.specs.Pairs.{Key, Pair}
-use Rattle.dbm_model.specs.PairLists.{times, without}
-use Rattle.dbm_model.specs.Pages.{Body}
-use Rattle.dbm_model.specs.Chain.{Leaf, Chain, numbers, pairs_in, take_out, is_bare, remove, emptied, IsChain}
-use Rattle.dbm_model.specs.Sheets.{first_of}
-use Rattle.dbm_model.proofs.Chains.{AllByRecursion-left, AllByRecursion-right}
+use Rattle.page_model.specs.PairLists.{times, without}
+use Rattle.page_model.specs.Pages.{Body}
+use Rattle.page_model.specs.Chain.{Leaf, Chain, numbers, pairs_in, take_out, is_bare, remove, emptied, IsChain}
+use Rattle.page_model.specs.Sheets.{first_of}
+use Rattle.page_model.proofs.Chains.{AllByRecursion-left, AllByRecursion-right}
 use Rattle.slot_page.specs.Contents.{pairs_of}
-use Rattle.bucket_chain.specs.Links.{HaveDistinctKeys, IsLink}
-use Rattle.bucket_chain.specs.Chains.{IsChainAt, number_or}
-use Rattle.bucket_chain.specs.Walks.{IsWalk, LacksKey, EndsWithout, HasKey}
-use Rattle.bucket_chain.specs.Chains.{kind_behind}
+use Rattle.chain_walks.specs.Links.{HaveDistinctKeys, IsLink}
+use Rattle.chain_walks.specs.Chains.{IsChainAt, number_or}
+use Rattle.chain_walks.specs.Walks.{IsWalk, LacksKey, EndsWithout, HasKey}
+use Rattle.chain_walks.specs.Chains.{kind_behind}
 use Rattle.bucket_chain.specs.Hits.{IsPrior, IsNumberedWalk, IsHit}
 use Rattle.bucket_chain.specs.declared.removes.Hit.{Hit}
-use Rattle.bucket_chain.proofs.Walks.{AreNumbered, IsSplit, begins_same}
-use Rattle.bucket_chain.proofs.KeyWalks.{none_later}
+use Rattle.chain_walks.proofs.Walks.{AreNumbered, IsSplit, begins_same}
+use Rattle.chain_walks.proofs.KeyWalks.{none_later}
 use Rattle.bucket_chain.proofs.KeyRemovals.{slot_times, slot_out, times-append, times_parts, AreFilled, removed_head, removed_over, removed_none}
 use Rattle.bucket_chain.proofs.Rewriting.{AreSaid, chain_said}
 

@@ -6,19 +6,19 @@ use Rattle.std.proofs.lemmas.List.{reverse-append, length-reverse, length-append
 use Rattle.std.proofs.lemmas.List.Sums.{sum_by-append, sum_by-cons}
 use Rattle.std.proofs.lemmas.List.Sorted.{IsPermutation-reverse, sum_by-IsPermutation}
 use Rattle.dbm_model.specs.Pairs.{Pair}
-use Rattle.dbm_model.specs.Pages.{Body, HeadPage, OverflowPage, FreePage}
-use Rattle.dbm_model.specs.Chain.{Leaf, Chain, numbers}
-use Rattle.dbm_model.specs.Space.{Space, give, is_page, times_of}
-use Rattle.dbm_model.specs.Sheets.{first_of}
-use Rattle.dbm_model.proofs.Chains.{AllByRecursion-append}
-use Rattle.dbm_model.proofs.Spaces.{times_head, times_tail}
+use Rattle.page_model.specs.Pages.{Body, HeadPage, OverflowPage, FreePage}
+use Rattle.page_model.specs.Chain.{Leaf, Chain, numbers}
+use Rattle.page_model.specs.Space.{Space, give, is_page, times_of}
+use Rattle.page_model.specs.Sheets.{first_of}
+use Rattle.page_model.proofs.Chains.{AllByRecursion-append}
+use Rattle.page_model.proofs.Spaces.{times_head, times_tail}
 use Rattle.free_pages.specs.declared.free_state.FreeState.{FreeState}
 use Rattle.free_pages.specs.FreeList.{IsFreeList, IsApart}
-use Rattle.bucket_chain.specs.Links.{SaysLink}
-use Rattle.bucket_chain.specs.Chains.{BeginsAt}
+use Rattle.chain_walks.specs.Links.{SaysLink}
+use Rattle.chain_walks.specs.Chains.{BeginsAt}
 use Rattle.bucket_chain.specs.Giving.{IsFree, AreGiven}
 use Rattle.bucket_chain.specs.Changes.{IsPlaced}
-use Rattle.bucket_chain.proofs.Walks.{leaf_of, number_more, linked_more, IsSplit, begins_same, IsHere, walk_is_here}
+use Rattle.chain_walks.proofs.Walks.{leaf_of, number_more, linked_more, IsSplit, begins_same, IsHere, walk_is_here}
 use Rattle.bucket_chain.proofs.Rewriting.{times_in}
 
 -- so many pages were given

@@ -1,14 +1,14 @@
 -- A walk that remembers the page before.
 use Rattle.std.proofs.Common.{◌≡◌, ◌≢◌, inl, inr, ℕ, ◌+◌, ◌≤◌, List, refl, subst}
 use Rattle.dbm_model.specs.Pairs.{Key, Pair}
-use Rattle.dbm_model.specs.PairLists.{times}
-use Rattle.dbm_model.specs.Pages.{Body}
-use Rattle.dbm_model.specs.Chain.{Leaf}
+use Rattle.page_model.specs.PairLists.{times}
+use Rattle.page_model.specs.Pages.{Body}
+use Rattle.page_model.specs.Chain.{Leaf}
 use Rattle.slot_page.specs.Contents.{HasKeyAt, pairs_of}
-use Rattle.bucket_chain.specs.Links.{SaysLink, IsLink}
-use Rattle.bucket_chain.specs.Walks.{LacksKey}
+use Rattle.chain_walks.specs.Links.{SaysLink, IsLink}
+use Rattle.chain_walks.specs.Walks.{LacksKey}
 use Rattle.bucket_chain.specs.Hits.{IsPrior, IsNumberedWalk, IsHitAt, IsHit}
-use Rattle.bucket_chain.proofs.Walks.{leaf_of, IsUnderWay, walk_starts, walk_goes_on, passed_more, numbered_more}
+use Rattle.chain_walks.proofs.Walks.{leaf_of, IsUnderWay, walk_starts, walk_goes_on, passed_more, numbered_more}
 
 -- the walk stands at page n, and has passed page `prior` last
 pub record IsTracked (at : ℕ → Body) (head : ℕ) (key : Key) (prior prior_kind n kind step : ℕ) : Type 0 where

@@ -7,12 +7,12 @@ use Rattle.std.proofs.lemmas.List.Concat.{flat_map-append}
 use Rattle.std.proofs.lemmas.List.Elements.{filter-append}
 use Rattle.std.proofs.lemmas.List.Sums.{sum_by-append, sum_by-cons}
 use Rattle.dbm_model.specs.Pairs.{Key, Pair}
-use Rattle.dbm_model.specs.PairLists.{has_key, times, without}
-use Rattle.dbm_model.specs.Chain.{Leaf, Chain, numbers, pairs_in, take_out, is_bare, remove, emptied}
-use Rattle.dbm_model.proofs.Absent.{without_slot, without_absent}
-use Rattle.dbm_model.proofs.PairLists.{times_some}
+use Rattle.page_model.specs.PairLists.{has_key, times, without}
+use Rattle.page_model.specs.Chain.{Leaf, Chain, numbers, pairs_in, take_out, is_bare, remove, emptied}
+use Rattle.page_model.proofs.Absent.{without_slot, without_absent}
+use Rattle.page_model.proofs.PairLists.{times_some}
 use Rattle.slot_page.specs.Contents.{HasKeyAt}
-use Rattle.bucket_chain.proofs.KeyWalks.{has_key_is}
+use Rattle.chain_walks.proofs.KeyWalks.{has_key_is}
 
 no_pair : Pair
 no_pair = ([], [])

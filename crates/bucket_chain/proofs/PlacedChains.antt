@@ -6,16 +6,16 @@ use Rattle.std.proofs.lemmas.List.{length-append}
 use Rattle.std.proofs.lemmas.List.Sums.{sum_by-append}
 use Rattle.std.proofs.lemmas.List.Folds.{length-flat_map-take}
 use Rattle.dbm_model.specs.Pairs.{Pair}
-use Rattle.dbm_model.specs.PairLists.{has_key, times}
-use Rattle.dbm_model.specs.Pages.{Sheet}
-use Rattle.dbm_model.specs.Chain.{Chain, numbers, pairs_in}
-use Rattle.dbm_model.specs.Space.{is_page, times_of}
-use Rattle.dbm_model.specs.Placement.{chain_at}
-use Rattle.dbm_model.specs.Sheets.{chain_sheets, free_sheets, segment_sheets, heads_of}
-use Rattle.dbm_model.proofs.Chains.{AllByRecursion-left, AllByRecursion-right}
-use Rattle.dbm_model.proofs.Frames.{put_rewrites, delete_rewrites}
-use Rattle.dbm_model.proofs.Places.{delete_sound}
-use Rattle.dbm_model.proofs.Spaces.{times_head, times_tail}
+use Rattle.page_model.specs.PairLists.{has_key, times}
+use Rattle.page_model.specs.Pages.{Sheet}
+use Rattle.page_model.specs.Chain.{Chain, numbers, pairs_in}
+use Rattle.page_model.specs.Space.{is_page, times_of}
+use Rattle.page_model.specs.Placement.{chain_at}
+use Rattle.page_model.specs.Sheets.{chain_sheets, free_sheets, segment_sheets, heads_of}
+use Rattle.page_model.proofs.Chains.{AllByRecursion-left, AllByRecursion-right}
+use Rattle.page_model.proofs.Frames.{put_rewrites, delete_rewrites}
+use Rattle.page_model.proofs.Places.{delete_sound}
+use Rattle.page_model.proofs.Spaces.{times_head, times_tail}
 use Rattle.bucket_chain.specs.Placements.{ChainsArePlaced, PutsArePlacements, RemovalsArePlacements}
 use Rattle.bucket_chain.proofs.DistinctKeys.{distinct_by_page}
 

@@ -7,28 +7,28 @@ use Rattle.std.proofs.lemmas.List.Sums.{sum_by-append, sum_by-cons}
 use Rattle.std.proofs.lemmas.List.Elements.{All-from_recursion}
 use Rattle.std.proofs.lemmas.List.Concat.{flat_map-append}
 use Rattle.dbm_model.specs.Pairs.{Key, Pair}
-use Rattle.dbm_model.specs.PairLists.{has_key, times}
-use Rattle.dbm_model.specs.Pages.{Body, OverflowPage, Bucket, bucket}
-use Rattle.dbm_model.specs.Reading.{bucket_of, body_of}
-use Rattle.dbm_model.specs.Chain.{Leaf, Chain, numbers, pairs_in, fits, push, has_room, add}
-use Rattle.dbm_model.specs.Space.{Space, next_page, after_take, is_page, times_of}
-use Rattle.dbm_model.specs.Sheets.{first_of, free_sheets, AreRead}
-use Rattle.dbm_model.proofs.Absent.{add-append}
-use Rattle.dbm_model.proofs.Chains.{AllByRecursion-right}
-use Rattle.dbm_model.proofs.Spaces.{times_head, times_tail}
+use Rattle.page_model.specs.PairLists.{has_key, times}
+use Rattle.page_model.specs.Pages.{Body, OverflowPage, Bucket, bucket}
+use Rattle.page_model.specs.Reading.{bucket_of, body_of}
+use Rattle.page_model.specs.Chain.{Leaf, Chain, numbers, pairs_in, fits, push, has_room, add}
+use Rattle.page_model.specs.Space.{Space, next_page, after_take, is_page, times_of}
+use Rattle.page_model.specs.Sheets.{first_of, free_sheets, AreRead}
+use Rattle.page_model.proofs.Absent.{add-append}
+use Rattle.page_model.proofs.Chains.{AllByRecursion-right}
+use Rattle.page_model.proofs.Spaces.{times_head, times_tail}
 use Rattle.slot_page.specs.Contents.{IsBucketPage, Holds, IsAbsent, pairs_of, with_pairs, with_next}
 use Rattle.free_pages.specs.declared.free_state.FreeState.{FreeState}
 use Rattle.free_pages.specs.FreeList.{state_of, IsApart}
-use Rattle.bucket_chain.specs.Links.{IsLink, link_body}
-use Rattle.bucket_chain.specs.Chains.{number_or}
-use Rattle.bucket_chain.specs.Walks.{IsFull, IsRoomWalk}
-use Rattle.bucket_chain.specs.Chains.{kind_behind}
+use Rattle.chain_walks.specs.Links.{IsLink, link_body}
+use Rattle.chain_walks.specs.Chains.{number_or}
+use Rattle.chain_walks.specs.Walks.{IsFull, IsRoomWalk}
+use Rattle.chain_walks.specs.Chains.{kind_behind}
 use Rattle.bucket_chain.specs.Spots.{leaf_on, IsSpot}
 use Rattle.bucket_chain.specs.Changes.{IsPlaced, BecomesPlaced, put_in}
 use Rattle.bucket_chain.specs.declared.puts.Spot.{Spot}
-use Rattle.bucket_chain.proofs.LinkBodies.{says_link}
-use Rattle.bucket_chain.proofs.Walks.{AreNumbered, IsSplit, begins_same}
-use Rattle.bucket_chain.proofs.KeyWalks.{none_later, has_key_is}
+use Rattle.chain_walks.proofs.LinkBodies.{says_link}
+use Rattle.chain_walks.proofs.Walks.{AreNumbered, IsSplit, begins_same}
+use Rattle.chain_walks.proofs.KeyWalks.{none_later, has_key_is}
 use Rattle.bucket_chain.proofs.Rewriting.{AreSaid, chain_said, chain_read, free_kept, times_in, not_there, not_here, middle_there, before_apart, later_apart, free_apart, rewritten_said, later_said, said_kept}
 
 -- ---- the page that gets a pair, and the one before a new one, in bytes

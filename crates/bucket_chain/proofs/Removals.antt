@@ -5,26 +5,26 @@ use Rattle.std.specs.List.{AllByRecursion}
 use Rattle.std.proofs.lemmas.List.Edits.{length-remove}
 use Rattle.std.proofs.lemmas.List.Sums.{sum_by-cons}
 use Rattle.dbm_model.specs.Pairs.{Key, Pair}
-use Rattle.dbm_model.specs.PairLists.{without}
-use Rattle.dbm_model.specs.Pages.{Body, Bucket}
-use Rattle.dbm_model.specs.Reading.{body_of}
-use Rattle.dbm_model.specs.Chain.{Leaf, Chain, numbers, take_out, remove, emptied}
-use Rattle.dbm_model.specs.Space.{Space, is_page, times_of, give}
-use Rattle.dbm_model.specs.Sheets.{free_sheets, chain_sheets, AreRead}
-use Rattle.dbm_model.proofs.Chains.{AllByRecursion-right}
-use Rattle.dbm_model.proofs.Frames.{at_most_one}
-use Rattle.dbm_model.proofs.Spaces.{times_head}
+use Rattle.page_model.specs.PairLists.{without}
+use Rattle.page_model.specs.Pages.{Body, Bucket}
+use Rattle.page_model.specs.Reading.{body_of}
+use Rattle.page_model.specs.Chain.{Leaf, Chain, numbers, take_out, remove, emptied}
+use Rattle.page_model.specs.Space.{Space, is_page, times_of, give}
+use Rattle.page_model.specs.Sheets.{free_sheets, chain_sheets, AreRead}
+use Rattle.page_model.proofs.Chains.{AllByRecursion-right}
+use Rattle.page_model.proofs.Frames.{at_most_one}
+use Rattle.page_model.proofs.Spaces.{times_head}
 use Rattle.slot_page.specs.Contents.{Holds, pairs_of, with_pairs}
 use Rattle.free_pages.specs.FreeList.{IsFreeList, IsApart}
 use Rattle.free_pages.specs.declared.free_state.FreeState.{FreeState}
 use Rattle.free_pages.proofs.FreeLists.{free_stays}
-use Rattle.bucket_chain.specs.Links.{link_body, HaveDistinctKeys, IsLink, SaysLink}
-use Rattle.bucket_chain.specs.Chains.{number_or}
-use Rattle.bucket_chain.specs.Chains.{kind_behind}
+use Rattle.chain_walks.specs.Links.{link_body, HaveDistinctKeys, IsLink, SaysLink}
+use Rattle.chain_walks.specs.Chains.{number_or}
+use Rattle.chain_walks.specs.Chains.{kind_behind}
 use Rattle.bucket_chain.specs.Hits.{IsLast}
 use Rattle.bucket_chain.specs.Changes.{IsPlaced, BecomesPlaced, remove_from}
 use Rattle.bucket_chain.specs.declared.removes.Hit.{Hit}
-use Rattle.bucket_chain.proofs.LinkBodies.{says_link}
+use Rattle.chain_walks.proofs.LinkBodies.{says_link}
 use Rattle.bucket_chain.proofs.KeyRemovals.{AreFilled}
 use Rattle.bucket_chain.proofs.Rewriting.{AreSaid, chain_read, times_in, said_kept, not_there, rewritten_said, later_said, here_said}
 use Rattle.bucket_chain.proofs.FoundKeys.{IsFoundHere, page_stays, page_leaves}

@@ -3,17 +3,17 @@ use Rattle.std.proofs.Common.{◌≡◌, ℕ, ◌+◌, ◌≤◌, ◌==◌, cond
 use Rattle.std.proofs.lemmas.List.{map-append}
 use Rattle.std.proofs.lemmas.List.Sums.{sum_by-append}
 use Rattle.dbm_model.specs.Pairs.{Pair}
-use Rattle.dbm_model.specs.Pages.{Body, HeadPage, OverflowPage}
-use Rattle.dbm_model.specs.Chain.{Leaf, Chain, numbers}
-use Rattle.dbm_model.specs.Space.{Space, is_page, times_of}
-use Rattle.dbm_model.specs.Sheets.{first_of, chain_sheets, overflow_sheets, free_sheets, AreRead}
-use Rattle.dbm_model.proofs.Frames.{kept, at_most_one}
-use Rattle.dbm_model.proofs.Flat.{numbers-free}
-use Rattle.dbm_model.proofs.Spaces.{times_head, times_tail}
+use Rattle.page_model.specs.Pages.{Body, HeadPage, OverflowPage}
+use Rattle.page_model.specs.Chain.{Leaf, Chain, numbers}
+use Rattle.page_model.specs.Space.{Space, is_page, times_of}
+use Rattle.page_model.specs.Sheets.{first_of, chain_sheets, overflow_sheets, free_sheets, AreRead}
+use Rattle.page_model.proofs.Frames.{kept, at_most_one}
+use Rattle.page_model.proofs.Flat.{numbers-free}
+use Rattle.page_model.proofs.Spaces.{times_head, times_tail}
 use Rattle.free_pages.specs.FreeList.{IsApart}
-use Rattle.bucket_chain.specs.Links.{link_body}
-use Rattle.bucket_chain.specs.Chains.{number_or}
-use Rattle.bucket_chain.specs.Chains.{kind_behind}
+use Rattle.chain_walks.specs.Links.{link_body}
+use Rattle.chain_walks.specs.Chains.{number_or}
+use Rattle.chain_walks.specs.Chains.{kind_behind}
 
 -- each page of a part of a chain says its pairs and the next page: the first has this kind, and page `after` follows the last
 abbrev pub AreSaid : (ℕ → Body) → ℕ → Chain → ℕ → Type 0

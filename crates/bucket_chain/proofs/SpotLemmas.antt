@@ -3,14 +3,14 @@ use Rattle.std.proofs.Common.{◌≡◌, ◌↔◌, ℕ, ◌+◌, ◌≤◌, Boo
 use Rattle.std.specs.Prelude.{IsTrue}
 use Rattle.std.proofs.lemmas.Bool.{le-leb, lt-leb}
 use Rattle.dbm_model.specs.Pairs.{Pair}
-use Rattle.dbm_model.specs.Pages.{Body}
-use Rattle.dbm_model.specs.Slots.{taken, room_of}
-use Rattle.dbm_model.specs.Chain.{Leaf, fits}
+use Rattle.page_model.specs.Pages.{Body}
+use Rattle.page_model.specs.Slots.{taken, room_of}
+use Rattle.page_model.specs.Chain.{Leaf, fits}
 use Rattle.slot_page.specs.Contents.{pairs_of}
-use Rattle.bucket_chain.specs.Links.{IsLink, SaysLink}
-use Rattle.bucket_chain.specs.Walks.{IsFull}
+use Rattle.chain_walks.specs.Links.{IsLink, SaysLink}
+use Rattle.chain_walks.specs.Walks.{IsFull}
 use Rattle.bucket_chain.specs.Spots.{IsSpot}
-use Rattle.bucket_chain.proofs.Walks.{leaf_of, IsUnderWay, passed_more, numbered_more}
+use Rattle.chain_walks.proofs.Walks.{leaf_of, IsUnderWay, passed_more, numbered_more}
 
 -- whether the bytes of a pair fit the room, as the code asks it
 abbrev pub HasRoom : Pair → List Pair → Type 0

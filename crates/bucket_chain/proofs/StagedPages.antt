@@ -1,8 +1,8 @@
 -- What the staging of one page changes.
 use Rattle.std.proofs.Common.{◌≡◌, inl, inr, ⊎_elim, ℕ, ◌+◌, ◌<◌, ◌≤◌, ◌^◌, true, List, length, Result, Ok, Err, OnOk, OnErr, refl, sym, ◌∙◌, ap, subst, arith}
 use Rattle.std.proofs.lemmas.Bool.{cases_eq}
-use Rattle.dbm_model.specs.Pages.{Body}
-use Rattle.dbm_model.specs.Reading as model
+use Rattle.page_model.specs.Pages.{Body}
+use Rattle.page_model.specs.Reading as model
 use Rattle.page_io.specs.Page.{own_number}
 use Rattle.page_io.specs.Store.{State, put_page, are_in_order, IsKnown}
 use Rattle.page_io.specs.Views.{said, StagesOnly, MayEnd, MayEndWith}

@@ -6,20 +6,20 @@ use Rattle.std.proofs.lemmas.List.{append-nil, length-append, length-map, length
 use Rattle.std.proofs.lemmas.List.Quantifiers.{all_pairs_push}
 use Rattle.std.proofs.lemmas.List.Sums.{sum_by-append, sum_by-cons, fold-append}
 use Rattle.dbm_model.specs.Pairs.{Key, Pair, IsAllowed}
-use Rattle.dbm_model.specs.PairLists.{has_key, times}
-use Rattle.dbm_model.specs.Pages.{Body}
-use Rattle.dbm_model.specs.Chain.{Leaf, Chain, numbers, pairs_in, fits, push, has_room, add, IsChain}
-use Rattle.dbm_model.specs.Space.{Space, next_page, after_take, is_page, times_of}
-use Rattle.dbm_model.specs.Sheets.{first_of}
-use Rattle.dbm_model.proofs.Chains.{numbers-add, sum_by-add, IsChain-add}
-use Rattle.dbm_model.proofs.Spaces.{times_head}
+use Rattle.page_model.specs.PairLists.{has_key, times}
+use Rattle.page_model.specs.Pages.{Body}
+use Rattle.page_model.specs.Chain.{Leaf, Chain, numbers, pairs_in, fits, push, has_room, add, IsChain}
+use Rattle.page_model.specs.Space.{Space, next_page, after_take, is_page, times_of}
+use Rattle.page_model.specs.Sheets.{first_of}
+use Rattle.page_model.proofs.Chains.{numbers-add, sum_by-add, IsChain-add}
+use Rattle.page_model.proofs.Spaces.{times_head}
 use Rattle.free_pages.specs.declared.free_state.FreeState.{FreeState}
 use Rattle.free_pages.specs.FreeList.{IsApart}
-use Rattle.bucket_chain.specs.Links.{HaveDistinctKeys}
+use Rattle.chain_walks.specs.Links.{HaveDistinctKeys}
 use Rattle.bucket_chain.specs.Changes.{IsPlaced, Placed, put_in, BecomesPlaced}
-use Rattle.bucket_chain.specs.Pairs.{pair_of}
-use Rattle.bucket_chain.specs.declared.pair.Pair as code
-use Rattle.bucket_chain.proofs.KeyWalks.{absent_times}
+use Rattle.chain_walks.specs.Pairs.{pair_of}
+use Rattle.chain_walks.specs.declared.pair.Pair as code
+use Rattle.chain_walks.proofs.KeyWalks.{absent_times}
 use Rattle.bucket_chain.proofs.PutLemmas.{is_absent}
 
 -- ---- a put keeps what is placed so

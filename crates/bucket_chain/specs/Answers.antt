@@ -1,19 +1,9 @@
--- Which fault a call answers, and when.
+-- Which fault a change of a chain answers, and when.
 use Rattle.std.specs.Prelude.{◌≡◌, ◌⊎◌, ◌+◌, ◌≤◌, ℕ, false, length, Result, IfErr, IsErrOf}
 use Rattle.page_io.specs.Store.{State}
 use Rattle.page_io.specs.declared.store.PageFault.{PageFault}
 use Rattle.page_io.specs.declared.store.PageFault.TheVariants.{Memory, Device, Broken, NoRoom, Damaged}
 use Rattle.free_pages.specs.declared.free_state.FreeState.{FreeState}
-
--- of a call that reads and takes no memory
-pub record IsWalkAnswer {T : Type 0} (state : State) (result : Result T PageFault) : Type 0 where
-  pub broken : IsErrOf result Broken → state.usable ≡ false
-  pub only : IfErr result (λ e. (e ≡ Broken) ⊎ ((e ≡ Damaged) ⊎ (e ≡ Device)))
-
--- of a call that reads into memory
-pub record IsLoadAnswer {T : Type 0} (state : State) (result : Result T PageFault) : Type 0 where
-  pub broken : IsErrOf result Broken → state.usable ≡ false
-  pub only : IfErr result (λ e. (e ≡ Memory) ⊎ ((e ≡ Broken) ⊎ ((e ≡ Damaged) ⊎ (e ≡ Device))))
 
 -- of a call that stages at most two pages; `reserved` pages can be staged with no memory taken
 pub record IsPutAnswer {T : Type 0} (reserved : ℕ) (state : State) (space : FreeState) (result : Result T PageFault) : Type 0 where

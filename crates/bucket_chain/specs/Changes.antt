@@ -1,16 +1,16 @@
 -- What the calls that change a chain leave: the chain and the free list of the model, and all other pages as they were.
 use Rattle.std.specs.Prelude.{◌≡◌, ℕ, ◌+◌, ◌<◌, Bool, List, [], length, fold, drop, ◌↔◌, IsTrue, if◌then◌else◌}
 use Rattle.dbm_model.specs.Pairs.{Key, Pair}
-use Rattle.dbm_model.specs.PairLists.{times}
-use Rattle.dbm_model.specs.Pages.{Body}
-use Rattle.dbm_model.specs.Chain as model
-use Rattle.dbm_model.specs.Chain.{Chain, numbers, pairs_in, has_room, add, emptied}
-use Rattle.dbm_model.specs.Space.{Space, next_page, after_take, give}
-use Rattle.dbm_model.specs.Placement.{bared}
-use Rattle.dbm_model.specs.Rewrites.{IsRewritten}
+use Rattle.page_model.specs.PairLists.{times}
+use Rattle.page_model.specs.Pages.{Body}
+use Rattle.page_model.specs.Chain as model
+use Rattle.page_model.specs.Chain.{Chain, numbers, pairs_in, has_room, add, emptied}
+use Rattle.page_model.specs.Space.{Space, next_page, after_take, give}
+use Rattle.page_model.specs.Placement.{bared}
+use Rattle.page_model.specs.Rewrites.{IsRewritten}
 use Rattle.free_pages.specs.declared.free_state.FreeState.{FreeState}
 use Rattle.free_pages.specs.FreeList.{state_of, IsFreeList, IsApart}
-use Rattle.bucket_chain.specs.Chains.{IsChainAt}
+use Rattle.chain_walks.specs.Chains.{IsChainAt}
 
 -- the pages say this chain and this free list, and each page stands in them once at most
 pub record IsPlaced (at : ℕ → Body) (state : FreeState) (head : ℕ) (chain : Chain) (s : Space) : Type 0 where

@@ -1,12 +1,12 @@
 -- Overflow pages that are given to the free list, one after the other.
 use Rattle.std.specs.Prelude.{◌≡◌, ℕ, ◌≤◌}
 use Rattle.std.specs.List.{AllByRecursion}
-use Rattle.dbm_model.specs.Pages.{Body, FreePage}
-use Rattle.dbm_model.specs.Chain.{Chain, numbers}
-use Rattle.dbm_model.specs.Space.{Space, give, times_of}
+use Rattle.page_model.specs.Pages.{Body, FreePage}
+use Rattle.page_model.specs.Chain.{Chain, numbers}
+use Rattle.page_model.specs.Space.{Space, give, times_of}
 use Rattle.free_pages.specs.declared.free_state.FreeState.{FreeState}
 use Rattle.free_pages.specs.FreeList.{IsFreeList, IsApart}
-use Rattle.bucket_chain.specs.Chains.{number_or, AreLinked}
+use Rattle.chain_walks.specs.Chains.{number_or, AreLinked}
 
 -- a free page, whatever it names
 pub record IsFree (body : Body) : Type 0 where

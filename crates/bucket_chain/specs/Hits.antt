@@ -2,15 +2,15 @@
 use Rattle.std.specs.Prelude.{◌≡◌, ◌⊎◌, ℕ, ◌≤◌, List, [], ◌∷◌, ◌++◌, Option, Some, None}
 use Rattle.std.specs.List.{AllByRecursion}
 use Rattle.dbm_model.specs.Pairs.{Key}
-use Rattle.dbm_model.specs.Pages.{Body}
-use Rattle.dbm_model.specs.Chain.{Leaf, Chain}
-use Rattle.dbm_model.specs.Reading.{own_number}
+use Rattle.page_model.specs.Pages.{Body}
+use Rattle.page_model.specs.Chain.{Leaf, Chain}
+use Rattle.page_model.specs.Reading.{own_number}
 use Rattle.page_io.specs.Store.{State, IsKnown}
 use Rattle.slot_page.specs.Contents.{IsBucketPage, HasKeyAt, pairs_of}
-use Rattle.bucket_chain.specs.Links.{IsLink}
-use Rattle.bucket_chain.specs.Places.{place}
-use Rattle.bucket_chain.specs.Chains.{kind_behind}
-use Rattle.bucket_chain.specs.Walks.{IsWalk, LacksKey, EndsWithout, IsPairAt}
+use Rattle.chain_walks.specs.Links.{IsLink}
+use Rattle.chain_walks.specs.Places.{place}
+use Rattle.chain_walks.specs.Chains.{kind_behind}
+use Rattle.chain_walks.specs.Walks.{IsWalk, LacksKey, EndsWithout, IsPairAt}
 use Rattle.bucket_chain.specs.declared.removes.Hit.{Hit}
 
 -- a head page or an overflow page

@@ -1,11 +1,6 @@
-pub mod Links
-pub mod Chains
-pub mod Pairs
-pub mod Walks
-pub mod Places
-pub mod Spots
-pub mod Hits
-pub mod Giving
-pub mod Changes
-pub mod Placements
 pub mod Answers
+pub mod Changes
+pub mod Giving
+pub mod Hits
+pub mod Placements
+pub mod Spots

@@ -1,10 +1,10 @@
 -- What the calls mean for a placement: each bucket's chain, with the free list beside it, is one of its parts.
 use Rattle.std.specs.Prelude.{◌≡◌, ℕ, ◌<◌, length}
 use Rattle.dbm_model.specs.Pairs.{Key, Pair}
-use Rattle.dbm_model.specs.Pages.{Body}
-use Rattle.dbm_model.specs.Chain.{numbers}
-use Rattle.dbm_model.specs.Placement.{Placement, key_bucket, chain_at, put, delete, IsSound}
-use Rattle.dbm_model.specs.Sheets.{first_of, lower_sheets, AreRead}
+use Rattle.page_model.specs.Pages.{Body}
+use Rattle.page_model.specs.Chain.{numbers}
+use Rattle.page_model.specs.Placement.{Placement, key_bucket, chain_at, put, delete, IsSound}
+use Rattle.page_model.specs.Sheets.{first_of, lower_sheets, AreRead}
 use Rattle.free_pages.specs.declared.free_state.FreeState.{FreeState}
 use Rattle.free_pages.specs.FreeList.{state_of}
 use Rattle.bucket_chain.specs.Changes.{Placed, IsPlaced, put_in, remove_from, BecomesPlaced}

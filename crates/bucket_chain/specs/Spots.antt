@@ -2,13 +2,13 @@
 use Rattle.std.specs.Prelude.{◌≡◌, ℕ, ◌+◌, ◌≤◌, true, false, List, [], ◌∷◌, ◌++◌, length}
 use Rattle.std.specs.List.{AllByRecursion}
 use Rattle.dbm_model.specs.Pairs.{Pair}
-use Rattle.dbm_model.specs.Pages.{Body}
-use Rattle.dbm_model.specs.Slots.{room_of}
-use Rattle.dbm_model.specs.Chain.{Leaf, Chain, fits}
+use Rattle.page_model.specs.Pages.{Body}
+use Rattle.page_model.specs.Slots.{room_of}
+use Rattle.page_model.specs.Chain.{Leaf, Chain, fits}
 use Rattle.slot_page.specs.Contents.{pairs_of}
-use Rattle.bucket_chain.specs.Links.{IsLink}
-use Rattle.bucket_chain.specs.Chains.{BeginsAt, kind_behind}
-use Rattle.bucket_chain.specs.Walks.{IsFull}
+use Rattle.chain_walks.specs.Links.{IsLink}
+use Rattle.chain_walks.specs.Chains.{BeginsAt, kind_behind}
+use Rattle.chain_walks.specs.Walks.{IsFull}
 use Rattle.bucket_chain.specs.declared.puts.Spot.{Spot}
 
 -- the page of the spot, with the pairs of these bytes

@@ -1,23 +1,24 @@
 //! One more pair in a chain.
 
-ghost use Rattle.std.specs.Prelude.{◌≡◌, ◌+◌, ◌≤◌, ◌<◌, ℕ, true, IfOk, OnOk, IsErrOf, length};
+ghost use Rattle.std.specs.Prelude.{◌≡◌, ◌+◌, ◌≤◌, ◌<◌, true, IfOk, OnOk, IsErrOf, length};
 ghost use Rattle.dbm_model.specs.Pairs.{IsAllowed};
-ghost use Rattle.dbm_model.specs.PairLists.{times};
-ghost use Rattle.dbm_model.specs.Chain.{Chain, pairs_in, has_room};
-ghost use Rattle.dbm_model.specs.Space.{Space};
+ghost use Rattle.page_model.specs.PairLists.{times};
+ghost use Rattle.page_model.specs.Chain.{Chain, pairs_in, has_room};
+ghost use Rattle.page_model.specs.Space.{Space};
 ghost use Rattle.page_io.specs.Answers.{HasDeviceCause};
 ghost use Rattle.page_io.specs.Store.{IsKnown};
 ghost use Rattle.page_io.specs.Views.{said, StagesOnly, ReadsOnly, MayEnd};
 ghost use Rattle.page_io.specs.declared.store.PageFault.TheVariants.{NoRoom, Damaged};
 ghost use Rattle.free_pages.specs.FreeList.{HasEnds};
-ghost use Rattle.bucket_chain.specs.Chains.{IsChainAt};
-ghost use Rattle.bucket_chain.specs.Walks.{IsRoomWalk};
+ghost use Rattle.chain_walks.specs.Chains.{IsChainAt};
+ghost use Rattle.chain_walks.specs.Walks.{IsRoomWalk};
 ghost use Rattle.bucket_chain.specs.Spots.{IsSpotPage, IsSpot};
 ghost use Rattle.bucket_chain.specs.Changes.{IsPlaced, BecomesPlaced, put_in};
-ghost use Rattle.bucket_chain.specs.Answers.{IsWalkAnswer, IsPutAnswer};
+ghost use Rattle.chain_walks.specs.Answers.{IsWalkAnswer};
+ghost use Rattle.bucket_chain.specs.Answers.{IsPutAnswer};
 
-use crate::link::{HEAD, OVERFLOW, read_link};
 use crate::staging::stage_page;
+use chain_walks::{HEAD, OVERFLOW, read_link};
 use free_pages::{FreeState, take};
 use page_io::{Page, PageFault, PageStore};
 use slot_page::{add, empty, fits, set_next};

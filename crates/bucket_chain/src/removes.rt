@@ -2,22 +2,23 @@
 
 ghost use Rattle.std.specs.Prelude.{◌≡◌, ◌+◌, ◌≤◌, ◌<◌, ℕ, List, false, IfOk, IfSome, OnOk, OnErr, IsErrOf, length};
 ghost use Rattle.dbm_model.specs.Pairs.{Pair};
-ghost use Rattle.dbm_model.specs.PairLists.{times};
-ghost use Rattle.dbm_model.specs.Chain.{Chain, pairs_in};
-ghost use Rattle.dbm_model.specs.Space.{Space};
+ghost use Rattle.page_model.specs.PairLists.{times};
+ghost use Rattle.page_model.specs.Chain.{Chain, pairs_in};
+ghost use Rattle.page_model.specs.Space.{Space};
 ghost use Rattle.page_io.specs.Answers.{HasDeviceCause};
 ghost use Rattle.page_io.specs.Views.{said, StagesOnly, ReadsOnly, MayEnd};
 ghost use Rattle.page_io.specs.declared.store.PageFault.TheVariants.{Damaged};
 ghost use Rattle.free_pages.specs.FreeList.{HasEnds};
-ghost use Rattle.bucket_chain.specs.Links.{SaysLink};
-ghost use Rattle.bucket_chain.specs.Chains.{IsChainAt};
-ghost use Rattle.bucket_chain.specs.Walks.{IsKeyWalk};
+ghost use Rattle.chain_walks.specs.Links.{SaysLink};
+ghost use Rattle.chain_walks.specs.Chains.{IsChainAt};
+ghost use Rattle.chain_walks.specs.Walks.{IsKeyWalk};
 ghost use Rattle.bucket_chain.specs.Hits.{IsLinkKind, IsHitOrNone, IsHeldHit};
 ghost use Rattle.bucket_chain.specs.Changes.{IsPlaced, IsRemoved};
-ghost use Rattle.bucket_chain.specs.Answers.{IsWalkAnswer, IsRemoveAnswer};
+ghost use Rattle.chain_walks.specs.Answers.{IsWalkAnswer};
+ghost use Rattle.bucket_chain.specs.Answers.{IsRemoveAnswer};
 
-use crate::link::{HEAD, OVERFLOW, read_link};
 use crate::staging::stage_page;
+use chain_walks::{HEAD, OVERFLOW, read_link};
 use free_pages::{FreeState, give};
 use page_io::{Page, PageFault, PageStore};
 use slot_page::{find, remove as remove_pair, set_next};

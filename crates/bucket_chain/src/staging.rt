@@ -1,7 +1,7 @@
 //! Staging a page under its own number.
 
 ghost use Rattle.std.specs.Prelude.{◌≡◌, ◌+◌, ◌<◌, ◌≤◌, ℕ, OnOk, length};
-ghost use Rattle.dbm_model.specs.Reading.{body_of};
+ghost use Rattle.page_model.specs.Reading.{body_of};
 ghost use Rattle.page_io.specs.Page.{own_number};
 ghost use Rattle.page_io.specs.Answers.{IsStageAnswer};
 ghost use Rattle.page_io.specs.Store.{IsKnown};

@@ -1,25 +1,25 @@
 //! All pairs of a chain, stored anew.
 
-ghost use Rattle.std.specs.Prelude.{◌≡◌, ◌≤◌, ◌<◌, ◌∷◌, [], ℕ, All, map, OnOk, IsErrOf};
+ghost use Rattle.std.specs.Prelude.{◌≡◌, ◌<◌, ◌∷◌, [], ℕ, All, map, OnOk, IsErrOf};
 ghost use Rattle.dbm_model.specs.Pairs.{IsAllowed};
-ghost use Rattle.dbm_model.specs.Chain.{Chain, Leaf, numbers, pairs_in};
-ghost use Rattle.dbm_model.specs.Sheets.{first_of};
-ghost use Rattle.dbm_model.specs.Space.{Space};
+ghost use Rattle.page_model.specs.Chain.{Chain, Leaf, numbers, pairs_in};
+ghost use Rattle.page_model.specs.Sheets.{first_of};
+ghost use Rattle.page_model.specs.Space.{Space};
 ghost use Rattle.page_io.specs.Answers.{HasDeviceCause};
 ghost use Rattle.page_io.specs.Views.{said, StagesOnly, MayEnd};
 ghost use Rattle.page_io.specs.declared.store.PageFault.TheVariants.{NoRoom, Damaged};
 ghost use Rattle.free_pages.specs.FreeList.{HasEnds};
-ghost use Rattle.bucket_chain.specs.Pairs.{pair_of};
-ghost use Rattle.bucket_chain.specs.Walks.{IsRead};
-ghost use Rattle.bucket_chain.specs.Links.{HaveDistinctKeys};
+ghost use Rattle.chain_walks.specs.Pairs.{pair_of};
+ghost use Rattle.chain_walks.specs.Walks.{IsRead};
+ghost use Rattle.chain_walks.specs.Links.{HaveDistinctKeys};
 ghost use Rattle.bucket_chain.specs.Giving.{AreGiven};
 ghost use Rattle.bucket_chain.specs.Changes.{Placed, IsPlaced, BecomesPlaced, IsCleared, IsPutAll, store_in};
 ghost use Rattle.bucket_chain.specs.Answers.{IsStoreAnswer};
 
 use crate::Pair;
-use crate::link::{HEAD, OVERFLOW, read_link};
 use crate::puts::put;
 use crate::staging::stage_page;
+use chain_walks::{HEAD, OVERFLOW, read_link};
 use free_pages::{FreeState, give};
 use page_io::{Page, PageFault, PageStore};
 use slot_page::empty;

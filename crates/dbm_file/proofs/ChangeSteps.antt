@@ -6,26 +6,26 @@ use Rattle.std.proofs.lemmas.Bool.{lt-ltb}
 use Rattle.sect_dev.specs.Device.{LeavesOnly, MoreFaults}
 use Rattle.sect_dev.specs.Moments.{followed_by}
 use Rattle.dbm_model.specs.Calls as model
-use Rattle.dbm_model.specs.Pages.{Meta, MetaPage}
+use Rattle.page_model.specs.Pages.{Meta, MetaPage}
 use Rattle.dbm_model.specs.Pairs.{Contents}
 use Rattle.dbm_model.specs.States.{Keys, Handle, first_fault, flagged}
 use Rattle.dbm_model.specs.Steps.{Case, Changes, case_of, Answers, Suffers}
-use Rattle.dbm_model.specs.Meaning.{said_by}
+use Rattle.page_model.specs.Meaning.{said_by}
 use Rattle.page_io.specs.Store.{Settled, Pages, file_of, page_of}
 use Rattle.page_io.specs.Store as store
 use Rattle.page_io.specs.Meaning.{FileStandsFor, ImageStandsFor}
 use Rattle.page_io.specs.declared.store.PageStore.{Ghosts}
 use Rattle.page_io.specs.declared.store.PageFault.{PageFault}
 use Rattle.page_io.specs.declared.store.PageFault.TheVariants as page
-use Rattle.dbm_file.specs.Faults.{fault_of, told}
-use Rattle.dbm_file.specs.Holding.{Holds, IsForgotten, StandsForEither, IsEnded, Turns}
+use Rattle.file_opening.specs.Faults.{fault_of, told}
+use Rattle.linear_hash.specs.Holding.{Holds, IsForgotten, StandsForEither, IsEnded, Turns}
 use Rattle.dbm_file.specs.Database.{store_of, meta_of, pages_of, error_of, cursor_of, handle_of}
 use Rattle.dbm_file.specs.Passing.{IsPass}
 use Rattle.dbm_file.specs.Answers.{MayBeLeft, StandsForSome, Survives, IsStep, Keeps}
 use Rattle.dbm_file.specs.Trying.{with_fault, with_error_of, IsRead}
-use Rattle.dbm_file.specs.declared.fault.Fault.{Fault}
-use Rattle.dbm_file.specs.declared.fault.Fault.TheVariants.{Device, Broken}
-use Rattle.dbm_file.specs.declared.passing.Cursor.{Cursor}
+use Rattle.file_opening.specs.declared.fault.Fault.{Fault}
+use Rattle.file_opening.specs.declared.fault.Fault.TheVariants.{Device, Broken}
+use Rattle.linear_hash.specs.declared.passing.Cursor.{Cursor}
 use Rattle.dbm_file.specs.declared.database.Database.{Database}
 use Rattle.dbm_file.proofs.ReadSteps.{kept_first, same_parts, at_own, same_pass, still_meta, still_limit, still_writable, still_usable, still_holds, still_passes, still_survives, flagged_is}
 

@@ -6,25 +6,25 @@ use Rattle.std.specs.Option.{option_map}
 use Rattle.std.specs.FinMap.{get}
 use Rattle.dbm_model.specs.Calls as model
 use Rattle.dbm_model.specs.Pairs.{Key, Pair, Contents}
-use Rattle.dbm_model.specs.Slots.{taken}
+use Rattle.page_model.specs.Slots.{taken}
 use Rattle.dbm_model.specs.Steps.{Case, Finds, Suffers, fetched}
-use Rattle.dbm_model.specs.Valid.{IsMeta}
+use Rattle.page_model.specs.Valid.{IsMeta}
 use Rattle.page_io.specs.Answers.{HasDeviceCause}
 use Rattle.page_io.specs.declared.store.PageStore.{Ghosts}
 use Rattle.page_io.specs.declared.store.PageFault.{PageFault}
 use Rattle.page_io.specs.declared.store.PageFault.TheVariants as page
-use Rattle.bucket_chain.specs.Answers.{IsWalkAnswer}
-use Rattle.bucket_chain.specs.declared.place.Place.{Place}
+use Rattle.chain_walks.specs.Answers.{IsWalkAnswer}
+use Rattle.chain_walks.specs.declared.place.Place.{Place}
 use Rattle.slot_page.specs.Contents.{pairs_of}
 use Rattle.dbm_file.specs.Calls.{Lent, lent_reply}
-use Rattle.dbm_file.specs.Faults.{told}
-use Rattle.dbm_file.specs.Holding.{Holds}
-use Rattle.dbm_file.specs.Looking.{IsHeld, IsFound}
+use Rattle.file_opening.specs.Faults.{told}
+use Rattle.linear_hash.specs.Holding.{Holds}
+use Rattle.linear_hash.specs.Looking.{IsHeld, IsFound}
 use Rattle.dbm_file.specs.Lending.{Lends}
 use Rattle.dbm_file.specs.Database.{store_of, meta_of, pages_of, handle_of}
 use Rattle.dbm_file.specs.Trying.{with_fault, IsRead}
-use Rattle.dbm_file.specs.declared.fault.Fault.{Fault}
-use Rattle.dbm_file.specs.declared.fault.Fault.TheVariants.{Device, Broken, Damaged}
+use Rattle.file_opening.specs.declared.fault.Fault.{Fault}
+use Rattle.file_opening.specs.declared.fault.Fault.TheVariants.{Device, Broken, Damaged}
 use Rattle.dbm_file.specs.declared.database.Database.{Database}
 use Rattle.dbm_file.proofs.Cases.{fetch_rule, fetch_fails}
 use Rattle.dbm_file.proofs.Lends.{kept_error, flagged_lends}

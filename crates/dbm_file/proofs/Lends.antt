@@ -4,15 +4,15 @@ use Rattle.std.specs.Borrow.{Bor}
 use Rattle.dbm_model.specs.Calls as model
 use Rattle.dbm_model.specs.States.{Handle}
 use Rattle.dbm_model.specs.Steps.{Refuses, case_of}
-use Rattle.dbm_model.specs.Valid.{IsMeta}
+use Rattle.page_model.specs.Valid.{IsMeta}
 use Rattle.page_io.specs.declared.store.PageStore.{Ghosts}
 use Rattle.dbm_file.specs.Answers.{IsStep}
 use Rattle.dbm_file.specs.Calls.{Lent, lent_reply}
 use Rattle.dbm_file.specs.Database.{meta_of, pages_of, handle_of}
 use Rattle.dbm_file.specs.Lending.{Lends}
 use Rattle.dbm_file.specs.Trying.{with_fault}
-use Rattle.dbm_file.specs.declared.fault.Fault.{Fault}
-use Rattle.dbm_file.specs.declared.fault.Fault.TheVariants.{Broken}
+use Rattle.file_opening.specs.declared.fault.Fault.{Fault}
+use Rattle.file_opening.specs.declared.fault.Fault.TheVariants.{Broken}
 use Rattle.dbm_file.specs.declared.database.Database.{Database}
 use Rattle.dbm_file.proofs.ReadSteps.{from_own, broken_step, broken_keeps}
 

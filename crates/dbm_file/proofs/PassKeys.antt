@@ -9,14 +9,15 @@ use Rattle.std.specs.FinSet as set
 use Rattle.std.proofs.lemmas.Cmp.{nat_list_cmp_total}
 use Rattle.std.proofs.lemmas.List.Sums.{sum_by-append, sum_by-cons}
 use Rattle.dbm_model.specs.Pairs.{Key, Pair, Contents, key_cmp}
-use Rattle.dbm_model.specs.PairLists.{has_key, times}
-use Rattle.dbm_model.specs.Chain.{Chain, pairs_in}
-use Rattle.dbm_model.specs.Placement.{Placement, pairs_of, contents, chain_at, IsGood}
+use Rattle.page_model.specs.PairLists.{has_key, times}
+use Rattle.page_model.specs.Chain.{Chain, pairs_in}
+use Rattle.page_model.specs.Placement.{Placement, pairs_of, contents, chain_at, IsGood}
 use Rattle.dbm_model.specs.States.{Keys}
-use Rattle.dbm_model.proofs.PairLists.{value_in, times_some}
-use Rattle.dbm_file.specs.Passing.{IsBehind, keys_of}
-use Rattle.dbm_file.specs.declared.passing.Cursor.{Cursor}
-use Rattle.dbm_file.proofs.Passes.{pairs_at, pairs_at_append, pairs_at_chain}
+use Rattle.page_model.proofs.PairLists.{value_in, times_some}
+use Rattle.dbm_file.specs.Passing.{keys_of}
+use Rattle.linear_hash.specs.Passing.{IsBehind}
+use Rattle.linear_hash.specs.declared.passing.Cursor.{Cursor}
+use Rattle.linear_hash.proofs.Passes.{pairs_at, pairs_at_append, pairs_at_chain}
 
 abbrev order : IsTotalOrder key_cmp
 order = nat_list_cmp_total

@@ -6,13 +6,13 @@ use Rattle.std.specs.FinMap as finmap
 use Rattle.std.specs.FinSet as set
 use Rattle.sect_dev.specs.Moments.{started}
 use Rattle.dbm_model.specs.Calls as model
-use Rattle.dbm_model.specs.Meaning.{said_by}
-use Rattle.dbm_model.specs.Pages.{Meta, Body}
+use Rattle.page_model.specs.Meaning.{said_by}
+use Rattle.page_model.specs.Pages.{Meta, Body}
 use Rattle.dbm_model.specs.Pairs.{Key, Pair, Contents}
-use Rattle.dbm_model.specs.Placement.{Placement}
-use Rattle.dbm_model.specs.Placement as placement
+use Rattle.page_model.specs.Placement.{Placement}
+use Rattle.page_model.specs.Placement as placement
 use Rattle.dbm_model.specs.States.{Keys, Handle, error_number}
-use Rattle.dbm_model.specs.Valid.{IsMeta}
+use Rattle.page_model.specs.Valid.{IsMeta}
 use Rattle.dbm_model.specs.Steps.{Case, Passes, GivesKey, Suffers, case_of, Answers}
 use Rattle.page_io.specs.Store.{Settled, Pages, page_of}
 use Rattle.page_io.specs.Answers.{HasDeviceCause}
@@ -20,29 +20,30 @@ use Rattle.page_io.specs.Views.{said}
 use Rattle.page_io.specs.declared.store.PageStore.{Ghosts}
 use Rattle.page_io.specs.declared.store.PageFault.{PageFault}
 use Rattle.page_io.specs.declared.store.PageFault.TheVariants as page
-use Rattle.bucket_chain.specs.Answers.{IsWalkAnswer}
-use Rattle.bucket_chain.specs.declared.place.Place.{Place}
-use Rattle.dbm_model.specs.Slots.{taken}
+use Rattle.chain_walks.specs.Answers.{IsWalkAnswer}
+use Rattle.chain_walks.specs.declared.place.Place.{Place}
+use Rattle.page_model.specs.Slots.{taken}
 use Rattle.slot_page.specs.Contents.{IsBucketPage, pairs_of}
 use Rattle.dbm_file.specs.Answers.{MayBeLeft, StandsForSome, Survives, IsStep, Keeps}
 use Rattle.dbm_file.specs.Calls.{Lent, lent_reply}
-use Rattle.dbm_file.specs.Faults.{fault_of, told}
-use Rattle.dbm_file.specs.Holding.{Holds}
+use Rattle.file_opening.specs.Faults.{fault_of, told}
+use Rattle.linear_hash.specs.Holding.{Holds}
 use Rattle.dbm_file.specs.Lending.{Lends}
-use Rattle.dbm_file.specs.Passing.{IsBehind, IsNext, HasLeft, IsPass, keys_of}
-use Rattle.dbm_file.specs.Tables.{IsTable}
+use Rattle.dbm_file.specs.Passing.{HasLeft, IsPass, keys_of}
+use Rattle.linear_hash.specs.Passing.{IsBehind, IsNext}
+use Rattle.linear_hash.specs.Tables.{IsTable}
 use Rattle.dbm_file.specs.Database.{store_of, meta_of, pages_of, error_of, handle_of, IsAt}
 use Rattle.dbm_file.specs.Trying.{with_fault, IsRead, slot_reply}
-use Rattle.dbm_file.specs.declared.fault.Fault.{Fault}
-use Rattle.dbm_file.specs.declared.fault.Fault.TheVariants.{Device, Broken, NoPass}
-use Rattle.dbm_file.specs.declared.passing.Cursor.{Cursor}
+use Rattle.file_opening.specs.declared.fault.Fault.{Fault}
+use Rattle.file_opening.specs.declared.fault.Fault.TheVariants.{Device, Broken, NoPass}
+use Rattle.linear_hash.specs.declared.passing.Cursor.{Cursor}
 use Rattle.dbm_file.specs.declared.database.Database.{Database}
 use Rattle.dbm_file.proofs.Cases.{first_rule, next_rule, no_pass_rule, passes_fail, error_rule, clear_rule}
 use Rattle.dbm_file.proofs.Lends.{kept_error, flagged_step}
-use Rattle.dbm_file.proofs.Passes.{begins}
+use Rattle.linear_hash.proofs.Passes.{begins}
 use Rattle.dbm_file.proofs.PassKeys.{gives, all_keys}
 use Rattle.dbm_file.proofs.ReadSteps.{at_own, from_own, same_state, same_pass, still_limit, still_writable, still_usable, still_meta, still_holds, still_rests, still_survives, no_read, rejected_step, refused_keeps, walk_failed_step}
-use Rattle.dbm_file.proofs.Tables.{placed, is_table, map_placed, committed_said}
+use Rattle.linear_hash.proofs.Tables.{placed, is_table, map_placed, committed_said}
 
 -- the same database with its pass elsewhere
 abbrev pub with_pass : {S : Type 0} {s : Ghosts S} → Database S s → Option Cursor → Database S s

@@ -5,11 +5,11 @@ use Rattle.std.specs.Option.{option_map}
 use Rattle.sect_dev.specs.Device.{MoreFaults}
 use Rattle.sect_dev.specs.Moments.{weaker}
 use Rattle.dbm_model.specs.Calls as model
-use Rattle.dbm_model.specs.Pages.{Meta, MetaPage}
+use Rattle.page_model.specs.Pages.{Meta, MetaPage}
 use Rattle.dbm_model.specs.Pairs.{Contents}
 use Rattle.dbm_model.specs.States.{State, Keys, Handle, first_fault, flagged}
 use Rattle.dbm_model.specs.Steps.{Case, Refuses, Declines, Finds, case_of, Answers, Suffers, Fails, Step}
-use Rattle.dbm_model.specs.Meaning.{said_by}
+use Rattle.page_model.specs.Meaning.{said_by}
 use Rattle.page_io.specs.Store.{Pages, Settled, file_of, page_of}
 use Rattle.page_io.specs.Store as store
 use Rattle.page_io.specs.Meaning.{FileStandsFor, ImageStandsFor}
@@ -20,17 +20,17 @@ use Rattle.page_io.specs.declared.store.PageStore.{Ghosts}
 use Rattle.page_io.specs.declared.store.PageFault.{PageFault}
 use Rattle.page_io.specs.declared.store.PageFault.TheVariants as page
 use Rattle.seg_table.specs.MetaPages.{says}
-use Rattle.bucket_chain.specs.Answers.{IsWalkAnswer}
-use Rattle.dbm_file.specs.Faults.{fault_of, told}
-use Rattle.dbm_file.specs.Holding.{Holds}
+use Rattle.chain_walks.specs.Answers.{IsWalkAnswer}
+use Rattle.file_opening.specs.Faults.{fault_of, told}
+use Rattle.linear_hash.specs.Holding.{Holds}
 use Rattle.dbm_file.specs.Database.{store_of, meta_of, pages_of, cursor_of, HoldsMap, HoldsPass, Rests, handle_of, IsAt}
 use Rattle.dbm_file.specs.Passing.{IsPass}
 use Rattle.dbm_file.specs.Answers.{MayBeLeft, StandsForSome, Survives, IsStep, Goes, Keeps}
-use Rattle.bucket_chain.proofs.ReadPages.{reads_none}
+use Rattle.chain_walks.proofs.ReadPages.{reads_none}
 use Rattle.dbm_file.specs.Trying.{with_fault, IsRead}
-use Rattle.dbm_file.specs.declared.fault.Fault.{Fault}
-use Rattle.dbm_file.specs.declared.fault.Fault.TheVariants.{Device, Broken}
-use Rattle.dbm_file.specs.declared.passing.Cursor.{Cursor}
+use Rattle.file_opening.specs.declared.fault.Fault.{Fault}
+use Rattle.file_opening.specs.declared.fault.Fault.TheVariants.{Device, Broken}
+use Rattle.linear_hash.specs.declared.passing.Cursor.{Cursor}
 use Rattle.dbm_file.specs.declared.database.Database.{Database}
 
 -- the flag of the program is that of the definitions

@@ -4,21 +4,21 @@ use Rattle.std.specs.Prelude.{IsErrAnd}
 use Rattle.std.specs.FinMap.{get, insert, remove, empty_of_len, get-empty}
 use Rattle.dbm_model.specs.Calls as model
 use Rattle.dbm_model.specs.Pairs.{Contents, key_cmp}
-use Rattle.dbm_model.specs.Valid.{IsMeta}
+use Rattle.page_model.specs.Valid.{IsMeta}
 use Rattle.page_io.specs.Store.{Settled}
 use Rattle.page_io.specs.Meaning.{ImageStandsFor}
 use Rattle.page_io.specs.declared.store.PageStore.{Ghosts}
 use Rattle.page_io.specs.declared.store.PageFault.{PageFault}
 use Rattle.seg_table.specs.declared.meta.Meta as code
-use Rattle.dbm_file.specs.Faults.{fault_of, told}
-use Rattle.dbm_file.specs.Holding.{Holds}
+use Rattle.file_opening.specs.Faults.{fault_of, told}
+use Rattle.linear_hash.specs.Holding.{Holds}
 use Rattle.dbm_file.specs.Calls.{mode_of, store_reply, delete_reply}
 use Rattle.dbm_model.specs.States.{Keys, Handle}
 use Rattle.dbm_file.specs.Database.{store_of, meta_of, pages_of, cursor_of, handle_of}
 use Rattle.dbm_file.specs.Passing.{IsPass}
 use Rattle.dbm_file.specs.Answers.{IsStep}
 use Rattle.dbm_file.specs.Trying.{with_fault, with_error_of, IsRead}
-use Rattle.dbm_file.specs.declared.fault.Fault.{Fault}
+use Rattle.file_opening.specs.declared.fault.Fault.{Fault}
 use Rattle.dbm_file.specs.declared.calls.StoreMode.{StoreMode}
 use Rattle.dbm_file.specs.declared.calls.StoreMode.TheVariants.{Replace}
 use Rattle.dbm_file.specs.declared.calls.StoreReply.{StoreReply}
@@ -27,7 +27,7 @@ use Rattle.dbm_file.specs.declared.database.Database.{Database}
 use Rattle.dbm_file.proofs.Cases.{store_rule, delete_rule, changes, removes}
 use Rattle.dbm_file.proofs.ChangeSteps.{IsAsked}
 use Rattle.dbm_file.proofs.Lends.{kept_error, flagged_step}
-use Rattle.dbm_file.proofs.Tables.{counted}
+use Rattle.linear_hash.proofs.Tables.{counted}
 
 module _ {S : Type 0} (s : Ghosts S) (old mid : Database S s) (map : Contents) (pass : Option Keys) (key : List ℕ) (read : IsRead old mid) (usable : (pages_of old).usable ≡ true) (writable : (pages_of old).writable ≡ true) (honest : s.honest (store_of old))
     (h : Holds s (store_of old) (meta_of old) map) (going : IsPass (s.committed (store_of old)) (meta_of old) (cursor_of old) pass) (rests : (x : Settled) → s.settles_to (store_of old) x → ImageStandsFor x map (meta_of old).limit) where

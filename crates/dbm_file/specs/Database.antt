@@ -2,17 +2,17 @@
 use Rattle.std.specs.Prelude.{◌≡◌, ◌+◌, ◌*◌, nat_lt, true, Option}
 use Rattle.std.specs.Option.{option_map}
 use Rattle.dbm_model.specs.Calls as model
-use Rattle.dbm_model.specs.Pages.{Meta}
+use Rattle.page_model.specs.Pages.{Meta}
 use Rattle.dbm_model.specs.Pairs.{Contents}
 use Rattle.dbm_model.specs.States.{Keys, Handle}
 use Rattle.page_io.specs.Store.{Settled, State}
 use Rattle.page_io.specs.Meaning.{ImageStandsFor}
 use Rattle.page_io.specs.declared.store.PageStore.{Ghosts}
 use Rattle.seg_table.specs.MetaPages.{says}
-use Rattle.dbm_file.specs.Faults.{fault_of}
-use Rattle.dbm_file.specs.Holding.{Holds}
+use Rattle.file_opening.specs.Faults.{fault_of}
+use Rattle.linear_hash.specs.Holding.{Holds}
 use Rattle.dbm_file.specs.Passing.{IsPass}
-use Rattle.dbm_file.specs.declared.passing.Cursor.{Cursor}
+use Rattle.linear_hash.specs.declared.passing.Cursor.{Cursor}
 use Rattle.dbm_file.specs.declared.database.Database.{Database}
 
 -- the store of pages below

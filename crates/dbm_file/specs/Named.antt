@@ -5,13 +5,13 @@ use Rattle.sect_dev.specs.Moments.{Reads}
 use Rattle.sect_dev.specs.declared.device.SectorDev as device
 use Rattle.dbm_model.specs.Pairs.{Contents}
 use Rattle.page_io.specs.declared.store.PageStore as store
-use Rattle.redo_area.specs.File.{settled}
+use Rattle.redo_commit.specs.File.{settled}
 use Rattle.redo_area.specs.Pagers.{device_of}
 use Rattle.redo_area.specs.declared.pager.Pager.{Pager}
 use Rattle.dbm_file.specs.Database.{store_of}
-use Rattle.dbm_file.specs.Opening.{writes, AllStand, IsOpened, MayRemain}
+use Rattle.file_opening.specs.Opening.{writes, AllStand, IsOpened, MayRemain}
 use Rattle.dbm_file.specs.Opened.{IsOpenedAt}
-use Rattle.dbm_file.specs.declared.calls.OpenHow.{OpenHow}
+use Rattle.file_opening.specs.declared.open_how.OpenHow.{OpenHow}
 use Rattle.dbm_file.specs.declared.database.Database.{Database}
 
 -- As the file was at first: where each image of it was blank or stood for a map, the database holds one of these maps, or is new and empty; and every image of every moment since settles as one did, or stands for the empty database that was asked for.

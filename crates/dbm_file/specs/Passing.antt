@@ -1,31 +1,15 @@
--- Where a pass stands, and what it has yet to give.
-use Rattle.std.specs.Prelude.{◌≡◌, ℕ, ◌+◌, List, [], ◌∷◌, ◌++◌, length, map, drop, flat_map, Option, Some, None}
+-- What a pass has yet to give.
+use Rattle.std.specs.Prelude.{◌≡◌, ℕ, ◌+◌, List, length, map, Option, Some, None}
 use Rattle.std.specs.FinSet as set
-use Rattle.dbm_model.specs.Chain.{pairs_in}
-use Rattle.dbm_model.specs.Meaning.{said_by}
-use Rattle.dbm_model.specs.Pages.{Meta}
+use Rattle.page_model.specs.Meaning.{said_by}
+use Rattle.page_model.specs.Pages.{Meta}
 use Rattle.dbm_model.specs.Pairs.{Pair}
-use Rattle.dbm_model.specs.Placement.{Placement, chain_at}
+use Rattle.page_model.specs.Placement.{Placement}
 use Rattle.dbm_model.specs.States.{Keys}
 use Rattle.page_io.specs.Store.{Pages, page_of}
-use Rattle.bucket_chain.specs.Places.{Entry, entries, last_place, IsHeld}
-use Rattle.bucket_chain.specs.declared.place.Place.{Place}
-use Rattle.dbm_file.specs.Tables.{IsTable}
-use Rattle.dbm_file.specs.declared.passing.Cursor.{Cursor}
-
--- the pairs behind the place in its bucket's chain, then those of the later buckets
-pub record IsBehind (p : Placement) (cursor : Cursor) (left : List Pair) : Type 0 where
-  pub passed : List Entry
-  pub rest : List Entry
-  pub parts : entries (chain_at p cursor.bucket) ≡ passed ++ rest
-  pub last : cursor.behind ≡ last_place passed
-  pub left_is : left ≡ map (λ entry. entry.1) rest ++ flat_map pairs_in (drop (cursor.bucket + 1) p.chains)
-
--- the first of the pairs that are left stands there, and the others are behind it
-abbrev pub IsNext : Placement → List Pair → List ℕ → Option (ℕ × Place) → Type 0
-IsNext p [] bytes found = found ≡ None
-IsNext p (pair ∷ left) bytes None = ⊥
-IsNext p (pair ∷ left) bytes (Some at) = IsHeld bytes at.1 pair × IsBehind p (record { bucket = at.0; behind = Some at.1 }) left
+use Rattle.linear_hash.specs.Passing.{IsBehind}
+use Rattle.linear_hash.specs.Tables.{IsTable}
+use Rattle.linear_hash.specs.declared.passing.Cursor.{Cursor}
 
 -- the keys of pairs
 abbrev pub keys_of : List Pair → Keys

@@ -1,12 +1,10 @@
 // A database over a store of pages.
 ghost use Rattle.std.specs.Prelude.{◌≡◌, [], true, is_some, if◌then◌else◌, Err, Some};
-ghost use Rattle.dbm_model.specs.Valid.{IsMeta};
+ghost use Rattle.page_model.specs.Valid.{IsMeta};
 ghost use Rattle.seg_table.specs.MetaPages.{says};
 
-use crate::changes::{delete_pair, store_pair};
-use crate::looking::find_pair;
-use crate::passing::{Cursor, next_pair};
 use crate::{DeleteReply, Fault, Stat, StoreMode, StoreReply};
+use linear_hash::{Cursor, delete_pair, find_pair, next_pair, store_pair};
 use page_io::{Page, PageFault, PageStore};
 use redo_area::Pager;
 use seg_table::Meta;
@@ -43,8 +41,8 @@ impl<S: PageStore> Database<S> {
     ghost use Rattle.dbm_model.specs.Pairs.{Contents};
     ghost use Rattle.dbm_model.specs.States.{Keys, Handle, error_number};
     ghost use Rattle.dbm_model.specs.Steps.{Passes, case_of};
-    ghost use Rattle.dbm_model.specs.Valid.{buckets};
-    ghost use Rattle.dbm_file.specs.Tables.{shape_in, shape_for};
+    ghost use Rattle.page_model.specs.Valid.{buckets};
+    ghost use Rattle.linear_hash.specs.Tables.{shape_in, shape_for};
     ghost use Rattle.dbm_file.specs.Calls.{mode_of, store_reply, delete_reply, lent_reply};
     ghost use Rattle.dbm_file.specs.Database.{store_of, meta_of, pages_of, error_of, IsAt};
     ghost use Rattle.dbm_file.specs.Answers.{IsStep, Goes, Keeps};
@@ -52,8 +50,8 @@ impl<S: PageStore> Database<S> {
     ghost use Rattle.dbm_file.specs.Passing.{HasLeft};
     ghost use Rattle.dbm_file.specs.Ending.{EndsAs};
     ghost use Rattle.dbm_file.specs.Trying.{with_error_of, IsRead, slot_reply};
-    ghost use Rattle.dbm_file.specs.Holding.{Holds};
-    ghost use Rattle.bucket_chain.specs.Answers.{IsWalkAnswer};
+    ghost use Rattle.linear_hash.specs.Holding.{Holds};
+    ghost use Rattle.chain_walks.specs.Answers.{IsWalkAnswer};
     ghost use Rattle.page_io.specs.Answers.{HasDeviceCause};
     ghost use Rattle.slot_page.specs.Contents.{IsBucketPage, pairs_of};
     ghost use Rattle.page_io.specs.declared.store.PageFault.TheVariants.{Damaged};

@@ -2,26 +2,15 @@
 #![tactic(auto)]
 
 mod calls;
-mod changes;
-mod committing;
 mod database;
-mod emptying;
-mod fault;
-mod looking;
-mod making;
 mod named;
 mod octets;
 mod opening;
-mod passing;
 mod running;
-mod sizes;
-mod splitting;
-mod staging;
 
-pub use calls::{Access, Call, DeleteReply, OpenHow, Reply, Stat, StoreMode, StoreReply};
+pub use calls::{Call, DeleteReply, Reply, Stat, StoreMode, StoreReply};
 pub use database::{Database, Db};
-pub use fault::Fault;
+pub use file_opening::{Access, Fault, OpenHow, needed_sectors};
 pub use named::dbm_open;
 pub use octets::Octets;
 pub use running::run;
-pub use sizes::needed_sectors;

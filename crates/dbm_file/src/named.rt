@@ -1,7 +1,7 @@
 //! A database by the name of its file.
 
 ghost use Rattle.std.specs.Prelude.{◌≡◌, ◌≢◌, ◌&&◌, false, IfOk, IfErr};
-ghost use Rattle.dbm_file.specs.Opening.{writes};
+ghost use Rattle.file_opening.specs.Opening.{writes};
 ghost use Rattle.dbm_file.specs.Opened.{IsFresh};
 ghost use Rattle.dbm_file.specs.Named.{OpensFile};
 

@@ -1,41 +1,26 @@
 //! Opening a device, and closing it.
 
-ghost use Rattle.std.specs.Prelude.{◌≡◌, ◌≢◌, ◌⊎◌, ◌↔◌, ◌≤◌, ◌<◌, ◌/◌, ◌∷◌, [], ℕ, IfOk, IfErr, IfSome, Some, None, Err, true, false, not, if◌then◌else◌, length, map};
+ghost use Rattle.std.specs.Prelude.{◌≡◌, ◌≢◌, ◌⊎◌, ◌↔◌, ◌≤◌, ◌<◌, ◌/◌, ℕ, IfOk, IfErr, IfSome, None, Err, true, false, if◌then◌else◌, map};
 ghost use Rattle.std.specs.FinMap.{empty};
 ghost use Rattle.sect_dev.specs.Device.{Image, IsImageOf, IsStable, LeavesOnly, MoreFaults};
 ghost use Rattle.sect_dev.specs.Moments.{Reads};
-ghost use Rattle.dbm_model.specs.Meaning.{said_by};
-ghost use Rattle.dbm_model.specs.Pages.{MetaPage};
 ghost use Rattle.dbm_model.specs.Pairs.{Contents};
-ghost use Rattle.dbm_model.specs.Placement.{fresh};
-ghost use Rattle.dbm_model.specs.Sheets.{meta_of as placement_meta};
-ghost use Rattle.dbm_model.specs.Sizes.{sectors_for};
-ghost use Rattle.page_io.specs.Meaning.{FileStandsFor, ImageStandsFor};
-ghost use Rattle.page_io.specs.Page.{own_number};
-ghost use Rattle.page_io.specs.Store.{Settled, blank, bytes_of, file_of, page_of};
-ghost use Rattle.redo_area.specs.File.{settled};
-ghost use Rattle.redo_area.specs.Opening.{IsFresh as IsFreshStore};
+ghost use Rattle.page_io.specs.Meaning.{ImageStandsFor};
+ghost use Rattle.redo_commit.specs.File.{settled};
 ghost use Rattle.redo_area.specs.Pagers.{device_of};
 ghost use Rattle.redo_area.specs.Reading.{OnlyReads};
-ghost use Rattle.redo_area.specs.Rests.{SettlesTo};
 ghost use Rattle.dbm_model.specs.States.{Handle};
-ghost use Rattle.dbm_file.specs.Database.{store_of, meta_of, HoldsMap, Rests, IsAt};
-ghost use Rattle.dbm_file.specs.Opening.{writes, is_exclusive, early_fault, RefusesMeta, RefusesOpened, SaysMeta, IsRefusedOpening, AllAllow, EmptiesFile, MayRemain, AllStand, IsOpened};
-ghost use Rattle.dbm_file.specs.Opened.{device_after, IsFresh, IsOpenedAt, OpensAs};
-ghost use Rattle.seg_table.specs.MetaPages.{says};
+ghost use Rattle.dbm_file.specs.Database.{store_of, IsAt};
+ghost use Rattle.file_opening.specs.Opening.{writes, early_fault, IsRefusedOpening, AllAllow, MayRemain, AllStand, IsOpened};
+ghost use Rattle.dbm_file.specs.Opened.{device_after, IsFresh, IsOpenedAt};
 
 use crate::database::{Database, Db};
-use crate::emptying::emptied;
-use crate::making::made;
 use crate::{Fault, OpenHow};
+use file_opening::open_file;
 use page_io::{Page, PageStore};
-use redo_area::{OpenFault, Pager};
+use redo_area::Pager;
 use sect_dev::SectorDev;
-use seg_table::{MetaFault, read_meta};
 use std::alloc::Global;
-
-/// The least number of sectors: a file of three pages behind page 0.
-const MIN_SECTORS: u32 = 16;
 
 impl<D: SectorDev> Database<Pager<D>> {
     /// Opens a device that a stop may have left, or hands it back with the fault. In this order:
@@ -77,17 +62,17 @@ impl<D: SectorDev> Database<Pager<D>> {
         ensures later { D.faults dev ≤ D.faults (device_after result) }
         ensures size { (D.sectors (device_after result) / 4 ≡ D.sectors dev / 4) × (how.truncate ≡ false → D.sectors (device_after result) ≡ D.sectors dev) }
     {
-        let sectors = dev.capacity();
-        if let Some(fault) = early_refusal(how, sectors) {
-            return Err((dev, fault));
-        }
-        match Pager::open(alloc, dev, how.access.is_writable()) {
-            Ok(store) => opened(alloc, store, how, sectors),
-            Err((dev, OpenFault::Blank)) => made(alloc, dev, how),
-            Err((dev, OpenFault::Memory)) => Err((dev, Fault::Memory)),
-            Err((dev, OpenFault::Device)) => Err((dev, Fault::Device)),
-            Err((dev, OpenFault::NotOurs)) => Err((dev, or_exists(how, Fault::NotADatabase))),
-            Err((dev, OpenFault::Damaged)) => Err((dev, or_exists(how, Fault::Damaged))),
+        match open_file(alloc, dev, how) {
+            Ok(file) => Ok(Database {
+                store: file.store,
+                meta: file.meta,
+                page: Page::blank(),
+                error: None,
+                pass: None,
+                writable: file.writable,
+                alloc,
+            }),
+            Err(refused) => Err(refused),
         }
     }
 
@@ -102,102 +87,5 @@ impl<D: SectorDev> Database<Pager<D>> {
         let usable = !self.store.is_broken();
         let dev = self.store.into_dev();
         (dev, if usable { Ok(()) } else { Err(Fault::Broken) })
-    }
-}
-
-/// What refuses an opening before the device is called.
-fn early_refusal(how: OpenHow, sectors: u32) -> Option<Fault>
-    ensures { result ≡ early_fault how sectors }
-{
-    if how.truncate && !how.access.is_writable() {
-        return Some(Fault::ReadOnly);
-    }
-    if sectors < MIN_SECTORS {
-        return Some(Fault::TooSmall);
-    }
-    None
-}
-
-/// The fault of a device that is no good file, where a database may be there.
-fn or_exists(how: OpenHow, fault: Fault) -> Fault
-    ensures { result ≡ (if is_exclusive how then Fault.Exists else fault) }
-{
-    if how.is_exclusive() {
-        Fault::Exists
-    } else {
-        fault
-    }
-}
-
-/// The database of a file, emptied where that is asked.
-fn opened<D: SectorDev>(
-    alloc: Global,
-    store: Pager<D>,
-    how: OpenHow,
-    sectors: u32,
-) -> Result<Db<D>, (D, Fault)>
-    requires sectors { sectors ≡ D.sectors (device_of store) }
-    requires fresh { IsFreshStore (D.sectors (device_of store) / 4) (writes how.access) (⟦<Pager<D> as PageStore>⟧.state store) }
-    requires written { how.truncate ≡ true → writes how.access ≡ true }
-    ensures fresh { IfOk result (IsFresh (writes how.access) (D.sectors (device_of store) / 4)) }
-    ensures any_moment { D.honest (device_of store) → LeavesOnly D.moment (Reads D.left_since (settled (D.sectors (device_of store) / 4))) (device_of store) (device_after result)
-        (λ now. SettlesTo (D.sectors (device_of store) / 4) (D.candidate (device_of store)) now ⊎ (EmptiesFile how (⟦<Pager<D> as PageStore>⟧.committed store) × ImageStandsFor now empty how.limit)) }
-    ensures stands { D.honest (device_of store) → ((now : Settled) → ⟦<Pager<D> as PageStore>⟧.settles_to store now → now ≡ file_of (⟦<Pager<D> as PageStore>⟧.committed store)) →
-        (map : Contents) → (limit : ℕ) → FileStandsFor (⟦<Pager<D> as PageStore>⟧.committed store) map limit → IfOk result (λ db. (is_exclusive how ≡ false) × OpensAs how map limit db) }
-    ensures only_reads { writes how.access ≡ false → D.honest (device_of store) → OnlyReads D.SectorDev (device_of store) (device_after result) }
-    ensures refused { D.honest (device_of store) → IfErr result (λ e. e.1 ≢ Fault.Device → RefusesOpened how (D.sectors (device_of store)) (⟦<Pager<D> as PageStore>⟧.committed store) e.1 ×
-        (writes how.access ≡ true → (after : Image) → IsImageOf (D.candidate e.0) after → settled (D.sectors (device_of store) / 4) after ≡ file_of (⟦<Pager<D> as PageStore>⟧.committed store))) }
-    ensures device { IfErr result (λ e. e.1 ≡ Fault.Device → MoreFaults (D.faults (device_of store)) (D.faults e.0)) }
-    ensures only { IfErr result (λ e. (e.1 ≢ Fault.Broken) × (e.1 ≢ Fault.TooLong) × (e.1 ≢ Fault.Full) × (e.1 ≢ Fault.NoPass) × (e.1 ≢ Fault.Missing)) }
-    ensures honesty { D.honest (device_after result) ↔ D.honest (device_of store) }
-    ensures later { D.faults (device_of store) ≤ D.faults (device_after result) }
-    ensures size { (D.sectors (device_after result) / 4 ≡ D.sectors (device_of store) / 4) × (how.truncate ≡ false → D.sectors (device_after result) ≡ D.sectors (device_of store)) }
-{
-    if how.is_exclusive() {
-        return Err((store.into_dev(), Fault::Exists));
-    }
-    let found = found(alloc, store, how.access.is_writable());
-    if !how.truncate {
-        return found;
-    }
-    match found {
-        Ok(db) => emptied(alloc, db.store, how.limit, sectors),
-        Err(refused) => Err(refused),
-    }
-}
-
-/// The database of a file.
-fn found<D: SectorDev>(alloc: Global, store: Pager<D>, writable: bool) -> Result<Db<D>, (D, Fault)>
-    requires fresh { IsFreshStore (D.sectors (device_of store) / 4) writable (⟦<Pager<D> as PageStore>⟧.state store) }
-    ensures fresh { IfOk result (IsFresh writable (D.sectors (device_of store) / 4)) }
-    ensures only_reads { D.honest (device_of store) → OnlyReads D.SectorDev (device_of store) (device_after result) }
-    ensures kept { D.honest (device_of store) → IfOk result (λ db. ⟦<Pager<D> as PageStore>⟧.committed (store_of db) ≡ ⟦<Pager<D> as PageStore>⟧.committed store) }
-    ensures says { D.honest (device_of store) → IfOk result (λ db. SaysMeta (page_of (⟦<Pager<D> as PageStore>⟧.committed store) 1)) }
-    ensures stands { D.honest (device_of store) → ((now : Settled) → ⟦<Pager<D> as PageStore>⟧.settles_to store now → now ≡ file_of (⟦<Pager<D> as PageStore>⟧.committed store)) →
-        (map : Contents) → (limit : ℕ) → FileStandsFor (⟦<Pager<D> as PageStore>⟧.committed store) map limit → IfOk result (λ db. HoldsMap db map × Rests db map × ((meta_of db).limit ≡ limit)) }
-    ensures refused { D.honest (device_of store) → IfErr result (λ e. e.1 ≢ Fault.Device → RefusesMeta (page_of (⟦<Pager<D> as PageStore>⟧.committed store) 1) e.1) }
-    ensures device { IfErr result (λ e. e.1 ≡ Fault.Device → MoreFaults (D.faults (device_of store)) (D.faults e.0)) }
-    ensures only { IfErr result (λ e. (e.1 ≡ Fault.Device) ⊎ ((e.1 ≡ Fault.Version) ⊎ (e.1 ≡ Fault.Damaged))) }
-    ensures honesty { D.honest (device_after result) ↔ D.honest (device_of store) }
-    ensures later { D.faults (device_of store) ≤ D.faults (device_after result) }
-    ensures size { D.sectors (device_after result) ≡ D.sectors (device_of store) }
-{
-    let mut store = store;
-    let mut page = Page::blank();
-    if let Err(fault) = store.read(1, &mut page) {
-        return Err((store.into_dev(), Fault::from(fault)));
-    }
-    match read_meta(&page) {
-        Ok(meta) => Ok(Database {
-            store,
-            meta,
-            page,
-            error: None,
-            pass: None,
-            writable,
-            alloc,
-        }),
-        Err(MetaFault::Version) => Err((store.into_dev(), Fault::Version)),
-        Err(MetaFault::Damaged) => Err((store.into_dev(), Fault::Damaged)),
     }
 }

@@ -2,8 +2,8 @@
 use Rattle.std.specs.Prelude.{◌≡◌, ◌⊎◌, ℕ, ◌+◌, ◌≤◌, false, not, nat_le, IsTrue, if◌then◌else◌, List, [], ◌∷◌, length, Option, Some, None}
 use Rattle.std.specs.FinMap.{get, insert, remove, len, keys}
 use Rattle.std.specs.FinSet as set
-use Rattle.sect_dev.specs.Device.{MoreFaults}
 use Rattle.dbm_model.specs.Calls.{Mode, Insert, Replace, Call, Store, Fetch, Delete, First, Next, Error, Clear, Reply, Stored, Kept, Deleted, Absent, Bytes, NoRecord, End, Number, Refused, Fault, Memory, Device, Broken, ReadOnly, TooLong, Full, NoPass, NoRoom}
+use Rattle.dbm_model.specs.FaultCount.{MoreFaults}
 use Rattle.dbm_model.specs.Pairs.{Key, Contents}
 use Rattle.dbm_model.specs.States.{State, Keys, Handle, flagged, error_number}
 

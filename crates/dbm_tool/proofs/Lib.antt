@@ -1,12 +1,1 @@
-pub mod Answering
-pub mod LoadingTexts
-pub mod LoadingRuns
-pub mod Loading
-pub mod Dumping
-pub mod DumpingKeys
-pub mod DumpingPairs
-pub mod Flushing
-pub mod Reading
-pub mod Requests
-pub mod Rooms
-pub mod Splits
+pub mod Statuses

@@ -2,14 +2,12 @@
 use Rattle.std.specs.Prelude.{ℕ, List, ◌++◌, codes}
 use Rattle.std.specs.Fmt.{decimal}
 use Rattle.dbm_model.specs.Calls.{number_of}
-use Rattle.dbm_model.specs.Lines.{with_line_feed}
-use Rattle.dbm_file.specs.Faults.{fault_of}
-use Rattle.dbm_file.specs.declared.fault.Fault.{Fault}
-use Rattle.dbm_file.specs.declared.fault.Fault.TheVariants.{Device, Broken}
+use Rattle.dbm_text.specs.Lines.{with_line_feed}
+use Rattle.file_opening.specs.Faults.{fault_of}
 use Rattle.dbm_tool.specs.declared.commands.Failure.{Failure}
 use Rattle.dbm_tool.specs.declared.commands.Failure.TheVariants as failure
-use Rattle.dbm_tool.specs.declared.engine_fault.EngineFault.{EngineFault}
-use Rattle.dbm_tool.specs.declared.engine_fault.EngineFault.TheVariants.{Memory, Read, Write, Line, Db}
+use Rattle.dbm_fault.specs.declared.engine_fault.EngineFault.{EngineFault}
+use Rattle.dbm_fault.specs.declared.engine_fault.EngineFault.TheVariants.{Memory, Read, Write, Line, Db}
 
 abbrev pub fault_text : EngineFault → List ℕ
 fault_text Memory = codes "fault 1"
@@ -21,12 +19,6 @@ fault_text (Db fault) = codes "fault " ++ decimal (number_of (fault_of fault))
 -- the one line that tells a fault
 abbrev pub fault_line : EngineFault → List ℕ
 fault_line fault = with_line_feed (codes "dbmtool: " ++ fault_text fault)
-
--- a device in memory fails only where a growth is refused, and what it broke was broken by that
-abbrev pub told_in_memory : Fault → EngineFault
-told_in_memory Device = Memory
-told_in_memory Broken = Memory
-told_in_memory fault = Db fault
 
 -- the one line that tells a failure
 abbrev pub failure_line : Failure → List ℕ

@@ -1,6 +1,3 @@
-pub mod Dumping
+pub use Rattle.dbm_script.specs.Scripts
 pub mod Faults
-pub mod Loading
-pub mod Reading
-pub mod Requests
-pub mod Scripts
+pub mod Plans

@@ -2,13 +2,12 @@
 ghost use Rattle.std.specs.Prelude.{◌≡◌, ◌≤◌, length, OnOk, IfSome};
 ghost use Rattle.dbm_words.specs.declared.plan.Plan.TheVariants.{Script};
 ghost use Rattle.dbm_words.specs.declared.plan.Source.TheVariants.{Memory};
-ghost use Rattle.dbm_tool.specs.Scripts.{Does};
+ghost use Rattle.dbm_tool.specs.Plans.{Does};
 
-use crate::in_memory::script_in_memory;
-use crate::parsing::decode_word;
-use crate::replies::{DIGITS, write_bytes};
 use crate::{EngineFault, dump_engine, list_engine, load_engine, script_engine};
 use dbm_file::{Access, Db, DeleteReply, Fault, OpenHow, Stat, StoreMode, StoreReply, dbm_open};
+use dbm_lines::{DIGITS, decode_word, write_bytes};
+use dbm_script::script_in_memory;
 use dbm_words::{Plan, Source, Spelling};
 use sect_dev::{FileDev, SectorDev};
 use std::alloc::Global;

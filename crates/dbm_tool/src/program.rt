@@ -3,7 +3,7 @@ ghost use Rattle.std.specs.Prelude.{◌≡◌, ◌⊎◌, OnErr, OnOk, IfErr, If
 ghost use Rattle.std.specs.Io.KnownBytes.{Appends};
 ghost use Rattle.dbm_words.specs.CommandLine.{AreTaken};
 ghost use Rattle.dbm_tool.specs.Faults.{failure_line};
-ghost use Rattle.dbm_tool.specs.Scripts.{DoesWords};
+ghost use Rattle.dbm_tool.specs.Plans.{DoesWords};
 
 use crate::EngineFault;
 use crate::commands::{Failure, Outcome, carry_out};

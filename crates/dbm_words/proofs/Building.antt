@@ -1,10 +1,21 @@
 -- What an option and a subcommand add to a command's definitions.
-use Rattle.std.proofs.Common.{◌∙◌, ◌||◌, ap, ap₂, IfOk, Result}
+use Rattle.std.proofs.Common.{◌≡◌, ◌∙◌, ◌||◌, false, List, [], ◌∷◌, ap, ap₂, IfOk, Result}
 use Rattle.std.proofs.lemmas.Result.{IfOk-weaker}
-use Rattle.clap.specs.Words.{AddsArg, AddsSubcommand, App, Rule, Shape, with_rule, with_subcommand}
+use Rattle.clap.specs.Simple.{app_of_fields}
+use Rattle.clap.specs.Words.{AddsArg, AddsSubcommand, App, Rule, Shape, rule_of, with_rule, with_subcommand}
 use Rattle.clap.specs.declared.builder.arg.Arg.{Arg}
 use Rattle.clap.specs.declared.builder.command.Command.{Command}
-use Rattle.dbm_words.specs.Building.{IsApp, IsRule, alone}
+use Rattle.clap.specs.declared.builder.command.Command.TheOpen.{Command-F}
+use Rattle.clap.specs.declared.builder.command.Command.TheViews.{out-Command}
+use Rattle.dbm_words.specs.Building.{Adds, IsApp, IsRule, alone}
+
+-- a command of these fields
+pub with_fields : (new : Command) (fields : Command-F Command) (app : App) → out-Command new ≡ fields → app_of_fields fields ≡ app → fields.has_globals ≡ false → IsApp new app
+with_fields new fields app is shape local = record { shape = ap app_of_fields is ∙ shape; local = ap (λ f. f.has_globals) is ∙ local }
+
+-- an argument of these fields
+pub with_settings : (new fields : Arg) (rule : Rule) → new ≡ fields → rule_of fields ≡ rule → fields.global ≡ false → IsRule new rule
+with_settings new fields rule is shape local = record { shape = ap rule_of is ∙ shape; local = ap (λ (a : Arg). a.global) is ∙ local }
 
 pub with_option : (old new : Command) (a : Arg) (app : App) (rule : Rule) → IsApp old app → IsRule a rule → AddsArg old a new → IsApp new (with_rule app rule)
 with_option old new a app rule was given adds = record {
@@ -22,5 +33,32 @@ with_line old sub new app line was given adds = record {
 pub option_added : {E : Type 0} (old : Command) (a : Arg) (r : Result Command E) (app : App) (rule : Rule) → IsApp old app → IsRule a rule → IfOk r (AddsArg old a) → IfOk r (λ c. IsApp c (with_rule app rule))
 option_added old a r app rule was given adds = IfOk-weaker r _ _ (λ new add. with_option old new a app rule was given add) adds
 
-pub line_added : {E : Type 0} (old sub : Command) (r : Result Command E) (app : App) (line : Shape) → IsApp old app → IsApp sub (alone line) → IfOk r (AddsSubcommand old sub) → IfOk r (λ c. IsApp c (with_subcommand app line))
-line_added old sub r app line was given adds = IfOk-weaker r _ _ (λ new add. with_line old sub new app line was given add) adds
+-- a command of these subcommands
+abbrev lines_on : Shape → List Shape → App
+lines_on top lines = record { top = record top { is_leaf = false }; subs = lines }
+
+-- ten subcommands, one after another; the steps are put together for any lines, since written out they are long
+pub ten_lines_added : {E : Type 0} (top : Shape) (l1 l2 l3 l4 l5 l6 l7 l8 l9 l10 : Shape) (c0 c1 c2 c3 c4 c5 c6 c7 c8 c9 : Command) (s1 s2 s3 s4 s5 s6 s7 s8 s9 s10 r : Result Command E)
+    → IsApp c0 (alone top)
+    → IfOk s1 (λ s. IsApp s (alone l1)) → Adds c0 s1 c1
+    → IfOk s2 (λ s. IsApp s (alone l2)) → Adds c1 s2 c2
+    → IfOk s3 (λ s. IsApp s (alone l3)) → Adds c2 s3 c3
+    → IfOk s4 (λ s. IsApp s (alone l4)) → Adds c3 s4 c4
+    → IfOk s5 (λ s. IsApp s (alone l5)) → Adds c4 s5 c5
+    → IfOk s6 (λ s. IsApp s (alone l6)) → Adds c5 s6 c6
+    → IfOk s7 (λ s. IsApp s (alone l7)) → Adds c6 s7 c7
+    → IfOk s8 (λ s. IsApp s (alone l8)) → Adds c7 s8 c8
+    → IfOk s9 (λ s. IsApp s (alone l9)) → Adds c8 s9 c9
+    → IfOk s10 (λ s. IsApp s (alone l10)) → IfOk r (Adds c9 s10)
+    → IfOk r (λ c. IsApp c (record { top = record top { is_leaf = false }; subs = l1 ∷ l2 ∷ l3 ∷ l4 ∷ l5 ∷ l6 ∷ l7 ∷ l8 ∷ l9 ∷ l10 ∷ [] }))
+ten_lines_added top l1 l2 l3 l4 l5 l6 l7 l8 l9 l10 c0 c1 c2 c3 c4 c5 c6 c7 c8 c9 s1 s2 s3 s4 s5 s6 s7 s8 s9 s10 r p0 p1 a1 p2 a2 p3 a3 p4 a4 p5 a5 p6 a6 p7 a7 p8 a8 p9 a9 p10 a10 =
+    let with_1 : IsApp c1 (lines_on top (l1 ∷ [])) = a1 (alone top) l1 p0 p1 in
+    let with_2 : IsApp c2 (lines_on top (l1 ∷ l2 ∷ [])) = a2 (lines_on top (l1 ∷ [])) l2 with_1 p2 in
+    let with_3 : IsApp c3 (lines_on top (l1 ∷ l2 ∷ l3 ∷ [])) = a3 (lines_on top (l1 ∷ l2 ∷ [])) l3 with_2 p3 in
+    let with_4 : IsApp c4 (lines_on top (l1 ∷ l2 ∷ l3 ∷ l4 ∷ [])) = a4 (lines_on top (l1 ∷ l2 ∷ l3 ∷ [])) l4 with_3 p4 in
+    let with_5 : IsApp c5 (lines_on top (l1 ∷ l2 ∷ l3 ∷ l4 ∷ l5 ∷ [])) = a5 (lines_on top (l1 ∷ l2 ∷ l3 ∷ l4 ∷ [])) l5 with_4 p5 in
+    let with_6 : IsApp c6 (lines_on top (l1 ∷ l2 ∷ l3 ∷ l4 ∷ l5 ∷ l6 ∷ [])) = a6 (lines_on top (l1 ∷ l2 ∷ l3 ∷ l4 ∷ l5 ∷ [])) l6 with_5 p6 in
+    let with_7 : IsApp c7 (lines_on top (l1 ∷ l2 ∷ l3 ∷ l4 ∷ l5 ∷ l6 ∷ l7 ∷ [])) = a7 (lines_on top (l1 ∷ l2 ∷ l3 ∷ l4 ∷ l5 ∷ l6 ∷ [])) l7 with_6 p7 in
+    let with_8 : IsApp c8 (lines_on top (l1 ∷ l2 ∷ l3 ∷ l4 ∷ l5 ∷ l6 ∷ l7 ∷ l8 ∷ [])) = a8 (lines_on top (l1 ∷ l2 ∷ l3 ∷ l4 ∷ l5 ∷ l6 ∷ l7 ∷ [])) l8 with_7 p8 in
+    let with_9 : IsApp c9 (lines_on top (l1 ∷ l2 ∷ l3 ∷ l4 ∷ l5 ∷ l6 ∷ l7 ∷ l8 ∷ l9 ∷ [])) = a9 (lines_on top (l1 ∷ l2 ∷ l3 ∷ l4 ∷ l5 ∷ l6 ∷ l7 ∷ l8 ∷ [])) l9 with_8 p9 in
+    IfOk-weaker r _ _ (λ new add. add (lines_on top (l1 ∷ l2 ∷ l3 ∷ l4 ∷ l5 ∷ l6 ∷ l7 ∷ l8 ∷ l9 ∷ [])) l10 with_9 p10) a10

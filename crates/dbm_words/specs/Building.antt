@@ -1,6 +1,6 @@
 -- What a command and an option are to the parser, while they are put together.
-use Rattle.std.specs.Prelude.{◌≡◌, [], false}
-use Rattle.clap.specs.Words.{App, Rule, Shape, app_of, rule_of}
+use Rattle.std.specs.Prelude.{◌≡◌, [], false, IfOk, Result}
+use Rattle.clap.specs.Words.{App, Rule, Shape, app_of, rule_of, with_subcommand}
 use Rattle.clap.specs.declared.builder.arg.Arg.{Arg}
 use Rattle.clap.specs.declared.builder.command.Command.{Command}
 use Rattle.clap.specs.declared.builder.command.Command.TheViews.{out-Command}
@@ -17,3 +17,7 @@ pub record IsApp (command : Command) (app : App) : Type 0 where
 pub record IsRule (argument : Arg) (rule : Rule) : Type 0 where
   pub shape : rule_of argument ≡ rule
   pub local : argument.global ≡ false
+
+-- one line more, where the subcommand could be made
+abbrev pub Adds : {E : Type 0} → Command → Result Command E → Command → Type 0
+Adds old sub new = (app : App) (line : Shape) → IsApp old app → IfOk sub (λ c. IsApp c (alone line)) → IsApp new (with_subcommand app line)

@@ -1,6 +1,6 @@
 // The commands and their options.
 ghost use Rattle.std.specs.Prelude.{IfOk, codes};
-ghost use Rattle.dbm_words.specs.Building.{IsApp, IsRule, alone};
+ghost use Rattle.dbm_words.specs.Building.{Adds, IsApp, IsRule, alone};
 ghost use Rattle.dbm_words.specs.CommandLine.{command_line, create_line, file_line, hexadecimal_rule, key_line, number_rule, pair_line, program_line, script_line, word_rule};
 
 use clap::{Arg, ArgAction, Command, value_parser};
@@ -68,17 +68,27 @@ Example:
 pub fn command<'a>(alloc: Global) -> Result<Command<'a>, AllocError>
     ensures { IfOk result (λ c. IsApp c command_line) }
 {
-    program(alloc)?
-        .subcommand(create_command(alloc)?)?
-        .subcommand(store_command(alloc)?)?
-        .subcommand(insert_command(alloc)?)?
-        .subcommand(fetch_command(alloc)?)?
-        .subcommand(delete_command(alloc)?)?
-        .subcommand(list_command(alloc)?)?
-        .subcommand(dump_command(alloc)?)?
-        .subcommand(load_command(alloc)?)?
-        .subcommand(stat_command(alloc)?)?
-        .subcommand(script_command(alloc)?)
+    let command = added(program(alloc)?, create_command(alloc))?;
+    let command = added(command, store_command(alloc))?;
+    let command = added(command, insert_command(alloc))?;
+    let command = added(command, fetch_command(alloc))?;
+    let command = added(command, delete_command(alloc))?;
+    let command = added(command, list_command(alloc))?;
+    let command = added(command, dump_command(alloc))?;
+    let command = added(command, load_command(alloc))?;
+    let command = added(command, stat_command(alloc))?;
+    added(command, script_command(alloc))
+}
+
+/// The command with one more subcommand, if that could be made. An early return that drops a command is long to
+/// prove, and this is the only one.
+fn added<'a>(
+    command: Command<'a>,
+    line: Result<Command<'a>, AllocError>,
+) -> Result<Command<'a>, AllocError>
+    ensures { IfOk result (Adds command.entry line.entry) }
+{
+    command.subcommand(line?)
 }
 
 /// The program, with no command yet. Usage shows its name, although the words don't have it.

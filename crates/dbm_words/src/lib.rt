@@ -8,6 +8,3 @@ mod words;
 
 pub use plan::{Plan, Source, Spelling};
 pub use words::{WordsError, read_words};
-
-#[cfg(test)]
-mod tests;

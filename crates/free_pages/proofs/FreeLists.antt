@@ -1,11 +1,11 @@
 -- A free list, and what a page that comes in front leaves of it.
 use Rattle.std.proofs.Common.{◌≡◌, ◌↔◌, ℕ, ◌+◌, ◌<◌, ◌≤◌, cond, List, [], ◌∷◌, length, refl, sym, ap, ◌∙◌, subst, arith}
 use Rattle.std.proofs.lemmas.Bool.Decides.{nat_tests}
-use Rattle.dbm_model.specs.Pages.{Body, FreePage}
-use Rattle.dbm_model.specs.Sheets.{first_of, free_sheets, AreRead}
-use Rattle.dbm_model.specs.Space.{Space, after_take, give, is_page, times_of}
-use Rattle.dbm_model.proofs.Frames.{at_most_one}
-use Rattle.dbm_model.proofs.Spaces.{times_head, times_tail}
+use Rattle.page_model.specs.Pages.{Body, FreePage}
+use Rattle.page_model.specs.Sheets.{first_of, free_sheets, AreRead}
+use Rattle.page_model.specs.Space.{Space, after_take, give, is_page, times_of}
+use Rattle.page_model.proofs.Frames.{at_most_one}
+use Rattle.page_model.proofs.Spaces.{times_head, times_tail}
 use Rattle.free_pages.specs.FreeList.{state_of, IsFreeList, IsApart, IsFirstTaken, HasEnds}
 use Rattle.free_pages.specs.declared.free_state.FreeState.{FreeState}
 

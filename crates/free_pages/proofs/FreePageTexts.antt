@@ -1,14 +1,14 @@
 -- The bytes of a free page: found by the tests of its places, and read back.
 use Rattle.std.proofs.Common.{◌≡◌, ℕ, List, [], ◌++◌, length, replicate, get_or, drop, refl, sym, ap, ◌∙◌, arith}
 use Rattle.std.proofs.lemmas.List.{append-nil}
-use Rattle.dbm_model.specs.Bytes.{u32_at, u32_bytes}
-use Rattle.dbm_model.specs.Numbers.{IsNumber}
-use Rattle.dbm_model.specs.Pages.{FreePage}
-use Rattle.dbm_model.specs.Reading.{next_of, body_of, IsClear}
-use Rattle.dbm_model.specs.Spelling.{header, free_spelling, spelling_of}
-use Rattle.dbm_model.proofs.Texts.{IsBytes, text_then, zeros_text, clear_again, u16_below, whole}
-use Rattle.dbm_model.proofs.Buckets.{four_is}
-use Rattle.dbm_model.proofs.Bodies.{body_is, body_spelled}
+use Rattle.page_model.specs.Bytes.{u32_at, u32_bytes}
+use Rattle.page_model.specs.Numbers.{IsNumber}
+use Rattle.page_model.specs.Pages.{FreePage}
+use Rattle.page_model.specs.Reading.{next_of, body_of, IsClear}
+use Rattle.page_model.specs.Spelling.{header, free_spelling, spelling_of}
+use Rattle.page_model.proofs.Texts.{IsBytes, text_then, zeros_text, clear_again, u16_below, whole}
+use Rattle.page_model.proofs.Buckets.{four_is}
+use Rattle.page_model.proofs.Bodies.{body_is, body_spelled}
 use Rattle.page_io.specs.Page.{own_number}
 use Rattle.page_io.specs.Plain.{HasPlainHeader}
 use Rattle.page_io.proofs.PlainPages.{plain_text, plain_again}

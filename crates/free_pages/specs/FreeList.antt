@@ -1,8 +1,8 @@
 -- The free list, as its pages say it and as what is kept of it.
 use Rattle.std.specs.Prelude.{◌≡◌, ◌↔◌, ◌⊎◌, ℕ, ◌+◌, ◌<◌, ◌≤◌, List, length, if◌then◌else◌}
-use Rattle.dbm_model.specs.Pages.{Body, FreePage}
-use Rattle.dbm_model.specs.Space.{Space, is_page, times_of}
-use Rattle.dbm_model.specs.Sheets.{first_of, free_sheets, AreRead}
+use Rattle.page_model.specs.Pages.{Body, FreePage}
+use Rattle.page_model.specs.Space.{Space, is_page, times_of}
+use Rattle.page_model.specs.Sheets.{first_of, free_sheets, AreRead}
 use Rattle.free_pages.specs.declared.free_state.FreeState.{FreeState}
 
 -- what is kept of a space

@@ -1,11 +1,11 @@
 //! The list of free pages: each names the next one.
 
 ghost use Rattle.std.specs.Prelude.{◌≡◌, ◌⊎◌, ◌↔◌, ◌<◌, ◌≤◌, ◌+◌, ◌∷◌, [], ℕ, Some, IfOk, OnOk, OnErr, IfErr, IsErrOf, false, length};
-ghost use Rattle.dbm_model.specs.Numbers.{IsNumber};
-ghost use Rattle.dbm_model.specs.Pages.{FreePage};
-ghost use Rattle.dbm_model.specs.Reading.{body_of};
-ghost use Rattle.dbm_model.specs.Space.{Space, next_page, after_take, give as given};
-ghost use Rattle.dbm_model.specs.Spelling.{free_spelling};
+ghost use Rattle.page_model.specs.Numbers.{IsNumber};
+ghost use Rattle.page_model.specs.Pages.{FreePage};
+ghost use Rattle.page_model.specs.Reading.{body_of};
+ghost use Rattle.page_model.specs.Space.{Space, next_page, after_take, give as given};
+ghost use Rattle.page_model.specs.Spelling.{free_spelling};
 ghost use Rattle.page_io.specs.Answers.{HasDeviceCause};
 ghost use Rattle.page_io.specs.Store.{IsKnown};
 ghost use Rattle.page_io.specs.Views.{said, StagesOnly, ReadsOnly, MayEnd, MayEndWith};

@@ -3,8 +3,6 @@
 
 mod free_list;
 mod free_state;
-#[cfg(test)]
-mod tests;
 
 pub use free_list::{give, read_free, take};
 pub use free_state::FreeState;

@@ -3,8 +3,8 @@ use Rattle.std.proofs.Common.{◌≡◌, ℕ, ◌+◌, ◌-◌, ◌/◌, ◌%◌
 use Rattle.std.specs.Int.{bit_at}
 use Rattle.std.proofs.lemmas.Nat.{and_mask, pow_pos}
 use Rattle.std.proofs.lemmas.Bool.Decides.{nat_tests}
-use Rattle.dbm_model.specs.Address.{Shape, address, buckets, grown}
-use Rattle.dbm_model.proofs.AddressLemmas.{bit_cases, grown_address}
+use Rattle.page_model.specs.Address.{Shape, address, buckets, grown}
+use Rattle.page_model.proofs.AddressLemmas.{bit_cases, grown_address}
 
 pick_low : (m x b p w : ℕ) → x < m → p < m → ((b ≡ 0) × (w ≡ x)) ⊎ ((b ≡ 1) × (w ≡ m + x)) → m + p - 1 < w → x ≡ cond (ltb x p) w x
 pick_low m x b p w h k e l = grind (arith, nat_tests)

@@ -1,7 +1,7 @@
 -- A shape of the code as one of the model.
 use Rattle.std.specs.Prelude.{◌≡◌, ℕ, ◌+◌, ◌^◌, ◌<◌, ◌≤◌, Bool, if◌then◌else◌}
-use Rattle.dbm_model.specs.Address as model
-use Rattle.dbm_model.specs.Address.{address, grown}
+use Rattle.page_model.specs.Address as model
+use Rattle.page_model.specs.Address.{address, grown}
 use Rattle.lin_addr.specs.declared.growth.Shape.{Shape}
 
 abbrev pub shape_of : Shape → model.Shape

@@ -1,9 +1,9 @@
 // FNV-1a, 32 bits.
 ghost use Rattle.std.specs.Prelude.{◌≡◌};
-ghost use Rattle.dbm_model.specs.Address.{hash_of};
+ghost use Rattle.page_model.specs.Address.{hash_of};
 
 /// The hash of a key: FNV-1a, 32 bits.
-#[tactic(auto, unfolding(dbm_model::specs::Address::hash_of))]
+#[tactic(auto, unfolding(page_model::specs::Address::hash_of))]
 pub fn hash(key: &[u8]) -> u32
     ensures { result ≡ hash_of key.now }
 {

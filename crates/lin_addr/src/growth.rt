@@ -21,8 +21,8 @@ fn power(exponent: u32) -> u32
 
 impl Shape {
     ghost use Rattle.std.specs.Int.{bit_at};
-    ghost use Rattle.dbm_model.specs.Address as model;
-    ghost use Rattle.dbm_model.specs.Address.{address};
+    ghost use Rattle.page_model.specs.Address as model;
+    ghost use Rattle.page_model.specs.Address.{address};
     ghost use Rattle.lin_addr.specs.Shapes.{shape_of, CanBe, BelongsTo};
 
     /// One bucket.

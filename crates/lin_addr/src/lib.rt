@@ -3,8 +3,6 @@
 
 mod fnv;
 mod growth;
-#[cfg(test)]
-mod tests;
 
 pub use fnv::hash;
 pub use growth::Shape;

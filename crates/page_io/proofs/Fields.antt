@@ -2,7 +2,7 @@
 use Rattle.std.proofs.Common.{◌≡◌, ℕ, ◌+◌, ◌-◌, ◌<◌, ◌≤◌, ◌^◌, List, ◌++◌, length, get_or, set, take, drop, refl, sym, ◌∙◌, ap, arith, get_or-set_other}
 use Rattle.std.proofs.lemmas.List.{get_or-take, get_or-drop, get_or_append_left, get_or-append_right, length-take-le}
 use Rattle.std.proofs.lemmas.Nat.{from_be_bytes-to_be_bytes_2, from_be_bytes-to_be_bytes_4}
-use Rattle.dbm_model.specs.Bytes.{u16_at, u32_at, u16_bytes, u32_bytes, overwrite}
+use Rattle.page_model.specs.Bytes.{u16_at, u32_at, u16_bytes, u32_bytes, overwrite}
 use Rattle.page_io.specs.Page.{own_number}
 
 -- a byte before what is written

@@ -3,14 +3,14 @@ use Rattle.std.proofs.Common.{◌≡◌, ℕ, ◌+◌, ◌-◌, ◌<◌, ◌≤�
 use Rattle.std.proofs.lemmas.Bool.Decides.{nat_tests}
 use Rattle.std.proofs.lemmas.List.Sums.{sum_by-append}
 use Rattle.dbm_model.specs.Pairs.{contents_of}
-use Rattle.dbm_model.specs.Placement.{in_use}
-use Rattle.dbm_model.specs.Space.{is_page, times_of}
-use Rattle.dbm_model.specs.Sheets.{sheets, IsSpelled}
-use Rattle.dbm_model.specs.Reading.{body_of}
-use Rattle.dbm_model.specs.Meaning.{said_by, flat_pairs}
-use Rattle.dbm_model.proofs.Frames.{kept}
-use Rattle.dbm_model.proofs.Flat.{numbers-sheets, flat_is_contents}
-use Rattle.dbm_model.proofs.Meaning.{pages_one_meaning}
+use Rattle.page_model.specs.Placement.{in_use}
+use Rattle.page_model.specs.Space.{is_page, times_of}
+use Rattle.page_model.specs.Sheets.{sheets, IsSpelled}
+use Rattle.page_model.specs.Reading.{body_of}
+use Rattle.page_model.specs.Meaning.{said_by, flat_pairs}
+use Rattle.page_model.proofs.Frames.{kept}
+use Rattle.page_model.proofs.Flat.{numbers-sheets, flat_is_contents}
+use Rattle.page_model.proofs.Meaning.{pages_one_meaning}
 use Rattle.page_io.specs.Store.{blank, file_of, nothing, page_of, overlaid, committed_with}
 use Rattle.page_io.specs.Counts.{length-pages_from}
 use Rattle.page_io.specs.Meaning.{ImagesHaveOneMeaning, CommitsStand}

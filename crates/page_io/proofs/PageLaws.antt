@@ -4,7 +4,7 @@ use Rattle.std.proofs.lemmas.List.{drop-drop, take-append-drop, drop_all, append
 use Rattle.std.proofs.lemmas.Bool.Decides.{nat_tests}
 use Rattle.sect_dev.specs.Device.{Image, with_sector}
 use Rattle.page_io.specs.Page.{part, page_at, IsOutside}
-use Rattle.dbm_model.specs.Bytes.{overwrite}
+use Rattle.page_model.specs.Bytes.{overwrite}
 
 -- so many sectors in a row
 abbrev pub joined : Image → ℕ → ℕ → List ℕ

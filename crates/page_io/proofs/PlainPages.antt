@@ -1,14 +1,14 @@
 -- Pages without slots: what writes leave, and their headers as texts and read back.
 use Rattle.std.proofs.Common.{◌≡◌, ℕ, ◌+◌, ◌*◌, ◌≤◌, ◌<◌, List, [], ◌∷◌, ◌++◌, length, replicate, get_or, set, take, drop, refl, sym, ap, ◌∙◌, arith}
 use Rattle.std.proofs.lemmas.List.{take_more, length-take-le, replicate-append-replicate}
-use Rattle.dbm_model.specs.Bytes.{u32_at, u32_bytes, overwrite}
-use Rattle.dbm_model.specs.Numbers.{IsNumber, numbers_bytes}
-use Rattle.dbm_model.specs.Reading.{next_of}
-use Rattle.dbm_model.specs.Spelling.{header}
-use Rattle.dbm_model.proofs.Texts.{IsBytes, IsText, text_then, byte_text, four_text, zeros_text, clear_again}
-use Rattle.dbm_model.proofs.Writes.{overwrite_then}
-use Rattle.dbm_model.proofs.Buckets.{four_is}
-use Rattle.dbm_model.proofs.Numbers.{length-numbers_bytes, numbers_bytes-append}
+use Rattle.page_model.specs.Bytes.{u32_at, u32_bytes, overwrite}
+use Rattle.page_model.specs.Numbers.{IsNumber, numbers_bytes}
+use Rattle.page_model.specs.Reading.{next_of}
+use Rattle.page_model.specs.Spelling.{header}
+use Rattle.page_model.proofs.Texts.{IsBytes, IsText, text_then, byte_text, four_text, zeros_text, clear_again}
+use Rattle.page_model.proofs.Writes.{overwrite_then}
+use Rattle.page_model.proofs.Buckets.{four_is}
+use Rattle.page_model.proofs.Numbers.{length-numbers_bytes, numbers_bytes-append}
 use Rattle.page_io.specs.Plain.{HasPlainHeader}
 
 -- one more number

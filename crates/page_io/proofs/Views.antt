@@ -2,8 +2,8 @@
 use Rattle.std.proofs.Common.{◌≡◌, ◌↔◌, inl, inr, ⊎_elim, ℕ, zero, suc, ◌+◌, ◌-◌, ◌<◌, ◌≤◌, List, length, true, false, Result, Ok, Err, OnOk, OnErr, refl, sym, ◌∙◌, ap, arith}
 use Rattle.std.proofs.lemmas.Bool.{cases_eq, cases_lt, false≢true}
 use Rattle.std.specs.Prelude.{◌^◌, slice_index_or, [], ◌∷◌}
-use Rattle.dbm_model.specs.Pages.{Other}
-use Rattle.dbm_model.specs.Reading.{body_of}
+use Rattle.page_model.specs.Pages.{Other}
+use Rattle.page_model.specs.Reading.{body_of}
 use Rattle.page_io.specs.Page.{own_number}
 use Rattle.page_io.specs.Store.{Pages, Settled, State, page_of, overlaid, put_page, has_page, are_in_order, AllBelow, IsKnown}
 use Rattle.page_io.specs.Kept.{KeepsPages}

@@ -1,7 +1,7 @@
 -- One change of one page.
 use Rattle.std.specs.Prelude.{◌≡◌, ◌⊎◌, ℕ, [], ◌∷◌, length, ◌+◌, Result, IfErr, IsErrOf}
 use Rattle.sect_dev.specs.Device.{MoreFaults}
-use Rattle.dbm_model.specs.Bytes.{overwrite}
+use Rattle.page_model.specs.Bytes.{overwrite}
 use Rattle.page_io.specs.Store.{Pages, State, page_of, committed_with}
 use Rattle.page_io.specs.declared.store.PageFault.{PageFault}
 use Rattle.page_io.specs.declared.store.PageFault.TheVariants.{Memory, Device, NoRoom, Damaged}

@@ -1,7 +1,7 @@
 -- A page, and the four sectors that it stands in.
 use Rattle.std.specs.Prelude.{◌≡◌, ◌⊎◌, ◌<◌, ◌≤◌, ℕ, ◌+◌, ◌*◌, List, ◌++◌, take, drop}
 use Rattle.sect_dev.specs.Device.{Image, Candidates}
-use Rattle.dbm_model.specs.Bytes.{u32_at}
+use Rattle.page_model.specs.Bytes.{u32_at}
 
 -- the number that a page has of itself
 unfoldable pub own_number : List ℕ → ℕ

@@ -1,6 +1,6 @@
 -- The header of a page without slots.
 use Rattle.std.specs.Prelude.{◌≡◌, ℕ, List}
-use Rattle.dbm_model.specs.Reading.{own_number, kind_of, IsClear}
+use Rattle.page_model.specs.Reading.{own_number, kind_of, IsClear}
 
 -- own number and kind, no slots, any next page
 pub record HasPlainHeader (bytes : List ℕ) (own kind : ℕ) : Type 0 where

@@ -1,7 +1,7 @@
 -- What a store shows page by page, and calls that stage pages and do no more.
 use Rattle.std.specs.Prelude.{◌≡◌, ◌↔◌, ◌<◌, ◌≤◌, ℕ, true, List}
-use Rattle.dbm_model.specs.Pages.{Body}
-use Rattle.dbm_model.specs.Reading.{body_of}
+use Rattle.page_model.specs.Pages.{Body}
+use Rattle.page_model.specs.Reading.{body_of}
 use Rattle.page_io.specs.Page.{own_number}
 use Rattle.page_io.specs.Store.{Settled, State, page_of, overlaid, put_page, has_page, AllBelow}
 use Rattle.page_io.specs.Kept.{KeepsPages}

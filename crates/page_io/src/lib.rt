@@ -9,8 +9,6 @@ mod plain;
 mod sectors;
 mod staged;
 mod store;
-#[cfg(test)]
-mod tests;
 
 pub use byte_change::replace_byte;
 pub use laws::{commits_stand, images_have_one_meaning};

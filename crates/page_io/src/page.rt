@@ -1,7 +1,7 @@
 //! A page and its big-endian fields.
 
 ghost use Rattle.std.specs.Prelude.{◌≡◌, ◌+◌, ◌*◌, ◌≤◌, ◌<◌, length, replicate, slice_index, slice_set};
-ghost use Rattle.dbm_model.specs.Bytes.{u16_at, u32_at, u16_bytes, u32_bytes, overwrite};
+ghost use Rattle.page_model.specs.Bytes.{u16_at, u32_at, u16_bytes, u32_bytes, overwrite};
 ghost use Rattle.page_io.specs.Page.{own_number, part};
 
 use byteorder::{BigEndian, ByteOrder};

@@ -1,10 +1,10 @@
 //! Pages without slots: a header, and numbers of four bytes behind it.
 
 ghost use Rattle.std.specs.Prelude.{◌+◌, ◌*◌, ◌≡◌, ◌<◌, ◌≤◌, ◌↔◌, ◌++◌, ℕ, IsTrue, length, replicate, slice_index};
-ghost use Rattle.dbm_model.specs.Bytes.{overwrite};
-ghost use Rattle.dbm_model.specs.Numbers.{numbers_bytes};
-ghost use Rattle.dbm_model.specs.Reading.{IsClear};
-ghost use Rattle.dbm_model.specs.Spelling.{header};
+ghost use Rattle.page_model.specs.Bytes.{overwrite};
+ghost use Rattle.page_model.specs.Numbers.{numbers_bytes};
+ghost use Rattle.page_model.specs.Reading.{IsClear};
+ghost use Rattle.page_model.specs.Spelling.{header};
 ghost use Rattle.page_io.specs.Plain.{HasPlainHeader};
 ghost use Rattle.page_io.specs.declared.page.TheConstants.{PAGE_LEN};
 

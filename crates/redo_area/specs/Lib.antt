@@ -1,5 +1,3 @@
-pub mod Header
-pub mod File
 pub mod Rests
 pub mod Opening
 pub mod Reading

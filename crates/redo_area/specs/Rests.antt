@@ -4,8 +4,8 @@ use Rattle.std.proofs.Common.{sym, ◌∙◌, ap, arith}
 use Rattle.sect_dev.specs.Device.{Image, Candidates, IsImageOf, IsStable}
 use Rattle.page_io.specs.Page.{page_at}
 use Rattle.page_io.specs.Store.{Pages, Settled, file_of, file_pages, overlaid}
-use Rattle.redo_area.specs.declared.header.Header.{Header}
-use Rattle.redo_area.specs.File.{settled, settled_by, IsAtRest}
+use Rattle.redo_commit.specs.declared.header.Header.{Header}
+use Rattle.redo_commit.specs.File.{settled, settled_by, IsAtRest}
 
 -- what a read gives settles to the committed pages, and a writable pager is at rest
 pub record Rests (writable : Bool) (capacity end : ℕ) (redo : Pages) (candidate : Candidates) (seen : Image) : Type 0 where

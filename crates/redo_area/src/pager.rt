@@ -1,15 +1,15 @@
 // A store of pages over a device.
-ghost use Rattle.std.specs.Prelude.{◌≡◌, ◌≢◌, ◌≤◌, ◌<◌, ◌+◌, ◌*◌, ◌/◌, ◌^◌, ◌↔◌, ℕ, true, false, length, [], IfOk, IfErr};
+ghost use Rattle.std.specs.Prelude.{◌≡◌, ◌≤◌, ◌<◌, ◌/◌, ◌^◌, ◌↔◌, ℕ, true, false, length, [], IfErr};
 ghost use Rattle.sect_dev.specs.Moments.{Reads};
 ghost use Rattle.page_io.specs.Page.{page_at};
 ghost use Rattle.page_io.specs.Store.{bytes_of, file_pages, overlaid, are_in_order};
-ghost use Rattle.redo_area.specs.File.{settled};
+ghost use Rattle.redo_commit.specs.File.{settled};
 ghost use Rattle.redo_area.specs.Rests.{RestsIfUsable, SettlesTo};
 
 mod opening;
 
-use crate::steps::commit_pages;
 use page_io::{Page, PageFault, PageStore, find_staged, is_among, put_staged, read_page};
+use redo_commit::commit_pages;
 use sect_dev::SectorDev;
 
 /// A store of pages over a device. A commit that a stop cuts short is whole or absent when the device

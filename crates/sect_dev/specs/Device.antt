@@ -1,5 +1,6 @@
 -- What the calls of a sector device do, and what a stop may leave.
-use Rattle.std.specs.Prelude.{◌≡◌, ◌⊎◌, ◌+◌, ◌-◌, ◌^◌, ◌≤◌, ℕ, min, ◌==◌, if◌then◌else◌, List, Result, OnErr}
+use Rattle.std.specs.Prelude.{◌≡◌, ◌⊎◌, ◌≤◌, ℕ, ◌==◌, if◌then◌else◌, List, Result, OnErr}
+pub use Rattle.dbm_model.specs.FaultCount.{MoreFaults}
 
 -- the content of each sector
 abbrev pub Image : Type 0
@@ -39,10 +40,6 @@ pub record Elapses {X : Type 0} (before now : ℕ) (past since : ℕ → X → T
   pub later : before ≤ now
   pub nothing_else : (t : ℕ) (x : X) → t ≤ before → since t x → past t x ⊎ may_leave x
   pub keeps : (t : ℕ) (x : X) → t ≤ before → past t x → since t x
-
--- the count of faults rose, unless it stands at its greatest value
-abbrev pub MoreFaults : ℕ → ℕ → Type 0
-MoreFaults before now = min (before + 1) (2 ^ 64 - 1) ≤ now
 
 -- an `Err` comes only with a fault
 pub record HasCause {T E : Type 0} (before now : ℕ) (result : Result T E) : Type 0 where

@@ -16,8 +16,3 @@ pub use file_dev::{FileDev, FileFault};
 pub use fuse::Fuse;
 pub use laws::premise_can_be_met;
 pub use mem::MemDev;
-
-#[cfg(test)]
-mod file_tests;
-#[cfg(test)]
-mod tests;

@@ -1,7 +1,7 @@
 -- Numbers of four bytes, by place.
 use Rattle.std.proofs.Common.{◌≡◌, ℕ, zero, suc, ◌+◌, ◌*◌, ◌<◌, List, [], ◌∷◌, ◌++◌, get_or, ap, ◌∙◌, arith, add-one}
-use Rattle.dbm_model.specs.Bytes.{u32_at}
-use Rattle.dbm_model.specs.Numbers.{numbers_at}
+use Rattle.page_model.specs.Bytes.{u32_at}
+use Rattle.page_model.specs.Numbers.{numbers_at}
 
 -- number i of those from `at` on
 pub get_or-numbers_at : (bytes : List ℕ) (count at i to : ℕ) → i < count → at + 4 * i ≡ to → get_or (numbers_at bytes at count) i 0 ≡ u32_at bytes to

@@ -3,7 +3,7 @@ use Rattle.std.proofs.Common.{◌≡◌, ℕ, zero, suc, ◌+◌, ◌<◌, ◌�
 use Rattle.std.specs.List.{AllByRecursion}
 use Rattle.std.proofs.lemmas.Bool.{cases_lt}
 use Rattle.std.proofs.lemmas.Bool.Decides.{nat_tests}
-use Rattle.dbm_model.specs.Reading.{in_front, trimmed}
+use Rattle.page_model.specs.Reading.{in_front, trimmed}
 use Rattle.seg_table.specs.Heads.{with_head}
 
 -- `with_head` by recursion

@@ -4,13 +4,13 @@ use Rattle.std.proofs.lemmas.Bool.Decides.{nat_tests}
 use Rattle.std.proofs.lemmas.List.{length-append}
 use Rattle.std.proofs.lemmas.List.Elements.{All-append, All-from_recursion}
 use Rattle.std.proofs.Math.Seq.{get_or-append_seam, take-append_seam, take-length}
-use Rattle.dbm_model.specs.Numbers.{IsNumber}
-use Rattle.dbm_model.specs.Pages as model
-use Rattle.dbm_model.specs.Pages.{Body, SegmentPage}
-use Rattle.dbm_model.specs.Sheets.{segment_sheets, AreRead}
-use Rattle.dbm_model.specs.Space.{Space, next_page, after_take, is_page, times_of}
-use Rattle.dbm_model.proofs.Frames.{at_most_one}
-use Rattle.dbm_model.proofs.Spaces.{times_head}
+use Rattle.page_model.specs.Numbers.{IsNumber}
+use Rattle.page_model.specs.Pages as model
+use Rattle.page_model.specs.Pages.{Body, SegmentPage}
+use Rattle.page_model.specs.Sheets.{segment_sheets, AreRead}
+use Rattle.page_model.specs.Space.{Space, next_page, after_take, is_page, times_of}
+use Rattle.page_model.proofs.Frames.{at_most_one}
+use Rattle.page_model.proofs.Spaces.{times_head}
 use Rattle.free_pages.specs.declared.free_state.FreeState.{FreeState}
 use Rattle.free_pages.specs.FreeList.{state_of, IsApart}
 use Rattle.seg_table.specs.Heads.{with_head, CanSet, IsHeadSet, AddsSegment}

@@ -5,18 +5,18 @@ use Rattle.std.specs.Str.{bytes_eq}
 use Rattle.std.proofs.lemmas.Bool.Decides.{nat_tests}
 use Rattle.std.proofs.lemmas.List.{length-append, replicate-append-replicate}
 use Rattle.std.proofs.lemmas.List.Elements.{recursion_from_All, All-from_recursion}
-use Rattle.dbm_model.specs.Bytes.{u32_at, u32_bytes, overwrite}
-use Rattle.dbm_model.specs.Numbers.{IsNumber, numbers_bytes, numbers_at}
-use Rattle.dbm_model.specs.Pages.{SegmentPage, Other}
-use Rattle.dbm_model.specs.Reading.{in_front, trimmed, heads_on, read_as, kind_of, said, body_of}
-use Rattle.dbm_model.specs.Spelling.{header, segment_spelling, spelling_of}
-use Rattle.dbm_model.proofs.Bodies.{body_is, body_spelled}
-use Rattle.dbm_model.proofs.Chains.{AllByRecursion-append}
-use Rattle.dbm_model.proofs.Metas.{heads_again}
-use Rattle.dbm_model.proofs.Numbers.{numbers_small}
-use Rattle.dbm_model.proofs.Texts.{IsBytes}
-use Rattle.dbm_model.proofs.Writes.{overwrite_mid}
-use Rattle.dbm_model.specs.Valid.{MaySay}
+use Rattle.page_model.specs.Bytes.{u32_at, u32_bytes, overwrite}
+use Rattle.page_model.specs.Numbers.{IsNumber, numbers_bytes, numbers_at}
+use Rattle.page_model.specs.Pages.{SegmentPage, Other}
+use Rattle.page_model.specs.Reading.{in_front, trimmed, heads_on, read_as, kind_of, said, body_of}
+use Rattle.page_model.specs.Spelling.{header, segment_spelling, spelling_of}
+use Rattle.page_model.proofs.Bodies.{body_is, body_spelled}
+use Rattle.page_model.proofs.Chains.{AllByRecursion-append}
+use Rattle.page_model.proofs.Metas.{heads_again}
+use Rattle.page_model.proofs.Numbers.{numbers_small}
+use Rattle.page_model.proofs.Texts.{IsBytes}
+use Rattle.page_model.proofs.Writes.{overwrite_mid}
+use Rattle.page_model.specs.Valid.{MaySay}
 use Rattle.page_io.specs.Page.{own_number}
 use Rattle.page_io.proofs.Fields.{own_of_overwrite}
 use Rattle.free_pages.proofs.FreePageTexts.{own_again}

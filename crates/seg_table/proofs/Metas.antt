@@ -1,18 +1,18 @@
 -- The meta page: what is read by places is what is spelled.
 use Rattle.std.proofs.Common.{◌≡◌, ◌↔◌, ℕ, ◌+◌, ◌-◌, ◌*◌, ◌^◌, ◌<◌, ◌≤◌, List, [], ◌∷◌, ◌++◌, length, replicate, drop, refl, sym, ap, subst, ◌∙◌, arith}
 use Rattle.std.proofs.lemmas.List.{append-nil, length-replicate, replicate-append-replicate}
-use Rattle.dbm_model.specs.Bytes.{u32_at, overwrite}
-use Rattle.dbm_model.specs.Numbers.{numbers_bytes, numbers_at}
-use Rattle.dbm_model.specs.Pages as model
-use Rattle.dbm_model.specs.Pages.{MetaPage}
-use Rattle.dbm_model.specs.Reading.{body_of, fields_of}
-use Rattle.dbm_model.specs.Spelling.{header, counts, meta_spelling}
-use Rattle.dbm_model.specs.Valid.{IsMeta}
-use Rattle.dbm_model.proofs.Bodies.{body_is}
-use Rattle.dbm_model.proofs.Metas.{level_small, few_segments, counts_again, fields_again}
-use Rattle.dbm_model.proofs.Numbers.{length-numbers_bytes, length-numbers_at, numbers_text}
-use Rattle.dbm_model.proofs.Texts.{IsBytes, IsText, text_then, zeros_text, skip, clear_again, whole}
-use Rattle.dbm_model.proofs.Writes.{overwrite_mid}
+use Rattle.page_model.specs.Bytes.{u32_at, overwrite}
+use Rattle.page_model.specs.Numbers.{numbers_bytes, numbers_at}
+use Rattle.page_model.specs.Pages as model
+use Rattle.page_model.specs.Pages.{MetaPage}
+use Rattle.page_model.specs.Reading.{body_of, fields_of}
+use Rattle.page_model.specs.Spelling.{header, counts, meta_spelling}
+use Rattle.page_model.specs.Valid.{IsMeta}
+use Rattle.page_model.proofs.Bodies.{body_is}
+use Rattle.page_model.proofs.Metas.{level_small, few_segments, counts_again, fields_again}
+use Rattle.page_model.proofs.Numbers.{length-numbers_bytes, length-numbers_at, numbers_text}
+use Rattle.page_model.proofs.Texts.{IsBytes, IsText, text_then, zeros_text, skip, clear_again, whole}
+use Rattle.page_model.proofs.Writes.{overwrite_mid}
 use Rattle.page_io.proofs.PlainPages.{plain_text, plain_again}
 use Rattle.seg_table.specs.MetaPages.{HasMetaHeader, IsLaidOut}
 

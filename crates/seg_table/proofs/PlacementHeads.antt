@@ -6,14 +6,14 @@ use Rattle.std.proofs.lemmas.Bool.Decides.{nat_tests}
 use Rattle.std.proofs.lemmas.List.{length-map, get_or-map}
 use Rattle.std.proofs.lemmas.List.Elements.{All-from_recursion}
 use Rattle.std.proofs.lemmas.List.Sums.{sum_by-append, sum_by-cons}
-use Rattle.dbm_model.specs.Numbers.{IsNumber}
-use Rattle.dbm_model.specs.Pages.{Body, Sheet}
-use Rattle.dbm_model.specs.Chain.{Chain, numbers}
-use Rattle.dbm_model.specs.Space.{is_page, times_of}
-use Rattle.dbm_model.specs.Placement.{Placement, IsSound}
-use Rattle.dbm_model.specs.Sheets.{first_of, heads_of, chain_sheets, free_sheets, segment_sheets, lower_sheets, AreRead}
-use Rattle.dbm_model.proofs.Chains.{AllByRecursion-left}
-use Rattle.dbm_model.proofs.Spaces.{times_head, times_tail}
+use Rattle.page_model.specs.Numbers.{IsNumber}
+use Rattle.page_model.specs.Pages.{Body, Sheet}
+use Rattle.page_model.specs.Chain.{Chain, numbers}
+use Rattle.page_model.specs.Space.{is_page, times_of}
+use Rattle.page_model.specs.Placement.{Placement, IsSound}
+use Rattle.page_model.specs.Sheets.{first_of, heads_of, chain_sheets, free_sheets, segment_sheets, lower_sheets, AreRead}
+use Rattle.page_model.proofs.Chains.{AllByRecursion-left}
+use Rattle.page_model.proofs.Spaces.{times_head, times_tail}
 use Rattle.seg_table.specs.Placements.{HasHeads, PlacementsHaveHeads}
 
 -- a page of the file is from 1 to end - 1

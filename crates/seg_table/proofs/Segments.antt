@@ -2,11 +2,11 @@
 use Rattle.std.proofs.Common.{◌≡◌, ℕ, ◌+◌, ◌-◌, ◌*◌, ◌≤◌, List, [], ◌++◌, length, replicate, drop, refl, sym, ap, subst, ◌∙◌, arith}
 use Rattle.std.proofs.lemmas.List.{append-nil}
 use Rattle.std.proofs.lemmas.List.Elements.{All-from_recursion}
-use Rattle.dbm_model.specs.Numbers.{IsNumber, numbers_bytes, numbers_at}
-use Rattle.dbm_model.specs.Reading.{next_of, IsClear}
-use Rattle.dbm_model.specs.Spelling.{header, segment_spelling}
-use Rattle.dbm_model.proofs.Numbers.{length-numbers_bytes, length-numbers_at, numbers_text, numbers_small}
-use Rattle.dbm_model.proofs.Texts.{IsBytes, IsText, text_then, zeros_text, skip, clear_again, whole}
+use Rattle.page_model.specs.Numbers.{IsNumber, numbers_bytes, numbers_at}
+use Rattle.page_model.specs.Reading.{next_of, IsClear}
+use Rattle.page_model.specs.Spelling.{header, segment_spelling}
+use Rattle.page_model.proofs.Numbers.{length-numbers_bytes, length-numbers_at, numbers_text, numbers_small}
+use Rattle.page_model.proofs.Texts.{IsBytes, IsText, text_then, zeros_text, skip, clear_again, whole}
 use Rattle.page_io.specs.Plain.{HasPlainHeader}
 use Rattle.page_io.proofs.PlainPages.{plain_text, plain_again}
 use Rattle.seg_table.specs.Segments.{IsSegment}

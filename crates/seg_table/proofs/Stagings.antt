@@ -1,8 +1,8 @@
 -- A page is read or taken, and then one page is staged.
 use Rattle.std.proofs.Common.{◌≡◌, inl, inr, ℕ, zero, suc, ◌+◌, ◌≤◌, ◌^◌, true, List, length, Result, Ok, Err, OnOk, OnErr, sym, ap, subst, ◌∙◌, arith}
 use Rattle.std.proofs.lemmas.Bool.{false≢true}
-use Rattle.dbm_model.specs.Pages.{Body}
-use Rattle.dbm_model.specs.Reading.{body_of}
+use Rattle.page_model.specs.Pages.{Body}
+use Rattle.page_model.specs.Reading.{body_of}
 use Rattle.page_io.specs.Page.{own_number}
 use Rattle.page_io.specs.Store.{State, put_page, are_in_order, IsKnown}
 use Rattle.page_io.specs.Views.{said, StagesOnly, ReadsOnly, MayEnd}

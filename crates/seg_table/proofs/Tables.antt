@@ -1,10 +1,10 @@
 -- Segment pages as a map from bucket to head.
 use Rattle.std.proofs.Common.{◌≡◌, ℕ, zero, suc, ◌+◌, ◌-◌, ◌*◌, ◌/◌, ◌%◌, ◌<◌, ◌≤◌, List, [], ◌∷◌, ◌++◌, length, get_or, take, drop, min, refl, sym, ap, subst, ◌∙◌, arith}
 use Rattle.std.proofs.lemmas.List.{drop-drop, get_or-take, get_or-drop, take-append-le, drop-append-le, length-take, length-drop}
-use Rattle.dbm_model.specs.Pages.{Body, SegmentPage}
-use Rattle.dbm_model.specs.Sheets.{segment_sheets, AreRead}
-use Rattle.dbm_model.specs.Space.{times_of}
-use Rattle.dbm_model.proofs.Spaces.{times_head, times_tail}
+use Rattle.page_model.specs.Pages.{Body, SegmentPage}
+use Rattle.page_model.specs.Sheets.{segment_sheets, AreRead}
+use Rattle.page_model.specs.Space.{times_of}
+use Rattle.page_model.proofs.Spaces.{times_head, times_tail}
 use Rattle.seg_table.proofs.HeadLists.{put, take-put, drop-put, take-put_behind, drop-put_behind}
 
 -- the heads of segment s

@@ -1,11 +1,11 @@
 -- The heads of the buckets, in order, as a map from bucket to page.
 use Rattle.std.specs.Prelude.{◌≡◌, ◌≢◌, ℕ, ◌+◌, ◌*◌, ◌/◌, ◌<◌, ◌≤◌, ◌==◌, max, Bool, List, [], ◌∷◌, ◌++◌, length, take, slice_set, slice_index, nat_lt, if◌then◌else◌, All}
-use Rattle.dbm_model.specs.Numbers.{IsNumber}
-use Rattle.dbm_model.specs.Pages.{Body, SegmentPage}
-use Rattle.dbm_model.specs.Pages as model
-use Rattle.dbm_model.specs.Valid.{buckets}
-use Rattle.dbm_model.specs.Space.{Space, next_page, after_take}
-use Rattle.dbm_model.specs.Sheets.{segment_sheets, AreRead}
+use Rattle.page_model.specs.Numbers.{IsNumber}
+use Rattle.page_model.specs.Pages.{Body, SegmentPage}
+use Rattle.page_model.specs.Pages as model
+use Rattle.page_model.specs.Valid.{buckets}
+use Rattle.page_model.specs.Space.{Space, next_page, after_take}
+use Rattle.page_model.specs.Sheets.{segment_sheets, AreRead}
 use Rattle.free_pages.specs.declared.free_state.FreeState.{FreeState}
 use Rattle.free_pages.specs.FreeList.{state_of, IsFreeList, IsApart}
 

@@ -1,8 +1,8 @@
 -- What the code's `Meta` says, and the header of the meta page.
 use Rattle.std.specs.Prelude.{◌≡◌, ◌≤◌, ℕ, ◌+◌, ◌*◌, List}
-use Rattle.dbm_model.specs.Bytes.{u32_at}
-use Rattle.dbm_model.specs.Pages as model
-use Rattle.dbm_model.specs.Reading.{next_of, IsClear}
+use Rattle.page_model.specs.Bytes.{u32_at}
+use Rattle.page_model.specs.Pages as model
+use Rattle.page_model.specs.Reading.{next_of, IsClear}
 use Rattle.lin_addr.specs.Shapes.{CanBe}
 use Rattle.page_io.specs.Plain.{HasPlainHeader}
 use Rattle.seg_table.specs.declared.meta.Meta.{Meta}

@@ -1,9 +1,9 @@
 -- What the table means for a placement: the segment pages say the head page of each bucket.
 use Rattle.std.specs.Prelude.{◌≡◌, ℕ, ◌*◌, ◌^◌, ◌≤◌, ◌<◌, length, slice_index}
-use Rattle.dbm_model.specs.Pages.{Body}
-use Rattle.dbm_model.specs.Chain.{numbers}
-use Rattle.dbm_model.specs.Placement.{Placement, chain_at, IsSound}
-use Rattle.dbm_model.specs.Sheets.{first_of, heads_of, meta_of, lower_sheets, AreRead}
+use Rattle.page_model.specs.Pages.{Body}
+use Rattle.page_model.specs.Chain.{numbers}
+use Rattle.page_model.specs.Placement.{Placement, chain_at, IsSound}
+use Rattle.page_model.specs.Sheets.{first_of, heads_of, meta_of, lower_sheets, AreRead}
 use Rattle.seg_table.specs.Heads.{AreHeads}
 
 -- the heads that are read are those of the chains, and each stands in a segment that is there

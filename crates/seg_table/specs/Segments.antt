@@ -1,11 +1,11 @@
 -- Segment pages.
 use Rattle.std.specs.Prelude.{◌≡◌, ℕ, ◌-◌, ◌*◌, List, length, min, All}
-use Rattle.dbm_model.specs.Numbers.{IsNumber}
-use Rattle.dbm_model.specs.Pages as model
-use Rattle.dbm_model.specs.Pages.{SegmentPage}
-use Rattle.dbm_model.specs.Reading.{heads_on}
-use Rattle.dbm_model.specs.Spelling.{segment_spelling}
-use Rattle.dbm_model.specs.Valid.{buckets, MaySay}
+use Rattle.page_model.specs.Numbers.{IsNumber}
+use Rattle.page_model.specs.Pages as model
+use Rattle.page_model.specs.Pages.{SegmentPage}
+use Rattle.page_model.specs.Reading.{heads_on}
+use Rattle.page_model.specs.Spelling.{segment_spelling}
+use Rattle.page_model.specs.Valid.{buckets, MaySay}
 
 -- how many buckets of segment s exist
 abbrev pub heads_in : model.Meta → ℕ → ℕ

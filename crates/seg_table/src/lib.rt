@@ -5,8 +5,6 @@ mod laws;
 mod meta;
 mod segment;
 mod table;
-#[cfg(test)]
-mod tests;
 
 pub use laws::placements_have_heads;
 pub use meta::{Meta, MetaFault, read_meta, write_meta};

@@ -1,13 +1,13 @@
 //! The meta page: page 1.
 
 ghost use Rattle.std.specs.Prelude.{◌≡◌, ◌≢◌, ◌↔◌, ◌<◌, ◌≤◌, ◌∷◌, [], All, IsTrue, IsSome, IfSome, IfOk, IsOkAnd, Err};
-ghost use Rattle.dbm_model.specs.Bytes.{u32_at};
-ghost use Rattle.dbm_model.specs.Numbers.{IsNumber, numbers_at};
-ghost use Rattle.dbm_model.specs.Pages as model;
-ghost use Rattle.dbm_model.specs.Pages.{MetaPage};
-ghost use Rattle.dbm_model.specs.Reading.{own_number, body_of, fields_of};
-ghost use Rattle.dbm_model.specs.Spelling.{meta_spelling};
-ghost use Rattle.dbm_model.specs.Valid.{IsMeta};
+ghost use Rattle.page_model.specs.Bytes.{u32_at};
+ghost use Rattle.page_model.specs.Numbers.{IsNumber, numbers_at};
+ghost use Rattle.page_model.specs.Pages as model;
+ghost use Rattle.page_model.specs.Pages.{MetaPage};
+ghost use Rattle.page_model.specs.Reading.{own_number, body_of, fields_of};
+ghost use Rattle.page_model.specs.Spelling.{meta_spelling};
+ghost use Rattle.page_model.specs.Valid.{IsMeta};
 ghost use Rattle.seg_table.specs.MetaPages.{says, HasMetaHeader, IsLaidOut};
 ghost use Rattle.seg_table.specs.declared.meta.MetaFault.TheVariants.{Version};
 

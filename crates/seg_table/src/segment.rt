@@ -1,8 +1,8 @@
 //! Segment pages: the heads of 508 buckets each.
 
 ghost use Rattle.std.specs.Prelude.{◌≡◌, ◌<◌, ◌↔◌, ◌∷◌, [], IsTrue, length, slice_index};
-ghost use Rattle.dbm_model.specs.Pages.{SegmentPage};
-ghost use Rattle.dbm_model.specs.Reading.{body_of};
+ghost use Rattle.page_model.specs.Pages.{SegmentPage};
+ghost use Rattle.page_model.specs.Reading.{body_of};
 ghost use Rattle.page_io.specs.Page.{own_number};
 ghost use Rattle.seg_table.specs.MetaPages.{says};
 ghost use Rattle.seg_table.specs.Segments.{heads_in, IsSegment};

@@ -1,7 +1,7 @@
 //! The table of segments: a map from bucket to head page.
 
 ghost use Rattle.std.specs.Prelude.{◌≡◌, ◌<◌, ◌≤◌, ◌+◌, ◌/◌, ◌%◌, ℕ, List, IfOk, OnOk, OnErr, IsErrOf, length, slice_index};
-ghost use Rattle.dbm_model.specs.Space.{Space};
+ghost use Rattle.page_model.specs.Space.{Space};
 ghost use Rattle.page_io.specs.Answers.{HasDeviceCause};
 ghost use Rattle.page_io.specs.Store.{IsKnown};
 ghost use Rattle.page_io.specs.Views.{shown, said, StagesOnly, ReadsOnly, MayEnd};

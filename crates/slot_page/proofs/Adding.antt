@@ -2,16 +2,16 @@
 use Rattle.std.proofs.Common.{◌≡◌, ◌≢◌, ℕ, ◌+◌, ◌-◌, ◌*◌, ◌≤◌, ◌<◌, ◌^◌, List, [], ◌∷◌, ◌++◌, length, replicate, refl, sym, ap, subst, ◌∙◌, append_assoc, arith}
 use Rattle.std.proofs.lemmas.List.{append-nil, length-append, length-replicate, replicate-append-replicate}
 use Rattle.std.proofs.lemmas.List.Quantifiers.{all_pairs_push}
-use Rattle.dbm_model.specs.Bytes.{u16_bytes, u32_bytes, overwrite}
+use Rattle.page_model.specs.Bytes.{u16_bytes, u32_bytes, overwrite}
 use Rattle.dbm_model.specs.Pairs.{Pair}
-use Rattle.dbm_model.specs.Pages.{Bucket}
-use Rattle.dbm_model.specs.Slots.{Slot, size, total_size, slot_ending, slots_ending, slot_bytes, slots_bytes, records, taken, room_of}
-use Rattle.dbm_model.specs.Spelling.{header, bucket_header, bucket_spelling}
-use Rattle.dbm_model.specs.Reading.{low, bucket_of}
-use Rattle.dbm_model.specs.Valid.{IsBucket}
+use Rattle.page_model.specs.Pages.{Bucket}
+use Rattle.page_model.specs.Slots.{Slot, size, total_size, slot_ending, slots_ending, slot_bytes, slots_bytes, records, taken, room_of}
+use Rattle.page_model.specs.Spelling.{header, bucket_header, bucket_spelling}
+use Rattle.page_model.specs.Reading.{low, bucket_of}
+use Rattle.page_model.specs.Valid.{IsBucket}
 use Rattle.slot_page.specs.Contents.{IsBucketPage, pairs_of, with_pairs, with_next, IsAbsent, Holds}
-use Rattle.dbm_model.proofs.Writes.{overwrite_mid}
-use Rattle.dbm_model.proofs.Buckets.{bucket_again, length-slots_ending, length-slots_bytes}
+use Rattle.page_model.proofs.Writes.{overwrite_mid}
+use Rattle.page_model.proofs.Buckets.{bucket_again, length-slots_ending, length-slots_bytes}
 
 -- the bytes of one more record
 total_size-push : (ps : List Pair) (p : Pair) → total_size (ps ++ p ∷ []) ≡ total_size ps + size p

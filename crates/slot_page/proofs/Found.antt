@@ -3,16 +3,16 @@ use Rattle.std.proofs.Common.{◌≡◌, ◌≢◌, ℕ, zero, suc, ◌+◌, ◌
 use Rattle.std.specs.Prelude.{AllPairs}
 use Rattle.std.proofs.lemmas.List.{append-nil, length-drop, length-take-le, length-map, get_or-map, drop_all}
 use Rattle.std.proofs.lemmas.List.FromFn.{length-map-range_with_len}
-use Rattle.dbm_model.specs.Bytes.{u16_at, u32_at, u16_bytes, u32_bytes}
+use Rattle.page_model.specs.Bytes.{u16_at, u32_at, u16_bytes, u32_bytes}
 use Rattle.dbm_model.specs.Pairs.{Pair}
-use Rattle.dbm_model.specs.Slots.{Slot, room_of, size, total_size, slot_ending, slots_ending, slot_bytes, slots_bytes, records, taken}
-use Rattle.dbm_model.specs.Spelling.{bucket_header, bucket_spelling}
-use Rattle.dbm_model.specs.Reading.{slot_count, low, slot_of, slots_from, key_of, content_of, pair_of, pairs_from, bucket_of}
-use Rattle.dbm_model.specs.Valid.{IsBucket}
+use Rattle.page_model.specs.Slots.{Slot, room_of, size, total_size, slot_ending, slots_ending, slot_bytes, slots_bytes, records, taken}
+use Rattle.page_model.specs.Spelling.{bucket_header, bucket_spelling}
+use Rattle.page_model.specs.Reading.{slot_count, low, slot_of, slots_from, key_of, content_of, pair_of, pairs_from, bucket_of}
+use Rattle.page_model.specs.Valid.{IsBucket}
 use Rattle.slot_page.specs.Layout.{end_of, AreInPlace, IsLaidOut}
 use Rattle.slot_page.proofs.Held.{SpelledDistinct, distinct_spelled}
 use Rattle.slot_page.proofs.Layouts.{end_of-more, end_le, ends_inside}
-use Rattle.dbm_model.proofs.Texts.{IsBytes, IsText, text_then, byte_text, two_text, four_text, zeros_text, part_text}
+use Rattle.page_model.proofs.Texts.{IsBytes, IsText, text_then, byte_text, two_text, four_text, zeros_text, part_text}
 
 -- the record of slot i lies in the page
 length-pair : (bytes : List ℕ) (s : Slot) → s.offset + s.key_len + s.content_len ≤ length bytes → (length (key_of bytes s) ≡ s.key_len) × (length (content_of bytes s) ≡ s.content_len)

@@ -3,8 +3,8 @@ use Rattle.std.proofs.Common.{◌≡◌, ◌≢◌, ℕ, ◌<◌, List, [], ◌�
 use Rattle.std.specs.Prelude.{AllPairs}
 use Rattle.std.specs.List.{range_with_len}
 use Rattle.std.proofs.lemmas.List.{length-map, get_or-map}
-use Rattle.dbm_model.specs.Slots.{Slot as Spelled}
-use Rattle.dbm_model.specs.Reading.{slot_of, slots_from, key_of}
+use Rattle.page_model.specs.Slots.{Slot as Spelled}
+use Rattle.page_model.specs.Reading.{slot_of, slots_from, key_of}
 use Rattle.slot_page.specs.declared.slot.Slot.{Slot}
 use Rattle.slot_page.specs.Slots.{as_spelled, slot_at, first_slots}
 use Rattle.slot_page.specs.Layout.{HaveDistinctKeys}

@@ -4,12 +4,12 @@ use Rattle.std.specs.Prelude.{AllPairs}
 use Rattle.std.proofs.lemmas.Bool.{cases_eq}
 use Rattle.std.proofs.lemmas.List.{length-map, get_or-map}
 use Rattle.dbm_model.specs.Pairs.{Pair}
-use Rattle.dbm_model.specs.Pages.{Bucket}
-use Rattle.dbm_model.specs.Slots.{Slot, size, total_size, slot_ending, slots_ending}
-use Rattle.dbm_model.specs.Spelling.{bucket_spelling}
-use Rattle.dbm_model.specs.Reading.{slot_count, low, slot_of, slots_from, pair_of}
-use Rattle.dbm_model.specs.Valid.{IsBucket}
-use Rattle.dbm_model.proofs.Buckets.{stands}
+use Rattle.page_model.specs.Pages.{Bucket}
+use Rattle.page_model.specs.Slots.{Slot, size, total_size, slot_ending, slots_ending}
+use Rattle.page_model.specs.Spelling.{bucket_spelling}
+use Rattle.page_model.specs.Reading.{slot_count, low, slot_of, slots_from, pair_of}
+use Rattle.page_model.specs.Valid.{IsBucket}
+use Rattle.page_model.proofs.Buckets.{stands}
 use Rattle.slot_page.specs.Layout.{end_of, AreInPlace, HaveDistinctKeys, IsLaidOut}
 use Rattle.slot_page.specs.Slots.{first_slots}
 use Rattle.slot_page.proofs.Held.{SpelledDistinct, distinct_held}

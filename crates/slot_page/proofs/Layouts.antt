@@ -4,7 +4,7 @@ use Rattle.std.proofs.lemmas.List.FromFn.{map-range_with_len_more, length-map-ra
 use Rattle.std.specs.Bool.{Decides}
 use Rattle.std.proofs.lemmas.Bool.{cases_lt}
 use Rattle.std.proofs.lemmas.List.{get_or_default}
-use Rattle.dbm_model.specs.Reading.{slot_of, slot_count, low, key_of}
+use Rattle.page_model.specs.Reading.{slot_of, slot_count, low, key_of}
 use Rattle.slot_page.specs.declared.slot.Slot.{Slot}
 use Rattle.slot_page.specs.Slots.{as_spelled, slot_at, first_slots}
 use Rattle.slot_page.specs.Layout.{end_of, AreInPlace, IsLaidOut}

@@ -6,17 +6,17 @@ use Rattle.std.specs.List.{HoldsAt}
 use Rattle.std.proofs.lemmas.List.{get_or-map}
 use Rattle.std.proofs.lemmas.List.FromFn.{length-map-range_with_len, get_or-map-range_with_len}
 use Rattle.dbm_model.specs.Pairs.{Pair}
-use Rattle.dbm_model.specs.Pages.{Bucket, HeadPage, OverflowPage, bucket}
-use Rattle.dbm_model.specs.Slots.{Slot, total_size, taken, slots_ending, slots_bytes, records, room_of}
-use Rattle.dbm_model.specs.Spelling.{bucket_spelling}
-use Rattle.dbm_model.specs.Valid.{IsBucket}
-use Rattle.dbm_model.specs.Reading.{own_number, kind_of, next_of, slot_count, low, key_of, content_of, slot_of, slots_from, pair_of, bucket_of, body_of}
+use Rattle.page_model.specs.Pages.{Bucket, HeadPage, OverflowPage, bucket}
+use Rattle.page_model.specs.Slots.{Slot, total_size, taken, slots_ending, slots_bytes, records, room_of}
+use Rattle.page_model.specs.Spelling.{bucket_spelling}
+use Rattle.page_model.specs.Valid.{IsBucket}
+use Rattle.page_model.specs.Reading.{own_number, kind_of, next_of, slot_count, low, key_of, content_of, slot_of, slots_from, pair_of, bucket_of, body_of}
 use Rattle.slot_page.specs.Layout.{IsLaidOut}
 use Rattle.slot_page.specs.Contents.{IsBucketPage, Holds, KeepsHeader, HasKeyAt, pairs_of, with_pairs, with_next}
-use Rattle.dbm_model.proofs.Buckets.{length-bucket_spelling, header_again, bucket_again}
-use Rattle.dbm_model.proofs.Bodies.{body_is}
+use Rattle.page_model.proofs.Buckets.{length-bucket_spelling, header_again, bucket_again}
+use Rattle.page_model.proofs.Bodies.{body_is}
 use Rattle.slot_page.proofs.Layouts.{ends_inside}
-use Rattle.dbm_model.proofs.Texts.{IsBytes}
+use Rattle.page_model.proofs.Texts.{IsBytes}
 use Rattle.slot_page.proofs.Found.{spelled_if_laid_out, total_is, table_is, length-pairs_from}
 use Rattle.slot_page.proofs.Laid.{laid_out_if_spelled}
 

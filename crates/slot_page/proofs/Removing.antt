@@ -6,15 +6,15 @@ use Rattle.std.proofs.lemmas.Bool.{cases_lt}
 use Rattle.std.proofs.lemmas.List.{append-nil, length-append, length-take, take-append-drop, take_more, take_all, get_or-take, get_or_default, replicate-append-replicate}
 use Rattle.std.proofs.lemmas.List.Edits.{length-remove, get_or-remove_below, get_or-remove_above}
 use Rattle.std.proofs.lemmas.List.Quantifiers.{all_pairs_remove}
-use Rattle.dbm_model.specs.Bytes.{u16_bytes, u32_bytes, u32_at, overwrite}
+use Rattle.page_model.specs.Bytes.{u16_bytes, u32_bytes, u32_at, overwrite}
 use Rattle.dbm_model.specs.Pairs.{Pair}
-use Rattle.dbm_model.specs.Pages.{Bucket}
-use Rattle.dbm_model.specs.Slots.{size, total_size, taken, room_of}
-use Rattle.dbm_model.specs.Spelling.{header, bucket_spelling}
-use Rattle.dbm_model.specs.Reading.{bucket_of}
-use Rattle.dbm_model.specs.Valid.{IsBucket}
+use Rattle.page_model.specs.Pages.{Bucket}
+use Rattle.page_model.specs.Slots.{size, total_size, taken, room_of}
+use Rattle.page_model.specs.Spelling.{header, bucket_spelling}
+use Rattle.page_model.specs.Reading.{bucket_of}
+use Rattle.page_model.specs.Valid.{IsBucket}
 use Rattle.slot_page.specs.Contents.{IsBucketPage, pairs_of, with_pairs, IsAbsent, Holds}
-use Rattle.dbm_model.proofs.Buckets.{bucket_again}
+use Rattle.page_model.proofs.Buckets.{bucket_again}
 
 -- the four writes of an empty page
 blank_set : (own kind next : ℕ) (body : List ℕ) → overwrite (overwrite (set (overwrite (replicate 16 0 ++ body) 0 (u32_bytes own)) 4 kind) 8 (u32_bytes next)) 12 (u16_bytes 2048) ≡ header own kind 0 next 2048 ++ body

@@ -2,10 +2,10 @@
 use Rattle.std.specs.Prelude.{◌≡◌, ◌≢◌, ℕ, ◌<◌, List, length, All}
 use Rattle.std.specs.List.{HoldsAt}
 use Rattle.dbm_model.specs.Pairs.{Key, Pair}
-use Rattle.dbm_model.specs.Pages.{Bucket}
-use Rattle.dbm_model.specs.Spelling.{bucket_spelling}
-use Rattle.dbm_model.specs.Reading.{own_number, kind_of, next_of, bucket_of}
-use Rattle.dbm_model.specs.Valid.{IsBucket}
+use Rattle.page_model.specs.Pages.{Bucket}
+use Rattle.page_model.specs.Spelling.{bucket_spelling}
+use Rattle.page_model.specs.Reading.{own_number, kind_of, next_of, bucket_of}
+use Rattle.page_model.specs.Valid.{IsBucket}
 
 -- the bytes are the one spelling of a page of pairs
 pub record IsBucketPage (bytes : List ℕ) : Type 0 where

@@ -1,6 +1,6 @@
 -- The bytes of a bucket page, test by test.
 use Rattle.std.specs.Prelude.{◌≡◌, ◌≢◌, ◌⊎◌, ℕ, zero, suc, ◌+◌, ◌*◌, ◌<◌, ◌≤◌, List, AllPairs, slice_index}
-use Rattle.dbm_model.specs.Reading.{kind_of, slot_count, low, slot_of, key_of, IsClear}
+use Rattle.page_model.specs.Reading.{kind_of, slot_count, low, slot_of, key_of, IsClear}
 use Rattle.slot_page.specs.declared.slot.Slot.{Slot}
 use Rattle.slot_page.specs.Slots.{as_spelled, first_slots}
 

@@ -1,8 +1,8 @@
 -- The slots of a page, as the code has them.
 use Rattle.std.specs.Prelude.{ℕ, ◌+◌, ◌*◌, List, map}
 use Rattle.std.specs.List.{range_with_len}
-use Rattle.dbm_model.specs.Bytes.{u16_at}
-use Rattle.dbm_model.specs.Slots.{Slot as Spelled}
+use Rattle.page_model.specs.Bytes.{u16_at}
+use Rattle.page_model.specs.Slots.{Slot as Spelled}
 use Rattle.slot_page.specs.declared.slot.Slot.{Slot}
 
 -- the slot that it stands for

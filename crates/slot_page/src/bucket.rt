@@ -2,12 +2,12 @@
 
 ghost use Rattle.std.specs.Prelude.{◌≡◌, ◌+◌, ◌*◌, ◌<◌, ◌≤◌, ◌↔◌, ◌++◌, ◌∷◌, [], ℕ, IsTrue, IsSome, IfSome, IfNone, ◌⊎◌, length, map, remove as without};
 ghost use Rattle.std.specs.List.{HoldsAt};
-ghost use Rattle.dbm_model.specs.Bytes.{overwrite};
-ghost use Rattle.dbm_model.specs.Pages.{Bucket, bucket};
-ghost use Rattle.dbm_model.specs.Slots.{slot_bytes, slots_ending, total_size, room_of};
-ghost use Rattle.dbm_model.specs.Spelling.{bucket_spelling};
-ghost use Rattle.dbm_model.specs.Reading.{own_number, bucket_of};
-ghost use Rattle.dbm_model.specs.Valid.{IsBucket};
+ghost use Rattle.page_model.specs.Bytes.{overwrite};
+ghost use Rattle.page_model.specs.Pages.{Bucket, bucket};
+ghost use Rattle.page_model.specs.Slots.{slot_bytes, slots_ending, total_size, room_of};
+ghost use Rattle.page_model.specs.Spelling.{bucket_spelling};
+ghost use Rattle.page_model.specs.Reading.{own_number, bucket_of};
+ghost use Rattle.page_model.specs.Valid.{IsBucket};
 ghost use Rattle.slot_page.specs.Slots.{as_spelled};
 ghost use Rattle.slot_page.specs.Contents.{IsBucketPage, Holds, KeepsHeader, HasKeyAt, IsAbsent, pairs_of, with_pairs, with_next};
 

@@ -2,10 +2,10 @@
 
 ghost use Rattle.std.specs.Prelude.{◌≡◌, ◌↔◌, ℕ, List};
 ghost use Rattle.dbm_model.specs.Pairs.{Pair};
-ghost use Rattle.dbm_model.specs.Pages.{Bucket, HeadPage, OverflowPage, bucket};
-ghost use Rattle.dbm_model.specs.Spelling.{bucket_spelling};
-ghost use Rattle.dbm_model.specs.Reading.{own_number, kind_of, next_of, bucket_of, body_of};
-ghost use Rattle.dbm_model.specs.Valid.{IsBucket};
+ghost use Rattle.page_model.specs.Pages.{Bucket, HeadPage, OverflowPage, bucket};
+ghost use Rattle.page_model.specs.Spelling.{bucket_spelling};
+ghost use Rattle.page_model.specs.Reading.{own_number, kind_of, next_of, bucket_of, body_of};
+ghost use Rattle.page_model.specs.Valid.{IsBucket};
 ghost use Rattle.slot_page.specs.Contents.{IsBucketPage, pairs_of};
 
 /// Under an own number, a kind and a next page a list of pairs has one spelling: two pages that say these have the same

@@ -10,6 +10,3 @@ mod slot;
 pub use bucket::{add, decode, empty, find, fits, pair_at, remove, room, set_next};
 pub use laws::{one_list, one_spelling, reads_as_bucket};
 pub use slot::{Slot, Slots};
-
-#[cfg(test)]
-mod tests;

@@ -1,7 +1,7 @@
 //! Whether a page is spelled as a bucket page.
 
 ghost use Rattle.std.specs.Prelude.{◌≡◌, ◌≢◌, ◌+◌, ◌*◌, ◌<◌, ◌≤◌, ◌↔◌, ℕ, slice_index, IsTrue, IsSome, IfSome, All, take, length};
-ghost use Rattle.dbm_model.specs.Reading.{slot_count, key_of, content_of, IsClear};
+ghost use Rattle.page_model.specs.Reading.{slot_count, key_of, content_of, IsClear};
 ghost use Rattle.slot_page.specs.Slots.{as_spelled, slot_at, first_slots};
 ghost use Rattle.slot_page.specs.Layout.{HasGoodHeader, AreInPlace, HaveDistinctKeys, IsLaidOut, end_of};
 

@@ -2,8 +2,8 @@ use Rattle.std.proofs.Common.{◌≡◌, inr, false, refl, sym, ◌∙◌, ap, E
 use Rattle.std.proofs.lemmas.Result.{err_from_is_err_and}
 use Rattle.page_io.specs.declared.store.PageFault.TheVariants.{Damaged}
 use Rattle.page_io.proofs.Views.{reads_then}
-use Rattle.bucket_chain.proofs.ReadPages.{still_honest, link_before, link_after}
-use Rattle.bucket_chain.proofs.Walks.{walk_goes_on, walk_is_here, some_page, not_too_long}
+use Rattle.chain_walks.proofs.ReadPages.{still_honest, link_before, link_after}
+use Rattle.chain_walks.proofs.Walks.{walk_goes_on, walk_is_here, some_page, not_too_long}
 use Rattle.bucket_chain.proofs.SpotLemmas.{spot_found, is_full}
 use Rattle.bucket_chain.proofs.puts.find_spot.Goals as goal
 use Rattle.bucket_chain.proofs.puts.find_spot.Goals.{then-has_room-via-then-has_room, then-has_room-via-else-has_room+then-next-eq0}

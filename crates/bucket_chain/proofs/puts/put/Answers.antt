@@ -1,16 +1,16 @@
 use Rattle.std.proofs.Common.{◌≡◌, ℕ, Err, sym, subst, ◌∙◌, ap, arith}
 use Rattle.std.proofs.lemmas.Result.{err_from_is_err_and}
 use Rattle.dbm_model.specs.Pairs.{Pair}
-use Rattle.dbm_model.specs.Pages.{Body, Bucket}
-use Rattle.dbm_model.specs.Reading.{own_number, body_of, bucket_of}
-use Rattle.dbm_model.specs.Chain.{numbers}
+use Rattle.page_model.specs.Pages.{Body, Bucket}
+use Rattle.page_model.specs.Reading.{own_number, body_of, bucket_of}
+use Rattle.page_model.specs.Chain.{numbers}
 use Rattle.page_io.specs.Page as model
 use Rattle.page_io.specs.Store.{State}
 use Rattle.page_io.specs.Views.{said, MayEnd}
 use Rattle.page_io.specs.declared.store.PageFault.TheVariants.{Damaged}
 use Rattle.page_io.proofs.Views.{stages_then, same_said, known_below}
 use Rattle.free_pages.specs.FreeList.{IsFreeList}
-use Rattle.bucket_chain.proofs.Headers.{own_is, header_of}
+use Rattle.chain_walks.proofs.Headers.{own_is, header_of}
 use Rattle.bucket_chain.proofs.StagedPages.{on_ok, if_ok, with_own, known_same, own_same}
 use Rattle.bucket_chain.proofs.PutLemmas.{room_walk, lacks, put_here, put_last, no_room, new_apart, absent_none, added_says, linked_says, fresh_says, apart_alone}
 use Rattle.bucket_chain.proofs.puts.put.Goals as goal

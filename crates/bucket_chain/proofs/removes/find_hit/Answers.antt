@@ -4,11 +4,11 @@ use Rattle.page_io.specs.Store.{State, IsKnown}
 use Rattle.page_io.specs.declared.store.PageFault.TheVariants.{Damaged}
 use Rattle.page_io.proofs.Views.{reads_then}
 use Rattle.slot_page.specs.Contents.{pairs_of}
-use Rattle.bucket_chain.specs.Walks.{EndsWithout}
-use Rattle.bucket_chain.proofs.Headers.{header_of}
-use Rattle.bucket_chain.proofs.ReadPages.{reads_none, still_honest, link_before, link_after}
-use Rattle.bucket_chain.proofs.Walks.{walk_is_here, some_page, not_too_long}
-use Rattle.bucket_chain.proofs.KeyWalks.{absent_times}
+use Rattle.chain_walks.specs.Walks.{EndsWithout}
+use Rattle.chain_walks.proofs.Headers.{header_of}
+use Rattle.chain_walks.proofs.ReadPages.{reads_none, still_honest, link_before, link_after}
+use Rattle.chain_walks.proofs.Walks.{walk_is_here, some_page, not_too_long}
+use Rattle.chain_walks.proofs.KeyWalks.{absent_times}
 use Rattle.bucket_chain.proofs.Hits.{track_starts, track_goes_on, track_ends, track_hits}
 use Rattle.bucket_chain.proofs.removes.find_hit.Goals as goal
 

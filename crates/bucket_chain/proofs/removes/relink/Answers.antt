@@ -1,17 +1,17 @@
 use Rattle.std.proofs.Common.{◌≡◌, ℕ, List, sym, ap, ◌∙◌, subst, arith}
 use Rattle.dbm_model.specs.Pairs.{Pair}
-use Rattle.dbm_model.specs.Pages.{Body}
-use Rattle.dbm_model.specs.Reading.{body_of}
+use Rattle.page_model.specs.Pages.{Body}
+use Rattle.page_model.specs.Reading.{body_of}
 use Rattle.page_io.specs.Page.{own_number}
 use Rattle.page_io.specs.Store.{State}
 use Rattle.page_io.specs.Views.{said, MayEnd}
 use Rattle.page_io.proofs.Views.{same_said, known_below}
 use Rattle.slot_page.specs.Contents.{pairs_of}
-use Rattle.bucket_chain.specs.Links.{SaysLink}
-use Rattle.bucket_chain.proofs.Headers.{header_of}
-use Rattle.bucket_chain.proofs.LinkBodies.{says_link}
-use Rattle.bucket_chain.proofs.ReadPages.{still_honest}
-use Rattle.bucket_chain.proofs.Walks.{one_next}
+use Rattle.chain_walks.specs.Links.{SaysLink}
+use Rattle.chain_walks.proofs.Headers.{header_of}
+use Rattle.chain_walks.proofs.LinkBodies.{says_link}
+use Rattle.chain_walks.proofs.ReadPages.{still_honest}
+use Rattle.chain_walks.proofs.Walks.{one_next}
 use Rattle.bucket_chain.proofs.StagedPages.{own_same, on_ok, if_ok}
 use Rattle.bucket_chain.proofs.PutLemmas.{link_linked}
 use Rattle.bucket_chain.proofs.removes.relink.Given.{Over}

@@ -1,7 +1,7 @@
 use Rattle.std.proofs.Common.{◌≡◌, ◌⊎◌, inl, inr, ◌≤◌, ℕ, [], Option, Err, IfSome, length, refl, sym, ap, ◌∙◌, subst, arith}
 use Rattle.std.proofs.lemmas.Result.{err_from_is_err_and}
-use Rattle.dbm_model.specs.Pages.{Body}
-use Rattle.dbm_model.specs.Reading.{body_of}
+use Rattle.page_model.specs.Pages.{Body}
+use Rattle.page_model.specs.Reading.{body_of}
 use Rattle.page_io.specs.Page.{own_number}
 use Rattle.page_io.specs.Store.{State}
 use Rattle.page_io.specs.Views.{said, MayEnd}
@@ -9,8 +9,8 @@ use Rattle.page_io.specs.declared.store.PageFault.TheVariants.{Damaged}
 use Rattle.page_io.proofs.Views.{same_said, known_below}
 use Rattle.bucket_chain.specs.Hits.{IsHitOrNone, IsHeldHit}
 use Rattle.bucket_chain.specs.declared.removes.Hit.{Hit}
-use Rattle.bucket_chain.proofs.Headers.{header_of}
-use Rattle.bucket_chain.proofs.ReadPages.{still_honest, link_after}
+use Rattle.chain_walks.proofs.Headers.{header_of}
+use Rattle.chain_walks.proofs.ReadPages.{still_honest, link_after}
 use Rattle.bucket_chain.proofs.FoundKeys.{found_here, not_found, hit_walk}
 use Rattle.bucket_chain.proofs.Removals.{removed_here, removed_over, head_of, last_of, prior_links, unchanged}
 use Rattle.bucket_chain.proofs.StagedPages.{own_same}

@@ -1,8 +1,8 @@
 use Rattle.std.proofs.Common.{◌≡◌, ◌∷◌, [], inl, ℕ, Err, refl, sym, subst, ◌∙◌, ap, arith}
 use Rattle.std.proofs.lemmas.Result.{err_from_is_err_and}
-use Rattle.dbm_model.specs.Pages.{Body, Bucket}
-use Rattle.dbm_model.specs.Reading.{body_of, bucket_of}
-use Rattle.dbm_model.specs.Chain.{Chain}
+use Rattle.page_model.specs.Pages.{Body, Bucket}
+use Rattle.page_model.specs.Reading.{body_of, bucket_of}
+use Rattle.page_model.specs.Chain.{Chain}
 use Rattle.page_io.specs.Page as model
 use Rattle.page_io.specs.Store.{State}
 use Rattle.page_io.specs.Views.{said, MayEnd}
@@ -10,8 +10,8 @@ use Rattle.page_io.specs.declared.store.PageFault.TheVariants.{Damaged}
 use Rattle.page_io.proofs.Views.{same_said, known_below}
 use Rattle.bucket_chain.specs.Giving.{AreGiven}
 use Rattle.bucket_chain.specs.Changes.{IsCleared, store_in}
-use Rattle.bucket_chain.proofs.Headers.{own_is}
-use Rattle.bucket_chain.proofs.LinkBodies.{says_link}
+use Rattle.chain_walks.proofs.Headers.{own_is}
+use Rattle.chain_walks.proofs.LinkBodies.{says_link}
 use Rattle.bucket_chain.proofs.StagedPages.{on_ok, if_ok, own_same}
 use Rattle.bucket_chain.proofs.PutLemmas.{placed_same}
 use Rattle.bucket_chain.proofs.Clearing.{was_read, first_is, cleared, each_chain}

@@ -1,6 +1,6 @@
 use Rattle.std.proofs.Common.{◌≡◌, ℕ, Err, refl, sym, subst, ◌∙◌, ap, arith}
 use Rattle.std.proofs.lemmas.Result.{err_from_is_err_and}
-use Rattle.dbm_model.specs.Pages.{Body}
+use Rattle.page_model.specs.Pages.{Body}
 use Rattle.page_io.specs.Store.{State}
 use Rattle.page_io.specs.Views.{said, MayEnd}
 use Rattle.page_io.specs.declared.store.PageFault.TheVariants.{Damaged}
@@ -8,7 +8,7 @@ use Rattle.page_io.proofs.Views.{stages_then, same_said, known_below}
 use Rattle.slot_page.specs.Contents.{pairs_of}
 use Rattle.free_pages.specs.declared.free_state.FreeState.{FreeState}
 use Rattle.free_pages.specs.FreeList.{IsFreeList}
-use Rattle.bucket_chain.proofs.ReadPages.{reads_none}
+use Rattle.chain_walks.proofs.ReadPages.{reads_none}
 use Rattle.bucket_chain.proofs.Givings.{giving_starts, giving_goes_on, next_link, room_left, not_all}
 use Rattle.bucket_chain.proofs.stores.give_overflow.Goals as goal
 

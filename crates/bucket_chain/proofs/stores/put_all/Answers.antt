@@ -2,12 +2,12 @@ use Rattle.std.proofs.Common.{◌≡◌, ℕ, List, Err, map, take, fold, sym, s
 use Rattle.std.proofs.lemmas.Result.{err_from_is_err_and}
 use Rattle.std.proofs.lemmas.List.{length-map, take_all}
 use Rattle.dbm_model.specs.Pairs.{Pair, IsAllowed}
-use Rattle.dbm_model.specs.PairLists.{times}
-use Rattle.dbm_model.specs.Chain.{pairs_in}
+use Rattle.page_model.specs.PairLists.{times}
+use Rattle.page_model.specs.Chain.{pairs_in}
 use Rattle.page_io.specs.Views.{said}
 use Rattle.page_io.specs.declared.store.PageFault.TheVariants.{Damaged}
 use Rattle.page_io.proofs.Views.{stages_then}
-use Rattle.bucket_chain.specs.Pairs.{pair_of}
+use Rattle.chain_walks.specs.Pairs.{pair_of}
 use Rattle.bucket_chain.specs.Changes.{BecomesPlaced, put_in}
 use Rattle.bucket_chain.proofs.Storing.{HavePut, one_put, not_put, not_before, next_pair, pair_there}
 use Rattle.bucket_chain.proofs.stores.put_all.Goals as goal

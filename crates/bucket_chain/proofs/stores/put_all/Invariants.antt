@@ -1,9 +1,9 @@
 use Rattle.std.proofs.Common.{◌≡◌, [], map, take}
 use Rattle.page_io.specs.Views.{said, StagesOnly, MayEnd}
-use Rattle.dbm_model.specs.Chain.{pairs_in}
+use Rattle.page_model.specs.Chain.{pairs_in}
 use Rattle.free_pages.specs.FreeList.{HasEnds}
-use Rattle.bucket_chain.specs.Links.{HaveDistinctKeys}
-use Rattle.bucket_chain.specs.Pairs.{pair_of}
+use Rattle.chain_walks.specs.Links.{HaveDistinctKeys}
+use Rattle.chain_walks.specs.Pairs.{pair_of}
 use Rattle.bucket_chain.specs.Changes.{Placed, IsPlaced}
 use Rattle.bucket_chain.proofs.Storing.{HavePut}
 use Rattle.bucket_chain.proofs.stores.put_all.Given as goal

@@ -1,5 +1,5 @@
 use Rattle.std.proofs.Common.{inl, inr, ⊎_elim, refl}
-use Rattle.dbm_tool.proofs.Flushing.{done_if_zero}
+use Rattle.dbm_tool.proofs.Statuses.{done_if_zero}
 use Rattle.dbm_tool.proofs.program.tool.Goals as goal
 
 pub returns-in-Ok-show-clause-done : goal.returns-in-Ok-show-clause-done

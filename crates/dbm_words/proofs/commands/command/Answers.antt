@@ -1,17 +1,22 @@
-use Rattle.dbm_words.specs.CommandLine.{command_line}
-use Rattle.dbm_words.proofs.Building.{line_added, with_line}
+use Rattle.std.proofs.Common.{codes}
+use Rattle.dbm_words.specs.CommandLine.{command_line, create_line, file_line, key_line, pair_line, program_line, script_line}
+use Rattle.dbm_words.proofs.Building.{ten_lines_added}
 use Rattle.dbm_words.proofs.commands.command.Goals as goal
 
 pub returns : goal.returns
 unfolding command_line
 returns c =
-    let with_create = with_line c.in_ok-program.field-0 c.in_ok-create_command.field-0 c.in_ok-subcommand.field-0 _ _ c.in_ok-program.ensures c.in_ok-create_command.ensures c.in_ok-subcommand.ensures in
-    let with_store = with_line c.in_ok-subcommand.field-0 c.in_ok-store_command.field-0 c.in_ok-subcommand-2.field-0 _ _ with_create c.in_ok-store_command.ensures c.in_ok-subcommand-2.ensures in
-    let with_insert = with_line c.in_ok-subcommand-2.field-0 c.in_ok-insert_command.field-0 c.in_ok-subcommand-3.field-0 _ _ with_store c.in_ok-insert_command.ensures c.in_ok-subcommand-3.ensures in
-    let with_fetch = with_line c.in_ok-subcommand-3.field-0 c.in_ok-fetch_command.field-0 c.in_ok-subcommand-4.field-0 _ _ with_insert c.in_ok-fetch_command.ensures c.in_ok-subcommand-4.ensures in
-    let with_delete = with_line c.in_ok-subcommand-4.field-0 c.in_ok-delete_command.field-0 c.in_ok-subcommand-5.field-0 _ _ with_fetch c.in_ok-delete_command.ensures c.in_ok-subcommand-5.ensures in
-    let with_list = with_line c.in_ok-subcommand-5.field-0 c.in_ok-list_command.field-0 c.in_ok-subcommand-6.field-0 _ _ with_delete c.in_ok-list_command.ensures c.in_ok-subcommand-6.ensures in
-    let with_dump = with_line c.in_ok-subcommand-6.field-0 c.in_ok-dump_command.field-0 c.in_ok-subcommand-7.field-0 _ _ with_list c.in_ok-dump_command.ensures c.in_ok-subcommand-7.ensures in
-    let with_load = with_line c.in_ok-subcommand-7.field-0 c.in_ok-load_command.field-0 c.in_ok-subcommand-8.field-0 _ _ with_dump c.in_ok-load_command.ensures c.in_ok-subcommand-8.ensures in
-    let with_stat = with_line c.in_ok-subcommand-8.field-0 c.in_ok-stat_command.field-0 c.in_ok-subcommand-9.field-0 _ _ with_load c.in_ok-stat_command.ensures c.in_ok-subcommand-9.ensures in
-    line_added c.in_ok-subcommand-9.field-0 c.in_ok-script_command.field-0 c.subcommand-10.result _ _ with_stat c.in_ok-script_command.ensures c.subcommand-10.ensures
+    ten_lines_added program_line create_line (pair_line (codes "store")) (pair_line (codes "insert")) (key_line (codes "fetch")) (key_line (codes "delete")) (file_line (codes "list")) (file_line (codes "dump")) (file_line (codes "load")) (file_line (codes "stat")) script_line
+    c.in_ok-program.field-0 c.in_ok-command.command c.in_ok-command-2.command c.in_ok-command-3.command c.in_ok-command-4.command c.in_ok-command-5.command c.in_ok-command-6.command c.in_ok-command-7.command c.in_ok-command-8.command c.in_ok-command-9.command
+    c.create_command.result c.store_command.result c.insert_command.result c.fetch_command.result c.delete_command.result c.list_command.result c.dump_command.result c.load_command.result c.stat_command.result c.script_command.result c.added-10.result
+    c.in_ok-program.ensures
+    c.create_command.ensures c.in_ok-command.ensures
+    c.store_command.ensures c.in_ok-command-2.ensures
+    c.insert_command.ensures c.in_ok-command-3.ensures
+    c.fetch_command.ensures c.in_ok-command-4.ensures
+    c.delete_command.ensures c.in_ok-command-5.ensures
+    c.list_command.ensures c.in_ok-command-6.ensures
+    c.dump_command.ensures c.in_ok-command-7.ensures
+    c.load_command.ensures c.in_ok-command-8.ensures
+    c.stat_command.ensures c.in_ok-command-9.ensures
+    c.script_command.ensures c.added-10.ensures

@@ -1,6 +1,6 @@
 use Rattle.std.proofs.Common.{Some, ap, sym, ◌∙◌, arith}
-use Rattle.dbm_model.specs.Pages.{FreePage}
-use Rattle.dbm_model.specs.Spelling.{free_spelling}
+use Rattle.page_model.specs.Pages.{FreePage}
+use Rattle.page_model.specs.Spelling.{free_spelling}
 use Rattle.free_pages.proofs.FreePageTexts.{IsFreePage, free_found, free_said, free_again, said_again, next_again}
 use Rattle.free_pages.proofs.free_list.read_free.Goals as goal
 use Rattle.free_pages.proofs.free_list.read_free.Goals.{then-not-is_plain-via-then-not-is_plain, then-not-is_plain-via-else-not-is_plain+then-not-is_clear}

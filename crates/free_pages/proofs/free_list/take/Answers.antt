@@ -1,7 +1,7 @@
 use Rattle.std.proofs.Common.{◌≡◌, Err, ap, arith}
 use Rattle.std.proofs.lemmas.Result.{err_from_is_err_and}
 use Rattle.std.proofs.lemmas.Bool.Decides.{nat_tests}
-use Rattle.dbm_model.specs.Space.{after_take}
+use Rattle.page_model.specs.Space.{after_take}
 use Rattle.page_io.specs.Views.{said}
 use Rattle.page_io.specs.declared.store.PageFault.TheVariants.{Damaged}
 use Rattle.page_io.proofs.Views.{known_below, end_stays, end_grows}

@@ -1,5 +1,5 @@
 use Rattle.std.proofs.Common.{◌≡◌, take}
-use Rattle.dbm_model.specs.Address.{hash_of}
+use Rattle.page_model.specs.Address.{hash_of}
 use Rattle.lin_addr.proofs.fnv.hash.Given as goal
 
 -- the hash of the bytes so far

@@ -1,6 +1,6 @@
 use Rattle.std.proofs.Common.{◌≡◌, ℕ, List, [], ◌∷◌, sym, ◌∙◌, ap, subst, arith}
 use Rattle.sect_dev.specs.Device.{LeavesOnly}
-use Rattle.dbm_model.specs.Bytes.{overwrite}
+use Rattle.page_model.specs.Bytes.{overwrite}
 use Rattle.page_io.specs.Page.{own_number}
 use Rattle.page_io.specs.Store.{Pages, State, IsEither, page_of, overlaid, put_page, committed_with, AllBelow}
 use Rattle.page_io.specs.ByteChange.{with_byte}

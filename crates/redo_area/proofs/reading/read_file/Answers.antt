@@ -2,7 +2,7 @@ use Rattle.std.proofs.Common.{◌≡◌, ◌/◌, ℕ, [], Err, ◌∙◌, sym, 
 use Rattle.std.proofs.lemmas.Result.{err_from_is_err_and}
 use Rattle.sect_dev.specs.Device.{Image}
 use Rattle.page_io.specs.Store.{bytes_of, are_in_order}
-use Rattle.redo_area.specs.File.{redo_images}
+use Rattle.redo_commit.specs.File.{redo_images}
 use Rattle.redo_area.proofs.Openings.{found-clear, found-armed, refused-blank, refused-not_ours, refused-damaged, refused-armed}
 use Rattle.redo_area.proofs.Results.{from_ok}
 use Rattle.redo_area.proofs.reading.read_file.Goals as goal

@@ -5,10 +5,10 @@ use Rattle.sect_dev.specs.Moments.{only_image, followed_by, weaker}
 use Rattle.page_io.specs.Page.{page_at}
 use Rattle.page_io.specs.Store.{file_of, are_in_order, pages_from, file_pages, overlaid}
 use Rattle.page_io.specs.Counts.{length-pages_from}
-use Rattle.redo_area.specs.Header.{header_of}
-use Rattle.redo_area.specs.declared.header.Header.TheVariants.{Armed}
-use Rattle.redo_area.specs.File.{settled, redo_images}
-use Rattle.redo_area.proofs.Images.{settled-armed, settled-disordered}
+use Rattle.redo_commit.specs.Header.{header_of}
+use Rattle.redo_commit.specs.declared.header.Header.TheVariants.{Armed}
+use Rattle.redo_commit.specs.File.{settled, redo_images}
+use Rattle.redo_commit.proofs.Images.{settled-armed, settled-disordered}
 use Rattle.redo_area.proofs.recovery.finish_armed.Goals as goal
 
 pub returns-in_err-sound-clause-any_moment : goal.returns-in_err-sound-clause-any_moment

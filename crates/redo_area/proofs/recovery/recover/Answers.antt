@@ -1,7 +1,7 @@
 use Rattle.std.proofs.Common.{◌/◌, ℕ, refl, ap}
 use Rattle.sect_dev.specs.Device.{IsImageOf}
 use Rattle.sect_dev.specs.Moments.{weaker}
-use Rattle.redo_area.specs.File.{SettlesAsBefore}
+use Rattle.redo_commit.specs.File.{SettlesAsBefore}
 use Rattle.redo_area.proofs.Openings.{refused-blank, refused-not_ours, refused-damaged}
 use Rattle.redo_area.proofs.recovery.recover.Goals as goal
 

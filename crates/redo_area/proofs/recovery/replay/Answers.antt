@@ -4,11 +4,11 @@ use Rattle.sect_dev.specs.Moments.{two_images, followed_by, weaker, goes_on}
 use Rattle.page_io.specs.Page.{page_at}
 use Rattle.page_io.proofs.PageLaws.{at_same}
 use Rattle.page_io.specs.Store.{file_of, file_pages, overlaid}
-use Rattle.redo_area.specs.Header.{header_of}
-use Rattle.redo_area.specs.declared.header.Header.TheVariants.{Clear}
-use Rattle.redo_area.specs.File.{settled, redo_images}
-use Rattle.redo_area.proofs.Headers.{header_of-clear}
-use Rattle.redo_area.proofs.Images.{going_home, now_clear, settled-clear}
+use Rattle.redo_commit.specs.Header.{header_of}
+use Rattle.redo_commit.specs.declared.header.Header.TheVariants.{Clear}
+use Rattle.redo_commit.specs.File.{settled, redo_images}
+use Rattle.redo_commit.proofs.Headers.{header_of-clear}
+use Rattle.redo_commit.proofs.Images.{going_home, now_clear, settled-clear}
 use Rattle.redo_area.proofs.recovery.replay.Goals as goal
 
 pub returns-in_err-good-clause-any_moment : goal.returns-in_err-good-clause-any_moment

@@ -1,6 +1,6 @@
 use Rattle.std.proofs.Common.{ap, ◌∙◌}
-use Rattle.dbm_model.specs.Address as address
-use Rattle.dbm_model.specs.Numbers.{numbers_at}
+use Rattle.page_model.specs.Address as address
+use Rattle.page_model.specs.Numbers.{numbers_at}
 use Rattle.seg_table.proofs.Metas.{fields_read}
 use Rattle.seg_table.proofs.meta.meta_of.Goals as goal
 

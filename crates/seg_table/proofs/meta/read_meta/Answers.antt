@@ -1,7 +1,7 @@
 use Rattle.std.proofs.Common.{refl, sym, ap, subst, ◌∙◌}
-use Rattle.dbm_model.specs.Spelling.{meta_spelling}
-use Rattle.dbm_model.specs.Valid.{IsMeta}
-use Rattle.dbm_model.proofs.Metas.{fields_again}
+use Rattle.page_model.specs.Spelling.{meta_spelling}
+use Rattle.page_model.specs.Valid.{IsMeta}
+use Rattle.page_model.proofs.Metas.{fields_again}
 use Rattle.seg_table.specs.MetaPages.{says}
 use Rattle.seg_table.proofs.Metas.{IsMetaPage, meta_found, none_spelled, none_said, fields_said}
 use Rattle.seg_table.proofs.meta.read_meta.Goals as goal

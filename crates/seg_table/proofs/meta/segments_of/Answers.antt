@@ -1,6 +1,6 @@
 use Rattle.std.proofs.Common.{◌≡◌, length, ap, ◌∙◌, sym, refl, arith, List, ℕ, [], ◌∷◌, ◌++◌}
-use Rattle.dbm_model.specs.Numbers.{numbers_at}
-use Rattle.dbm_model.proofs.Numbers.{length-numbers_at}
+use Rattle.page_model.specs.Numbers.{numbers_at}
+use Rattle.page_model.proofs.Numbers.{length-numbers_at}
 use Rattle.seg_table.proofs.Entries.{numbers_at-more}
 use Rattle.seg_table.proofs.meta.segments_of.Goals as goal
 

@@ -1,5 +1,5 @@
 use Rattle.std.proofs.Common.{◌≡◌}
-use Rattle.dbm_model.specs.Numbers.{numbers_at}
+use Rattle.page_model.specs.Numbers.{numbers_at}
 use Rattle.seg_table.proofs.meta.segments_of.Given as goal
 
 abbrev pub invariant-loop-i : goal.invariant-loop-i

@@ -1,7 +1,7 @@
 use Rattle.std.proofs.Common.{refl}
-use Rattle.dbm_model.specs.Pages.{MetaPage}
-use Rattle.dbm_model.proofs.Bodies.{body_is}
-use Rattle.dbm_model.proofs.Metas.{few_segments}
+use Rattle.page_model.specs.Pages.{MetaPage}
+use Rattle.page_model.proofs.Bodies.{body_is}
+use Rattle.page_model.proofs.Metas.{few_segments}
 use Rattle.seg_table.specs.MetaPages.{says}
 use Rattle.seg_table.proofs.Metas.{meta_written}
 use Rattle.seg_table.proofs.meta.write_meta.Goals as goal

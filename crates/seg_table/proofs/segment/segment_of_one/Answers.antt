@@ -1,5 +1,5 @@
 use Rattle.std.proofs.Common.{arith, replicate}
-use Rattle.dbm_model.specs.Bytes.{u32_bytes}
+use Rattle.page_model.specs.Bytes.{u32_bytes}
 use Rattle.seg_table.proofs.HeadTexts.{own_kept, fresh_said}
 use Rattle.seg_table.proofs.segment.segment_of_one.Goals as goal
 

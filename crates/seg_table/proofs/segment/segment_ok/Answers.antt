@@ -1,7 +1,7 @@
 use Rattle.std.proofs.Common.{◌≡◌, List, ℕ, ◌+◌, ◌*◌, get_or, sym, subst, ap, ◌∙◌, rules, arith}
 use Rattle.std.proofs.lemmas.Bool.Decides.{nat_tests}
-use Rattle.dbm_model.specs.Numbers.{IsNumber}
-use Rattle.dbm_model.specs.Reading.{next_of, IsClear}
+use Rattle.page_model.specs.Numbers.{IsNumber}
+use Rattle.page_model.specs.Reading.{next_of, IsClear}
 use Rattle.page_io.specs.Plain.{HasPlainHeader}
 use Rattle.seg_table.specs.MetaPages.{says}
 use Rattle.seg_table.specs.Segments.{heads_in}

@@ -1,6 +1,6 @@
 use Rattle.std.proofs.Common.{◌≡◌, ◌/◌, ◌%◌, ◌∙◌, ℕ, List, get_or, ap, sym, arith, Err}
 use Rattle.std.proofs.lemmas.Result.{err_from_is_err_and}
-use Rattle.dbm_model.specs.Reading.{body_of, heads_on}
+use Rattle.page_model.specs.Reading.{body_of, heads_on}
 use Rattle.page_io.specs.Views.{said}
 use Rattle.page_io.specs.declared.store.PageFault.TheVariants.{Damaged}
 use Rattle.seg_table.proofs.HeadTexts.{entry_is, heads_said, heads_of_said}

@@ -1,7 +1,7 @@
 use Rattle.std.proofs.Common.{◌≡◌, ◌∙◌, ℕ, List, length, get_or, ap, subst, rules, arith, Err}
 use Rattle.std.proofs.lemmas.Result.{err_from_is_err_and}
-use Rattle.dbm_model.specs.Numbers.{IsNumber}
-use Rattle.dbm_model.specs.Reading.{body_of}
+use Rattle.page_model.specs.Numbers.{IsNumber}
+use Rattle.page_model.specs.Reading.{body_of}
 use Rattle.page_io.specs.Store.{IsKnown}
 use Rattle.page_io.specs.Views.{shown, said}
 use Rattle.page_io.specs.declared.store.PageFault.TheVariants.{Damaged}

@@ -1,7 +1,7 @@
 use Rattle.std.proofs.Common.{◌≡◌, ◌<◌, ◌≤◌, ◌+◌, ◌*◌, ◌/◌, ◌%◌, ℕ, List, length, get_or, ap, sym, subst, ◌∙◌, arith, Err, replicate}
 use Rattle.std.proofs.lemmas.Result.{err_from_is_err_and, on_ok_weaker}
-use Rattle.dbm_model.specs.Bytes.{u32_bytes, overwrite}
-use Rattle.dbm_model.specs.Reading.{body_of}
+use Rattle.page_model.specs.Bytes.{u32_bytes, overwrite}
+use Rattle.page_model.specs.Reading.{body_of}
 use Rattle.page_io.specs.Page.{own_number}
 use Rattle.page_io.specs.Store.{State, IsKnown, put_page}
 use Rattle.page_io.specs.Views.{said, MayEnd}

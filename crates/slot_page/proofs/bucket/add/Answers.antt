@@ -1,8 +1,8 @@
 use Rattle.std.proofs.Common.{◌+◌, ◌*◌, ◌-◌, ◌++◌, ◌∷◌, [], length, refl, ap, ◌∙◌, arith, List, ℕ}
 use Rattle.slot_page.specs.Slots.{as_spelled}
 use Rattle.slot_page.specs.declared.slot.Slot.{Slot}
-use Rattle.dbm_model.specs.Bytes.{overwrite, u16_bytes}
-use Rattle.dbm_model.specs.Slots.{slot_bytes}
+use Rattle.page_model.specs.Bytes.{overwrite, u16_bytes}
+use Rattle.page_model.specs.Slots.{slot_bytes}
 use Rattle.slot_page.specs.Contents.{pairs_of}
 use Rattle.slot_page.proofs.Adding.{HasRoom, taken-push, added, added_holds}
 use Rattle.slot_page.proofs.Pages.{kept}

@@ -2,8 +2,8 @@ use Rattle.std.proofs.Common.{◌≡◌, ℕ, length, map, ap, List, Option, Som
 use Rattle.std.specs.Prelude.{IfSome, IsSome}
 use Rattle.arrayvec.specs.ArrayVec.{ArrayVec}
 use Rattle.slot_page.specs.declared.slot.Slot.{Slot}
-use Rattle.dbm_model.specs.Reading.{slot_count}
-use Rattle.dbm_model.specs.Slots.{slots_ending}
+use Rattle.page_model.specs.Reading.{slot_count}
+use Rattle.page_model.specs.Slots.{slots_ending}
 use Rattle.slot_page.specs.Contents.{pairs_of}
 use Rattle.slot_page.specs.Layout.{IsLaidOut}
 use Rattle.slot_page.specs.Slots.{as_spelled, first_slots}
@@ -11,7 +11,7 @@ use Rattle.slot_page.proofs.Held.{first_are}
 use Rattle.slot_page.proofs.Pages.{laid_out, is_page, table_of}
 use Rattle.slot_page.proofs.Laid.{laid_out_if_spelled}
 use Rattle.std.proofs.lemmas.List.{length-map}
-use Rattle.dbm_model.proofs.Buckets.{length-slots_ending, bucket_again}
+use Rattle.page_model.proofs.Buckets.{length-slots_ending, bucket_again}
 use Rattle.slot_page.proofs.bucket.decode.Goals as goal
 
 pub returns-clause-exact : goal.returns-clause-exact

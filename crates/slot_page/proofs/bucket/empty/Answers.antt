@@ -1,5 +1,5 @@
 use Rattle.std.proofs.Common.{refl, ap, ◌∙◌, arith, List, ℕ, set, replicate}
-use Rattle.dbm_model.specs.Bytes.{overwrite, u16_bytes, u32_bytes}
+use Rattle.page_model.specs.Bytes.{overwrite, u16_bytes, u32_bytes}
 use Rattle.slot_page.proofs.Removing.{empty_is}
 use Rattle.slot_page.proofs.bucket.empty.Goals as goal
 

@@ -1,6 +1,6 @@
 use Rattle.std.proofs.Common.{◌+◌, length, refl, ap, ◌∙◌, arith, List, ℕ}
-use Rattle.dbm_model.specs.Bytes.{overwrite}
-use Rattle.dbm_model.proofs.Writes.{overwrite_then}
+use Rattle.page_model.specs.Bytes.{overwrite}
+use Rattle.page_model.proofs.Writes.{overwrite_then}
 use Rattle.slot_page.proofs.bucket.put_record.Goals as goal
 
 pub returns : goal.returns

@@ -1,6 +1,6 @@
 use Rattle.std.proofs.Common.{◌+◌, ◌*◌, ◌++◌, refl, ap, ◌∙◌, arith, List, ℕ}
-use Rattle.dbm_model.specs.Bytes.{overwrite, u16_bytes}
-use Rattle.dbm_model.proofs.Writes.{overwrite_then}
+use Rattle.page_model.specs.Bytes.{overwrite, u16_bytes}
+use Rattle.page_model.proofs.Writes.{overwrite_then}
 use Rattle.slot_page.proofs.bucket.set_slot_at.Goals as goal
 
 pub returns : goal.returns

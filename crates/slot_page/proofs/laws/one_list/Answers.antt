@@ -1,6 +1,6 @@
 use Rattle.std.proofs.Common.{refl, sym, ◌∙◌}
-use Rattle.dbm_model.specs.Spelling.{bucket_spelling}
-use Rattle.dbm_model.proofs.Buckets.{bucket_again}
+use Rattle.page_model.specs.Spelling.{bucket_spelling}
+use Rattle.page_model.proofs.Buckets.{bucket_again}
 use Rattle.slot_page.proofs.laws.one_list.Goals as goal
 
 pub returns : goal.returns

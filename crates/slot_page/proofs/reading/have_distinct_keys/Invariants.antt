@@ -1,6 +1,6 @@
 use Rattle.std.proofs.Common.{◌≢◌, ◌<◌, ℕ, get_or}
 use Rattle.slot_page.specs.declared.slot.Slot.{Slot}
-use Rattle.dbm_model.specs.Reading.{key_of}
+use Rattle.page_model.specs.Reading.{key_of}
 use Rattle.slot_page.specs.Slots.{as_spelled}
 use Rattle.slot_page.proofs.reading.have_distinct_keys.Given as goal
 

@@ -6,7 +6,7 @@ use Rattle.dbm_file.proofs.Cases.{broken_fetch}
 use Rattle.dbm_file.proofs.FetchSteps.{short_content, same_content, no_content, fetched_well, fetch_failed, only_these, walk_faults}
 use Rattle.dbm_file.proofs.Lends.{lends_broken, lends_nothing}
 use Rattle.dbm_file.proofs.ReadSteps.{not_broken, after_reads}
-use Rattle.dbm_file.proofs.Tables.{placed, is_table, map_placed}
+use Rattle.linear_hash.proofs.Tables.{placed, is_table, map_placed}
 use Rattle.dbm_file.proofs.database.Database.fetch.Goals as goal
 
 pub returns-then-is_broken : goal.returns-then-is_broken

@@ -1,8 +1,8 @@
 use Rattle.std.proofs.Common.{◌∙◌, ap, is_some}
 use Rattle.std.specs.FinMap.{get}
 use Rattle.dbm_model.specs.Pairs.{Contents}
-use Rattle.dbm_file.proofs.Found.{found_some}
-use Rattle.dbm_file.proofs.Tables.{placed, is_table, map_placed}
+use Rattle.linear_hash.proofs.Found.{found_some}
+use Rattle.linear_hash.proofs.Tables.{placed, is_table, map_placed}
 use Rattle.dbm_file.proofs.database.Database.has.Goals as goal
 
 pub returns-clause-exact : goal.returns-clause-exact

@@ -1,4 +1,4 @@
-use Rattle.dbm_file.proofs.FoundFiles.{counts_pairs}
+use Rattle.dbm_file.proofs.OpenedFiles.{counts_pairs}
 use Rattle.dbm_file.proofs.database.Database.stat.Goals as goal
 
 pub returns-clause-counts : goal.returns-clause-counts

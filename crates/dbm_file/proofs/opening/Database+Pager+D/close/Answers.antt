@@ -1,8 +1,8 @@
 use Rattle.std.proofs.Common.{◌/◌, refl, sym, subst}
 use Rattle.sect_dev.specs.Device.{IsImageOf}
 use Rattle.page_io.specs.Meaning.{ImageStandsFor}
-use Rattle.redo_area.specs.File.{settled}
-use Rattle.dbm_file.proofs.FoundFiles.{stands_for}
+use Rattle.redo_commit.specs.File.{settled}
+use Rattle.dbm_file.proofs.OpenedFiles.{stands_for}
 use Rattle.dbm_file.proofs.opening.Database+Pager+D.close.Goals as goal
 
 pub returns-clause-stands : goal.returns-clause-stands

@@ -1,4 +1,4 @@
-use Rattle.dbm_model.specs.Reading.{IsClear}
+use Rattle.page_model.specs.Reading.{IsClear}
 use Rattle.page_io.proofs.page.Page.is_clear.Given as goal
 
 abbrev pub invariant-loop-k : goal.invariant-loop-k

@@ -1,5 +1,5 @@
 use Rattle.std.proofs.Common.{List, ℕ, ap, ◌∙◌, set}
-use Rattle.dbm_model.specs.Bytes.{overwrite, u32_bytes}
+use Rattle.page_model.specs.Bytes.{overwrite, u32_bytes}
 use Rattle.page_io.proofs.PlainPages.{plain_is}
 use Rattle.page_io.proofs.page.Page.plain.Goals as goal
 

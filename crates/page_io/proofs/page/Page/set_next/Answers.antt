@@ -1,5 +1,5 @@
 use Rattle.std.proofs.Common.{◌∙◌, ap, arith}
-use Rattle.dbm_model.specs.Bytes.{u32_bytes}
+use Rattle.page_model.specs.Bytes.{u32_bytes}
 use Rattle.page_io.specs.Page.{own_number}
 use Rattle.page_io.proofs.Fields.{own_of_overwrite}
 use Rattle.page_io.proofs.page.Page.set_next.Goals as goal

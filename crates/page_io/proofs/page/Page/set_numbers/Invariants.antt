@@ -1,6 +1,6 @@
 use Rattle.std.proofs.Common.{◌≡◌, ◌≤◌, take, length}
-use Rattle.dbm_model.specs.Bytes.{overwrite}
-use Rattle.dbm_model.specs.Numbers.{numbers_bytes}
+use Rattle.page_model.specs.Bytes.{overwrite}
+use Rattle.page_model.specs.Numbers.{numbers_bytes}
 use Rattle.page_io.proofs.page.Page.set_numbers.Given as goal
 
 abbrev pub invariant-loop-i : goal.invariant-loop-i

@@ -1,0 +1,9 @@
+//! Tests of the calls of a database.
+#![tactic(auto)]
+
+#[cfg(test)]
+mod call_tests;
+#[cfg(test)]
+mod file_tests;
+#[cfg(test)]
+mod passing_tests;

@@ -1,0 +1,6 @@
+pub mod Answers
+pub mod Chains
+pub mod Links
+pub mod Pairs
+pub mod Places
+pub mod Walks

@@ -1,0 +1,52 @@
+//! Looking a key up.
+
+ghost use Rattle.std.specs.Prelude.{IfOk, IfSome, IsErrOf};
+ghost use Rattle.page_model.specs.Chain.{Chain};
+ghost use Rattle.page_io.specs.Answers.{HasDeviceCause};
+ghost use Rattle.page_io.specs.Views.{said, ReadsOnly};
+ghost use Rattle.page_io.specs.declared.store.PageFault.TheVariants.{Damaged};
+ghost use Rattle.chain_walks.specs.Chains.{IsChainAt};
+ghost use Rattle.chain_walks.specs.Walks.{IsLookup, IsLookedUp};
+ghost use Rattle.chain_walks.specs.Answers.{IsWalkAnswer};
+ghost use Rattle.slot_page.specs.Contents.{IsBucketPage, HasKeyAt, pairs_of};
+
+use crate::Place;
+use crate::link::{HEAD, OVERFLOW, read_link};
+use page_io::{Page, PageFault, PageStore};
+use slot_page::find;
+
+/// Where the chain from page `head` on has the key; `page` is then its page. It takes no memory. Damaged is answered where
+/// a page has another number or kind than the chain says, is no bucket page, or is an empty overflow page, and where there
+/// are more pages than the file has.
+pub fn lookup<S: PageStore>(
+    store: &mut S,
+    head: u32,
+    key: &[u8],
+    page: &mut Page,
+) -> Result<Option<Place>, PageFault>
+    ensures reads { ReadsOnly S.PageStore store.old store.new }
+    ensures cause { HasDeviceCause (S.faults store.old) (S.faults store.new) result }
+    ensures answer { IsWalkAnswer (S.state store.old) result }
+    ensures held { IfOk result (λ place. IfSome place (λ at. IsBucketPage page.new.bytes × HasKeyAt key.now (pairs_of page.new.bytes) at.slot)) }
+    ensures walked { S.honest store.old → IfOk result (λ place. IsLookup (said S.PageStore store.old) head key.now page.new.bytes place) }
+
+    // On a chain that is read as one it answers the first of the key's pairs, and is never Damaged.
+    ensures exact { S.honest store.old → (chain : Chain) → IsChainAt (said S.PageStore store.old) (S.state store.old).end head chain →
+        IfOk result (λ place. IsLookedUp key.now chain page.new.bytes place) }
+    ensures whole { S.honest store.old → (chain : Chain) → IsChainAt (said S.PageStore store.old) (S.state store.old).end head chain → IsErrOf result Damaged → ⊥ }
+{
+    let mut at = head;
+    let mut kind = HEAD;
+    for _step in 0..store.end() {
+        let next = read_link(store, at, kind, page)?;
+        if let Some(slot) = find(page, key) {
+            return Ok(Some(Place { page: at, slot }));
+        }
+        if next == 0 {
+            return Ok(None);
+        }
+        at = next;
+        kind = OVERFLOW;
+    }
+    Err(PageFault::Damaged)
+}

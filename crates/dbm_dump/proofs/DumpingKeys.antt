@@ -1,0 +1,373 @@
+-- What a pass has given, and what is gathered of it.
+use Rattle.std.proofs.Common.{◌≡◌, ◌⊎◌, inl, inr, ⊎_elim, T, ℕ, zero, suc, ◌+◌, ◌-◌, ◌≤◌, Bool, true, false, cond, not, ◌||◌, ◌&&◌, List, [], ◌∷◌, map, length, Option, Some, None, is_some, Result, Ok, Err, MatchResult, refl, sym, ◌∙◌, ap, subst, arith}
+use Rattle.std.specs.Global.{Vec}
+use Rattle.std.specs.BTreeSet.{insert_key}
+use Rattle.std.specs.Cmp.{Equal-is}
+use Rattle.std.specs.Cmp.Lexicographic.{slice_cmp}
+use Rattle.std.specs.FinMap as finite
+use Rattle.std.specs.FinMap.{entries, keys, contains_key, put, is_sorted}
+use Rattle.std.specs.FinMap.Entries.{below_all, by_order}
+use Rattle.std.specs.FinSet as set
+use Rattle.std.specs.List.{list_any}
+use Rattle.std.specs.Ordering.{eq_by_cmp, nat_cmp, is_lt, is_eq, match_ordering}
+use Rattle.std.specs.declared.cmp.Ordering.{Ordering}
+use Rattle.std.specs.declared.cmp.Ordering.TheVariants.{Less, Equal, Greater}
+use Rattle.std.proofs.lemmas.Cmp.{nat_list_cmp_total}
+use Rattle.dbm_model.specs.Calls as model
+use Rattle.dbm_model.specs.Calls.{Call, First, Next, End, Bytes}
+use Rattle.dbm_model.specs.Pairs.{Key, Contents, key_cmp}
+use Rattle.dbm_model.specs.States.{State, Handle, Keys}
+use Rattle.dbm_model.specs.Steps.{Case, Passes, usable_case, broken_case, case_of, passed, Answers, Suffers, Step}
+use Rattle.page_io.specs.declared.store.PageStore.{Ghosts}
+use Rattle.dbm_file.specs.Calls.{Lent, lent_reply}
+use Rattle.dbm_file.specs.Database.{IsAt}
+use Rattle.file_opening.specs.Faults.{fault_of}
+use Rattle.dbm_file.specs.declared.database.Database.{Database}
+use Rattle.file_opening.specs.declared.fault.Fault.{Fault}
+use Rattle.file_opening.specs.declared.fault.Fault.TheVariants.{Device}
+use Rattle.file_opening.specs.declared.fault.Fault.TheVariants as fault
+use Rattle.dbm_dump.specs.Dumping.{IsChance, IsCopied, CopiesStep}
+use Rattle.dbm_dump.proofs.Dumping.{keeps_map, reads_first, reads_next}
+use Rattle.dbm_fault.specs.declared.engine_fault.EngineFault.{EngineFault}
+use Rattle.dbm_fault.specs.declared.engine_fault.EngineFault.TheVariants.{Db}
+
+-- keys as a map of nothing
+abbrev pub Gathered : Type 0
+Gathered = finite.FinMap key_cmp (Unit {0})
+
+-- ---- sets of keys
+
+-- what is there is there or is the new one
+turned : {X : Type 0} (r : Ordering) (e : List ℕ × X) (k : List ℕ) (v : X) (es more : List (List ℕ × X)) (ks : List Key) → ks ≡ map (λ (x : List ℕ × X). x.0) more
+    → match_ordering r (k ∷ e.0 ∷ map (λ (x : List ℕ × X). x.0) es) (e.0 ∷ map (λ (x : List ℕ × X). x.0) es) (e.0 ∷ ks) ≡ map (λ (x : List ℕ × X). x.0) (by_order r ((k, v) ∷ e ∷ es) ((e.0, v) ∷ es) (e ∷ more))
+turned Less e k v es more ks h = refl
+turned Equal e k v es more ks h = refl
+turned Greater e k v es more ks h = ap (λ rest. e.0 ∷ rest) h
+
+key_put : {X : Type 0} (k : Key) (v : X) (es : List (Key × X)) → insert_key key_cmp (map (λ (x : Key × X). x.0) es) k ≡ map (λ (x : Key × X). x.0) (put key_cmp k v es)
+key_put k v [] = refl
+key_put k v (e ∷ es) = turned (key_cmp k e.0) e k v es _ _ (key_put k v es)
+
+key_inserted : (some : Gathered) (k : Key) → insert_key key_cmp (keys some) k ≡ keys (finite.insert some k tt)
+key_inserted some k = key_put k tt (entries some) ∙ sym (ap (map (λ (x : Key × Unit {0}). x.0)) (finite.entries-insert nat_list_cmp_total some k tt))
+
+either : (b : Bool) (x : Option (Unit {0})) → is_some (cond b (Some tt) x) ≡ (b || is_some x)
+either true x = refl
+either false x = refl
+
+contains_inserted : (some : Gathered) (k q : Key) → contains_key (finite.insert some k tt) q ≡ (eq_by_cmp key_cmp q k || contains_key some q)
+contains_inserted some k q = ap is_some (finite.get-insert nat_list_cmp_total some k tt q) ∙ either (eq_by_cmp key_cmp q k) (finite.get some q)
+
+-- the same entries with nothing at each key
+abbrev bare : {X : Type 0} → List (Key × X) → List (Key × Unit {0})
+bare [] = []
+bare (e ∷ es) = (e.0, tt) ∷ bare es
+
+below_bare : {X : Type 0} (x : Key) (es : List (Key × X)) → below_all key_cmp x (bare es) ≡ below_all key_cmp x es
+below_bare x [] = refl
+below_bare x (e ∷ es) = ap (λ b. is_lt (key_cmp x e.0) && b) (below_bare x es)
+
+sorted_bare : {X : Type 0} (es : List (Key × X)) → is_sorted key_cmp (bare es) ≡ is_sorted key_cmp es
+sorted_bare [] = refl
+sorted_bare (e ∷ es) = λ i. below_bare e.0 es i && sorted_bare es i
+
+keys_bare : {X : Type 0} (es : List (Key × X)) → map (λ (x : Key × Unit {0}). x.0) (bare es) ≡ map (λ (x : Key × X). x.0) es
+keys_bare [] = refl
+keys_bare (e ∷ es) = ap (λ rest. e.0 ∷ rest) (keys_bare es)
+
+all_of : Contents → Gathered
+all_of m = finite.from_sorted (bare (entries m))
+
+keys_of_all : (m : Contents) → keys (all_of m) ≡ keys m
+unfolding all_of
+keys_of_all m = ap (map (λ (x : Key × Unit {0}). x.0)) (finite.entries-from_sorted key_cmp (bare (entries m)) (subst T (sym (sorted_bare (entries m))) (finite.entries_sorted m))) ∙ keys_bare (entries m)
+
+contains_of_all : (m : Contents) (q : Key) → contains_key (all_of m) q ≡ contains_key m q
+contains_of_all m q = finite.contains_key-keys (all_of m) q ∙ ap (list_any (eq_by_cmp key_cmp q)) (keys_of_all m) ∙ sym (finite.contains_key-keys m q)
+
+marks : (x : Option (Unit {0})) → x ≡ cond (is_some x) (Some tt) None
+marks None = refl
+marks (Some u) = refl
+
+same_gathered : (a b : Gathered) → ((q : Key) → contains_key a q ≡ contains_key b q) → a ≡ b
+same_gathered a b is = finite.same_map nat_list_cmp_total (finite.slice_cmp-IsAntisymmetric finite.nat_cmp-IsAntisymmetric) a b (λ q. marks (finite.get a q) ∙ ap (λ b. cond b (Some tt) None) (is q) ∙ sym (marks (finite.get b q)))
+
+-- keys of which there are as in the map are the map's
+all_gathered : (m : Contents) (some : Gathered) → ((q : Key) → contains_key m q ≡ contains_key some q) → keys some ≡ keys m
+all_gathered m some is = ap (λ (x : Gathered). keys x) (same_gathered some (all_of m) (λ q. sym (is q) ∙ sym (contains_of_all m q))) ∙ keys_of_all m
+
+nothing : Gathered
+nothing = finite.from_sorted []
+
+keys_of_nothing : keys nothing ≡ []
+unfolding nothing
+keys_of_nothing = ap (map (λ (x : Key × Unit {0}). x.0)) (finite.entries-from_sorted key_cmp [] tt)
+
+contains_nothing : (q : Key) → contains_key nothing q ≡ false
+contains_nothing q = finite.contains_key-keys nothing q ∙ ap (list_any (eq_by_cmp key_cmp q)) keys_of_nothing
+
+-- ---- how many keys there are
+
+apart : (r : Ordering) (b c : Bool) → T (is_lt r && b) → (T b → c ≡ false) → (is_eq r || c) ≡ false
+apart Less b c h f = f h
+apart Equal b c h f = absurd h
+apart Greater b c h f = absurd h
+
+absent : {X : Type 0} (x : Key) (es : List (Key × X)) → T (below_all key_cmp x es) → list_any (eq_by_cmp key_cmp x) (map (λ (e : Key × X). e.0) es) ≡ false
+absent x [] h = refl
+absent x (e ∷ es) h = apart (key_cmp x e.0) (below_all key_cmp x es) _ h (absent x es)
+
+of_both : (a b : Bool) → T (a && b) → T a × T b
+of_both true b h = (tt, h)
+of_both false b h = absurd h
+
+many_from_list : {X : Type 0} (es : List (Key × X)) → T (is_sorted key_cmp es) → set.len (set.from_list {R = key_cmp} (map (λ (e : Key × X). e.0) es)) ≡ length es
+many_from_list [] h = set.len-empty key_cmp
+many_from_list {X} (e ∷ es) h =
+    let parts = of_both (below_all key_cmp e.0 es) (is_sorted key_cmp es) h in
+    let rest = set.from_list {R = key_cmp} (map (λ (x : Key × X). x.0) es) in
+    let more = set.len-insert nat_list_cmp_total rest e.0 in
+    let new : set.contains rest e.0 ≡ false = set.contains-from_list nat_list_cmp_total (map (λ (x : Key × X). x.0) es) e.0 ∙ absent e.0 es parts.0 in
+    let fewer = many_from_list es parts.1 in
+    let one = ap (λ b. cond b (set.len rest) (set.len rest + 1)) new in
+    omega (arith, more, one, fewer)
+
+all_counted : (m : Contents) → set.len (set.from_list {R = key_cmp} (keys m)) ≡ finite.len m
+all_counted m = many_from_list (entries m) (finite.entries_sorted m) ∙ sym (finite.len-entries m)
+
+-- ---- one key taken out
+
+none_there : (all : Keys) (k : Key) → set.contains all k ≡ true → set.len all ≡ 0 → ⊥
+none_there all k there none = let e : true ≡ false = sym there ∙ ap (λ (x : Keys). set.contains x k) (set.empty_of_len all none) ∙ set.contains-empty key_cmp k in cc
+
+one_less : (n r : ℕ) → r ≡ n - 1 → (n ≡ 0 → ⊥) → r + 1 ≡ n
+one_less zero r is some = absurd (some refl)
+one_less (suc n) r is some = omega (arith, is)
+
+fewer_by_one : (all : Keys) (k : Key) → set.contains all k ≡ true → set.len (set.remove all k) + 1 ≡ set.len all
+fewer_by_one all k there = one_less (set.len all) (set.len (set.remove all k)) (set.len-remove nat_list_cmp_total all k ∙ ap (λ b. cond b (set.len all - 1) (set.len all)) there) (none_there all k there)
+
+taken : (all : Keys) (k q : Key) → set.contains all k ≡ true → set.contains all q ≡ (eq_by_cmp key_cmp q k || set.contains (set.remove all k) q)
+taken all k q there = by_tie (eq_by_cmp key_cmp q k) refl ∙ ap (λ b. eq_by_cmp key_cmp q k || b) (sym (set.contains-remove nat_list_cmp_total all k q))
+  where
+    by_tie : (b : Bool) → eq_by_cmp key_cmp q k ≡ b → set.contains all q ≡ (b || (not b && set.contains all q))
+    by_tie true t = sym (set.contains_tied nat_list_cmp_total all q k ((Equal-is (key_cmp q k)).0 t)) ∙ there
+    by_tie false t = refl
+
+-- ---- a pass
+
+device_only : (why : Fault) → fault_of why ≡ model.Device → why ≡ Device
+device_only fault.Memory e = cc
+device_only fault.Device e = refl
+device_only fault.Broken e = cc
+device_only fault.ReadOnly e = cc
+device_only fault.TooLong e = cc
+device_only fault.Full e = cc
+device_only fault.NoPass e = cc
+device_only fault.NoRoom e = cc
+device_only fault.Damaged e = cc
+device_only fault.NotADatabase e = cc
+device_only fault.Version e = cc
+device_only fault.TooSmall e = cc
+device_only fault.BadLimit e = cc
+device_only fault.Missing e = cc
+device_only fault.Exists e = cc
+
+-- what refuses a call that is answered from the file
+pub by_chance : (why : Fault) (told : EngineFault) → told ≡ Db why → model.Refused (fault_of why) ≡ model.Refused model.Device → IsChance told
+by_chance why told is refused =
+    let e : fault_of why ≡ model.Device = cc in
+    inr (is ∙ ap Db (device_only why e))
+
+-- what a pass with these keys left gives
+abbrev PassGives : Keys → Option Keys → Result (Option (Vec ℕ)) EngineFault → Type 0
+PassGives left pass (Ok None) = left ≡ set.empty
+PassGives left pass (Ok (Some key)) = (set.contains left key.items ≡ true) × (pass ≡ Some (set.remove left key.items))
+PassGives left pass (Err fault) = IsChance fault
+
+pass_gives : (before after : Handle) (left : Keys) (lent : Lent) (result : Result (Option (Vec ℕ)) EngineFault) → IsCopied lent result
+    → Answers before.state (Passes left) (lent_reply End lent) after.state ⊎ Suffers before (Passes left) (lent_reply End lent) after → PassGives left after.state.pass result
+pass_gives before after left (Ok None) (Ok None) copied h = ⊎_elim (λ given. ⊎_elim (λ x. x.0) (λ x. let e = x.2 in absurd (no_key x.0 e)) given) (λ x. let e = x.0 in cc) h
+  where
+    no_key : (key : Key) → End ≡ Bytes key → ⊥
+    no_key key e = cc
+pass_gives before after left (Ok None) (Ok (Some copy)) copied h = absurd copied
+pass_gives before after left (Ok None) (Err told) copied h = absurd copied
+pass_gives before after left (Ok (Some bytes)) (Ok None) copied h = absurd copied
+pass_gives before after left (Ok (Some bytes)) (Ok (Some copy)) copied h = ⊎_elim
+    (λ given. ⊎_elim (λ x. absurd (no_end x.1)) (λ x.
+    let same : x.0 ≡ copy.items = sym (one_key x.0 x.2) ∙ sym copied in
+    (subst (λ (k : Key). set.contains left k ≡ true) same x.1, ap (λ (s : State). s.pass) x.3 ∙ ap (λ (k : Key). Some (set.remove left k)) same)) given)
+    (λ x. absurd (no_fault x.0)) h
+  where
+    no_end : Bytes bytes.now ≡ End → ⊥
+    no_end e = cc
+
+    one_key : (key : Key) → Bytes bytes.now ≡ Bytes key → bytes.now ≡ key
+    one_key key e = cc
+
+    no_fault : Bytes bytes.now ≡ model.Refused model.Device → ⊥
+    no_fault e = cc
+pass_gives before after left (Ok (Some bytes)) (Err told) copied h = inl copied
+pass_gives before after left (Err why) (Ok None) copied h = absurd copied
+pass_gives before after left (Err why) (Ok (Some copy)) copied h = absurd copied
+pass_gives before after left (Err why) (Err told) copied h = ⊎_elim
+    (λ given. ⊎_elim (λ x. absurd (no_end x.1)) (λ x. absurd (no_bytes x.0 x.2)) given)
+    (λ x. by_chance why told copied x.0) h
+  where
+    no_end : model.Refused (fault_of why) ≡ End → ⊥
+    no_end e = cc
+
+    no_bytes : (key : Key) → model.Refused (fault_of why) ≡ Bytes key → ⊥
+    no_bytes key e = cc
+
+-- ---- what is gathered
+
+-- of the map's keys these are gathered, this one is to come next, and the others are left to the pass
+pub record IsGathering (m : Contents) (done : List Key) (key : Key) (count : ℕ) (pass : Option Keys) : Type 0 where
+  pub left : Keys
+  pub some : Gathered
+  pub on : pass ≡ Some left
+  pub done_is : done ≡ keys some
+  pub whole : (q : Key) → contains_key m q ≡ (contains_key some q || (eq_by_cmp key_cmp q key || set.contains left q))
+  pub counted : count + 1 + set.len left ≡ finite.len m
+
+-- where no key came, all are gathered
+abbrev pub HasGathered : Contents → List Key → Option (Vec ℕ) → ℕ → Option Keys → Type 0
+HasGathered m done None count pass = done ≡ keys m
+HasGathered m done (Some key) count pass = IsGathering m done key.items count pass
+
+begins : (m : Contents) (pass : Option Keys) (result : Result (Option (Vec ℕ)) EngineFault) → PassGives (set.from_list (keys m)) pass result → MatchResult result (λ given. HasGathered m [] given 0 pass) IsChance
+begins m pass (Ok None) none =
+    sym keys_of_nothing ∙ all_gathered m nothing (λ q.
+    finite.contains_key-keys m q ∙ sym (set.contains-from_list nat_list_cmp_total (keys m) q) ∙ ap (λ (x : Keys). set.contains x q) none ∙ set.contains-empty key_cmp q ∙ sym (contains_nothing q))
+begins m pass (Ok (Some key)) given =
+    let all : Keys = set.from_list (keys m) in
+    record {
+      left = set.remove all key.items;
+      some = nothing;
+      on = given.1;
+      done_is = sym keys_of_nothing;
+      whole = λ q.
+          finite.contains_key-keys m q ∙ sym (set.contains-from_list nat_list_cmp_total (keys m) q) ∙ taken all key.items q given.0
+          ∙ ap (λ b. b || (eq_by_cmp key_cmp q key.items || set.contains (set.remove all key.items) q)) (sym (contains_nothing q));
+      counted = let one = fewer_by_one all key.items given.0 in let many = all_counted m in omega (arith, one, many);
+    }
+begins m pass (Err fault) chance = chance
+
+no_more : (a b c : Bool) → c ≡ false → (a || (b || c)) ≡ (b || a)
+no_more true true c e = refl
+no_more true false c e = refl
+no_more false true c e = refl
+no_more false false c e = e
+
+gone_over : (a b c : Bool) → (a || (b || c)) ≡ ((b || a) || c)
+gone_over true true c = refl
+gone_over true false c = refl
+gone_over false true c = refl
+gone_over false false c = refl
+
+goes_on : (m : Contents) (done : List Key) (key : Key) (count : ℕ) (before pass : Option Keys) (held : IsGathering m done key count before) (result : Result (Option (Vec ℕ)) EngineFault)
+    → PassGives held.left pass result → MatchResult result (λ given. HasGathered m (insert_key key_cmp done key) given (count + 1) pass) IsChance
+goes_on m done key count before pass held (Ok None) none =
+    ap (λ (ks : List Key). insert_key key_cmp ks key) held.done_is ∙ key_inserted held.some key ∙ all_gathered m (finite.insert held.some key tt) (λ q.
+    held.whole q
+    ∙ no_more (contains_key held.some q) (eq_by_cmp key_cmp q key) (set.contains held.left q) (ap (λ (x : Keys). set.contains x q) none ∙ set.contains-empty key_cmp q)
+    ∙ sym (contains_inserted held.some key q))
+goes_on m done key count before pass held (Ok (Some next)) given = record {
+  left = set.remove held.left next.items;
+  some = finite.insert held.some key tt;
+  on = given.1;
+  done_is = ap (λ (ks : List Key). insert_key key_cmp ks key) held.done_is ∙ key_inserted held.some key;
+  whole = λ q.
+      held.whole q ∙ gone_over (contains_key held.some q) (eq_by_cmp key_cmp q key) (set.contains held.left q)
+      ∙ (λ i. sym (contains_inserted held.some key q) i || taken held.left next.items q given.0 i);
+  counted = let one = fewer_by_one held.left next.items given.0 in let many = held.counted in omega (arith, one, many);
+}
+goes_on m done key count before pass held (Err fault) chance = chance
+
+-- the rule of a call on a usable handle
+pub on_usable : (before after : Handle) (call : Call) (reply : model.Reply) → before.state.usable ≡ true → Step before call reply after
+    → Answers before.state (usable_case before.state call) reply after.state ⊎ Suffers before (usable_case before.state call) reply after
+on_usable before after call reply usable step =
+    subst (λ (rule : Case). Answers before.state rule reply after.state ⊎ Suffers before rule reply after) (ap (λ b. cond b (usable_case before.state call) (broken_case before.state call)) usable) step.answers
+
+-- a pass over a database of the map, as far as it has come
+pub record IsPassing {S : Type 0} {s : Ghosts S} (db : Database S s) (m : Contents) (done : List Key) (given : Option (Vec ℕ)) (count : ℕ) : Type 0 where
+  pub now : Handle
+  pub is_at : IsAt db now
+  pub map_is : now.state.map ≡ m
+  pub usable : now.state.usable ≡ true
+  pub held : HasGathered m done given count now.state.pass
+
+module _ {S : Type 0} {s : Ghosts S} where
+  passing : (db : Database S s) (m : Contents) (after : Handle) (done : List Key) (count : ℕ) (result : Result (Option (Vec ℕ)) EngineFault) → IsAt db after → after.state.map ≡ m → after.state.usable ≡ true
+      → MatchResult result (λ given. HasGathered m done given count after.state.pass) IsChance → MatchResult result (λ given. IsPassing db m done given count) IsChance
+  passing db m after done count (Ok given) at map usable held = record { now = after; is_at = at; map_is = map; usable = usable; held = held }
+  passing db m after done count (Err fault) at map usable held = held
+
+  -- a pass is begun
+  begun : (old new : Database S s) (start : Handle) (result : Result (Option (Vec ℕ)) EngineFault) → start.state.usable ≡ true → CopiesStep old new start First End result
+      → MatchResult result (λ given. IsPassing new start.state.map [] given 0) IsChance
+  begun old new start result usable (lent, copied, made) =
+      let keeps = keeps_map start made.after (case_of start.state First) (lent_reply End lent) (reads_first start.state) made.step.answers in
+      let gives = pass_gives start made.after (set.from_list (keys start.state.map)) lent result copied (on_usable start made.after First (lent_reply End lent) usable made.step) in
+      passing new start.state.map made.after [] 0 result made.is_at keeps.map (keeps.usable ∙ usable) (begins start.state.map made.after.state.pass result gives)
+
+  pub pass_begins : (old new : Database S s) (start : Handle) (result : Result (Option (Vec ℕ)) EngineFault) (given : Option (Vec ℕ)) (done : List Key) → start.state.usable ≡ true → CopiesStep old new start First End result
+      → result ≡ Ok given → done ≡ [] → IsPassing new start.state.map done given 0
+  pass_begins old new start result given done usable step is none =
+      subst (λ (ks : List Key). IsPassing new start.state.map ks given 0) (sym none)
+      (subst (λ (r : Result (Option (Vec ℕ)) EngineFault). MatchResult r (λ given. IsPassing new start.state.map [] given 0) IsChance) is (begun old new start result usable step))
+
+  -- and goes on
+  gone_on : (old new : Database S s) (m : Contents) (done : List Key) (given : Option (Vec ℕ)) (key : Vec ℕ) (count : ℕ) (result : Result (Option (Vec ℕ)) EngineFault) (so_far : IsPassing old m done given count) → given ≡ Some key
+      → CopiesStep old new so_far.now Next End result → MatchResult result (λ next. IsPassing new m (insert_key key_cmp done key.items) next (count + 1)) IsChance
+  gone_on old new m done None key count result so_far is step = cc
+  gone_on old new m done (Some given) key count result so_far is (lent, copied, made) =
+      let start = so_far.now in
+      let same : given ≡ key = cc in
+      let keeps = keeps_map start made.after (case_of start.state Next) (lent_reply End lent) (reads_next start.state) made.step.answers in
+      let step = on_usable start made.after Next (lent_reply End lent) so_far.usable made.step in
+      let left = subst (λ (pass : Option Keys). Answers start.state (passed pass) (lent_reply End lent) made.after.state ⊎ Suffers start (passed pass) (lent_reply End lent) made.after) so_far.held.on step in
+      let gives = pass_gives start made.after so_far.held.left lent result copied left in
+      subst (λ (k : Vec ℕ). MatchResult result (λ next. IsPassing new m (insert_key key_cmp done k.items) next (count + 1)) IsChance) same
+      (passing new m made.after (insert_key key_cmp done given.items) (count + 1) result made.is_at (keeps.map ∙ so_far.map_is) (keeps.usable ∙ so_far.usable) (goes_on m done given.items count start.state.pass made.after.state.pass so_far.held result gives))
+
+  module _ (old new : Database S s) (m : Contents) (done : List Key) (given : Option (Vec ℕ)) (key : Vec ℕ) (count : ℕ) (result : Result (Option (Vec ℕ)) EngineFault) (so_far : IsPassing old m done given count) (is : given ≡ Some key)
+      (step : CopiesStep old new so_far.now Next End result) where
+    pub pass_goes_on : (next : Option (Vec ℕ)) (more : List Key) → result ≡ Ok next → more ≡ insert_key key_cmp done key.items → IsPassing new m more next (count + 1)
+    pass_goes_on next more well put =
+        subst (λ (ks : List Key). IsPassing new m ks next (count + 1)) (sym put)
+        (subst (λ (r : Result (Option (Vec ℕ)) EngineFault). MatchResult r (λ next. IsPassing new m (insert_key key_cmp done key.items) next (count + 1)) IsChance) well (gone_on old new m done given key count result so_far is step))
+
+    pub pass_goes_on_not : (fault : EngineFault) → result ≡ Err fault → IsChance fault
+    pass_goes_on_not fault badly =
+        subst (λ (r : Result (Option (Vec ℕ)) EngineFault). MatchResult r (λ next. IsPassing new m (insert_key key_cmp done key.items) next (count + 1)) IsChance) badly (gone_on old new m done given key count result so_far is step)
+
+-- the bytes of a set that one more key is put into
+bytes_inserted : (ks : List (Vec ℕ)) (key : Vec ℕ) → map (λ (x : Vec ℕ). x.items) (insert_key (λ (x y : Vec ℕ). slice_cmp nat_cmp x.items y.items) ks key) ≡ insert_key key_cmp (map (λ (x : Vec ℕ). x.items) ks) key.items
+bytes_inserted [] key = refl
+bytes_inserted (k ∷ ks) key = seen _ _ (slice_cmp nat_cmp key.items k.items) (bytes_inserted ks key)
+  where
+    seen : (more : List (Vec ℕ)) (rest : List Key) (r : Ordering) → map (λ (x : Vec ℕ). x.items) more ≡ rest
+        → map (λ (x : Vec ℕ). x.items) (match_ordering r (key ∷ k ∷ ks) (k ∷ ks) (k ∷ more)) ≡ match_ordering r (key.items ∷ k.items ∷ map (λ (x : Vec ℕ). x.items) ks) (k.items ∷ map (λ (x : Vec ℕ). x.items) ks) (k.items ∷ rest)
+    seen more rest Less h = refl
+    seen more rest Equal h = refl
+    seen more rest Greater h = ap (λ xs. k.items ∷ xs) h
+
+pub bytes_put : (old new : List (Vec ℕ)) (key : Vec ℕ) → new ≡ insert_key (λ (x y : Vec ℕ). slice_cmp nat_cmp x.items y.items) old key → map (λ (x : Vec ℕ). x.items) new ≡ insert_key key_cmp (map (λ (x : Vec ℕ). x.items) old) key.items
+bytes_put old new key put = ap (map (λ (x : Vec ℕ). x.items)) put ∙ bytes_inserted old key
+
+-- at most one key more
+inserted_length : (ks : List (Vec ℕ)) (key : Vec ℕ) → length (insert_key (λ (x y : Vec ℕ). slice_cmp nat_cmp x.items y.items) ks key) ≤ length ks + 1
+inserted_length [] key = omega arith
+inserted_length (k ∷ ks) key = by_place _ (slice_cmp nat_cmp key.items k.items) (inserted_length ks key)
+  where
+    by_place : (more : List (Vec ℕ)) (r : Ordering) → length more ≤ length ks + 1 → length (match_ordering r (key ∷ k ∷ ks) (k ∷ ks) (k ∷ more)) ≤ length (k ∷ ks) + 1
+    by_place more Less le = omega arith
+    by_place more Equal le = omega arith
+    by_place more Greater le = omega (arith, le)
+
+pub one_more_at_most : (old new : List (Vec ℕ)) (key : Vec ℕ) (count : ℕ) → new ≡ insert_key (λ (x y : Vec ℕ). slice_cmp nat_cmp x.items y.items) old key → length old ≤ count → length new ≤ count + 1
+one_more_at_most old new key count put le = omega (arith, ap length put, inserted_length old key, le)

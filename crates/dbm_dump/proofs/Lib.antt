@@ -1,0 +1,3 @@
+pub mod Dumping
+pub mod DumpingKeys
+pub mod DumpingPairs

@@ -1,0 +1,84 @@
+-- What reading a whole database gives and leaves.
+use Rattle.std.specs.Prelude.{◌≡◌, ◌⊎◌, ◌≤◌, ℕ, true, false, List, length, map, flat_map, Option, Some, None, Result, Ok, Err, OnOk, IsErrOf}
+use Rattle.std.specs.Global.{Vec}
+use Rattle.std.specs.BTreeSet.{BTreeSet}
+use Rattle.std.specs.Io.KnownBytes.{Appends}
+use Rattle.sect_dev.specs.Device.{MoreFaults}
+use Rattle.dbm_model.specs.Calls.{Call, Reply}
+use Rattle.dbm_text.specs.Dumps.{pair_line}
+use Rattle.dbm_text.specs.Lines.{with_line_feed}
+use Rattle.dbm_model.specs.Pairs.{Key, Pair}
+use Rattle.dbm_model.specs.States.{State, Handle, first_fault}
+use Rattle.dbm_text.specs.Words.{word_of}
+use Rattle.page_io.specs.declared.store.PageStore.{Ghosts}
+use Rattle.dbm_file.specs.Answers.{IsStep, Survives, Goes}
+use Rattle.dbm_file.specs.Calls.{Lent, lent_reply}
+use Rattle.dbm_file.specs.Database.{store_of, pages_of, error_of, IsAt}
+use Rattle.file_opening.specs.Faults.{fault_of}
+use Rattle.dbm_file.specs.declared.database.Database.{Database}
+use Rattle.file_opening.specs.declared.fault.Fault.{Fault}
+use Rattle.file_opening.specs.declared.fault.Fault.TheVariants.{Device, Broken}
+use Rattle.dbm_fault.specs.declared.engine_fault.EngineFault.{EngineFault}
+use Rattle.dbm_fault.specs.declared.engine_fault.EngineFault.TheVariants.{Memory, Db}
+
+-- the same map, limit and marks: the error number and the pass may differ
+pub record KeepsMap (before after : State) : Type 0 where
+  pub map : after.map ≡ before.map
+  pub limit : after.limit ≡ before.limit
+  pub writable : after.writable ≡ before.writable
+  pub usable : after.usable ≡ before.usable
+
+-- The database is at a handle of the same map, and every image of every moment since stands for that map.
+pub record Stays {S : Type 0} {s : Ghosts S} (old new : Database S s) (before : Handle) : Type 0 where
+  pub after : Handle
+  pub is_at : IsAt new after
+  pub keeps : KeepsMap before.state after.state
+  pub survives : (pages_of old).usable ≡ true → Survives old new (λ map. map ≡ before.state.map)
+
+-- What any number of calls that read leave on any device, and on an honest one.
+pub record Reads {S T : Type 0} {s : Ghosts S} (old new : Database S s) (result : Result T EngineFault) : Type 0 where
+  pub stays : s.honest (store_of old) → (h : Handle) → IsAt old h → Stays old new h
+  pub goes : Goes old new
+  pub device : IsErrOf result (Db Device) → MoreFaults (s.faults (store_of old)) (s.faults (store_of new))
+  pub broken : IsErrOf result (Db Broken) → (pages_of old).usable ≡ false
+  pub usable : OnOk result ((pages_of new).usable ≡ (pages_of old).usable)
+  -- the first fault is kept, and that of a refused call is one
+  pub error : (error_of new ≡ error_of old) ⊎ ((fault : Fault) × IsErrOf result (Db fault) × (error_of new ≡ first_fault (error_of old) (fault_of fault)))
+
+-- what may hinder the reading of a usable database on an honest device
+abbrev pub IsChance : EngineFault → Type 0
+IsChance fault = (fault ≡ Memory) ⊎ (fault ≡ Db Device)
+
+-- the bytes of keys
+abbrev pub bytes_of_keys : BTreeSet (Vec ℕ) → List Key
+bytes_of_keys keys = map (λ key. key.items) keys.keys
+
+-- no longer than a key or a content may be
+abbrev pub IsShort : List ℕ → Type 0
+IsShort bytes = length bytes ≤ 2026
+
+-- the lent bytes are copied, where there are some
+abbrev pub IsCopied : Lent → Result (Option (Vec ℕ)) EngineFault → Type 0
+IsCopied (Ok None) (Ok None) = Unit {0}
+IsCopied (Ok (Some bytes)) (Ok (Some copy)) = copy.items ≡ bytes.now
+IsCopied (Ok (Some bytes)) (Err fault) = fault ≡ Memory
+IsCopied (Err fault) (Err told) = told ≡ Db fault
+IsCopied _ _ = ⊥
+
+-- the call was made, and what it lent is copied
+abbrev pub CopiesStep : {S : Type 0} {s : Ghosts S} → Database S s → Database S s → Handle → Call → Reply → Result (Option (Vec ℕ)) EngineFault → Type 0
+CopiesStep old new start call none result = (lent : Lent) × IsCopied lent result × IsStep old new start call (lent_reply none lent)
+
+abbrev pub pair_lines : List Pair → List ℕ
+pair_lines pairs = flat_map pair_line pairs
+
+abbrev pub key_lines : List Key → List ℕ
+key_lines keys = flat_map (λ key. with_line_feed (word_of key)) keys
+
+-- the lines of some pairs were written, at most as many as the first number
+abbrev pub WritesPairs : ℕ → Option (List ℕ) → Option (List ℕ) → Type 0
+WritesPairs most before after = (pairs : List Pair) × (length pairs ≤ most) × Appends before after (pair_lines pairs)
+
+-- the same of keys
+abbrev pub WritesKeys : ℕ → Option (List ℕ) → Option (List ℕ) → Type 0
+WritesKeys most before after = (keys : List Key) × (length keys ≤ most) × Appends before after (key_lines keys)

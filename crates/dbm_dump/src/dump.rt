@@ -1,0 +1,93 @@
+// The engines of a dump and of a list.
+ghost use Rattle.std.specs.Prelude.{◌≡◌, ◌⊎◌, true, false, OnOk, IfErr, Err};
+ghost use Rattle.std.specs.List.{All};
+ghost use Rattle.std.specs.Io.KnownBytes.{Appends};
+ghost use Rattle.dbm_text.specs.Dumps.{dump_of, listing_of};
+ghost use Rattle.dbm_model.specs.States.{Handle};
+ghost use Rattle.dbm_file.specs.Database.{store_of, meta_of, pages_of, IsAt};
+ghost use Rattle.dbm_dump.specs.Dumping.{Reads, IsChance, bytes_of_keys, IsShort, WritesPairs, WritesKeys, pair_lines, key_lines};
+
+use crate::gather::{fetch_pairs, gather_keys};
+use dbm_fault::EngineFault;
+use dbm_file::{Database, Fault, Octets};
+use dbm_lines::{DIGITS, write_bytes, write_word};
+use page_io::PageStore;
+use std::alloc::Global;
+use std::collections::BTreeSet;
+use std::io::{self, Write};
+
+/// Writes each pair as `key content` in a line, in ascending byte order of keys. It reads everything
+/// before it writes, by a pass and a fetch of each key, and keeps the keys and the contents in memory
+/// until it ends. `Db(Damaged)` comes where the pass gives more keys than the file counts pairs, or a
+/// key that fetch doesn't find. After `Write` some of the text may be out.
+pub fn dump_engine<S: PageStore, W: Write>(
+    alloc: Global,
+    db: &mut Database<S>,
+    writer: &mut W,
+) -> Result<(), EngineFault>
+    ensures dump { S.honest (store_of db.old) → (h : Handle) → IsAt db.old h → h.state.usable ≡ true → OnOk result (Appends (W.contents writer.old) (W.contents writer.new) (dump_of h.state.map)) }
+    ensures whole { S.honest (store_of db.old) → (h : Handle) → IsAt db.old h → h.state.usable ≡ true → IfErr result (λ e. (e ≡ EngineFault.Write) ⊎ IsChance e) }
+
+    // Whatever it answers, the map stays.
+    ensures reads { Reads db.old db.new result }
+
+    // On any device.
+    ensures lines { OnOk result (WritesPairs (meta_of db.old).pairs (W.contents writer.old) (W.contents writer.new)) }
+    ensures broken { (pages_of db.old).usable ≡ false → result ≡ Err (EngineFault.Db Fault.Broken) }
+    ensures unwritten { IfErr result (λ e. (e ≡ EngineFault.Write) ⊎ (writer.new ≡ writer.old)) }
+    ensures only { IfErr result (λ e. (e ≡ EngineFault.Memory) ⊎ ((e ≡ EngineFault.Write) ⊎ ((e ≡ EngineFault.Db Fault.Broken) ⊎ ((e ≡ EngineFault.Db Fault.NoPass) ⊎ ((e ≡ EngineFault.Db Fault.Device) ⊎ (e ≡ EngineFault.Db Fault.Damaged)))))) }
+{
+    let keys = gather_keys(alloc, db)?;
+    let pairs = fetch_pairs(alloc, db, keys)?;
+    write_pairs(writer, &pairs).map_err(|_| EngineFault::Write)
+}
+
+/// Writes each key in a line, in ascending byte order. It reads all keys before it writes, by a pass, and
+/// keeps them in memory until it ends. `Db(Damaged)` comes where the pass gives more keys than the file
+/// counts pairs. After `Write` some of the text may be out.
+pub fn list_engine<S: PageStore, W: Write>(
+    alloc: Global,
+    db: &mut Database<S>,
+    writer: &mut W,
+) -> Result<(), EngineFault>
+    ensures list { S.honest (store_of db.old) → (h : Handle) → IsAt db.old h → h.state.usable ≡ true → OnOk result (Appends (W.contents writer.old) (W.contents writer.new) (listing_of h.state.map)) }
+    ensures whole { S.honest (store_of db.old) → (h : Handle) → IsAt db.old h → h.state.usable ≡ true → IfErr result (λ e. (e ≡ EngineFault.Write) ⊎ IsChance e) }
+
+    // Whatever it answers, the map stays.
+    ensures reads { Reads db.old db.new result }
+
+    // On any device.
+    ensures lines { OnOk result (WritesKeys (meta_of db.old).pairs (W.contents writer.old) (W.contents writer.new)) }
+    ensures broken { (pages_of db.old).usable ≡ false → result ≡ Err (EngineFault.Db Fault.Broken) }
+    ensures unwritten { IfErr result (λ e. (e ≡ EngineFault.Write) ⊎ (writer.new ≡ writer.old)) }
+    ensures only { IfErr result (λ e. (e ≡ EngineFault.Memory) ⊎ ((e ≡ EngineFault.Write) ⊎ ((e ≡ EngineFault.Db Fault.Broken) ⊎ ((e ≡ EngineFault.Db Fault.NoPass) ⊎ ((e ≡ EngineFault.Db Fault.Device) ⊎ (e ≡ EngineFault.Db Fault.Damaged)))))) }
+{
+    let keys = gather_keys(alloc, db)?;
+    write_keys(writer, &keys).map_err(|_| EngineFault::Write)
+}
+
+/// Writes the line of each pair.
+fn write_pairs<W: Write>(writer: &mut W, pairs: &[(Octets, Octets)]) -> io::Result<()>
+    requires { All (λ pair. IsShort pair.0 × IsShort pair.1) pairs.now }
+    ensures { OnOk result (Appends (W.contents writer.old) (W.contents writer.new) (pair_lines pairs.now)) }
+{
+    let mut digits = [0; DIGITS];
+    for (key, content) in pairs {
+        write_word(writer, key.as_slice(), &mut digits)?;
+        writer.write_all(b" ")?;
+        write_bytes(writer, content.as_slice(), &mut digits)?;
+    }
+    Ok(())
+}
+
+/// Writes the line of each key.
+fn write_keys<W: Write>(writer: &mut W, keys: &BTreeSet<Vec<u8>>) -> io::Result<()>
+    requires { All (λ key. IsShort key.items) keys.now.keys }
+    ensures { OnOk result (Appends (W.contents writer.old) (W.contents writer.new) (key_lines (bytes_of_keys keys.now))) }
+{
+    let mut digits = [0; DIGITS];
+    for key in keys {
+        write_bytes(writer, key, &mut digits)?;
+    }
+    Ok(())
+}

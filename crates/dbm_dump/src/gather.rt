@@ -1,0 +1,123 @@
+// What a whole database has: its keys, and their contents.
+ghost use Rattle.std.specs.Prelude.{◌≡◌, ◌≤◌, ◌⊎◌, true, false, IfOk, IfErr, IfSome, MatchResult, Err, map};
+ghost use Rattle.std.specs.BTreeSet.{btree_set_len};
+ghost use Rattle.std.specs.FinMap.{entries, keys as map_keys};
+ghost use Rattle.std.specs.List.{All};
+ghost use Rattle.dbm_model.specs.Calls.{Fetch, First, Next, NoRecord, End};
+ghost use Rattle.dbm_model.specs.States.{Handle};
+ghost use Rattle.dbm_file.specs.Database.{store_of, meta_of, pages_of, IsAt};
+ghost use Rattle.dbm_dump.specs.Dumping.{Reads, IsChance, bytes_of_keys, IsShort, IsCopied, CopiesStep};
+
+use dbm_fault::EngineFault;
+use dbm_file::{Database, Fault, Octets};
+use page_io::PageStore;
+use std::alloc::Global;
+use std::collections::BTreeSet;
+
+/// The keys of the database, by a pass. `Damaged` where the pass gives more keys than the file counts
+/// pairs.
+pub fn gather_keys<S: PageStore>(
+    alloc: Global,
+    db: &mut Database<S>,
+) -> Result<BTreeSet<Vec<u8>>, EngineFault>
+    ensures keys { S.honest (store_of db.old) → (h : Handle) → IsAt db.old h → h.state.usable ≡ true → MatchResult result (λ keys. bytes_of_keys keys ≡ map_keys h.state.map) IsChance }
+    ensures bound { IfOk result (λ keys. btree_set_len keys ≤ (meta_of db.old).pairs) }
+    ensures short { IfOk result (λ keys. All (λ key. IsShort key.items) keys.keys) }
+    ensures reads { Reads db.old db.new result }
+    ensures broken { (pages_of db.old).usable ≡ false → result ≡ Err (EngineFault.Db Fault.Broken) }
+    ensures only { IfErr result (λ e. (e ≡ EngineFault.Memory) ⊎ ((e ≡ EngineFault.Db Fault.Broken) ⊎ ((e ≡ EngineFault.Db Fault.NoPass) ⊎ ((e ≡ EngineFault.Db Fault.Device) ⊎ (e ≡ EngineFault.Db Fault.Damaged))))) }
+{
+    let most = db.stat().pairs;
+    let mut keys = BTreeSet::new(alloc);
+    let mut given = copy_first(alloc, db)?;
+    for _step in 0..most {
+        let Some(key) = given else {
+            return Ok(keys);
+        };
+        keys.insert(key).map_err(|_| EngineFault::Memory)?;
+        given = copy_next(alloc, db)?;
+    }
+    if given.is_some() {
+        return Err(EngineFault::Db(Fault::Damaged));
+    }
+    Ok(keys)
+}
+
+/// The keys with their contents, in the order of the keys. `Damaged` where a key has none.
+pub fn fetch_pairs<S: PageStore>(
+    alloc: Global,
+    db: &mut Database<S>,
+    keys: BTreeSet<Vec<u8>>,
+) -> Result<Vec<(Octets, Octets)>, EngineFault>
+    requires { All (λ key. IsShort key.items) keys.keys }
+    ensures pairs { S.honest (store_of db.old) → (h : Handle) → IsAt db.old h → h.state.usable ≡ true → bytes_of_keys keys ≡ map_keys h.state.map → MatchResult result (λ pairs. pairs.items ≡ entries h.state.map) IsChance }
+    ensures keys { IfOk result (λ pairs. map (λ pair. pair.0) pairs.items ≡ bytes_of_keys keys) }
+    ensures short { IfOk result (λ pairs. All (λ pair. IsShort pair.0 × IsShort pair.1) pairs.items) }
+    ensures reads { Reads db.old db.new result }
+    ensures only { IfErr result (λ e. (e ≡ EngineFault.Memory) ⊎ ((e ≡ EngineFault.Db Fault.Broken) ⊎ ((e ≡ EngineFault.Db Fault.Device) ⊎ (e ≡ EngineFault.Db Fault.Damaged)))) }
+{
+    let mut pairs = Vec::new(alloc);
+    for key in keys {
+        let Some(content) = copy_content(alloc, db, &key)? else {
+            return Err(EngineFault::Db(Fault::Damaged));
+        };
+        let pair = (Octets::from(key), Octets::from(content));
+        pairs.push(pair).map_err(|_| EngineFault::Memory)?;
+    }
+    Ok(pairs)
+}
+
+/// The first key of a new pass.
+fn copy_first<S: PageStore>(
+    alloc: Global,
+    db: &mut Database<S>,
+) -> Result<Option<Vec<u8>>, EngineFault>
+    ensures step { S.honest (store_of db.old) → (h : Handle) → IsAt db.old h → CopiesStep db.old db.new h First End result }
+    ensures short { IfOk result (λ r. IfSome r (λ key. IsShort key.items)) }
+    ensures reads { Reads db.old db.new result }
+    ensures broken { (pages_of db.old).usable ≡ false → result ≡ Err (EngineFault.Db Fault.Broken) }
+    ensures only { IfErr result (λ e. (e ≡ EngineFault.Memory) ⊎ ((e ≡ EngineFault.Db Fault.Broken) ⊎ ((e ≡ EngineFault.Db Fault.Device) ⊎ (e ≡ EngineFault.Db Fault.Damaged)))) }
+{
+    copied(alloc, db.firstkey())
+}
+
+/// The next key of the pass.
+fn copy_next<S: PageStore>(
+    alloc: Global,
+    db: &mut Database<S>,
+) -> Result<Option<Vec<u8>>, EngineFault>
+    ensures step { S.honest (store_of db.old) → (h : Handle) → IsAt db.old h → CopiesStep db.old db.new h Next End result }
+    ensures short { IfOk result (λ r. IfSome r (λ key. IsShort key.items)) }
+    ensures reads { Reads db.old db.new result }
+    ensures only { IfErr result (λ e. (e ≡ EngineFault.Memory) ⊎ ((e ≡ EngineFault.Db Fault.Broken) ⊎ ((e ≡ EngineFault.Db Fault.NoPass) ⊎ ((e ≡ EngineFault.Db Fault.Device) ⊎ (e ≡ EngineFault.Db Fault.Damaged))))) }
+{
+    copied(alloc, db.nextkey())
+}
+
+/// The content of the key.
+fn copy_content<S: PageStore>(
+    alloc: Global,
+    db: &mut Database<S>,
+    key: &[u8],
+) -> Result<Option<Vec<u8>>, EngineFault>
+    ensures step { S.honest (store_of db.old) → (h : Handle) → IsAt db.old h → CopiesStep db.old db.new h (Fetch key.now) NoRecord result }
+    ensures short { IfOk result (λ r. IfSome r (λ content. IsShort content.items)) }
+    ensures reads { Reads db.old db.new result }
+    ensures only { IfErr result (λ e. (e ≡ EngineFault.Memory) ⊎ ((e ≡ EngineFault.Db Fault.Broken) ⊎ ((e ≡ EngineFault.Db Fault.Device) ⊎ (e ≡ EngineFault.Db Fault.Damaged)))) }
+{
+    copied(alloc, db.fetch(key))
+}
+
+/// A copy of the bytes that a call lends.
+fn copied(alloc: Global, lent: Result<Option<&[u8]>, Fault>) -> Result<Option<Vec<u8>>, EngineFault>
+    ensures { IsCopied lent.entry result }
+{
+    match lent {
+        Ok(Some(bytes)) => match Vec::from_slice(alloc, bytes) {
+            Ok(copy) => Ok(Some(copy)),
+            Err(_) => Err(EngineFault::Memory),
+        },
+        Ok(None) => Ok(None),
+        Err(fault) => Err(EngineFault::Db(fault)),
+    }
+}

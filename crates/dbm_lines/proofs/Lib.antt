@@ -1,0 +1,5 @@
+pub mod PairLines
+pub mod Reading
+pub mod Requests
+pub mod Splits
+pub mod TextLines

@@ -1,0 +1,3 @@
+pub mod PairLines
+pub mod Reading
+pub mod Requests

@@ -1,0 +1,108 @@
+// Replies as lines.
+ghost use Rattle.std.specs.Prelude.{◌≡◌, ◌≤◌, ℕ, pos, OnOk, length};
+ghost use Rattle.std.specs.Io.KnownBytes.{Appends};
+ghost use Rattle.dbm_model.specs.Calls.{Fault, Stored, Kept, Deleted, Absent, Bytes, NoRecord, End, Number, Refused, number_of};
+ghost use Rattle.dbm_text.specs.Lines.{reply_line, bad_line};
+ghost use Rattle.dbm_text.specs.Words.{word_of};
+
+use std::io::{self, Write};
+
+/// The bytes that a content or a key may have.
+const LONGEST: usize = 2026;
+
+/// The digits of the longest word.
+pub const DIGITS: usize = 2 * LONGEST;
+
+/// Writes the line of a call that stored its pair.
+pub fn write_stored<W: Write>(writer: &mut W) -> io::Result<()>
+    ensures { OnOk result (Appends (W.contents writer.old) (W.contents writer.new) (reply_line Stored)) }
+{
+    writer.write_all(b"0\n")
+}
+
+/// Writes the line of a store that left the old content.
+pub fn write_kept<W: Write>(writer: &mut W) -> io::Result<()>
+    ensures { OnOk result (Appends (W.contents writer.old) (W.contents writer.new) (reply_line Kept)) }
+{
+    writer.write_all(b"1\n")
+}
+
+/// Writes the line of a delete that took its key out.
+pub fn write_deleted<W: Write>(writer: &mut W) -> io::Result<()>
+    ensures { OnOk result (Appends (W.contents writer.old) (W.contents writer.new) (reply_line Deleted)) }
+{
+    writer.write_all(b"0\n")
+}
+
+/// Writes the line of a delete that found nothing.
+pub fn write_absent<W: Write>(writer: &mut W) -> io::Result<()>
+    ensures { OnOk result (Appends (W.contents writer.old) (W.contents writer.new) (reply_line Absent)) }
+{
+    writer.write_all(b"-1 absent\n")
+}
+
+/// Writes the line of a fetch that found nothing.
+pub fn write_no_record<W: Write>(writer: &mut W) -> io::Result<()>
+    ensures { OnOk result (Appends (W.contents writer.old) (W.contents writer.new) (reply_line NoRecord)) }
+{
+    writer.write_all(b"none\n")
+}
+
+/// Writes the line of a pass that has given every key.
+pub fn write_end<W: Write>(writer: &mut W) -> io::Result<()>
+    ensures { OnOk result (Appends (W.contents writer.old) (W.contents writer.new) (reply_line End)) }
+{
+    writer.write_all(b"end\n")
+}
+
+/// Writes the line of an error number.
+pub fn write_number<W: Write>(writer: &mut W, number: i32) -> io::Result<()>
+    ensures { (n : ℕ) → number ≡ pos n → OnOk result (Appends (W.contents writer.old) (W.contents writer.new) (reply_line (Number n))) }
+{
+    writeln!(writer, "{number}")
+}
+
+/// Writes the line of a line that asks for no call.
+pub fn write_bad_line<W: Write>(writer: &mut W) -> io::Result<()>
+    ensures { OnOk result (Appends (W.contents writer.old) (W.contents writer.new) bad_line) }
+{
+    writer.write_all(b"-1 line\n")
+}
+
+/// Writes the line of a call that was refused by the fault of this number.
+pub fn write_refused<W: Write>(writer: &mut W, number: i32) -> io::Result<()>
+    ensures { (fault : Fault) → number ≡ pos (number_of fault) → OnOk result (Appends (W.contents writer.old) (W.contents writer.new) (reply_line (Refused fault))) }
+{
+    writer.write_all(b"-1 fault ")?;
+    writeln!(writer, "{number}")
+}
+
+/// Writes the line of a content or a key. Its digits go through `digits`.
+pub fn write_bytes<W: Write>(
+    writer: &mut W,
+    bytes: &[u8],
+    digits: &mut [u8; DIGITS],
+) -> io::Result<()>
+    requires { length bytes.now ≤ 2026 }
+    ensures { OnOk result (Appends (W.contents writer.old) (W.contents writer.new) (reply_line (Bytes bytes.now))) }
+{
+    write_word(writer, bytes, digits)?;
+    writer.write_all(b"\n")
+}
+
+/// Writes the word of a content or a key. Its digits go through `digits`.
+pub fn write_word<W: Write>(
+    writer: &mut W,
+    bytes: &[u8],
+    digits: &mut [u8; DIGITS],
+) -> io::Result<()>
+    requires { length bytes.now ≤ 2026 }
+    ensures { OnOk result (Appends (W.contents writer.old) (W.contents writer.new) (word_of bytes.now)) }
+{
+    if bytes.is_empty() {
+        return writer.write_all(b".");
+    }
+    let text = &mut digits[..2 * bytes.len()];
+    hex::encode_to_slice(bytes, text).unwrap();
+    writer.write_all(text)
+}

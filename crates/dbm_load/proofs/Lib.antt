@@ -1,0 +1,2 @@
+pub mod LoadingRuns
+pub mod Loading

@@ -1,0 +1,42 @@
+use Rattle.std.proofs.Common.{◌≡◌, true, Err, IfSome, rules}
+use Rattle.dbm_file.proofs.Runs.{no_run, goes_nowhere, still_goes}
+use Rattle.dbm_lines.specs.Reading.{ReadsLine, IsCounted}
+use Rattle.dbm_fault.specs.declared.engine_fault.EngineFault.TheVariants.{Read}
+use Rattle.dbm_lines.proofs.TextLines.{counted_first, counted_on}
+use Rattle.dbm_load.proofs.Loading.{at_start, go_on, stopped, not_read}
+use Rattle.dbm_load.proofs.load.load_lines.Goals as goal
+
+pub loop-number-init : goal.loop-number-init
+loop-number-init g c = record {
+  loading =
+      let db = c.args.db.now in
+      at_start db _ (λ start honest at. no_run g.S.PageStore db start at (λ x left. g.met.S.PageStore.only_now db.store x honest left));
+  goes = goes_nowhere c.args.db.now;
+  counted = counted_first (g.R.Read.remaining c.args.reader.now) 4294967295;
+}
+
+pub returns-in_err-map_err-clause-loads : goal.returns-in_err-map_err-clause-loads
+returns-in_err-map_err-clause-loads g c =
+    let same : c.from_residual.result ≡ Err Read = search rules in
+    rw same (not_read _ _ _ _ _ c.loop-number.invariant.loading)
+
+pub returns-in_err-load_line-clause-loads : goal.returns-in_err-load_line-clause-loads
+returns-in_err-load_line-clause-loads g c =
+    let read : IfSome (g.R.Read.remaining c.loop-number.reader) (λ text. ReadsLine 8193 text true c.read_line-more.new.line.items (g.R.Read.remaining c.read_line-more.new.reader)) = search rules in
+    let same : c.from_residual-in_err-load_line.result ≡ Err c.in_err-load_line.field-0.0 = search rules in
+    let h = c.loop-number.invariant in
+    rw same (stopped g.S.PageStore _ _ _ _ _ _ _ _ h.goes.limit h.goes.honesty.1 c.load_line.ensures.goes h.loading read _ c.in_err-load_line.ensures.line)
+
+pub loop-number-preserved : goal.loop-number-preserved
+loop-number-preserved g c =
+    let read : IfSome (g.R.Read.remaining c.loop-number.reader) (λ text. ReadsLine 8193 text true c.read_line-more.new.line.items (g.R.Read.remaining c.read_line-more.new.reader)) = search rules in
+    let count : IsCounted (g.R.Read.remaining c.loop-number.reader) c.loop-number.left (g.R.Read.remaining c.read_line-more.new.reader) c.read_line-more.new.left = search rules in
+    let h = c.loop-number.invariant in
+    record {
+      loading = go_on g.S.PageStore _ _ _ _ _ _ _ _ h.goes.limit h.goes.honesty.1 c.load_line.ensures.goes h.loading read c.in_ok-load_line.ensures.line;
+      goes = still_goes _ _ _ h.goes c.load_line.ensures.goes;
+      counted = counted_on _ _ _ _ _ _ h.counted count;
+    }
+
+pub returns-clause-loads : goal.returns-clause-loads
+returns-clause-loads g c = not_read _ _ _ _ _ c.loop-number.invariant.loading

@@ -1,0 +1,2 @@
+pub use Rattle.dbm_lines.specs.PairLines
+pub mod Loading

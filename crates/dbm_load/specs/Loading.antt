@@ -1,0 +1,69 @@
+-- What a text of pairs says, and what a load of it does.
+use Rattle.std.specs.Prelude.{◌≡◌, ℕ, ◌+◌, List, [], ◌∷◌, ◌++◌, length, map, Option, Some, None, IfSome, Result, Ok, Err}
+use Rattle.std.specs.FinMap.{empty, entries}
+use Rattle.std.specs.List.{All}
+use Rattle.dbm_model.specs.Calls.{Call, Store, Replace, Stored, Refused}
+use Rattle.dbm_model.specs.Calls as model
+use Rattle.dbm_text.specs.Dumps.{dump_of}
+use Rattle.dbm_text.specs.Lines.{lines_of}
+use Rattle.page_model.specs.PairLists.{HasBytes}
+use Rattle.dbm_model.specs.Pairs.{Pair, Contents}
+use Rattle.dbm_model.specs.States.{Handle}
+use Rattle.page_io.specs.declared.store.PageStore.{Ghosts}
+use Rattle.dbm_file.specs.Answers.{IsStep, IsRun}
+use Rattle.dbm_file.specs.Database.{store_of, IsAt}
+use Rattle.file_opening.specs.Faults.{fault_of}
+use Rattle.dbm_file.specs.declared.database.Database.{Database}
+use Rattle.dbm_lines.specs.PairLines.{pair_of, Say}
+use Rattle.dbm_fault.specs.declared.engine_fault.EngineFault.{EngineFault}
+use Rattle.dbm_fault.specs.declared.engine_fault.EngineFault.TheVariants.{Line, Db}
+
+-- there is a first line, and it says this pair, or is bad
+abbrev pub FirstSays : List (List ℕ) → Option Pair → Type 0
+FirstSays [] said = ⊥
+FirstSays (line ∷ lines) said = pair_of line ≡ said
+
+-- the call that stores a pair, also where the key is there
+abbrev pub replacing : Pair → Call
+replacing pair = Store pair.0 pair.1 Replace
+
+-- each key and content of the map is of bytes
+abbrev pub IsOfBytes : Contents → Type 0
+IsOfBytes contents = All HasBytes (entries contents)
+
+-- on an honest store the pairs were stored one after another, and no other call was made
+abbrev pub StoresAll : {S : Type 0} {s : Ghosts S} → Database S s → Database S s → List Pair → Type 0
+StoresAll {S} {s} old new pairs = s.honest (store_of old) → (h : Handle) → IsAt old h → IsRun old new h (map replacing pairs) (map (λ _. Stored) pairs)
+
+-- the same, and then the store of one more was refused
+abbrev pub StoresBefore : {S : Type 0} {s : Ghosts S} → Database S s → Database S s → List Pair → Pair → model.Fault → Type 0
+StoresBefore {S} {s} old new pairs refused fault = s.honest (store_of old) → (h : Handle) → IsAt old h →
+    IsRun old new h (map replacing pairs ++ replacing refused ∷ []) (map (λ _. Stored) pairs ++ Refused fault ∷ [])
+
+-- how a load ended that stored these pairs, of the first lines, and did not store the rest
+abbrev pub EndsBy : {S : Type 0} {s : Ghosts S} → Result Unit EngineFault → Database S s → Database S s → List (List ℕ) → List (List ℕ) → List Pair → Type 0
+EndsBy (Ok done) old new first rest stored = (rest ≡ []) × StoresAll old new stored
+EndsBy (Err (Line n)) old new first rest stored = (n ≡ length first + 1) × FirstSays rest None × StoresAll old new stored
+EndsBy (Err (Db fault)) old new first rest stored = (pair : Pair) × FirstSays rest (Some pair) × StoresBefore old new stored pair (fault_of fault)
+EndsBy _ old new first rest stored = StoresAll old new stored
+
+-- What a load of a text did, whatever it answers: it stored what the first lines say.
+pub record Loads {S : Type 0} {s : Ghosts S} (result : Result Unit EngineFault) (text : Option (List ℕ)) (old new : Database S s) : Type 0 where
+  pub first : List (List ℕ)
+  pub rest : List (List ℕ)
+  pub stored : List Pair
+  pub lines : IfSome text (λ bytes. lines_of bytes ≡ first ++ rest)
+  pub said : Say first stored
+  pub ends : EndsBy result old new first rest stored
+
+-- of the dump of a map, loaded into an empty database: it then has that map
+abbrev pub LoadsDump : {S : Type 0} {s : Ghosts S} → Option (List ℕ) → Database S s → Database S s → Type 0
+LoadsDump {S} {s} text old new = s.honest (store_of old) → (h : Handle) → IsAt old h → h.state.map ≡ empty →
+    (contents : Contents) → IsOfBytes contents → text ≡ Some (dump_of contents) → (after : Handle) × IsAt new after × (after.state.map ≡ contents)
+
+-- what became of one line of this number that says this pair, or is bad
+abbrev pub LoadsLine : {S : Type 0} {s : Ghosts S} → Result Unit EngineFault → Option Pair → ℕ → Database S s → Database S s → Type 0
+LoadsLine {S} {s} (Ok done) (Some pair) number old new = s.honest (store_of old) → (h : Handle) → IsAt old h → IsStep old new h (replacing pair) Stored
+LoadsLine {S} {s} (Err (Db fault)) (Some pair) number old new = s.honest (store_of old) → (h : Handle) → IsAt old h → IsStep old new h (replacing pair) (Refused (fault_of fault))
+LoadsLine (Err (Line n)) None number old new = (n ≡ number) × (new ≡ old)
+LoadsLine _ said number old new = ⊥

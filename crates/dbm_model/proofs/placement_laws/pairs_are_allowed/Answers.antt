@@ -1,5 +1,0 @@
-use Rattle.dbm_model.proofs.Splits.{pairs_allowed}
-use Rattle.dbm_model.proofs.placement_laws.pairs_are_allowed.Goals as goal
-
-pub returns : goal.returns
-returns _ = pairs_allowed

@@ -1,5 +1,0 @@
-use Rattle.dbm_model.proofs.Places.{replace_inserts}
-use Rattle.dbm_model.proofs.placement_laws.replace_inserts.Goals as goal
-
-pub returns : goal.returns
-returns _ = replace_inserts

@@ -1,5 +1,0 @@
-use Rattle.dbm_model.proofs.GoodSheets.{pages_exactly}
-use Rattle.dbm_model.proofs.sheet_laws.pages_read_exactly.Goals as goal
-
-pub returns : goal.returns
-returns _ = pages_exactly

@@ -1,5 +1,0 @@
-use Rattle.dbm_model.proofs.GoodSheets.{sheets_valid}
-use Rattle.dbm_model.proofs.sheet_laws.sheets_are_valid.Goals as goal
-
-pub returns : goal.returns
-returns _ = sheets_valid

@@ -1,0 +1,40 @@
+-- What an engine does with a script.
+use Rattle.std.specs.Prelude.{◌≡◌, ℕ, List, true, Option, Some, None}
+use Rattle.std.specs.FinMap as map
+use Rattle.std.specs.Io.KnownBytes.{Appends}
+use Rattle.dbm_model.specs.Calls.{Call, Reply}
+use Rattle.dbm_text.specs.Lines.{reply_line, bad_line}
+use Rattle.dbm_text.specs.Scripts.{script_of, calls_in, answer_of}
+use Rattle.dbm_model.specs.States.{Handle, fresh}
+use Rattle.dbm_model.specs.Steps.{Run}
+use Rattle.page_model.specs.Sizes.{is_limit}
+use Rattle.page_io.specs.declared.store.PageStore.{Ghosts}
+use Rattle.dbm_file.specs.Answers.{IsStep, IsRun}
+use Rattle.dbm_file.specs.declared.database.Database.{Database}
+
+-- some run of calls leads from one database, at this handle, to the other
+pub record RunsTo {S : Type 0} {s : Ghosts S} (old new : Database S s) (start : Handle) : Type 0 where
+  pub calls : List Call
+  pub replies : List Reply
+  pub run : IsRun old new start calls replies
+
+-- the calls of the script were made in order, and exactly the answer to it was written
+pub record AnswersScript {S : Type 0} {s : Ghosts S} (script : List (Option Call)) (old new : Database S s) (start : Handle) (before after : Option (List ℕ)) : Type 0 where
+  pub replies : List Reply
+  pub run : IsRun old new start (calls_in script) replies
+  pub written : Appends before after (answer_of script replies)
+
+-- the call of a line was made, or none for a bad line, and Says holds of the line that answers it
+abbrev pub AnswersLine : {S : Type 0} {s : Ghosts S} → Option Call → Database S s → Database S s → Handle → (List ℕ → Type 0) → Type 0
+AnswersLine None old new start Says = (new ≡ old) × Says bad_line
+AnswersLine (Some call) old new start Says = (reply : Reply) × IsStep old new start call reply × Says (reply_line reply)
+
+-- the script was answered by a run of a new database of the limit
+pub record AnswersInMemory (limit : ℕ) (text : List ℕ) (old new : Option (List ℕ)) : Type 0 where
+  pub allowed : is_limit limit ≡ true
+  pub before : Handle
+  pub empty : before.state ≡ fresh map.empty limit true
+  pub after : Handle
+  pub replies : List Reply
+  pub run : Run before (calls_in (script_of text)) replies after
+  pub written : Appends old new (answer_of (script_of text) replies)

@@ -1,0 +1,70 @@
+// A script over a new database in memory.
+ghost use Rattle.std.specs.Prelude.{◌≡◌, OnOk, IfOk, IfErr, IfSome, true, false};
+ghost use Rattle.std.specs.FinMap.{empty};
+ghost use Rattle.page_model.specs.Sizes.{is_limit};
+ghost use Rattle.dbm_file.specs.Opened.{IsOpenedAt};
+ghost use Rattle.dbm_script.specs.Faults.{told_in_memory};
+ghost use Rattle.dbm_script.specs.Scripts.{AnswersInMemory};
+
+use crate::script_engine;
+use dbm_fault::EngineFault;
+use dbm_file::{Access, Db, Fault, OpenHow, needed_sectors};
+use sect_dev::MemDev;
+use std::alloc::Global;
+use std::io::{BufRead, Write};
+
+/// Answers the script on `input` by a new database in memory.
+pub fn script_in_memory<R: BufRead, O: Write>(
+    alloc: Global,
+    limit: u32,
+    input: &mut R,
+    output: &mut O,
+) -> Result<(), EngineFault>
+    ensures answer { OnOk result (IfSome (R.remaining input.old) (λ text.
+        AnswersInMemory limit text (O.contents output.old) (O.contents output.new))) }
+    ensures limit { is_limit limit ≡ false → result ≡ Err (EngineFault.Db Fault.BadLimit) }
+{
+    let mut db = match new_in_memory(alloc, limit) {
+        Ok(db) => db,
+        Err(fault) => return Err(in_memory(fault)),
+    };
+    let done = script_engine(alloc, &mut db, input, output);
+    let (_, closed) = db.close();
+    let flushed = output.flush();
+    done?;
+    closed.map_err(in_memory)?;
+    flushed.map_err(|_| EngineFault::Write)
+}
+
+/// Tells a fault of a database in memory. Its device fails only where a growth is refused.
+fn in_memory(fault: Fault) -> EngineFault
+    ensures { result ≡ told_in_memory fault }
+{
+    match fault {
+        Fault::Device | Fault::Broken => EngineFault::Memory,
+        other => EngineFault::Db(other),
+    }
+}
+
+/// A new database in memory, of at most `limit` pairs.
+fn new_in_memory(alloc: Global, limit: u32) -> Result<Db<MemDev>, Fault>
+    ensures fresh { IfOk result (λ db. IsOpenedAt true db empty limit) }
+    ensures allowed { IfOk result (λ _. is_limit limit ≡ true) }
+    ensures limit { is_limit limit ≡ false → result ≡ Err Fault.BadLimit }
+    ensures only { is_limit limit ≡ true → IfErr result (λ e. e ≡ Fault.Device) }
+{
+    let Some(sectors) = needed_sectors(limit) else {
+        return Err(Fault::BadLimit);
+    };
+    let how = OpenHow {
+        access: Access::ReadWrite,
+        create: true,
+        exclusive: false,
+        truncate: false,
+        limit,
+    };
+    match Db::open(alloc, MemDev::new(alloc, sectors), how) {
+        Ok(db) => Ok(db),
+        Err((_, fault)) => Err(fault),
+    }
+}

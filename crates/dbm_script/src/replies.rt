@@ -1,0 +1,50 @@
+// The replies of calls that a fault may refuse, as lines.
+ghost use Rattle.std.specs.Prelude.{◌≡◌, ◌≤◌, OnOk, IfOk, IfSome, length};
+ghost use Rattle.std.specs.Io.KnownBytes.{Appends};
+ghost use Rattle.dbm_model.specs.Calls.{NoRecord, End, Refused};
+ghost use Rattle.dbm_text.specs.Lines.{reply_line};
+ghost use Rattle.dbm_file.specs.Calls.{lent_reply};
+ghost use Rattle.file_opening.specs.Faults.{fault_of};
+
+use dbm_file::Fault;
+use dbm_lines::{DIGITS, write_bytes, write_end, write_no_record, write_refused};
+use std::io::{self, Write};
+
+/// Writes the line of a fetch. The digits of a content go through `digits`.
+pub fn write_fetched<W: Write>(
+    writer: &mut W,
+    content: Result<Option<&[u8]>, Fault>,
+    digits: &mut [u8; DIGITS],
+) -> io::Result<()>
+    requires { IfOk content (λ r. IfSome r (λ bytes. length bytes.now ≤ 2026)) }
+    ensures { OnOk result (Appends (W.contents writer.old) (W.contents writer.new) (reply_line (lent_reply NoRecord content.entry))) }
+{
+    match content {
+        Ok(Some(content)) => write_bytes(writer, content, digits),
+        Ok(None) => write_no_record(writer),
+        Err(fault) => write_fault(writer, fault),
+    }
+}
+
+/// Writes the line of a firstkey or a nextkey. The digits of a key go through `digits`.
+pub fn write_passed<W: Write>(
+    writer: &mut W,
+    key: Result<Option<&[u8]>, Fault>,
+    digits: &mut [u8; DIGITS],
+) -> io::Result<()>
+    requires { IfOk key (λ r. IfSome r (λ bytes. length bytes.now ≤ 2026)) }
+    ensures { OnOk result (Appends (W.contents writer.old) (W.contents writer.new) (reply_line (lent_reply End key.entry))) }
+{
+    match key {
+        Ok(Some(key)) => write_bytes(writer, key, digits),
+        Ok(None) => write_end(writer),
+        Err(fault) => write_fault(writer, fault),
+    }
+}
+
+/// Writes the line of a call that was refused.
+pub fn write_fault<W: Write>(writer: &mut W, fault: Fault) -> io::Result<()>
+    ensures { OnOk result (Appends (W.contents writer.old) (W.contents writer.new) (reply_line (Refused (fault_of fault)))) }
+{
+    write_refused(writer, fault.number())
+}

@@ -1,0 +1,197 @@
+// The engine of a script.
+ghost use Rattle.std.specs.Prelude.{◌≡◌, ◌≤◌, ◌⊎◌, IfErr, OnOk, IfSome, Some, [], length};
+ghost use Rattle.std.specs.Io.KnownBytes.{Appends};
+ghost use Rattle.dbm_text.specs.Lines.{call_of};
+ghost use Rattle.dbm_model.specs.Calls.{Store, Fetch, Delete, First, Next, Error, Clear};
+ghost use Rattle.dbm_text.specs.Scripts.{script_of};
+ghost use Rattle.dbm_model.specs.States.{Handle};
+ghost use Rattle.dbm_file.specs.Answers.{Goes};
+ghost use Rattle.dbm_file.specs.Calls.{mode_of};
+ghost use Rattle.dbm_file.specs.Database.{store_of, IsAt};
+ghost use Rattle.dbm_script.specs.Scripts.{RunsTo, AnswersScript, AnswersLine};
+
+use crate::replies::{write_fault, write_fetched, write_passed};
+use dbm_fault::EngineFault;
+use dbm_file::{Database, DeleteReply, StoreMode, StoreReply};
+use dbm_lines::{
+    Buffers, DIGITS, Request, read_line, request_of, write_absent, write_bad_line, write_deleted,
+    write_kept, write_number, write_stored,
+};
+use page_io::PageStore;
+use std::alloc::Global;
+use std::io::{self, BufRead, Write};
+
+/// Reads lines to the end, makes the call that each asks for, and writes one line for each: the reply,
+/// or `-1 line` where the line asks for no call. A line may have 8,192 bytes without its line feed, and
+/// a text 4,294,967,295. `Memory` comes before anything is read, `Read` where reading fails or the text
+/// is too long, and `Write` where writing fails; the calls made so far stand.
+pub fn script_engine<S: PageStore, R: BufRead, W: Write>(
+    alloc: Global,
+    db: &mut Database<S>,
+    reader: &mut R,
+    writer: &mut W,
+) -> Result<(), EngineFault>
+    ensures read { OnOk result (IfSome (R.remaining reader.old) (λ text. R.remaining reader.new ≡ Some [])) }
+    ensures size { OnOk result (IfSome (R.remaining reader.old) (λ text. length text ≤ 4294967295)) }
+    ensures answer { S.honest (store_of db.old) → (h : Handle) → IsAt db.old h → OnOk result (IfSome (R.remaining reader.old) (λ text.
+        AnswersScript (script_of text) db.old db.new h (W.contents writer.old) (W.contents writer.new))) }
+
+    // Whatever it answers, the calls made so far stand.
+    ensures stands { S.honest (store_of db.old) → (h : Handle) → IsAt db.old h → RunsTo db.old db.new h }
+    ensures goes { Goes db.old db.new }
+    ensures memory { result ≡ Err EngineFault.Memory → (db.new ≡ db.old) × ((reader.new ≡ reader.old) × (writer.new ≡ writer.old)) }
+    ensures only { IfErr result (λ e. (e ≡ EngineFault.Memory) ⊎ ((e ≡ EngineFault.Read) ⊎ (e ≡ EngineFault.Write))) }
+{
+    let Ok(mut buffers) = Box::new(alloc, Buffers::new()) else {
+        return Err(EngineFault::Memory);
+    };
+    run_lines(db, reader, writer, &mut buffers)
+}
+
+/// The engine with its buffers.
+fn run_lines<S: PageStore, R: BufRead, W: Write>(
+    db: &mut Database<S>,
+    reader: &mut R,
+    writer: &mut W,
+    buffers: &mut Buffers,
+) -> Result<(), EngineFault>
+    ensures read { OnOk result (IfSome (R.remaining reader.old) (λ text. R.remaining reader.new ≡ Some [])) }
+    ensures size { OnOk result (IfSome (R.remaining reader.old) (λ text. length text ≤ 4294967295)) }
+    ensures answer { S.honest (store_of db.old) → (h : Handle) → IsAt db.old h → OnOk result (IfSome (R.remaining reader.old) (λ text.
+        AnswersScript (script_of text) db.old db.new h (W.contents writer.old) (W.contents writer.new))) }
+    ensures stands { S.honest (store_of db.old) → (h : Handle) → IsAt db.old h → RunsTo db.old db.new h }
+    ensures goes { Goes db.old db.new }
+    ensures only { IfErr result (λ e. (e ≡ EngineFault.Read) ⊎ (e ≡ EngineFault.Write)) }
+{
+    let mut left = u32::MAX;
+    for _ in 0..u64::MAX {
+        let more = read_line(reader, &mut buffers.line, &mut left);
+        if !more.map_err(|_| EngineFault::Read)? {
+            return Ok(());
+        }
+        answer_line(db, buffers, writer).map_err(|_| EngineFault::Write)?;
+    }
+    Err(EngineFault::Read)
+}
+
+/// Makes the call that the line asks for, and writes the line that answers it.
+fn answer_line<S: PageStore, W: Write>(
+    db: &mut Database<S>,
+    buffers: &mut Buffers,
+    writer: &mut W,
+) -> io::Result<()>
+    ensures line { S.honest (store_of db.old) → (h : Handle) → IsAt db.old h → AnswersLine (call_of buffers.old.line.items) db.old db.new h
+        (λ text. OnOk result (Appends (W.contents writer.old) (W.contents writer.new) text)) }
+    ensures goes { Goes db.old db.new }
+{
+    let line = buffers.line.as_slice();
+    match request_of(line, &mut buffers.key, &mut buffers.content) {
+        Request::Store { key, content } => {
+            answer_store(db, key, content, StoreMode::Replace, writer)
+        }
+        Request::Insert { key, content } => {
+            answer_store(db, key, content, StoreMode::Insert, writer)
+        }
+        Request::Fetch { key } => answer_fetch(db, key, &mut buffers.digits, writer),
+        Request::Delete { key } => answer_delete(db, key, writer),
+        Request::First => answer_first(db, &mut buffers.digits, writer),
+        Request::Next => answer_next(db, &mut buffers.digits, writer),
+        Request::Error => answer_error(db, writer),
+        Request::Clear => answer_clear(db, writer),
+        Request::Bad => write_bad_line(writer),
+    }
+}
+
+/// Stores, and writes the reply.
+fn answer_store<S: PageStore, W: Write>(
+    db: &mut Database<S>,
+    key: &[u8],
+    content: &[u8],
+    mode: StoreMode,
+    writer: &mut W,
+) -> io::Result<()>
+    ensures line { S.honest (store_of db.old) → (h : Handle) → IsAt db.old h → AnswersLine (Some (Store key.now content.now (mode_of mode))) db.old db.new h
+        (λ text. OnOk result (Appends (W.contents writer.old) (W.contents writer.new) text)) }
+    ensures goes { Goes db.old db.new }
+{
+    match db.store(key, content, mode) {
+        Ok(StoreReply::Stored) => write_stored(writer),
+        Ok(StoreReply::Kept) => write_kept(writer),
+        Err(fault) => write_fault(writer, fault),
+    }
+}
+
+/// Fetches, and writes the reply before the next call ends the content that is lent.
+fn answer_fetch<S: PageStore, W: Write>(
+    db: &mut Database<S>,
+    key: &[u8],
+    digits: &mut [u8; DIGITS],
+    writer: &mut W,
+) -> io::Result<()>
+    ensures line { S.honest (store_of db.old) → (h : Handle) → IsAt db.old h → AnswersLine (Some (Fetch key.now)) db.old db.new h
+        (λ text. OnOk result (Appends (W.contents writer.old) (W.contents writer.new) text)) }
+    ensures goes { Goes db.old db.new }
+{
+    write_fetched(writer, db.fetch(key), digits)
+}
+
+/// Deletes, and writes the reply.
+fn answer_delete<S: PageStore, W: Write>(
+    db: &mut Database<S>,
+    key: &[u8],
+    writer: &mut W,
+) -> io::Result<()>
+    ensures line { S.honest (store_of db.old) → (h : Handle) → IsAt db.old h → AnswersLine (Some (Delete key.now)) db.old db.new h
+        (λ text. OnOk result (Appends (W.contents writer.old) (W.contents writer.new) text)) }
+    ensures goes { Goes db.old db.new }
+{
+    match db.delete(key) {
+        Ok(DeleteReply::Deleted) => write_deleted(writer),
+        Ok(DeleteReply::Absent) => write_absent(writer),
+        Err(fault) => write_fault(writer, fault),
+    }
+}
+
+/// Begins a pass, and writes the reply before the next call ends the key that is lent.
+fn answer_first<S: PageStore, W: Write>(
+    db: &mut Database<S>,
+    digits: &mut [u8; DIGITS],
+    writer: &mut W,
+) -> io::Result<()>
+    ensures line { S.honest (store_of db.old) → (h : Handle) → IsAt db.old h → AnswersLine (Some First) db.old db.new h
+        (λ text. OnOk result (Appends (W.contents writer.old) (W.contents writer.new) text)) }
+    ensures goes { Goes db.old db.new }
+{
+    write_passed(writer, db.firstkey(), digits)
+}
+
+/// Goes on with a pass, and writes the reply before the next call ends the key that is lent.
+fn answer_next<S: PageStore, W: Write>(
+    db: &mut Database<S>,
+    digits: &mut [u8; DIGITS],
+    writer: &mut W,
+) -> io::Result<()>
+    ensures line { S.honest (store_of db.old) → (h : Handle) → IsAt db.old h → AnswersLine (Some Next) db.old db.new h
+        (λ text. OnOk result (Appends (W.contents writer.old) (W.contents writer.new) text)) }
+    ensures goes { Goes db.old db.new }
+{
+    write_passed(writer, db.nextkey(), digits)
+}
+
+/// Writes the error number.
+fn answer_error<S: PageStore, W: Write>(db: &mut Database<S>, writer: &mut W) -> io::Result<()>
+    ensures line { S.honest (store_of db.old) → (h : Handle) → IsAt db.old h → AnswersLine (Some Error) db.old db.new h
+        (λ text. OnOk result (Appends (W.contents writer.old) (W.contents writer.new) text)) }
+    ensures goes { Goes db.old db.new }
+{
+    write_number(writer, db.error())
+}
+
+/// Clears the error number, and writes the reply.
+fn answer_clear<S: PageStore, W: Write>(db: &mut Database<S>, writer: &mut W) -> io::Result<()>
+    ensures line { S.honest (store_of db.old) → (h : Handle) → IsAt db.old h → AnswersLine (Some Clear) db.old db.new h
+        (λ text. OnOk result (Appends (W.contents writer.old) (W.contents writer.new) text)) }
+    ensures goes { Goes db.old db.new }
+{
+    write_number(writer, db.clearerr())
+}

@@ -1,0 +1,5 @@
+pub mod Dumps
+pub mod Lines
+pub mod Scripts
+pub mod Texts
+pub mod Words

@@ -1,0 +1,7 @@
+//! The texts of the program: words, lines, scripts and dumps, and their laws. There is no code here: a function of this
+//! crate has an empty body, and its clause is the law.
+#![tactic(auto)]
+
+mod text_laws;
+
+pub use text_laws::{line_examples, script_example, word_examples, words_read_back};

@@ -1,7 +1,0 @@
-use Rattle.std.proofs.Common.{◌∙◌, ap, sym}
-use Rattle.dbm_model.specs.Lines.{call_of_words}
-use Rattle.dbm_tool.proofs.Requests.{no_name}
-use Rattle.dbm_tool.proofs.parsing.request_with_words.Goals as goal
-
-pub returns-in-None : goal.returns-in-None
-returns-in-None c bare = no_name c.in-Some.name.now c.in-Some.rest.now c.in-None.ensures ∙ sym (ap call_of_words c.in-Some.ensures.split)

@@ -1,0 +1,4 @@
+pub mod EmptyFiles
+pub mod FoundFiles
+pub mod NewFiles
+pub mod Refusals

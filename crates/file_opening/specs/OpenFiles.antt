@@ -1,0 +1,36 @@
+-- What a file stands for that was opened.
+use Rattle.std.specs.Prelude.{◌≡◌, ℕ, Bool, true, if◌then◌else◌, Result, Ok, Err}
+use Rattle.std.specs.FinMap.{empty}
+use Rattle.sect_dev.specs.declared.device.SectorDev as device
+use Rattle.page_io.specs.Store.{Settled}
+use Rattle.page_io.specs.Meaning.{ImageStandsFor}
+use Rattle.page_io.specs.declared.store.PageStore.{Ghosts}
+use Rattle.redo_area.specs.Pagers.{device_of}
+use Rattle.redo_area.specs.declared.pager.Pager.{Pager}
+use Rattle.seg_table.specs.MetaPages.{says}
+use Rattle.dbm_model.specs.Pairs.{Contents}
+use Rattle.linear_hash.specs.Holding.{Holds}
+use Rattle.file_opening.specs.declared.open_how.OpenHow.{OpenHow}
+use Rattle.file_opening.specs.declared.fault.Fault.{Fault}
+use Rattle.file_opening.specs.declared.file.OpenFile.{OpenFile}
+
+-- the device that an opening was given, whatever it answers
+abbrev pub device_left : {D : Type 0} {bound : device.Ghosts D} {s : Ghosts (Pager D bound)} → Result (OpenFile (Pager D bound) s) (D × Fault) → D
+device_left (Ok file) = device_of file.store
+device_left (Err e) = e.0
+
+-- a file as an opening leaves it
+pub record IsJustOpened {S : Type 0} {s : Ghosts S} (for_writing : Bool) (pages : ℕ) (file : OpenFile S s) : Type 0 where
+  pub usable : (s.state file.store).usable ≡ true
+  pub writable : (s.state file.store).writable ≡ for_writing
+  pub capacity : (s.state file.store).capacity ≡ pages
+
+-- its pages stand for this map and limit, and so does every image that a stop may leave now
+pub record StandsAs {S : Type 0} {s : Ghosts S} (file : OpenFile S s) (map : Contents) (limit : ℕ) : Type 0 where
+  pub holds : (s.state file.store).usable ≡ true → Holds s file.store (says file.meta) map
+  pub rests : (s.state file.store).usable ≡ true → (settled : Settled) → s.settles_to file.store settled → ImageStandsFor settled map (says file.meta).limit
+  pub limit_is : (says file.meta).limit ≡ limit
+
+-- it stands for the map, with this limit, or where it was to be emptied for none, with the limit asked for
+abbrev pub OpensAs : {S : Type 0} {s : Ghosts S} → OpenHow → Contents → ℕ → OpenFile S s → Type 0
+OpensAs how map limit file = StandsAs file (if how.truncate then empty else map) (if how.truncate then how.limit else limit)

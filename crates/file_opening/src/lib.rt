@@ -1,0 +1,16 @@
+//! How a device is opened: found, made, emptied or refused, with the fault of each case.
+#![tactic(auto)]
+
+mod emptying;
+mod fault;
+mod file;
+mod making;
+mod open_how;
+mod opening;
+mod sizes;
+
+pub use fault::Fault;
+pub use file::OpenFile;
+pub use open_how::{Access, OpenHow};
+pub use opening::open_file;
+pub use sizes::needed_sectors;

@@ -1,0 +1,100 @@
+//! The making of an empty database.
+
+ghost use Rattle.std.specs.Prelude.{◌≡◌, ◌≢◌, ◌⊎◌, ◌↔◌, ◌≤◌, ◌/◌, ◌∷◌, [], true, IfOk, IfErr, IfSome, Some, None, Err, map};
+ghost use Rattle.std.specs.FinMap.{empty};
+ghost use Rattle.sect_dev.specs.Device.{Image, IsImageOf, LeavesOnly, MoreFaults};
+ghost use Rattle.page_model.specs.Meaning.{said_by};
+ghost use Rattle.page_model.specs.Pages.{MetaPage};
+ghost use Rattle.page_model.specs.Placement.{fresh};
+ghost use Rattle.page_model.specs.Sheets.{meta_of as placement_meta};
+ghost use Rattle.page_model.specs.Sizes.{sectors_for};
+ghost use Rattle.page_io.specs.Meaning.{FileStandsFor, ImageStandsFor};
+ghost use Rattle.page_io.specs.Page.{own_number};
+ghost use Rattle.page_io.specs.Store.{blank, bytes_of, page_of};
+ghost use Rattle.redo_commit.specs.File.{settled};
+ghost use Rattle.seg_table.specs.MetaPages.{says};
+ghost use Rattle.file_opening.specs.Opening.{room_fault, making_fault};
+ghost use Rattle.file_opening.specs.OpenFiles.{device_left, IsJustOpened, StandsAs};
+
+use crate::{Fault, OpenFile, OpenHow, needed_sectors};
+use page_io::{Page, PageStore};
+use redo_area::Pager;
+use sect_dev::SectorDev;
+use seg_table::{Meta, segment_of_one, write_meta};
+use slot_page::empty;
+use std::alloc::Global;
+
+/// The kind of a bucket's head page.
+const HEAD: u8 = 3;
+
+/// What refuses a database of this limit on a device of so many sectors.
+pub fn room_refusal(limit: u32, sectors: u32) -> Option<Fault>
+    ensures { result ≡ room_fault (sectors_for limit) sectors }
+{
+    match needed_sectors(limit) {
+        None => Some(Fault::BadLimit),
+        Some(needed) if sectors < needed => Some(Fault::TooSmall),
+        Some(_) => None,
+    }
+}
+
+/// What refuses a new database.
+fn making_refusal(how: OpenHow, sectors: u32) -> Option<Fault>
+    ensures { result ≡ making_fault how sectors }
+{
+    if !how.create {
+        return Some(Fault::NotADatabase);
+    }
+    if !how.access.is_writable() {
+        return Some(Fault::ReadOnly);
+    }
+    room_refusal(how.limit, sectors)
+}
+
+/// The pages of a new file: the meta page, one segment page with one head, and that head page, which is empty.
+pub fn pages_of_empty(meta: &Meta) -> [Page; 3]
+    requires limited { (1 ≤ meta.now.limit) × (meta.now.limit ≤ 1000000) }
+    requires fresh { says meta.now ≡ placement_meta (fresh meta.now.limit) }
+    ensures stands { FileStandsFor (bytes_of result) empty meta.now.limit }
+    ensures meta { said_by (page_of (bytes_of result)) 1 ≡ MetaPage (says meta.now) }
+    ensures numbers { map own_number (bytes_of result) ≡ 1 ∷ 2 ∷ 3 ∷ [] }
+{
+    let mut first = Page::blank();
+    write_meta(meta, &mut first);
+    [first, segment_of_one(2, 3), empty(3, HEAD, 0)]
+}
+
+/// A new database on a blank device.
+pub fn made<D: SectorDev>(
+    alloc: Global,
+    dev: D,
+    how: OpenHow,
+) -> Result<OpenFile<Pager<D>>, (D, Fault)>
+    ensures fresh { IfOk result (IsJustOpened true (D.sectors dev / 4)) }
+
+    // Where every image was blank, every image of every moment since is blank or that of the new database.
+    ensures any_moment { D.honest dev → ((image : Image) → IsImageOf (D.candidate dev) image → settled (D.sectors dev / 4) image ≡ blank) → LeavesOnly D.moment D.left_since dev (device_left result)
+        (λ image. (settled (D.sectors dev / 4) image ≡ blank) ⊎ ((making_fault how (D.sectors dev) ≡ None) × ImageStandsFor (settled (D.sectors dev / 4) image) empty how.limit)) }
+    ensures stands { D.honest dev → IfOk result (λ file. StandsAs file empty how.limit) }
+    ensures asked { IfOk result (λ file. making_fault how (D.sectors dev) ≡ None) }
+    ensures refused { IfErr result (λ e. e.1 ≢ Fault.Device → (making_fault how (D.sectors dev) ≡ Some e.1) × (e.0 ≡ dev)) }
+    ensures untouched { IfSome (making_fault how (D.sectors dev)) (λ fault. result ≡ Err (dev, fault)) }
+    ensures device { IfErr result (λ e. e.1 ≡ Fault.Device → MoreFaults (D.faults dev) (D.faults e.0)) }
+    ensures only { IfErr result (λ e. (e.1 ≡ Fault.Device) ⊎ ((e.1 ≡ Fault.NotADatabase) ⊎ ((e.1 ≡ Fault.ReadOnly) ⊎ ((e.1 ≡ Fault.BadLimit) ⊎ (e.1 ≡ Fault.TooSmall))))) }
+    ensures honesty { D.honest (device_left result) ↔ D.honest dev }
+    ensures later { D.faults dev ≤ D.faults (device_left result) }
+    ensures size { D.sectors (device_left result) ≡ D.sectors dev }
+{
+    if let Some(fault) = making_refusal(how, dev.capacity()) {
+        return Err((dev, fault));
+    }
+    let meta = Meta::of_empty(how.limit, 2);
+    match Pager::format(alloc, dev, &pages_of_empty(&meta)) {
+        Ok(store) => Ok(OpenFile {
+            store,
+            meta,
+            writable: true,
+        }),
+        Err((dev, _)) => Err((dev, Fault::Device)),
+    }
+}

@@ -1,0 +1,48 @@
+// How a database is opened.
+ghost use Rattle.std.specs.Prelude.{◌≡◌};
+ghost use Rattle.file_opening.specs.Opening.{writes, is_exclusive};
+
+/// What an opened database may be asked to do (POSIX: the access mode of the open flags).
+#[derive(Clone, Copy, Debug, PartialEq, Eq)]
+pub enum Access {
+    /// Reading alone: a store or a delete is refused as `ReadOnly`, and the device is never written.
+    ReadOnly,
+    /// The same as `ReadWrite` (POSIX: a database opened for writing only is opened for reading and writing).
+    WriteOnly,
+    ReadWrite,
+}
+
+impl Access {
+    /// Whether it allows stores and deletes.
+    pub fn is_writable(self) -> bool
+        ensures { result ≡ writes self }
+    {
+        match self {
+            Access::ReadOnly => false,
+            Access::WriteOnly | Access::ReadWrite => true,
+        }
+    }
+}
+
+/// How to open a database (POSIX: the open flags of `dbm_open`).
+#[derive(Clone, Copy, Debug, PartialEq, Eq)]
+pub struct OpenHow {
+    pub access: Access,
+    /// Make the database where the device is blank (POSIX: O_CREAT).
+    pub create: bool,
+    /// With `create`: refuse a device that isn't blank (POSIX: O_EXCL).
+    pub exclusive: bool,
+    /// Make a database that is there empty, with a new limit (POSIX: O_TRUNC).
+    pub truncate: bool,
+    /// How many pairs a database that is made or emptied may have: 1 to 1,000,000. It is looked at in no other case.
+    pub limit: u32,
+}
+
+impl OpenHow {
+    /// Whether a database that is there is refused.
+    pub fn is_exclusive(self) -> bool
+        ensures { result ≡ is_exclusive self }
+    {
+        self.create && self.exclusive
+    }
+}

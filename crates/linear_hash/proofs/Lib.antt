@@ -1,0 +1,13 @@
+pub mod Buckets
+pub mod Changing
+pub mod Fillings
+pub mod Found
+pub mod MetaStaging
+pub mod Midway
+pub mod Openings
+pub mod Passes
+pub mod Plans
+pub mod SplitLemmas
+pub mod Stagings
+pub mod StoredPairs
+pub mod Tables

@@ -1,0 +1,18 @@
+use Rattle.std.proofs.Common.{map}
+use Rattle.page_model.specs.Placement.{Placement}
+use Rattle.page_io.specs.Views.{said, StagesOnly, MayEnd}
+use Rattle.free_pages.specs.FreeList.{HasEnds}
+use Rattle.lin_addr.specs.Shapes.{shape_of}
+use Rattle.chain_walks.specs.Pairs.{pair_of}
+use Rattle.linear_hash.specs.Splitting.{IsRefilled}
+use Rattle.linear_hash.proofs.Fillings.{IsFilling}
+use Rattle.linear_hash.proofs.splitting.refill.Given as goal
+
+abbrev pub invariant-loop-pair : goal.invariant-loop-pair
+invariant-loop-pair g l = record {
+  stages : StagesOnly g.S.PageStore l.fn.store l.store;
+  ends : HasEnds l.fn.space → HasEnds l.space;
+  may_end : MayEnd (g.S.PageStore.state l.fn.store) l.fn.space.file_end → MayEnd (g.S.PageStore.state l.store) l.space.file_end;
+  filling : g.S.PageStore.honest l.fn.store → (p : Placement) → IsRefilled (said g.S.PageStore l.fn.store) l.fn.space (shape_of l.fn.shape) l.fn.head l.fn.new_head (map pair_of l.fn.pairs) p
+      → IsFilling (said g.S.PageStore l.store) l.space p l.pair-index;
+}

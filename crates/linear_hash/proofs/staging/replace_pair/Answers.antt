@@ -1,0 +1,92 @@
+use Rattle.std.proofs.Common.{◌≡◌, ◌∙◌, Err, get_or, sym, ap, subst, is_some}
+use Rattle.std.specs.FinMap.{get}
+use Rattle.std.proofs.lemmas.Result.{err_from_is_err_and, on_ok_weaker}
+use Rattle.page_model.specs.Address.{address, hash_of}
+use Rattle.page_model.specs.PairLists.{times}
+use Rattle.page_model.specs.Chain.{pairs_in}
+use Rattle.page_model.specs.Placement.{Placement, contents, key_bucket, chain_at, delete}
+use Rattle.page_model.specs.Sheets.{heads_of}
+use Rattle.page_model.proofs.Places.{deleted_finds_none}
+use Rattle.page_io.specs.Views.{said, StagesOnly}
+use Rattle.page_io.specs.declared.store.PageFault.TheVariants.{Damaged}
+use Rattle.page_io.proofs.Views.{stages_then}
+use Rattle.seg_table.specs.MetaPages.{says}
+use Rattle.bucket_chain.specs.Changes.{IsPlaced}
+use Rattle.linear_hash.specs.Tables.{shape_in}
+use Rattle.linear_hash.specs.Staging.{IsMidway}
+use Rattle.linear_hash.proofs.Buckets.{bucket_of, bucket_is}
+use Rattle.linear_hash.proofs.Midway.{midway_read, midway_same, midway_heads, midway_below, midway_chain, midway_once, midway_deleted, midway_put, delete_none, not_in_chain, head_still}
+use Rattle.linear_hash.proofs.staging.replace_pair.Given.{Over}
+use Rattle.linear_hash.proofs.staging.replace_pair.Goals.{In_ok-head, After-put, then-was_there+in_ok-remove, else-was_there}
+use Rattle.linear_hash.proofs.staging.replace_pair.Goals as goal
+
+pub returns-in_err-head-clause-whole : goal.returns-in_err-head-clause-whole
+returns-in_err-head-clause-whole g c honest p mid was damaged =
+    let told = err_from_is_err_and c.from_residual.result c.from_residual.ensures.1 in
+    let fault : c.in_err-head.field-0.0 ≡ Damaged = let e = rw (told.1, told.2) at damaged in cc in
+    c.in_err-head.ensures.whole honest (heads_of p.chains) (midway_heads _ _ _ p mid c.requires.valid.used) (ap Err fault)
+
+pub returns-in_err-remove-clause-whole : goal.returns-in_err-remove-clause-whole
+returns-in_err-remove-clause-whole g c honest p mid was damaged =
+    let told = err_from_is_err_and c.from_residual-in_err-remove.result c.from_residual-in_err-remove.ensures.1 in
+    let fault : c.in_err-remove.field-0.0 ≡ Damaged = let e = rw (told.1, told.2) at damaged in cc in
+    let used = c.requires.valid.used in
+    let bucket = bucket_of c.args.meta.now c.args.key.now c.bucket.result c.hash.result c.bucket.ensures.address c.hash.ensures in
+    let head = c.in_ok-head.ensures.exact honest (heads_of p.chains) (midway_heads _ _ _ p mid used) (midway_below _ _ _ p mid used c.args.key.now c.bucket.result bucket) in
+    let here = midway_read g.S.PageStore _ _ _ _ p c.in_ok-head.ensures.reads honest mid in
+    c.in_err-remove.ensures.whole (c.in_ok-head.ensures.reads.stages_only.honesty.1 honest) _ _ (midway_chain _ _ _ p here used c.args.key.now c.bucket.result bucket c.in_ok-head.head head) (midway_once _ _ _ p here used c.args.key.now) (ap Err fault)
+
+module _ (g : Over) (c : After-put g) where
+  -- up to the put
+  stages_so_far : StagesOnly g.S.PageStore c.args.store.now c.if-was_there.store
+  stages_so_far =
+      let reads = c.in_ok-head.ensures.reads.stages_only in
+      elim c.if-was_there.branch [
+        | then-was_there+in_ok-remove w ↦ subst (StagesOnly g.S.PageStore c.args.store.now) (sym w.store-is)
+            (stages_then g.S.PageStore _ _ _ (g.met.S.PageStore.counts_now c.head_of.new.store) reads w.in_ok-remove.ensures.stages)
+        | else-was_there w ↦ subst (StagesOnly g.S.PageStore c.args.store.now) (sym w.store-is) reads
+      ]
+
+  bucket : c.bucket.result ≡ address (shape_in (says c.args.meta.now)) (hash_of c.args.key.now)
+  bucket = bucket_of c.args.meta.now c.args.key.now c.bucket.result c.hash.result c.bucket.ensures.address c.hash.ensures
+
+  module _ (honest : g.S.PageStore.honest c.args.store.now) (p : Placement) (mid : IsMidway (said g.S.PageStore c.args.store.now) (says c.args.meta.now) c.args.space.now p)
+      (was : c.args.was_there ≡ is_some (get (contents p) c.args.key.now)) where
+    head_is : c.in_ok-head.head ≡ get_or (heads_of p.chains) c.bucket.result 0
+    head_is = c.in_ok-head.ensures.exact honest (heads_of p.chains) (midway_heads _ _ _ p mid c.requires.valid.used) (midway_below _ _ _ p mid c.requires.valid.used c.args.key.now c.bucket.result bucket)
+
+    -- once the key was taken out, or was not there
+    removed : IsMidway (said g.S.PageStore c.if-was_there.store) (says c.args.meta.now) c.if-was_there.space (delete p c.args.key.now)
+    removed =
+        let used = c.requires.valid.used in
+        let h1 = c.in_ok-head.ensures.reads.stages_only.honesty.1 honest in
+        let here = midway_read g.S.PageStore _ _ _ _ p c.in_ok-head.ensures.reads honest mid in
+        elim c.if-was_there.branch [
+          | then-was_there+in_ok-remove w ↦
+              let placed = midway_chain _ _ _ p here used c.args.key.now c.bucket.result bucket c.in_ok-head.head head_is in
+              let gone = w.in_ok-remove.ensures.exact h1 _ _ placed (midway_once _ _ _ p here used c.args.key.now) in
+              midway_same g.S.PageStore _ _ _ _ _ _ w.store-is w.space-is (midway_deleted _ _ _ p here used _ _ c.args.key.now gone.left)
+          | else-was_there w ↦
+              let none = delete_none p c.args.key.now mid.sound (sym was ∙ w.if-was_there.false) in
+              midway_same g.S.PageStore _ _ _ _ _ _ w.store-is w.space-is (subst (IsMidway (said g.S.PageStore c.head_of.new.store) (says c.args.meta.now) c.args.space.now) (sym none) here)
+        ]
+
+    -- where the pair is put
+    chain_is : IsPlaced (said g.S.PageStore c.if-was_there.store) c.if-was_there.space c.in_ok-head.head (chain_at (delete p c.args.key.now) (key_bucket p.shape c.args.key.now)) (delete p c.args.key.now).space
+    chain_is =
+        let same = bucket_is _ (says c.args.meta.now) p mid.sound c.requires.valid.used mid.below.are_read mid.shape_is mid.segments_are c.args.key.now c.bucket.result bucket in
+        midway_chain _ _ _ (delete p c.args.key.now) removed c.requires.valid.used c.args.key.now c.bucket.result bucket c.in_ok-head.head (head_still p c.args.key.now c.bucket.result c.in_ok-head.head mid.sound same head_is)
+
+    lacks : times c.args.key.now (pairs_in (chain_at (delete p c.args.key.now) (key_bucket p.shape c.args.key.now))) ≡ 0
+    lacks = not_in_chain (delete p c.args.key.now) c.args.key.now removed.sound (deleted_finds_none p mid.sound c.args.key.now)
+
+pub returns-clause-stages : goal.returns-clause-stages
+returns-clause-stages g c = stages_then g.S.PageStore _ _ _ (g.met.S.PageStore.counts_now c.if-was_there.store) (stages_so_far g c) c.put.ensures.stages
+
+pub returns-clause-exact : goal.returns-clause-exact
+returns-clause-exact g c honest p mid was =
+    on_ok_weaker c.put.result (λ becomes. midway_put _ _ _ (delete p c.args.key.now) (removed g c honest p mid was) c.requires.valid.used _ _ (c.args.key.now, c.args.content.now) c.requires.allowed (deleted_finds_none p mid.sound c.args.key.now) becomes)
+    (c.put.ensures.exact ((stages_so_far g c).honesty.1 honest) _ _ (chain_is g c honest p mid was) (lacks g c honest p mid was))
+
+pub returns-clause-whole : goal.returns-clause-whole
+returns-clause-whole g c honest p mid was = c.put.ensures.whole ((stages_so_far g c).honesty.1 honest) _ _ (chain_is g c honest p mid was) (lacks g c honest p mid was)

@@ -1,0 +1,46 @@
+-- What a store of pages holds, and what a change of it leaves.
+use Rattle.std.specs.Prelude.{◌≡◌, ◌⊎◌, ◌↔◌, ◌+◌, ◌*◌, ◌<◌, ℕ, [], true, false, Result, OnOk, OnErr, IfErr, IsErrOf}
+use Rattle.sect_dev.specs.Device.{LeavesOnly}
+use Rattle.dbm_model.specs.Pairs.{Contents}
+use Rattle.page_model.specs.Pages.{Meta, MetaPage}
+use Rattle.page_model.specs.Meaning.{said_by}
+use Rattle.page_model.specs.Valid.{IsMeta}
+use Rattle.page_io.specs.Answers.{HasDeviceCause}
+use Rattle.page_io.specs.Store.{Settled, State, page_of}
+use Rattle.page_io.specs.Meaning.{FileStandsFor, ImageStandsFor}
+use Rattle.page_io.specs.declared.store.PageStore.{Ghosts}
+use Rattle.page_io.specs.declared.store.PageFault.{PageFault}
+use Rattle.page_io.specs.declared.store.PageFault.TheVariants.{Device, NoRoom, Damaged}
+use Rattle.linear_hash.specs.Staging.{IsChangeAnswer}
+
+-- the committed pages stand for the map, and the meta page says what is kept of it
+pub record Holds {S : Type 0} (s : Ghosts S) (store : S) (m : Meta) (map : Contents) : Type 0 where
+  pub stands : FileStandsFor (s.committed store) map m.limit
+  pub meta_is : said_by (page_of (s.committed store)) 1 ≡ MetaPage m
+
+-- an image stands for one of two maps
+abbrev pub StandsForEither : Contents → Contents → ℕ → Settled → Type 0
+StandsForEither old new limit settled = ImageStandsFor settled old limit ⊎ ImageStandsFor settled new limit
+
+-- what was staged is forgotten, and the store broken where the device was the cause of the fault in a commit
+abbrev pub IsForgotten : State → State → PageFault → Type 0
+IsForgotten old new fault = (new ≡ record old { staged = [] }) ⊎ ((fault ≡ Device) × (new ≡ record old { staged = []; usable = false }))
+
+-- How a change ends on any device, where `before` and `after` are kept of the meta page: it is done, or refused with nothing changed, but that a fault of the device may break the store.
+pub record IsEnded {S : Type 0} (s : Ghosts S) (old new : S) (before after : Meta) (result : Result Unit PageFault) : Type 0 where
+  pub ok : OnOk result (s.state new ≡ record (s.state old) { end = (s.state new).end })
+  pub err : IfErr result (λ e. IsForgotten (s.state old) (s.state new) e × (after ≡ before))
+  pub valid : IsMeta after
+  pub limit : after.limit ≡ before.limit
+  pub cause : HasDeviceCause (s.faults old) (s.faults new) result
+  pub honesty : s.honest new ↔ s.honest old
+  pub answer : IsChangeAnswer (s.state old) result
+
+-- What it makes of a file that stood for the map: it stands for the changed one, or is as it was, and at every moment for one of the two.
+pub record Turns {S : Type 0} (s : Ghosts S) (old new : S) (before after : Meta) (map changed : Contents) (result : Result Unit PageFault) : Type 0 where
+  pub done : OnOk result (Holds s new after changed)
+  pub kept : OnErr result ((s.state new).usable ≡ true → s.committed new ≡ s.committed old)
+  pub any_moment : LeavesOnly s.moment s.settled_since old new (StandsForEither map changed before.limit)
+  pub unchanged : OnErr result ((s.state new).usable ≡ true → LeavesOnly s.moment s.settled_since old new (λ settled. ImageStandsFor settled map before.limit))
+  pub whole : IsErrOf result Damaged → ⊥
+  pub no_room : IsErrOf result NoRoom → (s.state old).capacity < 2 * ((s.state old).end + before.pairs) + 8

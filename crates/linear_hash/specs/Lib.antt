@@ -1,0 +1,6 @@
+pub mod Holding
+pub mod Looking
+pub mod Passing
+pub mod Splitting
+pub mod Staging
+pub mod Tables

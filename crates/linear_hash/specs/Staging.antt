@@ -1,0 +1,45 @@
+-- What a change stages.
+use Rattle.std.specs.Prelude.{◌≡◌, ◌⊎◌, ◌+◌, ◌^◌, ◌≤◌, ◌<◌, ℕ, true, false, length, Result, IfErr, IsErrOf}
+use Rattle.page_model.specs.Address.{grown}
+use Rattle.page_model.specs.Pages.{Meta, Body}
+use Rattle.page_model.specs.Placement.{Placement, IsSound}
+use Rattle.page_model.specs.Sheets.{meta_of, IsSpelled}
+use Rattle.free_pages.specs.declared.free_state.FreeState.{FreeState}
+use Rattle.page_io.specs.Store.{State, AllBelow, has_page}
+use Rattle.page_io.specs.declared.store.PageFault.{PageFault}
+use Rattle.page_io.specs.declared.store.PageFault.TheVariants.{Memory, Device, Broken, NoRoom, Damaged}
+use Rattle.seg_table.specs.Heads.{AddsSegment}
+use Rattle.bucket_chain.specs.Placements.{IsBelow}
+use Rattle.linear_hash.specs.Tables.{shape_in}
+
+-- the pages but the meta page say a sound placement midway in a change, and this is kept of it beside the number of its pairs
+pub record IsMidway (at : ℕ → Body) (m : Meta) (space : FreeState) (p : Placement) : Type 0 where
+  pub sound : IsSound p
+  pub below : IsBelow at space p
+  pub shape_is : shape_in m ≡ p.shape
+  pub segments_are : m.segments ≡ p.segments
+  pub limit_is : m.limit ≡ p.limit
+
+-- a change may be refused so
+pub record IsChangeAnswer {T : Type 0} (state : State) (result : Result T PageFault) : Type 0 where
+  pub broken : IsErrOf result Broken → state.usable ≡ false
+  pub only : IfErr result (λ e. (e ≡ Broken) ⊎ ((e ≡ Memory) ⊎ ((e ≡ NoRoom) ⊎ ((e ≡ Damaged) ⊎ (e ≡ Device)))))
+
+-- one bucket more, and at most one segment
+pub record IsGrown (old new : Meta) : Type 0 where
+  pub shape : shape_in new ≡ grown (shape_in old)
+  pub segments : AddsSegment old (record old { segments = new.segments }) (2 ^ old.level + old.split)
+  pub rest : new ≡ record old { level = new.level; split = new.split; segments = new.segments }
+
+-- the staged pages can be committed with this end: they are below it, and those behind the old end are among them
+pub record MayCommit (state : State) (end : ℕ) : Type 0 where
+  pub below : AllBelow end state.staged
+  pub grown : (n : ℕ) → state.end ≤ n → n < end → has_page state.staged n ≡ true
+  pub some : 0 < length state.staged
+  pub least : 4 ≤ end
+
+-- with those that are staged the pages spell this placement, and this is kept of it
+pub record IsStaged (at : ℕ → Body) (m : Meta) (end : ℕ) (p : Placement) : Type 0 where
+  pub spelled : IsSpelled at p
+  pub meta_is : m ≡ meta_of p
+  pub ends : p.space.end ≡ end

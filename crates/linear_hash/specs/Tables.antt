@@ -1,0 +1,29 @@
+-- The pages of a linear hash file, and what is kept of its meta page.
+use Rattle.std.specs.Prelude.{◌≡◌, ℕ, ◌*◌, length, nat_lt, if◌then◌else◌}
+use Rattle.page_model.specs.Address.{Shape, buckets, grown}
+use Rattle.page_model.specs.Pages.{Meta, Body}
+use Rattle.page_model.specs.Placement.{Placement, pairs_of, split, IsGood}
+use Rattle.page_model.specs.Sheets.{meta_of, lower_sheets, AreRead}
+use Rattle.free_pages.specs.declared.free_state.FreeState.{FreeState}
+
+abbrev pub shape_in : Meta → Shape
+shape_in m = record { level = m.level; split = m.split }
+
+-- the free pages and the end as a call keeps them
+abbrev pub space_in : Meta → ℕ → FreeState
+space_in m end = record { head = m.free_head; count = m.free_count; file_end = end }
+
+-- pages 2 to end - 1 say a good placement, and this is what its meta page says
+pub record IsTable (at : ℕ → Body) (m : Meta) (end : ℕ) (p : Placement) : Type 0 where
+  pub good : IsGood p
+  pub are_read : AreRead at (lower_sheets p)
+  pub meta_is : m ≡ meta_of p
+  pub ends : p.space.end ≡ end
+
+-- one bucket more where there would be more than eight pairs to a bucket
+abbrev pub shape_for : ℕ → Shape → Shape
+shape_for pairs s = if nat_lt (8 * buckets s) pairs then grown s else s
+
+-- the same of a placement
+abbrev pub split_where_full : Placement → Placement
+split_where_full p = if nat_lt (8 * length p.chains) (length (pairs_of p)) then split p else p

@@ -1,0 +1,121 @@
+//! Changes of the file, each in one commit.
+
+ghost use Rattle.std.specs.Prelude.{◌≡◌, ◌↔◌, ◌+◌, ◌<◌, [], true, false, is_some, IfErr, OnOk, if◌then◌else◌};
+ghost use Rattle.std.specs.FinMap.{get, insert, remove};
+ghost use Rattle.dbm_model.specs.Pairs.{Contents, IsAllowed};
+ghost use Rattle.page_model.specs.Valid.{IsMeta};
+ghost use Rattle.page_io.specs.Answers.{HasDeviceCause};
+ghost use Rattle.seg_table.specs.MetaPages.{says};
+ghost use Rattle.linear_hash.specs.Tables.{shape_in, shape_for};
+ghost use Rattle.linear_hash.specs.Staging.{IsChangeAnswer};
+ghost use Rattle.linear_hash.specs.Holding.{Holds, IsForgotten, IsEnded, Turns};
+
+use crate::committing::finish;
+use crate::staging::{stage_delete, stage_store};
+use page_io::{PageFault, PageStore};
+use seg_table::Meta;
+use std::alloc::Global;
+
+/// Commits a pair, in the place of its key's where that is there. At `Err` what is kept of the meta page is unspecified.
+fn commit_store<S: PageStore>(
+    alloc: Global,
+    store: &mut S,
+    meta: &mut Meta,
+    key: &[u8],
+    content: &[u8],
+    was_there: bool,
+) -> Result<(), PageFault>
+    requires allowed { IsAllowed (key.now, content.now) }
+    requires idle { (S.state store.old).staged ≡ [] }
+    requires writable { (S.state store.old).writable ≡ true }
+    requires valid { IsMeta (says meta.old) }
+    requires room { was_there ≡ false → meta.old.pairs < meta.old.limit }
+    ensures ok { OnOk result (S.state store.new ≡ record (S.state store.old) { end = (S.state store.new).end }) }
+    ensures err { IfErr result (IsForgotten (S.state store.old) (S.state store.new)) }
+    ensures valid { OnOk result (IsMeta (says meta.new)) }
+    ensures limit { OnOk result (meta.new.limit ≡ meta.old.limit) }
+    ensures pairs { OnOk result (meta.new.pairs ≡ (if was_there then meta.old.pairs else meta.old.pairs + 1)) }
+    ensures shape { OnOk result (shape_in (says meta.new) ≡ shape_for meta.new.pairs (shape_in (says meta.old))) }
+    ensures cause { HasDeviceCause (S.faults store.old) (S.faults store.new) result }
+    ensures honesty { S.honest store.new ↔ S.honest store.old }
+    ensures answer { IsChangeAnswer (S.state store.old) result }
+    ensures turns { S.honest store.old → (S.state store.old).usable ≡ true → (map : Contents) → Holds S.PageStore store.old (says meta.old) map → was_there ≡ is_some (get map key.now) →
+        Turns S.PageStore store.old store.new (says meta.old) (says meta.new) map (insert map key.now content.now) result }
+{
+    let staged = stage_store(alloc, store, meta, key, content, was_there);
+    finish(store, staged)
+}
+
+/// Stores a pair, in the place of its key's where that is there.
+pub fn store_pair<S: PageStore>(
+    alloc: Global,
+    store: &mut S,
+    meta: &mut Meta,
+    key: &[u8],
+    content: &[u8],
+    was_there: bool,
+) -> Result<(), PageFault>
+    requires allowed { IsAllowed (key.now, content.now) }
+    requires idle { (S.state store.old).staged ≡ [] }
+    requires writable { (S.state store.old).writable ≡ true }
+    requires valid { IsMeta (says meta.old) }
+    requires room { was_there ≡ false → meta.old.pairs < meta.old.limit }
+    ensures ends { IsEnded S.PageStore store.old store.new (says meta.old) (says meta.new) result }
+    ensures pairs { OnOk result (meta.new.pairs ≡ (if was_there then meta.old.pairs else meta.old.pairs + 1)) }
+    ensures shape { OnOk result (shape_in (says meta.new) ≡ shape_for meta.new.pairs (shape_in (says meta.old))) }
+
+    // Where the file stands for a map, it then stands for the changed one, and at every moment for one of the two.
+    ensures turns { S.honest store.old → (S.state store.old).usable ≡ true → (map : Contents) → Holds S.PageStore store.old (says meta.old) map → was_there ≡ is_some (get map key.now) →
+        Turns S.PageStore store.old store.new (says meta.old) (says meta.new) map (insert map key.now content.now) result }
+{
+    let mut changed = meta.copied();
+    commit_store(alloc, store, &mut changed, key, content, was_there)?;
+    *meta = changed;
+    Ok(())
+}
+
+/// Commits the delete of a key that is there. At `Err` what is kept of the meta page is unspecified.
+fn commit_delete<S: PageStore>(store: &mut S, meta: &mut Meta, key: &[u8]) -> Result<(), PageFault>
+    requires idle { (S.state store.old).staged ≡ [] }
+    requires writable { (S.state store.old).writable ≡ true }
+    requires valid { IsMeta (says meta.old) }
+    requires some { 0 < meta.old.pairs }
+    ensures ok { OnOk result (S.state store.new ≡ record (S.state store.old) { end = (S.state store.new).end }) }
+    ensures err { IfErr result (IsForgotten (S.state store.old) (S.state store.new)) }
+    ensures valid { OnOk result (IsMeta (says meta.new)) }
+    ensures limit { OnOk result (meta.new.limit ≡ meta.old.limit) }
+    ensures pairs { OnOk result (meta.new.pairs + 1 ≡ meta.old.pairs) }
+    ensures shape { OnOk result (shape_in (says meta.new) ≡ shape_in (says meta.old)) }
+    ensures cause { HasDeviceCause (S.faults store.old) (S.faults store.new) result }
+    ensures honesty { S.honest store.new ↔ S.honest store.old }
+    ensures answer { IsChangeAnswer (S.state store.old) result }
+    ensures turns { S.honest store.old → (S.state store.old).usable ≡ true → (map : Contents) → Holds S.PageStore store.old (says meta.old) map → is_some (get map key.now) ≡ true →
+        Turns S.PageStore store.old store.new (says meta.old) (says meta.new) map (remove map key.now) result }
+{
+    let staged = stage_delete(store, meta, key);
+    finish(store, staged)
+}
+
+/// Deletes the pair of a key that is there.
+pub fn delete_pair<S: PageStore>(
+    store: &mut S,
+    meta: &mut Meta,
+    key: &[u8],
+) -> Result<(), PageFault>
+    requires idle { (S.state store.old).staged ≡ [] }
+    requires writable { (S.state store.old).writable ≡ true }
+    requires valid { IsMeta (says meta.old) }
+    requires some { 0 < meta.old.pairs }
+    ensures ends { IsEnded S.PageStore store.old store.new (says meta.old) (says meta.new) result }
+    ensures pairs { OnOk result (meta.new.pairs + 1 ≡ meta.old.pairs) }
+    ensures shape { OnOk result (shape_in (says meta.new) ≡ shape_in (says meta.old)) }
+
+    // Where the file stands for a map, it then stands for the changed one, and at every moment for one of the two.
+    ensures turns { S.honest store.old → (S.state store.old).usable ≡ true → (map : Contents) → Holds S.PageStore store.old (says meta.old) map → is_some (get map key.now) ≡ true →
+        Turns S.PageStore store.old store.new (says meta.old) (says meta.new) map (remove map key.now) result }
+{
+    let mut changed = meta.copied();
+    commit_delete(store, &mut changed, key)?;
+    *meta = changed;
+    Ok(())
+}

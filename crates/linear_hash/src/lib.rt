@@ -1,0 +1,15 @@
+//! A linear hash table over a store of pages (Litwin 1980): looking a key up, passing over all pairs, and changes, each in
+//! one commit.
+#![tactic(auto)]
+
+mod changes;
+mod committing;
+mod looking;
+mod passing;
+mod splitting;
+mod staging;
+
+pub use changes::{delete_pair, store_pair};
+pub use committing::finish;
+pub use looking::find_pair;
+pub use passing::{Cursor, next_pair};

@@ -1,0 +1,123 @@
+//! One bucket more (Litwin 1980).
+
+ghost use Rattle.std.specs.Prelude.{◌≡◌, ◌+◌, ◌*◌, ◌^◌, ◌<◌, ◌≤◌, All, OnOk, IfOk, IsErrOf, length, map};
+ghost use Rattle.dbm_model.specs.Pairs.{IsAllowed};
+ghost use Rattle.page_model.specs.Chain.{numbers};
+ghost use Rattle.page_model.specs.Placement.{Placement, pairs_of, chain_at, opened, split};
+ghost use Rattle.page_model.specs.Sheets.{first_of};
+ghost use Rattle.page_model.specs.Sizes.{segments_for};
+ghost use Rattle.page_model.specs.Valid.{buckets};
+ghost use Rattle.page_io.specs.Answers.{HasDeviceCause};
+ghost use Rattle.page_io.specs.Views.{said, StagesOnly, MayEnd};
+ghost use Rattle.page_io.specs.declared.store.PageFault.TheVariants.{NoRoom, Damaged};
+ghost use Rattle.free_pages.specs.FreeList.{HasEnds};
+ghost use Rattle.seg_table.specs.MetaPages.{says};
+ghost use Rattle.seg_table.specs.Heads.{AddsSegment};
+ghost use Rattle.linear_hash.specs.Staging.{IsMidway, IsChangeAnswer, IsGrown};
+ghost use Rattle.lin_addr.specs.Shapes.{shape_of};
+ghost use Rattle.chain_walks.specs.Pairs.{pair_of};
+ghost use Rattle.bucket_chain.specs.Placements.{IsBelow};
+ghost use Rattle.linear_hash.specs.Splitting.{IsOpened, IsRefilled};
+
+use bucket_chain::{Pair, load_all, put, store_all};
+use free_pages::{FreeState, take};
+use lin_addr::{Shape, hash};
+use page_io::{PageFault, PageStore};
+use seg_table::{Meta, head_of, set_head};
+use slot_page::empty;
+use std::alloc::Global;
+
+/// The kind of a bucket's head page.
+const HEAD: u8 = 3;
+
+/// Splits bucket `split`: its pairs are put again, in it and in one bucket more.
+pub fn split_bucket<S: PageStore>(
+    alloc: Global,
+    store: &mut S,
+    meta: &mut Meta,
+    space: &mut FreeState,
+) -> Result<(), PageFault>
+    requires segments { length (says meta.old).segments ≡ segments_for (buckets (says meta.old)) }
+    requires few { 8 * buckets (says meta.old) < 1000000 }
+    ensures stages { StagesOnly S.PageStore store.old store.new }
+    ensures cause { HasDeviceCause (S.faults store.old) (S.faults store.new) result }
+    ensures answer { IsChangeAnswer (S.state store.old) result }
+    ensures grown { OnOk result (IsGrown (says meta.old) (says meta.new)) }
+    ensures ends { HasEnds space.old → HasEnds space.new }
+    ensures may_end { MayEnd (S.state store.old) space.old.file_end → OnOk result (MayEnd (S.state store.new) space.new.file_end) }
+
+    // Where at most one page was taken since the last commit, it leaves the model's placement, is never Damaged, and takes
+    // a page for each pair and two more at most.
+    ensures exact { S.honest store.old → (p : Placement) → IsMidway (said S.PageStore store.old) (says meta.old) space.old p → p.space.end ≤ (S.state store.old).end + 1 → OnOk result (IsMidway (said S.PageStore store.new) (says meta.new) space.new (split p)) }
+    ensures whole { S.honest store.old → (p : Placement) → IsMidway (said S.PageStore store.old) (says meta.old) space.old p → p.space.end ≤ (S.state store.old).end + 1 → IsErrOf result Damaged → ⊥ }
+    ensures room { S.honest store.old → (p : Placement) → IsMidway (said S.PageStore store.old) (says meta.old) space.old p → p.space.end ≤ (S.state store.old).end + 1 → IsErrOf result NoRoom → (S.state store.old).capacity ≤ p.space.end + length (pairs_of p) + 2 }
+{
+    // Every page has a number of four bytes.
+    prove!(space.file_end <= u32::MAX);
+    let head = head_of(store, meta, meta.shape.split)?;
+    let pairs = load_all(alloc, store, head)?;
+    let new_head = open_bucket(store, meta, space, head)?;
+    refill(store, space, meta.shape, head, new_head, pairs.as_slice())?;
+    meta.shape = meta.shape.grown();
+    Ok(())
+}
+
+/// Empties the bucket of page `head`, which is bucket `split`, and opens one bucket more. It answers the new one's head page.
+fn open_bucket<S: PageStore>(
+    store: &mut S,
+    meta: &mut Meta,
+    space: &mut FreeState,
+    head: u32,
+) -> Result<u32, PageFault>
+    requires segments { length (says meta.old).segments ≡ segments_for (buckets (says meta.old)) }
+    requires few { 8 * buckets (says meta.old) < 1000000 }
+    requires small { space.old.file_end < 2 ^ 32 }
+    ensures stages { StagesOnly S.PageStore store.old store.new }
+    ensures cause { HasDeviceCause (S.faults store.old) (S.faults store.new) result }
+    ensures answer { IsChangeAnswer (S.state store.old) result }
+    ensures added { OnOk result (AddsSegment (says meta.old) (says meta.new) (buckets (says meta.old))) }
+    ensures ends { HasEnds space.old → HasEnds space.new }
+    ensures may_end { MayEnd (S.state store.old) space.old.file_end → OnOk result (MayEnd (S.state store.new) space.new.file_end) }
+
+    // It leaves the model's placement with no pair in either bucket, is never Damaged, and takes two pages at most.
+    ensures exact { S.honest store.old → (p : Placement) → IsMidway (said S.PageStore store.old) (says meta.old) space.old p → head ≡ first_of (numbers (chain_at p p.shape.split)) →
+        IfOk result (IsOpened (said S.PageStore store.new) (says meta.new) space.new p) }
+    ensures whole { S.honest store.old → (p : Placement) → IsMidway (said S.PageStore store.old) (says meta.old) space.old p → head ≡ first_of (numbers (chain_at p p.shape.split)) → IsErrOf result Damaged → ⊥ }
+    ensures room { S.honest store.old → (p : Placement) → IsMidway (said S.PageStore store.old) (says meta.old) space.old p → head ≡ first_of (numbers (chain_at p p.shape.split)) → IsErrOf result NoRoom → (S.state store.old).capacity ≤ p.space.end + 2 }
+{
+    store_all(store, space, head, &[])?;
+    let new_head = take(store, space)?;
+    store.stage(new_head, &empty(new_head, HEAD, 0))?;
+    let bucket = meta.shape.buckets();
+    set_head(store, meta, space, bucket, new_head)?;
+    Ok(new_head)
+}
+
+/// Puts the pairs of bucket `split`, which is empty, into it and the new bucket, in order.
+fn refill<S: PageStore>(
+    store: &mut S,
+    space: &mut FreeState,
+    shape: Shape,
+    head: u32,
+    new_head: u32,
+    pairs: &[Pair],
+) -> Result<(), PageFault>
+    requires { All (λ pair. IsAllowed (pair_of pair)) pairs.now }
+    ensures stages { StagesOnly S.PageStore store.old store.new }
+    ensures cause { HasDeviceCause (S.faults store.old) (S.faults store.new) result }
+    ensures answer { IsChangeAnswer (S.state store.old) result }
+    ensures ends { HasEnds space.old → HasEnds space.new }
+    ensures may_end { MayEnd (S.state store.old) space.old.file_end → OnOk result (MayEnd (S.state store.new) space.new.file_end) }
+
+    // From the opened placement it leaves the split one, is never Damaged, and takes a page for each pair at most.
+    ensures exact { S.honest store.old → (p : Placement) → IsRefilled (said S.PageStore store.old) space.old (shape_of shape) head new_head (map pair_of pairs.now) p → OnOk result (IsBelow (said S.PageStore store.new) space.new (split p)) }
+    ensures whole { S.honest store.old → (p : Placement) → IsRefilled (said S.PageStore store.old) space.old (shape_of shape) head new_head (map pair_of pairs.now) p → IsErrOf result Damaged → ⊥ }
+    ensures room { S.honest store.old → (p : Placement) → IsRefilled (said S.PageStore store.old) space.old (shape_of shape) head new_head (map pair_of pairs.now) p → IsErrOf result NoRoom → (S.state store.old).capacity ≤ (opened p).space.end + length pairs.now }
+{
+    for pair in pairs {
+        let goes_up = shape.split_goes_up(hash(&pair.key));
+        let to = if goes_up { new_head } else { head };
+        put(store, space, to, &pair.key, &pair.content)?;
+    }
+    Ok(())
+}

@@ -1,0 +1,216 @@
+//! The pages that a store or a delete changes.
+
+ghost use Rattle.std.specs.Prelude.{◌≡◌, ◌+◌, ◌-◌, ◌*◌, ◌<◌, ◌≤◌, ℕ, [], true, false, is_some, IfOk, OnOk, IsErrOf, length, if◌then◌else◌};
+ghost use Rattle.std.specs.FinMap.{get};
+ghost use Rattle.dbm_model.specs.Pairs.{IsAllowed};
+ghost use Rattle.page_model.specs.Placement.{Placement, pairs_of, contents, delete, replace, store as stored, MayStore};
+ghost use Rattle.page_model.specs.Pages.{MetaPage};
+ghost use Rattle.page_model.specs.Valid.{IsMeta, buckets};
+ghost use Rattle.page_io.specs.Answers.{HasDeviceCause, IsStageAnswer};
+ghost use Rattle.page_io.specs.Views.{said, StagesOnly, MayEnd};
+ghost use Rattle.page_io.specs.declared.store.PageFault.TheVariants.{NoRoom, Damaged};
+ghost use Rattle.free_pages.specs.FreeList.{HasEnds};
+ghost use Rattle.seg_table.specs.MetaPages.{says};
+ghost use Rattle.bucket_chain.specs.Answers.{IsRemoveAnswer};
+ghost use Rattle.linear_hash.specs.Tables.{IsTable, space_in, shape_in, shape_for, split_where_full};
+ghost use Rattle.linear_hash.specs.Staging.{IsMidway, IsChangeAnswer, MayCommit, IsStaged};
+
+use crate::splitting::split_bucket;
+use bucket_chain::{put, remove};
+use free_pages::FreeState;
+use lin_addr::hash;
+use page_io::{Page, PageFault, PageStore};
+use seg_table::{Meta, head_of, write_meta};
+use std::alloc::Global;
+
+/// How many pairs there may be to a bucket before one more is opened.
+const PER_BUCKET: u32 = 8;
+
+/// The free pages and the end of the file.
+fn space_of(meta: &Meta, file_end: u32) -> FreeState
+    ensures { result ≡ space_in (says meta.now) file_end }
+{
+    FreeState {
+        head: meta.free_head,
+        count: meta.free_count,
+        file_end,
+    }
+}
+
+/// Puts a pair into the chain of its bucket, in the place of its key's where that is there.
+fn replace_pair<S: PageStore>(
+    store: &mut S,
+    meta: &Meta,
+    space: &mut FreeState,
+    key: &[u8],
+    content: &[u8],
+    was_there: bool,
+) -> Result<(), PageFault>
+    requires allowed { IsAllowed (key.now, content.now) }
+    requires valid { IsMeta (says meta.now) }
+    ensures stages { StagesOnly S.PageStore store.old store.new }
+    ensures cause { HasDeviceCause (S.faults store.old) (S.faults store.new) result }
+    ensures answer { IsChangeAnswer (S.state store.old) result }
+    ensures ends { HasEnds space.old → HasEnds space.new }
+    ensures may_end { MayEnd (S.state store.old) space.old.file_end → OnOk result (MayEnd (S.state store.new) space.new.file_end) }
+    ensures room { IsErrOf result NoRoom → (S.state store.old).capacity ≤ space.old.file_end }
+    ensures exact { S.honest store.old → (p : Placement) → IsMidway (said S.PageStore store.old) (says meta.now) space.old p → was_there ≡ is_some (get (contents p) key.now) →
+        OnOk result (IsMidway (said S.PageStore store.new) (says meta.now) space.new (replace p (key.now, content.now))) }
+    ensures whole { S.honest store.old → (p : Placement) → IsMidway (said S.PageStore store.old) (says meta.now) space.old p → was_there ≡ is_some (get (contents p) key.now) → IsErrOf result Damaged → ⊥ }
+{
+    let head = head_of(store, meta, meta.shape.bucket(hash(key)))?;
+    if was_there {
+        remove(store, space, head, key)?;
+    }
+    put(store, space, head, key, content)
+}
+
+/// Splits one bucket where there are too many pairs.
+fn split_if_full<S: PageStore>(
+    alloc: Global,
+    store: &mut S,
+    meta: &mut Meta,
+    space: &mut FreeState,
+) -> Result<(), PageFault>
+    requires valid { IsMeta (record (says meta.old) { pairs = 0; free_head = 0; free_count = 0 }) }
+    requires few { (meta.old.pairs ≤ meta.old.limit) × (meta.old.pairs ≤ 8 * buckets (says meta.old) + 1) }
+    ensures stages { StagesOnly S.PageStore store.old store.new }
+    ensures cause { HasDeviceCause (S.faults store.old) (S.faults store.new) result }
+    ensures answer { IsChangeAnswer (S.state store.old) result }
+    ensures valid { OnOk result (IsMeta (record (says meta.new) { free_head = 0; free_count = 0 })) }
+    ensures kept { OnOk result ((meta.new.limit ≡ meta.old.limit) × (meta.new.pairs ≡ meta.old.pairs)) }
+    ensures shape { OnOk result (shape_in (says meta.new) ≡ shape_for meta.new.pairs (shape_in (says meta.old))) }
+    ensures ends { HasEnds space.old → HasEnds space.new }
+    ensures may_end { MayEnd (S.state store.old) space.old.file_end → OnOk result (MayEnd (S.state store.new) space.new.file_end) }
+    ensures exact { S.honest store.old → (p : Placement) → IsMidway (said S.PageStore store.old) (says meta.old) space.old p → p.space.end ≤ (S.state store.old).end + 1 → meta.old.pairs ≡ length (pairs_of p) →
+        OnOk result (IsMidway (said S.PageStore store.new) (says meta.new) space.new (split_where_full p)) }
+    ensures whole { S.honest store.old → (p : Placement) → IsMidway (said S.PageStore store.old) (says meta.old) space.old p → p.space.end ≤ (S.state store.old).end + 1 → IsErrOf result Damaged → ⊥ }
+    ensures room { S.honest store.old → (p : Placement) → IsMidway (said S.PageStore store.old) (says meta.old) space.old p → p.space.end ≤ (S.state store.old).end + 1 → IsErrOf result NoRoom → (S.state store.old).capacity ≤ p.space.end + length (pairs_of p) + 2 }
+{
+    if meta.pairs > PER_BUCKET * meta.shape.buckets() {
+        split_bucket(alloc, store, meta, space)?;
+    }
+    Ok(())
+}
+
+/// Stages the meta page, and answers where the file ends.
+fn stage_meta<S: PageStore>(
+    store: &mut S,
+    meta: &mut Meta,
+    space: FreeState,
+) -> Result<u32, PageFault>
+    requires valid { IsMeta (record (says meta.old) { free_head = 0; free_count = 0 }) }
+    requires ends { HasEnds space }
+    ensures stages { StagesOnly S.PageStore store.old store.new }
+    ensures cause { HasDeviceCause (S.faults store.old) (S.faults store.new) result }
+    ensures answer { IsStageAnswer S.reserved (S.state store.old) 1 result }
+    ensures valid { IsMeta (says meta.new) }
+    ensures meta { says meta.new ≡ record (says meta.old) { free_head = space.head; free_count = space.count } }
+    ensures end { IfOk result (λ end. end ≡ space.file_end) }
+    ensures may_commit { MayEnd (S.state store.old) space.file_end → IfOk result (MayCommit (S.state store.new)) }
+    ensures grows { MayEnd (S.state store.old) space.file_end → IfOk result (λ end. (S.state store.old).end ≤ end) }
+    ensures page { S.honest store.old → OnOk result (said S.PageStore store.new 1 ≡ MetaPage (says meta.new)) }
+    ensures others { S.honest store.old → (n : ℕ) → (n ≡ 1 → ⊥) → said S.PageStore store.new n ≡ said S.PageStore store.old n }
+{
+    meta.free_head = space.head;
+    meta.free_count = space.count;
+    let mut page = Page::blank();
+    write_meta(meta, &mut page);
+    store.stage(1, &page)?;
+    Ok(space.file_end)
+}
+
+/// How many pairs a store adds.
+fn added(was_there: bool) -> u32
+    ensures { result ≡ (if was_there then 0 else 1) }
+{
+    if was_there { 0 } else { 1 }
+}
+
+/// Stages what a store of a pair changes, and answers where the file then ends. One bucket is split where there would be
+/// more than eight pairs to a bucket.
+pub fn stage_store<S: PageStore>(
+    alloc: Global,
+    store: &mut S,
+    meta: &mut Meta,
+    key: &[u8],
+    content: &[u8],
+    was_there: bool,
+) -> Result<u32, PageFault>
+    requires allowed { IsAllowed (key.now, content.now) }
+    requires idle { (S.state store.old).staged ≡ [] }
+    requires valid { IsMeta (says meta.old) }
+    requires room { was_there ≡ false → meta.old.pairs < meta.old.limit }
+    ensures stages { StagesOnly S.PageStore store.old store.new }
+    ensures cause { HasDeviceCause (S.faults store.old) (S.faults store.new) result }
+    ensures answer { IsChangeAnswer (S.state store.old) result }
+    ensures valid { OnOk result (IsMeta (says meta.new)) }
+    ensures limit { OnOk result (meta.new.limit ≡ meta.old.limit) }
+    ensures pairs { OnOk result (meta.new.pairs ≡ (if was_there then meta.old.pairs else meta.old.pairs + 1)) }
+    ensures shape { OnOk result (shape_in (says meta.new) ≡ shape_for meta.new.pairs (shape_in (says meta.old))) }
+    ensures may_commit { IfOk result (MayCommit (S.state store.new)) }
+    ensures grows { IfOk result (λ end. (S.state store.old).end ≤ end) }
+
+    // On the pages of a good placement it leaves the model's, is never Damaged, and takes few pages.
+    ensures exact { S.honest store.old → (p : Placement) → IsTable (said S.PageStore store.old) (says meta.old) (S.state store.old).end p → MayStore p (key.now, content.now) → was_there ≡ is_some (get (contents p) key.now) →
+        IfOk result (λ end. IsStaged (said S.PageStore store.new) (says meta.new) end (stored p (key.now, content.now))) }
+    ensures whole { S.honest store.old → (p : Placement) → IsTable (said S.PageStore store.old) (says meta.old) (S.state store.old).end p → was_there ≡ is_some (get (contents p) key.now) → IsErrOf result Damaged → ⊥ }
+    ensures few { S.honest store.old → (p : Placement) → IsTable (said S.PageStore store.old) (says meta.old) (S.state store.old).end p → was_there ≡ is_some (get (contents p) key.now) → IsErrOf result NoRoom → (S.state store.old).capacity ≤ p.space.end + length (pairs_of p) + 4 }
+{
+    let mut space = space_of(meta, store.end());
+    replace_pair(store, meta, &mut space, key, content, was_there)?;
+    meta.pairs += added(was_there);
+    split_if_full(alloc, store, meta, &mut space)?;
+    stage_meta(store, meta, space)
+}
+
+/// Takes a key out of the chain of its bucket, where it is there.
+fn remove_key<S: PageStore>(
+    store: &mut S,
+    meta: &Meta,
+    space: &mut FreeState,
+    key: &[u8],
+) -> Result<bool, PageFault>
+    requires { IsMeta (says meta.now) }
+    ensures stages { StagesOnly S.PageStore store.old store.new }
+    ensures cause { HasDeviceCause (S.faults store.old) (S.faults store.new) result }
+    ensures answer { IsRemoveAnswer S.reserved (S.state store.old) result }
+    ensures ends { HasEnds space.old → HasEnds space.new }
+    ensures may_end { MayEnd (S.state store.old) space.old.file_end → OnOk result (MayEnd (S.state store.new) space.new.file_end) }
+    ensures exact { S.honest store.old → (p : Placement) → IsMidway (said S.PageStore store.old) (says meta.now) space.old p → OnOk result (IsMidway (said S.PageStore store.new) (says meta.now) space.new (delete p key.now)) }
+    ensures whole { S.honest store.old → (p : Placement) → IsMidway (said S.PageStore store.old) (says meta.now) space.old p → IsErrOf result Damaged → ⊥ }
+{
+    let head = head_of(store, meta, meta.shape.bucket(hash(key)))?;
+    remove(store, space, head, key)
+}
+
+/// Stages what the delete of a key that is there changes, and answers where the file then ends.
+pub fn stage_delete<S: PageStore>(
+    store: &mut S,
+    meta: &mut Meta,
+    key: &[u8],
+) -> Result<u32, PageFault>
+    requires idle { (S.state store.old).staged ≡ [] }
+    requires valid { IsMeta (says meta.old) }
+    requires some { 0 < meta.old.pairs }
+    ensures stages { StagesOnly S.PageStore store.old store.new }
+    ensures cause { HasDeviceCause (S.faults store.old) (S.faults store.new) result }
+    ensures answer { IsChangeAnswer (S.state store.old) result }
+    ensures no_room { IsErrOf result NoRoom → ⊥ }
+    ensures valid { OnOk result (IsMeta (says meta.new)) }
+    ensures limit { OnOk result (meta.new.limit ≡ meta.old.limit) }
+    ensures pairs { OnOk result (meta.new.pairs + 1 ≡ meta.old.pairs) }
+    ensures shape { OnOk result (shape_in (says meta.new) ≡ shape_in (says meta.old)) }
+    ensures may_commit { IfOk result (MayCommit (S.state store.new)) }
+    ensures grows { IfOk result (λ end. (S.state store.old).end ≤ end) }
+
+    // On the pages of a good placement it leaves the model's, and is never Damaged.
+    ensures exact { S.honest store.old → (p : Placement) → IsTable (said S.PageStore store.old) (says meta.old) (S.state store.old).end p → is_some (get (contents p) key.now) ≡ true →
+        IfOk result (λ end. IsStaged (said S.PageStore store.new) (says meta.new) end (delete p key.now)) }
+    ensures whole { S.honest store.old → (p : Placement) → IsTable (said S.PageStore store.old) (says meta.old) (S.state store.old).end p → IsErrOf result Damaged → ⊥ }
+{
+    let mut space = space_of(meta, store.end());
+    remove_key(store, meta, &mut space, key)?;
+    meta.pairs -= 1;
+    stage_meta(store, meta, space)
+}

@@ -1,0 +1,153 @@
+//! Databases in real files, in the folder that the tests run in.
+
+use crate::hows::how_of;
+use dbm_file::{Db, Fault, dbm_open};
+use sect_dev::FileDev;
+use std::alloc::Global;
+use std::fs::{self, File};
+use std::rt::Files;
+use std::test::Fail;
+use test_databases::asking::{first_wrong, is_fault, row_of};
+use test_databases::databases::{PAIRS, is_nine, put};
+
+/// Makes the database of the nine pairs.
+fn make_nine<R: Files<File = File>>(rt: &R, alloc: Global, name: &str) -> Result<(), Fail> {
+    let mut db = dbm_open(rt, alloc, name, how_of("create exclusive 100")?)?;
+    for (key, content) in PAIRS {
+        put(&mut db, &[key], &[content])?;
+    }
+    db.close().1?;
+    Ok(())
+}
+
+/// The fault of opening a file, as some words say.
+fn fault_of<R: Files<File = File>>(
+    rt: &R,
+    alloc: Global,
+    name: &str,
+    how: &str,
+) -> Result<Option<Fault>, Fail> {
+    Ok(dbm_open(rt, alloc, name, how_of(how)?).err())
+}
+
+/// The first line of a table whose opening of a file isn't refused by the fault that it has behind its arrow.
+fn first_not_refused<'a, R: Files<File = File>>(
+    rt: &R,
+    alloc: Global,
+    name: &str,
+    table: &'a str,
+) -> Result<Option<&'a str>, Fail> {
+    for line in table.lines() {
+        if let Some((how, wanted)) = row_of(line) {
+            if !is_fault(alloc, fault_of(rt, alloc, name, how)?, wanted)? {
+                return Ok(Some(line));
+            }
+        }
+    }
+    Ok(None)
+}
+
+/// Whether a file opens with the nine pairs.
+fn opens_with_nine<R: Files<File = File>>(
+    rt: &R,
+    alloc: Global,
+    name: &str,
+    how: &str,
+) -> Result<bool, Fail> {
+    Ok(is_nine(&mut dbm_open(rt, alloc, name, how_of(how)?)?)?)
+}
+
+#[test]
+fn a_file_keeps_its_pairs(rt: HostRuntime) -> Result<(), Fail> {
+    let alloc = rt.alloc();
+    let _ = fs::remove_file(&rt, "kept.db");
+    make_nine(&rt, alloc, "kept")?;
+    assert_eq!(rt; fs::metadata(&rt, "kept.db")?.len() % 512, 0);
+    assert!(rt; opens_with_nine(&rt, alloc, "kept", "100")?);
+    assert!(rt; opens_with_nine(&rt, alloc, "kept", "reading 100")?);
+    fs::remove_file(&rt, "kept.db")?;
+    Ok(())
+}
+
+#[test]
+fn a_missing_file_is_made_only_for_writing(rt: HostRuntime) -> Result<(), Fail> {
+    let alloc = rt.alloc();
+    let _ = fs::remove_file(&rt, "missing.db");
+    let table = "
+        100 -> Missing
+        reading 100 -> Missing
+        reading create 100 -> Missing
+        reading truncate 100 -> Missing
+    ";
+    assert_eq!(rt; first_not_refused(&rt, alloc, "missing", table)?, None);
+    assert!(rt; !fs::exists(&rt, "missing.db")?);
+    let fault = fault_of(&rt, alloc, "missing", "create exclusive 0")?;
+    assert_eq!(rt; fault, Some(Fault::BadLimit));
+    assert!(rt; fs::exists(&rt, "missing.db")?);
+    let fault = fault_of(&rt, alloc, "missing", "create exclusive 100")?;
+    assert_eq!(rt; fault, None);
+    let fault = fault_of(&rt, alloc, "missing", "create exclusive 100")?;
+    assert_eq!(rt; fault, Some(Fault::Exists));
+    fs::remove_file(&rt, "missing.db")?;
+    Ok(())
+}
+
+#[test]
+fn a_file_of_something_else_is_no_database(rt: HostRuntime) -> Result<(), Fail> {
+    fs::write(&rt, "other.db", b"hello".as_slice())?;
+    let table = "
+        reading 100 -> NotADatabase
+        100 -> NotADatabase
+        create exclusive 100 -> Exists
+    ";
+    assert_eq!(rt; first_not_refused(&rt, rt.alloc(), "other", table)?, None);
+    assert_eq!(rt; fs::read(&rt, "other.db")?.as_slice(), b"hello".as_slice());
+    fs::remove_file(&rt, "other.db")?;
+    Ok(())
+}
+
+/// Makes a new database, and cuts its file behind the third page.
+fn make_cut<R: Files<File = File> + Alloc>(rt: &R, alloc: Global) -> Result<(), Fail> {
+    drop(dbm_open(rt, alloc, "cut", how_of("create exclusive 100")?)?);
+    let whole = fs::read(rt, "cut.db")?;
+    let first = whole.as_slice().get(..6144).unwrap_or_default();
+    fs::write(rt, "cut.db", first)?;
+    Ok(())
+}
+
+#[test]
+fn a_file_that_was_cut_opens_and_is_damaged(rt: HostRuntime) -> Result<(), Fail> {
+    let alloc = rt.alloc();
+    let _ = fs::remove_file(&rt, "cut.db");
+    make_cut(&rt, alloc)?;
+    let mut db = dbm_open(&rt, alloc, "cut", how_of("reading 100")?)?;
+    let table = "
+        stat -> 0 pairs of 100, 1 buckets (0 0), 4 pages, 0 free
+        fetch k -> refused Damaged
+    ";
+    assert_eq!(rt; first_wrong(alloc, &mut db, table)?, None);
+    fs::remove_file(&rt, "cut.db")?;
+    Ok(())
+}
+
+#[test]
+fn what_the_system_refuses_is_a_device_fault(rt: HostRuntime) -> Result<(), Fail> {
+    let _ = fs::remove_file(&rt, "plain");
+    fs::write(&rt, "plain", b"".as_slice())?;
+    for name in ["plain/below", "none/below", "a\0b"] {
+        let fault = fault_of(&rt, rt.alloc(), name, "create exclusive 100")?;
+        assert_eq!(rt; fault, Some(Fault::Device), "{name}");
+    }
+    fs::remove_file(&rt, "plain")?;
+    Ok(())
+}
+
+#[test]
+fn a_full_device_is_a_device_fault(rt: HostRuntime) -> Result<(), Fail> {
+    let dev = FileDev::open(&rt, "/dev/full", true, false, 928)?;
+    let fault = Db::open(rt.alloc(), dev, how_of("create exclusive 100")?)
+        .map_err(|(_, fault)| fault)
+        .err();
+    assert_eq!(rt; fault, Some(Fault::Device));
+    Ok(())
+}

@@ -1,0 +1,301 @@
+//! Stops and failed calls of the device, while a database is made, changed and opened.
+
+use crate::marks::MARKS;
+use dbm_file::{Db, Fault, StoreReply};
+use page_io::Page;
+use sect_dev::{DevFault, FailOnce, Fuse, MemDev, SectorDev};
+use std::alloc::Global;
+use std::test::Fail;
+use test_databases::asking::first_wrong;
+use test_databases::databases::{closed, has_first, is_nine, opened, opening, put, with_first};
+use test_databases::pages::{eight_file, first_other, new_file, nine_file, page_at, set_page};
+
+/// The device calls of an opening with no commit on its way: a sync, a read of sector 0, and four of page 1.
+const OPENING: u64 = 6;
+
+/// Those of an opening that ends a commit of four pages: a sync and a read; four reads of each image to check it, four
+/// reads and four writes to copy it; a sync; the clear sector and its sync; and four reads of page 1.
+const RECOVERY: u64 = 2 + 16 + 32 + 1 + 2 + 4;
+
+/// The first call of the ninth store's commit, after the opening and the reads of the store: page 2 and page 3 to look the
+/// key up, both again to put the pair, and page 2 twice to split the bucket.
+const COMMIT: u64 = OPENING + 24;
+
+/// The sync behind the armed sector, after the 16 writes of the images, their sync and the armed sector.
+const ARMING: u64 = COMMIT + 18;
+
+/// The end of the ninth store, after the 16 writes of the pages, their sync, the clear sector and its sync.
+const STORED: u64 = ARMING + 1 + 19;
+
+/// A device with the first eight pairs, which keeps a short record: it is often copied.
+fn eight_pairs(alloc: Global) -> Result<MemDev, Fail> {
+    let mut stored = closed(with_first(alloc, 8)?)?;
+    let mut dev = MemDev::new(alloc, 928);
+    for n in 0..4 {
+        set_page(&mut dev, n, &page_at(&mut stored, n)?)?;
+    }
+    Ok(dev)
+}
+
+/// What is left after so many calls of a device.
+#[derive(Drop)]
+struct Stopped {
+    dev: MemDev,
+    done: bool,
+    broken: bool,
+}
+
+/// Opens a device and stores the ninth pair, with so many device calls.
+fn store_stopped(alloc: Global, dev: MemDev, calls: u64) -> Stopped {
+    match Db::open(alloc, Fuse::new(dev, calls), opening(false, 0)) {
+        Ok(mut db) => {
+            let answer = put(&mut db, &[0x69], &[9]);
+            let (fuse, closed) = db.close();
+            Stopped {
+                dev: fuse.into_inner(),
+                done: answer == Ok(StoreReply::Stored),
+                broken: closed == Err(Fault::Broken),
+            }
+        }
+        Err((fuse, _)) => Stopped {
+            dev: fuse.into_inner(),
+            done: false,
+            broken: false,
+        },
+    }
+}
+
+/// How many pairs there are after so many calls, where the first of the unsynced writes happened or not.
+fn pairs_after(calls: u64, first: bool) -> usize {
+    if calls > ARMING || calls == ARMING && first {
+        9
+    } else {
+        8
+    }
+}
+
+/// Whether what a store of so many device calls leaves opens with the pairs that it has to, with each kind of marks.
+fn leaves_pairs(alloc: Global, dev: &MemDev, calls: u64) -> Result<bool, Fail> {
+    for marks in MARKS.iter() {
+        let mut db = opened(alloc, dev.crashed(alloc, marks)?, false, 0)?;
+        if !has_first(&mut db, pairs_after(calls, marks[0]))? {
+            return Ok(false);
+        }
+    }
+    Ok(true)
+}
+
+/// Whether a ninth store that is stopped after so many calls ends as it has to.
+fn is_stored_so(alloc: Global, eight: &MemDev, calls: u64) -> Result<bool, Fail> {
+    let stopped = store_stopped(alloc, eight.crashed(alloc, &[])?, calls);
+    let in_commit = COMMIT <= calls && calls < STORED;
+    Ok(
+        stopped.done == (calls == STORED)
+            && stopped.broken == in_commit
+            && leaves_pairs(alloc, &stopped.dev, calls)?,
+    )
+}
+
+#[test]
+fn a_stopped_store_is_whole_or_absent(rt: HostRuntime) -> Result<(), Fail> {
+    let eight = eight_pairs(rt.alloc())?;
+    for calls in 0..STORED + 1 {
+        let right = is_stored_so(rt.alloc(), &eight, calls)?;
+        assert!(rt; right, "after {calls} calls");
+    }
+    Ok(())
+}
+
+/// Opens a device, with so many device calls.
+fn open_stopped(alloc: Global, dev: MemDev, calls: u64, create: bool) -> Stopped {
+    match Db::open(alloc, Fuse::new(dev, calls), opening(create, 100)) {
+        Ok(db) => Stopped {
+            dev: db.close().0.into_inner(),
+            done: true,
+            broken: false,
+        },
+        Err((fuse, _)) => Stopped {
+            dev: fuse.into_inner(),
+            done: false,
+            broken: false,
+        },
+    }
+}
+
+/// How many of the four kinds of marks differ for the writes of a device that aren't synced.
+fn kinds(dev: &MemDev) -> usize {
+    match dev.pending() {
+        0 => 1,
+        1 => 2,
+        _ => 4,
+    }
+}
+
+/// The first page of a device that doesn't begin and end as these do. Between their first 96 and last 32 bytes these have
+/// zeros; a look at each byte would take too long here.
+fn first_with_other_ends(dev: &mut MemDev, pages: &[Page]) -> Result<Option<u32>, DevFault> {
+    for (page, n) in pages.iter().zip(0..) {
+        let found = page_at(dev, n)?;
+        if found.bytes[..96] != page.bytes[..96] || found.bytes[2016..] != page.bytes[2016..] {
+            return Ok(Some(n));
+        }
+    }
+    Ok(None)
+}
+
+/// Whether what each kind of marks leaves of a device opens as this file of so many pairs.
+fn opens_as(alloc: Global, dev: &MemDev, pairs: u32, file: &[Page]) -> Result<bool, Fail> {
+    for marks in MARKS.iter().take(kinds(dev)) {
+        let db = opened(alloc, dev.crashed(alloc, marks)?, false, 0)?;
+        if db.stat().pairs != pairs || first_with_other_ends(&mut closed(db)?, file)?.is_some() {
+            return Ok(false);
+        }
+    }
+    Ok(true)
+}
+
+/// Opens a device again and again, with one call more each time, until it isn't stopped, and then what that leaves. It
+/// answers how many calls there were, or None where a stop left something else.
+fn stop_each_opening(
+    alloc: Global,
+    dev: &MemDev,
+    pairs: u32,
+    file: &[Page],
+) -> Result<Option<u64>, Fail> {
+    let mut before = None;
+    for calls in 0..RECOVERY {
+        let stopped = open_stopped(alloc, dev.crashed(alloc, &[])?, calls, false);
+        if stopped.done {
+            return Ok(Some(calls));
+        }
+        // Where there are as many unsynced writes as before, the call between was a read, and what is left is the same.
+        let pending = Some(stopped.dev.pending());
+        if pending != before && !opens_as(alloc, &stopped.dev, pairs, file)? {
+            return Ok(None);
+        }
+        before = pending;
+    }
+    Ok(Some(RECOVERY))
+}
+
+/// How many calls open what a store leaves after so many calls, where the first of the unsynced writes happened or not.
+fn calls_to_open(calls: u64, first: bool) -> u64 {
+    let is_clear = pairs_after(calls, first) == 8
+        || calls == STORED
+        || calls == STORED - 1 && first;
+    if is_clear { OPENING } else { RECOVERY }
+}
+
+/// Whether what a store leaves after so many calls may be opened again and again, with each kind of marks.
+fn opens_again(alloc: Global, left: &MemDev, calls: u64) -> Result<bool, Fail> {
+    for marks in MARKS.iter().take(kinds(left)) {
+        let dev = left.crashed(alloc, marks)?;
+        let needed = if pairs_after(calls, marks[0]) == 9 {
+            stop_each_opening(alloc, &dev, 9, &nine_file())?
+        } else {
+            stop_each_opening(alloc, &dev, 8, &eight_file())?
+        };
+        if needed != Some(calls_to_open(calls, marks[0])) {
+            return Ok(false);
+        }
+    }
+    Ok(true)
+}
+
+#[test]
+fn a_stopped_opening_may_be_made_again(rt: HostRuntime) -> Result<(), Fail> {
+    let alloc = rt.alloc();
+    let eight = eight_pairs(alloc)?;
+    for calls in COMMIT..STORED + 1 {
+        let stopped = store_stopped(alloc, eight.crashed(alloc, &[])?, calls);
+        let right = opens_again(alloc, &stopped.dev, calls)?;
+        assert!(rt; right, "after {calls} calls");
+    }
+    Ok(())
+}
+
+#[test]
+fn a_failed_sync_leaves_a_change_in_doubt(rt: HostRuntime) -> Result<(), Fail> {
+    let alloc = rt.alloc();
+    let mut db = opened(alloc, FailOnce::new(eight_pairs(alloc)?, ARMING), false, 0)?;
+    let table = "
+        stat -> 8 pairs of 100, 1 buckets (0 0), 4 pages, 0 free
+        put i #09 -> refused Device
+        put i #09 -> refused Broken
+        put i #09*2026 -> refused Broken
+        delete a -> refused Broken
+        fetch a -> refused Broken
+        first -> refused Broken
+        next -> refused Broken
+        error -> number 2
+        stat -> 8 pairs of 100, 1 buckets (0 0), 4 pages, 0 free
+        clear -> number 0
+        error -> number 0
+        fetch a -> refused Broken
+    ";
+    assert_eq!(rt; first_wrong(alloc, &mut db, table)?, None);
+    let (dev, answer) = db.close();
+    assert_eq!(rt; answer, Err(Fault::Broken));
+    assert!(rt; is_nine(&mut opened(alloc, dev.into_inner(), false, 0)?)?);
+    Ok(())
+}
+
+/// Whether a store of the ninth pair is refused where this call of the device fails, and leaves the pairs, and is done then.
+fn outlives_failure(alloc: Global, call: u64) -> Result<bool, Fail> {
+    let mut db = opened(alloc, FailOnce::new(eight_pairs(alloc)?, call), false, 0)?;
+    let refused = first_wrong(alloc, &mut db, "put i #09 -> refused Device")?.is_none();
+    let kept = refused && has_first(&mut db, 8)?;
+    let stored = kept && first_wrong(alloc, &mut db, "put i #09 -> stored")?.is_none();
+    Ok(stored && is_nine(&mut db)?)
+}
+
+#[test]
+fn a_failed_read_breaks_nothing(rt: HostRuntime) -> Result<(), Fail> {
+    for call in OPENING..COMMIT {
+        assert!(rt; outlives_failure(rt.alloc(), call)?, "{call}");
+    }
+    Ok(())
+}
+
+/// The calls that make a database: a sync and a read, the twelve writes of three pages and a sync, and the first sector
+/// and its sync.
+const MAKING: u64 = 2 + 13 + 2;
+
+/// Whether a device opens as a new database where it may be made, as every device here.
+fn opens_as_new(alloc: Global, dev: MemDev) -> Result<bool, Fail> {
+    let mut db = opened(alloc, dev, true, 100)?;
+    if !has_first(&mut db, 0)? {
+        return Ok(false);
+    }
+    Ok(first_other(&mut closed(db)?, &new_file())?.is_none())
+}
+
+/// Whether a making of so many device calls leaves a blank device or a new database, as it has to, with each kind of marks.
+fn leaves_blank_or_new(alloc: Global, left: &MemDev, calls: u64) -> Result<bool, Fail> {
+    for marks in MARKS.iter() {
+        let dev = left.crashed(alloc, marks)?;
+        let blank = calls < MAKING - 1 || calls == MAKING - 1 && !marks[0];
+        let wanted = if blank {
+            Some(Fault::NotADatabase)
+        } else {
+            None
+        };
+        let fault = opened(alloc, dev.crashed(alloc, &[])?, false, 100).err();
+        if fault != wanted || !opens_as_new(alloc, dev)? {
+            return Ok(false);
+        }
+    }
+    Ok(true)
+}
+
+#[test]
+fn a_stopped_making_leaves_nothing_or_a_new_database(rt: HostRuntime) -> Result<(), Fail> {
+    let alloc = rt.alloc();
+    for calls in 0..MAKING + 1 {
+        let stopped = open_stopped(alloc, MemDev::new(alloc, 928), calls, true);
+        assert_eq!(rt; stopped.done, calls == MAKING, "after {calls} calls");
+        let right = leaves_blank_or_new(alloc, &stopped.dev, calls)?;
+        assert!(rt; right, "after {calls} calls");
+    }
+    Ok(())
+}

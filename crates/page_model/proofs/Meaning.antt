@@ -1,0 +1,68 @@
+-- What pages stand for.
+use Rattle.std.proofs.Common.{◌≡◌, ℕ, refl, sym, ap, ◌∙◌}
+use Rattle.page_model.specs.Placement.{Placement, delete, store}
+use Rattle.page_model.specs.Pages.{Body}
+use Rattle.page_model.specs.Sheets.{meta_of}
+use Rattle.page_model.specs.Meaning.{said_by}
+use Rattle.page_model.specs.Pages.{MetaPage, SegmentPage, HeadPage, OverflowPage, FreePage, Other}
+use Rattle.page_model.specs.SheetLaws.{OneMeaning, PagesHaveOneMeaning, GoodPagesStand, StoredStands, DeletedStands}
+use Rattle.page_model.proofs.Flat.{flat_is_contents}
+use Rattle.page_model.proofs.Stores.{store_stays_good, delete_stays_good}
+use Rattle.page_model.proofs.GoodSheets.{pages_exactly}
+
+limit_on : ℕ → Body → ℕ
+limit_on other (MetaPage meta) = meta.limit
+limit_on other (SegmentPage heads) = other
+limit_on other (HeadPage next pairs) = other
+limit_on other (OverflowPage next pairs) = other
+limit_on other (FreePage next) = other
+limit_on other Other = other
+
+limit_read : (at : ℕ → Body) (p : Placement) → at 1 ≡ MetaPage (meta_of p) → limit_on 0 (at 1) ≡ p.limit
+unfolding limit_on
+limit_read at p e = ap (limit_on 0) e
+
+pub one_meaning : OneMeaning
+one_meaning at end m n limit other s t = (
+  sym s.holds ∙ t.holds,
+  sym s.limited ∙ sym (limit_read at s.placement s.spelled.0) ∙ limit_read at t.placement t.spelled.0 ∙ t.limited,
+)
+
+pub stored_stands : StoredStands
+stored_stands p at pair g may spelled =
+    let all = store_stays_good p pair g may in
+    record {
+      placement = store p pair;
+      good = all.0;
+      spelled = spelled;
+      ends = refl;
+      limited = all.2;
+      holds = flat_is_contents (store p pair) at all.0.sound spelled ∙ all.1;
+    }
+
+pub deleted_stands : DeletedStands
+deleted_stands p at key g spelled =
+    let all = delete_stays_good p key g in
+    record {
+      placement = delete p key;
+      good = all.0;
+      spelled = spelled;
+      ends = refl;
+      limited = refl;
+      holds = flat_is_contents (delete p key) at all.0.sound spelled ∙ all.1;
+    }
+
+pub pages_one_meaning : PagesHaveOneMeaning
+pages_one_meaning page end m n limit other s t = one_meaning (said_by page) end m n limit other s t
+
+pub good_pages_stand : GoodPagesStand
+good_pages_stand page p g are =
+    let read = (pages_exactly page p g).0 are in
+    record {
+      placement = p;
+      good = g;
+      spelled = read;
+      ends = refl;
+      limited = refl;
+      holds = flat_is_contents p (said_by page) g.sound read;
+    }

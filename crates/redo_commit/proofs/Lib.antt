@@ -1,0 +1,4 @@
+pub mod Blanks
+pub mod Headers
+pub mod Images
+pub mod Writes

@@ -1,0 +1,10 @@
+//! The steps of a commit over a device: the commit sector, redo images, home writes, and the making of a new file.
+#![tactic(auto)]
+
+mod format;
+mod header;
+mod steps;
+
+pub use format::format_pages;
+pub use header::{Header, clear_sector, read_header};
+pub use steps::{commit_pages, put_header};
