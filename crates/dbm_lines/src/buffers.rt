@@ -14,6 +14,7 @@ pub struct Buffers {
 }
 
 impl Buffers {
+    /// With no line, and no bytes of a key or a content. It takes no memory.
     pub fn new() -> Buffers {
         Buffers {
             line: ArrayVec::new(),

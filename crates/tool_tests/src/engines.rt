@@ -14,6 +14,7 @@ pub fn new_db(alloc: Global, limit: u32) -> Result<Db<MemDev>, Fault> {
     opened(alloc, MemDev::new(alloc, 8000), true, limit)
 }
 
+/// Answers a script.
 pub fn script<R: BufRead, W: Write>(
     alloc: Global,
     db: &mut Db<MemDev>,
@@ -23,6 +24,7 @@ pub fn script<R: BufRead, W: Write>(
     script_engine(alloc, db, reader, writer)
 }
 
+/// Loads the pairs of a text.
 pub fn load<R: BufRead>(
     alloc: Global,
     db: &mut Db<MemDev>,
@@ -31,6 +33,7 @@ pub fn load<R: BufRead>(
     load_engine(alloc, db, reader)
 }
 
+/// Writes the pairs of a database.
 pub fn dump<W: Write>(
     alloc: Global,
     db: &mut Db<MemDev>,
@@ -39,6 +42,7 @@ pub fn dump<W: Write>(
     dump_engine(alloc, db, writer)
 }
 
+/// Writes the keys of a database.
 pub fn list<W: Write>(
     alloc: Global,
     db: &mut Db<MemDev>,
