@@ -48,11 +48,6 @@ pub others_still : {S T E : Type 0} (s : Ghosts S) (old new : S) (bytes : List �
 others_still s old new bytes (Ok x) put same only honest n other = others_said s old new (own_number bytes) n bytes only honest put refl other
 others_still s old new bytes (Err e) put same only honest n other = ap (λ (at : ℕ → Body). at n) (same_said s old new (record { same = same; stages_only = only }) honest)
 
--- the own number, by both of its names
-pub own_same : (bytes : List ℕ) → own_number bytes ≡ model.own_number bytes
-unfolding own_number
-own_same bytes = refl
-
 -- what holds in any case
 pub if_ok : {T E P : Type 0} (result : Result T E) → P → OnOk result P
 if_ok (Ok x) p = p

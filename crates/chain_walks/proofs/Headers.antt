@@ -3,13 +3,10 @@ use Rattle.std.proofs.Common.{◌≡◌, ℕ, ◌<◌, List, length, sym, ap, �
 use Rattle.dbm_model.specs.Pairs.{Pair}
 use Rattle.page_model.specs.Pages.{Bucket, bucket}
 use Rattle.page_model.specs.Reading.{own_number, kind_of, slot_count, next_of, bucket_of}
+use Rattle.page_io.proofs.OwnNumbers.{own_is}
 use Rattle.slot_page.specs.Contents.{IsBucketPage, pairs_of}
 use Rattle.slot_page.proofs.Pages.{counted}
 use Rattle.chain_walks.specs.Links.{IsLink}
-
-pub own_is : (bytes : List ℕ) → (bucket_of bytes).own ≡ own_number bytes
-unfolding bucket_of
-own_is bytes = refl
 
 kind_is : (bytes : List ℕ) → (bucket_of bytes).kind ≡ kind_of bytes
 unfolding bucket_of

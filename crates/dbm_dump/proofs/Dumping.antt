@@ -16,11 +16,11 @@ use Rattle.page_io.specs.declared.store.PageStore.{Ghosts}
 use Rattle.dbm_file.specs.Answers.{MayBeLeft, StandsForSome, Survives, IsStep, Goes}
 use Rattle.dbm_file.specs.Calls.{Lent}
 use Rattle.dbm_file.specs.Database.{store_of, meta_of, pages_of, error_of, IsAt}
-use Rattle.file_opening.specs.Faults.{fault_of}
+use Rattle.dbm_fault.specs.Faults.{fault_of}
 use Rattle.dbm_file.specs.Lending.{Lends}
 use Rattle.dbm_file.specs.declared.database.Database.{Database}
-use Rattle.file_opening.specs.declared.fault.Fault.{Fault}
-use Rattle.file_opening.specs.declared.fault.Fault.TheVariants.{Device, Broken}
+use Rattle.dbm_fault.specs.declared.fault.Fault.{Fault}
+use Rattle.dbm_fault.specs.declared.fault.Fault.TheVariants.{Device, Broken}
 use Rattle.dbm_file.proofs.Runs.{goes_nowhere, still_goes}
 use Rattle.dbm_dump.specs.Dumping.{KeepsMap, Stays, Reads, IsChance, IsCopied}
 use Rattle.dbm_fault.specs.declared.engine_fault.EngineFault.{EngineFault}

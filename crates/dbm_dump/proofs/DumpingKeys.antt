@@ -21,11 +21,11 @@ use Rattle.dbm_model.specs.Steps.{Case, Passes, usable_case, broken_case, case_o
 use Rattle.page_io.specs.declared.store.PageStore.{Ghosts}
 use Rattle.dbm_file.specs.Calls.{Lent, lent_reply}
 use Rattle.dbm_file.specs.Database.{IsAt}
-use Rattle.file_opening.specs.Faults.{fault_of}
+use Rattle.dbm_fault.specs.Faults.{fault_of}
 use Rattle.dbm_file.specs.declared.database.Database.{Database}
-use Rattle.file_opening.specs.declared.fault.Fault.{Fault}
-use Rattle.file_opening.specs.declared.fault.Fault.TheVariants.{Device}
-use Rattle.file_opening.specs.declared.fault.Fault.TheVariants as fault
+use Rattle.dbm_fault.specs.declared.fault.Fault.{Fault}
+use Rattle.dbm_fault.specs.declared.fault.Fault.TheVariants.{Device}
+use Rattle.dbm_fault.specs.declared.fault.Fault.TheVariants as fault
 use Rattle.dbm_dump.specs.Dumping.{IsChance, IsCopied, CopiesStep}
 use Rattle.dbm_dump.proofs.Dumping.{keeps_map, reads_first, reads_next}
 use Rattle.dbm_fault.specs.declared.engine_fault.EngineFault.{EngineFault}

@@ -18,7 +18,7 @@ use Rattle.dbm_model.specs.Steps.{case_of, fetched, Answers, Suffers}
 use Rattle.page_io.specs.declared.store.PageStore.{Ghosts}
 use Rattle.dbm_file.specs.Calls.{Lent, lent_reply}
 use Rattle.dbm_file.specs.Database.{IsAt}
-use Rattle.file_opening.specs.Faults.{fault_of}
+use Rattle.dbm_fault.specs.Faults.{fault_of}
 use Rattle.dbm_file.specs.declared.database.Database.{Database}
 use Rattle.dbm_dump.specs.Dumping.{IsChance, IsCopied, CopiesStep}
 use Rattle.dbm_fault.specs.declared.engine_fault.EngineFault.{EngineFault}

@@ -14,10 +14,10 @@ use Rattle.page_io.specs.declared.store.PageStore.{Ghosts}
 use Rattle.dbm_file.specs.Answers.{IsStep, Survives, Goes}
 use Rattle.dbm_file.specs.Calls.{Lent, lent_reply}
 use Rattle.dbm_file.specs.Database.{store_of, pages_of, error_of, IsAt}
-use Rattle.file_opening.specs.Faults.{fault_of}
+use Rattle.dbm_fault.specs.Faults.{fault_of}
 use Rattle.dbm_file.specs.declared.database.Database.{Database}
-use Rattle.file_opening.specs.declared.fault.Fault.{Fault}
-use Rattle.file_opening.specs.declared.fault.Fault.TheVariants.{Device, Broken}
+use Rattle.dbm_fault.specs.declared.fault.Fault.{Fault}
+use Rattle.dbm_fault.specs.declared.fault.Fault.TheVariants.{Device, Broken}
 use Rattle.dbm_fault.specs.declared.engine_fault.EngineFault.{EngineFault}
 use Rattle.dbm_fault.specs.declared.engine_fault.EngineFault.TheVariants.{Memory, Db}
 

@@ -1,5 +1,5 @@
 // Why an engine stopped.
-use dbm_file::Fault;
+use crate::fault::Fault;
 use thiserror::Error;
 
 /// Why an engine stopped before the end of its input.

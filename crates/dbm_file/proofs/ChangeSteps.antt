@@ -17,14 +17,15 @@ use Rattle.page_io.specs.Meaning.{FileStandsFor, ImageStandsFor}
 use Rattle.page_io.specs.declared.store.PageStore.{Ghosts}
 use Rattle.page_io.specs.declared.store.PageFault.{PageFault}
 use Rattle.page_io.specs.declared.store.PageFault.TheVariants as page
-use Rattle.file_opening.specs.Faults.{fault_of, told}
-use Rattle.linear_hash.specs.Holding.{Holds, IsForgotten, StandsForEither, IsEnded, Turns}
+use Rattle.dbm_fault.specs.Faults.{fault_of, told}
+use Rattle.page_commit.specs.Committing.{Holds, IsForgotten}
+use Rattle.linear_hash.specs.Holding.{StandsForEither, IsEnded, Turns}
 use Rattle.dbm_file.specs.Database.{store_of, meta_of, pages_of, error_of, cursor_of, handle_of}
 use Rattle.dbm_file.specs.Passing.{IsPass}
 use Rattle.dbm_file.specs.Answers.{MayBeLeft, StandsForSome, Survives, IsStep, Keeps}
 use Rattle.dbm_file.specs.Trying.{with_fault, with_error_of, IsRead}
-use Rattle.file_opening.specs.declared.fault.Fault.{Fault}
-use Rattle.file_opening.specs.declared.fault.Fault.TheVariants.{Device, Broken}
+use Rattle.dbm_fault.specs.declared.fault.Fault.{Fault}
+use Rattle.dbm_fault.specs.declared.fault.Fault.TheVariants.{Device, Broken}
 use Rattle.linear_hash.specs.declared.passing.Cursor.{Cursor}
 use Rattle.dbm_file.specs.declared.database.Database.{Database}
 use Rattle.dbm_file.proofs.ReadSteps.{kept_first, same_parts, at_own, same_pass, still_meta, still_limit, still_writable, still_usable, still_holds, still_passes, still_survives, flagged_is}

@@ -17,14 +17,14 @@ use Rattle.chain_walks.specs.Answers.{IsWalkAnswer}
 use Rattle.chain_walks.specs.declared.place.Place.{Place}
 use Rattle.slot_page.specs.Contents.{pairs_of}
 use Rattle.dbm_file.specs.Calls.{Lent, lent_reply}
-use Rattle.file_opening.specs.Faults.{told}
-use Rattle.linear_hash.specs.Holding.{Holds}
+use Rattle.dbm_fault.specs.Faults.{told}
+use Rattle.page_commit.specs.Committing.{Holds}
 use Rattle.linear_hash.specs.Looking.{IsHeld, IsFound}
 use Rattle.dbm_file.specs.Lending.{Lends}
 use Rattle.dbm_file.specs.Database.{store_of, meta_of, pages_of, handle_of}
 use Rattle.dbm_file.specs.Trying.{with_fault, IsRead}
-use Rattle.file_opening.specs.declared.fault.Fault.{Fault}
-use Rattle.file_opening.specs.declared.fault.Fault.TheVariants.{Device, Broken, Damaged}
+use Rattle.dbm_fault.specs.declared.fault.Fault.{Fault}
+use Rattle.dbm_fault.specs.declared.fault.Fault.TheVariants.{Device, Broken, Damaged}
 use Rattle.dbm_file.specs.declared.database.Database.{Database}
 use Rattle.dbm_file.proofs.Cases.{fetch_rule, fetch_fails}
 use Rattle.dbm_file.proofs.Lends.{kept_error, flagged_lends}

@@ -26,16 +26,16 @@ use Rattle.page_model.specs.Slots.{taken}
 use Rattle.slot_page.specs.Contents.{IsBucketPage, pairs_of}
 use Rattle.dbm_file.specs.Answers.{MayBeLeft, StandsForSome, Survives, IsStep, Keeps}
 use Rattle.dbm_file.specs.Calls.{Lent, lent_reply}
-use Rattle.file_opening.specs.Faults.{fault_of, told}
-use Rattle.linear_hash.specs.Holding.{Holds}
+use Rattle.dbm_fault.specs.Faults.{fault_of, told}
+use Rattle.page_commit.specs.Committing.{Holds}
 use Rattle.dbm_file.specs.Lending.{Lends}
 use Rattle.dbm_file.specs.Passing.{HasLeft, IsPass, keys_of}
 use Rattle.linear_hash.specs.Passing.{IsBehind, IsNext}
 use Rattle.linear_hash.specs.Tables.{IsTable}
 use Rattle.dbm_file.specs.Database.{store_of, meta_of, pages_of, error_of, handle_of, IsAt}
 use Rattle.dbm_file.specs.Trying.{with_fault, IsRead, slot_reply}
-use Rattle.file_opening.specs.declared.fault.Fault.{Fault}
-use Rattle.file_opening.specs.declared.fault.Fault.TheVariants.{Device, Broken, NoPass}
+use Rattle.dbm_fault.specs.declared.fault.Fault.{Fault}
+use Rattle.dbm_fault.specs.declared.fault.Fault.TheVariants.{Device, Broken, NoPass}
 use Rattle.linear_hash.specs.declared.passing.Cursor.{Cursor}
 use Rattle.dbm_file.specs.declared.database.Database.{Database}
 use Rattle.dbm_file.proofs.Cases.{first_rule, next_rule, no_pass_rule, passes_fail, error_rule, clear_rule}

@@ -21,15 +21,15 @@ use Rattle.page_io.specs.declared.store.PageFault.{PageFault}
 use Rattle.page_io.specs.declared.store.PageFault.TheVariants as page
 use Rattle.seg_table.specs.MetaPages.{says}
 use Rattle.chain_walks.specs.Answers.{IsWalkAnswer}
-use Rattle.file_opening.specs.Faults.{fault_of, told}
-use Rattle.linear_hash.specs.Holding.{Holds}
+use Rattle.dbm_fault.specs.Faults.{fault_of, told}
+use Rattle.page_commit.specs.Committing.{Holds}
 use Rattle.dbm_file.specs.Database.{store_of, meta_of, pages_of, cursor_of, HoldsMap, HoldsPass, Rests, handle_of, IsAt}
 use Rattle.dbm_file.specs.Passing.{IsPass}
 use Rattle.dbm_file.specs.Answers.{MayBeLeft, StandsForSome, Survives, IsStep, Goes, Keeps}
 use Rattle.chain_walks.proofs.ReadPages.{reads_none}
 use Rattle.dbm_file.specs.Trying.{with_fault, IsRead}
-use Rattle.file_opening.specs.declared.fault.Fault.{Fault}
-use Rattle.file_opening.specs.declared.fault.Fault.TheVariants.{Device, Broken}
+use Rattle.dbm_fault.specs.declared.fault.Fault.{Fault}
+use Rattle.dbm_fault.specs.declared.fault.Fault.TheVariants.{Device, Broken}
 use Rattle.linear_hash.specs.declared.passing.Cursor.{Cursor}
 use Rattle.dbm_file.specs.declared.database.Database.{Database}
 

@@ -10,15 +10,15 @@ use Rattle.page_io.specs.Meaning.{ImageStandsFor}
 use Rattle.page_io.specs.declared.store.PageStore.{Ghosts}
 use Rattle.page_io.specs.declared.store.PageFault.{PageFault}
 use Rattle.seg_table.specs.declared.meta.Meta as code
-use Rattle.file_opening.specs.Faults.{fault_of, told}
-use Rattle.linear_hash.specs.Holding.{Holds}
+use Rattle.dbm_fault.specs.Faults.{fault_of, told}
+use Rattle.page_commit.specs.Committing.{Holds}
 use Rattle.dbm_file.specs.Calls.{mode_of, store_reply, delete_reply}
 use Rattle.dbm_model.specs.States.{Keys, Handle}
 use Rattle.dbm_file.specs.Database.{store_of, meta_of, pages_of, cursor_of, handle_of}
 use Rattle.dbm_file.specs.Passing.{IsPass}
 use Rattle.dbm_file.specs.Answers.{IsStep}
 use Rattle.dbm_file.specs.Trying.{with_fault, with_error_of, IsRead}
-use Rattle.file_opening.specs.declared.fault.Fault.{Fault}
+use Rattle.dbm_fault.specs.declared.fault.Fault.{Fault}
 use Rattle.dbm_file.specs.declared.calls.StoreMode.{StoreMode}
 use Rattle.dbm_file.specs.declared.calls.StoreMode.TheVariants.{Replace}
 use Rattle.dbm_file.specs.declared.calls.StoreReply.{StoreReply}

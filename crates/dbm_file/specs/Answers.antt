@@ -8,10 +8,10 @@ use Rattle.dbm_model.specs.Steps.{Changes, case_of, Step, Run}
 use Rattle.page_io.specs.Store.{Settled}
 use Rattle.page_io.specs.Meaning.{ImageStandsFor}
 use Rattle.page_io.specs.declared.store.PageStore.{Ghosts}
-use Rattle.file_opening.specs.Faults.{fault_of}
+use Rattle.dbm_fault.specs.Faults.{fault_of}
 use Rattle.dbm_file.specs.Database.{store_of, meta_of, pages_of, error_of, cursor_of, IsAt}
-use Rattle.file_opening.specs.declared.fault.Fault.{Fault}
-use Rattle.file_opening.specs.declared.fault.Fault.TheVariants.{Device, Broken}
+use Rattle.dbm_fault.specs.declared.fault.Fault.{Fault}
+use Rattle.dbm_fault.specs.declared.fault.Fault.TheVariants.{Device, Broken}
 use Rattle.dbm_file.specs.declared.database.Database.{Database}
 
 -- the call asks for a change to this map, by the rule that it falls under

@@ -2,8 +2,8 @@
 use Rattle.std.specs.Prelude.{List, ℕ, ◌-◌, ◌^◌, ℤ, pos, negsuc, Option, Some, None, Result, Ok, Err}
 use Rattle.std.specs.Borrow.{Bor}
 use Rattle.dbm_model.specs.Calls as model
-use Rattle.file_opening.specs.Faults.{fault_of}
-use Rattle.file_opening.specs.declared.fault.Fault.{Fault}
+use Rattle.dbm_fault.specs.Faults.{fault_of}
+use Rattle.dbm_fault.specs.declared.fault.Fault.{Fault}
 use Rattle.dbm_file.specs.declared.calls.StoreMode.{StoreMode}
 use Rattle.dbm_file.specs.declared.calls.StoreMode.TheVariants.{Insert, Replace}
 use Rattle.dbm_file.specs.declared.calls.StoreReply.{StoreReply}

@@ -9,8 +9,8 @@ use Rattle.page_io.specs.Store.{Settled, State}
 use Rattle.page_io.specs.Meaning.{ImageStandsFor}
 use Rattle.page_io.specs.declared.store.PageStore.{Ghosts}
 use Rattle.seg_table.specs.MetaPages.{says}
-use Rattle.file_opening.specs.Faults.{fault_of}
-use Rattle.linear_hash.specs.Holding.{Holds}
+use Rattle.dbm_fault.specs.Faults.{fault_of}
+use Rattle.page_commit.specs.Committing.{Holds}
 use Rattle.dbm_file.specs.Passing.{IsPass}
 use Rattle.linear_hash.specs.declared.passing.Cursor.{Cursor}
 use Rattle.dbm_file.specs.declared.database.Database.{Database}

@@ -8,7 +8,7 @@ use Rattle.dbm_model.specs.Pairs.{Contents}
 use Rattle.dbm_model.specs.States.{Handle}
 use Rattle.dbm_model.specs.States as model
 use Rattle.dbm_file.specs.Database.{store_of, pages_of, error_of, cursor_of, IsAt}
-use Rattle.file_opening.specs.declared.fault.Fault.{Fault}
+use Rattle.dbm_fault.specs.declared.fault.Fault.{Fault}
 use Rattle.dbm_file.specs.declared.database.Database.{Database}
 
 -- the device that an opening was given, whatever it answers

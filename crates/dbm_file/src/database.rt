@@ -50,7 +50,7 @@ impl<S: PageStore> Database<S> {
     ghost use Rattle.dbm_file.specs.Passing.{HasLeft};
     ghost use Rattle.dbm_file.specs.Ending.{EndsAs};
     ghost use Rattle.dbm_file.specs.Trying.{with_error_of, IsRead, slot_reply};
-    ghost use Rattle.linear_hash.specs.Holding.{Holds};
+    ghost use Rattle.page_commit.specs.Committing.{Holds};
     ghost use Rattle.chain_walks.specs.Answers.{IsWalkAnswer};
     ghost use Rattle.page_io.specs.Answers.{HasDeviceCause};
     ghost use Rattle.slot_page.specs.Contents.{IsBucketPage, pairs_of};

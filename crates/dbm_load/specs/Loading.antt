@@ -12,7 +12,7 @@ use Rattle.dbm_model.specs.States.{Handle}
 use Rattle.page_io.specs.declared.store.PageStore.{Ghosts}
 use Rattle.dbm_file.specs.Answers.{IsStep, IsRun}
 use Rattle.dbm_file.specs.Database.{store_of, IsAt}
-use Rattle.file_opening.specs.Faults.{fault_of}
+use Rattle.dbm_fault.specs.Faults.{fault_of}
 use Rattle.dbm_file.specs.declared.database.Database.{Database}
 use Rattle.dbm_lines.specs.PairLines.{pair_of, Say}
 use Rattle.dbm_fault.specs.declared.engine_fault.EngineFault.{EngineFault}

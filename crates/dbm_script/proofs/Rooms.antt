@@ -16,8 +16,8 @@ use Rattle.redo_commit.specs.declared.header.Header.{Header}
 use Rattle.redo_commit.specs.declared.header.Header.TheVariants.{Blank}
 use Rattle.file_opening.specs.Opening.{writes, room_fault, making_fault, IsOpened}
 use Rattle.file_opening.specs.declared.open_how.OpenHow.{OpenHow}
-use Rattle.file_opening.specs.declared.fault.Fault.{Fault}
-use Rattle.file_opening.specs.declared.fault.Fault.TheVariants.{TooSmall}
+use Rattle.dbm_fault.specs.declared.fault.Fault.{Fault}
+use Rattle.dbm_fault.specs.declared.fault.Fault.TheVariants.{TooSmall}
 
 -- each allowed limit needs at least 16 sectors
 pub enough : (limit n : ℕ) → Some n ≡ sectors_for limit → 16 ≤ n

@@ -4,7 +4,7 @@ ghost use Rattle.std.specs.Io.KnownBytes.{Appends};
 ghost use Rattle.dbm_model.specs.Calls.{NoRecord, End, Refused};
 ghost use Rattle.dbm_text.specs.Lines.{reply_line};
 ghost use Rattle.dbm_file.specs.Calls.{lent_reply};
-ghost use Rattle.file_opening.specs.Faults.{fault_of};
+ghost use Rattle.dbm_fault.specs.Faults.{fault_of};
 
 use dbm_file::Fault;
 use dbm_lines::{DIGITS, write_bytes, write_end, write_no_record, write_refused};

@@ -3,7 +3,7 @@ use Rattle.std.specs.Prelude.{ℕ, List, ◌++◌, codes}
 use Rattle.std.specs.Fmt.{decimal}
 use Rattle.dbm_model.specs.Calls.{number_of}
 use Rattle.dbm_text.specs.Lines.{with_line_feed}
-use Rattle.file_opening.specs.Faults.{fault_of}
+use Rattle.dbm_fault.specs.Faults.{fault_of}
 use Rattle.dbm_tool.specs.declared.commands.Failure.{Failure}
 use Rattle.dbm_tool.specs.declared.commands.Failure.TheVariants as failure
 use Rattle.dbm_fault.specs.declared.engine_fault.EngineFault.{EngineFault}

@@ -17,10 +17,10 @@ use Rattle.redo_commit.specs.File.{settled, SettlesAsBefore}
 use Rattle.redo_area.specs.Reading.{OnlyReads}
 use Rattle.redo_area.specs.Rests.{SettlesTo}
 use Rattle.redo_area.specs.declared.pager.Pager.{Pager}
-use Rattle.file_opening.specs.Faults.{told}
-use Rattle.linear_hash.specs.Holding.{Holds, IsForgotten}
-use Rattle.file_opening.specs.declared.fault.Fault.{Fault}
-use Rattle.file_opening.specs.declared.fault.Fault.TheVariants.{Device}
+use Rattle.dbm_fault.specs.Faults.{told}
+use Rattle.page_commit.specs.Committing.{Holds, IsForgotten}
+use Rattle.dbm_fault.specs.declared.fault.Fault.{Fault}
+use Rattle.dbm_fault.specs.declared.fault.Fault.TheVariants.{Device}
 use Rattle.file_opening.proofs.NewFiles.{three_committed}
 
 -- the pages that were there, or an empty database

@@ -18,8 +18,8 @@ use Rattle.slot_page.specs.Contents.{IsBucketPage}
 use Rattle.slot_page.proofs.Pages.{is_head}
 use Rattle.file_opening.specs.Opening.{writes, room_fault, making_fault}
 use Rattle.file_opening.specs.declared.open_how.OpenHow.{OpenHow}
-use Rattle.file_opening.specs.declared.fault.Fault.{Fault}
-use Rattle.file_opening.specs.declared.fault.Fault.TheVariants.{NotADatabase, ReadOnly}
+use Rattle.dbm_fault.specs.declared.fault.Fault.{Fault}
+use Rattle.dbm_fault.specs.declared.fault.Fault.TheVariants.{NotADatabase, ReadOnly}
 
 -- a head page with no pair
 pub bare_head : (bytes : List ℕ) → IsBucketPage bytes → bucket_of bytes ≡ bucket 3 3 0 [] → body_of 3 bytes ≡ HeadPage 0 []

@@ -25,8 +25,8 @@ use Rattle.file_opening.specs.Opening.{writes, is_exclusive, early_fault, making
 use Rattle.file_opening.specs.OpenFiles.{device_left, StandsAs, OpensAs}
 use Rattle.file_opening.specs.declared.file.OpenFile.{OpenFile}
 use Rattle.file_opening.specs.declared.open_how.OpenHow.{OpenHow}
-use Rattle.file_opening.specs.declared.fault.Fault.{Fault}
-use Rattle.file_opening.specs.declared.fault.Fault.TheVariants.{Memory, Device, Broken, ReadOnly, TooLong, Full, NoPass, NoRoom, Damaged, NotADatabase, Version, TooSmall, BadLimit, Missing, Exists}
+use Rattle.dbm_fault.specs.declared.fault.Fault.{Fault}
+use Rattle.dbm_fault.specs.declared.fault.Fault.TheVariants.{Memory, Device, Broken, ReadOnly, TooLong, Full, NoPass, NoRoom, Damaged, NotADatabase, Version, TooSmall, BadLimit, Missing, Exists}
 
 -- what holds of a value or an error, from other facts of it
 pub both_ok : {T E : Type 0} {P Q R : T → Type 0} (result : Result T E) → IfOk result P → IfOk result Q → ((x : T) → P x → Q x → R x) → IfOk result R

@@ -9,9 +9,9 @@ use Rattle.redo_area.specs.Pagers.{device_of}
 use Rattle.redo_area.specs.declared.pager.Pager.{Pager}
 use Rattle.seg_table.specs.MetaPages.{says}
 use Rattle.dbm_model.specs.Pairs.{Contents}
-use Rattle.linear_hash.specs.Holding.{Holds}
+use Rattle.page_commit.specs.Committing.{Holds}
 use Rattle.file_opening.specs.declared.open_how.OpenHow.{OpenHow}
-use Rattle.file_opening.specs.declared.fault.Fault.{Fault}
+use Rattle.dbm_fault.specs.declared.fault.Fault.{Fault}
 use Rattle.file_opening.specs.declared.file.OpenFile.{OpenFile}
 
 -- the device that an opening was given, whatever it answers

@@ -19,8 +19,8 @@ use Rattle.redo_area.specs.Rests.{SettlesTo}
 use Rattle.file_opening.specs.declared.open_how.Access.{Access}
 use Rattle.file_opening.specs.declared.open_how.Access.TheVariants as access
 use Rattle.file_opening.specs.declared.open_how.OpenHow.{OpenHow}
-use Rattle.file_opening.specs.declared.fault.Fault.{Fault}
-use Rattle.file_opening.specs.declared.fault.Fault.TheVariants.{Memory, ReadOnly, NoRoom, NotADatabase, Version, TooSmall, BadLimit, Exists, Damaged}
+use Rattle.dbm_fault.specs.declared.fault.Fault.{Fault}
+use Rattle.dbm_fault.specs.declared.fault.Fault.TheVariants.{Memory, ReadOnly, NoRoom, NotADatabase, Version, TooSmall, BadLimit, Exists, Damaged}
 
 -- ---- what is asked
 

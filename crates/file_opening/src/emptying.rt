@@ -16,13 +16,13 @@ ghost use Rattle.redo_commit.specs.File.{settled};
 ghost use Rattle.redo_area.specs.Opening.{IsFresh as IsFreshStore};
 ghost use Rattle.redo_area.specs.Pagers.{device_of};
 ghost use Rattle.seg_table.specs.MetaPages.{says};
-ghost use Rattle.linear_hash.specs.Holding.{Holds, IsForgotten};
+ghost use Rattle.page_commit.specs.Committing.{Holds, IsForgotten};
 ghost use Rattle.file_opening.specs.Opening.{emptying_fault};
 ghost use Rattle.file_opening.specs.OpenFiles.{device_left, IsJustOpened, StandsAs};
 
 use crate::making::{pages_of_empty, room_refusal};
 use crate::{Fault, OpenFile};
-use linear_hash::finish;
+use page_commit::finish;
 use page_io::{Page, PageFault, PageStore};
 use redo_area::Pager;
 use sect_dev::SectorDev;

@@ -2,14 +2,13 @@
 #![tactic(auto)]
 
 mod emptying;
-mod fault;
 mod file;
 mod making;
 mod open_how;
 mod opening;
 mod sizes;
 
-pub use fault::Fault;
+pub use dbm_fault::Fault;
 pub use file::OpenFile;
 pub use open_how::{Access, OpenHow};
 pub use opening::open_file;

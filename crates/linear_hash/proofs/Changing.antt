@@ -19,7 +19,8 @@ use Rattle.page_io.specs.declared.store.PageFault.{PageFault}
 use Rattle.page_io.specs.declared.store.PageFault.TheVariants.{Memory, Device, Broken, NoRoom, Damaged}
 use Rattle.page_io.proofs.Meanings.{commits}
 use Rattle.page_io.proofs.Overlays.{page_of-file}
-use Rattle.linear_hash.specs.Holding.{Holds, StandsForEither}
+use Rattle.page_commit.specs.Committing.{Holds}
+use Rattle.linear_hash.specs.Holding.{StandsForEither}
 use Rattle.linear_hash.specs.Staging.{IsStaged, IsChangeAnswer}
 
 module _ {S : Type 0} (s : Ghosts S) (mid : S) (m : Meta) (end : ℕ) (q : Placement) (good : IsGood q) (staged : IsStaged (said s mid) m end q) where
@@ -57,13 +58,6 @@ staged_stands s mid m q changed limit (Err e) good is staged same = tt
 each_err : {P : PageFault → Type 0} (result : Result Unit PageFault) → ((e : PageFault) → result ≡ Err e → P e) → IfErr result P
 each_err (Ok x) each = tt
 each_err (Err e) each = each e refl
-
--- what was staged and then committed
-pub commit_ok : {P Q : ℕ → Type 0} {R : Type 0} (A : PageFault → Type 0) (r : Result ℕ PageFault) (result : Result Unit PageFault) → IfErr r (λ e. (result ≡ Err e) × A e) → IfOk r P → IfOk r (λ end. OnOk result (Q end)) → ((end : ℕ) → P end → Q end → R) → OnOk result R
-commit_ok A (Ok end) (Ok x) refused p q then = then end p q
-commit_ok A (Ok end) (Err e) refused p q then = tt
-commit_ok A (Err e) (Ok x) refused p q then = let both = refused.0 in absurd cc
-commit_ok A (Err e) (Err f) refused p q then = tt
 
 -- no commit says Damaged
 pub never_damaged : IsRefusal Damaged ⊎ (Damaged ≡ Device) → ⊥

@@ -37,10 +37,9 @@ use Rattle.chain_walks.specs.Links.{HaveDistinctKeys}
 use Rattle.bucket_chain.specs.Placements.{IsBelow}
 use Rattle.bucket_chain.specs.Changes.{IsPlaced, BecomesPlaced, store_in}
 use Rattle.bucket_chain.proofs.Givings.{times_given}
-use Rattle.chain_walks.proofs.Headers.{own_is}
+use Rattle.page_io.proofs.OwnNumbers.{own_is, own_same}
 use Rattle.chain_walks.proofs.LinkBodies.{says_link}
 use Rattle.bucket_chain.proofs.PlacedChains.{chains_placed}
-use Rattle.bucket_chain.proofs.StagedPages.{own_same}
 use Rattle.bucket_chain.proofs.Rewriting.{not_here}
 use Rattle.linear_hash.specs.Tables.{shape_in}
 use Rattle.linear_hash.specs.Staging.{IsMidway}
@@ -183,10 +182,6 @@ next_bucket at m space p midway = ap (λ (s : Shape). 2 ^ s.level + s.split) mid
 -- a head page with no pair was staged
 pub says_head : (at : ℕ → Body) (bytes : List ℕ) (n : ℕ) → at n ≡ body_of n bytes → IsBucketPage bytes → bucket_of bytes ≡ bucket n 3 0 [] → at n ≡ HeadPage 0 []
 says_head at bytes n read page says = (says_link at bytes n 3 0 [] read (inl refl) (record { page = page; says = says; filled = λ four. absurd (omega arith) })).says
-
--- it has its number
-pub own_of_head : (bytes : List ℕ) (n : ℕ) → bucket_of bytes ≡ bucket n 3 0 [] → own_number bytes ≡ n
-own_of_head bytes n says = own_same bytes ∙ sym (own_is bytes) ∙ ap (λ (b : Bucket). b.own) says
 
 -- the free list once the bucket's overflow pages are given
 pub given_free : (p : Placement) (at0 at1 : ℕ → Body) (space1 : FreeState) → BecomesPlaced at0 at1 space1 (store_in (chain_at p p.shape.split, p.space) []) → 1 ≤ p.space.end → IsFreeList at1 space1 (given_space p)

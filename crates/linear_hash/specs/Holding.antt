@@ -11,20 +11,12 @@ use Rattle.page_io.specs.Meaning.{FileStandsFor, ImageStandsFor}
 use Rattle.page_io.specs.declared.store.PageStore.{Ghosts}
 use Rattle.page_io.specs.declared.store.PageFault.{PageFault}
 use Rattle.page_io.specs.declared.store.PageFault.TheVariants.{Device, NoRoom, Damaged}
+use Rattle.page_commit.specs.Committing.{Holds, IsForgotten}
 use Rattle.linear_hash.specs.Staging.{IsChangeAnswer}
-
--- the committed pages stand for the map, and the meta page says what is kept of it
-pub record Holds {S : Type 0} (s : Ghosts S) (store : S) (m : Meta) (map : Contents) : Type 0 where
-  pub stands : FileStandsFor (s.committed store) map m.limit
-  pub meta_is : said_by (page_of (s.committed store)) 1 ≡ MetaPage m
 
 -- an image stands for one of two maps
 abbrev pub StandsForEither : Contents → Contents → ℕ → Settled → Type 0
 StandsForEither old new limit settled = ImageStandsFor settled old limit ⊎ ImageStandsFor settled new limit
-
--- what was staged is forgotten, and the store broken where the device was the cause of the fault in a commit
-abbrev pub IsForgotten : State → State → PageFault → Type 0
-IsForgotten old new fault = (new ≡ record old { staged = [] }) ⊎ ((fault ≡ Device) × (new ≡ record old { staged = []; usable = false }))
 
 -- How a change ends on any device, where `before` and `after` are kept of the meta page: it is done, or refused with nothing changed, but that a fault of the device may break the store.
 pub record IsEnded {S : Type 0} (s : Ghosts S) (old new : S) (before after : Meta) (result : Result Unit PageFault) : Type 0 where

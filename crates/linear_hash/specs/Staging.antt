@@ -31,13 +31,6 @@ pub record IsGrown (old new : Meta) : Type 0 where
   pub segments : AddsSegment old (record old { segments = new.segments }) (2 ^ old.level + old.split)
   pub rest : new ≡ record old { level = new.level; split = new.split; segments = new.segments }
 
--- the staged pages can be committed with this end: they are below it, and those behind the old end are among them
-pub record MayCommit (state : State) (end : ℕ) : Type 0 where
-  pub below : AllBelow end state.staged
-  pub grown : (n : ℕ) → state.end ≤ n → n < end → has_page state.staged n ≡ true
-  pub some : 0 < length state.staged
-  pub least : 4 ≤ end
-
 -- with those that are staged the pages spell this placement, and this is kept of it
 pub record IsStaged (at : ℕ → Body) (m : Meta) (end : ℕ) (p : Placement) : Type 0 where
   pub spelled : IsSpelled at p

@@ -8,10 +8,11 @@ ghost use Rattle.page_io.specs.Answers.{HasDeviceCause};
 ghost use Rattle.seg_table.specs.MetaPages.{says};
 ghost use Rattle.linear_hash.specs.Tables.{shape_in, shape_for};
 ghost use Rattle.linear_hash.specs.Staging.{IsChangeAnswer};
-ghost use Rattle.linear_hash.specs.Holding.{Holds, IsForgotten, IsEnded, Turns};
+ghost use Rattle.page_commit.specs.Committing.{Holds, IsForgotten};
+ghost use Rattle.linear_hash.specs.Holding.{IsEnded, Turns};
 
-use crate::committing::finish;
 use crate::staging::{stage_delete, stage_store};
+use page_commit::finish;
 use page_io::{PageFault, PageStore};
 use seg_table::Meta;
 use std::alloc::Global;

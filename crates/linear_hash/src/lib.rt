@@ -3,13 +3,11 @@
 #![tactic(auto)]
 
 mod changes;
-mod committing;
 mod looking;
 mod passing;
 mod splitting;
 mod staging;
 
 pub use changes::{delete_pair, store_pair};
-pub use committing::finish;
 pub use looking::find_pair;
 pub use passing::{Cursor, next_pair};

@@ -13,7 +13,8 @@ ghost use Rattle.free_pages.specs.FreeList.{HasEnds};
 ghost use Rattle.seg_table.specs.MetaPages.{says};
 ghost use Rattle.bucket_chain.specs.Answers.{IsRemoveAnswer};
 ghost use Rattle.linear_hash.specs.Tables.{IsTable, space_in, shape_in, shape_for, split_where_full};
-ghost use Rattle.linear_hash.specs.Staging.{IsMidway, IsChangeAnswer, MayCommit, IsStaged};
+ghost use Rattle.page_commit.specs.Committing.{MayCommit};
+ghost use Rattle.linear_hash.specs.Staging.{IsMidway, IsChangeAnswer, IsStaged};
 
 use crate::splitting::split_bucket;
 use bucket_chain::{put, remove};

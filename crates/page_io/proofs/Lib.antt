@@ -1,11 +1,12 @@
 pub mod Fields
-pub mod PlainPages
-pub mod PageLaws
+pub mod Meanings
+pub mod Memory
 pub mod Overlays
+pub mod OwnNumbers
+pub mod PageLaws
 pub mod PageLists
 mod Places
-pub mod StagedPages
+pub mod PlainPages
 pub mod Runs
-pub mod Memory
+pub mod StagedPages
 pub mod Views
-pub mod Meanings

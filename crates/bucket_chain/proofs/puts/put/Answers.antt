@@ -10,8 +10,9 @@ use Rattle.page_io.specs.Views.{said, MayEnd}
 use Rattle.page_io.specs.declared.store.PageFault.TheVariants.{Damaged}
 use Rattle.page_io.proofs.Views.{stages_then, same_said, known_below}
 use Rattle.free_pages.specs.FreeList.{IsFreeList}
-use Rattle.chain_walks.proofs.Headers.{own_is, header_of}
-use Rattle.bucket_chain.proofs.StagedPages.{on_ok, if_ok, with_own, known_same, own_same}
+use Rattle.page_io.proofs.OwnNumbers.{own_is, own_same}
+use Rattle.chain_walks.proofs.Headers.{header_of}
+use Rattle.bucket_chain.proofs.StagedPages.{on_ok, if_ok, with_own, known_same}
 use Rattle.bucket_chain.proofs.PutLemmas.{room_walk, lacks, put_here, put_last, no_room, new_apart, absent_none, added_says, linked_says, fresh_says, apart_alone}
 use Rattle.bucket_chain.proofs.puts.put.Goals as goal
 

@@ -12,7 +12,8 @@ use Rattle.chain_walks.proofs.Headers.{header_of}
 use Rattle.chain_walks.proofs.LinkBodies.{says_link}
 use Rattle.chain_walks.proofs.ReadPages.{still_honest}
 use Rattle.chain_walks.proofs.Walks.{one_next}
-use Rattle.bucket_chain.proofs.StagedPages.{own_same, on_ok, if_ok}
+use Rattle.page_io.proofs.OwnNumbers.{own_same}
+use Rattle.bucket_chain.proofs.StagedPages.{on_ok, if_ok}
 use Rattle.bucket_chain.proofs.PutLemmas.{link_linked}
 use Rattle.bucket_chain.proofs.removes.relink.Given.{Over}
 use Rattle.bucket_chain.proofs.removes.relink.Goals as goal

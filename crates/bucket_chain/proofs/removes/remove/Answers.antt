@@ -13,7 +13,7 @@ use Rattle.chain_walks.proofs.Headers.{header_of}
 use Rattle.chain_walks.proofs.ReadPages.{still_honest, link_after}
 use Rattle.bucket_chain.proofs.FoundKeys.{found_here, not_found, hit_walk}
 use Rattle.bucket_chain.proofs.Removals.{removed_here, removed_over, head_of, last_of, prior_links, unchanged}
-use Rattle.bucket_chain.proofs.StagedPages.{own_same}
+use Rattle.page_io.proofs.OwnNumbers.{own_same}
 use Rattle.bucket_chain.proofs.removes.remove.Given.{Over}
 use Rattle.bucket_chain.proofs.removes.remove.Goals as goal
 use Rattle.bucket_chain.proofs.removes.remove.Goals.{else-hit-ne0-via-then-hit-ne0+else-slots-eq1, else-hit-ne0-via-else-hit-ne0}

@@ -10,9 +10,9 @@ use Rattle.page_io.specs.declared.store.PageFault.TheVariants.{Damaged}
 use Rattle.page_io.proofs.Views.{same_said, known_below}
 use Rattle.bucket_chain.specs.Giving.{AreGiven}
 use Rattle.bucket_chain.specs.Changes.{IsCleared, store_in}
-use Rattle.chain_walks.proofs.Headers.{own_is}
+use Rattle.page_io.proofs.OwnNumbers.{own_is, own_same}
 use Rattle.chain_walks.proofs.LinkBodies.{says_link}
-use Rattle.bucket_chain.proofs.StagedPages.{on_ok, if_ok, own_same}
+use Rattle.bucket_chain.proofs.StagedPages.{on_ok, if_ok}
 use Rattle.bucket_chain.proofs.PutLemmas.{placed_same}
 use Rattle.bucket_chain.proofs.Clearing.{was_read, first_is, cleared, each_chain}
 use Rattle.bucket_chain.proofs.stores.clear.Goals as goal

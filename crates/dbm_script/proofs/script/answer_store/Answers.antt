@@ -2,7 +2,7 @@ use Rattle.std.proofs.Common.{ap, subst}
 use Rattle.dbm_model.specs.Calls as model
 use Rattle.dbm_file.specs.Answers.{IsStep}
 use Rattle.dbm_file.specs.Calls.{mode_of, store_reply}
-use Rattle.file_opening.specs.Faults.{fault_of}
+use Rattle.dbm_fault.specs.Faults.{fault_of}
 use Rattle.dbm_script.proofs.script.answer_store.Goals as goal
 
 pub returns-in-Err-clause-line : goal.returns-in-Err-clause-line

@@ -1,7 +1,7 @@
 use Rattle.std.proofs.Common.{◌∙◌, ap}
 use Rattle.page_io.specs.Store.{State, bytes_of}
 use Rattle.seg_table.specs.MetaPages.{says}
-use Rattle.linear_hash.proofs.Changing.{commit_ok}
+use Rattle.page_commit.proofs.CommitResults.{commit_ok}
 use Rattle.file_opening.proofs.EmptyFiles.{holds_empty, leaves_old_or_empty}
 use Rattle.file_opening.proofs.emptying.commit_empty.Goals as goal
 

@@ -1,6 +1,5 @@
 use Rattle.std.proofs.Common.{◌∙◌}
-use Rattle.bucket_chain.proofs.StagedPages.{own_same}
-use Rattle.linear_hash.proofs.Openings.{own_of_head}
+use Rattle.page_io.proofs.OwnNumbers.{own_same, own_of_head}
 use Rattle.file_opening.proofs.NewFiles.{bare_head, new_stands, three_numbers}
 use Rattle.seg_table.specs.MetaPages.{says}
 use Rattle.file_opening.proofs.making.pages_of_empty.Goals as goal

@@ -10,7 +10,7 @@ use Rattle.redo_area.specs.Rests.{SettlesTo, only_seen}
 use Rattle.redo_area.specs.declared.open_fault.OpenFault.TheVariants as redo
 use Rattle.file_opening.specs.OpenFiles.{device_left}
 use Rattle.file_opening.specs.Opening.{writes, early_fault, making_fault, RefusesOpened, IsRefusedOpening, MayRemain}
-use Rattle.file_opening.specs.declared.fault.Fault.TheVariants.{Device}
+use Rattle.dbm_fault.specs.declared.fault.Fault.TheVariants.{Device}
 use Rattle.file_opening.proofs.EmptyFiles.{settles_run, settles_on, settles_from}
 use Rattle.file_opening.proofs.NewFiles.{BlankOrNew, was_asked, none_for_reading}
 use Rattle.file_opening.proofs.Refusals.{from_ok, both_ok, each_err, Tells, tells, has_blank, all_blank, refused_blank, refused_not_ours, refused_damaged, refused_file, only_memory, what_stood, opened_as_asked, may_empty, device_untouched, stable_still, by_access}

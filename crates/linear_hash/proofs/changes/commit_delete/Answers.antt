@@ -10,9 +10,11 @@ use Rattle.page_io.specs.declared.store.PageFault.TheVariants.{Damaged}
 use Rattle.page_io.specs.declared.store.PageFault.{PageFault}
 use Rattle.seg_table.specs.MetaPages.{says}
 use Rattle.linear_hash.specs.Tables.{IsTable}
-use Rattle.linear_hash.specs.Holding.{Holds, StandsForEither}
-use Rattle.linear_hash.specs.Staging.{MayCommit, IsStaged}
-use Rattle.linear_hash.proofs.Changing.{commit_ok, never_damaged, few_staged, lacks_few, change_answer, commit_holds, staged_stands, leaves_either, leaves_old, told_by, no_room_by}
+use Rattle.page_commit.specs.Committing.{Holds, MayCommit}
+use Rattle.linear_hash.specs.Holding.{StandsForEither}
+use Rattle.linear_hash.specs.Staging.{IsStaged}
+use Rattle.page_commit.proofs.CommitResults.{commit_ok}
+use Rattle.linear_hash.proofs.Changing.{never_damaged, few_staged, lacks_few, change_answer, commit_holds, staged_stands, leaves_either, leaves_old, told_by, no_room_by}
 use Rattle.linear_hash.proofs.Plans.{now, was_placed, deleted_good, deleted_map}
 use Rattle.linear_hash.proofs.Tables.{is_table}
 use Rattle.linear_hash.proofs.changes.commit_delete.Given.{Over}

@@ -9,7 +9,8 @@ use Rattle.page_io.specs.declared.store.PageFault.TheVariants.{NoRoom, Damaged}
 use Rattle.page_io.proofs.Views.{after_stage, stages_then}
 use Rattle.seg_table.specs.MetaPages.{says}
 use Rattle.seg_table.proofs.Stagings.{then_said, others_stay}
-use Rattle.linear_hash.proofs.Openings.{split_placed, no_keys, midway_heads, next_bucket, says_head, own_of_head, given_free, given_apart, given_space, headed_space, can_set, opened_now}
+use Rattle.page_io.proofs.OwnNumbers.{own_of_head}
+use Rattle.linear_hash.proofs.Openings.{split_placed, no_keys, midway_heads, next_bucket, says_head, given_free, given_apart, given_space, headed_space, can_set, opened_now}
 use Rattle.linear_hash.proofs.splitting.open_bucket.Goals as goal
 
 pub returns-in_err-store_all-clause-whole : goal.returns-in_err-store_all-clause-whole

@@ -1,7 +1,7 @@
 use Rattle.std.proofs.Common.{◌∙◌}
 use Rattle.page_io.specs.Views.{StagesOnly}
 use Rattle.page_io.proofs.Views.{after_stage, staged_said, others_said}
-use Rattle.bucket_chain.proofs.StagedPages.{own_same}
+use Rattle.page_io.proofs.OwnNumbers.{own_same}
 use Rattle.linear_hash.proofs.MetaStaging.{can_commit}
 use Rattle.linear_hash.proofs.staging.stage_meta.Given.{Over}
 use Rattle.linear_hash.proofs.staging.stage_meta.Goals as goal

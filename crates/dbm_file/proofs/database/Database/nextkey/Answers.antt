@@ -2,7 +2,7 @@ use Rattle.std.proofs.Common.{◌∙◌, ℕ, ◌<◌, length, Option, Some, Non
 use Rattle.dbm_model.specs.Calls.{Next, End}
 use Rattle.slot_page.specs.Contents.{IsBucketPage, pairs_of}
 use Rattle.dbm_file.specs.Trying.{slot_reply}
-use Rattle.file_opening.specs.declared.fault.Fault.TheVariants.{NoPass}
+use Rattle.dbm_fault.specs.declared.fault.Fault.TheVariants.{NoPass}
 use Rattle.dbm_file.proofs.Cases.{broken_next}
 use Rattle.dbm_file.proofs.Lends.{lends_broken, lends_nothing, flagged_lends}
 use Rattle.dbm_file.proofs.ReadSteps.{not_broken}

@@ -4,7 +4,7 @@ use Rattle.dbm_model.specs.Calls as model
 use Rattle.dbm_model.specs.Steps.{Case, Suffers}
 use Rattle.page_io.specs.Store.{State}
 use Rattle.dbm_file.specs.Database.{handle_of}
-use Rattle.file_opening.specs.declared.fault.Fault.TheVariants.{ReadOnly}
+use Rattle.dbm_fault.specs.declared.fault.Fault.TheVariants.{ReadOnly}
 use Rattle.dbm_file.proofs.Cases.{broken_delete, delete_read_only, delete_rule, delete_fails, absent}
 use Rattle.dbm_file.proofs.ReadSteps.{from_own, no_read, still_writable, not_broken, rejected_step, found_step, walk_failed_step, broken_step}
 use Rattle.dbm_file.proofs.ChangeSteps.{mid_honest, mid_usable, mid_holds, changed_step, refused_step, told_keeps}

@@ -6,7 +6,7 @@ use Rattle.dbm_file.specs.Calls.{mode_of}
 use Rattle.page_io.specs.Store.{State}
 use Rattle.dbm_file.specs.Database.{handle_of}
 use Rattle.dbm_file.specs.declared.calls.StoreMode.TheVariants.{Insert, Replace}
-use Rattle.file_opening.specs.declared.fault.Fault.TheVariants.{ReadOnly, TooLong, Full}
+use Rattle.dbm_fault.specs.declared.fault.Fault.TheVariants.{ReadOnly, TooLong, Full}
 use Rattle.dbm_file.proofs.Cases.{broken_store, store_read_only, too_long_rule, store_rule, store_fails, kept, full}
 use Rattle.dbm_file.proofs.ReadSteps.{from_own, no_read, still_writable, not_broken, found_step, declined_step, rejected_step, walk_failed_step, broken_step}
 use Rattle.dbm_file.proofs.ChangeSteps.{mid_honest, mid_usable, mid_holds, changed_step, refused_step, told_keeps}

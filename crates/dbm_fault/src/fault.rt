@@ -56,7 +56,7 @@ pub enum Fault {
 
 impl Fault {
     ghost use Rattle.dbm_model.specs.Calls.{number_of};
-    ghost use Rattle.file_opening.specs.Faults.{fault_of};
+    ghost use Rattle.dbm_fault.specs.Faults.{fault_of};
 
     /// The number of the fault, 1 to 15.
     pub fn number(self) -> i32
@@ -83,7 +83,7 @@ impl Fault {
 }
 
 impl From<PageFault> for Fault {
-    ghost use Rattle.file_opening.specs.Faults.{told};
+    ghost use Rattle.dbm_fault.specs.Faults.{told};
 
     ghost from_gives = { λ page fault. fault ≡ told page };
 

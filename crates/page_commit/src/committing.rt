@@ -4,8 +4,7 @@ ghost use Rattle.std.specs.Prelude.{◌≡◌, ◌⊎◌, ◌↔◌, ◌≤◌, 
 ghost use Rattle.sect_dev.specs.Device.{LeavesOnly};
 ghost use Rattle.page_io.specs.Answers.{HasDeviceCause, IsCommitAnswer};
 ghost use Rattle.page_io.specs.Store.{file_of, committed_with};
-ghost use Rattle.linear_hash.specs.Staging.{MayCommit};
-ghost use Rattle.linear_hash.specs.Holding.{IsForgotten};
+ghost use Rattle.page_commit.specs.Committing.{MayCommit, IsForgotten};
 
 use page_io::{PageFault, PageStore};
 
