@@ -2,16 +2,16 @@
 # Two laws tie what a disk is supposed to do to the calls that a `FileDev` makes. Told of a call that isn't made they would prove
 # anything, so three proofs alone may cite them: those of the functions that make one call each.
 cd "$(dirname "$0")/.." || exit 1
-cited=$(grep -rlE 'told_change|told_read' crates --include='*.antt' --include='*.rt' --exclude-dir=out | sort)
+cited=$(grep -rlE 'recorded_change|recorded_read' crates --include='*.antt' --include='*.rt' --exclude-dir=out | sort)
 wanted='crates/sect_dev/proofs/file_dev/FileDev/fsync/Answers.antt
 crates/sect_dev/proofs/file_dev/FileDev/pread/Answers.antt
 crates/sect_dev/proofs/file_dev/FileDev/pwrite/Answers.antt
-crates/sect_dev/specs/Course.antt'
-[ "$cited" = "$wanted" ] || { echo "the laws of a file's course are cited elsewhere:"; echo "$cited"; exit 1; }
+crates/sect_dev/specs/FileHistory.antt'
+[ "$cited" = "$wanted" ] || { echo "the laws of a file's history are cited elsewhere:"; echo "$cited"; exit 1; }
 
 # and each cites one law once, for the one call of its function
 for function in fsync pread pwrite; do
   proof=crates/sect_dev/proofs/file_dev/FileDev/$function/Answers.antt
-  uses=$(grep -v '^use ' "$proof" | grep -coE 'told_change|told_read')
+  uses=$(grep -v '^use ' "$proof" | grep -coE 'recorded_change|recorded_read')
   [ "$uses" = 1 ] || { echo "$proof cites a law on $uses lines"; exit 1; }
 done

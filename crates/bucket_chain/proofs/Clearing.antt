@@ -6,13 +6,13 @@ use Rattle.dbm_model.specs.Pairs.{Pair}
 use Rattle.page_model.specs.Pages.{Body, HeadPage}
 use Rattle.page_model.specs.Chain.{Leaf, Chain, numbers}
 use Rattle.page_model.specs.Space.{Space, give, is_page, times_of}
-use Rattle.page_model.specs.Sheets.{first_of, free_sheets, AreRead}
+use Rattle.page_model.specs.PageBodies.{first_of, free_bodies, AreRead}
 use Rattle.page_model.proofs.Chains.{AllByRecursion-right}
 use Rattle.page_model.proofs.Spaces.{times_head}
 use Rattle.free_pages.specs.declared.free_state.FreeState.{FreeState}
 use Rattle.free_pages.specs.FreeList.{IsFreeList}
 use Rattle.chain_walks.specs.Links.{HaveDistinctKeys, SaysLink}
-use Rattle.chain_walks.specs.Walks.{IsRead}
+use Rattle.chain_walks.specs.Walks.{IsReadToEnd}
 use Rattle.bucket_chain.specs.Giving.{AreGiven}
 use Rattle.bucket_chain.specs.Changes.{IsPlaced, IsCleared, store_in}
 use Rattle.chain_walks.proofs.Walks.{leaf_of, AreNumbered, one_next}
@@ -25,7 +25,7 @@ abbrev pub all_given : (old mid : ℕ → Body) (state state' : FreeState) (firs
 all_given old mid state state' first n given = record { are = given; count = refl }
 
 -- the chain was read to its end
-pub was_read : (old mid : ℕ → Body) (state state' : FreeState) (head first : ℕ) (pairs : List Pair) → SaysLink old head 3 first pairs → AreGiven old mid state state' first 0 → IsRead old head
+pub was_read : (old mid : ℕ → Body) (state state' : FreeState) (head first : ℕ) (pairs : List Pair) → SaysLink old head 3 first pairs → AreGiven old mid state state' first 0 → IsReadToEnd old head
 was_read old mid state state' head first pairs link given = record {
   chain = leaf_of head pairs ∷ given.pages;
   are_read = (refl, link.says ∙ ap (λ (n : ℕ). HeadPage n pairs) given.first_is, given.linked);
@@ -70,7 +70,7 @@ module _ (old mid at' : ℕ → Body) (state state' : FreeState) (head first : �
   cleared here others =
       let number : head ≡ leaf.number = placed.chain_is.from in
       let read : at' leaf.number ≡ HeadPage 0 [] = ap at' (sym number) ∙ here in
-      let free_read : AreRead at' (free_sheets (give (numbers rest) s).free) = free_kept mid at' (give (numbers rest) s).free
+      let free_read : AreRead at' (free_bodies (give (numbers rest) s).free) = free_kept mid at' (give (numbers rest) s).free
       (λ n stands. others n (λ same. not_there leaf.number n (give (numbers rest) s).free head_apart stands (same ∙ number))) free_list.are_read in
       record {
         becomes = record {

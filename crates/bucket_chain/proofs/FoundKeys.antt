@@ -7,9 +7,9 @@ use Rattle.dbm_model.specs.Pairs.{Key, Pair}
 use Rattle.page_model.specs.PairLists.{times, without}
 use Rattle.page_model.specs.Pages.{Body}
 use Rattle.page_model.specs.Chain.{Leaf, Chain, numbers, pairs_in, take_out, is_bare, remove, emptied, IsChain}
-use Rattle.page_model.specs.Sheets.{first_of}
+use Rattle.page_model.specs.PageBodies.{first_of}
 use Rattle.page_model.proofs.Chains.{AllByRecursion-left, AllByRecursion-right}
-use Rattle.slot_page.specs.Contents.{pairs_of}
+use Rattle.slot_page.specs.Contents.{page_pairs}
 use Rattle.chain_walks.specs.Links.{HaveDistinctKeys, IsLink}
 use Rattle.chain_walks.specs.Chains.{IsChainAt, number_or}
 use Rattle.chain_walks.specs.Walks.{IsWalk, LacksKey, EndsWithout, HasKey}
@@ -40,7 +40,7 @@ pub record IsFoundHere (at : ℕ → Body) (chain : Chain) (key : Key) (bytes : 
   pub filled_later : AreFilled later
   -- the bytes are the page, and the key is taken out with its slot
   pub link : IsLink bytes hit.page (kind_behind before) hit.next leaf.pairs
-  pub pairs : pairs_of bytes ≡ leaf.pairs
+  pub pairs : page_pairs bytes ≡ leaf.pairs
   pub within : hit.slot < length leaf.pairs
   pub out : without key leaf.pairs ≡ remove_at leaf.pairs hit.slot
   pub comes : 1 ≤ times key (pairs_in chain)

@@ -9,7 +9,7 @@ use Rattle.dbm_model.specs.Pairs.{Pair}
 use Rattle.page_model.specs.Pages.{Body, HeadPage, OverflowPage, FreePage}
 use Rattle.page_model.specs.Chain.{Leaf, Chain, numbers}
 use Rattle.page_model.specs.Space.{Space, give, is_page, times_of}
-use Rattle.page_model.specs.Sheets.{first_of}
+use Rattle.page_model.specs.PageBodies.{first_of}
 use Rattle.page_model.proofs.Chains.{AllByRecursion-append}
 use Rattle.page_model.proofs.Spaces.{times_head, times_tail}
 use Rattle.free_pages.specs.declared.free_state.FreeState.{FreeState}

@@ -4,7 +4,7 @@ use Rattle.dbm_model.specs.Pairs.{Key, Pair}
 use Rattle.page_model.specs.PairLists.{times}
 use Rattle.page_model.specs.Pages.{Body}
 use Rattle.page_model.specs.Chain.{Leaf}
-use Rattle.slot_page.specs.Contents.{HasKeyAt, pairs_of}
+use Rattle.slot_page.specs.Contents.{HasKeyAt, page_pairs}
 use Rattle.chain_walks.specs.Links.{SaysLink, IsLink}
 use Rattle.chain_walks.specs.Walks.{LacksKey}
 use Rattle.bucket_chain.specs.Hits.{IsPrior, IsNumberedWalk, IsHitAt, IsHit}
@@ -36,11 +36,11 @@ module _ (at : ℕ → Body) (head : ℕ) (key : Key) (prior prior_kind n kind s
   }
 
   -- at the page with the key
-  pub track_hits : (bytes : List ℕ) (slot : ℕ) → IsLink bytes n kind next (pairs_of bytes) → pairs_of bytes ≡ pairs → HasKeyAt key pairs slot
+  pub track_hits : (bytes : List ℕ) (slot : ℕ) → IsLink bytes n kind next (page_pairs bytes) → page_pairs bytes ≡ pairs → HasKeyAt key pairs slot
       → IsHit at head key bytes (record { page = n; slot = slot; prior = prior; prior_kind = prior_kind; next = next })
   unfolding track_ends
   track_hits bytes slot is_link read has = record {
     walked = track_ends (IsHitAt key bytes (record { page = n; slot = slot; prior = prior; prior_kind = prior_kind; next = next })) (record { number = refl; page = is_link.page; pairs = read; has = has }, refl);
-    link = subst (λ (k : ℕ). IsLink bytes n k next (pairs_of bytes)) tracked.walk.kind_is is_link;
+    link = subst (λ (k : ℕ). IsLink bytes n k next (page_pairs bytes)) tracked.walk.kind_is is_link;
     prior = tracked.prior_is;
   }

@@ -4,10 +4,10 @@ pub mod FoundKeys
 pub mod Givings
 pub mod Hits
 pub mod KeyRemovals
+pub mod PlacedChains
 pub mod PutLemmas
 pub mod Removals
 pub mod Rewriting
 pub mod SpotLemmas
 pub mod StagedPages
 pub mod Storing
-pub mod PlacedChains

@@ -7,11 +7,11 @@ use Rattle.std.proofs.lemmas.List.Sums.{sum_by-append}
 use Rattle.std.proofs.lemmas.List.Folds.{length-flat_map-take}
 use Rattle.dbm_model.specs.Pairs.{Pair}
 use Rattle.page_model.specs.PairLists.{has_key, times}
-use Rattle.page_model.specs.Pages.{Sheet}
+use Rattle.page_model.specs.Pages.{NumberedBody}
 use Rattle.page_model.specs.Chain.{Chain, numbers, pairs_in}
 use Rattle.page_model.specs.Space.{is_page, times_of}
 use Rattle.page_model.specs.Placement.{chain_at}
-use Rattle.page_model.specs.Sheets.{chain_sheets, free_sheets, segment_sheets, heads_of}
+use Rattle.page_model.specs.PageBodies.{chain_bodies, free_bodies, segment_bodies, heads_of}
 use Rattle.page_model.proofs.Chains.{AllByRecursion-left, AllByRecursion-right}
 use Rattle.page_model.proofs.Frames.{put_rewrites, delete_rewrites}
 use Rattle.page_model.proofs.Places.{delete_sound}
@@ -49,10 +49,10 @@ length-numbers (leaf ∷ rest) = omega (arith, length-numbers rest)
 pub chains_placed : ChainsArePlaced
 chains_placed at state p bucket sound below lt =
     let chain = chain_at p bucket in
-    let s = segment_sheets p.segments (heads_of p.chains) in
-    let P : Sheet → Type 0 = λ sheet. at sheet.number ≡ sheet.body in
-    let upper = AllByRecursion-left P (s ++ flat_map chain_sheets p.chains) (free_sheets p.space.free) below.are_read in
-    let chains = AllByRecursion-right P s (flat_map chain_sheets p.chains) upper in
+    let s = segment_bodies p.segments (heads_of p.chains) in
+    let P : NumberedBody → Type 0 = λ numbered. at numbered.number ≡ numbered.body in
+    let upper = AllByRecursion-left P (s ++ flat_map chain_bodies p.chains) (free_bodies p.space.free) below.are_read in
+    let chains = AllByRecursion-right P s (flat_map chain_bodies p.chains) upper in
     let apart : (n : ℕ) → times_of n (numbers chain) + times_of n p.space.free ≤ cond {A = ℕ} (is_page n p.space.end) 1 0 = λ n.
     let one : ℕ → ℕ = λ m. cond (m == n) 1 0 in
     omega (arith, sound.pages.once n, sum_by-append one (1 ∷ p.segments) (flat_map numbers p.chains), one_part one numbers p.chains bucket [] lt) in
@@ -61,7 +61,7 @@ chains_placed at state p bucket sound below lt =
     let once : (key : List ℕ) → times key (pairs_in chain) ≤ 1 = λ key. omega (arith, sound.no_key_twice key, one_part (λ (q : Pair). cond (has_key key q) 1 0) pairs_in p.chains bucket [] lt) in
     record {
       chain_is = record {
-        are_read = one_all P chain_sheets p.chains bucket [] lt chains;
+        are_read = one_all P chain_bodies p.chains bucket [] lt chains;
         is_chain = (sound.in_place bucket lt).0;
         from = refl;
         few = omega (arith, fits);
@@ -70,7 +70,7 @@ chains_placed at state p bucket sound below lt =
       };
       free_is = record {
         kept = below.kept;
-        are_read = AllByRecursion-right P (s ++ flat_map chain_sheets p.chains) (free_sheets p.space.free) below.are_read;
+        are_read = AllByRecursion-right P (s ++ flat_map chain_bodies p.chains) (free_bodies p.space.free) below.are_read;
         some = omega (arith, fits);
       };
       apart = apart;

@@ -12,11 +12,11 @@ use Rattle.page_model.specs.Pages.{Body, OverflowPage, Bucket, bucket}
 use Rattle.page_model.specs.Reading.{bucket_of, body_of}
 use Rattle.page_model.specs.Chain.{Leaf, Chain, numbers, pairs_in, fits, push, has_room, add}
 use Rattle.page_model.specs.Space.{Space, next_page, after_take, is_page, times_of}
-use Rattle.page_model.specs.Sheets.{first_of, free_sheets, AreRead}
+use Rattle.page_model.specs.PageBodies.{first_of, free_bodies, AreRead}
 use Rattle.page_model.proofs.Absent.{add-append}
 use Rattle.page_model.proofs.Chains.{AllByRecursion-right}
 use Rattle.page_model.proofs.Spaces.{times_head, times_tail}
-use Rattle.slot_page.specs.Contents.{IsBucketPage, Holds, IsAbsent, pairs_of, with_pairs, with_next}
+use Rattle.slot_page.specs.Contents.{IsBucketPage, HasPairs, IsAbsent, page_pairs, with_pairs, with_next}
 use Rattle.free_pages.specs.declared.free_state.FreeState.{FreeState}
 use Rattle.free_pages.specs.FreeList.{state_of, IsApart}
 use Rattle.chain_walks.specs.Links.{IsLink, link_body}
@@ -33,14 +33,14 @@ use Rattle.bucket_chain.proofs.Rewriting.{AreSaid, chain_said, chain_read, free_
 
 -- ---- the page that gets a pair, and the one before a new one, in bytes
 
-pub link_added : (old new : List ℕ) (n kind next : ℕ) (pair : Pair) → IsLink old n kind next (pairs_of old) → Holds old new (pairs_of old ++ pair ∷ []) → IsLink new n kind next (pairs_of old ++ pair ∷ [])
+pub link_added : (old new : List ℕ) (n kind next : ℕ) (pair : Pair) → IsLink old n kind next (page_pairs old) → HasPairs old new (page_pairs old ++ pair ∷ []) → IsLink new n kind next (page_pairs old ++ pair ∷ [])
 link_added old new n kind next pair link holds = record {
   page = holds.page;
-  says = holds.says ∙ ap (λ (b : Bucket). with_pairs b (pairs_of old ++ pair ∷ [])) link.says;
-  filled = λ four. omega (arith, length-append (pairs_of old) (pair ∷ []));
+  says = holds.says ∙ ap (λ (b : Bucket). with_pairs b (page_pairs old ++ pair ∷ [])) link.says;
+  filled = λ four. omega (arith, length-append (page_pairs old) (pair ∷ []));
 }
 
-pub link_linked : (old new : List ℕ) (n kind next next' : ℕ) → IsLink old n kind next (pairs_of old) → IsBucketPage new → bucket_of new ≡ with_next (bucket_of old) next' → IsLink new n kind next' (pairs_of old)
+pub link_linked : (old new : List ℕ) (n kind next next' : ℕ) → IsLink old n kind next (page_pairs old) → IsBucketPage new → bucket_of new ≡ with_next (bucket_of old) next' → IsLink new n kind next' (page_pairs old)
 link_linked old new n kind next next' link page says = record {
   page = page;
   says = says ∙ ap (λ (b : Bucket). with_next b next') link.says;
@@ -52,23 +52,23 @@ kinds_behind [] = inl refl
 kinds_behind (leaf ∷ before) = inr refl
 
 -- what the page says then
-pub added_says : (at' : ℕ → Body) (old new : List ℕ) (n next : ℕ) (before : Chain) (pair : Pair) → IsLink old n (kind_behind before) next (pairs_of old) → Holds old new (pairs_of old ++ pair ∷ []) → at' n ≡ body_of n new
-    → at' n ≡ link_body (kind_behind before) next (pairs_of old ++ pair ∷ [])
+pub added_says : (at' : ℕ → Body) (old new : List ℕ) (n next : ℕ) (before : Chain) (pair : Pair) → IsLink old n (kind_behind before) next (page_pairs old) → HasPairs old new (page_pairs old ++ pair ∷ []) → at' n ≡ body_of n new
+    → at' n ≡ link_body (kind_behind before) next (page_pairs old ++ pair ∷ [])
 added_says at' old new n next before pair link holds read =
-    (says_link at' new n (kind_behind before) next (pairs_of old ++ pair ∷ []) read (kinds_behind before) (link_added old new n (kind_behind before) next pair link holds)).says
+    (says_link at' new n (kind_behind before) next (page_pairs old ++ pair ∷ []) read (kinds_behind before) (link_added old new n (kind_behind before) next pair link holds)).says
 
-pub linked_says : (at' : ℕ → Body) (old new : List ℕ) (n next next' : ℕ) (before : Chain) → IsLink old n (kind_behind before) next (pairs_of old) → IsBucketPage new → bucket_of new ≡ with_next (bucket_of old) next' → at' n ≡ body_of n new
-    → at' n ≡ link_body (kind_behind before) next' (pairs_of old)
+pub linked_says : (at' : ℕ → Body) (old new : List ℕ) (n next next' : ℕ) (before : Chain) → IsLink old n (kind_behind before) next (page_pairs old) → IsBucketPage new → bucket_of new ≡ with_next (bucket_of old) next' → at' n ≡ body_of n new
+    → at' n ≡ link_body (kind_behind before) next' (page_pairs old)
 linked_says at' old new n next next' before link page says read =
-    (says_link at' new n (kind_behind before) next' (pairs_of old) read (kinds_behind before) (link_linked old new n (kind_behind before) next next' link page says)).says
+    (says_link at' new n (kind_behind before) next' (page_pairs old) read (kinds_behind before) (link_linked old new n (kind_behind before) next next' link page says)).says
 
 -- a fresh page of one pair
-pub fresh_says : (at' : ℕ → Body) (blank new : List ℕ) (n : ℕ) (pair : Pair) → IsBucketPage blank → bucket_of blank ≡ bucket n 4 0 [] → Holds blank new (pairs_of blank ++ pair ∷ []) → at' n ≡ body_of n new → at' n ≡ OverflowPage 0 (pair ∷ [])
+pub fresh_says : (at' : ℕ → Body) (blank new : List ℕ) (n : ℕ) (pair : Pair) → IsBucketPage blank → bucket_of blank ≡ bucket n 4 0 [] → HasPairs blank new (page_pairs blank ++ pair ∷ []) → at' n ≡ body_of n new → at' n ≡ OverflowPage 0 (pair ∷ [])
 fresh_says at' blank new n pair page says holds read =
-    let empty : pairs_of blank ≡ [] = ap (λ (b : Bucket). b.pairs) says in
+    let empty : page_pairs blank ≡ [] = ap (λ (b : Bucket). b.pairs) says in
     let link : IsLink new n 4 0 (pair ∷ []) = record {
       page = holds.page;
-      says = holds.says ∙ ap (λ (b : Bucket). with_pairs b (pairs_of blank ++ pair ∷ [])) says ∙ ap (λ (ps : List Pair). bucket n 4 0 (ps ++ pair ∷ [])) empty;
+      says = holds.says ∙ ap (λ (b : Bucket). with_pairs b (page_pairs blank ++ pair ∷ [])) says ∙ ap (λ (ps : List Pair). bucket n 4 0 (ps ++ pair ∷ [])) empty;
       filled = λ four. omega arith;
     } in
     (says_link at' new n 4 0 (pair ∷ []) read (inr refl) link).says
@@ -118,7 +118,7 @@ fresh_of pages (m ∷ rest) end apart =
     by_test false le = omega (arith, le)
 
 -- the rest of the free list
-rest_read : (at : ℕ → Body) (free : List ℕ) (end : ℕ) → AreRead at (free_sheets free) → AreRead at (free_sheets (after_take (record { free = free; end = end })).free)
+rest_read : (at : ℕ → Body) (free : List ℕ) (end : ℕ) → AreRead at (free_bodies free) → AreRead at (free_bodies (after_take (record { free = free; end = end })).free)
 rest_read at [] end read = tt
 rest_read at (m ∷ rest) end read = read.1
 
@@ -150,8 +150,8 @@ module _ (at : ℕ → Body) (state : FreeState) (head : ℕ) (pair : Pair) (cha
         last = λ none. none_later split.later numbered (sym split.next ∙ none);
       }
 
-  pub lacks : times pair.0 (pairs_in chain) ≡ 0 → IsAbsent pair.0 (pairs_of bytes)
-  lacks none = is_absent pair.0 (pairs_of bytes) (absent_in pair.0 found.before (leaf_on spot bytes) middle.later (subst (λ (c : Chain). times pair.0 (pairs_in c) ≡ 0) middle.parts none))
+  pub lacks : times pair.0 (pairs_in chain) ≡ 0 → IsAbsent pair.0 (page_pairs bytes)
+  lacks none = is_absent pair.0 (page_pairs bytes) (absent_in pair.0 found.before (leaf_on spot bytes) middle.later (subst (λ (c : Chain). times pair.0 (pairs_in c) ≡ 0) middle.parts none))
 
   said_in : AreSaid at 3 (found.before ++ leaf_on spot bytes ∷ middle.later) 0
   said_in = subst (λ (c : Chain). AreSaid at 3 c 0) middle.parts (chain_said at chain placed.chain_is.are_read)
@@ -167,7 +167,7 @@ module _ (at : ℕ → Body) (state : FreeState) (head : ℕ) (pair : Pair) (cha
       not_there (next_page s) spot.page (numbers chain) out stands (sym same)
 
   -- the pair fits the page
-  pub put_here : (at' : ℕ → Body) → spot.has_room ≡ true → at' spot.page ≡ link_body (kind_behind found.before) found.next (pairs_of bytes ++ pair ∷ [])
+  pub put_here : (at' : ℕ → Body) → spot.has_room ≡ true → at' spot.page ≡ link_body (kind_behind found.before) found.next (page_pairs bytes ++ pair ∷ [])
       → ((n : ℕ) → (n ≡ spot.page → ⊥) → at' n ≡ at n) → BecomesPlaced at at' state (put_in (chain, s) pair)
   put_here at' room here others =
       let leaf = leaf_on spot bytes in
@@ -187,7 +187,7 @@ module _ (at : ℕ → Body) (state : FreeState) (head : ℕ) (pair : Pair) (cha
       record {
         rewritten = record {
           chain_read = chain_read at' (add pair (next_page s) chain) (subst (λ (c : Chain). AreSaid at' 3 c 0) (sym added) says);
-          free_read = subst (λ (x : Space). AreRead at' (free_sheets x.free)) (sym (ap (λ (b : Bool). cond b s (after_take s)) roomy)) (free_kept at at' s.free free_same placed.free_is.are_read);
+          free_read = subst (λ (x : Space). AreRead at' (free_bodies x.free)) (sym (ap (λ (b : Bool). cond b s (after_take s)) roomy)) (free_kept at at' s.free free_same placed.free_is.are_read);
           others = λ n none. others n (not_here spot.page n (numbers (add pair (next_page s) chain)) (subst (λ (c : Chain). 1 ≤ times_of spot.page (numbers c)) (sym added) (middle_there before more later)) (omega (arith, none)));
         };
         kept = placed.free_is.kept ∙ ap state_of (sym (ap (λ (b : Bool). cond b s (after_take s)) roomy));
@@ -200,7 +200,7 @@ module _ (at : ℕ → Body) (state : FreeState) (head : ℕ) (pair : Pair) (cha
       ∙ ap (has_room pair) (middle.last (found.full full).1)
 
   -- it fits none, and a page is taken for it
-  pub put_last : (at' : ℕ → Body) (new : ℕ) (state' : FreeState) → spot.has_room ≡ false → (new ≡ next_page s) × (state' ≡ state_of (after_take s)) → at' spot.page ≡ link_body (kind_behind found.before) new (pairs_of bytes)
+  pub put_last : (at' : ℕ → Body) (new : ℕ) (state' : FreeState) → spot.has_room ≡ false → (new ≡ next_page s) × (state' ≡ state_of (after_take s)) → at' spot.page ≡ link_body (kind_behind found.before) new (page_pairs bytes)
       → at' new ≡ OverflowPage 0 (pair ∷ []) → ((n : ℕ) → (n ≡ spot.page → ⊥) → (n ≡ new → ⊥) → at' n ≡ at n) → BecomesPlaced at at' state' (put_in (chain, s) pair)
   put_last at' new state' full taken here there others =
       let leaf = leaf_on spot bytes in
@@ -231,7 +231,7 @@ module _ (at : ℕ → Body) (state : FreeState) (head : ℕ) (pair : Pair) (cha
       record {
         rewritten = record {
           chain_read = chain_read at' (add pair (next_page s) chain) (subst (λ (c : Chain). AreSaid at' 3 c 0) (sym added) says);
-          free_read = subst (λ (x : Space). AreRead at' (free_sheets x.free)) (sym (ap (λ (b : Bool). cond b s (after_take s)) roomless)) (free_kept at at' (after_take s).free free_same (rest_read at s.free s.end placed.free_is.are_read));
+          free_read = subst (λ (x : Space). AreRead at' (free_bodies x.free)) (sym (ap (λ (b : Bool). cond b s (after_take s)) roomless)) (free_kept at at' (after_take s).free free_same (rest_read at s.free s.end placed.free_is.are_read));
           others = λ n out. others n (not_here spot.page n (numbers (add pair (next_page s) chain)) spot_in (omega (arith, out))) (not_here new n (numbers (add pair (next_page s) chain)) new_in (omega (arith, out)));
         };
         kept = taken.1 ∙ ap state_of (sym (ap (λ (b : Bool). cond b s (after_take s)) roomless));
@@ -261,5 +261,5 @@ pub apart_alone : (pages : List ℕ) (s : Space) → IsApart pages s → IsApart
 apart_alone pages s apart n = omega (arith, apart n)
 
 -- no pair has a key on an empty page
-pub absent_none : (key : Key) (bytes : List ℕ) (n : ℕ) → bucket_of bytes ≡ bucket n 4 0 [] → IsAbsent key (pairs_of bytes)
-absent_none key bytes n says = is_absent key (pairs_of bytes) (ap (λ (b : Bucket). times key b.pairs) says)
+pub absent_none : (key : Key) (bytes : List ℕ) (n : ℕ) → bucket_of bytes ≡ bucket n 4 0 [] → IsAbsent key (page_pairs bytes)
+absent_none key bytes n says = is_absent key (page_pairs bytes) (ap (λ (b : Bucket). times key b.pairs) says)

@@ -10,11 +10,11 @@ use Rattle.page_model.specs.Pages.{Body, Bucket}
 use Rattle.page_model.specs.Reading.{body_of}
 use Rattle.page_model.specs.Chain.{Leaf, Chain, numbers, take_out, remove, emptied}
 use Rattle.page_model.specs.Space.{Space, is_page, times_of, give}
-use Rattle.page_model.specs.Sheets.{free_sheets, chain_sheets, AreRead}
+use Rattle.page_model.specs.PageBodies.{free_bodies, chain_bodies, AreRead}
 use Rattle.page_model.proofs.Chains.{AllByRecursion-right}
 use Rattle.page_model.proofs.Frames.{at_most_one}
 use Rattle.page_model.proofs.Spaces.{times_head}
-use Rattle.slot_page.specs.Contents.{Holds, pairs_of, with_pairs}
+use Rattle.slot_page.specs.Contents.{HasPairs, page_pairs, with_pairs}
 use Rattle.free_pages.specs.FreeList.{IsFreeList, IsApart}
 use Rattle.free_pages.specs.declared.free_state.FreeState.{FreeState}
 use Rattle.free_pages.proofs.FreeLists.{free_stays}
@@ -30,7 +30,7 @@ use Rattle.bucket_chain.proofs.Rewriting.{AreSaid, chain_read, times_in, said_ke
 use Rattle.bucket_chain.proofs.FoundKeys.{IsFoundHere, page_stays, page_leaves}
 
 -- the page without a pair, which isn't its last or is the head's
-link_without : (old new : List ℕ) (n kind next i : ℕ) (pairs : List Pair) → IsLink old n kind next pairs → Holds old new (remove_at (pairs_of old) i) → i < length pairs → (kind ≡ 4 → 2 ≤ length pairs) → IsLink new n kind next (remove_at pairs i)
+link_without : (old new : List ℕ) (n kind next i : ℕ) (pairs : List Pair) → IsLink old n kind next pairs → HasPairs old new (remove_at (page_pairs old) i) → i < length pairs → (kind ≡ 4 → 2 ≤ length pairs) → IsLink new n kind next (remove_at pairs i)
 link_without old new n kind next i pairs link holds within two = record {
   page = holds.page;
   says = holds.says ∙ ap (λ (b : Bucket). with_pairs b (remove_at b.pairs i)) link.says;
@@ -52,8 +52,8 @@ count_first n leaf rest = sum_by-cons (λ (m : ℕ). cond (m == n) 1 0) leaf.num
 pub unchanged : (at at' : ℕ → Body) (state : FreeState) (head : ℕ) (chain : Chain) (s : Space) (key : Key) → at' ≡ at → IsPlaced at state head chain s → remove key chain ≡ chain → emptied key chain ≡ [] → BecomesPlaced at at' state (remove_from (chain, s) key)
 unchanged at at' state head chain s key same placed left gone = rw (left, gone) (record {
   rewritten = record {
-    chain_read = subst (λ (a : ℕ → Body). AreRead a (chain_sheets chain)) (sym same) placed.chain_is.are_read;
-    free_read = subst (λ (a : ℕ → Body). AreRead a (free_sheets s.free)) (sym same) placed.free_is.are_read;
+    chain_read = subst (λ (a : ℕ → Body). AreRead a (chain_bodies chain)) (sym same) placed.chain_is.are_read;
+    free_read = subst (λ (a : ℕ → Body). AreRead a (free_bodies s.free)) (sym same) placed.free_is.are_read;
     others = λ n none. ap (λ (a : ℕ → Body). a n) same;
   };
   kept = placed.free_is.kept;
@@ -81,7 +81,7 @@ module _ (at : ℕ → Body) (chain : Chain) (key : Key) (bytes : List ℕ) (hit
   behind = later_said at at found.before found.leaf found.later 0 found.said (λ m stands. refl)
 
   -- what the page says without the pair
-  here_without : (at' : ℕ → Body) (new : List ℕ) → at' hit.page ≡ body_of hit.page new → Holds bytes new (remove_at (pairs_of bytes) hit.slot) → (found.before ≡ []) ⊎ (2 ≤ length found.leaf.pairs)
+  here_without : (at' : ℕ → Body) (new : List ℕ) → at' hit.page ≡ body_of hit.page new → HasPairs bytes new (remove_at (page_pairs bytes) hit.slot) → (found.before ≡ []) ⊎ (2 ≤ length found.leaf.pairs)
       → at' found.leaf.number ≡ link_body (kind_behind found.before) (number_or found.later 0) (without key found.leaf.pairs)
   here_without at' new read holds why =
       let two : kind_behind found.before ≡ 4 → 2 ≤ length found.leaf.pairs =
@@ -91,7 +91,7 @@ module _ (at : ℕ → Body) (chain : Chain) (key : Key) (bytes : List ℕ) (hit
       ap at' (sym found.here) ∙ says ∙ (λ i. link_body (kind_behind found.before) (found.next_is i) (sym found.out i))
 
   -- the page keeps a pair, or is the head
-  pub removed_here : (at' : ℕ → Body) (state : FreeState) → IsFreeList at state s → ((m : ℕ) → (m ≡ hit.page → ⊥) → at' m ≡ at m) → (new : List ℕ) → at' hit.page ≡ body_of hit.page new → Holds bytes new (remove_at (pairs_of bytes) hit.slot)
+  pub removed_here : (at' : ℕ → Body) (state : FreeState) → IsFreeList at state s → ((m : ℕ) → (m ≡ hit.page → ⊥) → at' m ≡ at m) → (new : List ℕ) → at' hit.page ≡ body_of hit.page new → HasPairs bytes new (remove_at (page_pairs bytes) hit.slot)
       → (found.before ≡ []) ⊎ (2 ≤ length found.leaf.pairs) → BecomesPlaced at at' state (remove_from (chain, s) key)
   removed_here at' state list others new read holds why =
       let both = page_stays at chain key bytes hit found why in
@@ -159,7 +159,7 @@ module _ (at : ℕ → Body) (chain : Chain) (key : Key) (bytes : List ℕ) (hit
     }
 
     -- then the chain goes past the key's page
-    goes_past : (at' : ℕ → Body) → ((m : ℕ) → (m ≡ hit.prior → ⊥) → (m ≡ hit.page → ⊥) → at' m ≡ at m) → at' hit.prior ≡ link_body hit.prior_kind hit.next last.leaf.pairs → AreRead at' (chain_sheets (last.front ++ last.leaf ∷ found.later))
+    goes_past : (at' : ℕ → Body) → ((m : ℕ) → (m ≡ hit.prior → ⊥) → (m ≡ hit.page → ⊥) → at' m ≡ at m) → at' hit.prior ≡ link_body hit.prior_kind hit.next last.leaf.pairs → AreRead at' (chain_bodies (last.front ++ last.leaf ∷ found.later))
     goes_past at' others says =
         let here : at' last.leaf.number ≡ link_body (kind_behind last.front) (number_or found.later 0) last.leaf.pairs =
         ap at' (sym last.number) ∙ says ∙ (λ i. link_body (last.kind_is i) (found.next_is i) last.leaf.pairs) in

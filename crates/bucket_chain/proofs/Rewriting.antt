@@ -6,7 +6,7 @@ use Rattle.dbm_model.specs.Pairs.{Pair}
 use Rattle.page_model.specs.Pages.{Body, HeadPage, OverflowPage}
 use Rattle.page_model.specs.Chain.{Leaf, Chain, numbers}
 use Rattle.page_model.specs.Space.{Space, is_page, times_of}
-use Rattle.page_model.specs.Sheets.{first_of, chain_sheets, overflow_sheets, free_sheets, AreRead}
+use Rattle.page_model.specs.PageBodies.{first_of, chain_bodies, overflow_bodies, free_bodies, AreRead}
 use Rattle.page_model.proofs.Frames.{kept, at_most_one}
 use Rattle.page_model.proofs.Flat.{numbers-free}
 use Rattle.page_model.proofs.Spaces.{times_head, times_tail}
@@ -24,20 +24,20 @@ first_is : (chain : Chain) → number_or chain 0 ≡ first_of (numbers chain)
 first_is [] = refl
 first_is (leaf ∷ rest) = refl
 
-overflow_said : (at : ℕ → Body) (chain : Chain) → AreRead at (overflow_sheets chain) → AreSaid at 4 chain 0
+overflow_said : (at : ℕ → Body) (chain : Chain) → AreRead at (overflow_bodies chain) → AreSaid at 4 chain 0
 overflow_said at [] read = tt
 overflow_said at (leaf ∷ rest) read = (read.0 ∙ ap (λ (n : ℕ). OverflowPage n leaf.pairs) (sym (first_is rest)), overflow_said at rest read.1)
 
 -- what is read of a chain, in these words
-pub chain_said : (at : ℕ → Body) (chain : Chain) → AreRead at (chain_sheets chain) → AreSaid at 3 chain 0
+pub chain_said : (at : ℕ → Body) (chain : Chain) → AreRead at (chain_bodies chain) → AreSaid at 3 chain 0
 chain_said at [] read = tt
 chain_said at (leaf ∷ rest) read = (read.0 ∙ ap (λ (n : ℕ). HeadPage n leaf.pairs) (sym (first_is rest)), overflow_said at rest read.1)
 
-overflow_read : (at : ℕ → Body) (chain : Chain) → AreSaid at 4 chain 0 → AreRead at (overflow_sheets chain)
+overflow_read : (at : ℕ → Body) (chain : Chain) → AreSaid at 4 chain 0 → AreRead at (overflow_bodies chain)
 overflow_read at [] says = tt
 overflow_read at (leaf ∷ rest) says = (says.0 ∙ ap (λ (n : ℕ). OverflowPage n leaf.pairs) (first_is rest), overflow_read at rest says.1)
 
-pub chain_read : (at : ℕ → Body) (chain : Chain) → AreSaid at 3 chain 0 → AreRead at (chain_sheets chain)
+pub chain_read : (at : ℕ → Body) (chain : Chain) → AreSaid at 3 chain 0 → AreRead at (chain_bodies chain)
 chain_read at [] says = tt
 chain_read at (leaf ∷ rest) says = (says.0 ∙ ap (λ (n : ℕ). HeadPage n leaf.pairs) (first_is rest), overflow_read at rest says.1)
 
@@ -85,8 +85,8 @@ said_kept at at' kind (leaf ∷ rest) after same says = (
   said_kept at at' 4 rest after (λ n stands. same n (omega (arith, stands, times_tail n leaf.number (numbers rest)))) says.1,
 )
 
-pub free_kept : (at at' : ℕ → Body) (free : List ℕ) → ((n : ℕ) → 1 ≤ times_of n free → at' n ≡ at n) → AreRead at (free_sheets free) → AreRead at' (free_sheets free)
-free_kept at at' free same read = kept at at' (free_sheets free) (λ n stands. same n (subst (λ (ns : List ℕ). 1 ≤ times_of n ns) (numbers-free free) stands)) read
+pub free_kept : (at at' : ℕ → Body) (free : List ℕ) → ((n : ℕ) → 1 ≤ times_of n free → at' n ≡ at n) → AreRead at (free_bodies free) → AreRead at' (free_bodies free)
+free_kept at at' free same read = kept at at' (free_bodies free) (λ n stands. same n (subst (λ (ns : List ℕ). 1 ≤ times_of n ns) (numbers-free free) stands)) read
 
 -- One page of a chain: it stands nowhere else.
 module _ (before : Chain) (leaf : Leaf) (later : Chain) (s : Space) (apart : IsApart (numbers (before ++ leaf ∷ later)) s) where

@@ -6,7 +6,7 @@ use Rattle.dbm_model.specs.Pairs.{Pair}
 use Rattle.page_model.specs.Pages.{Body}
 use Rattle.page_model.specs.Slots.{taken, room_of}
 use Rattle.page_model.specs.Chain.{Leaf, fits}
-use Rattle.slot_page.specs.Contents.{pairs_of}
+use Rattle.slot_page.specs.Contents.{page_pairs}
 use Rattle.chain_walks.specs.Links.{IsLink, SaysLink}
 use Rattle.chain_walks.specs.Walks.{IsFull}
 use Rattle.bucket_chain.specs.Spots.{IsSpot}
@@ -27,22 +27,22 @@ fits_is pair leaf true most asked = sym (fits_leaf pair leaf (asked.0 refl))
 fits_is pair leaf false most asked = sym (full_leaf pair leaf most (λ room. absurd (let e = asked.1 room in cc)))
 
 -- the walk ends at the page
-pub spot_found : (at : ℕ → Body) (head : ℕ) (pair : Pair) (n kind step next : ℕ) (bytes : List ℕ) (has_room : Bool) → IsUnderWay at head (IsFull pair) n kind step → SaysLink at n kind next (pairs_of bytes) → 1 ≤ n
-    → IsLink bytes n kind next (pairs_of bytes) → (IsTrue has_room ↔ HasRoom pair (pairs_of bytes)) → (has_room ≡ false → next ≡ 0)
+pub spot_found : (at : ℕ → Body) (head : ℕ) (pair : Pair) (n kind step next : ℕ) (bytes : List ℕ) (has_room : Bool) → IsUnderWay at head (IsFull pair) n kind step → SaysLink at n kind next (page_pairs bytes) → 1 ≤ n
+    → IsLink bytes n kind next (page_pairs bytes) → (IsTrue has_room ↔ HasRoom pair (page_pairs bytes)) → (has_room ≡ false → next ≡ 0)
     → IsSpot at head pair bytes (record { page = n; has_room = has_room })
 spot_found at head pair n kind step next bytes has_room walk says some link asked last =
-    let is : has_room ≡ fits pair (leaf_of n (pairs_of bytes)) = fits_is pair (leaf_of n (pairs_of bytes)) has_room link.page.sound.fits asked in
+    let is : has_room ≡ fits pair (leaf_of n (page_pairs bytes)) = fits_is pair (leaf_of n (page_pairs bytes)) has_room link.page.sound.fits asked in
     record {
       before = walk.before;
       next = next;
-      begins = passed_more at head (IsFull pair) n kind step walk next (pairs_of bytes) says;
-      numbered = numbered_more at head (IsFull pair) n kind step walk (pairs_of bytes) some;
+      begins = passed_more at head (IsFull pair) n kind step walk next (page_pairs bytes) says;
+      numbered = numbered_more at head (IsFull pair) n kind step walk (page_pairs bytes) some;
       passed = walk.passed;
-      link = subst (λ (k : ℕ). IsLink bytes n k next (pairs_of bytes)) (walk.kind_is) link;
+      link = subst (λ (k : ℕ). IsLink bytes n k next (page_pairs bytes)) (walk.kind_is) link;
       room = λ e. sym is ∙ e;
       full = λ e. (sym is ∙ e, last e);
     }
 
 -- a page without room is passed
-pub is_full : (pair : Pair) (n : ℕ) (bytes : List ℕ) (has_room : Bool) → taken (pairs_of bytes) ≤ 2032 → (IsTrue has_room ↔ HasRoom pair (pairs_of bytes)) → has_room ≡ false → IsFull pair (leaf_of n (pairs_of bytes))
-is_full pair n bytes has_room most asked e = sym (fits_is pair (leaf_of n (pairs_of bytes)) has_room most asked) ∙ e
+pub is_full : (pair : Pair) (n : ℕ) (bytes : List ℕ) (has_room : Bool) → taken (page_pairs bytes) ≤ 2032 → (IsTrue has_room ↔ HasRoom pair (page_pairs bytes)) → has_room ≡ false → IsFull pair (leaf_of n (page_pairs bytes))
+is_full pair n bytes has_room most asked e = sym (fits_is pair (leaf_of n (page_pairs bytes)) has_room most asked) ∙ e

@@ -4,21 +4,21 @@ use Rattle.std.proofs.lemmas.Bool.{cases_eq}
 use Rattle.page_model.specs.Pages.{Body}
 use Rattle.page_model.specs.Reading as model
 use Rattle.page_io.specs.Page.{own_number}
-use Rattle.page_io.specs.Store.{State, put_page, are_in_order, IsKnown}
-use Rattle.page_io.specs.Views.{said, StagesOnly, MayEnd, MayEndWith}
+use Rattle.page_io.specs.Store.{StoreState, put_page, are_in_order, IsKnown}
+use Rattle.page_io.specs.Views.{body_at, StagesOnly, MayEnd, MayEndWith}
 use Rattle.page_io.specs.declared.store.PageStore.{Ghosts}
 use Rattle.page_io.proofs.StagedPages.{has_page-put, has_page-put_other}
 use Rattle.page_io.proofs.Views.{length-put, end_stays, same_said, others_said}
 
-abbrev pub IsPut : State → List ℕ → State → Type 0
+abbrev pub IsPut : StoreState → List ℕ → StoreState → Type 0
 IsPut old bytes new = new ≡ record old { staged = put_page old.staged bytes }
 
 -- either the page is staged, or nothing is
-by_result : {T E : Type 0} (P : State → Type 0) (old new : State) (bytes : List ℕ) (result : Result T E) → OnOk result (IsPut old bytes new) → OnErr result (new ≡ old) → P old → P (record old { staged = put_page old.staged bytes }) → P new
+by_result : {T E : Type 0} (P : StoreState → Type 0) (old new : StoreState) (bytes : List ℕ) (result : Result T E) → OnOk result (IsPut old bytes new) → OnErr result (new ≡ old) → P old → P (record old { staged = put_page old.staged bytes }) → P new
 by_result P old new bytes (Ok x) put same kept staged = subst P (sym put) staged
 by_result P old new bytes (Err e) put same kept staged = subst P (sym same) kept
 
-module _ {T E : Type 0} (old new : State) (bytes : List ℕ) (result : Result T E) (ok : OnOk result (IsPut old bytes new)) (err : OnErr result (new ≡ old)) where
+module _ {T E : Type 0} (old new : StoreState) (bytes : List ℕ) (result : Result T E) (ok : OnOk result (IsPut old bytes new)) (err : OnErr result (new ≡ old)) where
   pub few_more : are_in_order 1 (2 ^ 32) old.staged ≡ true → length new.staged ≤ length old.staged + 1
   few_more order = by_result (λ st. length st.staged ≤ length old.staged + 1) old new bytes result ok err (omega arith) (length-put old.staged bytes order)
 
@@ -33,8 +33,8 @@ module _ {T E : Type 0} (old new : State) (bytes : List ℕ) (result : Result T 
   may_still_end end lt may = by_result (λ st. MayEnd st end) old new bytes result ok err may (end_stays old end bytes may lt)
 
 -- once it is staged
-pub may_then_end : {T E : Type 0} (old new : State) (bytes : List ℕ) (result : Result T E) → OnOk result (IsPut old bytes new) → (end : ℕ) → MayEndWith old (own_number bytes) end → OnOk result (MayEnd new end)
-may_then_end old new bytes (Ok x) put end may = subst (λ (st : State). MayEnd st end) (sym put) (may bytes refl)
+pub may_then_end : {T E : Type 0} (old new : StoreState) (bytes : List ℕ) (result : Result T E) → OnOk result (IsPut old bytes new) → (end : ℕ) → MayEndWith old (own_number bytes) end → OnOk result (MayEnd new end)
+may_then_end old new bytes (Ok x) put end may = subst (λ (st : StoreState). MayEnd st end) (sym put) (may bytes refl)
 may_then_end old new bytes (Err e) put end may = tt
 
 -- what is said of a result that is `Ok`
@@ -44,7 +44,7 @@ on_ok (Err e) p then = tt
 
 -- other pages say what they said
 pub others_still : {S T E : Type 0} (s : Ghosts S) (old new : S) (bytes : List ℕ) (result : Result T E) → OnOk result (IsPut (s.state old) bytes (s.state new)) → OnErr result (s.state new ≡ s.state old)
-    → StagesOnly s old new → s.honest old → (n : ℕ) → (n ≡ own_number bytes → ⊥) → said s new n ≡ said s old n
+    → StagesOnly s old new → s.honest old → (n : ℕ) → (n ≡ own_number bytes → ⊥) → body_at s new n ≡ body_at s old n
 others_still s old new bytes (Ok x) put same only honest n other = others_said s old new (own_number bytes) n bytes only honest put refl other
 others_still s old new bytes (Err e) put same only honest n other = ap (λ (at : ℕ → Body). at n) (same_said s old new (record { same = same; stages_only = only }) honest)
 
@@ -54,8 +54,8 @@ if_ok (Ok x) p = p
 if_ok (Err e) p = tt
 
 -- where a page of that number may end the file, in a state that was kept
-pub with_own : (old new : State) (n m end : ℕ) → new ≡ old → n ≡ m → MayEndWith old n end → MayEndWith new m end
-with_own old new n m end same number may = subst (λ (st : State). MayEndWith st m end) (sym same) (subst (λ (k : ℕ). MayEndWith old k end) number may)
+pub with_own : (old new : StoreState) (n m end : ℕ) → new ≡ old → n ≡ m → MayEndWith old n end → MayEndWith new m end
+with_own old new n m end same number may = subst (λ (st : StoreState). MayEndWith st m end) (sym same) (subst (λ (k : ℕ). MayEndWith old k end) number may)
 
-pub known_same : (old new : State) (n : ℕ) → new ≡ old → IsKnown old n → IsKnown new n
-known_same old new n same known = subst (λ (st : State). IsKnown st n) (sym same) known
+pub known_same : (old new : StoreState) (n : ℕ) → new ≡ old → IsKnown old n → IsKnown new n
+known_same old new n same known = subst (λ (st : StoreState). IsKnown st n) (sym same) known

@@ -10,7 +10,7 @@ use Rattle.page_model.specs.PairLists.{has_key, times}
 use Rattle.page_model.specs.Pages.{Body}
 use Rattle.page_model.specs.Chain.{Leaf, Chain, numbers, pairs_in, fits, push, has_room, add, IsChain}
 use Rattle.page_model.specs.Space.{Space, next_page, after_take, is_page, times_of}
-use Rattle.page_model.specs.Sheets.{first_of}
+use Rattle.page_model.specs.PageBodies.{first_of}
 use Rattle.page_model.proofs.Chains.{numbers-add, sum_by-add, IsChain-add}
 use Rattle.page_model.proofs.Spaces.{times_head}
 use Rattle.free_pages.specs.declared.free_state.FreeState.{FreeState}

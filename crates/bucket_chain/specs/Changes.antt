@@ -11,6 +11,8 @@ use Rattle.page_model.specs.Rewrites.{IsRewritten}
 use Rattle.free_pages.specs.declared.free_state.FreeState.{FreeState}
 use Rattle.free_pages.specs.FreeList.{state_of, IsFreeList, IsApart}
 use Rattle.chain_walks.specs.Chains.{IsChainAt}
+use Rattle.page_io.specs.declared.store.PageStore.{Ghosts}
+use Rattle.page_io.specs.Views.{body_at}
 
 -- the pages say this chain and this free list, and each page stands in them once at most
 pub record IsPlaced (at : ℕ → Body) (state : FreeState) (head : ℕ) (chain : Chain) (s : Space) : Type 0 where
@@ -54,3 +56,7 @@ pub record IsCleared (old new : ℕ → Body) (state : FreeState) (head : ℕ) (
 -- where any pairs were put, they were added in order; else nothing was changed
 pub record IsPutAll (old new : ℕ → Body) (before after : FreeState) (placed : Placed) (pairs : List Pair) : Type 0 where
   pub becomes : (at : ℕ → Body) → BecomesPlaced at old before placed → BecomesPlaced at new after (fold put_in placed pairs)
+
+-- what is said of an honest store whose pages say a chain from this head page on, and free pages
+abbrev pub ForEachPlaced : {S : Type 0} → Ghosts S → S → FreeState → ℕ → (Chain → Space → Type 0) → Type 0
+ForEachPlaced s store space head Says = s.honest store → (chain : Chain) (free : Space) → IsPlaced (body_at s store) space head chain free → Says chain free

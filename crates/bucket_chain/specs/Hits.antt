@@ -5,8 +5,8 @@ use Rattle.dbm_model.specs.Pairs.{Key}
 use Rattle.page_model.specs.Pages.{Body}
 use Rattle.page_model.specs.Chain.{Leaf, Chain}
 use Rattle.page_model.specs.Reading.{own_number}
-use Rattle.page_io.specs.Store.{State, IsKnown}
-use Rattle.slot_page.specs.Contents.{IsBucketPage, HasKeyAt, pairs_of}
+use Rattle.page_io.specs.Store.{StoreState, IsKnown}
+use Rattle.slot_page.specs.Contents.{IsBucketPage, HasKeyAt, page_pairs}
 use Rattle.chain_walks.specs.Links.{IsLink}
 use Rattle.chain_walks.specs.Places.{place}
 use Rattle.chain_walks.specs.Chains.{kind_behind}
@@ -41,7 +41,7 @@ IsHitAt key bytes hit leaf after = IsPairAt key bytes (place hit.page hit.slot) 
 -- the walk ended at the page with the key
 pub record IsHit (at : ℕ → Body) (head : ℕ) (key : Key) (bytes : List ℕ) (hit : Hit) : Type 0 where
   pub walked : IsNumberedWalk at head (LacksKey key) (IsHitAt key bytes hit)
-  pub link : IsLink bytes hit.page (kind_behind walked.walk.before) hit.next (pairs_of bytes)
+  pub link : IsLink bytes hit.page (kind_behind walked.walk.before) hit.next (page_pairs bytes)
   pub prior : IsPrior walked.walk.before hit.prior hit.prior_kind
 
 -- or behind all pages
@@ -50,10 +50,10 @@ IsHitOrNone at head key bytes None = IsNumberedWalk at head (LacksKey key) (Ends
 IsHitOrNone at head key bytes (Some hit) = IsHit at head key bytes hit
 
 -- On any device: the bytes are the hit's page, and the key's pair is in its slot.
-pub record IsHeldHit (state : State) (key : Key) (bytes : List ℕ) (hit : Hit) : Type 0 where
+pub record IsHeldHit (state : StoreState) (key : Key) (bytes : List ℕ) (hit : Hit) : Type 0 where
   pub some : 1 ≤ hit.page
   pub known : IsKnown state hit.page
   pub own : own_number bytes ≡ hit.page
   pub page : IsBucketPage bytes
-  pub has : HasKeyAt key (pairs_of bytes) hit.slot
+  pub has : HasKeyAt key (page_pairs bytes) hit.slot
   pub prior_kind : IsLinkKind hit.prior_kind

@@ -4,14 +4,14 @@ use Rattle.dbm_model.specs.Pairs.{Key, Pair}
 use Rattle.page_model.specs.Pages.{Body}
 use Rattle.page_model.specs.Chain.{numbers}
 use Rattle.page_model.specs.Placement.{Placement, key_bucket, chain_at, put, delete, IsSound}
-use Rattle.page_model.specs.Sheets.{first_of, lower_sheets, AreRead}
+use Rattle.page_model.specs.PageBodies.{first_of, lower_bodies, AreRead}
 use Rattle.free_pages.specs.declared.free_state.FreeState.{FreeState}
 use Rattle.free_pages.specs.FreeList.{state_of}
 use Rattle.bucket_chain.specs.Changes.{Placed, IsPlaced, put_in, remove_from, BecomesPlaced}
 
 -- all pages but the meta page say the placement, and this is kept of its free list
 pub record IsBelow (at : ℕ → Body) (state : FreeState) (p : Placement) : Type 0 where
-  pub are_read : AreRead at (lower_sheets p)
+  pub are_read : AreRead at (lower_bodies p)
   pub kept : state ≡ state_of p.space
 
 -- the chain of a key's bucket, with the free list

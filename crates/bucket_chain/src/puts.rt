@@ -4,16 +4,15 @@ ghost use Rattle.std.specs.Prelude.{◌≡◌, ◌+◌, ◌≤◌, ◌<◌, true
 ghost use Rattle.dbm_model.specs.Pairs.{IsAllowed};
 ghost use Rattle.page_model.specs.PairLists.{times};
 ghost use Rattle.page_model.specs.Chain.{Chain, pairs_in, has_room};
-ghost use Rattle.page_model.specs.Space.{Space};
 ghost use Rattle.page_io.specs.Answers.{HasDeviceCause};
 ghost use Rattle.page_io.specs.Store.{IsKnown};
-ghost use Rattle.page_io.specs.Views.{said, StagesOnly, ReadsOnly, MayEnd};
+ghost use Rattle.page_io.specs.Views.{body_at, StagesOnly, ReadsOnly, MayEnd};
 ghost use Rattle.page_io.specs.declared.store.PageFault.TheVariants.{NoRoom, Damaged};
 ghost use Rattle.free_pages.specs.FreeList.{HasEnds};
 ghost use Rattle.chain_walks.specs.Chains.{IsChainAt};
 ghost use Rattle.chain_walks.specs.Walks.{IsRoomWalk};
 ghost use Rattle.bucket_chain.specs.Spots.{IsSpotPage, IsSpot};
-ghost use Rattle.bucket_chain.specs.Changes.{IsPlaced, BecomesPlaced, put_in};
+ghost use Rattle.bucket_chain.specs.Changes.{BecomesPlaced, put_in, ForEachPlaced};
 ghost use Rattle.chain_walks.specs.Answers.{IsWalkAnswer};
 ghost use Rattle.bucket_chain.specs.Answers.{IsPutAnswer};
 
@@ -45,8 +44,8 @@ fn find_spot<S: PageStore>(
     ensures answer { IsWalkAnswer (S.state store.old) result }
     ensures known { IfOk result (λ spot. (1 ≤ spot.page) × IsKnown (S.state store.old) spot.page) }
     ensures page { IfOk result (λ spot. IsSpotPage (key.now, content.now) page.new.bytes spot) }
-    ensures found { S.honest store.old → IfOk result (λ spot. IsSpot (said S.PageStore store.old) head (key.now, content.now) page.new.bytes spot) }
-    ensures whole { S.honest store.old → (chain : Chain) → IsChainAt (said S.PageStore store.old) most head chain → IsErrOf result Damaged → ⊥ }
+    ensures found { S.honest store.old → IfOk result (λ spot. IsSpot (body_at S.PageStore store.old) head (key.now, content.now) page.new.bytes spot) }
+    ensures whole { S.honest store.old → (chain : Chain) → IsChainAt (body_at S.PageStore store.old) most head chain → IsErrOf result Damaged → ⊥ }
 {
     let mut at = head;
     let mut kind = HEAD;
@@ -78,17 +77,19 @@ pub fn put<S: PageStore>(
     ensures few { length (S.state store.new).staged ≤ length (S.state store.old).staged + 2 }
     ensures cause { HasDeviceCause (S.faults store.old) (S.faults store.new) result }
     ensures answer { IsPutAnswer S.reserved (S.state store.old) space.old result }
-    ensures walked { S.honest store.old → OnOk result (IsRoomWalk (said S.PageStore store.old) head (key.now, content.now)) }
+    ensures walked { S.honest store.old → OnOk result (IsRoomWalk (body_at S.PageStore store.old) head (key.now, content.now)) }
     ensures ends { HasEnds space.old → HasEnds space.new }
     ensures may_end { MayEnd (S.state store.old) space.old.file_end → OnOk result (MayEnd (S.state store.new) space.new.file_end) }
 
     // On a chain and a free list that are read as such it leaves the model's, and is never Damaged.
-    ensures exact { S.honest store.old → (chain : Chain) (s : Space) → IsPlaced (said S.PageStore store.old) space.old head chain s → times key.now (pairs_in chain) ≡ 0 →
-        OnOk result (BecomesPlaced (said S.PageStore store.old) (said S.PageStore store.new) space.new (put_in (chain, s) (key.now, content.now))) }
-    ensures whole { S.honest store.old → (chain : Chain) (s : Space) → IsPlaced (said S.PageStore store.old) space.old head chain s → times key.now (pairs_in chain) ≡ 0 → IsErrOf result Damaged → ⊥ }
+    ensures exact { ForEachPlaced S.PageStore store.old space.old head (λ chain s.
+        times key.now (pairs_in chain) ≡ 0 → OnOk result (BecomesPlaced (body_at S.PageStore store.old) (body_at S.PageStore store.new) space.new (put_in (chain, s) (key.now, content.now)))) }
+    ensures whole { ForEachPlaced S.PageStore store.old space.old head (λ chain s.
+        times key.now (pairs_in chain) ≡ 0 → IsErrOf result Damaged → ⊥) }
 
     // Where the pair fits a page, no room is needed behind the file.
-    ensures room { S.honest store.old → (chain : Chain) (s : Space) → IsPlaced (said S.PageStore store.old) space.old head chain s → has_room (key.now, content.now) chain ≡ true → IsErrOf result NoRoom → ⊥ }
+    ensures room { ForEachPlaced S.PageStore store.old space.old head (λ chain s.
+        has_room (key.now, content.now) chain ≡ true → IsErrOf result NoRoom → ⊥) }
 {
     let mut page = Page::blank();
     let spot = find_spot(store, head, space.file_end, key, content, &mut page)?;

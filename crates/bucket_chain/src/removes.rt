@@ -4,16 +4,15 @@ ghost use Rattle.std.specs.Prelude.{◌≡◌, ◌+◌, ◌≤◌, ◌<◌, ℕ,
 ghost use Rattle.dbm_model.specs.Pairs.{Pair};
 ghost use Rattle.page_model.specs.PairLists.{times};
 ghost use Rattle.page_model.specs.Chain.{Chain, pairs_in};
-ghost use Rattle.page_model.specs.Space.{Space};
 ghost use Rattle.page_io.specs.Answers.{HasDeviceCause};
-ghost use Rattle.page_io.specs.Views.{said, StagesOnly, ReadsOnly, MayEnd};
+ghost use Rattle.page_io.specs.Views.{body_at, StagesOnly, ReadsOnly, MayEnd};
 ghost use Rattle.page_io.specs.declared.store.PageFault.TheVariants.{Damaged};
 ghost use Rattle.free_pages.specs.FreeList.{HasEnds};
 ghost use Rattle.chain_walks.specs.Links.{SaysLink};
 ghost use Rattle.chain_walks.specs.Chains.{IsChainAt};
 ghost use Rattle.chain_walks.specs.Walks.{IsKeyWalk};
 ghost use Rattle.bucket_chain.specs.Hits.{IsLinkKind, IsHitOrNone, IsHeldHit};
-ghost use Rattle.bucket_chain.specs.Changes.{IsPlaced, IsRemoved};
+ghost use Rattle.bucket_chain.specs.Changes.{IsRemoved, ForEachPlaced};
 ghost use Rattle.chain_walks.specs.Answers.{IsWalkAnswer};
 ghost use Rattle.bucket_chain.specs.Answers.{IsRemoveAnswer};
 
@@ -45,8 +44,8 @@ fn find_hit<S: PageStore>(
     ensures cause { HasDeviceCause (S.faults store.old) (S.faults store.new) result }
     ensures answer { IsWalkAnswer (S.state store.old) result }
     ensures held { IfOk result (λ found. IfSome found (IsHeldHit (S.state store.old) key.now page.new.bytes)) }
-    ensures walked { S.honest store.old → IfOk result (IsHitOrNone (said S.PageStore store.old) head key.now page.new.bytes) }
-    ensures whole { S.honest store.old → (chain : Chain) → IsChainAt (said S.PageStore store.old) most head chain → IsErrOf result Damaged → ⊥ }
+    ensures walked { S.honest store.old → IfOk result (IsHitOrNone (body_at S.PageStore store.old) head key.now page.new.bytes) }
+    ensures whole { S.honest store.old → (chain : Chain) → IsChainAt (body_at S.PageStore store.old) most head chain → IsErrOf result Damaged → ⊥ }
 {
     let mut prior = 0;
     let mut prior_kind = HEAD;
@@ -88,10 +87,10 @@ fn relink<S: PageStore>(
     ensures cause { HasDeviceCause (S.faults store.old) (S.faults store.new) result }
     ensures answer { IsRemoveAnswer S.reserved (S.state store.old) result }
     ensures may_end { (end : ℕ) → MayEnd (S.state store.old) end → OnOk result (MayEnd (S.state store.new) end) }
-    ensures says { S.honest store.old → (old_next : ℕ) (pairs : List Pair) → SaysLink (said S.PageStore store.old) n kind old_next pairs →
-        OnOk result (SaysLink (said S.PageStore store.new) n kind next pairs) }
-    ensures others { S.honest store.old → (m : ℕ) → (m ≡ n → ⊥) → said S.PageStore store.new m ≡ said S.PageStore store.old m }
-    ensures whole { S.honest store.old → (old_next : ℕ) (pairs : List Pair) → 1 ≤ n → SaysLink (said S.PageStore store.old) n kind old_next pairs → IsErrOf result Damaged → ⊥ }
+    ensures says { S.honest store.old → (old_next : ℕ) (pairs : List Pair) → SaysLink (body_at S.PageStore store.old) n kind old_next pairs →
+        OnOk result (SaysLink (body_at S.PageStore store.new) n kind next pairs) }
+    ensures others { S.honest store.old → (m : ℕ) → (m ≡ n → ⊥) → body_at S.PageStore store.new m ≡ body_at S.PageStore store.old m }
+    ensures whole { S.honest store.old → (old_next : ℕ) (pairs : List Pair) → 1 ≤ n → SaysLink (body_at S.PageStore store.old) n kind old_next pairs → IsErrOf result Damaged → ⊥ }
 {
     read_link(store, n, kind, page)?;
     set_next(page, next);
@@ -112,7 +111,7 @@ pub fn remove<S: PageStore>(
     ensures few { length (S.state store.new).staged ≤ length (S.state store.old).staged + 2 }
     ensures cause { HasDeviceCause (S.faults store.old) (S.faults store.new) result }
     ensures answer { IsRemoveAnswer S.reserved (S.state store.old) result }
-    ensures walked { S.honest store.old → IfOk result (λ was. IsKeyWalk (said S.PageStore store.old) head key.now was) }
+    ensures walked { S.honest store.old → IfOk result (λ was. IsKeyWalk (body_at S.PageStore store.old) head key.now was) }
     ensures absent { IfOk result (λ was. was ≡ false → (S.state store.new ≡ S.state store.old) × (space.new ≡ space.old)) }
     ensures err { OnErr result (space.new ≡ space.old) }
     ensures end { space.new.file_end ≡ space.old.file_end }
@@ -120,9 +119,10 @@ pub fn remove<S: PageStore>(
     ensures may_end { MayEnd (S.state store.old) space.old.file_end → OnOk result (MayEnd (S.state store.new) space.new.file_end) }
 
     // On a chain and a free list that are read as such it leaves the model's, and is never Damaged.
-    ensures exact { S.honest store.old → (chain : Chain) (s : Space) → IsPlaced (said S.PageStore store.old) space.old head chain s → times key.now (pairs_in chain) ≤ 1 →
-        IfOk result (λ was. IsRemoved (said S.PageStore store.old) (said S.PageStore store.new) space.new (chain, s) key.now was) }
-    ensures whole { S.honest store.old → (chain : Chain) (s : Space) → IsPlaced (said S.PageStore store.old) space.old head chain s → times key.now (pairs_in chain) ≤ 1 → IsErrOf result Damaged → ⊥ }
+    ensures exact { ForEachPlaced S.PageStore store.old space.old head (λ chain s.
+        times key.now (pairs_in chain) ≤ 1 → IfOk result (λ was. IsRemoved (body_at S.PageStore store.old) (body_at S.PageStore store.new) space.new (chain, s) key.now was)) }
+    ensures whole { ForEachPlaced S.PageStore store.old space.old head (λ chain s.
+        times key.now (pairs_in chain) ≤ 1 → IsErrOf result Damaged → ⊥) }
 {
     let mut page = Page::blank();
     let Some(hit) = find_hit(store, head, space.file_end, key, &mut page)? else {

@@ -3,17 +3,17 @@
 ghost use Rattle.std.specs.Prelude.{◌≡◌, ◌<◌, ◌∷◌, [], ℕ, All, map, OnOk, IsErrOf};
 ghost use Rattle.dbm_model.specs.Pairs.{IsAllowed};
 ghost use Rattle.page_model.specs.Chain.{Chain, Leaf, numbers, pairs_in};
-ghost use Rattle.page_model.specs.Sheets.{first_of};
+ghost use Rattle.page_model.specs.PageBodies.{first_of};
 ghost use Rattle.page_model.specs.Space.{Space};
 ghost use Rattle.page_io.specs.Answers.{HasDeviceCause};
-ghost use Rattle.page_io.specs.Views.{said, StagesOnly, MayEnd};
+ghost use Rattle.page_io.specs.Views.{body_at, StagesOnly, MayEnd};
 ghost use Rattle.page_io.specs.declared.store.PageFault.TheVariants.{NoRoom, Damaged};
 ghost use Rattle.free_pages.specs.FreeList.{HasEnds};
 ghost use Rattle.chain_walks.specs.Pairs.{pair_of};
-ghost use Rattle.chain_walks.specs.Walks.{IsRead};
+ghost use Rattle.chain_walks.specs.Walks.{IsReadToEnd};
 ghost use Rattle.chain_walks.specs.Links.{HaveDistinctKeys};
 ghost use Rattle.bucket_chain.specs.Giving.{AreGiven};
-ghost use Rattle.bucket_chain.specs.Changes.{Placed, IsPlaced, BecomesPlaced, IsCleared, IsPutAll, store_in};
+ghost use Rattle.bucket_chain.specs.Changes.{Placed, IsPlaced, BecomesPlaced, IsCleared, IsPutAll, store_in, ForEachPlaced};
 ghost use Rattle.bucket_chain.specs.Answers.{IsStoreAnswer};
 
 use crate::Pair;
@@ -37,8 +37,8 @@ fn give_overflow<S: PageStore>(
     ensures ends { HasEnds space.old → HasEnds space.new }
     ensures end { space.new.file_end ≡ space.old.file_end }
     ensures may_end { MayEnd (S.state store.old) space.old.file_end → MayEnd (S.state store.new) space.new.file_end }
-    ensures given { S.honest store.old → OnOk result (AreGiven (said S.PageStore store.old) (said S.PageStore store.new) space.old space.new first 0) }
-    ensures whole { S.honest store.old → (head : ℕ) (leaf : Leaf) (rest : Chain) (s : Space) → IsPlaced (said S.PageStore store.old) space.old head (leaf ∷ rest) s → first ≡ first_of (numbers rest) → IsErrOf result Damaged → ⊥ }
+    ensures given { S.honest store.old → OnOk result (AreGiven (body_at S.PageStore store.old) (body_at S.PageStore store.new) space.old space.new first 0) }
+    ensures whole { S.honest store.old → (head : ℕ) (leaf : Leaf) (rest : Chain) (s : Space) → IsPlaced (body_at S.PageStore store.old) space.old head (leaf ∷ rest) s → first ≡ first_of (numbers rest) → IsErrOf result Damaged → ⊥ }
 {
     let mut page = Page::blank();
     let mut at = first;
@@ -59,12 +59,13 @@ fn clear<S: PageStore>(store: &mut S, space: &mut FreeState, head: u32) -> Resul
     ensures cause { HasDeviceCause (S.faults store.old) (S.faults store.new) result }
     ensures answer { IsStoreAnswer (S.state store.old) result }
     ensures room { IsErrOf result NoRoom → ⊥ }
-    ensures walked { S.honest store.old → OnOk result (IsRead (said S.PageStore store.old) head) }
+    ensures walked { S.honest store.old → OnOk result (IsReadToEnd (body_at S.PageStore store.old) head) }
     ensures ends { HasEnds space.old → HasEnds space.new }
     ensures may_end { MayEnd (S.state store.old) space.old.file_end → OnOk result (MayEnd (S.state store.new) space.new.file_end) }
-    ensures exact { S.honest store.old → (chain : Chain) (s : Space) → IsPlaced (said S.PageStore store.old) space.old head chain s →
-        OnOk result (IsCleared (said S.PageStore store.old) (said S.PageStore store.new) space.new head (store_in (chain, s) [])) }
-    ensures whole { S.honest store.old → (chain : Chain) (s : Space) → IsPlaced (said S.PageStore store.old) space.old head chain s → IsErrOf result Damaged → ⊥ }
+    ensures exact { ForEachPlaced S.PageStore store.old space.old head (λ chain s.
+        OnOk result (IsCleared (body_at S.PageStore store.old) (body_at S.PageStore store.new) space.new head (store_in (chain, s) []))) }
+    ensures whole { ForEachPlaced S.PageStore store.old space.old head (λ chain s.
+        IsErrOf result Damaged → ⊥) }
 {
     let mut page = Page::blank();
     let first = read_link(store, head, HEAD, &mut page)?;
@@ -86,9 +87,9 @@ fn put_all<S: PageStore>(
     ensures room { pairs.now ≡ [] → IsErrOf result NoRoom → ⊥ }
     ensures ends { HasEnds space.old → HasEnds space.new }
     ensures may_end { MayEnd (S.state store.old) space.old.file_end → OnOk result (MayEnd (S.state store.new) space.new.file_end) }
-    ensures exact { S.honest store.old → (placed : Placed) → IsPlaced (said S.PageStore store.old) space.old head placed.0 placed.1 → pairs_in placed.0 ≡ [] → HaveDistinctKeys (map pair_of pairs.now) →
-        OnOk result (IsPutAll (said S.PageStore store.old) (said S.PageStore store.new) space.old space.new placed (map pair_of pairs.now)) }
-    ensures whole { S.honest store.old → (placed : Placed) → IsPlaced (said S.PageStore store.old) space.old head placed.0 placed.1 → pairs_in placed.0 ≡ [] → HaveDistinctKeys (map pair_of pairs.now) → IsErrOf result Damaged → ⊥ }
+    ensures exact { S.honest store.old → (placed : Placed) → IsPlaced (body_at S.PageStore store.old) space.old head placed.0 placed.1 → pairs_in placed.0 ≡ [] → HaveDistinctKeys (map pair_of pairs.now) →
+        OnOk result (IsPutAll (body_at S.PageStore store.old) (body_at S.PageStore store.new) space.old space.new placed (map pair_of pairs.now)) }
+    ensures whole { S.honest store.old → (placed : Placed) → IsPlaced (body_at S.PageStore store.old) space.old head placed.0 placed.1 → pairs_in placed.0 ≡ [] → HaveDistinctKeys (map pair_of pairs.now) → IsErrOf result Damaged → ⊥ }
 {
     for pair in pairs {
         put(store, space, head, &pair.key, &pair.content)?;
@@ -110,14 +111,15 @@ pub fn store_all<S: PageStore>(
     ensures cause { HasDeviceCause (S.faults store.old) (S.faults store.new) result }
     ensures answer { IsStoreAnswer (S.state store.old) result }
     ensures room { pairs.now ≡ [] → IsErrOf result NoRoom → ⊥ }
-    ensures walked { S.honest store.old → OnOk result (IsRead (said S.PageStore store.old) head) }
+    ensures walked { S.honest store.old → OnOk result (IsReadToEnd (body_at S.PageStore store.old) head) }
     ensures ends { HasEnds space.old → HasEnds space.new }
     ensures may_end { MayEnd (S.state store.old) space.old.file_end → OnOk result (MayEnd (S.state store.new) space.new.file_end) }
 
     // On a chain and a free list that are read as such it leaves the model's, and is never Damaged.
-    ensures exact { S.honest store.old → (chain : Chain) (s : Space) → IsPlaced (said S.PageStore store.old) space.old head chain s → HaveDistinctKeys (map pair_of pairs.now) →
-        OnOk result (BecomesPlaced (said S.PageStore store.old) (said S.PageStore store.new) space.new (store_in (chain, s) (map pair_of pairs.now))) }
-    ensures whole { S.honest store.old → (chain : Chain) (s : Space) → IsPlaced (said S.PageStore store.old) space.old head chain s → HaveDistinctKeys (map pair_of pairs.now) → IsErrOf result Damaged → ⊥ }
+    ensures exact { ForEachPlaced S.PageStore store.old space.old head (λ chain s.
+        HaveDistinctKeys (map pair_of pairs.now) → OnOk result (BecomesPlaced (body_at S.PageStore store.old) (body_at S.PageStore store.new) space.new (store_in (chain, s) (map pair_of pairs.now)))) }
+    ensures whole { ForEachPlaced S.PageStore store.old space.old head (λ chain s.
+        HaveDistinctKeys (map pair_of pairs.now) → IsErrOf result Damaged → ⊥) }
 {
     clear(store, space, head)?;
     put_all(store, space, head, pairs)

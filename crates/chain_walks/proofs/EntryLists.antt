@@ -3,9 +3,9 @@ use Rattle.std.proofs.Common.{◌≡◌, ◌⊎◌, ⊎_elim, inl, inr, ℕ, zer
 use Rattle.std.proofs.lemmas.List.{get_or_default, reverse-append}
 use Rattle.dbm_model.specs.Pairs.{Pair}
 use Rattle.page_model.specs.Chain.{Leaf, Chain, numbers, IsChain}
-use Rattle.page_model.specs.Sheets.{first_of}
-use Rattle.slot_page.specs.Contents.{IsBucketPage, pairs_of}
-use Rattle.chain_walks.specs.Places.{Entry, place, entries_from, entries, last_place, IsHeld, IsFirst, page_from, slot_from}
+use Rattle.page_model.specs.PageBodies.{first_of}
+use Rattle.slot_page.specs.Contents.{IsBucketPage, page_pairs}
+use Rattle.chain_walks.specs.Places.{Entry, place, entries_from, entries, last_place, HoldsPair, IsFirst, page_from, slot_from}
 use Rattle.chain_walks.specs.declared.place.Place.{Place}
 
 -- the first of these entries
@@ -24,11 +24,11 @@ slot_there n s (suc k) m (pair ∷ pairs) d within e =
     record { tail = rest.tail; parts = rest.parts }
 
 -- a page that has the slot holds the first of the entries from there on
-pub first_here : (bytes : List ℕ) (n slot : ℕ) (rest : List Entry) → IsBucketPage bytes → slot < length (pairs_of bytes) → IsFirst (drop slot (entries_from n 0 (pairs_of bytes)) ++ rest) bytes (Some (place n slot))
+pub first_here : (bytes : List ℕ) (n slot : ℕ) (rest : List Entry) → IsBucketPage bytes → slot < length (page_pairs bytes) → IsFirst (drop slot (entries_from n 0 (page_pairs bytes)) ++ rest) bytes (Some (place n slot))
 first_here bytes n slot rest page within =
     let blank : Pair = ([], []) in
-    let cut = slot_there n 0 slot slot (pairs_of bytes) blank within (omega arith) in
-    let held : IsHeld bytes (place n slot) (get_or (pairs_of bytes) slot blank) = record { page = page; there = λ d. get_or_default (pairs_of bytes) slot d blank within } in
+    let cut = slot_there n 0 slot slot (page_pairs bytes) blank within (omega arith) in
+    let held : HoldsPair bytes (place n slot) (get_or (page_pairs bytes) slot blank) = record { page = page; there = λ d. get_or_default (page_pairs bytes) slot d blank within } in
     subst (λ (xs : List Entry). IsFirst (xs ++ rest) bytes (Some (place n slot))) (sym cut.parts) (refl, held)
 
 -- none is left behind the last slot

@@ -4,7 +4,7 @@ use Rattle.dbm_model.specs.Pairs.{Pair}
 use Rattle.page_model.specs.Pages.{Bucket, bucket}
 use Rattle.page_model.specs.Reading.{own_number, kind_of, slot_count, next_of, bucket_of}
 use Rattle.page_io.proofs.OwnNumbers.{own_is}
-use Rattle.slot_page.specs.Contents.{IsBucketPage, pairs_of}
+use Rattle.slot_page.specs.Contents.{IsBucketPage, page_pairs}
 use Rattle.slot_page.proofs.Pages.{counted}
 use Rattle.chain_walks.specs.Links.{IsLink}
 
@@ -16,9 +16,9 @@ next_is : (bytes : List ℕ) → (bucket_of bytes).next ≡ next_of bytes
 unfolding bucket_of
 next_is bytes = refl
 
-bucket_is : (bytes : List ℕ) (n kind next : ℕ) → own_number bytes ≡ n → kind_of bytes ≡ kind → next_of bytes ≡ next → bucket_of bytes ≡ bucket n kind next (pairs_of bytes)
+bucket_is : (bytes : List ℕ) (n kind next : ℕ) → own_number bytes ≡ n → kind_of bytes ≡ kind → next_of bytes ≡ next → bucket_of bytes ≡ bucket n kind next (page_pairs bytes)
 unfolding bucket_of
-bucket_is bytes n kind next own k after = λ i. bucket (own i) (k i) (after i) (pairs_of bytes)
+bucket_is bytes n kind next own k after = λ i. bucket (own i) (k i) (after i) (page_pairs bytes)
 
 -- the header of a page of a chain
 pub record IsHeader (bytes : List ℕ) (n kind next : ℕ) (pairs : List Pair) : Type 0 where
@@ -40,7 +40,7 @@ header_of bytes n kind next pairs link =
     }
 
 -- a bucket page with this header is a page of a chain
-pub link_is : (bytes : List ℕ) (n kind next : ℕ) → IsBucketPage bytes → own_number bytes ≡ n → kind_of bytes ≡ kind → next_of bytes ≡ next → (kind ≡ 4 → 0 < slot_count bytes) → IsLink bytes n kind next (pairs_of bytes)
+pub link_is : (bytes : List ℕ) (n kind next : ℕ) → IsBucketPage bytes → own_number bytes ≡ n → kind_of bytes ≡ kind → next_of bytes ≡ next → (kind ≡ 4 → 0 < slot_count bytes) → IsLink bytes n kind next (page_pairs bytes)
 link_is bytes n kind next page own k after some = record {
   page = page;
   says = bucket_is bytes n kind next own k after;
@@ -48,5 +48,5 @@ link_is bytes n kind next page own k after some = record {
 }
 
 -- what the bytes say of it is their list of pairs
-pub pairs_read : (bytes : List ℕ) (n kind next : ℕ) (pairs : List Pair) → IsLink bytes n kind next pairs → pairs_of bytes ≡ pairs
+pub pairs_read : (bytes : List ℕ) (n kind next : ℕ) (pairs : List Pair) → IsLink bytes n kind next pairs → page_pairs bytes ≡ pairs
 pairs_read bytes n kind next pairs link = ap (λ (b : Bucket). b.pairs) link.says

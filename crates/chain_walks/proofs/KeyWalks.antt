@@ -13,11 +13,11 @@ use Rattle.dbm_model.specs.Pairs.{Key, Pair, key_cmp}
 use Rattle.page_model.specs.PairLists.{has_key, times}
 use Rattle.page_model.specs.Pages.{Body}
 use Rattle.page_model.specs.Chain.{Leaf, Chain, numbers, pairs_in}
-use Rattle.page_model.specs.Sheets.{first_of}
+use Rattle.page_model.specs.PageBodies.{first_of}
 use Rattle.page_model.proofs.Chains.{AllByRecursion-right}
 use Rattle.page_model.proofs.PairLists.{value_in, value_in-append, times_some}
 use Rattle.page_model.proofs.Places.{same_key}
-use Rattle.slot_page.specs.Contents.{IsBucketPage, HasKeyAt, IsAbsent, pairs_of}
+use Rattle.slot_page.specs.Contents.{IsBucketPage, HasKeyAt, IsAbsent, page_pairs}
 use Rattle.chain_walks.specs.Links.{SaysLink}
 use Rattle.chain_walks.specs.Chains.{IsChainAt}
 use Rattle.chain_walks.specs.Places.{place}
@@ -95,7 +95,7 @@ module _ (at : ℕ → Body) (end head : ℕ) (chain : Chain) (key : Key) (n kin
   value_is = ap (λ (c : Chain). value_in key (pairs_in c)) chain_is ∙ value_in-passed key walk.before (leaf_of n pairs ∷ split.later) walk.passed ∙ value_in-append key pairs (pairs_in split.later)
 
   -- the page has the key
-  pub looked_up : (bytes : List ℕ) (slot : ℕ) → IsBucketPage bytes → pairs_of bytes ≡ pairs → HasKeyAt key pairs slot → ((k : ℕ) → HasKeyAt key pairs k → k ≡ slot) → IsFoundIn key chain bytes (place n slot)
+  pub looked_up : (bytes : List ℕ) (slot : ℕ) → IsBucketPage bytes → page_pairs bytes ≡ pairs → HasKeyAt key pairs slot → ((k : ℕ) → HasKeyAt key pairs k → k ≡ slot) → IsFoundIn key chain bytes (place n slot)
   looked_up bytes slot page read has only = record {
     content = content_at pairs slot;
     page = page;

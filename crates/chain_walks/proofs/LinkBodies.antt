@@ -7,7 +7,7 @@ use Rattle.dbm_model.specs.Pairs.{Pair}
 use Rattle.page_model.specs.Pages.{Body, HeadPage, OverflowPage, Other, Bucket, bucket}
 use Rattle.page_model.specs.Slots.{taken, room_of, slots_ending, slots_bytes, records}
 use Rattle.page_model.specs.Spelling.{bucket_spelling, spelling_of}
-use Rattle.page_model.specs.Reading.{kind_of, next_of, read_as, said, bucket_of, body_of}
+use Rattle.page_model.specs.Reading.{kind_of, next_of, read_as, body_by_kind, bucket_of, body_of}
 use Rattle.page_model.specs.Valid.{IsBucket}
 use Rattle.page_model.proofs.Bodies.{body_spelled}
 use Rattle.page_model.proofs.Buckets.{length-slots_ending, length-slots_bytes, length-records}
@@ -19,9 +19,9 @@ chosen : (t : Bool) (b : Body) → cond t b Other ≢ Other → cond t b Other �
 chosen true b ne = refl
 chosen false b ne = absurd (ne refl)
 
-said_is : (n : ℕ) (bytes : List ℕ) → body_of n bytes ≢ Other → body_of n bytes ≡ said bytes
+said_is : (n : ℕ) (bytes : List ℕ) → body_of n bytes ≢ Other → body_of n bytes ≡ body_by_kind bytes
 unfolding body_of
-said_is n bytes ne = chosen (bytes_eq bytes (spelling_of n (said bytes))) (said bytes) ne
+said_is n bytes ne = chosen (bytes_eq bytes (spelling_of n (body_by_kind bytes))) (body_by_kind bytes) ne
 
 -- the fields of a spelled page of pairs, whatever it says
 kind_spelled : (b : Bucket) → kind_of (bucket_spelling b) ≡ b.kind

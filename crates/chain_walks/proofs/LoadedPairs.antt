@@ -10,7 +10,7 @@ use Rattle.page_model.specs.Slots.{taken}
 use Rattle.page_model.specs.Pages.{Body}
 use Rattle.page_model.specs.Chain.{Leaf, Chain, pairs_in}
 use Rattle.page_model.proofs.Chains.{AllByRecursion-append, AllByRecursion-right}
-use Rattle.slot_page.specs.Contents.{IsBucketPage, pairs_of}
+use Rattle.slot_page.specs.Contents.{IsBucketPage, page_pairs}
 use Rattle.chain_walks.specs.Links.{SaysLink}
 use Rattle.chain_walks.specs.Chains.{IsChainAt, BeginsAt}
 use Rattle.chain_walks.specs.Walks.{SaysAll}
@@ -79,8 +79,8 @@ small_in [] fit = tt
 small_in (pair ∷ pairs) fit = (omega arith, small_in pairs (omega arith))
 
 -- one page more
-pub more_small : (bytes : List ℕ) (old new : List Pair) → IsBucketPage bytes → new ≡ old ++ pairs_of bytes → AllByRecursion IsAllowed old → AllByRecursion IsAllowed new
-more_small bytes old new page appended small = subst (AllByRecursion IsAllowed) (sym appended) (AllByRecursion-append IsAllowed old (pairs_of bytes) small (small_in (pairs_of bytes) page.sound.fits))
+pub more_small : (bytes : List ℕ) (old new : List Pair) → IsBucketPage bytes → new ≡ old ++ page_pairs bytes → AllByRecursion IsAllowed old → AllByRecursion IsAllowed new
+more_small bytes old new page appended small = subst (AllByRecursion IsAllowed) (sym appended) (AllByRecursion-append IsAllowed old (page_pairs bytes) small (small_in (page_pairs bytes) page.sound.fits))
 
 -- pair by pair
 pub each_small : (pairs : List code.Pair) → AllByRecursion IsAllowed (map pair_of pairs) → All (λ pair. IsAllowed (pair_of pair)) pairs

@@ -3,11 +3,11 @@ use Rattle.std.proofs.Common.{◌≡◌, inl, inr, ⊎_elim, ℕ, zero, suc, ◌
 use Rattle.std.specs.Prelude.{IfOk, IfSome}
 use Rattle.std.specs.Option.{ok_or}
 use Rattle.std.proofs.lemmas.Bool.{cases_lt, false≢true}
-use Rattle.page_io.specs.Store.{Pages, Settled, State, has_page, are_in_order, IsKnown}
+use Rattle.page_io.specs.Store.{Pages, Settled, StoreState, has_page, are_in_order, IsKnown}
 use Rattle.page_io.specs.Answers.{IsReadAnswer}
 use Rattle.dbm_model.specs.Pairs.{Pair}
 use Rattle.page_model.specs.Pages.{Body}
-use Rattle.page_io.specs.Views.{said, ReadsOnly}
+use Rattle.page_io.specs.Views.{body_at, ReadsOnly}
 use Rattle.page_io.specs.declared.store.PageStore.{Ghosts}
 use Rattle.page_io.proofs.StagedPages.{in_range, has_between}
 use Rattle.page_io.proofs.Views.{same_said}
@@ -27,7 +27,7 @@ reads_none s store only = record {
 }
 
 -- a page that was read is known
-pub read_known : {T : Type 0} (state : State) (n : ℕ) (value : T) → IsReadAnswer {T = T} state n (Ok value) → IsKnown state n
+pub read_known : {T : Type 0} (state : StoreState) (n : ℕ) (value : T) → IsReadAnswer {T = T} state n (Ok value) → IsKnown state n
 read_known state n value answer = elim (has_page state.staged n) as (λ b. has_page state.staged n ≡ b → IsKnown state n) [
   | true ↦ λ has. inl has
   | false ↦ λ none. elim (cases_lt 0 n) [
@@ -51,7 +51,7 @@ staged_some high pages zero order has =
     absurd (false≢true (sym (has_between 1 high pages 0 0 order (λ k lt. absurd (omega arith)) (λ lt. (in_range 1 high pages 0 order lt).0) (omega arith)) ∙ has))
 staged_some high pages (suc n) order has = omega arith
 
-pub known_some : (high : ℕ) (state : State) (n : ℕ) → are_in_order 1 high state.staged ≡ true → IsKnown state n → 1 ≤ n
+pub known_some : (high : ℕ) (state : StoreState) (n : ℕ) → are_in_order 1 high state.staged ≡ true → IsKnown state n → 1 ≤ n
 known_some high state n order known = ⊎_elim (λ has. staged_some high state.staged n order has) (λ within. within.0) known
 
 -- an answer that came from an option
@@ -64,8 +64,8 @@ module _ {S : Type 0} (s : Ghosts S) (old mid : S) (reads : ReadsOnly s old mid)
   pub still_honest : s.honest mid
   still_honest = reads.stages_only.honesty.1 honest
 
-  pub link_before : (n kind next : ℕ) (pairs : List Pair) → (s.honest mid → SaysLink (said s mid) n kind next pairs) → SaysLink (said s old) n kind next pairs
+  pub link_before : (n kind next : ℕ) (pairs : List Pair) → (s.honest mid → SaysLink (body_at s mid) n kind next pairs) → SaysLink (body_at s old) n kind next pairs
   link_before n kind next pairs link = subst (λ (at : ℕ → Body). SaysLink at n kind next pairs) (same_said s old mid reads honest) (link still_honest)
 
-  pub link_after : (n kind next : ℕ) (pairs : List Pair) → SaysLink (said s old) n kind next pairs → SaysLink (said s mid) n kind next pairs
+  pub link_after : (n kind next : ℕ) (pairs : List Pair) → SaysLink (body_at s old) n kind next pairs → SaysLink (body_at s mid) n kind next pairs
   link_after n kind next pairs link = subst (λ (at : ℕ → Body). SaysLink at n kind next pairs) (sym (same_said s old mid reads honest)) link

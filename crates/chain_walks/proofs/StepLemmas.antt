@@ -4,12 +4,12 @@ use Rattle.std.proofs.lemmas.Bool.{cases_eq}
 use Rattle.dbm_model.specs.Pairs.{Pair}
 use Rattle.page_model.specs.Pages.{Body}
 use Rattle.page_model.specs.Chain.{Leaf, Chain, numbers}
-use Rattle.page_model.specs.Sheets.{first_of}
+use Rattle.page_model.specs.PageBodies.{first_of}
 use Rattle.page_model.proofs.Chains.{AllByRecursion-right}
-use Rattle.slot_page.specs.Contents.{IsBucketPage, pairs_of}
+use Rattle.slot_page.specs.Contents.{IsBucketPage, page_pairs}
 use Rattle.chain_walks.specs.Links.{link_body, SaysLink}
 use Rattle.chain_walks.specs.Chains.{IsChainAt}
-use Rattle.chain_walks.specs.Places.{Entry, place, entries_from, entries, last_place, IsFirst, page_from, slot_from, SaysPairs, IsStep}
+use Rattle.chain_walks.specs.Places.{Entry, place, entries_from, entries, last_place, IsFirst, page_from, slot_from, SaysPairs, IsChainStep}
 use Rattle.chain_walks.specs.declared.place.Place.{Place}
 use Rattle.chain_walks.proofs.Walks.{AreNumbered, AreLinks, kind_from, links_behind, chain_links, one_next}
 use Rattle.chain_walks.proofs.KeyWalks.{none_later}
@@ -72,71 +72,71 @@ module _ (at : ℕ → Body) (head : ℕ) (from : Option Place) (look : Place) (
     | inr other ↦ inr (subst (λ (k : ℕ). at look.page ≡ link_body k next pairs) (looks.as_overflow other) link.says, link.filled (looks.as_overflow other))
   ])
 
-  module _ (next : ℕ) (bytes : List ℕ) (link : SaysLink at look.page kind next (pairs_of bytes)) (small : length (pairs_of bytes) < 65536) where
-    none_left : length (pairs_of bytes) ≤ look.slot → drop (slot_from from) (entries_from (page_from head from) 0 (pairs_of bytes)) ≡ []
-    none_left behind = none_behind (page_from head from) 0 (slot_from from) (pairs_of bytes) (slot_behind (length (pairs_of bytes)) small behind)
+  module _ (next : ℕ) (bytes : List ℕ) (link : SaysLink at look.page kind next (page_pairs bytes)) (small : length (page_pairs bytes) < 65536) where
+    none_left : length (page_pairs bytes) ≤ look.slot → drop (slot_from from) (entries_from (page_from head from) 0 (page_pairs bytes)) ≡ []
+    none_left behind = none_behind (page_from head from) 0 (slot_from from) (page_pairs bytes) (slot_behind (length (page_pairs bytes)) small behind)
 
     -- the page has the slot
-    pub step_here : IsBucketPage bytes → look.slot < length (pairs_of bytes) → IsStep at head from bytes (Some look)
+    pub step_here : IsBucketPage bytes → look.slot < length (page_pairs bytes) → IsChainStep at head from bytes (Some look)
     step_here page within =
-        let slot = slot_is (length (pairs_of bytes)) small within in
+        let slot = slot_is (length (page_pairs bytes)) small within in
         record {
-          pairs = pairs_of bytes;
+          pairs = page_pairs bytes;
           after = next;
           more = [];
-          here = here next (pairs_of bytes) link;
+          here = here next (page_pairs bytes) link;
           behind = inl (omega (arith, slot, within));
-          first = subst (λ (n : ℕ). IsFirst (drop (slot_from from) (entries_from n 0 (pairs_of bytes)) ++ []) bytes (Some look)) looks.page
-              (subst (λ (k : ℕ). IsFirst (drop k (entries_from look.page 0 (pairs_of bytes)) ++ []) bytes (Some look)) (sym slot) (first_here bytes look.page look.slot [] page within));
+          first = subst (λ (n : ℕ). IsFirst (drop (slot_from from) (entries_from n 0 (page_pairs bytes)) ++ []) bytes (Some look)) looks.page
+              (subst (λ (k : ℕ). IsFirst (drop k (entries_from look.page 0 (page_pairs bytes)) ++ []) bytes (Some look)) (sym slot) (first_here bytes look.page look.slot [] page within));
         }
 
     -- it doesn't, and is the last
-    pub step_ends : (new : List ℕ) → length (pairs_of bytes) ≤ look.slot → next ≡ 0 → IsStep at head from new None
+    pub step_ends : (new : List ℕ) → length (page_pairs bytes) ≤ look.slot → next ≡ 0 → IsChainStep at head from new None
     step_ends new behind last = record {
-      pairs = pairs_of bytes;
+      pairs = page_pairs bytes;
       after = next;
       more = [];
-      here = here next (pairs_of bytes) link;
+      here = here next (page_pairs bytes) link;
       behind = inr (inl (last, refl));
       first = subst (λ (xs : List Entry). IsFirst (xs ++ []) new None) (sym (none_left behind)) refl;
     }
 
     -- it names a page that has one
-    pub step_on : (after : ℕ) (new : List ℕ) → length (pairs_of bytes) ≤ look.slot → SaysLink at next 4 after (pairs_of new) → IsBucketPage new → IsStep at head from new (Some (place next 0))
+    pub step_on : (after : ℕ) (new : List ℕ) → length (page_pairs bytes) ≤ look.slot → SaysLink at next 4 after (page_pairs new) → IsBucketPage new → IsChainStep at head from new (Some (place next 0))
     step_on after new behind more page =
         let some = more.filled refl in
         record {
-          pairs = pairs_of bytes;
+          pairs = page_pairs bytes;
           after = next;
-          more = pairs_of new;
-          here = here next (pairs_of bytes) link;
+          more = page_pairs new;
+          here = here next (page_pairs bytes) link;
           behind = inr (inr (record { after = after; overflow = more.says; some = some }));
-          first = subst (λ (xs : List Entry). IsFirst (xs ++ entries_from next 0 (pairs_of new)) new (Some (place next 0))) (sym (none_left behind))
-              (subst (λ (xs : List Entry). IsFirst xs new (Some (place next 0))) (append-nil (entries_from next 0 (pairs_of new))) (first_here new next 0 [] page some));
+          first = subst (λ (xs : List Entry). IsFirst (xs ++ entries_from next 0 (page_pairs new)) new (Some (place next 0))) (sym (none_left behind))
+              (subst (λ (xs : List Entry). IsFirst xs new (Some (place next 0))) (append-nil (entries_from next 0 (page_pairs new))) (first_here new next 0 [] page some));
         }
 
     -- ---- the same in a chain that is read as one
     module _ (left : List Entry) (is : IsLeftAt at look.page (slot_from from) kind left) where
-      same : (next ≡ first_of (numbers is.later)) × (pairs_of bytes ≡ is.leaf.pairs)
-      same = one_next at look.page kind next (first_of (numbers is.later)) (pairs_of bytes) is.leaf.pairs link is.link
+      same : (next ≡ first_of (numbers is.later)) × (page_pairs bytes ≡ is.leaf.pairs)
+      same = one_next at look.page kind next (first_of (numbers is.later)) (page_pairs bytes) is.leaf.pairs link is.link
 
-      pub first_in_page : IsBucketPage bytes → look.slot < length (pairs_of bytes) → IsFirst left bytes (Some look)
+      pub first_in_page : IsBucketPage bytes → look.slot < length (page_pairs bytes) → IsFirst left bytes (Some look)
       first_in_page page within =
-          let slot = slot_is (length (pairs_of bytes)) small within in
-          let left_is : left ≡ drop look.slot (entries_from look.page 0 (pairs_of bytes)) ++ entries is.later = is.left_is ∙ (λ i. drop (slot i) (entries_from (sym is.number i) 0 (sym same.1 i)) ++ entries is.later) in
+          let slot = slot_is (length (page_pairs bytes)) small within in
+          let left_is : left ≡ drop look.slot (entries_from look.page 0 (page_pairs bytes)) ++ entries is.later = is.left_is ∙ (λ i. drop (slot i) (entries_from (sym is.number i) 0 (sym same.1 i)) ++ entries is.later) in
           subst (λ (xs : List Entry). IsFirst xs bytes (Some look)) (sym left_is) (first_here bytes look.page look.slot (entries is.later) page within)
 
-      all_later : length (pairs_of bytes) ≤ look.slot → left ≡ entries is.later
+      all_later : length (page_pairs bytes) ≤ look.slot → left ≡ entries is.later
       all_later behind =
           is.left_is ∙ (λ i. drop (slot_from from) (entries_from is.leaf.number 0 (sym same.1 i)) ++ entries is.later)
-          ∙ ap (λ (xs : List Entry). xs ++ entries is.later) (none_behind is.leaf.number 0 (slot_from from) (pairs_of bytes) (slot_behind (length (pairs_of bytes)) small behind))
+          ∙ ap (λ (xs : List Entry). xs ++ entries is.later) (none_behind is.leaf.number 0 (slot_from from) (page_pairs bytes) (slot_behind (length (page_pairs bytes)) small behind))
 
-      pub none_in_chain : (new : List ℕ) → length (pairs_of bytes) ≤ look.slot → next ≡ 0 → IsFirst left new None
+      pub none_in_chain : (new : List ℕ) → length (page_pairs bytes) ≤ look.slot → next ≡ 0 → IsFirst left new None
       none_in_chain new behind last =
           let nothing = none_later is.later is.numbered (sym same.0 ∙ last) in
           subst (λ (xs : List Entry). IsFirst xs new None) (sym (all_later behind ∙ ap entries nothing)) refl
 
-      pub next_in_chain : length (pairs_of bytes) ≤ look.slot → next ≢ 0 → IsNext at next left
+      pub next_in_chain : length (page_pairs bytes) ≤ look.slot → next ≢ 0 → IsNext at next left
       next_in_chain behind more = by_later is.later is.links is.numbered same.0 (all_later behind)
         where
           by_later : (later : Chain) → AreLinks at 4 later → AreNumbered later → next ≡ first_of (numbers later) → left ≡ entries later → IsNext at next left
@@ -171,8 +171,8 @@ module _ (at : ℕ → Body) (head : ℕ) (from : Option Place) (look : Place) (
       }
 
 -- the next page holds the first of its entries
-pub first_of_next : (at : ℕ → Body) (next after : ℕ) (new : List ℕ) (left : List Entry) → IsNext at next left → SaysLink at next 4 after (pairs_of new) → IsBucketPage new → IsFirst left new (Some (place next 0))
+pub first_of_next : (at : ℕ → Body) (next after : ℕ) (new : List ℕ) (left : List Entry) → IsNext at next left → SaysLink at next 4 after (page_pairs new) → IsBucketPage new → IsFirst left new (Some (place next 0))
 first_of_next at next after new left is link page =
-    let same = one_next at next 4 after (first_of (numbers is.later)) (pairs_of new) is.leaf.pairs link is.link in
-    let left_is : left ≡ entries_from next 0 (pairs_of new) ++ entries is.later = is.left_is ∙ (λ i. entries_from (sym is.number i) 0 (sym same.1 i) ++ entries is.later) in
+    let same = one_next at next 4 after (first_of (numbers is.later)) (page_pairs new) is.leaf.pairs link is.link in
+    let left_is : left ≡ entries_from next 0 (page_pairs new) ++ entries is.later = is.left_is ∙ (λ i. entries_from (sym is.number i) 0 (sym same.1 i) ++ entries is.later) in
     subst (λ (xs : List Entry). IsFirst xs new (Some (place next 0))) (sym left_is) (first_here new next 0 (entries is.later) page (link.filled refl))

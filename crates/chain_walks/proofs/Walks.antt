@@ -4,7 +4,7 @@ use Rattle.std.specs.List.{AllByRecursion}
 use Rattle.dbm_model.specs.Pairs.{Pair}
 use Rattle.page_model.specs.Pages.{Body, HeadPage, OverflowPage}
 use Rattle.page_model.specs.Chain.{Leaf, Chain, numbers, IsChain}
-use Rattle.page_model.specs.Sheets.{first_of, chain_sheets, overflow_sheets, AreRead}
+use Rattle.page_model.specs.PageBodies.{first_of, chain_bodies, overflow_bodies, AreRead}
 use Rattle.page_model.proofs.Chains.{AllByRecursion-append, AllByRecursion-right}
 use Rattle.chain_walks.specs.Links.{link_body, HaveDistinctKeys, SaysLink}
 use Rattle.chain_walks.specs.Chains.{IsChainAt, number_or, AreLinked, BeginsAt, kind_behind}
@@ -90,11 +90,11 @@ abbrev pub AreLinks : (ℕ → Body) → ℕ → Chain → Type 0
 AreLinks at kind [] = Unit {0}
 AreLinks at kind (leaf ∷ rest) = SaysLink at leaf.number kind (first_of (numbers rest)) leaf.pairs × AreLinks at 4 rest
 
-overflow_links : (at : ℕ → Body) (chain : Chain) → AreRead at (overflow_sheets chain) → AllByRecursion (λ leaf. 0 < length leaf.pairs) chain → AllByRecursion (λ leaf. HaveDistinctKeys leaf.pairs) chain → AreLinks at 4 chain
+overflow_links : (at : ℕ → Body) (chain : Chain) → AreRead at (overflow_bodies chain) → AllByRecursion (λ leaf. 0 < length leaf.pairs) chain → AllByRecursion (λ leaf. HaveDistinctKeys leaf.pairs) chain → AreLinks at 4 chain
 overflow_links at [] read some distinct = tt
 overflow_links at (leaf ∷ rest) read some distinct = (record { says = read.0; filled = λ _. some.0; distinct = distinct.0 }, overflow_links at rest read.1 some.1 distinct.1)
 
-pub chain_links : (at : ℕ → Body) (chain : Chain) → AreRead at (chain_sheets chain) → IsChain chain → AllByRecursion (λ leaf. HaveDistinctKeys leaf.pairs) chain → AreLinks at 3 chain
+pub chain_links : (at : ℕ → Body) (chain : Chain) → AreRead at (chain_bodies chain) → IsChain chain → AllByRecursion (λ leaf. HaveDistinctKeys leaf.pairs) chain → AreLinks at 3 chain
 chain_links at [] read is distinct = tt
 chain_links at (leaf ∷ rest) read is distinct = (record { says = read.0; filled = λ four. absurd (omega arith); distinct = distinct.0 }, overflow_links at rest read.1 is.2 distinct.1)
 

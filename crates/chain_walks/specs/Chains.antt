@@ -3,12 +3,14 @@ use Rattle.std.specs.Prelude.{◌≡◌, ℕ, ◌<◌, ◌≤◌, [], ◌∷◌,
 use Rattle.std.specs.List.{AllByRecursion}
 use Rattle.page_model.specs.Pages.{Body, HeadPage, OverflowPage}
 use Rattle.page_model.specs.Chain.{Chain, numbers, IsChain}
-use Rattle.page_model.specs.Sheets.{first_of, chain_sheets, AreRead}
+use Rattle.page_model.specs.PageBodies.{first_of, chain_bodies, AreRead}
 use Rattle.chain_walks.specs.Links.{HaveDistinctKeys}
+use Rattle.page_io.specs.declared.store.PageStore.{Ghosts}
+use Rattle.page_io.specs.Views.{body_at}
 
 -- the pages say this chain from a head page on, of at most `end` pages
 pub record IsChainAt (at : ℕ → Body) (end head : ℕ) (chain : Chain) : Type 0 where
-  pub are_read : AreRead at (chain_sheets chain)
+  pub are_read : AreRead at (chain_bodies chain)
   pub is_chain : IsChain chain
   pub from : head ≡ first_of (numbers chain)
   pub few : length chain ≤ end
@@ -35,3 +37,7 @@ BeginsAt at head (leaf ∷ rest) after = (leaf.number ≡ head) × (at head ≡ 
 abbrev pub kind_behind : Chain → ℕ
 kind_behind [] = 3
 kind_behind (leaf ∷ rest) = 4
+
+-- what is said of an honest store whose pages say a chain from this head page on
+abbrev pub ForEachChain : {S : Type 0} → Ghosts S → S → ℕ → (Chain → Type 0) → Type 0
+ForEachChain s store head Says = s.honest store → (chain : Chain) → IsChainAt (body_at s store) (s.state store).end head chain → Says chain

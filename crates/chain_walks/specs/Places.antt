@@ -4,7 +4,7 @@ use Rattle.std.specs.List.{HoldsAt}
 use Rattle.dbm_model.specs.Pairs.{Pair}
 use Rattle.page_model.specs.Pages.{Body, HeadPage, OverflowPage}
 use Rattle.page_model.specs.Chain.{Chain}
-use Rattle.slot_page.specs.Contents.{IsBucketPage, pairs_of}
+use Rattle.slot_page.specs.Contents.{IsBucketPage, page_pairs}
 use Rattle.chain_walks.specs.declared.place.Place.{Place}
 
 abbrev pub place : ℕ → ℕ → Place
@@ -31,14 +31,14 @@ last_place passed = first (reverse passed) where
   first (entry ∷ rest) = Some entry.0
 
 -- the bytes are the page of this place, with this pair there
-pub record IsHeld (bytes : List ℕ) (at : Place) (pair : Pair) : Type 0 where
+pub record HoldsPair (bytes : List ℕ) (at : Place) (pair : Pair) : Type 0 where
   pub page : IsBucketPage bytes
-  pub there : HoldsAt (λ p. p ≡ pair) (pairs_of bytes) at.slot
+  pub there : HoldsAt (λ p. p ≡ pair) (page_pairs bytes) at.slot
 
 -- the answer is the first of the entries that are left, and the bytes are its page
 abbrev pub IsFirst : List Entry → List ℕ → Option Place → Type 0
 IsFirst [] bytes answer = answer ≡ None
-IsFirst (entry ∷ left) bytes answer = (answer ≡ Some entry.0) × IsHeld bytes entry.0 entry.1
+IsFirst (entry ∷ left) bytes answer = (answer ≡ Some entry.0) × HoldsPair bytes entry.0 entry.1
 
 -- where a step looks first: the slot behind the place, slot 0 of the head page at the start
 abbrev pub page_from : ℕ → Option Place → ℕ
@@ -60,7 +60,7 @@ pub record SaysMore (at : ℕ → Body) (n : ℕ) (pairs : List Pair) : Type 0 w
   pub some : 0 < length pairs
 
 -- On any file: the page of the place was read, and where it has no slot behind the place the page that it names.
-pub record IsStep (at : ℕ → Body) (head : ℕ) (from : Option Place) (bytes : List ℕ) (answer : Option Place) : Type 0 where
+pub record IsChainStep (at : ℕ → Body) (head : ℕ) (from : Option Place) (bytes : List ℕ) (answer : Option Place) : Type 0 where
   pub pairs : List Pair
   pub after : ℕ
   pub more : List Pair

@@ -6,7 +6,7 @@ use Rattle.dbm_model.specs.Pairs.{Key, Pair, key_cmp}
 use Rattle.page_model.specs.PairLists.{times}
 use Rattle.page_model.specs.Pages.{Body}
 use Rattle.page_model.specs.Chain.{Leaf, Chain, pairs_in, fits}
-use Rattle.slot_page.specs.Contents.{IsBucketPage, HasKeyAt, pairs_of}
+use Rattle.slot_page.specs.Contents.{IsBucketPage, HasKeyAt, page_pairs}
 use Rattle.chain_walks.specs.Chains.{BeginsAt}
 use Rattle.chain_walks.specs.declared.place.Place.{Place}
 
@@ -30,7 +30,7 @@ EndsWithout key leaf after = (after ≡ 0) × LacksKey key leaf
 pub record IsPairAt (key : Key) (bytes : List ℕ) (place : Place) (leaf : Leaf) (after : ℕ) : Type 0 where
   pub number : place.page ≡ leaf.number
   pub page : IsBucketPage bytes
-  pub pairs : pairs_of bytes ≡ leaf.pairs
+  pub pairs : page_pairs bytes ≡ leaf.pairs
   pub has : HasKeyAt key leaf.pairs place.slot
 
 -- the walk ended at the page with the key, or behind all pages
@@ -42,8 +42,8 @@ IsLookup at head key bytes (Some place) = IsWalk at head (LacksKey key) (IsPairA
 pub record IsFoundIn (key : Key) (chain : Chain) (bytes : List ℕ) (place : Place) : Type 0 where
   pub content : List ℕ
   pub page : IsBucketPage bytes
-  pub within : HasKeyAt key (pairs_of bytes) place.slot
-  pub there : HoldsAt (λ p. p ≡ (key, content)) (pairs_of bytes) place.slot
+  pub within : HasKeyAt key (page_pairs bytes) place.slot
+  pub there : HoldsAt (λ p. p ≡ (key, content)) (page_pairs bytes) place.slot
   pub found : find key_cmp key (pairs_in chain) ≡ Some content
 
 abbrev pub IsLookedUp : Key → Chain → List ℕ → Option Place → Type 0
@@ -75,6 +75,6 @@ pub record SaysAll (at : ℕ → Body) (head : ℕ) (pairs : List Pair) : Type 0
   pub all : pairs ≡ pairs_in chain
 
 -- they were read to its end
-pub record IsRead (at : ℕ → Body) (head : ℕ) : Type 0 where
+pub record IsReadToEnd (at : ℕ → Body) (head : ℕ) : Type 0 where
   pub chain : Chain
   pub are_read : BeginsAt at head chain 0

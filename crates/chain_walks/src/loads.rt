@@ -3,12 +3,12 @@
 ghost use Rattle.std.specs.Prelude.{◌≡◌, ◌++◌, ◌<◌, All, length, map, IfOk, OnOk, IsErrOf};
 ghost use Rattle.std.specs.List.{HoldsAt};
 ghost use Rattle.dbm_model.specs.Pairs.{IsAllowed};
-ghost use Rattle.page_model.specs.Chain.{Chain, pairs_in};
+ghost use Rattle.page_model.specs.Chain.{pairs_in};
 ghost use Rattle.page_io.specs.Answers.{HasDeviceCause};
-ghost use Rattle.page_io.specs.Views.{said, ReadsOnly};
+ghost use Rattle.page_io.specs.Views.{body_at, ReadsOnly};
 ghost use Rattle.page_io.specs.declared.store.PageFault.TheVariants.{Damaged};
-ghost use Rattle.slot_page.specs.Contents.{IsBucketPage, pairs_of};
-ghost use Rattle.chain_walks.specs.Chains.{IsChainAt};
+ghost use Rattle.slot_page.specs.Contents.{IsBucketPage, page_pairs};
+ghost use Rattle.chain_walks.specs.Chains.{ForEachChain};
 ghost use Rattle.chain_walks.specs.Pairs.{pair_of};
 ghost use Rattle.chain_walks.specs.Walks.{SaysAll};
 ghost use Rattle.chain_walks.specs.Answers.{IsLoadAnswer};
@@ -22,8 +22,8 @@ use std::alloc::{AllocError, Global};
 /// A copy of the pair in a slot.
 fn load_pair(alloc: Global, page: &Page, slot: usize) -> Result<Pair, AllocError>
     requires page { IsBucketPage page.now.bytes }
-    requires within { slot < length (pairs_of page.now.bytes) }
-    ensures { IfOk result (λ pair. HoldsAt (λ p. p ≡ pair_of pair) (pairs_of page.now.bytes) slot) }
+    requires within { slot < length (page_pairs page.now.bytes) }
+    ensures { IfOk result (λ pair. HoldsAt (λ p. p ≡ pair_of pair) (page_pairs page.now.bytes) slot) }
 {
     let (key, content) = pair_at(page, slot);
     let key = Vec::from_slice(alloc, key)?;
@@ -34,7 +34,7 @@ fn load_pair(alloc: Global, page: &Page, slot: usize) -> Result<Pair, AllocError
 /// Appends the pairs of a page, slot by slot.
 fn load_page(alloc: Global, page: &Page, pairs: &mut Vec<Pair>) -> Result<(), AllocError>
     requires { IsBucketPage page.now.bytes }
-    ensures { OnOk result (map pair_of pairs.new.items ≡ map pair_of pairs.old.items ++ pairs_of page.now.bytes) }
+    ensures { OnOk result (map pair_of pairs.new.items ≡ map pair_of pairs.old.items ++ page_pairs page.now.bytes) }
 {
     for slot in 0..page.slots() as usize {
         let pair = load_pair(alloc, page, slot)?;
@@ -53,11 +53,12 @@ pub fn load_all<S: PageStore>(
     ensures cause { HasDeviceCause (S.faults store.old) (S.faults store.new) result }
     ensures answer { IsLoadAnswer (S.state store.old) result }
     ensures small { IfOk result (λ pairs. All (λ pair. IsAllowed (pair_of pair)) pairs.items) }
-    ensures walked { S.honest store.old → IfOk result (λ pairs. SaysAll (said S.PageStore store.old) head (map pair_of pairs.items)) }
+    ensures walked { S.honest store.old → IfOk result (λ pairs. SaysAll (body_at S.PageStore store.old) head (map pair_of pairs.items)) }
 
     // Of a chain that is read as one it is the pairs, and never Damaged.
-    ensures exact { S.honest store.old → (chain : Chain) → IsChainAt (said S.PageStore store.old) (S.state store.old).end head chain → IfOk result (λ pairs. map pair_of pairs.items ≡ pairs_in chain) }
-    ensures whole { S.honest store.old → (chain : Chain) → IsChainAt (said S.PageStore store.old) (S.state store.old).end head chain → IsErrOf result Damaged → ⊥ }
+    ensures exact { ForEachChain S.PageStore store.old head (λ chain.
+        IfOk result (λ pairs. map pair_of pairs.items ≡ pairs_in chain)) }
+    ensures whole { ForEachChain S.PageStore store.old head (λ chain. IsErrOf result Damaged → ⊥) }
 {
     let mut pairs = Vec::new(alloc);
     let mut page = Page::blank();

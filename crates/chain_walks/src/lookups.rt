@@ -1,14 +1,13 @@
 //! Looking a key up.
 
 ghost use Rattle.std.specs.Prelude.{IfOk, IfSome, IsErrOf};
-ghost use Rattle.page_model.specs.Chain.{Chain};
 ghost use Rattle.page_io.specs.Answers.{HasDeviceCause};
-ghost use Rattle.page_io.specs.Views.{said, ReadsOnly};
+ghost use Rattle.page_io.specs.Views.{body_at, ReadsOnly};
 ghost use Rattle.page_io.specs.declared.store.PageFault.TheVariants.{Damaged};
-ghost use Rattle.chain_walks.specs.Chains.{IsChainAt};
+ghost use Rattle.chain_walks.specs.Chains.{ForEachChain};
 ghost use Rattle.chain_walks.specs.Walks.{IsLookup, IsLookedUp};
 ghost use Rattle.chain_walks.specs.Answers.{IsWalkAnswer};
-ghost use Rattle.slot_page.specs.Contents.{IsBucketPage, HasKeyAt, pairs_of};
+ghost use Rattle.slot_page.specs.Contents.{IsBucketPage, HasKeyAt, page_pairs};
 
 use crate::Place;
 use crate::link::{HEAD, OVERFLOW, read_link};
@@ -27,13 +26,13 @@ pub fn lookup<S: PageStore>(
     ensures reads { ReadsOnly S.PageStore store.old store.new }
     ensures cause { HasDeviceCause (S.faults store.old) (S.faults store.new) result }
     ensures answer { IsWalkAnswer (S.state store.old) result }
-    ensures held { IfOk result (λ place. IfSome place (λ at. IsBucketPage page.new.bytes × HasKeyAt key.now (pairs_of page.new.bytes) at.slot)) }
-    ensures walked { S.honest store.old → IfOk result (λ place. IsLookup (said S.PageStore store.old) head key.now page.new.bytes place) }
+    ensures held { IfOk result (λ place. IfSome place (λ at. IsBucketPage page.new.bytes × HasKeyAt key.now (page_pairs page.new.bytes) at.slot)) }
+    ensures walked { S.honest store.old → IfOk result (λ place. IsLookup (body_at S.PageStore store.old) head key.now page.new.bytes place) }
 
     // On a chain that is read as one it answers the first of the key's pairs, and is never Damaged.
-    ensures exact { S.honest store.old → (chain : Chain) → IsChainAt (said S.PageStore store.old) (S.state store.old).end head chain →
-        IfOk result (λ place. IsLookedUp key.now chain page.new.bytes place) }
-    ensures whole { S.honest store.old → (chain : Chain) → IsChainAt (said S.PageStore store.old) (S.state store.old).end head chain → IsErrOf result Damaged → ⊥ }
+    ensures exact { ForEachChain S.PageStore store.old head (λ chain.
+        IfOk result (λ place. IsLookedUp key.now chain page.new.bytes place)) }
+    ensures whole { ForEachChain S.PageStore store.old head (λ chain. IsErrOf result Damaged → ⊥) }
 {
     let mut at = head;
     let mut kind = HEAD;

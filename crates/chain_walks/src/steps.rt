@@ -3,12 +3,12 @@
 ghost use Rattle.std.specs.Prelude.{◌≡◌, ◌≢◌, ◌⊎◌, ◌++◌, ◌-◌, ◌^◌, ◌<◌, min, List, length, IfOk, IfSome, IsErrOf};
 ghost use Rattle.page_model.specs.Chain.{Chain};
 ghost use Rattle.page_io.specs.Answers.{HasDeviceCause};
-ghost use Rattle.page_io.specs.Views.{said, ReadsOnly};
+ghost use Rattle.page_io.specs.Views.{body_at, ReadsOnly};
 ghost use Rattle.page_io.specs.declared.store.PageFault.TheVariants.{Damaged};
 ghost use Rattle.chain_walks.specs.Chains.{IsChainAt};
-ghost use Rattle.chain_walks.specs.Places.{Entry, entries, last_place, page_from, slot_from, IsFirst, IsStep};
+ghost use Rattle.chain_walks.specs.Places.{Entry, entries, last_place, page_from, slot_from, IsFirst, IsChainStep};
 ghost use Rattle.chain_walks.specs.Answers.{IsWalkAnswer};
-ghost use Rattle.slot_page.specs.Contents.{IsBucketPage, pairs_of};
+ghost use Rattle.slot_page.specs.Contents.{IsBucketPage, page_pairs};
 
 use crate::Place;
 use crate::link::{HEAD, OVERFLOW, read_link};
@@ -52,13 +52,13 @@ pub fn step<S: PageStore>(
     ensures reads { ReadsOnly S.PageStore store.old store.new }
     ensures cause { HasDeviceCause (S.faults store.old) (S.faults store.new) result }
     ensures answer { IsWalkAnswer (S.state store.old) result }
-    ensures held { IfOk result (λ place. IfSome place (λ at. IsBucketPage page.new.bytes × (at.slot < length (pairs_of page.new.bytes)))) }
-    ensures stepped { S.honest store.old → IfOk result (λ place. IsStep (said S.PageStore store.old) head from page.new.bytes place) }
+    ensures held { IfOk result (λ place. IfSome place (λ at. IsBucketPage page.new.bytes × (at.slot < length (page_pairs page.new.bytes)))) }
+    ensures stepped { S.honest store.old → IfOk result (λ place. IsChainStep (body_at S.PageStore store.old) head from page.new.bytes place) }
 
     // On a chain that is read as one it answers each place once, in order, and is never Damaged.
-    ensures exact { S.honest store.old → (chain : Chain) (passed left : List Entry) → IsChainAt (said S.PageStore store.old) (S.state store.old).end head chain →
+    ensures exact { S.honest store.old → (chain : Chain) (passed left : List Entry) → IsChainAt (body_at S.PageStore store.old) (S.state store.old).end head chain →
         entries chain ≡ passed ++ left → from ≡ last_place passed → IfOk result (λ place. IsFirst left page.new.bytes place) }
-    ensures whole { S.honest store.old → (chain : Chain) (passed left : List Entry) → IsChainAt (said S.PageStore store.old) (S.state store.old).end head chain →
+    ensures whole { S.honest store.old → (chain : Chain) (passed left : List Entry) → IsChainAt (body_at S.PageStore store.old) (S.state store.old).end head chain →
         entries chain ≡ passed ++ left → from ≡ last_place passed → IsErrOf result Damaged → ⊥ }
 {
     let look = first_look(head, from);

@@ -13,9 +13,9 @@ use Rattle.std.specs.FinMap.{get}
 use Rattle.page_io.specs.Store.{Settled}
 use Rattle.page_io.specs.Meaning.{ImageStandsFor}
 use Rattle.page_io.specs.declared.store.PageStore.{Ghosts}
-use Rattle.dbm_file.specs.Answers.{MayBeLeft, StandsForSome, Survives, IsStep, Goes}
+use Rattle.dbm_file.specs.Answers.{MayBeLeft, StandsForSome, Survives, IsStep, IsSameDatabase}
 use Rattle.dbm_file.specs.Calls.{Lent}
-use Rattle.dbm_file.specs.Database.{store_of, meta_of, pages_of, error_of, IsAt}
+use Rattle.dbm_file.specs.Database.{store_of, meta_kept, page_state, error_of, IsAt}
 use Rattle.dbm_fault.specs.Faults.{fault_of}
 use Rattle.dbm_file.specs.Lending.{Lends}
 use Rattle.dbm_file.specs.declared.database.Database.{Database}
@@ -86,7 +86,7 @@ module _ {S : Type 0} (s : Ghosts S) where
         is_at = step.is_at;
         keeps = keeps;
         survives = λ usable.
-            weaker s.moment s.settled_since (store_of old) (store_of new) (StandsForSome (λ map. map ≡ before.state.map) (meta_of old).limit) (StandsForSome (MayBeLeft before step.after call) (meta_of old).limit) (step.survives usable)
+            weaker s.moment s.settled_since (store_of old) (store_of new) (StandsForSome (λ map. map ≡ before.state.map) (meta_kept old).limit) (StandsForSome (MayBeLeft before step.after call) (meta_kept old).limit) (step.survives usable)
             (λ x is. (is.0, left_is before step.after call is.0 reads keeps is.1, is.2));
       }
 
@@ -97,25 +97,25 @@ module _ {S : Type 0} (s : Ghosts S) where
     is_at = at;
     keeps = keeps_all h.state h.state refl;
     survives = λ usable.
-        started s.moment s.settled_since (store_of db) (StandsForSome (λ map. map ≡ h.state.map) (meta_of db).limit)
+        started s.moment s.settled_since (store_of db) (StandsForSome (λ map. map ≡ h.state.map) (meta_kept db).limit)
         (λ x left. (h.state.map, refl, at.rests usable x (now x left)));
   }
 
   -- some calls after others
-  module _ (old mid new : Database S s) (before : Handle) (first : Goes old mid) (second : Goes mid new) (earlier : Stays old mid before) (later : Stays mid new earlier.after) where
+  module _ (old mid new : Database S s) (before : Handle) (first : IsSameDatabase old mid) (second : IsSameDatabase mid new) (earlier : Stays old mid before) (later : Stays mid new earlier.after) where
     Kept : Settled → Type 0
-    Kept = StandsForSome (λ map. map ≡ before.state.map) (meta_of old).limit
+    Kept = StandsForSome (λ map. map ≡ before.state.map) (meta_kept old).limit
 
-    goes_on : (pages_of old).usable ≡ true → (pages_of mid).usable ≡ true → Survives old new (λ map. map ≡ before.state.map)
+    goes_on : (page_state old).usable ≡ true → (page_state mid).usable ≡ true → Survives old new (λ map. map ≡ before.state.map)
     goes_on was usable =
-        followed_by s.moment s.settled_since (store_of old) (store_of mid) (store_of new) (StandsForSome (λ map. map ≡ before.state.map) (meta_of old).limit) (StandsForSome (λ map. map ≡ earlier.after.state.map) (meta_of mid).limit)
+        followed_by s.moment s.settled_since (store_of old) (store_of mid) (store_of new) (StandsForSome (λ map. map ≡ before.state.map) (meta_kept old).limit) (StandsForSome (λ map. map ≡ earlier.after.state.map) (meta_kept mid).limit)
         (earlier.survives was) (later.survives usable)
         (λ x is. (is.0, is.1 ∙ earlier.keeps.map, subst (λ (n : ℕ). ImageStandsFor x is.0 n) first.limit is.2))
 
     -- a broken one makes no device call
-    stays_broken : (pages_of old).usable ≡ true → (pages_of mid).usable ≡ false → Survives old new (λ map. map ≡ before.state.map)
+    stays_broken : (page_state old).usable ≡ true → (page_state mid).usable ≡ false → Survives old new (λ map. map ≡ before.state.map)
     stays_broken was broken =
-        subst (λ (store : S). LeavesOnly s.moment s.settled_since (store_of old) store (StandsForSome (λ map. map ≡ before.state.map) (meta_of old).limit)) (sym (second.still broken)) (earlier.survives was)
+        subst (λ (store : S). LeavesOnly s.moment s.settled_since (store_of old) store (StandsForSome (λ map. map ≡ before.state.map) (meta_kept old).limit)) (sym (second.still broken)) (earlier.survives was)
 
     stays_on : Stays old new before
     stays_on = record {
@@ -127,7 +127,7 @@ module _ {S : Type 0} (s : Ghosts S) where
         writable = later.keeps.writable ∙ earlier.keeps.writable;
         usable = later.keeps.usable ∙ earlier.keeps.usable;
       };
-      survives = λ was. elim (pages_of mid).usable as (λ u. (pages_of mid).usable ≡ u → Survives old new (λ map. map ≡ before.state.map)) [
+      survives = λ was. elim (page_state mid).usable as (λ u. (page_state mid).usable ≡ u → Survives old new (λ map. map ≡ before.state.map)) [
         | true ↦ goes_on was
         | false ↦ stays_broken was
       ] refl;
@@ -215,7 +215,7 @@ module _ {S : Type 0} (s : Ghosts S) where
         more : (a b c : ℕ) → a ≤ b → MoreFaults b c → MoreFaults a c
         more a b c le rose = omega (arith, le, rose)
 
-        both : (result : Result U EngineFault) → OnOk result ((pages_of new).usable ≡ (pages_of mid).usable) → OnOk result ((pages_of new).usable ≡ (pages_of old).usable)
+        both : (result : Result U EngineFault) → OnOk result ((page_state new).usable ≡ (page_state mid).usable) → OnOk result ((page_state new).usable ≡ (page_state old).usable)
         both (Ok value) same = same ∙ earlier.usable
         both (Err fault) same = tt
 
@@ -226,7 +226,7 @@ module _ {S : Type 0} (s : Ghosts S) where
     goes = h.goes;
     device = λ is. cc;
     broken = λ is. cc;
-    usable = subst (λ (r : Result T EngineFault). OnOk r ((pages_of new).usable ≡ (pages_of old).usable)) is h.usable;
+    usable = subst (λ (r : Result T EngineFault). OnOk r ((page_state new).usable ≡ (page_state old).usable)) is h.usable;
     error = ⊎_elim (λ same. inl same) (λ refused. absurd (not_refused refused.0 refused.1)) h.error;
   }
     where
@@ -254,7 +254,7 @@ module _ {S : Type 0} (s : Ghosts S) where
     goes = h.goes;
     device = λ why. h.device (is ∙ ap Err (one_fault fault (Db Device) (sym told ∙ why)));
     broken = λ why. h.broken (is ∙ ap Err (one_fault fault (Db Broken) (sym told ∙ why)));
-    usable = subst (λ (r : Result U EngineFault). OnOk r ((pages_of new).usable ≡ (pages_of old).usable)) (sym told) tt;
+    usable = subst (λ (r : Result U EngineFault). OnOk r ((page_state new).usable ≡ (page_state old).usable)) (sym told) tt;
     error = ⊎_elim (λ same. inl same) (λ refused. inr (refused.0, told ∙ ap Err (same_fault fault (Db refused.0) (sym is ∙ refused.1)), refused.2)) h.error;
   }
     where

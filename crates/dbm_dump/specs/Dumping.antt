@@ -5,15 +5,15 @@ use Rattle.std.specs.BTreeSet.{BTreeSet}
 use Rattle.std.specs.Io.KnownBytes.{Appends}
 use Rattle.sect_dev.specs.Device.{MoreFaults}
 use Rattle.dbm_model.specs.Calls.{Call, Reply}
-use Rattle.dbm_text.specs.Dumps.{pair_line}
+use Rattle.dbm_text.specs.Dumps.{dump_line}
 use Rattle.dbm_text.specs.Lines.{with_line_feed}
 use Rattle.dbm_model.specs.Pairs.{Key, Pair}
 use Rattle.dbm_model.specs.States.{State, Handle, first_fault}
 use Rattle.dbm_text.specs.Words.{word_of}
 use Rattle.page_io.specs.declared.store.PageStore.{Ghosts}
-use Rattle.dbm_file.specs.Answers.{IsStep, Survives, Goes}
+use Rattle.dbm_file.specs.Answers.{IsStep, Survives, IsSameDatabase}
 use Rattle.dbm_file.specs.Calls.{Lent, lent_reply}
-use Rattle.dbm_file.specs.Database.{store_of, pages_of, error_of, IsAt}
+use Rattle.dbm_file.specs.Database.{store_of, page_state, error_of, IsAt}
 use Rattle.dbm_fault.specs.Faults.{fault_of}
 use Rattle.dbm_file.specs.declared.database.Database.{Database}
 use Rattle.dbm_fault.specs.declared.fault.Fault.{Fault}
@@ -33,15 +33,15 @@ pub record Stays {S : Type 0} {s : Ghosts S} (old new : Database S s) (before : 
   pub after : Handle
   pub is_at : IsAt new after
   pub keeps : KeepsMap before.state after.state
-  pub survives : (pages_of old).usable ≡ true → Survives old new (λ map. map ≡ before.state.map)
+  pub survives : (page_state old).usable ≡ true → Survives old new (λ map. map ≡ before.state.map)
 
 -- What any number of calls that read leave on any device, and on an honest one.
 pub record Reads {S T : Type 0} {s : Ghosts S} (old new : Database S s) (result : Result T EngineFault) : Type 0 where
   pub stays : s.honest (store_of old) → (h : Handle) → IsAt old h → Stays old new h
-  pub goes : Goes old new
+  pub goes : IsSameDatabase old new
   pub device : IsErrOf result (Db Device) → MoreFaults (s.faults (store_of old)) (s.faults (store_of new))
-  pub broken : IsErrOf result (Db Broken) → (pages_of old).usable ≡ false
-  pub usable : OnOk result ((pages_of new).usable ≡ (pages_of old).usable)
+  pub broken : IsErrOf result (Db Broken) → (page_state old).usable ≡ false
+  pub usable : OnOk result ((page_state new).usable ≡ (page_state old).usable)
   -- the first fault is kept, and that of a refused call is one
   pub error : (error_of new ≡ error_of old) ⊎ ((fault : Fault) × IsErrOf result (Db fault) × (error_of new ≡ first_fault (error_of old) (fault_of fault)))
 
@@ -70,7 +70,7 @@ abbrev pub CopiesStep : {S : Type 0} {s : Ghosts S} → Database S s → Databas
 CopiesStep old new start call none result = (lent : Lent) × IsCopied lent result × IsStep old new start call (lent_reply none lent)
 
 abbrev pub pair_lines : List Pair → List ℕ
-pair_lines pairs = flat_map pair_line pairs
+pair_lines pairs = flat_map dump_line pairs
 
 abbrev pub key_lines : List Key → List ℕ
 key_lines keys = flat_map (λ key. with_line_feed (word_of key)) keys

@@ -1,10 +1,10 @@
 // The engines of a dump and of a list.
-ghost use Rattle.std.specs.Prelude.{◌≡◌, ◌⊎◌, true, false, OnOk, IfErr, Err};
+ghost use Rattle.std.specs.Prelude.{◌≡◌, ◌⊎◌, true, false, OnOk, IfErr, Err, ◌∷◌, []};
+ghost use Rattle.dbm_fault.specs.Among.{IsErrAmong};
 ghost use Rattle.std.specs.List.{All};
 ghost use Rattle.std.specs.Io.KnownBytes.{Appends};
 ghost use Rattle.dbm_text.specs.Dumps.{dump_of, listing_of};
-ghost use Rattle.dbm_model.specs.States.{Handle};
-ghost use Rattle.dbm_file.specs.Database.{store_of, meta_of, pages_of, IsAt};
+ghost use Rattle.dbm_file.specs.Database.{meta_kept, page_state, AtEachHandle};
 ghost use Rattle.dbm_dump.specs.Dumping.{Reads, IsChance, bytes_of_keys, IsShort, WritesPairs, WritesKeys, pair_lines, key_lines};
 
 use crate::gather::{fetch_pairs, gather_keys};
@@ -25,17 +25,19 @@ pub fn dump_engine<S: PageStore, W: Write>(
     db: &mut Database<S>,
     writer: &mut W,
 ) -> Result<(), EngineFault>
-    ensures dump { S.honest (store_of db.old) → (h : Handle) → IsAt db.old h → h.state.usable ≡ true → OnOk result (Appends (W.contents writer.old) (W.contents writer.new) (dump_of h.state.map)) }
-    ensures whole { S.honest (store_of db.old) → (h : Handle) → IsAt db.old h → h.state.usable ≡ true → IfErr result (λ e. (e ≡ EngineFault.Write) ⊎ IsChance e) }
+    ensures dump { AtEachHandle db.old (λ h.
+        h.state.usable ≡ true → OnOk result (Appends (W.contents writer.old) (W.contents writer.new) (dump_of h.state.map))) }
+    ensures whole { AtEachHandle db.old (λ h.
+        h.state.usable ≡ true → IfErr result (λ e. (e ≡ EngineFault.Write) ⊎ IsChance e)) }
 
     // Whatever it answers, the map stays.
     ensures reads { Reads db.old db.new result }
 
     // On any device.
-    ensures lines { OnOk result (WritesPairs (meta_of db.old).pairs (W.contents writer.old) (W.contents writer.new)) }
-    ensures broken { (pages_of db.old).usable ≡ false → result ≡ Err (EngineFault.Db Fault.Broken) }
+    ensures lines { OnOk result (WritesPairs (meta_kept db.old).pairs (W.contents writer.old) (W.contents writer.new)) }
+    ensures broken { (page_state db.old).usable ≡ false → result ≡ Err (EngineFault.Db Fault.Broken) }
     ensures unwritten { IfErr result (λ e. (e ≡ EngineFault.Write) ⊎ (writer.new ≡ writer.old)) }
-    ensures only { IfErr result (λ e. (e ≡ EngineFault.Memory) ⊎ ((e ≡ EngineFault.Write) ⊎ ((e ≡ EngineFault.Db Fault.Broken) ⊎ ((e ≡ EngineFault.Db Fault.NoPass) ⊎ ((e ≡ EngineFault.Db Fault.Device) ⊎ (e ≡ EngineFault.Db Fault.Damaged)))))) }
+    ensures only { IsErrAmong result (EngineFault.Memory ∷ EngineFault.Write ∷ EngineFault.Db Fault.Broken ∷ EngineFault.Db Fault.NoPass ∷ EngineFault.Db Fault.Device ∷ EngineFault.Db Fault.Damaged ∷ []) }
 {
     let keys = gather_keys(alloc, db)?;
     let pairs = fetch_pairs(alloc, db, keys)?;
@@ -50,17 +52,19 @@ pub fn list_engine<S: PageStore, W: Write>(
     db: &mut Database<S>,
     writer: &mut W,
 ) -> Result<(), EngineFault>
-    ensures list { S.honest (store_of db.old) → (h : Handle) → IsAt db.old h → h.state.usable ≡ true → OnOk result (Appends (W.contents writer.old) (W.contents writer.new) (listing_of h.state.map)) }
-    ensures whole { S.honest (store_of db.old) → (h : Handle) → IsAt db.old h → h.state.usable ≡ true → IfErr result (λ e. (e ≡ EngineFault.Write) ⊎ IsChance e) }
+    ensures list { AtEachHandle db.old (λ h.
+        h.state.usable ≡ true → OnOk result (Appends (W.contents writer.old) (W.contents writer.new) (listing_of h.state.map))) }
+    ensures whole { AtEachHandle db.old (λ h.
+        h.state.usable ≡ true → IfErr result (λ e. (e ≡ EngineFault.Write) ⊎ IsChance e)) }
 
     // Whatever it answers, the map stays.
     ensures reads { Reads db.old db.new result }
 
     // On any device.
-    ensures lines { OnOk result (WritesKeys (meta_of db.old).pairs (W.contents writer.old) (W.contents writer.new)) }
-    ensures broken { (pages_of db.old).usable ≡ false → result ≡ Err (EngineFault.Db Fault.Broken) }
+    ensures lines { OnOk result (WritesKeys (meta_kept db.old).pairs (W.contents writer.old) (W.contents writer.new)) }
+    ensures broken { (page_state db.old).usable ≡ false → result ≡ Err (EngineFault.Db Fault.Broken) }
     ensures unwritten { IfErr result (λ e. (e ≡ EngineFault.Write) ⊎ (writer.new ≡ writer.old)) }
-    ensures only { IfErr result (λ e. (e ≡ EngineFault.Memory) ⊎ ((e ≡ EngineFault.Write) ⊎ ((e ≡ EngineFault.Db Fault.Broken) ⊎ ((e ≡ EngineFault.Db Fault.NoPass) ⊎ ((e ≡ EngineFault.Db Fault.Device) ⊎ (e ≡ EngineFault.Db Fault.Damaged)))))) }
+    ensures only { IsErrAmong result (EngineFault.Memory ∷ EngineFault.Write ∷ EngineFault.Db Fault.Broken ∷ EngineFault.Db Fault.NoPass ∷ EngineFault.Db Fault.Device ∷ EngineFault.Db Fault.Damaged ∷ []) }
 {
     let keys = gather_keys(alloc, db)?;
     write_keys(writer, &keys).map_err(|_| EngineFault::Write)

@@ -1,11 +1,11 @@
 // What a whole database has: its keys, and their contents.
-ghost use Rattle.std.specs.Prelude.{◌≡◌, ◌≤◌, ◌⊎◌, true, false, IfOk, IfErr, IfSome, MatchResult, Err, map};
+ghost use Rattle.std.specs.Prelude.{◌≡◌, ◌≤◌, true, false, IfOk, IfSome, MatchResult, Err, map, ◌∷◌, []};
+ghost use Rattle.dbm_fault.specs.Among.{IsErrAmong};
 ghost use Rattle.std.specs.BTreeSet.{btree_set_len};
 ghost use Rattle.std.specs.FinMap.{entries, keys as map_keys};
 ghost use Rattle.std.specs.List.{All};
 ghost use Rattle.dbm_model.specs.Calls.{Fetch, First, Next, NoRecord, End};
-ghost use Rattle.dbm_model.specs.States.{Handle};
-ghost use Rattle.dbm_file.specs.Database.{store_of, meta_of, pages_of, IsAt};
+ghost use Rattle.dbm_file.specs.Database.{meta_kept, page_state, AtEachHandle};
 ghost use Rattle.dbm_dump.specs.Dumping.{Reads, IsChance, bytes_of_keys, IsShort, IsCopied, CopiesStep};
 
 use dbm_fault::EngineFault;
@@ -20,12 +20,13 @@ pub fn gather_keys<S: PageStore>(
     alloc: Global,
     db: &mut Database<S>,
 ) -> Result<BTreeSet<Vec<u8>>, EngineFault>
-    ensures keys { S.honest (store_of db.old) → (h : Handle) → IsAt db.old h → h.state.usable ≡ true → MatchResult result (λ keys. bytes_of_keys keys ≡ map_keys h.state.map) IsChance }
-    ensures bound { IfOk result (λ keys. btree_set_len keys ≤ (meta_of db.old).pairs) }
+    ensures keys { AtEachHandle db.old (λ h.
+        h.state.usable ≡ true → MatchResult result (λ keys. bytes_of_keys keys ≡ map_keys h.state.map) IsChance) }
+    ensures bound { IfOk result (λ keys. btree_set_len keys ≤ (meta_kept db.old).pairs) }
     ensures short { IfOk result (λ keys. All (λ key. IsShort key.items) keys.keys) }
     ensures reads { Reads db.old db.new result }
-    ensures broken { (pages_of db.old).usable ≡ false → result ≡ Err (EngineFault.Db Fault.Broken) }
-    ensures only { IfErr result (λ e. (e ≡ EngineFault.Memory) ⊎ ((e ≡ EngineFault.Db Fault.Broken) ⊎ ((e ≡ EngineFault.Db Fault.NoPass) ⊎ ((e ≡ EngineFault.Db Fault.Device) ⊎ (e ≡ EngineFault.Db Fault.Damaged))))) }
+    ensures broken { (page_state db.old).usable ≡ false → result ≡ Err (EngineFault.Db Fault.Broken) }
+    ensures only { IsErrAmong result (EngineFault.Memory ∷ EngineFault.Db Fault.Broken ∷ EngineFault.Db Fault.NoPass ∷ EngineFault.Db Fault.Device ∷ EngineFault.Db Fault.Damaged ∷ []) }
 {
     let most = db.stat().pairs;
     let mut keys = BTreeSet::new(alloc);
@@ -50,11 +51,12 @@ pub fn fetch_pairs<S: PageStore>(
     keys: BTreeSet<Vec<u8>>,
 ) -> Result<Vec<(Octets, Octets)>, EngineFault>
     requires { All (λ key. IsShort key.items) keys.keys }
-    ensures pairs { S.honest (store_of db.old) → (h : Handle) → IsAt db.old h → h.state.usable ≡ true → bytes_of_keys keys ≡ map_keys h.state.map → MatchResult result (λ pairs. pairs.items ≡ entries h.state.map) IsChance }
+    ensures pairs { AtEachHandle db.old (λ h.
+        h.state.usable ≡ true → bytes_of_keys keys ≡ map_keys h.state.map → MatchResult result (λ pairs. pairs.items ≡ entries h.state.map) IsChance) }
     ensures keys { IfOk result (λ pairs. map (λ pair. pair.0) pairs.items ≡ bytes_of_keys keys) }
     ensures short { IfOk result (λ pairs. All (λ pair. IsShort pair.0 × IsShort pair.1) pairs.items) }
     ensures reads { Reads db.old db.new result }
-    ensures only { IfErr result (λ e. (e ≡ EngineFault.Memory) ⊎ ((e ≡ EngineFault.Db Fault.Broken) ⊎ ((e ≡ EngineFault.Db Fault.Device) ⊎ (e ≡ EngineFault.Db Fault.Damaged)))) }
+    ensures only { IsErrAmong result (EngineFault.Memory ∷ EngineFault.Db Fault.Broken ∷ EngineFault.Db Fault.Device ∷ EngineFault.Db Fault.Damaged ∷ []) }
 {
     let mut pairs = Vec::new(alloc);
     for key in keys {
@@ -72,11 +74,11 @@ fn copy_first<S: PageStore>(
     alloc: Global,
     db: &mut Database<S>,
 ) -> Result<Option<Vec<u8>>, EngineFault>
-    ensures step { S.honest (store_of db.old) → (h : Handle) → IsAt db.old h → CopiesStep db.old db.new h First End result }
+    ensures step { AtEachHandle db.old (λ h. CopiesStep db.old db.new h First End result) }
     ensures short { IfOk result (λ r. IfSome r (λ key. IsShort key.items)) }
     ensures reads { Reads db.old db.new result }
-    ensures broken { (pages_of db.old).usable ≡ false → result ≡ Err (EngineFault.Db Fault.Broken) }
-    ensures only { IfErr result (λ e. (e ≡ EngineFault.Memory) ⊎ ((e ≡ EngineFault.Db Fault.Broken) ⊎ ((e ≡ EngineFault.Db Fault.Device) ⊎ (e ≡ EngineFault.Db Fault.Damaged)))) }
+    ensures broken { (page_state db.old).usable ≡ false → result ≡ Err (EngineFault.Db Fault.Broken) }
+    ensures only { IsErrAmong result (EngineFault.Memory ∷ EngineFault.Db Fault.Broken ∷ EngineFault.Db Fault.Device ∷ EngineFault.Db Fault.Damaged ∷ []) }
 {
     copied(alloc, db.firstkey())
 }
@@ -86,10 +88,10 @@ fn copy_next<S: PageStore>(
     alloc: Global,
     db: &mut Database<S>,
 ) -> Result<Option<Vec<u8>>, EngineFault>
-    ensures step { S.honest (store_of db.old) → (h : Handle) → IsAt db.old h → CopiesStep db.old db.new h Next End result }
+    ensures step { AtEachHandle db.old (λ h. CopiesStep db.old db.new h Next End result) }
     ensures short { IfOk result (λ r. IfSome r (λ key. IsShort key.items)) }
     ensures reads { Reads db.old db.new result }
-    ensures only { IfErr result (λ e. (e ≡ EngineFault.Memory) ⊎ ((e ≡ EngineFault.Db Fault.Broken) ⊎ ((e ≡ EngineFault.Db Fault.NoPass) ⊎ ((e ≡ EngineFault.Db Fault.Device) ⊎ (e ≡ EngineFault.Db Fault.Damaged))))) }
+    ensures only { IsErrAmong result (EngineFault.Memory ∷ EngineFault.Db Fault.Broken ∷ EngineFault.Db Fault.NoPass ∷ EngineFault.Db Fault.Device ∷ EngineFault.Db Fault.Damaged ∷ []) }
 {
     copied(alloc, db.nextkey())
 }
@@ -100,10 +102,10 @@ fn copy_content<S: PageStore>(
     db: &mut Database<S>,
     key: &[u8],
 ) -> Result<Option<Vec<u8>>, EngineFault>
-    ensures step { S.honest (store_of db.old) → (h : Handle) → IsAt db.old h → CopiesStep db.old db.new h (Fetch key.now) NoRecord result }
+    ensures step { AtEachHandle db.old (λ h. CopiesStep db.old db.new h (Fetch key.now) NoRecord result) }
     ensures short { IfOk result (λ r. IfSome r (λ content. IsShort content.items)) }
     ensures reads { Reads db.old db.new result }
-    ensures only { IfErr result (λ e. (e ≡ EngineFault.Memory) ⊎ ((e ≡ EngineFault.Db Fault.Broken) ⊎ ((e ≡ EngineFault.Db Fault.Device) ⊎ (e ≡ EngineFault.Db Fault.Damaged)))) }
+    ensures only { IsErrAmong result (EngineFault.Memory ∷ EngineFault.Db Fault.Broken ∷ EngineFault.Db Fault.Device ∷ EngineFault.Db Fault.Damaged ∷ []) }
 {
     copied(alloc, db.fetch(key))
 }

@@ -23,10 +23,10 @@ fault_of Missing = model.Missing
 fault_of Exists = model.Exists
 
 -- as which fault a store's is told
-abbrev pub told : PageFault → Fault
-told page.Memory = Memory
-told page.Device = Device
-told page.Broken = Broken
-told page.ReadOnly = ReadOnly
-told page.NoRoom = NoRoom
-told page.Damaged = Damaged
+abbrev pub fault_from : PageFault → Fault
+fault_from page.Memory = Memory
+fault_from page.Device = Device
+fault_from page.Broken = Broken
+fault_from page.ReadOnly = ReadOnly
+fault_from page.NoRoom = NoRoom
+fault_from page.Damaged = Damaged

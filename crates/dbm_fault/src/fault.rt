@@ -83,9 +83,9 @@ impl Fault {
 }
 
 impl From<PageFault> for Fault {
-    ghost use Rattle.dbm_fault.specs.Faults.{told};
+    ghost use Rattle.dbm_fault.specs.Faults.{fault_from};
 
-    ghost from_gives = { λ page fault. fault ≡ told page };
+    ghost from_gives = { λ page fault. fault ≡ fault_from page };
 
     fn from(fault: PageFault) -> Fault {
         match fault {

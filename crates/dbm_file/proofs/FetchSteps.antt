@@ -15,13 +15,13 @@ use Rattle.page_io.specs.declared.store.PageFault.{PageFault}
 use Rattle.page_io.specs.declared.store.PageFault.TheVariants as page
 use Rattle.chain_walks.specs.Answers.{IsWalkAnswer}
 use Rattle.chain_walks.specs.declared.place.Place.{Place}
-use Rattle.slot_page.specs.Contents.{pairs_of}
+use Rattle.slot_page.specs.Contents.{page_pairs}
 use Rattle.dbm_file.specs.Calls.{Lent, lent_reply}
-use Rattle.dbm_fault.specs.Faults.{told}
+use Rattle.dbm_fault.specs.Faults.{fault_from}
 use Rattle.page_commit.specs.Committing.{Holds}
 use Rattle.linear_hash.specs.Looking.{IsHeld, IsFound}
 use Rattle.dbm_file.specs.Lending.{Lends}
-use Rattle.dbm_file.specs.Database.{store_of, meta_of, pages_of, handle_of}
+use Rattle.dbm_file.specs.Database.{store_of, meta_kept, page_state, handle_of}
 use Rattle.dbm_file.specs.Trying.{with_fault, IsRead}
 use Rattle.dbm_fault.specs.declared.fault.Fault.{Fault}
 use Rattle.dbm_fault.specs.declared.fault.Fault.TheVariants.{Device, Broken, Damaged}
@@ -36,20 +36,20 @@ small_at (pair ∷ pairs) zero d lt fits = omega (arith, fits)
 small_at (pair ∷ pairs) (suc i) d lt fits = small_at pairs i d (omega (arith, lt)) (omega (arith, fits))
 
 -- a content that was found in a page is short
-pub short_content : (key content found : List ℕ) (bytes : List ℕ) (place : Option Place) (at : Place) → place ≡ Some at → IfSome place (λ p. IsHeld key bytes p.slot) → HoldsAt (λ pair. pair ≡ (found, content)) (pairs_of bytes) at.slot
+pub short_content : (key content found : List ℕ) (bytes : List ℕ) (place : Option Place) (at : Place) → place ≡ Some at → IfSome place (λ p. IsHeld key bytes p.slot) → HoldsAt (λ pair. pair ≡ (found, content)) (page_pairs bytes) at.slot
     → length content ≤ 2026
 short_content key content found bytes place at is held read =
     let here = subst (λ (o : Option Place). IfSome o (λ p. IsHeld key bytes p.slot)) is held in
-    omega (arith, small_at (pairs_of bytes) at.slot (found, content) here.has.0 here.page.sound.fits, ap (λ (pair : Pair). length pair.1) (read (found, content)))
+    omega (arith, small_at (page_pairs bytes) at.slot (found, content) here.has.0 here.page.sound.fits, ap (λ (pair : Pair). length pair.1) (read (found, content)))
 
 -- it is that of the key
 pub same_content : (key : Key) (old : Option (List ℕ)) (bytes : List ℕ) (place : Option Place) (at : Place) (pair : Bor (List ℕ) × Bor (List ℕ)) → place ≡ Some at → IsFound key old bytes place
-    → HoldsAt (λ p. p ≡ (pair.0.now, pair.1.now)) (pairs_of bytes) at.slot → option_map (λ (b : Bor (List ℕ)). b.now) (Some pair.1) ≡ old
+    → HoldsAt (λ p. p ≡ (pair.0.now, pair.1.now)) (page_pairs bytes) at.slot → option_map (λ (b : Bor (List ℕ)). b.now) (Some pair.1) ≡ old
 same_content key None bytes place at pair some is read = absurd (let e = sym some ∙ is in cc)
 same_content key (Some content) bytes None at pair some is read = absurd is
 same_content key (Some content) bytes (Some found) at pair some is read =
     let same : at ≡ found = let e = some in cc in
-    ap Some (ap (λ (p : Pair). p.1) (sym (read (key, content)) ∙ ap (λ (p : Place). slice_index_or (pairs_of bytes) p.slot (key, content)) same ∙ is (key, content)))
+    ap Some (ap (λ (p : Pair). p.1) (sym (read (key, content)) ∙ ap (λ (p : Place). slice_index_or (page_pairs bytes) p.slot (key, content)) same ∙ is (key, content)))
 
 -- and where no place was found, it has none
 pub no_content : (key : Key) (old : Option (List ℕ)) (bytes : List ℕ) (place : Option Place) → place ≡ None → IsFound key old bytes place → None ≡ old
@@ -66,8 +66,8 @@ abbrev IsFetched : {S : Type 0} {s : Ghosts S} → Database S s → Key → Lent
 IsFetched old key r new = Lends (model.Fetch key) (lent_reply model.NoRecord) old r new
 
 -- a fetch that was answered
-pub fetched_well : {S : Type 0} (s : Ghosts S) (old new : Database S s) (key : Key) (found : Option (Bor (List ℕ))) → IsRead old new → (pages_of old).usable ≡ true
-    → (s.honest (store_of old) → (map : Contents) → Holds s (store_of old) (meta_of old) map → option_map (λ (b : Bor (List ℕ)). b.now) found ≡ get map key)
+pub fetched_well : {S : Type 0} (s : Ghosts S) (old new : Database S s) (key : Key) (found : Option (Bor (List ℕ))) → IsRead old new → (page_state old).usable ≡ true
+    → (s.honest (store_of old) → (map : Contents) → Holds s (store_of old) (meta_kept old) map → option_map (λ (b : Bor (List ℕ)). b.now) found ≡ get map key)
     → IsFetched old key (Ok found) new
 fetched_well s old new key found read usable is = record {
   step = λ honest h at.
@@ -79,10 +79,10 @@ fetched_well s old new key found read usable is = record {
 }
 
 -- a fetch that failed, and whose fault was then kept as the first one
-module _ {S : Type 0} (s : Ghosts S) (db : Database S s) (key : Key) (idle : (pages_of db).staged ≡ []) (access : (pages_of db).writable ≡ db.writable) (valid : IsMeta (meta_of db))
-    (error : Option Fault) (fault : Fault) (flag : error ≡ cond (is_some db.error) db.error (Some fault)) (r : Lent) (is : r ≡ Err fault) (old : Database S s) (e : PageFault) (read : IsRead old db) (told_so : fault ≡ told e)
-    (usable : (pages_of old).usable ≡ true) (answer : IsWalkAnswer {T = Option Place} (pages_of old) (Err e)) (cause : HasDeviceCause {T = Option Place} (s.faults (store_of old)) (s.faults (store_of db)) (Err e)) where
-  pub fetch_failed : (s.honest (store_of old) → (map : Contents) → Holds s (store_of old) (meta_of old) map → IsErrOf {T = Option Place} (Err e) page.Damaged → ⊥)
+module _ {S : Type 0} (s : Ghosts S) (db : Database S s) (key : Key) (idle : (page_state db).staged ≡ []) (access : (page_state db).writable ≡ db.writable) (valid : IsMeta (meta_kept db))
+    (error : Option Fault) (fault : Fault) (flag : error ≡ cond (is_some db.error) db.error (Some fault)) (r : Lent) (is : r ≡ Err fault) (old : Database S s) (e : PageFault) (read : IsRead old db) (told_so : fault ≡ fault_from e)
+    (usable : (page_state old).usable ≡ true) (answer : IsWalkAnswer {T = Option Place} (page_state old) (Err e)) (cause : HasDeviceCause {T = Option Place} (s.faults (store_of old)) (s.faults (store_of db)) (Err e)) where
+  pub fetch_failed : (s.honest (store_of old) → (map : Contents) → Holds s (store_of old) (meta_kept old) map → IsErrOf {T = Option Place} (Err e) page.Damaged → ⊥)
       → IsFetched old key r (kept_error s db idle access valid error)
   fetch_failed whole = flagged_lends s db (model.Fetch key) model.NoRecord idle access valid error fault flag r is old
       (subst (λ (f : Fault). IsFetched old key (Err f) (with_fault db f)) (sym told_so) record {
@@ -92,14 +92,14 @@ module _ {S : Type 0} (s : Ghosts S) (db : Database S s) (key : Key) (idle : (pa
             let falls = fetch_rule (handle_of old map pass).state key (get map key) usable refl in
             from_own at (walk_failed_step s old db map pass (model.Fetch key) read honest (at.map usable) (at.pass usable) (at.rests usable) (Option Place) e usable answer cause (whole honest map (at.map usable))
             (λ reply after fails. subst (λ (rule : Case). Suffers (handle_of old map pass) rule reply after) (sym falls) (fetch_fails (handle_of old map pass) reply after fails (get map key))));
-        keeps = refused_keeps s old db read usable (Option (Bor (List ℕ))) (told e) (walk_more s old db e answer cause) (walk_sound s old e usable answer);
+        keeps = refused_keeps s old db read usable (Option (Bor (List ℕ))) (fault_from e) (walk_more s old db e answer cause) (walk_sound s old e usable answer);
       })
 
 -- what a refused fetch answers
 pub only_these : (r : Lent) (fault : Fault) → r ≡ Err fault → (fault ≡ Broken) ⊎ ((fault ≡ Device) ⊎ (fault ≡ Damaged)) → IfErr r (λ e. (e ≡ Broken) ⊎ ((e ≡ Device) ⊎ (e ≡ Damaged)))
 only_these r fault is one = subst (λ (x : Lent). IfErr x (λ e. (e ≡ Broken) ⊎ ((e ≡ Device) ⊎ (e ≡ Damaged)))) (sym is) one
 
-pub walk_faults : (e : PageFault) (fault : Fault) → fault ≡ told e → (e ≡ page.Broken) ⊎ ((e ≡ page.Damaged) ⊎ (e ≡ page.Device)) → (fault ≡ Broken) ⊎ ((fault ≡ Device) ⊎ (fault ≡ Damaged))
-walk_faults e fault told_so (inl is) = inl (told_so ∙ ap told is)
-walk_faults e fault told_so (inr (inl is)) = inr (inr (told_so ∙ ap told is))
-walk_faults e fault told_so (inr (inr is)) = inr (inl (told_so ∙ ap told is))
+pub walk_faults : (e : PageFault) (fault : Fault) → fault ≡ fault_from e → (e ≡ page.Broken) ⊎ ((e ≡ page.Damaged) ⊎ (e ≡ page.Device)) → (fault ≡ Broken) ⊎ ((fault ≡ Device) ⊎ (fault ≡ Damaged))
+walk_faults e fault told_so (inl is) = inl (told_so ∙ ap fault_from is)
+walk_faults e fault told_so (inr (inl is)) = inr (inr (told_so ∙ ap fault_from is))
+walk_faults e fault told_so (inr (inr is)) = inr (inl (told_so ∙ ap fault_from is))

@@ -8,7 +8,7 @@ use Rattle.page_model.specs.Valid.{IsMeta}
 use Rattle.page_io.specs.declared.store.PageStore.{Ghosts}
 use Rattle.dbm_file.specs.Answers.{IsStep}
 use Rattle.dbm_file.specs.Calls.{Lent, lent_reply}
-use Rattle.dbm_file.specs.Database.{meta_of, pages_of, handle_of}
+use Rattle.dbm_file.specs.Database.{meta_kept, page_state, handle_of}
 use Rattle.dbm_file.specs.Lending.{Lends}
 use Rattle.dbm_file.specs.Trying.{with_fault}
 use Rattle.dbm_fault.specs.declared.fault.Fault.{Fault}
@@ -17,11 +17,11 @@ use Rattle.dbm_file.specs.declared.database.Database.{Database}
 use Rattle.dbm_file.proofs.ReadSteps.{from_own, broken_step, broken_keeps}
 
 -- a database with another error
-abbrev pub kept_error : {S : Type 0} (s : Ghosts S) (db : Database S s) → (pages_of db).staged ≡ [] → (pages_of db).writable ≡ db.writable → IsMeta (meta_of db) → Option Fault → Database S s
+abbrev pub kept_error : {S : Type 0} (s : Ghosts S) (db : Database S s) → (page_state db).staged ≡ [] → (page_state db).writable ≡ db.writable → IsMeta (meta_kept db) → Option Fault → Database S s
 kept_error s db idle access valid e = record db { error = e; idle = idle; told = access; valid = valid }
 
 -- the step of a call whose fault was then kept as the first one
-pub flagged_step : {S : Type 0} (s : Ghosts S) (old db : Database S s) (h : Handle) (idle : (pages_of db).staged ≡ []) (access : (pages_of db).writable ≡ db.writable) (valid : IsMeta (meta_of db)) (call : model.Call) (error : Option Fault) (fault : Fault)
+pub flagged_step : {S : Type 0} (s : Ghosts S) (old db : Database S s) (h : Handle) (idle : (page_state db).staged ≡ []) (access : (page_state db).writable ≡ db.writable) (valid : IsMeta (meta_kept db)) (call : model.Call) (error : Option Fault) (fault : Fault)
     → error ≡ cond (is_some db.error) db.error (Some fault) → (reply : model.Reply) → IsStep old (with_fault db fault) h call reply → IsStep old (kept_error s db idle access valid error) h call reply
 flagged_step s old db h idle access valid call error fault flag reply step = subst (λ (e : Option Fault). IsStep old (kept_error s db idle access valid e) h call reply) (sym flag) record {
   after = step.after;
@@ -31,7 +31,7 @@ flagged_step s old db h idle access valid call error fault flag reply step = sub
 }
 
 -- a call that was refused, and whose fault was then kept as the first one
-module _ {S : Type 0} (s : Ghosts S) (db : Database S s) (call : model.Call) (none : model.Reply) (idle : (pages_of db).staged ≡ []) (access : (pages_of db).writable ≡ db.writable) (valid : IsMeta (meta_of db))
+module _ {S : Type 0} (s : Ghosts S) (db : Database S s) (call : model.Call) (none : model.Reply) (idle : (page_state db).staged ≡ []) (access : (page_state db).writable ≡ db.writable) (valid : IsMeta (meta_kept db))
     (error : Option Fault) (fault : Fault) (flag : error ≡ cond (is_some db.error) db.error (Some fault)) (r : Lent) (is : r ≡ Err fault) where
   abbrev new : Option Fault → Database S s
   new e = kept_error s db idle access valid e
@@ -61,7 +61,7 @@ module _ {S : Type 0} (s : Ghosts S) (db : Database S s) (call : model.Call) (no
       })
 
   -- the database was broken
-  pub lends_broken : fault ≡ Broken → (pages_of db).usable ≡ false → ((h : Handle) → h.state.usable ≡ false → case_of h.state call ≡ Refuses model.Broken) → Lends call (lent_reply none) db r (new error)
+  pub lends_broken : fault ≡ Broken → (page_state db).usable ≡ false → ((h : Handle) → h.state.usable ≡ false → case_of h.state call ≡ Refuses model.Broken) → Lends call (lent_reply none) db r (new error)
   lends_broken told_so broken rule = flagged_lends db (subst (λ (f : Fault). Lends call (lent_reply none) db (Err f) (with_fault db f)) (sym told_so) record {
     step = λ honest h at. from_own at (broken_step s db h.state.map h.state.pass call broken (rule (handle_of db h.state.map h.state.pass) broken));
     keeps = broken_keeps (Option (Bor (List ℕ))) s db broken;

@@ -3,14 +3,14 @@ use Rattle.std.proofs.Common.{◌≡◌, ℕ, List, [], Bool, true, false, cond,
 use Rattle.std.specs.FinMap.{empty, len}
 use Rattle.dbm_model.specs.Pairs.{Contents}
 use Rattle.page_model.specs.Reading.{body_of}
-use Rattle.page_model.specs.Sheets as sheets
-use Rattle.page_model.proofs.GoodSheets.{sheets_valid}
+use Rattle.page_model.specs.PageBodies as page_bodies
+use Rattle.page_model.proofs.GoodBodies.{bodies_valid}
 use Rattle.dbm_model.specs.States.{Handle}
 use Rattle.page_io.specs.Store.{Pages, Settled, page_of, overlaid}
 use Rattle.page_io.specs.Meaning.{FileStandsFor, ImageStandsFor}
 use Rattle.page_io.specs.declared.store.PageStore as store
-use Rattle.dbm_file.specs.Database.{store_of, meta_of, HoldsMap, Rests, handle_of, IsAt}
-use Rattle.dbm_file.specs.Opened.{IsFresh, IsOpenedAt}
+use Rattle.dbm_file.specs.Database.{store_of, meta_kept, HoldsMap, StandsAfterStop, handle_of, IsAt}
+use Rattle.dbm_file.specs.Opened.{IsNewlyOpened, IsOpenedAt}
 use Rattle.file_opening.specs.Opening.{is_exclusive, SaysMeta}
 use Rattle.file_opening.specs.declared.open_how.OpenHow.{OpenHow}
 use Rattle.dbm_file.specs.Passing.{IsPass}
@@ -20,19 +20,19 @@ use Rattle.dbm_file.proofs.ReadSteps.{at_own, same_parts}
 use Rattle.linear_hash.proofs.Tables.{counted}
 
 -- a database that was just opened is at a fresh handle
-pub opened_at : {S : Type 0} {s : store.Ghosts S} (writable : Bool) (pages : ℕ) (db : Database S s) (map : Contents) (limit : ℕ) → HoldsMap db map → Rests db map → (meta_of db).limit ≡ limit → IsFresh writable pages db
+pub opened_at : {S : Type 0} {s : store.Ghosts S} (writable : Bool) (pages : ℕ) (db : Database S s) (map : Contents) (limit : ℕ) → HoldsMap db map → StandsAfterStop db map → (meta_kept db).limit ≡ limit → IsNewlyOpened writable pages db
     → IsOpenedAt writable db map limit
 opened_at {S} {s} writable pages db map limit held rests limit_is fresh = record {
   handle = handle_of db map None;
-  is_at = at_own db map None held rests (λ usable. subst (λ (c : Option Cursor). IsPass (s.committed (store_of db)) (meta_of db) c None) (sym fresh.no_pass) tt);
+  is_at = at_own db map None held rests (λ usable. subst (λ (c : Option Cursor). IsPass (s.committed (store_of db)) (meta_kept db) c None) (sym fresh.no_pass) tt);
   is_fresh = same_parts map None _ _ _ _ _ _ _ _ limit_is fresh.no_error fresh.writable fresh.usable;
 }
 
 -- a usable one holds a map that its file stands for, and its meta page counts the pairs
-pub counts_pairs : {S : Type 0} (s : store.Ghosts S) (db : Database S s) (h : Handle) → IsAt db h → h.state.usable ≡ true → ((meta_of db).pairs ≡ len h.state.map) × ((meta_of db).limit ≡ h.state.limit)
+pub counts_pairs : {S : Type 0} (s : store.Ghosts S) (db : Database S s) (h : Handle) → IsAt db h → h.state.usable ≡ true → ((meta_kept db).pairs ≡ len h.state.map) × ((meta_kept db).limit ≡ h.state.limit)
 counts_pairs s db h at usable =
     let is_usable = sym (ap (λ (x : Handle). x.state.usable) at.shows) ∙ usable in
-    (sym (counted s (store_of db) (meta_of db) h.state.map (at.map is_usable)), sym (ap (λ (x : Handle). x.state.limit) at.shows))
+    (sym (counted s (store_of db) (meta_kept db) h.state.map (at.map is_usable)), sym (ap (λ (x : Handle). x.state.limit) at.shows))
 
 -- every image that is left of it stands for the map
 pub stands_for : {S : Type 0} (s : store.Ghosts S) (db : Database S s) (h : Handle) (y : Settled) → IsAt db h → h.state.usable ≡ true → s.settles_to (store_of db) y → ImageStandsFor y h.state.map h.state.limit

@@ -19,13 +19,13 @@ use Rattle.page_io.specs.declared.page.Page.{Page}
 use Rattle.page_io.specs.declared.store.PageStore.{Ghosts}
 use Rattle.page_io.specs.declared.store.PageFault.{PageFault}
 use Rattle.page_io.specs.declared.store.PageFault.TheVariants as page
-use Rattle.seg_table.specs.MetaPages.{says}
+use Rattle.seg_table.specs.MetaPages.{model_meta}
 use Rattle.chain_walks.specs.Answers.{IsWalkAnswer}
-use Rattle.dbm_fault.specs.Faults.{fault_of, told}
+use Rattle.dbm_fault.specs.Faults.{fault_of, fault_from}
 use Rattle.page_commit.specs.Committing.{Holds}
-use Rattle.dbm_file.specs.Database.{store_of, meta_of, pages_of, cursor_of, HoldsMap, HoldsPass, Rests, handle_of, IsAt}
+use Rattle.dbm_file.specs.Database.{store_of, meta_kept, page_state, cursor_of, HoldsMap, HoldsPass, StandsAfterStop, handle_of, IsAt}
 use Rattle.dbm_file.specs.Passing.{IsPass}
-use Rattle.dbm_file.specs.Answers.{MayBeLeft, StandsForSome, Survives, IsStep, Goes, Keeps}
+use Rattle.dbm_file.specs.Answers.{MayBeLeft, StandsForSome, Survives, IsStep, IsSameDatabase, IsCallEnded}
 use Rattle.chain_walks.proofs.ReadPages.{reads_none}
 use Rattle.dbm_file.specs.Trying.{with_fault, IsRead}
 use Rattle.dbm_fault.specs.declared.fault.Fault.{Fault}
@@ -48,7 +48,7 @@ same_parts map pass limit limit' error error' writable writable' usable usable' 
     ∙ ap (λ (b : Bool). state_with map pass limit' error' b usable) w ∙ ap (state_with map pass limit' error' writable') u
 
 -- a database at its own map and pass
-pub at_own : {S : Type 0} {s : Ghosts S} (db : Database S s) (map : Contents) (pass : Option Keys) → HoldsMap db map → Rests db map → HoldsPass db pass → IsAt db (handle_of db map pass)
+pub at_own : {S : Type 0} {s : Ghosts S} (db : Database S s) (map : Contents) (pass : Option Keys) → HoldsMap db map → StandsAfterStop db map → HoldsPass db pass → IsAt db (handle_of db map pass)
 at_own db map pass held rests going = record { shows = refl; map = held; rests = rests; pass = going }
 
 -- a step from there is one from the handle that it is at
@@ -69,8 +69,8 @@ abbrev pub after_reads : {S : Type 0} (s : Ghosts S) (db : Database S s) (read :
 after_reads s db read page reads = record db {
   store = read;
   page = page;
-  idle = ap (λ (st : store.State). st.staged) reads.same ∙ db.idle;
-  told = ap (λ (st : store.State). st.writable) reads.same ∙ db.told;
+  idle = ap (λ (st : store.StoreState). st.staged) reads.same ∙ db.idle;
+  told = ap (λ (st : store.StoreState). st.writable) reads.same ∙ db.told;
 }
 
 -- a store that isn't broken is usable
@@ -80,55 +80,55 @@ not_broken test false is told = let broken = is.1 refl in cc
 
 -- what a read leaves
 module _ {S : Type 0} (s : Ghosts S) (old new : Database S s) (read : IsRead old new) where
-  pub still_meta : meta_of new ≡ meta_of old
-  still_meta = ap says read.meta_is
+  pub still_meta : meta_kept new ≡ meta_kept old
+  still_meta = ap model_meta read.meta_is
 
-  pub still_limit : (meta_of new).limit ≡ (meta_of old).limit
+  pub still_limit : (meta_kept new).limit ≡ (meta_kept old).limit
   still_limit = ap (λ (m : Meta). m.limit) still_meta
 
-  pub still_usable : (pages_of new).usable ≡ (pages_of old).usable
-  still_usable = ap (λ (st : store.State). st.usable) read.reads.same
+  pub still_usable : (page_state new).usable ≡ (page_state old).usable
+  still_usable = ap (λ (st : store.StoreState). st.usable) read.reads.same
 
-  pub still_writable : (pages_of new).writable ≡ (pages_of old).writable
-  still_writable = ap (λ (st : store.State). st.writable) read.reads.same
+  pub still_writable : (page_state new).writable ≡ (page_state old).writable
+  still_writable = ap (λ (st : store.StoreState). st.writable) read.reads.same
 
 module _ {S : Type 0} (s : Ghosts S) (old new : Database S s) (map : Contents) (pass : Option Keys) where
   -- the state of a database with this fault
-  pub flagged_is : (fault : Fault) → (meta_of new).limit ≡ (meta_of old).limit → new.error ≡ old.error → (pages_of new).writable ≡ (pages_of old).writable → (pages_of new).usable ≡ (pages_of old).usable
+  pub flagged_is : (fault : Fault) → (meta_kept new).limit ≡ (meta_kept old).limit → new.error ≡ old.error → (page_state new).writable ≡ (page_state old).writable → (page_state new).usable ≡ (page_state old).usable
       → (handle_of (with_fault new fault) map pass).state ≡ flagged (fault_of fault) (handle_of old map pass).state
   flagged_is fault limit error writable usable =
       same_parts map pass _ _ _ _ _ _ _ _ limit (ap (λ (e : Option Fault). option_map fault_of (cond (is_some e) e (Some fault))) error ∙ kept_first old.error fault) writable usable
 
-  pub same_state : (meta_of new).limit ≡ (meta_of old).limit → new.error ≡ old.error → (pages_of new).writable ≡ (pages_of old).writable → (pages_of new).usable ≡ (pages_of old).usable → (handle_of new map pass).state ≡ (handle_of old map pass).state
+  pub same_state : (meta_kept new).limit ≡ (meta_kept old).limit → new.error ≡ old.error → (page_state new).writable ≡ (page_state old).writable → (page_state new).usable ≡ (page_state old).usable → (handle_of new map pass).state ≡ (handle_of old map pass).state
   same_state limit error writable usable = same_parts map pass _ _ _ _ _ _ _ _ limit (ap (λ (e : Option Fault). option_map fault_of e) error) writable usable
 
 module _ {S : Type 0} (s : Ghosts S) (old new : Database S s) (map : Contents) where
   module _ (read : IsRead old new) where
     -- the committed pages and the meta page stay
-    pub still_holds : s.honest (store_of old) → Holds s (store_of old) (meta_of old) map → Holds s (store_of new) (meta_of new) map
+    pub still_holds : s.honest (store_of old) → Holds s (store_of old) (meta_kept old) map → Holds s (store_of new) (meta_kept new) map
     still_holds honest h =
         let pages = sym (read.reads.stages_only.kept honest).committed in
         let meta = sym (still_meta s old new read) in
         record {
-          stands = subst (λ (m : Meta). FileStandsFor (s.committed (store_of new)) map m.limit) meta (subst (λ (ps : Pages). FileStandsFor ps map (meta_of old).limit) pages h.stands);
-          meta_is = subst (λ (m : Meta). said_by (page_of (s.committed (store_of new))) 1 ≡ MetaPage m) meta (subst (λ (ps : Pages). said_by (page_of ps) 1 ≡ MetaPage (meta_of old)) pages h.meta_is);
+          stands = subst (λ (m : Meta). FileStandsFor (s.committed (store_of new)) map m.limit) meta (subst (λ (ps : Pages). FileStandsFor ps map (meta_kept old).limit) pages h.stands);
+          meta_is = subst (λ (m : Meta). said_by (page_of (s.committed (store_of new))) 1 ≡ MetaPage m) meta (subst (λ (ps : Pages). said_by (page_of ps) 1 ≡ MetaPage (meta_kept old)) pages h.meta_is);
         }
 
-    pub still_rests : s.honest (store_of old) → ((x : Settled) → s.settles_to (store_of old) x → ImageStandsFor x map (meta_of old).limit) → (x : Settled) → s.settles_to (store_of new) x → ImageStandsFor x map (meta_of new).limit
+    pub still_rests : s.honest (store_of old) → ((x : Settled) → s.settles_to (store_of old) x → ImageStandsFor x map (meta_kept old).limit) → (x : Settled) → s.settles_to (store_of new) x → ImageStandsFor x map (meta_kept new).limit
     still_rests honest rests x left = subst (λ (n : ℕ). ImageStandsFor x map n) (sym (still_limit s old new read)) (rests x (read.reads.stages_only.now honest x left))
 
-    pub still_survives : s.honest (store_of old) → ((x : Settled) → s.settles_to (store_of old) x → ImageStandsFor x map (meta_of old).limit) → (Left : Contents → Type 0) → Left map → Survives old new Left
+    pub still_survives : s.honest (store_of old) → ((x : Settled) → s.settles_to (store_of old) x → ImageStandsFor x map (meta_kept old).limit) → (Left : Contents → Type 0) → Left map → Survives old new Left
     still_survives honest rests Left left =
-        weaker s.moment s.settled_since (store_of old) (store_of new) (StandsForSome Left (meta_of old).limit) (s.settles_to (store_of old)) (read.reads.stages_only.kept honest).any_moment
+        weaker s.moment s.settled_since (store_of old) (store_of new) (StandsForSome Left (meta_kept old).limit) (s.settles_to (store_of old)) (read.reads.stages_only.kept honest).any_moment
         (λ x is. (map, left, rests x is))
 
 -- what was kept of the pass stays right
-pub still_passes : {S : Type 0} (s : Ghosts S) (old new : Database S s) (pass : Option Keys) → IsRead old new → s.honest (store_of old) → IsPass (s.committed (store_of old)) (meta_of old) (cursor_of old) pass
-    → IsPass (s.committed (store_of new)) (meta_of new) (cursor_of new) pass
+pub still_passes : {S : Type 0} (s : Ghosts S) (old new : Database S s) (pass : Option Keys) → IsRead old new → s.honest (store_of old) → IsPass (s.committed (store_of old)) (meta_kept old) (cursor_of old) pass
+    → IsPass (s.committed (store_of new)) (meta_kept new) (cursor_of new) pass
 still_passes s old new pass read honest going = same_pass _ _ _ _ _ _ pass (read.reads.stages_only.kept honest).committed (still_meta s old new read) read.pass_is going
 
-module _ {S : Type 0} (s : Ghosts S) (old new : Database S s) (map : Contents) (pass : Option Keys) (call : model.Call) (read : IsRead old new) (honest : s.honest (store_of old)) (h : Holds s (store_of old) (meta_of old) map)
-    (going : IsPass (s.committed (store_of old)) (meta_of old) (cursor_of old) pass) (rests : (x : Settled) → s.settles_to (store_of old) x → ImageStandsFor x map (meta_of old).limit) where
+module _ {S : Type 0} (s : Ghosts S) (old new : Database S s) (map : Contents) (pass : Option Keys) (call : model.Call) (read : IsRead old new) (honest : s.honest (store_of old)) (h : Holds s (store_of old) (meta_kept old) map)
+    (going : IsPass (s.committed (store_of old)) (meta_kept old) (cursor_of old) pass) (rests : (x : Settled) → s.settles_to (store_of old) x → ImageStandsFor x map (meta_kept old).limit) where
   abbrev before : Handle
   before = handle_of old map pass
 
@@ -181,36 +181,36 @@ module _ {S : Type 0} (s : Ghosts S) (old new : Database S s) (map : Contents) (
     }
 
   -- where a walk through the pages failed, the device did
-  pub walk_failed_step : (T : Type 0) (e : PageFault) → (pages_of old).usable ≡ true → IsWalkAnswer {T = T} (pages_of old) (Err e) → HasDeviceCause {T = T} (s.faults (store_of old)) (s.faults (store_of new)) (Err e)
+  pub walk_failed_step : (T : Type 0) (e : PageFault) → (page_state old).usable ≡ true → IsWalkAnswer {T = T} (page_state old) (Err e) → HasDeviceCause {T = T} (s.faults (store_of old)) (s.faults (store_of new)) (Err e)
       → (IsErrOf {T = T} (Err e) page.Damaged → ⊥) → ((reply : model.Reply) (after : Handle) → Fails before reply after → Suffers before (case_of before.state call) reply after)
-      → IsStep old (with_fault new (told e)) before call (model.Refused (fault_of (told e)))
+      → IsStep old (with_fault new (fault_from e)) before call (model.Refused (fault_of (fault_from e)))
   walk_failed_step T e usable answer cause whole may = device answer.only
     where
-      device : (e ≡ page.Broken) ⊎ ((e ≡ page.Damaged) ⊎ (e ≡ page.Device)) → IsStep old (with_fault new (told e)) before call (model.Refused (fault_of (told e)))
+      device : (e ≡ page.Broken) ⊎ ((e ≡ page.Damaged) ⊎ (e ≡ page.Device)) → IsStep old (with_fault new (fault_from e)) before call (model.Refused (fault_of (fault_from e)))
       device (inl is) = let broken = answer.broken (ap Err is) in absurd (let x = broken in cc)
       device (inr (inl is)) = absurd (whole (ap Err is))
-      device (inr (inr is)) = failed_step (told e) (ap told is) (cause.fault (ap Err is)) may
+      device (inr (inr is)) = failed_step (fault_from e) (ap fault_from is) (cause.fault (ap Err is)) may
 
 -- a walk through pages that failed says Device only where the device did, and Broken never of a usable store
-pub walk_more : {S T : Type 0} (s : Ghosts S) (old new : Database S s) (e : PageFault) → IsWalkAnswer {T = T} (pages_of old) (Err e) → HasDeviceCause {T = T} (s.faults (store_of old)) (s.faults (store_of new)) (Err e) → told e ≡ Device
+pub walk_more : {S T : Type 0} (s : Ghosts S) (old new : Database S s) (e : PageFault) → IsWalkAnswer {T = T} (page_state old) (Err e) → HasDeviceCause {T = T} (s.faults (store_of old)) (s.faults (store_of new)) (Err e) → fault_from e ≡ Device
     → MoreFaults (s.faults (store_of old)) (s.faults (store_of new))
 walk_more s old new e answer cause same = by_case answer.only
   where
     by_case : (e ≡ page.Broken) ⊎ ((e ≡ page.Damaged) ⊎ (e ≡ page.Device)) → MoreFaults (s.faults (store_of old)) (s.faults (store_of new))
-    by_case (inl is) = absurd (let x = sym same ∙ ap told is in cc)
-    by_case (inr (inl is)) = absurd (let x = sym same ∙ ap told is in cc)
+    by_case (inl is) = absurd (let x = sym same ∙ ap fault_from is in cc)
+    by_case (inr (inl is)) = absurd (let x = sym same ∙ ap fault_from is in cc)
     by_case (inr (inr is)) = cause.fault (ap Err is)
 
-pub walk_sound : {S T : Type 0} (s : Ghosts S) (old : Database S s) (e : PageFault) → (pages_of old).usable ≡ true → IsWalkAnswer {T = T} (pages_of old) (Err e) → told e ≡ Broken → ⊥
+pub walk_sound : {S T : Type 0} (s : Ghosts S) (old : Database S s) (e : PageFault) → (page_state old).usable ≡ true → IsWalkAnswer {T = T} (page_state old) (Err e) → fault_from e ≡ Broken → ⊥
 walk_sound s old e usable answer same = by_case answer.only
   where
     by_case : (e ≡ page.Broken) ⊎ ((e ≡ page.Damaged) ⊎ (e ≡ page.Device)) → ⊥
     by_case (inl is) = let broken = answer.broken (ap Err is) in absurd (let x = broken in cc)
-    by_case (inr (inl is)) = absurd (let x = sym same ∙ ap told is in cc)
-    by_case (inr (inr is)) = absurd (let x = sym same ∙ ap told is in cc)
+    by_case (inr (inl is)) = absurd (let x = sym same ∙ ap fault_from is in cc)
+    by_case (inr (inr is)) = absurd (let x = sym same ∙ ap fault_from is in cc)
 
 -- what a broken database answers
-pub broken_step : {S : Type 0} (s : Ghosts S) (old : Database S s) (map : Contents) (pass : Option Keys) (call : model.Call) → (pages_of old).usable ≡ false
+pub broken_step : {S : Type 0} (s : Ghosts S) (old : Database S s) (map : Contents) (pass : Option Keys) (call : model.Call) → (page_state old).usable ≡ false
     → case_of (handle_of old map pass).state call ≡ Refuses model.Broken → IsStep old (with_fault old Broken) (handle_of old map pass) call (model.Refused model.Broken)
 broken_step s old map pass call broken falls = record {
   after = handle_of (with_fault old Broken) map pass;
@@ -223,18 +223,18 @@ broken_step s old map pass call broken falls = record {
   survives = λ usable. absurd (let e = usable in cc);
 }
 
-module _ {S : Type 0} (s : Ghosts S) (old new : Database S s) (read : IsRead old new) (usable : (pages_of old).usable ≡ true) where
-  read_goes : Goes old new
+module _ {S : Type 0} (s : Ghosts S) (old new : Database S s) (read : IsRead old new) (usable : (page_state old).usable ≡ true) where
+  read_goes : IsSameDatabase old new
   read_goes = record {
     honesty = read.reads.stages_only.honesty;
     later = read.reads.stages_only.later;
     limit = still_limit s old new read;
-    capacity = ap (λ (st : store.State). st.capacity) read.reads.same;
+    capacity = ap (λ (st : store.StoreState). st.capacity) read.reads.same;
     writable = still_writable s old new read;
     still = λ broken. absurd (let e = broken in cc);
   }
 
-  pub read_keeps : {T : Type 0} (value : T) → Keeps old new (Ok value)
+  pub read_keeps : {T : Type 0} (value : T) → IsCallEnded old new (Ok value)
   read_keeps value = record {
     goes = read_goes;
     fault = λ is. absurd (let e = is in cc);
@@ -246,18 +246,18 @@ module _ {S : Type 0} (s : Ghosts S) (old new : Database S s) (read : IsRead old
   }
 
   pub refused_keeps : (T : Type 0) (fault : Fault) → (fault ≡ Device → MoreFaults (s.faults (store_of old)) (s.faults (store_of new))) → (fault ≡ Broken → ⊥)
-      → Keeps {T = T} old (with_fault new fault) (Err fault)
+      → IsCallEnded {T = T} old (with_fault new fault) (Err fault)
   refused_keeps T fault more sound = record {
     goes = record { honesty = read_goes.honesty; later = read_goes.later; limit = read_goes.limit; capacity = read_goes.capacity; writable = read_goes.writable; still = λ broken. read_goes.still broken };
     fault = λ is. more (let e = is in cc);
     no_error = tt;
     error = ap (λ (e : Option Fault). option_map fault_of (cond (is_some e) e (Some fault))) read.error_is ∙ kept_first old.error fault;
-    refused = (still_meta s old new read, ap (λ (st : store.State). st.end) read.reads.same, read.pass_is);
+    refused = (still_meta s old new read, ap (λ (st : store.StoreState). st.end) read.reads.same, read.pass_is);
     breaks = inl (still_usable s old new read);
     broken = (λ is. absurd (sound (let e = is in cc)), λ broken. absurd (let e = broken in cc));
   }
 
-pub broken_keeps : {S : Type 0} (T : Type 0) (s : Ghosts S) (old : Database S s) → (pages_of old).usable ≡ false → Keeps {T = T} old (with_fault old Broken) (Err Broken)
+pub broken_keeps : {S : Type 0} (T : Type 0) (s : Ghosts S) (old : Database S s) → (page_state old).usable ≡ false → IsCallEnded {T = T} old (with_fault old Broken) (Err Broken)
 broken_keeps T s old broken = record {
   goes = record { honesty = (λ h. h, λ h. h); later = omega arith; limit = refl; capacity = refl; writable = refl; still = λ is. refl };
   fault = λ is. absurd (let e = is in cc);

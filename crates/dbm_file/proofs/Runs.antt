@@ -16,8 +16,8 @@ use Rattle.page_io.specs.Store.{Settled}
 use Rattle.page_io.specs.Meaning.{ImageStandsFor}
 use Rattle.page_io.specs.declared.store.PageStore.{Ghosts}
 use Rattle.dbm_file.specs.Calls.{bits_of}
-use Rattle.dbm_file.specs.Database.{store_of, meta_of, pages_of, IsAt}
-use Rattle.dbm_file.specs.Answers.{MayBeLeft, MayBeLeftWithin, StandsForSome, Survives, IsStep, IsRun, Goes}
+use Rattle.dbm_file.specs.Database.{store_of, meta_kept, page_state, IsAt}
+use Rattle.dbm_file.specs.Answers.{MayBeLeft, MayBeLeftWithin, StandsForSome, Survives, IsStep, IsRun, IsSameDatabase}
 use Rattle.dbm_file.specs.declared.database.Database.{Database}
 
 module _ {S : Type 0} {s : Ghosts S} {old new : Database S s} {held : Handle} {call call' : Call} {reply reply' : Reply} where
@@ -74,38 +74,38 @@ no_run s db h at now = record {
   run = refl;
   is_at = at;
   survives = λ usable.
-      started s.moment s.settled_since (store_of db) (StandsForSome (MayBeLeftWithin h [] [] h) (meta_of db).limit)
+      started s.moment s.settled_since (store_of db) (StandsForSome (MayBeLeftWithin h [] [] h) (meta_kept db).limit)
       (λ x left. (h.state.map, (refl, refl), at.rests usable x (now x left)));
 }
 
 -- one call more
-module _ {S : Type 0} (s : Ghosts S) (old mid new : Database S s) (h : Handle) (calls : List Call) (replies : List Reply) (call : Call) (reply : Reply) (limit : (meta_of mid).limit ≡ (meta_of old).limit) (goes : Goes mid new)
+module _ {S : Type 0} (s : Ghosts S) (old mid new : Database S s) (h : Handle) (calls : List Call) (replies : List Reply) (call : Call) (reply : Reply) (limit : (meta_kept mid).limit ≡ (meta_kept old).limit) (goes : IsSameDatabase mid new)
     (run : IsRun old mid h calls replies) (step : IsStep mid new run.after call reply) where
   abbrev Within : Contents → Type 0
   Within = MayBeLeftWithin h (calls ++ call ∷ []) (replies ++ reply ∷ []) step.after
 
   -- what was left before the last call
-  earlier : (pages_of old).usable ≡ true → Survives old mid Within
+  earlier : (page_state old).usable ≡ true → Survives old mid Within
   earlier was =
-      weaker s.moment s.settled_since (store_of old) (store_of mid) (StandsForSome Within (meta_of old).limit) (StandsForSome (MayBeLeftWithin h calls replies run.after) (meta_of old).limit) (run.survives was)
+      weaker s.moment s.settled_since (store_of old) (store_of mid) (StandsForSome Within (meta_kept old).limit) (StandsForSome (MayBeLeftWithin h calls replies run.after) (meta_kept old).limit) (run.survives was)
       (λ x is. (is.0, left_before call reply h run.after step.after calls replies is.0 is.1 step.step, is.2))
 
-  goes_on : (pages_of old).usable ≡ true → (pages_of mid).usable ≡ true → Survives old new Within
+  goes_on : (page_state old).usable ≡ true → (page_state mid).usable ≡ true → Survives old new Within
   goes_on was usable =
-      followed_by s.moment s.settled_since (store_of old) (store_of mid) (store_of new) (StandsForSome Within (meta_of old).limit) (StandsForSome (MayBeLeft run.after step.after call) (meta_of mid).limit)
+      followed_by s.moment s.settled_since (store_of old) (store_of mid) (store_of new) (StandsForSome Within (meta_kept old).limit) (StandsForSome (MayBeLeft run.after step.after call) (meta_kept mid).limit)
       (earlier was) (step.survives usable)
       (λ x is. (is.0, left_within call reply h run.after step.after calls replies is.0 run.run step.step is.1, subst (λ (n : ℕ). ImageStandsFor x is.0 n) limit is.2))
 
   -- a broken one makes no device call
-  stays_broken : (pages_of old).usable ≡ true → (pages_of mid).usable ≡ false → Survives old new Within
-  stays_broken was broken = subst (λ (store : S). LeavesOnly s.moment s.settled_since (store_of old) store (StandsForSome Within (meta_of old).limit)) (sym (goes.still broken)) (earlier was)
+  stays_broken : (page_state old).usable ≡ true → (page_state mid).usable ≡ false → Survives old new Within
+  stays_broken was broken = subst (λ (store : S). LeavesOnly s.moment s.settled_since (store_of old) store (StandsForSome Within (meta_kept old).limit)) (sym (goes.still broken)) (earlier was)
 
   one_more : IsRun old new h (calls ++ call ∷ []) (replies ++ reply ∷ [])
   one_more = record {
     after = step.after;
     run = run-push h run.after step.after calls replies call reply run.run step.step;
     is_at = step.is_at;
-    survives = λ was. elim (pages_of mid).usable as (λ u. (pages_of mid).usable ≡ u → Survives old new Within) [
+    survives = λ was. elim (page_state mid).usable as (λ u. (page_state mid).usable ≡ u → Survives old new Within) [
       | true ↦ goes_on was
       | false ↦ stays_broken was
     ] refl;
@@ -123,10 +123,10 @@ seen_next {X} f xs i x lt is = ap (map f) (take_more xs i x lt ∙ ap (λ (y : X
 pub seen_last : {X Y : Type 0} (f : X → Y) (old new : List X) (x : X) → new ≡ old ++ x ∷ [] → map f new ≡ map f old ++ f x ∷ []
 seen_last f old new x is = ap (map f) is ∙ map-append f old (x ∷ [])
 
-pub goes_nowhere : {S : Type 0} {s : Ghosts S} (db : Database S s) → Goes db db
+pub goes_nowhere : {S : Type 0} {s : Ghosts S} (db : Database S s) → IsSameDatabase db db
 goes_nowhere db = record { honesty = (λ h. h, λ h. h); later = omega arith; limit = refl; capacity = refl; writable = refl; still = λ broken. refl }
 
-pub still_goes : {S : Type 0} {s : Ghosts S} (old mid new : Database S s) → Goes old mid → Goes mid new → Goes old new
+pub still_goes : {S : Type 0} {s : Ghosts S} (old mid new : Database S s) → IsSameDatabase old mid → IsSameDatabase mid new → IsSameDatabase old new
 still_goes {S} {s} old mid new first second = record {
   honesty = (λ h. first.honesty.0 (second.honesty.0 h), λ h. second.honesty.1 (first.honesty.1 h));
   later = omega (arith, first.later, second.later);

@@ -10,11 +10,11 @@ use Rattle.page_io.specs.Meaning.{ImageStandsFor}
 use Rattle.page_io.specs.declared.store.PageStore.{Ghosts}
 use Rattle.page_io.specs.declared.store.PageFault.{PageFault}
 use Rattle.seg_table.specs.declared.meta.Meta as code
-use Rattle.dbm_fault.specs.Faults.{fault_of, told}
+use Rattle.dbm_fault.specs.Faults.{fault_of, fault_from}
 use Rattle.page_commit.specs.Committing.{Holds}
 use Rattle.dbm_file.specs.Calls.{mode_of, store_reply, delete_reply}
 use Rattle.dbm_model.specs.States.{Keys, Handle}
-use Rattle.dbm_file.specs.Database.{store_of, meta_of, pages_of, cursor_of, handle_of}
+use Rattle.dbm_file.specs.Database.{store_of, meta_kept, page_state, cursor_of, handle_of}
 use Rattle.dbm_file.specs.Passing.{IsPass}
 use Rattle.dbm_file.specs.Answers.{IsStep}
 use Rattle.dbm_file.specs.Trying.{with_fault, with_error_of, IsRead}
@@ -29,8 +29,8 @@ use Rattle.dbm_file.proofs.ChangeSteps.{IsAsked}
 use Rattle.dbm_file.proofs.Lends.{kept_error, flagged_step}
 use Rattle.linear_hash.proofs.Tables.{counted}
 
-module _ {S : Type 0} (s : Ghosts S) (old mid : Database S s) (map : Contents) (pass : Option Keys) (key : List ℕ) (read : IsRead old mid) (usable : (pages_of old).usable ≡ true) (writable : (pages_of old).writable ≡ true) (honest : s.honest (store_of old))
-    (h : Holds s (store_of old) (meta_of old) map) (going : IsPass (s.committed (store_of old)) (meta_of old) (cursor_of old) pass) (rests : (x : Settled) → s.settles_to (store_of old) x → ImageStandsFor x map (meta_of old).limit) where
+module _ {S : Type 0} (s : Ghosts S) (old mid : Database S s) (map : Contents) (pass : Option Keys) (key : List ℕ) (read : IsRead old mid) (usable : (page_state old).usable ≡ true) (writable : (page_state old).writable ≡ true) (honest : s.honest (store_of old))
+    (h : Holds s (store_of old) (meta_kept old) map) (going : IsPass (s.committed (store_of old)) (meta_kept old) (cursor_of old) pass) (rests : (x : Settled) → s.settles_to (store_of old) x → ImageStandsFor x map (meta_kept old).limit) where
   -- a store of an allowed pair, whose key was there or not
   pub store_asked : (content : List ℕ) (mode : StoreMode) (there : Bool) → length key + length content ≤ 2026 → there ≡ is_some (get map key) → (there ≡ true → mode ≡ Replace) → (there ≡ false → mid.meta.pairs < mid.meta.limit)
       → IsAsked s old mid map (insert map key content) pass (model.Store key content (mode_of mode)) model.Stored
@@ -43,7 +43,7 @@ module _ {S : Type 0} (s : Ghosts S) (old mid : Database S s) (map : Contents) (
     going = going;
     falls = store_rule (handle_of old map pass).state key content (mode_of mode) usable writable short
         ∙ changes (handle_of old map pass).state key content (get map key) (mode_of mode) (λ has. ap mode_of (replaces (is ∙ has)))
-        (λ absent. omega (arith, few (is ∙ absent), counted s old.store (meta_of old) map h, ap (λ (m : code.Meta). m.limit) read.meta_is, ap (λ (m : code.Meta). m.pairs) read.meta_is));
+        (λ absent. omega (arith, few (is ∙ absent), counted s old.store (meta_kept old) map h, ap (λ (m : code.Meta). m.limit) read.meta_is, ap (λ (m : code.Meta). m.pairs) read.meta_is));
   }
 
   -- a delete of a key that is there
@@ -59,24 +59,24 @@ module _ {S : Type 0} (s : Ghosts S) (old mid : Database S s) (map : Contents) (
   }
 
 -- a file that counts no pair has no key
-pub no_key : {S : Type 0} (s : Ghosts S) (old : Database S s) (map : Contents) (key : List ℕ) → Holds s (store_of old) (meta_of old) map → old.meta.pairs ≡ 0 → is_some (get map key) ≡ true → ⊥
+pub no_key : {S : Type 0} (s : Ghosts S) (old : Database S s) (map : Contents) (key : List ℕ) → Holds s (store_of old) (meta_kept old) map → old.meta.pairs ≡ 0 → is_some (get map key) ≡ true → ⊥
 no_key s old map key h none there =
-    let nothing = empty_of_len map (omega (arith, counted s old.store (meta_of old) map h)) in
+    let nothing = empty_of_len map (omega (arith, counted s old.store (meta_kept old) map h)) in
     let absent = ap (λ (m : Contents). is_some (get m key)) nothing ∙ ap is_some (get-empty key_cmp key) in
     absurd (let e = sym there ∙ absent in cc)
 
-module _ {S : Type 0} {s : Ghosts S} {old : Database S s} (new : Database S s) {h : Handle} {call : model.Call} (e : PageFault) (step : IsStep old (with_fault new (told e)) h call (model.Refused (fault_of (told e)))) where
+module _ {S : Type 0} {s : Ghosts S} {old : Database S s} (new : Database S s) {h : Handle} {call : model.Call} (e : PageFault) (step : IsStep old (with_fault new (fault_from e)) h call (model.Refused (fault_of (fault_from e)))) where
   -- what a `?` answers of a fault of the pages
-  pub store_told : (r : Result StoreReply Fault) → IsErrAnd r (λ fault. fault ≡ told e) → IsStep old (with_error_of new r) h call (store_reply r)
+  pub store_told : (r : Result StoreReply Fault) → IsErrAnd r (λ fault. fault ≡ fault_from e) → IsStep old (with_error_of new r) h call (store_reply r)
   store_told (Ok value) is = absurd is
   store_told (Err fault) is = subst (λ (f : Fault). IsStep old (with_fault new f) h call (model.Refused (fault_of f))) (sym is) step
 
-  pub delete_told : (r : Result DeleteReply Fault) → IsErrAnd r (λ fault. fault ≡ told e) → IsStep old (with_error_of new r) h call (delete_reply r)
+  pub delete_told : (r : Result DeleteReply Fault) → IsErrAnd r (λ fault. fault ≡ fault_from e) → IsStep old (with_error_of new r) h call (delete_reply r)
   delete_told (Ok value) is = absurd is
   delete_told (Err fault) is = subst (λ (f : Fault). IsStep old (with_fault new f) h call (model.Refused (fault_of f))) (sym is) step
 
 -- the step of a call whose fault was then kept as the first one
-module _ {S : Type 0} (s : Ghosts S) (old db : Database S s) (h : Handle) (idle : (pages_of db).staged ≡ []) (access : (pages_of db).writable ≡ db.writable) (valid : IsMeta (meta_of db)) (call : model.Call) (error : Option Fault) (fault : Fault)
+module _ {S : Type 0} (s : Ghosts S) (old db : Database S s) (h : Handle) (idle : (page_state db).staged ≡ []) (access : (page_state db).writable ≡ db.writable) (valid : IsMeta (meta_kept db)) (call : model.Call) (error : Option Fault) (fault : Fault)
     (flag : error ≡ cond (is_some db.error) db.error (Some fault)) where
   pub store_flagged : (r : Result StoreReply Fault) → r ≡ Err fault → IsStep old (with_fault db fault) h call (model.Refused (fault_of fault)) → IsStep old (kept_error s db idle access valid error) h call (store_reply r)
   store_flagged r is step = subst (λ (x : Result StoreReply Fault). IsStep old (kept_error s db idle access valid error) h call (store_reply x)) (sym is) (flagged_step s old db h idle access valid call error fault flag (model.Refused (fault_of fault)) step)

@@ -9,7 +9,7 @@ use Rattle.page_io.specs.Store.{Settled}
 use Rattle.page_io.specs.Meaning.{ImageStandsFor}
 use Rattle.page_io.specs.declared.store.PageStore.{Ghosts}
 use Rattle.dbm_fault.specs.Faults.{fault_of}
-use Rattle.dbm_file.specs.Database.{store_of, meta_of, pages_of, error_of, cursor_of, IsAt}
+use Rattle.dbm_file.specs.Database.{store_of, meta_kept, page_state, error_of, cursor_of, IsAt}
 use Rattle.dbm_fault.specs.declared.fault.Fault.{Fault}
 use Rattle.dbm_fault.specs.declared.fault.Fault.TheVariants.{Device, Broken}
 use Rattle.dbm_file.specs.declared.database.Database.{Database}
@@ -28,14 +28,14 @@ StandsForSome Left limit settled = (map : Contents) × Left map × ImageStandsFo
 
 -- every image of every moment since the old database stands for one of these maps
 abbrev pub Survives : {S : Type 0} {s : Ghosts S} → Database S s → Database S s → (Contents → Type 0) → Type 0
-Survives {S} {s} old new Left = LeavesOnly s.moment s.settled_since (store_of old) (store_of new) (StandsForSome Left (meta_of old).limit)
+Survives {S} {s} old new Left = LeavesOnly s.moment s.settled_since (store_of old) (store_of new) (StandsForSome Left (meta_kept old).limit)
 
 -- A call on a database at this handle: a step of the model, and what a stop leaves within it.
 pub record IsStep {S : Type 0} {s : Ghosts S} (old new : Database S s) (before : Handle) (call : Call) (reply : Reply) : Type 0 where
   pub after : Handle
   pub step : Step before call reply after
   pub is_at : IsAt new after
-  pub survives : (pages_of old).usable ≡ true → Survives old new (MayBeLeft before after call)
+  pub survives : (page_state old).usable ≡ true → Survives old new (MayBeLeft before after call)
 
 -- a map that a stop within these calls, answered so, may leave: one that a stop within one of them may
 abbrev pub MayBeLeftWithin : Handle → List Call → List Reply → Handle → Contents → Type 0
@@ -49,26 +49,26 @@ pub record IsRun {S : Type 0} {s : Ghosts S} (old new : Database S s) (before : 
   pub after : Handle
   pub run : Run before calls replies after
   pub is_at : IsAt new after
-  pub survives : (pages_of old).usable ≡ true → Survives old new (MayBeLeftWithin before calls replies after)
+  pub survives : (page_state old).usable ≡ true → Survives old new (MayBeLeftWithin before calls replies after)
 
 -- What any number of calls leave on any device.
-pub record Goes {S : Type 0} {s : Ghosts S} (old new : Database S s) : Type 0 where
+pub record IsSameDatabase {S : Type 0} {s : Ghosts S} (old new : Database S s) : Type 0 where
   pub honesty : s.honest (store_of new) ↔ s.honest (store_of old)
   pub later : s.faults (store_of old) ≤ s.faults (store_of new)
-  pub limit : (meta_of new).limit ≡ (meta_of old).limit
-  pub capacity : (pages_of new).capacity ≡ (pages_of old).capacity
-  pub writable : (pages_of new).writable ≡ (pages_of old).writable
+  pub limit : (meta_kept new).limit ≡ (meta_kept old).limit
+  pub capacity : (page_state new).capacity ≡ (page_state old).capacity
+  pub writable : (page_state new).writable ≡ (page_state old).writable
   -- a broken one makes no device call
-  pub still : (pages_of old).usable ≡ false → store_of new ≡ store_of old
+  pub still : (page_state old).usable ≡ false → store_of new ≡ store_of old
 
 -- What any call leaves on any device, whatever its bytes.
-pub record Keeps {S T : Type 0} {s : Ghosts S} (old new : Database S s) (result : Result T Fault) : Type 0 where
-  pub goes : Goes old new
+pub record IsCallEnded {S T : Type 0} {s : Ghosts S} (old new : Database S s) (result : Result T Fault) : Type 0 where
+  pub goes : IsSameDatabase old new
   pub fault : IsErrOf result Device → MoreFaults (s.faults (store_of old)) (s.faults (store_of new))
   -- the first fault is kept
   pub no_error : OnOk result (error_of new ≡ error_of old)
   pub error : IfErr result (λ e. error_of new ≡ first_fault (error_of old) (fault_of e))
   -- a refusal changes nothing, but that a fault of the device may break the database
-  pub refused : OnErr result ((meta_of new ≡ meta_of old) × ((pages_of new).end ≡ (pages_of old).end) × (cursor_of new ≡ cursor_of old))
-  pub breaks : ((pages_of new).usable ≡ (pages_of old).usable) ⊎ (IsErrOf result Device × ((pages_of new).usable ≡ false))
-  pub broken : IsErrOf result Broken ↔ ((pages_of old).usable ≡ false)
+  pub refused : OnErr result ((meta_kept new ≡ meta_kept old) × ((page_state new).end ≡ (page_state old).end) × (cursor_of new ≡ cursor_of old))
+  pub breaks : ((page_state new).usable ≡ (page_state old).usable) ⊎ (IsErrOf result Device × ((page_state new).usable ≡ false))
+  pub broken : IsErrOf result Broken ↔ ((page_state old).usable ≡ false)

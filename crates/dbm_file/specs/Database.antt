@@ -5,10 +5,10 @@ use Rattle.dbm_model.specs.Calls as model
 use Rattle.page_model.specs.Pages.{Meta}
 use Rattle.dbm_model.specs.Pairs.{Contents}
 use Rattle.dbm_model.specs.States.{Keys, Handle}
-use Rattle.page_io.specs.Store.{Settled, State}
+use Rattle.page_io.specs.Store.{Settled, StoreState}
 use Rattle.page_io.specs.Meaning.{ImageStandsFor}
 use Rattle.page_io.specs.declared.store.PageStore.{Ghosts}
-use Rattle.seg_table.specs.MetaPages.{says}
+use Rattle.seg_table.specs.MetaPages.{model_meta}
 use Rattle.dbm_fault.specs.Faults.{fault_of}
 use Rattle.page_commit.specs.Committing.{Holds}
 use Rattle.dbm_file.specs.Passing.{IsPass}
@@ -20,11 +20,11 @@ abbrev pub store_of : {S : Type 0} {s : Ghosts S} → Database S s → S
 store_of db = db.store
 
 -- what is kept of the meta page
-abbrev pub meta_of : {S : Type 0} {s : Ghosts S} → Database S s → Meta
-meta_of db = says db.meta
+abbrev pub meta_kept : {S : Type 0} {s : Ghosts S} → Database S s → Meta
+meta_kept db = model_meta db.meta
 
-abbrev pub pages_of : {S : Type 0} {s : Ghosts S} → Database S s → State
-pages_of {S} {s} db = s.state db.store
+abbrev pub page_state : {S : Type 0} {s : Ghosts S} → Database S s → StoreState
+page_state {S} {s} db = s.state db.store
 
 -- where its pass stands, if one is on
 abbrev pub cursor_of : {S : Type 0} {s : Ghosts S} → Database S s → Option Cursor
@@ -36,27 +36,31 @@ error_of db = option_map fault_of db.error
 
 -- its file stands for the map
 abbrev pub HoldsMap : {S : Type 0} {s : Ghosts S} → Database S s → Contents → Type 0
-HoldsMap {S} {s} db map = (pages_of db).usable ≡ true → Holds s (store_of db) (meta_of db) map
+HoldsMap {S} {s} db map = (page_state db).usable ≡ true → Holds s (store_of db) (meta_kept db) map
 
 -- every image that a stop may leave now stands for the map
-abbrev pub Rests : {S : Type 0} {s : Ghosts S} → Database S s → Contents → Type 0
-Rests {S} {s} db map = (pages_of db).usable ≡ true → (settled : Settled) → s.settles_to (store_of db) settled → ImageStandsFor settled map (meta_of db).limit
+abbrev pub StandsAfterStop : {S : Type 0} {s : Ghosts S} → Database S s → Contents → Type 0
+StandsAfterStop {S} {s} db map = (page_state db).usable ≡ true → (settled : Settled) → s.settles_to (store_of db) settled → ImageStandsFor settled map (meta_kept db).limit
 
 -- its pass has these keys yet to give, or none is on
 abbrev pub HoldsPass : {S : Type 0} {s : Ghosts S} → Database S s → Option Keys → Type 0
-HoldsPass {S} {s} db pass = (pages_of db).usable ≡ true → IsPass (s.committed (store_of db)) (meta_of db) (cursor_of db) pass
+HoldsPass {S} {s} db pass = (page_state db).usable ≡ true → IsPass (s.committed (store_of db)) (meta_kept db) (cursor_of db) pass
 
 -- the handle of a database at this map and pass
 abbrev pub handle_of : {S : Type 0} {s : Ghosts S} → Database S s → Contents → Option Keys → Handle
 handle_of {S} {s} db map pass = record {
-  state = record { map = map; limit = (meta_of db).limit; error = error_of db; pass = pass; writable = (pages_of db).writable; usable = (pages_of db).usable };
+  state = record { map = map; limit = (meta_kept db).limit; error = error_of db; pass = pass; writable = (page_state db).writable; usable = (page_state db).usable };
   faults = s.faults (store_of db);
-  is_short = nat_lt (pages_of db).capacity (2 * ((pages_of db).end + (meta_of db).pairs) + 8);
+  is_short = nat_lt (page_state db).capacity (2 * ((page_state db).end + (meta_kept db).pairs) + 8);
 }
 
 -- The database is at this handle of the definitions. Of a broken one's map and pass nothing is said: of its file the clauses of the call that broke it speak.
 pub record IsAt {S : Type 0} {s : Ghosts S} (db : Database S s) (h : Handle) : Type 0 where
   pub shows : h ≡ handle_of db h.state.map h.state.pass
   pub map : HoldsMap db h.state.map
-  pub rests : Rests db h.state.map
+  pub rests : StandsAfterStop db h.state.map
   pub pass : HoldsPass db h.state.pass
+
+-- what is said of an honest database at any handle of the definitions
+abbrev pub AtEachHandle : {S : Type 0} {s : Ghosts S} → Database S s → (Handle → Type 0) → Type 0
+AtEachHandle {S} {s} db Says = s.honest (store_of db) → (h : Handle) → IsAt db h → Says h

@@ -1,7 +1,7 @@
 -- A database that was opened by the name of its file.
 use Rattle.std.specs.Prelude.{◌≡◌, ℕ, ◌/◌, false}
 use Rattle.sect_dev.specs.Device.{IsStable, LeavesOnly}
-use Rattle.sect_dev.specs.Moments.{Reads}
+use Rattle.sect_dev.specs.Moments.{IsOutcome}
 use Rattle.sect_dev.specs.declared.device.SectorDev as device
 use Rattle.dbm_model.specs.Pairs.{Contents}
 use Rattle.page_io.specs.declared.store.PageStore as store
@@ -20,4 +20,4 @@ pub record OpensFile {D : Type 0} {bound : device.Ghosts D} {s : store.Ghosts (P
   pub begins : bound.moment first ≡ 0
   pub size : bound.sectors first ≡ 9001992
   pub stands : bound.honest first → (writes how.access ≡ false → IsStable (bound.candidate first) (bound.seen first)) → AllStand (bound.sectors first / 4) (bound.candidate first) → (map : Contents) × (limit : ℕ) × IsOpenedAt (writes how.access) db map limit × IsOpened how (bound.sectors first / 4) (bound.candidate first) map limit
-  pub any_moment : bound.honest first → LeavesOnly bound.moment (Reads bound.left_since (settled (bound.sectors first / 4))) first (device_of (store_of db)) (MayRemain how (bound.sectors first / 4) (bound.candidate first))
+  pub any_moment : bound.honest first → LeavesOnly bound.moment (IsOutcome bound.left_since (settled (bound.sectors first / 4))) first (device_of (store_of db)) (MayRemain how (bound.sectors first / 4) (bound.candidate first))

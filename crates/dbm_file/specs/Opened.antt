@@ -7,20 +7,20 @@ use Rattle.redo_area.specs.declared.pager.Pager.{Pager}
 use Rattle.dbm_model.specs.Pairs.{Contents}
 use Rattle.dbm_model.specs.States.{Handle}
 use Rattle.dbm_model.specs.States as model
-use Rattle.dbm_file.specs.Database.{store_of, pages_of, error_of, cursor_of, IsAt}
+use Rattle.dbm_file.specs.Database.{store_of, page_state, error_of, cursor_of, IsAt}
 use Rattle.dbm_fault.specs.declared.fault.Fault.{Fault}
 use Rattle.dbm_file.specs.declared.database.Database.{Database}
 
 -- the device that an opening was given, whatever it answers
-abbrev pub device_after : {D : Type 0} {bound : Ghosts D} {s : store.Ghosts (Pager D bound)} → Result (Database (Pager D bound) s) (D × Fault) → D
-device_after (Ok db) = device_of (store_of db)
-device_after (Err e) = e.0
+abbrev pub device_opened : {D : Type 0} {bound : Ghosts D} {s : store.Ghosts (Pager D bound)} → Result (Database (Pager D bound) s) (D × Fault) → D
+device_opened (Ok db) = device_of (store_of db)
+device_opened (Err e) = e.0
 
 -- a database as an opening leaves it
-pub record IsFresh {S : Type 0} {s : store.Ghosts S} (for_writing : Bool) (pages : ℕ) (db : Database S s) : Type 0 where
-  pub usable : (pages_of db).usable ≡ true
-  pub writable : (pages_of db).writable ≡ for_writing
-  pub capacity : (pages_of db).capacity ≡ pages
+pub record IsNewlyOpened {S : Type 0} {s : store.Ghosts S} (for_writing : Bool) (pages : ℕ) (db : Database S s) : Type 0 where
+  pub usable : (page_state db).usable ≡ true
+  pub writable : (page_state db).writable ≡ for_writing
+  pub capacity : (page_state db).capacity ≡ pages
   pub no_error : error_of db ≡ None
   pub no_pass : cursor_of db ≡ None
 

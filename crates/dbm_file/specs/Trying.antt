@@ -3,7 +3,7 @@ use Rattle.std.specs.Prelude.{◌≡◌, ℕ, List, [], is_some, slice_index_or,
 use Rattle.dbm_model.specs.Calls as model
 use Rattle.page_io.specs.Views.{ReadsOnly}
 use Rattle.page_io.specs.declared.store.PageStore.{Ghosts}
-use Rattle.slot_page.specs.Contents.{pairs_of}
+use Rattle.slot_page.specs.Contents.{page_pairs}
 use Rattle.dbm_fault.specs.Faults.{fault_of}
 use Rattle.dbm_file.specs.Database.{store_of}
 use Rattle.dbm_fault.specs.declared.fault.Fault.{Fault}
@@ -28,5 +28,5 @@ pub record IsRead {S : Type 0} {s : Ghosts S} (old new : Database S s) : Type 0 
 -- what a pass replies, where the key of its next pair stands in a slot of the page
 abbrev pub slot_reply : List ℕ → Result (Option ℕ) Fault → model.Reply
 slot_reply bytes (Ok None) = model.End
-slot_reply bytes (Ok (Some slot)) = model.Bytes (slice_index_or (pairs_of bytes) slot ([], [])).0
+slot_reply bytes (Ok (Some slot)) = model.Bytes (slice_index_or (page_pairs bytes) slot ([], [])).0
 slot_reply bytes (Err fault) = model.Refused (fault_of fault)

@@ -1,7 +1,8 @@
 // A database over a store of pages.
-ghost use Rattle.std.specs.Prelude.{◌≡◌, [], true, is_some, if◌then◌else◌, Err, Some};
+ghost use Rattle.std.specs.Prelude.{◌≡◌, [], true, is_some, if◌then◌else◌, Err, Some, ◌∷◌};
+ghost use Rattle.dbm_fault.specs.Among.{IsErrAmong};
 ghost use Rattle.page_model.specs.Valid.{IsMeta};
-ghost use Rattle.seg_table.specs.MetaPages.{says};
+ghost use Rattle.seg_table.specs.MetaPages.{model_meta};
 
 use crate::{DeleteReply, Fault, Stat, StoreMode, StoreReply};
 use linear_hash::{Cursor, delete_pair, find_pair, next_pair, store_pair};
@@ -29,23 +30,22 @@ pub struct Database<S: PageStore> {
     pub(crate) alloc: Global,
     pub(crate) ghost idle: { (S.state store).staged ≡ [] },
     pub(crate) ghost told: { (S.state store).writable ≡ writable },
-    pub(crate) ghost valid: { IsMeta (says meta) },
+    pub(crate) ghost valid: { IsMeta (model_meta meta) },
 }
 
 impl<S: PageStore> Database<S> {
-    ghost use Rattle.std.specs.Prelude.{◌≡◌, ◌≢◌, ◌⊎◌, ◌↔◌, ◌+◌, ◌<◌, ◌≤◌, pos, is_some, IsErrOf, OnOk, IfOk, IfErr, IfSome, Err, Ok, Option, Some, None, Result, length, MatchResult, true, false};
+    ghost use Rattle.std.specs.Prelude.{◌≡◌, ◌↔◌, ◌+◌, ◌<◌, ◌≤◌, pos, is_some, IsErrOf, IfOk, IfSome, Err, Ok, Option, Some, None, Result, length, true, false};
     ghost use Rattle.std.specs.Borrow.{sem};
     ghost use Rattle.std.specs.FinMap.{get, len};
-    ghost use Rattle.std.specs.Option.{option_map};
     ghost use Rattle.dbm_model.specs.Calls.{Call, Store, Fetch, Delete, First, Next, Error, Clear, NoRecord, End, Number};
     ghost use Rattle.dbm_model.specs.Pairs.{Contents};
     ghost use Rattle.dbm_model.specs.States.{Keys, Handle, error_number};
     ghost use Rattle.dbm_model.specs.Steps.{Passes, case_of};
-    ghost use Rattle.page_model.specs.Valid.{buckets};
+    ghost use Rattle.page_model.specs.Valid.{meta_buckets};
     ghost use Rattle.linear_hash.specs.Tables.{shape_in, shape_for};
     ghost use Rattle.dbm_file.specs.Calls.{mode_of, store_reply, delete_reply, lent_reply};
-    ghost use Rattle.dbm_file.specs.Database.{store_of, meta_of, pages_of, error_of, IsAt};
-    ghost use Rattle.dbm_file.specs.Answers.{IsStep, Goes, Keeps};
+    ghost use Rattle.dbm_file.specs.Database.{store_of, meta_kept, page_state, error_of, IsAt, AtEachHandle};
+    ghost use Rattle.dbm_file.specs.Answers.{IsStep, IsCallEnded};
     ghost use Rattle.dbm_file.specs.Lending.{Lends};
     ghost use Rattle.dbm_file.specs.Passing.{HasLeft};
     ghost use Rattle.dbm_file.specs.Ending.{EndsAs};
@@ -53,7 +53,7 @@ impl<S: PageStore> Database<S> {
     ghost use Rattle.page_commit.specs.Committing.{Holds};
     ghost use Rattle.chain_walks.specs.Answers.{IsWalkAnswer};
     ghost use Rattle.page_io.specs.Answers.{HasDeviceCause};
-    ghost use Rattle.slot_page.specs.Contents.{IsBucketPage, pairs_of};
+    ghost use Rattle.slot_page.specs.Contents.{IsBucketPage, page_pairs};
     ghost use Rattle.page_io.specs.declared.store.PageFault.TheVariants.{Damaged};
 
     /// The content that the key has (POSIX: `dbm_fetch`). The slice lies in the database, and ends with the next call. It
@@ -61,7 +61,7 @@ impl<S: PageStore> Database<S> {
     pub fn fetch(&mut self, key: &[u8]) -> Result<Option<&[u8]>, Fault>
         ensures* after { sem 𝓛 (EndsAs S.row S.PageStore self.entry (Lends (Fetch key.now) (lent_reply NoRecord) self.old result)) }
         ensures short { IfOk result (λ r. IfSome r (λ content. length content.now ≤ 2026)) }
-        ensures only { IfErr result (λ e. (e ≡ Fault.Broken) ⊎ ((e ≡ Fault.Device) ⊎ (e ≡ Fault.Damaged))) }
+        ensures only { IsErrAmong result (Fault.Broken ∷ Fault.Device ∷ Fault.Damaged ∷ []) }
     {
         if self.store.is_broken() {
             return refuse(&mut self.error, Fault::Broken);
@@ -83,12 +83,13 @@ impl<S: PageStore> Database<S> {
         content: &[u8],
         mode: StoreMode,
     ) -> Result<StoreReply, Fault>
-        ensures step { S.honest (store_of self.old) → (h : Handle) → IsAt self.old h → IsStep self.old self.new h (Store key.now content.now (mode_of mode)) (store_reply result) }
-        ensures shape { shape_in (meta_of self.new) ≡ shape_for (meta_of self.new).pairs (shape_in (meta_of self.old)) }
-        ensures read_only { (result ≡ Err Fault.ReadOnly) ↔ (((pages_of self.old).usable ≡ true) × ((pages_of self.old).writable ≡ false)) }
-        ensures too_long { (result ≡ Err Fault.TooLong) ↔ (((pages_of self.old).usable ≡ true) × ((pages_of self.old).writable ≡ true) × (2026 < length key.now + length content.now)) }
-        ensures keeps { Keeps self.old self.new result }
-        ensures only { IfErr result (λ e. (e ≡ Fault.Broken) ⊎ ((e ≡ Fault.ReadOnly) ⊎ ((e ≡ Fault.TooLong) ⊎ ((e ≡ Fault.Full) ⊎ ((e ≡ Fault.Memory) ⊎ ((e ≡ Fault.Device) ⊎ ((e ≡ Fault.NoRoom) ⊎ (e ≡ Fault.Damaged)))))))) }
+        ensures step { AtEachHandle self.old (λ h.
+            IsStep self.old self.new h (Store key.now content.now (mode_of mode)) (store_reply result)) }
+        ensures shape { shape_in (meta_kept self.new) ≡ shape_for (meta_kept self.new).pairs (shape_in (meta_kept self.old)) }
+        ensures read_only { (result ≡ Err Fault.ReadOnly) ↔ (((page_state self.old).usable ≡ true) × ((page_state self.old).writable ≡ false)) }
+        ensures too_long { (result ≡ Err Fault.TooLong) ↔ (((page_state self.old).usable ≡ true) × ((page_state self.old).writable ≡ true) × (2026 < length key.now + length content.now)) }
+        ensures keeps { IsCallEnded self.old self.new result }
+        ensures only { IsErrAmong result (Fault.Broken ∷ Fault.ReadOnly ∷ Fault.TooLong ∷ Fault.Full ∷ Fault.Memory ∷ Fault.Device ∷ Fault.NoRoom ∷ Fault.Damaged ∷ []) }
     {
         match self.try_store(key, content, mode) {
             Ok(reply) => Ok(reply),
@@ -99,11 +100,12 @@ impl<S: PageStore> Database<S> {
     /// Deletes a key with its content (POSIX: `dbm_delete`), in one commit. In this order: `Broken`; `ReadOnly`; `Device` or
     /// `Damaged` while the key is looked up; `Absent`; then as `store`, and `Damaged` where the file counts no pair.
     pub fn delete(&mut self, key: &[u8]) -> Result<DeleteReply, Fault>
-        ensures step { S.honest (store_of self.old) → (h : Handle) → IsAt self.old h → IsStep self.old self.new h (Delete key.now) (delete_reply result) }
-        ensures shape { shape_in (meta_of self.new) ≡ shape_in (meta_of self.old) }
-        ensures read_only { (result ≡ Err Fault.ReadOnly) ↔ (((pages_of self.old).usable ≡ true) × ((pages_of self.old).writable ≡ false)) }
-        ensures keeps { Keeps self.old self.new result }
-        ensures only { IfErr result (λ e. (e ≡ Fault.Broken) ⊎ ((e ≡ Fault.ReadOnly) ⊎ ((e ≡ Fault.Memory) ⊎ ((e ≡ Fault.Device) ⊎ ((e ≡ Fault.NoRoom) ⊎ (e ≡ Fault.Damaged)))))) }
+        ensures step { AtEachHandle self.old (λ h.
+            IsStep self.old self.new h (Delete key.now) (delete_reply result)) }
+        ensures shape { shape_in (meta_kept self.new) ≡ shape_in (meta_kept self.old) }
+        ensures read_only { (result ≡ Err Fault.ReadOnly) ↔ (((page_state self.old).usable ≡ true) × ((page_state self.old).writable ≡ false)) }
+        ensures keeps { IsCallEnded self.old self.new result }
+        ensures only { IsErrAmong result (Fault.Broken ∷ Fault.ReadOnly ∷ Fault.Memory ∷ Fault.Device ∷ Fault.NoRoom ∷ Fault.Damaged ∷ []) }
     {
         match self.try_delete(key) {
             Ok(reply) => Ok(reply),
@@ -117,7 +119,7 @@ impl<S: PageStore> Database<S> {
     pub fn firstkey(&mut self) -> Result<Option<&[u8]>, Fault>
         ensures* after { sem 𝓛 (EndsAs S.row S.PageStore self.entry (Lends First (lent_reply End) self.old result)) }
         ensures short { IfOk result (λ r. IfSome r (λ key. length key.now ≤ 2026)) }
-        ensures only { IfErr result (λ e. (e ≡ Fault.Broken) ⊎ ((e ≡ Fault.Device) ⊎ (e ≡ Fault.Damaged))) }
+        ensures only { IsErrAmong result (Fault.Broken ∷ Fault.Device ∷ Fault.Damaged ∷ []) }
     {
         if self.store.is_broken() {
             return refuse(&mut self.error, Fault::Broken);
@@ -136,7 +138,7 @@ impl<S: PageStore> Database<S> {
     pub fn nextkey(&mut self) -> Result<Option<&[u8]>, Fault>
         ensures* after { sem 𝓛 (EndsAs S.row S.PageStore self.entry (Lends Next (lent_reply End) self.old result)) }
         ensures short { IfOk result (λ r. IfSome r (λ key. length key.now ≤ 2026)) }
-        ensures only { IfErr result (λ e. (e ≡ Fault.Broken) ⊎ ((e ≡ Fault.NoPass) ⊎ ((e ≡ Fault.Device) ⊎ (e ≡ Fault.Damaged)))) }
+        ensures only { IsErrAmong result (Fault.Broken ∷ Fault.NoPass ∷ Fault.Device ∷ Fault.Damaged ∷ []) }
     {
         if self.store.is_broken() {
             return refuse(&mut self.error, Fault::Broken);
@@ -154,7 +156,8 @@ impl<S: PageStore> Database<S> {
     /// The number of the first fault since the opening or the last clearing, or 0 (POSIX: `dbm_error`). No device call is
     /// made, and a broken database tells it too.
     pub fn error(&self) -> i32
-        ensures step { S.honest (store_of self.now) → (h : Handle) → IsAt self.now h → IsStep self.now self.now h Error (Number (error_number (error_of self.now))) }
+        ensures step { AtEachHandle self.now (λ h.
+            IsStep self.now self.now h Error (Number (error_number (error_of self.now)))) }
         ensures number { result ≡ pos (error_number (error_of self.now)) }
     {
         self.error.map_or(0, Fault::number)
@@ -163,10 +166,10 @@ impl<S: PageStore> Database<S> {
     /// Forgets the first fault, and gives 0 (POSIX: `dbm_clearerr`). No device call is made; the pass goes on, and a broken
     /// database stays broken.
     pub fn clearerr(&mut self) -> i32
-        ensures step { S.honest (store_of self.old) → (h : Handle) → IsAt self.old h → IsStep self.old self.new h Clear (Number 0) }
+        ensures step { AtEachHandle self.old (λ h. IsStep self.old self.new h Clear (Number 0)) }
         ensures zero { result ≡ pos 0 }
         ensures clear { error_of self.new ≡ None }
-        ensures still { (store_of self.new ≡ store_of self.old) × (meta_of self.new ≡ meta_of self.old) }
+        ensures still { (store_of self.new ≡ store_of self.old) × (meta_kept self.new ≡ meta_kept self.old) }
     {
         self.error = None;
         0
@@ -176,13 +179,13 @@ impl<S: PageStore> Database<S> {
     pub fn stat(&self) -> Stat
         ensures counts { (h : Handle) → IsAt self.now h → h.state.usable ≡ true → (result.pairs ≡ len h.state.map) × (result.limit ≡ h.state.limit) }
         ensures shown { result ≡ record {
-          pairs = (meta_of self.now).pairs;
-          limit = (meta_of self.now).limit;
-          buckets = buckets (meta_of self.now);
-          level = (meta_of self.now).level;
-          split = (meta_of self.now).split;
-          pages = (pages_of self.now).end;
-          free = (meta_of self.now).free_count;
+          pairs = (meta_kept self.now).pairs;
+          limit = (meta_kept self.now).limit;
+          buckets = meta_buckets (meta_kept self.now);
+          level = (meta_kept self.now).level;
+          split = (meta_kept self.now).split;
+          pages = (page_state self.now).end;
+          free = (meta_kept self.now).free_count;
         } }
     {
         Stat {
@@ -203,12 +206,13 @@ impl<S: PageStore> Database<S> {
         content: &[u8],
         mode: StoreMode,
     ) -> Result<StoreReply, Fault>
-        ensures step { S.honest (store_of self.old) → (h : Handle) → IsAt self.old h → IsStep self.old (with_error_of self.new result) h (Store key.now content.now (mode_of mode)) (store_reply result) }
-        ensures shape { shape_in (meta_of self.new) ≡ shape_for (meta_of self.new).pairs (shape_in (meta_of self.old)) }
-        ensures read_only { (result ≡ Err Fault.ReadOnly) ↔ (((pages_of self.old).usable ≡ true) × ((pages_of self.old).writable ≡ false)) }
-        ensures too_long { (result ≡ Err Fault.TooLong) ↔ (((pages_of self.old).usable ≡ true) × ((pages_of self.old).writable ≡ true) × (2026 < length key.now + length content.now)) }
-        ensures keeps { Keeps self.old (with_error_of self.new result) result }
-        ensures only { IfErr result (λ e. (e ≡ Fault.Broken) ⊎ ((e ≡ Fault.ReadOnly) ⊎ ((e ≡ Fault.TooLong) ⊎ ((e ≡ Fault.Full) ⊎ ((e ≡ Fault.Memory) ⊎ ((e ≡ Fault.Device) ⊎ ((e ≡ Fault.NoRoom) ⊎ (e ≡ Fault.Damaged)))))))) }
+        ensures step { AtEachHandle self.old (λ h.
+            IsStep self.old (with_error_of self.new result) h (Store key.now content.now (mode_of mode)) (store_reply result)) }
+        ensures shape { shape_in (meta_kept self.new) ≡ shape_for (meta_kept self.new).pairs (shape_in (meta_kept self.old)) }
+        ensures read_only { (result ≡ Err Fault.ReadOnly) ↔ (((page_state self.old).usable ≡ true) × ((page_state self.old).writable ≡ false)) }
+        ensures too_long { (result ≡ Err Fault.TooLong) ↔ (((page_state self.old).usable ≡ true) × ((page_state self.old).writable ≡ true) × (2026 < length key.now + length content.now)) }
+        ensures keeps { IsCallEnded self.old (with_error_of self.new result) result }
+        ensures only { IsErrAmong result (Fault.Broken ∷ Fault.ReadOnly ∷ Fault.TooLong ∷ Fault.Full ∷ Fault.Memory ∷ Fault.Device ∷ Fault.NoRoom ∷ Fault.Damaged ∷ []) }
     {
         if self.store.is_broken() {
             return Err(Fault::Broken);
@@ -240,11 +244,12 @@ impl<S: PageStore> Database<S> {
 
     // `delete`, with no look at the error.
     fn try_delete(&mut self, key: &[u8]) -> Result<DeleteReply, Fault>
-        ensures step { S.honest (store_of self.old) → (h : Handle) → IsAt self.old h → IsStep self.old (with_error_of self.new result) h (Delete key.now) (delete_reply result) }
-        ensures shape { shape_in (meta_of self.new) ≡ shape_in (meta_of self.old) }
-        ensures read_only { (result ≡ Err Fault.ReadOnly) ↔ (((pages_of self.old).usable ≡ true) × ((pages_of self.old).writable ≡ false)) }
-        ensures keeps { Keeps self.old (with_error_of self.new result) result }
-        ensures only { IfErr result (λ e. (e ≡ Fault.Broken) ⊎ ((e ≡ Fault.ReadOnly) ⊎ ((e ≡ Fault.Memory) ⊎ ((e ≡ Fault.Device) ⊎ ((e ≡ Fault.NoRoom) ⊎ (e ≡ Fault.Damaged)))))) }
+        ensures step { AtEachHandle self.old (λ h.
+            IsStep self.old (with_error_of self.new result) h (Delete key.now) (delete_reply result)) }
+        ensures shape { shape_in (meta_kept self.new) ≡ shape_in (meta_kept self.old) }
+        ensures read_only { (result ≡ Err Fault.ReadOnly) ↔ (((page_state self.old).usable ≡ true) × ((page_state self.old).writable ≡ false)) }
+        ensures keeps { IsCallEnded self.old (with_error_of self.new result) result }
+        ensures only { IsErrAmong result (Fault.Broken ∷ Fault.ReadOnly ∷ Fault.Memory ∷ Fault.Device ∷ Fault.NoRoom ∷ Fault.Damaged ∷ []) }
     {
         if self.store.is_broken() {
             return Err(Fault::Broken);
@@ -266,12 +271,12 @@ impl<S: PageStore> Database<S> {
     // Moves the pass to the pair behind the cursor, and gives its slot in the page. A refusal leaves the pass where it is,
     // and the first fault is kept.
     fn advance(&mut self, from: Cursor) -> Result<Option<usize>, Fault>
-        requires { (pages_of self.old).usable ≡ true }
-        ensures step { S.honest (store_of self.old) → (h : Handle) → IsAt self.old h → (call : Call) (keys : Keys) → case_of h.state call ≡ Passes keys → HasLeft (S.committed (store_of self.old)) (meta_of self.old) from keys →
-            IsStep self.old self.new h call (slot_reply self.new.page.bytes result) }
-        ensures held { IfOk result (λ found. IfSome found (λ slot. IsBucketPage self.new.page.bytes × (slot < length (pairs_of self.new.page.bytes)))) }
-        ensures keeps { Keeps self.old self.new result }
-        ensures only { IfErr result (λ e. (e ≡ Fault.Device) ⊎ (e ≡ Fault.Damaged)) }
+        requires { (page_state self.old).usable ≡ true }
+        ensures step { AtEachHandle self.old (λ h.
+            (call : Call) (keys : Keys) → case_of h.state call ≡ Passes keys → HasLeft (S.committed (store_of self.old)) (meta_kept self.old) from keys → IsStep self.old self.new h call (slot_reply self.new.page.bytes result)) }
+        ensures held { IfOk result (λ found. IfSome found (λ slot. IsBucketPage self.new.page.bytes × (slot < length (page_pairs self.new.page.bytes)))) }
+        ensures keeps { IsCallEnded self.old self.new result }
+        ensures only { IsErrAmong result (Fault.Device ∷ Fault.Damaged ∷ []) }
     {
         match next_pair(&mut self.store, &self.meta, from, &mut self.page) {
             Ok(Some((bucket, place))) => {
@@ -293,9 +298,9 @@ impl<S: PageStore> Database<S> {
     fn has(&mut self, key: &[u8]) -> Result<bool, PageFault>
         ensures reads { IsRead self.old self.new }
         ensures cause { HasDeviceCause (S.faults (store_of self.old)) (S.faults (store_of self.new)) result }
-        ensures answer { IsWalkAnswer (pages_of self.old) result }
-        ensures exact { S.honest (store_of self.old) → (map : Contents) → Holds S.PageStore (store_of self.old) (meta_of self.old) map → IfOk result (λ there. there ≡ is_some (get map key.now)) }
-        ensures whole { S.honest (store_of self.old) → (map : Contents) → Holds S.PageStore (store_of self.old) (meta_of self.old) map → IsErrOf result Damaged → ⊥ }
+        ensures answer { IsWalkAnswer (page_state self.old) result }
+        ensures exact { S.honest (store_of self.old) → (map : Contents) → Holds S.PageStore (store_of self.old) (meta_kept self.old) map → IfOk result (λ there. there ≡ is_some (get map key.now)) }
+        ensures whole { S.honest (store_of self.old) → (map : Contents) → Holds S.PageStore (store_of self.old) (meta_kept self.old) map → IsErrOf result Damaged → ⊥ }
     {
         let place = find_pair(&mut self.store, &self.meta, key, &mut self.page)?;
         Ok(place.is_some())

@@ -2,7 +2,7 @@
 
 ghost use Rattle.std.specs.Prelude.{◌≡◌, ◌≢◌, ◌&&◌, false, IfOk, IfErr};
 ghost use Rattle.file_opening.specs.Opening.{writes};
-ghost use Rattle.dbm_file.specs.Opened.{IsFresh};
+ghost use Rattle.dbm_file.specs.Opened.{IsNewlyOpened};
 ghost use Rattle.dbm_file.specs.Named.{OpensFile};
 
 use crate::database::Db;
@@ -28,7 +28,7 @@ pub fn dbm_open<R: Files<File = File>>(
     name: &str,
     how: OpenHow,
 ) -> Result<Db<FileDev>, Fault>
-    ensures fresh { IfOk result (IsFresh (writes how.access) 2250498) }
+    ensures fresh { IfOk result (IsNewlyOpened (writes how.access) 2250498) }
     ensures missing { IfErr result (λ fault. fault ≡ Fault.Missing → (writes how.access && how.create) ≡ false) }
     ensures only { IfErr result (λ fault. (fault ≢ Fault.Broken) × (fault ≢ Fault.TooLong) × (fault ≢ Fault.Full) × (fault ≢ Fault.NoPass)) }
 

@@ -3,7 +3,7 @@
 ghost use Rattle.std.specs.Prelude.{◌≡◌, ◌≢◌, ◌⊎◌, ◌↔◌, ◌≤◌, ◌<◌, ◌/◌, ℕ, IfOk, IfErr, IfSome, None, Err, true, false, if◌then◌else◌, map};
 ghost use Rattle.std.specs.FinMap.{empty};
 ghost use Rattle.sect_dev.specs.Device.{Image, IsImageOf, IsStable, LeavesOnly, MoreFaults};
-ghost use Rattle.sect_dev.specs.Moments.{Reads};
+ghost use Rattle.sect_dev.specs.Moments.{IsOutcome};
 ghost use Rattle.dbm_model.specs.Pairs.{Contents};
 ghost use Rattle.page_io.specs.Meaning.{ImageStandsFor};
 ghost use Rattle.redo_commit.specs.File.{settled};
@@ -12,7 +12,7 @@ ghost use Rattle.redo_area.specs.Reading.{OnlyReads};
 ghost use Rattle.dbm_model.specs.States.{Handle};
 ghost use Rattle.dbm_file.specs.Database.{store_of, IsAt};
 ghost use Rattle.file_opening.specs.Opening.{writes, early_fault, IsRefusedOpening, AllAllow, MayRemain, AllStand, IsOpened};
-ghost use Rattle.dbm_file.specs.Opened.{device_after, IsFresh, IsOpenedAt};
+ghost use Rattle.dbm_file.specs.Opened.{device_opened, IsNewlyOpened, IsOpenedAt};
 
 use crate::database::{Database, Db};
 use crate::{Fault, OpenHow};
@@ -41,16 +41,16 @@ impl<D: SectorDev> Database<Pager<D>> {
     /// A stop within it leaves the database that was there, or the empty one that was asked for.
     pub fn open(alloc: Global, dev: D, how: OpenHow) -> Result<Db<D>, (D, Fault)>
         ensures early { IfSome (early_fault how (D.sectors dev)) (λ fault. result ≡ Err (dev, fault)) }
-        ensures fresh { IfOk result (IsFresh (writes how.access) (D.sectors dev / 4)) }
+        ensures fresh { IfOk result (IsNewlyOpened (writes how.access) (D.sectors dev / 4)) }
 
         // Every image of every moment settles as one did at the start, or stands for the empty database that was asked for.
-        ensures any_moment { D.honest dev → LeavesOnly D.moment (Reads D.left_since (settled (D.sectors dev / 4))) dev (device_after result) (MayRemain how (D.sectors dev / 4) (D.candidate dev)) }
+        ensures any_moment { D.honest dev → LeavesOnly D.moment (IsOutcome D.left_since (settled (D.sectors dev / 4))) dev (device_opened result) (MayRemain how (D.sectors dev / 4) (D.candidate dev)) }
 
         // Where each image at the start is blank or stands for a map, what is opened holds one of these maps, or is new and empty.
         ensures stands { D.honest dev → (writes how.access ≡ false → IsStable (D.candidate dev) (D.seen dev)) → AllStand (D.sectors dev / 4) (D.candidate dev) → IfOk result (λ db. (map : Contents) × (limit : ℕ) × IsOpenedAt (writes how.access) db map limit × IsOpened how (D.sectors dev / 4) (D.candidate dev) map limit) }
 
         // For reading, nothing is written and nothing synced.
-        ensures only_reads { writes how.access ≡ false → D.honest dev → OnlyReads D.SectorDev dev (device_after result) }
+        ensures only_reads { writes how.access ≡ false → D.honest dev → OnlyReads D.SectorDev dev (device_opened result) }
 
         // Where each image stands for a map and allows what is asked, nothing but the device and want of memory refuses it.
         ensures opens { D.honest dev → early_fault how (D.sectors dev) ≡ None → AllStand (D.sectors dev / 4) (D.candidate dev) → AllAllow how (D.sectors dev) (D.candidate dev) →
@@ -58,9 +58,9 @@ impl<D: SectorDev> Database<Pager<D>> {
         ensures refused { D.honest dev → early_fault how (D.sectors dev) ≡ None → IfErr result (λ e. e.1 ≢ Fault.Device → IsRefusedOpening how (D.sectors dev) (D.candidate dev) (D.candidate e.0) e.1) }
         ensures device { IfErr result (λ e. e.1 ≡ Fault.Device → MoreFaults (D.faults dev) (D.faults e.0)) }
         ensures only { IfErr result (λ e. (e.1 ≢ Fault.Broken) × (e.1 ≢ Fault.TooLong) × (e.1 ≢ Fault.Full) × (e.1 ≢ Fault.NoPass) × (e.1 ≢ Fault.Missing)) }
-        ensures honesty { D.honest (device_after result) ↔ D.honest dev }
-        ensures later { D.faults dev ≤ D.faults (device_after result) }
-        ensures size { (D.sectors (device_after result) / 4 ≡ D.sectors dev / 4) × (how.truncate ≡ false → D.sectors (device_after result) ≡ D.sectors dev) }
+        ensures honesty { D.honest (device_opened result) ↔ D.honest dev }
+        ensures later { D.faults dev ≤ D.faults (device_opened result) }
+        ensures size { (D.sectors (device_opened result) / 4 ≡ D.sectors dev / 4) × (how.truncate ≡ false → D.sectors (device_opened result) ≡ D.sectors dev) }
     {
         match open_file(alloc, dev, how) {
             Ok(file) => Ok(Database {

@@ -1,9 +1,8 @@
 // A list of calls, one after another.
 ghost use Rattle.std.specs.Prelude.{◌≡◌, ◌<◌, ◌≤◌, ◌+◌, ◌∷◌, [], IfOk, IfErr, IfSome, IsTrue, map, vec_len, length};
-ghost use Rattle.dbm_model.specs.States.{Handle};
 ghost use Rattle.dbm_file.specs.Calls.{call_of, reply_of, lent_reply};
-ghost use Rattle.dbm_file.specs.Database.{store_of, IsAt};
-ghost use Rattle.dbm_file.specs.Answers.{IsStep, IsRun, Goes};
+ghost use Rattle.dbm_file.specs.Database.{AtEachHandle};
+ghost use Rattle.dbm_file.specs.Answers.{IsStep, IsRun, IsSameDatabase};
 ghost use Rattle.dbm_file.specs.Rooms.{IsRoom, AreRooms, rooms_in, gives_bytes as call_gives_bytes};
 
 use crate::{Call, Database, DeleteReply, Fault, Octets, Reply, StoreReply};
@@ -11,7 +10,7 @@ use page_io::PageStore;
 use std::alloc::{AllocError, Global};
 
 /// The bytes that a content or a key may have.
-const ROOM: usize = 2026;
+const LONGEST_REPLY: usize = 2026;
 
 /// Makes the calls in order, and gives one reply a call. The list of the replies and the room of each
 /// content and key are reserved first: `Memory` there means that no call was made, and no call fails for
@@ -21,9 +20,10 @@ pub fn run<S: PageStore>(
     db: &mut Database<S>,
     calls: &[Call],
 ) -> Result<Vec<Reply>, Fault>
-    ensures run { S.honest (store_of db.old) → (h : Handle) → IsAt db.old h → IfOk result (λ replies. IsRun db.old db.new h (map call_of calls.now) (map reply_of replies.items)) }
+    ensures run { AtEachHandle db.old (λ h.
+        IfOk result (λ replies. IsRun db.old db.new h (map call_of calls.now) (map reply_of replies.items))) }
     ensures one_each { IfOk result (λ replies. vec_len replies ≡ length calls.now) }
-    ensures goes { Goes db.old db.new }
+    ensures goes { IsSameDatabase db.old db.new }
     ensures memory { IfErr result (λ e. (e ≡ Fault.Memory) × (db.new ≡ db.old)) }
 {
     let Ok(mut replies) = Vec::with_capacity(alloc, calls.len()) else {
@@ -46,7 +46,7 @@ fn rooms_for(alloc: Global, calls: &[Call]) -> Result<Vec<Vec<u8>>, AllocError>
     let mut rooms = Vec::new(alloc);
     for call in calls {
         if gives_bytes(call) {
-            rooms.push(Vec::with_capacity(alloc, ROOM)?)?;
+            rooms.push(Vec::with_capacity(alloc, LONGEST_REPLY)?)?;
         }
     }
     Ok(rooms)
@@ -62,8 +62,8 @@ fn gives_bytes(call: &Call) -> bool
 /// Makes a call. One that gives bytes takes one of the rooms.
 fn answer<S: PageStore>(db: &mut Database<S>, call: &Call, rooms: &mut Vec<Vec<u8>>) -> Reply
     requires { AreRooms (vec_len rooms.old) rooms.old × (IsTrue (call_gives_bytes call.now) → 0 < vec_len rooms.old) }
-    ensures step { S.honest (store_of db.old) → (h : Handle) → IsAt db.old h → IsStep db.old db.new h (call_of call.now) (reply_of result) }
-    ensures goes { Goes db.old db.new }
+    ensures step { AtEachHandle db.old (λ h. IsStep db.old db.new h (call_of call.now) (reply_of result)) }
+    ensures goes { IsSameDatabase db.old db.new }
     ensures rooms { AreRooms (vec_len rooms.new) rooms.new }
     ensures taken { vec_len rooms.old ≡ rooms_in (call.now ∷ []) + vec_len rooms.new }
 {

@@ -8,13 +8,13 @@ use Rattle.std.proofs.lemmas.List.Elements.{All-append, All-cons, All-head, All-
 use Rattle.std.proofs.lemmas.List.Splits.{slice_split_at, slice_split_none}
 use Rattle.hex.specs.Hex.{encode_lower, is_hex_digit}
 use Rattle.hex.proofs.HexLemmas.{decode_of-ok, decode_of-encode_lower}
-use Rattle.dbm_text.specs.Dumps.{pair_line}
+use Rattle.dbm_text.specs.Dumps.{dump_line}
 use Rattle.dbm_text.specs.Lines.{lines_of, onto_line, words_in}
 use Rattle.page_model.specs.PairLists.{AreBytes, HasBytes}
 use Rattle.dbm_model.specs.Pairs.{Pair}
-use Rattle.dbm_text.specs.Words.{word_of, bytes_of}
+use Rattle.dbm_text.specs.Words.{word_of, word_bytes}
 use Rattle.dbm_text.proofs.WordLemmas.{reads_back}
-use Rattle.dbm_lines.specs.PairLines.{pair_of_words, pair_of, Say}
+use Rattle.dbm_lines.specs.PairLines.{pair_of_words, pair_of_line, Say}
 
 -- the byte is nowhere among these
 abbrev IsWithout : ℕ → List ℕ → Type 0
@@ -59,30 +59,30 @@ unlimited : {A : Type 0} (b : Bool) (said : Option A) (x : A) → cond b None sa
 unlimited true said x e = cc
 unlimited false said x e = e
 
-two_words : (key content word second : List ℕ) → bytes_of word ≡ Some key → bytes_of second ≡ Some content → pair_of_words (word ∷ second ∷ []) ≡ Some (key, content)
-two_words key content word second k c = ap (λ (o : Option (List ℕ)). option_and_then (λ key. option_map (λ content. (key, content)) (bytes_of second)) o) k ∙ ap (option_map (λ content. (key, content))) c
+two_words : (key content word second : List ℕ) → word_bytes word ≡ Some key → word_bytes second ≡ Some content → pair_of_words (word ∷ second ∷ []) ≡ Some (key, content)
+two_words key content word second k c = ap (λ (o : Option (List ℕ)). option_and_then (λ key. option_map (λ content. (key, content)) (word_bytes second)) o) k ∙ ap (option_map (λ content. (key, content))) c
 
 seen_some : {A : Type 0} (x y : A) → Some x ≡ Some y → x ≡ y
 seen_some x y e = cc
 
-line_says : (pair said : Pair) → HasBytes pair → pair_of (joined pair) ≡ Some said → said ≡ pair
+line_says : (pair said : Pair) → HasBytes pair → pair_of_line (joined pair) ≡ Some said → said ≡ pair
 line_says pair said small is =
     let words = ap pair_of_words (words_joined pair small) ∙ two_words pair.0 pair.1 (word_of pair.0) (word_of pair.1) (reads_back pair.0 small.0) (reads_back pair.1 small.1) in
     seen_some said pair (sym (unlimited (nat_lt 8192 (length (joined pair))) (pair_of_words (words_in (joined pair))) said is) ∙ words)
 
-first_says : (line : List ℕ) (lines : List (List ℕ)) (pair : Pair) (pairs said : List Pair) → ((first : Pair) → pair_of line ≡ Some first → first ≡ pair) → ((later : List Pair) → Say lines later → later ≡ pairs) → Say (line ∷ lines) said → said ≡ pair ∷ pairs
+first_says : (line : List ℕ) (lines : List (List ℕ)) (pair : Pair) (pairs said : List Pair) → ((first : Pair) → pair_of_line line ≡ Some first → first ≡ pair) → ((later : List Pair) → Say lines later → later ≡ pairs) → Say (line ∷ lines) said → said ≡ pair ∷ pairs
 first_says line lines pair pairs [] one rest is = cc
 first_says line lines pair pairs (first ∷ said) one rest is =
-    let head : pair_of line ≡ Some first = cc in
-    let tail : map pair_of lines ≡ map Some said = cc in
+    let head : pair_of_line line ≡ Some first = cc in
+    let tail : map pair_of_line lines ≡ map Some said = cc in
     λ i. one first head i ∷ rest said tail i
 
 -- where the lines of pairs say pairs, they are the same
-pub lines_say : (pairs said : List Pair) → All HasBytes pairs → Say (lines_of (flat_map pair_line pairs)) said → said ≡ pairs
+pub lines_say : (pairs said : List Pair) → All HasBytes pairs → Say (lines_of (flat_map dump_line pairs)) said → said ≡ pairs
 lines_say [] [] small is = refl
 lines_say [] (other ∷ said) small is = cc
 lines_say (pair ∷ pairs) said small is =
     let one = All-head HasBytes pair pairs small in
-    let rest = flat_map pair_line pairs in
-    let cut : lines_of (flat_map pair_line (pair ∷ pairs)) ≡ joined pair ∷ lines_of rest = ap lines_of (append_assoc (joined pair) (10 ∷ []) rest) ∙ lines_after (joined pair) rest (joined_without pair one) in
-    first_says (joined pair) (lines_of rest) pair pairs said (λ first is. line_says pair first one is) (λ later is. lines_say pairs later (All-tail HasBytes pair pairs small) is) (sym (ap (map pair_of) cut) ∙ is)
+    let rest = flat_map dump_line pairs in
+    let cut : lines_of (flat_map dump_line (pair ∷ pairs)) ≡ joined pair ∷ lines_of rest = ap lines_of (append_assoc (joined pair) (10 ∷ []) rest) ∙ lines_after (joined pair) rest (joined_without pair one) in
+    first_says (joined pair) (lines_of rest) pair pairs said (λ first is. line_says pair first one is) (λ later is. lines_say pairs later (All-tail HasBytes pair pairs small) is) (sym (ap (map pair_of_line) cut) ∙ is)

@@ -2,7 +2,7 @@
 use Rattle.std.proofs.Common.{◌≡◌, ◌==◌, ℕ, true, false, cond, List, [], ◌∷◌, Option, Some, None, IfSome, is_some, refl, sym}
 use Rattle.std.specs.List.{onto_first}
 use Rattle.dbm_text.specs.Lines.{words_in, call_of_words, key_call, pair_call}
-use Rattle.dbm_text.specs.Words.{bytes_of}
+use Rattle.dbm_text.specs.Words.{word_bytes}
 use Rattle.std.specs.Prelude.{option_and_then}
 use Rattle.dbm_lines.specs.PairLines.{pair_of_words}
 
@@ -29,7 +29,7 @@ no_pair name none (Some key) None = refl
 no_pair name none (Some key) (Some content) = sym (none key content)
 
 many_words : (name : List ℕ) → ((k c : List ℕ) → pair_call name k c ≡ None) → (key word : List ℕ) (words : List (List ℕ)) → None ≡ call_of_words (name ∷ key ∷ word ∷ words)
-many_words name none key word [] = no_pair name none (bytes_of key) (bytes_of word)
+many_words name none key word [] = no_pair name none (word_bytes key) (word_bytes word)
 many_words name none key word (more ∷ words) = refl
 
 -- a call of a key has one word after its name
@@ -49,5 +49,5 @@ no_name name rest none = let first = first_word rest in rw (first.2) (by_words f
     by_key (Some key) = sym (none key []).0
 
     by_words : (word : List ℕ) (words : List (List ℕ)) → None ≡ call_of_words (name ∷ word ∷ words)
-    by_words word [] = by_key (bytes_of word)
+    by_words word [] = by_key (word_bytes word)
     by_words word (more ∷ words) = many_words name (λ key content. (none key content).1) word more words

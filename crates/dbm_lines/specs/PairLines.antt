@@ -3,17 +3,17 @@ use Rattle.std.specs.Prelude.{◌≡◌, ℕ, nat_lt, List, [], ◌∷◌, lengt
 use Rattle.std.specs.Option.{option_map}
 use Rattle.dbm_text.specs.Lines.{words_in}
 use Rattle.dbm_model.specs.Pairs.{Pair}
-use Rattle.dbm_text.specs.Words.{bytes_of}
+use Rattle.dbm_text.specs.Words.{word_bytes}
 
 -- `key content`
 abbrev pub pair_of_words : List (List ℕ) → Option Pair
-pair_of_words (key ∷ content ∷ []) = option_and_then (λ k. option_map (λ c. (k, c)) (bytes_of content)) (bytes_of key)
+pair_of_words (key ∷ content ∷ []) = option_and_then (λ k. option_map (λ c. (k, c)) (word_bytes content)) (word_bytes key)
 pair_of_words _ = None
 
 -- the pair that a line says, if it is no bad line
-abbrev pub pair_of : List ℕ → Option Pair
-pair_of line = if nat_lt 8192 (length line) then None else pair_of_words (words_in line)
+abbrev pub pair_of_line : List ℕ → Option Pair
+pair_of_line line = if nat_lt 8192 (length line) then None else pair_of_words (words_in line)
 
 -- the lines say these pairs, one each, in order
 abbrev pub Say : List (List ℕ) → List Pair → Type 0
-Say lines pairs = map pair_of lines ≡ map Some pairs
+Say lines pairs = map pair_of_line lines ≡ map Some pairs

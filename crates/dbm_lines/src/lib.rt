@@ -8,7 +8,7 @@ mod replies;
 
 pub use buffers::Buffers;
 pub use lines::{KEPT, read_line};
-pub use parsing::{ROOM, Request, decode_word, pair_in_line, request_of};
+pub use parsing::{LONGEST_WORD, Request, decode_word, pair_in_line, request_of};
 pub use replies::{
     DIGITS, write_absent, write_bad_line, write_bytes, write_deleted, write_end, write_kept,
     write_no_record, write_number, write_refused, write_stored, write_word,

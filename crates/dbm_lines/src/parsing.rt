@@ -1,17 +1,17 @@
 // Lines as requests and as pairs.
 ghost use Rattle.std.specs.Prelude.{◌≡◌, ◌==◌, ◌≤◌, ◌*◌, ◌∷◌, [], IfSome, IfNone, length, position, codes, Option, None};
 ghost use Rattle.std.specs.Option.{option_map};
-ghost use Rattle.dbm_text.specs.Words.{bytes_of};
-ghost use Rattle.dbm_text.specs.Lines.{words_in, call_of, call_of_words, bare_call};
+ghost use Rattle.dbm_text.specs.Words.{word_bytes};
+ghost use Rattle.dbm_text.specs.Lines.{words_in, call_in_line, call_of_words, bare_call};
 ghost use Rattle.dbm_model.specs.Calls.{Fetch, Delete};
-ghost use Rattle.dbm_lines.specs.PairLines.{pair_of, pair_of_words};
+ghost use Rattle.dbm_lines.specs.PairLines.{pair_of_line, pair_of_words};
 ghost use Rattle.dbm_lines.specs.Requests.{asked, IsNamed};
 
 /// The bytes that a line may have.
-pub const LONGEST: usize = 8192;
+pub const LONGEST_LINE: usize = 8192;
 
 /// The bytes that a word of a line may stand for.
-pub const ROOM: usize = LONGEST / 2;
+pub const LONGEST_WORD: usize = LONGEST_LINE / 2;
 
 /// What a line asks for.
 #[derive(Clone, Copy)]
@@ -31,12 +31,12 @@ pub enum Request<'a> {
 /// Reads a line without its line feed. The bytes of the words go to `key` and `content`.
 pub fn request_of<'a>(
     line: &[u8],
-    key: &'a mut [u8; ROOM],
-    content: &'a mut [u8; ROOM],
+    key: &'a mut [u8; LONGEST_WORD],
+    content: &'a mut [u8; LONGEST_WORD],
 ) -> Request<'a>
-    ensures { asked result ≡ call_of line.now }
+    ensures { asked result ≡ call_in_line line.now }
 {
-    if line.len() > LONGEST {
+    if line.len() > LONGEST_LINE {
         return Request::Bad;
     }
     match line {
@@ -60,8 +60,8 @@ enum Name {
 /// The request of a line that has words after a name.
 fn request_with_words<'a>(
     line: &[u8],
-    key: &'a mut [u8; ROOM],
-    content: &'a mut [u8; ROOM],
+    key: &'a mut [u8; LONGEST_WORD],
+    content: &'a mut [u8; LONGEST_WORD],
 ) -> Request<'a>
     requires { length line.now ≤ 8192 }
     ensures { bare_call line.now ≡ None → asked result ≡ call_of_words (words_in line.now) }
@@ -98,7 +98,7 @@ fn name_of(name: &[u8]) -> Option<Name>
 }
 
 /// The key that a fetch or a delete names, of the words after its name.
-fn key_request<'a>(words: &[u8], key: &'a mut [u8; ROOM]) -> Option<&'a [u8]>
+fn key_request<'a>(words: &[u8], key: &'a mut [u8; LONGEST_WORD]) -> Option<&'a [u8]>
     requires { length words.now ≤ 8192 }
     ensures fetch { option_map (λ key. Fetch key.now) result ≡ call_of_words (codes "F" ∷ words_in words.now) }
     ensures delete { option_map (λ key. Delete key.now) result ≡ call_of_words (codes "D" ∷ words_in words.now) }
@@ -112,8 +112,8 @@ fn key_request<'a>(words: &[u8], key: &'a mut [u8; ROOM]) -> Option<&'a [u8]>
 /// The request of a store, of the words after its name.
 fn store_request<'a>(
     words: &[u8],
-    key: &'a mut [u8; ROOM],
-    content: &'a mut [u8; ROOM],
+    key: &'a mut [u8; LONGEST_WORD],
+    content: &'a mut [u8; LONGEST_WORD],
 ) -> Request<'a>
     requires { length words.now ≤ 8192 }
     ensures { asked result ≡ call_of_words (codes "S" ∷ words_in words.now) }
@@ -127,8 +127,8 @@ fn store_request<'a>(
 /// The request of an insert, of the words after its name.
 fn insert_request<'a>(
     words: &[u8],
-    key: &'a mut [u8; ROOM],
-    content: &'a mut [u8; ROOM],
+    key: &'a mut [u8; LONGEST_WORD],
+    content: &'a mut [u8; LONGEST_WORD],
 ) -> Request<'a>
     requires { length words.now ≤ 8192 }
     ensures { asked result ≡ call_of_words (codes "I" ∷ words_in words.now) }
@@ -142,12 +142,12 @@ fn insert_request<'a>(
 /// The pair of a line `key content` without its line feed, if it says one. The bytes of the words go to `key` and `content`.
 pub fn pair_in_line<'a>(
     line: &[u8],
-    key: &'a mut [u8; ROOM],
-    content: &'a mut [u8; ROOM],
+    key: &'a mut [u8; LONGEST_WORD],
+    content: &'a mut [u8; LONGEST_WORD],
 ) -> Option<(&'a [u8], &'a [u8])>
-    ensures { option_map (λ pair. (pair.0.now, pair.1.now)) result ≡ pair_of line.now }
+    ensures { option_map (λ pair. (pair.0.now, pair.1.now)) result ≡ pair_of_line line.now }
 {
-    if line.len() > LONGEST {
+    if line.len() > LONGEST_LINE {
         return None;
     }
     pair_in_words(line, key, content)
@@ -156,8 +156,8 @@ pub fn pair_in_line<'a>(
 /// The pair of a key and a content that are two words.
 fn pair_in_words<'a>(
     words: &[u8],
-    key: &'a mut [u8; ROOM],
-    content: &'a mut [u8; ROOM],
+    key: &'a mut [u8; LONGEST_WORD],
+    content: &'a mut [u8; LONGEST_WORD],
 ) -> Option<(&'a [u8], &'a [u8])>
     requires { length words.now ≤ 8192 }
     ensures { option_map (λ pair. (pair.0.now, pair.1.now)) result ≡ pair_of_words (words_in words.now) }
@@ -192,7 +192,7 @@ fn first_space(line: &[u8]) -> Option<usize>
 /// The bytes that a word stands for, put into `room`, if it is one.
 pub fn decode_word<'a>(word: &[u8], room: &'a mut [u8]) -> Option<&'a [u8]>
     requires { length word.now ≤ 2 * length room.old }
-    ensures { option_map (λ bytes. bytes.now) result ≡ bytes_of word.now }
+    ensures { option_map (λ bytes. bytes.now) result ≡ word_bytes word.now }
 {
     if word == b".".as_slice() {
         return Some(&[]);

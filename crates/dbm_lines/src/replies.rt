@@ -8,10 +8,10 @@ ghost use Rattle.dbm_text.specs.Words.{word_of};
 use std::io::{self, Write};
 
 /// The bytes that a content or a key may have.
-const LONGEST: usize = 2026;
+const LONGEST_REPLY: usize = 2026;
 
 /// The digits of the longest word.
-pub const DIGITS: usize = 2 * LONGEST;
+pub const DIGITS: usize = 2 * LONGEST_REPLY;
 
 /// Writes the line of a call that stored its pair.
 pub fn write_stored<W: Write>(writer: &mut W) -> io::Result<()>

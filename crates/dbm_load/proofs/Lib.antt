@@ -1,2 +1,2 @@
-pub mod LoadingRuns
 pub mod Loading
+pub mod LoadingRuns

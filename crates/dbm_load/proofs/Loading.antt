@@ -8,17 +8,18 @@ use Rattle.dbm_model.specs.Pairs.{Pair}
 use Rattle.dbm_model.specs.States.{Handle}
 use Rattle.dbm_model.specs.Steps.{Run}
 use Rattle.page_io.specs.declared.store.PageStore.{Ghosts}
-use Rattle.dbm_file.specs.Answers.{IsStep, IsRun, Goes}
+use Rattle.dbm_file.specs.Answers.{IsStep, IsRun, IsSameDatabase}
 use Rattle.dbm_file.specs.Calls.{store_reply}
-use Rattle.dbm_file.specs.Database.{store_of, meta_of, IsAt}
+use Rattle.dbm_file.specs.Database.{store_of, meta_kept, IsAt}
 use Rattle.dbm_fault.specs.Faults.{fault_of}
 use Rattle.dbm_file.specs.declared.calls.StoreReply.{StoreReply}
 use Rattle.dbm_file.specs.declared.calls.StoreReply.TheVariants as stored
 use Rattle.dbm_file.specs.declared.database.Database.{Database}
 use Rattle.dbm_file.proofs.Runs.{goes_on_with}
-use Rattle.dbm_lines.specs.PairLines.{pair_of_words, pair_of, Say}
+use Rattle.dbm_lines.specs.PairLines.{pair_of_words, pair_of_line, Say}
 use Rattle.dbm_load.specs.Loading.{replacing, StoresAll, StoresBefore, Loads, LoadsDump, LoadsLine}
 use Rattle.dbm_lines.specs.Reading.{line_bytes, after_line, ReadsLine}
+use Rattle.dbm_fault.specs.declared.fault.Fault as db
 use Rattle.dbm_fault.specs.declared.engine_fault.EngineFault.{EngineFault}
 use Rattle.dbm_fault.specs.declared.engine_fault.EngineFault.TheVariants.{Memory, Read, Write, Line, Db}
 use Rattle.dbm_lines.proofs.TextLines.{first_line, limited-take}
@@ -26,7 +27,7 @@ use Rattle.dbm_load.proofs.LoadingRuns.{fills, never_kept}
 use Rattle.dbm_lines.proofs.PairLines.{lines_say}
 
 -- a byte past the limit tells as much as the whole line
-pair_of-take : (line : List ℕ) → pair_of (take 8193 line) ≡ pair_of line
+pair_of-take : (line : List ℕ) → pair_of_line (take 8193 line) ≡ pair_of_line line
 pair_of-take line = limited-take (λ line. pair_of_words (words_in line)) 8192 line
 
 -- of a text, the lines that were read, and what is left
@@ -49,13 +50,13 @@ at_start db None none = record { done = []; stored = []; read = tt; said = refl;
 at_start db (Some text) none = record { done = []; stored = []; read = refl; said = refl; counted = refl; stores = λ honest h at. none h honest at }
 
 -- the line that was read is the next one of the text, or says the same
-read_on : (first now next : Option (List ℕ)) (line : List ℕ) (done : List (List ℕ)) → AreRead first now done → IfSome now (λ text. ReadsLine 8193 text true line next) → (whole : List ℕ) × (pair_of whole ≡ pair_of line) × AreRead first next (done ++ whole ∷ [])
+read_on : (first now next : Option (List ℕ)) (line : List ℕ) (done : List (List ℕ)) → AreRead first now done → IfSome now (λ text. ReadsLine 8193 text true line next) → (whole : List ℕ) × (pair_of_line whole ≡ pair_of_line line) × AreRead first next (done ++ whole ∷ [])
 read_on None now next line done h r = (line, refl, tt)
 read_on (Some text) None next line done h r = absurd h
 read_on (Some text) (Some []) next line done h r = let e = r.0 in cc
 read_on (Some text) (Some (x ∷ xs)) next line done h r = (
   line_bytes (x ∷ xs),
-  sym (pair_of-take (line_bytes (x ∷ xs))) ∙ sym (ap pair_of r.1),
+  sym (pair_of-take (line_bytes (x ∷ xs))) ∙ sym (ap pair_of_line r.1),
   rw (r.2) (h ∙ ap (λ rest. done ++ rest) (first_line x xs) ∙ sym (append_assoc done (line_bytes (x ∷ xs) ∷ []) (lines_of (after_line (x ∷ xs))))),
 )
 
@@ -69,7 +70,7 @@ left_behind : (first : Option (List ℕ)) (done : List (List ℕ)) (line : List 
 left_behind None done line rest h = tt
 left_behind (Some text) done line rest h = h ∙ append_assoc done (line ∷ []) rest
 
-module _ {S : Type 0} (s : Ghosts S) (old mid new : Database S s) (limit : (meta_of mid).limit ≡ (meta_of old).limit) (honesty : s.honest (store_of old) → s.honest (store_of mid)) (goes : Goes mid new) where
+module _ {S : Type 0} (s : Ghosts S) (old mid new : Database S s) (limit : (meta_kept mid).limit ≡ (meta_kept old).limit) (honesty : s.honest (store_of old) → s.honest (store_of mid)) (goes : IsSameDatabase mid new) where
   -- one more pair was stored
   one_more : (pairs : List Pair) (pair : Pair) → StoresAll old mid pairs → (s.honest (store_of mid) → (h : Handle) → IsAt mid h → IsStep mid new h (replacing pair) Stored) → StoresAll old new (pairs ++ pair ∷ [])
   one_more pairs pair stores step honest h at =
@@ -95,33 +96,40 @@ replaced {S} {s} (Some pair) key content stored.Stored number old new e step =
     subst (λ (p : Pair). s.honest (store_of old) → (h : Handle) → IsAt old h → IsStep old new h (replacing p) Stored) same step
 replaced (Some pair) key content stored.Kept number old new e step = λ honest h at. let one = step honest h at in absurd (never_kept h one.after key content one.step)
 
-module _ {S : Type 0} (s : Ghosts S) (old mid new : Database S s) (first now next : Option (List ℕ)) (line : List ℕ) (number : ℕ) (limit : (meta_of mid).limit ≡ (meta_of old).limit) (honesty : s.honest (store_of old) → s.honest (store_of mid)) (goes : Goes mid new) (h : IsLoading old mid first now number)
+-- and what its refusal does
+pub refused_line : {S : Type 0} {s : Ghosts S} (said : Option Pair) (key content : List ℕ) (fault : db.Fault) (number : ℕ) (old new : Database S s) → Some (key, content) ≡ said
+    → (s.honest (store_of old) → (h : Handle) → IsAt old h → IsStep old new h (Store key content Replace) (Refused (fault_of fault))) → LoadsLine (Err (Db fault)) said number old new
+refused_line None key content fault number old new e step = cc
+refused_line {S} {s} (Some pair) key content fault number old new e step =
+    subst (λ (p : Pair). s.honest (store_of old) → (h : Handle) → IsAt old h → IsStep old new h (replacing p) (Refused (fault_of fault))) (seen e) step
+
+module _ {S : Type 0} (s : Ghosts S) (old mid new : Database S s) (first now next : Option (List ℕ)) (line : List ℕ) (number : ℕ) (limit : (meta_kept mid).limit ≡ (meta_kept old).limit) (honesty : s.honest (store_of old) → s.honest (store_of mid)) (goes : IsSameDatabase mid new) (h : IsLoading old mid first now number)
     (r : IfSome now (λ text. ReadsLine 8193 text true line next)) where
   -- a line was read, and its pair was stored
-  pub go_on : LoadsLine (Ok tt) (pair_of line) number mid new → IsLoading old new first next (number + 1)
+  pub go_on : LoadsLine (Ok tt) (pair_of_line line) number mid new → IsLoading old new first next (number + 1)
   go_on loaded =
       let whole = read_on first now next line h.done h.read r in
-      by_pair (pair_of line) whole.0 whole.1 whole.2 loaded
+      by_pair (pair_of_line line) whole.0 whole.1 whole.2 loaded
     where
-      by_pair : (said : Option Pair) (whole : List ℕ) → pair_of whole ≡ said → AreRead first next (h.done ++ whole ∷ []) → LoadsLine (Ok tt) said number mid new → IsLoading old new first next (number + 1)
+      by_pair : (said : Option Pair) (whole : List ℕ) → pair_of_line whole ≡ said → AreRead first next (h.done ++ whole ∷ []) → LoadsLine (Ok tt) said number mid new → IsLoading old new first next (number + 1)
       by_pair None whole says read loaded = absurd loaded
       by_pair (Some pair) whole says read loaded = record {
         done = h.done ++ whole ∷ [];
         stored = h.stored ++ pair ∷ [];
         read = read;
-        said = map-append pair_of h.done (whole ∷ []) ∙ (λ i. h.said i ++ says i ∷ []) ∙ sym (map-append Some h.stored (pair ∷ []));
+        said = map-append pair_of_line h.done (whole ∷ []) ∙ (λ i. h.said i ++ says i ∷ []) ∙ sym (map-append Some h.stored (pair ∷ []));
         counted = omega (arith, h.counted, length-append h.done (whole ∷ []));
         stores = one_more s old mid new limit honesty goes h.stored pair h.stores loaded;
       }
 
   -- or the load stopped there
-  pub stopped : (fault : EngineFault) → LoadsLine (Err fault) (pair_of line) number mid new → Loads (Err fault) first old new
+  pub stopped : (fault : EngineFault) → LoadsLine (Err fault) (pair_of_line line) number mid new → Loads (Err fault) first old new
   stopped fault loaded =
       let whole = read_on first now next line h.done h.read r in
       let over = left_over first next (h.done ++ whole.0 ∷ []) whole.2 in
-      by_fault fault (pair_of line) whole.0 over.0 whole.1 (left_behind first h.done whole.0 over.0 over.1) loaded
+      by_fault fault (pair_of_line line) whole.0 over.0 whole.1 (left_behind first h.done whole.0 over.0 over.1) loaded
     where
-      by_fault : (fault : EngineFault) (said : Option Pair) (whole : List ℕ) (rest : List (List ℕ)) → pair_of whole ≡ said → IfSome first (λ text. lines_of text ≡ h.done ++ whole ∷ rest) → LoadsLine (Err fault) said number mid new → Loads (Err fault) first old new
+      by_fault : (fault : EngineFault) (said : Option Pair) (whole : List ℕ) (rest : List (List ℕ)) → pair_of_line whole ≡ said → IfSome first (λ text. lines_of text ≡ h.done ++ whole ∷ rest) → LoadsLine (Err fault) said number mid new → Loads (Err fault) first old new
       by_fault (Line n) None whole rest says lines loaded = record {
         first = h.done;
         rest = whole ∷ rest;
@@ -168,5 +176,5 @@ dump_back (Ok done) old new text loads = λ honest h at none contents fit is.
     let run = loads.ends.1 honest h at in
     let lines = subst (λ (o : Option (List ℕ)). IfSome o (λ bytes. lines_of bytes ≡ loads.first ++ loads.rest)) is loads.lines in
     let whole = lines ∙ ap (λ (rest : List (List ℕ)). loads.first ++ rest) loads.ends.0 ∙ append-nil loads.first in
-    let same : loads.stored ≡ entries contents = lines_say (entries contents) loads.stored fit (ap (map pair_of) whole ∙ loads.said) in
+    let same : loads.stored ≡ entries contents = lines_say (entries contents) loads.stored fit (ap (map pair_of_line) whole ∙ loads.said) in
     (run.after, run.is_at, fills contents h run.after none (subst (λ (pairs : List Pair). Run h (map replacing pairs) (map (λ _. Stored) pairs) run.after) same run.run))

@@ -14,14 +14,14 @@ use Rattle.dbm_file.specs.Answers.{IsStep, IsRun}
 use Rattle.dbm_file.specs.Database.{store_of, IsAt}
 use Rattle.dbm_fault.specs.Faults.{fault_of}
 use Rattle.dbm_file.specs.declared.database.Database.{Database}
-use Rattle.dbm_lines.specs.PairLines.{pair_of, Say}
+use Rattle.dbm_lines.specs.PairLines.{pair_of_line, Say}
 use Rattle.dbm_fault.specs.declared.engine_fault.EngineFault.{EngineFault}
 use Rattle.dbm_fault.specs.declared.engine_fault.EngineFault.TheVariants.{Line, Db}
 
 -- there is a first line, and it says this pair, or is bad
 abbrev pub FirstSays : List (List ℕ) → Option Pair → Type 0
 FirstSays [] said = ⊥
-FirstSays (line ∷ lines) said = pair_of line ≡ said
+FirstSays (line ∷ lines) said = pair_of_line line ≡ said
 
 -- the call that stores a pair, also where the key is there
 abbrev pub replacing : Pair → Call

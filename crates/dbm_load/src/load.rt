@@ -1,7 +1,7 @@
 // The engine of a load.
 ghost use Rattle.std.specs.Prelude.{◌≡◌, ◌≤◌, Err, OnOk, IfSome, Some, [], length};
-ghost use Rattle.dbm_file.specs.Answers.{Goes};
-ghost use Rattle.dbm_lines.specs.PairLines.{pair_of};
+ghost use Rattle.dbm_file.specs.Answers.{IsSameDatabase};
+ghost use Rattle.dbm_lines.specs.PairLines.{pair_of_line};
 ghost use Rattle.dbm_load.specs.Loading.{Loads, LoadsDump, LoadsLine};
 
 use dbm_fault::EngineFault;
@@ -27,7 +27,7 @@ pub fn load_engine<S: PageStore, R: BufRead>(
 
     // A dump is loaded back.
     ensures dump { OnOk result (LoadsDump (R.remaining reader.old) db.old db.new) }
-    ensures goes { Goes db.old db.new }
+    ensures goes { IsSameDatabase db.old db.new }
     ensures memory { result ≡ Err EngineFault.Memory → (db.new ≡ db.old) × (reader.new ≡ reader.old) }
     ensures only { result ≡ Err EngineFault.Write → ⊥ }
 {
@@ -46,7 +46,7 @@ fn load_lines<S: PageStore, R: BufRead>(
     ensures loads { Loads result (R.remaining reader.old) db.old db.new }
     ensures read { OnOk result (IfSome (R.remaining reader.old) (λ text. R.remaining reader.new ≡ Some [])) }
     ensures size { OnOk result (IfSome (R.remaining reader.old) (λ text. length text ≤ 4294967295)) }
-    ensures goes { Goes db.old db.new }
+    ensures goes { IsSameDatabase db.old db.new }
     ensures no_memory { result ≡ Err EngineFault.Memory → ⊥ }
     ensures no_write { result ≡ Err EngineFault.Write → ⊥ }
 {
@@ -67,8 +67,8 @@ fn load_line<S: PageStore>(
     buffers: &mut Buffers,
     number: u64,
 ) -> Result<(), EngineFault>
-    ensures line { LoadsLine result (pair_of buffers.old.line.items) number db.old db.new }
-    ensures goes { Goes db.old db.new }
+    ensures line { LoadsLine result (pair_of_line buffers.old.line.items) number db.old db.new }
+    ensures goes { IsSameDatabase db.old db.new }
 {
     let line = buffers.line.as_slice();
     let Some((key, content)) = pair_in_line(line, &mut buffers.key, &mut buffers.content) else {

@@ -20,21 +20,21 @@ calm h last call calls c reply replies after falls answers rest =
     (record h { state = after }, record { counts = omega arith; answers = inl (subst (λ (d : Case). Answers h.state d reply after) (sym falls) answers) }, rest)
 
 -- from a state, the calls may get these replies
-record Goes (s : State) (calls : List Call) (replies : List Reply) : Type 0 where
+record IsRunFrom (s : State) (calls : List Call) (replies : List Reply) : Type 0 where
   pub last : Handle
   pub run : Run (record { state = s; faults = 0; is_short = false }) calls replies last
 
 goes : (s : State) {call : Call} {calls : List Call} {reply : Reply} {replies : List Reply} (c : Case) (after : State)
-    → case_of s call ≡ c → Answers s c reply after → Goes after calls replies → Goes s (call ∷ calls) (reply ∷ replies)
+    → case_of s call ≡ c → Answers s c reply after → IsRunFrom after calls replies → IsRunFrom s (call ∷ calls) (reply ∷ replies)
 goes s {call} {calls} {reply} {replies} c after falls answers rest = record {
   last = rest.last;
   run = calm (record { state = s; faults = 0; is_short = false }) rest.last call calls c reply replies after falls answers rest.run;
 }
 
-done : (s : State) → Goes s [] []
+done : (s : State) → IsRunFrom s [] []
 done s = record { last = record { state = s; faults = 0; is_short = false }; run = refl }
 
-may : (limit : ℕ) {calls : List Call} {replies : List Reply} → Goes (fresh empty limit true) calls replies → MayAnswer limit calls replies
+may : (limit : ℕ) {calls : List Call} {replies : List Reply} → IsRunFrom (fresh empty limit true) calls replies → MayAnswer limit calls replies
 may limit g = record { after = g.last; run = g.run }
 
 abbrev all_of : Contents → Keys
@@ -105,8 +105,8 @@ abbrev allowed : true ≡ true
 allowed = refl
 
 -- a first store of a key in a new database
-first_store : (limit : ℕ) (key content : ℕ) → 1 ≤ limit → {calls : List Call} {replies : List Reply} → Goes (at limit (insert empty (one key) (one content)) None None) calls replies
-    → Goes (at limit empty None None) (Store (one key) (one content) Replace ∷ calls) (Stored ∷ replies)
+first_store : (limit : ℕ) (key content : ℕ) → 1 ≤ limit → {calls : List Call} {replies : List Reply} → IsRunFrom (at limit (insert empty (one key) (one content)) None None) calls replies
+    → IsRunFrom (at limit empty None None) (Store (one key) (one content) Replace ∷ calls) (Stored ∷ replies)
 first_store limit key content some rest =
     let map = insert empty (one key) (one content) in
     goes (at limit empty None None) (Changes Stored map) (at limit map None None)

@@ -2,25 +2,25 @@
 use Rattle.std.proofs.Common.{◌≡◌, ℕ, Bool, true, false, List, [], ◌∷◌, ◌++◌, take, map, Option, Some, None, IfSome, Result, Ok, Err, OnOk, IfOk, is_ok, refl, sym, ap, subst, ◌∙◌, append-nil, append_assoc}
 use Rattle.std.specs.Io.KnownBytes.{Appends}
 use Rattle.dbm_model.specs.Calls.{Call, Reply}
-use Rattle.dbm_text.specs.Lines.{call_of, call_of_words, words_in, reply_line, bad_line}
+use Rattle.dbm_text.specs.Lines.{call_in_line, call_of_words, words_in, reply_line, bad_line}
 use Rattle.dbm_text.specs.Scripts.{script_of, calls_in, answer_of}
 use Rattle.dbm_model.specs.States.{Handle}
 use Rattle.dbm_model.specs.Steps.{Run}
 use Rattle.page_io.specs.declared.store.PageStore.{Ghosts}
-use Rattle.dbm_file.specs.Answers.{IsRun, Goes}
-use Rattle.dbm_file.specs.Database.{meta_of}
+use Rattle.dbm_file.specs.Answers.{IsRun, IsSameDatabase}
+use Rattle.dbm_file.specs.Database.{meta_kept}
 use Rattle.dbm_file.specs.declared.database.Database.{Database}
 use Rattle.dbm_file.proofs.Runs.{goes_on_with}
 use Rattle.dbm_lines.proofs.TextLines.{first_line, limited-take}
 use Rattle.dbm_lines.specs.Reading.{line_bytes, after_line, ReadsLine}
 use Rattle.dbm_script.specs.Scripts.{RunsTo, AnswersScript, AnswersLine}
 
-call_of-take : (line : List ℕ) → call_of (take 8193 line) ≡ call_of line
+call_of-take : (line : List ℕ) → call_in_line (take 8193 line) ≡ call_in_line line
 call_of-take line = limited-take (λ line. call_of_words (words_in line)) 8192 line
 
 -- the first line of a script and the rest
-first_call : (x : ℕ) (xs line : List ℕ) → line ≡ take 8193 (line_bytes (x ∷ xs)) → script_of (x ∷ xs) ≡ call_of line ∷ script_of (after_line (x ∷ xs))
-first_call x xs line h = ap (map call_of) (first_line x xs) ∙ ap (λ call. call ∷ script_of (after_line (x ∷ xs))) (sym (ap call_of h ∙ call_of-take (line_bytes (x ∷ xs))))
+first_call : (x : ℕ) (xs line : List ℕ) → line ≡ take 8193 (line_bytes (x ∷ xs)) → script_of (x ∷ xs) ≡ call_in_line line ∷ script_of (after_line (x ∷ xs))
+first_call x xs line h = ap (map call_in_line) (first_line x xs) ∙ ap (λ call. call ∷ script_of (after_line (x ∷ xs))) (sym (ap call_in_line h ∙ call_of-take (line_bytes (x ∷ xs))))
 
 calls_in-push : (script : List (Option Call)) (call : Option Call) → calls_in (script ++ call ∷ []) ≡ calls_in script ++ calls_in (call ∷ [])
 calls_in-push [] call = refl
@@ -64,7 +64,7 @@ at_start db start None (Some text) none = record { done = []; answered = record 
 at_start db start (Some script) None none = record { done = []; answered = record { replies = []; run = none; written = tt }; left = refl }
 at_start db start (Some script) (Some text) none = record { done = []; answered = record { replies = []; run = none; written = sym (append-nil text) }; left = refl }
 
-module _ {S : Type 0} (s : Ghosts S) (old mid new : Database S s) (start : Handle) (limit : (meta_of mid).limit ≡ (meta_of old).limit) (goes : Goes mid new) where
+module _ {S : Type 0} (s : Ghosts S) (old mid new : Database S s) (start : Handle) (limit : (meta_kept mid).limit ≡ (meta_kept old).limit) (goes : IsSameDatabase mid new) where
   one_more : (before now after : Option (List ℕ)) (done : List (Option Call)) (call : Option Call) (h : AnswersScript done old mid start before now) → AnswersLine call mid new h.run.after (λ text. Appends now after text) → AnswersScript (done ++ call ∷ []) old new start before after
   one_more before now after done None h answer = record {
     replies = h.replies;
@@ -77,18 +77,18 @@ module _ {S : Type 0} (s : Ghosts S) (old mid new : Database S s) (start : Handl
     written = rw (answer_of-call _ _ done h.replies call answer.0 h.run.run) (joined before now after (answer_of done h.replies) (reply_line answer.0) h.written answer.2);
   }
 
-left_after : (first now next : Option (List ℕ)) (line : List ℕ) (done : List (Option Call)) → IsLeft first now done → IfSome now (λ text. ReadsLine 8193 text true line next) → IsLeft first next (done ++ call_of line ∷ [])
+left_after : (first now next : Option (List ℕ)) (line : List ℕ) (done : List (Option Call)) → IsLeft first now done → IfSome now (λ text. ReadsLine 8193 text true line next) → IsLeft first next (done ++ call_in_line line ∷ [])
 left_after None now next line done h r = tt
 left_after (Some text) None next line done h r = absurd h
 left_after (Some text) (Some []) next line done h r = let e = r.0 in cc
-left_after (Some text) (Some (x ∷ xs)) next line done h r = rw (r.2) (append_assoc done (call_of line ∷ []) (script_of (after_line (x ∷ xs))) ∙ ap (λ rest. done ++ rest) (sym (first_call x xs line r.1)) ∙ h)
+left_after (Some text) (Some (x ∷ xs)) next line done h r = rw (r.2) (append_assoc done (call_in_line line ∷ []) (script_of (after_line (x ∷ xs))) ∙ ap (λ rest. done ++ rest) (sym (first_call x xs line r.1)) ∙ h)
 
 -- a line was read and answered
-pub go_on : {S : Type 0} (s : Ghosts S) (old mid new : Database S s) (start : Handle) (first now next before written after : Option (List ℕ)) (line : List ℕ) → (meta_of mid).limit ≡ (meta_of old).limit → Goes mid new → (h : IsAnswered old mid start first now before written)
-    → IfSome now (λ text. ReadsLine 8193 text true line next) → AnswersLine (call_of line) mid new h.answered.run.after (λ text. Appends written after text) → IsAnswered old new start first next before after
+pub go_on : {S : Type 0} (s : Ghosts S) (old mid new : Database S s) (start : Handle) (first now next before written after : Option (List ℕ)) (line : List ℕ) → (meta_kept mid).limit ≡ (meta_kept old).limit → IsSameDatabase mid new → (h : IsAnswered old mid start first now before written)
+    → IfSome now (λ text. ReadsLine 8193 text true line next) → AnswersLine (call_in_line line) mid new h.answered.run.after (λ text. Appends written after text) → IsAnswered old new start first next before after
 go_on s old mid new start first now next before written after line limit goes h read answer = record {
-  done = h.done ++ call_of line ∷ [];
-  answered = one_more s old mid new start limit goes before written after h.done (call_of line) h.answered answer;
+  done = h.done ++ call_in_line line ∷ [];
+  answered = one_more s old mid new start limit goes before written after h.done (call_in_line line) h.answered answer;
   left = left_after first now next line h.done h.left read;
 }
 
@@ -112,7 +112,7 @@ pub stand : {S : Type 0} {s : Ghosts S} (old new : Database S s) (start : Handle
 stand old new start first now before after h = record { calls = calls_in h.done; replies = h.answered.replies; run = h.answered.run }
 
 -- so does a call whose reply was not written
-pub stand_with : {S : Type 0} (s : Ghosts S) (old mid new : Database S s) (start : Handle) (first now before after : Option (List ℕ)) (call : Option Call) (Says : List ℕ → Type 0) → (meta_of mid).limit ≡ (meta_of old).limit → Goes mid new
+pub stand_with : {S : Type 0} (s : Ghosts S) (old mid new : Database S s) (start : Handle) (first now before after : Option (List ℕ)) (call : Option Call) (Says : List ℕ → Type 0) → (meta_kept mid).limit ≡ (meta_kept old).limit → IsSameDatabase mid new
     → (h : IsAnswered old mid start first now before after) → AnswersLine call mid new h.answered.run.after Says → RunsTo old new start
 stand_with s old mid new start first now before after None Says limit goes h answer = rw (answer.0) (stand old mid start first now before after h)
 stand_with s old mid new start first now before after (Some call) Says limit goes h answer = record {

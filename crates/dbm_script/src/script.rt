@@ -1,13 +1,13 @@
 // The engine of a script.
-ghost use Rattle.std.specs.Prelude.{◌≡◌, ◌≤◌, ◌⊎◌, IfErr, OnOk, IfSome, Some, [], length};
+ghost use Rattle.std.specs.Prelude.{◌≡◌, ◌≤◌, OnOk, IfSome, Some, [], length, ◌∷◌};
+ghost use Rattle.dbm_fault.specs.Among.{IsErrAmong};
 ghost use Rattle.std.specs.Io.KnownBytes.{Appends};
-ghost use Rattle.dbm_text.specs.Lines.{call_of};
+ghost use Rattle.dbm_text.specs.Lines.{call_in_line};
 ghost use Rattle.dbm_model.specs.Calls.{Store, Fetch, Delete, First, Next, Error, Clear};
 ghost use Rattle.dbm_text.specs.Scripts.{script_of};
-ghost use Rattle.dbm_model.specs.States.{Handle};
-ghost use Rattle.dbm_file.specs.Answers.{Goes};
+ghost use Rattle.dbm_file.specs.Answers.{IsSameDatabase};
 ghost use Rattle.dbm_file.specs.Calls.{mode_of};
-ghost use Rattle.dbm_file.specs.Database.{store_of, IsAt};
+ghost use Rattle.dbm_file.specs.Database.{AtEachHandle};
 ghost use Rattle.dbm_script.specs.Scripts.{RunsTo, AnswersScript, AnswersLine};
 
 use crate::replies::{write_fault, write_fetched, write_passed};
@@ -33,14 +33,14 @@ pub fn script_engine<S: PageStore, R: BufRead, W: Write>(
 ) -> Result<(), EngineFault>
     ensures read { OnOk result (IfSome (R.remaining reader.old) (λ text. R.remaining reader.new ≡ Some [])) }
     ensures size { OnOk result (IfSome (R.remaining reader.old) (λ text. length text ≤ 4294967295)) }
-    ensures answer { S.honest (store_of db.old) → (h : Handle) → IsAt db.old h → OnOk result (IfSome (R.remaining reader.old) (λ text.
-        AnswersScript (script_of text) db.old db.new h (W.contents writer.old) (W.contents writer.new))) }
+    ensures answer { AtEachHandle db.old (λ h.
+        OnOk result (IfSome (R.remaining reader.old) (λ text. AnswersScript (script_of text) db.old db.new h (W.contents writer.old) (W.contents writer.new)))) }
 
     // Whatever it answers, the calls made so far stand.
-    ensures stands { S.honest (store_of db.old) → (h : Handle) → IsAt db.old h → RunsTo db.old db.new h }
-    ensures goes { Goes db.old db.new }
+    ensures stands { AtEachHandle db.old (λ h. RunsTo db.old db.new h) }
+    ensures goes { IsSameDatabase db.old db.new }
     ensures memory { result ≡ Err EngineFault.Memory → (db.new ≡ db.old) × ((reader.new ≡ reader.old) × (writer.new ≡ writer.old)) }
-    ensures only { IfErr result (λ e. (e ≡ EngineFault.Memory) ⊎ ((e ≡ EngineFault.Read) ⊎ (e ≡ EngineFault.Write))) }
+    ensures only { IsErrAmong result (EngineFault.Memory ∷ EngineFault.Read ∷ EngineFault.Write ∷ []) }
 {
     let Ok(mut buffers) = Box::new(alloc, Buffers::new()) else {
         return Err(EngineFault::Memory);
@@ -57,11 +57,11 @@ fn run_lines<S: PageStore, R: BufRead, W: Write>(
 ) -> Result<(), EngineFault>
     ensures read { OnOk result (IfSome (R.remaining reader.old) (λ text. R.remaining reader.new ≡ Some [])) }
     ensures size { OnOk result (IfSome (R.remaining reader.old) (λ text. length text ≤ 4294967295)) }
-    ensures answer { S.honest (store_of db.old) → (h : Handle) → IsAt db.old h → OnOk result (IfSome (R.remaining reader.old) (λ text.
-        AnswersScript (script_of text) db.old db.new h (W.contents writer.old) (W.contents writer.new))) }
-    ensures stands { S.honest (store_of db.old) → (h : Handle) → IsAt db.old h → RunsTo db.old db.new h }
-    ensures goes { Goes db.old db.new }
-    ensures only { IfErr result (λ e. (e ≡ EngineFault.Read) ⊎ (e ≡ EngineFault.Write)) }
+    ensures answer { AtEachHandle db.old (λ h.
+        OnOk result (IfSome (R.remaining reader.old) (λ text. AnswersScript (script_of text) db.old db.new h (W.contents writer.old) (W.contents writer.new)))) }
+    ensures stands { AtEachHandle db.old (λ h. RunsTo db.old db.new h) }
+    ensures goes { IsSameDatabase db.old db.new }
+    ensures only { IsErrAmong result (EngineFault.Read ∷ EngineFault.Write ∷ []) }
 {
     let mut left = u32::MAX;
     for _ in 0..u64::MAX {
@@ -80,9 +80,9 @@ fn answer_line<S: PageStore, W: Write>(
     buffers: &mut Buffers,
     writer: &mut W,
 ) -> io::Result<()>
-    ensures line { S.honest (store_of db.old) → (h : Handle) → IsAt db.old h → AnswersLine (call_of buffers.old.line.items) db.old db.new h
-        (λ text. OnOk result (Appends (W.contents writer.old) (W.contents writer.new) text)) }
-    ensures goes { Goes db.old db.new }
+    ensures line { AtEachHandle db.old (λ h.
+        AnswersLine (call_in_line buffers.old.line.items) db.old db.new h (λ text. OnOk result (Appends (W.contents writer.old) (W.contents writer.new) text))) }
+    ensures goes { IsSameDatabase db.old db.new }
 {
     let line = buffers.line.as_slice();
     match request_of(line, &mut buffers.key, &mut buffers.content) {
@@ -110,9 +110,9 @@ fn answer_store<S: PageStore, W: Write>(
     mode: StoreMode,
     writer: &mut W,
 ) -> io::Result<()>
-    ensures line { S.honest (store_of db.old) → (h : Handle) → IsAt db.old h → AnswersLine (Some (Store key.now content.now (mode_of mode))) db.old db.new h
-        (λ text. OnOk result (Appends (W.contents writer.old) (W.contents writer.new) text)) }
-    ensures goes { Goes db.old db.new }
+    ensures line { AtEachHandle db.old (λ h.
+        AnswersLine (Some (Store key.now content.now (mode_of mode))) db.old db.new h (λ text. OnOk result (Appends (W.contents writer.old) (W.contents writer.new) text))) }
+    ensures goes { IsSameDatabase db.old db.new }
 {
     match db.store(key, content, mode) {
         Ok(StoreReply::Stored) => write_stored(writer),
@@ -128,9 +128,9 @@ fn answer_fetch<S: PageStore, W: Write>(
     digits: &mut [u8; DIGITS],
     writer: &mut W,
 ) -> io::Result<()>
-    ensures line { S.honest (store_of db.old) → (h : Handle) → IsAt db.old h → AnswersLine (Some (Fetch key.now)) db.old db.new h
-        (λ text. OnOk result (Appends (W.contents writer.old) (W.contents writer.new) text)) }
-    ensures goes { Goes db.old db.new }
+    ensures line { AtEachHandle db.old (λ h.
+        AnswersLine (Some (Fetch key.now)) db.old db.new h (λ text. OnOk result (Appends (W.contents writer.old) (W.contents writer.new) text))) }
+    ensures goes { IsSameDatabase db.old db.new }
 {
     write_fetched(writer, db.fetch(key), digits)
 }
@@ -141,9 +141,9 @@ fn answer_delete<S: PageStore, W: Write>(
     key: &[u8],
     writer: &mut W,
 ) -> io::Result<()>
-    ensures line { S.honest (store_of db.old) → (h : Handle) → IsAt db.old h → AnswersLine (Some (Delete key.now)) db.old db.new h
-        (λ text. OnOk result (Appends (W.contents writer.old) (W.contents writer.new) text)) }
-    ensures goes { Goes db.old db.new }
+    ensures line { AtEachHandle db.old (λ h.
+        AnswersLine (Some (Delete key.now)) db.old db.new h (λ text. OnOk result (Appends (W.contents writer.old) (W.contents writer.new) text))) }
+    ensures goes { IsSameDatabase db.old db.new }
 {
     match db.delete(key) {
         Ok(DeleteReply::Deleted) => write_deleted(writer),
@@ -158,9 +158,9 @@ fn answer_first<S: PageStore, W: Write>(
     digits: &mut [u8; DIGITS],
     writer: &mut W,
 ) -> io::Result<()>
-    ensures line { S.honest (store_of db.old) → (h : Handle) → IsAt db.old h → AnswersLine (Some First) db.old db.new h
-        (λ text. OnOk result (Appends (W.contents writer.old) (W.contents writer.new) text)) }
-    ensures goes { Goes db.old db.new }
+    ensures line { AtEachHandle db.old (λ h.
+        AnswersLine (Some First) db.old db.new h (λ text. OnOk result (Appends (W.contents writer.old) (W.contents writer.new) text))) }
+    ensures goes { IsSameDatabase db.old db.new }
 {
     write_passed(writer, db.firstkey(), digits)
 }
@@ -171,27 +171,27 @@ fn answer_next<S: PageStore, W: Write>(
     digits: &mut [u8; DIGITS],
     writer: &mut W,
 ) -> io::Result<()>
-    ensures line { S.honest (store_of db.old) → (h : Handle) → IsAt db.old h → AnswersLine (Some Next) db.old db.new h
-        (λ text. OnOk result (Appends (W.contents writer.old) (W.contents writer.new) text)) }
-    ensures goes { Goes db.old db.new }
+    ensures line { AtEachHandle db.old (λ h.
+        AnswersLine (Some Next) db.old db.new h (λ text. OnOk result (Appends (W.contents writer.old) (W.contents writer.new) text))) }
+    ensures goes { IsSameDatabase db.old db.new }
 {
     write_passed(writer, db.nextkey(), digits)
 }
 
 /// Writes the error number.
 fn answer_error<S: PageStore, W: Write>(db: &mut Database<S>, writer: &mut W) -> io::Result<()>
-    ensures line { S.honest (store_of db.old) → (h : Handle) → IsAt db.old h → AnswersLine (Some Error) db.old db.new h
-        (λ text. OnOk result (Appends (W.contents writer.old) (W.contents writer.new) text)) }
-    ensures goes { Goes db.old db.new }
+    ensures line { AtEachHandle db.old (λ h.
+        AnswersLine (Some Error) db.old db.new h (λ text. OnOk result (Appends (W.contents writer.old) (W.contents writer.new) text))) }
+    ensures goes { IsSameDatabase db.old db.new }
 {
     write_number(writer, db.error())
 }
 
 /// Clears the error number, and writes the reply.
 fn answer_clear<S: PageStore, W: Write>(db: &mut Database<S>, writer: &mut W) -> io::Result<()>
-    ensures line { S.honest (store_of db.old) → (h : Handle) → IsAt db.old h → AnswersLine (Some Clear) db.old db.new h
-        (λ text. OnOk result (Appends (W.contents writer.old) (W.contents writer.new) text)) }
-    ensures goes { Goes db.old db.new }
+    ensures line { AtEachHandle db.old (λ h.
+        AnswersLine (Some Clear) db.old db.new h (λ text. OnOk result (Appends (W.contents writer.old) (W.contents writer.new) text))) }
+    ensures goes { IsSameDatabase db.old db.new }
 {
     write_number(writer, db.clearerr())
 }

@@ -4,7 +4,7 @@ use Rattle.std.specs.List.{slice_split}
 use Rattle.std.specs.Str.{bytes_eq}
 use Rattle.std.specs.Fmt.{decimal}
 use Rattle.dbm_model.specs.Calls.{Insert, Replace, Call, Store, Fetch, Delete, First, Next, Error, Clear, Reply, Stored, Kept, Deleted, Absent, Bytes, NoRecord, End, Number, Refused, number_of}
-use Rattle.dbm_text.specs.Words.{word_of, bytes_of}
+use Rattle.dbm_text.specs.Words.{word_of, word_bytes}
 
 -- the first line goes on in front
 abbrev pub onto_line : ℕ → List (List ℕ) → List (List ℕ)
@@ -45,13 +45,13 @@ pair_call name key content =
 
 abbrev pub call_of_words : List (List ℕ) → Option Call
 call_of_words (name ∷ []) = bare_call name
-call_of_words (name ∷ key ∷ []) = option_and_then (key_call name) (bytes_of key)
-call_of_words (name ∷ key ∷ content ∷ []) = option_and_then (λ k. option_and_then (pair_call name k) (bytes_of content)) (bytes_of key)
+call_of_words (name ∷ key ∷ []) = option_and_then (key_call name) (word_bytes key)
+call_of_words (name ∷ key ∷ content ∷ []) = option_and_then (λ k. option_and_then (pair_call name k) (word_bytes content)) (word_bytes key)
 call_of_words _ = None
 
 -- the call that a line asks for, if it is no bad line
-abbrev pub call_of : List ℕ → Option Call
-call_of line = if nat_lt 8192 (length line) then None else call_of_words (words_in line)
+abbrev pub call_in_line : List ℕ → Option Call
+call_in_line line = if nat_lt 8192 (length line) then None else call_of_words (words_in line)
 
 abbrev pub reply_text : Reply → List ℕ
 reply_text Stored = codes "0"

@@ -2,11 +2,11 @@
 use Rattle.std.specs.Prelude.{ℕ, List, [], ◌∷◌, ◌++◌, Option, Some, None, map}
 use Rattle.std.specs.List.{filter_map}
 use Rattle.dbm_model.specs.Calls.{Call, Reply}
-use Rattle.dbm_text.specs.Lines.{lines_of, call_of, reply_line, bad_line}
+use Rattle.dbm_text.specs.Lines.{lines_of, call_in_line, reply_line, bad_line}
 
 -- each line as the call that it asks for, or none where it is bad
 abbrev pub script_of : List ℕ → List (Option Call)
-script_of text = map call_of (lines_of text)
+script_of text = map call_in_line (lines_of text)
 
 -- the calls that a script makes
 abbrev pub calls_in : List (Option Call) → List Call

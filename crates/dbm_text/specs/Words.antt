@@ -15,5 +15,5 @@ decoded [] = None
 decoded (digit ∷ digits) = result_ok (decode_of (digit ∷ digits))
 
 -- the bytes that a word stands for, if it is one
-abbrev pub bytes_of : List ℕ → Option (List ℕ)
-bytes_of word = if bytes_eq word (codes ".") then Some [] else decoded word
+abbrev pub word_bytes : List ℕ → Option (List ℕ)
+word_bytes word = if bytes_eq word (codes ".") then Some [] else decoded word

@@ -7,7 +7,7 @@ use Rattle.clap.specs.Words.{ReadsOne, Row, Text, first_of, first_value, one_of,
 use Rattle.clap.specs.declared.parser.matches.ArgMatches.{ArgMatches}
 use Rattle.clap.specs.declared.parser.matches.Found.{Found}
 use Rattle.clap.proofs.WalkLemmas.{first_value-rows, one_text-rows}
-use Rattle.dbm_words.specs.CommandLine.{IsNumber, IsText}
+use Rattle.dbm_words.specs.CommandLine.{IsNumberText, IsText}
 
 map_twice : {A B C : Type 0} (f : B → C) (g : A → B) (o : Option A) → option_map (λ x. f (g x)) o ≡ option_map f (option_map g o)
 map_twice f g None = refl
@@ -44,7 +44,7 @@ read_from (Some t) v P none value = (t, refl, value t refl)
 abbrev ReadsU32 : Text → Result ℕ ParseIntError → Type 0
 ReadsU32 t r = ParsesUnsigned 32 10 t r × ExplainsUnsignedError 10 t r × HasUnsignedDigitsIfOk t r
 
-pub number_read : (o : Option ℕ) (f : Found) (id : Text) → (one_text f id ≡ None → o ≡ None) → ((t : Text) → one_text f id ≡ Some t → ReadsOne ReadsU32 t o) → IfSome o (IsNumber (rows_of f) id)
+pub number_read : (o : Option ℕ) (f : Found) (id : Text) → (one_text f id ≡ None → o ≡ None) → ((t : Text) → one_text f id ≡ Some t → ReadsOne ReadsU32 t o) → IfSome o (IsNumberText (rows_of f) id)
 number_read None f id none value = tt
 number_read (Some n) f id none value =
     let read = read_from (one_text f id) n (λ t. ReadsU32 t (Ok n)) none value in

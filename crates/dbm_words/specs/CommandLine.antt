@@ -68,8 +68,8 @@ abbrev pub IsText : List Row → Text → Text → Type 0
 IsText rows id text = first_of id rows ≡ Some text
 
 -- the text under the id is the number
-abbrev pub IsNumber : List Row → Text → ℕ → Type 0
-IsNumber rows id number = (text : Text) × (one_of id rows ≡ Some text) × ParsesUnsigned {E = ParseIntError} 32 10 text (Ok number)
+abbrev pub IsNumberText : List Row → Text → ℕ → Type 0
+IsNumberText rows id number = (text : Text) × (one_of id rows ≡ Some text) × ParsesUnsigned {E = ParseIntError} 32 10 text (Ok number)
 
 abbrev pub flag_text : Spelling → Text
 flag_text spelling.Text = codes "false"
@@ -87,7 +87,7 @@ pub record IsPair (rows : List Row) (name word value : Text) (spelled : Spelling
 -- what is given of FILE and `--memory`, one alone, is the source
 abbrev pub IsSource : List Row → Source → Type 0
 IsSource rows (File file) = IsText rows (codes "file") file.now × (first_of (codes "memory") rows ≡ None)
-IsSource rows (Memory limit) = (first_of (codes "file") rows ≡ None) × IsNumber rows (codes "memory") limit
+IsSource rows (Memory limit) = (first_of (codes "file") rows ≡ None) × IsNumberText rows (codes "memory") limit
 
 -- both of FILE and `--memory` are given, or neither
 abbrev pub LacksSource : List Row → Type 0
@@ -95,7 +95,7 @@ LacksSource rows = is_some (first_of (codes "file") rows) ≡ is_some (first_of 
 
 -- the command of this name, with what was entered for it, asks for the plan
 abbrev pub Asks : Text → List Row → Plan → Type 0
-Asks name rows (Create file limit) = (name ≡ codes "create") × IsText rows (codes "file") file.now × IsNumber rows (codes "limit") limit
+Asks name rows (Create file limit) = (name ≡ codes "create") × IsText rows (codes "file") file.now × IsNumberText rows (codes "limit") limit
 Asks name rows (Store file key content spelled) = (name ≡ codes "store") × IsPair rows file.now key.now content.now spelled
 Asks name rows (Insert file key content spelled) = (name ≡ codes "insert") × IsPair rows file.now key.now content.now spelled
 Asks name rows (Fetch file key spelled) = (name ≡ codes "fetch") × IsKey rows file.now key.now spelled

@@ -1,7 +1,7 @@
 // The plan that a parse entered.
 ghost use Rattle.std.specs.Prelude.{◌≡◌, ◌⊎◌, IfErr, IfOk, IfSome, MatchOption, None, Some, codes};
 ghost use Rattle.clap.specs.Words.{first_of, found_of, one_of, rows_of, subcommand_rows_of};
-ghost use Rattle.dbm_words.specs.CommandLine.{Asks, IsNumber, IsSource, IsText, LacksSource, Names, NamesNoSource, flag_text};
+ghost use Rattle.dbm_words.specs.CommandLine.{Asks, IsNumberText, IsSource, IsText, LacksSource, Names, NamesNoSource, flag_text};
 
 use crate::commands::{
     CONTENT, CREATE, DELETE, DUMP, FETCH, FILE, HEXADECIMAL, INSERT, KEY, LIMIT, LIST, LOAD,
@@ -102,7 +102,7 @@ fn text<'a>(options: &ArgMatches<'a>, id: &str) -> Option<&'a str>
 
 /// The number that was given under `id`, or that stands for it.
 fn number(options: &ArgMatches<'_>, id: &str) -> Option<u32>
-    ensures { IfSome result (IsNumber (rows_of (found_of options.now)) id.now) }
+    ensures { IfSome result (IsNumberText (rows_of (found_of options.now)) id.now) }
 {
     options.get_one(id)
 }

@@ -2,7 +2,7 @@
 
 ghost use Rattle.std.specs.Prelude.{◌≡◌, ◌<◌, ◌+◌, ◌^◌, [], true, IfOk};
 ghost use Rattle.page_io.specs.Page.{own_number};
-ghost use Rattle.page_io.specs.Store.{State};
+ghost use Rattle.page_io.specs.Store.{StoreState};
 
 use page_io::{MemPages, Page, PageFault, PageStore, read_page, replace_byte, write_page};
 use sect_dev::{Fuse, MemDev, SectorDev};

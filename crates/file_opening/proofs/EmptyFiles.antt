@@ -3,11 +3,11 @@ use Rattle.std.proofs.Common.{◌≡◌, ◌≢◌, ◌∙◌, inl, inr, ⊎_eli
 use Rattle.std.specs.Prelude.{IsOkAnd}
 use Rattle.std.specs.FinMap.{empty}
 use Rattle.sect_dev.specs.Device.{Image, Candidates, IsImageOf, LeavesOnly, NoNewCandidate}
-use Rattle.sect_dev.specs.Moments.{Reads, followed_by, weaker, started, lifted}
+use Rattle.sect_dev.specs.Moments.{IsOutcome, followed_by, weaker, started, lifted}
 use Rattle.sect_dev.specs.declared.device.SectorDev as device
 use Rattle.page_model.specs.Pages.{Meta, MetaPage}
 use Rattle.page_model.specs.Meaning.{said_by}
-use Rattle.page_io.specs.Store.{Pages, Settled, State, bytes_of, file_of, page_of, committed_with}
+use Rattle.page_io.specs.Store.{Pages, Settled, StoreState, bytes_of, file_of, page_of, committed_with}
 use Rattle.page_io.specs.Page.{own_number}
 use Rattle.page_io.specs.Meaning.{FileStandsFor, ImageStandsFor}
 use Rattle.page_io.specs.Views.{StagesOnly}
@@ -15,9 +15,9 @@ use Rattle.page_io.specs.declared.store.PageStore.{Ghosts}
 use Rattle.page_io.specs.declared.store.PageFault.{PageFault}
 use Rattle.redo_commit.specs.File.{settled, SettlesAsBefore}
 use Rattle.redo_area.specs.Reading.{OnlyReads}
-use Rattle.redo_area.specs.Rests.{SettlesTo}
+use Rattle.redo_area.specs.Settling.{SettlesTo}
 use Rattle.redo_area.specs.declared.pager.Pager.{Pager}
-use Rattle.dbm_fault.specs.Faults.{told}
+use Rattle.dbm_fault.specs.Faults.{fault_from}
 use Rattle.page_commit.specs.Committing.{Holds, IsForgotten}
 use Rattle.dbm_fault.specs.declared.fault.Fault.{Fault}
 use Rattle.dbm_fault.specs.declared.fault.Fault.TheVariants.{Device}
@@ -58,12 +58,12 @@ module _ {S : Type 0} (s : Ghosts S) (old mid new : S) (m : Meta) (pages : Pages
 -- ---- what is read of a device, as it settles
 
 -- a run of a device, seen as what it leaves settles
-pub settles_run : {D : Type 0} (moment : D → ℕ) (left_since : D → ℕ → Image → Type 0) (old new : D) (cap : ℕ) (P : Settled → Type 0) → LeavesOnly moment left_since old new (λ image. P (settled cap image)) → LeavesOnly moment (Reads left_since (settled cap)) old new P
+pub settles_run : {D : Type 0} (moment : D → ℕ) (left_since : D → ℕ → Image → Type 0) (old new : D) (cap : ℕ) (P : Settled → Type 0) → LeavesOnly moment left_since old new (λ image. P (settled cap image)) → LeavesOnly moment (IsOutcome left_since (settled cap)) old new P
 settles_run {D} moment left_since old new cap P run = lifted moment left_since (λ (d : D). d) (λ (d : D). settled cap) old new P refl run
 
 -- with no call: `now` is the device's law `only_now`
 pub settles_still : {D : Type 0} (moment : D → ℕ) (left_since : D → ℕ → Image → Type 0) (candidate : D → Candidates) (d : D) (cap : ℕ) (P : Settled → Type 0) → ((image : Image) → left_since d (moment d) image → IsImageOf (candidate d) image)
-    → ((y : Settled) → SettlesTo cap (candidate d) y → P y) → LeavesOnly moment (Reads left_since (settled cap)) d d P
+    → ((y : Settled) → SettlesTo cap (candidate d) y → P y) → LeavesOnly moment (IsOutcome left_since (settled cap)) d d P
 settles_still moment left_since candidate d cap P now holds =
     settles_run moment left_since d d cap P (started moment left_since d _ (λ image left. holds (settled cap image) (record { image = image; is_image = now image left; reads = refl })))
 
@@ -73,9 +73,9 @@ settles_before cap cap' old new y same fewer s = record { image = s.image; is_im
 
 -- one run after another, seen so
 pub settles_on : {D : Type 0} (moment : D → ℕ) (left_since : D → ℕ → Image → Type 0) (old mid new : D) (cap cap' : ℕ) (P Q : Settled → Type 0) → cap' ≡ cap
-    → LeavesOnly moment (Reads left_since (settled cap)) old mid P → LeavesOnly moment (Reads left_since (settled cap')) mid new Q → ((y : Settled) → Q y → P y) → LeavesOnly moment (Reads left_since (settled cap)) old new P
+    → LeavesOnly moment (IsOutcome left_since (settled cap)) old mid P → LeavesOnly moment (IsOutcome left_since (settled cap')) mid new Q → ((y : Settled) → Q y → P y) → LeavesOnly moment (IsOutcome left_since (settled cap)) old new P
 settles_on moment left_since old mid new cap cap' P Q same first second implies =
-    followed_by moment (Reads left_since (settled cap)) old mid new P Q first (subst (λ (n : ℕ). LeavesOnly moment (Reads left_since (settled n)) mid new Q) same second) implies
+    followed_by moment (IsOutcome left_since (settled cap)) old mid new P Q first (subst (λ (n : ℕ). LeavesOnly moment (IsOutcome left_since (settled n)) mid new Q) same second) implies
 
 -- no device call is made
 pub reads_nothing : {D : Type 0} (dev : device.Ghosts D) (d : D) → ((image : Image) → dev.left_since d (dev.moment d) image → IsImageOf (dev.candidate d) image) → OnlyReads dev d d
@@ -83,31 +83,31 @@ reads_nothing dev d now = record { seen = refl; no_new = λ m c is. is; no_lost 
 
 -- after a refusal that left the store usable: `counts` is the device's law `counts_now`
 pub left_as_before : {D : Type 0} (left_since : D → ℕ → Image → Type 0) (candidate : D → Candidates) (new : D) (since cap cap' : ℕ) (was : Settled) → cap' ≡ cap
-    → ((y : Settled) → Reads left_since (settled cap') new since y → y ≡ was) → ((image : Image) → IsImageOf (candidate new) image → left_since new since image)
+    → ((y : Settled) → IsOutcome left_since (settled cap') new since y → y ≡ was) → ((image : Image) → IsImageOf (candidate new) image → left_since new since image)
     → (after : Image) → IsImageOf (candidate new) after → settled cap after ≡ was
 left_as_before left_since candidate new since cap cap' was same each counts after is =
     ap (λ (n : ℕ). settled n after) (sym same) ∙ each (settled cap' after) (record { left = after; is_left = counts after is; reads = refl })
 
 -- what a pager shows as a store
-abbrev pub state_of : {D : Type 0} {bound : device.Ghosts D} → Pager D bound → State
+abbrev pub state_of : {D : Type 0} {bound : device.Ghosts D} → Pager D bound → StoreState
 state_of {D} {bound} p = record { staged = bytes_of p.staged.items; end = p.end; capacity = bound.sectors p.dev / 4; usable = p.usable; writable = p.writable }
 
 -- a fault of the pages that isn't the device's left the store usable
-pub still_good : (old new : State) (e : PageFault) (fault : Fault) → IsForgotten old new e → fault ≡ told e → fault ≢ Device → new.usable ≡ old.usable
-still_good old new e fault (inl same) is other = ap (λ (st : State). st.usable) same
-still_good old new e fault (inr broke) is other = absurd (other (is ∙ ap told broke.0))
+pub still_good : (old new : StoreState) (e : PageFault) (fault : Fault) → IsForgotten old new e → fault ≡ fault_from e → fault ≢ Device → new.usable ≡ old.usable
+still_good old new e fault (inl same) is other = ap (λ (st : StoreState). st.usable) same
+still_good old new e fault (inr broke) is other = absurd (other (is ∙ ap fault_from broke.0))
 
-pub still_capacity : (old new : State) (e : PageFault) → IsForgotten old new e → new.capacity ≡ old.capacity
-still_capacity old new e (inl same) = ap (λ (st : State). st.capacity) same
-still_capacity old new e (inr broke) = ap (λ (st : State). st.capacity) broke.1
+pub still_capacity : (old new : StoreState) (e : PageFault) → IsForgotten old new e → new.capacity ≡ old.capacity
+still_capacity old new e (inl same) = ap (λ (st : StoreState). st.capacity) same
+still_capacity old new e (inr broke) = ap (λ (st : StoreState). st.capacity) broke.1
 
 -- a run of a store over a device, as one of the device
 pub below_run : {S D : Type 0} (moment : D → ℕ) (left_since : D → ℕ → Image → Type 0) (below : S → D) (cap : S → ℕ) (old new : S) (P : Settled → Type 0) → cap new ≡ cap old
-    → LeavesOnly (λ s. moment (below s)) (λ s. Reads left_since (settled (cap s)) (below s)) old new P → LeavesOnly moment (Reads left_since (settled (cap old))) (below old) (below new) P
+    → LeavesOnly (λ s. moment (below s)) (λ s. IsOutcome left_since (settled (cap s)) (below s)) old new P → LeavesOnly moment (IsOutcome left_since (settled (cap old))) (below old) (below new) P
 below_run moment left_since below cap old new P same run = record {
   later = run.later;
-  each = λ y left. run.each y (subst (λ (n : ℕ). Reads left_since (settled n) (below new) (moment (below old)) y) (sym same) left);
-  before = λ t y le left. run.before t y le (subst (λ (n : ℕ). Reads left_since (settled n) (below new) t y) (sym same) left);
+  each = λ y left. run.each y (subst (λ (n : ℕ). IsOutcome left_since (settled n) (below new) (moment (below old)) y) (sym same) left);
+  before = λ t y le left. run.before t y le (subst (λ (n : ℕ). IsOutcome left_since (settled n) (below new) t y) (sym same) left);
 }
 
 -- what is left later settles as something did at the start

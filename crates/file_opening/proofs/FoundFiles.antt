@@ -3,8 +3,8 @@ use Rattle.std.proofs.Common.{◌≡◌, ℕ, List, [], Bool, true, false, cond,
 use Rattle.std.specs.FinMap.{empty}
 use Rattle.dbm_model.specs.Pairs.{Contents}
 use Rattle.page_model.specs.Reading.{body_of}
-use Rattle.page_model.specs.Sheets as sheets
-use Rattle.page_model.proofs.GoodSheets.{sheets_valid}
+use Rattle.page_model.specs.PageBodies as page_bodies
+use Rattle.page_model.proofs.GoodBodies.{bodies_valid}
 use Rattle.page_io.specs.Store.{Pages, page_of, overlaid}
 use Rattle.page_io.specs.Meaning.{FileStandsFor}
 use Rattle.page_io.specs.declared.store.PageStore as store
@@ -16,8 +16,8 @@ use Rattle.file_opening.specs.declared.open_how.OpenHow.{OpenHow}
 -- a file that stands for a map has a meta page, which is what is read of page 1 where nothing is staged
 pub says_meta : (pages staged : Pages) (map : Contents) (limit : ℕ) (bytes : List ℕ) → FileStandsFor pages map limit → staged ≡ [] → bytes ≡ overlaid staged (page_of pages) 1 → SaysMeta bytes
 says_meta pages staged map limit bytes stands none read = record {
-  meta = sheets.meta_of stands.placement;
-  valid = (sheets_valid stands.placement stands.good).0.1;
+  meta = page_bodies.meta_of stands.placement;
+  valid = (bodies_valid stands.placement stands.good).0.1;
   says = ap (body_of 1) (read ∙ ap (λ (s : Pages). overlaid s (page_of pages) 1) none) ∙ stands.spelled.0;
 }
 

@@ -2,9 +2,9 @@
 use Rattle.std.proofs.Common.{◌≡◌, ◌⊎◌, ⊎_elim, inl, inr, ℕ, ◌≤◌, ◌==◌, Bool, true, false, cond, not, Option, Some, None, is_some, List, [], ◌∷◌, get_or, map, refl, sym, ap, ◌∙◌, subst}
 use Rattle.std.specs.FinMap.{empty}
 use Rattle.page_model.specs.Pages.{Meta, MetaPage, SegmentPage, HeadPage, bucket}
-use Rattle.page_model.specs.Placement.{fresh}
+use Rattle.page_model.specs.Placement.{fresh_placement}
 use Rattle.page_model.specs.Reading.{body_of, bucket_of}
-use Rattle.page_model.specs.Sheets.{meta_of, IsSpelled}
+use Rattle.page_model.specs.PageBodies.{meta_of, IsSpelled}
 use Rattle.page_model.specs.Meaning.{said_by}
 use Rattle.page_model.specs.Sizes.{sectors_for}
 use Rattle.page_model.specs.Valid.{IsBucket}
@@ -26,11 +26,11 @@ pub bare_head : (bytes : List ℕ) → IsBucketPage bytes → bucket_of bytes �
 bare_head bytes page says = (is_head 3 0 [] bytes (subst IsBucket says page.sound)).1 (page, says)
 
 -- the meta page, one segment page and one head page that is empty
-pub new_stands : (limit : ℕ) (m : Meta) (first second third : List ℕ) → 1 ≤ limit → limit ≤ 1000000 → m ≡ meta_of (fresh limit)
+pub new_stands : (limit : ℕ) (m : Meta) (first second third : List ℕ) → 1 ≤ limit → limit ≤ 1000000 → m ≡ meta_of (fresh_placement limit)
     → body_of 1 first ≡ MetaPage m → body_of 2 second ≡ SegmentPage (3 ∷ []) → body_of 3 third ≡ HeadPage 0 []
     → FileStandsFor (first ∷ second ∷ third ∷ []) empty limit
 new_stands limit m first second third least most is meta segment head =
-    let p = fresh limit in
+    let p = fresh_placement limit in
     let good = fresh_is_good limit least most in
     let at = said_by (page_of (first ∷ second ∷ third ∷ [])) in
     let spelled : IsSpelled at p = (meta ∙ ap MetaPage is, (segment, (head, tt))) in

@@ -8,8 +8,8 @@ use Rattle.sect_dev.specs.declared.device.SectorDev as device
 use Rattle.page_model.specs.Pages.{MetaPage}
 use Rattle.dbm_model.specs.Pairs.{Contents}
 use Rattle.page_model.specs.Reading.{body_of}
-use Rattle.page_model.specs.Sheets.{meta_of}
-use Rattle.page_model.proofs.GoodSheets.{sheets_valid}
+use Rattle.page_model.specs.PageBodies.{meta_of}
+use Rattle.page_model.proofs.GoodBodies.{bodies_valid}
 use Rattle.page_io.specs.Store.{Settled, Pages, blank, file_of, nothing, page_of}
 use Rattle.page_io.specs.Meaning.{FileStandsFor, ImageStandsFor}
 use Rattle.redo_commit.specs.File.{settled}
@@ -17,7 +17,7 @@ use Rattle.redo_commit.specs.Header.{has_magic}
 use Rattle.redo_area.specs.Opening.{refusal_by, refusal_of, IsRefused, SaysArmed}
 use Rattle.page_io.specs.declared.store.PageStore as store
 use Rattle.redo_area.specs.Reading.{OnlyReads}
-use Rattle.redo_area.specs.Rests.{SettlesTo}
+use Rattle.redo_area.specs.Settling.{SettlesTo}
 use Rattle.redo_area.specs.declared.pager.Pager.{Pager}
 use Rattle.redo_area.specs.declared.open_fault.OpenFault.{OpenFault}
 use Rattle.redo_area.specs.declared.open_fault.OpenFault.TheVariants as redo
@@ -193,7 +193,7 @@ module _ (how : OpenHow) (sectors : ℕ) (start now : Candidates) where
       good = stands.spelled.0
 
       no_meta : SaysNoMeta (page_of file 1) → ⊥
-      no_meta none = none (meta_of stands.placement) (sheets_valid stands.placement stands.good).0.1 good
+      no_meta none = none (meta_of stands.placement) (bodies_valid stands.placement stands.good).0.1 good
 
       by_meta : (f : Fault) → RefusesMeta (page_of file 1) f → ⊥
       by_meta Version why = no_meta why.0
@@ -250,7 +250,7 @@ what_stood pages start file settles all = by_case (all settles.image settles.is_
     }
 
 has_meta : (file : Pages) (map : Contents) (limit : ℕ) → FileStandsFor file map limit → SaysMeta (page_of file 1)
-has_meta file map limit stands = record { meta = meta_of stands.placement; valid = (sheets_valid stands.placement stands.good).0.1; says = stands.spelled.0 }
+has_meta file map limit stands = record { meta = meta_of stands.placement; valid = (bodies_valid stands.placement stands.good).0.1; says = stands.spelled.0 }
 
 -- a file that was opened: as it stood, or emptied
 module _ {S : Type 0} {s : store.Ghosts S} (how : OpenHow) (pages : ℕ) (start : Candidates) (pages_were : Pages) (what : WhatStood pages start pages_were) (file : OpenFile S s)

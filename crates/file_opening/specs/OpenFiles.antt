@@ -7,7 +7,7 @@ use Rattle.page_io.specs.Meaning.{ImageStandsFor}
 use Rattle.page_io.specs.declared.store.PageStore.{Ghosts}
 use Rattle.redo_area.specs.Pagers.{device_of}
 use Rattle.redo_area.specs.declared.pager.Pager.{Pager}
-use Rattle.seg_table.specs.MetaPages.{says}
+use Rattle.seg_table.specs.MetaPages.{model_meta}
 use Rattle.dbm_model.specs.Pairs.{Contents}
 use Rattle.page_commit.specs.Committing.{Holds}
 use Rattle.file_opening.specs.declared.open_how.OpenHow.{OpenHow}
@@ -27,9 +27,9 @@ pub record IsJustOpened {S : Type 0} {s : Ghosts S} (for_writing : Bool) (pages 
 
 -- its pages stand for this map and limit, and so does every image that a stop may leave now
 pub record StandsAs {S : Type 0} {s : Ghosts S} (file : OpenFile S s) (map : Contents) (limit : ℕ) : Type 0 where
-  pub holds : (s.state file.store).usable ≡ true → Holds s file.store (says file.meta) map
-  pub rests : (s.state file.store).usable ≡ true → (settled : Settled) → s.settles_to file.store settled → ImageStandsFor settled map (says file.meta).limit
-  pub limit_is : (says file.meta).limit ≡ limit
+  pub holds : (s.state file.store).usable ≡ true → Holds s file.store (model_meta file.meta) map
+  pub rests : (s.state file.store).usable ≡ true → (settled : Settled) → s.settles_to file.store settled → ImageStandsFor settled map (model_meta file.meta).limit
+  pub limit_is : (model_meta file.meta).limit ≡ limit
 
 -- it stands for the map, with this limit, or where it was to be emptied for none, with the limit asked for
 abbrev pub OpensAs : {S : Type 0} {s : Ghosts S} → OpenHow → Contents → ℕ → OpenFile S s → Type 0

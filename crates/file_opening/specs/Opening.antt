@@ -15,7 +15,7 @@ use Rattle.seg_table.specs.MetaPages.{HasMetaHeader}
 use Rattle.redo_commit.specs.Header.{has_magic}
 use Rattle.redo_commit.specs.File.{settled}
 use Rattle.redo_area.specs.Opening.{SaysArmed}
-use Rattle.redo_area.specs.Rests.{SettlesTo}
+use Rattle.redo_area.specs.Settling.{SettlesTo}
 use Rattle.file_opening.specs.declared.open_how.Access.{Access}
 use Rattle.file_opening.specs.declared.open_how.Access.TheVariants as access
 use Rattle.file_opening.specs.declared.open_how.OpenHow.{OpenHow}

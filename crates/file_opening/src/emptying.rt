@@ -1,11 +1,12 @@
 //! The emptying of a database that is there.
 
 ghost use Rattle.std.specs.Prelude.{◌≡◌, ◌≢◌, ◌⊎◌, ◌↔◌, ◌≤◌, ◌<◌, ◌+◌, ◌/◌, ◌∷◌, [], true, IfOk, IfErr, OnOk, OnErr, IsErrOf, Some, map};
+ghost use Rattle.dbm_fault.specs.Among.{IsErrAmong};
 ghost use Rattle.std.specs.FinMap.{empty};
 ghost use Rattle.sect_dev.specs.Device.{Image, IsImageOf, LeavesOnly, MoreFaults};
-ghost use Rattle.sect_dev.specs.Moments.{Reads};
-ghost use Rattle.page_model.specs.Placement.{fresh};
-ghost use Rattle.page_model.specs.Sheets.{meta_of as placement_meta};
+ghost use Rattle.sect_dev.specs.Moments.{IsOutcome};
+ghost use Rattle.page_model.specs.Placement.{fresh_placement};
+ghost use Rattle.page_model.specs.PageBodies.{meta_of as placement_meta};
 ghost use Rattle.page_io.specs.Answers.{HasDeviceCause};
 ghost use Rattle.page_io.specs.Meaning.{ImageStandsFor};
 ghost use Rattle.page_io.specs.Page.{own_number};
@@ -15,7 +16,7 @@ ghost use Rattle.page_io.specs.declared.store.PageFault.TheVariants.{Memory, Dev
 ghost use Rattle.redo_commit.specs.File.{settled};
 ghost use Rattle.redo_area.specs.Opening.{IsFresh as IsFreshStore};
 ghost use Rattle.redo_area.specs.Pagers.{device_of};
-ghost use Rattle.seg_table.specs.MetaPages.{says};
+ghost use Rattle.seg_table.specs.MetaPages.{model_meta};
 ghost use Rattle.page_commit.specs.Committing.{Holds, IsForgotten};
 ghost use Rattle.file_opening.specs.Opening.{emptying_fault};
 ghost use Rattle.file_opening.specs.OpenFiles.{device_left, IsJustOpened, StandsAs};
@@ -33,7 +34,7 @@ fn stage_empty<S: PageStore>(store: &mut S, pages: &[Page; 3]) -> Result<u32, Pa
     requires idle { (S.state store.old).staged ≡ [] }
     requires numbers { map own_number (bytes_of pages.now) ≡ 1 ∷ 2 ∷ 3 ∷ [] }
     ensures stages { StagesOnly S.PageStore store.old store.new }
-    ensures only { IfErr result (λ e. (e ≡ Broken) ⊎ (e ≡ Memory)) }
+    ensures only { IsErrAmong result (Broken ∷ Memory ∷ []) }
     ensures broken { IsErrOf result Broken → (S.state store.old).usable ≡ true → ⊥ }
     ensures staged { IfOk result (λ end. (end ≡ 4) × ((S.state store.new).staged ≡ bytes_of pages.now)) }
 {
@@ -49,14 +50,14 @@ fn commit_empty<S: PageStore>(store: &mut S, meta: &Meta) -> Result<(), PageFaul
     requires usable { (S.state store.old).usable ≡ true }
     requires writable { (S.state store.old).writable ≡ true }
     requires limited { (1 ≤ meta.now.limit) × (meta.now.limit ≤ 1000000) }
-    requires fresh { says meta.now ≡ placement_meta (fresh meta.now.limit) }
+    requires fresh { model_meta meta.now ≡ placement_meta (fresh_placement meta.now.limit) }
     ensures ok { OnOk result (S.state store.new ≡ record (S.state store.old) { end = 4 }) }
     ensures err { IfErr result (IsForgotten (S.state store.old) (S.state store.new)) }
     ensures cause { HasDeviceCause (S.faults store.old) (S.faults store.new) result }
     ensures honesty { S.honest store.new ↔ S.honest store.old }
-    ensures only { IfErr result (λ e. (e ≡ Memory) ⊎ ((e ≡ NoRoom) ⊎ (e ≡ Device))) }
+    ensures only { IsErrAmong result (Memory ∷ NoRoom ∷ Device ∷ []) }
     ensures no_room { IsErrOf result NoRoom → (S.state store.old).capacity < (S.state store.old).end + 3 }
-    ensures holds { S.honest store.old → OnOk result (Holds S.PageStore store.new (says meta.now) empty) }
+    ensures holds { S.honest store.old → OnOk result (Holds S.PageStore store.new (model_meta meta.now) empty) }
     ensures any_moment { S.honest store.old → LeavesOnly S.moment S.settled_since store.old store.new (λ now. (now ≡ file_of (S.committed store.old)) ⊎ ImageStandsFor now empty meta.now.limit) }
     ensures unchanged { S.honest store.old → OnErr result ((S.state store.new).usable ≡ true → LeavesOnly S.moment S.settled_since store.old store.new (λ now. now ≡ file_of (S.committed store.old))) }
 {
@@ -73,7 +74,7 @@ pub fn emptied<D: SectorDev>(
     requires sectors { sectors ≡ D.sectors (device_of store) }
     requires fresh { IsFreshStore (D.sectors (device_of store) / 4) true (⟦<Pager<D> as PageStore>⟧.state store) }
     ensures fresh { IfOk result (IsJustOpened true (D.sectors (device_of store) / 4)) }
-    ensures any_moment { D.honest (device_of store) → LeavesOnly D.moment (Reads D.left_since (settled (D.sectors (device_of store) / 4))) (device_of store) (device_left result)
+    ensures any_moment { D.honest (device_of store) → LeavesOnly D.moment (IsOutcome D.left_since (settled (D.sectors (device_of store) / 4))) (device_of store) (device_left result)
         (λ now. (now ≡ file_of (⟦<Pager<D> as PageStore>⟧.committed store)) ⊎ ImageStandsFor now empty limit) }
     ensures stands { D.honest (device_of store) → IfOk result (λ file. StandsAs file empty limit) }
     ensures refused { IfErr result (λ e. e.1 ≢ Fault.Device → (emptying_fault limit (D.sectors (device_of store)) (⟦<Pager<D> as PageStore>⟧.state store).end ≡ Some e.1) ⊎ (e.1 ≡ Fault.Memory)) }

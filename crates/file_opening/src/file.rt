@@ -1,7 +1,7 @@
 // A file that was opened.
 ghost use Rattle.std.specs.Prelude.{◌≡◌, []};
 ghost use Rattle.page_model.specs.Valid.{IsMeta};
-ghost use Rattle.seg_table.specs.MetaPages.{says};
+ghost use Rattle.seg_table.specs.MetaPages.{model_meta};
 
 use page_io::PageStore;
 use seg_table::Meta;
@@ -15,5 +15,5 @@ pub struct OpenFile<S: PageStore> {
     pub writable: bool,
     pub ghost idle: { (S.state store).staged ≡ [] },
     pub ghost told: { (S.state store).writable ≡ writable },
-    pub ghost valid: { IsMeta (says meta) },
+    pub ghost valid: { IsMeta (model_meta meta) },
 }

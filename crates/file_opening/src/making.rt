@@ -5,14 +5,14 @@ ghost use Rattle.std.specs.FinMap.{empty};
 ghost use Rattle.sect_dev.specs.Device.{Image, IsImageOf, LeavesOnly, MoreFaults};
 ghost use Rattle.page_model.specs.Meaning.{said_by};
 ghost use Rattle.page_model.specs.Pages.{MetaPage};
-ghost use Rattle.page_model.specs.Placement.{fresh};
-ghost use Rattle.page_model.specs.Sheets.{meta_of as placement_meta};
+ghost use Rattle.page_model.specs.Placement.{fresh_placement};
+ghost use Rattle.page_model.specs.PageBodies.{meta_of as placement_meta};
 ghost use Rattle.page_model.specs.Sizes.{sectors_for};
 ghost use Rattle.page_io.specs.Meaning.{FileStandsFor, ImageStandsFor};
 ghost use Rattle.page_io.specs.Page.{own_number};
 ghost use Rattle.page_io.specs.Store.{blank, bytes_of, page_of};
 ghost use Rattle.redo_commit.specs.File.{settled};
-ghost use Rattle.seg_table.specs.MetaPages.{says};
+ghost use Rattle.seg_table.specs.MetaPages.{model_meta};
 ghost use Rattle.file_opening.specs.Opening.{room_fault, making_fault};
 ghost use Rattle.file_opening.specs.OpenFiles.{device_left, IsJustOpened, StandsAs};
 
@@ -54,9 +54,9 @@ fn making_refusal(how: OpenHow, sectors: u32) -> Option<Fault>
 /// The pages of a new file: the meta page, one segment page with one head, and that head page, which is empty.
 pub fn pages_of_empty(meta: &Meta) -> [Page; 3]
     requires limited { (1 ≤ meta.now.limit) × (meta.now.limit ≤ 1000000) }
-    requires fresh { says meta.now ≡ placement_meta (fresh meta.now.limit) }
+    requires fresh { model_meta meta.now ≡ placement_meta (fresh_placement meta.now.limit) }
     ensures stands { FileStandsFor (bytes_of result) empty meta.now.limit }
-    ensures meta { said_by (page_of (bytes_of result)) 1 ≡ MetaPage (says meta.now) }
+    ensures meta { said_by (page_of (bytes_of result)) 1 ≡ MetaPage (model_meta meta.now) }
     ensures numbers { map own_number (bytes_of result) ≡ 1 ∷ 2 ∷ 3 ∷ [] }
 {
     let mut first = Page::blank();

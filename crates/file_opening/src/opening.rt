@@ -3,19 +3,19 @@
 ghost use Rattle.std.specs.Prelude.{◌≡◌, ◌≢◌, ◌⊎◌, ◌↔◌, ◌≤◌, ◌<◌, ◌/◌, ℕ, IfOk, IfErr, IfSome, Some, None, Err, true, false, if◌then◌else◌, map};
 ghost use Rattle.std.specs.FinMap.{empty};
 ghost use Rattle.sect_dev.specs.Device.{Image, IsImageOf, IsStable, LeavesOnly, MoreFaults};
-ghost use Rattle.sect_dev.specs.Moments.{Reads};
+ghost use Rattle.sect_dev.specs.Moments.{IsOutcome};
 ghost use Rattle.dbm_model.specs.Pairs.{Contents};
-ghost use Rattle.page_model.specs.Placement.{fresh};
+ghost use Rattle.page_model.specs.Placement.{fresh_placement};
 ghost use Rattle.page_io.specs.Meaning.{FileStandsFor, ImageStandsFor};
 ghost use Rattle.page_io.specs.Store.{Settled, blank, file_of, page_of};
 ghost use Rattle.redo_commit.specs.File.{settled};
 ghost use Rattle.redo_area.specs.Opening.{IsFresh as IsFreshStore};
 ghost use Rattle.redo_area.specs.Pagers.{device_of};
 ghost use Rattle.redo_area.specs.Reading.{OnlyReads};
-ghost use Rattle.redo_area.specs.Rests.{SettlesTo};
+ghost use Rattle.redo_area.specs.Settling.{SettlesTo};
 ghost use Rattle.file_opening.specs.Opening.{writes, is_exclusive, early_fault, RefusesMeta, RefusesOpened, SaysMeta, IsRefusedOpening, AllAllow, EmptiesFile, MayRemain, AllStand, IsOpened};
 ghost use Rattle.file_opening.specs.OpenFiles.{device_left, IsJustOpened, StandsAs, OpensAs};
-ghost use Rattle.seg_table.specs.MetaPages.{says};
+ghost use Rattle.seg_table.specs.MetaPages.{model_meta};
 
 use crate::emptying::emptied;
 use crate::making::made;
@@ -54,7 +54,7 @@ pub fn open_file<D: SectorDev>(
     ensures fresh { IfOk result (IsJustOpened (writes how.access) (D.sectors dev / 4)) }
 
     // Every image of every moment settles as one did at the start, or stands for the empty database that was asked for.
-    ensures any_moment { D.honest dev → LeavesOnly D.moment (Reads D.left_since (settled (D.sectors dev / 4))) dev (device_left result) (MayRemain how (D.sectors dev / 4) (D.candidate dev)) }
+    ensures any_moment { D.honest dev → LeavesOnly D.moment (IsOutcome D.left_since (settled (D.sectors dev / 4))) dev (device_left result) (MayRemain how (D.sectors dev / 4) (D.candidate dev)) }
 
     // Where each image at the start is blank or stands for a map, what is opened holds one of these maps, or is new and empty.
     ensures stands { D.honest dev → (writes how.access ≡ false → IsStable (D.candidate dev) (D.seen dev)) → AllStand (D.sectors dev / 4) (D.candidate dev) → IfOk result (λ file. (map : Contents) × (limit : ℕ) × StandsAs file map limit × IsOpened how (D.sectors dev / 4) (D.candidate dev) map limit) }
@@ -120,7 +120,7 @@ fn opened<D: SectorDev>(
     requires fresh { IsFreshStore (D.sectors (device_of store) / 4) (writes how.access) (⟦<Pager<D> as PageStore>⟧.state store) }
     requires written { how.truncate ≡ true → writes how.access ≡ true }
     ensures fresh { IfOk result (IsJustOpened (writes how.access) (D.sectors (device_of store) / 4)) }
-    ensures any_moment { D.honest (device_of store) → LeavesOnly D.moment (Reads D.left_since (settled (D.sectors (device_of store) / 4))) (device_of store) (device_left result)
+    ensures any_moment { D.honest (device_of store) → LeavesOnly D.moment (IsOutcome D.left_since (settled (D.sectors (device_of store) / 4))) (device_of store) (device_left result)
         (λ now. SettlesTo (D.sectors (device_of store) / 4) (D.candidate (device_of store)) now ⊎ (EmptiesFile how (⟦<Pager<D> as PageStore>⟧.committed store) × ImageStandsFor now empty how.limit)) }
     ensures stands { D.honest (device_of store) → ((now : Settled) → ⟦<Pager<D> as PageStore>⟧.settles_to store now → now ≡ file_of (⟦<Pager<D> as PageStore>⟧.committed store)) →
         (map : Contents) → (limit : ℕ) → FileStandsFor (⟦<Pager<D> as PageStore>⟧.committed store) map limit → IfOk result (λ file. (is_exclusive how ≡ false) × OpensAs how map limit file) }

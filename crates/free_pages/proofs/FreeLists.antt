@@ -2,7 +2,7 @@
 use Rattle.std.proofs.Common.{◌≡◌, ◌↔◌, ℕ, ◌+◌, ◌<◌, ◌≤◌, cond, List, [], ◌∷◌, length, refl, sym, ap, ◌∙◌, subst, arith}
 use Rattle.std.proofs.lemmas.Bool.Decides.{nat_tests}
 use Rattle.page_model.specs.Pages.{Body, FreePage}
-use Rattle.page_model.specs.Sheets.{first_of, free_sheets, AreRead}
+use Rattle.page_model.specs.PageBodies.{first_of, free_bodies, AreRead}
 use Rattle.page_model.specs.Space.{Space, after_take, give, is_page, times_of}
 use Rattle.page_model.proofs.Frames.{at_most_one}
 use Rattle.page_model.proofs.Spaces.{times_head, times_tail}
@@ -14,7 +14,7 @@ pub not_free : (n : ℕ) (s : Space) → IsApart (n ∷ []) s → times_of n s.f
 not_free n s apart = omega (arith, apart n, times_head n [], at_most_one (is_page n s.end))
 
 -- pages other than n are read as before
-pub free_stays : (at at' : ℕ → Body) (n : ℕ) (free : List ℕ) → times_of n free ≡ 0 → ((m : ℕ) → (m ≡ n → ⊥) → at' m ≡ at m) → AreRead at (free_sheets free) → AreRead at' (free_sheets free)
+pub free_stays : (at at' : ℕ → Body) (n : ℕ) (free : List ℕ) → times_of n free ≡ 0 → ((m : ℕ) → (m ≡ n → ⊥) → at' m ≡ at m) → AreRead at (free_bodies free) → AreRead at' (free_bodies free)
 free_stays at at' n [] none others read = tt
 free_stays at at' n (m ∷ rest) none others read = (
   others m (λ same. let twice : times_of n (n ∷ rest) ≡ 0 = subst (λ (k : ℕ). times_of n (k ∷ rest) ≡ 0) same none in absurd (omega (arith, twice, times_head n rest))) ∙ read.0,
@@ -54,7 +54,7 @@ list_ends at state s list apart = subst HasEnds (sym list.kept) (free_ends s.fre
 pub first_free : (at : ℕ → Body) (state : FreeState) (s : Space) → IsFreeList at state s → IsApart [] s → 0 < state.head → IsFirstTaken at state state.head (state_of (after_take s))
 first_free at state s list apart = subst (λ (t : FreeState). 0 < t.head → IsFirstTaken at t t.head (state_of (after_take s))) (sym list.kept) (by_free s.free s.end list.are_read (λ n. free_some n s apart))
   where
-    by_free : (free : List ℕ) (end : ℕ) → AreRead at (free_sheets free) → ((n : ℕ) → 1 ≤ times_of n free → 1 ≤ n) → 0 < first_of free
+    by_free : (free : List ℕ) (end : ℕ) → AreRead at (free_bodies free) → ((n : ℕ) → 1 ≤ times_of n free → 1 ≤ n) → 0 < first_of free
         → IsFirstTaken at (state_of (record { free = free; end = end })) (first_of free) (state_of (after_take (record { free = free; end = end })))
     by_free [] end read each some = absurd (omega arith)
     by_free (n ∷ rest) end read each some = record {

@@ -2,7 +2,7 @@
 use Rattle.std.specs.Prelude.{◌≡◌, ◌↔◌, ◌⊎◌, ℕ, ◌+◌, ◌<◌, ◌≤◌, List, length, if◌then◌else◌}
 use Rattle.page_model.specs.Pages.{Body, FreePage}
 use Rattle.page_model.specs.Space.{Space, is_page, times_of}
-use Rattle.page_model.specs.Sheets.{first_of, free_sheets, AreRead}
+use Rattle.page_model.specs.PageBodies.{first_of, free_bodies, AreRead}
 use Rattle.free_pages.specs.declared.free_state.FreeState.{FreeState}
 
 -- what is kept of a space
@@ -12,7 +12,7 @@ state_of s = record { head = first_of s.free; count = length s.free; file_end = 
 -- the pages say the free list of this space, and this is kept of it
 pub record IsFreeList (at : ℕ → Body) (state : FreeState) (s : Space) : Type 0 where
   pub kept : state ≡ state_of s
-  pub are_read : AreRead at (free_sheets s.free)
+  pub are_read : AreRead at (free_bodies s.free)
   pub some : 1 ≤ s.end
 
 -- no page of the file stands twice in these and the free list, and neither names any other page

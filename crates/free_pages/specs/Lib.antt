@@ -1,2 +1,2 @@
-pub mod FreeList
 pub mod Answers
+pub mod FreeList

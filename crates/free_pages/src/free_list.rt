@@ -8,7 +8,7 @@ ghost use Rattle.page_model.specs.Space.{Space, next_page, after_take, give as g
 ghost use Rattle.page_model.specs.Spelling.{free_spelling};
 ghost use Rattle.page_io.specs.Answers.{HasDeviceCause};
 ghost use Rattle.page_io.specs.Store.{IsKnown};
-ghost use Rattle.page_io.specs.Views.{said, StagesOnly, ReadsOnly, MayEnd, MayEndWith};
+ghost use Rattle.page_io.specs.Views.{body_at, StagesOnly, ReadsOnly, MayEnd, MayEndWith};
 ghost use Rattle.page_io.specs.declared.store.PageFault.TheVariants.{Broken, Damaged, Device};
 ghost use Rattle.free_pages.specs.FreeList.{state_of, IsFreeList, IsApart, IsFirstTaken, IsTaken, HasEnds};
 ghost use Rattle.free_pages.specs.declared.free_state.FreeState.{FreeState};
@@ -44,8 +44,8 @@ fn take_first<S: PageStore>(store: &mut S, space: &FreeState) -> Result<FreeStat
     ensures known { OnOk result (IsKnown (S.state store.old) space.now.head) }
     ensures ends { IfOk result HasEnds }
     ensures end { IfOk result (λ rest. rest.file_end ≡ space.now.file_end) }
-    ensures taken { S.honest store.old → IfOk result (IsFirstTaken (said S.PageStore store.old) space.now space.now.head) }
-    ensures whole { S.honest store.old → (rest : FreeState) → IsFirstTaken (said S.PageStore store.old) space.now space.now.head rest → IsErrOf result Damaged → ⊥ }
+    ensures taken { S.honest store.old → IfOk result (IsFirstTaken (body_at S.PageStore store.old) space.now space.now.head) }
+    ensures whole { S.honest store.old → (rest : FreeState) → IsFirstTaken (body_at S.PageStore store.old) space.now space.now.head rest → IsErrOf result Damaged → ⊥ }
 {
     let mut page = Page::blank();
     store.read(space.head, &mut page)?;
@@ -69,14 +69,14 @@ pub fn take<S: PageStore>(store: &mut S, space: &mut FreeState) -> Result<u32, P
     ensures answer { IsTakeAnswer (S.state store.old) space.old result }
     ensures err { OnErr result (space.new ≡ space.old) }
     ensures number { IfOk result (λ n. 1 ≤ n) }
-    ensures taken { S.honest store.old → IfOk result (λ n. IsTaken (said S.PageStore store.old) space.old n space.new) }
+    ensures taken { S.honest store.old → IfOk result (λ n. IsTaken (body_at S.PageStore store.old) space.old n space.new) }
     ensures ends { HasEnds space.old → HasEnds space.new }
     ensures may_end { MayEnd (S.state store.old) space.old.file_end → IfOk result (λ n. MayEndWith (S.state store.old) n space.new.file_end) }
 
     // On a free list that is read as one it takes what the placement takes, and is never Damaged.
-    ensures exact { S.honest store.old → (s : Space) → IsFreeList (said S.PageStore store.old) space.old s → IsApart [] s →
+    ensures exact { S.honest store.old → (s : Space) → IsFreeList (body_at S.PageStore store.old) space.old s → IsApart [] s →
         IfOk result (λ n. (n ≡ next_page s) × (space.new ≡ state_of (after_take s))) }
-    ensures whole { S.honest store.old → (s : Space) → IsFreeList (said S.PageStore store.old) space.old s → IsApart [] s → IsErrOf result Damaged → ⊥ }
+    ensures whole { S.honest store.old → (s : Space) → IsFreeList (body_at S.PageStore store.old) space.old s → IsApart [] s → IsErrOf result Damaged → ⊥ }
 {
     if (space.head == 0) != (space.count == 0) {
         return Err(PageFault::Damaged);
@@ -109,13 +109,13 @@ pub fn give<S: PageStore>(store: &mut S, space: &mut FreeState, n: u32) -> Resul
     ensures err { OnErr result (space.new ≡ space.old) }
     ensures err_state { OnErr result (S.state store.new ≡ S.state store.old) }
     ensures ok { OnOk result (space.new ≡ record { head = n; count = space.old.count + 1; file_end = space.old.file_end }) }
-    ensures free { S.honest store.old → OnOk result (said S.PageStore store.new n ≡ FreePage space.old.head) }
-    ensures others { S.honest store.old → (m : ℕ) → (m ≡ n → ⊥) → said S.PageStore store.new m ≡ said S.PageStore store.old m }
+    ensures free { S.honest store.old → OnOk result (body_at S.PageStore store.new n ≡ FreePage space.old.head) }
+    ensures others { S.honest store.old → (m : ℕ) → (m ≡ n → ⊥) → body_at S.PageStore store.new m ≡ body_at S.PageStore store.old m }
     ensures may_end { n < space.old.file_end → MayEnd (S.state store.old) space.old.file_end → MayEnd (S.state store.new) space.new.file_end }
 
     // A free list that is read as one is read with the page in front.
-    ensures exact { S.honest store.old → (s : Space) → IsFreeList (said S.PageStore store.old) space.old s → IsApart (n ∷ []) s →
-        OnOk result (IsFreeList (said S.PageStore store.new) space.new (given (n ∷ []) s)) }
+    ensures exact { S.honest store.old → (s : Space) → IsFreeList (body_at S.PageStore store.old) space.old s → IsApart (n ∷ []) s →
+        OnOk result (IsFreeList (body_at S.PageStore store.new) space.new (given (n ∷ []) s)) }
 {
     if space.count >= space.file_end {
         return Err(PageFault::Damaged);

@@ -8,13 +8,13 @@ use Rattle.page_model.specs.Pages.{Meta, Body}
 use Rattle.dbm_model.specs.Pairs.{Key, Pair, key_cmp}
 use Rattle.page_model.specs.Chain.{numbers, pairs_in}
 use Rattle.page_model.specs.Placement.{Placement, contents, key_bucket, chain_at, IsSound}
-use Rattle.page_model.specs.Sheets.{first_of, heads_of, segment_sheets, lower_sheets, AreRead}
+use Rattle.page_model.specs.PageBodies.{first_of, heads_of, segment_bodies, lower_bodies, AreRead}
 use Rattle.page_model.proofs.AddressLemmas.{address_below}
 use Rattle.page_model.proofs.Stores.{looks_in_one_chain}
 use Rattle.free_pages.specs.declared.free_state.FreeState.{FreeState}
 use Rattle.free_pages.specs.FreeList.{state_of}
 use Rattle.lin_addr.specs.Shapes.{shape_of}
-use Rattle.seg_table.specs.MetaPages.{says}
+use Rattle.seg_table.specs.MetaPages.{model_meta}
 use Rattle.seg_table.specs.declared.meta.Meta as code
 use Rattle.seg_table.specs.Heads.{AreHeads}
 use Rattle.seg_table.specs.Placements.{HasHeads}
@@ -28,10 +28,10 @@ use Rattle.linear_hash.specs.Tables.{shape_in, IsTable}
 use Rattle.linear_hash.specs.Looking.{IsFound}
 
 -- the bucket as the code finds it
-pub bucket_of : (meta : code.Meta) (key : Key) (bucket hash : ℕ) → bucket ≡ address (shape_of meta.shape) hash → hash ≡ hash_of key → bucket ≡ address (shape_in (says meta)) (hash_of key)
+pub bucket_of : (meta : code.Meta) (key : Key) (bucket hash : ℕ) → bucket ≡ address (shape_of meta.shape) hash → hash ≡ hash_of key → bucket ≡ address (shape_in (model_meta meta)) (hash_of key)
 bucket_of meta key bucket hash is hashed = is ∙ ap (address (shape_of meta.shape)) hashed
 
-module _ (at : ℕ → Body) (m : Meta) (p : Placement) (sound : IsSound p) (used : All (λ n. (0 < n) × IsNumber n) m.segments) (read : AreRead at (lower_sheets p)) (shape : shape_in m ≡ p.shape) (segments : m.segments ≡ p.segments) where
+module _ (at : ℕ → Body) (m : Meta) (p : Placement) (sound : IsSound p) (used : All (λ n. (0 < n) × IsNumber n) m.segments) (read : AreRead at (lower_bodies p)) (shape : shape_in m ≡ p.shape) (segments : m.segments ≡ p.segments) where
   of_p : HasHeads at p
   of_p = heads_read at p sound (subst (All (λ n. (0 < n) × IsNumber n)) segments used) read
 
@@ -39,7 +39,7 @@ module _ (at : ℕ → Body) (m : Meta) (p : Placement) (sound : IsSound p) (use
   pub heads_are : AreHeads at m (heads_of p.chains)
   heads_are =
       record {
-        are_read = subst (λ (ss : List ℕ). AreRead at (segment_sheets ss (heads_of p.chains))) (sym segments) of_p.heads_are.are_read;
+        are_read = subst (λ (ss : List ℕ). AreRead at (segment_bodies ss (heads_of p.chains))) (sym segments) of_p.heads_are.are_read;
         many = of_p.heads_are.many ∙ ap buckets (sym shape);
         used = used;
       }

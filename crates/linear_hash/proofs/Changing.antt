@@ -9,12 +9,12 @@ use Rattle.dbm_model.specs.Pairs.{Contents}
 use Rattle.page_model.specs.Placement.{Placement, contents, IsGood}
 use Rattle.page_model.specs.Reading.{body_of}
 use Rattle.page_model.specs.Meaning.{said_by}
-use Rattle.page_io.specs.Store.{Pages, overlaid, Settled, file_of, State, page_of, committed_with, are_in_order, AllBelow}
+use Rattle.page_io.specs.Store.{Pages, overlaid, Settled, file_of, StoreState, page_of, committed_with, are_in_order, AllBelow}
 use Rattle.page_io.specs.Page.{own_number}
 use Rattle.page_io.specs.Meaning.{FileStandsFor, ImageStandsFor}
-use Rattle.page_io.specs.Views.{said, StagesOnly}
+use Rattle.page_io.specs.Views.{body_at, StagesOnly}
 use Rattle.page_io.specs.declared.store.PageStore.{Ghosts}
-use Rattle.page_io.specs.Answers.{IsCommitAnswer, IsRefusal, LacksRoom}
+use Rattle.page_io.specs.Answers.{IsCommitAnswer, IsRefusal, LacksPages}
 use Rattle.page_io.specs.declared.store.PageFault.{PageFault}
 use Rattle.page_io.specs.declared.store.PageFault.TheVariants.{Memory, Device, Broken, NoRoom, Damaged}
 use Rattle.page_io.proofs.Meanings.{commits}
@@ -23,7 +23,7 @@ use Rattle.page_commit.specs.Committing.{Holds}
 use Rattle.linear_hash.specs.Holding.{StandsForEither}
 use Rattle.linear_hash.specs.Staging.{IsStaged, IsChangeAnswer}
 
-module _ {S : Type 0} (s : Ghosts S) (mid : S) (m : Meta) (end : ℕ) (q : Placement) (good : IsGood q) (staged : IsStaged (said s mid) m end q) where
+module _ {S : Type 0} (s : Ghosts S) (mid : S) (m : Meta) (end : ℕ) (q : Placement) (good : IsGood q) (staged : IsStaged (body_at s mid) m end q) where
   abbrev pub after : Pages
   after = committed_with (s.committed mid) (s.state mid).staged end
 
@@ -47,7 +47,7 @@ module _ {S : Type 0} (s : Ghosts S) (mid : S) (m : Meta) (end : ℕ) (q : Place
   }
 
 -- the same where it is staged at all
-pub staged_stands : {S : Type 0} (s : Ghosts S) (mid : S) (m : Meta) (q : Placement) (changed : Contents) (limit : ℕ) (r : Result ℕ PageFault) → IsGood q → contents q ≡ changed → IfOk r (λ end. IsStaged (said s mid) m end q) → OnOk r (m.limit ≡ limit)
+pub staged_stands : {S : Type 0} (s : Ghosts S) (mid : S) (m : Meta) (q : Placement) (changed : Contents) (limit : ℕ) (r : Result ℕ PageFault) → IsGood q → contents q ≡ changed → IfOk r (λ end. IsStaged (body_at s mid) m end q) → OnOk r (m.limit ≡ limit)
     → IfOk r (λ end. FileStandsFor (committed_with (s.committed mid) (s.state mid).staged end) changed limit)
 staged_stands s mid m q changed limit (Ok end) good is staged same =
     subst (λ (l : ℕ). FileStandsFor (committed_with (s.committed mid) (s.state mid).staged end) changed l) same
@@ -75,15 +75,15 @@ few_staged least end (page ∷ pages) order below le =
     omega (arith, ge, below.0, few_staged (own_number page + 1) end pages both.1 below.1 (omega (arith, below.0)))
 
 -- a commit lacks room only on a device that is not much larger than the file
-pub lacks_few : (st : State) (end : ℕ) (old_capacity bound pairs : ℕ) → LacksRoom st end → st.end ≤ end → length st.staged + 1 ≤ end → end ≤ bound + pairs + 4 → st.capacity ≡ old_capacity → old_capacity < 2 * (bound + pairs) + 8
+pub lacks_few : (st : StoreState) (end : ℕ) (old_capacity bound pairs : ℕ) → LacksPages st end → st.end ≤ end → length st.staged + 1 ≤ end → end ≤ bound + pairs + 4 → st.capacity ≡ old_capacity → old_capacity < 2 * (bound + pairs) + 8
 lacks_few st end old_capacity bound pairs lacks le few most same = omega (arith, lacks, le, few, most, same)
 
 module _ {S : Type 0} (s : Ghosts S) (old mid new : S) (r : Result ℕ PageFault) (result : Result Unit PageFault) (stages : StagesOnly s old mid) where
   usable_same : (s.state mid).usable ≡ (s.state old).usable
-  usable_same = ap (λ (st : State). st.usable) stages.state
+  usable_same = ap (λ (st : StoreState). st.usable) stages.state
 
   writable_same : (s.state mid).writable ≡ (s.state old).writable
-  writable_same = ap (λ (st : State). st.writable) stages.state
+  writable_same = ap (λ (st : StoreState). st.writable) stages.state
 
   -- why a change is refused
   pub change_answer : (A : PageFault → Type 0) → (s.state old).writable ≡ true → IsChangeAnswer (s.state old) r → IfOk r (λ end. IsCommitAnswer (s.state mid) end result) → IfErr r (λ e. (result ≡ Err e) × A e) → IsChangeAnswer (s.state old) result
@@ -143,9 +143,9 @@ module _ {S : Type 0} (s : Ghosts S) (old mid new : S) (r : Result ℕ PageFault
       by_case (Err e) a refused = ap Err (let both = sym refused.0 ∙ is in let same : e ≡ f = cc in same)
 
   -- NoRoom is the staging's, or the staged pages lack room
-  pub no_room_by : (A : PageFault → Type 0) → IfOk r (λ end. IsCommitAnswer (s.state mid) end result) → IfErr r (λ e. (result ≡ Err e) × A e) → result ≡ Err NoRoom → (r ≡ Err NoRoom) ⊎ ((end : ℕ) × (r ≡ Ok end) × LacksRoom (s.state mid) end)
+  pub no_room_by : (A : PageFault → Type 0) → IfOk r (λ end. IsCommitAnswer (s.state mid) end result) → IfErr r (λ e. (result ≡ Err e) × A e) → result ≡ Err NoRoom → (r ≡ Err NoRoom) ⊎ ((end : ℕ) × (r ≡ Ok end) × LacksPages (s.state mid) end)
   no_room_by A committed refused is = by_case r refl committed refused
     where
-      by_case : (q : Result ℕ PageFault) → r ≡ q → IfOk q (λ end. IsCommitAnswer (s.state mid) end result) → IfErr q (λ e. (result ≡ Err e) × A e) → (r ≡ Err NoRoom) ⊎ ((end : ℕ) × (r ≡ Ok end) × LacksRoom (s.state mid) end)
+      by_case : (q : Result ℕ PageFault) → r ≡ q → IfOk q (λ end. IsCommitAnswer (s.state mid) end result) → IfErr q (λ e. (result ≡ Err e) × A e) → (r ≡ Err NoRoom) ⊎ ((end : ℕ) × (r ≡ Ok end) × LacksPages (s.state mid) end)
       by_case (Ok end) same a refused = inr (end, same, (a.no_room.0 is).2)
       by_case (Err e) same a refused = inl (same ∙ ap Err (let both = sym refused.0 ∙ is in let fault : e ≡ NoRoom = cc in fault))

@@ -12,7 +12,7 @@ use Rattle.page_model.specs.PairLists.{times}
 use Rattle.page_model.specs.Chain.{Chain, numbers, pairs_in, add}
 use Rattle.page_model.specs.Space.{next_page}
 use Rattle.page_model.specs.Placement.{Placement, key_bucket, chain_at, put, bared, opened, split, IsSound, pairs_of}
-use Rattle.page_model.specs.Sheets.{first_of}
+use Rattle.page_model.specs.PageBodies.{first_of}
 use Rattle.page_model.specs.Rewrites.{new_head}
 use Rattle.page_model.proofs.AddressLemmas.{address_below}
 use Rattle.page_model.proofs.Ends.{end_fold}

@@ -1,7 +1,7 @@
 -- The meta page is staged last.
 use Rattle.std.proofs.Common.{◌≡◌, ℕ, ◌<◌, ◌≤◌, Bool, true, false, cond, eqb, ltb, List, [], ◌∷◌, length, ap, arith}
 use Rattle.page_io.specs.Page.{own_number}
-use Rattle.page_io.specs.Store.{Pages, State, put_page}
+use Rattle.page_io.specs.Store.{Pages, StoreState, put_page}
 use Rattle.page_io.specs.Views.{MayEnd}
 use Rattle.free_pages.proofs.OneStage.{may_still_end}
 use Rattle.page_commit.specs.Committing.{MayCommit}
@@ -16,11 +16,11 @@ put_some (page ∷ pages) new = by_tests (ltb (own_number new) (own_number page)
     by_tests false false = omega arith
 
 -- where the file could end without it, it can be committed with it
-pub can_commit : (old new : State) (end : ℕ) (bytes : List ℕ) → 4 ≤ old.end → own_number bytes ≡ 1 → new ≡ record old { staged = put_page old.staged bytes } → MayEnd old end → MayCommit new end
+pub can_commit : (old new : StoreState) (end : ℕ) (bytes : List ℕ) → 4 ≤ old.end → own_number bytes ≡ 1 → new ≡ record old { staged = put_page old.staged bytes } → MayEnd old end → MayCommit new end
 can_commit old new end bytes least own put may =
     let then = may_still_end old new end bytes may (omega (arith, own, least, may.least)) put in record {
       below = then.below;
       grown = then.grown;
-      some = omega (arith, put_some old.staged bytes, ap (λ (st : State). length st.staged) put);
+      some = omega (arith, put_some old.staged bytes, ap (λ (st : StoreState). length st.staged) put);
       least = omega (arith, least, may.least);
     }

@@ -11,12 +11,12 @@ use Rattle.dbm_model.specs.Pairs.{Key, Pair, IsAllowed}
 use Rattle.page_model.specs.PairLists.{has_key, times}
 use Rattle.page_model.specs.Chain.{Chain, numbers, pairs_in, remove}
 use Rattle.page_model.specs.Placement.{Placement, contents, pairs_of, key_bucket, chain_at, put, delete, IsSound}
-use Rattle.page_model.specs.Sheets.{first_of, heads_of}
+use Rattle.page_model.specs.PageBodies.{first_of, heads_of}
 use Rattle.page_model.proofs.AddressLemmas.{address_below}
 use Rattle.page_model.proofs.Absent.{delete_absent}
 use Rattle.page_model.proofs.PairLists.{value_in, sum_by-flat_map-set}
 use Rattle.page_model.proofs.Places.{times_none, value_at, delete_sound, put_sound}
-use Rattle.page_io.specs.Views.{said, ReadsOnly}
+use Rattle.page_io.specs.Views.{body_at, ReadsOnly}
 use Rattle.page_io.specs.declared.store.PageStore.{Ghosts}
 use Rattle.page_io.proofs.Views.{same_said}
 use Rattle.free_pages.specs.declared.free_state.FreeState.{FreeState}
@@ -103,9 +103,9 @@ head_still p key bucket head sound same is =
     ∙ sym (get_or-map first after at [] 0 (omega (arith, below, length-set p.chains at (remove key chain)))) ∙ ap (λ (b : ℕ). get_or (heads_of after) b 0) (sym same)
 
 -- pages that were read alone are as they were
-pub midway_read : {S : Type 0} (s : Ghosts S) (old new : S) (m : Meta) (space : FreeState) (p : Placement) → ReadsOnly s old new → s.honest old → IsMidway (said s old) m space p → IsMidway (said s new) m space p
+pub midway_read : {S : Type 0} (s : Ghosts S) (old new : S) (m : Meta) (space : FreeState) (p : Placement) → ReadsOnly s old new → s.honest old → IsMidway (body_at s old) m space p → IsMidway (body_at s new) m space p
 midway_read s old new m space p reads honest mid = subst (λ (at : ℕ → Body). IsMidway at m space p) (sym (same_said s old new reads honest)) mid
 
 -- the same of equal stores
-pub midway_same : {S : Type 0} (s : Ghosts S) (old new : S) (m : Meta) (space space' : FreeState) (p : Placement) → new ≡ old → space' ≡ space → IsMidway (said s old) m space p → IsMidway (said s new) m space' p
-midway_same {S} s old new m space space' p store free mid = subst (λ (st : S). IsMidway (said s st) m space' p) (sym store) (subst (λ (f : FreeState). IsMidway (said s old) m f p) (sym free) mid)
+pub midway_same : {S : Type 0} (s : Ghosts S) (old new : S) (m : Meta) (space space' : FreeState) (p : Placement) → new ≡ old → space' ≡ space → IsMidway (body_at s old) m space p → IsMidway (body_at s new) m space' p
+midway_same {S} s old new m space space' p store free mid = subst (λ (st : S). IsMidway (body_at s st) m space' p) (sym store) (subst (λ (f : FreeState). IsMidway (body_at s old) m f p) (sym free) mid)

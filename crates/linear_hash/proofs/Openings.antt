@@ -7,7 +7,7 @@ use Rattle.std.proofs.lemmas.Bool.Decides.{nat_tests}
 use Rattle.std.proofs.lemmas.List.{length-map}
 use Rattle.std.proofs.lemmas.List.Concat.{flat_map-append}
 use Rattle.std.proofs.lemmas.List.Sums.{sum_by-append, sum_by-cons}
-use Rattle.page_model.specs.Pages.{Meta, Body, HeadPage, Sheet, Bucket, bucket}
+use Rattle.page_model.specs.Pages.{Meta, Body, HeadPage, NumberedBody, Bucket, bucket}
 use Rattle.page_model.specs.Reading.{body_of, bucket_of}
 use Rattle.page_model.specs.Address.{Shape}
 use Rattle.page_model.specs.Numbers.{IsNumber}
@@ -16,12 +16,12 @@ use Rattle.page_model.specs.Sizes.{segments_for}
 use Rattle.page_model.specs.Space.{Space, next_page, after_take, give, is_page, times_of}
 use Rattle.page_model.specs.Placement.{Placement, chain_at, bare, bared, opened, IsSound}
 use Rattle.page_model.specs.Placement as placement
-use Rattle.page_model.specs.Sheets.{first_of, chain_sheets, free_sheets, segment_sheets, heads_of, meta_of, AreRead}
-use Rattle.page_model.specs.Rewrites.{AreRewritten, last_segment, new_head, opened_sheets}
-use Rattle.page_model.specs.Valid.{buckets}
+use Rattle.page_model.specs.PageBodies.{first_of, chain_bodies, free_bodies, segment_bodies, heads_of, meta_of, AreRead}
+use Rattle.page_model.specs.Rewrites.{AreRewritten, last_segment, new_head, opened_bodies}
+use Rattle.page_model.specs.Valid.{meta_buckets}
 use Rattle.page_model.proofs.PairLists.{sum_by-flat_map-set}
 use Rattle.page_model.proofs.Chains.{AllByRecursion-append, AllByRecursion-right}
-use Rattle.page_model.proofs.Flat.{numbers-chain_sheets, numbers-segments, numbers-free}
+use Rattle.page_model.proofs.Flat.{numbers-chain_bodies, numbers-segments, numbers-free}
 use Rattle.page_model.proofs.Frames.{kept, at_most_one}
 use Rattle.page_model.proofs.Openings.{segments_split, taken_dropped, touched, places, heads_opened, open_rewrites}
 use Rattle.page_model.proofs.Spaces.{times_head, times_tail}
@@ -30,7 +30,7 @@ use Rattle.page_io.specs.Page.{own_number}
 use Rattle.slot_page.specs.Contents.{IsBucketPage}
 use Rattle.free_pages.specs.declared.free_state.FreeState.{FreeState}
 use Rattle.free_pages.specs.FreeList.{state_of, IsFreeList, IsApart}
-use Rattle.seg_table.specs.Heads.{CanSet, IsHeadSet, opens_segment, with_head}
+use Rattle.seg_table.specs.Heads.{CanSet, IsHeadSet, needs_segment, with_head}
 use Rattle.seg_table.specs.Placements.{HasHeads}
 use Rattle.seg_table.proofs.PlacementHeads.{placements_heads}
 use Rattle.chain_walks.specs.Links.{HaveDistinctKeys}
@@ -43,7 +43,7 @@ use Rattle.bucket_chain.proofs.PlacedChains.{chains_placed}
 use Rattle.bucket_chain.proofs.Rewriting.{not_here}
 use Rattle.linear_hash.specs.Tables.{shape_in}
 use Rattle.linear_hash.specs.Staging.{IsMidway}
-use Rattle.linear_hash.specs.Splitting.{IsOpened}
+use Rattle.linear_hash.specs.Splitting.{IsBucketOpened}
 
 -- ---- lists of numbers
 
@@ -55,9 +55,9 @@ free_split n s = by_free s.free s.end where
   by_free (m ∷ rest) end = let f : ℕ → ℕ = λ k. cond (k == n) 1 0 in omega (arith, sum_by-cons f m rest, sum_by-cons f m [])
 
 -- the others are read as they were
-free_rest : (at : ℕ → Body) (s : Space) → AreRead at (free_sheets s.free) → AreRead at (free_sheets (after_take s).free)
+free_rest : (at : ℕ → Body) (s : Space) → AreRead at (free_bodies s.free) → AreRead at (free_bodies (after_take s).free)
 free_rest at s = by_free s.free s.end where
-  by_free : (free : List ℕ) (end : ℕ) → AreRead at (free_sheets free) → AreRead at (free_sheets (after_take (record { free = free; end = end })).free)
+  by_free : (free : List ℕ) (end : ℕ) → AreRead at (free_bodies free) → AreRead at (free_bodies (after_take (record { free = free; end = end })).free)
   by_free [] end read = tt
   by_free (m ∷ rest) end read = read.1
 
@@ -157,10 +157,10 @@ module _ (p : Placement) (sound : IsSound p) where
         | false ↦ omega arith
       ]
 
-  free_read_then : (at : ℕ → Body) → AreRead at (free_sheets (headed_space p).free) → AreRead at (free_sheets (opened p).space.free)
+  free_read_then : (at : ℕ → Body) → AreRead at (free_bodies (headed_space p).free) → AreRead at (free_bodies (opened p).space.free)
   free_read_then at read =
       let s = headed_space p in
-      elim (placement.opens_segment p) as (λ t. AreRead at (free_sheets (cond {A = Space} t (after_take s) s).free)) [ true ↦ free_rest at s read | false ↦ read ]
+      elim (placement.opens_segment p) as (λ t. AreRead at (free_bodies (cond {A = Space} t (after_take s) s).free)) [ true ↦ free_rest at s read | false ↦ read ]
 
 -- the chain of the bucket that is split
 pub split_placed : (at : ℕ → Body) (m : Meta) (space : FreeState) (p : Placement) (head : ℕ) → IsMidway at m space p → head ≡ first_of (numbers (chain_at p p.shape.split)) → IsPlaced at space head (chain_at p p.shape.split) p.space
@@ -176,7 +176,7 @@ pub midway_heads : (at : ℕ → Body) (m : Meta) (space : FreeState) (p : Place
 midway_heads at m space p midway small = placements_heads at p midway.sound (omega (arith, small, ap (λ (s : FreeState). s.file_end) midway.below.kept)) midway.below.are_read
 
 -- the next bucket
-pub next_bucket : (at : ℕ → Body) (m : Meta) (space : FreeState) (p : Placement) → IsMidway at m space p → buckets m ≡ length p.chains
+pub next_bucket : (at : ℕ → Body) (m : Meta) (space : FreeState) (p : Placement) → IsMidway at m space p → meta_buckets m ≡ length p.chains
 next_bucket at m space p midway = ap (λ (s : Shape). 2 ^ s.level + s.split) midway.shape_is ∙ sym midway.sound.all_buckets
 
 -- a head page with no pair was staged
@@ -204,18 +204,18 @@ module _ (p : Placement) (sound : IsSound p) (at0 at1 at2 : ℕ → Body) (space
     pub can_set : (m : Meta) (b : ℕ) → b ≡ length p.chains → shape_in m ≡ p.shape → m.segments ≡ p.segments → 1 ≤ n → HasHeads at0 p → CanSet at2 m space2 (heads_of p.chains) b n (headed_space p)
     can_set m b b_is shape segments positive has =
         let heads = heads_of p.chains in
-        let same : buckets m ≡ buckets (meta_of p) = ap (λ (s : Shape). 2 ^ s.level + s.split) shape in
-        let read : AreRead at2 (segment_sheets p.segments heads) = kept at0 at2 (segment_sheets p.segments heads)
+        let same : meta_buckets m ≡ meta_buckets (meta_of p) = ap (λ (s : Shape). 2 ^ s.level + s.split) shape in
+        let read : AreRead at2 (segment_bodies p.segments heads) = kept at0 at2 (segment_bodies p.segments heads)
         (λ k l. untouched k (let a = headed_once p sound k in let b = subst (λ ns. 1 ≤ times_of k ns) (numbers-segments p.segments heads) l in omega arith)) has.heads_are.are_read in
         record {
           heads_are = record {
-            are_read = subst (λ ns. AreRead at2 (segment_sheets ns heads)) (sym segments) read;
+            are_read = subst (λ ns. AreRead at2 (segment_bodies ns heads)) (sym segments) read;
             many = has.heads_are.many ∙ sym same;
             used = subst (λ ns. AreUsed ns) (sym segments) has.heads_are.used;
           };
           free_is = record {
             kept = taken.1;
-            are_read = kept at1 at2 (free_sheets (headed_space p).free)
+            are_read = kept at1 at2 (free_bodies (headed_space p).free)
                 (λ k l. others k (other_head k (let a = headed_once p sound k in let b = subst (λ ns. 1 ≤ times_of k ns) (numbers-free (headed_space p).free) l in omega arith)))
                 (free_rest at1 (given_space p) emptied.rewritten.free_read);
             some = end_some (given_space p) some;
@@ -227,13 +227,13 @@ module _ (p : Placement) (sound : IsSound p) (at0 at1 at2 : ℕ → Body) (space
         }
 
     module _ (at3 : ℕ → Body) (space3 : FreeState) (m m' : Meta) (b : ℕ) (b_is : b ≡ length p.chains) (segments : m.segments ≡ p.segments) (head_set : IsHeadSet at2 at3 m m' space3 (heads_of p.chains) b n (headed_space p)) where
-      opens : opens_segment m b ≡ placement.opens_segment p
+      opens : needs_segment m b ≡ placement.opens_segment p
       opens = ap (λ (ns : List ℕ). (b / 508) == length ns) segments ∙ ap (λ (k : ℕ). (k / 508) == length p.segments) b_is ∙ opens_same (length p.chains) (length p.segments) sound.all_segments
 
       segments_now : m'.segments ≡ (opened p).segments
       segments_now =
           let new = next_page (headed_space p) in
-          ap (λ (x : Meta). x.segments) head_set.segments_are ∙ one_more (opens_segment m b) m.segments new
+          ap (λ (x : Meta). x.segments) head_set.segments_are ∙ one_more (needs_segment m b) m.segments new
           ∙ ap (λ (t : Bool). m.segments ++ cond t (new ∷ []) []) opens ∙ ap (λ (ns : List ℕ). ns ++ cond (placement.opens_segment p) (new ∷ []) []) segments
 
       space_now : space3 ≡ state_of (opened p).space
@@ -245,9 +245,9 @@ module _ (p : Placement) (sound : IsSound p) (at0 at1 at2 : ℕ → Body) (space
           head_behind heads b n (b_is ∙ sym (length-map p.chains (λ (chain : Chain). first_of (numbers chain))))
           ∙ ap (λ (k : ℕ). heads ++ k ∷ []) taken.0 ∙ sym (heads_opened p sound at0 at2)
 
-      segments_read : AreRead at3 (segment_sheets (opened p).segments (heads_of (opened p).chains))
-      segments_read = subst (λ (hs : List ℕ). AreRead at3 (segment_sheets (opened p).segments hs)) heads_now
-          (subst (λ (ns : List ℕ). AreRead at3 (segment_sheets ns (with_head (heads_of p.chains) b n))) segments_now head_set.are_read)
+      segments_read : AreRead at3 (segment_bodies (opened p).segments (heads_of (opened p).chains))
+      segments_read = subst (λ (hs : List ℕ). AreRead at3 (segment_bodies (opened p).segments hs)) heads_now
+          (subst (λ (ns : List ℕ). AreRead at3 (segment_bodies ns (with_head (heads_of p.chains) b n))) segments_now head_set.are_read)
 
       -- pages other than the last segment page stay
       segment_alone : (k : ℕ) → times_of k (drop (length (opened p).segments - 1) (opened p).segments) ≡ 0 → at3 k ≡ at2 k
@@ -259,22 +259,22 @@ module _ (p : Placement) (sound : IsSound p) (at0 at1 at2 : ℕ → Body) (space
           let there = last_there last ns (omega arith) in
           head_set.others k (λ same. not_here (get_or ns last 0) k (drop last ns) there none (same ∙ ap (λ (xs : List ℕ). get_or xs (b / 508) 0) segments_now ∙ ap (λ (i : ℕ). get_or ns i 0) index))
 
-      rewritten : AreRewritten at0 at3 (opened_sheets p)
+      rewritten : AreRewritten at0 at3 (opened_bodies p)
       rewritten =
-          let Q : Sheet → Type 0 = λ sheet. at3 sheet.number ≡ sheet.body in
+          let Q : NumberedBody → Type 0 = λ numbered. at3 numbered.number ≡ numbered.body in
           let q = opened p in
           let last = length q.segments - 1 in
           let chain = bared (chain_at p p.shape.split) in
           let number = sym taken.0 in
-          let a = chain_sheets chain in
-          let h = chain_sheets (new_head p ∷ []) in
+          let a = chain_bodies chain in
+          let h = chain_bodies (new_head p ∷ []) in
           let c = last_segment q in
-          let d = free_sheets q.space.free in
+          let d = free_bodies q.space.free in
           let later : (k : ℕ) → times_of k (q.segments) ≡ 0 → times_of k ((new_head p).number ∷ []) ≡ 0 → at3 k ≡ at1 k
           = λ (k : ℕ) (one : times_of k (q.segments) ≡ 0) (two : times_of k ((new_head p).number ∷ []) ≡ 0). segment_alone k (omega (arith, one, taken_dropped k last q.segments)) ∙ others k (other_head k two) in
-          let a_read : AllByRecursion Q a = kept at1 at3 a (λ k l. let x = places p sound at0 at3 k in let y = subst (λ ns. 1 ≤ times_of k ns) (numbers-chain_sheets chain) l in later k (omega arith) (omega arith)) emptied.rewritten.chain_read in
+          let a_read : AllByRecursion Q a = kept at1 at3 a (λ k l. let x = places p sound at0 at3 k in let y = subst (λ ns. 1 ≤ times_of k ns) (numbers-chain_bodies chain) l in later k (omega arith) (omega arith)) emptied.rewritten.chain_read in
           let h_read : AllByRecursion Q h = (segment_alone _ (let x = places p sound at0 at3 (new_head p).number in let y = times_head (new_head p).number [] in let z = taken_dropped (new_head p).number last q.segments in omega arith) ∙ ap at2 number ∙ here, tt) in
-          let c_read : AllByRecursion Q c = AllByRecursion-right Q (segment_sheets (take last q.segments) (heads_of q.chains)) c (subst (AllByRecursion Q) (segments_split last q.segments (heads_of q.chains)) segments_read) in
+          let c_read : AllByRecursion Q c = AllByRecursion-right Q (segment_bodies (take last q.segments) (heads_of q.chains)) c (subst (AllByRecursion Q) (segments_split last q.segments (heads_of q.chains)) segments_read) in
           let d_read : AllByRecursion Q d = kept at1 at3 d (λ k l. let x = places p sound at0 at3 k in let y = subst (λ ns. 1 ≤ times_of k ns) (numbers-free q.space.free) l in later k (omega arith) (omega arith)) (free_read_then p sound at1 (free_rest at1 (given_space p) emptied.rewritten.free_read)) in
           record {
             are_read = AllByRecursion-append Q (a ++ h ++ c) d (AllByRecursion-append Q (a ++ h) c (AllByRecursion-append Q a h a_read h_read) c_read) d_read;
@@ -283,7 +283,7 @@ module _ (p : Placement) (sound : IsSound p) (at0 at1 at2 : ℕ → Body) (space
                 segment_alone k (omega arith) ∙ untouched k (omega (arith, x, none, free_opened p sound k));
           }
 
-      pub opened_now : IsOpened at3 m' space3 p n
+      pub opened_now : IsBucketOpened at3 m' space3 p n
       opened_now = record {
         below = record { are_read = open_rewrites p at0 at3 sound below.are_read rewritten; kept = space_now };
         segments_are = segments_now;

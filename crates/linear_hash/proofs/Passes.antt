@@ -7,16 +7,16 @@ use Rattle.page_model.specs.Pages.{Meta, Body}
 use Rattle.dbm_model.specs.Pairs.{Pair}
 use Rattle.page_model.specs.Chain.{Chain, numbers, pairs_in}
 use Rattle.page_model.specs.Placement.{Placement, pairs_of, chain_at}
-use Rattle.page_model.specs.Sheets.{first_of, heads_of}
-use Rattle.page_io.specs.Store.{State}
-use Rattle.page_io.specs.Views.{said, ReadsOnly}
+use Rattle.page_model.specs.PageBodies.{first_of, heads_of}
+use Rattle.page_io.specs.Store.{StoreState}
+use Rattle.page_io.specs.Views.{body_at, ReadsOnly}
 use Rattle.page_io.specs.declared.store.PageStore.{Ghosts}
 use Rattle.page_io.proofs.Views.{same_said}
 use Rattle.seg_table.specs.Heads.{AreHeads}
 use Rattle.seg_table.proofs.PlacementHeads.{heads_read, used_segments}
 use Rattle.free_pages.specs.FreeList.{state_of}
 use Rattle.chain_walks.specs.Chains.{IsChainAt}
-use Rattle.chain_walks.specs.Places.{Entry, entries_from, entries, last_place, IsHeld, IsFirst}
+use Rattle.chain_walks.specs.Places.{Entry, entries_from, entries, last_place, HoldsPair, IsFirst}
 use Rattle.chain_walks.specs.declared.place.Place.{Place}
 use Rattle.bucket_chain.proofs.PlacedChains.{chains_placed}
 use Rattle.chain_walks.proofs.ReadPages.{still_honest}
@@ -105,7 +105,7 @@ module _ (p : Placement) (bucket : ℕ) (behind : Option Place) (left : List Pai
             left_is = refl;
           } in
           subst (λ (xs : List Pair). IsNext p xs bytes (Some (bucket, place))) (sym left_is)
-          (subst (λ (at : Place). IsHeld bytes at entry.1 × IsBehind p (cursor bucket (Some at)) (pairs_at rest ++ later)) same (first.1, goes_on))
+          (subst (λ (at : Place). HoldsPair bytes at entry.1 × IsBehind p (cursor bucket (Some at)) (pairs_at rest ++ later)) same (first.1, goes_on))
 
   -- it has none: the pass goes on before the first pair of the next bucket
   pub passes_on : (bytes : List ℕ) → IsFirst stands.rest bytes None → IsBehind p (cursor (bucket + 1) None) left
@@ -144,21 +144,21 @@ module _ (at : ℕ → Body) (m : Meta) (end : ℕ) (p : Placement) (table : IsT
 
 -- ---- the same after reads
 module _ {S : Type 0} (s : Ghosts S) where
-  table_after : (old new : S) (m : Meta) (p : Placement) → ReadsOnly s old new → s.honest old → IsTable (said s old) m (s.state old).end p → IsTable (said s new) m (s.state new).end p
+  table_after : (old new : S) (m : Meta) (p : Placement) → ReadsOnly s old new → s.honest old → IsTable (body_at s old) m (s.state old).end p → IsTable (body_at s new) m (s.state new).end p
   table_after old new m p reads honest table =
-      subst (λ (st : State). IsTable (said s new) m st.end p) (sym reads.same) (subst (λ (at : ℕ → Body). IsTable at m (s.state old).end p) (sym (same_said s old new reads honest)) table)
+      subst (λ (st : StoreState). IsTable (body_at s new) m st.end p) (sym reads.same) (subst (λ (at : ℕ → Body). IsTable at m (s.state old).end p) (sym (same_said s old new reads honest)) table)
 
-  module _ (first store : S) (m : Meta) (p : Placement) (reads : ReadsOnly s first store) (honest : s.honest first) (table : IsTable (said s first) m (s.state first).end p) where
-    there : IsTable (said s store) m (s.state store).end p
+  module _ (first store : S) (m : Meta) (p : Placement) (reads : ReadsOnly s first store) (honest : s.honest first) (table : IsTable (body_at s first) m (s.state first).end p) where
+    there : IsTable (body_at s store) m (s.state store).end p
     there = table_after first store m p reads honest table
 
-    pub heads_there : AreHeads (said s store) m (heads_of p.chains)
-    heads_there = table_heads (said s store) m (s.state store).end p there
+    pub heads_there : AreHeads (body_at s store) m (heads_of p.chains)
+    heads_there = table_heads (body_at s store) m (s.state store).end p there
 
     -- `found` is what `head_of` says of the head that it answers
-    pub chain_there : (new : S) (bucket head : ℕ) → ReadsOnly s store new → bucket < buckets (shape_in m) → ((heads : List ℕ) → AreHeads (said s store) m heads → bucket < length heads → head ≡ get_or heads bucket 0)
-        → IsChainAt (said s new) (s.state new).end head (chain_at p bucket)
+    pub chain_there : (new : S) (bucket head : ℕ) → ReadsOnly s store new → bucket < buckets (shape_in m) → ((heads : List ℕ) → AreHeads (body_at s store) m heads → bucket < length heads → head ≡ get_or heads bucket 0)
+        → IsChainAt (body_at s new) (s.state new).end head (chain_at p bucket)
     chain_there new bucket head goes_on within found =
         let later = table_after store new m p goes_on (still_honest s first store reads honest) there in
         let is_head = found (heads_of p.chains) heads_there (omega (arith, within, heads_there.many)) in
-        bucket_chain_there (said s new) m (s.state new).end p later bucket head (omega (arith, within, table_buckets (said s first) m (s.state first).end p table)) is_head
+        bucket_chain_there (body_at s new) m (s.state new).end p later bucket head (omega (arith, within, table_buckets (body_at s first) m (s.state first).end p table)) is_head

@@ -8,14 +8,14 @@ use Rattle.page_model.specs.Pages.{Meta, Body}
 use Rattle.page_model.specs.Numbers.{IsNumber}
 use Rattle.page_model.specs.Chain.{Chain, numbers, pairs_in}
 use Rattle.page_model.specs.Placement.{Placement, pairs_of, chain_at, put, opened, split, IsSound}
-use Rattle.page_model.specs.Sheets.{first_of, segment_sheets, heads_of, AreRead}
+use Rattle.page_model.specs.PageBodies.{first_of, segment_bodies, heads_of, AreRead}
 use Rattle.page_model.proofs.Ends.{end_opened}
 use Rattle.page_model.proofs.PairLists.{length-sum_by}
 use Rattle.page_model.proofs.Splits.{split_filled, sum_by-opened}
 use Rattle.page_model.proofs.Stores.{split_keeps}
 use Rattle.free_pages.specs.declared.free_state.FreeState.{FreeState}
-use Rattle.page_io.specs.Store.{State}
-use Rattle.page_io.specs.Views.{said, ReadsOnly}
+use Rattle.page_io.specs.Store.{StoreState}
+use Rattle.page_io.specs.Views.{body_at, ReadsOnly}
 use Rattle.page_io.specs.declared.store.PageStore.{Ghosts}
 use Rattle.page_io.proofs.Views.{same_said}
 use Rattle.seg_table.specs.Heads.{AreHeads, AddsSegment}
@@ -23,7 +23,7 @@ use Rattle.chain_walks.specs.Chains.{IsChainAt}
 use Rattle.bucket_chain.specs.Placements.{IsBelow}
 use Rattle.linear_hash.specs.Tables.{shape_in}
 use Rattle.linear_hash.specs.Staging.{IsMidway}
-use Rattle.linear_hash.specs.Splitting.{IsOpened, IsRefilled}
+use Rattle.linear_hash.specs.Splitting.{IsBucketOpened, IsRefilled}
 use Rattle.linear_hash.proofs.Openings.{split_below, split_placed, midway_heads, next_bucket}
 
 -- ---- what is read
@@ -36,7 +36,7 @@ module _ (at : ℕ → Body) (m : Meta) (space : FreeState) (p : Placement) (mid
       let heads = heads_of p.chains in
       let same = sym midway.segments_are in
       record {
-        are_read = subst (λ (ns : List ℕ). AreRead at (segment_sheets ns heads)) same has.are_read;
+        are_read = subst (λ (ns : List ℕ). AreRead at (segment_bodies ns heads)) same has.are_read;
         many = length-map p.chains (λ (chain : Chain). first_of (numbers chain)) ∙ sym (next_bucket at m space p midway);
         used = subst (λ (ns : List ℕ). All (λ k. (0 < k) × IsNumber k) ns) same has.used;
       }
@@ -50,7 +50,7 @@ module _ (at : ℕ → Body) (m : Meta) (space : FreeState) (p : Placement) (mid
       ∙ ap (slice_index (heads_of p.chains)) bucket ∙ (midway_heads at m space p midway small).each p.shape.split below
 
 -- reads change nothing
-midway_then : {S : Type 0} (s : Ghosts S) (old new : S) (m : Meta) (space : FreeState) (p : Placement) → ReadsOnly s old new → s.honest old → IsMidway (said s old) m space p → IsMidway (said s new) m space p
+midway_then : {S : Type 0} (s : Ghosts S) (old new : S) (m : Meta) (space : FreeState) (p : Placement) → ReadsOnly s old new → s.honest old → IsMidway (body_at s old) m space p → IsMidway (body_at s new) m space p
 midway_then s old new m space p reads honest midway = subst (λ (at : ℕ → Body). IsMidway at m space p) (sym (same_said s old new reads honest)) midway
 
 -- the chain of the bucket that is split is no longer than the committed file
@@ -69,7 +69,7 @@ chain_here at m space p end head midway near from =
 
 -- ---- what is put again
 
-refilled : (at0 at : ℕ → Body) (m m' : Meta) (space0 space : FreeState) (p : Placement) (b head n : ℕ) (pairs : List Pair) → IsMidway at0 m space0 p → head ≡ first_of (numbers (chain_at p p.shape.split)) → AddsSegment m m' b → IsOpened at m' space p n
+refilled : (at0 at : ℕ → Body) (m m' : Meta) (space0 space : FreeState) (p : Placement) (b head n : ℕ) (pairs : List Pair) → IsMidway at0 m space0 p → head ≡ first_of (numbers (chain_at p p.shape.split)) → AddsSegment m m' b → IsBucketOpened at m' space p n
     → pairs ≡ pairs_in (chain_at p p.shape.split) → IsRefilled at space (shape_in m') head n pairs p
 refilled at0 at m m' space0 space p b head n pairs midway from added now are = record {
   sound = midway.sound;
@@ -83,24 +83,24 @@ refilled at0 at m m' space0 space p b head n pairs midway from added now are = r
 -- ---- two calls that read, the second of which gives the pairs, and one that opens a bucket
 
 module _ {S : Type 0} (s : Ghosts S) (first second : S) (m : Meta) (space : FreeState) (p : Placement) (head : ℕ) (from : head ≡ first_of (numbers (chain_at p p.shape.split)))
-    (one : ReadsOnly s first second) (honest : s.honest first) (midway : IsMidway (said s first) m space p) where
-  pub chain_then : p.space.end ≤ (s.state first).end + 1 → IsChainAt (said s second) (s.state second).end head (chain_at p p.shape.split)
-  chain_then near = chain_here (said s second) m space p (s.state second).end head (midway_then s first second m space p one honest midway) (omega (arith, near, ap (λ (st : State). st.end) one.same)) from
+    (one : ReadsOnly s first second) (honest : s.honest first) (midway : IsMidway (body_at s first) m space p) where
+  pub chain_then : p.space.end ≤ (s.state first).end + 1 → IsChainAt (body_at s second) (s.state second).end head (chain_at p p.shape.split)
+  chain_then near = chain_here (body_at s second) m space p (s.state second).end head (midway_then s first second m space p one honest midway) (omega (arith, near, ap (λ (st : StoreState). st.end) one.same)) from
 
   module _ (third : S) (two : ReadsOnly s second third) where
     pub honest_later : s.honest third
     honest_later = two.stages_only.honesty.1 (one.stages_only.honesty.1 honest)
 
-    pub midway_later : IsMidway (said s third) m space p
+    pub midway_later : IsMidway (body_at s third) m space p
     midway_later = midway_then s second third m space p two (one.stages_only.honesty.1 honest) (midway_then s first second m space p one honest midway)
 
     -- what the pairs are put into
     pub refilled_later : (at : ℕ → Body) (m' : Meta) (space' : FreeState) (b n : ℕ) (pairs again : List Pair) → p.space.end ≤ (s.state first).end + 1
-        → (s.honest second → (chain : Chain) → IsChainAt (said s second) (s.state second).end head chain → pairs ≡ pairs_in chain)
-        → (s.honest third → (q : Placement) → IsMidway (said s third) m space q → head ≡ first_of (numbers (chain_at q q.shape.split)) → IsOpened at m' space' q n)
+        → (s.honest second → (chain : Chain) → IsChainAt (body_at s second) (s.state second).end head chain → pairs ≡ pairs_in chain)
+        → (s.honest third → (q : Placement) → IsMidway (body_at s third) m space q → head ≡ first_of (numbers (chain_at q q.shape.split)) → IsBucketOpened at m' space' q n)
         → AddsSegment m m' b → again ≡ pairs → IsRefilled at space' (shape_in m') head n again p
     refilled_later at m' space' b n pairs again near are opens added same =
-        refilled (said s third) at m m' space space' p b head n again midway_later from added (opens honest_later p midway_later from) (same ∙ are (one.stages_only.honesty.1 honest) (chain_at p p.shape.split) (chain_then near))
+        refilled (body_at s third) at m m' space space' p b head n again midway_later from added (opens honest_later p midway_later from) (same ∙ are (one.stages_only.honesty.1 honest) (chain_at p p.shape.split) (chain_then near))
 
 -- ---- what is left
 
@@ -113,7 +113,7 @@ kept_segments : (pairs : List Pair) (q : Placement) → (fold put q pairs).segme
 kept_segments [] q = refl
 kept_segments (x ∷ pairs) q = kept_segments pairs (put q x)
 
-pub midway_split : (at0 at1 at : ℕ → Body) (m m1 m' : Meta) (space0 space1 space : FreeState) (p : Placement) (b n : ℕ) → IsMidway at0 m space0 p → AddsSegment m m1 b → IsOpened at1 m1 space1 p n → IsBelow at space (split p)
+pub midway_split : (at0 at1 at : ℕ → Body) (m m1 m' : Meta) (space0 space1 space : FreeState) (p : Placement) (b n : ℕ) → IsMidway at0 m space0 p → AddsSegment m m1 b → IsBucketOpened at1 m1 space1 p n → IsBelow at space (split p)
     → shape_in m' ≡ grown (shape_in m1) → m'.segments ≡ m1.segments → m'.limit ≡ m1.limit → IsMidway at m' space (split p)
 midway_split at0 at1 at m m1 m' space0 space1 space p b n midway added now below shape segments limit =
     let pairs = pairs_in (chain_at p p.shape.split) in

@@ -6,7 +6,7 @@ use Rattle.page_model.specs.Pages.{Meta, MetaPage}
 use Rattle.page_model.specs.Meaning.{said_by}
 use Rattle.page_model.specs.Valid.{IsMeta}
 use Rattle.page_io.specs.Answers.{HasDeviceCause}
-use Rattle.page_io.specs.Store.{Settled, State, page_of}
+use Rattle.page_io.specs.Store.{Settled, StoreState, page_of}
 use Rattle.page_io.specs.Meaning.{FileStandsFor, ImageStandsFor}
 use Rattle.page_io.specs.declared.store.PageStore.{Ghosts}
 use Rattle.page_io.specs.declared.store.PageFault.{PageFault}
@@ -29,7 +29,7 @@ pub record IsEnded {S : Type 0} (s : Ghosts S) (old new : S) (before after : Met
   pub answer : IsChangeAnswer (s.state old) result
 
 -- What it makes of a file that stood for the map: it stands for the changed one, or is as it was, and at every moment for one of the two.
-pub record Turns {S : Type 0} (s : Ghosts S) (old new : S) (before after : Meta) (map changed : Contents) (result : Result Unit PageFault) : Type 0 where
+pub record ChangesMap {S : Type 0} (s : Ghosts S) (old new : S) (before after : Meta) (map changed : Contents) (result : Result Unit PageFault) : Type 0 where
   pub done : OnOk result (Holds s new after changed)
   pub kept : OnErr result ((s.state new).usable ≡ true → s.committed new ≡ s.committed old)
   pub any_moment : LeavesOnly s.moment s.settled_since old new (StandsForEither map changed before.limit)

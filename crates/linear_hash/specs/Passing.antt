@@ -3,7 +3,7 @@ use Rattle.std.specs.Prelude.{◌≡◌, ℕ, ◌+◌, List, [], ◌∷◌, ◌+
 use Rattle.page_model.specs.Chain.{pairs_in}
 use Rattle.dbm_model.specs.Pairs.{Pair}
 use Rattle.page_model.specs.Placement.{Placement, chain_at}
-use Rattle.chain_walks.specs.Places.{Entry, entries, last_place, IsHeld}
+use Rattle.chain_walks.specs.Places.{Entry, entries, last_place, HoldsPair}
 use Rattle.chain_walks.specs.declared.place.Place.{Place}
 use Rattle.linear_hash.specs.declared.passing.Cursor.{Cursor}
 
@@ -19,4 +19,4 @@ pub record IsBehind (p : Placement) (cursor : Cursor) (left : List Pair) : Type 
 abbrev pub IsNext : Placement → List Pair → List ℕ → Option (ℕ × Place) → Type 0
 IsNext p [] bytes found = found ≡ None
 IsNext p (pair ∷ left) bytes None = ⊥
-IsNext p (pair ∷ left) bytes (Some at) = IsHeld bytes at.1 pair × IsBehind p (record { bucket = at.0; behind = Some at.1 }) left
+IsNext p (pair ∷ left) bytes (Some at) = HoldsPair bytes at.1 pair × IsBehind p (record { bucket = at.0; behind = Some at.1 }) left

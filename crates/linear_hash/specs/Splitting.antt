@@ -5,13 +5,13 @@ use Rattle.page_model.specs.Pages.{Meta, Body}
 use Rattle.dbm_model.specs.Pairs.{Pair}
 use Rattle.page_model.specs.Chain.{numbers, pairs_in}
 use Rattle.page_model.specs.Placement.{Placement, chain_at, opened, IsSound}
-use Rattle.page_model.specs.Sheets.{first_of}
+use Rattle.page_model.specs.PageBodies.{first_of}
 use Rattle.page_model.specs.Rewrites.{new_head}
 use Rattle.free_pages.specs.declared.free_state.FreeState.{FreeState}
 use Rattle.bucket_chain.specs.Placements.{IsBelow}
 
 -- the pages but the meta page say the placement with a further bucket, whose head is page n
-pub record IsOpened (at : ℕ → Body) (m : Meta) (space : FreeState) (p : Placement) (n : ℕ) : Type 0 where
+pub record IsBucketOpened (at : ℕ → Body) (m : Meta) (space : FreeState) (p : Placement) (n : ℕ) : Type 0 where
   pub below : IsBelow at space (opened p)
   pub segments_are : m.segments ≡ (opened p).segments
   pub head : n ≡ (new_head p).number

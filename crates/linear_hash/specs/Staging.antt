@@ -3,14 +3,16 @@ use Rattle.std.specs.Prelude.{◌≡◌, ◌⊎◌, ◌+◌, ◌^◌, ◌≤◌,
 use Rattle.page_model.specs.Address.{grown}
 use Rattle.page_model.specs.Pages.{Meta, Body}
 use Rattle.page_model.specs.Placement.{Placement, IsSound}
-use Rattle.page_model.specs.Sheets.{meta_of, IsSpelled}
+use Rattle.page_model.specs.PageBodies.{meta_of, IsSpelled}
 use Rattle.free_pages.specs.declared.free_state.FreeState.{FreeState}
-use Rattle.page_io.specs.Store.{State, AllBelow, has_page}
+use Rattle.page_io.specs.Store.{StoreState, AllBelow, has_page}
 use Rattle.page_io.specs.declared.store.PageFault.{PageFault}
 use Rattle.page_io.specs.declared.store.PageFault.TheVariants.{Memory, Device, Broken, NoRoom, Damaged}
 use Rattle.seg_table.specs.Heads.{AddsSegment}
 use Rattle.bucket_chain.specs.Placements.{IsBelow}
 use Rattle.linear_hash.specs.Tables.{shape_in}
+use Rattle.page_io.specs.declared.store.PageStore.{Ghosts}
+use Rattle.page_io.specs.Views.{body_at}
 
 -- the pages but the meta page say a sound placement midway in a change, and this is kept of it beside the number of its pairs
 pub record IsMidway (at : ℕ → Body) (m : Meta) (space : FreeState) (p : Placement) : Type 0 where
@@ -21,7 +23,7 @@ pub record IsMidway (at : ℕ → Body) (m : Meta) (space : FreeState) (p : Plac
   pub limit_is : m.limit ≡ p.limit
 
 -- a change may be refused so
-pub record IsChangeAnswer {T : Type 0} (state : State) (result : Result T PageFault) : Type 0 where
+pub record IsChangeAnswer {T : Type 0} (state : StoreState) (result : Result T PageFault) : Type 0 where
   pub broken : IsErrOf result Broken → state.usable ≡ false
   pub only : IfErr result (λ e. (e ≡ Broken) ⊎ ((e ≡ Memory) ⊎ ((e ≡ NoRoom) ⊎ ((e ≡ Damaged) ⊎ (e ≡ Device)))))
 
@@ -36,3 +38,7 @@ pub record IsStaged (at : ℕ → Body) (m : Meta) (end : ℕ) (p : Placement) :
   pub spelled : IsSpelled at p
   pub meta_is : m ≡ meta_of p
   pub ends : p.space.end ≡ end
+
+-- what is said of an honest store whose pages say a placement midway in a change
+abbrev pub ForEachMidway : {S : Type 0} → Ghosts S → S → Meta → FreeState → (Placement → Type 0) → Type 0
+ForEachMidway s store m space Says = s.honest store → (p : Placement) → IsMidway (body_at s store) m space p → Says p

@@ -5,11 +5,11 @@ ghost use Rattle.std.specs.FinMap.{get, insert, remove};
 ghost use Rattle.dbm_model.specs.Pairs.{Contents, IsAllowed};
 ghost use Rattle.page_model.specs.Valid.{IsMeta};
 ghost use Rattle.page_io.specs.Answers.{HasDeviceCause};
-ghost use Rattle.seg_table.specs.MetaPages.{says};
+ghost use Rattle.seg_table.specs.MetaPages.{model_meta};
 ghost use Rattle.linear_hash.specs.Tables.{shape_in, shape_for};
 ghost use Rattle.linear_hash.specs.Staging.{IsChangeAnswer};
 ghost use Rattle.page_commit.specs.Committing.{Holds, IsForgotten};
-ghost use Rattle.linear_hash.specs.Holding.{IsEnded, Turns};
+ghost use Rattle.linear_hash.specs.Holding.{IsEnded, ChangesMap};
 
 use crate::staging::{stage_delete, stage_store};
 use page_commit::finish;
@@ -29,19 +29,19 @@ fn commit_store<S: PageStore>(
     requires allowed { IsAllowed (key.now, content.now) }
     requires idle { (S.state store.old).staged ≡ [] }
     requires writable { (S.state store.old).writable ≡ true }
-    requires valid { IsMeta (says meta.old) }
+    requires valid { IsMeta (model_meta meta.old) }
     requires room { was_there ≡ false → meta.old.pairs < meta.old.limit }
     ensures ok { OnOk result (S.state store.new ≡ record (S.state store.old) { end = (S.state store.new).end }) }
     ensures err { IfErr result (IsForgotten (S.state store.old) (S.state store.new)) }
-    ensures valid { OnOk result (IsMeta (says meta.new)) }
+    ensures valid { OnOk result (IsMeta (model_meta meta.new)) }
     ensures limit { OnOk result (meta.new.limit ≡ meta.old.limit) }
     ensures pairs { OnOk result (meta.new.pairs ≡ (if was_there then meta.old.pairs else meta.old.pairs + 1)) }
-    ensures shape { OnOk result (shape_in (says meta.new) ≡ shape_for meta.new.pairs (shape_in (says meta.old))) }
+    ensures shape { OnOk result (shape_in (model_meta meta.new) ≡ shape_for meta.new.pairs (shape_in (model_meta meta.old))) }
     ensures cause { HasDeviceCause (S.faults store.old) (S.faults store.new) result }
     ensures honesty { S.honest store.new ↔ S.honest store.old }
     ensures answer { IsChangeAnswer (S.state store.old) result }
-    ensures turns { S.honest store.old → (S.state store.old).usable ≡ true → (map : Contents) → Holds S.PageStore store.old (says meta.old) map → was_there ≡ is_some (get map key.now) →
-        Turns S.PageStore store.old store.new (says meta.old) (says meta.new) map (insert map key.now content.now) result }
+    ensures turns { S.honest store.old → (S.state store.old).usable ≡ true → (map : Contents) → Holds S.PageStore store.old (model_meta meta.old) map → was_there ≡ is_some (get map key.now) →
+        ChangesMap S.PageStore store.old store.new (model_meta meta.old) (model_meta meta.new) map (insert map key.now content.now) result }
 {
     let staged = stage_store(alloc, store, meta, key, content, was_there);
     finish(store, staged)
@@ -59,15 +59,15 @@ pub fn store_pair<S: PageStore>(
     requires allowed { IsAllowed (key.now, content.now) }
     requires idle { (S.state store.old).staged ≡ [] }
     requires writable { (S.state store.old).writable ≡ true }
-    requires valid { IsMeta (says meta.old) }
+    requires valid { IsMeta (model_meta meta.old) }
     requires room { was_there ≡ false → meta.old.pairs < meta.old.limit }
-    ensures ends { IsEnded S.PageStore store.old store.new (says meta.old) (says meta.new) result }
+    ensures ends { IsEnded S.PageStore store.old store.new (model_meta meta.old) (model_meta meta.new) result }
     ensures pairs { OnOk result (meta.new.pairs ≡ (if was_there then meta.old.pairs else meta.old.pairs + 1)) }
-    ensures shape { OnOk result (shape_in (says meta.new) ≡ shape_for meta.new.pairs (shape_in (says meta.old))) }
+    ensures shape { OnOk result (shape_in (model_meta meta.new) ≡ shape_for meta.new.pairs (shape_in (model_meta meta.old))) }
 
     // Where the file stands for a map, it then stands for the changed one, and at every moment for one of the two.
-    ensures turns { S.honest store.old → (S.state store.old).usable ≡ true → (map : Contents) → Holds S.PageStore store.old (says meta.old) map → was_there ≡ is_some (get map key.now) →
-        Turns S.PageStore store.old store.new (says meta.old) (says meta.new) map (insert map key.now content.now) result }
+    ensures turns { S.honest store.old → (S.state store.old).usable ≡ true → (map : Contents) → Holds S.PageStore store.old (model_meta meta.old) map → was_there ≡ is_some (get map key.now) →
+        ChangesMap S.PageStore store.old store.new (model_meta meta.old) (model_meta meta.new) map (insert map key.now content.now) result }
 {
     let mut changed = meta.copied();
     commit_store(alloc, store, &mut changed, key, content, was_there)?;
@@ -79,19 +79,19 @@ pub fn store_pair<S: PageStore>(
 fn commit_delete<S: PageStore>(store: &mut S, meta: &mut Meta, key: &[u8]) -> Result<(), PageFault>
     requires idle { (S.state store.old).staged ≡ [] }
     requires writable { (S.state store.old).writable ≡ true }
-    requires valid { IsMeta (says meta.old) }
+    requires valid { IsMeta (model_meta meta.old) }
     requires some { 0 < meta.old.pairs }
     ensures ok { OnOk result (S.state store.new ≡ record (S.state store.old) { end = (S.state store.new).end }) }
     ensures err { IfErr result (IsForgotten (S.state store.old) (S.state store.new)) }
-    ensures valid { OnOk result (IsMeta (says meta.new)) }
+    ensures valid { OnOk result (IsMeta (model_meta meta.new)) }
     ensures limit { OnOk result (meta.new.limit ≡ meta.old.limit) }
     ensures pairs { OnOk result (meta.new.pairs + 1 ≡ meta.old.pairs) }
-    ensures shape { OnOk result (shape_in (says meta.new) ≡ shape_in (says meta.old)) }
+    ensures shape { OnOk result (shape_in (model_meta meta.new) ≡ shape_in (model_meta meta.old)) }
     ensures cause { HasDeviceCause (S.faults store.old) (S.faults store.new) result }
     ensures honesty { S.honest store.new ↔ S.honest store.old }
     ensures answer { IsChangeAnswer (S.state store.old) result }
-    ensures turns { S.honest store.old → (S.state store.old).usable ≡ true → (map : Contents) → Holds S.PageStore store.old (says meta.old) map → is_some (get map key.now) ≡ true →
-        Turns S.PageStore store.old store.new (says meta.old) (says meta.new) map (remove map key.now) result }
+    ensures turns { S.honest store.old → (S.state store.old).usable ≡ true → (map : Contents) → Holds S.PageStore store.old (model_meta meta.old) map → is_some (get map key.now) ≡ true →
+        ChangesMap S.PageStore store.old store.new (model_meta meta.old) (model_meta meta.new) map (remove map key.now) result }
 {
     let staged = stage_delete(store, meta, key);
     finish(store, staged)
@@ -105,15 +105,15 @@ pub fn delete_pair<S: PageStore>(
 ) -> Result<(), PageFault>
     requires idle { (S.state store.old).staged ≡ [] }
     requires writable { (S.state store.old).writable ≡ true }
-    requires valid { IsMeta (says meta.old) }
+    requires valid { IsMeta (model_meta meta.old) }
     requires some { 0 < meta.old.pairs }
-    ensures ends { IsEnded S.PageStore store.old store.new (says meta.old) (says meta.new) result }
+    ensures ends { IsEnded S.PageStore store.old store.new (model_meta meta.old) (model_meta meta.new) result }
     ensures pairs { OnOk result (meta.new.pairs + 1 ≡ meta.old.pairs) }
-    ensures shape { OnOk result (shape_in (says meta.new) ≡ shape_in (says meta.old)) }
+    ensures shape { OnOk result (shape_in (model_meta meta.new) ≡ shape_in (model_meta meta.old)) }
 
     // Where the file stands for a map, it then stands for the changed one, and at every moment for one of the two.
-    ensures turns { S.honest store.old → (S.state store.old).usable ≡ true → (map : Contents) → Holds S.PageStore store.old (says meta.old) map → is_some (get map key.now) ≡ true →
-        Turns S.PageStore store.old store.new (says meta.old) (says meta.new) map (remove map key.now) result }
+    ensures turns { S.honest store.old → (S.state store.old).usable ≡ true → (map : Contents) → Holds S.PageStore store.old (model_meta meta.old) map → is_some (get map key.now) ≡ true →
+        ChangesMap S.PageStore store.old store.new (model_meta meta.old) (model_meta meta.new) map (remove map key.now) result }
 {
     let mut changed = meta.copied();
     commit_delete(store, &mut changed, key)?;

@@ -2,14 +2,14 @@
 
 ghost use Rattle.std.specs.Prelude.{IfOk, IfSome, IsErrOf};
 ghost use Rattle.std.specs.FinMap.{get};
-ghost use Rattle.page_model.specs.Placement.{Placement, contents};
+ghost use Rattle.page_model.specs.Placement.{contents};
 ghost use Rattle.page_model.specs.Valid.{IsMeta};
 ghost use Rattle.page_io.specs.Answers.{HasDeviceCause};
-ghost use Rattle.page_io.specs.Views.{said, ReadsOnly};
+ghost use Rattle.page_io.specs.Views.{ReadsOnly};
 ghost use Rattle.page_io.specs.declared.store.PageFault.TheVariants.{Damaged};
-ghost use Rattle.seg_table.specs.MetaPages.{says};
+ghost use Rattle.seg_table.specs.MetaPages.{model_meta};
 ghost use Rattle.chain_walks.specs.Answers.{IsWalkAnswer};
-ghost use Rattle.linear_hash.specs.Tables.{IsTable};
+ghost use Rattle.linear_hash.specs.Tables.{ForEachTable};
 ghost use Rattle.linear_hash.specs.Looking.{IsHeld, IsFound};
 
 use bucket_chain::{Place, lookup};
@@ -24,14 +24,15 @@ pub fn find_pair<S: PageStore>(
     key: &[u8],
     page: &mut Page,
 ) -> Result<Option<Place>, PageFault>
-    requires { IsMeta (says meta.now) }
+    requires { IsMeta (model_meta meta.now) }
     ensures reads { ReadsOnly S.PageStore store.old store.new }
     ensures cause { HasDeviceCause (S.faults store.old) (S.faults store.new) result }
     ensures answer { IsWalkAnswer (S.state store.old) result }
     ensures held { IfOk result (λ place. IfSome place (λ at. IsHeld key.now page.new.bytes at.slot)) }
-    ensures exact { S.honest store.old → (p : Placement) → IsTable (said S.PageStore store.old) (says meta.now) (S.state store.old).end p →
-        IfOk result (λ place. IsFound key.now (get (contents p) key.now) page.new.bytes place) }
-    ensures whole { S.honest store.old → (p : Placement) → IsTable (said S.PageStore store.old) (says meta.now) (S.state store.old).end p → IsErrOf result Damaged → ⊥ }
+    ensures exact { ForEachTable S.PageStore store.old (model_meta meta.now) (λ p.
+        IfOk result (λ place. IsFound key.now (get (contents p) key.now) page.new.bytes place)) }
+    ensures whole { ForEachTable S.PageStore store.old (model_meta meta.now) (λ p.
+        IsErrOf result Damaged → ⊥) }
 {
     let head = head_of(store, meta, meta.shape.bucket(hash(key)))?;
     lookup(store, head, key, page)

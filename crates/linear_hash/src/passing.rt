@@ -5,10 +5,10 @@ ghost use Rattle.dbm_model.specs.Pairs.{Pair};
 ghost use Rattle.page_model.specs.Placement.{Placement};
 ghost use Rattle.page_model.specs.Valid.{IsMeta};
 ghost use Rattle.page_io.specs.Answers.{HasDeviceCause};
-ghost use Rattle.page_io.specs.Views.{said, ReadsOnly};
+ghost use Rattle.page_io.specs.Views.{body_at, ReadsOnly};
 ghost use Rattle.page_io.specs.declared.store.PageFault.TheVariants.{Damaged};
-ghost use Rattle.slot_page.specs.Contents.{IsBucketPage, pairs_of};
-ghost use Rattle.seg_table.specs.MetaPages.{says};
+ghost use Rattle.slot_page.specs.Contents.{IsBucketPage, page_pairs};
+ghost use Rattle.seg_table.specs.MetaPages.{model_meta};
 ghost use Rattle.chain_walks.specs.Answers.{IsWalkAnswer};
 ghost use Rattle.linear_hash.specs.Tables.{IsTable};
 ghost use Rattle.linear_hash.specs.Passing.{IsBehind, IsNext};
@@ -43,18 +43,18 @@ pub fn next_pair<S: PageStore>(
     from: Cursor,
     page: &mut Page,
 ) -> Result<Option<(u32, Place)>, PageFault>
-    requires { IsMeta (says meta.now) }
+    requires { IsMeta (model_meta meta.now) }
     ensures reads { ReadsOnly S.PageStore store.old store.new }
     ensures cause { HasDeviceCause (S.faults store.old) (S.faults store.new) result }
     ensures answer { IsWalkAnswer (S.state store.old) result }
 
     // On any bytes the pair may be read from the page.
-    ensures held { IfOk result (λ found. IfSome found (λ at. IsBucketPage page.new.bytes × (at.1.slot < length (pairs_of page.new.bytes)))) }
+    ensures held { IfOk result (λ found. IfSome found (λ at. IsBucketPage page.new.bytes × (at.1.slot < length (page_pairs page.new.bytes)))) }
 
     // On pages that say a good placement it answers the first of the pairs that are left, and is never Damaged.
-    ensures exact { S.honest store.old → (p : Placement) (left : List Pair) → IsTable (said S.PageStore store.old) (says meta.now) (S.state store.old).end p →
+    ensures exact { S.honest store.old → (p : Placement) (left : List Pair) → IsTable (body_at S.PageStore store.old) (model_meta meta.now) (S.state store.old).end p →
         IsBehind p from left → IfOk result (λ found. IsNext p left page.new.bytes found) }
-    ensures whole { S.honest store.old → (p : Placement) (left : List Pair) → IsTable (said S.PageStore store.old) (says meta.now) (S.state store.old).end p →
+    ensures whole { S.honest store.old → (p : Placement) (left : List Pair) → IsTable (body_at S.PageStore store.old) (model_meta meta.now) (S.state store.old).end p →
         IsBehind p from left → IsErrOf result Damaged → ⊥ }
 {
     let mut behind = from.behind;

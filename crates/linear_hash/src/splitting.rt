@@ -4,20 +4,20 @@ ghost use Rattle.std.specs.Prelude.{◌≡◌, ◌+◌, ◌*◌, ◌^◌, ◌<�
 ghost use Rattle.dbm_model.specs.Pairs.{IsAllowed};
 ghost use Rattle.page_model.specs.Chain.{numbers};
 ghost use Rattle.page_model.specs.Placement.{Placement, pairs_of, chain_at, opened, split};
-ghost use Rattle.page_model.specs.Sheets.{first_of};
+ghost use Rattle.page_model.specs.PageBodies.{first_of};
 ghost use Rattle.page_model.specs.Sizes.{segments_for};
-ghost use Rattle.page_model.specs.Valid.{buckets};
+ghost use Rattle.page_model.specs.Valid.{meta_buckets};
 ghost use Rattle.page_io.specs.Answers.{HasDeviceCause};
-ghost use Rattle.page_io.specs.Views.{said, StagesOnly, MayEnd};
+ghost use Rattle.page_io.specs.Views.{body_at, StagesOnly, MayEnd};
 ghost use Rattle.page_io.specs.declared.store.PageFault.TheVariants.{NoRoom, Damaged};
 ghost use Rattle.free_pages.specs.FreeList.{HasEnds};
-ghost use Rattle.seg_table.specs.MetaPages.{says};
+ghost use Rattle.seg_table.specs.MetaPages.{model_meta};
 ghost use Rattle.seg_table.specs.Heads.{AddsSegment};
-ghost use Rattle.linear_hash.specs.Staging.{IsMidway, IsChangeAnswer, IsGrown};
+ghost use Rattle.linear_hash.specs.Staging.{IsMidway, IsChangeAnswer, IsGrown, ForEachMidway};
 ghost use Rattle.lin_addr.specs.Shapes.{shape_of};
 ghost use Rattle.chain_walks.specs.Pairs.{pair_of};
 ghost use Rattle.bucket_chain.specs.Placements.{IsBelow};
-ghost use Rattle.linear_hash.specs.Splitting.{IsOpened, IsRefilled};
+ghost use Rattle.linear_hash.specs.Splitting.{IsBucketOpened, IsRefilled};
 
 use bucket_chain::{Pair, load_all, put, store_all};
 use free_pages::{FreeState, take};
@@ -37,20 +37,23 @@ pub fn split_bucket<S: PageStore>(
     meta: &mut Meta,
     space: &mut FreeState,
 ) -> Result<(), PageFault>
-    requires segments { length (says meta.old).segments ≡ segments_for (buckets (says meta.old)) }
-    requires few { 8 * buckets (says meta.old) < 1000000 }
+    requires segments { length (model_meta meta.old).segments ≡ segments_for (meta_buckets (model_meta meta.old)) }
+    requires few { 8 * meta_buckets (model_meta meta.old) < 1000000 }
     ensures stages { StagesOnly S.PageStore store.old store.new }
     ensures cause { HasDeviceCause (S.faults store.old) (S.faults store.new) result }
     ensures answer { IsChangeAnswer (S.state store.old) result }
-    ensures grown { OnOk result (IsGrown (says meta.old) (says meta.new)) }
+    ensures grown { OnOk result (IsGrown (model_meta meta.old) (model_meta meta.new)) }
     ensures ends { HasEnds space.old → HasEnds space.new }
     ensures may_end { MayEnd (S.state store.old) space.old.file_end → OnOk result (MayEnd (S.state store.new) space.new.file_end) }
 
     // Where at most one page was taken since the last commit, it leaves the model's placement, is never Damaged, and takes
     // a page for each pair and two more at most.
-    ensures exact { S.honest store.old → (p : Placement) → IsMidway (said S.PageStore store.old) (says meta.old) space.old p → p.space.end ≤ (S.state store.old).end + 1 → OnOk result (IsMidway (said S.PageStore store.new) (says meta.new) space.new (split p)) }
-    ensures whole { S.honest store.old → (p : Placement) → IsMidway (said S.PageStore store.old) (says meta.old) space.old p → p.space.end ≤ (S.state store.old).end + 1 → IsErrOf result Damaged → ⊥ }
-    ensures room { S.honest store.old → (p : Placement) → IsMidway (said S.PageStore store.old) (says meta.old) space.old p → p.space.end ≤ (S.state store.old).end + 1 → IsErrOf result NoRoom → (S.state store.old).capacity ≤ p.space.end + length (pairs_of p) + 2 }
+    ensures exact { ForEachMidway S.PageStore store.old (model_meta meta.old) space.old (λ p.
+        p.space.end ≤ (S.state store.old).end + 1 → OnOk result (IsMidway (body_at S.PageStore store.new) (model_meta meta.new) space.new (split p))) }
+    ensures whole { ForEachMidway S.PageStore store.old (model_meta meta.old) space.old (λ p.
+        p.space.end ≤ (S.state store.old).end + 1 → IsErrOf result Damaged → ⊥) }
+    ensures room { ForEachMidway S.PageStore store.old (model_meta meta.old) space.old (λ p.
+        p.space.end ≤ (S.state store.old).end + 1 → IsErrOf result NoRoom → (S.state store.old).capacity ≤ p.space.end + length (pairs_of p) + 2) }
 {
     // Every page has a number of four bytes.
     prove!(space.file_end <= u32::MAX);
@@ -69,21 +72,23 @@ fn open_bucket<S: PageStore>(
     space: &mut FreeState,
     head: u32,
 ) -> Result<u32, PageFault>
-    requires segments { length (says meta.old).segments ≡ segments_for (buckets (says meta.old)) }
-    requires few { 8 * buckets (says meta.old) < 1000000 }
+    requires segments { length (model_meta meta.old).segments ≡ segments_for (meta_buckets (model_meta meta.old)) }
+    requires few { 8 * meta_buckets (model_meta meta.old) < 1000000 }
     requires small { space.old.file_end < 2 ^ 32 }
     ensures stages { StagesOnly S.PageStore store.old store.new }
     ensures cause { HasDeviceCause (S.faults store.old) (S.faults store.new) result }
     ensures answer { IsChangeAnswer (S.state store.old) result }
-    ensures added { OnOk result (AddsSegment (says meta.old) (says meta.new) (buckets (says meta.old))) }
+    ensures added { OnOk result (AddsSegment (model_meta meta.old) (model_meta meta.new) (meta_buckets (model_meta meta.old))) }
     ensures ends { HasEnds space.old → HasEnds space.new }
     ensures may_end { MayEnd (S.state store.old) space.old.file_end → OnOk result (MayEnd (S.state store.new) space.new.file_end) }
 
     // It leaves the model's placement with no pair in either bucket, is never Damaged, and takes two pages at most.
-    ensures exact { S.honest store.old → (p : Placement) → IsMidway (said S.PageStore store.old) (says meta.old) space.old p → head ≡ first_of (numbers (chain_at p p.shape.split)) →
-        IfOk result (IsOpened (said S.PageStore store.new) (says meta.new) space.new p) }
-    ensures whole { S.honest store.old → (p : Placement) → IsMidway (said S.PageStore store.old) (says meta.old) space.old p → head ≡ first_of (numbers (chain_at p p.shape.split)) → IsErrOf result Damaged → ⊥ }
-    ensures room { S.honest store.old → (p : Placement) → IsMidway (said S.PageStore store.old) (says meta.old) space.old p → head ≡ first_of (numbers (chain_at p p.shape.split)) → IsErrOf result NoRoom → (S.state store.old).capacity ≤ p.space.end + 2 }
+    ensures exact { ForEachMidway S.PageStore store.old (model_meta meta.old) space.old (λ p.
+        head ≡ first_of (numbers (chain_at p p.shape.split)) → IfOk result (IsBucketOpened (body_at S.PageStore store.new) (model_meta meta.new) space.new p)) }
+    ensures whole { ForEachMidway S.PageStore store.old (model_meta meta.old) space.old (λ p.
+        head ≡ first_of (numbers (chain_at p p.shape.split)) → IsErrOf result Damaged → ⊥) }
+    ensures room { ForEachMidway S.PageStore store.old (model_meta meta.old) space.old (λ p.
+        head ≡ first_of (numbers (chain_at p p.shape.split)) → IsErrOf result NoRoom → (S.state store.old).capacity ≤ p.space.end + 2) }
 {
     store_all(store, space, head, &[])?;
     let new_head = take(store, space)?;
@@ -110,9 +115,9 @@ fn refill<S: PageStore>(
     ensures may_end { MayEnd (S.state store.old) space.old.file_end → OnOk result (MayEnd (S.state store.new) space.new.file_end) }
 
     // From the opened placement it leaves the split one, is never Damaged, and takes a page for each pair at most.
-    ensures exact { S.honest store.old → (p : Placement) → IsRefilled (said S.PageStore store.old) space.old (shape_of shape) head new_head (map pair_of pairs.now) p → OnOk result (IsBelow (said S.PageStore store.new) space.new (split p)) }
-    ensures whole { S.honest store.old → (p : Placement) → IsRefilled (said S.PageStore store.old) space.old (shape_of shape) head new_head (map pair_of pairs.now) p → IsErrOf result Damaged → ⊥ }
-    ensures room { S.honest store.old → (p : Placement) → IsRefilled (said S.PageStore store.old) space.old (shape_of shape) head new_head (map pair_of pairs.now) p → IsErrOf result NoRoom → (S.state store.old).capacity ≤ (opened p).space.end + length pairs.now }
+    ensures exact { S.honest store.old → (p : Placement) → IsRefilled (body_at S.PageStore store.old) space.old (shape_of shape) head new_head (map pair_of pairs.now) p → OnOk result (IsBelow (body_at S.PageStore store.new) space.new (split p)) }
+    ensures whole { S.honest store.old → (p : Placement) → IsRefilled (body_at S.PageStore store.old) space.old (shape_of shape) head new_head (map pair_of pairs.now) p → IsErrOf result Damaged → ⊥ }
+    ensures room { S.honest store.old → (p : Placement) → IsRefilled (body_at S.PageStore store.old) space.old (shape_of shape) head new_head (map pair_of pairs.now) p → IsErrOf result NoRoom → (S.state store.old).capacity ≤ (opened p).space.end + length pairs.now }
 {
     for pair in pairs {
         let goes_up = shape.split_goes_up(hash(&pair.key));

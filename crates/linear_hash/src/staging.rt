@@ -3,18 +3,18 @@
 ghost use Rattle.std.specs.Prelude.{◌≡◌, ◌+◌, ◌-◌, ◌*◌, ◌<◌, ◌≤◌, ℕ, [], true, false, is_some, IfOk, OnOk, IsErrOf, length, if◌then◌else◌};
 ghost use Rattle.std.specs.FinMap.{get};
 ghost use Rattle.dbm_model.specs.Pairs.{IsAllowed};
-ghost use Rattle.page_model.specs.Placement.{Placement, pairs_of, contents, delete, replace, store as stored, MayStore};
+ghost use Rattle.page_model.specs.Placement.{pairs_of, contents, delete, replace, store as stored, MayStore};
 ghost use Rattle.page_model.specs.Pages.{MetaPage};
-ghost use Rattle.page_model.specs.Valid.{IsMeta, buckets};
+ghost use Rattle.page_model.specs.Valid.{IsMeta, meta_buckets};
 ghost use Rattle.page_io.specs.Answers.{HasDeviceCause, IsStageAnswer};
-ghost use Rattle.page_io.specs.Views.{said, StagesOnly, MayEnd};
+ghost use Rattle.page_io.specs.Views.{body_at, StagesOnly, MayEnd};
 ghost use Rattle.page_io.specs.declared.store.PageFault.TheVariants.{NoRoom, Damaged};
 ghost use Rattle.free_pages.specs.FreeList.{HasEnds};
-ghost use Rattle.seg_table.specs.MetaPages.{says};
+ghost use Rattle.seg_table.specs.MetaPages.{model_meta};
 ghost use Rattle.bucket_chain.specs.Answers.{IsRemoveAnswer};
-ghost use Rattle.linear_hash.specs.Tables.{IsTable, space_in, shape_in, shape_for, split_where_full};
+ghost use Rattle.linear_hash.specs.Tables.{space_in, shape_in, shape_for, split_where_full, ForEachTable};
 ghost use Rattle.page_commit.specs.Committing.{MayCommit};
-ghost use Rattle.linear_hash.specs.Staging.{IsMidway, IsChangeAnswer, IsStaged};
+ghost use Rattle.linear_hash.specs.Staging.{IsMidway, IsChangeAnswer, IsStaged, ForEachMidway};
 
 use crate::splitting::split_bucket;
 use bucket_chain::{put, remove};
@@ -29,7 +29,7 @@ const PER_BUCKET: u32 = 8;
 
 /// The free pages and the end of the file.
 fn space_of(meta: &Meta, file_end: u32) -> FreeState
-    ensures { result ≡ space_in (says meta.now) file_end }
+    ensures { result ≡ space_in (model_meta meta.now) file_end }
 {
     FreeState {
         head: meta.free_head,
@@ -48,16 +48,17 @@ fn replace_pair<S: PageStore>(
     was_there: bool,
 ) -> Result<(), PageFault>
     requires allowed { IsAllowed (key.now, content.now) }
-    requires valid { IsMeta (says meta.now) }
+    requires valid { IsMeta (model_meta meta.now) }
     ensures stages { StagesOnly S.PageStore store.old store.new }
     ensures cause { HasDeviceCause (S.faults store.old) (S.faults store.new) result }
     ensures answer { IsChangeAnswer (S.state store.old) result }
     ensures ends { HasEnds space.old → HasEnds space.new }
     ensures may_end { MayEnd (S.state store.old) space.old.file_end → OnOk result (MayEnd (S.state store.new) space.new.file_end) }
     ensures room { IsErrOf result NoRoom → (S.state store.old).capacity ≤ space.old.file_end }
-    ensures exact { S.honest store.old → (p : Placement) → IsMidway (said S.PageStore store.old) (says meta.now) space.old p → was_there ≡ is_some (get (contents p) key.now) →
-        OnOk result (IsMidway (said S.PageStore store.new) (says meta.now) space.new (replace p (key.now, content.now))) }
-    ensures whole { S.honest store.old → (p : Placement) → IsMidway (said S.PageStore store.old) (says meta.now) space.old p → was_there ≡ is_some (get (contents p) key.now) → IsErrOf result Damaged → ⊥ }
+    ensures exact { ForEachMidway S.PageStore store.old (model_meta meta.now) space.old (λ p.
+        was_there ≡ is_some (get (contents p) key.now) → OnOk result (IsMidway (body_at S.PageStore store.new) (model_meta meta.now) space.new (replace p (key.now, content.now)))) }
+    ensures whole { ForEachMidway S.PageStore store.old (model_meta meta.now) space.old (λ p.
+        was_there ≡ is_some (get (contents p) key.now) → IsErrOf result Damaged → ⊥) }
 {
     let head = head_of(store, meta, meta.shape.bucket(hash(key)))?;
     if was_there {
@@ -73,20 +74,22 @@ fn split_if_full<S: PageStore>(
     meta: &mut Meta,
     space: &mut FreeState,
 ) -> Result<(), PageFault>
-    requires valid { IsMeta (record (says meta.old) { pairs = 0; free_head = 0; free_count = 0 }) }
-    requires few { (meta.old.pairs ≤ meta.old.limit) × (meta.old.pairs ≤ 8 * buckets (says meta.old) + 1) }
+    requires valid { IsMeta (record (model_meta meta.old) { pairs = 0; free_head = 0; free_count = 0 }) }
+    requires few { (meta.old.pairs ≤ meta.old.limit) × (meta.old.pairs ≤ 8 * meta_buckets (model_meta meta.old) + 1) }
     ensures stages { StagesOnly S.PageStore store.old store.new }
     ensures cause { HasDeviceCause (S.faults store.old) (S.faults store.new) result }
     ensures answer { IsChangeAnswer (S.state store.old) result }
-    ensures valid { OnOk result (IsMeta (record (says meta.new) { free_head = 0; free_count = 0 })) }
+    ensures valid { OnOk result (IsMeta (record (model_meta meta.new) { free_head = 0; free_count = 0 })) }
     ensures kept { OnOk result ((meta.new.limit ≡ meta.old.limit) × (meta.new.pairs ≡ meta.old.pairs)) }
-    ensures shape { OnOk result (shape_in (says meta.new) ≡ shape_for meta.new.pairs (shape_in (says meta.old))) }
+    ensures shape { OnOk result (shape_in (model_meta meta.new) ≡ shape_for meta.new.pairs (shape_in (model_meta meta.old))) }
     ensures ends { HasEnds space.old → HasEnds space.new }
     ensures may_end { MayEnd (S.state store.old) space.old.file_end → OnOk result (MayEnd (S.state store.new) space.new.file_end) }
-    ensures exact { S.honest store.old → (p : Placement) → IsMidway (said S.PageStore store.old) (says meta.old) space.old p → p.space.end ≤ (S.state store.old).end + 1 → meta.old.pairs ≡ length (pairs_of p) →
-        OnOk result (IsMidway (said S.PageStore store.new) (says meta.new) space.new (split_where_full p)) }
-    ensures whole { S.honest store.old → (p : Placement) → IsMidway (said S.PageStore store.old) (says meta.old) space.old p → p.space.end ≤ (S.state store.old).end + 1 → IsErrOf result Damaged → ⊥ }
-    ensures room { S.honest store.old → (p : Placement) → IsMidway (said S.PageStore store.old) (says meta.old) space.old p → p.space.end ≤ (S.state store.old).end + 1 → IsErrOf result NoRoom → (S.state store.old).capacity ≤ p.space.end + length (pairs_of p) + 2 }
+    ensures exact { ForEachMidway S.PageStore store.old (model_meta meta.old) space.old (λ p.
+        p.space.end ≤ (S.state store.old).end + 1 → meta.old.pairs ≡ length (pairs_of p) → OnOk result (IsMidway (body_at S.PageStore store.new) (model_meta meta.new) space.new (split_where_full p))) }
+    ensures whole { ForEachMidway S.PageStore store.old (model_meta meta.old) space.old (λ p.
+        p.space.end ≤ (S.state store.old).end + 1 → IsErrOf result Damaged → ⊥) }
+    ensures room { ForEachMidway S.PageStore store.old (model_meta meta.old) space.old (λ p.
+        p.space.end ≤ (S.state store.old).end + 1 → IsErrOf result NoRoom → (S.state store.old).capacity ≤ p.space.end + length (pairs_of p) + 2) }
 {
     if meta.pairs > PER_BUCKET * meta.shape.buckets() {
         split_bucket(alloc, store, meta, space)?;
@@ -100,18 +103,18 @@ fn stage_meta<S: PageStore>(
     meta: &mut Meta,
     space: FreeState,
 ) -> Result<u32, PageFault>
-    requires valid { IsMeta (record (says meta.old) { free_head = 0; free_count = 0 }) }
+    requires valid { IsMeta (record (model_meta meta.old) { free_head = 0; free_count = 0 }) }
     requires ends { HasEnds space }
     ensures stages { StagesOnly S.PageStore store.old store.new }
     ensures cause { HasDeviceCause (S.faults store.old) (S.faults store.new) result }
     ensures answer { IsStageAnswer S.reserved (S.state store.old) 1 result }
-    ensures valid { IsMeta (says meta.new) }
-    ensures meta { says meta.new ≡ record (says meta.old) { free_head = space.head; free_count = space.count } }
+    ensures valid { IsMeta (model_meta meta.new) }
+    ensures meta { model_meta meta.new ≡ record (model_meta meta.old) { free_head = space.head; free_count = space.count } }
     ensures end { IfOk result (λ end. end ≡ space.file_end) }
     ensures may_commit { MayEnd (S.state store.old) space.file_end → IfOk result (MayCommit (S.state store.new)) }
     ensures grows { MayEnd (S.state store.old) space.file_end → IfOk result (λ end. (S.state store.old).end ≤ end) }
-    ensures page { S.honest store.old → OnOk result (said S.PageStore store.new 1 ≡ MetaPage (says meta.new)) }
-    ensures others { S.honest store.old → (n : ℕ) → (n ≡ 1 → ⊥) → said S.PageStore store.new n ≡ said S.PageStore store.old n }
+    ensures page { S.honest store.old → OnOk result (body_at S.PageStore store.new 1 ≡ MetaPage (model_meta meta.new)) }
+    ensures others { S.honest store.old → (n : ℕ) → (n ≡ 1 → ⊥) → body_at S.PageStore store.new n ≡ body_at S.PageStore store.old n }
 {
     meta.free_head = space.head;
     meta.free_count = space.count;
@@ -140,23 +143,25 @@ pub fn stage_store<S: PageStore>(
 ) -> Result<u32, PageFault>
     requires allowed { IsAllowed (key.now, content.now) }
     requires idle { (S.state store.old).staged ≡ [] }
-    requires valid { IsMeta (says meta.old) }
+    requires valid { IsMeta (model_meta meta.old) }
     requires room { was_there ≡ false → meta.old.pairs < meta.old.limit }
     ensures stages { StagesOnly S.PageStore store.old store.new }
     ensures cause { HasDeviceCause (S.faults store.old) (S.faults store.new) result }
     ensures answer { IsChangeAnswer (S.state store.old) result }
-    ensures valid { OnOk result (IsMeta (says meta.new)) }
+    ensures valid { OnOk result (IsMeta (model_meta meta.new)) }
     ensures limit { OnOk result (meta.new.limit ≡ meta.old.limit) }
     ensures pairs { OnOk result (meta.new.pairs ≡ (if was_there then meta.old.pairs else meta.old.pairs + 1)) }
-    ensures shape { OnOk result (shape_in (says meta.new) ≡ shape_for meta.new.pairs (shape_in (says meta.old))) }
+    ensures shape { OnOk result (shape_in (model_meta meta.new) ≡ shape_for meta.new.pairs (shape_in (model_meta meta.old))) }
     ensures may_commit { IfOk result (MayCommit (S.state store.new)) }
     ensures grows { IfOk result (λ end. (S.state store.old).end ≤ end) }
 
     // On the pages of a good placement it leaves the model's, is never Damaged, and takes few pages.
-    ensures exact { S.honest store.old → (p : Placement) → IsTable (said S.PageStore store.old) (says meta.old) (S.state store.old).end p → MayStore p (key.now, content.now) → was_there ≡ is_some (get (contents p) key.now) →
-        IfOk result (λ end. IsStaged (said S.PageStore store.new) (says meta.new) end (stored p (key.now, content.now))) }
-    ensures whole { S.honest store.old → (p : Placement) → IsTable (said S.PageStore store.old) (says meta.old) (S.state store.old).end p → was_there ≡ is_some (get (contents p) key.now) → IsErrOf result Damaged → ⊥ }
-    ensures few { S.honest store.old → (p : Placement) → IsTable (said S.PageStore store.old) (says meta.old) (S.state store.old).end p → was_there ≡ is_some (get (contents p) key.now) → IsErrOf result NoRoom → (S.state store.old).capacity ≤ p.space.end + length (pairs_of p) + 4 }
+    ensures exact { ForEachTable S.PageStore store.old (model_meta meta.old) (λ p.
+        MayStore p (key.now, content.now) → was_there ≡ is_some (get (contents p) key.now) → IfOk result (λ end. IsStaged (body_at S.PageStore store.new) (model_meta meta.new) end (stored p (key.now, content.now)))) }
+    ensures whole { ForEachTable S.PageStore store.old (model_meta meta.old) (λ p.
+        was_there ≡ is_some (get (contents p) key.now) → IsErrOf result Damaged → ⊥) }
+    ensures few { ForEachTable S.PageStore store.old (model_meta meta.old) (λ p.
+        was_there ≡ is_some (get (contents p) key.now) → IsErrOf result NoRoom → (S.state store.old).capacity ≤ p.space.end + length (pairs_of p) + 4) }
 {
     let mut space = space_of(meta, store.end());
     replace_pair(store, meta, &mut space, key, content, was_there)?;
@@ -172,14 +177,16 @@ fn remove_key<S: PageStore>(
     space: &mut FreeState,
     key: &[u8],
 ) -> Result<bool, PageFault>
-    requires { IsMeta (says meta.now) }
+    requires { IsMeta (model_meta meta.now) }
     ensures stages { StagesOnly S.PageStore store.old store.new }
     ensures cause { HasDeviceCause (S.faults store.old) (S.faults store.new) result }
     ensures answer { IsRemoveAnswer S.reserved (S.state store.old) result }
     ensures ends { HasEnds space.old → HasEnds space.new }
     ensures may_end { MayEnd (S.state store.old) space.old.file_end → OnOk result (MayEnd (S.state store.new) space.new.file_end) }
-    ensures exact { S.honest store.old → (p : Placement) → IsMidway (said S.PageStore store.old) (says meta.now) space.old p → OnOk result (IsMidway (said S.PageStore store.new) (says meta.now) space.new (delete p key.now)) }
-    ensures whole { S.honest store.old → (p : Placement) → IsMidway (said S.PageStore store.old) (says meta.now) space.old p → IsErrOf result Damaged → ⊥ }
+    ensures exact { ForEachMidway S.PageStore store.old (model_meta meta.now) space.old (λ p.
+        OnOk result (IsMidway (body_at S.PageStore store.new) (model_meta meta.now) space.new (delete p key.now))) }
+    ensures whole { ForEachMidway S.PageStore store.old (model_meta meta.now) space.old (λ p.
+        IsErrOf result Damaged → ⊥) }
 {
     let head = head_of(store, meta, meta.shape.bucket(hash(key)))?;
     remove(store, space, head, key)
@@ -192,23 +199,24 @@ pub fn stage_delete<S: PageStore>(
     key: &[u8],
 ) -> Result<u32, PageFault>
     requires idle { (S.state store.old).staged ≡ [] }
-    requires valid { IsMeta (says meta.old) }
+    requires valid { IsMeta (model_meta meta.old) }
     requires some { 0 < meta.old.pairs }
     ensures stages { StagesOnly S.PageStore store.old store.new }
     ensures cause { HasDeviceCause (S.faults store.old) (S.faults store.new) result }
     ensures answer { IsChangeAnswer (S.state store.old) result }
     ensures no_room { IsErrOf result NoRoom → ⊥ }
-    ensures valid { OnOk result (IsMeta (says meta.new)) }
+    ensures valid { OnOk result (IsMeta (model_meta meta.new)) }
     ensures limit { OnOk result (meta.new.limit ≡ meta.old.limit) }
     ensures pairs { OnOk result (meta.new.pairs + 1 ≡ meta.old.pairs) }
-    ensures shape { OnOk result (shape_in (says meta.new) ≡ shape_in (says meta.old)) }
+    ensures shape { OnOk result (shape_in (model_meta meta.new) ≡ shape_in (model_meta meta.old)) }
     ensures may_commit { IfOk result (MayCommit (S.state store.new)) }
     ensures grows { IfOk result (λ end. (S.state store.old).end ≤ end) }
 
     // On the pages of a good placement it leaves the model's, and is never Damaged.
-    ensures exact { S.honest store.old → (p : Placement) → IsTable (said S.PageStore store.old) (says meta.old) (S.state store.old).end p → is_some (get (contents p) key.now) ≡ true →
-        IfOk result (λ end. IsStaged (said S.PageStore store.new) (says meta.new) end (delete p key.now)) }
-    ensures whole { S.honest store.old → (p : Placement) → IsTable (said S.PageStore store.old) (says meta.old) (S.state store.old).end p → IsErrOf result Damaged → ⊥ }
+    ensures exact { ForEachTable S.PageStore store.old (model_meta meta.old) (λ p.
+        is_some (get (contents p) key.now) ≡ true → IfOk result (λ end. IsStaged (body_at S.PageStore store.new) (model_meta meta.new) end (delete p key.now))) }
+    ensures whole { ForEachTable S.PageStore store.old (model_meta meta.old) (λ p.
+        IsErrOf result Damaged → ⊥) }
 {
     let mut space = space_of(meta, store.end());
     remove_key(store, meta, &mut space, key)?;

@@ -5,9 +5,9 @@ use Rattle.std.specs.Prelude.{◌^◌, slice_index_or, [], ◌∷◌}
 use Rattle.page_model.specs.Pages.{Other}
 use Rattle.page_model.specs.Reading.{body_of}
 use Rattle.page_io.specs.Page.{own_number}
-use Rattle.page_io.specs.Store.{Pages, Settled, State, page_of, overlaid, put_page, has_page, are_in_order, AllBelow, IsKnown}
+use Rattle.page_io.specs.Store.{Pages, Settled, StoreState, page_of, overlaid, put_page, has_page, are_in_order, AllBelow, IsKnown}
 use Rattle.page_io.specs.Kept.{KeepsPages}
-use Rattle.page_io.specs.Views.{shown, said, StagesOnly, ReadsOnly, MayEnd}
+use Rattle.page_io.specs.Views.{visible_page, body_at, StagesOnly, ReadsOnly, MayEnd}
 use Rattle.page_io.specs.declared.store.PageStore.{Ghosts}
 use Rattle.page_io.specs.declared.store.PageFault.{PageFault}
 use Rattle.page_io.proofs.Overlays.{overlaid-none, has_page-skip}
@@ -31,7 +31,7 @@ module _ {S : Type 0} (s : Ghosts S) where
   after_read old new counts same honesty later kept = record {
     same = same;
     stages_only = record {
-      state = same ∙ ap (λ (st : State). record (s.state old) { staged = st.staged }) (sym same);
+      state = same ∙ ap (λ (st : StoreState). record (s.state old) { staged = st.staged }) (sym same);
       honesty = honesty;
       later = later;
       kept = kept;
@@ -43,7 +43,7 @@ module _ {S : Type 0} (s : Ghosts S) where
   pub stages_then : (old mid new : S) → ((t : ℕ) (y : Settled) → s.honest mid → t ≤ s.moment mid → s.settles_to mid y → s.settled_since mid t y)
       → StagesOnly s old mid → StagesOnly s mid new → StagesOnly s old new
   stages_then old mid new counts first second = record {
-    state = second.state ∙ ap (λ (st : State). record st { staged = (s.state new).staged }) first.state;
+    state = second.state ∙ ap (λ (st : StoreState). record st { staged = (s.state new).staged }) first.state;
     honesty = (λ h. first.honesty.0 (second.honesty.0 h), λ h. second.honesty.1 (first.honesty.1 h));
     later = omega (arith, first.later, second.later);
     kept = λ h. kept_twice s.committed s.moment s.settled_since s.settles_to old mid new (λ t y le is. counts t y (first.honesty.1 h) le is) (first.kept h) (second.kept (first.honesty.1 h));
@@ -67,8 +67,8 @@ module _ {S : Type 0} (s : Ghosts S) where
       → StagesOnly s old new
   after_stage old new bytes result counts ok err honesty faults kept = record {
     state = elim result as (λ r. OnOk r (s.state new ≡ record (s.state old) { staged = put_page (s.state old).staged bytes }) → OnErr r (s.state new ≡ s.state old) → s.state new ≡ record (s.state old) { staged = (s.state new).staged }) [
-      | Ok x ↦ λ put same. put ∙ ap (λ (st : State). record (s.state old) { staged = st.staged }) (sym put)
-      | Err e ↦ λ put same. same ∙ ap (λ (st : State). record (s.state old) { staged = st.staged }) (sym same)
+      | Ok x ↦ λ put same. put ∙ ap (λ (st : StoreState). record (s.state old) { staged = st.staged }) (sym put)
+      | Err e ↦ λ put same. same ∙ ap (λ (st : StoreState). record (s.state old) { staged = st.staged }) (sym same)
     ] ok err;
     honesty = honesty;
     later = omega (arith, faults);
@@ -77,47 +77,47 @@ module _ {S : Type 0} (s : Ghosts S) where
   }
 
   -- what was read is what it was
-  pub same_shown : (old new : S) → ReadsOnly s old new → s.honest old → shown s new ≡ shown s old
+  pub same_shown : (old new : S) → ReadsOnly s old new → s.honest old → visible_page s new ≡ visible_page s old
   same_shown old new reads honest =
-      ap (λ (st : State). overlaid st.staged (page_of (s.committed new))) reads.same
+      ap (λ (st : StoreState). overlaid st.staged (page_of (s.committed new))) reads.same
       ∙ ap (λ (ps : Pages). overlaid (s.state old).staged (page_of ps)) (reads.stages_only.kept honest).committed
 
-  pub same_said : (old new : S) → ReadsOnly s old new → s.honest old → said s new ≡ said s old
+  pub same_said : (old new : S) → ReadsOnly s old new → s.honest old → body_at s new ≡ body_at s old
   same_said old new reads honest = ap (λ (page : ℕ → List ℕ). λ (n : ℕ). body_of n (page n)) (same_shown old new reads honest)
 
   -- the staged page is shown in the place of its number
   pub staged_shown : (old new : S) (n : ℕ) (bytes : List ℕ) → StagesOnly s old new → s.honest old → are_in_order 1 (2 ^ 32) (s.state old).staged ≡ true
       → s.state new ≡ record (s.state old) { staged = put_page (s.state old).staged bytes } → own_number bytes ≡ n
-      → shown s new n ≡ bytes
+      → visible_page s new n ≡ bytes
   staged_shown old new n bytes only honest order put own =
-      ap (λ (st : State). overlaid st.staged (page_of (s.committed new)) n) put
+      ap (λ (st : StoreState). overlaid st.staged (page_of (s.committed new)) n) put
       ∙ overlaid-put 1 (2 ^ 32) (s.state old).staged (page_of (s.committed new)) bytes n order own
 
   -- and every other as before
   pub others_shown : (old new : S) (n m : ℕ) (bytes : List ℕ) → StagesOnly s old new → s.honest old
       → s.state new ≡ record (s.state old) { staged = put_page (s.state old).staged bytes } → own_number bytes ≡ n → (m ≡ n → ⊥)
-      → shown s new m ≡ shown s old m
+      → visible_page s new m ≡ visible_page s old m
   others_shown old new n m bytes only honest put own other =
-      ap (λ (st : State). overlaid st.staged (page_of (s.committed new)) m) put
+      ap (λ (st : StoreState). overlaid st.staged (page_of (s.committed new)) m) put
       ∙ overlaid-put_other (s.state old).staged (page_of (s.committed new)) bytes m (λ same. other (sym same ∙ own))
       ∙ ap (λ (ps : Pages). overlaid (s.state old).staged (page_of ps) m) (only.kept honest).committed
 
   pub staged_said : (old new : S) (n : ℕ) (bytes : List ℕ) → StagesOnly s old new → s.honest old → are_in_order 1 (2 ^ 32) (s.state old).staged ≡ true
       → s.state new ≡ record (s.state old) { staged = put_page (s.state old).staged bytes } → own_number bytes ≡ n
-      → said s new n ≡ body_of n bytes
+      → body_at s new n ≡ body_of n bytes
   staged_said old new n bytes only honest order put own = ap (body_of n) (staged_shown old new n bytes only honest order put own)
 
   pub others_said : (old new : S) (n m : ℕ) (bytes : List ℕ) → StagesOnly s old new → s.honest old
       → s.state new ≡ record (s.state old) { staged = put_page (s.state old).staged bytes } → own_number bytes ≡ n → (m ≡ n → ⊥)
-      → said s new m ≡ said s old m
+      → body_at s new m ≡ body_at s old m
   others_said old new n m bytes only honest put own other = ap (body_of m) (others_shown old new n m bytes only honest put own other)
 
   -- A page that isn't known says nothing. `ends` is the store's law.
-  pub unknown_said : (store : S) (n : ℕ) → length (s.committed store) + 1 ≡ (s.state store).end → 1 ≤ n → (IsKnown (s.state store) n → ⊥) → said s store n ≡ Other
+  pub unknown_said : (store : S) (n : ℕ) → length (s.committed store) + 1 ≡ (s.state store).end → 1 ≤ n → (IsKnown (s.state store) n → ⊥) → body_at s store n ≡ Other
   unfolding body_of
   unknown_said store n ends some unknown = ap (body_of n) (staged_none ∙ nothing_behind (s.committed store) (n - 1) behind)
     where
-      staged_none : shown s store n ≡ page_of (s.committed store) n
+      staged_none : visible_page s store n ≡ page_of (s.committed store) n
       staged_none = overlaid-none (s.state store).staged (page_of (s.committed store)) n
           (elim (has_page (s.state store).staged n) as (λ b. has_page (s.state store).staged n ≡ b → b ≡ false) [
             | true ↦ λ has. absurd (unknown (inl has))
@@ -143,11 +143,11 @@ below_end end (page ∷ pages) n below has = elim (cases_eq (own_number page) n)
   | inr other ↦ below_end end pages n below.1 (sym (has_page-skip pages page n other) ∙ has)
 ]
 
-pub known_below : (st : State) (end n : ℕ) → MayEnd st end → IsKnown st n → n < end
+pub known_below : (st : StoreState) (end n : ℕ) → MayEnd st end → IsKnown st n → n < end
 known_below st end n may known = ⊎_elim (λ has. below_end end st.staged n may.below has) (λ within. omega (arith, within.1, may.least)) known
 
 -- a page below the end is staged
-pub end_stays : (st : State) (end : ℕ) (bytes : List ℕ) → MayEnd st end → own_number bytes < end → MayEnd (record st { staged = put_page st.staged bytes }) end
+pub end_stays : (st : StoreState) (end : ℕ) (bytes : List ℕ) → MayEnd st end → own_number bytes < end → MayEnd (record st { staged = put_page st.staged bytes }) end
 end_stays st end bytes may lt = record {
   least = may.least;
   below = AllBelow-put end st.staged bytes may.below lt;
@@ -158,7 +158,7 @@ end_stays st end bytes may lt = record {
 }
 
 -- the page at the end is staged
-pub end_grows : (st : State) (end : ℕ) (bytes : List ℕ) → MayEnd st end → own_number bytes ≡ end → MayEnd (record st { staged = put_page st.staged bytes }) (end + 1)
+pub end_grows : (st : StoreState) (end : ℕ) (bytes : List ℕ) → MayEnd st end → own_number bytes ≡ end → MayEnd (record st { staged = put_page st.staged bytes }) (end + 1)
 end_grows st end bytes may is = record {
   least = omega (arith, may.least);
   below = AllBelow-put (end + 1) st.staged bytes (AllBelow-more end st.staged may.below) (omega (arith, is));

@@ -1,10 +1,10 @@
+pub mod Answers
+pub mod ByteChange
+pub mod Counts
+pub mod Kept
+pub mod Meaning
+pub mod MemPages
 pub mod Page
 pub mod Plain
 pub mod Store
-pub mod Answers
-pub mod Kept
-pub mod ByteChange
-pub mod Counts
-pub mod MemPages
 pub mod Views
-pub mod Meaning

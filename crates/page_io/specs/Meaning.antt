@@ -2,7 +2,7 @@
 use Rattle.std.specs.Prelude.{◌≡◌, ℕ, ◌+◌, length}
 use Rattle.dbm_model.specs.Pairs.{Contents}
 use Rattle.page_model.specs.Placement.{Placement, contents, IsGood}
-use Rattle.page_model.specs.Sheets.{IsSpelled}
+use Rattle.page_model.specs.PageBodies.{IsSpelled}
 use Rattle.page_model.specs.Meaning.{said_by, PagesStandFor}
 use Rattle.page_io.specs.Store.{Pages, Settled, blank, file_of, nothing, page_of, overlaid, committed_with}
 

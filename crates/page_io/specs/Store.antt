@@ -69,7 +69,7 @@ abbrev pub IsEither : Pages → Pages → Settled → Type 0
 IsEither old new settled = (settled ≡ file_of old) ⊎ (settled ≡ file_of new)
 
 -- what a store's calls change, whatever the device does
-pub record State : Type 0 where
+pub record StoreState : Type 0 where
   -- in rising order of their own numbers
   pub staged : Pages
   -- the committed pages are 1 to end - 1
@@ -80,5 +80,5 @@ pub record State : Type 0 where
   pub writable : Bool
 
 -- page n is staged, or one of the committed ones
-abbrev pub IsKnown : State → ℕ → Type 0
+abbrev pub IsKnown : StoreState → ℕ → Type 0
 IsKnown state n = (has_page state.staged n ≡ true) ⊎ ((1 ≤ n) × (n < state.end))

@@ -3,17 +3,17 @@ use Rattle.std.specs.Prelude.{◌≡◌, ◌↔◌, ◌<◌, ◌≤◌, ℕ, tru
 use Rattle.page_model.specs.Pages.{Body}
 use Rattle.page_model.specs.Reading.{body_of}
 use Rattle.page_io.specs.Page.{own_number}
-use Rattle.page_io.specs.Store.{Settled, State, page_of, overlaid, put_page, has_page, AllBelow}
+use Rattle.page_io.specs.Store.{Settled, StoreState, page_of, overlaid, put_page, has_page, AllBelow}
 use Rattle.page_io.specs.Kept.{KeepsPages}
 use Rattle.page_io.specs.declared.store.PageStore.{Ghosts}
 
 -- page n as a read gives it: the staged one, else the committed one
-abbrev pub shown : {S : Type 0} → Ghosts S → S → ℕ → List ℕ
-shown s store = overlaid (s.state store).staged (page_of (s.committed store))
+abbrev pub visible_page : {S : Type 0} → Ghosts S → S → ℕ → List ℕ
+visible_page s store = overlaid (s.state store).staged (page_of (s.committed store))
 
 -- what page n says
-abbrev pub said : {S : Type 0} → Ghosts S → S → ℕ → Body
-said s store n = body_of n (shown s store n)
+abbrev pub body_at : {S : Type 0} → Ghosts S → S → ℕ → Body
+body_at s store n = body_of n (visible_page s store n)
 
 -- Pages may have been staged; nothing else has changed, neither the committed pages nor what a stop may leave.
 pub record StagesOnly {S : Type 0} (s : Ghosts S) (old new : S) : Type 0 where
@@ -29,11 +29,11 @@ pub record ReadsOnly {S : Type 0} (s : Ghosts S) (old new : S) : Type 0 where
   pub stages_only : StagesOnly s old new
 
 -- A commit may end the file before page `end`: all staged pages are below it, and those behind the old end are staged.
-pub record MayEnd (state : State) (end : ℕ) : Type 0 where
+pub record MayEnd (state : StoreState) (end : ℕ) : Type 0 where
   pub least : state.end ≤ end
   pub below : AllBelow end state.staged
   pub grown : (n : ℕ) → state.end ≤ n → n < end → has_page state.staged n ≡ true
 
 -- it may end there once page n is staged too
-abbrev pub MayEndWith : State → ℕ → ℕ → Type 0
+abbrev pub MayEndWith : StoreState → ℕ → ℕ → Type 0
 MayEndWith state n end = (bytes : List ℕ) → own_number bytes ≡ n → MayEnd (record state { staged = put_page state.staged bytes }) end

@@ -2,7 +2,7 @@
 ghost use Rattle.std.specs.Prelude.{◌≡◌, ◌<◌, ◌≤◌, ◌+◌, ◌^◌, ◌↔◌, ℕ, [], true, false, length, IfErr, OnOk, OnErr, IsErrOf, IsTrue};
 ghost use Rattle.sect_dev.specs.Device.{LeavesOnly};
 ghost use Rattle.page_io.specs.Page.{own_number};
-ghost use Rattle.page_io.specs.Store.{Pages, Settled, file_of, State, IsEither, page_of, overlaid, put_page, has_page, are_in_order, committed_with, AllBelow};
+ghost use Rattle.page_io.specs.Store.{Pages, Settled, file_of, StoreState, IsEither, page_of, overlaid, put_page, has_page, are_in_order, committed_with, AllBelow};
 ghost use Rattle.page_io.specs.Kept.{KeepsPages};
 ghost use Rattle.page_io.specs.Answers.{HasDeviceCause, IsReadAnswer, IsStageAnswer, IsCommitAnswer, IsRefusal};
 ghost use Rattle.page_io.specs.declared.store.PageFault.TheVariants.{Device};
@@ -32,7 +32,7 @@ pub enum PageFault {
 /// leaves the committed ones alone. Pages are counted from 1, and page 0 is never read or staged.
 pub trait PageStore {
     /// What calls change, whatever the device does.
-    ghost state: { Self → State };
+    ghost state: { Self → StoreState };
 
     /// The committed pages, from page 1 on.
     ghost committed: { Self → Pages };

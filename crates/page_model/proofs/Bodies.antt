@@ -7,7 +7,7 @@ use Rattle.std.proofs.lemmas.List.{length-append, length-replicate}
 use Rattle.page_model.specs.Numbers.{IsNumber, numbers_bytes}
 use Rattle.page_model.specs.Pages.{Meta, Body, MetaPage, SegmentPage, HeadPage, OverflowPage, FreePage, Other, Bucket, bucket}
 use Rattle.page_model.specs.Spelling.{meta_spelling, segment_spelling, bucket_spelling, free_spelling, spelling_of}
-use Rattle.page_model.specs.Reading.{next_of, read_as, said, body_of}
+use Rattle.page_model.specs.Reading.{next_of, read_as, body_by_kind, body_of}
 use Rattle.page_model.specs.Valid.{IsMeta, MaySay}
 use Rattle.page_model.proofs.Buckets.{four_is, length-bucket_spelling, bucket_again}
 use Rattle.page_model.proofs.Numbers.{length-numbers_bytes}
@@ -36,7 +36,7 @@ unfolding free_spelling
 next_again n next lt = four_is next lt
 
 -- what a spelled page says
-said_again : (n : ℕ) (b : Body) → MaySay n b → said (spelling_of n b) ≡ b
+said_again : (n : ℕ) (b : Body) → MaySay n b → body_by_kind (spelling_of n b) ≡ b
 said_again n (MetaPage m) h =
     let bytes = meta_spelling n m in
     ap (λ (k : ℕ). read_as k bytes) (kind_of_meta n m) ∙ ap MetaPage (fields_again bytes m h.1 (ap (λ (k : ℕ). meta_spelling k m) h.0))
@@ -58,8 +58,8 @@ unfolding body_of
 body_again n b h =
     let bytes = spelling_of n b in
     let same = said_again n b h in
-    let test : bytes_eq bytes (spelling_of n (said bytes)) ≡ true = (bytes_eq-Decides bytes (spelling_of n (said bytes))).1 (ap (spelling_of n) (sym same)) in
-    ap (λ (t : Bool). cond t (said bytes) Other) test ∙ same
+    let test : bytes_eq bytes (spelling_of n (body_by_kind bytes)) ≡ true = (bytes_eq-Decides bytes (spelling_of n (body_by_kind bytes))).1 (ap (spelling_of n) (sym same)) in
+    ap (λ (t : Bool). cond t (body_by_kind bytes) Other) test ∙ same
 
 -- the test of a body, both ways
 chosen : (n : ℕ) (bytes : List ℕ) (t : Bool) (b : Body) → Decides t (bytes ≡ spelling_of n b) → cond t b Other ≢ Other → bytes ≡ spelling_of n (cond t b Other)
@@ -69,7 +69,7 @@ chosen n bytes false b h ne = absurd (ne refl)
 -- what isn't `Other` is spelled so
 pub body_spelled : (n : ℕ) (bytes : List ℕ) → body_of n bytes ≢ Other → bytes ≡ spelling_of n (body_of n bytes)
 unfolding body_of
-body_spelled n bytes ne = chosen n bytes (bytes_eq bytes (spelling_of n (said bytes))) (said bytes) (bytes_eq-Decides bytes (spelling_of n (said bytes))) ne
+body_spelled n bytes ne = chosen n bytes (bytes_eq bytes (spelling_of n (body_by_kind bytes))) (body_by_kind bytes) (bytes_eq-Decides bytes (spelling_of n (body_by_kind bytes))) ne
 
 -- `Other` may not be said
 may_say : (n : ℕ) (b : Body) → MaySay n b → b ≢ Other

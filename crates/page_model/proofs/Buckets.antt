@@ -6,7 +6,7 @@ use Rattle.dbm_model.specs.Pairs.{Pair}
 use Rattle.page_model.specs.Pages.{Bucket}
 use Rattle.page_model.specs.Slots.{Slot, size, total_size, slot_ending, slots_ending, slot_bytes, slots_bytes, records, taken, room_of}
 use Rattle.page_model.specs.Spelling.{header, bucket_spelling}
-use Rattle.page_model.specs.Reading.{slot_count, low, slot_of, slots_from, pair_of, pairs_from, bucket_of, IsClear}
+use Rattle.page_model.specs.Reading.{slot_count, low, slot_of, slots_from, slot_pair, pairs_from, bucket_of, IsClear}
 use Rattle.page_model.specs.Valid.{IsBucket}
 use Rattle.page_model.proofs.Texts.{at_front, skip, clear_again}
 
@@ -52,7 +52,7 @@ slots_again bytes rest (p ∷ ps) i end le most h =
     ap (λ (t : Slot). t ∷ slots_from bytes (i + 1) (length ps)) first ∙ ap (λ (ts : List Slot). s ∷ ts) others
 
 -- records that are spelled from `lo` on are read as the pairs
-records_again : (bytes rest : List ℕ) (ps : List Pair) (end lo : ℕ) → lo + total_size ps ≡ end → drop lo bytes ≡ records ps ++ rest → map (pair_of bytes) (slots_ending end ps) ≡ ps
+records_again : (bytes rest : List ℕ) (ps : List Pair) (end lo : ℕ) → lo + total_size ps ≡ end → drop lo bytes ≡ records ps ++ rest → map (slot_pair bytes) (slots_ending end ps) ≡ ps
 records_again bytes rest [] end lo e h = refl
 records_again bytes rest (p ∷ ps) end lo e h =
     let offset = end - size p in
@@ -61,9 +61,9 @@ records_again bytes rest (p ∷ ps) end lo e h =
     let after : drop (offset + length p.0) bytes ≡ p.1 ++ rest = skip bytes p.0 (p.1 ++ rest) offset (offset + length p.0) here refl in
     let key : take (length p.0) (drop offset bytes) ≡ p.0 = ap (take (length p.0)) here ∙ take_at p.0 (p.1 ++ rest) (length p.0) refl in
     let content : take (length p.1) (drop (offset + length p.0) bytes) ≡ p.1 = ap (take (length p.1)) after ∙ take_at p.1 rest (length p.1) refl in
-    let first : pair_of bytes (slot_ending end p) ≡ p = rw (key, content) refl in
+    let first : slot_pair bytes (slot_ending end p) ≡ p = rw (key, content) refl in
     let others = records_again bytes ((p.0 ++ p.1) ++ rest) ps offset lo (omega arith) h' in
-    ap (λ (q : Pair). q ∷ map (pair_of bytes) (slots_ending offset ps)) first ∙ ap (λ (qs : List Pair). p ∷ qs) others
+    ap (λ (q : Pair). q ∷ map (slot_pair bytes) (slots_ending offset ps)) first ∙ ap (λ (qs : List Pair). p ∷ qs) others
 
 -- a spelled page of pairs is a whole page
 pub length-bucket_spelling : (b : Bucket) → IsBucket b → length (bucket_spelling b) ≡ 2048
@@ -110,7 +110,7 @@ header_again bytes rest own kind count next low a b c d e = record {
 pub record Stands (bytes : List ℕ) (b : Bucket) : Type 0 where
   pub says : Says bytes b.own b.kind (length b.pairs) b.next (2048 - total_size b.pairs)
   pub slots : slots_from bytes 0 (length b.pairs) ≡ slots_ending 2048 b.pairs
-  pub pairs : map (pair_of bytes) (slots_ending 2048 b.pairs) ≡ b.pairs
+  pub pairs : map (slot_pair bytes) (slots_ending 2048 b.pairs) ≡ b.pairs
   pub clear : IsClear bytes (16 + 6 * length b.pairs) (2048 - total_size b.pairs)
 
 -- the parts of a spelled page of pairs stand in their places
@@ -139,6 +139,6 @@ pub bucket_again : (bytes : List ℕ) (b : Bucket) → IsBucket b → bytes ≡ 
 unfolding bucket_of
 bucket_again bytes b is e =
     let s = stands bytes b is e in
-    let pairs : pairs_from bytes 0 (slot_count bytes) ≡ b.pairs = ap (pairs_from bytes 0) s.says.count ∙ ap (map (pair_of bytes)) s.slots ∙ s.pairs in
+    let pairs : pairs_from bytes 0 (slot_count bytes) ≡ b.pairs = ap (pairs_from bytes 0) s.says.count ∙ ap (map (slot_pair bytes)) s.slots ∙ s.pairs in
     let own = s.says.own in let kind = s.says.kind in let next = s.says.next in
     rw (own, kind, next, pairs) refl

@@ -14,10 +14,10 @@ use Rattle.page_model.specs.PairLists.{has_key, times}
 use Rattle.page_model.specs.Chain.{Chain, numbers, pairs_in}
 use Rattle.page_model.specs.Space.{times_of}
 use Rattle.page_model.specs.Placement.{Placement, pairs_of, in_use}
-use Rattle.page_model.specs.Pages.{Body, Sheet}
-use Rattle.page_model.specs.Sheets.{overflow_sheets, chain_sheets, free_sheets, segment_sheets, heads_of, sheets}
+use Rattle.page_model.specs.Pages.{Body, NumberedBody}
+use Rattle.page_model.specs.PageBodies.{overflow_bodies, chain_bodies, free_bodies, segment_bodies, heads_of, page_bodies}
 use Rattle.page_model.specs.Meaning.{pairs_on, flat_pairs}
-use Rattle.page_model.specs.SheetLaws.{FlatIsContents}
+use Rattle.page_model.specs.BodyLaws.{FlatIsContents}
 use Rattle.page_model.proofs.PairLists.{value_in, times_some, sum_by-flat_map}
 use Rattle.page_model.proofs.Places.{keys_exact, is_equal, times_none}
 
@@ -102,59 +102,59 @@ value_in-same xs ys same q once =
       | Some v ↦ λ e. sym (counts_found q v ys (let a = found_counts q v xs e in let b = same (λ pair. cond (is_pair q v pair) 1 0) in omega arith) once)
     ] refl
 
--- ---- the sheets
+-- ---- the pages with what they say
 
-pub numbers-chain_sheets : (chain : Chain) → map (λ sheet. sheet.number) (chain_sheets chain) ≡ numbers chain
-numbers-chain_sheets [] = refl
-numbers-chain_sheets (head ∷ rest) = ap (λ ns. head.number ∷ ns) (over rest) where
-  over : (rest : Chain) → map (λ sheet. sheet.number) (overflow_sheets rest) ≡ numbers rest
+pub numbers-chain_bodies : (chain : Chain) → map (λ numbered. numbered.number) (chain_bodies chain) ≡ numbers chain
+numbers-chain_bodies [] = refl
+numbers-chain_bodies (head ∷ rest) = ap (λ ns. head.number ∷ ns) (over rest) where
+  over : (rest : Chain) → map (λ numbered. numbered.number) (overflow_bodies rest) ≡ numbers rest
   over [] = refl
   over (leaf ∷ rest) = ap (λ ns. leaf.number ∷ ns) (over rest)
 
-pairs-chain_sheets : (chain : Chain) → flat_map (λ sheet. pairs_on sheet.body) (chain_sheets chain) ≡ pairs_in chain
-pairs-chain_sheets [] = refl
-pairs-chain_sheets (head ∷ rest) = ap (λ xs. head.pairs ++ xs) (over rest) where
-  over : (rest : Chain) → flat_map (λ sheet. pairs_on sheet.body) (overflow_sheets rest) ≡ pairs_in rest
+pairs-chain_bodies : (chain : Chain) → flat_map (λ numbered. pairs_on numbered.body) (chain_bodies chain) ≡ pairs_in chain
+pairs-chain_bodies [] = refl
+pairs-chain_bodies (head ∷ rest) = ap (λ xs. head.pairs ++ xs) (over rest) where
+  over : (rest : Chain) → flat_map (λ numbered. pairs_on numbered.body) (overflow_bodies rest) ≡ pairs_in rest
   over [] = refl
   over (leaf ∷ rest) = ap (λ xs. leaf.pairs ++ xs) (over rest)
 
-pub numbers-chains : (chains : List Chain) → map (λ sheet. sheet.number) (flat_map chain_sheets chains) ≡ flat_map numbers chains
+pub numbers-chains : (chains : List Chain) → map (λ numbered. numbered.number) (flat_map chain_bodies chains) ≡ flat_map numbers chains
 numbers-chains [] = refl
-numbers-chains (chain ∷ rest) = map-append (λ sheet. sheet.number) (chain_sheets chain) (flat_map chain_sheets rest) ∙ (λ i. numbers-chain_sheets chain i ++ numbers-chains rest i)
+numbers-chains (chain ∷ rest) = map-append (λ numbered. numbered.number) (chain_bodies chain) (flat_map chain_bodies rest) ∙ (λ i. numbers-chain_bodies chain i ++ numbers-chains rest i)
 
-pairs-chains : (chains : List Chain) → flat_map (λ sheet. pairs_on sheet.body) (flat_map chain_sheets chains) ≡ flat_map pairs_in chains
+pairs-chains : (chains : List Chain) → flat_map (λ numbered. pairs_on numbered.body) (flat_map chain_bodies chains) ≡ flat_map pairs_in chains
 pairs-chains [] = refl
-pairs-chains (chain ∷ rest) = flat_map-append (λ sheet. pairs_on sheet.body) (chain_sheets chain) (flat_map chain_sheets rest) ∙ (λ i. pairs-chain_sheets chain i ++ pairs-chains rest i)
+pairs-chains (chain ∷ rest) = flat_map-append (λ numbered. pairs_on numbered.body) (chain_bodies chain) (flat_map chain_bodies rest) ∙ (λ i. pairs-chain_bodies chain i ++ pairs-chains rest i)
 
-pub numbers-free : (free : List ℕ) → map (λ sheet. sheet.number) (free_sheets free) ≡ free
+pub numbers-free : (free : List ℕ) → map (λ numbered. numbered.number) (free_bodies free) ≡ free
 numbers-free [] = refl
 numbers-free (n ∷ rest) = ap (λ ns. n ∷ ns) (numbers-free rest)
 
-pairs-free : (free : List ℕ) → flat_map (λ sheet. pairs_on sheet.body) (free_sheets free) ≡ []
+pairs-free : (free : List ℕ) → flat_map (λ numbered. pairs_on numbered.body) (free_bodies free) ≡ []
 pairs-free [] = refl
 pairs-free (n ∷ rest) = pairs-free rest
 
-pub numbers-segments : (segments heads : List ℕ) → map (λ sheet. sheet.number) (segment_sheets segments heads) ≡ segments
+pub numbers-segments : (segments heads : List ℕ) → map (λ numbered. numbered.number) (segment_bodies segments heads) ≡ segments
 numbers-segments [] heads = refl
 numbers-segments (n ∷ rest) heads = ap (λ ns. n ∷ ns) (numbers-segments rest (drop 508 heads))
 
-pairs-segments : (segments heads : List ℕ) → flat_map (λ sheet. pairs_on sheet.body) (segment_sheets segments heads) ≡ []
+pairs-segments : (segments heads : List ℕ) → flat_map (λ numbered. pairs_on numbered.body) (segment_bodies segments heads) ≡ []
 pairs-segments [] heads = refl
 pairs-segments (n ∷ rest) heads = pairs-segments rest (drop 508 heads)
 
--- each page has its sheet
-pub numbers-sheets : (p : Placement) → map (λ sheet. sheet.number) (sheets p) ≡ in_use p ++ p.space.free
-numbers-sheets p =
-    let s = segment_sheets p.segments (heads_of p.chains) in
-    ap (λ ns. 1 ∷ ns) (map-append (λ sheet. sheet.number) (s ++ flat_map chain_sheets p.chains) (free_sheets p.space.free)
-    ∙ ap (λ ns. ns ++ map (λ sheet. sheet.number) (free_sheets p.space.free)) (map-append (λ sheet. sheet.number) s (flat_map chain_sheets p.chains))
+-- each page has what it says
+pub numbers-page_bodies : (p : Placement) → map (λ numbered. numbered.number) (page_bodies p) ≡ in_use p ++ p.space.free
+numbers-page_bodies p =
+    let s = segment_bodies p.segments (heads_of p.chains) in
+    ap (λ ns. 1 ∷ ns) (map-append (λ numbered. numbered.number) (s ++ flat_map chain_bodies p.chains) (free_bodies p.space.free)
+    ∙ ap (λ ns. ns ++ map (λ numbered. numbered.number) (free_bodies p.space.free)) (map-append (λ numbered. numbered.number) s (flat_map chain_bodies p.chains))
     ∙ (λ i. numbers-segments p.segments (heads_of p.chains) i ++ numbers-chains p.chains i ++ numbers-free p.space.free i))
 
-pub pairs-sheets : (p : Placement) → flat_map (λ sheet. pairs_on sheet.body) (sheets p) ≡ pairs_of p
-pairs-sheets p =
-    let s = segment_sheets p.segments (heads_of p.chains) in
-    flat_map-append (λ sheet. pairs_on sheet.body) (s ++ flat_map chain_sheets p.chains) (free_sheets p.space.free)
-    ∙ ap (λ xs. xs ++ flat_map (λ sheet. pairs_on sheet.body) (free_sheets p.space.free)) (flat_map-append (λ sheet. pairs_on sheet.body) s (flat_map chain_sheets p.chains))
+pub pairs-page_bodies : (p : Placement) → flat_map (λ numbered. pairs_on numbered.body) (page_bodies p) ≡ pairs_of p
+pairs-page_bodies p =
+    let s = segment_bodies p.segments (heads_of p.chains) in
+    flat_map-append (λ numbered. pairs_on numbered.body) (s ++ flat_map chain_bodies p.chains) (free_bodies p.space.free)
+    ∙ ap (λ xs. xs ++ flat_map (λ numbered. pairs_on numbered.body) (free_bodies p.space.free)) (flat_map-append (λ numbered. pairs_on numbered.body) s (flat_map chain_bodies p.chains))
     ∙ (λ i. pairs-segments p.segments (heads_of p.chains) i ++ pairs-chains p.chains i ++ pairs-free p.space.free i)
     ∙ append-nil (flat_map pairs_in p.chains)
 
@@ -164,12 +164,12 @@ times-range_with_len n start (suc count) = sum_by-cons (λ m. cond (m == n) 1 0)
   step : (n start count k : ℕ) → k ≡ cond (leb (start + 1) n && ltb n (start + 1 + count)) 1 0 → cond (start == n) 1 0 + k ≡ cond (leb start n && ltb n (start + suc count)) 1 0
   step n start count k e = grind (arith, nat_tests)
 
-read_sums : (at : ℕ → Body) (f : Pair → ℕ) (xs : List Sheet) → AllByRecursion (λ sheet. at sheet.number ≡ sheet.body) xs →
-    sum_by (λ n. sum_by f (pairs_on (at n))) (map (λ sheet. sheet.number) xs) ≡ sum_by f (flat_map (λ sheet. pairs_on sheet.body) xs)
+read_sums : (at : ℕ → Body) (f : Pair → ℕ) (xs : List NumberedBody) → AllByRecursion (λ numbered. at numbered.number ≡ numbered.body) xs →
+    sum_by (λ n. sum_by f (pairs_on (at n))) (map (λ numbered. numbered.number) xs) ≡ sum_by f (flat_map (λ numbered. pairs_on numbered.body) xs)
 read_sums at f [] h = refl
 read_sums at f (x ∷ xs) h =
-    let a = sum_by-cons (λ n. sum_by f (pairs_on (at n))) x.number (map (λ sheet. sheet.number) xs) in
-    let b = sum_by-append f (pairs_on x.body) (flat_map (λ sheet. pairs_on sheet.body) xs) in
+    let a = sum_by-cons (λ n. sum_by f (pairs_on (at n))) x.number (map (λ numbered. numbered.number) xs) in
+    let b = sum_by-append f (pairs_on x.body) (flat_map (λ numbered. pairs_on numbered.body) xs) in
     let c = ap (λ body. sum_by f (pairs_on body)) h.0 in
     let d = read_sums at f xs h.1 in
     omega arith
@@ -183,9 +183,9 @@ flat_is_contents p at h spelled =
     let sums : (f : Pair → ℕ) → sum_by f (flat_pairs at p.space.end) ≡ sum_by f (pairs_of p)
     = λ (f : Pair → ℕ). sum_by-flat_map f (λ n. pairs_on (at n)) range
     ∙ same_sums range (in_use p ++ p.space.free) each (λ n. sum_by f (pairs_on (at n)))
-    ∙ ap (sum_by (λ n. sum_by f (pairs_on (at n)))) (sym (numbers-sheets p))
-    ∙ read_sums at f (sheets p) spelled
-    ∙ ap (sum_by f) (pairs-sheets p) in
+    ∙ ap (sum_by (λ n. sum_by f (pairs_on (at n)))) (sym (numbers-page_bodies p))
+    ∙ read_sums at f (page_bodies p) spelled
+    ∙ ap (sum_by f) (pairs-page_bodies p) in
     same_map nat_list_cmp_total keys_exact _ _ (λ q.
     get-from_entries nat_list_cmp_total (flat_pairs at p.space.end) q
     ∙ value_in-same (flat_pairs at p.space.end) (pairs_of p) sums q (h.no_key_twice q)

@@ -8,45 +8,45 @@ use Rattle.page_model.specs.Address.{hash_of}
 use Rattle.page_model.specs.Chain.{Chain, numbers, has_room, add, remove, emptied, IsChain}
 use Rattle.page_model.specs.Space.{Space, next_page, after_take, give, is_page, times_of, IsExact}
 use Rattle.page_model.specs.Placement.{Placement, key_bucket, chain_at, IsSound}
-use Rattle.page_model.specs.Pages.{Body, Sheet}
-use Rattle.page_model.specs.Sheets.{first_of, chain_sheets, free_sheets, segment_sheets, heads_of, lower_sheets, AreRead}
+use Rattle.page_model.specs.Pages.{Body, NumberedBody}
+use Rattle.page_model.specs.PageBodies.{first_of, chain_bodies, free_bodies, segment_bodies, heads_of, lower_bodies, AreRead}
 use Rattle.page_model.specs.Rewrites.{IsRewritten}
 use Rattle.page_model.specs.Meaning.{flat_pairs}
-use Rattle.page_model.specs.SheetLaws.{OneMap, PutRewrites, DeleteRewrites}
+use Rattle.page_model.specs.BodyLaws.{OneMap, PutRewrites, DeleteRewrites}
 use Rattle.page_model.proofs.AddressLemmas.{address_below}
 use Rattle.page_model.proofs.PairLists.{sum_by-flat_map-set}
 use Rattle.page_model.proofs.Spaces.{times_head, times_tail}
 use Rattle.page_model.proofs.Chains.{AllByRecursion-append, AllByRecursion-left, AllByRecursion-right, numbers-add}
-use Rattle.page_model.proofs.Flat.{numbers-chain_sheets, numbers-chains, numbers-segments, flat_is_contents}
+use Rattle.page_model.proofs.Flat.{numbers-chain_bodies, numbers-chains, numbers-segments, flat_is_contents}
 
 pub one_map : OneMap
 one_map p q at h k s t e = sym (flat_is_contents p at h s) ∙ ap (λ end. contents_of (flat_pairs at end)) e ∙ flat_is_contents q at k t
 
 -- pages that are as they were say what they said
-pub kept : (at at' : ℕ → Body) (xs : List Sheet) → ((n : ℕ) → 1 ≤ times_of n (map (λ sheet. sheet.number) xs) → at' n ≡ at n) → AreRead at xs → AreRead at' xs
+pub kept : (at at' : ℕ → Body) (xs : List NumberedBody) → ((n : ℕ) → 1 ≤ times_of n (map (λ numbered. numbered.number) xs) → at' n ≡ at n) → AreRead at xs → AreRead at' xs
 kept at at' [] same h = tt
 kept at at' (x ∷ xs) same h = (
-  same x.number (omega (arith, times_head x.number (map (λ sheet. sheet.number) xs))) ∙ h.0,
-  kept at at' xs (λ n l. same n (omega (arith, times_tail n x.number (map (λ sheet. sheet.number) xs)))) h.1,
+  same x.number (omega (arith, times_head x.number (map (λ numbered. numbered.number) xs))) ∙ h.0,
+  kept at at' xs (λ n l. same n (omega (arith, times_tail n x.number (map (λ numbered. numbered.number) xs)))) h.1,
 )
 
 -- of many chains one is written
 pub kept_chains : (at at' : ℕ → Body) (chains : List Chain) (i : ℕ) (chain : Chain) → i < length chains →
-    ((n : ℕ) → 1 ≤ times_of n (flat_map numbers (set chains i [])) → at' n ≡ at n) → AreRead at' (chain_sheets chain) →
-    AreRead at (flat_map chain_sheets chains) → AreRead at' (flat_map chain_sheets (set chains i chain))
+    ((n : ℕ) → 1 ≤ times_of n (flat_map numbers (set chains i [])) → at' n ≡ at n) → AreRead at' (chain_bodies chain) →
+    AreRead at (flat_map chain_bodies chains) → AreRead at' (flat_map chain_bodies (set chains i chain))
 kept_chains at at' [] i chain l same new h = absurd (omega arith)
 kept_chains at at' (x ∷ xs) zero chain l same new h =
-    AllByRecursion-append (λ sheet. at' sheet.number ≡ sheet.body) (chain_sheets chain) (flat_map chain_sheets xs) new
-    (kept at at' (flat_map chain_sheets xs) (λ n k. same n (subst (λ ns. 1 ≤ times_of n ns) (numbers-chains xs) k))
-    (AllByRecursion-right (λ sheet. at sheet.number ≡ sheet.body) (chain_sheets x) (flat_map chain_sheets xs) h))
+    AllByRecursion-append (λ numbered. at' numbered.number ≡ numbered.body) (chain_bodies chain) (flat_map chain_bodies xs) new
+    (kept at at' (flat_map chain_bodies xs) (λ n k. same n (subst (λ ns. 1 ≤ times_of n ns) (numbers-chains xs) k))
+    (AllByRecursion-right (λ numbered. at numbered.number ≡ numbered.body) (chain_bodies x) (flat_map chain_bodies xs) h))
 kept_chains at at' (x ∷ xs) (suc i) chain l same new h =
     let parts : (n : ℕ) → times_of n (flat_map numbers (set (x ∷ xs) (suc i) [])) ≡ times_of n (numbers x) + times_of n (flat_map numbers (set xs i []))
     = λ (n : ℕ). sum_by-append (λ m. cond (m == n) 1 0) (numbers x) (flat_map numbers (set xs i [])) in
-    AllByRecursion-append (λ sheet. at' sheet.number ≡ sheet.body) (chain_sheets x) (flat_map chain_sheets (set xs i chain))
-    (kept at at' (chain_sheets x) (λ n k. same n (let a = parts n in let b = subst (λ ns. 1 ≤ times_of n ns) (numbers-chain_sheets x) k in omega arith))
-    (AllByRecursion-left (λ sheet. at sheet.number ≡ sheet.body) (chain_sheets x) (flat_map chain_sheets xs) h))
+    AllByRecursion-append (λ numbered. at' numbered.number ≡ numbered.body) (chain_bodies x) (flat_map chain_bodies (set xs i chain))
+    (kept at at' (chain_bodies x) (λ n k. same n (let a = parts n in let b = subst (λ ns. 1 ≤ times_of n ns) (numbers-chain_bodies x) k in omega arith))
+    (AllByRecursion-left (λ numbered. at numbered.number ≡ numbered.body) (chain_bodies x) (flat_map chain_bodies xs) h))
     (kept_chains at at' xs i chain (omega arith) (λ n k. same n (let a = parts n in omega arith)) new
-    (AllByRecursion-right (λ sheet. at sheet.number ≡ sheet.body) (chain_sheets x) (flat_map chain_sheets xs) h))
+    (AllByRecursion-right (λ numbered. at numbered.number ≡ numbered.body) (chain_bodies x) (flat_map chain_bodies xs) h))
 
 pub at_most_one : (b : Bool) → cond b 1 0 ≤ 1
 at_most_one true = omega arith
@@ -73,18 +73,18 @@ module _ (p : Placement) (at at' : ℕ → Body) (bucket : ℕ) (chain : Chain) 
       map-set head p.chains bucket chain ∙ ap (set (map head p.chains) bucket) same_head
       ∙ sym (map-set head p.chains bucket (chain_at p bucket)) ∙ ap (map head) (set-get_or p.chains bucket [])
 
-  pub rewritten : AreRead at (lower_sheets p) → IsRewritten at at' chain space → AreRead at' (lower_sheets (record p { chains = set p.chains bucket chain; space = space }))
+  pub rewritten : AreRead at (lower_bodies p) → IsRewritten at at' chain space → AreRead at' (lower_bodies (record p { chains = set p.chains bucket chain; space = space }))
   rewritten h r =
-      let s = segment_sheets p.segments (heads_of p.chains) in
-      let old = flat_map chain_sheets p.chains in
-      let P : Sheet → Type 0 = λ sheet. at sheet.number ≡ sheet.body in
-      let Q : Sheet → Type 0 = λ sheet. at' sheet.number ≡ sheet.body in
-      let upper = AllByRecursion-left P (s ++ old) (free_sheets p.space.free) h in
+      let s = segment_bodies p.segments (heads_of p.chains) in
+      let old = flat_map chain_bodies p.chains in
+      let P : NumberedBody → Type 0 = λ numbered. at numbered.number ≡ numbered.body in
+      let Q : NumberedBody → Type 0 = λ numbered. at' numbered.number ≡ numbered.body in
+      let upper = AllByRecursion-left P (s ++ old) (free_bodies p.space.free) h in
       let segments = kept at at' s (λ n k. r.others n (let a = places n in let b = subst (λ ns. 1 ≤ times_of n ns) (numbers-segments p.segments (heads_of p.chains)) k in omega arith)) (AllByRecursion-left P s old upper) in
       let chains = kept_chains at at' p.chains bucket chain below (λ n k. r.others n (let a = places n in omega arith)) r.chain_read (AllByRecursion-right P s old upper) in
-      AllByRecursion-append Q (segment_sheets p.segments (heads_of (set p.chains bucket chain)) ++ flat_map chain_sheets (set p.chains bucket chain)) (free_sheets space.free)
-      (AllByRecursion-append Q (segment_sheets p.segments (heads_of (set p.chains bucket chain))) (flat_map chain_sheets (set p.chains bucket chain))
-      (subst (λ hs. AllByRecursion Q (segment_sheets p.segments hs)) (sym heads_stay) segments) chains)
+      AllByRecursion-append Q (segment_bodies p.segments (heads_of (set p.chains bucket chain)) ++ flat_map chain_bodies (set p.chains bucket chain)) (free_bodies space.free)
+      (AllByRecursion-append Q (segment_bodies p.segments (heads_of (set p.chains bucket chain))) (flat_map chain_bodies (set p.chains bucket chain))
+      (subst (λ hs. AllByRecursion Q (segment_bodies p.segments hs)) (sym heads_stay) segments) chains)
       r.free_read
 
 pub first_of_add : (pair : Pair) (new : ℕ) (chain : Chain) → IsChain chain → first_of (numbers (add pair new chain)) ≡ first_of (numbers chain)

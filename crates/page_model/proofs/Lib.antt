@@ -7,7 +7,7 @@ pub mod Chains
 pub mod Ends
 pub mod Flat
 pub mod Frames
-pub mod GoodSheets
+pub mod GoodBodies
 pub mod Meaning
 pub mod Members
 pub mod Metas

@@ -2,13 +2,13 @@
 use Rattle.std.proofs.Common.{◌≡◌, ℕ, refl, sym, ap, ◌∙◌}
 use Rattle.page_model.specs.Placement.{Placement, delete, store}
 use Rattle.page_model.specs.Pages.{Body}
-use Rattle.page_model.specs.Sheets.{meta_of}
+use Rattle.page_model.specs.PageBodies.{meta_of}
 use Rattle.page_model.specs.Meaning.{said_by}
 use Rattle.page_model.specs.Pages.{MetaPage, SegmentPage, HeadPage, OverflowPage, FreePage, Other}
-use Rattle.page_model.specs.SheetLaws.{OneMeaning, PagesHaveOneMeaning, GoodPagesStand, StoredStands, DeletedStands}
+use Rattle.page_model.specs.BodyLaws.{OneMeaning, PagesHaveOneMeaning, GoodPagesStand, StoredStands, DeletedStands}
 use Rattle.page_model.proofs.Flat.{flat_is_contents}
 use Rattle.page_model.proofs.Stores.{store_stays_good, delete_stays_good}
-use Rattle.page_model.proofs.GoodSheets.{pages_exactly}
+use Rattle.page_model.proofs.GoodBodies.{pages_exactly}
 
 limit_on : ℕ → Body → ℕ
 limit_on other (MetaPage meta) = meta.limit

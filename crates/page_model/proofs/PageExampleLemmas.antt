@@ -3,7 +3,7 @@ use Rattle.std.specs.Prelude.{map}
 use Rattle.std.proofs.Common.{refl, ap, ◌∙◌}
 use Rattle.page_model.specs.Address.{hash_of}
 use Rattle.page_model.specs.Placement.{Placement}
-use Rattle.page_model.specs.Sheets.{sheets}
+use Rattle.page_model.specs.PageBodies.{page_bodies}
 use Rattle.page_model.specs.Spelling.{spell, meta_spelling, segment_spelling, bucket_spelling, free_spelling}
 use Rattle.page_model.specs.PageExamples.{NewPages, NinePairPages, FreedPages}
 use Rattle.page_model.proofs.PlacementExampleLemmas.{nine_pairs}
@@ -14,7 +14,7 @@ new_pages = refl
 
 pub nine_pair_pages : NinePairPages
 unfolding meta_spelling segment_spelling bucket_spelling
-nine_pair_pages = ap (λ (p : Placement). map spell (sheets p)) nine_pairs ∙ refl
+nine_pair_pages = ap (λ (p : Placement). map spell (page_bodies p)) nine_pairs ∙ refl
 
 pub freed_pages : FreedPages
 unfolding hash_of meta_spelling segment_spelling bucket_spelling free_spelling

@@ -12,7 +12,7 @@ use Rattle.page_model.specs.PairLists.{has_key, times, HasBytes}
 use Rattle.page_model.specs.Chain.{pairs_in}
 use Rattle.page_model.specs.Space.{IsExact}
 use Rattle.page_model.specs.Sizes.{buckets_for, home}
-use Rattle.page_model.specs.Placement.{Placement, pairs_of, contents, in_use, key_bucket, chain_at, delete, replace, split, store, fresh, IsInPlace, IsSound, IsGood, MayStore}
+use Rattle.page_model.specs.Placement.{Placement, pairs_of, contents, in_use, key_bucket, chain_at, delete, replace, split, store, fresh_placement, IsInPlace, IsSound, IsGood, MayStore}
 use Rattle.page_model.specs.PlacementLaws.{SplitKeeps, LooksInOneChain, CountsKeys, StoreStaysGood, DeleteStaysGood, FreshIsGood}
 use Rattle.page_model.proofs.PairLists.{times_some, length-sum_by}
 use Rattle.page_model.proofs.Places.{value_at, sum_by-put, sum_by-delete, delete_sound, replace_sound, contents-replace, contents-delete}
@@ -164,10 +164,10 @@ delete_stays_good p key g =
       refl,
     )
 
-fresh_pages : (limit : ℕ) → IsExact (in_use (fresh limit)) (fresh limit).space
+fresh_pages : (limit : ℕ) → IsExact (in_use (fresh_placement limit)) (fresh_placement limit).space
 fresh_pages limit = record { once = λ n. grind (arith, nat_tests); as_many = refl }
 
-fresh_in_place : (limit : ℕ) → IsInPlace (fresh limit).shape (fresh limit).chains
+fresh_in_place : (limit : ℕ) → IsInPlace (fresh_placement limit).shape (fresh_placement limit).chains
 fresh_in_place limit zero below = ((omega arith, tt, tt), tt)
 fresh_in_place limit (suc bucket) below = absurd (omega arith)
 

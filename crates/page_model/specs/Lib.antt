@@ -1,8 +1,10 @@
 pub mod Address
+pub mod BodyLaws
 pub mod Bytes
 pub mod Chain
 pub mod Meaning
 pub mod Numbers
+pub mod PageBodies
 pub mod PageExamples
 pub mod Pages
 pub mod PairLists
@@ -11,8 +13,6 @@ pub mod PlacementExamples
 pub mod PlacementLaws
 pub mod Reading
 pub mod Rewrites
-pub mod SheetLaws
-pub mod Sheets
 pub mod Sizes
 pub mod Slots
 pub mod Space

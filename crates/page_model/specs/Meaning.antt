@@ -6,7 +6,7 @@ use Rattle.page_model.specs.Pages.{Body, MetaPage, SegmentPage, HeadPage, Overfl
 use Rattle.page_model.specs.Spelling.{spell}
 use Rattle.page_model.specs.Reading.{body_of}
 use Rattle.page_model.specs.Placement.{Placement, IsGood}
-use Rattle.page_model.specs.Sheets.{sheets, IsSpelled}
+use Rattle.page_model.specs.PageBodies.{page_bodies, IsSpelled}
 
 -- the pairs of one page
 abbrev pub pairs_on : Body → List Pair
@@ -36,7 +36,7 @@ said_by page n = body_of n (page n)
 
 -- the pages are those of the placement, byte by byte
 abbrev pub ArePages : (ℕ → List ℕ) → Placement → Type 0
-ArePages page p = AllByRecursion (λ sheet. page sheet.number ≡ spell sheet) (sheets p)
+ArePages page p = AllByRecursion (λ numbered. page numbered.number ≡ spell numbered) (page_bodies p)
 
 -- pages of bytes stand for what they say
 abbrev pub PagesStandFor : (ℕ → List ℕ) → ℕ → Contents → ℕ → Type 0

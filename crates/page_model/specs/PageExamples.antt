@@ -2,9 +2,9 @@
 use Rattle.std.specs.Prelude.{◌≡◌, ℕ, ◌+◌, ◌-◌, List, [], ◌∷◌, ◌++◌, length, map, flat_map, fold, replicate}
 use Rattle.std.specs.List.{range_with_len}
 use Rattle.page_model.specs.Numbers.{numbers_bytes}
-use Rattle.page_model.specs.Placement.{Placement, fresh, store, delete}
+use Rattle.page_model.specs.Placement.{Placement, fresh_placement, store, delete}
 use Rattle.page_model.specs.PlacementExamples.{counted, two_long}
-use Rattle.page_model.specs.Sheets.{sheets}
+use Rattle.page_model.specs.PageBodies.{page_bodies}
 use Rattle.page_model.specs.Spelling.{spell}
 
 -- a page of 2,048 bytes: its first ones, zeros, and its last ones
@@ -16,11 +16,11 @@ abbrev slot : ℕ → List ℕ
 slot low = 0x07 ∷ low ∷ 0 ∷ 1 ∷ 0 ∷ 1 ∷ []
 
 abbrev pages_of : Placement → List (List ℕ)
-pages_of p = map spell (sheets p)
+pages_of p = map spell (page_bodies p)
 
 -- a new file of limit 100
 abbrev pub NewPages : Type 0
-NewPages = pages_of (fresh 100) ≡
+NewPages = pages_of (fresh_placement 100) ≡
     page (numbers_bytes (1 ∷ 0x01000000 ∷ 0 ∷ 0 ∷ 1 ∷ 100 ∷ 0 ∷ 0 ∷ 0 ∷ 0 ∷ 0 ∷ 1 ∷ 0 ∷ 0 ∷ 0 ∷ 0 ∷ 2 ∷ [])) []
     ∷ page (numbers_bytes (2 ∷ 0x02000000 ∷ 0 ∷ 0 ∷ 3 ∷ [])) []
     ∷ page (numbers_bytes (3 ∷ 0x03000000 ∷ 0 ∷ 0x08000000 ∷ [])) []
@@ -28,7 +28,7 @@ NewPages = pages_of (fresh 100) ≡
 
 -- the file of nine pairs, of which the ninth split bucket 0
 abbrev pub NinePairPages : Type 0
-NinePairPages = pages_of (fold store (fresh 100) (counted (range_with_len 0x61 9))) ≡
+NinePairPages = pages_of (fold store (fresh_placement 100) (counted (range_with_len 0x61 9))) ≡
     page (numbers_bytes (1 ∷ 0x01000000 ∷ 0 ∷ 0 ∷ 1 ∷ 100 ∷ 9 ∷ 1 ∷ 0 ∷ 0 ∷ 0 ∷ 1 ∷ 0 ∷ 0 ∷ 0 ∷ 0 ∷ 2 ∷ [])) []
     ∷ page (numbers_bytes (2 ∷ 0x02000000 ∷ 0 ∷ 0 ∷ 3 ∷ 4 ∷ [])) []
     ∷ page (numbers_bytes (3 ∷ 0x03000005 ∷ 0 ∷ 0x07f60000 ∷ []) ++ flat_map slot (0xfe ∷ 0xfc ∷ 0xfa ∷ 0xf8 ∷ 0xf6 ∷ [])) (0x69 ∷ 0x09 ∷ 0x67 ∷ 0x07 ∷ 0x65 ∷ 0x05 ∷ 0x63 ∷ 0x03 ∷ 0x61 ∷ 0x01 ∷ [])

@@ -22,7 +22,7 @@ pub data Body : Type 0 where
   Other : Body
 
 -- a page: its own number and what it says
-pub record Sheet : Type 0 where
+pub record NumberedBody : Type 0 where
   pub number : ℕ
   pub body : Body
 

@@ -125,8 +125,8 @@ pub record MayStore (p : Placement) (pair : Pair) : Type 0 where
   pub room : get (contents p) pair.0 ≡ None → len (contents p) < p.limit
 
 -- an empty placement of that limit: one bucket, whose head is page 3, in the segment of page 2
-abbrev pub fresh : ℕ → Placement
-fresh limit = record {
+abbrev pub fresh_placement : ℕ → Placement
+fresh_placement limit = record {
   limit = limit;
   shape = record { level = 0; split = 0 };
   segments = 2 ∷ [];

@@ -9,7 +9,7 @@ use Rattle.page_model.specs.PairLists.{HasBytes}
 use Rattle.page_model.specs.Address.{Shape, address, grown, buckets}
 use Rattle.page_model.specs.Chain.{pairs_in}
 use Rattle.page_model.specs.Space.{Space, IsExact}
-use Rattle.page_model.specs.Placement.{Placement, pairs_of, contents, key_bucket, chain_at, delete, replace, split, store, fresh, IsSound, IsGood, MayStore}
+use Rattle.page_model.specs.Placement.{Placement, pairs_of, contents, key_bucket, chain_at, delete, replace, split, store, fresh_placement, IsSound, IsGood, MayStore}
 
 -- growing moves exactly the hashes of bucket `split` whose bit `level` is set, to bucket split + 2 ^ level
 abbrev pub GrowingMovesOneBucket : Type 0
@@ -58,7 +58,7 @@ DeleteStaysGood = (p : Placement) (key : Key) → IsGood p → IsGood (delete p 
 
 -- a new database of an allowed limit
 abbrev pub FreshIsGood : Type 0
-FreshIsGood = (limit : ℕ) → 1 ≤ limit → limit ≤ 1000000 → IsGood (fresh limit) × (contents (fresh limit) ≡ empty)
+FreshIsGood = (limit : ℕ) → 1 ≤ limit → limit ≤ 1000000 → IsGood (fresh_placement limit) × (contents (fresh_placement limit) ≡ empty)
 
 -- keys and contents of a good placement are bytes
 abbrev pub MapHoldsBytes : Type 0

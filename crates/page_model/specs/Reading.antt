@@ -38,12 +38,12 @@ key_of bytes s = take s.key_len (drop s.offset bytes)
 abbrev pub content_of : List ℕ → Slot → List ℕ
 content_of bytes s = take s.content_len (drop (s.offset + s.key_len) bytes)
 
-abbrev pub pair_of : List ℕ → Slot → Pair
-pair_of bytes s = (key_of bytes s, content_of bytes s)
+abbrev pub slot_pair : List ℕ → Slot → Pair
+slot_pair bytes s = (key_of bytes s, content_of bytes s)
 
 -- the pairs of n slots from slot i on
 abbrev pub pairs_from : List ℕ → ℕ → ℕ → List Pair
-pairs_from bytes i n = map (pair_of bytes) (slots_from bytes i n)
+pairs_from bytes i n = map (slot_pair bytes) (slots_from bytes i n)
 
 -- as a page of pairs
 unfoldable pub bucket_of : List ℕ → Bucket
@@ -85,12 +85,12 @@ read_as kind bytes =
     else if kind == 5 then FreePage (next_of bytes)
     else Other
 
-abbrev pub said : List ℕ → Body
-said bytes = read_as (kind_of bytes) bytes
+abbrev pub body_by_kind : List ℕ → Body
+body_by_kind bytes = read_as (kind_of bytes) bytes
 
 -- what page n says: what its bytes would say, where they are the spelling of that
 unfoldable pub body_of : ℕ → List ℕ → Body
-body_of n bytes = if bytes_eq bytes (spelling_of n (said bytes)) then said bytes else Other
+body_of n bytes = if bytes_eq bytes (spelling_of n (body_by_kind bytes)) then body_by_kind bytes else Other
 
 -- the bytes from `from` up to `to` are zero
 abbrev pub IsClear : List ℕ → ℕ → ℕ → Type 0

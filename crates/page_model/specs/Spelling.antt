@@ -2,7 +2,7 @@
 use Rattle.std.specs.Prelude.{ℕ, ◌-◌, ◌*◌, List, [], ◌∷◌, ◌++◌, length, replicate}
 use Rattle.page_model.specs.Bytes.{u16_bytes, u32_bytes}
 use Rattle.page_model.specs.Numbers.{numbers_bytes}
-use Rattle.page_model.specs.Pages.{Meta, Body, MetaPage, SegmentPage, HeadPage, OverflowPage, FreePage, Other, Sheet, Bucket, bucket}
+use Rattle.page_model.specs.Pages.{Meta, Body, MetaPage, SegmentPage, HeadPage, OverflowPage, FreePage, Other, NumberedBody, Bucket, bucket}
 use Rattle.page_model.specs.Slots.{total_size, room_of, slots_ending, slots_bytes, records}
 
 -- own number, kind, slot count, next page, low
@@ -39,5 +39,5 @@ spelling_of n (FreePage next) = free_spelling n next
 spelling_of n Other = []
 
 -- the bytes of a page
-abbrev pub spell : Sheet → List ℕ
+abbrev pub spell : NumberedBody → List ℕ
 spell s = spelling_of s.number s.body

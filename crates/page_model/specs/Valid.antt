@@ -1,7 +1,7 @@
 -- What pages may say.
 use Rattle.std.specs.Prelude.{◌≡◌, ◌≢◌, ◌⊎◌, ◌↔◌, ℕ, ◌+◌, ◌*◌, ◌^◌, ◌<◌, ◌≤◌, length, All, AllPairs}
 use Rattle.page_model.specs.Numbers.{IsNumber}
-use Rattle.page_model.specs.Pages.{Meta, Body, MetaPage, SegmentPage, HeadPage, OverflowPage, FreePage, Other, Sheet, Bucket, bucket}
+use Rattle.page_model.specs.Pages.{Meta, Body, MetaPage, SegmentPage, HeadPage, OverflowPage, FreePage, Other, NumberedBody, Bucket, bucket}
 use Rattle.page_model.specs.Sizes.{buckets_for, segments_for}
 use Rattle.page_model.specs.Slots.{taken}
 use Rattle.page_model.specs.Reading.{trimmed}
@@ -14,15 +14,15 @@ pub record IsBucket (b : Bucket) : Type 0 where
   pub fits : taken b.pairs ≤ 2032
   pub distinct : AllPairs (λ p q. p.0 ≢ q.0) b.pairs
 
-abbrev pub buckets : Meta → ℕ
-buckets m = 2 ^ m.level + m.split
+abbrev pub meta_buckets : Meta → ℕ
+meta_buckets m = 2 ^ m.level + m.split
 
 pub record IsMeta (m : Meta) : Type 0 where
   pub limited : (1 ≤ m.limit) × (m.limit ≤ 1000000)
   pub split_in : m.split < 2 ^ m.level
-  pub few_buckets : buckets m ≤ buckets_for m.limit
-  pub few_pairs : (m.pairs ≤ m.limit) × (m.pairs ≤ 8 * buckets m)
-  pub all_segments : length m.segments ≡ segments_for (buckets m)
+  pub few_buckets : meta_buckets m ≤ buckets_for m.limit
+  pub few_pairs : (m.pairs ≤ m.limit) × (m.pairs ≤ 8 * meta_buckets m)
+  pub all_segments : length m.segments ≡ segments_for (meta_buckets m)
   pub used : All (λ n. (0 < n) × IsNumber n) m.segments
   pub numbers : IsNumber m.free_head × IsNumber m.free_count
   pub ends : (m.free_head ≡ 0) ↔ (m.free_count ≡ 0)
@@ -36,5 +36,5 @@ MaySay n (OverflowPage next pairs) = IsBucket (bucket n 4 next pairs)
 MaySay n (FreePage next) = IsNumber n × IsNumber next
 MaySay n Other = ⊥
 
-abbrev pub IsSheet : Sheet → Type 0
-IsSheet s = MaySay s.number s.body
+abbrev pub IsValidBody : NumberedBody → Type 0
+IsValidBody s = MaySay s.number s.body

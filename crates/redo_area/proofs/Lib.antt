@@ -1,5 +1,5 @@
 mod Kept
+mod Openings
 mod Orders
 pub mod ReadRuns
 mod Results
-mod Openings

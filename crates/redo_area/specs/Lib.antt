@@ -1,4 +1,4 @@
-pub mod Rests
 pub mod Opening
-pub mod Reading
 pub mod Pagers
+pub mod Reading
+pub mod Settling

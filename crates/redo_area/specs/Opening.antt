@@ -1,7 +1,7 @@
 -- What opening a device answers.
 use Rattle.std.specs.Prelude.{◌≡◌, ◌≢◌, ◌≤◌, ℕ, [], true, Bool, if◌then◌else◌, Option, Some, None, Result, IfErr}
 use Rattle.sect_dev.specs.Device.{Image, Candidates, IsImageOf, IsStable, MoreFaults}
-use Rattle.page_io.specs.Store.{Settled, State, blank, file_of, nothing}
+use Rattle.page_io.specs.Store.{Settled, StoreState, blank, file_of, nothing}
 use Rattle.redo_commit.specs.Header.{header_of, has_magic}
 use Rattle.redo_commit.specs.declared.header.Header.TheVariants.{Armed}
 use Rattle.redo_commit.specs.File.{settled}
@@ -31,7 +31,7 @@ pub record IsRefused (capacity : ℕ) (start now : Candidates) (seen : Image) (a
   pub fault : refusal_of capacity seen ≡ Some answer
 
 -- a store as opening leaves it
-pub record IsFresh (pages : ℕ) (for_writing : Bool) (state : State) : Type 0 where
+pub record IsFresh (pages : ℕ) (for_writing : Bool) (state : StoreState) : Type 0 where
   pub staged : state.staged ≡ []
   pub capacity : state.capacity ≡ pages
   pub usable : state.usable ≡ true

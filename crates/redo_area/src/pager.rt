@@ -1,10 +1,10 @@
 // A store of pages over a device.
 ghost use Rattle.std.specs.Prelude.{◌≡◌, ◌≤◌, ◌<◌, ◌/◌, ◌^◌, ◌↔◌, ℕ, true, false, length, [], IfErr};
-ghost use Rattle.sect_dev.specs.Moments.{Reads};
+ghost use Rattle.sect_dev.specs.Moments.{IsOutcome};
 ghost use Rattle.page_io.specs.Page.{page_at};
 ghost use Rattle.page_io.specs.Store.{bytes_of, file_pages, overlaid, are_in_order};
 ghost use Rattle.redo_commit.specs.File.{settled};
-ghost use Rattle.redo_area.specs.Rests.{RestsIfUsable, SettlesTo};
+ghost use Rattle.redo_area.specs.Settling.{SettlesIfUsable, SettlesTo};
 
 mod opening;
 
@@ -27,7 +27,7 @@ pub struct Pager<D: SectorDev> {
     ghost fits: { end ≤ D.sectors dev / 4 },
     ghost order: { are_in_order 1 (2 ^ 32) (bytes_of staged.items) ≡ true },
     ghost none: { writable ≡ true → bytes_of redo.items ≡ [] },
-    ghost rests: { RestsIfUsable (D.honest dev) usable writable (D.sectors dev / 4) end (bytes_of redo.items) (D.candidate dev) (D.seen dev) },
+    ghost rests: { SettlesIfUsable (D.honest dev) usable writable (D.sectors dev / 4) end (bytes_of redo.items) (D.candidate dev) (D.seen dev) },
 }
 
 impl<D: SectorDev> PageStore for Pager<D> {
@@ -40,7 +40,7 @@ impl<D: SectorDev> PageStore for Pager<D> {
     ghost use Rattle.page_io.specs.declared.store.PageFault.TheVariants.{Device};
     ghost use Rattle.redo_area.specs.Pagers.{device_of};
     ghost use Rattle.redo_area.specs.Reading.{OnlyReads};
-    ghost use Rattle.redo_area.specs.Rests.{only_seen, quarter_fits};
+    ghost use Rattle.redo_area.specs.Settling.{only_seen, quarter_fits};
 
     ghost state = { λ p. record { staged = bytes_of p.staged.items; end = p.end; capacity = D.sectors p.dev / 4; usable = p.usable; writable = p.writable } };
 
@@ -54,7 +54,7 @@ impl<D: SectorDev> PageStore for Pager<D> {
 
     ghost moment = { λ p. D.moment p.dev };
 
-    ghost settled_since = { λ p. Reads D.left_since (settled (D.sectors p.dev / 4)) p.dev };
+    ghost settled_since = { λ p. IsOutcome D.left_since (settled (D.sectors p.dev / 4)) p.dev };
 
     ghost reserved = { 0 };
 

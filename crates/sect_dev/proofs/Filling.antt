@@ -5,13 +5,13 @@ use Rattle.std.proofs.lemmas.Bool.{cases_lt}
 use Rattle.std.proofs.lemmas.Grind.{same_number_lists}
 use borrow.Rule.Slice.PartMut.{put_mid}
 use Rattle.std.specs.declared.fs.File.{File}
-use Rattle.sect_dev.specs.Course.{StandsAt, Foretells, course_of, IsHonest}
+use Rattle.sect_dev.specs.FileHistory.{StandsAt, RecordsCalls, history_of, IsHonest}
 
 -- what a read gave of a sector
 pub of_sector : (file : File) (t n filled at : ℕ) (bytes : List ℕ) → IsHonest file → at ≡ n * 512 + filled → filled < 512 → filled + length bytes ≤ 512
-    → (Foretells file → (course_of file).gave t at bytes) → StandsAt ((course_of file).seen t n) filled bytes
+    → (RecordsCalls file → (history_of file).gave t at bytes) → StandsAt ((history_of file).seen t n) filled bytes
 of_sector file t n filled at bytes honest place within fits gave =
-    honest.kept.reads t n filled bytes within fits (subst (λ (from : ℕ). (course_of file).gave t from bytes) place (gave honest.foretells))
+    honest.kept.reads t n filled bytes within fits (subst (λ (from : ℕ). (history_of file).gave t from bytes) place (gave honest.recorded))
 
 -- a buffer of so many bytes, of which the first are filled, with others put in the place of those that are left
 module _ (size filled : ℕ) (out part content : List ℕ) (long : length out ≡ size) (within : filled ≤ size) (fits : length part ≡ size - filled)

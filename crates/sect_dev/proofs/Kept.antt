@@ -1,4 +1,4 @@
--- A course that is kept, for any changes.
+-- A file_history that is kept, for any changes.
 use Rattle.std.proofs.Common.{◌≡◌, ◌+◌, ◌/◌, ℕ, zero, suc, Bool, true, false, if◌then◌else◌, List, ◌∷◌, length, inl, inr, refl, sym, ap, subst, ◌∙◌, arith, eq-eqb, ◌==◌}
 use Rattle.std.proofs.lemmas.List.{length-replicate}
 use Rattle.std.proofs.lemmas.Bool.{true≢false, eqb-true}
@@ -7,8 +7,8 @@ use Rattle.sect_dev.specs.declared.mem.Event.{Event}
 use Rattle.sect_dev.specs.declared.mem.Event.TheVariants.{Wrote}
 use Rattle.sect_dev.specs.Sector.{zeros}
 use Rattle.sect_dev.specs.History.{content_after, IsCandidate, content_is_candidate}
-use Rattle.sect_dev.specs.Course.{Change, Keeps, KeepsWrite}
-use Rattle.sect_dev.specs.Course.Change.{Writes, Syncs}
+use Rattle.sect_dev.specs.FileHistory.{Change, KeepsChange, KeepsWrite}
+use Rattle.sect_dev.specs.FileHistory.Change.{Writes, Syncs}
 use Rattle.sect_dev.specs.Kept.{noted, record_of, PremiseCanBeMet}
 use Rattle.sect_dev.proofs.Events.{synced_adds_none}
 
@@ -38,7 +38,7 @@ whole : (changes : ℕ → Change) (t : ℕ) → IsWhole (record_of changes t)
 whole changes zero n = zeros_whole
 whole changes (suc t) n = whole_after (changes t) (record_of changes t) (whole changes t) n
 
-keeps_after : (change : Change) (events : List Event) → Keeps change (content_after events) (content_after (noted change events)) (IsCandidate events) (IsCandidate (noted change events))
+keeps_after : (change : Change) (events : List Event) → KeepsChange change (content_after events) (content_after (noted change events)) (IsCandidate events) (IsCandidate (noted change events))
 keeps_after (Writes at bytes true) events = λ n place size.
     let is : noted (Writes at bytes true) events ≡ Wrote n bytes ∷ events =
     ap (λ (b : Bool). if b then Wrote (at / 512) bytes ∷ events else events) (eq-eqb (length bytes) 512 size) ∙ ap (λ (k : ℕ). Wrote k bytes ∷ events) (ap (λ (a : ℕ). a / 512) place ∙ mul-div_cancel n (omega arith)) in
@@ -52,10 +52,10 @@ keeps_after (Syncs false) events =
     record { stable = λ ok. absurd (true≢false (sym ok)); seen = λ ok. refl; candidates = λ m c is. is; keeps = λ failed m c is. is }
 
 keeps_next : (changes : ℕ → Change) (t next : ℕ) → suc t ≡ next
-    → Keeps (changes t) (content_after (record_of changes t)) (content_after (record_of changes next)) (IsCandidate (record_of changes t)) (IsCandidate (record_of changes next))
+    → KeepsChange (changes t) (content_after (record_of changes t)) (content_after (record_of changes next)) (IsCandidate (record_of changes t)) (IsCandidate (record_of changes next))
 keeps_next changes t next is =
     let events = record_of changes t in
-    subst (λ (k : ℕ). Keeps (changes t) (content_after events) (content_after (record_of changes k)) (IsCandidate events) (IsCandidate (record_of changes k)))
+    subst (λ (k : ℕ). KeepsChange (changes t) (content_after events) (content_after (record_of changes k)) (IsCandidate events) (IsCandidate (record_of changes k)))
     is (keeps_after (changes t) events)
 
 pub premise_can_be_met : PremiseCanBeMet

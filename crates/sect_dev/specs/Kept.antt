@@ -1,10 +1,10 @@
--- A course that is kept, for any changes: what a device in memory would have.
+-- A file_history that is kept, for any changes: what a device in memory would have.
 use Rattle.std.specs.Prelude.{◌≡◌, ◌+◌, ◌*◌, ◌/◌, ◌<◌, ◌==◌, if◌then◌else◌, ℕ, zero, suc, true, false, List, [], ◌∷◌, length}
 use Rattle.sect_dev.specs.declared.mem.Event.{Event}
 use Rattle.sect_dev.specs.declared.mem.Event.TheVariants.{Wrote, Synced}
 use Rattle.sect_dev.specs.History.{content_after, IsCandidate}
-use Rattle.sect_dev.specs.Course.{Change, Course, StandsAt, IsKept}
-use Rattle.sect_dev.specs.Course.Change.{Writes, Syncs}
+use Rattle.sect_dev.specs.FileHistory.{Change, FileHistory, StandsAt, IsKept}
+use Rattle.sect_dev.specs.FileHistory.Change.{Writes, Syncs}
 
 -- the record after a change. A change that failed did not happen
 abbrev pub noted : Change → List Event → List Event
@@ -18,7 +18,7 @@ abbrev pub record_of : (ℕ → Change) → ℕ → List Event
 record_of changes zero = []
 record_of changes (suc t) = noted (changes t) (record_of changes t)
 
-abbrev pub memory_course : (ℕ → Change) → Course
+abbrev pub memory_course : (ℕ → Change) → FileHistory
 memory_course changes = record {
   change = changes;
   seen = λ t. content_after (record_of changes t);

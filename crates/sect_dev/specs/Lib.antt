@@ -1,7 +1,7 @@
-pub mod Course
 pub mod Device
 pub mod Failing
 pub mod File
+pub mod FileHistory
 pub mod History
 pub mod Kept
 pub mod Mem

@@ -91,14 +91,14 @@ two_images candidate seen n content image stable is =
     ]
 
 -- What a stop leaves at one layer, read by the layer above: `below` is the state of the layer below.
-pub record Reads {D X Y : Type 0} (left_since : D → ℕ → X → Type 0) (read : X → Y) (d : D) (t : ℕ) (y : Y) : Type 0 where
+pub record IsOutcome {D X Y : Type 0} (left_since : D → ℕ → X → Type 0) (read : X → Y) (d : D) (t : ℕ) (y : Y) : Type 0 where
   pub left : X
   pub is_left : left_since d t left
   pub reads : read left ≡ y
 
 pub lifted : {S D X Y : Type 0} (moment : D → ℕ) (left_since : D → ℕ → X → Type 0) (below : S → D) (read : S → X → Y) (old new : S) (P : Y → Type 0)
     → read new ≡ read old → LeavesOnly moment left_since (below old) (below new) (λ x. P (read old x))
-    → LeavesOnly (λ s. moment (below s)) (λ s. Reads left_since (read s) (below s)) old new P
+    → LeavesOnly (λ s. moment (below s)) (λ s. IsOutcome left_since (read s) (below s)) old new P
 lifted {S} {D} {X} {Y} moment left_since below read old new P same run = record {
   later = run.later;
   each = λ y r. subst P (ap (λ (f : X → Y). f r.left) (sym same) ∙ r.reads) (run.each r.left r.is_left);

@@ -1,8 +1,8 @@
 //! A device over a file.
 ghost use Rattle.std.specs.Prelude.{◌≡◌, ◌+◌, ◌-◌, ◌*◌, ◌^◌, ◌<◌, ◌≤◌, ◌&&◌, false, is_ok, is_some, IsErr, IfOk, IfErr, OnOk, length, take};
 ghost use Rattle.sect_dev.specs.Device.{HasCause};
-ghost use Rattle.sect_dev.specs.Course.{IsHonest, LeftFrom};
-ghost use Rattle.sect_dev.specs.Course.Change.{Writes, Syncs};
+ghost use Rattle.sect_dev.specs.FileHistory.{IsHonest, LeftFrom};
+ghost use Rattle.sect_dev.specs.FileHistory.Change.{Writes, Syncs};
 
 use crate::{DevFault, SectorDev};
 use std::fs::{File, OpenOptions};
@@ -104,7 +104,7 @@ fn find<R: Files<File = File>>(
 }
 
 impl FileDev {
-    ghost use Rattle.sect_dev.specs.File.{course, IsNext, Gave, IsSame};
+    ghost use Rattle.sect_dev.specs.File.{file_history, IsNextChange, Gave, IsSame};
 
     /// Opens a file as a device of so many sectors, whatever its length: for reading and writing with `write`, else
     /// for reading alone, and then each write fails. With `write` and `create` a file that isn't there is made, and
@@ -147,21 +147,21 @@ impl FileDev {
 
     // Asks it to write a sector.
     fn pwrite(&self, at: u64, from: &[u8; 512]) -> io::Result<()>
-        ensures { IsNext self.now (Writes at from.now (is_ok result)) }
+        ensures { IsNextChange self.now (Writes at from.now (is_ok result)) }
     {
         self.file.write_all_at(from, at)
     }
 
     // Asks it to sync the file.
     fn fsync(&self) -> io::Result<()>
-        ensures { IsNext self.now (Syncs (is_ok result)) }
+        ensures { IsNextChange self.now (Syncs (is_ok result)) }
     {
         self.file.sync_all()
     }
 
     // Reads a sector, with zeros past the file's end.
     fn fill(&self, n: u32, out: &mut [u8; 512]) -> io::Result<()>
-        ensures { IsHonest self.now.file → OnOk result (out.new ≡ (course self.now).seen self.now.changes n) }
+        ensures { IsHonest self.now.file → OnOk result (out.new ≡ (file_history self.now).seen self.now.changes n) }
     {
         let mut filled = 0;
         for _ in 0..u64::MAX {
@@ -209,20 +209,20 @@ impl FileDev {
 }
 
 impl SectorDev for FileDev {
-    ghost use Rattle.sect_dev.specs.File.{Goes, IsSame};
-    ghost use Rattle.sect_dev.specs.Course.{course_of, counts_now, only_now};
+    ghost use Rattle.sect_dev.specs.File.{AsksSystem, IsSame};
+    ghost use Rattle.sect_dev.specs.FileHistory.{history_of, now_is_left, only_left_now};
 
     ghost sectors = { λ d. d.capacity };
 
     ghost honest = { λ d. IsHonest d.file };
 
-    ghost seen = { λ d. (course_of d.file).seen d.changes };
+    ghost seen = { λ d. (history_of d.file).seen d.changes };
 
-    ghost candidate = { λ d. (course_of d.file).candidate d.changes };
+    ghost candidate = { λ d. (history_of d.file).candidate d.changes };
 
     ghost moment = { λ d. d.changes };
 
-    ghost left_since = { λ d. LeftFrom (course_of d.file).candidate d.changes };
+    ghost left_since = { λ d. LeftFrom (history_of d.file).candidate d.changes };
 
     ghost faults = { λ d. d.faults };
 
@@ -230,9 +230,9 @@ impl SectorDev for FileDev {
 
     ghost seen_may_stay = { λ d h. h.kept.may_stay d.changes };
 
-    ghost counts_now = { λ d t image h le now. counts_now (course_of d.file).candidate d.changes t image le now };
+    ghost counts_now = { λ d t image h le now. now_is_left (history_of d.file).candidate d.changes t image le now };
 
-    ghost only_now = { λ d image h left. only_now (course_of d.file).candidate d.changes image left };
+    ghost only_now = { λ d image h left. only_left_now (history_of d.file).candidate d.changes image left };
 
     fn capacity(&self) -> u32 {
         self.capacity
@@ -252,7 +252,7 @@ impl SectorDev for FileDev {
 
     fn write(&mut self, n: u32, from: &[u8; 512]) -> Result<(), DevFault>
         requires { n < ⟦<FileDev as SectorDev>⟧.sectors self.old }
-        ensures goes { Goes self.old self.new (Writes (n * 512) from.now (is_ok result)) (is_ok result) }
+        ensures goes { AsksSystem self.old self.new (Writes (n * 512) from.now (is_ok result)) (is_ok result) }
         ensures whole { length from.now ≡ 512 }
         ensures cause { HasCause (⟦<FileDev as SectorDev>⟧.faults self.old) (⟦<FileDev as SectorDev>⟧.faults self.new) result }
         ensures size { ⟦<FileDev as SectorDev>⟧.sectors self.new ≡ ⟦<FileDev as SectorDev>⟧.sectors self.old }
@@ -265,7 +265,7 @@ impl SectorDev for FileDev {
     }
 
     fn sync(&mut self) -> Result<(), DevFault>
-        ensures goes { Goes self.old self.new (Syncs (is_ok result)) (is_ok result) }
+        ensures goes { AsksSystem self.old self.new (Syncs (is_ok result)) (is_ok result) }
         ensures cause { HasCause (⟦<FileDev as SectorDev>⟧.faults self.old) (⟦<FileDev as SectorDev>⟧.faults self.new) result }
         ensures size { ⟦<FileDev as SectorDev>⟧.sectors self.new ≡ ⟦<FileDev as SectorDev>⟧.sectors self.old }
     {

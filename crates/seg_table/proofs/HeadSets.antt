@@ -7,7 +7,7 @@ use Rattle.std.proofs.Math.Seq.{get_or-append_seam, take-append_seam, take-lengt
 use Rattle.page_model.specs.Numbers.{IsNumber}
 use Rattle.page_model.specs.Pages as model
 use Rattle.page_model.specs.Pages.{Body, SegmentPage}
-use Rattle.page_model.specs.Sheets.{segment_sheets, AreRead}
+use Rattle.page_model.specs.PageBodies.{segment_bodies, AreRead}
 use Rattle.page_model.specs.Space.{Space, next_page, after_take, is_page, times_of}
 use Rattle.page_model.proofs.Frames.{at_most_one}
 use Rattle.page_model.proofs.Spaces.{times_head}
@@ -43,7 +43,7 @@ module _ (old new : ℕ → Body) (m : model.Meta) (free : FreeState) (heads : L
       record {
         segments_are = ap (λ (t : Bool). record m { segments = cond t (m.segments ++ next_page s ∷ []) m.segments }) (sym test);
         free_is = can.free_is.kept ∙ ap (λ (t : Bool). state_of (cond t (after_take s) s)) (sym test);
-        are_read = subst (λ (hs : List ℕ). AreRead new (segment_sheets m.segments hs)) (sym (with_head-put heads b head can.bucket)) read;
+        are_read = subst (λ (hs : List ℕ). AreRead new (segment_bodies m.segments hs)) (sym (with_head-put heads b head can.bucket)) read;
         others = others;
       }
 
@@ -63,7 +63,7 @@ module _ (old new : ℕ → Body) (m : model.Meta) (free : FreeState) (heads : L
       record {
         segments_are = ap (λ (xs : List ℕ). record m { segments = xs }) segments;
         free_is = kept ∙ ap (λ (t : Bool). state_of (cond t (after_take s) s)) (sym test);
-        are_read = subst (λ (xs : List ℕ). AreRead new (segment_sheets xs (with_head heads b head))) (sym grown) (subst (λ (hs : List ℕ). AreRead new (segment_sheets (m.segments ++ n ∷ []) hs)) more read);
+        are_read = subst (λ (xs : List ℕ). AreRead new (segment_bodies xs (with_head heads b head))) (sym grown) (subst (λ (hs : List ℕ). AreRead new (segment_bodies (m.segments ++ n ∷ []) hs)) more read);
         others = λ k ne. others k (λ same. ne (same ∙ sym place));
       }
 

@@ -8,7 +8,7 @@ use Rattle.std.proofs.lemmas.List.Elements.{recursion_from_All, All-from_recursi
 use Rattle.page_model.specs.Bytes.{u32_at, u32_bytes, overwrite}
 use Rattle.page_model.specs.Numbers.{IsNumber, numbers_bytes, numbers_at}
 use Rattle.page_model.specs.Pages.{SegmentPage, Other}
-use Rattle.page_model.specs.Reading.{in_front, trimmed, heads_on, read_as, kind_of, said, body_of}
+use Rattle.page_model.specs.Reading.{in_front, trimmed, heads_on, read_as, kind_of, body_by_kind, body_of}
 use Rattle.page_model.specs.Spelling.{header, segment_spelling, spelling_of}
 use Rattle.page_model.proofs.Bodies.{body_is, body_spelled}
 use Rattle.page_model.proofs.Chains.{AllByRecursion-append}
@@ -106,12 +106,12 @@ kind_of_segment own heads = refl
 -- and they are those that are read of it
 pub heads_of_said : (bytes : List ℕ) (own : ℕ) (heads : List ℕ) → body_of own bytes ≡ SegmentPage heads → heads ≡ heads_on bytes
 unfolding body_of
-heads_of_said bytes own heads e = by_test (bytes_eq bytes (spelling_of own (said bytes))) e
+heads_of_said bytes own heads e = by_test (bytes_eq bytes (spelling_of own (body_by_kind bytes))) e
   where
-    kind : said bytes ≡ SegmentPage (heads_on bytes)
+    kind : body_by_kind bytes ≡ SegmentPage (heads_on bytes)
     kind = ap (λ (k : ℕ). read_as k bytes) (ap kind_of (said_spelled bytes own heads e) ∙ kind_of_segment own heads)
 
-    by_test : (t : Bool) → cond t (said bytes) Other ≡ SegmentPage heads → heads ≡ heads_on bytes
+    by_test : (t : Bool) → cond t (body_by_kind bytes) Other ≡ SegmentPage heads → heads ≡ heads_on bytes
     by_test true e = cc (kind)
     by_test false e = absurd cc
 

@@ -3,7 +3,7 @@ pub mod HeadLists
 pub mod HeadSets
 pub mod HeadTexts
 pub mod Metas
+pub mod PlacementHeads
 pub mod Segments
 pub mod Stagings
 pub mod Tables
-pub mod PlacementHeads

@@ -14,13 +14,13 @@ use Rattle.page_model.proofs.Numbers.{length-numbers_bytes, length-numbers_at, n
 use Rattle.page_model.proofs.Texts.{IsBytes, IsText, text_then, zeros_text, skip, clear_again, whole}
 use Rattle.page_model.proofs.Writes.{overwrite_mid}
 use Rattle.page_io.proofs.PlainPages.{plain_text, plain_again}
-use Rattle.seg_table.specs.MetaPages.{HasMetaHeader, IsLaidOut}
+use Rattle.seg_table.specs.MetaPages.{HasMetaHeader, IsMetaLayout}
 
 -- the bytes are laid out as a meta page's
 pub record IsMetaPage (bytes : List ℕ) : Type 0 where
   pub headed : HasMetaHeader bytes
   pub version : u32_at bytes 16 ≡ 1
-  pub laid : IsLaidOut bytes
+  pub laid : IsMetaLayout bytes
   pub sound : IsMeta (fields_of bytes)
 
 -- the numbers before the segments

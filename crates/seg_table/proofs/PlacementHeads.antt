@@ -7,11 +7,11 @@ use Rattle.std.proofs.lemmas.List.{length-map, get_or-map}
 use Rattle.std.proofs.lemmas.List.Elements.{All-from_recursion}
 use Rattle.std.proofs.lemmas.List.Sums.{sum_by-append, sum_by-cons}
 use Rattle.page_model.specs.Numbers.{IsNumber}
-use Rattle.page_model.specs.Pages.{Body, Sheet}
+use Rattle.page_model.specs.Pages.{Body, NumberedBody}
 use Rattle.page_model.specs.Chain.{Chain, numbers}
 use Rattle.page_model.specs.Space.{is_page, times_of}
 use Rattle.page_model.specs.Placement.{Placement, IsSound}
-use Rattle.page_model.specs.Sheets.{first_of, heads_of, chain_sheets, free_sheets, segment_sheets, lower_sheets, AreRead}
+use Rattle.page_model.specs.PageBodies.{first_of, heads_of, chain_bodies, free_bodies, segment_bodies, lower_bodies, AreRead}
 use Rattle.page_model.proofs.Chains.{AllByRecursion-left}
 use Rattle.page_model.proofs.Spaces.{times_head, times_tail}
 use Rattle.seg_table.specs.Placements.{HasHeads, PlacementsHaveHeads}
@@ -28,15 +28,15 @@ are_used (n ∷ rest) end small within =
     ((omega (arith, here.0), omega (arith, here.1, small)), are_used rest end small (λ m. omega (arith, within m, times_tail m n rest)))
 
 -- where the numbers of the segment pages are such numbers
-pub heads_read : (at : ℕ → Body) (p : Placement) → IsSound p → All (λ n. (0 < n) × IsNumber n) p.segments → AreRead at (lower_sheets p) → HasHeads at p
+pub heads_read : (at : ℕ → Body) (p : Placement) → IsSound p → All (λ n. (0 < n) × IsNumber n) p.segments → AreRead at (lower_bodies p) → HasHeads at p
 heads_read at p sound used read =
-    let s = segment_sheets p.segments (heads_of p.chains) in
-    let P : Sheet → Type 0 = λ sheet. at sheet.number ≡ sheet.body in
-    let upper = AllByRecursion-left P (s ++ flat_map chain_sheets p.chains) (free_sheets p.space.free) read in
+    let s = segment_bodies p.segments (heads_of p.chains) in
+    let P : NumberedBody → Type 0 = λ numbered. at numbered.number ≡ numbered.body in
+    let upper = AllByRecursion-left P (s ++ flat_map chain_bodies p.chains) (free_bodies p.space.free) read in
     let head : Chain → ℕ = λ chain. first_of (numbers chain) in
     let many : length (heads_of p.chains) ≡ length p.chains = length-map p.chains head in
     record {
-      heads_are = record { are_read = AllByRecursion-left P s (flat_map chain_sheets p.chains) upper; many = many ∙ sound.all_buckets; used = used };
+      heads_are = record { are_read = AllByRecursion-left P s (flat_map chain_bodies p.chains) upper; many = many ∙ sound.all_buckets; used = used };
       room = omega (arith, many, sound.all_segments);
       each = λ bucket lt. get_or-map head p.chains bucket [] 0 lt;
     }

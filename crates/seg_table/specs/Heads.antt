@@ -3,16 +3,16 @@ use Rattle.std.specs.Prelude.{◌≡◌, ◌≢◌, ℕ, ◌+◌, ◌*◌, ◌/�
 use Rattle.page_model.specs.Numbers.{IsNumber}
 use Rattle.page_model.specs.Pages.{Body, SegmentPage}
 use Rattle.page_model.specs.Pages as model
-use Rattle.page_model.specs.Valid.{buckets}
+use Rattle.page_model.specs.Valid.{meta_buckets}
 use Rattle.page_model.specs.Space.{Space, next_page, after_take}
-use Rattle.page_model.specs.Sheets.{segment_sheets, AreRead}
+use Rattle.page_model.specs.PageBodies.{segment_bodies, AreRead}
 use Rattle.free_pages.specs.declared.free_state.FreeState.{FreeState}
 use Rattle.free_pages.specs.FreeList.{state_of, IsFreeList, IsApart}
 
 -- the segment pages of this meta page say these heads, one for each bucket
 pub record AreHeads (at : ℕ → Body) (m : model.Meta) (heads : List ℕ) : Type 0 where
-  pub are_read : AreRead at (segment_sheets m.segments heads)
-  pub many : length heads ≡ buckets m
+  pub are_read : AreRead at (segment_bodies m.segments heads)
+  pub many : length heads ≡ meta_buckets m
   pub used : All (λ n. (0 < n) × IsNumber n) m.segments
 
 -- what is read is a segment page with this number at a place, 0 behind the last head
@@ -26,15 +26,15 @@ abbrev pub with_head : List ℕ → ℕ → ℕ → List ℕ
 with_head heads b head = if nat_lt b (length heads) then slice_set heads b head else heads ++ head ∷ []
 
 -- the bucket is the first of a segment that isn't there yet
-abbrev pub opens_segment : model.Meta → ℕ → Bool
-opens_segment m b = b / 508 == length m.segments
+abbrev pub needs_segment : model.Meta → ℕ → Bool
+needs_segment m b = b / 508 == length m.segments
 
 -- a segment that isn't there yet gets the page that is taken next
 abbrev pub segments_with : model.Meta → ℕ → Space → List ℕ
-segments_with m b s = if opens_segment m b then m.segments ++ next_page s ∷ [] else m.segments
+segments_with m b s = if needs_segment m b then m.segments ++ next_page s ∷ [] else m.segments
 
 abbrev pub space_with : model.Meta → ℕ → Space → Space
-space_with m b s = if opens_segment m b then after_take s else s
+space_with m b s = if needs_segment m b then after_take s else s
 
 -- where a head may be set: of a bucket that there is, or of the next one
 pub record CanSet (at : ℕ → Body) (m : model.Meta) (free : FreeState) (heads : List ℕ) (b head : ℕ) (s : Space) : Type 0 where
@@ -50,7 +50,7 @@ pub record CanSet (at : ℕ → Body) (m : model.Meta) (free : FreeState) (heads
 pub record IsHeadSet (old new : ℕ → Body) (m n : model.Meta) (free : FreeState) (heads : List ℕ) (b head : ℕ) (s : Space) : Type 0 where
   pub segments_are : n ≡ record m { segments = segments_with m b s }
   pub free_is : free ≡ state_of (space_with m b s)
-  pub are_read : AreRead new (segment_sheets n.segments (with_head heads b head))
+  pub are_read : AreRead new (segment_bodies n.segments (with_head heads b head))
   pub others : (k : ℕ) → k ≢ slice_index n.segments (b / 508) → new k ≡ old k
 
 -- at most a segment was added behind those that there are

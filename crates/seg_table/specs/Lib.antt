@@ -1,5 +1,5 @@
-pub mod MetaPages
-pub mod Segments
-pub mod Heads
-pub mod Placements
 pub mod Answers
+pub mod Heads
+pub mod MetaPages
+pub mod Placements
+pub mod Segments

@@ -8,8 +8,8 @@ use Rattle.page_io.specs.Plain.{HasPlainHeader}
 use Rattle.seg_table.specs.declared.meta.Meta.{Meta}
 
 -- what a meta page of it says
-abbrev pub says : Meta → model.Meta
-says m = record {
+abbrev pub model_meta : Meta → model.Meta
+model_meta m = record {
   limit = m.limit;
   pairs = m.pairs;
   level = m.shape.level;
@@ -25,7 +25,7 @@ pub record HasMetaHeader (bytes : List ℕ) : Type 0 where
   pub no_next : next_of bytes ≡ 0
 
 -- behind the version: a shape, no more segments than there is room for, and zeros where nothing else stands
-pub record IsLaidOut (bytes : List ℕ) : Type 0 where
+pub record IsMetaLayout (bytes : List ℕ) : Type 0 where
   pub shape : CanBe (u32_at bytes 28) (u32_at bytes 32)
   pub few : u32_at bytes 44 ≤ 496
   pub zeros : IsClear bytes 48 64

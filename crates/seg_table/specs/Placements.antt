@@ -3,7 +3,7 @@ use Rattle.std.specs.Prelude.{◌≡◌, ℕ, ◌*◌, ◌^◌, ◌≤◌, ◌<�
 use Rattle.page_model.specs.Pages.{Body}
 use Rattle.page_model.specs.Chain.{numbers}
 use Rattle.page_model.specs.Placement.{Placement, chain_at, IsSound}
-use Rattle.page_model.specs.Sheets.{first_of, heads_of, meta_of, lower_sheets, AreRead}
+use Rattle.page_model.specs.PageBodies.{first_of, heads_of, meta_of, lower_bodies, AreRead}
 use Rattle.seg_table.specs.Heads.{AreHeads}
 
 -- the heads that are read are those of the chains, and each stands in a segment that is there
@@ -14,4 +14,4 @@ pub record HasHeads (at : ℕ → Body) (p : Placement) : Type 0 where
 
 -- where the pages but the meta page say a sound placement, whose pages are numbers of four bytes, they have its heads
 abbrev pub PlacementsHaveHeads : Type 0
-PlacementsHaveHeads = (at : ℕ → Body) (p : Placement) → IsSound p → p.space.end ≤ 2 ^ 32 → AreRead at (lower_sheets p) → HasHeads at p
+PlacementsHaveHeads = (at : ℕ → Body) (p : Placement) → IsSound p → p.space.end ≤ 2 ^ 32 → AreRead at (lower_bodies p) → HasHeads at p

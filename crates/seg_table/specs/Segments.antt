@@ -5,11 +5,11 @@ use Rattle.page_model.specs.Pages as model
 use Rattle.page_model.specs.Pages.{SegmentPage}
 use Rattle.page_model.specs.Reading.{heads_on}
 use Rattle.page_model.specs.Spelling.{segment_spelling}
-use Rattle.page_model.specs.Valid.{buckets, MaySay}
+use Rattle.page_model.specs.Valid.{meta_buckets, MaySay}
 
 -- how many buckets of segment s exist
 abbrev pub heads_in : model.Meta → ℕ → ℕ
-heads_in m s = min (buckets m - 508 * s) 508
+heads_in m s = min (meta_buckets m - 508 * s) 508
 
 -- the page is spelled as a segment page with so many heads, which may be any numbers
 pub record IsSegment (bytes : List ℕ) (own count : ℕ) : Type 0 where

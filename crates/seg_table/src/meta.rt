@@ -8,7 +8,7 @@ ghost use Rattle.page_model.specs.Pages.{MetaPage};
 ghost use Rattle.page_model.specs.Reading.{own_number, body_of, fields_of};
 ghost use Rattle.page_model.specs.Spelling.{meta_spelling};
 ghost use Rattle.page_model.specs.Valid.{IsMeta};
-ghost use Rattle.seg_table.specs.MetaPages.{says, HasMetaHeader, IsLaidOut};
+ghost use Rattle.seg_table.specs.MetaPages.{model_meta, HasMetaHeader, IsMetaLayout};
 ghost use Rattle.seg_table.specs.declared.meta.MetaFault.TheVariants.{Version};
 
 use crate::segment::PER_SEGMENT;
@@ -55,7 +55,7 @@ pub struct Meta {
 impl Meta {
     /// The meta page of a new database of this limit: one empty bucket, in the segment of page `segment`.
     pub fn of_empty(limit: u32, segment: u32) -> Meta
-        ensures { says result ≡ record { limit = limit; pairs = 0; level = 0; split = 0; free_head = 0; free_count = 0; segments = segment ∷ [] } }
+        ensures { model_meta result ≡ record { limit = limit; pairs = 0; level = 0; split = 0; free_head = 0; free_count = 0; segments = segment ∷ [] } }
     {
         let mut segments = ArrayVec::new();
         segments.push(segment);
@@ -71,7 +71,7 @@ impl Meta {
 
     /// The same, without memory.
     pub fn copied(&self) -> Meta
-        ensures { says result ≡ says self.now }
+        ensures { model_meta result ≡ model_meta self.now }
     {
         Meta {
             limit: self.limit,
@@ -112,7 +112,7 @@ fn has_ends(meta: &Meta) -> bool
 
 /// Whether a meta page may say this.
 fn is_sound(meta: &Meta) -> bool
-    ensures { IsTrue result ↔ IsMeta (says meta.now) }
+    ensures { IsTrue result ↔ IsMeta (model_meta meta.now) }
 {
     let buckets = meta.shape.buckets();
     (1..=MAX_LIMIT).contains(&meta.limit)
@@ -139,8 +139,8 @@ fn segments_of(page: &Page, count: usize) -> ArrayVec<u32, 496>
 /// The fields, if they are a shape and no more segments than there is room for, and all other bytes behind the version
 /// are zero.
 fn meta_of(page: &Page) -> Option<Meta>
-    ensures found { IfSome result (λ m. says m ≡ fields_of page.now.bytes) }
-    ensures only { IsSome result ↔ IsLaidOut page.now.bytes }
+    ensures found { IfSome result (λ m. model_meta m ≡ fields_of page.now.bytes) }
+    ensures only { IsSome result ↔ IsMetaLayout page.now.bytes }
 {
     let shape = Shape::new(page.u32_at(28), page.u32_at(32))?;
     let count = page.u32_at(44) as usize;
@@ -162,9 +162,9 @@ fn meta_of(page: &Page) -> Option<Meta>
 
 /// What page 1 says. The version is looked at once the header is good, and before all else.
 pub fn read_meta(page: &Page) -> Result<Meta, MetaFault>
-    ensures found { IfOk result (λ m. IsMeta (says m) × (page.now.bytes ≡ meta_spelling 1 (says m))) }
-    ensures only { (m : model.Meta) → IsMeta m → page.now.bytes ≡ meta_spelling 1 m → IsOkAnd result (λ r. says r ≡ m) }
-    ensures body { (m : model.Meta) → IsMeta m → IsOkAnd result (λ r. says r ≡ m) ↔ (body_of 1 page.now.bytes ≡ MetaPage m) }
+    ensures found { IfOk result (λ m. IsMeta (model_meta m) × (page.now.bytes ≡ meta_spelling 1 (model_meta m))) }
+    ensures only { (m : model.Meta) → IsMeta m → page.now.bytes ≡ meta_spelling 1 m → IsOkAnd result (λ r. model_meta r ≡ m) }
+    ensures body { (m : model.Meta) → IsMeta m → IsOkAnd result (λ r. model_meta r ≡ m) ↔ (body_of 1 page.now.bytes ≡ MetaPage m) }
     ensures version { (result ≡ Err Version) ↔ (HasMetaHeader page.now.bytes × (u32_at page.now.bytes 16 ≢ 1)) }
 {
     if !page.is_plain(1, META) || page.next() != 0 {
@@ -181,9 +181,9 @@ pub fn read_meta(page: &Page) -> Result<Meta, MetaFault>
 
 /// Writes the one spelling of the meta page.
 pub fn write_meta(meta: &Meta, page: &mut Page)
-    requires { IsMeta (says meta.now) }
-    ensures spelled { page.new.bytes ≡ meta_spelling 1 (says meta.now) }
-    ensures body { body_of 1 page.new.bytes ≡ MetaPage (says meta.now) }
+    requires { IsMeta (model_meta meta.now) }
+    ensures spelled { page.new.bytes ≡ meta_spelling 1 (model_meta meta.now) }
+    ensures body { body_of 1 page.new.bytes ≡ MetaPage (model_meta meta.now) }
     ensures number { own_number page.new.bytes ≡ 1 }
 {
     *page = Page::plain(1, META, 0);

@@ -4,7 +4,7 @@ ghost use Rattle.std.specs.Prelude.{◌≡◌, ◌<◌, ◌↔◌, ◌∷◌, []
 ghost use Rattle.page_model.specs.Pages.{SegmentPage};
 ghost use Rattle.page_model.specs.Reading.{body_of};
 ghost use Rattle.page_io.specs.Page.{own_number};
-ghost use Rattle.seg_table.specs.MetaPages.{says};
+ghost use Rattle.seg_table.specs.MetaPages.{model_meta};
 ghost use Rattle.seg_table.specs.Segments.{heads_in, IsSegment};
 
 use crate::Meta;
@@ -32,7 +32,7 @@ pub fn segment_of_one(n: u32, head: u32) -> Page
 
 /// How many buckets of segment `s` exist.
 fn heads_of(meta: &Meta, s: usize) -> usize
-    ensures { result ≡ heads_in (says meta.now) s }
+    ensures { result ≡ heads_in (model_meta meta.now) s }
 {
     (meta.shape.buckets() as usize)
         .saturating_sub(PER_SEGMENT.saturating_mul(s))
@@ -43,7 +43,7 @@ fn heads_of(meta: &Meta, s: usize) -> usize
 /// that exist, which may be any numbers.
 pub fn segment_ok(page: &Page, meta: &Meta, s: usize) -> bool
     requires { s < length meta.now.segments.items }
-    ensures { IsTrue result ↔ IsSegment page.now.bytes (slice_index meta.now.segments.items s) (heads_in (says meta.now) s) }
+    ensures { IsTrue result ↔ IsSegment page.now.bytes (slice_index meta.now.segments.items s) (heads_in (model_meta meta.now) s) }
 {
     page.is_plain(meta.segments[s], SEGMENT)
         && page.next() == 0

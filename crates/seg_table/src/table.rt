@@ -4,10 +4,10 @@ ghost use Rattle.std.specs.Prelude.{◌≡◌, ◌<◌, ◌≤◌, ◌+◌, ◌/
 ghost use Rattle.page_model.specs.Space.{Space};
 ghost use Rattle.page_io.specs.Answers.{HasDeviceCause};
 ghost use Rattle.page_io.specs.Store.{IsKnown};
-ghost use Rattle.page_io.specs.Views.{shown, said, StagesOnly, ReadsOnly, MayEnd};
+ghost use Rattle.page_io.specs.Views.{visible_page, body_at, StagesOnly, ReadsOnly, MayEnd};
 ghost use Rattle.page_io.specs.declared.store.PageFault.TheVariants.{Damaged};
 ghost use Rattle.free_pages.specs.FreeList.{HasEnds};
-ghost use Rattle.seg_table.specs.MetaPages.{says};
+ghost use Rattle.seg_table.specs.MetaPages.{model_meta};
 ghost use Rattle.seg_table.specs.Segments.{IsSpelledSegment};
 ghost use Rattle.seg_table.specs.Heads.{AreHeads, HasEntry, CanSet, IsHeadSet, AddsSegment};
 ghost use Rattle.seg_table.specs.Answers.{IsHeadAnswer, IsSetAnswer};
@@ -30,8 +30,8 @@ fn read_segment<S: PageStore>(
     ensures answer { IsHeadAnswer (S.state store.old) result }
     ensures known { OnOk result (IsKnown (S.state store.old) (slice_index meta.now.segments.items s)) }
     ensures segment { OnOk result (IsSpelledSegment page.new.bytes (slice_index meta.now.segments.items s)) }
-    ensures found { S.honest store.old → OnOk result (page.new.bytes ≡ shown S.PageStore store.old (slice_index meta.now.segments.items s)) }
-    ensures whole { S.honest store.old → (heads : List ℕ) → AreHeads (said S.PageStore store.old) (says meta.now) heads → IsErrOf result Damaged → ⊥ }
+    ensures found { S.honest store.old → OnOk result (page.new.bytes ≡ visible_page S.PageStore store.old (slice_index meta.now.segments.items s)) }
+    ensures whole { S.honest store.old → (heads : List ℕ) → AreHeads (body_at S.PageStore store.old) (model_meta meta.now) heads → IsErrOf result Damaged → ⊥ }
 {
     store.read(meta.segments[s], page)?;
     if segment_ok(page, meta, s) {
@@ -47,11 +47,11 @@ pub fn head_of<S: PageStore>(store: &mut S, meta: &Meta, bucket: u32) -> Result<
     ensures reads { ReadsOnly S.PageStore store.old store.new }
     ensures cause { HasDeviceCause (S.faults store.old) (S.faults store.new) result }
     ensures answer { IsHeadAnswer (S.state store.old) result }
-    ensures entry { S.honest store.old → IfOk result (λ head. HasEntry (said S.PageStore store.old (slice_index meta.now.segments.items (bucket / 508))) (bucket % 508) head) }
+    ensures entry { S.honest store.old → IfOk result (λ head. HasEntry (body_at S.PageStore store.old (slice_index meta.now.segments.items (bucket / 508))) (bucket % 508) head) }
 
     // Where the segment pages say the heads, it is the bucket's, and never Damaged.
-    ensures exact { S.honest store.old → (heads : List ℕ) → AreHeads (said S.PageStore store.old) (says meta.now) heads → bucket < length heads → IfOk result (λ head. head ≡ slice_index heads bucket) }
-    ensures whole { S.honest store.old → (heads : List ℕ) → AreHeads (said S.PageStore store.old) (says meta.now) heads → IsErrOf result Damaged → ⊥ }
+    ensures exact { S.honest store.old → (heads : List ℕ) → AreHeads (body_at S.PageStore store.old) (model_meta meta.now) heads → bucket < length heads → IfOk result (λ head. head ≡ slice_index heads bucket) }
+    ensures whole { S.honest store.old → (heads : List ℕ) → AreHeads (body_at S.PageStore store.old) (model_meta meta.now) heads → IsErrOf result Damaged → ⊥ }
 {
     let mut page = Page::blank();
     read_segment(store, meta, bucket as usize / PER_SEGMENT, &mut page)?;
@@ -76,16 +76,16 @@ pub fn set_head<S: PageStore>(
     ensures few { length (S.state store.new).staged ≤ length (S.state store.old).staged + 1 }
     ensures cause { HasDeviceCause (S.faults store.old) (S.faults store.new) result }
     ensures answer { IsSetAnswer S.reserved (S.state store.old) space.old result }
-    ensures err { OnErr result (says meta.new ≡ says meta.old) }
+    ensures err { OnErr result (model_meta meta.new ≡ model_meta meta.old) }
     ensures err_state { OnErr result (S.state store.new ≡ S.state store.old) }
-    ensures ok { OnOk result (AddsSegment (says meta.old) (says meta.new) bucket) }
+    ensures ok { OnOk result (AddsSegment (model_meta meta.old) (model_meta meta.new) bucket) }
     ensures ends { HasEnds space.old → HasEnds space.new }
     ensures may_end { MayEnd (S.state store.old) space.old.file_end → OnOk result (MayEnd (S.state store.new) space.new.file_end) }
 
     // Where the segment pages say the heads, they then say them with this one, and it is never Damaged.
-    ensures exact { S.honest store.old → (heads : List ℕ) (s : Space) → CanSet (said S.PageStore store.old) (says meta.old) space.old heads bucket head s →
-        OnOk result (IsHeadSet (said S.PageStore store.old) (said S.PageStore store.new) (says meta.old) (says meta.new) space.new heads bucket head s) }
-    ensures whole { S.honest store.old → (heads : List ℕ) (s : Space) → CanSet (said S.PageStore store.old) (says meta.old) space.old heads bucket head s → IsErrOf result Damaged → ⊥ }
+    ensures exact { S.honest store.old → (heads : List ℕ) (s : Space) → CanSet (body_at S.PageStore store.old) (model_meta meta.old) space.old heads bucket head s →
+        OnOk result (IsHeadSet (body_at S.PageStore store.old) (body_at S.PageStore store.new) (model_meta meta.old) (model_meta meta.new) space.new heads bucket head s) }
+    ensures whole { S.honest store.old → (heads : List ℕ) (s : Space) → CanSet (body_at S.PageStore store.old) (model_meta meta.old) space.old heads bucket head s → IsErrOf result Damaged → ⊥ }
 {
     let s = bucket as usize / PER_SEGMENT;
     let at = HEADS_AT + 4 * (bucket as usize % PER_SEGMENT);

@@ -9,7 +9,7 @@ use Rattle.page_model.specs.Slots.{Slot, size, total_size, slot_ending, slots_en
 use Rattle.page_model.specs.Spelling.{header, bucket_header, bucket_spelling}
 use Rattle.page_model.specs.Reading.{low, bucket_of}
 use Rattle.page_model.specs.Valid.{IsBucket}
-use Rattle.slot_page.specs.Contents.{IsBucketPage, pairs_of, with_pairs, with_next, IsAbsent, Holds}
+use Rattle.slot_page.specs.Contents.{IsBucketPage, page_pairs, with_pairs, with_next, IsAbsent, HasPairs}
 use Rattle.page_model.proofs.Writes.{overwrite_mid}
 use Rattle.page_model.proofs.Buckets.{bucket_again, length-slots_ending, length-slots_bytes}
 
@@ -89,7 +89,7 @@ spelling-push b p offset at count slot is fits e f g s =
     ∙ ap (λ (x : List ℕ). bucket_header (with_pairs b (ps ++ p ∷ [])) ++ (slots_bytes (slots_ending 2048 (ps ++ p ∷ [])) ++ (zm ++ x))) (sym (records-push ps p))
 
 -- a page that has a bucket's spelling
-pub holds : (old new : List ℕ) (ps : List Pair) → IsBucket (with_pairs (bucket_of old) ps) → new ≡ bucket_spelling (with_pairs (bucket_of old) ps) → Holds old new ps
+pub holds : (old new : List ℕ) (ps : List Pair) → IsBucket (with_pairs (bucket_of old) ps) → new ≡ bucket_spelling (with_pairs (bucket_of old) ps) → HasPairs old new ps
 holds old new ps is e =
     let says = bucket_again new (with_pairs (bucket_of old) ps) is e in
     record { page = record { sound = subst IsBucket (sym says) is; spelled = e ∙ ap bucket_spelling (sym says) }; says = says }
@@ -108,8 +108,8 @@ is_bucket-push b p is fits absent =
 
 -- what a pair that fits finds
 pub record HasRoom (bytes : List ℕ) (low_is count_is key_len content_len : ℕ) : Type 0 where
-  pub low_of : low_is + total_size (pairs_of bytes) ≡ 2048
-  pub count_of : count_is ≡ length (pairs_of bytes)
+  pub low_of : low_is + total_size (page_pairs bytes) ≡ 2048
+  pub count_of : count_is ≡ length (page_pairs bytes)
   pub both : 16 + 6 * count_is + 6 + key_len + content_len ≤ low_is
 
 -- what fits is not too much
@@ -117,10 +117,10 @@ pub taken-push : (ps : List Pair) (p : Pair) → size p + 6 ≤ room_of ps → t
 taken-push ps p le = omega (arith, total_size-push ps p, length-append ps (p ∷ []))
 
 -- what the code writes is the spelling of the list with one more pair
-pub added : (old new key content : List ℕ) (l n offset at count : ℕ) (slot : Slot) → IsBucketPage old → HasRoom old l n (length key) (length content) → length key + length content + 6 ≤ room_of (pairs_of old)
+pub added : (old new key content : List ℕ) (l n offset at count : ℕ) (slot : Slot) → IsBucketPage old → HasRoom old l n (length key) (length content) → length key + length content + 6 ≤ room_of (page_pairs old)
     → offset + length key + length content ≡ l → at ≡ 16 + 6 * n → count ≡ n + 1 → slot ≡ record { offset = offset; key_len = length key; content_len = length content }
     → new ≡ overwrite (overwrite (overwrite (overwrite old offset (key ++ content)) at (slot_bytes slot)) 6 (u16_bytes count)) 12 (u16_bytes offset)
-    → new ≡ bucket_spelling (with_pairs (bucket_of old) (pairs_of old ++ (key, content) ∷ []))
+    → new ≡ bucket_spelling (with_pairs (bucket_of old) (page_pairs old ++ (key, content) ∷ []))
 added old new key content l n offset at count slot h r fits e f g s w =
     let b = bucket_of old in
     let p : Pair = (key, content) in
@@ -129,8 +129,8 @@ added old new key content l n offset at count slot h r fits e f g s w =
     written ∙ spelling-push b p offset at count slot h.sound fits (omega arith) (omega arith) (omega arith) s
 
 -- a page with one more pair, whose key is a new one
-pub added_holds : (old new : List ℕ) (p : Pair) → IsBucketPage old → size p + 6 ≤ room_of (pairs_of old) → new ≡ bucket_spelling (with_pairs (bucket_of old) (pairs_of old ++ p ∷ [])) → IsAbsent p.0 (pairs_of old) → Holds old new (pairs_of old ++ p ∷ [])
-added_holds old new p h fits e absent = holds old new (pairs_of old ++ p ∷ []) (is_bucket-push (bucket_of old) p h.sound fits absent) e
+pub added_holds : (old new : List ℕ) (p : Pair) → IsBucketPage old → size p + 6 ≤ room_of (page_pairs old) → new ≡ bucket_spelling (with_pairs (bucket_of old) (page_pairs old ++ p ∷ [])) → IsAbsent p.0 (page_pairs old) → HasPairs old new (page_pairs old ++ p ∷ [])
+added_holds old new p h fits e absent = holds old new (page_pairs old ++ p ∷ []) (is_bucket-push (bucket_of old) p h.sound fits absent) e
 
 -- the write of the next page
 next_set : (own kind count next low next' : ℕ) (body : List ℕ) → overwrite (header own kind count next low ++ body) 8 (u32_bytes next') ≡ header own kind count next' low ++ body

@@ -7,7 +7,7 @@ use Rattle.page_model.specs.Bytes.{u16_at, u32_at, u16_bytes, u32_bytes}
 use Rattle.dbm_model.specs.Pairs.{Pair}
 use Rattle.page_model.specs.Slots.{Slot, room_of, size, total_size, slot_ending, slots_ending, slot_bytes, slots_bytes, records, taken}
 use Rattle.page_model.specs.Spelling.{bucket_header, bucket_spelling}
-use Rattle.page_model.specs.Reading.{slot_count, low, slot_of, slots_from, key_of, content_of, pair_of, pairs_from, bucket_of}
+use Rattle.page_model.specs.Reading.{slot_count, low, slot_of, slots_from, key_of, content_of, slot_pair, pairs_from, bucket_of}
 use Rattle.page_model.specs.Valid.{IsBucket}
 use Rattle.slot_page.specs.Layout.{end_of, AreInPlace, IsLaidOut}
 use Rattle.slot_page.proofs.Held.{SpelledDistinct, distinct_spelled}
@@ -20,15 +20,15 @@ length-pair bytes s le =
     (length-take-le s.key_len (drop s.offset bytes) (omega (arith, length-drop s.offset bytes)), length-take-le s.content_len (drop (s.offset + s.key_len) bytes) (omega (arith, length-drop (s.offset + s.key_len) bytes)))
 
 -- the size of the pair of a slot
-size_is : (bytes : List ℕ) (s : Slot) → s.offset + s.key_len + s.content_len ≤ length bytes → size (pair_of bytes s) ≡ s.key_len + s.content_len
+size_is : (bytes : List ℕ) (s : Slot) → s.offset + s.key_len + s.content_len ≤ length bytes → size (slot_pair bytes s) ≡ s.key_len + s.content_len
 size_is bytes s le = let both = length-pair bytes s le in omega (arith, both.0, both.1)
 
 -- the slot of the pair of a slot
-slot_ending_is : (bytes : List ℕ) (s : Slot) (end : ℕ) → end ≤ length bytes → s.offset + s.key_len + s.content_len ≡ end → slot_ending end (pair_of bytes s) ≡ s
+slot_ending_is : (bytes : List ℕ) (s : Slot) (end : ℕ) → end ≤ length bytes → s.offset + s.key_len + s.content_len ≡ end → slot_ending end (slot_pair bytes s) ≡ s
 slot_ending_is bytes s end le e =
     let both = length-pair bytes s (omega arith) in
     let sized = size_is bytes s (omega arith) in
-    let at : end - size (pair_of bytes s) ≡ s.offset = omega (arith, sized) in
+    let at : end - size (slot_pair bytes s) ≡ s.offset = omega (arith, sized) in
     rw (at, both.0, both.1) refl
 
 -- the slots of the pairs that are read are those that are read
@@ -39,9 +39,9 @@ table_is bytes n len chain (suc k) i le =
     let here = chain i (omega arith) in
     let most = ends_inside bytes n chain i (omega arith) in
     let first = slot_ending_is bytes s (end_of bytes i) (omega (arith, here, most)) here in
-    let next : end_of bytes i - size (pair_of bytes s) ≡ end_of bytes (i + 1) = let sized = size_is bytes s (omega (arith, most)) in omega (arith, sized, here, end_of-more bytes i) in
+    let next : end_of bytes i - size (slot_pair bytes s) ≡ end_of bytes (i + 1) = let sized = size_is bytes s (omega (arith, most)) in omega (arith, sized, here, end_of-more bytes i) in
     let others = table_is bytes n len chain k (i + 1) (omega arith) in
-    ap (λ (t : Slot). t ∷ slots_ending (end_of bytes i - size (pair_of bytes s)) (pairs_from bytes (i + 1) k)) first
+    ap (λ (t : Slot). t ∷ slots_ending (end_of bytes i - size (slot_pair bytes s)) (pairs_from bytes (i + 1) k)) first
     ∙ ap (λ (e : ℕ). s ∷ slots_ending e (pairs_from bytes (i + 1) k)) next ∙ ap (λ (ts : List Slot). s ∷ ts) others
 
 -- the sizes of the pairs add up to what lies between the ends
@@ -81,17 +81,17 @@ slots_text bytes fits (suc k) i b e le =
     text_then bytes a (slot_bytes (slot_of bytes i)) (16 + 6 * (i + 1)) (slots_bytes (slots_from bytes (i + 1) k)) b slot (slots_text bytes fits k (i + 1) b (omega arith) le)
 
 -- distinct keys of slots are distinct keys of pairs
-pub distinct_pairs : (bytes : List ℕ) (ss : List Slot) → SpelledDistinct bytes ss → AllPairs (λ p q. p.0 ≢ q.0) (map (pair_of bytes) ss)
+pub distinct_pairs : (bytes : List ℕ) (ss : List Slot) → SpelledDistinct bytes ss → AllPairs (λ p q. p.0 ≢ q.0) (map (slot_pair bytes) ss)
 distinct_pairs bytes ss h i j d less lt =
     let blank : Slot = record { offset = 0; key_len = 0; content_len = 0 } in
-    let inside : j < length ss = omega (arith, length-map ss (pair_of bytes)) in
-    let first = get_or-map (pair_of bytes) ss i blank d (omega arith) in
-    let second = get_or-map (pair_of bytes) ss j blank d inside in
+    let inside : j < length ss = omega (arith, length-map ss (slot_pair bytes)) in
+    let first = get_or-map (slot_pair bytes) ss i blank d (omega arith) in
+    let second = get_or-map (slot_pair bytes) ss j blank d inside in
     λ same. h i j blank less inside (ap (λ (p : Pair). p.0) (sym first) ∙ same ∙ ap (λ (p : Pair). p.0) second)
 
 -- a pair for each slot
 pub length-pairs_from : (bytes : List ℕ) (n : ℕ) → length (pairs_from bytes 0 n) ≡ n
-length-pairs_from bytes n = length-map (slots_from bytes 0 n) (pair_of bytes) ∙ length-map-range_with_len (slot_of bytes) 0 n
+length-pairs_from bytes n = length-map (slots_from bytes 0 n) (slot_pair bytes) ∙ length-map-range_with_len (slot_of bytes) 0 n
 
 -- the bytes of the header
 header_text : (bytes : List ℕ) → length bytes ≡ 2048 → IsBytes bytes → IsLaidOut bytes → IsText bytes 0 (bucket_header (bucket_of bytes)) 16

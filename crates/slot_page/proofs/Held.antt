@@ -7,7 +7,7 @@ use Rattle.page_model.specs.Slots.{Slot as Spelled}
 use Rattle.page_model.specs.Reading.{slot_of, slots_from, key_of}
 use Rattle.slot_page.specs.declared.slot.Slot.{Slot}
 use Rattle.slot_page.specs.Slots.{as_spelled, slot_at, first_slots}
-use Rattle.slot_page.specs.Layout.{HaveDistinctKeys}
+use Rattle.slot_page.specs.Layout.{SlotsHaveDistinctKeys}
 
 -- no two of the slots have one key
 abbrev pub SpelledDistinct : List ℕ → List Spelled → Type 0
@@ -23,7 +23,7 @@ pub first_are : (bytes : List ℕ) (n : ℕ) → map as_spelled (first_slots byt
 first_are bytes n = slots_at bytes (range_with_len 0 n)
 
 -- distinct keys of the slots of the code are such of the slots that are spelled
-to_spelled : (bytes : List ℕ) (ss : List Slot) → HaveDistinctKeys bytes ss → SpelledDistinct bytes (map as_spelled ss)
+to_spelled : (bytes : List ℕ) (ss : List Slot) → SlotsHaveDistinctKeys bytes ss → SpelledDistinct bytes (map as_spelled ss)
 to_spelled bytes ss h i j d less lt =
     let blank : Slot = record { offset = 0; key_len = 0; content_len = 0 } in
     let inside : j < length ss = omega (arith, length-map ss as_spelled) in
@@ -32,16 +32,16 @@ to_spelled bytes ss h i j d less lt =
     λ same. h i j blank less inside (ap (key_of bytes) (sym first) ∙ same ∙ ap (key_of bytes) second)
 
 -- and back
-to_held : (bytes : List ℕ) (ss : List Slot) → SpelledDistinct bytes (map as_spelled ss) → HaveDistinctKeys bytes ss
+to_held : (bytes : List ℕ) (ss : List Slot) → SpelledDistinct bytes (map as_spelled ss) → SlotsHaveDistinctKeys bytes ss
 to_held bytes ss h i j d less lt =
     let first = get_or-map as_spelled ss i d (as_spelled d) (omega arith) in
     let second = get_or-map as_spelled ss j d (as_spelled d) lt in
     λ same. h i j (as_spelled d) less (omega (arith, length-map ss as_spelled)) (ap (key_of bytes) first ∙ same ∙ ap (key_of bytes) (sym second))
 
 -- the same of the first n slots
-pub distinct_spelled : (bytes : List ℕ) (n : ℕ) → HaveDistinctKeys bytes (first_slots bytes n) → SpelledDistinct bytes (slots_from bytes 0 n)
+pub distinct_spelled : (bytes : List ℕ) (n : ℕ) → SlotsHaveDistinctKeys bytes (first_slots bytes n) → SpelledDistinct bytes (slots_from bytes 0 n)
 distinct_spelled bytes n h = subst (SpelledDistinct bytes) (first_are bytes n) (to_spelled bytes (first_slots bytes n) h)
 
 -- and back
-pub distinct_held : (bytes : List ℕ) (n : ℕ) → SpelledDistinct bytes (slots_from bytes 0 n) → HaveDistinctKeys bytes (first_slots bytes n)
+pub distinct_held : (bytes : List ℕ) (n : ℕ) → SpelledDistinct bytes (slots_from bytes 0 n) → SlotsHaveDistinctKeys bytes (first_slots bytes n)
 distinct_held bytes n h = to_held bytes (first_slots bytes n) (subst (SpelledDistinct bytes) (sym (first_are bytes n)) h)

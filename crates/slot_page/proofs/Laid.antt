@@ -7,10 +7,10 @@ use Rattle.dbm_model.specs.Pairs.{Pair}
 use Rattle.page_model.specs.Pages.{Bucket}
 use Rattle.page_model.specs.Slots.{Slot, size, total_size, slot_ending, slots_ending}
 use Rattle.page_model.specs.Spelling.{bucket_spelling}
-use Rattle.page_model.specs.Reading.{slot_count, low, slot_of, slots_from, pair_of}
+use Rattle.page_model.specs.Reading.{slot_count, low, slot_of, slots_from, slot_pair}
 use Rattle.page_model.specs.Valid.{IsBucket}
 use Rattle.page_model.proofs.Buckets.{stands}
-use Rattle.slot_page.specs.Layout.{end_of, AreInPlace, HaveDistinctKeys, IsLaidOut}
+use Rattle.slot_page.specs.Layout.{end_of, AreInPlace, SlotsHaveDistinctKeys, IsLaidOut}
 use Rattle.slot_page.specs.Slots.{first_slots}
 use Rattle.slot_page.proofs.Held.{SpelledDistinct, distinct_held}
 use Rattle.slot_page.proofs.Layouts.{end_of-more}
@@ -37,12 +37,12 @@ places_again bytes (p ∷ ps) i end le at h =
     )
 
 -- distinct keys of pairs are distinct keys of slots
-distinct_again : (bytes : List ℕ) (ss : List Slot) (ps : List Pair) → map (pair_of bytes) ss ≡ ps → AllPairs (λ p q. p.0 ≢ q.0) ps → SpelledDistinct bytes ss
+distinct_again : (bytes : List ℕ) (ss : List Slot) (ps : List Pair) → map (slot_pair bytes) ss ≡ ps → AllPairs (λ p q. p.0 ≢ q.0) ps → SpelledDistinct bytes ss
 distinct_again bytes ss ps e h i j d less lt =
     let blank : Pair = ([], []) in
-    let first : get_or ps i blank ≡ pair_of bytes (get_or ss i d) = ap (λ (qs : List Pair). get_or qs i blank) (sym e) ∙ get_or-map (pair_of bytes) ss i d blank (omega arith) in
-    let second : get_or ps j blank ≡ pair_of bytes (get_or ss j d) = ap (λ (qs : List Pair). get_or qs j blank) (sym e) ∙ get_or-map (pair_of bytes) ss j d blank lt in
-    λ same. h i j blank less (omega (arith, ap length e, length-map ss (pair_of bytes))) (ap (λ (p : Pair). p.0) first ∙ same ∙ sym (ap (λ (p : Pair). p.0) second))
+    let first : get_or ps i blank ≡ slot_pair bytes (get_or ss i d) = ap (λ (qs : List Pair). get_or qs i blank) (sym e) ∙ get_or-map (slot_pair bytes) ss i d blank (omega arith) in
+    let second : get_or ps j blank ≡ slot_pair bytes (get_or ss j d) = ap (λ (qs : List Pair). get_or qs j blank) (sym e) ∙ get_or-map (slot_pair bytes) ss j d blank lt in
+    λ same. h i j blank less (omega (arith, ap length e, length-map ss (slot_pair bytes))) (ap (λ (p : Pair). p.0) first ∙ same ∙ sym (ap (λ (p : Pair). p.0) second))
 
 -- each test holds of a spelled page
 pub laid_out_if_spelled : (bytes : List ℕ) (b : Bucket) → IsBucket b → bytes ≡ bucket_spelling b → IsLaidOut bytes
@@ -62,5 +62,5 @@ laid_out_if_spelled bytes b is e =
       in_place = subst (AreInPlace bytes) (sym count) in_place;
       low_is = lo ∙ (let g : 2048 - total_size b.pairs ≡ end_of bytes n = omega (arith, ends) in g) ∙ ap (end_of bytes) (sym count);
       gap = λ k from to. s.clear k (omega (arith, count)) (omega (arith, lo));
-      distinct = subst (λ (m : ℕ). HaveDistinctKeys bytes (first_slots bytes m)) (sym count) (distinct_held bytes n (subst (SpelledDistinct bytes) (sym s.slots) (distinct_again bytes (slots_ending 2048 b.pairs) b.pairs s.pairs is.distinct)));
+      distinct = subst (λ (m : ℕ). SlotsHaveDistinctKeys bytes (first_slots bytes m)) (sym count) (distinct_held bytes n (subst (SpelledDistinct bytes) (sym s.slots) (distinct_again bytes (slots_ending 2048 b.pairs) b.pairs s.pairs is.distinct)));
     }

@@ -1,7 +1,7 @@
-pub mod Layouts
+pub mod Adding
+pub mod Found
 pub mod Held
 pub mod Laid
-pub mod Found
+pub mod Layouts
 pub mod Pages
-pub mod Adding
 pub mod Removing

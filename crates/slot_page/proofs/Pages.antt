@@ -10,9 +10,9 @@ use Rattle.page_model.specs.Pages.{Bucket, HeadPage, OverflowPage, bucket}
 use Rattle.page_model.specs.Slots.{Slot, total_size, taken, slots_ending, slots_bytes, records, room_of}
 use Rattle.page_model.specs.Spelling.{bucket_spelling}
 use Rattle.page_model.specs.Valid.{IsBucket}
-use Rattle.page_model.specs.Reading.{own_number, kind_of, next_of, slot_count, low, key_of, content_of, slot_of, slots_from, pair_of, bucket_of, body_of}
+use Rattle.page_model.specs.Reading.{own_number, kind_of, next_of, slot_count, low, key_of, content_of, slot_of, slots_from, slot_pair, bucket_of, body_of}
 use Rattle.slot_page.specs.Layout.{IsLaidOut}
-use Rattle.slot_page.specs.Contents.{IsBucketPage, Holds, KeepsHeader, HasKeyAt, pairs_of, with_pairs, with_next}
+use Rattle.slot_page.specs.Contents.{IsBucketPage, HasPairs, KeepsHeader, HasKeyAt, page_pairs, with_pairs, with_next}
 use Rattle.page_model.proofs.Buckets.{length-bucket_spelling, header_again, bucket_again}
 use Rattle.page_model.proofs.Bodies.{body_is}
 use Rattle.slot_page.proofs.Layouts.{ends_inside}
@@ -30,8 +30,8 @@ is_page bytes len fits h = let both = spelled_if_laid_out bytes len fits h in re
 
 -- what the fields of a bucket page say of its pairs
 pub record Counted (bytes : List ℕ) : Type 0 where
-  pub count_is : slot_count bytes ≡ length (pairs_of bytes)
-  pub low_is : low bytes + total_size (pairs_of bytes) ≡ 2048
+  pub count_is : slot_count bytes ≡ length (page_pairs bytes)
+  pub low_is : low bytes + total_size (page_pairs bytes) ≡ 2048
   pub room_is : 16 + 6 * slot_count bytes ≤ low bytes
   pub inside : (i : ℕ) → i < slot_count bytes → (slot_of bytes i).offset + (slot_of bytes i).key_len + (slot_of bytes i).content_len ≤ 2048
 
@@ -50,30 +50,30 @@ counted bytes h =
     record { count_is = sym (length-pairs_from bytes n); low_is = omega (arith, total, l.low_is); room_is = l.room; inside = ends_inside bytes n l.in_place }
 
 -- pair i is that of slot i
-pub pair_is : (bytes : List ℕ) (i : ℕ) → i < slot_count bytes → HoldsAt (λ p. p ≡ pair_of bytes (slot_of bytes i)) (pairs_of bytes) i
+pub pair_is : (bytes : List ℕ) (i : ℕ) → i < slot_count bytes → HoldsAt (λ p. p ≡ slot_pair bytes (slot_of bytes i)) (page_pairs bytes) i
 unfolding bucket_of
 pair_is bytes i lt d =
     let n = slot_count bytes in
     let blank : Slot = record { offset = 0; key_len = 0; content_len = 0 } in
-    get_or-map (pair_of bytes) (slots_from bytes 0 n) i blank d (omega (arith, length-map-range_with_len (slot_of bytes) 0 n))
-    ∙ ap (pair_of bytes) (get_or-map-range_with_len (slot_of bytes) 0 n i i blank lt (omega arith))
+    get_or-map (slot_pair bytes) (slots_from bytes 0 n) i blank d (omega (arith, length-map-range_with_len (slot_of bytes) 0 n))
+    ∙ ap (slot_pair bytes) (get_or-map-range_with_len (slot_of bytes) 0 n i i blank lt (omega arith))
 
 -- the slots that are read are those of the pairs
-pub table_of : (bytes : List ℕ) → length bytes ≡ 2048 → IsLaidOut bytes → slots_ending 2048 (pairs_of bytes) ≡ slots_from bytes 0 (slot_count bytes)
+pub table_of : (bytes : List ℕ) → length bytes ≡ 2048 → IsLaidOut bytes → slots_ending 2048 (page_pairs bytes) ≡ slots_from bytes 0 (slot_count bytes)
 unfolding bucket_of
 table_of bytes len h = table_is bytes (slot_count bytes) len h.in_place (slot_count bytes) 0 (omega arith)
 
 -- the record of slot i lies in the page
-pub pair_inside : (bytes : List ℕ) (i : ℕ) (s : Slot) → Counted bytes → i < length (pairs_of bytes) → s ≡ slot_of bytes i → s.offset + s.key_len + s.content_len ≤ 2048
+pub pair_inside : (bytes : List ℕ) (i : ℕ) (s : Slot) → Counted bytes → i < length (page_pairs bytes) → s ≡ slot_of bytes i → s.offset + s.key_len + s.content_len ≤ 2048
 pair_inside bytes i s c lt e = subst (λ (t : Slot). t.offset + t.key_len + t.content_len ≤ 2048) (sym e) (c.inside i (omega (arith, c.count_is)))
 
 -- key and content that are read by a slot are the pair
-pub pair_read : (bytes : List ℕ) (i : ℕ) (s : Slot) (k t : List ℕ) → Counted bytes → i < length (pairs_of bytes) → s ≡ slot_of bytes i → k ≡ key_of bytes s → t ≡ content_of bytes s → HoldsAt (λ p. p ≡ (k, t)) (pairs_of bytes) i
+pub pair_read : (bytes : List ℕ) (i : ℕ) (s : Slot) (k t : List ℕ) → Counted bytes → i < length (page_pairs bytes) → s ≡ slot_of bytes i → k ≡ key_of bytes s → t ≡ content_of bytes s → HoldsAt (λ p. p ≡ (k, t)) (page_pairs bytes) i
 pair_read bytes i s k t c lt e f g d =
-    pair_is bytes i (omega (arith, c.count_is)) d ∙ ap (pair_of bytes) (sym e) ∙ rw (f, g) refl
+    pair_is bytes i (omega (arith, c.count_is)) d ∙ ap (slot_pair bytes) (sym e) ∙ rw (f, g) refl
 
 -- a place with this key
-pub found_at : (bytes key got rest : List ℕ) (i : ℕ) → i < length (pairs_of bytes) → HoldsAt (λ p. p ≡ (got, rest)) (pairs_of bytes) i → got ≡ key → HasKeyAt key (pairs_of bytes) i
+pub found_at : (bytes key got rest : List ℕ) (i : ℕ) → i < length (page_pairs bytes) → HoldsAt (λ p. p ≡ (got, rest)) (page_pairs bytes) i → got ≡ key → HasKeyAt key (page_pairs bytes) i
 found_at bytes key got rest i lt h e = (lt, λ d. ap (λ (p : Pair). p.0) (h d) ∙ e)
 
 -- one more pair has another key
@@ -89,7 +89,7 @@ differs_here ps key got rest i r h says was_false before k d lt =
     ]
 
 -- no two pairs have one key
-pub only_one : (bytes key : List ℕ) (i k : ℕ) → IsBucketPage bytes → HasKeyAt key (pairs_of bytes) i → HasKeyAt key (pairs_of bytes) k → k ≡ i
+pub only_one : (bytes key : List ℕ) (i k : ℕ) → IsBucketPage bytes → HasKeyAt key (page_pairs bytes) i → HasKeyAt key (page_pairs bytes) k → k ≡ i
 only_one bytes key i k h a b =
     let blank : Pair = ([], []) in
     elim (cases_lt k i) [
@@ -101,11 +101,11 @@ only_one bytes key i k h a b =
     ]
 
 -- two pages that say the same have the same bytes
-pub same_bytes : (x y : List ℕ) → IsBucketPage x → IsBucketPage y → own_number x ≡ own_number y → kind_of x ≡ kind_of y → next_of x ≡ next_of y → pairs_of x ≡ pairs_of y → x ≡ y
+pub same_bytes : (x y : List ℕ) → IsBucketPage x → IsBucketPage y → own_number x ≡ own_number y → kind_of x ≡ kind_of y → next_of x ≡ next_of y → page_pairs x ≡ page_pairs y → x ≡ y
 unfolding bucket_of
 same_bytes x y h g own kind next pairs =
-    let same : bucket_of x ≡ bucket_of y = ap (λ (n : ℕ). bucket n (kind_of x) (next_of x) (pairs_of x)) own ∙ ap (λ (n : ℕ). bucket (own_number y) n (next_of x) (pairs_of x)) kind
-    ∙ ap (λ (n : ℕ). bucket (own_number y) (kind_of y) n (pairs_of x)) next ∙ ap (bucket (own_number y) (kind_of y) (next_of y)) pairs in
+    let same : bucket_of x ≡ bucket_of y = ap (λ (n : ℕ). bucket n (kind_of x) (next_of x) (page_pairs x)) own ∙ ap (λ (n : ℕ). bucket (own_number y) n (next_of x) (page_pairs x)) kind
+    ∙ ap (λ (n : ℕ). bucket (own_number y) (kind_of y) n (page_pairs x)) next ∙ ap (bucket (own_number y) (kind_of y) (next_of y)) pairs in
     h.spelled ∙ ap bucket_spelling same ∙ sym g.spelled
 
 -- a page of pairs that is spelled anew with others
@@ -117,7 +117,7 @@ kept old new ps h le e =
     record { own = s.own; kind = s.kind; next = s.next }
 
 -- a page that holds other pairs keeps its header
-pub kept_by : (old new : List ℕ) (ps : List Pair) → Holds old new ps → KeepsHeader old new
+pub kept_by : (old new : List ℕ) (ps : List Pair) → HasPairs old new ps → KeepsHeader old new
 unfolding bucket_of
 kept_by old new ps h = record { own = ap (λ (b : Bucket). b.own) h.says; kind = ap (λ (b : Bucket). b.kind) h.says; next = ap (λ (b : Bucket). b.next) h.says }
 

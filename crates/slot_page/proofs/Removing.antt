@@ -13,7 +13,7 @@ use Rattle.page_model.specs.Slots.{size, total_size, taken, room_of}
 use Rattle.page_model.specs.Spelling.{header, bucket_spelling}
 use Rattle.page_model.specs.Reading.{bucket_of}
 use Rattle.page_model.specs.Valid.{IsBucket}
-use Rattle.slot_page.specs.Contents.{IsBucketPage, pairs_of, with_pairs, IsAbsent, Holds}
+use Rattle.slot_page.specs.Contents.{IsBucketPage, page_pairs, with_pairs, IsAbsent, HasPairs}
 use Rattle.page_model.proofs.Buckets.{bucket_again}
 
 -- the four writes of an empty page
@@ -95,10 +95,10 @@ is_next qs j p fits distinct lt e =
     }
 
 -- the pair that the code reads is the next one
-pub next_kept : (bytes : List ℕ) (i j source : ℕ) (k c : List ℕ) → IsBucketPage bytes → i < length (pairs_of bytes) → j + 1 < length (pairs_of bytes) → (j < i → source ≡ j) → (i ≤ j → source ≡ j + 1)
-    → HoldsAt (λ p. p ≡ (k, c)) (pairs_of bytes) source → IsNext (remove (pairs_of bytes) i) j (k, c)
+pub next_kept : (bytes : List ℕ) (i j source : ℕ) (k c : List ℕ) → IsBucketPage bytes → i < length (page_pairs bytes) → j + 1 < length (page_pairs bytes) → (j < i → source ≡ j) → (i ≤ j → source ≡ j + 1)
+    → HoldsAt (λ p. p ≡ (k, c)) (page_pairs bytes) source → IsNext (remove (page_pairs bytes) i) j (k, c)
 next_kept bytes i j source k c h within inside below above read =
-    let ps = pairs_of bytes in
+    let ps = page_pairs bytes in
     let p : Pair = (k, c) in
     let fits = h.sound.fits in
     let small = taken-remove_le ps i in
@@ -111,28 +111,28 @@ next_kept bytes i j source k c h within inside below above read =
     is_next (remove ps i) j p (omega arith) (all_pairs_remove (λ (q r : Pair). q.0 ≢ r.0) ps i within h.sound.distinct) (omega arith) here
 
 -- one more pair in the page that is written anew
-pub goes_on : (old page new : List ℕ) (qs : List Pair) (j : ℕ) (p : Pair) → IsNext qs j p → Holds old page (take j qs) → (IsAbsent p.0 (pairs_of page) → Holds page new (pairs_of page ++ p ∷ [])) → Holds old new (take (j + 1) qs)
+pub goes_on : (old page new : List ℕ) (qs : List Pair) (j : ℕ) (p : Pair) → IsNext qs j p → HasPairs old page (take j qs) → (IsAbsent p.0 (page_pairs page) → HasPairs page new (page_pairs page ++ p ∷ [])) → HasPairs old new (take (j + 1) qs)
 goes_on old page new qs j p next before adds =
-    let now : pairs_of page ≡ take j qs = ap (λ (b : Bucket). b.pairs) before.says in
+    let now : page_pairs page ≡ take j qs = ap (λ (b : Bucket). b.pairs) before.says in
     let after = adds (subst (IsAbsent p.0) (sym now) next.absent) in
-    let grown : pairs_of page ++ p ∷ [] ≡ take (j + 1) qs = ap (λ (xs : List Pair). xs ++ p ∷ []) now ∙ sym next.more in
+    let grown : page_pairs page ++ p ∷ [] ≡ take (j + 1) qs = ap (λ (xs : List Pair). xs ++ p ∷ []) now ∙ sym next.more in
     record {
       page = after.page;
-      says = after.says ∙ ap (λ (b : Bucket). with_pairs b (pairs_of page ++ p ∷ [])) before.says ∙ ap (with_pairs (bucket_of old)) grown;
+      says = after.says ∙ ap (λ (b : Bucket). with_pairs b (page_pairs page ++ p ∷ [])) before.says ∙ ap (with_pairs (bucket_of old)) grown;
     }
 
 -- it fits
-pub fits_next : (old page : List ℕ) (qs : List Pair) (j : ℕ) (p : Pair) → IsNext qs j p → Holds old page (take j qs) → size p + 6 ≤ room_of (pairs_of page)
+pub fits_next : (old page : List ℕ) (qs : List Pair) (j : ℕ) (p : Pair) → IsNext qs j p → HasPairs old page (take j qs) → size p + 6 ≤ room_of (page_pairs page)
 fits_next old page qs j p next before = subst (λ (xs : List Pair). size p + 6 ≤ room_of xs) (sym (ap (λ (b : Bucket). b.pairs) before.says)) next.fits
 
 -- the empty page holds no pair yet
-pub begins : (old new : List ℕ) (own next : ℕ) → own ≡ u32_at old 0 → next ≡ u32_at old 8 → IsBucketPage new → bucket_of new ≡ blank own (get_or old 4 0) next → Holds old new []
+pub begins : (old new : List ℕ) (own next : ℕ) → own ≡ u32_at old 0 → next ≡ u32_at old 8 → IsBucketPage new → bucket_of new ≡ blank own (get_or old 4 0) next → HasPairs old new []
 unfolding bucket_of
 begins old new own next a b h e = record { page = h; says = e ∙ ap (λ (o : ℕ). blank o (get_or old 4 0) next) a ∙ ap (blank (u32_at old 0) (get_or old 4 0)) b }
 
 -- all are there
-pub ends : (old new : List ℕ) (qs : List Pair) (n : ℕ) → length qs ≤ n → Holds old new (take n qs) → Holds old new qs
-ends old new qs n le h = subst (Holds old new) (take_all n qs le) h
+pub ends : (old new : List ℕ) (qs : List Pair) (n : ℕ) → length qs ≤ n → HasPairs old new (take n qs) → HasPairs old new qs
+ends old new qs n le h = subst (HasPairs old new) (take_all n qs le) h
 
 -- the kind of a bucket page
 pub kind_is : (bytes : List ℕ) → IsBucketPage bytes → (get_or bytes 4 0 ≡ 3) ⊎ (get_or bytes 4 0 ≡ 4)

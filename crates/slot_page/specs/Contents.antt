@@ -12,8 +12,8 @@ pub record IsBucketPage (bytes : List ℕ) : Type 0 where
   pub sound : IsBucket (bucket_of bytes)
   pub spelled : bytes ≡ bucket_spelling (bucket_of bytes)
 
-abbrev pub pairs_of : List ℕ → List Pair
-pairs_of bytes = (bucket_of bytes).pairs
+abbrev pub page_pairs : List ℕ → List Pair
+page_pairs bytes = (bucket_of bytes).pairs
 
 abbrev pub with_pairs : Bucket → List Pair → Bucket
 with_pairs b ps = record b { pairs = ps }
@@ -30,7 +30,7 @@ abbrev pub HasKeyAt : Key → List Pair → ℕ → Type 0
 HasKeyAt key ps i = (i < length ps) × HoldsAt (λ p. p.0 ≡ key) ps i
 
 -- the page now has these pairs, under the same own number, kind and next
-pub record Holds (old new : List ℕ) (ps : List Pair) : Type 0 where
+pub record HasPairs (old new : List ℕ) (ps : List Pair) : Type 0 where
   pub page : IsBucketPage new
   pub says : bucket_of new ≡ with_pairs (bucket_of old) ps
 

@@ -20,8 +20,8 @@ abbrev pub AreInPlace : List ℕ → ℕ → Type 0
 AreInPlace bytes n = (i : ℕ) → i < n → (slot_of bytes i).offset + (slot_of bytes i).key_len + (slot_of bytes i).content_len ≡ end_of bytes i
 
 -- no two of the slots have one key
-abbrev pub HaveDistinctKeys : List ℕ → List Slot → Type 0
-HaveDistinctKeys bytes slots = AllPairs (λ s t. key_of bytes (as_spelled s) ≢ key_of bytes (as_spelled t)) slots
+abbrev pub SlotsHaveDistinctKeys : List ℕ → List Slot → Type 0
+SlotsHaveDistinctKeys bytes slots = AllPairs (λ s t. key_of bytes (as_spelled s) ≢ key_of bytes (as_spelled t)) slots
 
 pub record IsLaidOut (bytes : List ℕ) : Type 0 where
   pub header : HasGoodHeader bytes
@@ -29,4 +29,4 @@ pub record IsLaidOut (bytes : List ℕ) : Type 0 where
   pub in_place : AreInPlace bytes (slot_count bytes)
   pub low_is : low bytes ≡ end_of bytes (slot_count bytes)
   pub gap : IsClear bytes (16 + 6 * slot_count bytes) (low bytes)
-  pub distinct : HaveDistinctKeys bytes (first_slots bytes (slot_count bytes))
+  pub distinct : SlotsHaveDistinctKeys bytes (first_slots bytes (slot_count bytes))

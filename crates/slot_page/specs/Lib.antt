@@ -1,3 +1,3 @@
-pub mod Slots
-pub mod Layout
 pub mod Contents
+pub mod Layout
+pub mod Slots

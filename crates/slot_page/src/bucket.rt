@@ -9,7 +9,7 @@ ghost use Rattle.page_model.specs.Spelling.{bucket_spelling};
 ghost use Rattle.page_model.specs.Reading.{own_number, bucket_of};
 ghost use Rattle.page_model.specs.Valid.{IsBucket};
 ghost use Rattle.slot_page.specs.Slots.{as_spelled};
-ghost use Rattle.slot_page.specs.Contents.{IsBucketPage, Holds, KeepsHeader, HasKeyAt, IsAbsent, pairs_of, with_pairs, with_next};
+ghost use Rattle.slot_page.specs.Contents.{IsBucketPage, HasPairs, KeepsHeader, HasKeyAt, IsAbsent, page_pairs, with_pairs, with_next};
 
 use crate::layout::{COUNT_AT, HEADER_LEN, KIND_AT, LOW_AT, NEXT_AT, OWN_AT, SLOT_LEN};
 use crate::reading::{are_bytes, content_at, key_at, read_slots, slot_at};
@@ -20,8 +20,8 @@ use page_io::{PAGE_LEN, Page};
 pub fn decode(page: &Page) -> Option<Slots>
     ensures exact { IsSome result ↔ IsBucketPage page.now.bytes }
     ensures every { (b : Bucket) → IsBucket b → page.now.bytes ≡ bucket_spelling b → IsSome result × (bucket_of page.now.bytes ≡ b) }
-    ensures count { IfSome result (λ s. length s.items ≡ length (pairs_of page.now.bytes)) }
-    ensures slots { IfSome result (λ s. map as_spelled s.items ≡ slots_ending 2048 (pairs_of page.now.bytes)) }
+    ensures count { IfSome result (λ s. length s.items ≡ length (page_pairs page.now.bytes)) }
+    ensures slots { IfSome result (λ s. map as_spelled s.items ≡ slots_ending 2048 (page_pairs page.now.bytes)) }
 {
     are_bytes(&page.bytes);
     read_slots(page)
@@ -30,8 +30,8 @@ pub fn decode(page: &Page) -> Option<Slots>
 /// How many slots a page has, and where its records begin.
 fn counts(page: &Page) -> (usize, usize)
     requires { IsBucketPage page.now.bytes }
-    ensures count { result.0 ≡ length (pairs_of page.now.bytes) }
-    ensures low { result.1 + total_size (pairs_of page.now.bytes) ≡ 2048 }
+    ensures count { result.0 ≡ length (page_pairs page.now.bytes) }
+    ensures low { result.1 + total_size (page_pairs page.now.bytes) ≡ 2048 }
     ensures room { 16 + 6 * result.0 ≤ result.1 }
 {
     (page.u16_at(COUNT_AT) as usize, page.u16_at(LOW_AT) as usize)
@@ -40,7 +40,7 @@ fn counts(page: &Page) -> (usize, usize)
 /// The free bytes between the slots and the records. A pair takes six of them for its slot.
 pub fn room(page: &Page) -> usize
     requires { IsBucketPage page.now.bytes }
-    ensures { result ≡ room_of (pairs_of page.now.bytes) }
+    ensures { result ≡ room_of (page_pairs page.now.bytes) }
 {
     let (count, low) = counts(page);
     low - HEADER_LEN - SLOT_LEN * count
@@ -49,7 +49,7 @@ pub fn room(page: &Page) -> usize
 /// Whether there is room for one more pair.
 pub fn fits(page: &Page, key: &[u8], content: &[u8]) -> bool
     requires { IsBucketPage page.now.bytes }
-    ensures { IsTrue result ↔ (length key.now + length content.now + 6 ≤ room_of (pairs_of page.now.bytes)) }
+    ensures { IsTrue result ↔ (length key.now + length content.now + 6 ≤ room_of (page_pairs page.now.bytes)) }
 {
     let room = room(page);
     room >= SLOT_LEN && key.len() <= room - SLOT_LEN && content.len() <= room - SLOT_LEN - key.len()
@@ -58,8 +58,8 @@ pub fn fits(page: &Page, key: &[u8], content: &[u8]) -> bool
 /// The key and the content of pair `i`, counted from 0 in the order of the slots.
 pub fn pair_at(page: &Page, i: usize) -> (&[u8], &[u8])
     requires page { IsBucketPage page.now.bytes }
-    requires within { i < length (pairs_of page.now.bytes) }
-    ensures { HoldsAt (λ p. p ≡ (result.0.now, result.1.now)) (pairs_of page.now.bytes) i }
+    requires within { i < length (page_pairs page.now.bytes) }
+    ensures { HoldsAt (λ p. p ≡ (result.0.now, result.1.now)) (page_pairs page.now.bytes) i }
 {
     let slot = slot_at(page, i);
     (key_at(page, slot), content_at(page, slot))
@@ -68,9 +68,9 @@ pub fn pair_at(page: &Page, i: usize) -> (&[u8], &[u8])
 /// Where the pair with this key is.
 pub fn find(page: &Page, key: &[u8]) -> Option<usize>
     requires { IsBucketPage page.now.bytes }
-    ensures none { IfNone result (IsAbsent key.now (pairs_of page.now.bytes)) }
-    ensures found { IfSome result (λ i. HasKeyAt key.now (pairs_of page.now.bytes) i) }
-    ensures only { IfSome result (λ i. (k : ℕ) → HasKeyAt key.now (pairs_of page.now.bytes) k → k ≡ i) }
+    ensures none { IfNone result (IsAbsent key.now (page_pairs page.now.bytes)) }
+    ensures found { IfSome result (λ i. HasKeyAt key.now (page_pairs page.now.bytes) i) }
+    ensures only { IfSome result (λ i. (k : ℕ) → HasKeyAt key.now (page_pairs page.now.bytes) k → k ≡ i) }
 {
     let (count, _) = counts(page);
     for i in 0..count {
@@ -108,9 +108,9 @@ fn set_slot_at(page: &mut Page, i: usize, slot: Slot)
 /// bucket page.
 pub fn add(page: &mut Page, key: &[u8], content: &[u8])
     requires page { IsBucketPage page.old.bytes }
-    requires fits { length key.now + length content.now + 6 ≤ room_of (pairs_of page.old.bytes) }
-    ensures holds { IsAbsent key.now (pairs_of page.old.bytes) → Holds page.old.bytes page.new.bytes (pairs_of page.old.bytes ++ (key.now, content.now) ∷ []) }
-    ensures spelled { page.new.bytes ≡ bucket_spelling (with_pairs (bucket_of page.old.bytes) (pairs_of page.old.bytes ++ (key.now, content.now) ∷ [])) }
+    requires fits { length key.now + length content.now + 6 ≤ room_of (page_pairs page.old.bytes) }
+    ensures holds { IsAbsent key.now (page_pairs page.old.bytes) → HasPairs page.old.bytes page.new.bytes (page_pairs page.old.bytes ++ (key.now, content.now) ∷ []) }
+    ensures spelled { page.new.bytes ≡ bucket_spelling (with_pairs (bucket_of page.old.bytes) (page_pairs page.old.bytes ++ (key.now, content.now) ∷ [])) }
     ensures header { KeepsHeader page.old.bytes page.new.bytes }
 {
     let (count, low) = counts(page);
@@ -153,8 +153,8 @@ fn skipping(i: usize, j: usize) -> usize
 /// Takes pair `i` out. The later ones move up, and the gap takes what it leaves.
 pub fn remove(page: &mut Page, i: usize)
     requires page { IsBucketPage page.old.bytes }
-    requires within { i < length (pairs_of page.old.bytes) }
-    ensures holds { Holds page.old.bytes page.new.bytes (without (pairs_of page.old.bytes) i) }
+    requires within { i < length (page_pairs page.old.bytes) }
+    ensures holds { HasPairs page.old.bytes page.new.bytes (without (page_pairs page.old.bytes) i) }
     ensures header { KeepsHeader page.old.bytes page.new.bytes }
 {
     let (count, _) = counts(page);

@@ -6,12 +6,12 @@ ghost use Rattle.page_model.specs.Pages.{Bucket, HeadPage, OverflowPage, bucket}
 ghost use Rattle.page_model.specs.Spelling.{bucket_spelling};
 ghost use Rattle.page_model.specs.Reading.{own_number, kind_of, next_of, bucket_of, body_of};
 ghost use Rattle.page_model.specs.Valid.{IsBucket};
-ghost use Rattle.slot_page.specs.Contents.{IsBucketPage, pairs_of};
+ghost use Rattle.slot_page.specs.Contents.{IsBucketPage, page_pairs};
 
 /// Under an own number, a kind and a next page a list of pairs has one spelling: two pages that say these have the same
 /// bytes.
 pub fn one_spelling()
-    ensures { (x y : List ℕ) → IsBucketPage x → IsBucketPage y → own_number x ≡ own_number y → kind_of x ≡ kind_of y → next_of x ≡ next_of y → pairs_of x ≡ pairs_of y
+    ensures { (x y : List ℕ) → IsBucketPage x → IsBucketPage y → own_number x ≡ own_number y → kind_of x ≡ kind_of y → next_of x ≡ next_of y → page_pairs x ≡ page_pairs y
         → x ≡ y }
 {}
 

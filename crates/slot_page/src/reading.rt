@@ -3,7 +3,7 @@
 ghost use Rattle.std.specs.Prelude.{◌≡◌, ◌≢◌, ◌+◌, ◌*◌, ◌<◌, ◌≤◌, ◌↔◌, ℕ, slice_index, IsTrue, IsSome, IfSome, All, take, length};
 ghost use Rattle.page_model.specs.Reading.{slot_count, key_of, content_of, IsClear};
 ghost use Rattle.slot_page.specs.Slots.{as_spelled, slot_at, first_slots};
-ghost use Rattle.slot_page.specs.Layout.{HasGoodHeader, AreInPlace, HaveDistinctKeys, IsLaidOut, end_of};
+ghost use Rattle.slot_page.specs.Layout.{HasGoodHeader, AreInPlace, SlotsHaveDistinctKeys, IsLaidOut, end_of};
 
 use crate::layout::{COUNT_AT, HEAD, HEADER_LEN, KIND_AT, LOW_AT, OVERFLOW, SLOT_LEN};
 use crate::slot::{Slot, Slots};
@@ -89,7 +89,7 @@ pub fn content_at(page: &Page, slot: Slot) -> &[u8]
 /// Whether no two of the slots have one key.
 fn have_distinct_keys(page: &Page, slots: &[Slot]) -> bool
     requires { All (λ s. s.offset + s.key_len ≤ 2048) slots.now }
-    ensures { IsTrue result ↔ HaveDistinctKeys page.now.bytes slots.now }
+    ensures { IsTrue result ↔ SlotsHaveDistinctKeys page.now.bytes slots.now }
 {
     for j in 0..slots.len() {
         let key = key_at(page, slots[j]);

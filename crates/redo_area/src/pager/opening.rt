@@ -3,7 +3,7 @@ ghost use Rattle.std.specs.Prelude.{◌≡◌, ◌≢◌, ◌≤◌, ◌<◌, �
 ghost use Rattle.sect_dev.specs.Device.{Image, IsImageOf, LeavesOnly};
 ghost use Rattle.page_io.specs.Store.{bytes_of, blank, file_of};
 ghost use Rattle.redo_commit.specs.File.{settled, SettlesAsBefore, IsBlankOr};
-ghost use Rattle.redo_area.specs.Rests.{SettlesTo};
+ghost use Rattle.redo_area.specs.Settling.{SettlesTo};
 ghost use Rattle.redo_area.specs.Opening.{refusal_of, SaysArmed, IsFresh, IsRefused, HasOpenCause};
 ghost use Rattle.redo_area.specs.Pagers.{device_of, device_after};
 ghost use Rattle.redo_area.specs.Reading.{OnlyReads};

@@ -5,8 +5,8 @@ use Rattle.page_model.specs.Pages.{Body, Bucket}
 use Rattle.page_model.specs.Reading.{own_number, body_of, bucket_of}
 use Rattle.page_model.specs.Chain.{numbers}
 use Rattle.page_io.specs.Page as model
-use Rattle.page_io.specs.Store.{State}
-use Rattle.page_io.specs.Views.{said, MayEnd}
+use Rattle.page_io.specs.Store.{StoreState}
+use Rattle.page_io.specs.Views.{body_at, MayEnd}
 use Rattle.page_io.specs.declared.store.PageFault.TheVariants.{Damaged}
 use Rattle.page_io.proofs.Views.{stages_then, same_said, known_below}
 use Rattle.free_pages.specs.FreeList.{IsFreeList}
@@ -40,7 +40,7 @@ pub returns-then-spot-clause-may_end : goal.returns-then-spot-clause-may_end
 returns-then-spot-clause-may_end g c may =
     let own = (header_of _ _ _ _ _ c.in_ok-spot.ensures.page.link).own in
     let below = known_below _ _ _ may c.in_ok-spot.ensures.known.1 in
-    let still = subst (λ (st : State). MayEnd st c.args.space.now.file_end) (sym c.find_spot.ensures.reads.same) may in
+    let still = subst (λ (st : StoreState). MayEnd st c.args.space.now.file_end) (sym c.find_spot.ensures.reads.same) may in
     if_ok c.stage_page.result (c.stage_page.ensures.may_end c.args.space.now.file_end (omega (arith, own_same c.add.new.page.bytes, c.add.ensures.header.own, own, below)) still)
 
 pub returns-then-spot-clause-exact : goal.returns-then-spot-clause-exact
@@ -52,7 +52,7 @@ returns-then-spot-clause-exact g c honest chain s placed none =
     let own : own_number c.add.new.page.bytes ≡ c.in_ok-spot.spot.page = c.add.ensures.header.own ∙ (header_of _ _ _ _ _ found.link).own in
     let number = own_same c.add.new.page.bytes ∙ own in
     on_ok c.stage_page.result (c.stage_page.ensures.says h1) (λ says.
-    let at' = said g.S.PageStore c.stage_page.new.store in
+    let at' = body_at g.S.PageStore c.stage_page.new.store in
     let read : at' c.in_ok-spot.spot.page ≡ body_of c.in_ok-spot.spot.page c.add.new.page.bytes = subst (λ (n : ℕ). at' n ≡ body_of n c.add.new.page.bytes) number says in
     let here = added_says at' c.find_spot.new.page.bytes c.add.new.page.bytes _ _ found.before p found.link (c.add.ensures.holds (lacks _ c.args.space.now c.args.head p chain s _ _ placed found none)) read in
     put_here _ _ c.args.head p chain s _ _ placed found at' c.if-spot.true here
@@ -80,7 +80,7 @@ pub returns-clause-may_end : goal.returns-clause-may_end
 returns-clause-may_end g c may =
     let own = (header_of _ _ _ _ _ c.in_ok-spot.ensures.page.link).own in
     let new_own : own_number c.add-2.new.page.bytes ≡ c.in_ok-taken.taken = c.add-2.ensures.header.own ∙ sym (own_is c.empty-last.result.bytes) ∙ ap (λ (b : Bucket). b.own) c.empty-last.ensures.says in
-    let found = subst (λ (st : State). MayEnd st c.args.space.now.file_end) (sym c.find_spot.ensures.reads.same) may in
+    let found = subst (λ (st : StoreState). MayEnd st c.args.space.now.file_end) (sym c.find_spot.ensures.reads.same) may in
     let with_new = c.in_ok-taken.ensures.may_end found in
     let end = c.take.new.space.file_end in
     let staged = c.in_ok-stage_page.ensures.may_end_with end (with_own _ _ _ _ _ c.take.ensures.reads.same (sym (own_same c.add-2.new.page.bytes ∙ new_own)) with_new) in
@@ -91,8 +91,8 @@ pub returns-clause-exact : goal.returns-clause-exact
 returns-clause-exact g c honest chain s placed none =
     let st = g.S.PageStore in
     let p : Pair = (c.args.key.now, c.args.content.now) in
-    let at = said st c.args.store.now in
-    let at' = said st c.stage_page-3.new.store in
+    let at = body_at st c.args.store.now in
+    let at' = body_at st c.stage_page-3.new.store in
     let page = c.in_ok-spot.spot.page in
     let new = c.in_ok-taken.taken in
     let found = c.in_ok-spot.ensures.found honest in
@@ -108,7 +108,7 @@ returns-clause-exact g c honest chain s placed none =
     let others : (n : ℕ) → (n ≡ page → ⊥) → (n ≡ new → ⊥) → at' n ≡ at n = λ n one two.
     c.stage_page-3.ensures.others h3 n (λ e. one (e ∙ page_own)) ∙ c.stage_page-2.ensures.others h2 n (λ e. two (e ∙ new_own)) ∙ ap (λ (f : ℕ → Body). f n) same2 in
     let there : at' new ≡ body_of new c.add-2.new.page.bytes =
-    c.stage_page-3.ensures.others h3 new (λ e. apart (e ∙ page_own)) ∙ subst (λ (n : ℕ). said st c.stage_page-2.new.store n ≡ body_of n c.add-2.new.page.bytes) new_own (c.in_ok-stage_page.ensures.says h2) in
+    c.stage_page-3.ensures.others h3 new (λ e. apart (e ∙ page_own)) ∙ subst (λ (n : ℕ). body_at st c.stage_page-2.new.store n ≡ body_of n c.add-2.new.page.bytes) new_own (c.in_ok-stage_page.ensures.says h2) in
     let last = fresh_says at' c.empty-last.result.bytes c.add-2.new.page.bytes new p c.empty-last.ensures.page c.empty-last.ensures.says (c.add-2.ensures.holds (absent_none c.args.key.now c.empty-last.result.bytes new c.empty-last.ensures.says)) there in
     on_ok c.stage_page-3.result (c.stage_page-3.ensures.says h3) (λ says.
     let read = subst (λ (n : ℕ). at' n ≡ body_of n c.set_next.new.page.bytes) page_own says in
@@ -118,5 +118,5 @@ returns-clause-exact g c honest chain s placed none =
 pub returns-in_err-taken-clause-room : goal.returns-in_err-taken-clause-room
 returns-in_err-taken-clause-room g c honest chain s placed fits none =
     let p : Pair = (c.args.key.now, c.args.content.now) in
-    let full = no_room (said g.S.PageStore c.args.store.now) c.args.space.now c.args.head p chain s _ _ placed (c.in_ok-spot.ensures.found honest) c.if-spot.false in
+    let full = no_room (body_at g.S.PageStore c.args.store.now) c.args.space.now c.args.head p chain s _ _ placed (c.in_ok-spot.ensures.found honest) c.if-spot.false in
     absurd (let e = sym fits ∙ full in cc)

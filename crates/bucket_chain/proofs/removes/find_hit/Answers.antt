@@ -1,9 +1,9 @@
 use Rattle.std.proofs.Common.{◌≡◌, inl, inr, refl, subst, ap, Err, arith}
 use Rattle.std.proofs.lemmas.Result.{err_from_is_err_and}
-use Rattle.page_io.specs.Store.{State, IsKnown}
+use Rattle.page_io.specs.Store.{StoreState, IsKnown}
 use Rattle.page_io.specs.declared.store.PageFault.TheVariants.{Damaged}
 use Rattle.page_io.proofs.Views.{reads_then}
-use Rattle.slot_page.specs.Contents.{pairs_of}
+use Rattle.slot_page.specs.Contents.{page_pairs}
 use Rattle.chain_walks.specs.Walks.{EndsWithout}
 use Rattle.chain_walks.proofs.Headers.{header_of}
 use Rattle.chain_walks.proofs.ReadPages.{reads_none, still_honest, link_before, link_after}
@@ -33,7 +33,7 @@ returns-in_err-next-clause-whole g c honest chain is damaged =
 pub returns-in-Some-clause-held : goal.returns-in-Some-clause-held
 returns-in-Some-clause-held g c = record {
   some = c.in_ok-next.ensures.known.0;
-  known = subst (λ (st : State). IsKnown st c.loop-step.at) c.loop-step.invariant.reads.same c.in_ok-next.ensures.known.1;
+  known = subst (λ (st : StoreState). IsKnown st c.loop-step.at) c.loop-step.invariant.reads.same c.in_ok-next.ensures.known.1;
   own = (header_of _ _ _ _ _ c.in_ok-next.ensures.link).own;
   page = c.in_ok-next.ensures.link.page;
   has = c.in-Some.ensures.found;
@@ -44,7 +44,7 @@ pub returns-in-Some-clause-walked : goal.returns-in-Some-clause-walked
 returns-in-Some-clause-walked g c honest =
     let bytes = c.read_link.new.page.bytes in
     let link = link_before g.S.PageStore _ _ c.loop-step.invariant.reads honest _ _ _ _ c.in_ok-next.ensures.says in
-    track_hits _ _ _ _ _ _ _ _ (c.loop-step.invariant.walked honest) _ (pairs_of bytes) link c.in_ok-next.ensures.known.0 bytes c.in-Some.slot c.in_ok-next.ensures.link refl c.in-Some.ensures.found
+    track_hits _ _ _ _ _ _ _ _ (c.loop-step.invariant.walked honest) _ (page_pairs bytes) link c.in_ok-next.ensures.known.0 bytes c.in-Some.slot c.in_ok-next.ensures.link refl c.in-Some.ensures.found
 
 pub returns-then-next-eq0-clause-walked : goal.returns-then-next-eq0-clause-walked
 returns-then-next-eq0-clause-walked g c honest =

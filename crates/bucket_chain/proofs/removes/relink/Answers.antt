@@ -3,10 +3,10 @@ use Rattle.dbm_model.specs.Pairs.{Pair}
 use Rattle.page_model.specs.Pages.{Body}
 use Rattle.page_model.specs.Reading.{body_of}
 use Rattle.page_io.specs.Page.{own_number}
-use Rattle.page_io.specs.Store.{State}
-use Rattle.page_io.specs.Views.{said, MayEnd}
+use Rattle.page_io.specs.Store.{StoreState}
+use Rattle.page_io.specs.Views.{body_at, MayEnd}
 use Rattle.page_io.proofs.Views.{same_said, known_below}
-use Rattle.slot_page.specs.Contents.{pairs_of}
+use Rattle.slot_page.specs.Contents.{page_pairs}
 use Rattle.chain_walks.specs.Links.{SaysLink}
 use Rattle.chain_walks.proofs.Headers.{header_of}
 use Rattle.chain_walks.proofs.LinkBodies.{says_link}
@@ -28,13 +28,13 @@ number g c = own_same c.set_next.new.page.bytes ∙ c.set_next.ensures.own ∙ (
 pub returns-clause-may_end : goal.returns-clause-may_end
 returns-clause-may_end g c end may =
     let below = known_below (g.S.PageStore.state c.args.store.now) end c.args.n may c.in_ok-read_link.ensures.known.1 in
-    if_ok c.stage_page.result (c.stage_page.ensures.may_end end (omega (arith, number g c, below)) (subst (λ (st : State). MayEnd st end) (sym c.in_ok-read_link.ensures.reads.same) may))
+    if_ok c.stage_page.result (c.stage_page.ensures.may_end end (omega (arith, number g c, below)) (subst (λ (st : StoreState). MayEnd st end) (sym c.in_ok-read_link.ensures.reads.same) may))
 
 pub returns-clause-says : goal.returns-clause-says
 returns-clause-says g c honest was pairs link =
     let bytes = c.set_next.new.page.bytes in
-    let at' = said g.S.PageStore c.stage_page.new.store in
-    let read = pairs_of c.read_link.new.page.bytes in
+    let at' = body_at g.S.PageStore c.stage_page.new.store in
+    let read = page_pairs c.read_link.new.page.bytes in
     let same : read ≡ pairs = (one_next _ _ _ _ _ read pairs (c.in_ok-read_link.ensures.says honest) link).1 in
     let linked = link_linked _ bytes _ _ _ c.args.next c.in_ok-read_link.ensures.link c.set_next.ensures.page c.set_next.ensures.says in
     on_ok c.stage_page.result (c.stage_page.ensures.says (still_honest g.S.PageStore _ _ c.in_ok-read_link.ensures.reads honest)) (λ says.

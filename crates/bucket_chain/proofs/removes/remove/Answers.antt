@@ -3,8 +3,8 @@ use Rattle.std.proofs.lemmas.Result.{err_from_is_err_and}
 use Rattle.page_model.specs.Pages.{Body}
 use Rattle.page_model.specs.Reading.{body_of}
 use Rattle.page_io.specs.Page.{own_number}
-use Rattle.page_io.specs.Store.{State}
-use Rattle.page_io.specs.Views.{said, MayEnd}
+use Rattle.page_io.specs.Store.{StoreState}
+use Rattle.page_io.specs.Views.{body_at, MayEnd}
 use Rattle.page_io.specs.declared.store.PageFault.TheVariants.{Damaged}
 use Rattle.page_io.proofs.Views.{same_said, known_below}
 use Rattle.bucket_chain.specs.Hits.{IsHitOrNone, IsHeldHit}
@@ -20,18 +20,18 @@ use Rattle.bucket_chain.proofs.removes.remove.Goals.{else-hit-ne0-via-then-hit-n
 
 pub returns-in_default-clause-exact : goal.returns-in_default-clause-exact
 returns-in_default-clause-exact g c honest chain s placed once =
-    let at = said g.S.PageStore c.args.store.now in
+    let at = body_at g.S.PageStore c.args.store.now in
     let key = c.args.key.now in
     let walked = subst (IsHitOrNone at c.args.head key c.find_hit.new.page.bytes) c.in_default.is (c.in_ok-hit.ensures.walked honest) in
     let none = not_found at s.end c.args.head chain key placed.chain_is walked in
     record {
       was = (λ e. absurd (cc), λ some. absurd (omega (arith, some, none.0)));
-      left = unchanged at (said g.S.PageStore c.find_hit.new.store) c.args.space.now c.args.head chain s key (same_said g.S.PageStore _ _ c.in_ok-hit.ensures.reads honest) placed none.1 none.2;
+      left = unchanged at (body_at g.S.PageStore c.find_hit.new.store) c.args.space.now c.args.head chain s key (same_said g.S.PageStore _ _ c.in_ok-hit.ensures.reads honest) placed none.1 none.2;
     }
 
 pub returns-in_err-relink-clause-whole : goal.returns-in_err-relink-clause-whole
 returns-in_err-relink-clause-whole g c honest chain s placed once damaged =
-    let at = said g.S.PageStore c.args.store.now in
+    let at = body_at g.S.PageStore c.args.store.now in
     let key = c.args.key.now in
     let bytes = c.find_hit.new.page.bytes in
     let reads = c.in_ok-hit.ensures.reads in
@@ -45,7 +45,7 @@ returns-in_err-relink-clause-whole g c honest chain s placed once damaged =
 
 pub returns-then-slots-eq1-clause-walked : goal.returns-then-slots-eq1-clause-walked
 returns-then-slots-eq1-clause-walked g c honest =
-    let at = said g.S.PageStore c.args.store.now in
+    let at = body_at g.S.PageStore c.args.store.now in
     hit_walk at c.args.head c.args.key.now c.find_hit.new.page.bytes c.in-Some.hit (subst (IsHitOrNone at c.args.head c.args.key.now c.find_hit.new.page.bytes) c.in-Some.is (c.in_ok-hit.ensures.walked honest))
 
 pub returns-then-slots-eq1-clause-may_end : goal.returns-then-slots-eq1-clause-may_end
@@ -54,11 +54,11 @@ returns-then-slots-eq1-clause-may_end g c may =
     let end = c.args.space.now.file_end in
     let held = subst (λ (o : Option Hit). IfSome o (IsHeldHit before c.args.key.now c.find_hit.new.page.bytes)) c.in-Some.is c.in_ok-hit.ensures.held in
     let below = known_below before end c.in-Some.hit.page may held.known in
-    c.in_ok-give.ensures.may_end below (c.in_ok-relink.ensures.may_end end (subst (λ (st : State). MayEnd st end) (sym c.in_ok-hit.ensures.reads.same) may))
+    c.in_ok-give.ensures.may_end below (c.in_ok-relink.ensures.may_end end (subst (λ (st : StoreState). MayEnd st end) (sym c.in_ok-hit.ensures.reads.same) may))
 
 pub returns-then-slots-eq1-clause-exact : goal.returns-then-slots-eq1-clause-exact
 returns-then-slots-eq1-clause-exact g c honest chain s placed once =
-    let at = said g.S.PageStore c.args.store.now in
+    let at = body_at g.S.PageStore c.args.store.now in
     let key = c.args.key.now in
     let bytes = c.find_hit.new.page.bytes in
     let reads = c.in_ok-hit.ensures.reads in
@@ -71,7 +71,7 @@ returns-then-slots-eq1-clause-exact g c honest chain s placed once =
     let one : length found.leaf.pairs ≡ 1 = sym (header_of _ _ _ _ _ found.link).count ∙ sym c.slots.ensures ∙ c.if-slots-eq1.true in
     record {
       was = (λ e. omega (arith, found.comes), λ some. refl);
-      left = removed_over at chain key bytes c.in-Some.hit s found placed.apart last (said g.S.PageStore c.relink.new.store) (said g.S.PageStore c.give.new.store) c.args.space.now c.give.new.space placed.free_is
+      left = removed_over at chain key bytes c.in-Some.hit s found placed.apart last (body_at g.S.PageStore c.relink.new.store) (body_at g.S.PageStore c.give.new.store) c.args.space.now c.give.new.space placed.free_is
           (λ m other. c.in_ok-relink.ensures.others honest' m other ∙ ap (λ (a : ℕ → Body). a m) (same_said g.S.PageStore _ _ reads honest))
           (c.in_ok-give.ensures.others honest'')
           (c.in_ok-relink.ensures.says honest' _ _ (link_after g.S.PageStore _ _ reads honest _ _ _ _ links))
@@ -92,7 +92,7 @@ number g c =
 
 pub returns-clause-walked : goal.returns-clause-walked
 returns-clause-walked g c honest =
-    let at = said g.S.PageStore c.args.store.now in
+    let at = body_at g.S.PageStore c.args.store.now in
     hit_walk at c.args.head c.args.key.now c.find_hit.new.page.bytes c.in-Some.hit (subst (IsHitOrNone at c.args.head c.args.key.now c.find_hit.new.page.bytes) c.in-Some.is (c.in_ok-hit.ensures.walked honest))
 
 pub returns-clause-may_end : goal.returns-clause-may_end
@@ -101,12 +101,12 @@ returns-clause-may_end g c may =
     let end = c.args.space.now.file_end in
     let held = subst (λ (o : Option Hit). IfSome o (IsHeldHit before c.args.key.now c.find_hit.new.page.bytes)) c.in-Some.is c.in_ok-hit.ensures.held in
     let below = known_below before end c.in-Some.hit.page may held.known in
-    c.in_ok-stage_page.ensures.may_end end (omega (arith, number g c, below)) (subst (λ (st : State). MayEnd st end) (sym c.in_ok-hit.ensures.reads.same) may)
+    c.in_ok-stage_page.ensures.may_end end (omega (arith, number g c, below)) (subst (λ (st : StoreState). MayEnd st end) (sym c.in_ok-hit.ensures.reads.same) may)
 
 pub returns-clause-exact : goal.returns-clause-exact
 returns-clause-exact g c honest chain s placed once =
-    let at = said g.S.PageStore c.args.store.now in
-    let at' = said g.S.PageStore c.stage_page.new.store in
+    let at = body_at g.S.PageStore c.args.store.now in
+    let at' = body_at g.S.PageStore c.stage_page.new.store in
     let key = c.args.key.now in
     let bytes = c.find_hit.new.page.bytes in
     let new = c.remove.new.page.bytes in

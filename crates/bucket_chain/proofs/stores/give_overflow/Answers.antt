@@ -1,11 +1,11 @@
 use Rattle.std.proofs.Common.{◌≡◌, ℕ, Err, refl, sym, subst, ◌∙◌, ap, arith}
 use Rattle.std.proofs.lemmas.Result.{err_from_is_err_and}
 use Rattle.page_model.specs.Pages.{Body}
-use Rattle.page_io.specs.Store.{State}
-use Rattle.page_io.specs.Views.{said, MayEnd}
+use Rattle.page_io.specs.Store.{StoreState}
+use Rattle.page_io.specs.Views.{body_at, MayEnd}
 use Rattle.page_io.specs.declared.store.PageFault.TheVariants.{Damaged}
 use Rattle.page_io.proofs.Views.{stages_then, same_said, known_below}
-use Rattle.slot_page.specs.Contents.{pairs_of}
+use Rattle.slot_page.specs.Contents.{page_pairs}
 use Rattle.free_pages.specs.declared.free_state.FreeState.{FreeState}
 use Rattle.free_pages.specs.FreeList.{IsFreeList}
 use Rattle.chain_walks.proofs.ReadPages.{reads_none}
@@ -18,7 +18,7 @@ loop-step-init g c = record {
   ends = λ e. e;
   end = refl;
   may_end = λ may. may;
-  given = λ honest. giving_starts (said g.S.PageStore c.args.store.now) c.args.space.now c.args.first;
+  given = λ honest. giving_starts (body_at g.S.PageStore c.args.store.now) c.args.space.now c.args.first;
 }
 
 pub returns-in_err-next-clause-whole : goal.returns-in_err-next-clause-whole
@@ -48,12 +48,12 @@ loop-step-preserved g c =
       end = ap (λ (t : FreeState). t.file_end) ok ∙ c.loop-step.invariant.end;
       may_end = λ may.
           let before = c.loop-step.invariant.may_end may in
-          c.in_ok-give.ensures.may_end (known_below _ _ _ before c.in_ok-next.ensures.known.1) (subst (λ (x : State). MayEnd x c.loop-step.space.file_end) (sym c.in_ok-next.ensures.reads.same) before);
+          c.in_ok-give.ensures.may_end (known_below _ _ _ before c.in_ok-next.ensures.known.1) (subst (λ (x : StoreState). MayEnd x c.loop-step.space.file_end) (sym c.in_ok-next.ensures.reads.same) before);
       given = λ honest.
           let h1 = c.loop-step.invariant.stages.honesty.1 honest in
           let h2 = c.in_ok-next.ensures.reads.stages_only.honesty.1 h1 in
           let same = same_said st _ _ c.in_ok-next.ensures.reads h1 in
-          giving_goes_on (said st c.args.store.now) (said st c.loop-step.store) (said st c.give.new.store) c.args.space.now c.loop-step.space c.give.new.space c.args.first c.loop-step.at c.loop-step._step c.in_ok-next.next (pairs_of c.read_link.new.page.bytes)
+          giving_goes_on (body_at st c.args.store.now) (body_at st c.loop-step.store) (body_at st c.give.new.store) c.args.space.now c.loop-step.space c.give.new.space c.args.first c.loop-step.at c.loop-step._step c.in_ok-next.next (page_pairs c.read_link.new.page.bytes)
           (c.loop-step.invariant.given honest) (c.in_ok-next.ensures.says h1) c.in_ok-next.ensures.known.0 (c.in_ok-give.ensures.free h2)
           (λ m other. c.in_ok-give.ensures.others h2 m other ∙ ap (λ (f : ℕ → Body). f m) same)
           (λ s is apart. c.in_ok-give.ensures.exact h2 s (subst (λ (f : ℕ → Body). IsFreeList f c.loop-step.space s) (sym same) is) apart);

@@ -4,7 +4,7 @@ use Rattle.std.proofs.lemmas.List.{length-map, take_all}
 use Rattle.dbm_model.specs.Pairs.{Pair, IsAllowed}
 use Rattle.page_model.specs.PairLists.{times}
 use Rattle.page_model.specs.Chain.{pairs_in}
-use Rattle.page_io.specs.Views.{said}
+use Rattle.page_io.specs.Views.{body_at}
 use Rattle.page_io.specs.declared.store.PageFault.TheVariants.{Damaged}
 use Rattle.page_io.proofs.Views.{stages_then}
 use Rattle.chain_walks.specs.Pairs.{pair_of}
@@ -42,12 +42,12 @@ loop-pair-preserved g c =
           let allowed : IsAllowed (pair_of item) = subst IsAllowed (ap pair_of here) (c.requires i item c.loop-pair-test.true) in
           let becomes = c.in_ok-put.ensures.exact (c.loop-pair.invariant.stages.honesty.1 honest) _ _ so_far.is_placed (subst (λ (k : List ℕ). times k (pairs_in (fold put_in placed (take i (map pair_of pairs))).0) ≡ 0) (sym c.deref.ensures.value) absent) in
           subst (HavePut _ _ _ _ _ placed) (sym (next_pair pairs i item c.loop-pair-test.true here))
-          (one_put _ (said st c.loop-pair.store) (said st c.put.new.store) _ c.loop-pair.space c.put.new.space _ placed (take i (map pair_of pairs)) (pair_of item) so_far allowed none
-          (subst (λ (p : Pair). BecomesPlaced (said st c.loop-pair.store) (said st c.put.new.store) c.put.new.space (put_in (fold put_in placed (take i (map pair_of pairs))) p)) one becomes));
+          (one_put _ (body_at st c.loop-pair.store) (body_at st c.put.new.store) _ c.loop-pair.space c.put.new.space _ placed (take i (map pair_of pairs)) (pair_of item) so_far allowed none
+          (subst (λ (p : Pair). BecomesPlaced (body_at st c.loop-pair.store) (body_at st c.put.new.store) c.put.new.space (put_in (fold put_in placed (take i (map pair_of pairs))) p)) one becomes));
     }
 
 pub returns-clause-exact : goal.returns-clause-exact
 returns-clause-exact g c honest placed is empty distinct =
     let so_far = c.loop-pair.invariant.put honest placed is empty distinct in
     let all = take_all c.loop-pair.pair-index (map pair_of c.args.pairs.now) (omega (arith, c.loop-pair-test.false, length-map c.args.pairs.now pair_of)) in
-    record { becomes = λ at first. subst (λ (ps : List Pair). BecomesPlaced at (said g.S.PageStore c.loop-pair.store) c.loop-pair.space (fold put_in placed ps)) all (so_far.becomes at first) }
+    record { becomes = λ at first. subst (λ (ps : List Pair). BecomesPlaced at (body_at g.S.PageStore c.loop-pair.store) c.loop-pair.space (fold put_in placed ps)) all (so_far.becomes at first) }

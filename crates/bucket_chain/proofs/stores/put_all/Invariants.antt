@@ -1,5 +1,5 @@
 use Rattle.std.proofs.Common.{◌≡◌, [], map, take}
-use Rattle.page_io.specs.Views.{said, StagesOnly, MayEnd}
+use Rattle.page_io.specs.Views.{body_at, StagesOnly, MayEnd}
 use Rattle.page_model.specs.Chain.{pairs_in}
 use Rattle.free_pages.specs.FreeList.{HasEnds}
 use Rattle.chain_walks.specs.Links.{HaveDistinctKeys}
@@ -13,6 +13,6 @@ invariant-loop-pair g l = record {
   stages : StagesOnly g.S.PageStore l.fn.store l.store;
   ends : HasEnds l.fn.space → HasEnds l.space;
   may_end : MayEnd (g.S.PageStore.state l.fn.store) l.fn.space.file_end → MayEnd (g.S.PageStore.state l.store) l.space.file_end;
-  put : g.S.PageStore.honest l.fn.store → (placed : Placed) → IsPlaced (said g.S.PageStore l.fn.store) l.fn.space l.fn.head placed.0 placed.1 → pairs_in placed.0 ≡ [] → HaveDistinctKeys (map pair_of l.fn.pairs)
-      → HavePut (said g.S.PageStore l.fn.store) (said g.S.PageStore l.store) l.fn.space l.space l.fn.head placed (take l.pair-index (map pair_of l.fn.pairs));
+  put : g.S.PageStore.honest l.fn.store → (placed : Placed) → IsPlaced (body_at g.S.PageStore l.fn.store) l.fn.space l.fn.head placed.0 placed.1 → pairs_in placed.0 ≡ [] → HaveDistinctKeys (map pair_of l.fn.pairs)
+      → HavePut (body_at g.S.PageStore l.fn.store) (body_at g.S.PageStore l.store) l.fn.space l.space l.fn.head placed (take l.pair-index (map pair_of l.fn.pairs));
 }

@@ -2,10 +2,10 @@ use Rattle.std.proofs.Common.{◌≡◌, ◌≤◌, ℕ, Some, Err, sym, ap, ◌
 use Rattle.std.proofs.lemmas.Result.{err_from_is_err_and}
 use Rattle.page_model.specs.Reading.{body_of}
 use Rattle.page_io.specs.Store.{IsKnown}
-use Rattle.page_io.specs.Views.{said}
+use Rattle.page_io.specs.Views.{body_at}
 use Rattle.page_io.specs.declared.store.PageFault.TheVariants.{Damaged}
 use Rattle.page_io.proofs.Views.{unknown_said}
-use Rattle.slot_page.specs.Contents.{pairs_of}
+use Rattle.slot_page.specs.Contents.{page_pairs}
 use Rattle.chain_walks.specs.Links.{SaysLink}
 use Rattle.chain_walks.proofs.LinkBodies.{says_link, is_link, not_other}
 use Rattle.chain_walks.proofs.ReadPages.{read_known, known_some, if_some}
@@ -29,15 +29,15 @@ returns-clause-known g c =
 pub returns-clause-says : goal.returns-clause-says
 returns-clause-says g c honest =
     let bytes = c.read.new.page.bytes in
-    let at = said g.S.PageStore c.args.store.now in
+    let at = body_at g.S.PageStore c.args.store.now in
     let read = ap (body_of c.args.n) (sym (c.in_ok-read.ensures.found honest)) in
-    if_some _ (λ (next : ℕ). SaysLink at c.args.n c.args.kind next (pairs_of bytes)) c.link_of.result c.ok_or.result Damaged c.ok_or.ensures.value
-    c.link_of.ensures.sound (λ next link. says_link at bytes c.args.n c.args.kind next (pairs_of bytes) read c.requires link)
+    if_some _ (λ (next : ℕ). SaysLink at c.args.n c.args.kind next (page_pairs bytes)) c.link_of.result c.ok_or.result Damaged c.ok_or.ensures.value
+    c.link_of.ensures.sound (λ next link. says_link at bytes c.args.n c.args.kind next (page_pairs bytes) read c.requires link)
 
 pub returns-clause-whole : goal.returns-clause-whole
 returns-clause-whole g c honest next pairs some link damaged =
     let bytes = c.read.new.page.bytes in
-    let at = said g.S.PageStore c.args.store.now in
+    let at = body_at g.S.PageStore c.args.store.now in
     let read = ap (body_of c.args.n) (sym (c.in_ok-read.ensures.found honest)) in
     let is : c.link_of.result ≡ Some next = c.link_of.ensures.every next pairs (is_link at bytes c.args.n c.args.kind next pairs read c.requires (omega arith) (omega arith) link) in
     let value = c.ok_or.ensures.value in

@@ -2,7 +2,7 @@ use Rattle.std.proofs.Common.{◌≡◌, inl, inr, map, refl, sym, ap, subst, Er
 use Rattle.std.proofs.lemmas.Result.{err_from_is_err_and}
 use Rattle.std.specs.List.{AllByRecursion}
 use Rattle.dbm_model.specs.Pairs.{IsAllowed}
-use Rattle.page_io.specs.Views.{said}
+use Rattle.page_io.specs.Views.{body_at}
 use Rattle.page_io.specs.declared.store.PageFault.TheVariants.{Damaged}
 use Rattle.page_io.proofs.Views.{reads_then}
 use Rattle.chain_walks.specs.Pairs.{pair_of}
@@ -16,7 +16,7 @@ loop-step-init g c = record {
   kinds = inl refl;
   small = subst (AllByRecursion IsAllowed) (sym (ap (map pair_of) c.new-pairs.ensures.items)) tt;
   reads = reads_none g.S.PageStore c.args.store.now (λ y h left. g.met.S.PageStore.only_now c.args.store.now y h left);
-  loaded = λ honest. none_loaded (said g.S.PageStore c.args.store.now) c.args.head _ (ap (map pair_of) c.new-pairs.ensures.items);
+  loaded = λ honest. none_loaded (body_at g.S.PageStore c.args.store.now) c.args.head _ (ap (map pair_of) c.new-pairs.ensures.items);
 }
 
 pub returns-in_err-next-clause-whole : goal.returns-in_err-next-clause-whole

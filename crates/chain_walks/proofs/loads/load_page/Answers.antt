@@ -1,7 +1,7 @@
 use Rattle.std.proofs.Common.{◌++◌, ◌<◌, ◌≤◌, List, length, map, ap, ◌∙◌, arith}
 use Rattle.std.proofs.lemmas.List.{take_all}
 use Rattle.dbm_model.specs.Pairs.{Pair}
-use Rattle.slot_page.specs.Contents.{pairs_of}
+use Rattle.slot_page.specs.Contents.{page_pairs}
 use Rattle.slot_page.proofs.Pages.{counted}
 use Rattle.chain_walks.specs.Pairs.{pair_of}
 use Rattle.chain_walks.proofs.LoadedPairs.{copied_more}
@@ -12,10 +12,10 @@ load_pair-requires-clause-within c = omega (arith, (counted c.args.page.now.byte
 
 pub loop-slot-preserved : goal.loop-slot-preserved
 loop-slot-preserved c =
-    let within : c.loop-slot.slot < length (pairs_of c.args.page.now.bytes) = omega (arith, (counted c.args.page.now.bytes c.requires).count_is, c.slots-slot-end.ensures) in
-    copied_more (pairs_of c.args.page.now.bytes) _ _ _ c.loop-slot.slot c.in_ok-pair.pair c.loop-slot.invariant within c.in_ok-pair.ensures c.in_ok-push.ensures.items
+    let within : c.loop-slot.slot < length (page_pairs c.args.page.now.bytes) = omega (arith, (counted c.args.page.now.bytes c.requires).count_is, c.slots-slot-end.ensures) in
+    copied_more (page_pairs c.args.page.now.bytes) _ _ _ c.loop-slot.slot c.in_ok-pair.pair c.loop-slot.invariant within c.in_ok-pair.ensures c.in_ok-push.ensures.items
 
 pub returns : goal.returns
 returns c =
-    let all : length (pairs_of c.args.page.now.bytes) ≤ c.loop-slot.slot = omega (arith, (counted c.args.page.now.bytes c.requires).count_is, c.slots-slot-end.ensures) in
-    c.loop-slot.invariant ∙ ap (λ (xs : List Pair). map pair_of c.args.pairs.now.items ++ xs) (take_all c.loop-slot.slot (pairs_of c.args.page.now.bytes) all)
+    let all : length (page_pairs c.args.page.now.bytes) ≤ c.loop-slot.slot = omega (arith, (counted c.args.page.now.bytes c.requires).count_is, c.slots-slot-end.ensures) in
+    c.loop-slot.invariant ∙ ap (λ (xs : List Pair). map pair_of c.args.pairs.now.items ++ xs) (take_all c.loop-slot.slot (page_pairs c.args.page.now.bytes) all)

@@ -2,7 +2,7 @@ use Rattle.std.proofs.Common.{◌≡◌, inr, refl, ap, Err, arith}
 use Rattle.std.proofs.lemmas.Result.{err_from_is_err_and}
 use Rattle.page_io.specs.declared.store.PageFault.TheVariants.{Damaged}
 use Rattle.page_io.proofs.Views.{reads_then}
-use Rattle.slot_page.specs.Contents.{pairs_of}
+use Rattle.slot_page.specs.Contents.{page_pairs}
 use Rattle.chain_walks.specs.Places.{place}
 use Rattle.chain_walks.specs.Walks.{EndsWithout, IsPairAt}
 use Rattle.chain_walks.proofs.ReadPages.{still_honest, link_before, link_after}
@@ -31,7 +31,7 @@ pub returns-in-Some-clause-exact : goal.returns-in-Some-clause-exact
 returns-in-Some-clause-exact g c honest chain is =
     let bytes = c.read_link.new.page.bytes in
     let link = link_before g.S.PageStore _ _ c.loop-step.invariant.reads honest _ _ _ _ c.in_ok-next.ensures.says in
-    looked_up _ _ _ chain c.args.key.now _ _ _ _ (pairs_of bytes) is (c.loop-step.invariant.walked honest) link c.in_ok-next.ensures.known.0 bytes c.in-Some.slot c.in_ok-next.ensures.link.page refl c.in-Some.ensures.found c.in-Some.ensures.only
+    looked_up _ _ _ chain c.args.key.now _ _ _ _ (page_pairs bytes) is (c.loop-step.invariant.walked honest) link c.in_ok-next.ensures.known.0 bytes c.in-Some.slot c.in_ok-next.ensures.link.page refl c.in-Some.ensures.found c.in-Some.ensures.only
 
 pub returns-then-next-eq0-clause-walked : goal.returns-then-next-eq0-clause-walked
 returns-then-next-eq0-clause-walked g c honest =

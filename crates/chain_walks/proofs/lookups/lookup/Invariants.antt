@@ -1,5 +1,5 @@
 use Rattle.std.proofs.Common.{◌≡◌, ◌⊎◌}
-use Rattle.page_io.specs.Views.{said, ReadsOnly}
+use Rattle.page_io.specs.Views.{body_at, ReadsOnly}
 use Rattle.chain_walks.specs.Walks.{LacksKey}
 use Rattle.chain_walks.proofs.Walks.{IsUnderWay}
 use Rattle.chain_walks.proofs.lookups.lookup.Given as goal
@@ -8,5 +8,5 @@ abbrev pub invariant-loop-step : goal.invariant-loop-step
 invariant-loop-step g l = record {
   kinds : (l.kind ≡ 3) ⊎ (l.kind ≡ 4);
   reads : ReadsOnly g.S.PageStore l.fn.store l.store;
-  walked : g.S.PageStore.honest l.fn.store → IsUnderWay (said g.S.PageStore l.fn.store) l.fn.head (LacksKey l.key) l.at l.kind l._step;
+  walked : g.S.PageStore.honest l.fn.store → IsUnderWay (body_at g.S.PageStore l.fn.store) l.fn.head (LacksKey l.key) l.at l.kind l._step;
 }

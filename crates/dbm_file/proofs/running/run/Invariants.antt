@@ -1,6 +1,6 @@
 use Rattle.std.proofs.Common.{◌≡◌, ◌≤◌, length, map, take, drop, vec_len, vec_capacity}
 use Rattle.dbm_model.specs.States.{Handle}
-use Rattle.dbm_file.specs.Answers.{IsRun, Goes}
+use Rattle.dbm_file.specs.Answers.{IsRun, IsSameDatabase}
 use Rattle.dbm_file.specs.Calls.{call_of, reply_of}
 use Rattle.dbm_file.specs.Database.{store_of, IsAt}
 use Rattle.dbm_file.specs.Rooms.{AreRooms, rooms_in}
@@ -9,7 +9,7 @@ use Rattle.dbm_file.proofs.running.run.Given as goal
 abbrev pub invariant-loop-call : goal.invariant-loop-call
 invariant-loop-call g l = record {
   ran : g.S.PageStore.honest (store_of l.initial.db) → (h : Handle) → IsAt l.initial.db h → IsRun l.initial.db l.db h (map call_of (take l.call-index l.calls)) (map reply_of l.replies.items);
-  goes : Goes l.initial.db l.db;
+  goes : IsSameDatabase l.initial.db l.db;
   many : vec_len l.replies ≡ l.call-index;
   fits : length l.calls ≤ vec_capacity l.replies;
   rooms : AreRooms (rooms_in (drop l.call-index l.calls)) l.rooms;

@@ -1,4 +1,4 @@
-use Rattle.dbm_file.specs.Answers.{Goes}
+use Rattle.dbm_file.specs.Answers.{IsSameDatabase}
 use Rattle.dbm_lines.specs.Reading.{IsCounted}
 use Rattle.dbm_load.proofs.Loading.{IsLoading}
 use Rattle.dbm_load.proofs.load.load_lines.Given as goal
@@ -6,6 +6,6 @@ use Rattle.dbm_load.proofs.load.load_lines.Given as goal
 abbrev pub invariant-loop-number : goal.invariant-loop-number
 invariant-loop-number g l = record {
   loading : IsLoading l.initial.db l.db (g.R.Read.remaining l.initial.reader) (g.R.Read.remaining l.reader) l.number;
-  goes : Goes l.initial.db l.db;
+  goes : IsSameDatabase l.initial.db l.db;
   counted : IsCounted (g.R.Read.remaining l.initial.reader) 4294967295 (g.R.Read.remaining l.reader) l.left;
 }

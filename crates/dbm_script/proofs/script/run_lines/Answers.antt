@@ -1,5 +1,5 @@
 use Rattle.std.proofs.Common.{◌≡◌, true, IfSome, is_ok, rules}
-use Rattle.dbm_text.specs.Lines.{call_of}
+use Rattle.dbm_text.specs.Lines.{call_in_line}
 use Rattle.dbm_file.proofs.Runs.{no_run, goes_nowhere, still_goes}
 use Rattle.dbm_lines.specs.Reading.{ReadsLine, IsCounted}
 use Rattle.dbm_lines.proofs.TextLines.{counted_first, counted_on}
@@ -18,7 +18,7 @@ loop-init g c = record {
 pub returns-in_err-map_err-2-clause-stands : goal.returns-in_err-map_err-2-clause-stands
 returns-in_err-map_err-2-clause-stands g c honest start at =
     let h = c.loop.invariant.answered honest start at in
-    stand_with g.S.PageStore _ _ _ start _ _ _ _ (call_of c.read_line-more.new.line.items) _ c.loop.invariant.goes.limit c.answer_line.ensures.goes h
+    stand_with g.S.PageStore _ _ _ start _ _ _ _ (call_in_line c.read_line-more.new.line.items) _ c.loop.invariant.goes.limit c.answer_line.ensures.goes h
     (c.answer_line.ensures.line (c.loop.invariant.goes.honesty.1 honest) h.answered.run.after h.answered.run.is_at)
 
 pub loop-preserved : goal.loop-preserved

@@ -1,12 +1,12 @@
 use Rattle.std.proofs.Common.{◌/◌, inl, sym, ap, ◌∙◌, subst}
 use Rattle.std.specs.FinMap.{empty}
 use Rattle.sect_dev.specs.Device.{IsImageOf, LeavesOnly}
-use Rattle.sect_dev.specs.Moments.{Reads}
+use Rattle.sect_dev.specs.Moments.{IsOutcome}
 use Rattle.redo_commit.specs.File.{settled}
 use Rattle.page_io.specs.Meaning.{ImageStandsFor}
-use Rattle.page_io.specs.Store.{Settled, State, bytes_of, file_pages, overlaid}
+use Rattle.page_io.specs.Store.{Settled, StoreState, bytes_of, file_pages, overlaid}
 use Rattle.page_io.specs.Page.{page_at}
-use Rattle.redo_area.specs.Rests.{only_seen}
+use Rattle.redo_area.specs.Settling.{only_seen}
 use Rattle.page_model.specs.Pages.{Meta}
 use Rattle.file_opening.proofs.EmptyFiles.{settles_still, OldOrEmpty, left_as_before, still_good, still_capacity, state_of}
 use Rattle.file_opening.proofs.emptying.emptied.Goals as goal
@@ -16,7 +16,7 @@ returns-in-Some-clause-any_moment g c honest =
     let dev = g.D.SectorDev in
     let store = c.args.store in
     let rest = store.rests honest c.requires.fresh.usable in
-    subst (λ d. LeavesOnly dev.moment (Reads dev.left_since (settled (dev.sectors store.dev / 4))) store.dev d (OldOrEmpty (file_pages (overlaid (bytes_of store.redo.items) (page_at (dev.seen store.dev))) store.end) c.args.limit)) (sym c.into_dev.ensures)
+    subst (λ d. LeavesOnly dev.moment (IsOutcome dev.left_since (settled (dev.sectors store.dev / 4))) store.dev d (OldOrEmpty (file_pages (overlaid (bytes_of store.redo.items) (page_at (dev.seen store.dev))) store.end) c.args.limit)) (sym c.into_dev.ensures)
     (settles_still dev.moment dev.left_since dev.candidate store.dev (dev.sectors store.dev / 4) _ (λ image left. g.met.D.SectorDev.only_now store.dev image honest left)
     (λ y is. inl (only_seen (dev.sectors store.dev / 4) (dev.candidate store.dev) (dev.seen store.dev) y _ (rest.at_rest c.requires.fresh.writable).stable rest.settles is)))
 
@@ -27,7 +27,7 @@ returns-in-Ok-clause-stands g c honest =
     let m = c.of_empty-meta.result in
     let holds = c.in-Ok.ensures.holds honest in
     let rest = new.rests (c.commit_empty.ensures.honesty.1 honest) in
-    let writable = ap (λ (st : State). st.writable) c.in-Ok.ensures.ok ∙ c.requires.fresh.writable in record {
+    let writable = ap (λ (st : StoreState). st.writable) c.in-Ok.ensures.ok ∙ c.requires.fresh.writable in record {
       holds = λ usable. holds;
       rests = λ usable y left. subst (λ (z : Settled). ImageStandsFor z empty m.limit) (sym (only_seen (dev.sectors new.dev / 4) (dev.candidate new.dev) (dev.seen new.dev) y _ ((rest usable).at_rest writable).stable (rest usable).settles left)) holds.stands;
       limit_is = ap (λ (n : Meta). n.limit) c.of_empty-meta.ensures;

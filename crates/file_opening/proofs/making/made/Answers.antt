@@ -3,12 +3,12 @@ use Rattle.std.specs.FinMap.{empty}
 use Rattle.sect_dev.specs.Moments.{weaker}
 use Rattle.page_model.specs.Meaning.{said_by}
 use Rattle.page_model.specs.Pages.{Meta, MetaPage}
-use Rattle.page_io.specs.Store.{Pages, Settled, State, bytes_of, page_of}
+use Rattle.page_io.specs.Store.{Pages, Settled, StoreState, bytes_of, page_of}
 use Rattle.page_io.specs.Meaning.{FileStandsFor, ImageStandsFor}
-use Rattle.redo_area.specs.Rests.{only_seen}
+use Rattle.redo_area.specs.Settling.{only_seen}
 use Rattle.redo_commit.specs.File.{settled, IsBlankOr}
 use Rattle.redo_area.specs.Pagers.{device_of}
-use Rattle.seg_table.specs.MetaPages.{says}
+use Rattle.seg_table.specs.MetaPages.{model_meta}
 use Rattle.file_opening.specs.Opening.{making_fault}
 use Rattle.file_opening.proofs.NewFiles.{BlankOrNew, blank_or_new}
 use Rattle.file_opening.proofs.making.made.Goals as goal
@@ -21,10 +21,10 @@ returns-in-Ok-clause-stands g c honest =
     let dev = g.D.SectorDev in
     let new = c.in-Ok.store in
     let rest = new.rests (c.in-Ok.ensures.honesty.1 honest) in
-    let writable = ap (λ (st : State). st.writable) c.in-Ok.ensures.state in record {
+    let writable = ap (λ (st : StoreState). st.writable) c.in-Ok.ensures.state in record {
       holds = λ usable. record {
         stands = stands;
-        meta_is = subst (λ (ps : Pages). said_by (page_of ps) 1 ≡ MetaPage (says m)) same c.pages_of_empty.ensures.meta;
+        meta_is = subst (λ (ps : Pages). said_by (page_of ps) 1 ≡ MetaPage (model_meta m)) same c.pages_of_empty.ensures.meta;
       };
       rests = λ usable y left. subst (λ (z : Settled). ImageStandsFor z empty m.limit) (sym (only_seen (dev.sectors new.dev / 4) (dev.candidate new.dev) (dev.seen new.dev) y _ ((rest usable).at_rest writable).stable (rest usable).settles left)) stands;
       limit_is = ap (λ (n : Meta). n.limit) c.of_empty-meta.ensures;

@@ -2,11 +2,11 @@ use Rattle.std.proofs.Common.{◌≡◌, ⊎_elim, inl, inr, ℕ, ◌/◌, Bool,
 use Rattle.std.specs.Prelude.{IfErr}
 use Rattle.std.specs.FinMap.{empty}
 use Rattle.sect_dev.specs.Device.{LeavesOnly}
-use Rattle.sect_dev.specs.Moments.{Reads, weaker}
+use Rattle.sect_dev.specs.Moments.{IsOutcome, weaker}
 use Rattle.page_io.specs.Page.{page_at}
 use Rattle.page_io.specs.Store.{Settled, bytes_of, file_pages, overlaid}
 use Rattle.redo_commit.specs.File.{settled, SettlesAsBefore}
-use Rattle.redo_area.specs.Rests.{SettlesTo, only_seen}
+use Rattle.redo_area.specs.Settling.{SettlesTo, only_seen}
 use Rattle.redo_area.specs.declared.open_fault.OpenFault.TheVariants as redo
 use Rattle.file_opening.specs.OpenFiles.{device_left}
 use Rattle.file_opening.specs.Opening.{writes, early_fault, making_fault, RefusesOpened, IsRefusedOpening, MayRemain}
@@ -113,7 +113,7 @@ returns-in-Err-default-Blank-clause-any_moment g c honest =
     (λ y. ⊎_elim
     (λ none. inl (subst (λ (z : Settled). SettlesTo cap (dev.candidate old) z) (sym none) there))
     (λ made. let asked = was_asked how (dev.sectors new) made.0 in inr (inl (record { asked = asked.0; written = asked.1; on_blank = there }), made.1))))
-    (λ off. subst (λ d. LeavesOnly dev.moment (Reads dev.left_since (settled cap)) old d P) (sym (device_untouched fault new c.made.result (none_for_reading how (dev.sectors new) off) c.made.ensures.untouched)) first)
+    (λ off. subst (λ d. LeavesOnly dev.moment (IsOutcome dev.left_since (settled cap)) old d P) (sym (device_untouched fault new c.made.result (none_for_reading how (dev.sectors new) off) c.made.ensures.untouched)) first)
 
 pub returns-in-Err-default-Blank-clause-stands : goal.returns-in-Err-default-Blank-clause-stands
 returns-in-Err-default-Blank-clause-stands g c honest one stand =

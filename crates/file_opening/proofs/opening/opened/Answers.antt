@@ -6,7 +6,7 @@ use Rattle.page_io.specs.Meaning.{ImageStandsFor}
 use Rattle.page_io.specs.Page.{page_at}
 use Rattle.page_io.specs.Store.{Pages, Settled, bytes_of, file_of, file_pages, overlaid}
 use Rattle.redo_commit.specs.File.{settled}
-use Rattle.redo_area.specs.Rests.{SettlesTo}
+use Rattle.redo_area.specs.Settling.{SettlesTo}
 use Rattle.file_opening.specs.OpenFiles.{device_left}
 use Rattle.file_opening.specs.Opening.{emptying_fault, EmptiesFile}
 use Rattle.file_opening.proofs.EmptyFiles.{OldOrEmpty, settles_run, settles_on}

@@ -1,6 +1,6 @@
 use Rattle.std.proofs.Common.{◌≡◌, ◌∙◌, arith}
 use Rattle.page_io.specs.Page.{own_number}
-use Rattle.page_io.specs.Views.{said, StagesOnly}
+use Rattle.page_io.specs.Views.{body_at, StagesOnly}
 use Rattle.page_io.proofs.Views.{after_stage, staged_said, others_said}
 use Rattle.free_pages.proofs.FreeLists.{given_reads}
 use Rattle.free_pages.proofs.OneStage.{few_staged, may_still_end}
@@ -41,4 +41,4 @@ returns-clause-may_end g c lt may =
 
 pub returns-clause-exact : goal.returns-clause-exact
 returns-clause-exact g c honest s list apart =
-    given_reads (said g.S.PageStore c.args.store.now) (said g.S.PageStore c.stage.new.self) c.args.space.now s c.args.n list apart (returns-clause-free g c honest) (returns-clause-others g c honest)
+    given_reads (body_at g.S.PageStore c.args.store.now) (body_at g.S.PageStore c.stage.new.self) c.args.space.now s c.args.n list apart (returns-clause-free g c honest) (returns-clause-others g c honest)

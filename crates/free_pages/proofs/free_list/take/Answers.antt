@@ -2,7 +2,7 @@ use Rattle.std.proofs.Common.{◌≡◌, Err, ap, arith}
 use Rattle.std.proofs.lemmas.Result.{err_from_is_err_and}
 use Rattle.std.proofs.lemmas.Bool.Decides.{nat_tests}
 use Rattle.page_model.specs.Space.{after_take}
-use Rattle.page_io.specs.Views.{said}
+use Rattle.page_io.specs.Views.{body_at}
 use Rattle.page_io.specs.declared.store.PageFault.TheVariants.{Damaged}
 use Rattle.page_io.proofs.Views.{known_below, end_stays, end_grows}
 use Rattle.free_pages.specs.FreeList.{state_of}
@@ -13,7 +13,7 @@ pub returns-in_err-rest-clause-whole : goal.returns-in_err-rest-clause-whole
 returns-in_err-rest-clause-whole g c honest s list apart damaged =
     let p = err_from_is_err_and c.from_residual.result c.from_residual.ensures.1 in
     let fault : c.in_err-rest.field-0.0 ≡ Damaged = let is = rw (p.1, p.2) at damaged in cc in
-    let first = first_free (said g.S.PageStore c.args.store.now) c.args.space.now s list apart (omega arith) in
+    let first = first_free (body_at g.S.PageStore c.args.store.now) c.args.space.now s list apart (omega arith) in
     c.in_err-rest.ensures.whole honest (state_of (after_take s)) first (ap Err fault)
 
 pub returns-then-space-ne0-clause-may_end : goal.returns-then-space-ne0-clause-may_end
@@ -24,7 +24,7 @@ returns-then-space-ne0-clause-may_end g c may bytes own =
 
 pub returns-then-space-clause-whole : goal.returns-then-space-clause-whole
 returns-then-space-clause-whole g c honest s list apart damaged =
-    let ends = list_ends (said g.S.PageStore c.args.store.now) c.args.space.now s list apart in
+    let ends = list_ends (body_at g.S.PageStore c.args.store.now) c.args.space.now s list apart in
     absurd (grind (arith, nat_tests))
 
 pub returns-clause-may_end : goal.returns-clause-may_end

@@ -1,6 +1,6 @@
 use Rattle.std.proofs.Common.{◌≡◌, Option, Err, ap, subst, arith}
 use Rattle.std.proofs.lemmas.Result.{err_from_is_err_and}
-use Rattle.page_model.specs.Sheets.{heads_of}
+use Rattle.page_model.specs.PageBodies.{heads_of}
 use Rattle.page_io.specs.declared.store.PageFault.TheVariants.{Damaged}
 use Rattle.page_io.proofs.Views.{reads_then}
 use Rattle.chain_walks.specs.Places.{IsFirst}

@@ -1,8 +1,8 @@
 use Rattle.std.proofs.Common.{List}
 use Rattle.dbm_model.specs.Pairs.{Pair}
 use Rattle.page_model.specs.Placement.{Placement}
-use Rattle.page_io.specs.Views.{said, ReadsOnly}
-use Rattle.seg_table.specs.MetaPages.{says}
+use Rattle.page_io.specs.Views.{body_at, ReadsOnly}
+use Rattle.seg_table.specs.MetaPages.{model_meta}
 use Rattle.linear_hash.specs.Tables.{IsTable}
 use Rattle.linear_hash.specs.Passing.{IsBehind}
 use Rattle.linear_hash.proofs.passing.next_pair.Given as goal
@@ -10,6 +10,6 @@ use Rattle.linear_hash.proofs.passing.next_pair.Given as goal
 abbrev pub invariant-loop-bucket : goal.invariant-loop-bucket
 invariant-loop-bucket g l = record {
   reads : ReadsOnly g.S.PageStore l.fn.store l.store;
-  stands : g.S.PageStore.honest l.fn.store → (p : Placement) (left : List Pair) → IsTable (said g.S.PageStore l.fn.store) (says l.meta) (g.S.PageStore.state l.fn.store).end p →
+  stands : g.S.PageStore.honest l.fn.store → (p : Placement) (left : List Pair) → IsTable (body_at g.S.PageStore l.fn.store) (model_meta l.meta) (g.S.PageStore.state l.fn.store).end p →
       IsBehind p l.fn.from left → IsBehind p (record { bucket = l.bucket; behind = l.behind }) left;
 }

@@ -1,8 +1,8 @@
 use Rattle.std.proofs.Common.{◌≡◌, cond, Err, sym, ap, ◌∙◌, arith, rules}
 use Rattle.std.proofs.lemmas.Result.{err_from_is_err_and}
 use Rattle.page_model.specs.Address.{hash_of}
-use Rattle.page_io.specs.Store.{State}
-use Rattle.page_io.specs.Views.{said}
+use Rattle.page_io.specs.Store.{StoreState}
+use Rattle.page_io.specs.Views.{body_at}
 use Rattle.page_io.specs.declared.store.PageFault.TheVariants.{NoRoom, Damaged}
 use Rattle.page_io.proofs.Views.{stages_then}
 use Rattle.linear_hash.proofs.Fillings.{filling_starts, filling_ends, filling_room, refill_length, refill_placed, refill_absent, refill_goes_on}
@@ -47,7 +47,7 @@ returns-in_err-put-clause-room g c honest p from none =
     let many = refill_length _ _ _ _ _ _ p from in
     let full = c.in_err-put.ensures.answer.no_room (ap Err fault) in
     let room = filling_room _ _ p c.loop-pair.pair-index (omega (arith, c.loop-pair-test.true, many)) so_far in
-    omega (arith, full.1, room, c.loop-pair-test.true, ap (λ (s : State). s.capacity) c.loop-pair.invariant.stages.state)
+    omega (arith, full.1, room, c.loop-pair-test.true, ap (λ (s : StoreState). s.capacity) c.loop-pair.invariant.stages.state)
 
 pub loop-pair-preserved : goal.loop-pair-preserved
 loop-pair-preserved g c =
@@ -70,7 +70,7 @@ loop-pair-preserved g c =
           let placed = refill_placed _ _ _ head n _ p from i item c.loop-pair-test.true here _ _ so_far up c.hash.result c.if-goes_up.to c.split_goes_up-goes_up.ensures.place (c.hash.ensures ∙ ap hash_of c.deref.ensures.value) goes in
           let absent = refill_absent _ _ _ head n _ p from i item c.loop-pair-test.true here _ _ so_far c.deref-in-loop-pair.result.now c.deref-in-loop-pair.ensures.value in
           let becomes = c.in_ok-put.ensures.exact (c.loop-pair.invariant.stages.honesty.1 honest) _ _ placed absent in
-          refill_goes_on _ _ _ head n _ p from i item c.loop-pair-test.true here _ _ so_far (said st c.put.new.store) c.put.new.space
+          refill_goes_on _ _ _ head n _ p from i item c.loop-pair-test.true here _ _ so_far (body_at st c.put.new.store) c.put.new.space
           (c.deref-in-loop-pair.result.now, c.deref-in-loop-pair-2.result.now) (λ j. (c.deref-in-loop-pair.ensures.value j, c.deref-in-loop-pair-2.ensures.value j)) becomes;
     }
 

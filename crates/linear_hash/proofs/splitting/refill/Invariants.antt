@@ -1,6 +1,6 @@
 use Rattle.std.proofs.Common.{map}
 use Rattle.page_model.specs.Placement.{Placement}
-use Rattle.page_io.specs.Views.{said, StagesOnly, MayEnd}
+use Rattle.page_io.specs.Views.{body_at, StagesOnly, MayEnd}
 use Rattle.free_pages.specs.FreeList.{HasEnds}
 use Rattle.lin_addr.specs.Shapes.{shape_of}
 use Rattle.chain_walks.specs.Pairs.{pair_of}
@@ -13,6 +13,6 @@ invariant-loop-pair g l = record {
   stages : StagesOnly g.S.PageStore l.fn.store l.store;
   ends : HasEnds l.fn.space → HasEnds l.space;
   may_end : MayEnd (g.S.PageStore.state l.fn.store) l.fn.space.file_end → MayEnd (g.S.PageStore.state l.store) l.space.file_end;
-  filling : g.S.PageStore.honest l.fn.store → (p : Placement) → IsRefilled (said g.S.PageStore l.fn.store) l.fn.space (shape_of l.fn.shape) l.fn.head l.fn.new_head (map pair_of l.fn.pairs) p
-      → IsFilling (said g.S.PageStore l.store) l.space p l.pair-index;
+  filling : g.S.PageStore.honest l.fn.store → (p : Placement) → IsRefilled (body_at g.S.PageStore l.fn.store) l.fn.space (shape_of l.fn.shape) l.fn.head l.fn.new_head (map pair_of l.fn.pairs) p
+      → IsFilling (body_at g.S.PageStore l.store) l.space p l.pair-index;
 }

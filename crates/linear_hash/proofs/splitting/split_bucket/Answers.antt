@@ -2,8 +2,8 @@ use Rattle.std.proofs.Common.{◌≡◌, ◌^◌, ◌<◌, List, length, map, Er
 use Rattle.std.proofs.lemmas.Result.{err_from_is_err_and}
 use Rattle.std.proofs.lemmas.List.{length-map}
 use Rattle.dbm_model.specs.Pairs.{Pair}
-use Rattle.page_model.specs.Sheets.{heads_of}
-use Rattle.page_io.specs.Store.{State}
+use Rattle.page_model.specs.PageBodies.{heads_of}
+use Rattle.page_io.specs.Store.{StoreState}
 use Rattle.page_io.specs.declared.store.PageFault.TheVariants.{NoRoom, Damaged}
 use Rattle.chain_walks.specs.Pairs.{pair_of}
 use Rattle.linear_hash.proofs.SplitLemmas.{heads_read, split_head, chain_then, honest_later, midway_later, refilled_later, midway_split, end_refilled}
@@ -46,7 +46,7 @@ returns-in_err-new_head-clause-room g c honest p midway near none =
     let two = c.in_ok-pairs.ensures.reads in
     let from = split_head _ _ _ p midway small _ (c.in_ok-head.ensures.exact honest (heads_of p.chains)) in
     let full = c.in_err-new_head.ensures.room (honest_later st _ _ _ _ p _ from one honest midway _ two) p (midway_later st _ _ _ _ p _ from one honest midway _ two) from (ap Err fault) in
-    omega (arith, full, ap (λ (s : State). s.capacity) (two.same ∙ one.same))
+    omega (arith, full, ap (λ (s : StoreState). s.capacity) (two.same ∙ one.same))
 
 pub returns-in_err-refill-clause-whole : goal.returns-in_err-refill-clause-whole
 returns-in_err-refill-clause-whole g c honest p midway near damaged =
@@ -71,7 +71,7 @@ returns-in_err-refill-clause-room g c honest p midway near none =
     let from = split_head _ _ _ p midway small _ (c.in_ok-head.ensures.exact honest (heads_of p.chains)) in
     let again = refilled_later st _ _ _ _ p _ from one honest midway _ two _ _ _ _ _ _ _ near c.in_ok-pairs.ensures.exact c.in_ok-new_head.ensures.exact c.in_ok-new_head.ensures.added (ap (map pair_of) c.as_slice.ensures.value) in
     let full = c.in_err-refill.ensures.room (c.in_ok-new_head.ensures.stages.honesty.1 (honest_later st _ _ _ _ p _ from one honest midway _ two)) p again (ap Err fault) in
-    let room = ap (λ (s : State). s.capacity) (c.in_ok-new_head.ensures.stages.state) ∙ ap (λ (s : State). s.capacity) (two.same ∙ one.same) in
+    let room = ap (λ (s : StoreState). s.capacity) (c.in_ok-new_head.ensures.stages.state) ∙ ap (λ (s : StoreState). s.capacity) (two.same ∙ one.same) in
     let many = ap (λ (ps : List Pair). length ps) again.pairs_are in
     omega (arith, full, room, many, length-map c.as_slice.result.now pair_of, end_refilled p midway.sound)
 

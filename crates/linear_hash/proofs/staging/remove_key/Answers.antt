@@ -1,10 +1,10 @@
 use Rattle.std.proofs.Common.{◌≡◌, Err, ap}
 use Rattle.std.proofs.lemmas.Result.{err_from_is_err_and}
 use Rattle.page_model.specs.Placement.{Placement, key_bucket, chain_at}
-use Rattle.page_model.specs.Sheets.{heads_of}
-use Rattle.page_io.specs.Views.{said}
+use Rattle.page_model.specs.PageBodies.{heads_of}
+use Rattle.page_io.specs.Views.{body_at}
 use Rattle.page_io.specs.declared.store.PageFault.TheVariants.{Damaged}
-use Rattle.seg_table.specs.MetaPages.{says}
+use Rattle.seg_table.specs.MetaPages.{model_meta}
 use Rattle.bucket_chain.specs.Changes.{IsPlaced}
 use Rattle.linear_hash.specs.Staging.{IsMidway}
 use Rattle.linear_hash.proofs.Buckets.{bucket_of}
@@ -21,11 +21,11 @@ returns-in_err-head-clause-whole g c honest p mid damaged =
     c.in_err-head.ensures.whole honest (heads_of p.chains) (midway_heads _ _ _ p mid c.requires.used) (ap Err fault)
 
 -- the chain of the key's bucket, once its head page was looked up
-module _ (g : Over) (c : After-remove g) (honest : g.S.PageStore.honest c.args.store.now) (p : Placement) (mid : IsMidway (said g.S.PageStore c.args.store.now) (says c.args.meta.now) c.args.space.now p) where
-  here : IsMidway (said g.S.PageStore c.head_of.new.store) (says c.args.meta.now) c.args.space.now p
+module _ (g : Over) (c : After-remove g) (honest : g.S.PageStore.honest c.args.store.now) (p : Placement) (mid : IsMidway (body_at g.S.PageStore c.args.store.now) (model_meta c.args.meta.now) c.args.space.now p) where
+  here : IsMidway (body_at g.S.PageStore c.head_of.new.store) (model_meta c.args.meta.now) c.args.space.now p
   here = midway_read g.S.PageStore _ _ _ _ p c.in_ok-head.ensures.reads honest mid
 
-  chain_is : IsPlaced (said g.S.PageStore c.head_of.new.store) c.args.space.now c.in_ok-head.head (chain_at p (key_bucket p.shape c.args.key.now)) p.space
+  chain_is : IsPlaced (body_at g.S.PageStore c.head_of.new.store) c.args.space.now c.in_ok-head.head (chain_at p (key_bucket p.shape c.args.key.now)) p.space
   chain_is =
       let bucket = bucket_of c.args.meta.now c.args.key.now c.bucket.result c.hash.result c.bucket.ensures.address c.hash.ensures in
       let head = c.in_ok-head.ensures.exact honest (heads_of p.chains) (midway_heads _ _ _ p mid c.requires.used) (midway_below _ _ _ p mid c.requires.used c.args.key.now c.bucket.result bucket) in

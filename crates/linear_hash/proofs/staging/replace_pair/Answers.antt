@@ -5,12 +5,12 @@ use Rattle.page_model.specs.Address.{address, hash_of}
 use Rattle.page_model.specs.PairLists.{times}
 use Rattle.page_model.specs.Chain.{pairs_in}
 use Rattle.page_model.specs.Placement.{Placement, contents, key_bucket, chain_at, delete}
-use Rattle.page_model.specs.Sheets.{heads_of}
+use Rattle.page_model.specs.PageBodies.{heads_of}
 use Rattle.page_model.proofs.Places.{deleted_finds_none}
-use Rattle.page_io.specs.Views.{said, StagesOnly}
+use Rattle.page_io.specs.Views.{body_at, StagesOnly}
 use Rattle.page_io.specs.declared.store.PageFault.TheVariants.{Damaged}
 use Rattle.page_io.proofs.Views.{stages_then}
-use Rattle.seg_table.specs.MetaPages.{says}
+use Rattle.seg_table.specs.MetaPages.{model_meta}
 use Rattle.bucket_chain.specs.Changes.{IsPlaced}
 use Rattle.linear_hash.specs.Tables.{shape_in}
 use Rattle.linear_hash.specs.Staging.{IsMidway}
@@ -47,16 +47,16 @@ module _ (g : Over) (c : After-put g) where
         | else-was_there w ↦ subst (StagesOnly g.S.PageStore c.args.store.now) (sym w.store-is) reads
       ]
 
-  bucket : c.bucket.result ≡ address (shape_in (says c.args.meta.now)) (hash_of c.args.key.now)
+  bucket : c.bucket.result ≡ address (shape_in (model_meta c.args.meta.now)) (hash_of c.args.key.now)
   bucket = bucket_of c.args.meta.now c.args.key.now c.bucket.result c.hash.result c.bucket.ensures.address c.hash.ensures
 
-  module _ (honest : g.S.PageStore.honest c.args.store.now) (p : Placement) (mid : IsMidway (said g.S.PageStore c.args.store.now) (says c.args.meta.now) c.args.space.now p)
+  module _ (honest : g.S.PageStore.honest c.args.store.now) (p : Placement) (mid : IsMidway (body_at g.S.PageStore c.args.store.now) (model_meta c.args.meta.now) c.args.space.now p)
       (was : c.args.was_there ≡ is_some (get (contents p) c.args.key.now)) where
     head_is : c.in_ok-head.head ≡ get_or (heads_of p.chains) c.bucket.result 0
     head_is = c.in_ok-head.ensures.exact honest (heads_of p.chains) (midway_heads _ _ _ p mid c.requires.valid.used) (midway_below _ _ _ p mid c.requires.valid.used c.args.key.now c.bucket.result bucket)
 
     -- once the key was taken out, or was not there
-    removed : IsMidway (said g.S.PageStore c.if-was_there.store) (says c.args.meta.now) c.if-was_there.space (delete p c.args.key.now)
+    removed : IsMidway (body_at g.S.PageStore c.if-was_there.store) (model_meta c.args.meta.now) c.if-was_there.space (delete p c.args.key.now)
     removed =
         let used = c.requires.valid.used in
         let h1 = c.in_ok-head.ensures.reads.stages_only.honesty.1 honest in
@@ -68,13 +68,13 @@ module _ (g : Over) (c : After-put g) where
               midway_same g.S.PageStore _ _ _ _ _ _ w.store-is w.space-is (midway_deleted _ _ _ p here used _ _ c.args.key.now gone.left)
           | else-was_there w ↦
               let none = delete_none p c.args.key.now mid.sound (sym was ∙ w.if-was_there.false) in
-              midway_same g.S.PageStore _ _ _ _ _ _ w.store-is w.space-is (subst (IsMidway (said g.S.PageStore c.head_of.new.store) (says c.args.meta.now) c.args.space.now) (sym none) here)
+              midway_same g.S.PageStore _ _ _ _ _ _ w.store-is w.space-is (subst (IsMidway (body_at g.S.PageStore c.head_of.new.store) (model_meta c.args.meta.now) c.args.space.now) (sym none) here)
         ]
 
     -- where the pair is put
-    chain_is : IsPlaced (said g.S.PageStore c.if-was_there.store) c.if-was_there.space c.in_ok-head.head (chain_at (delete p c.args.key.now) (key_bucket p.shape c.args.key.now)) (delete p c.args.key.now).space
+    chain_is : IsPlaced (body_at g.S.PageStore c.if-was_there.store) c.if-was_there.space c.in_ok-head.head (chain_at (delete p c.args.key.now) (key_bucket p.shape c.args.key.now)) (delete p c.args.key.now).space
     chain_is =
-        let same = bucket_is _ (says c.args.meta.now) p mid.sound c.requires.valid.used mid.below.are_read mid.shape_is mid.segments_are c.args.key.now c.bucket.result bucket in
+        let same = bucket_is _ (model_meta c.args.meta.now) p mid.sound c.requires.valid.used mid.below.are_read mid.shape_is mid.segments_are c.args.key.now c.bucket.result bucket in
         midway_chain _ _ _ (delete p c.args.key.now) removed c.requires.valid.used c.args.key.now c.bucket.result bucket c.in_ok-head.head (head_still p c.args.key.now c.bucket.result c.in_ok-head.head mid.sound same head_is)
 
     lacks : times c.args.key.now (pairs_in (chain_at (delete p c.args.key.now) (key_bucket p.shape c.args.key.now))) ≡ 0

@@ -1,7 +1,7 @@
 use Rattle.std.proofs.Common.{◌∙◌, ◌-◌, refl, sym, ap}
 use Rattle.page_model.specs.Pages.{Meta}
 use Rattle.page_model.specs.Placement.{delete}
-use Rattle.seg_table.specs.MetaPages.{says}
+use Rattle.seg_table.specs.MetaPages.{model_meta}
 use Rattle.linear_hash.specs.Tables.{space_in}
 use Rattle.linear_hash.proofs.Midway.{midway_same}
 use Rattle.linear_hash.proofs.Stagings.{table_midway, midway_pairs, deleted_count, staged_at_last, staged_ok}
@@ -10,7 +10,7 @@ use Rattle.linear_hash.proofs.staging.stage_delete.Goals as goal
 
 pub returns-clause-exact : goal.returns-clause-exact
 returns-clause-exact g c honest p table was =
-    let start = midway_same g.S.PageStore _ _ _ _ c.space_of-space.result p refl (c.space_of-space.ensures ∙ ap (space_in (says c.args.meta.now)) c.end.ensures) (table_midway _ _ _ p table) in
+    let start = midway_same g.S.PageStore _ _ _ _ c.space_of-space.result p refl (c.space_of-space.ensures ∙ ap (space_in (model_meta c.args.meta.now)) c.end.ensures) (table_midway _ _ _ p table) in
     let q = delete p c.args.key.now in
     let pairs = c.args.meta.now.pairs - 1 in
     let mid = midway_pairs _ _ _ q pairs (c.in_ok-remove_key.ensures.exact honest p start) in

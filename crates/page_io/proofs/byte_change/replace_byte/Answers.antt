@@ -2,7 +2,7 @@ use Rattle.std.proofs.Common.{◌≡◌, ℕ, List, [], ◌∷◌, sym, ◌∙�
 use Rattle.sect_dev.specs.Device.{LeavesOnly}
 use Rattle.page_model.specs.Bytes.{overwrite}
 use Rattle.page_io.specs.Page.{own_number}
-use Rattle.page_io.specs.Store.{Pages, State, IsEither, page_of, overlaid, put_page, committed_with, AllBelow}
+use Rattle.page_io.specs.Store.{Pages, StoreState, IsEither, page_of, overlaid, put_page, committed_with, AllBelow}
 use Rattle.page_io.specs.ByteChange.{with_byte}
 use Rattle.page_io.proofs.Fields.{own_of_overwrite}
 use Rattle.page_io.proofs.Runs.{kept_twice, kept_then_either}
@@ -21,7 +21,7 @@ commit-requires-clause-below g c =
     let place = c.requires.place in
     let same = ap own_number c.put.ensures ∙ own_of_overwrite c.read.new.page.bytes (c.args.byte ∷ []) c.args.at (omega (arith, place.0)) (omega (arith, place.1, c.read.new.page.whole)) in
     let staged : (s.state c.stage.new.self).staged ≡ bytes ∷ [] =
-    ap (λ (x : State). x.staged) c.in_ok-stage.ensures.ok ∙ ap (λ (ps : Pages). put_page ps bytes) (ap (λ (x : State). x.staged) c.read.ensures.state ∙ c.requires.clean) in
+    ap (λ (x : StoreState). x.staged) c.in_ok-stage.ensures.ok ∙ ap (λ (ps : Pages). put_page ps bytes) (ap (λ (x : StoreState). x.staged) c.read.ensures.state ∙ c.requires.clean) in
     subst (AllBelow c.end-end.result) (sym staged) (omega (arith, same, c.own.ensures.number, c.if-own-n.false, c.requires.within.1, c.end-end.ensures), tt)
 
 pub returns-clause-any_moment : goal.returns-clause-any_moment
@@ -41,9 +41,9 @@ returns-clause-any_moment g c honest =
     let bytes : c.put.new.self.bytes ≡ changed =
     c.put.ensures ∙ ap (λ (xs : List ℕ). overwrite xs c.args.at (c.args.byte ∷ [])) (c.in_ok-read.ensures.found honest ∙ ap (λ (ps : Pages). overlaid ps before c.args.n) c.requires.clean) in
     let staged : (s.state s2).staged ≡ changed ∷ [] =
-    ap (λ (x : State). x.staged) state2 ∙ ap (λ (ps : Pages). put_page ps c.put.new.self.bytes) (ap (λ (x : State). x.staged) state1 ∙ c.requires.clean) ∙ ap (λ (p : List ℕ). p ∷ []) bytes in
-    let usable = ap (λ (x : State). x.usable) state2 ∙ ap (λ (x : State). x.usable) state1 ∙ c.requires.usable in
-    let writable = ap (λ (x : State). x.writable) state2 ∙ ap (λ (x : State). x.writable) state1 ∙ c.requires.writable in
+    ap (λ (x : StoreState). x.staged) state2 ∙ ap (λ (ps : Pages). put_page ps c.put.new.self.bytes) (ap (λ (x : StoreState). x.staged) state1 ∙ c.requires.clean) ∙ ap (λ (p : List ℕ). p ∷ []) bytes in
+    let usable = ap (λ (x : StoreState). x.usable) state2 ∙ ap (λ (x : StoreState). x.usable) state1 ∙ c.requires.usable in
+    let writable = ap (λ (x : StoreState). x.writable) state2 ∙ ap (λ (x : StoreState). x.writable) state1 ∙ c.requires.writable in
     let new : committed_with (s.committed s2) (s.state s2).staged c.end-end.result ≡ with_byte (s.committed old) c.args.n c.args.at c.args.byte =
     ap (λ (ps : Pages). committed_with ps (s.state s2).staged c.end-end.result) kept.committed
     ∙ ap (λ (ps : Pages). committed_with (s.committed old) ps c.end-end.result) staged

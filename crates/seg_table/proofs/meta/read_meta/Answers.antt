@@ -2,7 +2,7 @@ use Rattle.std.proofs.Common.{refl, sym, ap, subst, ◌∙◌}
 use Rattle.page_model.specs.Spelling.{meta_spelling}
 use Rattle.page_model.specs.Valid.{IsMeta}
 use Rattle.page_model.proofs.Metas.{fields_again}
-use Rattle.seg_table.specs.MetaPages.{says}
+use Rattle.seg_table.specs.MetaPages.{model_meta}
 use Rattle.seg_table.proofs.Metas.{IsMetaPage, meta_found, none_spelled, none_said, fields_said}
 use Rattle.seg_table.proofs.meta.read_meta.Goals as goal
 use Rattle.seg_table.proofs.meta.read_meta.Goals.{Joined-then-not-is_plain, then-not-is_plain-via-then-not-is_plain, then-not-is_plain-via-else-not-is_plain+then-next-ne0, Then-u32_at-ne-VERSION, In_default, in_default-via-in-Some+else-is_sound, in_default-via-in_default}
@@ -33,7 +33,7 @@ returns-then-u32_at-ne-VERSION-clause-body c = none_said c.args.page.now.bytes (
 pub returns-in-Some-clause-found : goal.returns-in-Some-clause-found
 returns-in-Some-clause-found c =
     let bytes = c.args.page.now.bytes in
-    let m = says c.in-Some.meta in
+    let m = model_meta c.in-Some.meta in
     let is : IsMeta m = c.is_sound.ensures.0 (cc) in
     let page : IsMetaPage bytes = record {
       headed = record { header = c.is_plain.ensures.plain.0 (cc); no_next = sym c.next.ensures ∙ c.if-next-ne0.false };
@@ -47,7 +47,7 @@ pub returns-in-Some-clause-only : goal.returns-in-Some-clause-only
 returns-in-Some-clause-only c = λ m h e. c.in-Some.ensures.found ∙ fields_again c.args.page.now.bytes m h e
 
 pub returns-in-Some-clause-body : goal.returns-in-Some-clause-body
-returns-in-Some-clause-body c = let found = returns-in-Some-clause-found c in fields_said c.args.page.now.bytes (says c.in-Some.meta) found.0 found.1
+returns-in-Some-clause-body c = let found = returns-in-Some-clause-found c in fields_said c.args.page.now.bytes (model_meta c.in-Some.meta) found.0 found.1
 
 -- it is laid out otherwise, or says what no meta page may
 not_sound : (c : In_default) → IsMetaPage c.args.page.now.bytes → ⊥

@@ -3,11 +3,11 @@ use Rattle.std.proofs.lemmas.Result.{err_from_is_err_and, on_ok_weaker}
 use Rattle.page_model.specs.Bytes.{u32_bytes, overwrite}
 use Rattle.page_model.specs.Reading.{body_of}
 use Rattle.page_io.specs.Page.{own_number}
-use Rattle.page_io.specs.Store.{State, IsKnown, put_page}
-use Rattle.page_io.specs.Views.{said, MayEnd}
+use Rattle.page_io.specs.Store.{StoreState, IsKnown, put_page}
+use Rattle.page_io.specs.Views.{body_at, MayEnd}
 use Rattle.page_io.specs.declared.store.PageFault.TheVariants.{Damaged}
 use Rattle.page_io.proofs.Views.{after_stage}
-use Rattle.seg_table.specs.MetaPages.{says}
+use Rattle.seg_table.specs.MetaPages.{model_meta}
 use Rattle.seg_table.proofs.HeadTexts.{own_kept, own_of_segment, fresh_said, head_said}
 use Rattle.seg_table.proofs.HeadSets.{still_apart, set_there, set_added, adds, adds_none}
 use Rattle.seg_table.proofs.Stagings.{known_some, few_after, known_may_end, then_said, others_stay}
@@ -26,17 +26,17 @@ stage-requires-clause-number g c = own_kept c.plain-page.result.bytes _ (replica
 pub returns-then-s-len-clause-few : goal.returns-then-s-len-clause-few
 returns-then-s-len-clause-few g c =
     let after = g.S.PageStore.state c.stage.new.self in
-    subst (λ (st : State). length after.staged ≤ length st.staged + 1) c.in_ok-n.ensures.reads.same
+    subst (λ (st : StoreState). length after.staged ≤ length st.staged + 1) c.in_ok-n.ensures.reads.same
     (few_after (g.S.PageStore.state c.take.new.store) after c.set_u32_at.new.self.bytes c.stage.result (g.met.S.PageStore.in_order c.take.new.store) c.stage.ensures.ok c.stage.ensures.err)
 
 pub returns-then-s-len-clause-ok : goal.returns-then-s-len-clause-ok
-returns-then-s-len-clause-ok g c = adds (says c.args.meta.now) c.push.new.self.items c.in_ok-n.n c.args.bucket (omega arith) c.in_ok-n.ensures.number (omega arith) c.push.ensures.items
+returns-then-s-len-clause-ok g c = adds (model_meta c.args.meta.now) c.push.new.self.items c.in_ok-n.n c.args.bucket (omega arith) c.in_ok-n.ensures.number (omega arith) c.push.ensures.items
 
 pub returns-then-s-len-clause-may_end : goal.returns-then-s-len-clause-may_end
 returns-then-s-len-clause-may_end g c may =
     let bytes = c.set_u32_at.new.self.bytes in
-    let put = c.in_ok-stage.ensures.ok ∙ ap (λ (st : State). record st { staged = put_page st.staged bytes }) c.in_ok-n.ensures.reads.same in
-    subst (λ (st : State). MayEnd st c.take.new.space.file_end) (sym put) (c.in_ok-n.ensures.may_end may bytes (fresh_number g c))
+    let put = c.in_ok-stage.ensures.ok ∙ ap (λ (st : StoreState). record st { staged = put_page st.staged bytes }) c.in_ok-n.ensures.reads.same in
+    subst (λ (st : StoreState). MayEnd st c.take.new.space.file_end) (sym put) (c.in_ok-n.ensures.may_end may bytes (fresh_number g c))
 
 pub returns-then-s-len-clause-exact : goal.returns-then-s-len-clause-exact
 returns-then-s-len-clause-exact g c honest heads s can =
@@ -56,7 +56,7 @@ returns-then-s-len-clause-exact g c honest heads s can =
     let first : 16 + 4 * (c.args.bucket % 508) ≡ 16 = omega (arith, added, can.room, can.bucket) in
     let written = c.set_u32_at.ensures ∙ ap (λ (at : ℕ). overwrite c.plain-page.result.bytes at (u32_bytes c.args.head)) first in
     let page = then_said store old mid new n bytes reads stages honest order put (fresh_number g c) ∙ fresh_said c.plain-page.result.bytes bytes n c.args.head (omega arith) can.some (omega arith) c.plain-page.ensures written in
-    set_added (said store old) (said store new) (says c.args.meta.now) c.args.space.now heads c.args.bucket c.args.head s can n c.push.new.self.items c.take.new.space added taken.0 c.push.ensures.items taken.1 page
+    set_added (body_at store old) (body_at store new) (model_meta c.args.meta.now) c.args.space.now heads c.args.bucket c.args.head s can n c.push.new.self.items c.take.new.space added taken.0 c.push.ensures.items taken.1 page
     (others_stay store old mid new n bytes reads stages honest order put (fresh_number g c))
 
 -- a segment that is there
@@ -83,11 +83,11 @@ segment_number g c = own_of_segment c.read_segment.new.page.bytes c.set_u32_at-2
 pub returns-clause-few : goal.returns-clause-few
 returns-clause-few g c =
     let after = g.S.PageStore.state c.stage-2.new.self in
-    subst (λ (st : State). length after.staged ≤ length st.staged + 1) c.in_ok-read_segment.ensures.reads.same
+    subst (λ (st : StoreState). length after.staged ≤ length st.staged + 1) c.in_ok-read_segment.ensures.reads.same
     (few_after (g.S.PageStore.state c.read_segment.new.store) after c.set_u32_at-2.new.self.bytes c.stage-2.result (g.met.S.PageStore.in_order c.read_segment.new.store) c.stage-2.ensures.ok c.stage-2.ensures.err)
 
 pub returns-clause-ok : goal.returns-clause-ok
-returns-clause-ok g c = on_ok_weaker c.stage-2.result (λ put. adds_none (says c.args.meta.now) c.args.bucket (omega arith)) c.stage-2.ensures.ok
+returns-clause-ok g c = on_ok_weaker c.stage-2.result (λ put. adds_none (model_meta c.args.meta.now) c.args.bucket (omega arith)) c.stage-2.ensures.ok
 
 pub returns-clause-may_end : goal.returns-clause-may_end
 returns-clause-may_end g c may =
@@ -96,7 +96,7 @@ returns-clause-may_end g c may =
     let same = c.in_ok-read_segment.ensures.reads.same in
     on_ok_weaker c.stage-2.result (λ put.
     known_may_end (g.S.PageStore.state c.args.store.now) (g.S.PageStore.state c.stage-2.new.self) c.args.space.now.file_end n bytes c.in_ok-read_segment.ensures.known (segment_number g c)
-    (put ∙ ap (λ (st : State). record st { staged = put_page st.staged bytes }) same) may) c.stage-2.ensures.ok
+    (put ∙ ap (λ (st : StoreState). record st { staged = put_page st.staged bytes }) same) may) c.stage-2.ensures.ok
 
 pub returns-clause-exact : goal.returns-clause-exact
 returns-clause-exact g c honest heads s can =
@@ -114,10 +114,10 @@ returns-clause-exact g c honest heads s can =
     let order = g.met.S.PageStore.in_order old in
     let stages = after_stage store mid new bytes c.stage-2.result (g.met.S.PageStore.counts_now new) done.ok done.err done.honesty done.faults done.kept in
     let there : b / 508 < length ns = omega arith in
-    let was = ap (body_of n) (c.in_ok-read_segment.ensures.found honest) ∙ part_read (said store old) ns heads (b / 508) can.heads_are.are_read there in
+    let was = ap (body_of n) (c.in_ok-read_segment.ensures.found honest) ∙ part_read (body_at store old) ns heads (b / 508) can.heads_are.are_read there in
     let place : b % 508 ≤ length (part heads (b / 508)) = omega (arith, length-part heads (b / 508), can.bucket) in
     let now = head_said before bytes (part heads (b / 508)) n (b % 508) c.args.head c.in_ok-read_segment.ensures.segment was (omega arith) place can.some (omega arith) c.set_u32_at-2.ensures in
     on_ok_weaker c.stage-2.result (λ put.
-    set_there (said store old) (said store new) (says c.args.meta.now) c.args.space.now heads b c.args.head s can there
+    set_there (body_at store old) (body_at store new) (model_meta c.args.meta.now) c.args.space.now heads b c.args.head s can there
     (then_said store old mid new n bytes reads stages honest order put (segment_number g c) ∙ now)
     (others_stay store old mid new n bytes reads stages honest order put (segment_number g c))) done.ok

@@ -3,7 +3,7 @@ use Rattle.slot_page.specs.Slots.{as_spelled}
 use Rattle.slot_page.specs.declared.slot.Slot.{Slot}
 use Rattle.page_model.specs.Bytes.{overwrite, u16_bytes}
 use Rattle.page_model.specs.Slots.{slot_bytes}
-use Rattle.slot_page.specs.Contents.{pairs_of}
+use Rattle.slot_page.specs.Contents.{page_pairs}
 use Rattle.slot_page.proofs.Adding.{HasRoom, taken-push, added, added_holds}
 use Rattle.slot_page.proofs.Pages.{kept}
 use Rattle.slot_page.proofs.bucket.add.Goals as goal
@@ -28,5 +28,5 @@ returns c =
     record {
       holds = added_holds bytes c.set_u16_at-2.new.self.bytes (key, content) c.requires.page c.requires.fits e;
       spelled = e;
-      header = kept bytes c.set_u16_at-2.new.self.bytes (pairs_of bytes ++ (key, content) ∷ []) c.requires.page (taken-push (pairs_of bytes) (key, content) c.requires.fits) e;
+      header = kept bytes c.set_u16_at-2.new.self.bytes (page_pairs bytes ++ (key, content) ∷ []) c.requires.page (taken-push (page_pairs bytes) (key, content) c.requires.fits) e;
     }

@@ -4,7 +4,7 @@ use Rattle.arrayvec.specs.ArrayVec.{ArrayVec}
 use Rattle.slot_page.specs.declared.slot.Slot.{Slot}
 use Rattle.page_model.specs.Reading.{slot_count}
 use Rattle.page_model.specs.Slots.{slots_ending}
-use Rattle.slot_page.specs.Contents.{pairs_of}
+use Rattle.slot_page.specs.Contents.{page_pairs}
 use Rattle.slot_page.specs.Layout.{IsLaidOut}
 use Rattle.slot_page.specs.Slots.{as_spelled, first_slots}
 use Rattle.slot_page.proofs.Held.{first_are}
@@ -22,15 +22,15 @@ returns-clause-exact c =
 pub returns-clause-every : goal.returns-clause-every
 returns-clause-every c = λ b is e. (c.read_slots.ensures.variant.1 (laid_out_if_spelled c.args.page.now.bytes b is e), bucket_again c.args.page.now.bytes b is e)
 
-tables : (bytes : List ℕ) (r : Option (ArrayVec Slot)) → length bytes ≡ 2048 → (IsSome r → IsLaidOut bytes) → IfSome r (λ s. s.items ≡ first_slots bytes (slot_count bytes)) → IfSome r (λ s. map as_spelled s.items ≡ slots_ending 2048 (pairs_of bytes))
+tables : (bytes : List ℕ) (r : Option (ArrayVec Slot)) → length bytes ≡ 2048 → (IsSome r → IsLaidOut bytes) → IfSome r (λ s. s.items ≡ first_slots bytes (slot_count bytes)) → IfSome r (λ s. map as_spelled s.items ≡ slots_ending 2048 (page_pairs bytes))
 tables bytes (Some s) len laid e = ap (map as_spelled) e ∙ first_are bytes (slot_count bytes) ∙ sym (table_of bytes len (laid refl))
 tables bytes None len laid e = tt
 
 pub returns-clause-slots : goal.returns-clause-slots
 returns-clause-slots c = tables c.args.page.now.bytes c.read_slots.result (omega arith) c.read_slots.ensures.variant.0 c.read_slots.ensures.slots
 
-as_many : (bytes : List ℕ) (r : Option (ArrayVec Slot)) → IfSome r (λ s. map as_spelled s.items ≡ slots_ending 2048 (pairs_of bytes)) → IfSome r (λ s. length s.items ≡ length (pairs_of bytes))
-as_many bytes (Some s) e = sym (length-map s.items as_spelled) ∙ ap length e ∙ length-slots_ending 2048 (pairs_of bytes)
+as_many : (bytes : List ℕ) (r : Option (ArrayVec Slot)) → IfSome r (λ s. map as_spelled s.items ≡ slots_ending 2048 (page_pairs bytes)) → IfSome r (λ s. length s.items ≡ length (page_pairs bytes))
+as_many bytes (Some s) e = sym (length-map s.items as_spelled) ∙ ap length e ∙ length-slots_ending 2048 (page_pairs bytes)
 as_many bytes None e = tt
 
 pub returns-clause-count : goal.returns-clause-count

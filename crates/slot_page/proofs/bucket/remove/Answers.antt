@@ -1,7 +1,7 @@
 use Rattle.std.proofs.Common.{◌+◌, ◌<◌, length, arith}
 use Rattle.std.specs.Prelude.{remove}
 use Rattle.std.proofs.lemmas.List.Edits.{length-remove}
-use Rattle.slot_page.specs.Contents.{pairs_of}
+use Rattle.slot_page.specs.Contents.{page_pairs}
 use Rattle.slot_page.proofs.Pages.{kept_by}
 use Rattle.slot_page.proofs.Removing.{begins, kind_is, next_kept, fits_next, goes_on, ends}
 use Rattle.slot_page.proofs.bucket.remove.Goals as goal
@@ -16,20 +16,20 @@ pub add-requires-clause-fits : goal.add-requires-clause-fits
 add-requires-clause-fits c =
     let bytes = c.args.page.now.bytes in
     let j = c.loop-j.j in
-    let inside : j + 1 < length (pairs_of bytes) = omega arith in
+    let inside : j + 1 < length (page_pairs bytes) = omega arith in
     let next = next_kept bytes c.args.i j c.skipping.result c.pair_at.result.0.now c.pair_at.result.1.now c.requires.page c.requires.within inside c.skipping.ensures.below c.skipping.ensures.above c.pair_at.ensures in
-    fits_next bytes c.loop-j.rebuilt.bytes (remove (pairs_of bytes) c.args.i) j (c.pair_at.result.0.now, c.pair_at.result.1.now) next c.loop-j.invariant
+    fits_next bytes c.loop-j.rebuilt.bytes (remove (page_pairs bytes) c.args.i) j (c.pair_at.result.0.now, c.pair_at.result.1.now) next c.loop-j.invariant
 
 pub loop-j-preserved : goal.loop-j-preserved
 loop-j-preserved c =
     let bytes = c.args.page.now.bytes in
     let j = c.loop-j.j in
-    let inside : j + 1 < length (pairs_of bytes) = omega arith in
+    let inside : j + 1 < length (page_pairs bytes) = omega arith in
     let next = next_kept bytes c.args.i j c.skipping.result c.pair_at.result.0.now c.pair_at.result.1.now c.requires.page c.requires.within inside c.skipping.ensures.below c.skipping.ensures.above c.pair_at.ensures in
-    goes_on bytes c.loop-j.rebuilt.bytes c.add.new.page.bytes (remove (pairs_of bytes) c.args.i) j (c.pair_at.result.0.now, c.pair_at.result.1.now) next c.loop-j.invariant c.add.ensures.holds
+    goes_on bytes c.loop-j.rebuilt.bytes c.add.new.page.bytes (remove (page_pairs bytes) c.args.i) j (c.pair_at.result.0.now, c.pair_at.result.1.now) next c.loop-j.invariant c.add.ensures.holds
 
 pub returns : goal.returns
 returns c =
     let bytes = c.args.page.now.bytes in
-    let h = ends bytes c.loop-j.rebuilt.bytes (remove (pairs_of bytes) c.args.i) c.loop-j.j (omega (arith, length-remove (pairs_of bytes) c.args.i c.requires.within)) c.loop-j.invariant in
-    record { holds = h; header = kept_by bytes c.loop-j.rebuilt.bytes (remove (pairs_of bytes) c.args.i) h }
+    let h = ends bytes c.loop-j.rebuilt.bytes (remove (page_pairs bytes) c.args.i) c.loop-j.j (omega (arith, length-remove (page_pairs bytes) c.args.i c.requires.within)) c.loop-j.invariant in
+    record { holds = h; header = kept_by bytes c.loop-j.rebuilt.bytes (remove (page_pairs bytes) c.args.i) h }

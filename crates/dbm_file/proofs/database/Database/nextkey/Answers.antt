@@ -1,6 +1,6 @@
 use Rattle.std.proofs.Common.{◌∙◌, ℕ, ◌<◌, length, Option, Some, None, IfSome, Ok, Err, refl, inl, inr, subst, ap}
 use Rattle.dbm_model.specs.Calls.{Next, End}
-use Rattle.slot_page.specs.Contents.{IsBucketPage, pairs_of}
+use Rattle.slot_page.specs.Contents.{IsBucketPage, page_pairs}
 use Rattle.dbm_file.specs.Trying.{slot_reply}
 use Rattle.dbm_fault.specs.declared.fault.Fault.TheVariants.{NoPass}
 use Rattle.dbm_file.proofs.Cases.{broken_next}
@@ -38,7 +38,7 @@ returns-in-Ok-Some g c =
     let usable = not_broken _ _ c.is_broken.ensures c.if-is_broken.false in
     let all = c.in-Ok-Some.ensures in
     let bytes = c.advance.new.self.page.bytes in
-    let held = subst (λ (o : Option ℕ). IfSome o (λ slot. IsBucketPage bytes × (slot < length (pairs_of bytes)))) c.in-Ok-Some.field-0-is all.held in (
+    let held = subst (λ (o : Option ℕ). IfSome o (λ slot. IsBucketPage bytes × (slot < length (page_pairs bytes)))) c.in-Ok-Some.field-0-is all.held in (
       (
         refl,
         (λ _. tt),

@@ -3,7 +3,7 @@ use Rattle.std.specs.FinMap.{get, len}
 use Rattle.dbm_model.specs.Calls as model
 use Rattle.dbm_model.specs.Steps.{Case, Suffers}
 use Rattle.dbm_file.specs.Calls.{mode_of}
-use Rattle.page_io.specs.Store.{State}
+use Rattle.page_io.specs.Store.{StoreState}
 use Rattle.dbm_file.specs.Database.{handle_of}
 use Rattle.dbm_file.specs.declared.calls.StoreMode.TheVariants.{Insert, Replace}
 use Rattle.dbm_fault.specs.declared.fault.Fault.TheVariants.{ReadOnly, TooLong, Full}
@@ -145,7 +145,7 @@ returns-clause-step g c honest h at =
     from_own at (changed_step s asked _
     record { ends = all.ends; error_is = refl; pass_ends = refl; pass_stays = tt }
     (all.turns (mid_honest s asked) (mid_usable s asked) map (mid_holds s asked) there)
-    (λ x left. g.met.S.PageStore.only_committed c.store_pair.new.store x (all.ends.honesty.1 (mid_honest s asked)) (ap (λ (st : State). st.usable) all.ends.ok ∙ mid_usable s asked) (ap (λ (st : State). st.writable) all.ends.ok ∙ still_writable s db c.has.new.self c.in_ok-was_there.ensures.reads ∙ writable) left))
+    (λ x left. g.met.S.PageStore.only_committed c.store_pair.new.store x (all.ends.honesty.1 (mid_honest s asked)) (ap (λ (st : StoreState). st.usable) all.ends.ok ∙ mid_usable s asked) (ap (λ (st : StoreState). st.writable) all.ends.ok ∙ still_writable s db c.has.new.self c.in_ok-was_there.ensures.reads ∙ writable) left))
 
 pub returns-in_err-store_pair-clause-keeps : goal.returns-in_err-store_pair-clause-keeps
 returns-in_err-store_pair-clause-keeps g c =

@@ -3,7 +3,7 @@ use Rattle.sect_dev.specs.Device.{IsImageOf}
 use Rattle.sect_dev.specs.Moments.{weaker}
 use Rattle.page_io.specs.Store.{bytes_of}
 use Rattle.redo_commit.specs.File.{IsAtRest, SettlesAsBefore}
-use Rattle.redo_area.specs.Rests.{rests_at}
+use Rattle.redo_area.specs.Settling.{rests_at}
 use Rattle.redo_area.proofs.pager.Pager.open.Goals as goal
 
 pub invariant_of-result-clause-rests : goal.invariant_of-result-clause-rests

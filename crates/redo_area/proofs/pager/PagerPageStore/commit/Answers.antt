@@ -4,7 +4,7 @@ use Rattle.page_io.specs.Page.{page_at}
 use Rattle.page_io.specs.Store.{file_of, IsEither, bytes_of, file_pages, overlaid, are_in_order, committed_with}
 use Rattle.page_io.specs.declared.page.Page.{Page}
 use Rattle.redo_commit.specs.File.{settled, IsAtRest}
-use Rattle.redo_area.specs.Rests.{only_seen, rests_at}
+use Rattle.redo_area.specs.Settling.{only_seen, rests_at}
 use Rattle.redo_area.proofs.Kept.{none_over, new_pages, either}
 use Rattle.redo_area.proofs.Results.{from_ok}
 use Rattle.page_io.proofs.StagedPages.{order_below}

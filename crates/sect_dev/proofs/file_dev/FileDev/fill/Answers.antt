@@ -4,7 +4,7 @@ use Rattle.std.proofs.lemmas.List.{places}
 use borrow.Rule.Slice.PartMut.{put_mid}
 use Rattle.sect_dev.proofs.Filling.{of_sector, at_early, more_filled, rest_filled}
 use Rattle.sect_dev.proofs.Results.{at_ok}
-use Rattle.sect_dev.specs.File.{course, Gave}
+use Rattle.sect_dev.specs.File.{file_history, Gave}
 use Rattle.sect_dev.proofs.file_dev.FileDev.fill.Goals as goal
 use Rattle.sect_dev.proofs.file_dev.FileDev.fill.Goals.{in-Ok, in-Err}
 
@@ -12,14 +12,14 @@ pub returns-then-filled-ge512 : goal.returns-then-filled-ge512
 returns-then-filled-ge512 c honest =
     let dev = c.args.self.now in
     let inv = c.loop.invariant in
-    same_number_lists c.loop.out ((course dev).seen dev.changes c.args.n) (inv.long ∙ sym (honest.kept.whole dev.changes c.args.n))
+    same_number_lists c.loop.out ((file_history dev).seen dev.changes c.args.n) (inv.long ∙ sym (honest.kept.whole dev.changes c.args.n))
     (λ k inside. inv.same honest k (omega (arith, inside, inv.long, c.if-filled-ge512.true)))
 
 pub returns-in-Ok-eq0 : goal.returns-in-Ok-eq0
 returns-in-Ok-eq0 c honest =
     let dev = c.args.self.now in
     let inv = c.loop.invariant in
-    let content = (course dev).seen dev.changes c.args.n in
+    let content = (file_history dev).seen dev.changes c.args.n in
     let size : length c.pread.new.out ≡ 512 - c.loop.filled = search (rules, places) in
     let at = c.offset_of.result + c.loop.filled in
     let gave : Gave dev at [] = at_ok c.pread.result (λ (k : ℕ). Gave dev at (take k c.pread.new.out)) 0 (c.in-Ok-eq0.is ∙ ap Ok c.in-Ok-eq0.field-0-test) c.pread.ensures.gave in
@@ -32,7 +32,7 @@ pub loop-preserved : goal.loop-preserved
 loop-preserved c =
     let dev = c.args.self.now in
     let inv = c.loop.invariant in
-    let content = (course dev).seen dev.changes c.args.n in
+    let content = (file_history dev).seen dev.changes c.args.n in
     let size : length c.pread.new.out ≡ 512 - c.loop.filled = search (rules, places) in
     let at = c.offset_of.result + c.loop.filled in
     let place : at ≡ c.args.n * 512 + c.loop.filled = ap (λ (from : ℕ). from + c.loop.filled) c.offset_of.ensures in

@@ -1,7 +1,7 @@
 use Rattle.std.proofs.Common.{is_ok}
-use Rattle.sect_dev.specs.Course.{told_change}
-use Rattle.sect_dev.specs.Course.Change.{Writes}
+use Rattle.sect_dev.specs.FileHistory.{recorded_change}
+use Rattle.sect_dev.specs.FileHistory.Change.{Writes}
 use Rattle.sect_dev.proofs.file_dev.FileDev.pwrite.Goals as goal
 
 pub returns : goal.returns
-returns c = told_change c.args.self.now.file c.args.self.now.changes (Writes c.args.at c.args.from.now (is_ok c.write_all_at.result))
+returns c = recorded_change c.args.self.now.file c.args.self.now.changes (Writes c.args.at c.args.from.now (is_ok c.write_all_at.result))

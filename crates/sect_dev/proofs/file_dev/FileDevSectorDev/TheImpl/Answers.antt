@@ -1,6 +1,6 @@
 use Rattle.std.proofs.Common.{◌*◌, is_ok, inr}
-use Rattle.sect_dev.specs.Course.Change.{Writes, Syncs}
-use Rattle.sect_dev.proofs.Course.{honesty, time, same_seen, none_added, none_removed, change_time, write_seen, write_failed, write_adds_one, write_removes_none, sync_settles, sync_seen, sync_adds_none, sync_failed}
+use Rattle.sect_dev.specs.FileHistory.Change.{Writes, Syncs}
+use Rattle.sect_dev.proofs.FileHistory.{honesty, time, same_seen, none_added, none_removed, change_time, write_seen, write_failed, write_adds_one, write_removes_none, sync_settles, sync_seen, sync_adds_none, sync_failed}
 use Rattle.sect_dev.proofs.file_dev.FileDevSectorDev.TheImpl.Goals as goal
 
 pub read-tells : goal.read-tells

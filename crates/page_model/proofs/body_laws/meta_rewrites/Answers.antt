@@ -1,0 +1,5 @@
+use Rattle.page_model.proofs.Openings.{meta_rewrites}
+use Rattle.page_model.proofs.body_laws.meta_rewrites.Goals as goal
+
+pub returns : goal.returns
+returns _ = meta_rewrites

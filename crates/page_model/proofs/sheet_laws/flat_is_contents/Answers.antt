@@ -1,5 +1,0 @@
-use Rattle.page_model.proofs.Flat.{flat_is_contents}
-use Rattle.page_model.proofs.sheet_laws.flat_is_contents.Goals as goal
-
-pub returns : goal.returns
-returns _ = flat_is_contents

@@ -1,5 +1,0 @@
-use Rattle.page_model.proofs.Openings.{meta_rewrites}
-use Rattle.page_model.proofs.sheet_laws.meta_rewrites.Goals as goal
-
-pub returns : goal.returns
-returns _ = meta_rewrites

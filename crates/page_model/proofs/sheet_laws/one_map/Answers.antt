@@ -1,5 +1,0 @@
-use Rattle.page_model.proofs.Frames.{one_map}
-use Rattle.page_model.proofs.sheet_laws.one_map.Goals as goal
-
-pub returns : goal.returns
-returns _ = one_map

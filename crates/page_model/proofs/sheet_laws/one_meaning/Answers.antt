@@ -1,5 +1,0 @@
-use Rattle.page_model.proofs.Meaning.{one_meaning}
-use Rattle.page_model.proofs.sheet_laws.one_meaning.Goals as goal
-
-pub returns : goal.returns
-returns _ = one_meaning

@@ -1,5 +1,0 @@
-use Rattle.page_model.proofs.Meaning.{pages_one_meaning}
-use Rattle.page_model.proofs.sheet_laws.pages_have_one_meaning.Goals as goal
-
-pub returns : goal.returns
-returns _ = pages_one_meaning

@@ -1,5 +1,0 @@
-use Rattle.page_model.proofs.Meaning.{stored_stands}
-use Rattle.page_model.proofs.sheet_laws.stored_stands.Goals as goal
-
-pub returns : goal.returns
-returns _ = stored_stands
