@@ -37,8 +37,8 @@ after_end map Error = refl
 after_end map Clear = refl
 
 -- what a rule says of the map
-abbrev Suits : State → Call → Case → Type 0
-Suits s call (Tells said told) = (told.map ≡ s.map) × (told.usable ≡ s.usable) × (s.map ≡ map_after s.map call said)
+abbrev pub Suits : State → Call → Case → Type 0
+Suits s call (Tells said told) = (told.map ≡ s.map) × (told.usable ≡ s.usable) × (s.map ≡ map_after s.map call said) × (told.limit ≡ s.limit) × (told.writable ≡ s.writable)
 Suits s call (Refuses fault) = Unit {0}
 Suits s call (Declines fault) = Unit {0}
 Suits s call (Finds found) = s.map ≡ map_after s.map call found
@@ -78,8 +78,8 @@ usable_suits s (Fetch key) = fetched_suits s key (get s.map key)
 usable_suits s (Delete key) = elim s.writable as (λ b. Suits s (Delete key) (cond b (deleted s key (get s.map key)) (Refuses ReadOnly))) [ true ↦ deleted_suits s key (get s.map key) | false ↦ tt ]
 usable_suits s First = tt
 usable_suits s Next = passed_suits s s.pass
-usable_suits s Error = (refl, refl, refl)
-usable_suits s Clear = (refl, refl, refl)
+usable_suits s Error = (refl, refl, refl, refl, refl)
+usable_suits s Clear = (refl, refl, refl, refl, refl)
 
 broken_suits : (s : State) (call : Call) → Suits s call (broken_case s call)
 broken_suits s (Store key content mode) = tt
@@ -87,10 +87,10 @@ broken_suits s (Fetch key) = tt
 broken_suits s (Delete key) = tt
 broken_suits s First = tt
 broken_suits s Next = tt
-broken_suits s Error = (refl, refl, refl)
-broken_suits s Clear = (refl, refl, refl)
+broken_suits s Error = (refl, refl, refl, refl, refl)
+broken_suits s Clear = (refl, refl, refl, refl, refl)
 
-suits : (s : State) (call : Call) → Suits s call (case_of s call)
+pub suits : (s : State) (call : Call) → Suits s call (case_of s call)
 suits s call = elim s.usable as (λ b. Suits s call (cond b (usable_case s call) (broken_case s call))) [ true ↦ usable_suits s call | false ↦ broken_suits s call ]
 
 -- the reply and the map of what comes where nothing fails

@@ -1,3 +1,5 @@
 pub mod CaseLemmas
+pub mod PassLemmas
+pub mod RefusalLemmas
 pub mod RunLemmas
 pub mod Runs

@@ -3,5 +3,7 @@ pub mod Changes
 pub mod Examples
 pub mod FaultCount
 pub mod Pairs
+pub mod Passes
+pub mod Refusals
 pub mod States
 pub mod Steps

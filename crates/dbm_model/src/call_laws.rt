@@ -1,5 +1,7 @@
-// Laws of calls and runs. What each says stands in `specs/Changes.antt` and `specs/Examples.antt`.
+// Laws of calls and runs. What each says stands in `specs/Changes.antt`, `specs/Refusals.antt`, `specs/Passes.antt` and `specs/Examples.antt`.
 ghost use Rattle.dbm_model.specs.Changes.{OnlyAcknowledgedChanges, OnlyChangesBreak, BrokenStays};
+ghost use Rattle.dbm_model.specs.Refusals.{RefusesOnlyWhereDue, BrokenRefuses, ReadingRefuses, ReadingKeeps, SettingsStay, TooLongIsRefused, InsertKeeps, FullIsRefused, AbsentIsTold, ErrorIsTold, ErrorIsCleared, FirstFaultIsKept};
+ghost use Rattle.dbm_model.specs.Passes.{PassesAreComplete};
 ghost use Rattle.dbm_model.specs.Examples.{StoresAndDeletes, StopsAtLimit, PassesOverNothing, PassesOn, EndsPass};
 
 /// Only an acknowledged change changes the map of a handle that stays usable.
@@ -15,6 +17,35 @@ pub fn only_changes_break()
 /// A broken handle stays broken, and its map stays.
 pub fn broken_stays()
     ensures { BrokenStays }
+{}
+
+/// Each refusal has its reason, and what has to be refused is, in the order broken, for reading, too long, kept, full.
+pub fn refusals_are_due()
+    ensures only { RefusesOnlyWhereDue }
+    ensures broken { BrokenRefuses }
+    ensures reading { ReadingRefuses }
+    ensures too_long { TooLongIsRefused }
+    ensures kept { InsertKeeps }
+    ensures full { FullIsRefused }
+    ensures absent { AbsentIsTold }
+{}
+
+/// A handle for reading keeps its map, and each handle its limit and its access.
+pub fn settings_stay()
+    ensures map { ReadingKeeps }
+    ensures settings { SettingsStay }
+{}
+
+/// The first fault is kept until it is cleared.
+pub fn first_fault_is_kept()
+    ensures told { ErrorIsTold }
+    ensures cleared { ErrorIsCleared }
+    ensures kept { FirstFaultIsKept }
+{}
+
+/// A completed pass without a change gives each key exactly once.
+pub fn passes_are_complete()
+    ensures { PassesAreComplete }
 {}
 
 /// Runs of a new database that are worked out by hand.

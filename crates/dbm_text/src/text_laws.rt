@@ -1,5 +1,5 @@
 // Laws of words, lines and scripts. What each says stands in `specs/Texts.antt`.
-ghost use Rattle.dbm_text.specs.Texts.{WordsReadBack, WordExamples, LineExamples, ScriptExample};
+ghost use Rattle.dbm_text.specs.Texts.{WordsReadBack, WordExamples, LineExamples, LongLines, ScriptExample};
 
 /// A word stands for the bytes that it was made of.
 pub fn words_read_back()
@@ -11,9 +11,10 @@ pub fn word_examples()
     ensures { WordExamples }
 {}
 
-/// Lines and replies that are worked out by hand.
+/// Lines and replies that are worked out by hand, and how long a line may be.
 pub fn line_examples()
-    ensures { LineExamples }
+    ensures examples { LineExamples }
+    ensures long { LongLines }
 {}
 
 /// A script that is worked out by hand.
