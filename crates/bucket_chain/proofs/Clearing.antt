@@ -31,11 +31,18 @@ was_read old mid state state' head first pairs link given = record {
   are_read = (refl, link.says ∙ ap (λ (n : ℕ). HeadPage n pairs) given.first_is, given.linked);
 }
 
+-- what its head says
+pub head_link : (old : ℕ → Body) (state : FreeState) (head : ℕ) (leaf : Leaf) (rest : Chain) (s : Space) → IsPlaced old state head (leaf ∷ rest) s → SaysLink old head 3 (first_of (numbers rest)) leaf.pairs
+head_link old state head leaf rest s placed = record { says = ap old placed.chain_is.from ∙ placed.chain_is.are_read.0; filled = λ four. absurd (omega arith); distinct = placed.chain_is.distinct.0 }
+
+-- its head has a number
+pub head_some : (old : ℕ → Body) (state : FreeState) (head : ℕ) (leaf : Leaf) (rest : Chain) (s : Space) → IsPlaced old state head (leaf ∷ rest) s → 1 ≤ head
+head_some old state head leaf rest s placed = subst (λ (n : ℕ). 1 ≤ n) (sym placed.chain_is.from) placed.chain_is.numbered.0
+
 -- the page that its head names
 pub first_is : (old : ℕ → Body) (state : FreeState) (head first : ℕ) (pairs : List Pair) (leaf : Leaf) (rest : Chain) (s : Space) → IsPlaced old state head (leaf ∷ rest) s → SaysLink old head 3 first pairs → first ≡ first_of (numbers rest)
 first_is old state head first pairs leaf rest s placed link =
-    (one_next old head 3 first (first_of (numbers rest)) pairs leaf.pairs link
-    (record { says = ap old placed.chain_is.from ∙ placed.chain_is.are_read.0; filled = λ four. absurd (omega arith); distinct = placed.chain_is.distinct.0 })).0
+    (one_next old head 3 first (first_of (numbers rest)) pairs leaf.pairs link (head_link old state head leaf rest s placed)).0
 
 module _ (old mid at' : ℕ → Body) (state state' : FreeState) (head first : ℕ) (pairs : List Pair) (leaf : Leaf) (rest : Chain) (s : Space) (placed : IsPlaced old state head (leaf ∷ rest) s)
     (link : SaysLink old head 3 first pairs) (given : AreGiven old mid state state' first 0) where

@@ -6,6 +6,7 @@ pub mod Hits
 pub mod KeyRemovals
 pub mod PlacedChains
 pub mod PutLemmas
+pub mod Refusals
 pub mod Removals
 pub mod Rewriting
 pub mod SpotLemmas

@@ -2,7 +2,6 @@
 use Rattle.std.proofs.Common.{◌≡◌, inl, inr, ⊎_elim, ℕ, ◌+◌, ◌<◌, ◌≤◌, ◌^◌, true, List, length, Result, Ok, Err, OnOk, OnErr, refl, sym, ◌∙◌, ap, subst, arith}
 use Rattle.std.proofs.lemmas.Bool.{cases_eq}
 use Rattle.page_model.specs.Pages.{Body}
-use Rattle.page_model.specs.Reading as model
 use Rattle.page_io.specs.Page.{own_number}
 use Rattle.page_io.specs.Store.{StoreState, put_page, are_in_order, IsKnown}
 use Rattle.page_io.specs.Views.{body_at, StagesOnly, MayEnd, MayEndWith}

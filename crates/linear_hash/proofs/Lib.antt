@@ -7,6 +7,7 @@ pub mod Midway
 pub mod Openings
 pub mod Passes
 pub mod Plans
+pub mod Refusals
 pub mod SplitLemmas
 pub mod Stagings
 pub mod StoredPairs

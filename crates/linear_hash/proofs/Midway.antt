@@ -16,7 +16,8 @@ use Rattle.page_model.proofs.AddressLemmas.{address_below}
 use Rattle.page_model.proofs.Absent.{delete_absent}
 use Rattle.page_model.proofs.PairLists.{value_in, sum_by-flat_map-set}
 use Rattle.page_model.proofs.Places.{times_none, value_at, delete_sound, put_sound}
-use Rattle.page_io.specs.Views.{body_at, ReadsOnly}
+use Rattle.page_io.specs.Store.{StoreState}
+use Rattle.page_io.specs.Views.{body_at, ReadsOnly, MayEnd}
 use Rattle.page_io.specs.declared.store.PageStore.{Ghosts}
 use Rattle.page_io.proofs.Views.{same_said}
 use Rattle.free_pages.specs.declared.free_state.FreeState.{FreeState}
@@ -109,3 +110,11 @@ midway_read s old new m space p reads honest mid = subst (λ (at : ℕ → Body)
 -- the same of equal stores
 pub midway_same : {S : Type 0} (s : Ghosts S) (old new : S) (m : Meta) (space space' : FreeState) (p : Placement) → new ≡ old → space' ≡ space → IsMidway (body_at s old) m space p → IsMidway (body_at s new) m space' p
 midway_same {S} s old new m space space' p store free mid = subst (λ (st : S). IsMidway (body_at s st) m space' p) (sym store) (subst (λ (f : FreeState). IsMidway (body_at s old) m f p) (sym free) mid)
+
+-- where a commit may end, of equal stores
+pub may_end_same : {S : Type 0} (s : Ghosts S) (old new : S) (space space' : FreeState) → new ≡ old → space' ≡ space → MayEnd (s.state old) space.file_end → MayEnd (s.state new) space'.file_end
+may_end_same {S} s old new space space' store free may = subst (λ (st : S). MayEnd (s.state st) space'.file_end) (sym store) (subst (λ (f : FreeState). MayEnd (s.state old) f.file_end) (sym free) may)
+
+-- and after a read
+pub may_end_read : {S : Type 0} (s : Ghosts S) (old new : S) (end : ℕ) → ReadsOnly s old new → MayEnd (s.state old) end → MayEnd (s.state new) end
+may_end_read s old new end reads may = subst (λ (st : StoreState). MayEnd st end) (sym reads.same) may

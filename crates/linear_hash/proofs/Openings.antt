@@ -7,7 +7,7 @@ use Rattle.std.proofs.lemmas.Bool.Decides.{nat_tests}
 use Rattle.std.proofs.lemmas.List.{length-map}
 use Rattle.std.proofs.lemmas.List.Concat.{flat_map-append}
 use Rattle.std.proofs.lemmas.List.Sums.{sum_by-append, sum_by-cons}
-use Rattle.page_model.specs.Pages.{Meta, Body, HeadPage, NumberedBody, Bucket, bucket}
+use Rattle.page_model.specs.Pages.{Meta, Body, HeadPage, NumberedBody, bucket}
 use Rattle.page_model.specs.Reading.{body_of, bucket_of}
 use Rattle.page_model.specs.Address.{Shape}
 use Rattle.page_model.specs.Numbers.{IsNumber}
@@ -26,7 +26,6 @@ use Rattle.page_model.proofs.Frames.{kept, at_most_one}
 use Rattle.page_model.proofs.Openings.{segments_split, taken_dropped, touched, places, heads_opened, open_rewrites}
 use Rattle.page_model.proofs.Spaces.{times_head, times_tail}
 use Rattle.page_model.proofs.Splits.{headed_pages, opened_sound}
-use Rattle.page_io.specs.Page.{own_number}
 use Rattle.slot_page.specs.Contents.{IsBucketPage}
 use Rattle.free_pages.specs.declared.free_state.FreeState.{FreeState}
 use Rattle.free_pages.specs.FreeList.{state_of, IsFreeList, IsApart}
@@ -37,7 +36,6 @@ use Rattle.chain_walks.specs.Links.{HaveDistinctKeys}
 use Rattle.bucket_chain.specs.Placements.{IsBelow}
 use Rattle.bucket_chain.specs.Changes.{IsPlaced, BecomesPlaced, store_in}
 use Rattle.bucket_chain.proofs.Givings.{times_given}
-use Rattle.page_io.proofs.OwnNumbers.{own_is, own_same}
 use Rattle.chain_walks.proofs.LinkBodies.{says_link}
 use Rattle.bucket_chain.proofs.PlacedChains.{chains_placed}
 use Rattle.bucket_chain.proofs.Rewriting.{not_here}

@@ -22,7 +22,7 @@ use Rattle.seg_table.specs.Heads.{AreHeads, AddsSegment}
 use Rattle.chain_walks.specs.Chains.{IsChainAt}
 use Rattle.bucket_chain.specs.Placements.{IsBelow}
 use Rattle.linear_hash.specs.Tables.{shape_in}
-use Rattle.linear_hash.specs.Staging.{IsMidway}
+use Rattle.linear_hash.specs.Staging.{IsMidway, IsGrown}
 use Rattle.linear_hash.specs.Splitting.{IsBucketOpened, IsRefilled}
 use Rattle.linear_hash.proofs.Openings.{split_below, split_placed, midway_heads, next_bucket}
 
@@ -124,6 +124,14 @@ midway_split at0 at1 at m m1 m' space0 space1 space p b n midway added now below
       segments_are = segments ∙ now.segments_are ∙ sym (kept_segments pairs (opened p));
       limit_is = limit ∙ ap (λ (x : Meta). x.limit) added.rest ∙ midway.limit_is ∙ sym (split_filled p midway.sound).limit;
     }
+
+-- one bucket more, where at most a segment was added and then the shape grew
+pub is_grown : (m m1 m' : Meta) → AddsSegment m m1 (2 ^ m.level + m.split) → shape_in m' ≡ grown (shape_in m1) → m'.segments ≡ m1.segments → m' ≡ record m1 { level = m'.level; split = m'.split } → IsGrown m m'
+is_grown m m1 m' added shape segments rest = record {
+  shape = shape ∙ ap (λ (x : Meta). grown (shape_in x)) added.rest;
+  segments = subst (λ (ns : List ℕ). AddsSegment m (record m { segments = ns }) (2 ^ m.level + m.split)) (sym segments) (subst (λ (x : Meta). AddsSegment m x (2 ^ m.level + m.split)) added.rest added);
+  rest = rest ∙ ap (λ (x : Meta). record x { level = m'.level; split = m'.split }) added.rest ∙ ap (λ (ns : List ℕ). record m { level = m'.level; split = m'.split; segments = ns }) (sym segments);
+}
 
 -- a page for each pair of the bucket, and two more
 pub end_refilled : (p : Placement) → IsSound p → (opened p).space.end + length (pairs_in (chain_at p p.shape.split)) ≤ p.space.end + length (pairs_of p) + 2

@@ -1,16 +1,15 @@
 -- What a store of pages holds, and what a change of it leaves.
-use Rattle.std.specs.Prelude.{◌≡◌, ◌⊎◌, ◌↔◌, ◌+◌, ◌*◌, ◌<◌, ℕ, [], true, false, Result, OnOk, OnErr, IfErr, IsErrOf}
+use Rattle.std.specs.Prelude.{◌≡◌, ◌⊎◌, ◌↔◌, ◌+◌, ◌*◌, ◌<◌, ℕ, true, Result, OnOk, OnErr, IfErr, IsErrOf}
 use Rattle.sect_dev.specs.Device.{LeavesOnly}
 use Rattle.dbm_model.specs.Pairs.{Contents}
-use Rattle.page_model.specs.Pages.{Meta, MetaPage}
-use Rattle.page_model.specs.Meaning.{said_by}
+use Rattle.page_model.specs.Pages.{Meta}
 use Rattle.page_model.specs.Valid.{IsMeta}
 use Rattle.page_io.specs.Answers.{HasDeviceCause}
-use Rattle.page_io.specs.Store.{Settled, StoreState, page_of}
-use Rattle.page_io.specs.Meaning.{FileStandsFor, ImageStandsFor}
+use Rattle.page_io.specs.Store.{Settled}
+use Rattle.page_io.specs.Meaning.{ImageStandsFor}
 use Rattle.page_io.specs.declared.store.PageStore.{Ghosts}
 use Rattle.page_io.specs.declared.store.PageFault.{PageFault}
-use Rattle.page_io.specs.declared.store.PageFault.TheVariants.{Device, NoRoom, Damaged}
+use Rattle.page_io.specs.declared.store.PageFault.TheVariants.{NoRoom, Damaged}
 use Rattle.page_commit.specs.Committing.{Holds, IsForgotten}
 use Rattle.linear_hash.specs.Staging.{IsChangeAnswer}
 

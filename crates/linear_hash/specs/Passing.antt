@@ -1,5 +1,5 @@
 -- Where a pass stands, and which pairs are behind that place.
-use Rattle.std.specs.Prelude.{◌≡◌, ℕ, ◌+◌, List, [], ◌∷◌, ◌++◌, length, map, drop, flat_map, Option, Some, None}
+use Rattle.std.specs.Prelude.{◌≡◌, ℕ, ◌+◌, List, [], ◌∷◌, ◌++◌, map, drop, flat_map, Option, Some, None}
 use Rattle.page_model.specs.Chain.{pairs_in}
 use Rattle.dbm_model.specs.Pairs.{Pair}
 use Rattle.page_model.specs.Placement.{Placement, chain_at}

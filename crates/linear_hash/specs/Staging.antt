@@ -1,11 +1,11 @@
 -- What a change stages.
-use Rattle.std.specs.Prelude.{◌≡◌, ◌⊎◌, ◌+◌, ◌^◌, ◌≤◌, ◌<◌, ℕ, true, false, length, Result, IfErr, IsErrOf}
+use Rattle.std.specs.Prelude.{◌≡◌, ◌⊎◌, ◌+◌, ◌^◌, ℕ, false, Result, IfErr, IsErrOf}
 use Rattle.page_model.specs.Address.{grown}
 use Rattle.page_model.specs.Pages.{Meta, Body}
 use Rattle.page_model.specs.Placement.{Placement, IsSound}
 use Rattle.page_model.specs.PageBodies.{meta_of, IsSpelled}
 use Rattle.free_pages.specs.declared.free_state.FreeState.{FreeState}
-use Rattle.page_io.specs.Store.{StoreState, AllBelow, has_page}
+use Rattle.page_io.specs.Store.{StoreState}
 use Rattle.page_io.specs.declared.store.PageFault.{PageFault}
 use Rattle.page_io.specs.declared.store.PageFault.TheVariants.{Memory, Device, Broken, NoRoom, Damaged}
 use Rattle.seg_table.specs.Heads.{AddsSegment}

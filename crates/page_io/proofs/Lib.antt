@@ -1,3 +1,4 @@
+pub mod Exits
 pub mod Fields
 pub mod Meanings
 pub mod Memory

@@ -4,6 +4,7 @@ pub mod HeadSets
 pub mod HeadTexts
 pub mod Metas
 pub mod PlacementHeads
+pub mod Refusals
 pub mod Segments
 pub mod Stagings
 pub mod Tables

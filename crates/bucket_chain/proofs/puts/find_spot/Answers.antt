@@ -1,22 +1,37 @@
-use Rattle.std.proofs.Common.{◌≡◌, inr, false, refl, sym, ◌∙◌, ap, Err, arith}
-use Rattle.std.proofs.lemmas.Result.{err_from_is_err_and}
+use Rattle.std.proofs.Common.{◌≡◌, inr, false, refl, sym, ◌∙◌, ap, arith}
+use Rattle.std.proofs.lemmas.Result.{IfOk-from_err}
+use Rattle.page_io.specs.Store.{StoreState}
 use Rattle.page_io.specs.declared.store.PageFault.TheVariants.{Damaged}
 use Rattle.page_io.proofs.Views.{reads_then}
+use Rattle.page_io.proofs.Exits.{exit_is, came, cause_then}
 use Rattle.chain_walks.proofs.ReadPages.{still_honest, link_before, link_after}
 use Rattle.chain_walks.proofs.Walks.{walk_goes_on, walk_is_here, some_page, not_too_long}
 use Rattle.bucket_chain.proofs.SpotLemmas.{spot_found, is_full}
+use Rattle.bucket_chain.proofs.Refusals.{walk_walks}
 use Rattle.bucket_chain.proofs.puts.find_spot.Goals as goal
 use Rattle.bucket_chain.proofs.puts.find_spot.Goals.{then-has_room-via-then-has_room, then-has_room-via-else-has_room+then-next-eq0}
 
-pub returns-in_err-next-clause-whole : goal.returns-in_err-next-clause-whole
-returns-in_err-next-clause-whole g c honest chain is damaged =
-    let walk = c.loop-step.invariant.walked honest in
+-- a page is not read
+pub returns-in_err-next : goal.returns-in_err-next
+returns-in_err-next g c =
+    let st = g.S.PageStore in
+    let told = c.in_err-next.ensures in
+    let result = c.from_residual in
+    let exit = exit_is result.result c.in_err-next.field-0.0 result.ensures.1 in
     let reads = c.loop-step.invariant.reads in
-    let here = walk_is_here _ _ _ _ _ _ _ chain is walk in
-    let some = some_page _ _ _ _ _ _ _ chain is walk in
-    let p = err_from_is_err_and c.from_residual.result c.from_residual.ensures.1 in
-    let fault : c.in_err-next.field-0.0 ≡ Damaged = let e = rw (p.1, p.2) at damaged in cc in
-    c.in_err-next.ensures.whole (still_honest g.S.PageStore _ _ reads honest) _ _ some (link_after g.S.PageStore _ _ reads honest _ _ _ _ here.link) (ap Err fault)
+    record {
+      reads = reads_then st _ _ _ (g.met.S.PageStore.counts_now c.loop-step.store) reads told.reads;
+      cause = cause_then _ _ exit _ _ _ reads.stages_only.later told.cause;
+      answer = walk_walks _ _ (ap (λ (s : StoreState). s.usable) reads.same) _ _ exit told.answer;
+      known = IfOk-from_err _ _ result.ensures.0;
+      page = IfOk-from_err _ _ result.ensures.0;
+      found = λ honest. IfOk-from_err _ _ result.ensures.0;
+      whole = λ honest chain is damaged.
+          let walk = c.loop-step.invariant.walked honest in
+          let here = walk_is_here _ _ _ _ _ _ _ chain is walk in
+          let some = some_page _ _ _ _ _ _ _ chain is walk in
+          c.in_err-next.ensures.whole (still_honest g.S.PageStore _ _ reads honest) _ _ some (link_after g.S.PageStore _ _ reads honest _ _ _ _ here.link) (came _ _ exit Damaged damaged);
+    }
 
 pub returns-then-has_room-clause-found : goal.returns-then-has_room-clause-found
 returns-then-has_room-clause-found g c honest =

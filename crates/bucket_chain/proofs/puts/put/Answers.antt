@@ -1,5 +1,5 @@
-use Rattle.std.proofs.Common.{◌≡◌, ℕ, Err, sym, subst, ◌∙◌, ap, arith}
-use Rattle.std.proofs.lemmas.Result.{err_from_is_err_and}
+use Rattle.std.proofs.Common.{◌≡◌, ℕ, refl, sym, subst, ◌∙◌, ap, arith}
+use Rattle.std.proofs.lemmas.Result.{IfOk-from_err}
 use Rattle.dbm_model.specs.Pairs.{Pair}
 use Rattle.page_model.specs.Pages.{Body, Bucket}
 use Rattle.page_model.specs.Reading.{own_number, body_of, bucket_of}
@@ -7,13 +7,17 @@ use Rattle.page_model.specs.Chain.{numbers}
 use Rattle.page_io.specs.Page as model
 use Rattle.page_io.specs.Store.{StoreState}
 use Rattle.page_io.specs.Views.{body_at, MayEnd}
-use Rattle.page_io.specs.declared.store.PageFault.TheVariants.{Damaged}
-use Rattle.page_io.proofs.Views.{stages_then, same_said, known_below}
+use Rattle.page_io.specs.declared.store.PageFault.TheVariants.{NoRoom, Damaged}
+use Rattle.page_io.proofs.Views.{stages_then, reads_then, same_said, known_below}
+use Rattle.page_io.proofs.Exits.{exit_is, came, cause_first, cause_then, cause_stage, cause_stage_last, stage_not_damaged, stage_has_room, last_not_damaged, last_has_room}
 use Rattle.free_pages.specs.FreeList.{IsFreeList}
+use Rattle.free_pages.specs.declared.free_state.FreeState.{FreeState}
+use Rattle.chain_walks.specs.Chains.{IsChainAt}
 use Rattle.page_io.proofs.OwnNumbers.{own_is, own_same}
 use Rattle.chain_walks.proofs.Headers.{header_of}
 use Rattle.bucket_chain.proofs.StagedPages.{on_ok, if_ok, with_own, known_same}
 use Rattle.bucket_chain.proofs.PutLemmas.{room_walk, lacks, put_here, put_last, no_room, new_apart, absent_none, added_says, linked_says, fresh_says, apart_alone}
+use Rattle.bucket_chain.proofs.Refusals.{walk_puts, take_puts, stage_puts, stage_puts_last, walk_has_room, few_same, few_then, few_both, few_more}
 use Rattle.bucket_chain.proofs.puts.put.Goals as goal
 
 pub stage_page-requires : goal.stage_page-requires
@@ -33,90 +37,163 @@ stage_page-requires-3 g c =
     let own = (header_of _ _ _ _ _ page.link).own in
     omega (arith, own_same c.set_next.new.page.bytes, c.set_next.ensures.own, own, c.in_ok-spot.ensures.known.0)
 
-pub returns-then-spot-clause-walked : goal.returns-then-spot-clause-walked
-returns-then-spot-clause-walked g c honest = on_ok c.stage_page.result (c.stage_page.ensures.says (c.find_spot.ensures.reads.stages_only.honesty.1 honest)) (λ _. room_walk _ _ _ _ _ (c.in_ok-spot.ensures.found honest))
-
-pub returns-then-spot-clause-may_end : goal.returns-then-spot-clause-may_end
-returns-then-spot-clause-may_end g c may =
-    let own = (header_of _ _ _ _ _ c.in_ok-spot.ensures.page.link).own in
-    let below = known_below _ _ _ may c.in_ok-spot.ensures.known.1 in
-    let still = subst (λ (st : StoreState). MayEnd st c.args.space.now.file_end) (sym c.find_spot.ensures.reads.same) may in
-    if_ok c.stage_page.result (c.stage_page.ensures.may_end c.args.space.now.file_end (omega (arith, own_same c.add.new.page.bytes, c.add.ensures.header.own, own, below)) still)
-
-pub returns-then-spot-clause-exact : goal.returns-then-spot-clause-exact
-returns-then-spot-clause-exact g c honest chain s placed none =
-    let p : Pair = (c.args.key.now, c.args.content.now) in
-    let found = c.in_ok-spot.ensures.found honest in
-    let same = same_said g.S.PageStore _ _ c.find_spot.ensures.reads honest in
-    let h1 = c.find_spot.ensures.reads.stages_only.honesty.1 honest in
-    let own : own_number c.add.new.page.bytes ≡ c.in_ok-spot.spot.page = c.add.ensures.header.own ∙ (header_of _ _ _ _ _ found.link).own in
-    let number = own_same c.add.new.page.bytes ∙ own in
-    on_ok c.stage_page.result (c.stage_page.ensures.says h1) (λ says.
-    let at' = body_at g.S.PageStore c.stage_page.new.store in
-    let read : at' c.in_ok-spot.spot.page ≡ body_of c.in_ok-spot.spot.page c.add.new.page.bytes = subst (λ (n : ℕ). at' n ≡ body_of n c.add.new.page.bytes) number says in
-    let here = added_says at' c.find_spot.new.page.bytes c.add.new.page.bytes _ _ found.before p found.link (c.add.ensures.holds (lacks _ c.args.space.now c.args.head p chain s _ _ placed found none)) read in
-    put_here _ _ c.args.head p chain s _ _ placed found at' c.if-spot.true here
-    (λ n other. c.stage_page.ensures.others h1 n (λ e. other (e ∙ number)) ∙ ap (λ (at : ℕ → Body). at n) same))
-
-pub returns-in_err-taken-clause-whole : goal.returns-in_err-taken-clause-whole
-returns-in_err-taken-clause-whole g c honest chain s placed none damaged =
-    let same = same_said g.S.PageStore _ _ c.find_spot.ensures.reads honest in
-    let p = err_from_is_err_and c.from_residual-in_err-taken.result c.from_residual-in_err-taken.ensures.1 in
-    let fault : c.in_err-taken.field-0.0 ≡ Damaged = let e = rw (p.1, p.2) at damaged in cc in
-    c.in_err-taken.ensures.whole (c.find_spot.ensures.reads.stages_only.honesty.1 honest) s (subst (λ (at : ℕ → Body). IsFreeList at c.args.space.now s) (sym same) placed.free_is) (apart_alone (numbers chain) s placed.apart) (ap Err fault)
-
-pub returns-in_err-stage_page-clause-stages : goal.returns-in_err-stage_page-clause-stages
-returns-in_err-stage_page-clause-stages g c =
-    let s = g.S.PageStore in
-    stages_then s _ _ _ (g.met.S.PageStore.counts_now c.take.new.store) (stages_then s _ _ _ (g.met.S.PageStore.counts_now c.find_spot.new.store) c.find_spot.ensures.reads.stages_only c.take.ensures.reads.stages_only) c.stage_page-2.ensures.stages
-
-pub returns-clause-stages : goal.returns-clause-stages
-returns-clause-stages g c =
-    let s = g.S.PageStore in
-    let reads = stages_then s _ _ _ (g.met.S.PageStore.counts_now c.find_spot.new.store) c.find_spot.ensures.reads.stages_only c.take.ensures.reads.stages_only in
-    stages_then s _ _ _ (g.met.S.PageStore.counts_now c.stage_page-2.new.store) (stages_then s _ _ _ (g.met.S.PageStore.counts_now c.take.new.store) reads c.stage_page-2.ensures.stages) c.stage_page-3.ensures.stages
-
-pub returns-clause-may_end : goal.returns-clause-may_end
-returns-clause-may_end g c may =
-    let own = (header_of _ _ _ _ _ c.in_ok-spot.ensures.page.link).own in
-    let new_own : own_number c.add-2.new.page.bytes ≡ c.in_ok-taken.taken = c.add-2.ensures.header.own ∙ sym (own_is c.empty-last.result.bytes) ∙ ap (λ (b : Bucket). b.own) c.empty-last.ensures.says in
-    let found = subst (λ (st : StoreState). MayEnd st c.args.space.now.file_end) (sym c.find_spot.ensures.reads.same) may in
-    let with_new = c.in_ok-taken.ensures.may_end found in
-    let end = c.take.new.space.file_end in
-    let staged = c.in_ok-stage_page.ensures.may_end_with end (with_own _ _ _ _ _ c.take.ensures.reads.same (sym (own_same c.add-2.new.page.bytes ∙ new_own)) with_new) in
-    let known = c.stage_page-2.ensures.known c.in_ok-spot.spot.page (known_same _ _ _ (c.take.ensures.reads.same ∙ c.find_spot.ensures.reads.same) c.in_ok-spot.ensures.known.1) in
-    if_ok c.stage_page-3.result (c.stage_page-3.ensures.may_end end (omega (arith, own_same c.set_next.new.page.bytes, c.set_next.ensures.own, own, known_below _ _ _ staged known)) staged)
-
-pub returns-clause-exact : goal.returns-clause-exact
-returns-clause-exact g c honest chain s placed none =
+-- no page is told
+pub returns-in_err-spot : goal.returns-in_err-spot
+returns-in_err-spot g c =
     let st = g.S.PageStore in
-    let p : Pair = (c.args.key.now, c.args.content.now) in
-    let at = body_at st c.args.store.now in
-    let at' = body_at st c.stage_page-3.new.store in
-    let page = c.in_ok-spot.spot.page in
-    let new = c.in_ok-taken.taken in
-    let found = c.in_ok-spot.ensures.found honest in
-    let h1 = c.find_spot.ensures.reads.stages_only.honesty.1 honest in
-    let h2 = c.take.ensures.reads.stages_only.honesty.1 h1 in
-    let h3 = c.stage_page-2.ensures.stages.honesty.1 h2 in
-    let same1 = same_said st _ _ c.find_spot.ensures.reads honest in
-    let same2 = same_said st _ _ c.take.ensures.reads h1 ∙ same1 in
-    let taken = c.in_ok-taken.ensures.exact h1 s (subst (λ (f : ℕ → Body). IsFreeList f c.args.space.now s) (sym same1) placed.free_is) (apart_alone (numbers chain) s placed.apart) in
-    let page_own : model.own_number c.set_next.new.page.bytes ≡ page = own_same c.set_next.new.page.bytes ∙ c.set_next.ensures.own ∙ (header_of _ _ _ _ _ found.link).own in
-    let new_own : model.own_number c.add-2.new.page.bytes ≡ new = own_same c.add-2.new.page.bytes ∙ c.add-2.ensures.header.own ∙ sym (own_is c.empty-last.result.bytes) ∙ ap (λ (b : Bucket). b.own) c.empty-last.ensures.says in
-    let apart : new ≡ page → ⊥ = λ e. new_apart at c.args.space.now c.args.head p chain s _ _ placed found (sym taken.0 ∙ e) in
-    let others : (n : ℕ) → (n ≡ page → ⊥) → (n ≡ new → ⊥) → at' n ≡ at n = λ n one two.
-    c.stage_page-3.ensures.others h3 n (λ e. one (e ∙ page_own)) ∙ c.stage_page-2.ensures.others h2 n (λ e. two (e ∙ new_own)) ∙ ap (λ (f : ℕ → Body). f n) same2 in
-    let there : at' new ≡ body_of new c.add-2.new.page.bytes =
-    c.stage_page-3.ensures.others h3 new (λ e. apart (e ∙ page_own)) ∙ subst (λ (n : ℕ). body_at st c.stage_page-2.new.store n ≡ body_of n c.add-2.new.page.bytes) new_own (c.in_ok-stage_page.ensures.says h2) in
-    let last = fresh_says at' c.empty-last.result.bytes c.add-2.new.page.bytes new p c.empty-last.ensures.page c.empty-last.ensures.says (c.add-2.ensures.holds (absent_none c.args.key.now c.empty-last.result.bytes new c.empty-last.ensures.says)) there in
-    on_ok c.stage_page-3.result (c.stage_page-3.ensures.says h3) (λ says.
-    let read = subst (λ (n : ℕ). at' n ≡ body_of n c.set_next.new.page.bytes) page_own says in
-    put_last at c.args.space.now c.args.head p chain s c.find_spot.new.page.bytes c.in_ok-spot.spot placed found at' new c.take.new.space c.if-spot.false taken
-    (linked_says at' c.find_spot.new.page.bytes c.set_next.new.page.bytes page found.next new found.before found.link c.set_next.ensures.page c.set_next.ensures.says read) last others)
+    let told = c.in_err-spot.ensures in
+    let result = c.from_residual in
+    let exit = exit_is result.result c.in_err-spot.field-0.0 result.ensures.1 in
+    record {
+      stages = told.reads.stages_only;
+      few = few_same _ _ 2 told.reads.same;
+      cause = cause_first _ _ exit _ _ told.cause;
+      answer = walk_puts _ _ refl _ _ exit _ _ told.answer;
+      walked = λ honest. IfOk-from_err _ _ result.ensures.0;
+      ends = λ e. e;
+      may_end = λ may. IfOk-from_err _ _ result.ensures.0;
+      exact = λ honest chain s placed none. IfOk-from_err _ _ result.ensures.0;
+      whole = λ honest chain s placed none damaged.
+          told.whole honest chain (subst (λ (n : ℕ). IsChainAt (body_at st c.args.store.now) n c.args.head chain) (sym (ap (λ (f : FreeState). f.file_end) placed.free_is.kept)) placed.chain_is) (came _ _ exit Damaged damaged);
+      room = λ honest chain s placed fits none. absurd (walk_has_room _ _ told.answer (came _ _ exit NoRoom none));
+    }
 
-pub returns-in_err-taken-clause-room : goal.returns-in_err-taken-clause-room
-returns-in_err-taken-clause-room g c honest chain s placed fits none =
-    let p : Pair = (c.args.key.now, c.args.content.now) in
-    let full = no_room (body_at g.S.PageStore c.args.store.now) c.args.space.now c.args.head p chain s _ _ placed (c.in_ok-spot.ensures.found honest) c.if-spot.false in
-    absurd (let e = sym fits ∙ full in cc)
+-- the pair fits a page
+pub returns-then-spot : goal.returns-then-spot
+returns-then-spot g c =
+    let st = g.S.PageStore in
+    let one = c.in_ok-spot.ensures.reads in
+    let told = c.stage_page.ensures in
+    record {
+      stages = stages_then st _ _ _ (g.met.S.PageStore.counts_now c.find_spot.new.store) one.stages_only told.stages;
+      few = few_more _ _ (few_then _ _ _ 1 one.same told.few);
+      cause = cause_stage_last _ _ _ _ _ _ _ one.stages_only.later told.faults told.answer;
+      answer = stage_puts_last _ _ _ _ (ap (λ (s : StoreState). s.usable) one.same) _ _ (few_same _ _ 1 one.same) told.answer;
+      walked = λ honest. on_ok c.stage_page.result (c.stage_page.ensures.says (c.find_spot.ensures.reads.stages_only.honesty.1 honest)) (λ _. room_walk _ _ _ _ _ (c.in_ok-spot.ensures.found honest));
+      ends = λ e. e;
+      may_end = λ may.
+          let own = (header_of _ _ _ _ _ c.in_ok-spot.ensures.page.link).own in
+          let below = known_below _ _ _ may c.in_ok-spot.ensures.known.1 in
+          let still = subst (λ (st : StoreState). MayEnd st c.args.space.now.file_end) (sym c.find_spot.ensures.reads.same) may in
+          if_ok c.stage_page.result (c.stage_page.ensures.may_end c.args.space.now.file_end (omega (arith, own_same c.add.new.page.bytes, c.add.ensures.header.own, own, below)) still);
+      exact = λ honest chain s placed none.
+          let p : Pair = (c.args.key.now, c.args.content.now) in
+          let found = c.in_ok-spot.ensures.found honest in
+          let same = same_said g.S.PageStore _ _ c.find_spot.ensures.reads honest in
+          let h1 = c.find_spot.ensures.reads.stages_only.honesty.1 honest in
+          let own : own_number c.add.new.page.bytes ≡ c.in_ok-spot.spot.page = c.add.ensures.header.own ∙ (header_of _ _ _ _ _ found.link).own in
+          let number = own_same c.add.new.page.bytes ∙ own in
+          on_ok c.stage_page.result (c.stage_page.ensures.says h1) (λ says.
+          let at' = body_at g.S.PageStore c.stage_page.new.store in
+          let read : at' c.in_ok-spot.spot.page ≡ body_of c.in_ok-spot.spot.page c.add.new.page.bytes = subst (λ (n : ℕ). at' n ≡ body_of n c.add.new.page.bytes) number says in
+          let here = added_says at' c.find_spot.new.page.bytes c.add.new.page.bytes _ _ found.before p found.link (c.add.ensures.holds (lacks _ c.args.space.now c.args.head p chain s _ _ placed found none)) read in
+          put_here _ _ c.args.head p chain s _ _ placed found at' c.if-spot.true here
+          (λ n other. c.stage_page.ensures.others h1 n (λ e. other (e ∙ number)) ∙ ap (λ (at : ℕ → Body). at n) same));
+      whole = λ honest chain s placed none damaged. absurd (last_not_damaged _ _ _ _ told.answer damaged);
+      room = λ honest chain s placed fits none. absurd (last_has_room _ _ _ _ told.answer none);
+    }
+
+-- no page is taken
+pub returns-in_err-taken : goal.returns-in_err-taken
+returns-in_err-taken g c =
+    let st = g.S.PageStore in
+    let told = c.in_err-taken.ensures in
+    let result = c.from_residual-in_err-taken in
+    let exit = exit_is result.result c.in_err-taken.field-0.0 result.ensures.1 in
+    let one = c.in_ok-spot.ensures.reads in
+    record {
+      stages = stages_then st _ _ _ (g.met.S.PageStore.counts_now c.find_spot.new.store) one.stages_only told.reads.stages_only;
+      few = few_then _ _ _ 2 one.same (few_same _ _ 2 told.reads.same);
+      cause = cause_then _ _ exit _ _ _ one.stages_only.later told.cause;
+      answer = take_puts _ _ (ap (λ (s : StoreState). s.usable) one.same) _ _ exit _ _ (ap (λ (s : StoreState). s.capacity) one.same) told.answer;
+      walked = λ honest. IfOk-from_err _ _ result.ensures.0;
+      ends = told.ends;
+      may_end = λ may. IfOk-from_err _ _ result.ensures.0;
+      exact = λ honest chain s placed none. IfOk-from_err _ _ result.ensures.0;
+      whole = λ honest chain s placed none damaged.
+          let same = same_said g.S.PageStore _ _ c.find_spot.ensures.reads honest in
+          c.in_err-taken.ensures.whole (c.find_spot.ensures.reads.stages_only.honesty.1 honest) s (subst (λ (at : ℕ → Body). IsFreeList at c.args.space.now s) (sym same) placed.free_is) (apart_alone (numbers chain) s placed.apart) (came _ _ exit Damaged damaged);
+      room = λ honest chain s placed fits none.
+          let p : Pair = (c.args.key.now, c.args.content.now) in
+          let full = no_room (body_at g.S.PageStore c.args.store.now) c.args.space.now c.args.head p chain s _ _ placed (c.in_ok-spot.ensures.found honest) c.if-spot.false in
+          absurd (let e = sym fits ∙ full in cc);
+    }
+
+-- the new page is not staged
+pub returns-in_err-stage_page : goal.returns-in_err-stage_page
+returns-in_err-stage_page g c =
+    let st = g.S.PageStore in
+    let told = c.in_err-stage_page.ensures in
+    let result = c.from_residual-in_err-stage_page in
+    let exit = exit_is result.result c.in_err-stage_page.field-0.0 result.ensures.1 in
+    let one = c.in_ok-spot.ensures.reads in
+    let two = c.in_ok-taken.ensures.reads in
+    let both = reads_then st _ _ _ (g.met.S.PageStore.counts_now c.find_spot.new.store) one two in
+    let done = c.stage_page-2.ensures in
+    record {
+      stages = stages_then st _ _ _ (g.met.S.PageStore.counts_now c.take.new.store) both.stages_only told.stages;
+      few = few_more _ _ (few_then _ _ _ 1 both.same told.few);
+      cause = cause_stage _ _ exit _ _ _ _ _ _ both.stages_only.later told.faults told.answer;
+      answer = stage_puts _ _ (ap (λ (s : StoreState). s.usable) both.same) _ _ exit _ _ _ (few_same _ _ 1 both.same) told.answer;
+      walked = λ honest. IfOk-from_err _ _ result.ensures.0;
+      ends = c.in_ok-taken.ensures.ends;
+      may_end = λ may. IfOk-from_err _ _ result.ensures.0;
+      exact = λ honest chain s placed none. IfOk-from_err _ _ result.ensures.0;
+      whole = λ honest chain s placed none damaged. absurd (stage_not_damaged _ _ _ _ told.answer (came _ _ exit Damaged damaged));
+      room = λ honest chain s placed fits none. absurd (stage_has_room _ _ _ _ told.answer (came _ _ exit NoRoom none));
+    }
+
+-- a page is taken, and the last one names it
+pub returns : goal.returns
+returns g c =
+    let st = g.S.PageStore in
+    let one = c.in_ok-spot.ensures.reads in
+    let two = c.in_ok-taken.ensures.reads in
+    let both = reads_then st _ _ _ (g.met.S.PageStore.counts_now c.find_spot.new.store) one two in
+    let staged = c.in_ok-stage_page.ensures in
+    let told = c.stage_page-3.ensures in
+    let so_far = stages_then st _ _ _ (g.met.S.PageStore.counts_now c.take.new.store) both.stages_only staged.stages in
+    record {
+      stages = stages_then st _ _ _ (g.met.S.PageStore.counts_now c.stage_page-2.new.store) so_far told.stages;
+      few = few_both _ _ _ (few_then _ _ _ 1 both.same staged.few) told.few;
+      cause = cause_stage_last _ _ _ _ _ _ _ so_far.later told.faults told.answer;
+      answer = stage_puts_last _ _ _ _ (ap (λ (s : StoreState). s.usable) so_far.state) _ _ (few_then _ _ _ 1 both.same staged.few) told.answer;
+      walked = λ honest. if_ok c.stage_page-3.result (room_walk _ _ _ _ _ (c.in_ok-spot.ensures.found honest));
+      ends = c.in_ok-taken.ensures.ends;
+      may_end = λ may.
+          let own = (header_of _ _ _ _ _ c.in_ok-spot.ensures.page.link).own in
+          let new_own : own_number c.add-2.new.page.bytes ≡ c.in_ok-taken.taken = c.add-2.ensures.header.own ∙ sym (own_is c.empty-last.result.bytes) ∙ ap (λ (b : Bucket). b.own) c.empty-last.ensures.says in
+          let found = subst (λ (st : StoreState). MayEnd st c.args.space.now.file_end) (sym c.find_spot.ensures.reads.same) may in
+          let with_new = c.in_ok-taken.ensures.may_end found in
+          let end = c.take.new.space.file_end in
+          let staged = c.in_ok-stage_page.ensures.may_end_with end (with_own _ _ _ _ _ c.take.ensures.reads.same (sym (own_same c.add-2.new.page.bytes ∙ new_own)) with_new) in
+          let known = c.stage_page-2.ensures.known c.in_ok-spot.spot.page (known_same _ _ _ (c.take.ensures.reads.same ∙ c.find_spot.ensures.reads.same) c.in_ok-spot.ensures.known.1) in
+          if_ok c.stage_page-3.result (c.stage_page-3.ensures.may_end end (omega (arith, own_same c.set_next.new.page.bytes, c.set_next.ensures.own, own, known_below _ _ _ staged known)) staged);
+      exact = λ honest chain s placed none.
+          let p : Pair = (c.args.key.now, c.args.content.now) in
+          let at = body_at st c.args.store.now in
+          let at' = body_at st c.stage_page-3.new.store in
+          let page = c.in_ok-spot.spot.page in
+          let new = c.in_ok-taken.taken in
+          let found = c.in_ok-spot.ensures.found honest in
+          let h1 = c.find_spot.ensures.reads.stages_only.honesty.1 honest in
+          let h2 = c.take.ensures.reads.stages_only.honesty.1 h1 in
+          let h3 = c.stage_page-2.ensures.stages.honesty.1 h2 in
+          let same1 = same_said st _ _ c.find_spot.ensures.reads honest in
+          let same2 = same_said st _ _ c.take.ensures.reads h1 ∙ same1 in
+          let taken = c.in_ok-taken.ensures.exact h1 s (subst (λ (f : ℕ → Body). IsFreeList f c.args.space.now s) (sym same1) placed.free_is) (apart_alone (numbers chain) s placed.apart) in
+          let page_own : model.own_number c.set_next.new.page.bytes ≡ page = own_same c.set_next.new.page.bytes ∙ c.set_next.ensures.own ∙ (header_of _ _ _ _ _ found.link).own in
+          let new_own : model.own_number c.add-2.new.page.bytes ≡ new = own_same c.add-2.new.page.bytes ∙ c.add-2.ensures.header.own ∙ sym (own_is c.empty-last.result.bytes) ∙ ap (λ (b : Bucket). b.own) c.empty-last.ensures.says in
+          let apart : new ≡ page → ⊥ = λ e. new_apart at c.args.space.now c.args.head p chain s _ _ placed found (sym taken.0 ∙ e) in
+          let others : (n : ℕ) → (n ≡ page → ⊥) → (n ≡ new → ⊥) → at' n ≡ at n = λ n one two.
+          c.stage_page-3.ensures.others h3 n (λ e. one (e ∙ page_own)) ∙ c.stage_page-2.ensures.others h2 n (λ e. two (e ∙ new_own)) ∙ ap (λ (f : ℕ → Body). f n) same2 in
+          let there : at' new ≡ body_of new c.add-2.new.page.bytes =
+          c.stage_page-3.ensures.others h3 new (λ e. apart (e ∙ page_own)) ∙ subst (λ (n : ℕ). body_at st c.stage_page-2.new.store n ≡ body_of n c.add-2.new.page.bytes) new_own (c.in_ok-stage_page.ensures.says h2) in
+          let last = fresh_says at' c.empty-last.result.bytes c.add-2.new.page.bytes new p c.empty-last.ensures.page c.empty-last.ensures.says (c.add-2.ensures.holds (absent_none c.args.key.now c.empty-last.result.bytes new c.empty-last.ensures.says)) there in
+          on_ok c.stage_page-3.result (c.stage_page-3.ensures.says h3) (λ says.
+          let read = subst (λ (n : ℕ). at' n ≡ body_of n c.set_next.new.page.bytes) page_own says in
+          put_last at c.args.space.now c.args.head p chain s c.find_spot.new.page.bytes c.in_ok-spot.spot placed found at' new c.take.new.space c.if-spot.false taken
+          (linked_says at' c.find_spot.new.page.bytes c.set_next.new.page.bytes page found.next new found.before found.link c.set_next.ensures.page c.set_next.ensures.says read) last others);
+      whole = λ honest chain s placed none damaged. absurd (last_not_damaged _ _ _ _ told.answer damaged);
+      room = λ honest chain s placed fits none. absurd (last_has_room _ _ _ _ told.answer none);
+    }

@@ -1,8 +1,9 @@
-use Rattle.std.proofs.Common.{◌≡◌, inl, inr, refl, subst, ap, Err, arith}
-use Rattle.std.proofs.lemmas.Result.{err_from_is_err_and}
+use Rattle.std.proofs.Common.{inl, inr, refl, subst, ap, arith}
+use Rattle.std.proofs.lemmas.Result.{IfOk-from_err}
 use Rattle.page_io.specs.Store.{StoreState, IsKnown}
 use Rattle.page_io.specs.declared.store.PageFault.TheVariants.{Damaged}
 use Rattle.page_io.proofs.Views.{reads_then}
+use Rattle.page_io.proofs.Exits.{exit_is, came, cause_then}
 use Rattle.slot_page.specs.Contents.{page_pairs}
 use Rattle.chain_walks.specs.Walks.{EndsWithout}
 use Rattle.chain_walks.proofs.Headers.{header_of}
@@ -10,6 +11,7 @@ use Rattle.chain_walks.proofs.ReadPages.{reads_none, still_honest, link_before, 
 use Rattle.chain_walks.proofs.Walks.{walk_is_here, some_page, not_too_long}
 use Rattle.chain_walks.proofs.KeyWalks.{absent_times}
 use Rattle.bucket_chain.proofs.Hits.{track_starts, track_goes_on, track_ends, track_hits}
+use Rattle.bucket_chain.proofs.Refusals.{walk_walks}
 use Rattle.bucket_chain.proofs.removes.find_hit.Goals as goal
 
 pub loop-step-init : goal.loop-step-init
@@ -20,15 +22,26 @@ loop-step-init g c = record {
   walked = λ honest. track_starts _ _ _ _;
 }
 
-pub returns-in_err-next-clause-whole : goal.returns-in_err-next-clause-whole
-returns-in_err-next-clause-whole g c honest chain is damaged =
-    let walk = (c.loop-step.invariant.walked honest).walk in
+-- a page is not read
+pub returns-in_err-next : goal.returns-in_err-next
+returns-in_err-next g c =
+    let st = g.S.PageStore in
+    let told = c.in_err-next.ensures in
+    let result = c.from_residual in
+    let exit = exit_is result.result c.in_err-next.field-0.0 result.ensures.1 in
     let reads = c.loop-step.invariant.reads in
-    let here = walk_is_here _ _ _ _ _ _ _ chain is walk in
-    let some = some_page _ _ _ _ _ _ _ chain is walk in
-    let p = err_from_is_err_and c.from_residual.result c.from_residual.ensures.1 in
-    let fault : c.in_err-next.field-0.0 ≡ Damaged = let e = rw (p.1, p.2) at damaged in cc in
-    c.in_err-next.ensures.whole (still_honest g.S.PageStore _ _ reads honest) _ _ some (link_after g.S.PageStore _ _ reads honest _ _ _ _ here.link) (ap Err fault)
+    record {
+      reads = reads_then st _ _ _ (g.met.S.PageStore.counts_now c.loop-step.store) reads told.reads;
+      cause = cause_then _ _ exit _ _ _ reads.stages_only.later told.cause;
+      answer = walk_walks _ _ (ap (λ (s : StoreState). s.usable) reads.same) _ _ exit told.answer;
+      held = IfOk-from_err _ _ result.ensures.0;
+      walked = λ honest. IfOk-from_err _ _ result.ensures.0;
+      whole = λ honest chain is damaged.
+          let walk = (c.loop-step.invariant.walked honest).walk in
+          let here = walk_is_here _ _ _ _ _ _ _ chain is walk in
+          let some = some_page _ _ _ _ _ _ _ chain is walk in
+          c.in_err-next.ensures.whole (still_honest g.S.PageStore _ _ reads honest) _ _ some (link_after g.S.PageStore _ _ reads honest _ _ _ _ here.link) (came _ _ exit Damaged damaged);
+    }
 
 pub returns-in-Some-clause-held : goal.returns-in-Some-clause-held
 returns-in-Some-clause-held g c = record {

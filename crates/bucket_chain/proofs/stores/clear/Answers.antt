@@ -1,63 +1,110 @@
-use Rattle.std.proofs.Common.{◌≡◌, ◌∷◌, [], inl, ℕ, Err, refl, sym, subst, ◌∙◌, ap, arith}
-use Rattle.std.proofs.lemmas.Result.{err_from_is_err_and}
+use Rattle.std.proofs.Common.{◌≡◌, ◌∷◌, [], inl, ℕ, refl, sym, subst, ◌∙◌, ap, arith}
+use Rattle.std.proofs.lemmas.Result.{IfOk-from_err}
 use Rattle.page_model.specs.Pages.{Body, Bucket}
 use Rattle.page_model.specs.Reading.{body_of, bucket_of}
 use Rattle.page_model.specs.Chain.{Chain}
 use Rattle.page_io.specs.Page as model
 use Rattle.page_io.specs.Store.{StoreState}
 use Rattle.page_io.specs.Views.{body_at, MayEnd}
-use Rattle.page_io.specs.declared.store.PageFault.TheVariants.{Damaged}
-use Rattle.page_io.proofs.Views.{same_said, known_below}
+use Rattle.page_io.specs.declared.store.PageFault.TheVariants.{NoRoom, Damaged}
+use Rattle.page_io.proofs.Views.{stages_then, same_said, known_below}
+use Rattle.page_io.proofs.Exits.{exit_is, came, cause_first, cause_then, cause_stage_last, last_not_damaged, last_has_room}
 use Rattle.bucket_chain.specs.Giving.{AreGiven}
 use Rattle.bucket_chain.specs.Changes.{IsCleared, store_in}
 use Rattle.page_io.proofs.OwnNumbers.{own_is, own_same}
 use Rattle.chain_walks.proofs.LinkBodies.{says_link}
 use Rattle.bucket_chain.proofs.StagedPages.{on_ok, if_ok}
 use Rattle.bucket_chain.proofs.PutLemmas.{placed_same}
-use Rattle.bucket_chain.proofs.Clearing.{was_read, first_is, cleared, each_chain}
+use Rattle.bucket_chain.proofs.Clearing.{was_read, first_is, head_link, head_some, cleared, each_chain}
+use Rattle.bucket_chain.proofs.Refusals.{walk_stores, store_stores, stage_stores_last, walk_has_room}
 use Rattle.bucket_chain.proofs.stores.clear.Goals as goal
-
-pub returns-in_err-give_overflow-clause-whole : goal.returns-in_err-give_overflow-clause-whole
-returns-in_err-give_overflow-clause-whole g c honest chain s placed damaged =
-    let same = same_said g.S.PageStore _ _ c.in_ok-first.ensures.reads honest in
-    let p = err_from_is_err_and c.from_residual-in_err-give_overflow.result c.from_residual-in_err-give_overflow.ensures.1 in
-    let fault : c.in_err-give_overflow.field-0.0 ≡ Damaged = let e = rw (p.1, p.2) at damaged in cc in
-    let h1 = c.in_ok-first.ensures.reads.stages_only.honesty.1 honest in
-    each_chain _ _ _ chain s placed (λ leaf rest is placed'.
-    c.in_err-give_overflow.ensures.whole h1 _ leaf rest s (placed_same _ _ c.args.space.now _ (leaf ∷ rest) s same placed')
-    (first_is _ c.args.space.now _ _ _ leaf rest s placed' (c.in_ok-first.ensures.says honest)) (ap Err fault))
 
 pub stage_page-requires : goal.stage_page-requires
 stage_page-requires g c =
     let own : (bucket_of c.empty.result.bytes).own ≡ c.args.head = ap (λ (b : Bucket). b.own) c.empty.ensures.says in
     omega (arith, own_same c.empty.result.bytes, own_is c.empty.result.bytes, own, c.in_ok-first.ensures.known.0)
 
-pub returns-clause-walked : goal.returns-clause-walked
-returns-clause-walked g c honest =
-    let same = same_said g.S.PageStore _ _ c.in_ok-first.ensures.reads honest in
-    let h1 = c.in_ok-first.ensures.reads.stages_only.honesty.1 honest in
-    if_ok c.stage_page.result (was_read _ _ _ _ _ _ _ (c.in_ok-first.ensures.says honest) (subst (λ (at : ℕ → Body). AreGiven at (body_at g.S.PageStore c.give_overflow.new.store) c.args.space.now c.give_overflow.new.space c.in_ok-first.first 0) same (c.in_ok-give_overflow.ensures.given h1)))
-
-pub returns-clause-may_end : goal.returns-clause-may_end
-returns-clause-may_end g c may =
-    let own : (bucket_of c.empty.result.bytes).own ≡ c.args.head = ap (λ (b : Bucket). b.own) c.empty.ensures.says in
-    let read = subst (λ (x : StoreState). MayEnd x c.args.space.now.file_end) (sym c.in_ok-first.ensures.reads.same) may in
-    let given = c.in_ok-give_overflow.ensures.may_end read in
-    let below = known_below _ _ _ may c.in_ok-first.ensures.known.1 in
-    if_ok c.stage_page.result (c.stage_page.ensures.may_end c.give_overflow.new.space.file_end (omega (arith, own_same c.empty.result.bytes, own_is c.empty.result.bytes, own, below, c.in_ok-give_overflow.ensures.end)) given)
-
-pub returns-clause-exact : goal.returns-clause-exact
-returns-clause-exact g c honest chain s placed =
+-- the head page is not read
+pub returns-in_err-first : goal.returns-in_err-first
+returns-in_err-first g c =
     let st = g.S.PageStore in
-    let same = same_said st _ _ c.in_ok-first.ensures.reads honest in
-    let h1 = c.in_ok-first.ensures.reads.stages_only.honesty.1 honest in
-    let h2 = c.in_ok-give_overflow.ensures.stages.honesty.1 h1 in
-    let own : model.own_number c.empty.result.bytes ≡ c.args.head = own_same c.empty.result.bytes ∙ sym (own_is c.empty.result.bytes) ∙ ap (λ (b : Bucket). b.own) c.empty.ensures.says in
-    let given = subst (λ (at : ℕ → Body). AreGiven at (body_at st c.give_overflow.new.store) c.args.space.now c.give_overflow.new.space c.in_ok-first.first 0) same (c.in_ok-give_overflow.ensures.given h1) in
-    on_ok c.stage_page.result (c.stage_page.ensures.says h2) (λ says.
-    let at' = body_at st c.stage_page.new.store in
-    let read : at' c.args.head ≡ body_of c.args.head c.empty.result.bytes = subst (λ (n : ℕ). at' n ≡ body_of n c.empty.result.bytes) own says in
-    let here = (says_link at' c.empty.result.bytes c.args.head 3 0 [] read (inl refl) (record { page = c.empty.ensures.page; says = c.empty.ensures.says; filled = λ four. absurd (omega arith) })).says in
-    each_chain _ _ _ chain s placed (λ leaf rest is placed'.
-    subst (λ (x : Chain). IsCleared (body_at st c.args.store.now) at' c.give_overflow.new.space c.args.head (store_in (x, s) [])) (sym is)
-    (cleared _ (body_at st c.give_overflow.new.store) at' c.args.space.now _ _ _ _ leaf rest s placed' (c.in_ok-first.ensures.says honest) given here (λ n other. c.stage_page.ensures.others h2 n (λ e. other (e ∙ own))))))
+    let told = c.in_err-first.ensures in
+    let result = c.from_residual in
+    let exit = exit_is result.result c.in_err-first.field-0.0 result.ensures.1 in
+    record {
+      stages = told.reads.stages_only;
+      cause = cause_first _ _ exit _ _ told.cause;
+      answer = walk_stores _ _ refl _ _ exit told.answer;
+      room = λ none. absurd (walk_has_room _ _ told.answer (came _ _ exit NoRoom none));
+      walked = λ honest. IfOk-from_err _ _ result.ensures.0;
+      ends = λ e. e;
+      may_end = λ may. IfOk-from_err _ _ result.ensures.0;
+      exact = λ honest chain s placed. IfOk-from_err _ _ result.ensures.0;
+      whole = λ honest chain s placed damaged. each_chain _ _ _ chain s placed (λ leaf rest is placed'.
+          told.whole honest _ _ (head_some _ _ _ leaf rest s placed') (head_link _ _ _ leaf rest s placed') (came _ _ exit Damaged damaged));
+    }
+
+-- an overflow page is not given
+pub returns-in_err-give_overflow : goal.returns-in_err-give_overflow
+returns-in_err-give_overflow g c =
+    let st = g.S.PageStore in
+    let told = c.in_err-give_overflow.ensures in
+    let result = c.from_residual-in_err-give_overflow in
+    let exit = exit_is result.result c.in_err-give_overflow.field-0.0 result.ensures.1 in
+    let one = c.in_ok-first.ensures.reads in
+    record {
+      stages = stages_then st _ _ _ (g.met.S.PageStore.counts_now c.read_link.new.store) one.stages_only told.stages;
+      cause = cause_then _ _ exit _ _ _ one.stages_only.later told.cause;
+      answer = store_stores _ _ (ap (λ (s : StoreState). s.usable) one.same) _ _ exit told.answer;
+      room = λ none. told.room (came _ _ exit NoRoom none);
+      walked = λ honest. IfOk-from_err _ _ result.ensures.0;
+      ends = told.ends;
+      may_end = λ may. IfOk-from_err _ _ result.ensures.0;
+      exact = λ honest chain s placed. IfOk-from_err _ _ result.ensures.0;
+      whole = λ honest chain s placed damaged.
+          let same = same_said g.S.PageStore _ _ c.in_ok-first.ensures.reads honest in
+          let h1 = c.in_ok-first.ensures.reads.stages_only.honesty.1 honest in
+          each_chain _ _ _ chain s placed (λ leaf rest is placed'.
+          c.in_err-give_overflow.ensures.whole h1 _ leaf rest s (placed_same _ _ c.args.space.now _ (leaf ∷ rest) s same placed')
+          (first_is _ c.args.space.now _ _ _ leaf rest s placed' (c.in_ok-first.ensures.says honest)) (came _ _ exit Damaged damaged));
+    }
+
+-- the head page is emptied
+pub returns : goal.returns
+returns g c =
+    let st = g.S.PageStore in
+    let one = c.in_ok-first.ensures.reads in
+    let given = c.in_ok-give_overflow.ensures in
+    let told = c.stage_page.ensures in
+    let so_far = stages_then st _ _ _ (g.met.S.PageStore.counts_now c.read_link.new.store) one.stages_only given.stages in
+    record {
+      stages = stages_then st _ _ _ (g.met.S.PageStore.counts_now c.give_overflow.new.store) so_far told.stages;
+      cause = cause_stage_last _ _ _ _ _ _ _ so_far.later told.faults told.answer;
+      answer = stage_stores_last _ _ _ _ (ap (λ (s : StoreState). s.usable) so_far.state) _ told.answer;
+      room = λ none. last_has_room _ _ _ _ told.answer none;
+      walked = λ honest.
+          let same = same_said g.S.PageStore _ _ c.in_ok-first.ensures.reads honest in
+          let h1 = c.in_ok-first.ensures.reads.stages_only.honesty.1 honest in
+          if_ok c.stage_page.result (was_read _ _ _ _ _ _ _ (c.in_ok-first.ensures.says honest) (subst (λ (at : ℕ → Body). AreGiven at (body_at g.S.PageStore c.give_overflow.new.store) c.args.space.now c.give_overflow.new.space c.in_ok-first.first 0) same (c.in_ok-give_overflow.ensures.given h1)));
+      ends = given.ends;
+      may_end = λ may.
+          let own : (bucket_of c.empty.result.bytes).own ≡ c.args.head = ap (λ (b : Bucket). b.own) c.empty.ensures.says in
+          let read = subst (λ (x : StoreState). MayEnd x c.args.space.now.file_end) (sym c.in_ok-first.ensures.reads.same) may in
+          let given = c.in_ok-give_overflow.ensures.may_end read in
+          let below = known_below _ _ _ may c.in_ok-first.ensures.known.1 in
+          if_ok c.stage_page.result (c.stage_page.ensures.may_end c.give_overflow.new.space.file_end (omega (arith, own_same c.empty.result.bytes, own_is c.empty.result.bytes, own, below, c.in_ok-give_overflow.ensures.end)) given);
+      exact = λ honest chain s placed.
+          let same = same_said st _ _ c.in_ok-first.ensures.reads honest in
+          let h1 = c.in_ok-first.ensures.reads.stages_only.honesty.1 honest in
+          let h2 = c.in_ok-give_overflow.ensures.stages.honesty.1 h1 in
+          let own : model.own_number c.empty.result.bytes ≡ c.args.head = own_same c.empty.result.bytes ∙ sym (own_is c.empty.result.bytes) ∙ ap (λ (b : Bucket). b.own) c.empty.ensures.says in
+          let given = subst (λ (at : ℕ → Body). AreGiven at (body_at st c.give_overflow.new.store) c.args.space.now c.give_overflow.new.space c.in_ok-first.first 0) same (c.in_ok-give_overflow.ensures.given h1) in
+          on_ok c.stage_page.result (c.stage_page.ensures.says h2) (λ says.
+          let at' = body_at st c.stage_page.new.store in
+          let read : at' c.args.head ≡ body_of c.args.head c.empty.result.bytes = subst (λ (n : ℕ). at' n ≡ body_of n c.empty.result.bytes) own says in
+          let here = (says_link at' c.empty.result.bytes c.args.head 3 0 [] read (inl refl) (record { page = c.empty.ensures.page; says = c.empty.ensures.says; filled = λ four. absurd (omega arith) })).says in
+          each_chain _ _ _ chain s placed (λ leaf rest is placed'.
+          subst (λ (x : Chain). IsCleared (body_at st c.args.store.now) at' c.give_overflow.new.space c.args.head (store_in (x, s) [])) (sym is)
+          (cleared _ (body_at st c.give_overflow.new.store) at' c.args.space.now _ _ _ _ leaf rest s placed' (c.in_ok-first.ensures.says honest) given here (λ n other. c.stage_page.ensures.others h2 n (λ e. other (e ∙ own))))));
+      whole = λ honest chain s placed damaged. absurd (last_not_damaged _ _ _ _ told.answer damaged);
+    }

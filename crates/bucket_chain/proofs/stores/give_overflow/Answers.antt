@@ -1,15 +1,17 @@
-use Rattle.std.proofs.Common.{◌≡◌, ℕ, Err, refl, sym, subst, ◌∙◌, ap, arith}
-use Rattle.std.proofs.lemmas.Result.{err_from_is_err_and}
+use Rattle.std.proofs.Common.{ℕ, refl, sym, subst, ◌∙◌, ap, arith}
+use Rattle.std.proofs.lemmas.Result.{IfOk-from_err}
 use Rattle.page_model.specs.Pages.{Body}
 use Rattle.page_io.specs.Store.{StoreState}
 use Rattle.page_io.specs.Views.{body_at, MayEnd}
-use Rattle.page_io.specs.declared.store.PageFault.TheVariants.{Damaged}
+use Rattle.page_io.specs.declared.store.PageFault.TheVariants.{NoRoom, Damaged}
 use Rattle.page_io.proofs.Views.{stages_then, same_said, known_below}
+use Rattle.page_io.proofs.Exits.{exit_is, came, cause_then}
 use Rattle.slot_page.specs.Contents.{page_pairs}
 use Rattle.free_pages.specs.declared.free_state.FreeState.{FreeState}
-use Rattle.free_pages.specs.FreeList.{IsFreeList}
+use Rattle.free_pages.specs.FreeList.{IsFreeList, HasEnds}
 use Rattle.chain_walks.proofs.ReadPages.{reads_none}
 use Rattle.bucket_chain.proofs.Givings.{giving_starts, giving_goes_on, next_link, room_left, not_all}
+use Rattle.bucket_chain.proofs.Refusals.{walk_stores, give_stores, cause_give, walk_has_room, give_has_room}
 use Rattle.bucket_chain.proofs.stores.give_overflow.Goals as goal
 
 pub loop-step-init : goal.loop-step-init
@@ -20,19 +22,6 @@ loop-step-init g c = record {
   may_end = λ may. may;
   given = λ honest. giving_starts (body_at g.S.PageStore c.args.store.now) c.args.space.now c.args.first;
 }
-
-pub returns-in_err-next-clause-whole : goal.returns-in_err-next-clause-whole
-returns-in_err-next-clause-whole g c honest head leaf rest s placed from damaged =
-    let p = err_from_is_err_and c.from_residual.result c.from_residual.ensures.1 in
-    let fault : c.in_err-next.field-0.0 ≡ Damaged = let e = rw (p.1, p.2) at damaged in cc in
-    c.in_err-next.ensures.whole (c.loop-step.invariant.stages.honesty.1 honest) _ _ (omega (arith, c.if-at-eq0.false))
-    (next_link _ _ _ _ _ _ _ (c.loop-step.invariant.given honest) head leaf rest s placed from c.if-at-eq0.false) (ap Err fault)
-
-pub returns-in_err-give-clause-whole : goal.returns-in_err-give-clause-whole
-returns-in_err-give-clause-whole g c honest head leaf rest s placed from damaged =
-    let p = err_from_is_err_and c.from_residual-in_err-give.result c.from_residual-in_err-give.ensures.1 in
-    let fault : c.in_err-give.field-0.0 ≡ Damaged = let e = rw (p.1, p.2) at damaged in cc in
-    room_left _ _ _ _ _ _ _ (c.loop-step.invariant.given honest) head leaf rest s placed from (c.in_err-give.ensures.answer.damaged.0 (ap Err fault))
 
 pub loop-step-preserved : goal.loop-step-preserved
 loop-step-preserved g c =
@@ -62,3 +51,50 @@ loop-step-preserved g c =
 pub returns-clause-whole : goal.returns-clause-whole
 returns-clause-whole g c honest head leaf rest s placed from damaged =
     not_all _ _ _ _ _ _ _ (c.loop-step.invariant.given honest) head leaf rest s placed from (omega (arith, c.loop-step-test.false, ap (λ (t : FreeState). t.file_end) placed.free_is.kept))
+
+-- a page is not read
+pub returns-in_err-next : goal.returns-in_err-next
+returns-in_err-next g c =
+    let st = g.S.PageStore in
+    let told = c.in_err-next.ensures in
+    let result = c.from_residual in
+    let exit = exit_is result.result c.in_err-next.field-0.0 result.ensures.1 in
+    let so_far = c.loop-step.invariant in
+    record {
+      stages = stages_then st _ _ _ (g.met.S.PageStore.counts_now c.loop-step.store) so_far.stages told.reads.stages_only;
+      cause = cause_then _ _ exit _ _ _ so_far.stages.later told.cause;
+      answer = walk_stores _ _ (ap (λ (s : StoreState). s.usable) so_far.stages.state) _ _ exit told.answer;
+      room = λ none. walk_has_room _ _ told.answer (came _ _ exit NoRoom none);
+      ends = so_far.ends;
+      end = so_far.end;
+      may_end = λ may. subst (λ (x : StoreState). MayEnd x c.loop-step.space.file_end) (sym told.reads.same) (so_far.may_end may);
+      given = λ honest. IfOk-from_err _ _ result.ensures.0;
+      whole = λ honest head leaf rest s placed from damaged.
+          c.in_err-next.ensures.whole (c.loop-step.invariant.stages.honesty.1 honest) _ _ (omega (arith, c.if-at-eq0.false))
+          (next_link _ _ _ _ _ _ _ (c.loop-step.invariant.given honest) head leaf rest s placed from c.if-at-eq0.false) (came _ _ exit Damaged damaged);
+    }
+
+-- a page is not given
+pub returns-in_err-give : goal.returns-in_err-give
+returns-in_err-give g c =
+    let st = g.S.PageStore in
+    let told = c.in_err-give.ensures in
+    let result = c.from_residual-in_err-give in
+    let exit = exit_is result.result c.in_err-give.field-0.0 result.ensures.1 in
+    let so_far = c.loop-step.invariant in
+    let read = c.in_ok-next.ensures.reads in
+    let both = stages_then st _ _ _ (g.met.S.PageStore.counts_now c.loop-step.store) so_far.stages read.stages_only in
+    record {
+      stages = stages_then st _ _ _ (g.met.S.PageStore.counts_now c.read_link.new.store) both told.stages;
+      cause = cause_give _ _ exit _ _ _ both.later told.faults _ _ _ _ told.answer;
+      answer = give_stores _ _ (ap (λ (s : StoreState). s.usable) both.state) _ _ exit _ _ _ told.answer;
+      room = λ none. give_has_room _ _ _ _ _ told.answer (came _ _ exit NoRoom none);
+      ends = λ e. subst HasEnds (sym told.err) (so_far.ends e);
+      end = ap (λ (f : FreeState). f.file_end) told.err ∙ so_far.end;
+      may_end = λ may.
+          let kept = subst (λ (x : StoreState). MayEnd x c.loop-step.space.file_end) (sym (told.err_state ∙ read.same)) (so_far.may_end may) in
+          subst (λ (f : FreeState). MayEnd (st.state c.give.new.store) f.file_end) (sym told.err) kept;
+      given = λ honest. IfOk-from_err _ _ result.ensures.0;
+      whole = λ honest head leaf rest s placed from damaged.
+          room_left _ _ _ _ _ _ _ (c.loop-step.invariant.given honest) head leaf rest s placed from (c.in_err-give.ensures.answer.damaged.0 (came _ _ exit Damaged damaged));
+    }

@@ -1,27 +1,44 @@
-use Rattle.std.proofs.Common.{◌≡◌, ℕ, List, Err, map, take, fold, sym, subst, ap, arith}
-use Rattle.std.proofs.lemmas.Result.{err_from_is_err_and}
+use Rattle.std.proofs.Common.{◌≡◌, ℕ, List, length, map, take, fold, sym, subst, ap, arith}
+use Rattle.std.proofs.lemmas.Result.{IfOk-from_err}
 use Rattle.std.proofs.lemmas.List.{length-map, take_all}
 use Rattle.dbm_model.specs.Pairs.{Pair, IsAllowed}
 use Rattle.page_model.specs.PairLists.{times}
 use Rattle.page_model.specs.Chain.{pairs_in}
+use Rattle.page_io.specs.Store.{StoreState}
 use Rattle.page_io.specs.Views.{body_at}
 use Rattle.page_io.specs.declared.store.PageFault.TheVariants.{Damaged}
 use Rattle.page_io.proofs.Views.{stages_then}
+use Rattle.page_io.proofs.Exits.{exit_is, came, cause_then}
 use Rattle.chain_walks.specs.Pairs.{pair_of}
 use Rattle.bucket_chain.specs.Changes.{BecomesPlaced, put_in}
+use Rattle.bucket_chain.proofs.Refusals.{put_stores}
 use Rattle.bucket_chain.proofs.Storing.{HavePut, one_put, not_put, not_before, next_pair, pair_there}
 use Rattle.bucket_chain.proofs.stores.put_all.Goals as goal
 
-pub returns-in_err-put-clause-whole : goal.returns-in_err-put-clause-whole
-returns-in_err-put-clause-whole g c honest placed is empty distinct damaged =
-    let p = err_from_is_err_and c.from_residual.result c.from_residual.ensures.1 in
-    let fault : c.in_err-put.field-0.0 ≡ Damaged = let e = rw (p.1, p.2) at damaged in cc in
-    let i = c.loop-pair.pair-index in
-    let pairs = c.args.pairs.now in
-    let so_far = c.loop-pair.invariant.put honest placed is empty distinct in
-    let there = pair_there pairs i c.pair-item.result c.loop-pair-test.true (sym c.pair-item.is) in
-    let absent = not_put _ _ _ _ _ placed (take i (map pair_of pairs)) c.pair-item.result.key.items so_far (not_before (map pair_of pairs) i (pair_of c.pair-item.result) (omega (arith, c.loop-pair-test.true, length-map pairs pair_of)) there distinct) in
-    c.in_err-put.ensures.whole (c.loop-pair.invariant.stages.honesty.1 honest) _ _ so_far.is_placed (subst (λ (k : List ℕ). times k (pairs_in (fold put_in placed (take i (map pair_of pairs))).0) ≡ 0) (sym c.deref.ensures.value) absent) (ap Err fault)
+-- a pair is not put
+pub returns-in_err-put : goal.returns-in_err-put
+returns-in_err-put g c =
+    let st = g.S.PageStore in
+    let told = c.in_err-put.ensures in
+    let result = c.from_residual in
+    let exit = exit_is result.result c.in_err-put.field-0.0 result.ensures.1 in
+    let so_far = c.loop-pair.invariant in
+    record {
+      stages = stages_then st _ _ _ (g.met.S.PageStore.counts_now c.loop-pair.store) so_far.stages told.stages;
+      cause = cause_then _ _ exit _ _ _ so_far.stages.later told.cause;
+      answer = put_stores _ _ (ap (λ (s : StoreState). s.usable) so_far.stages.state) _ _ exit _ _ told.answer;
+      room = λ none fails. absurd (omega (arith, c.loop-pair-test.true, ap length none));
+      ends = λ e. told.ends (so_far.ends e);
+      may_end = λ may. IfOk-from_err _ _ result.ensures.0;
+      exact = λ honest placed is empty distinct. IfOk-from_err _ _ result.ensures.0;
+      whole = λ honest placed is empty distinct damaged.
+          let here = so_far.put honest placed is empty distinct in
+          let i = c.loop-pair.pair-index in
+          let pairs = c.args.pairs.now in
+          let there = pair_there pairs i c.pair-item.result c.loop-pair-test.true (sym c.pair-item.is) in
+          let absent = not_put _ _ _ _ _ placed (take i (map pair_of pairs)) c.pair-item.result.key.items here (not_before (map pair_of pairs) i (pair_of c.pair-item.result) (omega (arith, c.loop-pair-test.true, length-map pairs pair_of)) there distinct) in
+          c.in_err-put.ensures.whole (c.loop-pair.invariant.stages.honesty.1 honest) _ _ here.is_placed (subst (λ (k : List ℕ). times k (pairs_in (fold put_in placed (take i (map pair_of pairs))).0) ≡ 0) (sym c.deref.ensures.value) absent) (came _ _ exit Damaged damaged);
+    }
 
 pub loop-pair-preserved : goal.loop-pair-preserved
 loop-pair-preserved g c =

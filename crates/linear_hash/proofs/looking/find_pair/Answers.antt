@@ -1,5 +1,5 @@
-use Rattle.std.proofs.Common.{◌≡◌, ◌∙◌, ℕ, Err, sym, ap, subst}
-use Rattle.std.proofs.lemmas.Result.{err_from_is_err_and}
+use Rattle.std.proofs.Common.{◌≡◌, ◌∙◌, ℕ, refl, sym, ap, subst}
+use Rattle.std.proofs.lemmas.Result.{IfOk-from_err, IfOk-weaker}
 use Rattle.page_model.specs.Address.{address, hash_of}
 use Rattle.page_model.specs.Pages.{Body}
 use Rattle.page_model.specs.Placement.{Placement, key_bucket, chain_at}
@@ -7,20 +7,31 @@ use Rattle.page_model.specs.PageBodies.{heads_of}
 use Rattle.page_io.specs.Store.{StoreState}
 use Rattle.page_io.specs.Views.{body_at}
 use Rattle.page_io.specs.declared.store.PageFault.TheVariants.{Damaged}
-use Rattle.page_io.proofs.Views.{same_said}
+use Rattle.page_io.proofs.Views.{same_said, reads_then}
+use Rattle.page_io.proofs.Exits.{exit_is, came, cause_first, cause_last}
 use Rattle.seg_table.specs.MetaPages.{model_meta}
+use Rattle.chain_walks.specs.Answers.{IsWalkAnswer}
 use Rattle.chain_walks.specs.Chains.{IsChainAt}
 use Rattle.linear_hash.specs.Tables.{shape_in, IsTable}
-use Rattle.std.proofs.lemmas.Result.{IfOk-weaker}
 use Rattle.linear_hash.proofs.Buckets.{table_heads, table_below, table_chain, found_in}
+use Rattle.linear_hash.proofs.Refusals.{head_of_walk}
 use Rattle.linear_hash.proofs.looking.find_pair.Given.{Over}
 use Rattle.linear_hash.proofs.looking.find_pair.Goals as goal
 
-pub returns-in_err-head-clause-whole : goal.returns-in_err-head-clause-whole
-returns-in_err-head-clause-whole g c honest p table damaged =
-    let told = err_from_is_err_and c.from_residual.result c.from_residual.ensures.1 in
-    let fault : c.in_err-head.field-0.0 ≡ Damaged = let e = rw (told.1, told.2) at damaged in cc in
-    c.in_err-head.ensures.whole honest (heads_of p.chains) (table_heads _ _ _ p table) (ap Err fault)
+-- the head page is not told
+pub returns-in_err-head : goal.returns-in_err-head
+returns-in_err-head g c =
+    let told = c.in_err-head.ensures in
+    let result = c.from_residual in
+    let exit = exit_is result.result c.in_err-head.field-0.0 result.ensures.1 in
+    record {
+      reads = told.reads;
+      cause = cause_first _ _ exit _ _ told.cause;
+      answer = head_of_walk _ _ refl _ _ exit told.answer;
+      held = IfOk-from_err _ _ result.ensures.0;
+      exact = λ honest p table. IfOk-from_err _ _ result.ensures.0;
+      whole = λ honest p table damaged. told.whole honest (heads_of p.chains) (table_heads _ _ _ p table) (came _ _ exit Damaged damaged);
+    }
 
 -- the chain of the key's bucket, as it is read after the head was looked up
 chain_there : (g : Over) (c : goal.After-lookup g) → g.S.PageStore.honest c.args.store.now → (p : Placement)
@@ -34,6 +45,15 @@ chain_there g c honest p table =
     let there = table_chain _ _ _ p table c.args.key.now c.bucket.result bucket c.in_ok-head.head head in
     subst (λ (st : StoreState). IsChainAt (body_at g.S.PageStore c.head_of.new.store) st.end c.in_ok-head.head chain) (sym reads.same)
     (subst (λ (at : ℕ → Body). IsChainAt at (g.S.PageStore.state c.args.store.now).end c.in_ok-head.head chain) (sym (same_said g.S.PageStore _ _ reads honest)) there)
+
+pub returns-clause-reads : goal.returns-clause-reads
+returns-clause-reads g c = reads_then g.S.PageStore _ _ _ (g.met.S.PageStore.counts_now c.head_of.new.store) c.in_ok-head.ensures.reads c.lookup.ensures.reads
+
+pub returns-clause-cause : goal.returns-clause-cause
+returns-clause-cause g c = cause_last _ _ _ _ c.in_ok-head.ensures.cause.later c.lookup.ensures.cause
+
+pub returns-clause-answer : goal.returns-clause-answer
+returns-clause-answer g c = subst (λ (s : StoreState). IsWalkAnswer s c.lookup.result) c.in_ok-head.ensures.reads.same c.lookup.ensures.answer
 
 pub returns-clause-exact : goal.returns-clause-exact
 returns-clause-exact g c honest p table =

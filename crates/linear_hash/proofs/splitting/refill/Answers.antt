@@ -1,11 +1,13 @@
-use Rattle.std.proofs.Common.{◌≡◌, cond, Err, sym, ap, ◌∙◌, arith, rules}
-use Rattle.std.proofs.lemmas.Result.{err_from_is_err_and}
+use Rattle.std.proofs.Common.{◌≡◌, cond, sym, ap, ◌∙◌, arith, rules}
+use Rattle.std.proofs.lemmas.Result.{IfOk-from_err}
 use Rattle.page_model.specs.Address.{hash_of}
 use Rattle.page_io.specs.Store.{StoreState}
 use Rattle.page_io.specs.Views.{body_at}
 use Rattle.page_io.specs.declared.store.PageFault.TheVariants.{NoRoom, Damaged}
 use Rattle.page_io.proofs.Views.{stages_then}
+use Rattle.page_io.proofs.Exits.{exit_is, came, cause_then}
 use Rattle.linear_hash.proofs.Fillings.{filling_starts, filling_ends, filling_room, refill_length, refill_placed, refill_absent, refill_goes_on}
+use Rattle.linear_hash.proofs.Refusals.{put_refused}
 use Rattle.linear_hash.proofs.splitting.refill.Goals as goal
 use Rattle.linear_hash.proofs.splitting.refill.Goals.{then-goes_up, else-goes_up}
 
@@ -17,37 +19,42 @@ loop-pair-init g c = record {
   filling = λ honest p from. filling_starts p from.sound _ _ from.below;
 }
 
-pub returns-in_err-put-clause-stages : goal.returns-in_err-put-clause-stages
-returns-in_err-put-clause-stages g c = stages_then g.S.PageStore _ _ _ (g.met.S.PageStore.counts_now c.loop-pair.store) c.loop-pair.invariant.stages c.put.ensures.stages
-
-pub returns-in_err-put-clause-whole : goal.returns-in_err-put-clause-whole
-returns-in_err-put-clause-whole g c honest p from damaged =
-    let q = err_from_is_err_and c.from_residual.result c.from_residual.ensures.1 in
-    let fault : c.in_err-put.field-0.0 ≡ Damaged = let e = rw (q.1, q.2) at damaged in cc in
-    let i = c.loop-pair.pair-index in
-    let item = c.pair-item.result in
-    let here = sym c.pair-item.is in
-    let so_far = c.loop-pair.invariant.filling honest p from in
-    let n = c.args.new_head in
-    let head = c.args.head in
-    let up = c.split_goes_up-goes_up.result in
-    let goes : c.if-goes_up.to ≡ cond up n head = elim c.if-goes_up.branch [
-      | then-goes_up w ↦ w.to-is ∙ sym (ap (λ b. cond b n head) w.if-goes_up.true)
-      | else-goes_up w ↦ w.to-is ∙ sym (ap (λ b. cond b n head) w.if-goes_up.false)
-    ] in
-    let placed = refill_placed _ _ _ head n _ p from i item c.loop-pair-test.true here _ _ so_far up c.hash.result c.if-goes_up.to c.split_goes_up-goes_up.ensures.place (c.hash.ensures ∙ ap hash_of c.deref.ensures.value) goes in
-    let absent = refill_absent _ _ _ head n _ p from i item c.loop-pair-test.true here _ _ so_far c.deref-in-loop-pair.result.now c.deref-in-loop-pair.ensures.value in
-    c.in_err-put.ensures.whole (c.loop-pair.invariant.stages.honesty.1 honest) _ _ placed absent (ap Err fault)
-
-pub returns-in_err-put-clause-room : goal.returns-in_err-put-clause-room
-returns-in_err-put-clause-room g c honest p from none =
-    let q = err_from_is_err_and c.from_residual.result c.from_residual.ensures.1 in
-    let fault : c.in_err-put.field-0.0 ≡ NoRoom = let e = rw (q.1, q.2) at none in cc in
-    let so_far = c.loop-pair.invariant.filling honest p from in
-    let many = refill_length _ _ _ _ _ _ p from in
-    let full = c.in_err-put.ensures.answer.no_room (ap Err fault) in
-    let room = filling_room _ _ p c.loop-pair.pair-index (omega (arith, c.loop-pair-test.true, many)) so_far in
-    omega (arith, full.1, room, c.loop-pair-test.true, ap (λ (s : StoreState). s.capacity) c.loop-pair.invariant.stages.state)
+-- a pair is not put
+pub returns-in_err-put : goal.returns-in_err-put
+returns-in_err-put g c =
+    let so_far = c.loop-pair.invariant in
+    let told = c.in_err-put.ensures in
+    let result = c.from_residual in
+    let exit = exit_is result.result c.in_err-put.field-0.0 result.ensures.1 in
+    record {
+      stages = stages_then g.S.PageStore _ _ _ (g.met.S.PageStore.counts_now c.loop-pair.store) so_far.stages told.stages;
+      cause = cause_then _ _ exit _ _ _ so_far.stages.later told.cause;
+      answer = put_refused _ _ (ap (λ (s : StoreState). s.usable) so_far.stages.state) _ _ exit _ _ told.answer;
+      ends = λ e. told.ends (so_far.ends e);
+      may_end = λ may. IfOk-from_err _ _ result.ensures.0;
+      exact = λ honest p from. IfOk-from_err _ _ result.ensures.0;
+      whole = λ honest p from damaged.
+          let i = c.loop-pair.pair-index in
+          let item = c.pair-item.result in
+          let here = sym c.pair-item.is in
+          let so_far = c.loop-pair.invariant.filling honest p from in
+          let n = c.args.new_head in
+          let head = c.args.head in
+          let up = c.split_goes_up-goes_up.result in
+          let goes : c.if-goes_up.to ≡ cond up n head = elim c.if-goes_up.branch [
+            | then-goes_up w ↦ w.to-is ∙ sym (ap (λ b. cond b n head) w.if-goes_up.true)
+            | else-goes_up w ↦ w.to-is ∙ sym (ap (λ b. cond b n head) w.if-goes_up.false)
+          ] in
+          let placed = refill_placed _ _ _ head n _ p from i item c.loop-pair-test.true here _ _ so_far up c.hash.result c.if-goes_up.to c.split_goes_up-goes_up.ensures.place (c.hash.ensures ∙ ap hash_of c.deref.ensures.value) goes in
+          let absent = refill_absent _ _ _ head n _ p from i item c.loop-pair-test.true here _ _ so_far c.deref-in-loop-pair.result.now c.deref-in-loop-pair.ensures.value in
+          c.in_err-put.ensures.whole (c.loop-pair.invariant.stages.honesty.1 honest) _ _ placed absent (came _ _ exit Damaged damaged);
+      room = λ honest p from none.
+          let so_far = c.loop-pair.invariant.filling honest p from in
+          let many = refill_length _ _ _ _ _ _ p from in
+          let full = c.in_err-put.ensures.answer.no_room (came _ _ exit NoRoom none) in
+          let room = filling_room _ _ p c.loop-pair.pair-index (omega (arith, c.loop-pair-test.true, many)) so_far in
+          omega (arith, full.1, room, c.loop-pair-test.true, ap (λ (s : StoreState). s.capacity) c.loop-pair.invariant.stages.state);
+    }
 
 pub loop-pair-preserved : goal.loop-pair-preserved
 loop-pair-preserved g c =

@@ -1,89 +1,150 @@
-use Rattle.std.proofs.Common.{◌≡◌, ◌^◌, ◌<◌, List, length, map, Err, refl, ap, ◌∙◌, arith}
-use Rattle.std.proofs.lemmas.Result.{err_from_is_err_and}
+use Rattle.std.proofs.Common.{◌^◌, ◌<◌, List, length, map, refl, sym, ap, subst, ◌∙◌, arith}
+use Rattle.std.proofs.lemmas.Result.{IfOk-from_err}
 use Rattle.std.proofs.lemmas.List.{length-map}
 use Rattle.dbm_model.specs.Pairs.{Pair}
 use Rattle.page_model.specs.PageBodies.{heads_of}
 use Rattle.page_io.specs.Store.{StoreState}
 use Rattle.page_io.specs.declared.store.PageFault.TheVariants.{NoRoom, Damaged}
+use Rattle.page_io.specs.Views.{MayEnd}
+use Rattle.page_io.proofs.Views.{stages_then}
+use Rattle.page_io.proofs.Exits.{exit_is, came, cause_first, cause_then, cause_ok}
 use Rattle.chain_walks.specs.Pairs.{pair_of}
-use Rattle.linear_hash.proofs.SplitLemmas.{heads_read, split_head, chain_then, honest_later, midway_later, refilled_later, midway_split, end_refilled}
+use Rattle.linear_hash.proofs.Refusals.{head_refused, load_refused, change_refused, no_refusal, head_has_room, load_has_room}
+use Rattle.linear_hash.proofs.SplitLemmas.{heads_read, split_head, chain_then, honest_later, midway_later, refilled_later, midway_split, end_refilled, is_grown}
 use Rattle.linear_hash.proofs.splitting.split_bucket.Goals as goal
 
-pub returns-in_err-head-clause-whole : goal.returns-in_err-head-clause-whole
-returns-in_err-head-clause-whole g c honest p midway near damaged =
-    let q = err_from_is_err_and c.from_residual.result c.from_residual.ensures.1 in
-    let fault : c.in_err-head.field-0.0 ≡ Damaged = let e = rw (q.1, q.2) at damaged in cc in
+-- the head page is not told
+pub returns-in_err-head : goal.returns-in_err-head
+returns-in_err-head g c =
+    let st = g.S.PageStore in
+    let told = c.in_err-head.ensures in
+    let result = c.from_residual in
+    let exit = exit_is result.result c.in_err-head.field-0.0 result.ensures.1 in
     let small : c.args.space.now.file_end < 2 ^ 32 = omega (arith, c.if-prove.false) in
-    c.in_err-head.ensures.whole honest (heads_of p.chains) (heads_read _ _ _ p midway small) (ap Err fault)
+    record {
+      stages = told.reads.stages_only;
+      cause = cause_first _ _ exit _ _ told.cause;
+      answer = head_refused _ _ refl _ _ exit told.answer;
+      grown = IfOk-from_err _ _ result.ensures.0;
+      ends = λ e. e;
+      may_end = λ may. IfOk-from_err _ _ result.ensures.0;
+      exact = λ honest p midway near. IfOk-from_err _ _ result.ensures.0;
+      whole = λ honest p midway near damaged.
+          c.in_err-head.ensures.whole honest (heads_of p.chains) (heads_read _ _ _ p midway small) (came _ _ exit Damaged damaged);
+      room = λ honest p midway near none. absurd (head_has_room _ _ told.answer (came _ _ exit NoRoom none));
+    }
 
-pub returns-in_err-pairs-clause-whole : goal.returns-in_err-pairs-clause-whole
-returns-in_err-pairs-clause-whole g c honest p midway near damaged =
-    let q = err_from_is_err_and c.from_residual-in_err-pairs.result c.from_residual-in_err-pairs.ensures.1 in
-    let fault : c.in_err-pairs.field-0.0 ≡ Damaged = let e = rw (q.1, q.2) at damaged in cc in
+-- its pairs are not read
+pub returns-in_err-pairs : goal.returns-in_err-pairs
+returns-in_err-pairs g c =
+    let st = g.S.PageStore in
+    let told = c.in_err-pairs.ensures in
+    let result = c.from_residual-in_err-pairs in
+    let exit = exit_is result.result c.in_err-pairs.field-0.0 result.ensures.1 in
+    let one = c.in_ok-head.ensures.reads in
     let small : c.args.space.now.file_end < 2 ^ 32 = omega (arith, c.if-prove.false) in
-    let reads = c.in_ok-head.ensures.reads in
-    let from = split_head _ _ _ p midway small _ (c.in_ok-head.ensures.exact honest (heads_of p.chains)) in
-    c.in_err-pairs.ensures.whole (reads.stages_only.honesty.1 honest) _ (chain_then g.S.PageStore _ _ _ _ p _ from reads honest midway near) (ap Err fault)
+    record {
+      stages = stages_then st _ _ _ (g.met.S.PageStore.counts_now c.head_of.new.store) one.stages_only told.reads.stages_only;
+      cause = cause_then _ _ exit _ _ _ one.stages_only.later told.cause;
+      answer = load_refused _ _ (ap (λ (s : StoreState). s.usable) one.same) _ _ exit told.answer;
+      grown = IfOk-from_err _ _ result.ensures.0;
+      ends = λ e. e;
+      may_end = λ may. IfOk-from_err _ _ result.ensures.0;
+      exact = λ honest p midway near. IfOk-from_err _ _ result.ensures.0;
+      whole = λ honest p midway near damaged.
+          let from = split_head _ _ _ p midway small _ (c.in_ok-head.ensures.exact honest (heads_of p.chains)) in
+          c.in_err-pairs.ensures.whole (one.stages_only.honesty.1 honest) _ (chain_then g.S.PageStore _ _ _ _ p _ from one honest midway near) (came _ _ exit Damaged damaged);
+      room = λ honest p midway near none. absurd (load_has_room _ _ told.answer (came _ _ exit NoRoom none));
+    }
 
-pub returns-in_err-new_head-clause-whole : goal.returns-in_err-new_head-clause-whole
-returns-in_err-new_head-clause-whole g c honest p midway near damaged =
-    let q = err_from_is_err_and c.from_residual-in_err-new_head.result c.from_residual-in_err-new_head.ensures.1 in
-    let fault : c.in_err-new_head.field-0.0 ≡ Damaged = let e = rw (q.1, q.2) at damaged in cc in
+-- no bucket is opened
+pub returns-in_err-new_head : goal.returns-in_err-new_head
+returns-in_err-new_head g c =
+    let st = g.S.PageStore in
+    let told = c.in_err-new_head.ensures in
+    let result = c.from_residual-in_err-new_head in
+    let exit = exit_is result.result c.in_err-new_head.field-0.0 result.ensures.1 in
+    let one = c.in_ok-head.ensures.reads in
+    let two = c.in_ok-pairs.ensures.reads in
+    let read = stages_then st _ _ _ (g.met.S.PageStore.counts_now c.head_of.new.store) one.stages_only two.stages_only in
     let small : c.args.space.now.file_end < 2 ^ 32 = omega (arith, c.if-prove.false) in
+    record {
+      stages = stages_then st _ _ _ (g.met.S.PageStore.counts_now c.load_all.new.store) read told.stages;
+      cause = cause_then _ _ exit _ _ _ read.later told.cause;
+      answer = change_refused _ _ (ap (λ (s : StoreState). s.usable) read.state) _ _ exit told.answer;
+      grown = IfOk-from_err _ _ result.ensures.0;
+      ends = told.ends;
+      may_end = λ may. IfOk-from_err _ _ result.ensures.0;
+      exact = λ honest p midway near. IfOk-from_err _ _ result.ensures.0;
+      whole = λ honest p midway near damaged.
+          let from = split_head _ _ _ p midway small _ (c.in_ok-head.ensures.exact honest (heads_of p.chains)) in
+          c.in_err-new_head.ensures.whole (honest_later st _ _ _ _ p _ from one honest midway _ two) p (midway_later st _ _ _ _ p _ from one honest midway _ two) from (came _ _ exit Damaged damaged);
+      room = λ honest p midway near none.
+          let from = split_head _ _ _ p midway small _ (c.in_ok-head.ensures.exact honest (heads_of p.chains)) in
+          let full = c.in_err-new_head.ensures.room (honest_later st _ _ _ _ p _ from one honest midway _ two) p (midway_later st _ _ _ _ p _ from one honest midway _ two) from (came _ _ exit NoRoom none) in
+          omega (arith, full, ap (λ (s : StoreState). s.capacity) (two.same ∙ one.same));
+    }
+
+-- the pairs are not put again
+pub returns-in_err-refill : goal.returns-in_err-refill
+returns-in_err-refill g c =
+    let st = g.S.PageStore in
+    let told = c.in_err-refill.ensures in
+    let result = c.from_residual-in_err-refill in
+    let exit = exit_is result.result c.in_err-refill.field-0.0 result.ensures.1 in
+    let one = c.in_ok-head.ensures.reads in
+    let two = c.in_ok-pairs.ensures.reads in
+    let read = stages_then st _ _ _ (g.met.S.PageStore.counts_now c.head_of.new.store) one.stages_only two.stages_only in
+    let three = c.in_ok-new_head.ensures.stages in
+    let so_far = stages_then st _ _ _ (g.met.S.PageStore.counts_now c.load_all.new.store) read three in
+    let small : c.args.space.now.file_end < 2 ^ 32 = omega (arith, c.if-prove.false) in
+    record {
+      stages = stages_then st _ _ _ (g.met.S.PageStore.counts_now c.open_bucket.new.store) so_far told.stages;
+      cause = cause_then _ _ exit _ _ _ so_far.later told.cause;
+      answer = change_refused _ _ (ap (λ (s : StoreState). s.usable) so_far.state) _ _ exit told.answer;
+      grown = IfOk-from_err _ _ result.ensures.0;
+      ends = λ e. told.ends (c.in_ok-new_head.ensures.ends e);
+      may_end = λ may. IfOk-from_err _ _ result.ensures.0;
+      exact = λ honest p midway near. IfOk-from_err _ _ result.ensures.0;
+      whole = λ honest p midway near damaged.
+          let from = split_head _ _ _ p midway small _ (c.in_ok-head.ensures.exact honest (heads_of p.chains)) in
+          let again = refilled_later st _ _ _ _ p _ from one honest midway _ two _ _ _ _ _ _ _ near c.in_ok-pairs.ensures.exact c.in_ok-new_head.ensures.exact c.in_ok-new_head.ensures.added (ap (map pair_of) c.as_slice.ensures.value) in
+          c.in_err-refill.ensures.whole (c.in_ok-new_head.ensures.stages.honesty.1 (honest_later st _ _ _ _ p _ from one honest midway _ two)) p again (came _ _ exit Damaged damaged);
+      room = λ honest p midway near none.
+          let from = split_head _ _ _ p midway small _ (c.in_ok-head.ensures.exact honest (heads_of p.chains)) in
+          let again = refilled_later st _ _ _ _ p _ from one honest midway _ two _ _ _ _ _ _ _ near c.in_ok-pairs.ensures.exact c.in_ok-new_head.ensures.exact c.in_ok-new_head.ensures.added (ap (map pair_of) c.as_slice.ensures.value) in
+          let full = c.in_err-refill.ensures.room (c.in_ok-new_head.ensures.stages.honesty.1 (honest_later st _ _ _ _ p _ from one honest midway _ two)) p again (came _ _ exit NoRoom none) in
+          let room = ap (λ (s : StoreState). s.capacity) (c.in_ok-new_head.ensures.stages.state) ∙ ap (λ (s : StoreState). s.capacity) (two.same ∙ one.same) in
+          let many = ap (λ (ps : List Pair). length ps) again.pairs_are in
+          omega (arith, full, room, many, length-map c.as_slice.result.now pair_of, end_refilled p midway.sound);
+    }
+
+-- the bucket is split
+pub returns : goal.returns
+returns g c =
     let st = g.S.PageStore in
     let one = c.in_ok-head.ensures.reads in
     let two = c.in_ok-pairs.ensures.reads in
-    let from = split_head _ _ _ p midway small _ (c.in_ok-head.ensures.exact honest (heads_of p.chains)) in
-    c.in_err-new_head.ensures.whole (honest_later st _ _ _ _ p _ from one honest midway _ two) p (midway_later st _ _ _ _ p _ from one honest midway _ two) from (ap Err fault)
-
-pub returns-in_err-new_head-clause-room : goal.returns-in_err-new_head-clause-room
-returns-in_err-new_head-clause-room g c honest p midway near none =
-    let q = err_from_is_err_and c.from_residual-in_err-new_head.result c.from_residual-in_err-new_head.ensures.1 in
-    let fault : c.in_err-new_head.field-0.0 ≡ NoRoom = let e = rw (q.1, q.2) at none in cc in
+    let read = stages_then st _ _ _ (g.met.S.PageStore.counts_now c.head_of.new.store) one.stages_only two.stages_only in
+    let three = c.in_ok-new_head.ensures.stages in
+    let so_far = stages_then st _ _ _ (g.met.S.PageStore.counts_now c.load_all.new.store) read three in
+    let four = c.in_ok-refill.ensures in
+    let all = stages_then st _ _ _ (g.met.S.PageStore.counts_now c.open_bucket.new.store) so_far four.stages in
     let small : c.args.space.now.file_end < 2 ^ 32 = omega (arith, c.if-prove.false) in
-    let st = g.S.PageStore in
-    let one = c.in_ok-head.ensures.reads in
-    let two = c.in_ok-pairs.ensures.reads in
-    let from = split_head _ _ _ p midway small _ (c.in_ok-head.ensures.exact honest (heads_of p.chains)) in
-    let full = c.in_err-new_head.ensures.room (honest_later st _ _ _ _ p _ from one honest midway _ two) p (midway_later st _ _ _ _ p _ from one honest midway _ two) from (ap Err fault) in
-    omega (arith, full, ap (λ (s : StoreState). s.capacity) (two.same ∙ one.same))
-
-pub returns-in_err-refill-clause-whole : goal.returns-in_err-refill-clause-whole
-returns-in_err-refill-clause-whole g c honest p midway near damaged =
-    let q = err_from_is_err_and c.from_residual-in_err-refill.result c.from_residual-in_err-refill.ensures.1 in
-    let fault : c.in_err-refill.field-0.0 ≡ Damaged = let e = rw (q.1, q.2) at damaged in cc in
-    let small : c.args.space.now.file_end < 2 ^ 32 = omega (arith, c.if-prove.false) in
-    let st = g.S.PageStore in
-    let one = c.in_ok-head.ensures.reads in
-    let two = c.in_ok-pairs.ensures.reads in
-    let from = split_head _ _ _ p midway small _ (c.in_ok-head.ensures.exact honest (heads_of p.chains)) in
-    let again = refilled_later st _ _ _ _ p _ from one honest midway _ two _ _ _ _ _ _ _ near c.in_ok-pairs.ensures.exact c.in_ok-new_head.ensures.exact c.in_ok-new_head.ensures.added (ap (map pair_of) c.as_slice.ensures.value) in
-    c.in_err-refill.ensures.whole (c.in_ok-new_head.ensures.stages.honesty.1 (honest_later st _ _ _ _ p _ from one honest midway _ two)) p again (ap Err fault)
-
-pub returns-in_err-refill-clause-room : goal.returns-in_err-refill-clause-room
-returns-in_err-refill-clause-room g c honest p midway near none =
-    let q = err_from_is_err_and c.from_residual-in_err-refill.result c.from_residual-in_err-refill.ensures.1 in
-    let fault : c.in_err-refill.field-0.0 ≡ NoRoom = let e = rw (q.1, q.2) at none in cc in
-    let small : c.args.space.now.file_end < 2 ^ 32 = omega (arith, c.if-prove.false) in
-    let st = g.S.PageStore in
-    let one = c.in_ok-head.ensures.reads in
-    let two = c.in_ok-pairs.ensures.reads in
-    let from = split_head _ _ _ p midway small _ (c.in_ok-head.ensures.exact honest (heads_of p.chains)) in
-    let again = refilled_later st _ _ _ _ p _ from one honest midway _ two _ _ _ _ _ _ _ near c.in_ok-pairs.ensures.exact c.in_ok-new_head.ensures.exact c.in_ok-new_head.ensures.added (ap (map pair_of) c.as_slice.ensures.value) in
-    let full = c.in_err-refill.ensures.room (c.in_ok-new_head.ensures.stages.honesty.1 (honest_later st _ _ _ _ p _ from one honest midway _ two)) p again (ap Err fault) in
-    let room = ap (λ (s : StoreState). s.capacity) (c.in_ok-new_head.ensures.stages.state) ∙ ap (λ (s : StoreState). s.capacity) (two.same ∙ one.same) in
-    let many = ap (λ (ps : List Pair). length ps) again.pairs_are in
-    omega (arith, full, room, many, length-map c.as_slice.result.now pair_of, end_refilled p midway.sound)
-
-pub returns-clause-exact : goal.returns-clause-exact
-returns-clause-exact g c honest p midway near =
-    let small : c.args.space.now.file_end < 2 ^ 32 = omega (arith, c.if-prove.false) in
-    let st = g.S.PageStore in
-    let one = c.in_ok-head.ensures.reads in
-    let two = c.in_ok-pairs.ensures.reads in
-    let from = split_head _ _ _ p midway small _ (c.in_ok-head.ensures.exact honest (heads_of p.chains)) in
-    let again = refilled_later st _ _ _ _ p _ from one honest midway _ two _ _ _ _ _ _ _ near c.in_ok-pairs.ensures.exact c.in_ok-new_head.ensures.exact c.in_ok-new_head.ensures.added (ap (map pair_of) c.as_slice.ensures.value) in
-    let honest2 = honest_later st _ _ _ _ p _ from one honest midway _ two in
-    let now = c.in_ok-new_head.ensures.exact honest2 p (midway_later st _ _ _ _ p _ from one honest midway _ two) from in
-    let below = c.in_ok-refill.ensures.exact (c.in_ok-new_head.ensures.stages.honesty.1 honest2) p again in
-    midway_split _ _ _ _ _ _ _ _ _ p _ _ midway c.in_ok-new_head.ensures.added now below c.grown-meta.ensures.grown refl refl
+    record {
+      stages = all;
+      cause = cause_ok _ _ _ all.later;
+      answer = no_refusal _ _;
+      grown = is_grown _ _ _ c.in_ok-new_head.ensures.added c.grown-meta.ensures.grown refl refl;
+      ends = λ e. four.ends (c.in_ok-new_head.ensures.ends e);
+      may_end = λ may. four.may_end (c.in_ok-new_head.ensures.may_end (subst (λ (s : StoreState). MayEnd s c.args.space.now.file_end) (sym (two.same ∙ one.same)) may));
+      exact = λ honest p midway near.
+          let from = split_head _ _ _ p midway small _ (c.in_ok-head.ensures.exact honest (heads_of p.chains)) in
+          let again = refilled_later st _ _ _ _ p _ from one honest midway _ two _ _ _ _ _ _ _ near c.in_ok-pairs.ensures.exact c.in_ok-new_head.ensures.exact c.in_ok-new_head.ensures.added (ap (map pair_of) c.as_slice.ensures.value) in
+          let honest2 = honest_later st _ _ _ _ p _ from one honest midway _ two in
+          let now = c.in_ok-new_head.ensures.exact honest2 p (midway_later st _ _ _ _ p _ from one honest midway _ two) from in
+          let below = c.in_ok-refill.ensures.exact (c.in_ok-new_head.ensures.stages.honesty.1 honest2) p again in
+          midway_split _ _ _ _ _ _ _ _ _ p _ _ midway c.in_ok-new_head.ensures.added now below c.grown-meta.ensures.grown refl refl;
+      whole = λ honest p midway near damaged. cc;
+      room = λ honest p midway near none. absurd cc;
+    }

@@ -1,24 +1,39 @@
-use Rattle.std.proofs.Common.{◌≡◌, Err, ap}
-use Rattle.std.proofs.lemmas.Result.{err_from_is_err_and}
+use Rattle.std.proofs.Common.{refl, subst}
+use Rattle.std.proofs.lemmas.Result.{IfOk-from_err}
 use Rattle.page_model.specs.Placement.{Placement, key_bucket, chain_at}
 use Rattle.page_model.specs.PageBodies.{heads_of}
+use Rattle.page_io.specs.Store.{StoreState}
 use Rattle.page_io.specs.Views.{body_at}
 use Rattle.page_io.specs.declared.store.PageFault.TheVariants.{Damaged}
+use Rattle.page_io.proofs.Views.{stages_then}
+use Rattle.page_io.proofs.Exits.{exit_is, came, cause_first, cause_last}
 use Rattle.seg_table.specs.MetaPages.{model_meta}
+use Rattle.bucket_chain.specs.Answers.{IsRemoveAnswer}
 use Rattle.bucket_chain.specs.Changes.{IsPlaced}
 use Rattle.linear_hash.specs.Staging.{IsMidway}
 use Rattle.linear_hash.proofs.Buckets.{bucket_of}
-use Rattle.linear_hash.proofs.Midway.{midway_read, midway_heads, midway_below, midway_chain, midway_once, midway_deleted}
+use Rattle.linear_hash.proofs.Midway.{midway_read, midway_heads, midway_below, midway_chain, midway_once, midway_deleted, may_end_read}
+use Rattle.linear_hash.proofs.Refusals.{head_of_remove}
 use Rattle.linear_hash.proofs.Stagings.{removed_ok}
 use Rattle.linear_hash.proofs.staging.remove_key.Given.{Over}
 use Rattle.linear_hash.proofs.staging.remove_key.Goals.{After-remove}
 use Rattle.linear_hash.proofs.staging.remove_key.Goals as goal
 
-pub returns-in_err-head-clause-whole : goal.returns-in_err-head-clause-whole
-returns-in_err-head-clause-whole g c honest p mid damaged =
-    let told = err_from_is_err_and c.from_residual.result c.from_residual.ensures.1 in
-    let fault : c.in_err-head.field-0.0 ≡ Damaged = let e = rw (told.1, told.2) at damaged in cc in
-    c.in_err-head.ensures.whole honest (heads_of p.chains) (midway_heads _ _ _ p mid c.requires.used) (ap Err fault)
+-- the head page is not told
+pub returns-in_err-head : goal.returns-in_err-head
+returns-in_err-head g c =
+    let told = c.in_err-head.ensures in
+    let result = c.from_residual in
+    let exit = exit_is result.result c.in_err-head.field-0.0 result.ensures.1 in
+    record {
+      stages = told.reads.stages_only;
+      cause = cause_first _ _ exit _ _ told.cause;
+      answer = head_of_remove _ _ refl _ _ exit _ told.answer;
+      ends = λ e. e;
+      may_end = λ may. IfOk-from_err _ _ result.ensures.0;
+      exact = λ honest p mid. IfOk-from_err _ _ result.ensures.0;
+      whole = λ honest p mid damaged. told.whole honest (heads_of p.chains) (midway_heads _ _ _ p mid c.requires.used) (came _ _ exit Damaged damaged);
+    }
 
 -- the chain of the key's bucket, once its head page was looked up
 module _ (g : Over) (c : After-remove g) (honest : g.S.PageStore.honest c.args.store.now) (p : Placement) (mid : IsMidway (body_at g.S.PageStore c.args.store.now) (model_meta c.args.meta.now) c.args.space.now p) where
@@ -31,12 +46,21 @@ module _ (g : Over) (c : After-remove g) (honest : g.S.PageStore.honest c.args.s
       let head = c.in_ok-head.ensures.exact honest (heads_of p.chains) (midway_heads _ _ _ p mid c.requires.used) (midway_below _ _ _ p mid c.requires.used c.args.key.now c.bucket.result bucket) in
       midway_chain _ _ _ p here c.requires.used c.args.key.now c.bucket.result bucket c.in_ok-head.head head
 
-pub returns-clause-exact : goal.returns-clause-exact
-returns-clause-exact g c honest p mid =
+-- the key is taken out, or is not
+pub returns : goal.returns
+returns g c =
+    let one = c.in_ok-head.ensures.reads in
+    let told = c.remove.ensures in
+    let h1 = one.stages_only.honesty.1 in
     let used = c.requires.used in
-    removed_ok c.remove.result (λ was gone. midway_deleted _ _ _ p (here g c honest p mid) used _ _ c.args.key.now gone.left)
-    (c.remove.ensures.exact (c.in_ok-head.ensures.reads.stages_only.honesty.1 honest) _ _ (chain_is g c honest p mid) (midway_once _ _ _ p (here g c honest p mid) used c.args.key.now))
-
-pub returns-clause-whole : goal.returns-clause-whole
-returns-clause-whole g c honest p mid =
-    c.remove.ensures.whole (c.in_ok-head.ensures.reads.stages_only.honesty.1 honest) _ _ (chain_is g c honest p mid) (midway_once _ _ _ p (here g c honest p mid) c.requires.used c.args.key.now)
+    record {
+      stages = stages_then g.S.PageStore _ _ _ (g.met.S.PageStore.counts_now c.head_of.new.store) one.stages_only told.stages;
+      cause = cause_last _ _ _ _ one.stages_only.later told.cause;
+      answer = subst (λ (s : StoreState). IsRemoveAnswer g.S.PageStore.reserved s c.remove.result) one.same told.answer;
+      ends = told.ends;
+      may_end = λ may. told.may_end (may_end_read g.S.PageStore _ _ _ one may);
+      exact = λ honest p mid.
+          removed_ok c.remove.result (λ was gone. midway_deleted _ _ _ p (here g c honest p mid) used _ _ c.args.key.now gone.left)
+          (told.exact (h1 honest) _ _ (chain_is g c honest p mid) (midway_once _ _ _ p (here g c honest p mid) used c.args.key.now));
+      whole = λ honest p mid. told.whole (h1 honest) _ _ (chain_is g c honest p mid) (midway_once _ _ _ p (here g c honest p mid) used c.args.key.now);
+    }

@@ -1,40 +1,69 @@
-use Rattle.std.proofs.Common.{◌≡◌, ◌∙◌, Err, get_or, sym, ap, subst, is_some}
+use Rattle.std.proofs.Common.{◌≡◌, ◌∙◌, get_or, refl, sym, ap, subst, is_some, arith}
 use Rattle.std.specs.FinMap.{get}
-use Rattle.std.proofs.lemmas.Result.{err_from_is_err_and, on_ok_weaker}
+use Rattle.std.proofs.lemmas.Result.{IfOk-from_err, on_ok_weaker}
 use Rattle.page_model.specs.Address.{address, hash_of}
 use Rattle.page_model.specs.PairLists.{times}
 use Rattle.page_model.specs.Chain.{pairs_in}
 use Rattle.page_model.specs.Placement.{Placement, contents, key_bucket, chain_at, delete}
 use Rattle.page_model.specs.PageBodies.{heads_of}
 use Rattle.page_model.proofs.Places.{deleted_finds_none}
-use Rattle.page_io.specs.Views.{body_at, StagesOnly}
-use Rattle.page_io.specs.declared.store.PageFault.TheVariants.{Damaged}
+use Rattle.page_io.specs.Store.{StoreState}
+use Rattle.page_io.specs.Views.{body_at, StagesOnly, MayEnd}
+use Rattle.page_io.specs.declared.store.PageFault.TheVariants.{NoRoom, Damaged}
 use Rattle.page_io.proofs.Views.{stages_then}
+use Rattle.page_io.proofs.Exits.{exit_is, came, cause_first, cause_then, cause_last}
+use Rattle.free_pages.specs.FreeList.{HasEnds}
+use Rattle.free_pages.specs.declared.free_state.FreeState.{FreeState}
 use Rattle.seg_table.specs.MetaPages.{model_meta}
 use Rattle.bucket_chain.specs.Changes.{IsPlaced}
 use Rattle.linear_hash.specs.Tables.{shape_in}
 use Rattle.linear_hash.specs.Staging.{IsMidway}
 use Rattle.linear_hash.proofs.Buckets.{bucket_of, bucket_is}
-use Rattle.linear_hash.proofs.Midway.{midway_read, midway_same, midway_heads, midway_below, midway_chain, midway_once, midway_deleted, midway_put, delete_none, not_in_chain, head_still}
+use Rattle.linear_hash.proofs.Midway.{midway_read, midway_same, midway_heads, midway_below, midway_chain, midway_once, midway_deleted, midway_put, delete_none, not_in_chain, head_still, may_end_same, may_end_read}
+use Rattle.linear_hash.proofs.Refusals.{head_refused, remove_refused, head_has_room, remove_has_room, put_answers}
 use Rattle.linear_hash.proofs.staging.replace_pair.Given.{Over}
 use Rattle.linear_hash.proofs.staging.replace_pair.Goals.{In_ok-head, After-put, then-was_there+in_ok-remove, else-was_there}
 use Rattle.linear_hash.proofs.staging.replace_pair.Goals as goal
 
-pub returns-in_err-head-clause-whole : goal.returns-in_err-head-clause-whole
-returns-in_err-head-clause-whole g c honest p mid was damaged =
-    let told = err_from_is_err_and c.from_residual.result c.from_residual.ensures.1 in
-    let fault : c.in_err-head.field-0.0 ≡ Damaged = let e = rw (told.1, told.2) at damaged in cc in
-    c.in_err-head.ensures.whole honest (heads_of p.chains) (midway_heads _ _ _ p mid c.requires.valid.used) (ap Err fault)
+-- the head page is not told
+pub returns-in_err-head : goal.returns-in_err-head
+returns-in_err-head g c =
+    let told = c.in_err-head.ensures in
+    let result = c.from_residual in
+    let exit = exit_is result.result c.in_err-head.field-0.0 result.ensures.1 in
+    record {
+      stages = told.reads.stages_only;
+      cause = cause_first _ _ exit _ _ told.cause;
+      answer = head_refused _ _ refl _ _ exit told.answer;
+      ends = λ e. e;
+      may_end = λ may. IfOk-from_err _ _ result.ensures.0;
+      room = λ none. absurd (head_has_room _ _ told.answer (came _ _ exit NoRoom none));
+      exact = λ honest p mid was. IfOk-from_err _ _ result.ensures.0;
+      whole = λ honest p mid was damaged. told.whole honest (heads_of p.chains) (midway_heads _ _ _ p mid c.requires.valid.used) (came _ _ exit Damaged damaged);
+    }
 
-pub returns-in_err-remove-clause-whole : goal.returns-in_err-remove-clause-whole
-returns-in_err-remove-clause-whole g c honest p mid was damaged =
-    let told = err_from_is_err_and c.from_residual-in_err-remove.result c.from_residual-in_err-remove.ensures.1 in
-    let fault : c.in_err-remove.field-0.0 ≡ Damaged = let e = rw (told.1, told.2) at damaged in cc in
-    let used = c.requires.valid.used in
-    let bucket = bucket_of c.args.meta.now c.args.key.now c.bucket.result c.hash.result c.bucket.ensures.address c.hash.ensures in
-    let head = c.in_ok-head.ensures.exact honest (heads_of p.chains) (midway_heads _ _ _ p mid used) (midway_below _ _ _ p mid used c.args.key.now c.bucket.result bucket) in
-    let here = midway_read g.S.PageStore _ _ _ _ p c.in_ok-head.ensures.reads honest mid in
-    c.in_err-remove.ensures.whole (c.in_ok-head.ensures.reads.stages_only.honesty.1 honest) _ _ (midway_chain _ _ _ p here used c.args.key.now c.bucket.result bucket c.in_ok-head.head head) (midway_once _ _ _ p here used c.args.key.now) (ap Err fault)
+-- the key is not taken out
+pub returns-in_err-remove : goal.returns-in_err-remove
+returns-in_err-remove g c =
+    let one = c.in_ok-head.ensures.reads in
+    let told = c.in_err-remove.ensures in
+    let result = c.from_residual-in_err-remove in
+    let exit = exit_is result.result c.in_err-remove.field-0.0 result.ensures.1 in
+    record {
+      stages = stages_then g.S.PageStore _ _ _ (g.met.S.PageStore.counts_now c.head_of.new.store) one.stages_only told.stages;
+      cause = cause_then _ _ exit _ _ _ one.stages_only.later told.cause;
+      answer = remove_refused _ _ (ap (λ (s : StoreState). s.usable) one.same) _ _ exit _ told.answer;
+      ends = told.ends;
+      may_end = λ may. IfOk-from_err _ _ result.ensures.0;
+      room = λ none. absurd (remove_has_room _ _ _ told.answer (came _ _ exit NoRoom none));
+      exact = λ honest p mid was. IfOk-from_err _ _ result.ensures.0;
+      whole = λ honest p mid was damaged.
+          let used = c.requires.valid.used in
+          let bucket = bucket_of c.args.meta.now c.args.key.now c.bucket.result c.hash.result c.bucket.ensures.address c.hash.ensures in
+          let head = c.in_ok-head.ensures.exact honest (heads_of p.chains) (midway_heads _ _ _ p mid used) (midway_below _ _ _ p mid used c.args.key.now c.bucket.result bucket) in
+          let here = midway_read g.S.PageStore _ _ _ _ p one honest mid in
+          told.whole (one.stages_only.honesty.1 honest) _ _ (midway_chain _ _ _ p here used c.args.key.now c.bucket.result bucket c.in_ok-head.head head) (midway_once _ _ _ p here used c.args.key.now) (came _ _ exit Damaged damaged);
+    }
 
 module _ (g : Over) (c : After-put g) where
   -- up to the put
@@ -46,6 +75,26 @@ module _ (g : Over) (c : After-put g) where
             (stages_then g.S.PageStore _ _ _ (g.met.S.PageStore.counts_now c.head_of.new.store) reads w.in_ok-remove.ensures.stages)
         | else-was_there w ↦ subst (StagesOnly g.S.PageStore c.args.store.now) (sym w.store-is) reads
       ]
+
+  ends_so_far : HasEnds c.args.space.now → HasEnds c.if-was_there.space
+  ends_so_far e = elim c.if-was_there.branch [
+    | then-was_there+in_ok-remove w ↦ subst HasEnds (sym w.space-is) (w.in_ok-remove.ensures.ends e)
+    | else-was_there w ↦ subst HasEnds (sym w.space-is) e
+  ]
+
+  may_end_so_far : MayEnd (g.S.PageStore.state c.args.store.now) c.args.space.now.file_end → MayEnd (g.S.PageStore.state c.if-was_there.store) c.if-was_there.space.file_end
+  may_end_so_far may =
+      let read = may_end_read g.S.PageStore _ _ _ c.in_ok-head.ensures.reads may in
+      elim c.if-was_there.branch [
+        | then-was_there+in_ok-remove w ↦ may_end_same g.S.PageStore _ _ _ _ w.store-is w.space-is (w.in_ok-remove.ensures.may_end read)
+        | else-was_there w ↦ may_end_same g.S.PageStore _ _ _ _ w.store-is w.space-is read
+      ]
+
+  end_so_far : c.if-was_there.space.file_end ≡ c.args.space.now.file_end
+  end_so_far = elim c.if-was_there.branch [
+    | then-was_there+in_ok-remove w ↦ ap (λ (f : FreeState). f.file_end) w.space-is ∙ w.in_ok-remove.ensures.end
+    | else-was_there w ↦ ap (λ (f : FreeState). f.file_end) w.space-is
+  ]
 
   bucket : c.bucket.result ≡ address (shape_in (model_meta c.args.meta.now)) (hash_of c.args.key.now)
   bucket = bucket_of c.args.meta.now c.args.key.now c.bucket.result c.hash.result c.bucket.ensures.address c.hash.ensures
@@ -80,13 +129,21 @@ module _ (g : Over) (c : After-put g) where
     lacks : times c.args.key.now (pairs_in (chain_at (delete p c.args.key.now) (key_bucket p.shape c.args.key.now))) ≡ 0
     lacks = not_in_chain (delete p c.args.key.now) c.args.key.now removed.sound (deleted_finds_none p mid.sound c.args.key.now)
 
-pub returns-clause-stages : goal.returns-clause-stages
-returns-clause-stages g c = stages_then g.S.PageStore _ _ _ (g.met.S.PageStore.counts_now c.if-was_there.store) (stages_so_far g c) c.put.ensures.stages
-
-pub returns-clause-exact : goal.returns-clause-exact
-returns-clause-exact g c honest p mid was =
-    on_ok_weaker c.put.result (λ becomes. midway_put _ _ _ (delete p c.args.key.now) (removed g c honest p mid was) c.requires.valid.used _ _ (c.args.key.now, c.args.content.now) c.requires.allowed (deleted_finds_none p mid.sound c.args.key.now) becomes)
-    (c.put.ensures.exact ((stages_so_far g c).honesty.1 honest) _ _ (chain_is g c honest p mid was) (lacks g c honest p mid was))
-
-pub returns-clause-whole : goal.returns-clause-whole
-returns-clause-whole g c honest p mid was = c.put.ensures.whole ((stages_so_far g c).honesty.1 honest) _ _ (chain_is g c honest p mid was) (lacks g c honest p mid was)
+-- the pair is put, or is not
+pub returns : goal.returns
+returns g c =
+    let so_far = stages_so_far g c in
+    let told = c.put.ensures in
+    let h1 = so_far.honesty.1 in
+    record {
+      stages = stages_then g.S.PageStore _ _ _ (g.met.S.PageStore.counts_now c.if-was_there.store) so_far told.stages;
+      cause = cause_last _ _ _ _ so_far.later told.cause;
+      answer = put_answers _ _ _ _ _ (ap (λ (s : StoreState). s.usable) so_far.state) told.answer;
+      ends = λ e. told.ends (ends_so_far g c e);
+      may_end = λ may. told.may_end (may_end_so_far g c may);
+      room = λ none. omega (arith, (told.answer.no_room none).1, end_so_far g c, ap (λ (s : StoreState). s.capacity) so_far.state);
+      exact = λ honest p mid was.
+          on_ok_weaker c.put.result (λ becomes. midway_put _ _ _ (delete p c.args.key.now) (removed g c honest p mid was) c.requires.valid.used _ _ (c.args.key.now, c.args.content.now) c.requires.allowed (deleted_finds_none p mid.sound c.args.key.now) becomes)
+          (told.exact (h1 honest) _ _ (chain_is g c honest p mid was) (lacks g c honest p mid was));
+      whole = λ honest p mid was. told.whole (h1 honest) _ _ (chain_is g c honest p mid was) (lacks g c honest p mid was);
+    }

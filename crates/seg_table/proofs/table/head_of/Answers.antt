@@ -1,17 +1,41 @@
-use Rattle.std.proofs.Common.{◌≡◌, ◌/◌, ◌%◌, ◌∙◌, ℕ, List, get_or, ap, sym, arith, Err}
-use Rattle.std.proofs.lemmas.Result.{err_from_is_err_and}
+use Rattle.std.proofs.Common.{◌/◌, ◌%◌, ◌∙◌, ℕ, List, get_or, ap, sym, arith, refl}
+use Rattle.std.proofs.lemmas.Result.{IfOk-from_err}
 use Rattle.page_model.specs.Reading.{body_of, heads_on}
 use Rattle.page_io.specs.Views.{body_at}
 use Rattle.page_io.specs.declared.store.PageFault.TheVariants.{Damaged}
+use Rattle.page_io.proofs.Exits.{exit_is, came, cause_first, cause_ok}
 use Rattle.seg_table.proofs.HeadTexts.{entry_is, heads_said, heads_of_said}
+use Rattle.seg_table.proofs.Refusals.{head_heads, no_head_refusal}
 use Rattle.seg_table.proofs.Tables.{part, part_read, get_or-part}
 use Rattle.seg_table.proofs.table.head_of.Goals as goal
 
-pub returns-in_err-read_segment-clause-whole : goal.returns-in_err-read_segment-clause-whole
-returns-in_err-read_segment-clause-whole g c honest heads are damaged =
-    let p = err_from_is_err_and c.from_residual.result c.from_residual.ensures.1 in
-    let fault : c.in_err-read_segment.field-0.0 ≡ Damaged = let is = rw (p.1, p.2) at damaged in cc in
-    c.in_err-read_segment.ensures.whole honest heads are (ap Err fault)
+-- its segment page is not read
+pub returns-in_err-read_segment : goal.returns-in_err-read_segment
+returns-in_err-read_segment g c =
+    let told = c.in_err-read_segment.ensures in
+    let result = c.from_residual in
+    let exit = exit_is result.result c.in_err-read_segment.field-0.0 result.ensures.1 in
+    record {
+      reads = told.reads;
+      cause = cause_first _ _ exit _ _ told.cause;
+      answer = head_heads _ _ refl _ _ exit told.answer;
+      entry = λ honest. IfOk-from_err _ _ result.ensures.0;
+      exact = λ honest heads are lt. IfOk-from_err _ _ result.ensures.0;
+      whole = λ honest heads are damaged. told.whole honest heads are (came _ _ exit Damaged damaged);
+    }
+
+-- the head stands in it
+pub returns-clause-reads : goal.returns-clause-reads
+returns-clause-reads g c = c.in_ok-read_segment.ensures.reads
+
+pub returns-clause-cause : goal.returns-clause-cause
+returns-clause-cause g c = cause_ok _ _ _ c.in_ok-read_segment.ensures.cause.later
+
+pub returns-clause-answer : goal.returns-clause-answer
+returns-clause-answer g c = no_head_refusal _ _
+
+pub returns-clause-whole : goal.returns-clause-whole
+returns-clause-whole g c honest heads are damaged = cc
 
 pub returns-clause-entry : goal.returns-clause-entry
 returns-clause-entry g c honest =

@@ -1,21 +1,68 @@
-use Rattle.std.proofs.Common.{◌≡◌, ◌<◌, ◌≤◌, ◌+◌, ◌*◌, ◌/◌, ◌%◌, ℕ, List, length, get_or, ap, sym, subst, ◌∙◌, arith, Err, replicate}
-use Rattle.std.proofs.lemmas.Result.{err_from_is_err_and, on_ok_weaker}
+use Rattle.std.proofs.Common.{◌≡◌, ◌<◌, ◌≤◌, ◌+◌, ◌*◌, ◌/◌, ◌%◌, ℕ, List, length, get_or, ap, sym, subst, ◌∙◌, arith, refl, replicate}
+use Rattle.std.proofs.lemmas.Result.{IfOk-from_err, on_ok_weaker, on_err_weaker}
 use Rattle.page_model.specs.Bytes.{u32_bytes, overwrite}
 use Rattle.page_model.specs.Reading.{body_of}
 use Rattle.page_io.specs.Page.{own_number}
 use Rattle.page_io.specs.Store.{StoreState, IsKnown, put_page}
 use Rattle.page_io.specs.Views.{body_at, MayEnd}
 use Rattle.page_io.specs.declared.store.PageFault.TheVariants.{Damaged}
-use Rattle.page_io.proofs.Views.{after_stage}
+use Rattle.page_io.proofs.Views.{after_stage, stages_then}
+use Rattle.page_io.proofs.Exits.{exit_is, came, if_exit, cause_first, cause_stage, cause_stage_last, cause_ok, stage_not_damaged, last_not_damaged}
 use Rattle.seg_table.specs.MetaPages.{model_meta}
 use Rattle.seg_table.proofs.HeadTexts.{own_kept, own_of_segment, fresh_said, head_said}
 use Rattle.seg_table.proofs.HeadSets.{still_apart, set_there, set_added, adds, adds_none}
+use Rattle.seg_table.proofs.Refusals.{take_sets, head_sets, stage_sets, stage_sets_last, no_set_refusal, few_same}
 use Rattle.seg_table.proofs.Stagings.{known_some, few_after, known_may_end, then_said, others_stay}
 use Rattle.seg_table.proofs.Tables.{part, part_read, length-part}
 use Rattle.seg_table.proofs.table.set_head.Given.{Over}
 use Rattle.seg_table.proofs.table.set_head.Goals as goal
 
 -- a segment is added
+
+-- no page is taken
+pub returns-in_err-n : goal.returns-in_err-n
+returns-in_err-n g c =
+    let st = g.S.PageStore in
+    let told = c.in_err-n.ensures in
+    let result = c.from_residual in
+    let exit = exit_is result.result c.in_err-n.field-0.0 result.ensures.1 in
+    record {
+      stages = told.reads.stages_only;
+      few = few_same _ _ 1 told.reads.same;
+      cause = cause_first _ _ exit _ _ told.cause;
+      answer = take_sets _ _ refl _ _ exit _ _ told.answer;
+      err = if_exit _ _ _ exit refl;
+      err_state = if_exit _ _ _ exit told.reads.same;
+      ok = IfOk-from_err _ _ result.ensures.0;
+      ends = told.ends;
+      may_end = λ may. IfOk-from_err _ _ result.ensures.0;
+      exact = λ honest heads s can. IfOk-from_err _ _ result.ensures.0;
+      whole = λ honest heads s can damaged. told.whole honest s can.free_is (still_apart c.args.meta.now.segments.items s can.apart) (came _ _ exit Damaged damaged);
+    }
+
+-- the page that was taken is not staged
+pub returns-in_err-stage : goal.returns-in_err-stage
+returns-in_err-stage g c =
+    let st = g.S.PageStore in
+    let told = c.in_err-stage.ensures in
+    let result = c.from_residual-in_err-stage in
+    let exit = exit_is result.result c.in_err-stage.field-0.0 result.ensures.1 in
+    let one = c.in_ok-n.ensures in
+    let done = c.stage.ensures in
+    let staged = after_stage st c.take.new.store c.stage.new.self c.set_u32_at.new.self.bytes c.stage.result (g.met.S.PageStore.counts_now c.stage.new.self) done.ok done.err done.honesty done.faults done.kept in
+    record {
+      stages = stages_then st _ _ _ (g.met.S.PageStore.counts_now c.take.new.store) one.reads.stages_only staged;
+      few = few_same _ _ 1 (told.err ∙ one.reads.same);
+      cause = cause_stage _ _ exit _ _ _ _ _ _ one.cause.later done.faults told.answer;
+      answer = stage_sets _ _ one.reads.same _ _ exit _ _ _ told.answer;
+      err = if_exit _ _ _ exit refl;
+      err_state = if_exit _ _ _ exit (told.err ∙ one.reads.same);
+      ok = IfOk-from_err _ _ result.ensures.0;
+      ends = one.ends;
+      may_end = λ may. IfOk-from_err _ _ result.ensures.0;
+      exact = λ honest heads s can. IfOk-from_err _ _ result.ensures.0;
+      whole = λ honest heads s can damaged. absurd (stage_not_damaged _ _ _ _ told.answer (came _ _ exit Damaged damaged));
+    }
 
 fresh_number : (g : Over) (c : goal.After-push g) → own_number c.set_u32_at.new.self.bytes ≡ c.in_ok-n.n
 fresh_number g c = own_kept c.plain-page.result.bytes _ (replicate 2032 0) (u32_bytes c.args.head) c.in_ok-n.n (16 + 4 * (c.args.bucket % 508)) (omega arith) c.plain-page.result.whole (omega arith) (omega arith) c.plain-page.ensures c.set_u32_at.ensures
@@ -59,13 +106,45 @@ returns-then-s-len-clause-exact g c honest heads s can =
     set_added (body_at store old) (body_at store new) (model_meta c.args.meta.now) c.args.space.now heads c.args.bucket c.args.head s can n c.push.new.self.items c.take.new.space added taken.0 c.push.ensures.items taken.1 page
     (others_stay store old mid new n bytes reads stages honest order put (fresh_number g c))
 
+pub returns-then-s-len-clause-stages : goal.returns-then-s-len-clause-stages
+returns-then-s-len-clause-stages g c =
+    let done = c.stage.ensures in
+    stages_then g.S.PageStore _ _ _ (g.met.S.PageStore.counts_now c.take.new.store) c.in_ok-n.ensures.reads.stages_only (after_stage g.S.PageStore c.take.new.store c.stage.new.self c.set_u32_at.new.self.bytes c.stage.result (g.met.S.PageStore.counts_now c.stage.new.self) done.ok done.err done.honesty done.faults done.kept)
+
+pub returns-then-s-len-clause-cause : goal.returns-then-s-len-clause-cause
+returns-then-s-len-clause-cause g c = cause_ok _ _ _ (cause_stage_last _ _ _ _ _ _ _ c.in_ok-n.ensures.cause.later c.stage.ensures.faults c.stage.ensures.answer).later
+
+pub returns-then-s-len-clause-answer : goal.returns-then-s-len-clause-answer
+returns-then-s-len-clause-answer g c = no_set_refusal _ _ _ _
+
+pub returns-then-s-len-clause-ends : goal.returns-then-s-len-clause-ends
+returns-then-s-len-clause-ends g c = c.in_ok-n.ensures.ends
+
+pub returns-then-s-len-clause-whole : goal.returns-then-s-len-clause-whole
+returns-then-s-len-clause-whole g c honest heads s can damaged = cc
+
 -- a segment that is there
 
-pub returns-in_err-read_segment-clause-whole : goal.returns-in_err-read_segment-clause-whole
-returns-in_err-read_segment-clause-whole g c honest heads s can damaged =
-    let p = err_from_is_err_and c.from_residual-in_err-read_segment.result c.from_residual-in_err-read_segment.ensures.1 in
-    let fault : c.in_err-read_segment.field-0.0 ≡ Damaged = let is = rw (p.1, p.2) at damaged in cc in
-    c.in_err-read_segment.ensures.whole honest heads can.heads_are (ap Err fault)
+-- its page is not read
+pub returns-in_err-read_segment : goal.returns-in_err-read_segment
+returns-in_err-read_segment g c =
+    let st = g.S.PageStore in
+    let told = c.in_err-read_segment.ensures in
+    let result = c.from_residual-in_err-read_segment in
+    let exit = exit_is result.result c.in_err-read_segment.field-0.0 result.ensures.1 in
+    record {
+      stages = told.reads.stages_only;
+      few = few_same _ _ 1 told.reads.same;
+      cause = cause_first _ _ exit _ _ told.cause;
+      answer = head_sets _ _ refl _ _ exit _ _ told.answer;
+      err = if_exit _ _ _ exit refl;
+      err_state = if_exit _ _ _ exit told.reads.same;
+      ok = IfOk-from_err _ _ result.ensures.0;
+      ends = λ e. e;
+      may_end = λ may. IfOk-from_err _ _ result.ensures.0;
+      exact = λ honest heads s can. IfOk-from_err _ _ result.ensures.0;
+      whole = λ honest heads s can damaged. told.whole honest heads can.heads_are (came _ _ exit Damaged damaged);
+    }
 
 pub stage-requires-2-clause-number : goal.stage-requires-2-clause-number
 stage-requires-2-clause-number g c =
@@ -121,3 +200,23 @@ returns-clause-exact g c honest heads s can =
     set_there (body_at store old) (body_at store new) (model_meta c.args.meta.now) c.args.space.now heads b c.args.head s can there
     (then_said store old mid new n bytes reads stages honest order put (segment_number g c) ∙ now)
     (others_stay store old mid new n bytes reads stages honest order put (segment_number g c))) done.ok
+
+pub returns-clause-stages : goal.returns-clause-stages
+returns-clause-stages g c =
+    let done = c.stage-2.ensures in
+    stages_then g.S.PageStore _ _ _ (g.met.S.PageStore.counts_now c.read_segment.new.store) c.in_ok-read_segment.ensures.reads.stages_only (after_stage g.S.PageStore c.read_segment.new.store c.stage-2.new.self c.set_u32_at-2.new.self.bytes c.stage-2.result (g.met.S.PageStore.counts_now c.stage-2.new.self) done.ok done.err done.honesty done.faults done.kept)
+
+pub returns-clause-cause : goal.returns-clause-cause
+returns-clause-cause g c = cause_stage_last _ _ _ _ _ _ _ c.in_ok-read_segment.ensures.cause.later c.stage-2.ensures.faults c.stage-2.ensures.answer
+
+pub returns-clause-answer : goal.returns-clause-answer
+returns-clause-answer g c = stage_sets_last _ _ _ _ _ _ c.in_ok-read_segment.ensures.reads.same c.stage-2.ensures.answer
+
+pub returns-clause-err_state : goal.returns-clause-err_state
+returns-clause-err_state g c = on_err_weaker c.stage-2.result (λ same. same ∙ c.in_ok-read_segment.ensures.reads.same) c.stage-2.ensures.err
+
+pub returns-clause-ends : goal.returns-clause-ends
+returns-clause-ends g c e = e
+
+pub returns-clause-whole : goal.returns-clause-whole
+returns-clause-whole g c honest heads s can damaged = absurd (last_not_damaged _ _ _ _ c.stage-2.ensures.answer damaged)
