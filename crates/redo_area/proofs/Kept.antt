@@ -1,8 +1,19 @@
 -- Redo images that are kept in memory over the device's pages, and none in a pager that commits.
-use Rattle.std.proofs.Common.{◌≡◌, inl, inr, ⊎_elim, ℕ, ◌<◌, ◌≤◌, List, [], true, false, sym, ◌∙◌, ap}
-use Rattle.page_io.specs.Store.{Pages, Settled, file_of, file_pages, page_of, overlaid, has_page, committed_with, IsEither}
+use Rattle.std.proofs.Common.{◌≡◌, inl, inr, ⊎_elim, ℕ, ◌<◌, ◌≤◌, ◌/◌, Bool, List, [], true, false, sym, ◌∙◌, ap}
+use Rattle.sect_dev.specs.Device.{LeavesOnly}
+use Rattle.sect_dev.specs.Moments.{IsOutcome, weaker, lifted}
+use Rattle.sect_dev.specs.declared.device.SectorDev.{Ghosts}
+use Rattle.page_io.specs.Page.{page_at}
+use Rattle.page_io.specs.Store.{Pages, Settled, file_of, file_pages, page_of, overlaid, has_page, bytes_of, committed_with, IsEither}
+use Rattle.page_io.specs.declared.page.Page.{Page}
+use Rattle.redo_commit.specs.File.{settled}
+use Rattle.redo_area.specs.declared.pager.Pager.{Pager}
 use Rattle.page_io.proofs.Overlays.{overlaid-none, page_of-file}
 use Rattle.page_io.proofs.StagedPages.{replaced}
+
+-- a page that was looked for in a list, and not found
+pub not_found : {pages items : List Page} {b : Bool} (n : ℕ) → pages ≡ items → b ≡ has_page (bytes_of pages) n → b ≡ false → has_page (bytes_of items) n ≡ false
+not_found n same is fails = ap (λ (ps : List Page). has_page (bytes_of ps) n) (sym same) ∙ sym is ∙ fails
 
 -- what a read gives where the page is not staged
 pub not_staged : (staged : Pages) (home : ℕ → List ℕ) (end n : ℕ) → 1 ≤ n → n < end → has_page staged n ≡ false → overlaid staged (page_of (file_pages home end)) n ≡ home n
@@ -25,3 +36,20 @@ module _ (redo : Pages) (home : ℕ → List ℕ) (none : redo ≡ []) where
       → IsEither (file_pages (overlaid redo home) old_end) (committed_with (file_pages (overlaid redo home) old_end) staged new_end) y
   either old_end new_end pages staged y same grown is =
       ⊎_elim (λ old. inl (old ∙ ap (λ (f : ℕ → List ℕ). file_of (file_pages f old_end)) none_over)) (λ new. inr (new ∙ ap file_of (new_pages old_end new_end pages staged same grown))) is
+
+-- what a stop during a commit leaves, as the store reads it
+pub commit_leaves : {D : Type 0} (dev : Ghosts D) (old new : Pager D dev) (new_end : ℕ) (pages : List Page) → old.writable ≡ true → dev.sectors new.dev ≡ dev.sectors old.dev → pages ≡ old.staged.items
+    → ((n : ℕ) → old.end ≤ n → n < new_end → has_page (bytes_of old.staged.items) n ≡ true)
+    → LeavesOnly dev.moment dev.left_since old.dev new.dev
+    (λ image. IsEither (file_pages (page_at (dev.seen old.dev)) old.end) (file_pages (overlaid (bytes_of pages) (page_at (dev.seen old.dev))) new_end) (settled (dev.sectors old.dev / 4) image))
+    → LeavesOnly (λ (p : Pager D dev). dev.moment p.dev) (λ (p : Pager D dev). IsOutcome dev.left_since (settled (dev.sectors p.dev / 4)) p.dev) old new
+    (IsEither (file_pages (overlaid (bytes_of old.redo.items) (page_at (dev.seen old.dev))) old.end)
+    (committed_with (file_pages (overlaid (bytes_of old.redo.items) (page_at (dev.seen old.dev))) old.end) (bytes_of old.staged.items) new_end))
+commit_leaves {D} dev old new new_end pages writable size same grown run =
+    let cap : ℕ = dev.sectors old.dev / 4 in
+    let home = page_at (dev.seen old.dev) in
+    let before = file_pages (overlaid (bytes_of old.redo.items) home) old.end in
+    let P = IsEither before (committed_with before (bytes_of old.staged.items) new_end) in
+    lifted dev.moment dev.left_since (λ (p : Pager D dev). p.dev) (λ (p : Pager D dev). settled (dev.sectors p.dev / 4)) old new P (ap (λ (s : ℕ). settled (s / 4)) size)
+    (weaker dev.moment dev.left_since old.dev new.dev (λ image. P (settled cap image)) _ run
+    (λ image is. either (bytes_of old.redo.items) home (old.none writable) old.end new_end (bytes_of pages) (bytes_of old.staged.items) (settled cap image) (ap bytes_of same) grown is))

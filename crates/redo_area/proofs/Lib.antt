@@ -2,4 +2,5 @@ mod Kept
 mod Openings
 mod Orders
 pub mod ReadRuns
+mod Recoveries
 mod Results

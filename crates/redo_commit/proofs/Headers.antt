@@ -95,6 +95,16 @@ header_of-armed capacity end start count e s c low high some above room =
     ∙ ap (λ (b : Bool). cond b (Armed end start count) Damaged)
     (and_from (leb 1 count && leb end start) (leb (start + count) capacity) (and_from (leb 1 count) (leb end start) (le-leb 1 count some) (le-leb end start above)) (le-leb (start + count) capacity room))
 
+-- the sector that clears a file, and the one that arms a commit
+pub says_clear : (sectors end : ℕ) (content : List ℕ) → sectors < 2 ^ 32 → 4 ≤ end → end ≤ sectors / 4 → content ≡ spelled 0 end 0 0 → header_of (sectors / 4) content ≡ Clear end
+says_clear sectors end content fits low high is = ap (header_of (sectors / 4)) is ∙ header_of-clear (sectors / 4) end (omega (arith, fits, high)) low high
+
+pub says_armed : (sectors end start count : ℕ) (content : List ℕ) → sectors < 2 ^ 32 → 4 ≤ end → end ≤ start → 0 < count → start + count ≤ sectors / 4 → content ≡ spelled 1 end start count
+    → header_of (sectors / 4) content ≡ Armed end start count
+says_armed sectors end start count content fits low above some room is =
+    ap (header_of (sectors / 4)) is
+    ∙ header_of-armed (sectors / 4) end start count (omega (arith, fits, above, room)) (omega (arith, fits, room)) (omega (arith, fits, room)) low (omega (arith, above, room)) some above room
+
 -- a sector of zeros, and no other, is blank
 pub header_of-zeros : (capacity : ℕ) → header_of capacity zeros ≡ Blank
 unfolding header_of

@@ -1,7 +1,7 @@
 -- What the images of each step of a commit settle to.
 use Rattle.std.proofs.Common.{◌≡◌, inl, inr, ℕ, zero, suc, ◌+◌, ◌*◌, ◌<◌, ◌≤◌, List, [], ◌∷◌, length, get_or, Bool, true, false, cond, ◌&&◌, leb, ltb, refl, sym, ◌∙◌, ap, arith}
 use Rattle.std.proofs.lemmas.Bool.{cases_lt, and_parts, leb-true, ltb-true}
-use Rattle.sect_dev.specs.Device.{Image, Candidates, with_sector}
+use Rattle.sect_dev.specs.Device.{Image, Candidates, IsStable, with_sector}
 use Rattle.page_io.specs.Page.{page_at, own_number, IsOutsidePage}
 use Rattle.page_io.proofs.PageLaws.{same_page, at_same, at_other}
 use Rattle.page_io.specs.Store.{Pages, blank, file_of, nothing, pages_from, file_pages, overlaid, are_in_order}
@@ -9,7 +9,7 @@ use Rattle.page_io.proofs.Overlays.{same_pages, same_file, IsApart, overlaid-ove
 use Rattle.redo_commit.specs.Header.{header_of}
 use Rattle.redo_commit.specs.declared.header.Header.{Header}
 use Rattle.redo_commit.specs.declared.header.Header.TheVariants.{Blank, Clear, Armed, NotOurs, Damaged}
-use Rattle.redo_commit.specs.File.{settled, settled_by, settled_over, redo_images, IsOutsideAll, IsArmed}
+use Rattle.redo_commit.specs.File.{settled, settled_by, settled_over, redo_images, IsOutsideAll, IsAtRest, IsArmed}
 
 record Parts (least end own : ℕ) (rest : Bool) : Type 0 where
   low : least ≤ own
@@ -59,6 +59,13 @@ below_end least end [] k order lt = absurd (omega (arith, lt))
 below_end least end (page ∷ pages) zero order lt = (parts least end page pages order).high
 below_end least end (page ∷ pages) (suc k) order lt = below_end (own_number page + 1) end pages k (parts least end page pages order).later (omega (arith, lt))
 
+-- pages behind sector 0 are as they were
+pub same_new : (first mid : Image) (redo : Pages) (end start : ℕ) → end ≤ start → ((m : ℕ) → 0 < m → m < 4 * start → mid m ≡ first m)
+    → file_pages (overlaid redo (page_at mid)) end ≡ file_pages (overlaid redo (page_at first)) end
+same_new first mid redo end start le same =
+    same_file (overlaid redo (page_at mid)) (overlaid redo (page_at first)) end
+    (λ n ge lt. overlaid-over redo (page_at first) (page_at mid) n (λ apart. same_page mid first n (λ m ge4 lt4. same m (omega (arith, ge, ge4)) (omega (arith, lt, le, lt4)))))
+
 module _ (capacity : ℕ) where
   pub settled-clear : (image : Image) (end : ℕ) → header_of capacity (image 0) ≡ Clear end → settled capacity image ≡ file_of (file_pages (page_at image) end)
   unfolding settled
@@ -103,8 +110,7 @@ module _ (capacity : ℕ) where
       → ((m : ℕ) → 0 < m → m < 4 * start → image m ≡ seen m) → settled capacity image ≡ file_of (file_pages (overlaid redo (page_at seen)) end)
   armed_over seen image end start redo header images order le same =
       settled-armed image end start redo header images order
-      ∙ ap file_of (same_file (overlaid redo (page_at image)) (overlaid redo (page_at seen)) end
-      (λ n ge lt. overlaid-over redo (page_at seen) (page_at image) n (λ apart. same_page image seen n (λ m ge4 lt4. same m (omega (arith, ge, ge4)) (omega (arith, lt, le, lt4))))))
+      ∙ ap file_of (same_new seen image redo end start le same)
 
   -- step 3: home pages are written under the images
   pub going_home : (candidate : Candidates) (seen image : Image) (end start : ℕ) (redo : Pages) → IsArmed capacity end start redo candidate seen → end ≤ start
@@ -134,3 +140,11 @@ module _ (capacity : ℕ) where
   now_clear first mid content end redo written =
       same_file (page_at (with_sector mid 0 content)) (overlaid redo (page_at first)) end
       (λ n ge lt. same_page (with_sector mid 0 content) mid n (λ m ge4 lt4. at_other mid 0 content m (omega (arith, ge, ge4))) ∙ written n)
+
+  -- the commit sector is put, and is clear
+  pub rest_after : (candidate : Candidates) (mid seen : Image) (content : List ℕ) (end : ℕ) → IsStable candidate seen → seen ≡ with_sector mid 0 content → header_of capacity content ≡ Clear end
+      → IsAtRest capacity end candidate seen
+  rest_after candidate mid seen content end stable is header = record {
+    stable = stable;
+    header = ap (λ (s : Image). header_of capacity (s 0)) is ∙ ap (header_of capacity) (at_same mid 0 content 0 refl) ∙ header;
+  }

@@ -1,4 +1,6 @@
 pub mod Blanks
+pub mod CommitRuns
 pub mod Headers
 pub mod Images
+pub mod WriteRuns
 pub mod Writes

@@ -7,7 +7,7 @@ use Rattle.page_io.specs.declared.page.Page.{Page}
 use Rattle.page_io.proofs.Overlays.{pages_more}
 use Rattle.redo_area.proofs.Orders.{next_in_order, too_low, too_high, split}
 use Rattle.redo_area.proofs.ReadRuns.{none_yet, one_more}
-use Rattle.redo_area.proofs.Results.{from_ok}
+use Rattle.redo_area.proofs.Results.{from_test}
 use Rattle.redo_area.proofs.reading.read_images.Goals as goal
 use Rattle.redo_area.proofs.reading.read_images.Goals.{then-own-least-via-then-own-least, then-own-least-via-else-own-least+then-from-own}
 
@@ -57,7 +57,7 @@ returns-then-own-least-clause-damaged g c h is =
     let place : ℕ = c.args.start + c.loop-i.i in
     let rest = pages_from at (place + 1) (c.args.count - (c.loop-i.i + 1)) in
     let inv = c.loop-i.invariant in
-    let bytes = from_ok c.read_page.result (sym c.is_err.ensures.value ∙ c.if-is_err.false) (c.read_page.ensures.read (inv.honesty.1 h)) ∙ ap (λ (s : Image). page_at s place) (inv.only_reads h).seen in
+    let bytes = from_test c.read_page.result c.is_err.ensures.value c.if-is_err.false (c.read_page.ensures.read (inv.honesty.1 h)) ∙ ap (λ (s : Image). page_at s place) (inv.only_reads h).seen in
     let num : c.from-own.result ≡ own_number (at place) = c.from-own.ensures ∙ c.own.ensures.number ∙ ap own_number bytes in
     let so_far = inv.checked h ∙ ap (are_in_order c.loop-i.least end) (split at c.args.start c.args.count c.loop-i.i c.loop-i-test.true) in
     let bad : are_in_order c.loop-i.least end (at place ∷ rest) ≡ false = elim c.then-own-least.branch as (λ x. are_in_order c.loop-i.least end (at place ∷ rest) ≡ false) [
@@ -84,7 +84,7 @@ loop-i-preserved g c =
     let page = c.read_page.ensures in
     let h1 = inv.honesty.1 in
     let left : ℕ = c.args.count - (i + 1) in
-    let bytes = λ (h : dev.honest first). from_ok c.read_page.result (sym c.is_err.ensures.value ∙ c.if-is_err.false) (page.read (h1 h)) ∙ ap (λ (s : Image). page_at s place) (inv.only_reads h).seen in
+    let bytes = λ (h : dev.honest first). from_test c.read_page.result c.is_err.ensures.value c.if-is_err.false (page.read (h1 h)) ∙ ap (λ (s : Image). page_at s place) (inv.only_reads h).seen in
     record {
       size = page.size ∙ inv.size;
       small = omega arith;

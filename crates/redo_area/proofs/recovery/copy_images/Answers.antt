@@ -1,169 +1,168 @@
-use Rattle.std.proofs.Common.{◌≡◌, ◌<◌, ◌+◌, ℕ, List, [], ◌∷◌, ◌++◌, length, inl, inr, ◌∙◌, sym, ap, subst, arith}
-use Rattle.std.proofs.lemmas.Bool.{cases_eq}
-use Rattle.sect_dev.specs.Device.{Image, IsImageOf}
-use Rattle.sect_dev.specs.Moments.{followed_by}
-use Rattle.page_io.specs.Page.{page_at, own_number, IsOutsidePage, KeepsWhere}
+use Rattle.std.proofs.Common.{◌≡◌, ◌<◌, ◌≤◌, ◌+◌, ℕ, List, [], get_or, ◌∷◌, ◌++◌, length, true, refl, ◌∙◌, sym, ap, subst, arith}
+use Rattle.sect_dev.specs.Device.{Image}
+use Rattle.sect_dev.specs.declared.device.SectorDev.{Ghosts}
+use Rattle.page_io.specs.Page.{page_at, own_number, IsOutsidePage}
 use Rattle.page_io.proofs.PageLaws.{same_page}
-use Rattle.page_io.specs.Store.{Pages, pages_from, overlaid, with_page}
-use Rattle.page_io.proofs.Overlays.{with_page-same, with_page-other, overlaid-push, pages_more, get_or-pages_from}
+use Rattle.page_io.specs.Store.{Pages, pages_from, overlaid, are_in_order}
+use Rattle.page_io.proofs.Overlays.{overlaid-push, pages_more, get_or-pages_from}
 use Rattle.page_io.specs.Counts.{length-pages_from}
 use Rattle.page_io.proofs.StagedPages.{in_range}
 use Rattle.redo_commit.specs.File.{redo_images, IsOutsideAll}
-use Rattle.page_io.proofs.PageLists.{other_page}
 use Rattle.redo_commit.proofs.Images.{outside_at, outside-above}
+use Rattle.redo_commit.proofs.WriteRuns.{Keeps, none_written, keeps_on, home_more}
+use Rattle.redo_area.proofs.ReadRuns.{read_on}
 use Rattle.redo_area.proofs.recovery.copy_images.Goals as goal
 use Rattle.redo_area.proofs.recovery.copy_images.Goals.{then-own-lt1-via-then-own-lt1, then-own-lt1-via-else-own-lt1+then-end-own}
 
-pub returns-then-own-lt1-clause-good : goal.returns-then-own-lt1-clause-good
-returns-then-own-lt1-clause-good g c honest =
+-- an image that was read once those before it are copied home
+module _ {D : Type 0} (dev : Ghosts D) (first before : D) (start count end i : ℕ) (bytes : List ℕ) (above : end ≤ start) (lt : i < count)
+    (order : are_in_order 1 end (redo_images (dev.seen first) start count) ≡ true) (keeps : Keeps dev (IsOutsideAll (redo_images (dev.seen first) start count)) first before)
+    (read : bytes ≡ page_at (dev.seen before) (start + i)) where
+  -- it is as it was at the start
+  as_first : bytes ≡ page_at (dev.seen first) (start + i)
+  as_first =
+      read ∙ same_page (dev.seen before) (dev.seen first) (start + i)
+      (λ m ge less. keeps.others m (outside-above 1 end (redo_images (dev.seen first) start count) m order (omega (arith, ge, above))))
+
+  inside : i < length (redo_images (dev.seen first) start count)
+  inside = omega (arith, length-pages_from (page_at (dev.seen first)) start count, lt)
+
+  number : own_number (get_or (redo_images (dev.seen first) start count) i []) ≡ own_number bytes
+  number = ap own_number (get_or-pages_from (page_at (dev.seen first)) start count i lt ∙ sym as_first)
+
+  within : (1 ≤ own_number bytes) × (own_number bytes < end)
+  within =
+      let range = in_range 1 end (redo_images (dev.seen first) start count) i order inside in
+      (omega (arith, range.0, number), omega (arith, range.1, number))
+
+  -- and is written to its own number
+  copied_home : (mid after : D) (own : ℕ) → own ≡ own_number bytes → Keeps dev (IsOutsideAll (redo_images (dev.seen first) start count)) first mid
+      → Keeps dev (IsOutsidePage own) mid after → Keeps dev (IsOutsideAll (redo_images (dev.seen first) start count)) first after
+  copied_home mid after own owns seen written =
+      let Kept = IsOutsideAll (redo_images (dev.seen first) start count) in
+      keeps_on dev Kept (IsOutsidePage own) first mid after seen written
+      (λ m out. subst (λ (k : ℕ). IsOutsidePage k m) (number ∙ sym owns) (outside_at (redo_images (dev.seen first) start count) m i out inside))
+
+pub loop-i-init : goal.loop-i-init
+loop-i-init g c =
     let dev = g.D.SectorDev in
     let first = c.args.dev.now in
-    let before = c.loop-i.dev in
-    let start = c.args.start in
-    let count = c.args.count in
-    let end = c.args.end in
-    let i = c.loop-i.i in
+    record {
+      size = refl;
+      honesty = (λ h. h, λ h. h);
+      faults = omega arith;
+      keeps = λ h. none_written dev (IsOutsideAll (redo_images (dev.seen first) c.args.start c.args.count)) first (λ image left. g.met.D.SectorDev.only_now first image h left);
+      written = λ h n. refl;
+    }
+
+pub returns-then-own-lt1-clause-good : goal.returns-then-own-lt1-clause-good
+returns-then-own-lt1-clause-good g c h =
     let inv = c.loop-i.invariant in
-    let home = page_at (dev.seen first) in
-    let redo = redo_images (dev.seen first) start count in
-    let order = c.requires.in_order in
-    let h1 = inv.honesty.1 in
-    let bytes = λ (h : dev.honest first). c.in_ok-read_page.ensures.read (h1 h)
-    ∙ same_page (dev.seen before) (dev.seen first) (start + i) (λ m ge lt. inv.others h m (outside-above 1 end redo m (order h) (omega (arith, ge, c.requires.above)))) in
-    let inside : i < length redo = omega (arith, length-pages_from home start count, c.loop-i-test.true) in
-    let num = λ (h : dev.honest first). ap own_number (get_or-pages_from home start count i c.loop-i-test.true ∙ sym (bytes h)) ∙ sym c.own-own.ensures.number in
-    let range = λ (h : dev.honest first). in_range 1 end redo i (order h) inside in
+    let range = within g.D.SectorDev c.args.dev.now c.loop-i.dev c.args.start c.args.count c.args.end c.loop-i.i c.read_page.new.page.bytes c.requires.above c.loop-i-test.true (c.requires.in_order h) (inv.keeps h)
+    (c.in_ok-read_page.ensures.read (inv.honesty.1 h)) in
     elim c.then-own-lt1.branch [
-      | then-own-lt1-via-then-own-lt1 w ↦ absurd (omega (arith, num honest, (range honest).0, w.if-own-lt1.true))
-      | then-own-lt1-via-else-own-lt1+then-end-own w ↦ absurd (omega (arith, num honest, (range honest).1, w.if-end-own.true))
+      | then-own-lt1-via-then-own-lt1 w ↦ absurd (omega (arith, c.own-own.ensures.number, range.0, w.if-own-lt1.true))
+      | then-own-lt1-via-else-own-lt1+then-end-own w ↦ absurd (omega (arith, c.own-own.ensures.number, range.1, w.if-end-own.true))
     ]
 
 pub returns-then-own-lt1-clause-written : goal.returns-then-own-lt1-clause-written
-returns-then-own-lt1-clause-written g c honest =
-    let dev = g.D.SectorDev in
-    let first = c.args.dev.now in
-    let before = c.loop-i.dev in
-    let start = c.args.start in
-    let count = c.args.count in
-    let end = c.args.end in
-    let i = c.loop-i.i in
+returns-then-own-lt1-clause-written g c h =
     let inv = c.loop-i.invariant in
-    let home = page_at (dev.seen first) in
-    let redo = redo_images (dev.seen first) start count in
-    let order = c.requires.in_order in
-    let h1 = inv.honesty.1 in
-    let bytes = λ (h : dev.honest first). c.in_ok-read_page.ensures.read (h1 h)
-    ∙ same_page (dev.seen before) (dev.seen first) (start + i) (λ m ge lt. inv.others h m (outside-above 1 end redo m (order h) (omega (arith, ge, c.requires.above)))) in
-    let inside : i < length redo = omega (arith, length-pages_from home start count, c.loop-i-test.true) in
-    let num = λ (h : dev.honest first). ap own_number (get_or-pages_from home start count i c.loop-i-test.true ∙ sym (bytes h)) ∙ sym c.own-own.ensures.number in
-    let range = λ (h : dev.honest first). in_range 1 end redo i (order h) inside in
+    let range = within g.D.SectorDev c.args.dev.now c.loop-i.dev c.args.start c.args.count c.args.end c.loop-i.i c.read_page.new.page.bytes c.requires.above c.loop-i-test.true (c.requires.in_order h) (inv.keeps h)
+    (c.in_ok-read_page.ensures.read (inv.honesty.1 h)) in
     elim c.then-own-lt1.branch [
-      | then-own-lt1-via-then-own-lt1 w ↦ absurd (omega (arith, num honest, (range honest).0, w.if-own-lt1.true))
-      | then-own-lt1-via-else-own-lt1+then-end-own w ↦ absurd (omega (arith, num honest, (range honest).1, w.if-end-own.true))
+      | then-own-lt1-via-then-own-lt1 w ↦ absurd (omega (arith, c.own-own.ensures.number, range.0, w.if-own-lt1.true))
+      | then-own-lt1-via-else-own-lt1+then-end-own w ↦ absurd (omega (arith, c.own-own.ensures.number, range.1, w.if-end-own.true))
     ]
 
+pub returns-in_err-read_page-clause-any_moment : goal.returns-in_err-read_page-clause-any_moment
+returns-in_err-read_page-clause-any_moment g c h =
+    let r = c.read_page.ensures in
+    let h1 = c.loop-i.invariant.honesty.1 h in
+    (read_on g.D.SectorDev c.read_page.new.dev (c.loop-i.invariant.keeps h) (r.any_moment h1) (r.candidates h1) (r.seen h1)).any_moment
+
+pub returns-in_err-read_page-clause-candidates : goal.returns-in_err-read_page-clause-candidates
+returns-in_err-read_page-clause-candidates g c h =
+    let r = c.read_page.ensures in
+    let h1 = c.loop-i.invariant.honesty.1 h in
+    (read_on g.D.SectorDev c.read_page.new.dev (c.loop-i.invariant.keeps h) (r.any_moment h1) (r.candidates h1) (r.seen h1)).candidates
+
+pub returns-then-own-lt1-clause-any_moment : goal.returns-then-own-lt1-clause-any_moment
+returns-then-own-lt1-clause-any_moment g c h =
+    let r = c.read_page.ensures in
+    let h1 = c.loop-i.invariant.honesty.1 h in
+    (read_on g.D.SectorDev c.read_page.new.dev (c.loop-i.invariant.keeps h) (r.any_moment h1) (r.candidates h1) (r.seen h1)).any_moment
+
+pub returns-then-own-lt1-clause-candidates : goal.returns-then-own-lt1-clause-candidates
+returns-then-own-lt1-clause-candidates g c h =
+    let r = c.read_page.ensures in
+    let h1 = c.loop-i.invariant.honesty.1 h in
+    (read_on g.D.SectorDev c.read_page.new.dev (c.loop-i.invariant.keeps h) (r.any_moment h1) (r.candidates h1) (r.seen h1)).candidates
+
+pub returns-then-own-lt1-clause-others : goal.returns-then-own-lt1-clause-others
+returns-then-own-lt1-clause-others g c h =
+    let r = c.read_page.ensures in
+    let h1 = c.loop-i.invariant.honesty.1 h in
+    (read_on g.D.SectorDev c.read_page.new.dev (c.loop-i.invariant.keeps h) (r.any_moment h1) (r.candidates h1) (r.seen h1)).others
+
 pub returns-in_err-write_page-clause-any_moment : goal.returns-in_err-write_page-clause-any_moment
-returns-in_err-write_page-clause-any_moment g c honest =
-    let dev = g.D.SectorDev in
-    let first = c.args.dev.now in
-    let before = c.loop-i.dev in
-    let mid = c.read_page.new.dev in
-    let start = c.args.start in
-    let count = c.args.count in
-    let end = c.args.end in
-    let i = c.loop-i.i in
+returns-in_err-write_page-clause-any_moment g c h =
     let inv = c.loop-i.invariant in
-    let home = page_at (dev.seen first) in
-    let redo = redo_images (dev.seen first) start count in
-    let own = c.own-own.result in
-    let order = c.requires.in_order in
-    let h1 = inv.honesty.1 in
-    let h2 = λ (h : dev.honest first). c.read_page.ensures.honesty.1 (h1 h) in
-    let bytes = λ (h : dev.honest first). c.in_ok-read_page.ensures.read (h1 h)
-    ∙ same_page (dev.seen before) (dev.seen first) (start + i) (λ m ge lt. inv.others h m (outside-above 1 end redo m (order h) (omega (arith, ge, c.requires.above)))) in
-    let inside : i < length redo = omega (arith, length-pages_from home start count, c.loop-i-test.true) in
-    let num = λ (h : dev.honest first). ap own_number (get_or-pages_from home start count i c.loop-i-test.true ∙ sym (bytes h)) ∙ sym c.own-own.ensures.number in
-    let after = c.write_page.new.dev in
-    let apart = λ (h : dev.honest first) (m : ℕ) (out : IsOutsideAll redo m). subst (λ (k : ℕ). IsOutsidePage k m) (num h) (outside_at redo m i out inside) in
-    let fewer1 = λ (h : dev.honest first) (m : ℕ) (x : List ℕ) (out : IsOutsideAll redo m) (may : dev.candidate mid m x). inv.candidates h m x out (c.read_page.ensures.candidates (h1 h) m x may) in
-    let P = KeepsWhere (dev.candidate first) (IsOutsideAll redo) in
-    let moments = λ (h : dev.honest first).
-    followed_by dev.moment dev.left_since first mid after P (KeepsWhere (dev.candidate mid) (IsOutsidePage own))
-    (followed_by dev.moment dev.left_since first before mid P (IsImageOf (dev.candidate before)) (inv.moments h) (c.read_page.ensures.any_moment (h1 h)) (λ image is m out. inv.candidates h m (image m) out (is m)))
-    (c.write_page.ensures.any_moment (h2 h)) (λ image is m out. fewer1 h m (image m) out (is m (apart h m out))) in
-    moments honest
+    let r = c.read_page.ensures in
+    let w = c.write_page.ensures in
+    let h1 = inv.honesty.1 h in
+    let h2 = r.honesty.1 h1 in
+    (copied_home g.D.SectorDev c.args.dev.now c.loop-i.dev c.args.start c.args.count c.args.end c.loop-i.i c.read_page.new.page.bytes c.requires.above c.loop-i-test.true (c.requires.in_order h) (inv.keeps h)
+    (c.in_ok-read_page.ensures.read h1) c.read_page.new.dev c.write_page.new.dev c.own-own.result c.own-own.ensures.number
+    (read_on g.D.SectorDev c.read_page.new.dev (inv.keeps h) (r.any_moment h1) (r.candidates h1) (r.seen h1))
+    (record { any_moment = w.any_moment h2; candidates = w.candidates h2; others = w.others h2 })).any_moment
 
 pub returns-in_err-write_page-clause-candidates : goal.returns-in_err-write_page-clause-candidates
-returns-in_err-write_page-clause-candidates g c honest m x out may =
-    let dev = g.D.SectorDev in
-    let first = c.args.dev.now in
-    let before = c.loop-i.dev in
-    let mid = c.read_page.new.dev in
-    let start = c.args.start in
-    let count = c.args.count in
-    let end = c.args.end in
-    let i = c.loop-i.i in
+returns-in_err-write_page-clause-candidates g c h =
     let inv = c.loop-i.invariant in
-    let home = page_at (dev.seen first) in
-    let redo = redo_images (dev.seen first) start count in
-    let order = c.requires.in_order in
-    let h1 = inv.honesty.1 in
-    let h2 = λ (h : dev.honest first). c.read_page.ensures.honesty.1 (h1 h) in
-    let bytes = λ (h : dev.honest first). c.in_ok-read_page.ensures.read (h1 h)
-    ∙ same_page (dev.seen before) (dev.seen first) (start + i) (λ m ge lt. inv.others h m (outside-above 1 end redo m (order h) (omega (arith, ge, c.requires.above)))) in
-    let inside : i < length redo = omega (arith, length-pages_from home start count, c.loop-i-test.true) in
-    let num = λ (h : dev.honest first). ap own_number (get_or-pages_from home start count i c.loop-i-test.true ∙ sym (bytes h)) ∙ sym c.own-own.ensures.number in
-    let apart = λ (h : dev.honest first) (m : ℕ) (out : IsOutsideAll redo m). subst (λ (k : ℕ). IsOutsidePage k m) (num h) (outside_at redo m i out inside) in
-    let fewer1 = λ (h : dev.honest first) (m : ℕ) (x : List ℕ) (out : IsOutsideAll redo m) (may : dev.candidate mid m x). inv.candidates h m x out (c.read_page.ensures.candidates (h1 h) m x may) in
-    fewer1 honest m x out (c.write_page.ensures.candidates (h2 honest) m x (apart honest m out) may)
+    let r = c.read_page.ensures in
+    let w = c.write_page.ensures in
+    let h1 = inv.honesty.1 h in
+    let h2 = r.honesty.1 h1 in
+    (copied_home g.D.SectorDev c.args.dev.now c.loop-i.dev c.args.start c.args.count c.args.end c.loop-i.i c.read_page.new.page.bytes c.requires.above c.loop-i-test.true (c.requires.in_order h) (inv.keeps h)
+    (c.in_ok-read_page.ensures.read h1) c.read_page.new.dev c.write_page.new.dev c.own-own.result c.own-own.ensures.number
+    (read_on g.D.SectorDev c.read_page.new.dev (inv.keeps h) (r.any_moment h1) (r.candidates h1) (r.seen h1))
+    (record { any_moment = w.any_moment h2; candidates = w.candidates h2; others = w.others h2 })).candidates
 
 pub loop-i-preserved : goal.loop-i-preserved
 loop-i-preserved g c =
     let dev = g.D.SectorDev in
-    let first = c.args.dev.now in
-    let before = c.loop-i.dev in
-    let mid = c.read_page.new.dev in
-    let start = c.args.start in
-    let count = c.args.count in
-    let end = c.args.end in
-    let i = c.loop-i.i in
     let inv = c.loop-i.invariant in
-    let home = page_at (dev.seen first) in
-    let redo = redo_images (dev.seen first) start count in
-    let own = c.own-own.result in
-    let order = c.requires.in_order in
-    let h1 = inv.honesty.1 in
-    let h2 = λ (h : dev.honest first). c.read_page.ensures.honesty.1 (h1 h) in
-    let bytes = λ (h : dev.honest first). c.in_ok-read_page.ensures.read (h1 h)
-    ∙ same_page (dev.seen before) (dev.seen first) (start + i) (λ m ge lt. inv.others h m (outside-above 1 end redo m (order h) (omega (arith, ge, c.requires.above)))) in
-    let inside : i < length redo = omega (arith, length-pages_from home start count, c.loop-i-test.true) in
-    let num = λ (h : dev.honest first). ap own_number (get_or-pages_from home start count i c.loop-i-test.true ∙ sym (bytes h)) ∙ sym c.own-own.ensures.number in
-    let after = c.write_page.new.dev in
-    let apart = λ (h : dev.honest first) (m : ℕ) (out : IsOutsideAll redo m). subst (λ (k : ℕ). IsOutsidePage k m) (num h) (outside_at redo m i out inside) in
-    let fewer1 = λ (h : dev.honest first) (m : ℕ) (x : List ℕ) (out : IsOutsideAll redo m) (may : dev.candidate mid m x). inv.candidates h m x out (c.read_page.ensures.candidates (h1 h) m x may) in
-    let P = KeepsWhere (dev.candidate first) (IsOutsideAll redo) in
-    let moments = λ (h : dev.honest first).
-    followed_by dev.moment dev.left_since first mid after P (KeepsWhere (dev.candidate mid) (IsOutsidePage own))
-    (followed_by dev.moment dev.left_since first before mid P (IsImageOf (dev.candidate before)) (inv.moments h) (c.read_page.ensures.any_moment (h1 h)) (λ image is m out. inv.candidates h m (image m) out (is m)))
-    (c.write_page.ensures.any_moment (h2 h)) (λ image is m out. fewer1 h m (image m) out (is m (apart h m out))) in
-    let seen_mid = λ (h : dev.honest first) (m : ℕ). ap (λ (s : Image). s m) (c.read_page.ensures.seen (h1 h)) in
+    let r = c.read_page.ensures in
+    let w = c.write_page.ensures in
+    let still = λ (h : dev.honest c.args.dev.now). r.honesty.1 (inv.honesty.1 h) in
     record {
-      size = c.write_page.ensures.size ∙ c.read_page.ensures.size ∙ inv.size;
-      honesty = (λ h. inv.honesty.0 (c.read_page.ensures.honesty.0 (c.write_page.ensures.honesty.0 h)), λ h. c.write_page.ensures.honesty.1 (h2 h));
-      faults = omega (arith, c.write_page.ensures.cause.later, c.read_page.ensures.cause.later, inv.faults);
-      moments = moments;
-      candidates = λ h m x out may. fewer1 h m x out (c.write_page.ensures.candidates (h2 h) m x (apart h m out) may);
-      others = λ h m out. c.in_ok-write_page.ensures.others (h2 h) m (apart h m out) ∙ seen_mid h m ∙ inv.others h m out;
+      size = w.size ∙ r.size ∙ inv.size;
+      honesty = (λ h. inv.honesty.0 (r.honesty.0 (w.honesty.0 h)), λ h. w.honesty.1 (still h));
+      faults = omega (arith, w.cause.later, r.cause.later, inv.faults);
+      keeps = λ h.
+          let h1 = inv.honesty.1 h in
+          let h2 = still h in
+          copied_home g.D.SectorDev c.args.dev.now c.loop-i.dev c.args.start c.args.count c.args.end c.loop-i.i c.read_page.new.page.bytes c.requires.above c.loop-i-test.true (c.requires.in_order h) (inv.keeps h)
+          (c.in_ok-read_page.ensures.read h1) c.read_page.new.dev c.write_page.new.dev c.own-own.result c.own-own.ensures.number
+          (read_on g.D.SectorDev c.read_page.new.dev (inv.keeps h) (r.any_moment h1) (r.candidates h1) (r.seen h1))
+          (record { any_moment = w.any_moment h2; candidates = w.candidates h2; others = w.others h2 });
       written = λ h n.
-          let page = c.read_page.new.page in
-          let so_far = overlaid (pages_from home start i) home in
-          let more : overlaid (pages_from home start (i + 1)) home n ≡ with_page so_far page.bytes n =
-          ap (λ (ps : Pages). overlaid ps home n) (pages_more home start i ∙ ap (λ (p : List ℕ). pages_from home start i ++ p ∷ []) (sym (bytes h)))
-          ∙ ap (λ (f : ℕ → List ℕ). f n) (overlaid-push (pages_from home start i) home page.bytes) in
-          elim (cases_eq (own_number page.bytes) n) [
-            | inl same ↦ ap (page_at (dev.seen after)) (sym same ∙ sym c.own-own.ensures.number) ∙ c.in_ok-write_page.ensures.written (h2 h) ∙ sym (with_page-same so_far page.bytes n same) ∙ sym more
-            | inr other ↦ same_page (dev.seen after) (dev.seen mid) n
-                (λ m ge4 lt4. c.in_ok-write_page.ensures.others (h2 h) m (other_page own n m (λ e. other (sym c.own-own.ensures.number ∙ e)) ge4 lt4))
-                ∙ ap (λ (s : Image). page_at s n) (c.read_page.ensures.seen (h1 h)) ∙ inv.written h n ∙ sym (with_page-other so_far page.bytes n other) ∙ sym more
-          ];
+          let home = page_at (dev.seen c.args.dev.now) in
+          let so_far = pages_from home c.args.start c.loop-i.i in
+          let page = c.read_page.new.page.bytes in
+          let bytes = as_first g.D.SectorDev c.args.dev.now c.loop-i.dev c.args.start c.args.count c.args.end c.loop-i.i c.read_page.new.page.bytes c.requires.above c.loop-i-test.true (c.requires.in_order h) (inv.keeps h)
+          (c.in_ok-read_page.ensures.read (inv.honesty.1 h)) in
+          home_more (dev.seen c.read_page.new.dev) (dev.seen c.write_page.new.dev) (overlaid so_far home) page c.own-own.result c.own-own.ensures.number (c.in_ok-write_page.ensures.written (still h))
+          (w.others (still h)) (λ k. ap (λ (s : Image). page_at s k) (r.seen (inv.honesty.1 h)) ∙ inv.written h k) n
+          ∙ sym (ap (λ (ps : Pages). overlaid ps home n) (pages_more home c.args.start c.loop-i.i ∙ ap (λ (p : List ℕ). so_far ++ p ∷ []) (sym bytes)) ∙ ap (λ (f : ℕ → List ℕ). f n) (overlaid-push so_far home page));
     }
+
+pub returns-clause-any_moment : goal.returns-clause-any_moment
+returns-clause-any_moment g c h = (c.loop-i.invariant.keeps h).any_moment
+
+pub returns-clause-candidates : goal.returns-clause-candidates
+returns-clause-candidates g c h = (c.loop-i.invariant.keeps h).candidates
+
+pub returns-clause-others : goal.returns-clause-others
+returns-clause-others g c h = (c.loop-i.invariant.keeps h).others

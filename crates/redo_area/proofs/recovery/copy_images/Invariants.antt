@@ -1,21 +1,18 @@
-use Rattle.std.proofs.Common.{◌≡◌, ◌≤◌, ◌↔◌, ℕ, List}
-use Rattle.sect_dev.specs.Device.{LeavesOnly}
-use Rattle.page_io.specs.Page.{page_at, KeepsWhere}
+use Rattle.std.proofs.Common.{◌≡◌, ◌≤◌, ◌↔◌, ℕ}
+use Rattle.page_io.specs.Page.{page_at}
 use Rattle.page_io.specs.Store.{overlaid, pages_from}
 use Rattle.redo_commit.specs.File.{redo_images, IsOutsideAll}
+use Rattle.redo_commit.proofs.WriteRuns.{Keeps}
 use Rattle.redo_area.proofs.recovery.copy_images.Given as goal
 
 abbrev pub invariant-loop-i : goal.invariant-loop-i
 invariant-loop-i g l =
     let dev = g.D.SectorDev in
     let first = l.fn.dev in
-    let Kept = IsOutsideAll (redo_images (dev.seen first) l.start l.count) in
     record {
       size : dev.sectors l.dev ≡ dev.sectors first;
       honesty : dev.honest l.dev ↔ dev.honest first;
       faults : dev.faults first ≤ dev.faults l.dev;
-      moments : dev.honest first → LeavesOnly dev.moment dev.left_since first l.dev (KeepsWhere (dev.candidate first) Kept);
-      candidates : dev.honest first → (m : ℕ) (c : List ℕ) → Kept m → dev.candidate l.dev m c → dev.candidate first m c;
-      others : dev.honest first → (m : ℕ) → Kept m → dev.seen l.dev m ≡ dev.seen first m;
+      keeps : dev.honest first → Keeps dev (IsOutsideAll (redo_images (dev.seen first) l.start l.count)) first l.dev;
       written : dev.honest first → (n : ℕ) → page_at (dev.seen l.dev) n ≡ overlaid (pages_from (page_at (dev.seen first)) l.start l.i) (page_at (dev.seen first)) n;
     }

@@ -1,85 +1,35 @@
 use Rattle.std.proofs.Common.{◌≡◌, ◌/◌, ℕ, ◌∙◌, sym, ap}
 use Rattle.std.proofs.lemmas.Bool.{false≢true}
-use Rattle.sect_dev.specs.Device.{Image, IsImageOf}
-use Rattle.sect_dev.specs.Moments.{only_image, followed_by, weaker}
+use Rattle.sect_dev.specs.Device.{Image}
 use Rattle.page_io.specs.Page.{page_at}
-use Rattle.page_io.specs.Store.{file_of, are_in_order, pages_from, file_pages, overlaid}
+use Rattle.page_io.specs.Store.{are_in_order, pages_from}
 use Rattle.page_io.specs.Counts.{length-pages_from}
 use Rattle.redo_commit.specs.Header.{header_of}
 use Rattle.redo_commit.specs.declared.header.Header.TheVariants.{Armed}
-use Rattle.redo_commit.specs.File.{settled, redo_images}
-use Rattle.redo_commit.proofs.Images.{settled-armed, settled-disordered}
+use Rattle.redo_commit.specs.File.{redo_images}
+use Rattle.redo_commit.proofs.Images.{settled-disordered}
+use Rattle.redo_area.proofs.Recoveries.{check_leaves, copy_leaves}
 use Rattle.redo_area.proofs.recovery.finish_armed.Goals as goal
 
 pub returns-in_err-sound-clause-any_moment : goal.returns-in_err-sound-clause-any_moment
 returns-in_err-sound-clause-any_moment g c honest =
-    let dev = g.D.SectorDev in
-    let first = c.args.dev.now in
-    let mid = c.check_images.new.dev in
-    let cap : ℕ = dev.sectors first / 4 in
-    let stable = c.requires.stable honest in
-    let P = λ (image : Image). settled cap image ≡ settled cap (dev.seen first) in
-    let checked = weaker dev.moment dev.left_since first mid P (IsImageOf (dev.candidate first)) (c.check_images.ensures.any_moment honest)
-    (λ image is. ap (settled cap) (only_image (dev.candidate first) (dev.seen first) image stable is)) in
-    checked
+    check_leaves g.D.SectorDev c.args.dev.now c.check_images.new.dev (c.requires.stable honest) (c.check_images.ensures.any_moment honest)
 
 pub returns-then-not-sound-clause-any_moment : goal.returns-then-not-sound-clause-any_moment
 returns-then-not-sound-clause-any_moment g c honest =
-    let dev = g.D.SectorDev in
-    let first = c.args.dev.now in
-    let mid = c.check_images.new.dev in
-    let cap : ℕ = dev.sectors first / 4 in
-    let stable = c.requires.stable honest in
-    let P = λ (image : Image). settled cap image ≡ settled cap (dev.seen first) in
-    let checked = weaker dev.moment dev.left_since first mid P (IsImageOf (dev.candidate first)) (c.check_images.ensures.any_moment honest)
-    (λ image is. ap (settled cap) (only_image (dev.candidate first) (dev.seen first) image stable is)) in
-    checked
+    check_leaves g.D.SectorDev c.args.dev.now c.check_images.new.dev (c.requires.stable honest) (c.check_images.ensures.any_moment honest)
 
 pub returns-in_err-good-clause-any_moment : goal.returns-in_err-good-clause-any_moment
 returns-in_err-good-clause-any_moment g c honest =
-    let dev = g.D.SectorDev in
-    let first = c.args.dev.now in
-    let mid = c.check_images.new.dev in
-    let start = c.args.start in
-    let count = c.args.count in
-    let end = c.args.end in
-    let cap : ℕ = dev.sectors first / 4 in
-    let stable = c.requires.stable honest in
-    let P = λ (image : Image). settled cap image ≡ settled cap (dev.seen first) in
-    let checked = weaker dev.moment dev.left_since first mid P (IsImageOf (dev.candidate first)) (c.check_images.ensures.any_moment honest)
-    (λ image is. ap (settled cap) (only_image (dev.candidate first) (dev.seen first) image stable is)) in
-    let h1 = c.check_images.ensures.honesty.1 honest in
-    let seen_same = c.check_images.ensures.seen honest in
-    let same_cap : dev.sectors mid / 4 ≡ cap = ap (λ (s : ℕ). s / 4) c.check_images.ensures.size in
-    let long = length-pages_from (page_at (dev.seen first)) start count in
-    let order = sym (c.in_ok-sound.ensures.checked honest) ∙ c.if-not-sound.false in
-    let whole = settled-armed cap (dev.seen first) end start (redo_images (dev.seen first) start count)
-    (c.requires.header honest ∙ ap (Armed end start) (sym long)) (ap (pages_from (page_at (dev.seen first)) start) long) order in
-    followed_by dev.moment dev.left_since first mid c.replay.new.dev P _ checked (c.replay.ensures.any_moment h1)
-    (λ image is. ap (λ (k : ℕ). settled k image) (sym same_cap) ∙ is ∙ ap (λ (s : Image). file_of (file_pages (overlaid (redo_images s start count) (page_at s)) end)) seen_same ∙ sym whole)
+    let checked = c.check_images.ensures in
+    copy_leaves g.D.SectorDev c.args.dev.now c.check_images.new.dev (c.requires.stable honest) c.args.end c.args.start c.args.count (c.requires.header honest)
+    (sym (c.in_ok-sound.ensures.checked honest) ∙ c.if-not-sound.false) checked.size (checked.seen honest) c.replay.new.dev (checked.any_moment honest) (c.replay.ensures.any_moment (checked.honesty.1 honest))
 
 pub returns-clause-any_moment : goal.returns-clause-any_moment
 returns-clause-any_moment g c honest =
-    let dev = g.D.SectorDev in
-    let first = c.args.dev.now in
-    let mid = c.check_images.new.dev in
-    let start = c.args.start in
-    let count = c.args.count in
-    let end = c.args.end in
-    let cap : ℕ = dev.sectors first / 4 in
-    let stable = c.requires.stable honest in
-    let P = λ (image : Image). settled cap image ≡ settled cap (dev.seen first) in
-    let checked = weaker dev.moment dev.left_since first mid P (IsImageOf (dev.candidate first)) (c.check_images.ensures.any_moment honest)
-    (λ image is. ap (settled cap) (only_image (dev.candidate first) (dev.seen first) image stable is)) in
-    let h1 = c.check_images.ensures.honesty.1 honest in
-    let seen_same = c.check_images.ensures.seen honest in
-    let same_cap : dev.sectors mid / 4 ≡ cap = ap (λ (s : ℕ). s / 4) c.check_images.ensures.size in
-    let long = length-pages_from (page_at (dev.seen first)) start count in
-    let order = sym (c.in_ok-sound.ensures.checked honest) ∙ c.if-not-sound.false in
-    let whole = settled-armed cap (dev.seen first) end start (redo_images (dev.seen first) start count)
-    (c.requires.header honest ∙ ap (Armed end start) (sym long)) (ap (pages_from (page_at (dev.seen first)) start) long) order in
-    followed_by dev.moment dev.left_since first mid c.replay.new.dev P _ checked (c.replay.ensures.any_moment h1)
-    (λ image is. ap (λ (k : ℕ). settled k image) (sym same_cap) ∙ is ∙ ap (λ (s : Image). file_of (file_pages (overlaid (redo_images s start count) (page_at s)) end)) seen_same ∙ sym whole)
+    let checked = c.check_images.ensures in
+    copy_leaves g.D.SectorDev c.args.dev.now c.check_images.new.dev (c.requires.stable honest) c.args.end c.args.start c.args.count (c.requires.header honest)
+    (sym (c.in_ok-sound.ensures.checked honest) ∙ c.if-not-sound.false) checked.size (checked.seen honest) c.replay.new.dev (checked.any_moment honest) (c.replay.ensures.any_moment (checked.honesty.1 honest))
 
 pub replay-requires-clause-armed : goal.replay-requires-clause-armed
 replay-requires-clause-armed g c still =

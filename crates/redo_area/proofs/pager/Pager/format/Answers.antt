@@ -1,8 +1,8 @@
-use Rattle.std.proofs.Common.{◌≡◌, ◌/◌, ◌+◌, ℕ, [], length, true, sym, ◌∙◌, ap, arith, subst}
+use Rattle.std.proofs.Common.{◌≡◌, ◌/◌, ◌+◌, ℕ, [], length, true, sym, ap, arith, subst}
 use Rattle.page_io.specs.Store.{bytes_of}
 use Rattle.redo_commit.specs.File.{IsAtRest}
 use Rattle.redo_area.specs.Settling.{rests_at}
-use Rattle.redo_area.proofs.Results.{from_ok}
+use Rattle.redo_area.proofs.Results.{from_test}
 use Rattle.redo_commit.proofs.Blanks.{blank_candidates}
 use Rattle.redo_area.proofs.pager.Pager.format.Goals as goal
 
@@ -23,7 +23,7 @@ invariant_of-result-clause-rests g c still usable =
     let at_rest = λ (cap end : ℕ). IsAtRest cap end (dev.candidate new) (dev.seen new) in
     let same : dev.sectors c.args.dev / 4 ≡ dev.sectors new / 4 = ap (λ (s : ℕ). s / 4) (sym c.format_pages.ensures.size) in
     let ends : 1 + count ≡ count + 1 = omega arith in
-    let rest = from_ok c.format_pages.result (sym c.is_err.ensures.value ∙ c.if-is_err.false) (c.format_pages.ensures.rest honest) in
+    let rest = from_test c.format_pages.result c.is_err.ensures.value c.if-is_err.false (c.format_pages.ensures.rest honest) in
     rests_at true (dev.sectors new / 4) (count + 1) (bytes_of kept) (dev.candidate new) (dev.seen new) (ap bytes_of none)
     (subst (λ (end : ℕ). at_rest (dev.sectors new / 4) end) ends (subst (λ (cap : ℕ). at_rest cap (1 + count)) same rest))
 

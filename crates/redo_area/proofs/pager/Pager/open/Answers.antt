@@ -1,9 +1,8 @@
-use Rattle.std.proofs.Common.{◌≡◌, ◌/◌, ℕ, true, [], refl, sym, ◌∙◌, ap, subst}
-use Rattle.sect_dev.specs.Device.{IsImageOf}
-use Rattle.sect_dev.specs.Moments.{weaker}
+use Rattle.std.proofs.Common.{◌≡◌, ◌/◌, ℕ, true, [], sym, ◌∙◌, ap, subst}
 use Rattle.page_io.specs.Store.{bytes_of}
-use Rattle.redo_commit.specs.File.{IsAtRest, SettlesAsBefore}
+use Rattle.redo_commit.specs.File.{IsAtRest}
 use Rattle.redo_area.specs.Settling.{rests_at}
+use Rattle.redo_area.proofs.Recoveries.{as_before}
 use Rattle.redo_area.proofs.pager.Pager.open.Goals as goal
 
 pub invariant_of-result-clause-rests : goal.invariant_of-result-clause-rests
@@ -32,15 +31,7 @@ returns-in-Ok-clause-committed g c honest =
     record { image = now.0; is_image = now.1; reads = sym now.2 ∙ rests.settles }
 
 pub returns-in-Ok-read_file-clause-any_moment : goal.returns-in-Ok-read_file-clause-any_moment
-returns-in-Ok-read_file-clause-any_moment g c honest =
-    let dev = g.D.SectorDev in
-    let first = c.args.dev in
-    weaker dev.moment dev.left_since first c.read_file.new.dev (SettlesAsBefore (dev.sectors first / 4) (dev.candidate first)) (IsImageOf (dev.candidate first)) (c.read_file.ensures.only_reads honest).any_moment
-    (λ image is. (image, is, refl))
+returns-in-Ok-read_file-clause-any_moment g c honest = as_before g.D.SectorDev c.args.dev c.read_file.new.dev (c.read_file.ensures.only_reads honest).any_moment
 
 pub returns-in-Err-read_file-clause-any_moment : goal.returns-in-Err-read_file-clause-any_moment
-returns-in-Err-read_file-clause-any_moment g c honest =
-    let dev = g.D.SectorDev in
-    let first = c.args.dev in
-    weaker dev.moment dev.left_since first c.read_file.new.dev (SettlesAsBefore (dev.sectors first / 4) (dev.candidate first)) (IsImageOf (dev.candidate first)) (c.read_file.ensures.only_reads honest).any_moment
-    (λ image is. (image, is, refl))
+returns-in-Err-read_file-clause-any_moment g c honest = as_before g.D.SectorDev c.args.dev c.read_file.new.dev (c.read_file.ensures.only_reads honest).any_moment

@@ -1,12 +1,12 @@
 use Rattle.std.proofs.Common.{◌≡◌, ◌/◌, ℕ, List, inl, true, refl, sym, ◌∙◌, ap, subst}
-use Rattle.sect_dev.specs.Moments.{started, weaker, lifted}
+use Rattle.sect_dev.specs.Moments.{started, lifted}
 use Rattle.page_io.specs.Page.{page_at}
 use Rattle.page_io.specs.Store.{file_of, IsEither, bytes_of, file_pages, overlaid, are_in_order, committed_with}
 use Rattle.page_io.specs.declared.page.Page.{Page}
 use Rattle.redo_commit.specs.File.{settled, IsAtRest}
 use Rattle.redo_area.specs.Settling.{only_seen, rests_at}
-use Rattle.redo_area.proofs.Kept.{none_over, new_pages, either}
-use Rattle.redo_area.proofs.Results.{from_ok}
+use Rattle.redo_area.proofs.Kept.{none_over, new_pages, commit_leaves}
+use Rattle.redo_area.proofs.Results.{from_test}
 use Rattle.page_io.proofs.StagedPages.{order_below}
 use Rattle.redo_area.proofs.pager.PagerPageStore.commit.Goals as goal
 
@@ -37,33 +37,17 @@ invariant_of-self-2-clause-rests g c still usable =
     let at_rest = λ (cap : ℕ). IsAtRest cap c.args.new_end (dev.candidate new) (dev.seen new) in
     let same : dev.sectors old.dev / 4 ≡ dev.sectors new / 4 = ap (λ (s : ℕ). s / 4) (sym c.commit_pages.ensures.size) in
     rests_at old.writable (dev.sectors new / 4) c.args.new_end (bytes_of old.redo.items) (dev.candidate new) (dev.seen new) (old.none c.if-not-self-2.false)
-    (subst at_rest same (from_ok c.commit_pages.result (sym c.is_err.ensures.value ∙ c.if-is_err.false) (c.commit_pages.ensures.rest honest)))
+    (subst at_rest same (from_test c.commit_pages.result c.is_err.ensures.value c.if-is_err.false (c.commit_pages.ensures.rest honest)))
 
 pub returns-then-is_err-clause-any_moment : goal.returns-then-is_err-clause-any_moment
 returns-then-is_err-clause-any_moment g c honest usable writable =
-    let dev = g.D.SectorDev in
-    let old = c.args.self.now in
-    let cap : ℕ = dev.sectors old.dev / 4 in
-    let home = page_at (dev.seen old.dev) in
-    let before = file_pages (overlaid (bytes_of old.redo.items) home) old.end in
-    let P = IsEither before (committed_with before (bytes_of old.staged.items) c.args.new_end) in
-    lifted dev.moment dev.left_since (λ p. p.dev) (λ p. settled (dev.sectors p.dev / 4)) old _ P (ap (λ (s : ℕ). settled (s / 4)) c.commit_pages.ensures.size)
-    (weaker dev.moment dev.left_since old.dev c.commit_pages.new.dev (λ image. P (settled cap image)) _ (c.commit_pages.ensures.any_moment honest)
-    (λ image is. either (bytes_of old.redo.items) home (old.none writable) old.end c.args.new_end (bytes_of c.as_slice.result.now) (bytes_of old.staged.items) (settled cap image)
-    (ap bytes_of c.as_slice.ensures.value) c.requires.grown is))
+    commit_leaves g.D.SectorDev c.args.self.now _ c.args.new_end c.as_slice.result.now writable c.commit_pages.ensures.size c.as_slice.ensures.value c.requires.grown
+    (c.commit_pages.ensures.any_moment honest)
 
 pub returns-clause-any_moment : goal.returns-clause-any_moment
 returns-clause-any_moment g c honest usable writable =
-    let dev = g.D.SectorDev in
-    let old = c.args.self.now in
-    let cap : ℕ = dev.sectors old.dev / 4 in
-    let home = page_at (dev.seen old.dev) in
-    let before = file_pages (overlaid (bytes_of old.redo.items) home) old.end in
-    let P = IsEither before (committed_with before (bytes_of old.staged.items) c.args.new_end) in
-    lifted dev.moment dev.left_since (λ p. p.dev) (λ p. settled (dev.sectors p.dev / 4)) old _ P (ap (λ (s : ℕ). settled (s / 4)) c.commit_pages.ensures.size)
-    (weaker dev.moment dev.left_since old.dev c.commit_pages.new.dev (λ image. P (settled cap image)) _ (c.commit_pages.ensures.any_moment honest)
-    (λ image is. either (bytes_of old.redo.items) home (old.none writable) old.end c.args.new_end (bytes_of c.as_slice.result.now) (bytes_of old.staged.items) (settled cap image)
-    (ap bytes_of c.as_slice.ensures.value) c.requires.grown is))
+    commit_leaves g.D.SectorDev c.args.self.now _ c.args.new_end c.as_slice.result.now writable c.commit_pages.ensures.size c.as_slice.ensures.value c.requires.grown
+    (c.commit_pages.ensures.any_moment honest)
 
 pub returns-clause-committed : goal.returns-clause-committed
 returns-clause-committed g c honest =
@@ -73,5 +57,5 @@ returns-clause-committed g c honest =
     let home = page_at (dev.seen old.dev) in
     let none = old.none c.if-not-self-2.false in
     ap (λ (f : ℕ → List ℕ). file_pages f c.args.new_end) (sym (none_over redo (page_at (dev.seen c.commit_pages.new.dev)) none))
-    ∙ from_ok c.commit_pages.result (sym c.is_err.ensures.value ∙ c.if-is_err.false) (c.commit_pages.ensures.pages honest)
+    ∙ from_test c.commit_pages.result c.is_err.ensures.value c.if-is_err.false (c.commit_pages.ensures.pages honest)
     ∙ new_pages redo home none old.end c.args.new_end (bytes_of c.as_slice.result.now) (bytes_of old.staged.items) (ap bytes_of c.as_slice.ensures.value) c.requires.grown

@@ -1,10 +1,10 @@
-use Rattle.std.proofs.Common.{◌≡◌, List, false, sym, ◌∙◌, ap}
+use Rattle.std.proofs.Common.{List, sym, ◌∙◌, ap}
 use Rattle.page_io.specs.Page.{page_at}
-use Rattle.page_io.specs.Store.{bytes_of, file_pages, overlaid, page_of, has_page}
+use Rattle.page_io.specs.Store.{bytes_of, file_pages, overlaid, page_of}
 use Rattle.page_io.proofs.Overlays.{overlaid-staged, overlaid-none}
 use Rattle.page_io.specs.declared.page.Page.{Page}
-use Rattle.redo_area.proofs.Kept.{not_staged}
-use Rattle.redo_area.proofs.Results.{from_ok}
+use Rattle.redo_area.proofs.Kept.{not_found, not_staged}
+use Rattle.redo_area.proofs.Results.{from_test}
 use Rattle.redo_area.proofs.pager.PagerPageStore.read.Goals as goal
 
 pub returns-then-find_staged-clause-found : goal.returns-then-find_staged-clause-found
@@ -18,25 +18,19 @@ returns-then-find_staged-clause-found g c honest =
 pub returns-then-find_staged-2-clause-found : goal.returns-then-find_staged-2-clause-found
 returns-then-find_staged-2-clause-found g c honest =
     let old = c.args.self.now in
-    let n = c.args.n in
-    let redo = bytes_of old.redo.items in
     let seen = page_at (g.D.SectorDev.seen old.dev) in
-    let none : has_page (bytes_of old.staged.items) n ≡ false =
-    ap (λ (ps : List Page). has_page (bytes_of ps) n) (sym c.as_slice.ensures.value) ∙ sym c.find_staged.ensures.found ∙ c.if-find_staged.false in
+    let none = not_found c.args.n c.as_slice.ensures.value c.find_staged.ensures.found c.if-find_staged.false in
     c.find_staged-2.ensures.page
-    ∙ overlaid-staged (bytes_of c.as_slice-2.result.now) seen (λ _. c.find_staged.new.page.bytes) n (sym c.find_staged-2.ensures.found ∙ c.if-find_staged-2.true)
-    ∙ ap (λ (ps : List Page). overlaid (bytes_of ps) seen n) c.as_slice-2.ensures.value
-    ∙ sym (not_staged (bytes_of old.staged.items) (overlaid redo seen) old.end n c.if-n-lt1.false c.if-self-n.false none)
+    ∙ overlaid-staged (bytes_of c.as_slice-2.result.now) seen (λ _. c.find_staged.new.page.bytes) c.args.n (sym c.find_staged-2.ensures.found ∙ c.if-find_staged-2.true)
+    ∙ ap (λ (ps : List Page). overlaid (bytes_of ps) seen c.args.n) c.as_slice-2.ensures.value
+    ∙ sym (not_staged (bytes_of old.staged.items) (overlaid (bytes_of old.redo.items) seen) old.end c.args.n c.if-n-lt1.false c.if-self-n.false none)
 
 pub returns-clause-found : goal.returns-clause-found
 returns-clause-found g c honest =
     let old = c.args.self.now in
-    let n = c.args.n in
     let redo = bytes_of old.redo.items in
     let seen = page_at (g.D.SectorDev.seen old.dev) in
-    let none : has_page (bytes_of old.staged.items) n ≡ false =
-    ap (λ (ps : List Page). has_page (bytes_of ps) n) (sym c.as_slice.ensures.value) ∙ sym c.find_staged.ensures.found ∙ c.if-find_staged.false in
-    let not_kept : has_page redo n ≡ false =
-    ap (λ (ps : List Page). has_page (bytes_of ps) n) (sym c.as_slice-2.ensures.value) ∙ sym c.find_staged-2.ensures.found ∙ c.if-find_staged-2.false in
-    from_ok c.read_page.result (sym c.is_err.ensures.value ∙ c.if-is_err.false) (c.read_page.ensures.read honest)
-    ∙ sym (overlaid-none redo seen n not_kept) ∙ sym (not_staged (bytes_of old.staged.items) (overlaid redo seen) old.end n c.if-n-lt1.false c.if-self-n.false none)
+    let none = not_found c.args.n c.as_slice.ensures.value c.find_staged.ensures.found c.if-find_staged.false in
+    let not_kept = not_found c.args.n c.as_slice-2.ensures.value c.find_staged-2.ensures.found c.if-find_staged-2.false in
+    from_test c.read_page.result c.is_err.ensures.value c.if-is_err.false (c.read_page.ensures.read honest)
+    ∙ sym (overlaid-none redo seen c.args.n not_kept) ∙ sym (not_staged (bytes_of old.staged.items) (overlaid redo seen) old.end c.args.n c.if-n-lt1.false c.if-self-n.false none)
