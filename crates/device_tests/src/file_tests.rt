@@ -1,57 +1,55 @@
 //! Devices over real files, in the folder that the tests run in.
-ghost use Rattle.std.specs.Prelude.{◌<◌, ◌≡◌};
 
+use crate::sectors::{ends, sector_of, set_sector};
 use sect_dev::{DevFault, FileDev, FileFault, SectorDev};
 use std::fs;
 use std::rt::Files;
 use std::test::Fail;
 
-// The first and the last byte of a sector.
-fn ends<D: SectorDev>(dev: &mut D, n: u32) -> Result<[u8; 2], DevFault>
-    requires { n < D.sectors dev.old }
-    ensures { D.sectors dev.new ≡ D.sectors dev.old }
-{
-    let mut sector = [255; 512];
-    dev.read(n, &mut sector)?;
-    Ok([sector[0], sector[511]])
-}
-
-// Writes two sectors and syncs.
-fn write_two<D: SectorDev>(dev: &mut D) -> Result<(), DevFault>
-    requires { 5 < D.sectors dev.old }
-{
+/// Writes two sectors and syncs.
+fn write_two(dev: &mut impl SectorDev) -> Result<(), DevFault> {
     let mut sector = [7; 512];
     sector[511] = 8;
-    dev.write(0, &sector)?;
-    dev.write(5, &[9; 512])?;
+    set_sector(dev, 0, &sector)?;
+    set_sector(dev, 5, &[9; 512])?;
     dev.sync()
 }
 
-// Opens a file and hands it to a function over any device.
+/// Opens a file and hands it to a function over any device.
 fn two_written(rt: &impl Files<File = fs::File>, path: &str) -> Result<bool, FileFault> {
     let mut dev = FileDev::open(rt, path, true, true, 6)?;
     Ok(write_two(&mut dev).is_ok())
+}
+
+/// Whether a device of 200 sectors has the two, zeros elsewhere, and takes no write.
+fn keeps_two(dev: &mut impl SectorDev) -> Result<bool, DevFault> {
+    let contents = [ends(dev, 0)?, ends(dev, 1)?, ends(dev, 5)?, ends(dev, 100)?];
+    let refused = set_sector(dev, 0, &[1; 512]).is_err();
+    Ok(
+        dev.capacity() == 200
+            && contents == [[7, 8], [0, 0], [9, 9], [0, 0]]
+            && refused
+            && ends(dev, 0)? == [7, 8],
+    )
 }
 
 #[test]
 fn a_file_keeps_what_was_written(rt: HostRuntime) -> Result<(), Fail> {
     let path = "kept.dev";
     let _ = fs::remove_file(&rt, path);
-    assert!(rt; two_written(&rt, path)?);
-    assert_eq!(rt; fs::metadata(&rt, path)?.len(), 6 * 512);
+    assert!(rt; two_written(&rt, path)? && fs::metadata(&rt, path)?.len() == 6 * 512);
     let mut dev = FileDev::open(&rt, path, false, false, 200)?;
-    assert_eq!(rt; dev.capacity(), 200);
-    let contents = [
-        ends(&mut dev, 0)?,
-        ends(&mut dev, 1)?,
-        ends(&mut dev, 5)?,
-        ends(&mut dev, 100)?,
-    ];
-    assert_eq!(rt; contents, [[7, 8], [0, 0], [9, 9], [0, 0]]);
-    assert!(rt; dev.write(0, &[1; 512]).is_err());
-    assert_eq!(rt; ends(&mut dev, 0)?, [7, 8]);
+    assert!(rt; keeps_two(&mut dev)?);
     fs::remove_file(&rt, path)?;
     Ok(())
+}
+
+/// Whether a device over a file of 700 bytes of 6 has zeros behind them, and takes a write there.
+fn grows_from_700(dev: &mut impl SectorDev) -> Result<bool, DevFault> {
+    let sector = sector_of(dev, 1)?;
+    let zeros = sector[187] == 6 && sector[188..].iter().all(|byte| *byte == 0);
+    set_sector(dev, 2, &[4; 512])?;
+    Ok(zeros && ends(dev, 1)? == [6, 0] && ends(dev, 2)? == [4, 4])
 }
 
 #[test]
@@ -59,15 +57,20 @@ fn past_the_end_there_are_zeros(rt: HostRuntime) -> Result<(), Fail> {
     let path = "short.dev";
     fs::write(&rt, path, [6; 700].as_slice())?;
     let mut dev = FileDev::open(&rt, path, true, false, 3)?;
-    let mut sector = [255; 512];
-    dev.read(1, &mut sector)?;
-    assert_eq!(rt; sector[187], 6);
-    assert_eq!(rt; &sector[188..], [0; 324].as_slice());
-    dev.write(2, &[4; 512])?;
-    assert_eq!(rt; ends(&mut dev, 1)?, [6, 0]);
-    assert_eq!(rt; ends(&mut dev, 2)?, [4, 4]);
+    assert!(rt; grows_from_700(&mut dev)?);
     fs::remove_file(&rt, path)?;
     Ok(())
+}
+
+/// Whether opening a file so that isn't there is refused, and makes none.
+fn stays_missing(
+    rt: &impl Files<File = fs::File>,
+    path: &str,
+    write: bool,
+    create: bool,
+) -> Result<bool, Fail> {
+    let opened = FileDev::open(rt, path, write, create, 1);
+    Ok(matches!(opened, Err(FileFault::Missing)) && !fs::exists(rt, path)?)
 }
 
 #[test]
@@ -75,24 +78,29 @@ fn a_missing_file_is_made_only_where_asked(rt: HostRuntime) -> Result<(), Fail> 
     let path = "missing.dev";
     let _ = fs::remove_file(&rt, path);
     for (write, create) in [(false, false), (false, true), (true, false)] {
-        let opened = FileDev::open(&rt, path, write, create, 1);
         assert!(rt;
-            matches!(opened, Err(FileFault::Missing)),
+            stays_missing(&rt, path, write, create)?,
             "{write} {create}"
         );
-        assert!(rt; !fs::exists(&rt, path)?);
     }
     assert!(rt; FileDev::open(&rt, path, true, true, 1).is_ok());
     fs::remove_file(&rt, path)?;
     Ok(())
 }
 
+/// Whether opening a file is refused as the device's fault.
+fn is_device_fault(rt: &impl Files<File = fs::File>, path: &str) -> bool {
+    matches!(
+        FileDev::open(rt, path, true, true, 1),
+        Err(FileFault::Device)
+    )
+}
+
 #[test]
 fn what_the_system_refuses_is_a_device_fault(rt: HostRuntime) -> Result<(), Fail> {
     fs::write(&rt, "plain.dev", b"".as_slice())?;
     for path in ["plain.dev/below", "none/below.dev", ".", "a\0b"] {
-        let opened = FileDev::open(&rt, path, true, true, 1);
-        assert!(rt; matches!(opened, Err(FileFault::Device)), "{path}");
+        assert!(rt; is_device_fault(&rt, path), "{path}");
     }
     fs::remove_file(&rt, "plain.dev")?;
     Ok(())

@@ -2,10 +2,20 @@
 #![tactic(auto)]
 
 #[cfg(test)]
+mod commits;
+#[cfg(test)]
 mod file_tests;
+#[cfg(test)]
+mod opening_tests;
 #[cfg(test)]
 mod page_tests;
 #[cfg(test)]
-mod redo_tests;
-#[cfg(test)]
 mod sector_tests;
+#[cfg(test)]
+mod sectors;
+#[cfg(test)]
+mod stop_tests;
+#[cfg(test)]
+mod store_tests;
+#[cfg(test)]
+mod stores;

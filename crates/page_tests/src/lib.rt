@@ -10,6 +10,8 @@ mod change_tests;
 #[cfg(test)]
 mod free_tests;
 #[cfg(test)]
+mod pages;
+#[cfg(test)]
 mod segment_tests;
 #[cfg(test)]
 mod slot_tests;

@@ -1,11 +1,9 @@
 //! The meta page, and the table of segments.
 
-ghost use Rattle.std.specs.Prelude.{◌≡◌, ◌≤◌, ◌<◌, length};
-ghost use Rattle.page_io.specs.Page.{own_number};
-
+use crate::pages::{page_at, space_of, stage, staged, with_byte};
 use free_pages::FreeState;
 use lin_addr::Shape;
-use page_io::{MemPages, PAGE_LEN, Page, PageFault, PageStore};
+use page_io::{MemPages, PAGE_LEN, Page, PageFault};
 use seg_table::{Meta, MetaFault, head_of, read_meta, segment_ok, set_head, write_meta};
 use std::alloc::{AllocError, Global};
 use std::test::Fail;
@@ -20,84 +18,115 @@ fn new_file() -> Page {
     page
 }
 
-/// The new file's meta page with other numbers at these places.
-fn with(fields: &[(usize, u32)]) -> Page {
+/// The new file's meta page with other numbers, each behind its place.
+fn with(fields: &[[u32; 2]]) -> Page {
     let mut page = new_file();
-    for (at, number) in fields {
-        if *at <= PAGE_LEN - 4 {
-            page.set_u32_at(*at, *number);
+    for [at, number] in fields {
+        let at = *at as usize;
+        if at <= PAGE_LEN - 4 {
+            page.set_u32_at(at, *number);
         }
     }
     page
 }
 
+/// Why a page is no meta page.
 fn fault(page: &Page) -> Option<MetaFault> {
     read_meta(page).err()
 }
 
-#[test]
-fn the_meta_page_of_a_new_file(rt: HostRuntime) -> Result<(), Fail> {
-    let page = new_file();
-    let meta = read_meta(&page)?;
-    assert_eq!(rt; (meta.limit, meta.pairs), (100, 0));
-    assert_eq!(rt; meta.shape, Shape::one_bucket());
-    assert_eq!(rt; (meta.free_head, meta.free_count), (0, 0));
-    assert_eq!(rt; meta.segments.as_slice(), [2].as_slice());
+/// Whether what a meta page says is written as the same page.
+fn is_written_back(page: &Page) -> Result<bool, MetaFault> {
+    let meta = read_meta(page)?;
     let mut again = Page::blank();
     write_meta(&meta, &mut again);
-    assert!(rt; again.bytes == page.bytes);
+    Ok(again.bytes == page.bytes)
+}
+
+/// Whether the new file's meta page says what it has to.
+fn is_new(meta: &Meta) -> bool {
+    let numbers = [meta.limit, meta.pairs, meta.free_head, meta.free_count];
+    numbers == [100, 0, 0, 0]
+        && meta.shape == Shape::one_bucket()
+        && meta.segments.as_slice() == [2].as_slice()
+}
+
+#[test]
+fn the_meta_page_of_a_new_file(rt: HostRuntime) -> Result<(), Fail> {
+    assert!(rt; is_new(&read_meta(&new_file())?));
+    assert!(rt; is_written_back(&new_file())?);
     Ok(())
+}
+
+/// The pairs, the level and the split of a meta page.
+fn counts_of(page: &Page) -> Result<[u32; 3], MetaFault> {
+    let meta = read_meta(page)?;
+    Ok([meta.pairs, meta.shape.level, meta.shape.split])
 }
 
 #[test]
 fn the_meta_page_after_nine_pairs(rt: HostRuntime) -> Result<(), Fail> {
     let mut page = new_file();
     page.put(24, &[0, 0, 0, 9, 0, 0, 0, 1]);
-    let meta = read_meta(&page)?;
-    assert_eq!(rt; (meta.pairs, meta.shape.level, meta.shape.split), (9, 1, 0));
-    let mut again = Page::blank();
-    write_meta(&meta, &mut again);
-    assert!(rt; again.bytes == page.bytes);
+    assert!(rt; counts_of(&page)? == [9, 1, 0] && is_written_back(&page)?);
     Ok(())
 }
 
 #[test]
 fn the_header_comes_before_the_version(rt: HostRuntime) {
-    let mut page = with(&[(16, 9)]);
+    let mut page = with(&[[16, 9]]);
     page.put(50, &[1]);
-    assert_eq!(rt; fault(&page), Some(MetaFault::Version));
+    assert!(rt; fault(&page) == Some(MetaFault::Version));
     page.put(6, &[1]);
-    assert_eq!(rt; fault(&page), Some(MetaFault::Damaged));
+    assert!(rt; fault(&page) == Some(MetaFault::Damaged));
 }
+
+/// Meta pages that are damaged: the places and numbers that make them so, of which a row with fewer than three repeats one.
+const DAMAGED: [[[u32; 2]; 3]; 15] = [
+    // another own number
+    [[0, 2], [0, 2], [0, 2]],
+    // a next page
+    [[8, 3], [8, 3], [8, 3]],
+    // a limit of 0
+    [[20, 0], [20, 0], [20, 0]],
+    // a limit above the highest
+    [[20, 1_000_001], [20, 1_000_001], [20, 1_000_001]],
+    // a split that isn't below the buckets
+    [[32, 1], [32, 1], [32, 1]],
+    // more buckets than the limit has
+    [[20, 8], [28, 1], [28, 1]],
+    // more pairs than the limit
+    [[20, 9], [28, 1], [24, 10]],
+    // more pairs than eight to a bucket
+    [[24, 9], [24, 9], [24, 9]],
+    // two segments for one bucket
+    [[44, 2], [68, 3], [68, 3]],
+    // more segments than there is room for
+    [[44, 497], [44, 497], [44, 497]],
+    // a segment that is no page
+    [[64, 0], [64, 0], [64, 0]],
+    // an entry behind the last
+    [[68, 3], [68, 3], [68, 3]],
+    // a byte between the counts and the segments
+    [[60, 1], [60, 1], [60, 1]],
+    // a free page without a count
+    [[36, 5], [36, 5], [36, 5]],
+    // a count without a free page
+    [[40, 1], [40, 1], [40, 1]],
+];
 
 #[test]
 fn what_no_meta_page_says_is_damaged(rt: HostRuntime) {
-    let cases: [(&str, &[(usize, u32)]); 15] = [
-        ("another own number", &[(0, 2)]),
-        ("a next page", &[(8, 3)]),
-        ("a limit of 0", &[(20, 0)]),
-        ("a limit above the highest", &[(20, 1_000_001)]),
-        ("a split that isn't below the buckets", &[(32, 1)]),
-        ("more buckets than the limit has", &[(20, 8), (28, 1)]),
-        ("more pairs than the limit", &[(20, 9), (28, 1), (24, 10)]),
-        ("more pairs than eight to a bucket", &[(24, 9)]),
-        ("two segments for one bucket", &[(44, 2), (68, 3)]),
-        ("more segments than there is room for", &[(44, 497)]),
-        ("a segment that is no page", &[(64, 0)]),
-        ("an entry behind the last", &[(68, 3)]),
-        ("a byte between the counts and the segments", &[(60, 1)]),
-        ("a free page without a count", &[(36, 5)]),
-        ("a count without a free page", &[(40, 1)]),
-    ];
-    for (why, fields) in cases {
-        assert_eq!(rt; fault(&with(fields)), Some(MetaFault::Damaged), "{why}");
+    for (case, fields) in DAMAGED.iter().enumerate() {
+        assert!(rt;
+            fault(&with(fields)) == Some(MetaFault::Damaged),
+            "case {case}"
+        );
     }
 }
 
 /// A page of this number and kind, with a number where the first head of a segment stands.
-fn numbered(n: u32, kind: u8, head: u32) -> Page
-    ensures { own_number result.bytes ≡ n }
-{
+fn numbered(n: u32, kind: u8, head: u32) -> Page {
     let mut page = Page::blank();
     page.set_kind(kind);
     page.set_u32_at(16, head);
@@ -106,9 +135,7 @@ fn numbered(n: u32, kind: u8, head: u32) -> Page
 }
 
 /// Segment page 2 with a head for each of its buckets, from 3 on.
-fn full_segment() -> Page
-    ensures { own_number result.bytes ≡ 2 }
-{
+fn full_segment() -> Page {
     let mut page = Page::blank();
     page.set_kind(2);
     for i in 0..508 {
@@ -118,18 +145,13 @@ fn full_segment() -> Page
     page
 }
 
-/// The three pages of a new file, with room for `capacity`.
-fn three_pages(alloc: Global, capacity: u32) -> Result<MemPages, AllocError>
-    requires { 3 < capacity }
-{
-    MemPages::new(
-        alloc,
-        &[numbered(1, 1, 1), numbered(2, 2, 3), numbered(3, 3, 0)],
-        capacity,
-    )
+/// The three pages of a new file, with room for 20.
+fn three_pages(alloc: Global) -> Result<MemPages, AllocError> {
+    let pages = [numbered(1, 1, 1), numbered(2, 2, 3), numbered(3, 3, 0)];
+    MemPages::new(alloc, &pages, 20)
 }
 
-/// The head of a bucket whose segment is there.
+/// The head of a bucket, NoRoom where its segment isn't there.
 fn head(store: &mut MemPages, meta: &Meta, bucket: u32) -> Result<u32, PageFault> {
     if bucket as usize / 508 < meta.segments.len() {
         head_of(store, meta, bucket)
@@ -138,73 +160,90 @@ fn head(store: &mut MemPages, meta: &Meta, bucket: u32) -> Result<u32, PageFault
     }
 }
 
+/// Sets the head of a bucket, NoRoom where its segment is neither there nor the next one.
+fn set(
+    store: &mut MemPages,
+    meta: &mut Meta,
+    space: &mut FreeState,
+    bucket: u32,
+    head: u32,
+) -> Result<(), PageFault> {
+    if bucket < 125_000 && bucket as usize / 508 <= meta.segments.len() {
+        set_head(store, meta, space, bucket, head)
+    } else {
+        Err(PageFault::NoRoom)
+    }
+}
+
+/// Whether a page is the one segment of a new file.
+fn is_segment(page: &Page) -> Result<bool, MetaFault> {
+    let meta = read_meta(&new_file())?;
+    Ok(meta.segments.len() == 1 && segment_ok(page, &meta, 0))
+}
+
 #[test]
 fn a_segment_has_the_heads_that_there_are(rt: HostRuntime) -> Result<(), Fail> {
-    let meta = read_meta(&new_file())?;
-    assert!(rt; meta.segments.len() == 1);
-    let mut page = Page::blank();
-    page.put(0, &[0, 0, 0, 2, 2, 0, 0, 0, 0, 0, 0, 0, 0, 0, 0, 0]);
-    page.put(16, &[0, 0, 0, 3]);
-    assert!(rt; segment_ok(&page, &meta, 0));
+    let page = numbered(2, 2, 3);
+    assert!(rt;
+        page.bytes.starts_with(&[0, 0, 0, 2, 2, 0, 0, 0, 0, 0, 0, 0, 0, 0, 0, 0, 0, 0, 0, 3])
+    );
+    assert!(rt; is_segment(&page)?);
     for at in [0, 4, 5, 8, 12, 15, 20, 2047] {
-        let mut other = page;
-        other.put(at, &[4]);
-        assert!(rt; !segment_ok(&other, &meta, 0), "at {at}");
+        assert!(rt; !is_segment(&with_byte(&page, at, 4))?, "at {at}");
     }
     Ok(())
 }
 
-#[test]
-fn the_head_of_the_next_bucket_is_set(rt: HostRuntime) -> Result<(), Fail> {
-    let mut store = three_pages(rt.alloc(), 20)?;
-    let mut meta = read_meta(&new_file())?;
-    let mut space = FreeState {
-        head: 0,
-        count: 0,
-        file_end: 4,
-    };
-    assert_eq!(rt; head(&mut store, &meta, 0)?, 3);
-    assert!(rt; meta.segments.len() == 1);
-    set_head(&mut store, &mut meta, &mut space, 1, 4)?;
-    assert!(rt; store.is_staged(2) && !store.is_staged(1) && !store.is_staged(4));
-    assert_eq!(rt; space.file_end, 4);
-    let mut page = Page::blank();
-    store.read(2, &mut page)?;
+/// Whether setting the head of bucket 1 stages page 2 alone, with heads 3 and 4.
+fn sets_bucket_1(store: &mut MemPages, meta: &mut Meta) -> Result<bool, PageFault> {
+    let mut space = space_of(0, 0, 4);
+    set(store, meta, &mut space, 1, 4)?;
     let mut bytes = [0; 2048];
     bytes[3] = 2;
     bytes[4] = 2;
     bytes[19] = 3;
     bytes[23] = 4;
-    assert!(rt; page.bytes == bytes);
-    assert_eq!(rt; head(&mut store, &meta, 1), Err(PageFault::Damaged));
+    let alone = staged(store) == [false, true, false, false];
+    Ok(alone && space.file_end == 4 && page_at(store, 2)?.bytes == bytes)
+}
+
+/// Whether the head of bucket 1 is read once the shape has grown, and no head from what is no segment.
+fn reads_bucket_1(store: &mut MemPages, meta: &mut Meta) -> Result<bool, PageFault> {
+    let early = head(store, meta, 1);
     meta.shape = Shape::new(1, 0).unwrap_or(meta.shape);
-    assert_eq!(rt; head(&mut store, &meta, 0)?, 3);
-    assert_eq!(rt; head(&mut store, &meta, 1)?, 4);
-    store.stage(2, &numbered(2, 4, 3))?;
-    assert_eq!(rt; head(&mut store, &meta, 0), Err(PageFault::Damaged));
+    let heads = [head(store, meta, 0)?, head(store, meta, 1)?];
+    stage(store, &numbered(2, 4, 3))?;
+    let damaged = head(store, meta, 0);
+    Ok(early == Err(PageFault::Damaged) && heads == [3, 4] && damaged == Err(PageFault::Damaged))
+}
+
+#[test]
+fn the_head_of_the_next_bucket_is_set(rt: HostRuntime) -> Result<(), Fail> {
+    let mut store = three_pages(rt.alloc())?;
+    let mut meta = read_meta(&new_file())?;
+    assert!(rt; head(&mut store, &meta, 0)? == 3 && meta.segments.len() == 1);
+    assert!(rt; sets_bucket_1(&mut store, &mut meta)?);
+    assert!(rt; reads_bucket_1(&mut store, &mut meta)?);
     Ok(())
+}
+
+/// Whether setting the head of bucket 508 takes page 4 as the second segment.
+fn sets_bucket_508(store: &mut MemPages, meta: &mut Meta) -> Result<bool, PageFault> {
+    let mut space = space_of(0, 0, 4);
+    set(store, meta, &mut space, 508, 9)?;
+    let segments = meta.segments.as_slice() == [2, 4].as_slice();
+    let page = page_at(store, 4)?.bytes == numbered(4, 2, 9).bytes;
+    Ok(segments && space.file_end == 5 && page)
 }
 
 #[test]
 fn a_bucket_behind_a_full_segment_gets_a_page(rt: HostRuntime) -> Result<(), Fail> {
-    let mut store = three_pages(rt.alloc(), 20)?;
-    store.stage(2, &full_segment())?;
-    let mut meta = read_meta(&with(&[(20, 4065), (28, 8), (32, 252)]))?;
-    let mut space = FreeState {
-        head: 0,
-        count: 0,
-        file_end: 4,
-    };
-    assert_eq!(rt; head(&mut store, &meta, 507)?, 510);
-    assert!(rt; meta.segments.len() == 1);
-    set_head(&mut store, &mut meta, &mut space, 508, 9)?;
-    assert_eq!(rt; meta.segments.as_slice(), [2, 4].as_slice());
-    assert_eq!(rt; space.file_end, 5);
-    let mut page = Page::blank();
-    store.read(4, &mut page)?;
-    assert!(rt; page.bytes == numbered(4, 2, 9).bytes);
+    let mut store = three_pages(rt.alloc())?;
+    stage(&mut store, &full_segment())?;
+    let mut meta = read_meta(&with(&[[20, 4065], [28, 8], [32, 252]]))?;
+    assert!(rt; head(&mut store, &meta, 507)? == 510 && meta.segments.len() == 1);
+    assert!(rt; sets_bucket_508(&mut store, &mut meta)?);
     meta.shape = Shape::new(8, 253).unwrap_or(meta.shape);
-    assert_eq!(rt; head(&mut store, &meta, 508)?, 9);
-    assert_eq!(rt; head(&mut store, &meta, 0)?, 3);
+    assert!(rt; head(&mut store, &meta, 508)? == 9 && head(&mut store, &meta, 0)? == 3);
     Ok(())
 }

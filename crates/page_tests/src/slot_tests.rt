@@ -1,18 +1,16 @@
 //! The pairs of one page.
 
-ghost use Rattle.std.specs.Prelude.{◌+◌, ◌≤◌, length};
-
+use crate::pages::with_byte;
 use page_io::Page;
 use slot_page::{add, decode, empty, find, fits, pair_at, remove, room, set_next};
-use std::process::Abort;
 
 /// A page of these bytes, zeros between them.
-fn page_of(front: &[u8], back: &[u8]) -> Page
-    requires { length front.now + length back.now ≤ 2048 }
-{
+fn page_of(front: &[u8], back: &[u8]) -> Page {
     let mut page = Page { bytes: [0; 2048] };
-    page.put(0, front);
-    page.put(2048 - back.len(), back);
+    if front.len() <= 2048 && back.len() <= 2048 {
+        page.put(0, front);
+        page.put(2048 - back.len(), back);
+    }
     page
 }
 
@@ -55,11 +53,40 @@ fn empty_head() -> Page {
     page_of(&[0, 0, 0, 3, 3, 0, 0, 0, 0, 0, 0, 0, 0x08, 0, 0, 0], &[])
 }
 
-/// Adds a pair of one byte each.
-fn add_one(rt: &impl Abort, page: &mut Page, key: u8, content: u8) {
-    assert!(rt; decode(page).is_some());
-    assert!(rt; fits(page, &[key], &[content]));
-    add(page, &[key], &[content]);
+/// Adds a pair of one byte each, where it fits.
+fn add_one(page: &mut Page, key: u8, content: u8) {
+    if decode(page).is_some() && fits(page, &[key], &[content]) {
+        add(page, &[key], &[content]);
+    }
+}
+
+/// A page of a bucket with these pairs of one byte each.
+fn with_pairs(n: u32, pairs: &[[u8; 2]]) -> Page {
+    let mut page = empty(n, 3, 0);
+    for [key, content] in pairs {
+        add_one(&mut page, *key, *content);
+    }
+    page
+}
+
+/// The pairs of page 3, and those of page 4.
+const THREE: [[u8; 2]; 5] = [[0x61, 1], [0x63, 3], [0x65, 5], [0x67, 7], [0x69, 9]];
+
+const FOUR: [[u8; 2]; 4] = [[0x62, 2], [0x64, 4], [0x66, 6], [0x68, 8]];
+
+#[test]
+fn spells_page_three(rt: HostRuntime) {
+    assert!(rt; with_pairs(3, &THREE).bytes == page_three().bytes);
+}
+
+#[test]
+fn spells_page_four(rt: HostRuntime) {
+    assert!(rt; with_pairs(4, &FOUR).bytes == page_four().bytes);
+}
+
+/// How many pairs a page of a bucket has.
+fn count_of(page: &Page) -> Option<usize> {
+    decode(page).map(|slots| slots.len())
 }
 
 /// Pair `i` is of one byte each.
@@ -73,68 +100,72 @@ fn has_one(page: &Page, i: usize, key: u8, content: u8) -> bool {
     }
 }
 
-#[test]
-fn spells_page_three(rt: HostRuntime) {
-    let mut page = empty(3, 3, 0);
-    for (key, content) in [(0x61, 1), (0x63, 3), (0x65, 5), (0x67, 7), (0x69, 9)] {
-        add_one(&rt, &mut page, key, content);
+/// Whether a page has these pairs of one byte each, and no other.
+fn has_pairs(page: &Page, pairs: &[[u8; 2]]) -> bool {
+    for (i, [key, content]) in pairs.iter().enumerate() {
+        if !has_one(page, i, *key, *content) {
+            return false;
+        }
     }
-    assert!(rt; page.bytes == page_three().bytes);
-}
-
-#[test]
-fn spells_page_four(rt: HostRuntime) {
-    let mut page = empty(4, 3, 0);
-    for (key, content) in [(0x62, 2), (0x64, 4), (0x66, 6), (0x68, 8)] {
-        add_one(&rt, &mut page, key, content);
-    }
-    assert!(rt; page.bytes == page_four().bytes);
+    count_of(page) == Some(pairs.len())
 }
 
 #[test]
 fn reads_both_pages(rt: HostRuntime) {
-    let three = page_three();
-    let four = page_four();
-    assert_eq!(rt; decode(&three).map(|slots| slots.len()), Some(5));
-    for (i, key, content) in [
-        (0, 0x61, 1),
-        (1, 0x63, 3),
-        (2, 0x65, 5),
-        (3, 0x67, 7),
-        (4, 0x69, 9),
-    ] {
-        assert!(rt; has_one(&three, i, key, content));
+    assert!(rt; has_pairs(&page_three(), &THREE) && has_pairs(&page_four(), &FOUR));
+}
+
+/// The room of a page of a bucket.
+fn room_of(page: &Page) -> Option<usize> {
+    if decode(page).is_some() {
+        Some(room(page))
+    } else {
+        None
     }
-    assert_eq!(rt; decode(&four).map(|slots| slots.len()), Some(4));
-    for (i, key, content) in [(0, 0x62, 2), (1, 0x64, 4), (2, 0x66, 6), (3, 0x68, 8)] {
-        assert!(rt; has_one(&four, i, key, content));
+}
+
+/// Whether a key of so many bytes and an empty content are too long for a page of a bucket.
+fn lacks_room(page: &Page, key: &[u8]) -> bool {
+    decode(page).is_some() && !fits(page, key, &[])
+}
+
+/// Where a page of a bucket has a key.
+fn find_in(page: &Page, key: u8) -> Option<usize> {
+    if decode(page).is_some() {
+        find(page, &[key])
+    } else {
+        None
     }
+}
+
+/// Removes the pair of a key, and says where it was.
+fn remove_from(page: &mut Page, key: u8) -> Option<usize> {
+    if decode(page).is_none() {
+        return None;
+    }
+    let found = find(page, &[key]);
+    if let Some(i) = found {
+        remove(page, i);
+    }
+    found
 }
 
 #[test]
 fn adds_finds_and_removes_one_pair(rt: HostRuntime) {
     let mut page = empty(3, 3, 0);
-    assert!(rt; page.bytes == empty_head().bytes);
-    assert_eq!(rt; room(&page), 2032);
-    add_one(&rt, &mut page, 0x6b, 0x76);
-    assert!(rt; page.bytes == page_of_one().bytes);
-    assert!(rt; decode(&page).is_some());
-    assert_eq!(rt; room(&page), 2024);
-    assert!(rt; !fits(&page, &[0; 2019], &[]));
-    assert_eq!(rt; find(&page, &[0x76]), None);
-    let found = find(&page, &[0x6b]);
-    assert_eq!(rt; found, Some(0));
-    if let Some(i) = found {
-        remove(&mut page, i);
-    }
-    assert!(rt; page.bytes == empty_head().bytes);
+    assert!(rt; page.bytes == empty_head().bytes && room_of(&page) == Some(2032));
+    add_one(&mut page, 0x6b, 0x76);
+    assert!(rt; page.bytes == page_of_one().bytes && room_of(&page) == Some(2024));
+    assert!(rt; lacks_room(&page, &[0; 2019]) && find_in(&page, 0x76).is_none());
+    assert!(rt; remove_from(&mut page, 0x6b) == Some(0) && page.bytes == empty_head().bytes);
 }
 
 #[test]
 fn sets_the_next_page(rt: HostRuntime) {
     let mut page = page_three();
-    assert!(rt; decode(&page).is_some());
-    set_next(&mut page, 0x0102_0304);
+    if decode(&page).is_some() {
+        set_next(&mut page, 0x0102_0304);
+    }
     let mut expected = page_three();
     expected.put(8, &[1, 2, 3, 4]);
     assert!(rt; page.bytes == expected.bytes);
@@ -143,7 +174,17 @@ fn sets_the_next_page(rt: HostRuntime) {
 #[test]
 fn reads_an_empty_overflow_page(rt: HostRuntime) {
     let page = page_of(&[0, 0, 0, 9, 4, 0, 0, 0, 0, 0, 0, 7, 0x08, 0, 0, 0], &[]);
-    assert_eq!(rt; decode(&page).map(|slots| slots.len()), Some(0));
+    assert!(rt; count_of(&page) == Some(0));
+}
+
+/// Whether page 3 with another byte in one place is still a bucket page.
+fn is_bucket_with(at: usize, byte: u8) -> bool {
+    decode(&with_byte(&page_three(), at, byte)).is_some()
+}
+
+/// Whether a byte of page 3 is 0.
+fn is_zero(at: usize) -> bool {
+    page_three().bytes.get(at) == Some(&0)
 }
 
 /// With byte `at` of page 3 set to 0 it is still a bucket page exactly where it was 0, and in the own number and the
@@ -151,10 +192,7 @@ fn reads_an_empty_overflow_page(rt: HostRuntime) {
 #[test]
 fn each_byte_set_to_zero(rt: HostRuntime) {
     for at in 0..2048 {
-        let mut page = page_three();
-        let was_zero = page.bytes[at] == 0;
-        page.bytes[at] = 0;
-        assert_eq!(rt; decode(&page).is_some(), was_zero || at == 3 || at >= 2038);
+        assert!(rt; is_bucket_with(at, 0) == (is_zero(at) || at == 3 || at >= 2038));
     }
 }
 
@@ -162,11 +200,7 @@ fn each_byte_set_to_zero(rt: HostRuntime) {
 #[test]
 fn each_byte_set_to_255(rt: HostRuntime) {
     for at in 0..2048 {
-        let mut page = page_three();
-        page.bytes[at] = 0xff;
-        assert_eq!(rt;
-            decode(&page).is_some(),
-            at < 4 || (8 <= at && at < 12) || at >= 2038
-        );
+        let stays = at < 4 || (8 <= at && at < 12) || at >= 2038;
+        assert!(rt; is_bucket_with(at, 0xff) == stays);
     }
 }

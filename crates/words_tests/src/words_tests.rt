@@ -1,208 +1,183 @@
 //! What the words are read as, and what help and mistakes tell.
 
-use dbm_words::{Plan, Source, Spelling, WordsError, read_words};
-use std::alloc::Global;
+use dbm_words::{WordsError, read_words};
+use std::alloc::{AllocError, Global};
 use std::test::Fail;
 
 const COMMANDS: [&str; 10] = [
     "create", "store", "insert", "fetch", "delete", "list", "dump", "load", "stat", "script",
 ];
 
-/// What is told in the place of a plan.
-fn told(alloc: Global, words: &[&str]) -> Result<String, Fail> {
-    match read_words(alloc, words) {
-        Ok(plan) => Ok(format!(in alloc; "{plan:?}")?),
-        Err(error) => Ok(format!(in alloc; "{error}")?),
+/// The kind of a mistake.
+fn kind_of(error: &WordsError) -> &'static str {
+    match error {
+        WordsError::Memory => "memory",
+        WordsError::Help(_) => "help",
+        WordsError::Usage(_) => "usage",
+        WordsError::ScriptSource => "source",
+        WordsError::NoPlan => "no plan",
     }
+}
+
+/// The plan that words are read as, or what is told in its place, behind its kind.
+fn told(alloc: Global, words: &[&str]) -> Result<String, AllocError> {
+    match read_words(alloc, words) {
+        Ok(plan) => format!(in alloc; "{plan:?}"),
+        Err(error) => format!(in alloc; "{}: {error}", kind_of(&error)),
+    }
+}
+
+/// The words of a line, of which `''` is one with no letters.
+fn words_of(alloc: Global, line: &str) -> Result<Vec<&str>, AllocError> {
+    let mut words = Vec::new(alloc);
+    for word in line.split_whitespace() {
+        words.push(if word == "''" { "" } else { word })?;
+    }
+    Ok(words)
+}
+
+/// Whether the words in front of a row's arrow tell what stands behind it. A mistake tells more than the word that it names.
+fn tells_so(alloc: Global, row: &str) -> Result<bool, Fail> {
+    let (line, wanted) = row.split_once("->").ok_or("an arrow")?;
+    let text = told(alloc, &words_of(alloc, line)?)?;
+    let wanted = wanted.trim();
+    Ok(match wanted.strip_prefix("usage ") {
+        Some(wrong) => text.as_str().starts_with("usage: ") && text.as_str().contains(wrong),
+        None => text.as_str() == wanted,
+    })
+}
+
+/// The first row of a table that isn't told so.
+fn first_wrong<'a>(alloc: Global, table: &'a str) -> Result<Option<&'a str>, Fail> {
+    for row in table.lines() {
+        if !row.trim().is_empty() && !tells_so(alloc, row)? {
+            return Ok(Some(row));
+        }
+    }
+    Ok(None)
 }
 
 #[test]
 fn reads_plans_of_files(rt: HostRuntime) -> Result<(), Fail> {
-    let alloc = rt.alloc();
-    let file = "t";
-    let plans: [(&[&str], Plan); 8] = [
-        (
-            &["create", "t"],
-            Plan::Create {
-                file,
-                limit: 1000000,
-            },
-        ),
-        (
-            &["create", "t", "--limit", "7"],
-            Plan::Create { file, limit: 7 },
-        ),
-        (
-            &["create", "--limit=4294967295", "t"],
-            Plan::Create {
-                file,
-                limit: u32::MAX,
-            },
-        ),
-        (&["list", "t"], Plan::List { file }),
-        (&["dump", "t"], Plan::Dump { file }),
-        (&["load", "t"], Plan::Load { file }),
-        (&["stat", "t"], Plan::Stat { file }),
-        (&["script", "t"], Plan::Script(Source::File(file))),
-    ];
-    for (words, plan) in plans {
-        assert_eq!(rt; read_words(alloc, words)?, plan);
-    }
-    let plan = read_words(alloc, &["script", "--memory", "100"])?;
-    assert_eq!(rt; plan, Plan::Script(Source::Memory(100)));
+    let plans = "
+        create t -> Create { file: \"t\", limit: 1000000 }
+        create t --limit 7 -> Create { file: \"t\", limit: 7 }
+        create --limit=4294967295 t -> Create { file: \"t\", limit: 4294967295 }
+        list t -> List { file: \"t\" }
+        dump t -> Dump { file: \"t\" }
+        load t -> Load { file: \"t\" }
+        stat t -> Stat { file: \"t\" }
+        script t -> Script(File(\"t\"))
+        script --memory 100 -> Script(Memory(100))
+    ";
+    assert_eq!(rt; first_wrong(rt.alloc(), plans)?, None);
     Ok(())
 }
 
 #[test]
 fn reads_plans_of_keys(rt: HostRuntime) -> Result<(), Fail> {
-    let (file, key, content) = ("t", "6b", "");
-    let (text, hexadecimal) = (Spelling::Text, Spelling::Hexadecimal);
-    let plans: [(&[&str], Plan); 8] = [
-        (
-            &["store", "t", "6b", ""],
-            Plan::Store {
-                file,
-                key,
-                content,
-                spelling: text,
-            },
-        ),
-        (
-            &["store", "t", "6b", "", "-x"],
-            Plan::Store {
-                file,
-                key,
-                content,
-                spelling: hexadecimal,
-            },
-        ),
-        (
-            &["insert", "t", "6b", ""],
-            Plan::Insert {
-                file,
-                key,
-                content,
-                spelling: text,
-            },
-        ),
-        (
-            &["insert", "t", "-x", "6b", ""],
-            Plan::Insert {
-                file,
-                key,
-                content,
-                spelling: hexadecimal,
-            },
-        ),
-        (
-            &["fetch", "t", "6b"],
-            Plan::Fetch {
-                file,
-                key,
-                spelling: text,
-            },
-        ),
-        (
-            &["fetch", "-x", "t", "6b"],
-            Plan::Fetch {
-                file,
-                key,
-                spelling: hexadecimal,
-            },
-        ),
-        (
-            &["delete", "t", "6b"],
-            Plan::Delete {
-                file,
-                key,
-                spelling: text,
-            },
-        ),
-        (
-            &["delete", "t", "6b", "-x"],
-            Plan::Delete {
-                file,
-                key,
-                spelling: hexadecimal,
-            },
-        ),
-    ];
-    for (words, plan) in plans {
-        assert_eq!(rt; read_words(rt.alloc(), words)?, plan);
-    }
+    let plans = "
+        store t 6b '' -> Store { file: \"t\", key: \"6b\", content: \"\", spelling: Text }
+        store t 6b '' -x -> Store { file: \"t\", key: \"6b\", content: \"\", spelling: Hexadecimal }
+        insert t 6b '' -> Insert { file: \"t\", key: \"6b\", content: \"\", spelling: Text }
+        insert t -x 6b '' -> Insert { file: \"t\", key: \"6b\", content: \"\", spelling: Hexadecimal }
+        fetch t 6b -> Fetch { file: \"t\", key: \"6b\", spelling: Text }
+        fetch -x t 6b -> Fetch { file: \"t\", key: \"6b\", spelling: Hexadecimal }
+        delete t 6b -> Delete { file: \"t\", key: \"6b\", spelling: Text }
+        delete t 6b -x -> Delete { file: \"t\", key: \"6b\", spelling: Hexadecimal }
+    ";
+    assert_eq!(rt; first_wrong(rt.alloc(), plans)?, None);
     Ok(())
 }
 
 #[test]
 fn names_the_word_that_is_wrong(rt: HostRuntime) -> Result<(), Fail> {
-    let mistakes: [(&[&str], &str); 14] = [
-        (&[], "dbmtool"),
-        (&["verify", "t"], "'verify'"),
-        (&["create"], "<FILE>"),
-        (&["create", "t", "--limit", "4294967296"], "'4294967296'"),
-        (&["create", "t", "--limit", "many"], "'many'"),
-        (&["create", "t", "--limit"], "--limit"),
-        (&["store", "t", "k"], "<CONTENT>"),
-        (&["store", "t", "k", "v", "w"], "'w'"),
-        (&["insert", "t", "-k", "v"], "'-k'"),
-        (&["fetch", "t"], "<KEY>"),
-        (&["fetch", "t", "k", "-x", "-x"], "-x"),
-        (&["list"], "<FILE>"),
-        (&["dump", "t", "--memory", "5"], "'--memory'"),
-        (&["script", "--memory", "-1"], "-1"),
-    ];
-    for (words, wrong) in mistakes {
-        let read = read_words(rt.alloc(), words);
-        assert!(rt; matches!(read, Err(WordsError::Usage(_))), "{words:?}");
-        let text = told(rt.alloc(), words)?;
-        assert!(rt; text.as_str().contains(wrong), "{words:?}: {text}");
-    }
+    let mistakes = "
+        -> usage dbmtool
+        verify t -> usage 'verify'
+        create -> usage <FILE>
+        create t --limit 4294967296 -> usage '4294967296'
+        create t --limit many -> usage 'many'
+        create t --limit -> usage --limit
+        store t k -> usage <CONTENT>
+        store t k v w -> usage 'w'
+        insert t -k v -> usage '-k'
+        fetch t -> usage <KEY>
+        fetch t k -x -x -> usage -x
+        list -> usage <FILE>
+        dump t --memory 5 -> usage '--memory'
+        script --memory -1 -> usage -1
+    ";
+    assert_eq!(rt; first_wrong(rt.alloc(), mistakes)?, None);
     Ok(())
+}
+
+/// Whether a script with these words lacks its source.
+fn lacks_source(alloc: Global, words: &[&str]) -> Result<bool, AllocError> {
+    let text = told(alloc, words)?;
+    Ok(text.as_str() == "source: dbmtool: script needs FILE or --memory\n")
 }
 
 #[test]
 fn asks_for_one_source(rt: HostRuntime) -> Result<(), Fail> {
-    let mistakes: [&[&str]; 2] = [&["script"], &["script", "t", "--memory", "5"]];
-    for words in mistakes {
-        let read = read_words(rt.alloc(), words);
-        assert!(rt; matches!(read, Err(WordsError::ScriptSource)), "{words:?}");
-        let text = told(rt.alloc(), words)?;
-        assert_eq!(rt; text.as_str(), "dbmtool: script needs FILE or --memory\n");
-    }
+    assert!(rt; lacks_source(rt.alloc(), &["script"])?);
+    assert!(rt; lacks_source(rt.alloc(), &["script", "t", "--memory", "5"])?);
     Ok(())
+}
+
+/// Whether a text has each of these parts.
+fn has_all(text: &str, parts: &[&str]) -> bool {
+    for part in parts {
+        if !text.contains(*part) {
+            return false;
+        }
+    }
+    true
+}
+
+/// Whether words ask for help, which has an example and names each command.
+fn is_whole_help(alloc: Global, words: &[&str]) -> Result<bool, AllocError> {
+    let help = told(alloc, words)?;
+    let text = help.as_str();
+    let example = text.contains("Example:\n  dbmtool create");
+    Ok(example && text.starts_with("help: ") && has_all(text, &COMMANDS))
+}
+
+/// Whether a text has some words, then a name and a space.
+fn names(alloc: Global, text: &str, words: &str, name: &str) -> Result<bool, AllocError> {
+    let wanted = format!(in alloc; "{words} {name} ")?;
+    Ok(text.contains(wanted.as_str()))
+}
+
+/// Whether the help of a command has its usage, and an example at its end.
+fn is_help_of(alloc: Global, name: &str) -> Result<bool, AllocError> {
+    let help = told(alloc, &[name, "--help"])?;
+    let text = help.as_str();
+    let end = text.split("Example:\n").last().unwrap_or_default();
+    Ok(
+        text.starts_with("help: ")
+            && names(alloc, text, "Usage: dbmtool", name)?
+            && names(alloc, end, "dbmtool", name)?,
+    )
+}
+
+/// The first command whose help isn't so.
+fn first_without_help(alloc: Global) -> Result<Option<&'static str>, AllocError> {
+    for name in COMMANDS {
+        if !is_help_of(alloc, name)? {
+            return Ok(Some(name));
+        }
+    }
+    Ok(None)
 }
 
 #[test]
 fn helps_with_each_command(rt: HostRuntime) -> Result<(), Fail> {
     let alloc = rt.alloc();
-    let asked: [&[&str]; 3] = [&["--help"], &["-h"], &["help"]];
-    for words in asked {
-        assert!(rt;
-            matches!(read_words(alloc, words), Err(WordsError::Help(_))),
-            "{words:?}"
-        );
-        let whole = told(alloc, words)?;
-        assert!(rt;
-            whole.as_str().contains("Example:\n  dbmtool create"),
-            "{whole}"
-        );
-        for name in COMMANDS {
-            assert!(rt; whole.as_str().contains(name), "{name} in {whole}");
-        }
-    }
-    for name in COMMANDS {
-        let words = [name, "--help"];
-        assert!(rt;
-            matches!(read_words(alloc, &words), Err(WordsError::Help(_))),
-            "{name}"
-        );
-        let text = told(alloc, &words)?;
-        let usage = format!(in alloc; "Usage: dbmtool {name} ")?;
-        assert!(rt; text.as_str().contains(usage.as_str()), "{text}");
-        let example = format!(in alloc; "dbmtool {name} ")?;
-        let end = text.as_str().split("Example:\n").last().ok_or("no end")?;
-        assert!(rt; end.contains(example.as_str()), "{text}");
-    }
+    assert!(rt; is_whole_help(alloc, &["--help"])?);
+    assert!(rt; is_whole_help(alloc, &["-h"])?);
+    assert!(rt; is_whole_help(alloc, &["help"])?);
+    assert_eq!(rt; first_without_help(alloc)?, None);
     Ok(())
 }
 
@@ -219,8 +194,6 @@ fn lists_the_lines_of_a_script(rt: HostRuntime) -> Result<(), Fail> {
         "\n  E ",
         "\n  C ",
     ];
-    for line in lines {
-        assert!(rt; text.as_str().contains(line), "{line} in {text}");
-    }
+    assert!(rt; has_all(text.as_str(), &lines));
     Ok(())
 }

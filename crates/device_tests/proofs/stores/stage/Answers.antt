@@ -1,6 +1,6 @@
 use Rattle.std.proofs.Common.{arith}
 use Rattle.device_tests.proofs.Staging.{staged_below, some_staged}
-use Rattle.device_tests.proofs.redo_tests.stage.Goals as goal
+use Rattle.device_tests.proofs.stores.stage.Goals as goal
 
 pub returns-clause-below : goal.returns-clause-below
 returns-clause-below g c =

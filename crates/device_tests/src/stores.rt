@@ -1,0 +1,54 @@
+//! Stores of pages: what their tests share.
+
+ghost use Rattle.std.specs.Prelude.{◌≡◌, ◌≤◌, ◌<◌, ℕ, true, OnOk, IsTrue, length};
+ghost use Rattle.page_io.specs.Page.{own_number};
+ghost use Rattle.page_io.specs.Store.{has_page, AllBelow};
+
+use page_io::{Page, PageFault, PageStore};
+
+/// A page with its own number, filled with a byte.
+pub fn numbered(n: u32, fill: u8) -> Page
+    ensures { own_number result.bytes ≡ n }
+{
+    let mut page = Page {
+        bytes: [fill; 2048],
+    };
+    page.set_own(n);
+    page
+}
+
+/// Page n of a store.
+pub fn page_of(store: &mut impl PageStore, n: u32) -> Result<Page, PageFault> {
+    let mut page = Page::blank();
+    store.read(n, &mut page)?;
+    Ok(page)
+}
+
+/// Whether page 4 can be the first new page of a commit.
+pub fn grows_by_page_4<S: PageStore>(store: &S) -> bool
+    ensures { IsTrue result → (n : ℕ) → (S.state store.now).end ≤ n → n < 5 → has_page (S.state store.now).staged n ≡ true }
+{
+    store.end() == 4 && store.is_staged(4)
+}
+
+/// Stages a page under its own number, which has to be 1 to 4.
+pub fn stage<S: PageStore>(store: &mut S, page: &Page) -> Result<(), PageFault>
+    ensures below { AllBelow 5 (S.state store.old).staged → AllBelow 5 (S.state store.new).staged }
+    ensures some { OnOk result (0 < length (S.state store.new).staged) }
+{
+    let n = page.own();
+    if n < 1 || 4 < n {
+        return Err(PageFault::Damaged);
+    }
+    store.stage(n, page)
+}
+
+/// Whether a store has exactly these pages.
+pub fn has_pages<S: PageStore>(store: &mut S, pages: &[Page]) -> Result<bool, PageFault> {
+    for (page, n) in pages.iter().zip(1..) {
+        if page_of(store, n)? != *page {
+            return Ok(false);
+        }
+    }
+    Ok(store.end() as usize == pages.len().saturating_add(1))
+}
