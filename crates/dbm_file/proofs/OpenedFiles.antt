@@ -1,18 +1,13 @@
 -- A database as it was just opened, and what its images stand for.
-use Rattle.std.proofs.Common.{◌≡◌, ℕ, List, [], Bool, true, false, cond, Option, None, Result, Ok, Err, IfOk, sym, ap, subst, ◌∙◌}
-use Rattle.std.specs.FinMap.{empty, len}
+use Rattle.std.proofs.Common.{◌≡◌, ℕ, Bool, true, Option, None, sym, ap, subst, ◌∙◌}
+use Rattle.std.specs.FinMap.{len}
 use Rattle.dbm_model.specs.Pairs.{Contents}
-use Rattle.page_model.specs.Reading.{body_of}
-use Rattle.page_model.specs.PageBodies as page_bodies
-use Rattle.page_model.proofs.GoodBodies.{bodies_valid}
 use Rattle.dbm_model.specs.States.{Handle}
-use Rattle.page_io.specs.Store.{Pages, Settled, page_of, overlaid}
-use Rattle.page_io.specs.Meaning.{FileStandsFor, ImageStandsFor}
+use Rattle.page_io.specs.Store.{Settled}
+use Rattle.page_io.specs.Meaning.{ImageStandsFor}
 use Rattle.page_io.specs.declared.store.PageStore as store
 use Rattle.dbm_file.specs.Database.{store_of, meta_kept, HoldsMap, StandsAfterStop, handle_of, IsAt}
 use Rattle.dbm_file.specs.Opened.{IsNewlyOpened, IsOpenedAt}
-use Rattle.file_opening.specs.Opening.{is_exclusive, SaysMeta}
-use Rattle.file_opening.specs.declared.open_how.OpenHow.{OpenHow}
 use Rattle.dbm_file.specs.Passing.{IsPass}
 use Rattle.linear_hash.specs.declared.passing.Cursor.{Cursor}
 use Rattle.dbm_file.specs.declared.database.Database.{Database}

@@ -1,5 +1,5 @@
 -- What a pass has yet to give.
-use Rattle.std.specs.Prelude.{◌≡◌, ℕ, ◌+◌, List, length, map, Option, Some, None}
+use Rattle.std.specs.Prelude.{◌≡◌, ◌+◌, List, length, map, Option, Some, None}
 use Rattle.std.specs.FinSet as set
 use Rattle.page_model.specs.Meaning.{said_by}
 use Rattle.page_model.specs.Pages.{Meta}

@@ -1,5 +1,5 @@
 -- What the file of a database says.
-use Rattle.std.proofs.Common.{◌≡◌, ℕ, List, [], Bool, true, false, cond, Result, Ok, Err, IfOk, sym, ap, subst, ◌∙◌}
+use Rattle.std.proofs.Common.{◌≡◌, ℕ, List, [], Bool, false, cond, Result, Ok, Err, IfOk, sym, ap, subst, ◌∙◌}
 use Rattle.std.specs.FinMap.{empty}
 use Rattle.dbm_model.specs.Pairs.{Contents}
 use Rattle.page_model.specs.Reading.{body_of}

@@ -1,5 +1,5 @@
 -- Calls that only read, one after another.
-use Rattle.std.proofs.Common.{◌≡◌, ℕ, refl, ◌∙◌, ap}
+use Rattle.std.proofs.Common.{◌≡◌, ◌≤◌, ◌↔◌, ℕ, refl, ◌∙◌, ap}
 use Rattle.sect_dev.specs.Device.{Image, IsImageOf, NoNewCandidate, LeavesOnly}
 use Rattle.sect_dev.specs.Moments.{fewer_images, started, followed_by, weaker}
 use Rattle.sect_dev.specs.declared.device.SectorDev.{Ghosts}
@@ -33,13 +33,17 @@ module _ {D : Type 0} (dev : Ghosts D) where
   one_more old mid new before seen no_new no_lost any_moment = more_reads old mid new before (record { seen = seen; no_new = no_new; no_lost = no_lost; any_moment = any_moment })
 
   -- writes that leave some sectors alone, and then a read
-  pub read_on : {Kept : ℕ → Type 0} {old mid : D} (new : D) → Keeps dev Kept old mid → LeavesOnly dev.moment dev.left_since mid new (IsImageOf (dev.candidate mid))
-      → NoNewCandidate (dev.candidate mid) (dev.candidate new) → dev.seen new ≡ dev.seen mid → Keeps dev Kept old new
-  read_on {Kept} {old} {mid} new run any_moment no_new seen =
+  pub read_on : {Kept : ℕ → Type 0} {old mid : D} (new : D) → Keeps dev Kept old mid → dev.sectors new ≡ dev.sectors mid → dev.honest new ↔ dev.honest mid → dev.faults mid ≤ dev.faults new
+      → (dev.honest mid → LeavesOnly dev.moment dev.left_since mid new (IsImageOf (dev.candidate mid))) → (dev.honest mid → NoNewCandidate (dev.candidate mid) (dev.candidate new))
+      → (dev.honest mid → dev.seen new ≡ dev.seen mid) → Keeps dev Kept old new
+  read_on {Kept} {old} {mid} new run size honesty faults any_moment no_new seen =
       keeps_on dev Kept Kept old mid new run
       (record {
-        any_moment = weaker dev.moment dev.left_since mid new (KeepsWhere (dev.candidate mid) Kept) (IsImageOf (dev.candidate mid)) any_moment (λ image is m kept. is m);
-        candidates = λ m c kept. no_new m c;
-        others = λ m kept. ap (λ (s : Image). s m) seen;
+        size = size;
+        honesty = honesty;
+        faults = faults;
+        any_moment = λ h. weaker dev.moment dev.left_since mid new (KeepsWhere (dev.candidate mid) Kept) (IsImageOf (dev.candidate mid)) (any_moment h) (λ image is m kept. is m);
+        candidates = λ h m c kept. no_new h m c;
+        others = λ h m kept. ap (λ (s : Image). s m) (seen h);
       })
-      (λ m kept. kept)
+      (λ h m kept. kept)

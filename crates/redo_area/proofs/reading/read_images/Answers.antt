@@ -1,11 +1,11 @@
-use Rattle.std.proofs.Common.{◌≡◌, ◌+◌, ◌-◌, ℕ, List, [], ◌∷◌, ◌++◌, Bool, true, false, cond, is_ok, refl, ◌∙◌, sym, ap, arith}
+use Rattle.std.proofs.Common.{◌≡◌, ◌+◌, ◌-◌, ℕ, List, [], ◌∷◌, ◌++◌, ◌<◌, ◌≤◌, ◌⊎◌, inl, inr, Bool, true, cond, is_ok, refl, ◌∙◌, sym, ap, arith}
 use Rattle.std.proofs.lemmas.List.{map-append}
 use Rattle.sect_dev.specs.Device.{Image}
 use Rattle.page_io.specs.Page.{page_at, own_number}
 use Rattle.page_io.specs.Store.{Pages, bytes_of, pages_from, are_in_order}
 use Rattle.page_io.specs.declared.page.Page.{Page}
 use Rattle.page_io.proofs.Overlays.{pages_more}
-use Rattle.redo_area.proofs.Orders.{next_in_order, too_low, too_high, split}
+use Rattle.redo_area.proofs.Orders.{not_in_order, one_in_order}
 use Rattle.redo_area.proofs.ReadRuns.{none_yet, one_more}
 use Rattle.redo_area.proofs.Results.{from_test}
 use Rattle.redo_area.proofs.reading.read_images.Goals as goal
@@ -53,18 +53,13 @@ returns-then-is_err-2-clause-only_reads g c h =
 pub returns-then-own-least-clause-damaged : goal.returns-then-own-least-clause-damaged
 returns-then-own-least-clause-damaged g c h is =
     let at = page_at (g.D.SectorDev.seen c.args.dev.now) in
-    let end = c.args.end in
-    let place : ℕ = c.args.start + c.loop-i.i in
-    let rest = pages_from at (place + 1) (c.args.count - (c.loop-i.i + 1)) in
     let inv = c.loop-i.invariant in
-    let bytes = from_test c.read_page.result c.is_err.ensures.value c.if-is_err.false (c.read_page.ensures.read (inv.honesty.1 h)) ∙ ap (λ (s : Image). page_at s place) (inv.only_reads h).seen in
-    let num : c.from-own.result ≡ own_number (at place) = c.from-own.ensures ∙ c.own.ensures.number ∙ ap own_number bytes in
-    let so_far = inv.checked h ∙ ap (are_in_order c.loop-i.least end) (split at c.args.start c.args.count c.loop-i.i c.loop-i-test.true) in
-    let bad : are_in_order c.loop-i.least end (at place ∷ rest) ≡ false = elim c.then-own-least.branch as (λ x. are_in_order c.loop-i.least end (at place ∷ rest) ≡ false) [
-      | then-own-least-via-then-own-least w ↦ too_low c.loop-i.least end (at place) rest (omega (arith, num, w.if-own-least.true))
-      | then-own-least-via-else-own-least+then-from-own w ↦ too_high c.loop-i.least end (at place) rest (omega (arith, num, w.if-from-own.true, w.from.ensures))
+    let bytes = from_test c.read_page.result c.is_err.ensures.value c.if-is_err.false (c.read_page.ensures.read (inv.honesty.1 h)) ∙ ap (λ (s : Image). page_at s (c.args.start + c.loop-i.i)) (inv.only_reads h).seen in
+    let out : (c.from-own.result < c.loop-i.least) ⊎ (c.args.end ≤ c.from-own.result) = elim c.then-own-least.branch as (λ x. (c.from-own.result < c.loop-i.least) ⊎ (c.args.end ≤ c.from-own.result)) [
+      | then-own-least-via-then-own-least w ↦ inl w.if-own-least.true
+      | then-own-least-via-else-own-least+then-from-own w ↦ inr (omega (arith, w.if-from-own.true, w.from.ensures))
     ] in
-    so_far ∙ bad
+    inv.checked h ∙ not_in_order at c.args.start c.args.count c.args.end c.loop-i.i c.loop-i.least c.from-own.result c.loop-i-test.true (c.from-own.ensures ∙ c.own.ensures.number ∙ ap own_number bytes) out
 
 pushed : (ok : Bool) (now items : List Page) (page : Page) (old : Pages) (new : List ℕ) → now ≡ cond ok (items ++ page ∷ []) items → ok ≡ true → bytes_of items ≡ old → page.bytes ≡ new
     → bytes_of now ≡ old ++ new ∷ []
@@ -77,13 +72,11 @@ loop-i-preserved g c =
     let dev = g.D.SectorDev in
     let first = c.args.dev.now in
     let at = page_at (dev.seen first) in
-    let end = c.args.end in
     let i = c.loop-i.i in
     let place : ℕ = c.args.start + i in
     let inv = c.loop-i.invariant in
     let page = c.read_page.ensures in
     let h1 = inv.honesty.1 in
-    let left : ℕ = c.args.count - (i + 1) in
     let bytes = λ (h : dev.honest first). from_test c.read_page.result c.is_err.ensures.value c.if-is_err.false (page.read (h1 h)) ∙ ap (λ (s : Image). page_at s place) (inv.only_reads h).seen in
     record {
       size = page.size ∙ inv.size;
@@ -91,13 +84,8 @@ loop-i-preserved g c =
       honesty = (λ h. inv.honesty.0 (page.honesty.0 h), λ h. page.honesty.1 (inv.honesty.1 h));
       faults = omega (arith, page.cause.later, inv.faults);
       only_reads = λ h. one_more dev first c.loop-i.dev c.read_page.new.dev (inv.only_reads h) (page.seen (h1 h)) (page.candidates (h1 h)) (page.keeps (h1 h)) (page.any_moment (h1 h));
-      checked = λ h.
-          let num : c.from-own.result ≡ own_number (at place) = c.from-own.ensures ∙ c.own.ensures.number ∙ ap own_number (bytes h) in
-          let next : own_number (at place) + 1 ≡ c.from-own.result + 1 = omega (arith, num) in
-          let more : place + 1 ≡ c.args.start + (i + 1) = omega arith in
-          inv.checked h ∙ ap (are_in_order c.loop-i.least end) (split at c.args.start c.args.count i c.loop-i-test.true)
-          ∙ next_in_order c.loop-i.least end (at place) (pages_from at (place + 1) left) (omega (arith, num, c.if-own-least.false)) (omega (arith, num, c.if-from-own.false, c.from.ensures))
-          ∙ ap (λ (k : ℕ). are_in_order k end (pages_from at (place + 1) left)) next ∙ ap (λ (k : ℕ). are_in_order (c.from-own.result + 1) end (pages_from at k left)) more;
+      checked = λ h. inv.checked h ∙ one_in_order at c.args.start c.args.count c.args.end c.loop-i.i c.loop-i.least c.from-own.result c.loop-i-test.true (c.from-own.ensures ∙ c.own.ensures.number ∙ ap own_number (bytes h)) (omega (arith, c.if-own-least.false))
+          (omega (arith, c.if-from-own.false, c.from.ensures));
       images = λ h.
           pushed (is_ok c.push.result) c.push.new.self.items c.loop-i.images.items c.read_page.new.page (pages_from at c.args.start i) (at place) c.push.ensures.items c.if-is_err-2.ensures.negation (inv.images h) (bytes h)
           ∙ sym (pages_more at c.args.start i);

@@ -1,28 +1,22 @@
-use Rattle.std.proofs.Common.{◌≡◌, ◌+◌, ◌-◌, ℕ, ◌∷◌, false, ◌∙◌, sym, ap, arith}
+use Rattle.std.proofs.Common.{◌≡◌, ◌<◌, ◌≤◌, ◌⊎◌, inl, inr, ◌+◌, ◌-◌, ℕ, ◌∙◌, sym, ap, arith}
 use Rattle.sect_dev.specs.Device.{Image, IsImageOf}
 use Rattle.sect_dev.specs.Moments.{followed_by}
 use Rattle.page_io.specs.Page.{page_at, own_number}
 use Rattle.page_io.specs.Store.{pages_from, are_in_order}
-use Rattle.redo_area.proofs.Orders.{next_in_order, too_low, too_high, split}
+use Rattle.redo_area.proofs.Orders.{not_in_order, one_in_order}
 use Rattle.redo_area.proofs.recovery.check_images.Goals as goal
 use Rattle.redo_area.proofs.recovery.check_images.Goals.{then-own-least-via-then-own-least, then-own-least-via-else-own-least+then-from-own}
 
 pub returns-then-own-least-clause-checked : goal.returns-then-own-least-clause-checked
 returns-then-own-least-clause-checked g c h =
-    let dev = g.D.SectorDev in
-    let at = page_at (dev.seen c.args.dev.now) in
-    let end = c.args.end in
-    let place : ℕ = c.args.start + c.loop-i.i in
-    let rest = pages_from at (place + 1) (c.args.count - (c.loop-i.i + 1)) in
+    let at = page_at (g.D.SectorDev.seen c.args.dev.now) in
     let inv = c.loop-i.invariant in
-    let bytes = c.in_ok-read_page.ensures.read (inv.honesty.1 h) ∙ ap (λ (s : Image). page_at s place) (inv.seen h) in
-    let num : c.from-own.result ≡ own_number (at place) = c.from-own.ensures ∙ c.own.ensures.number ∙ ap own_number bytes in
-    let so_far = inv.checked h ∙ ap (are_in_order c.loop-i.least end) (split at c.args.start c.args.count c.loop-i.i c.loop-i-test.true) in
-    let bad : are_in_order c.loop-i.least end (at place ∷ rest) ≡ false = elim c.then-own-least.branch as (λ x. are_in_order c.loop-i.least end (at place ∷ rest) ≡ false) [
-      | then-own-least-via-then-own-least w ↦ too_low c.loop-i.least end (at place) rest (omega (arith, num, w.if-own-least.true))
-      | then-own-least-via-else-own-least+then-from-own w ↦ too_high c.loop-i.least end (at place) rest (omega (arith, num, w.if-from-own.true, w.from.ensures))
+    let bytes = c.in_ok-read_page.ensures.read (inv.honesty.1 h) ∙ ap (λ (s : Image). page_at s (c.args.start + c.loop-i.i)) (inv.seen h) in
+    let out : (c.from-own.result < c.loop-i.least) ⊎ (c.args.end ≤ c.from-own.result) = elim c.then-own-least.branch as (λ x. (c.from-own.result < c.loop-i.least) ⊎ (c.args.end ≤ c.from-own.result)) [
+      | then-own-least-via-then-own-least w ↦ inl w.if-own-least.true
+      | then-own-least-via-else-own-least+then-from-own w ↦ inr (omega (arith, w.if-from-own.true, w.from.ensures))
     ] in
-    sym (so_far ∙ bad)
+    sym (inv.checked h ∙ not_in_order at c.args.start c.args.count c.args.end c.loop-i.i c.loop-i.least c.from-own.result c.loop-i-test.true (c.from-own.ensures ∙ c.own.ensures.number ∙ ap own_number bytes) out)
 
 pub loop-i-preserved : goal.loop-i-preserved
 loop-i-preserved g c =
@@ -31,12 +25,8 @@ loop-i-preserved g c =
     let before = c.loop-i.dev in
     let after = c.read_page.new.dev in
     let at = page_at (dev.seen first) in
-    let end = c.args.end in
-    let i = c.loop-i.i in
-    let place : ℕ = c.args.start + i in
     let inv = c.loop-i.invariant in
     let h1 = inv.honesty.1 in
-    let left : ℕ = c.args.count - (i + 1) in
     record {
       size = c.read_page.ensures.size ∙ inv.size;
       small = omega arith;
@@ -47,13 +37,9 @@ loop-i-preserved g c =
       moments = λ h. followed_by dev.moment dev.left_since first before after (IsImageOf (dev.candidate first)) (IsImageOf (dev.candidate before)) (inv.moments h) (c.read_page.ensures.any_moment (h1 h))
           (λ image is m. inv.candidates h m (image m) (is m));
       checked = λ h.
-          let bytes = c.in_ok-read_page.ensures.read (h1 h) ∙ ap (λ (s : Image). page_at s place) (inv.seen h) in
-          let num : c.from-own.result ≡ own_number (at place) = c.from-own.ensures ∙ c.own.ensures.number ∙ ap own_number bytes in
-          let next : own_number (at place) + 1 ≡ c.from-own.result + 1 = omega (arith, num) in
-          let more : place + 1 ≡ c.args.start + (i + 1) = omega arith in
-          inv.checked h ∙ ap (are_in_order c.loop-i.least end) (split at c.args.start c.args.count i c.loop-i-test.true)
-          ∙ next_in_order c.loop-i.least end (at place) (pages_from at (place + 1) left) (omega (arith, num, c.if-own-least.false)) (omega (arith, num, c.if-from-own.false, c.from.ensures))
-          ∙ ap (λ (k : ℕ). are_in_order k end (pages_from at (place + 1) left)) next ∙ ap (λ (k : ℕ). are_in_order (c.from-own.result + 1) end (pages_from at k left)) more;
+          let bytes = c.in_ok-read_page.ensures.read (h1 h) ∙ ap (λ (s : Image). page_at s (c.args.start + c.loop-i.i)) (inv.seen h) in
+          inv.checked h ∙ one_in_order at c.args.start c.args.count c.args.end c.loop-i.i c.loop-i.least c.from-own.result c.loop-i-test.true (c.from-own.ensures ∙ c.own.ensures.number ∙ ap own_number bytes) (omega (arith, c.if-own-least.false))
+          (omega (arith, c.if-from-own.false, c.from.ensures));
     }
 
 pub returns-clause-checked : goal.returns-clause-checked

@@ -1,4 +1,4 @@
-use Rattle.std.proofs.Common.{◌≡◌, ◌≤◌, ◌↔◌, ℕ}
+use Rattle.std.proofs.Common.{◌≡◌, ℕ}
 use Rattle.page_io.specs.Page.{page_at}
 use Rattle.page_io.specs.Store.{overlaid, pages_from}
 use Rattle.redo_commit.specs.File.{redo_images, IsOutsideAll}
@@ -10,9 +10,6 @@ invariant-loop-i g l =
     let dev = g.D.SectorDev in
     let first = l.fn.dev in
     record {
-      size : dev.sectors l.dev ≡ dev.sectors first;
-      honesty : dev.honest l.dev ↔ dev.honest first;
-      faults : dev.faults first ≤ dev.faults l.dev;
-      keeps : dev.honest first → Keeps dev (IsOutsideAll (redo_images (dev.seen first) l.start l.count)) first l.dev;
+      keeps : Keeps dev (IsOutsideAll (redo_images (dev.seen first) l.start l.count)) first l.dev;
       written : dev.honest first → (n : ℕ) → page_at (dev.seen l.dev) n ≡ overlaid (pages_from (page_at (dev.seen first)) l.start l.i) (page_at (dev.seen first)) n;
     }

@@ -26,21 +26,19 @@ returns-in_err-sync-clause-any_moment g c honest =
 
 pub returns-in_err-put_header-clause-any_moment : goal.returns-in_err-put_header-clause-any_moment
 returns-in_err-put_header-clause-any_moment g c honest =
-    let copied = c.copy_images.ensures in
-    let h1 = copied.honesty.1 honest in
-    replay_leaves g.D.SectorDev c.args.dev.now c.copy_images.new.dev c.sync.new.self (c.requires.armed honest) c.requires.above (copied.any_moment honest) (copied.candidates honest)
-    (c.sync.ensures.time h1) (c.sync.ensures.candidates h1) c.put_header.new.dev c.clear_sector.result (c.in_ok-sync.ensures.seen h1) (c.in_ok-sync.ensures.stable h1) (c.in_ok-good.ensures.others honest)
-    (c.in_ok-good.ensures.written honest) (g.met.D.SectorDev.fits c.args.dev.now) c.requires.least (omega (arith, c.requires.above, c.requires.room)) c.clear_sector.ensures
-    (c.put_header.ensures.any_moment (c.sync.ensures.honesty.1 h1))
+    let h1 = c.copy_images.ensures.honesty.1 honest in
+    replay_leaves g.D.SectorDev c.args.dev.now c.copy_images.new.dev c.sync.new.self (c.requires.armed honest) c.requires.above (c.copy_images.ensures.any_moment honest)
+    (c.copy_images.ensures.candidates honest) (c.sync.ensures.time h1) (c.sync.ensures.candidates h1) c.put_header.new.dev c.clear_sector.result (c.in_ok-sync.ensures.seen h1) (c.in_ok-sync.ensures.stable h1)
+    (c.in_ok-good.ensures.others honest) (c.in_ok-good.ensures.written honest) (g.met.D.SectorDev.fits c.args.dev.now) c.requires.least (omega (arith, c.requires.above, c.requires.room))
+    c.clear_sector.ensures (c.put_header.ensures.any_moment (c.sync.ensures.honesty.1 h1))
 
 pub returns-clause-any_moment : goal.returns-clause-any_moment
 returns-clause-any_moment g c honest =
-    let copied = c.copy_images.ensures in
-    let h1 = copied.honesty.1 honest in
-    replay_leaves g.D.SectorDev c.args.dev.now c.copy_images.new.dev c.sync.new.self (c.requires.armed honest) c.requires.above (copied.any_moment honest) (copied.candidates honest)
-    (c.sync.ensures.time h1) (c.sync.ensures.candidates h1) c.put_header.new.dev c.clear_sector.result (c.in_ok-sync.ensures.seen h1) (c.in_ok-sync.ensures.stable h1) (c.in_ok-good.ensures.others honest)
-    (c.in_ok-good.ensures.written honest) (g.met.D.SectorDev.fits c.args.dev.now) c.requires.least (omega (arith, c.requires.above, c.requires.room)) c.clear_sector.ensures
-    (c.put_header.ensures.any_moment (c.sync.ensures.honesty.1 h1))
+    let h1 = c.copy_images.ensures.honesty.1 honest in
+    replay_leaves g.D.SectorDev c.args.dev.now c.copy_images.new.dev c.sync.new.self (c.requires.armed honest) c.requires.above (c.copy_images.ensures.any_moment honest)
+    (c.copy_images.ensures.candidates honest) (c.sync.ensures.time h1) (c.sync.ensures.candidates h1) c.put_header.new.dev c.clear_sector.result (c.in_ok-sync.ensures.seen h1) (c.in_ok-sync.ensures.stable h1)
+    (c.in_ok-good.ensures.others honest) (c.in_ok-good.ensures.written honest) (g.met.D.SectorDev.fits c.args.dev.now) c.requires.least (omega (arith, c.requires.above, c.requires.room))
+    c.clear_sector.ensures (c.put_header.ensures.any_moment (c.sync.ensures.honesty.1 h1))
 
 pub returns-clause-rest : goal.returns-clause-rest
 returns-clause-rest g c honest =

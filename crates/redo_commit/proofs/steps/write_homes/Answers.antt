@@ -20,18 +20,12 @@ one_home : {D : Type 0} (dev : Ghosts D) (old mid new : D) (pages : List Page) (
     → Keeps dev (IsOutsideAll (bytes_of pages)) old mid → Keeps dev (IsOutsidePage own) mid new → Keeps dev (IsOutsideAll (bytes_of pages)) old new
 one_home dev old mid new pages idx page own lt is owns first second =
     keeps_on dev (IsOutsideAll (bytes_of pages)) (IsOutsidePage own) old mid new first second
-    (λ m out. subst (λ (k : ℕ). IsOutsidePage k m) (own_at pages idx page own lt is owns) (outside_at (bytes_of pages) m idx out (omega (arith, lt, length-map pages (λ (p : Page). p.bytes)))))
+    (λ h m out. subst (λ (k : ℕ). IsOutsidePage k m) (own_at pages idx page own lt is owns) (outside_at (bytes_of pages) m idx out (omega (arith, lt, length-map pages (λ (p : Page). p.bytes)))))
 
 pub loop-page-init : goal.loop-page-init
 loop-page-init g c =
     let first = c.args.dev.now in
-    record {
-      size = refl;
-      honesty = (λ h. h, λ h. h);
-      faults = omega arith;
-      keeps = λ h. none_written g.D.SectorDev (IsOutsideAll (bytes_of c.args.pages.now)) first (λ image left. g.met.D.SectorDev.only_now first image h left);
-      written = λ h n. refl;
-    }
+    record { keeps = none_written g.D.SectorDev (IsOutsideAll (bytes_of c.args.pages.now)) first (g.met.D.SectorDev.only_now first); written = λ h n. refl }
 
 pub write_page-requires : goal.write_page-requires
 write_page-requires g c =
@@ -39,23 +33,19 @@ write_page-requires g c =
     let lt = c.loop-page-test.true in
     let fits : 4 * c.own.result + 4 ≤ sectors =
     subst (λ (k : ℕ). 4 * k + 4 ≤ sectors) (own_at c.args.pages.now c.loop-page.page-index c.page-item.result c.own.result lt c.page-item.is c.own.ensures.number) (c.requires c.loop-page.page-index lt) in
-    omega (arith, fits, c.loop-page.invariant.size)
+    omega (arith, fits, c.loop-page.invariant.keeps.size)
 
 pub returns-in_err-write_page-clause-any_moment : goal.returns-in_err-write_page-clause-any_moment
-returns-in_err-write_page-clause-any_moment g c h =
-    let inv = c.loop-page.invariant in
+returns-in_err-write_page-clause-any_moment g c =
     let w = c.write_page.ensures in
-    let h1 = inv.honesty.1 h in
     (one_home g.D.SectorDev c.args.dev.now c.loop-page.dev c.write_page.new.dev c.args.pages.now c.loop-page.page-index c.page-item.result c.own.result c.loop-page-test.true c.page-item.is
-    c.own.ensures.number (inv.keeps h) (record { any_moment = w.any_moment h1; candidates = w.candidates h1; others = w.others h1 })).any_moment
+    c.own.ensures.number c.loop-page.invariant.keeps (record { size = w.size; honesty = w.honesty; faults = w.cause.later; any_moment = w.any_moment; candidates = w.candidates; others = w.others })).any_moment
 
 pub returns-in_err-write_page-clause-candidates : goal.returns-in_err-write_page-clause-candidates
-returns-in_err-write_page-clause-candidates g c h =
-    let inv = c.loop-page.invariant in
+returns-in_err-write_page-clause-candidates g c =
     let w = c.write_page.ensures in
-    let h1 = inv.honesty.1 h in
     (one_home g.D.SectorDev c.args.dev.now c.loop-page.dev c.write_page.new.dev c.args.pages.now c.loop-page.page-index c.page-item.result c.own.result c.loop-page-test.true c.page-item.is
-    c.own.ensures.number (inv.keeps h) (record { any_moment = w.any_moment h1; candidates = w.candidates h1; others = w.others h1 })).candidates
+    c.own.ensures.number c.loop-page.invariant.keeps (record { size = w.size; honesty = w.honesty; faults = w.cause.later; any_moment = w.any_moment; candidates = w.candidates; others = w.others })).candidates
 
 pub loop-page-preserved : goal.loop-page-preserved
 loop-page-preserved g c =
@@ -65,26 +55,13 @@ loop-page-preserved g c =
     let page = c.page-item.result in
     let inv = c.loop-page.invariant in
     let w = c.write_page.ensures in
-    let still = inv.honesty.1 in
     record {
-      size = w.size ∙ inv.size;
-      honesty = (λ h. inv.honesty.0 (w.honesty.0 h), λ h. w.honesty.1 (still h));
-      faults = omega (arith, w.cause.later, inv.faults);
-      keeps = λ h.
-          one_home dev c.args.dev.now c.loop-page.dev c.write_page.new.dev pages idx page c.own.result c.loop-page-test.true c.page-item.is c.own.ensures.number (inv.keeps h)
-          (record { any_moment = w.any_moment (still h); candidates = w.candidates (still h); others = w.others (still h) });
+      keeps = one_home g.D.SectorDev c.args.dev.now c.loop-page.dev c.write_page.new.dev c.args.pages.now c.loop-page.page-index c.page-item.result c.own.result c.loop-page-test.true c.page-item.is
+          c.own.ensures.number c.loop-page.invariant.keeps (record { size = w.size; honesty = w.honesty; faults = w.cause.later; any_moment = w.any_moment; candidates = w.candidates; others = w.others });
       written = λ h n.
           let home = page_at (dev.seen c.args.dev.now) in
           let so_far = bytes_of (take idx pages) in
-          home_more (dev.seen c.loop-page.dev) (dev.seen c.write_page.new.dev) (overlaid so_far home) page.bytes c.own.result c.own.ensures.number (c.in_ok-write_page.ensures.written (still h)) (w.others (still h)) (inv.written h) n
+          let h1 = inv.keeps.honesty.1 h in
+          home_more (dev.seen c.loop-page.dev) (dev.seen c.write_page.new.dev) (overlaid so_far home) page.bytes c.own.result c.own.ensures.number (c.in_ok-write_page.ensures.written h1) (w.others h1) (inv.written h) n
           ∙ sym (ap (λ (ps : Pages). overlaid ps home n) (bytes_more pages idx page c.loop-page-test.true c.page-item.is) ∙ ap (λ (f : ℕ → List ℕ). f n) (overlaid-push so_far home page.bytes));
     }
-
-pub returns-clause-any_moment : goal.returns-clause-any_moment
-returns-clause-any_moment g c h = (c.loop-page.invariant.keeps h).any_moment
-
-pub returns-clause-candidates : goal.returns-clause-candidates
-returns-clause-candidates g c h = (c.loop-page.invariant.keeps h).candidates
-
-pub returns-clause-others : goal.returns-clause-others
-returns-clause-others g c h = (c.loop-page.invariant.keeps h).others

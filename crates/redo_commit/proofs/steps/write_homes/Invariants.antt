@@ -1,4 +1,4 @@
-use Rattle.std.proofs.Common.{◌≡◌, ◌≤◌, ◌↔◌, ℕ, take}
+use Rattle.std.proofs.Common.{◌≡◌, ℕ, take}
 use Rattle.page_io.specs.Page.{page_at}
 use Rattle.page_io.specs.Store.{overlaid, bytes_of}
 use Rattle.redo_commit.specs.File.{IsOutsideAll}
@@ -10,9 +10,6 @@ invariant-loop-page g l =
     let dev = g.D.SectorDev in
     let first = l.fn.dev in
     record {
-      size : dev.sectors l.dev ≡ dev.sectors first;
-      honesty : dev.honest l.dev ↔ dev.honest first;
-      faults : dev.faults first ≤ dev.faults l.dev;
-      keeps : dev.honest first → Keeps dev (IsOutsideAll (bytes_of l.pages)) first l.dev;
+      keeps : Keeps dev (IsOutsideAll (bytes_of l.pages)) first l.dev;
       written : dev.honest first → (n : ℕ) → page_at (dev.seen l.dev) n ≡ overlaid (bytes_of (take l.page-index l.pages)) (page_at (dev.seen first)) n;
     }

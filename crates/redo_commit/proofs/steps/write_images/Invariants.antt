@@ -1,4 +1,4 @@
-use Rattle.std.proofs.Common.{◌≡◌, ◌≤◌, ◌<◌, ◌+◌, ◌*◌, ◌↔◌, take}
+use Rattle.std.proofs.Common.{◌≡◌, ◌<◌, ◌+◌, ◌*◌, take}
 use Rattle.page_io.specs.Page.{page_at}
 use Rattle.page_io.specs.Store.{pages_from, bytes_of}
 use Rattle.redo_commit.proofs.WriteRuns.{Keeps}
@@ -10,9 +10,6 @@ invariant-loop-page g l =
     let first = l.fn.dev in
     record {
       place : l.n ≡ l.start + l.page-index;
-      size : dev.sectors l.dev ≡ dev.sectors first;
-      honesty : dev.honest l.dev ↔ dev.honest first;
-      faults : dev.faults first ≤ dev.faults l.dev;
-      keeps : dev.honest first → Keeps dev (λ m. m < 4 * l.start) first l.dev;
+      keeps : Keeps dev (λ m. m < 4 * l.start) first l.dev;
       written : dev.honest first → pages_from (page_at (dev.seen l.dev)) l.start l.page-index ≡ bytes_of (take l.page-index l.pages);
     }
