@@ -209,3 +209,34 @@ fn a_chain_that_ends_in_a_circle_is_damaged(rt: HostRuntime) -> Result<(), Fail>
     assert!(rt; page_at(&mut dev, 4)? == long_page(4, 4, 4, 0x62));
     Ok(())
 }
+
+#[test]
+fn a_damaged_head_page_is_told_by_each_call(rt: HostRuntime) -> Result<(), Fail> {
+    let alloc = rt.alloc();
+    let mut dev = closed(with_first(alloc, 1)?)?;
+    set_page(&mut dev, 3, &Page::blank())?;
+    let mut db = opened(alloc, dev, false, 0)?;
+    let table = "
+        fetch a -> refused Damaged
+        fetch z -> refused Damaged
+        insert a #02 -> refused Damaged
+        put a #02 -> refused Damaged
+        delete z -> refused Damaged
+        first -> refused Damaged
+    ";
+    call(&rt, alloc, &mut db, table)
+}
+
+#[test]
+fn a_key_where_no_pair_is_counted_is_damaged_to_delete(rt: HostRuntime) -> Result<(), Fail> {
+    let alloc = rt.alloc();
+    let mut dev = closed(new_database(alloc, 100)?)?;
+    set_page(&mut dev, 3, &one_pair_file()[3])?;
+    let mut db = opened(alloc, dev, false, 0)?;
+    let table = "
+        delete k -> refused Damaged
+        fetch k -> bytes v
+        insert k w -> kept
+    ";
+    call(&rt, alloc, &mut db, table)
+}

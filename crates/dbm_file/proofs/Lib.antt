@@ -1,3 +1,5 @@
+pub mod Answered
+pub mod Breaks
 pub mod Cases
 pub mod ChangeSteps
 pub mod FetchSteps
@@ -7,4 +9,5 @@ pub mod PassKeys
 pub mod PassSteps
 pub mod ReadSteps
 pub mod Runs
+pub mod Searches
 pub mod StoreSteps

@@ -17,8 +17,10 @@ use Rattle.page_io.specs.Meaning.{ImageStandsFor}
 use Rattle.page_io.specs.declared.store.PageStore.{Ghosts}
 use Rattle.dbm_file.specs.Calls.{bits_of}
 use Rattle.dbm_file.specs.Database.{store_of, meta_kept, page_state, IsAt}
-use Rattle.dbm_file.specs.Answers.{MayBeLeft, MayBeLeftWithin, StandsForSome, Survives, IsStep, IsRun, IsSameDatabase}
+use Rattle.dbm_file.specs.Answers.{MayBeLeft, StandsForSome, Survives, IsStep, IsSameDatabase}
+use Rattle.dbm_file.specs.Runs.{MayBeLeftWithin, IsBreak, IsRun}
 use Rattle.dbm_file.specs.declared.database.Database.{Database}
+use Rattle.dbm_file.proofs.Breaks.{CountsNow, breaks_now, breaks_before}
 
 module _ {S : Type 0} {s : Ghosts S} {old new : Database S s} {held : Handle} {call call' : Call} {reply reply' : Reply} where
   -- a step of a call that is told otherwise
@@ -76,11 +78,13 @@ no_run s db h at now = record {
   survives = λ usable.
       started s.moment s.settled_since (store_of db) (StandsForSome (MayBeLeftWithin h [] [] h) (meta_kept db).limit)
       (λ x left. (h.state.map, (refl, refl), at.rests usable x (now x left)));
+  breaks = λ usable broken. absurd (let both = sym usable ∙ broken in cc);
 }
 
 -- one call more
 module _ {S : Type 0} (s : Ghosts S) (old mid new : Database S s) (h : Handle) (calls : List Call) (replies : List Reply) (call : Call) (reply : Reply) (limit : (meta_kept mid).limit ≡ (meta_kept old).limit) (goes : IsSameDatabase mid new)
-    (run : IsRun old mid h calls replies) (step : IsStep mid new run.after call reply) where
+    (run : IsRun old mid h calls replies) (step : IsStep mid new run.after call reply)
+    (counts : CountsNow new) where
   abbrev Within : Contents → Type 0
   Within = MayBeLeftWithin h (calls ++ call ∷ []) (replies ++ reply ∷ []) step.after
 
@@ -109,15 +113,23 @@ module _ {S : Type 0} (s : Ghosts S) (old mid new : Database S s) (h : Handle) (
       | true ↦ goes_on was
       | false ↦ stays_broken was
     ] refl;
+    breaks = λ was now. elim (page_state mid).usable as (λ u. (page_state mid).usable ≡ u → IsBreak new h (calls ++ call ∷ []) (replies ++ reply ∷ []) step.after) [
+      | true ↦ λ usable. breaks_now s old mid new h run.after calls replies call reply run.run run.is_at step usable now counts goes.limit
+      | false ↦ λ broken. breaks_before s mid new h run.after step.after calls replies call reply (run.breaks was broken) step.step (goes.still broken) goes.limit
+    ] refl;
   }
 
   -- as the lists of calls and of replies are told
   pub goes_on_with : (calls' : List Call) (replies' : List Reply) → calls' ≡ calls ++ call ∷ [] → replies' ≡ replies ++ reply ∷ [] → IsRun old new h calls' replies'
   goes_on_with calls' replies' c r = subst (λ (cs : List Call). IsRun old new h cs replies') (sym c) (subst (λ (rs : List Reply). IsRun old new h (calls ++ call ∷ []) rs) (sym r) one_more)
 
+-- the first elements with the next one
+pub taken_next : {X : Type 0} (xs : List X) (i : ℕ) (x : X) → i < length xs → x ≡ slice_index_or xs i x → take (i + 1) xs ≡ take i xs ++ x ∷ []
+taken_next {X} xs i x lt is = take_more xs i x lt ∙ ap (λ (y : X). take i xs ++ y ∷ []) (sym is)
+
 -- the next element of a list, seen through a function
 pub seen_next : {X Y : Type 0} (f : X → Y) (xs : List X) (i : ℕ) (x : X) → i < length xs → x ≡ slice_index_or xs i x → map f (take (i + 1) xs) ≡ map f (take i xs) ++ f x ∷ []
-seen_next {X} f xs i x lt is = ap (map f) (take_more xs i x lt ∙ ap (λ (y : X). take i xs ++ y ∷ []) (sym is)) ∙ map-append f (take i xs) (x ∷ [])
+seen_next f xs i x lt is = ap (map f) (taken_next xs i x lt is) ∙ map-append f (take i xs) (x ∷ [])
 
 -- one that was appended, seen so
 pub seen_last : {X Y : Type 0} (f : X → Y) (old new : List X) (x : X) → new ≡ old ++ x ∷ [] → map f new ≡ map f old ++ f x ∷ []

@@ -1,10 +1,10 @@
 -- How a call on a database is answered, and what it leaves.
-use Rattle.std.specs.Prelude.{◌≡◌, ◌⊎◌, ◌↔◌, ◌≤◌, ℕ, true, false, List, [], ◌∷◌, Result, OnOk, OnErr, IfErr, IsErrOf}
+use Rattle.std.specs.Prelude.{◌≡◌, ◌⊎◌, ◌↔◌, ◌≤◌, ℕ, true, false, Result, OnOk, OnErr, IfErr, IsErrOf}
 use Rattle.sect_dev.specs.Device.{LeavesOnly, MoreFaults}
 use Rattle.dbm_model.specs.Calls.{Call, Reply}
 use Rattle.dbm_model.specs.Pairs.{Contents}
 use Rattle.dbm_model.specs.States.{Handle, first_fault}
-use Rattle.dbm_model.specs.Steps.{Changes, case_of, Step, Run}
+use Rattle.dbm_model.specs.Steps.{Changes, case_of, Step}
 use Rattle.page_io.specs.Store.{Settled}
 use Rattle.page_io.specs.Meaning.{ImageStandsFor}
 use Rattle.page_io.specs.declared.store.PageStore.{Ghosts}
@@ -36,20 +36,6 @@ pub record IsStep {S : Type 0} {s : Ghosts S} (old new : Database S s) (before :
   pub step : Step before call reply after
   pub is_at : IsAt new after
   pub survives : (page_state old).usable ≡ true → Survives old new (MayBeLeft before after call)
-
--- a map that a stop within these calls, answered so, may leave: one that a stop within one of them may
-abbrev pub MayBeLeftWithin : Handle → List Call → List Reply → Handle → Contents → Type 0
-MayBeLeftWithin before [] [] after map = (after ≡ before) × (map ≡ before.state.map)
-MayBeLeftWithin before (call ∷ calls) (reply ∷ replies) after map = (mid : Handle) × Step before call reply mid × ((MayBeLeft before mid call map × Run mid calls replies after) ⊎ MayBeLeftWithin mid calls replies after map)
-MayBeLeftWithin before [] (reply ∷ replies) after map = ⊥
-MayBeLeftWithin before (call ∷ calls) [] after map = ⊥
-
--- the same of a list of calls
-pub record IsRun {S : Type 0} {s : Ghosts S} (old new : Database S s) (before : Handle) (calls : List Call) (replies : List Reply) : Type 0 where
-  pub after : Handle
-  pub run : Run before calls replies after
-  pub is_at : IsAt new after
-  pub survives : (page_state old).usable ≡ true → Survives old new (MayBeLeftWithin before calls replies after)
 
 -- What any number of calls leave on any device.
 pub record IsSameDatabase {S : Type 0} {s : Ghosts S} (old new : Database S s) : Type 0 where

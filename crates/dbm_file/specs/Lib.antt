@@ -6,5 +6,8 @@ pub mod Lending
 pub mod Named
 pub mod Opened
 pub mod Passing
+pub mod Replies
 pub mod Rooms
+pub mod Runs
+pub mod Searches
 pub mod Trying

@@ -44,15 +44,18 @@ impl<S: PageStore> Database<S> {
     ghost use Rattle.page_model.specs.Valid.{meta_buckets};
     ghost use Rattle.linear_hash.specs.Tables.{shape_in, shape_for};
     ghost use Rattle.dbm_file.specs.Calls.{mode_of, store_reply, delete_reply, lent_reply};
-    ghost use Rattle.dbm_file.specs.Database.{store_of, meta_kept, page_state, error_of, IsAt, AtEachHandle};
+    ghost use Rattle.dbm_file.specs.Database.{store_of, meta_kept, page_state, error_of, cursor_of, IsAt, AtEachHandle};
     ghost use Rattle.dbm_file.specs.Answers.{IsStep, IsCallEnded};
     ghost use Rattle.dbm_file.specs.Lending.{Lends};
     ghost use Rattle.dbm_file.specs.Passing.{HasLeft};
+    ghost use Rattle.dbm_file.specs.Searches.{Searched, EndsWith, EndsBy, EndsAtContent, Passed, IsReached, pass_start};
     ghost use Rattle.dbm_file.specs.Ending.{EndsAs};
     ghost use Rattle.dbm_file.specs.Trying.{with_error_of, IsRead, slot_reply};
     ghost use Rattle.page_commit.specs.Committing.{Holds};
     ghost use Rattle.chain_walks.specs.Answers.{IsWalkAnswer};
+    ghost use Rattle.chain_walks.specs.Walks.{EndsWithout};
     ghost use Rattle.page_io.specs.Answers.{HasDeviceCause};
+    ghost use Rattle.page_io.specs.Views.{body_at};
     ghost use Rattle.slot_page.specs.Contents.{IsBucketPage, page_pairs};
     ghost use Rattle.page_io.specs.declared.store.PageFault.TheVariants.{Damaged};
 
@@ -61,6 +64,9 @@ impl<S: PageStore> Database<S> {
     pub fn fetch(&mut self, key: &[u8]) -> Result<Option<&[u8]>, Fault>
         ensures* after { sem 𝓛 (EndsAs S.row S.PageStore self.entry (Lends (Fetch key.now) (lent_reply NoRecord) self.old result)) }
         ensures short { IfOk result (λ r. IfSome r (λ content. length content.now ≤ 2026)) }
+
+        // On any file the answer was read from the key's bucket, up to the key or to the end.
+        ensures searched { IfOk result (λ found. Searched self.old key.now (EndsAtContent key.now found)) }
         ensures only { IsErrAmong result (Fault.Broken ∷ Fault.Device ∷ Fault.Damaged ∷ []) }
     {
         if self.store.is_broken() {
@@ -87,6 +93,7 @@ impl<S: PageStore> Database<S> {
             IsStep self.old self.new h (Store key.now content.now (mode_of mode)) (store_reply result)) }
         ensures shape { shape_in (meta_kept self.new) ≡ shape_for (meta_kept self.new).pairs (shape_in (meta_kept self.old)) }
         ensures read_only { (result ≡ Err Fault.ReadOnly) ↔ (((page_state self.old).usable ≡ true) × ((page_state self.old).writable ≡ false)) }
+        ensures kept { result ≡ Ok StoreReply.Kept → (mode ≡ StoreMode.Insert) × Searched self.old key.now (EndsWith key.now) }
         ensures too_long { (result ≡ Err Fault.TooLong) ↔ (((page_state self.old).usable ≡ true) × ((page_state self.old).writable ≡ true) × (2026 < length key.now + length content.now)) }
         ensures keeps { IsCallEnded self.old self.new result }
         ensures only { IsErrAmong result (Fault.Broken ∷ Fault.ReadOnly ∷ Fault.TooLong ∷ Fault.Full ∷ Fault.Memory ∷ Fault.Device ∷ Fault.NoRoom ∷ Fault.Damaged ∷ []) }
@@ -104,6 +111,8 @@ impl<S: PageStore> Database<S> {
             IsStep self.old self.new h (Delete key.now) (delete_reply result)) }
         ensures shape { shape_in (meta_kept self.new) ≡ shape_in (meta_kept self.old) }
         ensures read_only { (result ≡ Err Fault.ReadOnly) ↔ (((page_state self.old).usable ≡ true) × ((page_state self.old).writable ≡ false)) }
+        ensures absent { result ≡ Ok DeleteReply.Absent → Searched self.old key.now (EndsWithout key.now) }
+        ensures counted { result ≡ Ok DeleteReply.Deleted → (meta_kept self.new).pairs + 1 ≡ (meta_kept self.old).pairs }
         ensures keeps { IsCallEnded self.old self.new result }
         ensures only { IsErrAmong result (Fault.Broken ∷ Fault.ReadOnly ∷ Fault.Memory ∷ Fault.Device ∷ Fault.NoRoom ∷ Fault.Damaged ∷ []) }
     {
@@ -119,6 +128,9 @@ impl<S: PageStore> Database<S> {
     pub fn firstkey(&mut self) -> Result<Option<&[u8]>, Fault>
         ensures* after { sem 𝓛 (EndsAs S.row S.PageStore self.entry (Lends First (lent_reply End) self.old result)) }
         ensures short { IfOk result (λ r. IfSome r (λ key. length key.now ≤ 2026)) }
+
+        // On any file the buckets were read from the first one on.
+        ensures passed { IfOk result (λ found. Passed self.old pass_start found) }
         ensures only { IsErrAmong result (Fault.Broken ∷ Fault.Device ∷ Fault.Damaged ∷ []) }
     {
         if self.store.is_broken() {
@@ -138,6 +150,9 @@ impl<S: PageStore> Database<S> {
     pub fn nextkey(&mut self) -> Result<Option<&[u8]>, Fault>
         ensures* after { sem 𝓛 (EndsAs S.row S.PageStore self.entry (Lends Next (lent_reply End) self.old result)) }
         ensures short { IfOk result (λ r. IfSome r (λ key. length key.now ≤ 2026)) }
+
+        // On any file the buckets were read from where the pass stood.
+        ensures passed { IfOk result (λ found. IfSome (cursor_of self.old) (λ cursor. Passed self.old cursor found)) }
         ensures only { IsErrAmong result (Fault.Broken ∷ Fault.NoPass ∷ Fault.Device ∷ Fault.Damaged ∷ []) }
     {
         if self.store.is_broken() {
@@ -169,7 +184,7 @@ impl<S: PageStore> Database<S> {
         ensures step { AtEachHandle self.old (λ h. IsStep self.old self.new h Clear (Number 0)) }
         ensures zero { result ≡ pos 0 }
         ensures clear { error_of self.new ≡ None }
-        ensures still { (store_of self.new ≡ store_of self.old) × (meta_kept self.new ≡ meta_kept self.old) }
+        ensures still { (store_of self.new ≡ store_of self.old) × (meta_kept self.new ≡ meta_kept self.old) × (cursor_of self.new ≡ cursor_of self.old) }
     {
         self.error = None;
         0
@@ -210,6 +225,7 @@ impl<S: PageStore> Database<S> {
             IsStep self.old (with_error_of self.new result) h (Store key.now content.now (mode_of mode)) (store_reply result)) }
         ensures shape { shape_in (meta_kept self.new) ≡ shape_for (meta_kept self.new).pairs (shape_in (meta_kept self.old)) }
         ensures read_only { (result ≡ Err Fault.ReadOnly) ↔ (((page_state self.old).usable ≡ true) × ((page_state self.old).writable ≡ false)) }
+        ensures kept { result ≡ Ok StoreReply.Kept → (mode ≡ StoreMode.Insert) × Searched self.old key.now (EndsWith key.now) }
         ensures too_long { (result ≡ Err Fault.TooLong) ↔ (((page_state self.old).usable ≡ true) × ((page_state self.old).writable ≡ true) × (2026 < length key.now + length content.now)) }
         ensures keeps { IsCallEnded self.old (with_error_of self.new result) result }
         ensures only { IsErrAmong result (Fault.Broken ∷ Fault.ReadOnly ∷ Fault.TooLong ∷ Fault.Full ∷ Fault.Memory ∷ Fault.Device ∷ Fault.NoRoom ∷ Fault.Damaged ∷ []) }
@@ -248,6 +264,8 @@ impl<S: PageStore> Database<S> {
             IsStep self.old (with_error_of self.new result) h (Delete key.now) (delete_reply result)) }
         ensures shape { shape_in (meta_kept self.new) ≡ shape_in (meta_kept self.old) }
         ensures read_only { (result ≡ Err Fault.ReadOnly) ↔ (((page_state self.old).usable ≡ true) × ((page_state self.old).writable ≡ false)) }
+        ensures absent { result ≡ Ok DeleteReply.Absent → Searched self.old key.now (EndsWithout key.now) }
+        ensures counted { result ≡ Ok DeleteReply.Deleted → (meta_kept self.new).pairs + 1 ≡ (meta_kept self.old).pairs }
         ensures keeps { IsCallEnded self.old (with_error_of self.new result) result }
         ensures only { IsErrAmong result (Fault.Broken ∷ Fault.ReadOnly ∷ Fault.Memory ∷ Fault.Device ∷ Fault.NoRoom ∷ Fault.Damaged ∷ []) }
     {
@@ -275,6 +293,7 @@ impl<S: PageStore> Database<S> {
         ensures step { AtEachHandle self.old (λ h.
             (call : Call) (keys : Keys) → case_of h.state call ≡ Passes keys → HasLeft (S.committed (store_of self.old)) (meta_kept self.old) from keys → IsStep self.old self.new h call (slot_reply self.new.page.bytes result)) }
         ensures held { IfOk result (λ found. IfSome found (λ slot. IsBucketPage self.new.page.bytes × (slot < length (page_pairs self.new.page.bytes)))) }
+        ensures passed { S.honest (store_of self.old) → IfOk result (IsReached (body_at S.PageStore (store_of self.old)) (meta_kept self.old) from self.new.page.bytes) }
         ensures keeps { IsCallEnded self.old self.new result }
         ensures only { IsErrAmong result (Fault.Device ∷ Fault.Damaged ∷ []) }
     {
@@ -299,6 +318,7 @@ impl<S: PageStore> Database<S> {
         ensures reads { IsRead self.old self.new }
         ensures cause { HasDeviceCause (S.faults (store_of self.old)) (S.faults (store_of self.new)) result }
         ensures answer { IsWalkAnswer (page_state self.old) result }
+        ensures searched { IfOk result (λ there. Searched self.old key.now (EndsBy key.now there)) }
         ensures exact { S.honest (store_of self.old) → (map : Contents) → Holds S.PageStore (store_of self.old) (meta_kept self.old) map → IfOk result (λ there. there ≡ is_some (get map key.now)) }
         ensures whole { S.honest (store_of self.old) → (map : Contents) → Holds S.PageStore (store_of self.old) (meta_kept self.old) map → IsErrOf result Damaged → ⊥ }
     {

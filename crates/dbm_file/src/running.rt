@@ -1,9 +1,12 @@
 // A list of calls, one after another.
-ghost use Rattle.std.specs.Prelude.{◌≡◌, ◌<◌, ◌≤◌, ◌+◌, ◌∷◌, [], IfOk, IfErr, IfSome, IsTrue, map, vec_len, length};
+ghost use Rattle.std.specs.Prelude.{◌≡◌, ◌⊎◌, ◌<◌, ◌≤◌, ◌+◌, ◌∷◌, [], IfOk, IfErr, IfSome, IsTrue, List, map, vec_len, length};
+ghost use Rattle.dbm_fault.specs.Among.{IsErrAmong};
 ghost use Rattle.dbm_file.specs.Calls.{call_of, reply_of, lent_reply};
 ghost use Rattle.dbm_file.specs.Database.{AtEachHandle};
-ghost use Rattle.dbm_file.specs.Answers.{IsStep, IsRun, IsSameDatabase};
+ghost use Rattle.dbm_file.specs.Answers.{IsStep, IsSameDatabase};
+ghost use Rattle.dbm_file.specs.Replies.{IsAnswered, AreAnswered, IsBytesOr, refusal, refusal_in};
 ghost use Rattle.dbm_file.specs.Rooms.{IsRoom, AreRooms, rooms_in, gives_bytes as call_gives_bytes};
+ghost use Rattle.dbm_file.specs.Runs.{IsRun};
 
 use crate::{Call, Database, DeleteReply, Fault, Octets, Reply, StoreReply};
 use page_io::PageStore;
@@ -22,6 +25,9 @@ pub fn run<S: PageStore>(
 ) -> Result<Vec<Reply>, Fault>
     ensures run { AtEachHandle db.old (λ h.
         IfOk result (λ replies. IsRun db.old db.new h (map call_of calls.now) (map reply_of replies.items))) }
+
+    // On any device each reply is one to its own call, and each call leaves what it leaves alone.
+    ensures answers { IfOk result (λ replies. AreAnswered db.old db.new calls.now replies.items) }
     ensures one_each { IfOk result (λ replies. vec_len replies ≡ length calls.now) }
     ensures goes { IsSameDatabase db.old db.new }
     ensures memory { IfErr result (λ e. (e ≡ Fault.Memory) × (db.new ≡ db.old)) }
@@ -63,6 +69,7 @@ fn gives_bytes(call: &Call) -> bool
 fn answer<S: PageStore>(db: &mut Database<S>, call: &Call, rooms: &mut Vec<Vec<u8>>) -> Reply
     requires { AreRooms (vec_len rooms.old) rooms.old × (IsTrue (call_gives_bytes call.now) → 0 < vec_len rooms.old) }
     ensures step { AtEachHandle db.old (λ h. IsStep db.old db.new h (call_of call.now) (reply_of result)) }
+    ensures answered { IsAnswered db.old db.new call.now result }
     ensures goes { IsSameDatabase db.old db.new }
     ensures rooms { AreRooms (vec_len rooms.new) rooms.new }
     ensures taken { vec_len rooms.old ≡ rooms_in (call.now ∷ []) + vec_len rooms.new }
@@ -96,7 +103,10 @@ fn answer<S: PageStore>(db: &mut Database<S>, call: &Call, rooms: &mut Vec<Vec<u
 fn bytes_in(mut room: Vec<u8>, found: Result<Option<&[u8]>, Fault>, none: Reply) -> Reply
     requires room { IsRoom room }
     requires short { IfOk found (λ r. IfSome r (λ bytes. length bytes.now ≤ 2026)) }
-    ensures { reply_of result ≡ lent_reply (reply_of none) found.entry }
+    requires plain { (none ≡ Reply.NoRecord) ⊎ (none ≡ Reply.End) }
+    ensures reply { reply_of result ≡ lent_reply (reply_of none) found.entry }
+    ensures refused { refusal result ≡ refusal_in found.entry }
+    ensures kind { (faults : List Fault) → IsErrAmong found.entry faults → IsBytesOr none faults result }
 {
     match found {
         Ok(Some(bytes)) => {

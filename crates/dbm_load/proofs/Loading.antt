@@ -8,13 +8,15 @@ use Rattle.dbm_model.specs.Pairs.{Pair}
 use Rattle.dbm_model.specs.States.{Handle}
 use Rattle.dbm_model.specs.Steps.{Run}
 use Rattle.page_io.specs.declared.store.PageStore.{Ghosts}
-use Rattle.dbm_file.specs.Answers.{IsStep, IsRun, IsSameDatabase}
+use Rattle.dbm_file.specs.Answers.{IsStep, IsSameDatabase}
 use Rattle.dbm_file.specs.Calls.{store_reply}
 use Rattle.dbm_file.specs.Database.{store_of, meta_kept, IsAt}
+use Rattle.dbm_file.specs.Runs.{IsRun}
 use Rattle.dbm_fault.specs.Faults.{fault_of}
 use Rattle.dbm_file.specs.declared.calls.StoreReply.{StoreReply}
 use Rattle.dbm_file.specs.declared.calls.StoreReply.TheVariants as stored
 use Rattle.dbm_file.specs.declared.database.Database.{Database}
+use Rattle.dbm_file.proofs.Breaks.{CountsNow}
 use Rattle.dbm_file.proofs.Runs.{goes_on_with}
 use Rattle.dbm_lines.specs.PairLines.{pair_of_words, pair_of_line, Say}
 use Rattle.dbm_load.specs.Loading.{replacing, StoresAll, StoresBefore, Loads, LoadsDump, LoadsLine}
@@ -70,19 +72,20 @@ left_behind : (first : Option (List ℕ)) (done : List (List ℕ)) (line : List 
 left_behind None done line rest h = tt
 left_behind (Some text) done line rest h = h ∙ append_assoc done (line ∷ []) rest
 
-module _ {S : Type 0} (s : Ghosts S) (old mid new : Database S s) (limit : (meta_kept mid).limit ≡ (meta_kept old).limit) (honesty : s.honest (store_of old) → s.honest (store_of mid)) (goes : IsSameDatabase mid new) where
+module _ {S : Type 0} (s : Ghosts S) (old mid new : Database S s) (limit : (meta_kept mid).limit ≡ (meta_kept old).limit) (honesty : s.honest (store_of old) → s.honest (store_of mid)) (goes : IsSameDatabase mid new)
+    (counts : s.honest (store_of new) → CountsNow new) where
   -- one more pair was stored
   one_more : (pairs : List Pair) (pair : Pair) → StoresAll old mid pairs → (s.honest (store_of mid) → (h : Handle) → IsAt mid h → IsStep mid new h (replacing pair) Stored) → StoresAll old new (pairs ++ pair ∷ [])
   one_more pairs pair stores step honest h at =
       let run = stores honest h at in
-      goes_on_with s old mid new h (map replacing pairs) (map (λ _. Stored) pairs) (replacing pair) Stored limit goes run (step (honesty honest) run.after run.is_at) _ _
+      goes_on_with s old mid new h (map replacing pairs) (map (λ _. Stored) pairs) (replacing pair) Stored limit goes run (step (honesty honest) run.after run.is_at) (counts (goes.honesty.1 (honesty honest))) _ _
       (map-append replacing pairs (pair ∷ [])) (map-append (λ _. Stored) pairs (pair ∷ []))
 
   -- or was refused
   one_refused : (pairs : List Pair) (pair : Pair) (fault : Fault) → StoresAll old mid pairs → (s.honest (store_of mid) → (h : Handle) → IsAt mid h → IsStep mid new h (replacing pair) (Refused fault)) → StoresBefore old new pairs pair fault
   one_refused pairs pair fault stores step honest h at =
       let run = stores honest h at in
-      goes_on_with s old mid new h (map replacing pairs) (map (λ _. Stored) pairs) (replacing pair) (Refused fault) limit goes run (step (honesty honest) run.after run.is_at) _ _ refl refl
+      goes_on_with s old mid new h (map replacing pairs) (map (λ _. Stored) pairs) (replacing pair) (Refused fault) limit goes run (step (honesty honest) run.after run.is_at) (counts (goes.honesty.1 (honesty honest))) _ _ refl refl
 
 seen : {A : Type 0} {x y : A} → Some x ≡ Some y → x ≡ y
 seen e = cc
@@ -103,7 +106,8 @@ refused_line None key content fault number old new e step = cc
 refused_line {S} {s} (Some pair) key content fault number old new e step =
     subst (λ (p : Pair). s.honest (store_of old) → (h : Handle) → IsAt old h → IsStep old new h (replacing p) (Refused (fault_of fault))) (seen e) step
 
-module _ {S : Type 0} (s : Ghosts S) (old mid new : Database S s) (first now next : Option (List ℕ)) (line : List ℕ) (number : ℕ) (limit : (meta_kept mid).limit ≡ (meta_kept old).limit) (honesty : s.honest (store_of old) → s.honest (store_of mid)) (goes : IsSameDatabase mid new) (h : IsLoading old mid first now number)
+module _ {S : Type 0} (s : Ghosts S) (old mid new : Database S s) (first now next : Option (List ℕ)) (line : List ℕ) (number : ℕ) (limit : (meta_kept mid).limit ≡ (meta_kept old).limit) (honesty : s.honest (store_of old) → s.honest (store_of mid)) (goes : IsSameDatabase mid new)
+    (counts : s.honest (store_of new) → CountsNow new) (h : IsLoading old mid first now number)
     (r : IfSome now (λ text. ReadsLine 8193 text true line next)) where
   -- a line was read, and its pair was stored
   pub go_on : LoadsLine (Ok tt) (pair_of_line line) number mid new → IsLoading old new first next (number + 1)
@@ -119,7 +123,7 @@ module _ {S : Type 0} (s : Ghosts S) (old mid new : Database S s) (first now nex
         read = read;
         said = map-append pair_of_line h.done (whole ∷ []) ∙ (λ i. h.said i ++ says i ∷ []) ∙ sym (map-append Some h.stored (pair ∷ []));
         counted = omega (arith, h.counted, length-append h.done (whole ∷ []));
-        stores = one_more s old mid new limit honesty goes h.stored pair h.stores loaded;
+        stores = one_more s old mid new limit honesty goes counts h.stored pair h.stores loaded;
       }
 
   -- or the load stopped there
@@ -144,7 +148,7 @@ module _ {S : Type 0} (s : Ghosts S) (old mid new : Database S s) (first now nex
         stored = h.stored;
         lines = lines;
         said = h.said;
-        ends = (pair, says, one_refused s old mid new limit honesty goes h.stored pair (fault_of fault) h.stores loaded);
+        ends = (pair, says, one_refused s old mid new limit honesty goes counts h.stored pair (fault_of fault) h.stores loaded);
       }
       by_fault (Line n) (Some pair) whole rest says lines loaded = absurd loaded
       by_fault (Db fault) None whole rest says lines loaded = absurd loaded

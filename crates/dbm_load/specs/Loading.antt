@@ -10,8 +10,9 @@ use Rattle.page_model.specs.PairLists.{HasBytes}
 use Rattle.dbm_model.specs.Pairs.{Pair, Contents}
 use Rattle.dbm_model.specs.States.{Handle}
 use Rattle.page_io.specs.declared.store.PageStore.{Ghosts}
-use Rattle.dbm_file.specs.Answers.{IsStep, IsRun}
+use Rattle.dbm_file.specs.Answers.{IsStep}
 use Rattle.dbm_file.specs.Database.{store_of, IsAt}
+use Rattle.dbm_file.specs.Runs.{IsRun}
 use Rattle.dbm_fault.specs.Faults.{fault_of}
 use Rattle.dbm_file.specs.declared.database.Database.{Database}
 use Rattle.dbm_lines.specs.PairLines.{pair_of_line, Say}

@@ -1,5 +1,5 @@
 -- How far a script has been answered.
-use Rattle.std.proofs.Common.{◌≡◌, ℕ, Bool, true, false, List, [], ◌∷◌, ◌++◌, take, map, Option, Some, None, IfSome, Result, Ok, Err, OnOk, IfOk, is_ok, refl, sym, ap, subst, ◌∙◌, append-nil, append_assoc}
+use Rattle.std.proofs.Common.{◌≡◌, ℕ, Bool, true, false, List, [], ◌∷◌, ◌++◌, take, map, Option, Some, None, IfSome, Result, Ok, Err, OnOk, is_ok, refl, sym, ap, subst, ◌∙◌, append-nil, append_assoc}
 use Rattle.std.specs.Io.KnownBytes.{Appends}
 use Rattle.dbm_model.specs.Calls.{Call, Reply}
 use Rattle.dbm_text.specs.Lines.{call_in_line, call_of_words, words_in, reply_line, bad_line}
@@ -7,13 +7,15 @@ use Rattle.dbm_text.specs.Scripts.{script_of, calls_in, answer_of}
 use Rattle.dbm_model.specs.States.{Handle}
 use Rattle.dbm_model.specs.Steps.{Run}
 use Rattle.page_io.specs.declared.store.PageStore.{Ghosts}
-use Rattle.dbm_file.specs.Answers.{IsRun, IsSameDatabase}
+use Rattle.dbm_file.specs.Answers.{IsSameDatabase}
+use Rattle.dbm_file.specs.Runs.{IsRun}
 use Rattle.dbm_file.specs.Database.{meta_kept}
 use Rattle.dbm_file.specs.declared.database.Database.{Database}
+use Rattle.dbm_file.proofs.Breaks.{CountsNow}
 use Rattle.dbm_file.proofs.Runs.{goes_on_with}
 use Rattle.dbm_lines.proofs.TextLines.{first_line, limited-take}
 use Rattle.dbm_lines.specs.Reading.{line_bytes, after_line, ReadsLine}
-use Rattle.dbm_script.specs.Scripts.{RunsTo, AnswersScript, AnswersLine}
+use Rattle.dbm_script.specs.Scripts.{AreFirstLines, MakesFirst, AnswersFirst, AnswersScript, AnswersLine}
 
 call_of-take : (line : List ℕ) → call_in_line (take 8193 line) ≡ call_in_line line
 call_of-take line = limited-take (λ line. call_of_words (words_in line)) 8192 line
@@ -64,7 +66,7 @@ at_start db start None (Some text) none = record { done = []; answered = record 
 at_start db start (Some script) None none = record { done = []; answered = record { replies = []; run = none; written = tt }; left = refl }
 at_start db start (Some script) (Some text) none = record { done = []; answered = record { replies = []; run = none; written = sym (append-nil text) }; left = refl }
 
-module _ {S : Type 0} (s : Ghosts S) (old mid new : Database S s) (start : Handle) (limit : (meta_kept mid).limit ≡ (meta_kept old).limit) (goes : IsSameDatabase mid new) where
+module _ {S : Type 0} (s : Ghosts S) (old mid new : Database S s) (start : Handle) (limit : (meta_kept mid).limit ≡ (meta_kept old).limit) (goes : IsSameDatabase mid new) (counts : CountsNow new) where
   one_more : (before now after : Option (List ℕ)) (done : List (Option Call)) (call : Option Call) (h : AnswersScript done old mid start before now) → AnswersLine call mid new h.run.after (λ text. Appends now after text) → AnswersScript (done ++ call ∷ []) old new start before after
   one_more before now after done None h answer = record {
     replies = h.replies;
@@ -73,7 +75,7 @@ module _ {S : Type 0} (s : Ghosts S) (old mid new : Database S s) (start : Handl
   }
   one_more before now after done (Some call) h answer = record {
     replies = h.replies ++ answer.0 ∷ [];
-    run = goes_on_with s old mid new start (calls_in done) h.replies call answer.0 limit goes h.run answer.1 _ _ (calls_in-push done (Some call)) refl;
+    run = goes_on_with s old mid new start (calls_in done) h.replies call answer.0 limit goes h.run answer.1 counts _ _ (calls_in-push done (Some call)) refl;
     written = rw (answer_of-call _ _ done h.replies call answer.0 h.run.run) (joined before now after (answer_of done h.replies) (reply_line answer.0) h.written answer.2);
   }
 
@@ -84,11 +86,11 @@ left_after (Some text) (Some []) next line done h r = let e = r.0 in cc
 left_after (Some text) (Some (x ∷ xs)) next line done h r = rw (r.2) (append_assoc done (call_in_line line ∷ []) (script_of (after_line (x ∷ xs))) ∙ ap (λ rest. done ++ rest) (sym (first_call x xs line r.1)) ∙ h)
 
 -- a line was read and answered
-pub go_on : {S : Type 0} (s : Ghosts S) (old mid new : Database S s) (start : Handle) (first now next before written after : Option (List ℕ)) (line : List ℕ) → (meta_kept mid).limit ≡ (meta_kept old).limit → IsSameDatabase mid new → (h : IsAnswered old mid start first now before written)
+pub go_on : {S : Type 0} (s : Ghosts S) (old mid new : Database S s) (start : Handle) (first now next before written after : Option (List ℕ)) (line : List ℕ) → (meta_kept mid).limit ≡ (meta_kept old).limit → IsSameDatabase mid new → CountsNow new → (h : IsAnswered old mid start first now before written)
     → IfSome now (λ text. ReadsLine 8193 text true line next) → AnswersLine (call_in_line line) mid new h.answered.run.after (λ text. Appends written after text) → IsAnswered old new start first next before after
-go_on s old mid new start first now next before written after line limit goes h read answer = record {
+go_on s old mid new start first now next before written after line limit goes counts h read answer = record {
   done = h.done ++ call_in_line line ∷ [];
-  answered = one_more s old mid new start limit goes before written after h.done (call_in_line line) h.answered answer;
+  answered = one_more s old mid new start limit goes counts before written after h.done (call_in_line line) h.answered answer;
   left = left_after first now next line h.done h.left read;
 }
 
@@ -98,28 +100,52 @@ said (Ok u) None old new start Says ok answer = answer
 said (Ok u) (Some call) old new start Says ok answer = answer
 said (Err e) call old new start Says ok answer = cc
 
--- the same of what is read
-pub read_well : {E : Type 0} (r : Result Bool E) (more : Bool) (P : Bool → Type 0) → r ≡ Ok more → IfOk r P → P more
-read_well (Ok b) more P e h = let same : b ≡ more = cc in rw (← same) h
-read_well (Err e) more P same h = cc
+-- a line that was there
+pub was_read : (now next : Option (List ℕ)) (line : List ℕ) (more : Bool) → more ≡ true → IfSome now (λ text. ReadsLine 8193 text more line next) → IfSome now (λ text. ReadsLine 8193 text true line next)
+was_read now next line more is read = subst (λ (b : Bool). IfSome now (λ text. ReadsLine 8193 text b line next)) is read
 
--- no call leads from a database to itself
-pub no_call : {S : Type 0} {s : Ghosts S} (db : Database S s) (start : Handle) → IsRun db db start [] [] → RunsTo db db start
-no_call db start none = record { calls = []; replies = []; run = none }
+-- no call was made
+pub no_call : {S : Type 0} {s : Ghosts S} (db : Database S s) (start : Handle) (text : Option (List ℕ)) → IsRun db db start [] [] → MakesFirst text db db start
+no_call db start None none = record { made = []; first = ([], tt); replies = []; run = none }
+no_call db start (Some text) none = record { made = []; first = (script_of text, refl); replies = []; run = none }
+
+-- what was answered are the first lines
+first_lines : (first now : Option (List ℕ)) (done : List (Option Call)) → IsLeft first now done → AreFirstLines first done
+first_lines None now done left = ([], tt)
+first_lines (Some text) None done left = absurd left
+first_lines (Some text) (Some rest) done left = (script_of rest, sym left)
+
+-- with the line that was read
+with_line : (first now next : Option (List ℕ)) (line : List ℕ) (done : List (Option Call)) → IsLeft first now done → IfSome now (λ text. ReadsLine 8193 text true line next) → AreFirstLines first (done ++ call_in_line line ∷ [])
+with_line first now next line done left read = first_lines first next (done ++ call_in_line line ∷ []) (left_after first now next line done left read)
 
 -- the calls that were made stand
-pub stand : {S : Type 0} {s : Ghosts S} (old new : Database S s) (start : Handle) (first now before after : Option (List ℕ)) → IsAnswered old new start first now before after → RunsTo old new start
-stand old new start first now before after h = record { calls = calls_in h.done; replies = h.answered.replies; run = h.answered.run }
+pub stand : {S : Type 0} {s : Ghosts S} (old new : Database S s) (start : Handle) (first now before after : Option (List ℕ)) → IsAnswered old new start first now before after → MakesFirst first old new start
+stand old new start first now before after h = record { made = h.done; first = first_lines first now h.done h.left; replies = h.answered.replies; run = h.answered.run }
+
+-- and their answers
+pub answered_first : {S : Type 0} {s : Ghosts S} (old new : Database S s) (start : Handle) (first now before after : Option (List ℕ)) → IsAnswered old new start first now before after → AnswersFirst first old new start before after
+answered_first old new start first now before after h = record { made = h.done; first = first_lines first now h.done h.left; answers = h.answered }
 
 -- so does a call whose reply was not written
-pub stand_with : {S : Type 0} (s : Ghosts S) (old mid new : Database S s) (start : Handle) (first now before after : Option (List ℕ)) (call : Option Call) (Says : List ℕ → Type 0) → (meta_kept mid).limit ≡ (meta_kept old).limit → IsSameDatabase mid new
-    → (h : IsAnswered old mid start first now before after) → AnswersLine call mid new h.answered.run.after Says → RunsTo old new start
-stand_with s old mid new start first now before after None Says limit goes h answer = rw (answer.0) (stand old mid start first now before after h)
-stand_with s old mid new start first now before after (Some call) Says limit goes h answer = record {
-  calls = calls_in h.done ++ call ∷ [];
-  replies = h.answered.replies ++ answer.0 ∷ [];
-  run = goes_on_with s old mid new start (calls_in h.done) h.answered.replies call answer.0 limit goes h.answered.run answer.1 _ _ refl refl;
-}
+module _ {S : Type 0} (s : Ghosts S) (old mid new : Database S s) (start : Handle) (first now next before after : Option (List ℕ)) (line : List ℕ) (Says : List ℕ → Type 0) (limit : (meta_kept mid).limit ≡ (meta_kept old).limit) (goes : IsSameDatabase mid new) (counts : CountsNow new)
+    (h : IsAnswered old mid start first now before after) (read : IfSome now (λ text. ReadsLine 8193 text true line next)) where
+  stands_by : (call : Option Call) → AnswersLine call mid new h.answered.run.after Says → AreFirstLines first (h.done ++ call ∷ []) → MakesFirst first old new start
+  stands_by None answer lines = record {
+    made = h.done ++ None ∷ [];
+    first = lines;
+    replies = h.answered.replies;
+    run = rw (calls_in-push h.done None, append-nil (calls_in h.done), answer.0) h.answered.run;
+  }
+  stands_by (Some call) answer lines = record {
+    made = h.done ++ Some call ∷ [];
+    first = lines;
+    replies = h.answered.replies ++ answer.0 ∷ [];
+    run = goes_on_with s old mid new start (calls_in h.done) h.answered.replies call answer.0 limit goes h.answered.run answer.1 counts _ _ (calls_in-push h.done (Some call)) refl;
+  }
+
+  pub stand_with : AnswersLine (call_in_line line) mid new h.answered.run.after Says → MakesFirst first old new start
+  stand_with answer = stands_by (call_in_line line) answer (with_line first now next line h.done h.left read)
 
 whole : {S : Type 0} {s : Ghosts S} (old new : Database S s) (start : Handle) (text : List ℕ) (now next before after : Option (List ℕ)) (line : List ℕ) (done : List (Option Call)) → IsLeft (Some text) now done → AnswersScript done old new start before after
     → IfSome now (λ text. ReadsLine 8193 text false line next) → AnswersScript (script_of text) old new start before after

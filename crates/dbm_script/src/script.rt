@@ -1,5 +1,5 @@
 // The engine of a script.
-ghost use Rattle.std.specs.Prelude.{◌≡◌, ◌≤◌, OnOk, IfSome, Some, [], length, ◌∷◌};
+ghost use Rattle.std.specs.Prelude.{◌≡◌, ◌≤◌, OnOk, IfOk, IfErr, IfSome, Some, [], length, ◌∷◌};
 ghost use Rattle.dbm_fault.specs.Among.{IsErrAmong};
 ghost use Rattle.std.specs.Io.KnownBytes.{Appends};
 ghost use Rattle.dbm_text.specs.Lines.{call_in_line};
@@ -8,7 +8,8 @@ ghost use Rattle.dbm_text.specs.Scripts.{script_of};
 ghost use Rattle.dbm_file.specs.Answers.{IsSameDatabase};
 ghost use Rattle.dbm_file.specs.Calls.{mode_of};
 ghost use Rattle.dbm_file.specs.Database.{AtEachHandle};
-ghost use Rattle.dbm_script.specs.Scripts.{RunsTo, AnswersScript, AnswersLine};
+ghost use Rattle.dbm_lines.specs.Reading.{ReadsLine, IsCounted};
+ghost use Rattle.dbm_script.specs.Scripts.{MakesFirst, AnswersFirst, AnswersScript, AnswersLine};
 
 use crate::replies::{write_fault, write_fetched, write_passed};
 use dbm_fault::EngineFault;
@@ -24,7 +25,7 @@ use std::io::{self, BufRead, Write};
 /// Reads lines to the end, makes the call that each asks for, and writes one line for each: the reply,
 /// or `-1 line` where the line asks for no call. A line may have 8,192 bytes without its line feed, and
 /// a text 4,294,967,295. `Memory` comes before anything is read, `Read` where reading fails or the text
-/// is too long, and `Write` where writing fails; the calls made so far stand.
+/// is too long, and `Write` where writing fails, also of a call that was made; the calls made so far stand.
 pub fn script_engine<S: PageStore, R: BufRead, W: Write>(
     alloc: Global,
     db: &mut Database<S>,
@@ -36,8 +37,10 @@ pub fn script_engine<S: PageStore, R: BufRead, W: Write>(
     ensures answer { AtEachHandle db.old (λ h.
         OnOk result (IfSome (R.remaining reader.old) (λ text. AnswersScript (script_of text) db.old db.new h (W.contents writer.old) (W.contents writer.new)))) }
 
-    // Whatever it answers, the calls made so far stand.
-    ensures stands { AtEachHandle db.old (λ h. RunsTo db.old db.new h) }
+    // Whatever it answers, the calls made are those of the first lines, and they stand. A line that was cut short makes none.
+    ensures stands { AtEachHandle db.old (λ h. MakesFirst (R.remaining reader.old) db.old db.new h) }
+    ensures cut { AtEachHandle db.old (λ h.
+        result ≡ Err EngineFault.Read → AnswersFirst (R.remaining reader.old) db.old db.new h (W.contents writer.old) (W.contents writer.new)) }
     ensures goes { IsSameDatabase db.old db.new }
     ensures memory { result ≡ Err EngineFault.Memory → (db.new ≡ db.old) × ((reader.new ≡ reader.old) × (writer.new ≡ writer.old)) }
     ensures only { IsErrAmong result (EngineFault.Memory ∷ EngineFault.Read ∷ EngineFault.Write ∷ []) }
@@ -59,19 +62,33 @@ fn run_lines<S: PageStore, R: BufRead, W: Write>(
     ensures size { OnOk result (IfSome (R.remaining reader.old) (λ text. length text ≤ 4294967295)) }
     ensures answer { AtEachHandle db.old (λ h.
         OnOk result (IfSome (R.remaining reader.old) (λ text. AnswersScript (script_of text) db.old db.new h (W.contents writer.old) (W.contents writer.new)))) }
-    ensures stands { AtEachHandle db.old (λ h. RunsTo db.old db.new h) }
+    ensures stands { AtEachHandle db.old (λ h. MakesFirst (R.remaining reader.old) db.old db.new h) }
+    ensures cut { AtEachHandle db.old (λ h.
+        result ≡ Err EngineFault.Read → AnswersFirst (R.remaining reader.old) db.old db.new h (W.contents writer.old) (W.contents writer.new)) }
     ensures goes { IsSameDatabase db.old db.new }
     ensures only { IsErrAmong result (EngineFault.Read ∷ EngineFault.Write ∷ []) }
 {
     let mut left = u32::MAX;
     for _ in 0..u64::MAX {
-        let more = read_line(reader, &mut buffers.line, &mut left);
-        if !more.map_err(|_| EngineFault::Read)? {
+        if !next_line(reader, buffers, &mut left)? {
             return Ok(());
         }
         answer_line(db, buffers, writer).map_err(|_| EngineFault::Write)?;
     }
     Err(EngineFault::Read)
+}
+
+/// Reads the next line, and answers whether there was one.
+fn next_line<R: BufRead>(
+    reader: &mut R,
+    buffers: &mut Buffers,
+    left: &mut u32,
+) -> Result<bool, EngineFault>
+    ensures line { IfOk result (λ more. IfSome (R.remaining reader.old) (λ text. ReadsLine 8193 text more buffers.new.line.items (R.remaining reader.new))) }
+    ensures counted { OnOk result (IsCounted (R.remaining reader.old) left.old (R.remaining reader.new) left.new) }
+    ensures only { IfErr result (λ e. e ≡ EngineFault.Read) }
+{
+    read_line(reader, &mut buffers.line, left).map_err(|_| EngineFault::Read)
 }
 
 /// Makes the call that the line asks for, and writes the line that answers it.

@@ -5,9 +5,11 @@ pub mod Found
 pub mod MetaStaging
 pub mod Midway
 pub mod Openings
+pub mod PassedBuckets
 pub mod Passes
 pub mod Plans
 pub mod Refusals
+pub mod Searches
 pub mod SplitLemmas
 pub mod Stagings
 pub mod StoredPairs

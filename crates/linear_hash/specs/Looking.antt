@@ -1,14 +1,39 @@
 -- What a look for a key finds.
-use Rattle.std.specs.Prelude.{◌≡◌, ℕ, List, Option, Some, None}
+use Rattle.std.specs.Prelude.{◌≡◌, ℕ, ◌/◌, ◌%◌, List, slice_index, Option, Some, None}
 use Rattle.std.specs.List.{HoldsAt}
 use Rattle.dbm_model.specs.Pairs.{Key}
+use Rattle.page_model.specs.Chain.{Leaf}
+use Rattle.page_model.specs.Pages.{Meta, Body}
+use Rattle.page_model.specs.Placement.{key_bucket}
+use Rattle.seg_table.specs.Heads.{HasEntry}
 use Rattle.slot_page.specs.Contents.{IsBucketPage, HasKeyAt, page_pairs}
+use Rattle.chain_walks.specs.Walks.{IsWalk, LacksKey, EndsWithout, IsPairAt}
 use Rattle.chain_walks.specs.declared.place.Place.{Place}
+use Rattle.linear_hash.specs.Tables.{shape_in}
 
 -- on any file: the bytes are a page of pairs, and the key is in that slot
 pub record IsHeld (key : Key) (bytes : List ℕ) (slot : ℕ) : Type 0 where
   pub page : IsBucketPage bytes
   pub has : HasKeyAt key (page_pairs bytes) slot
+
+-- which segment page has the head of the key's bucket, and where in it
+abbrev pub key_segment : Meta → Key → ℕ
+key_segment m key = slice_index m.segments (key_bucket (shape_in m) key / 508)
+
+abbrev pub key_entry : Meta → Key → ℕ
+key_entry m key = key_bucket (shape_in m) key % 508
+
+-- On any file: from the head page that is read for the key's bucket the pages of its chain were read, none of them but the last has the
+-- key, and the last one is as stated.
+pub record IsSearch (at : ℕ → Body) (m : Meta) (key : Key) (Last : Leaf → ℕ → Type 0) : Type 0 where
+  pub head : ℕ
+  pub segment : HasEntry (at (key_segment m key)) (key_entry m key) head
+  pub walk : IsWalk at head (LacksKey key) Last
+
+-- the search ended at the key's pair, which stands at the place in the page, which the bytes are; or behind all pages
+abbrev pub EndsAt : Key → List ℕ → Option Place → Leaf → ℕ → Type 0
+EndsAt key bytes None leaf after = EndsWithout key leaf after
+EndsAt key bytes (Some place) leaf after = IsPairAt key bytes place leaf after
 
 -- the key has this content, which stands in that slot, or none
 abbrev pub IsFound : Key → Option (List ℕ) → List ℕ → Option Place → Type 0

@@ -11,7 +11,7 @@ ghost use Rattle.slot_page.specs.Contents.{IsBucketPage, page_pairs};
 ghost use Rattle.seg_table.specs.MetaPages.{model_meta};
 ghost use Rattle.chain_walks.specs.Answers.{IsWalkAnswer};
 ghost use Rattle.linear_hash.specs.Tables.{IsTable};
-ghost use Rattle.linear_hash.specs.Passing.{IsBehind, IsNext};
+ghost use Rattle.linear_hash.specs.Passing.{IsBehind, IsNext, IsPassed};
 
 use bucket_chain::{Place, step};
 use page_io::{Page, PageFault, PageStore};
@@ -50,6 +50,9 @@ pub fn next_pair<S: PageStore>(
 
     // On any bytes the pair may be read from the page.
     ensures held { IfOk result (λ found. IfSome found (λ at. IsBucketPage page.new.bytes × (at.1.slot < length (page_pairs page.new.bytes)))) }
+
+    // On any file the buckets were read from the cursor's place on, and none before the answer's has a pair there.
+    ensures passed { S.honest store.old → IfOk result (IsPassed (body_at S.PageStore store.old) (model_meta meta.now) from page.new.bytes) }
 
     // On pages that say a good placement it answers the first of the pairs that are left, and is never Damaged.
     ensures exact { S.honest store.old → (p : Placement) (left : List Pair) → IsTable (body_at S.PageStore store.old) (model_meta meta.now) (S.state store.old).end p →

@@ -18,13 +18,13 @@ returns-in-Err-clause-step g c honest h at =
 
 pub returns-in-Fetch-clause-step : goal.returns-in-Fetch-clause-step
 returns-in-Fetch-clause-step g c honest h at =
-    same_step (ap model.Fetch c.as_slice-in-Fetch.ensures ∙ sym (ap call_of c.in-Fetch.is)) (sym c.bytes_in.ensures) (c.fetch.follows.holds-at-none.step honest h at)
+    same_step (ap model.Fetch c.as_slice-in-Fetch.ensures ∙ sym (ap call_of c.in-Fetch.is)) (sym c.bytes_in.ensures.reply) (c.fetch.follows.holds-at-none.step honest h at)
 
 pub returns-in-First-clause-step : goal.returns-in-First-clause-step
-returns-in-First-clause-step g c honest h at = same_step (sym (ap call_of c.in-First.is)) (sym c.bytes_in-in-First.ensures) (c.firstkey.follows.holds-at-none.step honest h at)
+returns-in-First-clause-step g c honest h at = same_step (sym (ap call_of c.in-First.is)) (sym c.bytes_in-in-First.ensures.reply) (c.firstkey.follows.holds-at-none.step honest h at)
 
 pub returns-in-Next-clause-step : goal.returns-in-Next-clause-step
-returns-in-Next-clause-step g c honest h at = same_step (sym (ap call_of c.in-Next.is)) (sym c.bytes_in-in-Next.ensures) (c.nextkey.follows.holds-at-none.step honest h at)
+returns-in-Next-clause-step g c honest h at = same_step (sym (ap call_of c.in-Next.is)) (sym c.bytes_in-in-Next.ensures.reply) (c.nextkey.follows.holds-at-none.step honest h at)
 
 pub returns-in-Ok-Deleted-clause-step : goal.returns-in-Ok-Deleted-clause-step
 returns-in-Ok-Deleted-clause-step g c honest h at =

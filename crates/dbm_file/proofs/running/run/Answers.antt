@@ -1,12 +1,16 @@
-use Rattle.std.proofs.Common.{◌≡◌, ◌+◌, ◌++◌, ◌∷◌, [], sym, ◌∙◌, ap, subst, arith, List, map, drop, cond, is_ok, vec_len, ℕ}
+use Rattle.std.proofs.Common.{◌≡◌, ◌+◌, ◌++◌, ◌∷◌, [], sym, ◌∙◌, ap, subst, arith, List, map, drop, take, refl, cond, is_ok, vec_len, ℕ}
 use Rattle.std.proofs.lemmas.List.{drop_more}
 use Rattle.std.proofs.lemmas.List.Sums.{sum_by-append}
 use Rattle.dbm_model.specs.Calls as model
-use Rattle.dbm_file.specs.Answers.{IsRun}
 use Rattle.dbm_file.specs.Calls.{call_of, reply_of}
+use Rattle.dbm_file.specs.Database.{store_of}
+use Rattle.dbm_file.specs.Replies.{AreAnswered}
 use Rattle.dbm_file.specs.Rooms.{rooms_in, gives_bytes}
+use Rattle.dbm_file.specs.Runs.{IsRun}
 use Rattle.dbm_file.specs.declared.calls.Call.{Call}
-use Rattle.dbm_file.proofs.Runs.{all_taken, no_run, goes_on_with, seen_next, seen_last, goes_nowhere, still_goes}
+use Rattle.dbm_file.specs.declared.calls.Reply.{Reply}
+use Rattle.dbm_file.proofs.Answered.{answered_next}
+use Rattle.dbm_file.proofs.Runs.{all_taken, no_run, goes_on_with, taken_next, seen_next, seen_last, goes_nowhere, still_goes}
 use Rattle.dbm_file.proofs.running.run.Goals as goal
 
 -- the rooms of a call and those of the later ones
@@ -19,6 +23,7 @@ loop-call-init g c = record {
       let db = c.args.db.now in
       subst (λ (replies : List model.Reply). IsRun db db h [] replies) (sym (ap (map reply_of) c.in-Ok.ensures.items))
       (no_run g.S.PageStore db h at (λ x left. g.met.S.PageStore.only_now db.store x honest left));
+  answered = subst (λ (replies : List Reply). AreAnswered c.args.db.now c.args.db.now [] replies) (sym c.in-Ok.ensures.items) refl;
   goes = goes_nowhere c.args.db.now;
   many = c.in-Ok.ensures.len;
   fits = c.in-Ok.ensures.capacity;
@@ -38,8 +43,13 @@ loop-call-preserved g c =
       ran = λ honest h at.
           let run = so_far.ran honest h at in
           goes_on_with g.S.PageStore c.args.db.now c.loop-call.db c.answer-reply.new.db h _ _ (call_of call) (reply_of c.answer-reply.result) so_far.goes.limit c.answer-reply.ensures.goes run
-          (c.answer-reply.ensures.step (so_far.goes.honesty.1 honest) run.after run.is_at) _ _
+          (c.answer-reply.ensures.step (so_far.goes.honesty.1 honest) run.after run.is_at)
+          (λ t x le left. g.met.S.PageStore.counts_now (store_of c.answer-reply.new.db) t x (c.answer-reply.ensures.goes.honesty.1 (so_far.goes.honesty.1 honest)) le left) _ _
           (seen_next call_of calls i call c.loop-call-test.true c.call-item.is) (seen_last reply_of c.loop-call.replies.items c.push.new.self.items c.answer-reply.result items);
+      answered =
+          subst (λ (cs : List Call). AreAnswered c.args.db.now c.answer-reply.new.db cs c.push.new.self.items) (sym (taken_next calls i call c.loop-call-test.true c.call-item.is))
+          (subst (λ (rs : List Reply). AreAnswered c.args.db.now c.answer-reply.new.db (take i calls ++ call ∷ []) rs) (sym items)
+          (answered_next c.args.db.now c.loop-call.db c.answer-reply.new.db (take i calls) c.loop-call.replies.items call c.answer-reply.result so_far.answered c.answer-reply.ensures.answered));
       goes = still_goes c.args.db.now c.loop-call.db c.answer-reply.new.db so_far.goes c.answer-reply.ensures.goes;
       many = c.push.ensures.len ∙ ap (λ r. cond (is_ok r) (vec_len c.loop-call.replies + 1) (vec_len c.loop-call.replies)) c.unwrap.ensures ∙ ap (λ (n : ℕ). n + 1) so_far.many;
       fits = omega (arith, c.push.ensures.capacity);
@@ -50,3 +60,8 @@ pub returns-clause-run : goal.returns-clause-run
 returns-clause-run g c honest h at =
     subst (λ (calls : List Call). IsRun c.args.db.now c.loop-call.db h (map call_of calls) (map reply_of c.loop-call.replies.items))
     (all_taken c.args.calls.now c.loop-call.call-index (omega (arith, c.loop-call-test.false))) (c.loop-call.invariant.ran honest h at)
+
+pub returns-clause-answers : goal.returns-clause-answers
+returns-clause-answers g c =
+    subst (λ (calls : List Call). AreAnswered c.args.db.now c.loop-call.db calls c.loop-call.replies.items)
+    (all_taken c.args.calls.now c.loop-call.call-index (omega (arith, c.loop-call-test.false))) c.loop-call.invariant.answered

@@ -1,4 +1,5 @@
 use Rattle.std.proofs.Common.{◌≡◌, true, Err, IfSome, rules}
+use Rattle.dbm_file.specs.Database.{store_of}
 use Rattle.dbm_file.proofs.Runs.{no_run, goes_nowhere, still_goes}
 use Rattle.dbm_lines.specs.Reading.{ReadsLine, IsCounted}
 use Rattle.dbm_fault.specs.declared.engine_fault.EngineFault.TheVariants.{Read}
@@ -25,7 +26,7 @@ returns-in_err-load_line-clause-loads g c =
     let read : IfSome (g.R.Read.remaining c.loop-number.reader) (λ text. ReadsLine 8193 text true c.read_line-more.new.line.items (g.R.Read.remaining c.read_line-more.new.reader)) = search rules in
     let same : c.from_residual-in_err-load_line.result ≡ Err c.in_err-load_line.field-0.0 = search rules in
     let h = c.loop-number.invariant in
-    rw same (stopped g.S.PageStore _ _ _ _ _ _ _ _ h.goes.limit h.goes.honesty.1 c.load_line.ensures.goes h.loading read _ c.in_err-load_line.ensures.line)
+    rw same (stopped g.S.PageStore _ _ _ _ _ _ _ _ h.goes.limit h.goes.honesty.1 c.load_line.ensures.goes (λ honest t x le left. g.met.S.PageStore.counts_now (store_of c.load_line.new.db) t x honest le left) h.loading read _ c.in_err-load_line.ensures.line)
 
 pub loop-number-preserved : goal.loop-number-preserved
 loop-number-preserved g c =
@@ -33,7 +34,7 @@ loop-number-preserved g c =
     let count : IsCounted (g.R.Read.remaining c.loop-number.reader) c.loop-number.left (g.R.Read.remaining c.read_line-more.new.reader) c.read_line-more.new.left = search rules in
     let h = c.loop-number.invariant in
     record {
-      loading = go_on g.S.PageStore _ _ _ _ _ _ _ _ h.goes.limit h.goes.honesty.1 c.load_line.ensures.goes h.loading read c.in_ok-load_line.ensures.line;
+      loading = go_on g.S.PageStore _ _ _ _ _ _ _ _ h.goes.limit h.goes.honesty.1 c.load_line.ensures.goes (λ honest t x le left. g.met.S.PageStore.counts_now (store_of c.load_line.new.db) t x honest le left) h.loading read c.in_ok-load_line.ensures.line;
       goes = still_goes _ _ _ h.goes c.load_line.ensures.goes;
       counted = counted_on _ _ _ _ _ _ h.counted count;
     }

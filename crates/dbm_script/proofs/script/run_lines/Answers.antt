@@ -1,9 +1,8 @@
-use Rattle.std.proofs.Common.{◌≡◌, true, IfSome, is_ok, rules}
-use Rattle.dbm_text.specs.Lines.{call_in_line}
+use Rattle.std.proofs.Common.{◌≡◌, true, is_ok, rules}
+use Rattle.dbm_file.specs.Database.{store_of}
 use Rattle.dbm_file.proofs.Runs.{no_run, goes_nowhere, still_goes}
-use Rattle.dbm_lines.specs.Reading.{ReadsLine, IsCounted}
 use Rattle.dbm_lines.proofs.TextLines.{counted_first, counted_on}
-use Rattle.dbm_script.proofs.Answering.{at_start, go_on, stand_with, said}
+use Rattle.dbm_script.proofs.Answering.{at_start, go_on, stand, stand_with, answered_first, said, was_read}
 use Rattle.dbm_script.proofs.script.run_lines.Goals as goal
 
 pub loop-init : goal.loop-init
@@ -15,22 +14,47 @@ loop-init g c = record {
   counted = counted_first (g.R.Read.remaining c.args.reader.now) 4294967295;
 }
 
-pub returns-in_err-map_err-2-clause-stands : goal.returns-in_err-map_err-2-clause-stands
-returns-in_err-map_err-2-clause-stands g c honest start at =
-    let h = c.loop.invariant.answered honest start at in
-    stand_with g.S.PageStore _ _ _ start _ _ _ _ (call_in_line c.read_line-more.new.line.items) _ c.loop.invariant.goes.limit c.answer_line.ensures.goes h
-    (c.answer_line.ensures.line (c.loop.invariant.goes.honesty.1 honest) h.answered.run.after h.answered.run.is_at)
+-- a line was cut short
+pub returns-in_err-next_line-clause-stands : goal.returns-in_err-next_line-clause-stands
+returns-in_err-next_line-clause-stands g c honest start at = stand _ _ start _ _ _ _ (c.loop.invariant.answered honest start at)
+
+pub returns-in_err-next_line-clause-cut : goal.returns-in_err-next_line-clause-cut
+returns-in_err-next_line-clause-cut g c honest start at is = answered_first _ _ start _ _ _ _ (c.loop.invariant.answered honest start at)
+
+-- a reply was not written
+pub returns-in_err-map_err-clause-stands : goal.returns-in_err-map_err-clause-stands
+returns-in_err-map_err-clause-stands g c honest start at =
+    let so_far = c.loop.invariant in
+    let h = so_far.answered honest start at in
+    let mid = so_far.goes.honesty.1 honest in
+    stand_with g.S.PageStore _ _ _ start _ _ _ _ _ c.next_line.new.buffers.line.items _ so_far.goes.limit c.answer_line.ensures.goes
+    (λ t x le left. g.met.S.PageStore.counts_now (store_of c.answer_line.new.db) t x (c.answer_line.ensures.goes.honesty.1 mid) le left) h
+    (was_read _ _ _ _ c.if-not-branch.false c.in_ok-next_line.ensures.line)
+    (c.answer_line.ensures.line mid h.answered.run.after h.answered.run.is_at)
+
+-- at the end of the text
+pub returns-then-not-branch-clause-stands : goal.returns-then-not-branch-clause-stands
+returns-then-not-branch-clause-stands g c honest start at = stand _ _ start _ _ _ _ (c.loop.invariant.answered honest start at)
+
+-- after as many lines as can be counted
+pub returns-clause-stands : goal.returns-clause-stands
+returns-clause-stands g c honest start at = stand _ _ start _ _ _ _ (c.loop.invariant.answered honest start at)
+
+pub returns-clause-cut : goal.returns-clause-cut
+returns-clause-cut g c honest start at is = answered_first _ _ start _ _ _ _ (c.loop.invariant.answered honest start at)
 
 pub loop-preserved : goal.loop-preserved
 loop-preserved g c =
-    let read : IfSome (g.R.Read.remaining c.loop.reader) (λ text. ReadsLine 8193 text true c.read_line-more.new.line.items (g.R.Read.remaining c.read_line-more.new.reader)) = search rules in
-    let count : IsCounted (g.R.Read.remaining c.loop.reader) c.loop.left (g.R.Read.remaining c.read_line-more.new.reader) c.read_line-more.new.left = search rules in
+    let so_far = c.loop.invariant in
     let wrote : is_ok c.answer_line.result ≡ true = search rules in
     record {
       answered = λ honest start at.
-          let h = c.loop.invariant.answered honest start at in
-          let line = c.answer_line.ensures.line (c.loop.invariant.goes.honesty.1 honest) h.answered.run.after h.answered.run.is_at in
-          go_on g.S.PageStore _ _ _ start _ _ _ _ _ _ _ c.loop.invariant.goes.limit c.answer_line.ensures.goes h read (said c.answer_line.result _ _ _ h.answered.run.after _ wrote line);
-      goes = still_goes _ _ _ c.loop.invariant.goes c.answer_line.ensures.goes;
-      counted = counted_on _ _ _ _ _ _ c.loop.invariant.counted count;
+          let h = so_far.answered honest start at in
+          let mid = so_far.goes.honesty.1 honest in
+          go_on g.S.PageStore _ _ _ start _ _ _ _ _ _ c.next_line.new.buffers.line.items so_far.goes.limit c.answer_line.ensures.goes
+          (λ t x le left. g.met.S.PageStore.counts_now (store_of c.answer_line.new.db) t x (c.answer_line.ensures.goes.honesty.1 mid) le left) h
+          (was_read _ _ _ _ c.if-not-branch.false c.in_ok-next_line.ensures.line)
+          (said c.answer_line.result _ _ _ h.answered.run.after _ wrote (c.answer_line.ensures.line mid h.answered.run.after h.answered.run.is_at));
+      goes = still_goes _ _ _ so_far.goes c.answer_line.ensures.goes;
+      counted = counted_on _ _ _ _ _ _ so_far.counted c.in_ok-next_line.ensures.counted;
     }

@@ -15,6 +15,7 @@ use Rattle.chain_walks.specs.Chains.{IsChainAt}
 use Rattle.linear_hash.specs.Tables.{shape_in, IsTable}
 use Rattle.linear_hash.proofs.Buckets.{table_heads, table_below, table_chain, found_in}
 use Rattle.linear_hash.proofs.Refusals.{head_of_walk}
+use Rattle.linear_hash.proofs.Searches.{searched_from}
 use Rattle.linear_hash.proofs.looking.find_pair.Given.{Over}
 use Rattle.linear_hash.proofs.looking.find_pair.Goals as goal
 
@@ -29,9 +30,14 @@ returns-in_err-head g c =
       cause = cause_first _ _ exit _ _ told.cause;
       answer = head_of_walk _ _ refl _ _ exit told.answer;
       held = IfOk-from_err _ _ result.ensures.0;
+      searched = λ honest. IfOk-from_err _ _ result.ensures.0;
       exact = λ honest p table. IfOk-from_err _ _ result.ensures.0;
       whole = λ honest p table damaged. told.whole honest (heads_of p.chains) (table_heads _ _ _ p table) (came _ _ exit Damaged damaged);
     }
+
+-- the bucket that was looked for
+bucket_is : (g : Over) (c : goal.After-lookup g) → c.bucket.result ≡ address (shape_in (model_meta c.args.meta.now)) (hash_of c.args.key.now)
+bucket_is g c = c.bucket.ensures.address ∙ ap (address (shape_in (model_meta c.args.meta.now))) c.hash.ensures
 
 -- the chain of the key's bucket, as it is read after the head was looked up
 chain_there : (g : Over) (c : goal.After-lookup g) → g.S.PageStore.honest c.args.store.now → (p : Placement)
@@ -40,7 +46,7 @@ chain_there : (g : Over) (c : goal.After-lookup g) → g.S.PageStore.honest c.ar
 chain_there g c honest p table =
     let chain = chain_at p (key_bucket p.shape c.args.key.now) in
     let reads = c.in_ok-head.ensures.reads in
-    let bucket : c.bucket.result ≡ address (shape_in (model_meta c.args.meta.now)) (hash_of c.args.key.now) = c.bucket.ensures.address ∙ ap (address (shape_in (model_meta c.args.meta.now))) c.hash.ensures in
+    let bucket = bucket_is g c in
     let head = c.in_ok-head.ensures.exact honest (heads_of p.chains) (table_heads _ _ _ p table) (table_below _ _ _ p table c.args.key.now c.bucket.result bucket) in
     let there = table_chain _ _ _ p table c.args.key.now c.bucket.result bucket c.in_ok-head.head head in
     subst (λ (st : StoreState). IsChainAt (body_at g.S.PageStore c.head_of.new.store) st.end c.in_ok-head.head chain) (sym reads.same)
@@ -54,6 +60,12 @@ returns-clause-cause g c = cause_last _ _ _ _ c.in_ok-head.ensures.cause.later c
 
 pub returns-clause-answer : goal.returns-clause-answer
 returns-clause-answer g c = subst (λ (s : StoreState). IsWalkAnswer s c.lookup.result) c.in_ok-head.ensures.reads.same c.lookup.ensures.answer
+
+pub returns-clause-searched : goal.returns-clause-searched
+returns-clause-searched g c honest =
+    let reads = c.in_ok-head.ensures.reads in
+    searched_from _ _ (model_meta c.args.meta.now) c.args.key.now c.bucket.result c.in_ok-head.head c.lookup.new.page.bytes c.lookup.result (bucket_is g c) (c.in_ok-head.ensures.entry honest)
+    (same_said g.S.PageStore _ _ reads honest) (c.lookup.ensures.walked (reads.stages_only.honesty.1 honest))
 
 pub returns-clause-exact : goal.returns-clause-exact
 returns-clause-exact g c honest p table =

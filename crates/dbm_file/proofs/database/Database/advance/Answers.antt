@@ -1,6 +1,7 @@
 use Rattle.std.proofs.Common.{refl}
 use Rattle.dbm_file.proofs.PassSteps.{left_table, given_step, ended_step, pass_failed, pass_flagged}
 use Rattle.dbm_file.proofs.ReadSteps.{after_reads}
+use Rattle.dbm_file.proofs.Searches.{reached_place, reached_end}
 use Rattle.dbm_file.proofs.database.Database.advance.Goals as goal
 
 pub returns-in-Ok-Some-clause-step : goal.returns-in-Ok-Some-clause-step
@@ -31,3 +32,9 @@ returns-in-Err-clause-step g c honest h at call keys falls has =
     pass_flagged s db new h _ _ _ call c.refuse.new.error c.from.result _ c.refuse.ensures.flag c.from.ensures _ c.refuse.result c.refuse.ensures.answer
     (pass_failed s db new h at call keys falls record { reads = all.reads; meta_is = refl; error_is = refl; pass_is = refl } honest c.requires _ c.in-Err.fault all.answer all.cause
     (all.whole honest has.placement has.left table has.behind))
+
+pub returns-in-Ok-Some-clause-passed : goal.returns-in-Ok-Some-clause-passed
+returns-in-Ok-Some-clause-passed g c honest = reached_place _ _ c.args.from _ _ _ _ c.in-Ok-Some.field-0-is (c.in-Ok-Some.ensures.passed honest)
+
+pub returns-in-Ok-None-clause-passed : goal.returns-in-Ok-None-clause-passed
+returns-in-Ok-None-clause-passed g c honest = reached_end _ _ c.args.from _ _ c.in-Ok-None.field-0-is (c.in-Ok-None.ensures.passed honest)

@@ -3,7 +3,11 @@ use Rattle.std.specs.FinMap.{get}
 use Rattle.dbm_model.specs.Pairs.{Contents}
 use Rattle.linear_hash.proofs.Found.{found_some}
 use Rattle.linear_hash.proofs.Tables.{placed, is_table, map_placed}
+use Rattle.dbm_file.proofs.Searches.{searched_for}
 use Rattle.dbm_file.proofs.database.Database.has.Goals as goal
+
+pub returns-clause-searched : goal.returns-clause-searched
+returns-clause-searched g c honest = searched_for _ _ c.args.key.now _ c.in_ok-place.place c.is_some.result c.is_some.ensures (c.in_ok-place.ensures.searched honest)
 
 pub returns-clause-exact : goal.returns-clause-exact
 returns-clause-exact g c honest map h =

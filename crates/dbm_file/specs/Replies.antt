@@ -1,0 +1,86 @@
+-- Which replies a call may get on any device, and what it then leaves, whatever the bytes are.
+use Rattle.std.specs.Prelude.{◌≡◌, pos, List, [], ◌∷◌, None, Result, Ok, Err}
+use Rattle.dbm_fault.specs.Among.{IsAmong}
+use Rattle.dbm_fault.specs.declared.fault.Fault.{Fault}
+use Rattle.dbm_fault.specs.declared.fault.Fault.TheVariants.{Memory, Device, Broken, ReadOnly, TooLong, Full, NoPass, NoRoom, Damaged}
+use Rattle.dbm_model.specs.States.{error_number}
+use Rattle.page_io.specs.declared.store.PageStore.{Ghosts}
+use Rattle.dbm_file.specs.Answers.{IsCallEnded}
+use Rattle.dbm_file.specs.Database.{store_of, meta_kept, error_of, cursor_of}
+use Rattle.dbm_file.specs.declared.calls.Call.{Call}
+use Rattle.dbm_file.specs.declared.calls.Call.TheVariants.{Store, Fetch, Delete, First, Next, Error, Clear}
+use Rattle.dbm_file.specs.declared.calls.Reply.{Reply}
+use Rattle.dbm_file.specs.declared.calls.Reply.TheVariants.{Stored, Kept, Deleted, Absent, Bytes, NoRecord, End, Number, Refused}
+use Rattle.dbm_file.specs.declared.calls.StoreMode.TheVariants.{Insert}
+use Rattle.dbm_file.specs.declared.database.Database.{Database}
+
+-- the faults by which a delete may be refused, and those of a store
+abbrev pub delete_faults : List Fault
+delete_faults = Broken ∷ ReadOnly ∷ Memory ∷ Device ∷ NoRoom ∷ Damaged ∷ []
+
+abbrev pub store_faults : List Fault
+store_faults = Broken ∷ ReadOnly ∷ TooLong ∷ Full ∷ Memory ∷ Device ∷ NoRoom ∷ Damaged ∷ []
+
+-- those of a call that reads
+abbrev pub read_faults : List Fault
+read_faults = Broken ∷ Device ∷ Damaged ∷ []
+
+abbrev pub next_faults : List Fault
+next_faults = Broken ∷ NoPass ∷ Device ∷ Damaged ∷ []
+
+-- bytes, or this reply where there are none, or a refusal by one of these faults
+abbrev pub IsBytesOr : Reply → List Fault → Reply → Type 0
+IsBytesOr none faults (Bytes bytes) = Unit {0}
+IsBytesOr none faults (Refused fault) = IsAmong fault faults
+IsBytesOr none faults reply = reply ≡ none
+
+-- a reply to this call
+abbrev pub IsReplyTo : Call → Reply → Type 0
+IsReplyTo (Store key content mode) Stored = Unit {0}
+IsReplyTo (Store key content mode) Kept = mode ≡ Insert
+IsReplyTo (Store key content mode) (Refused fault) = IsAmong fault store_faults
+IsReplyTo (Delete key) Deleted = Unit {0}
+IsReplyTo (Delete key) Absent = Unit {0}
+IsReplyTo (Delete key) (Refused fault) = IsAmong fault delete_faults
+IsReplyTo (Fetch key) reply = IsBytesOr NoRecord read_faults reply
+IsReplyTo First reply = IsBytesOr End read_faults reply
+IsReplyTo Next reply = IsBytesOr End next_faults reply
+IsReplyTo _ reply = ⊥
+
+-- whether a call was refused, and by which fault: told by its reply, and by what it answers
+abbrev pub refusal : Reply → Result Unit Fault
+refusal (Refused fault) = Err fault
+refusal reply = Ok tt
+
+abbrev pub refusal_in : {T : Type 0} → Result T Fault → Result Unit Fault
+refusal_in (Ok value) = Ok tt
+refusal_in (Err fault) = Err fault
+
+-- the error number was told, and nothing changed
+abbrev pub IsErrorTold : {S : Type 0} {s : Ghosts S} → Database S s → Database S s → Reply → Type 0
+IsErrorTold old new reply = (reply ≡ Number (pos (error_number (error_of old)))) × (new ≡ old)
+
+-- the error was forgotten, and nothing else changed
+pub record IsErrorCleared {S : Type 0} {s : Ghosts S} (old new : Database S s) (reply : Reply) : Type 0 where
+  pub zero : reply ≡ Number (pos 0)
+  pub cleared : error_of new ≡ None
+  pub still : store_of new ≡ store_of old
+  pub kept : meta_kept new ≡ meta_kept old
+  pub pass : cursor_of new ≡ cursor_of old
+
+-- any other call was answered by a reply to it
+pub record IsCallAnswered {S : Type 0} {s : Ghosts S} (old new : Database S s) (call : Call) (reply : Reply) : Type 0 where
+  pub replied : IsReplyTo call reply
+  pub keeps : IsCallEnded old new (refusal reply)
+
+abbrev pub IsAnswered : {S : Type 0} {s : Ghosts S} → Database S s → Database S s → Call → Reply → Type 0
+IsAnswered old new Error reply = IsErrorTold old new reply
+IsAnswered old new Clear reply = IsErrorCleared old new reply
+IsAnswered old new call reply = IsCallAnswered old new call reply
+
+-- the calls were answered so, one after another
+abbrev pub AreAnswered : {S : Type 0} {s : Ghosts S} → Database S s → Database S s → List Call → List Reply → Type 0
+AreAnswered old new [] [] = new ≡ old
+AreAnswered {S} {s} old new (call ∷ calls) (reply ∷ replies) = (mid : Database S s) × IsAnswered old mid call reply × AreAnswered mid new calls replies
+AreAnswered old new [] (reply ∷ replies) = ⊥
+AreAnswered old new (call ∷ calls) [] = ⊥

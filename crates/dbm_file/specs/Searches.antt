@@ -1,0 +1,54 @@
+-- What a call has read that looks for a key, on any file.
+use Rattle.std.specs.Prelude.{◌≡◌, ℕ, Bool, true, false, List, Option, Some, None}
+use Rattle.std.specs.Borrow.{Bor}
+use Rattle.std.specs.List.{HoldsAt}
+use Rattle.dbm_model.specs.Pairs.{Key}
+use Rattle.page_model.specs.Chain.{Leaf}
+use Rattle.page_model.specs.Pages.{Meta, Body}
+use Rattle.page_model.specs.Valid.{meta_buckets}
+use Rattle.slot_page.specs.Contents.{HasKeyAt, page_pairs}
+use Rattle.page_io.specs.Views.{body_at}
+use Rattle.page_io.specs.declared.store.PageStore.{Ghosts}
+use Rattle.chain_walks.specs.Places.{place}
+use Rattle.chain_walks.specs.Walks.{EndsWithout}
+use Rattle.linear_hash.specs.Looking.{IsSearch}
+use Rattle.linear_hash.specs.Passing.{GaveNothing, IsPassed}
+use Rattle.linear_hash.specs.declared.passing.Cursor.{Cursor}
+use Rattle.dbm_file.specs.Database.{store_of, meta_kept}
+use Rattle.dbm_file.specs.declared.database.Database.{Database}
+
+-- over an honest store: the pages that say where the key's bucket is, and those of its chain, were read up to the one that the search ended at
+abbrev pub Searched : {S : Type 0} {s : Ghosts S} → Database S s → Key → (Leaf → ℕ → Type 0) → Type 0
+Searched {S} {s} db key Last = s.honest (store_of db) → IsSearch (body_at s (store_of db)) (meta_kept db) key Last
+
+-- the search ended at a page that has the key
+abbrev pub EndsWith : Key → Leaf → ℕ → Type 0
+EndsWith key leaf after = (slot : ℕ) × HasKeyAt key leaf.pairs slot
+
+-- it ended as this answer says to whether the key is there
+abbrev pub EndsBy : Key → Bool → Leaf → ℕ → Type 0
+EndsBy key true leaf after = EndsWith key leaf after
+EndsBy key false leaf after = EndsWithout key leaf after
+
+-- at a page that has the key with this content, or behind all pages
+abbrev pub EndsAtContent : Key → Option (Bor (List ℕ)) → Leaf → ℕ → Type 0
+EndsAtContent key None leaf after = EndsWithout key leaf after
+EndsAtContent key (Some content) leaf after = (slot : ℕ) × HoldsAt (λ pair. pair ≡ (key, content.now)) leaf.pairs slot
+
+-- before all pairs
+abbrev pub pass_start : Cursor
+pass_start = record { bucket = 0; behind = None }
+
+-- a pass went on from the cursor to this slot of the page, which the bytes are; or no bucket had a pair for it
+abbrev pub IsReached : (ℕ → Body) → Meta → Cursor → List ℕ → Option ℕ → Type 0
+IsReached at m cursor bytes None = GaveNothing at m cursor (meta_buckets m)
+IsReached at m cursor bytes (Some slot) = (bucket : ℕ) × (page : ℕ) × IsPassed at m cursor bytes (Some (bucket, place page slot))
+
+-- the key that was answered is that of the pair which the pass reached
+abbrev pub IsGiven : (ℕ → Body) → Meta → Cursor → Option (Bor (List ℕ)) → Type 0
+IsGiven at m cursor None = GaveNothing at m cursor (meta_buckets m)
+IsGiven at m cursor (Some key) = (bytes : List ℕ) × (slot : ℕ) × IsReached at m cursor bytes (Some slot) × HoldsAt (λ pair. pair.0 ≡ key.now) (page_pairs bytes) slot
+
+-- over an honest store: the pages that say where the buckets are, and those of their chains, were read from the cursor on
+abbrev pub Passed : {S : Type 0} {s : Ghosts S} → Database S s → Cursor → Option (Bor (List ℕ)) → Type 0
+Passed {S} {s} db cursor found = s.honest (store_of db) → IsGiven (body_at s (store_of db)) (meta_kept db) cursor found
