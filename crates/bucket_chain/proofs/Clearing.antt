@@ -13,7 +13,8 @@ use Rattle.free_pages.specs.declared.free_state.FreeState.{FreeState}
 use Rattle.free_pages.specs.FreeList.{IsFreeList}
 use Rattle.chain_walks.specs.Links.{HaveDistinctKeys, SaysLink}
 use Rattle.chain_walks.specs.Walks.{IsReadToEnd}
-use Rattle.bucket_chain.specs.Giving.{AreGiven}
+use Rattle.bucket_chain.specs.Giving.{IsFree, AreGiven}
+use Rattle.bucket_chain.specs.AnyFile.{IsEmptied}
 use Rattle.bucket_chain.specs.Changes.{IsPlaced, IsCleared, store_in}
 use Rattle.chain_walks.proofs.Walks.{leaf_of, AreNumbered, one_next}
 use Rattle.chain_walks.proofs.KeyWalks.{none_later}
@@ -29,6 +30,19 @@ pub was_read : (old mid : ℕ → Body) (state state' : FreeState) (head first :
 was_read old mid state state' head first pairs link given = record {
   chain = leaf_of head pairs ∷ given.pages;
   are_read = (refl, link.says ∙ ap (λ (n : ℕ). HeadPage n pairs) given.first_is, given.linked);
+}
+
+-- on any file: it was, its overflow pages were given, and its head page was emptied
+pub emptied : (old mid new : ℕ → Body) (before after : FreeState) (head first : ℕ) (pairs : List Pair) → SaysLink old head 3 first pairs → AreGiven old mid before after first 0 → after.file_end ≡ before.file_end
+    → new head ≡ HeadPage 0 [] → ((m : ℕ) → (m ≡ head → ⊥) → new m ≡ mid m) → IsEmptied old new before after head
+emptied old mid new before after head first pairs link given end here others = record {
+  leaf = leaf_of head pairs;
+  overflow = given.pages;
+  are_read = (refl, link.says ∙ ap (λ (n : ℕ). HeadPage n pairs) given.first_is, given.linked);
+  empty = here;
+  free = λ m other stands. subst IsFree (sym (others m other)) (given.given m stands);
+  others = λ m other none. others m other ∙ given.others m none;
+  end = end;
 }
 
 -- what its head says

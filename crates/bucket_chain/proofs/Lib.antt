@@ -1,3 +1,4 @@
+pub mod Added
 pub mod Clearing
 pub mod DistinctKeys
 pub mod FoundKeys
@@ -9,6 +10,8 @@ pub mod PutLemmas
 pub mod Refusals
 pub mod Removals
 pub mod Rewriting
+pub mod SpelledPages
 pub mod SpotLemmas
 pub mod StagedPages
 pub mod Storing
+pub mod TakenOut

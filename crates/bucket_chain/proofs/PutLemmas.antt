@@ -2,15 +2,13 @@
 use Rattle.std.proofs.Common.{◌≡◌, ◌≢◌, ◌⊎◌, inl, inr, ℕ, ◌+◌, ◌≤◌, ◌||◌, Bool, true, false, cond, List, [], ◌∷◌, ◌++◌, refl, sym, ap, ◌∙◌, subst, arith, append_assoc}
 use Rattle.std.specs.List.{AllByRecursion}
 use Rattle.std.proofs.lemmas.Bool.Decides.{nat_tests}
-use Rattle.std.proofs.lemmas.List.{length-append}
-use Rattle.std.proofs.lemmas.List.Sums.{sum_by-append, sum_by-cons}
+use Rattle.std.proofs.lemmas.List.Sums.{sum_by-cons}
 use Rattle.std.proofs.lemmas.List.Elements.{All-from_recursion}
-use Rattle.std.proofs.lemmas.List.Concat.{flat_map-append}
 use Rattle.dbm_model.specs.Pairs.{Key, Pair}
 use Rattle.page_model.specs.PairLists.{has_key, times}
 use Rattle.page_model.specs.Pages.{Body, OverflowPage, Bucket, bucket}
 use Rattle.page_model.specs.Reading.{bucket_of, body_of}
-use Rattle.page_model.specs.Chain.{Leaf, Chain, numbers, pairs_in, fits, push, has_room, add}
+use Rattle.page_model.specs.Chain.{Leaf, Chain, numbers, fits, push, has_room, add}
 use Rattle.page_model.specs.Space.{Space, next_page, after_take, is_page, times_of}
 use Rattle.page_model.specs.PageBodies.{first_of, free_bodies, AreRead}
 use Rattle.page_model.proofs.Absent.{add-append}
@@ -31,14 +29,7 @@ use Rattle.chain_walks.proofs.Walks.{AreNumbered, IsSplit, begins_same}
 use Rattle.chain_walks.proofs.KeyWalks.{none_later, has_key_is}
 use Rattle.bucket_chain.proofs.Rewriting.{AreSaid, chain_said, chain_read, free_kept, times_in, not_there, not_here, middle_there, before_apart, later_apart, free_apart, rewritten_said, later_said, said_kept}
 
--- ---- the page that gets a pair, and the one before a new one, in bytes
-
-pub link_added : (old new : List ℕ) (n kind next : ℕ) (pair : Pair) → IsLink old n kind next (page_pairs old) → HasPairs old new (page_pairs old ++ pair ∷ []) → IsLink new n kind next (page_pairs old ++ pair ∷ [])
-link_added old new n kind next pair link holds = record {
-  page = holds.page;
-  says = holds.says ∙ ap (λ (b : Bucket). with_pairs b (page_pairs old ++ pair ∷ [])) link.says;
-  filled = λ four. omega (arith, length-append (page_pairs old) (pair ∷ []));
-}
+-- ---- the page before a new one, and the new one, in bytes
 
 pub link_linked : (old new : List ℕ) (n kind next next' : ℕ) → IsLink old n kind next (page_pairs old) → IsBucketPage new → bucket_of new ≡ with_next (bucket_of old) next' → IsLink new n kind next' (page_pairs old)
 link_linked old new n kind next next' link page says = record {
@@ -51,27 +42,22 @@ kinds_behind : (before : Chain) → (kind_behind before ≡ 3) ⊎ (kind_behind 
 kinds_behind [] = inl refl
 kinds_behind (leaf ∷ before) = inr refl
 
--- what the page says then
-pub added_says : (at' : ℕ → Body) (old new : List ℕ) (n next : ℕ) (before : Chain) (pair : Pair) → IsLink old n (kind_behind before) next (page_pairs old) → HasPairs old new (page_pairs old ++ pair ∷ []) → at' n ≡ body_of n new
-    → at' n ≡ link_body (kind_behind before) next (page_pairs old ++ pair ∷ [])
-added_says at' old new n next before pair link holds read =
-    (says_link at' new n (kind_behind before) next (page_pairs old ++ pair ∷ []) read (kinds_behind before) (link_added old new n (kind_behind before) next pair link holds)).says
-
-pub linked_says : (at' : ℕ → Body) (old new : List ℕ) (n next next' : ℕ) (before : Chain) → IsLink old n (kind_behind before) next (page_pairs old) → IsBucketPage new → bucket_of new ≡ with_next (bucket_of old) next' → at' n ≡ body_of n new
-    → at' n ≡ link_body (kind_behind before) next' (page_pairs old)
-linked_says at' old new n next next' before link page says read =
-    (says_link at' new n (kind_behind before) next' (page_pairs old) read (kinds_behind before) (link_linked old new n (kind_behind before) next next' link page says)).says
+-- what they say
+pub linked_body : (old new : List ℕ) (n next next' : ℕ) (before : Chain) → IsLink old n (kind_behind before) next (page_pairs old) → IsBucketPage new → bucket_of new ≡ with_next (bucket_of old) next'
+    → body_of n new ≡ link_body (kind_behind before) next' (page_pairs old)
+linked_body old new n next next' before link page says =
+    (says_link (λ m. body_of m new) new n (kind_behind before) next' (page_pairs old) refl (kinds_behind before) (link_linked old new n (kind_behind before) next next' link page says)).says
 
 -- a fresh page of one pair
-pub fresh_says : (at' : ℕ → Body) (blank new : List ℕ) (n : ℕ) (pair : Pair) → IsBucketPage blank → bucket_of blank ≡ bucket n 4 0 [] → HasPairs blank new (page_pairs blank ++ pair ∷ []) → at' n ≡ body_of n new → at' n ≡ OverflowPage 0 (pair ∷ [])
-fresh_says at' blank new n pair page says holds read =
+pub fresh_body : (blank new : List ℕ) (n : ℕ) (pair : Pair) → bucket_of blank ≡ bucket n 4 0 [] → HasPairs blank new (page_pairs blank ++ pair ∷ []) → body_of n new ≡ OverflowPage 0 (pair ∷ [])
+fresh_body blank new n pair says holds =
     let empty : page_pairs blank ≡ [] = ap (λ (b : Bucket). b.pairs) says in
     let link : IsLink new n 4 0 (pair ∷ []) = record {
       page = holds.page;
       says = holds.says ∙ ap (λ (b : Bucket). with_pairs b (page_pairs blank ++ pair ∷ [])) says ∙ ap (λ (ps : List Pair). bucket n 4 0 (ps ++ pair ∷ [])) empty;
       filled = λ four. omega arith;
     } in
-    (says_link at' new n 4 0 (pair ∷ []) read (inr refl) link).says
+    (says_link (λ m. body_of m new) new n 4 0 (pair ∷ []) refl (inr refl) link).says
 
 -- ---- a key that no page has
 
@@ -85,12 +71,6 @@ not_of key (pair ∷ pairs) none =
 
 pub is_absent : (key : Key) (pairs : List Pair) → times key pairs ≡ 0 → IsAbsent key pairs
 is_absent key pairs none = All-from_recursion (λ (pair : Pair). pair.0 ≢ key) pairs (not_of key pairs none)
-
-absent_in : (key : Key) (before : Chain) (leaf : Leaf) (later : Chain) → times key (pairs_in (before ++ leaf ∷ later)) ≡ 0 → times key leaf.pairs ≡ 0
-absent_in key before leaf later none =
-    let one : Pair → ℕ = λ q. cond (has_key key q) 1 0 in
-    let split : pairs_in (before ++ leaf ∷ later) ≡ pairs_in before ++ pairs_in (leaf ∷ later) = flat_map-append (λ (l : Leaf). l.pairs) before (leaf ∷ later) in
-    omega (arith, none, ap (times key) split, sum_by-append one (pairs_in before) (pairs_in (leaf ∷ later)), sum_by-append one leaf.pairs (pairs_in later))
 
 -- ---- the model's put, at a page that was found
 
@@ -149,9 +129,6 @@ module _ (at : ℕ → Body) (state : FreeState) (head : ℕ) (pair : Pair) (cha
         next_is = split.next ∙ number_first split.later;
         last = λ none. none_later split.later numbered (sym split.next ∙ none);
       }
-
-  pub lacks : times pair.0 (pairs_in chain) ≡ 0 → IsAbsent pair.0 (page_pairs bytes)
-  lacks none = is_absent pair.0 (page_pairs bytes) (absent_in pair.0 found.before (leaf_on spot bytes) middle.later (subst (λ (c : Chain). times pair.0 (pairs_in c) ≡ 0) middle.parts none))
 
   said_in : AreSaid at 3 (found.before ++ leaf_on spot bytes ∷ middle.later) 0
   said_in = subst (λ (c : Chain). AreSaid at 3 c 0) middle.parts (chain_said at chain placed.chain_is.are_read)

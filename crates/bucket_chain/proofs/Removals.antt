@@ -30,14 +30,14 @@ use Rattle.bucket_chain.proofs.Rewriting.{AreSaid, chain_read, times_in, said_ke
 use Rattle.bucket_chain.proofs.FoundKeys.{IsFoundHere, page_stays, page_leaves}
 
 -- the page without a pair, which isn't its last or is the head's
-link_without : (old new : List ℕ) (n kind next i : ℕ) (pairs : List Pair) → IsLink old n kind next pairs → HasPairs old new (remove_at (page_pairs old) i) → i < length pairs → (kind ≡ 4 → 2 ≤ length pairs) → IsLink new n kind next (remove_at pairs i)
+pub link_without : (old new : List ℕ) (n kind next i : ℕ) (pairs : List Pair) → IsLink old n kind next pairs → HasPairs old new (remove_at (page_pairs old) i) → i < length pairs → (kind ≡ 4 → 2 ≤ length pairs) → IsLink new n kind next (remove_at pairs i)
 link_without old new n kind next i pairs link holds within two = record {
   page = holds.page;
   says = holds.says ∙ ap (λ (b : Bucket). with_pairs b (remove_at b.pairs i)) link.says;
   filled = λ four. omega (arith, two four, length-remove pairs i within);
 }
 
-kinds_behind : (before : Chain) → (kind_behind before ≡ 3) ⊎ (kind_behind before ≡ 4)
+pub kinds_behind : (before : Chain) → (kind_behind before ≡ 3) ⊎ (kind_behind before ≡ 4)
 kinds_behind [] = inl refl
 kinds_behind (leaf ∷ before) = inr refl
 

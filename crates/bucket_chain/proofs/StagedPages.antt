@@ -2,9 +2,10 @@
 use Rattle.std.proofs.Common.{◌≡◌, inl, inr, ⊎_elim, ℕ, ◌+◌, ◌<◌, ◌≤◌, ◌^◌, true, List, length, Result, Ok, Err, OnOk, OnErr, refl, sym, ◌∙◌, ap, subst, arith}
 use Rattle.std.proofs.lemmas.Bool.{cases_eq}
 use Rattle.page_model.specs.Pages.{Body}
+use Rattle.page_model.specs.Reading.{body_of}
 use Rattle.page_io.specs.Page.{own_number}
 use Rattle.page_io.specs.Store.{StoreState, put_page, are_in_order, IsKnown}
-use Rattle.page_io.specs.Views.{body_at, StagesOnly, MayEnd, MayEndWith}
+use Rattle.page_io.specs.Views.{body_at, StagesOnly, ReadsOnly, MayEnd, MayEndWith}
 use Rattle.page_io.specs.declared.store.PageStore.{Ghosts}
 use Rattle.page_io.proofs.StagedPages.{has_page-put, has_page-put_other}
 use Rattle.page_io.proofs.Views.{length-put, end_stays, same_said, others_said}
@@ -58,3 +59,35 @@ with_own old new n m end same number may = subst (λ (st : StoreState). MayEndWi
 
 pub known_same : (old new : StoreState) (n : ℕ) → new ≡ old → IsKnown old n → IsKnown new n
 known_same old new n same known = subst (λ (st : StoreState). IsKnown st n) (sym same) known
+
+-- one page says this now, and each other what it said
+pub record IsRewrittenAlone (old new : ℕ → Body) (n : ℕ) (body : Body) : Type 0 where
+  pub says : new n ≡ body
+  pub others : (m : ℕ) → (m ≡ n → ⊥) → new m ≡ old m
+
+-- a page was staged
+pub rewritten_next : {S : Type 0} (s : Ghosts S) (old new : S) (n : ℕ) (bytes : List ℕ) (body : Body) → own_number bytes ≡ n → body_of n bytes ≡ body
+    → body_at s new (own_number bytes) ≡ body_of (own_number bytes) bytes → ((m : ℕ) → (m ≡ own_number bytes → ⊥) → body_at s new m ≡ body_at s old m) → IsRewrittenAlone (body_at s old) (body_at s new) n body
+rewritten_next s old new n bytes body number is says others = record {
+  says = subst (λ (k : ℕ). body_at s new k ≡ body_of k bytes) number says ∙ is;
+  others = λ m other. others m (λ e. other (e ∙ number));
+}
+
+-- others were read before
+pub rewritten_alone : {S : Type 0} (s : Ghosts S) (old mid new : S) → ReadsOnly s old mid → s.honest old → (n : ℕ) (bytes : List ℕ) (body : Body) → own_number bytes ≡ n → body_of n bytes ≡ body
+    → body_at s new (own_number bytes) ≡ body_of (own_number bytes) bytes → ((m : ℕ) → (m ≡ own_number bytes → ⊥) → body_at s new m ≡ body_at s mid m) → IsRewrittenAlone (body_at s old) (body_at s new) n body
+rewritten_alone s old mid new reads honest n bytes body number is says others =
+    subst (λ (at : ℕ → Body). IsRewrittenAlone at (body_at s new) n body) (same_said s old mid reads honest) (rewritten_next s mid new n bytes body number is says others)
+
+-- two pages were staged, one after the other: the second says this, and the first that where it isn't the second
+pub record AreRewritten (old new : ℕ → Body) (n : ℕ) (body : Body) (m : ℕ) (body' : Body) : Type 0 where
+  pub first : (m ≡ n → ⊥) → new n ≡ body
+  pub second : new m ≡ body'
+  pub others : (k : ℕ) → (k ≡ m → ⊥) → (k ≡ n → ⊥) → new k ≡ old k
+
+pub both_rewritten : (old mid new : ℕ → Body) (n m : ℕ) (body body' : Body) → IsRewrittenAlone old mid n body → IsRewrittenAlone mid new m body' → AreRewritten old new n body m body'
+both_rewritten old mid new n m body body' one two = record {
+  first = λ apart. two.others n (λ e. apart (sym e)) ∙ one.says;
+  second = two.says;
+  others = λ k not_m not_n. two.others k not_m ∙ one.others k not_n;
+}

@@ -1,13 +1,13 @@
 -- Where a walk along a chain has found a key, and which page is before that one.
 use Rattle.std.specs.Prelude.{◌≡◌, ◌⊎◌, ℕ, ◌≤◌, List, [], ◌∷◌, ◌++◌, Option, Some, None}
 use Rattle.std.specs.List.{AllByRecursion}
-use Rattle.dbm_model.specs.Pairs.{Key}
+use Rattle.dbm_model.specs.Pairs.{Key, Pair}
 use Rattle.page_model.specs.Pages.{Body}
 use Rattle.page_model.specs.Chain.{Leaf, Chain}
 use Rattle.page_model.specs.Reading.{own_number}
 use Rattle.page_io.specs.Store.{StoreState, IsKnown}
 use Rattle.slot_page.specs.Contents.{IsBucketPage, HasKeyAt, page_pairs}
-use Rattle.chain_walks.specs.Links.{IsLink}
+use Rattle.chain_walks.specs.Links.{IsLink, SaysLink}
 use Rattle.chain_walks.specs.Places.{place}
 use Rattle.chain_walks.specs.Chains.{kind_behind}
 use Rattle.chain_walks.specs.Walks.{IsWalk, LacksKey, EndsWithout, IsPairAt}
@@ -57,3 +57,10 @@ pub record IsHeldHit (state : StoreState) (key : Key) (bytes : List ℕ) (hit : 
   pub page : IsBucketPage bytes
   pub has : HasKeyAt key (page_pairs bytes) hit.slot
   pub prior_kind : IsLinkKind hit.prior_kind
+
+-- page n was a page of a chain of this kind, and has its pairs still, with this page behind it
+pub record IsRelinked (old new : ℕ → Body) (n kind next : ℕ) : Type 0 where
+  pub old_next : ℕ
+  pub pairs : List Pair
+  pub was : SaysLink old n kind old_next pairs
+  pub says : SaysLink new n kind next pairs

@@ -1,4 +1,5 @@
 pub mod Answers
+pub mod AnyFile
 pub mod Changes
 pub mod Giving
 pub mod Hits

@@ -12,6 +12,7 @@ ghost use Rattle.free_pages.specs.FreeList.{HasEnds};
 ghost use Rattle.chain_walks.specs.Chains.{IsChainAt};
 ghost use Rattle.chain_walks.specs.Walks.{IsRoomWalk};
 ghost use Rattle.bucket_chain.specs.Spots.{IsSpotPage, IsSpot};
+ghost use Rattle.bucket_chain.specs.AnyFile.{IsAdded};
 ghost use Rattle.bucket_chain.specs.Changes.{BecomesPlaced, put_in, ForEachPlaced};
 ghost use Rattle.chain_walks.specs.Answers.{IsWalkAnswer};
 ghost use Rattle.bucket_chain.specs.Answers.{IsPutAnswer};
@@ -80,6 +81,9 @@ pub fn put<S: PageStore>(
     ensures walked { S.honest store.old → OnOk result (IsRoomWalk (body_at S.PageStore store.old) head (key.now, content.now)) }
     ensures ends { HasEnds space.old → HasEnds space.new }
     ensures may_end { MayEnd (S.state store.old) space.old.file_end → OnOk result (MayEnd (S.state store.new) space.new.file_end) }
+
+    // On any file the pair is added to the first page that it fits, else to a page of its own behind the last.
+    ensures added { S.honest store.old → OnOk result (IsAdded (body_at S.PageStore store.old) (body_at S.PageStore store.new) (MayEnd (S.state store.old) space.old.file_end) space.old space.new head (key.now, content.now)) }
 
     // On a chain and a free list that are read as such it leaves the model's, and is never Damaged.
     ensures exact { ForEachPlaced S.PageStore store.old space.old head (λ chain s.

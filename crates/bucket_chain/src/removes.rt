@@ -1,6 +1,6 @@
 //! One key less in a chain.
 
-ghost use Rattle.std.specs.Prelude.{◌≡◌, ◌+◌, ◌≤◌, ◌<◌, ℕ, List, false, IfOk, IfSome, OnOk, OnErr, IsErrOf, length};
+ghost use Rattle.std.specs.Prelude.{◌≡◌, ◌+◌, ◌≤◌, ◌<◌, ℕ, List, true, false, IfOk, IfSome, OnOk, OnErr, IsErrOf, length};
 ghost use Rattle.dbm_model.specs.Pairs.{Pair};
 ghost use Rattle.page_model.specs.PairLists.{times};
 ghost use Rattle.page_model.specs.Chain.{Chain, pairs_in};
@@ -11,7 +11,8 @@ ghost use Rattle.free_pages.specs.FreeList.{HasEnds};
 ghost use Rattle.chain_walks.specs.Links.{SaysLink};
 ghost use Rattle.chain_walks.specs.Chains.{IsChainAt};
 ghost use Rattle.chain_walks.specs.Walks.{IsKeyWalk};
-ghost use Rattle.bucket_chain.specs.Hits.{IsLinkKind, IsHitOrNone, IsHeldHit};
+ghost use Rattle.bucket_chain.specs.Hits.{IsLinkKind, IsHitOrNone, IsHeldHit, IsRelinked};
+ghost use Rattle.bucket_chain.specs.AnyFile.{IsTakenOut};
 ghost use Rattle.bucket_chain.specs.Changes.{IsRemoved, ForEachPlaced};
 ghost use Rattle.chain_walks.specs.Answers.{IsWalkAnswer};
 ghost use Rattle.bucket_chain.specs.Answers.{IsRemoveAnswer};
@@ -89,6 +90,7 @@ fn relink<S: PageStore>(
     ensures may_end { (end : ℕ) → MayEnd (S.state store.old) end → OnOk result (MayEnd (S.state store.new) end) }
     ensures says { S.honest store.old → (old_next : ℕ) (pairs : List Pair) → SaysLink (body_at S.PageStore store.old) n kind old_next pairs →
         OnOk result (SaysLink (body_at S.PageStore store.new) n kind next pairs) }
+    ensures relinked { S.honest store.old → OnOk result (IsRelinked (body_at S.PageStore store.old) (body_at S.PageStore store.new) n kind next) }
     ensures others { S.honest store.old → (m : ℕ) → (m ≡ n → ⊥) → body_at S.PageStore store.new m ≡ body_at S.PageStore store.old m }
     ensures whole { S.honest store.old → (old_next : ℕ) (pairs : List Pair) → 1 ≤ n → SaysLink (body_at S.PageStore store.old) n kind old_next pairs → IsErrOf result Damaged → ⊥ }
 {
@@ -117,6 +119,9 @@ pub fn remove<S: PageStore>(
     ensures end { space.new.file_end ≡ space.old.file_end }
     ensures ends { HasEnds space.old → HasEnds space.new }
     ensures may_end { MayEnd (S.state store.old) space.old.file_end → OnOk result (MayEnd (S.state store.new) space.new.file_end) }
+
+    // On any file the key's pair is taken out of its page, or that page out of the chain.
+    ensures taken_out { S.honest store.old → IfOk result (λ was. was ≡ true → IsTakenOut (body_at S.PageStore store.old) (body_at S.PageStore store.new) space.old space.new head key.now) }
 
     // On a chain and a free list that are read as such it leaves the model's, and is never Damaged.
     ensures exact { ForEachPlaced S.PageStore store.old space.old head (λ chain s.

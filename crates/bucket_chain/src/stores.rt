@@ -1,6 +1,6 @@
 //! All pairs of a chain, stored anew.
 
-ghost use Rattle.std.specs.Prelude.{◌≡◌, ◌<◌, ◌∷◌, [], ℕ, All, map, OnOk, IsErrOf};
+ghost use Rattle.std.specs.Prelude.{◌≡◌, ◌+◌, ◌<◌, ◌∷◌, [], ℕ, All, length, map, OnOk, IsErrOf};
 ghost use Rattle.dbm_model.specs.Pairs.{IsAllowed};
 ghost use Rattle.page_model.specs.Chain.{Chain, Leaf, numbers, pairs_in};
 ghost use Rattle.page_model.specs.PageBodies.{first_of};
@@ -12,6 +12,7 @@ ghost use Rattle.free_pages.specs.FreeList.{HasEnds};
 ghost use Rattle.chain_walks.specs.Pairs.{pair_of};
 ghost use Rattle.chain_walks.specs.Walks.{IsReadToEnd};
 ghost use Rattle.chain_walks.specs.Links.{HaveDistinctKeys};
+ghost use Rattle.bucket_chain.specs.AnyFile.{IsEmptied, AreAdded, AreStored};
 ghost use Rattle.bucket_chain.specs.Giving.{AreGiven};
 ghost use Rattle.bucket_chain.specs.Changes.{Placed, IsPlaced, BecomesPlaced, IsCleared, IsPutAll, store_in, ForEachPlaced};
 ghost use Rattle.bucket_chain.specs.Answers.{IsStoreAnswer};
@@ -60,6 +61,8 @@ fn clear<S: PageStore>(store: &mut S, space: &mut FreeState, head: u32) -> Resul
     ensures answer { IsStoreAnswer (S.state store.old) result }
     ensures room { IsErrOf result NoRoom → ⊥ }
     ensures walked { S.honest store.old → OnOk result (IsReadToEnd (body_at S.PageStore store.old) head) }
+    ensures emptied { S.honest store.old → OnOk result (IsEmptied (body_at S.PageStore store.old) (body_at S.PageStore store.new) space.old space.new head) }
+    ensures end { space.new.file_end ≡ space.old.file_end }
     ensures ends { HasEnds space.old → HasEnds space.new }
     ensures may_end { MayEnd (S.state store.old) space.old.file_end → OnOk result (MayEnd (S.state store.new) space.new.file_end) }
     ensures exact { ForEachPlaced S.PageStore store.old space.old head (λ chain s.
@@ -85,6 +88,8 @@ fn put_all<S: PageStore>(
     ensures cause { HasDeviceCause (S.faults store.old) (S.faults store.new) result }
     ensures answer { IsStoreAnswer (S.state store.old) result }
     ensures room { pairs.now ≡ [] → IsErrOf result NoRoom → ⊥ }
+    ensures no_room { S.honest store.old → IsErrOf result NoRoom → (S.state store.old).capacity < space.old.file_end + length pairs.now }
+    ensures added { S.honest store.old → OnOk result (AreAdded (body_at S.PageStore store.old) (body_at S.PageStore store.new) (MayEnd (S.state store.old) space.old.file_end) space.old space.new head (map pair_of pairs.now)) }
     ensures ends { HasEnds space.old → HasEnds space.new }
     ensures may_end { MayEnd (S.state store.old) space.old.file_end → OnOk result (MayEnd (S.state store.new) space.new.file_end) }
     ensures exact { S.honest store.old → (placed : Placed) → IsPlaced (body_at S.PageStore store.old) space.old head placed.0 placed.1 → pairs_in placed.0 ≡ [] → HaveDistinctKeys (map pair_of pairs.now) →
@@ -111,9 +116,13 @@ pub fn store_all<S: PageStore>(
     ensures cause { HasDeviceCause (S.faults store.old) (S.faults store.new) result }
     ensures answer { IsStoreAnswer (S.state store.old) result }
     ensures room { pairs.now ≡ [] → IsErrOf result NoRoom → ⊥ }
+    ensures no_room { S.honest store.old → IsErrOf result NoRoom → (S.state store.old).capacity < space.old.file_end + length pairs.now }
     ensures walked { S.honest store.old → OnOk result (IsReadToEnd (body_at S.PageStore store.old) head) }
     ensures ends { HasEnds space.old → HasEnds space.new }
     ensures may_end { MayEnd (S.state store.old) space.old.file_end → OnOk result (MayEnd (S.state store.new) space.new.file_end) }
+
+    // On any file the chain is emptied, and the pairs are added in order.
+    ensures stored { S.honest store.old → OnOk result (AreStored (body_at S.PageStore store.old) (body_at S.PageStore store.new) (MayEnd (S.state store.old) space.old.file_end) space.old space.new head (map pair_of pairs.now)) }
 
     // On a chain and a free list that are read as such it leaves the model's, and is never Damaged.
     ensures exact { ForEachPlaced S.PageStore store.old space.old head (λ chain s.

@@ -1,8 +1,8 @@
-use Rattle.std.proofs.Common.{◌≡◌, ℕ, refl, sym, subst, ◌∙◌, ap, arith}
+use Rattle.std.proofs.Common.{◌≡◌, ℕ, [], ◌∷◌, ◌++◌, OnOk, refl, sym, subst, ◌∙◌, ap, arith}
 use Rattle.std.proofs.lemmas.Result.{IfOk-from_err}
 use Rattle.dbm_model.specs.Pairs.{Pair}
-use Rattle.page_model.specs.Pages.{Body, Bucket}
-use Rattle.page_model.specs.Reading.{own_number, body_of, bucket_of}
+use Rattle.page_model.specs.Pages.{Body, Bucket, OverflowPage}
+use Rattle.page_model.specs.Reading.{own_number, bucket_of}
 use Rattle.page_model.specs.Chain.{numbers}
 use Rattle.page_io.specs.Page as model
 use Rattle.page_io.specs.Store.{StoreState}
@@ -10,14 +10,20 @@ use Rattle.page_io.specs.Views.{body_at, MayEnd}
 use Rattle.page_io.specs.declared.store.PageFault.TheVariants.{NoRoom, Damaged}
 use Rattle.page_io.proofs.Views.{stages_then, reads_then, same_said, known_below}
 use Rattle.page_io.proofs.Exits.{exit_is, came, cause_first, cause_then, cause_stage, cause_stage_last, stage_not_damaged, stage_has_room, last_not_damaged, last_has_room}
-use Rattle.free_pages.specs.FreeList.{IsFreeList}
+use Rattle.free_pages.specs.FreeList.{IsFreeList, IsTaken}
 use Rattle.free_pages.specs.declared.free_state.FreeState.{FreeState}
-use Rattle.chain_walks.specs.Chains.{IsChainAt}
+use Rattle.slot_page.specs.Contents.{page_pairs}
+use Rattle.chain_walks.specs.Links.{link_body}
+use Rattle.chain_walks.specs.Chains.{IsChainAt, kind_behind}
+use Rattle.bucket_chain.specs.Spots.{IsSpot}
 use Rattle.page_io.proofs.OwnNumbers.{own_is, own_same}
 use Rattle.chain_walks.proofs.Headers.{header_of}
-use Rattle.bucket_chain.proofs.StagedPages.{on_ok, if_ok, with_own, known_same}
-use Rattle.bucket_chain.proofs.PutLemmas.{room_walk, lacks, put_here, put_last, no_room, new_apart, absent_none, added_says, linked_says, fresh_says, apart_alone}
+use Rattle.bucket_chain.proofs.Added.{says_nothing, added_to, added_behind}
+use Rattle.bucket_chain.proofs.SpelledPages.{added_body}
+use Rattle.bucket_chain.proofs.StagedPages.{on_ok, if_ok, with_own, known_same, IsRewrittenAlone, AreRewritten, rewritten_alone, rewritten_next, both_rewritten}
+use Rattle.bucket_chain.proofs.PutLemmas.{room_walk, put_here, put_last, no_room, new_apart, absent_none, linked_body, fresh_body, apart_alone}
 use Rattle.bucket_chain.proofs.Refusals.{walk_puts, take_puts, stage_puts, stage_puts_last, walk_has_room, few_same, few_then, few_both, few_more}
+use Rattle.bucket_chain.proofs.puts.put.Given.{Over}
 use Rattle.bucket_chain.proofs.puts.put.Goals as goal
 
 pub stage_page-requires : goal.stage_page-requires
@@ -50,6 +56,7 @@ returns-in_err-spot g c =
       cause = cause_first _ _ exit _ _ told.cause;
       answer = walk_puts _ _ refl _ _ exit _ _ told.answer;
       walked = λ honest. IfOk-from_err _ _ result.ensures.0;
+      added = λ honest. IfOk-from_err _ _ result.ensures.0;
       ends = λ e. e;
       may_end = λ may. IfOk-from_err _ _ result.ensures.0;
       exact = λ honest chain s placed none. IfOk-from_err _ _ result.ensures.0;
@@ -57,6 +64,20 @@ returns-in_err-spot g c =
           told.whole honest chain (subst (λ (n : ℕ). IsChainAt (body_at st c.args.store.now) n c.args.head chain) (sym (ap (λ (f : FreeState). f.file_end) placed.free_is.kept)) placed.chain_is) (came _ _ exit Damaged damaged);
       room = λ honest chain s placed fits none. absurd (walk_has_room _ _ told.answer (came _ _ exit NoRoom none));
     }
+
+-- the page that the pair fits says it too
+here_says : (g : Over) (c : goal.After-stage_page g) (honest : g.S.PageStore.honest c.args.store.now) (found : IsSpot (body_at g.S.PageStore c.args.store.now) c.args.head (c.args.key.now, c.args.content.now) c.find_spot.new.page.bytes c.in_ok-spot.spot)
+    → OnOk c.stage_page.result (IsRewrittenAlone (body_at g.S.PageStore c.args.store.now) (body_at g.S.PageStore c.stage_page.new.store) c.in_ok-spot.spot.page
+    (link_body (kind_behind found.before) found.next (page_pairs c.find_spot.new.page.bytes ++ (c.args.key.now, c.args.content.now) ∷ [])))
+here_says g c honest found =
+    let bytes = c.add.new.page.bytes in
+    let page = c.in_ok-spot.spot.page in
+    let reads = c.find_spot.ensures.reads in
+    let h1 = reads.stages_only.honesty.1 honest in
+    let number = own_same bytes ∙ c.add.ensures.header.own ∙ (header_of _ _ _ _ _ found.link).own in
+    let body = added_body c.find_spot.new.page.bytes bytes page _ _ (c.args.key.now, c.args.content.now) found.link (c.in_ok-spot.ensures.page.room c.if-spot.true) c.add.ensures.spelled in
+    on_ok c.stage_page.result (c.stage_page.ensures.says h1) (λ says.
+    rewritten_alone g.S.PageStore c.args.store.now c.find_spot.new.store c.stage_page.new.store reads honest page bytes _ number body says (c.stage_page.ensures.others h1))
 
 -- the pair fits a page
 pub returns-then-spot : goal.returns-then-spot
@@ -70,6 +91,10 @@ returns-then-spot g c =
       cause = cause_stage_last _ _ _ _ _ _ _ one.stages_only.later told.faults told.answer;
       answer = stage_puts_last _ _ _ _ (ap (λ (s : StoreState). s.usable) one.same) _ _ (few_same _ _ 1 one.same) told.answer;
       walked = λ honest. on_ok c.stage_page.result (c.stage_page.ensures.says (c.find_spot.ensures.reads.stages_only.honesty.1 honest)) (λ _. room_walk _ _ _ _ _ (c.in_ok-spot.ensures.found honest));
+      added = λ honest.
+          let found = c.in_ok-spot.ensures.found honest in
+          on_ok c.stage_page.result (here_says g c honest found) (λ said.
+          added_to _ _ (MayEnd (st.state c.args.store.now) c.args.space.now.file_end) c.args.space.now c.args.space.now c.args.head (c.args.key.now, c.args.content.now) _ _ found c.if-spot.true refl said);
       ends = λ e. e;
       may_end = λ may.
           let own = (header_of _ _ _ _ _ c.in_ok-spot.ensures.page.link).own in
@@ -77,18 +102,9 @@ returns-then-spot g c =
           let still = subst (λ (st : StoreState). MayEnd st c.args.space.now.file_end) (sym c.find_spot.ensures.reads.same) may in
           if_ok c.stage_page.result (c.stage_page.ensures.may_end c.args.space.now.file_end (omega (arith, own_same c.add.new.page.bytes, c.add.ensures.header.own, own, below)) still);
       exact = λ honest chain s placed none.
-          let p : Pair = (c.args.key.now, c.args.content.now) in
           let found = c.in_ok-spot.ensures.found honest in
-          let same = same_said g.S.PageStore _ _ c.find_spot.ensures.reads honest in
-          let h1 = c.find_spot.ensures.reads.stages_only.honesty.1 honest in
-          let own : own_number c.add.new.page.bytes ≡ c.in_ok-spot.spot.page = c.add.ensures.header.own ∙ (header_of _ _ _ _ _ found.link).own in
-          let number = own_same c.add.new.page.bytes ∙ own in
-          on_ok c.stage_page.result (c.stage_page.ensures.says h1) (λ says.
-          let at' = body_at g.S.PageStore c.stage_page.new.store in
-          let read : at' c.in_ok-spot.spot.page ≡ body_of c.in_ok-spot.spot.page c.add.new.page.bytes = subst (λ (n : ℕ). at' n ≡ body_of n c.add.new.page.bytes) number says in
-          let here = added_says at' c.find_spot.new.page.bytes c.add.new.page.bytes _ _ found.before p found.link (c.add.ensures.holds (lacks _ c.args.space.now c.args.head p chain s _ _ placed found none)) read in
-          put_here _ _ c.args.head p chain s _ _ placed found at' c.if-spot.true here
-          (λ n other. c.stage_page.ensures.others h1 n (λ e. other (e ∙ number)) ∙ ap (λ (at : ℕ → Body). at n) same));
+          on_ok c.stage_page.result (here_says g c honest found) (λ said.
+          put_here _ c.args.space.now c.args.head (c.args.key.now, c.args.content.now) chain s _ _ placed found _ c.if-spot.true said.says said.others);
       whole = λ honest chain s placed none damaged. absurd (last_not_damaged _ _ _ _ told.answer damaged);
       room = λ honest chain s placed fits none. absurd (last_has_room _ _ _ _ told.answer none);
     }
@@ -107,6 +123,7 @@ returns-in_err-taken g c =
       cause = cause_then _ _ exit _ _ _ one.stages_only.later told.cause;
       answer = take_puts _ _ (ap (λ (s : StoreState). s.usable) one.same) _ _ exit _ _ (ap (λ (s : StoreState). s.capacity) one.same) told.answer;
       walked = λ honest. IfOk-from_err _ _ result.ensures.0;
+      added = λ honest. IfOk-from_err _ _ result.ensures.0;
       ends = told.ends;
       may_end = λ may. IfOk-from_err _ _ result.ensures.0;
       exact = λ honest chain s placed none. IfOk-from_err _ _ result.ensures.0;
@@ -136,12 +153,35 @@ returns-in_err-stage_page g c =
       cause = cause_stage _ _ exit _ _ _ _ _ _ both.stages_only.later told.faults told.answer;
       answer = stage_puts _ _ (ap (λ (s : StoreState). s.usable) both.same) _ _ exit _ _ _ (few_same _ _ 1 both.same) told.answer;
       walked = λ honest. IfOk-from_err _ _ result.ensures.0;
+      added = λ honest. IfOk-from_err _ _ result.ensures.0;
       ends = c.in_ok-taken.ensures.ends;
       may_end = λ may. IfOk-from_err _ _ result.ensures.0;
       exact = λ honest chain s placed none. IfOk-from_err _ _ result.ensures.0;
       whole = λ honest chain s placed none damaged. absurd (stage_not_damaged _ _ _ _ told.answer (came _ _ exit Damaged damaged));
       room = λ honest chain s placed fits none. absurd (stage_has_room _ _ _ _ told.answer (came _ _ exit NoRoom none));
     }
+
+-- a page that is taken says the pair alone, and the last one names it
+both_say : (g : Over) (c : goal.After-stage_page-3 g) (honest : g.S.PageStore.honest c.args.store.now) (found : IsSpot (body_at g.S.PageStore c.args.store.now) c.args.head (c.args.key.now, c.args.content.now) c.find_spot.new.page.bytes c.in_ok-spot.spot)
+    → OnOk c.stage_page-3.result (AreRewritten (body_at g.S.PageStore c.args.store.now) (body_at g.S.PageStore c.stage_page-3.new.store) c.in_ok-taken.taken (OverflowPage 0 ((c.args.key.now, c.args.content.now) ∷ []))
+    c.in_ok-spot.spot.page (link_body (kind_behind found.before) c.in_ok-taken.taken (page_pairs c.find_spot.new.page.bytes)))
+both_say g c honest found =
+    let st = g.S.PageStore in
+    let new = c.in_ok-taken.taken in
+    let page = c.in_ok-spot.spot.page in
+    let last = c.add-2.new.page.bytes in
+    let linked = c.set_next.new.page.bytes in
+    let reads = reads_then st _ _ _ (g.met.S.PageStore.counts_now c.find_spot.new.store) c.in_ok-spot.ensures.reads c.in_ok-taken.ensures.reads in
+    let h2 = reads.stages_only.honesty.1 honest in
+    let h3 = c.stage_page-2.ensures.stages.honesty.1 h2 in
+    let new_own : model.own_number last ≡ new = own_same last ∙ c.add-2.ensures.header.own ∙ sym (own_is c.empty-last.result.bytes) ∙ ap (λ (b : Bucket). b.own) c.empty-last.ensures.says in
+    let page_own : model.own_number linked ≡ page = own_same linked ∙ c.set_next.ensures.own ∙ (header_of _ _ _ _ _ found.link).own in
+    let absent = c.add-2.ensures.holds (absent_none c.args.key.now c.empty-last.result.bytes new c.empty-last.ensures.says) in
+    let fresh = fresh_body c.empty-last.result.bytes last new (c.args.key.now, c.args.content.now) c.empty-last.ensures.says absent in
+    let named = linked_body c.find_spot.new.page.bytes linked page _ new found.before found.link c.set_next.ensures.page c.set_next.ensures.says in
+    let one = rewritten_alone st c.args.store.now c.take.new.store c.stage_page-2.new.store reads honest new last _ new_own fresh (c.in_ok-stage_page.ensures.says h2) (c.stage_page-2.ensures.others h2) in
+    on_ok c.stage_page-3.result (c.stage_page-3.ensures.says h3) (λ says.
+    both_rewritten _ (body_at st c.stage_page-2.new.store) _ new page _ _ one (rewritten_next st c.stage_page-2.new.store c.stage_page-3.new.store page linked _ page_own named says (c.stage_page-3.ensures.others h3)))
 
 -- a page is taken, and the last one names it
 pub returns : goal.returns
@@ -159,6 +199,13 @@ returns g c =
       cause = cause_stage_last _ _ _ _ _ _ _ so_far.later told.faults told.answer;
       answer = stage_puts_last _ _ _ _ (ap (λ (s : StoreState). s.usable) so_far.state) _ _ (few_then _ _ _ 1 both.same staged.few) told.answer;
       walked = λ honest. if_ok c.stage_page-3.result (room_walk _ _ _ _ _ (c.in_ok-spot.ensures.found honest));
+      added = λ honest.
+          let found = c.in_ok-spot.ensures.found honest in
+          let same = same_said st _ _ one honest in
+          let is_taken = subst (λ (f : ℕ → Body). IsTaken f c.args.space.now c.in_ok-taken.taken c.take.new.space) same (c.in_ok-taken.ensures.taken (one.stages_only.honesty.1 honest)) in
+          on_ok c.stage_page-3.result (both_say g c honest found) (λ said.
+          added_behind _ _ (MayEnd (st.state c.args.store.now) c.args.space.now.file_end) c.args.space.now c.take.new.space c.args.head (c.args.key.now, c.args.content.now) _ _ found c.if-spot.false _ is_taken
+          (says_nothing st c.args.store.now c.args.space.now.file_end (g.met.S.PageStore.ends c.args.store.now) (g.met.S.PageStore.in_range c.args.store.now).0) said);
       ends = c.in_ok-taken.ensures.ends;
       may_end = λ may.
           let own = (header_of _ _ _ _ _ c.in_ok-spot.ensures.page.link).own in
@@ -172,28 +219,12 @@ returns g c =
       exact = λ honest chain s placed none.
           let p : Pair = (c.args.key.now, c.args.content.now) in
           let at = body_at st c.args.store.now in
-          let at' = body_at st c.stage_page-3.new.store in
-          let page = c.in_ok-spot.spot.page in
-          let new = c.in_ok-taken.taken in
           let found = c.in_ok-spot.ensures.found honest in
-          let h1 = c.find_spot.ensures.reads.stages_only.honesty.1 honest in
-          let h2 = c.take.ensures.reads.stages_only.honesty.1 h1 in
-          let h3 = c.stage_page-2.ensures.stages.honesty.1 h2 in
-          let same1 = same_said st _ _ c.find_spot.ensures.reads honest in
-          let same2 = same_said st _ _ c.take.ensures.reads h1 ∙ same1 in
-          let taken = c.in_ok-taken.ensures.exact h1 s (subst (λ (f : ℕ → Body). IsFreeList f c.args.space.now s) (sym same1) placed.free_is) (apart_alone (numbers chain) s placed.apart) in
-          let page_own : model.own_number c.set_next.new.page.bytes ≡ page = own_same c.set_next.new.page.bytes ∙ c.set_next.ensures.own ∙ (header_of _ _ _ _ _ found.link).own in
-          let new_own : model.own_number c.add-2.new.page.bytes ≡ new = own_same c.add-2.new.page.bytes ∙ c.add-2.ensures.header.own ∙ sym (own_is c.empty-last.result.bytes) ∙ ap (λ (b : Bucket). b.own) c.empty-last.ensures.says in
-          let apart : new ≡ page → ⊥ = λ e. new_apart at c.args.space.now c.args.head p chain s _ _ placed found (sym taken.0 ∙ e) in
-          let others : (n : ℕ) → (n ≡ page → ⊥) → (n ≡ new → ⊥) → at' n ≡ at n = λ n one two.
-          c.stage_page-3.ensures.others h3 n (λ e. one (e ∙ page_own)) ∙ c.stage_page-2.ensures.others h2 n (λ e. two (e ∙ new_own)) ∙ ap (λ (f : ℕ → Body). f n) same2 in
-          let there : at' new ≡ body_of new c.add-2.new.page.bytes =
-          c.stage_page-3.ensures.others h3 new (λ e. apart (e ∙ page_own)) ∙ subst (λ (n : ℕ). body_at st c.stage_page-2.new.store n ≡ body_of n c.add-2.new.page.bytes) new_own (c.in_ok-stage_page.ensures.says h2) in
-          let last = fresh_says at' c.empty-last.result.bytes c.add-2.new.page.bytes new p c.empty-last.ensures.page c.empty-last.ensures.says (c.add-2.ensures.holds (absent_none c.args.key.now c.empty-last.result.bytes new c.empty-last.ensures.says)) there in
-          on_ok c.stage_page-3.result (c.stage_page-3.ensures.says h3) (λ says.
-          let read = subst (λ (n : ℕ). at' n ≡ body_of n c.set_next.new.page.bytes) page_own says in
-          put_last at c.args.space.now c.args.head p chain s c.find_spot.new.page.bytes c.in_ok-spot.spot placed found at' new c.take.new.space c.if-spot.false taken
-          (linked_says at' c.find_spot.new.page.bytes c.set_next.new.page.bytes page found.next new found.before found.link c.set_next.ensures.page c.set_next.ensures.says read) last others);
+          let same = same_said st _ _ one honest in
+          let taken = c.in_ok-taken.ensures.exact (one.stages_only.honesty.1 honest) s (subst (λ (f : ℕ → Body). IsFreeList f c.args.space.now s) (sym same) placed.free_is) (apart_alone (numbers chain) s placed.apart) in
+          let apart : c.in_ok-spot.spot.page ≡ c.in_ok-taken.taken → ⊥ = λ e. new_apart at c.args.space.now c.args.head p chain s _ _ placed found (sym (e ∙ taken.0)) in
+          on_ok c.stage_page-3.result (both_say g c honest found) (λ said.
+          put_last at c.args.space.now c.args.head p chain s _ c.in_ok-spot.spot placed found _ c.in_ok-taken.taken c.take.new.space c.if-spot.false taken said.second (said.first apart) said.others);
       whole = λ honest chain s placed none damaged. absurd (last_not_damaged _ _ _ _ told.answer damaged);
       room = λ honest chain s placed fits none. absurd (last_has_room _ _ _ _ told.answer none);
     }

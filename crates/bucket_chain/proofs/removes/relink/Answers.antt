@@ -45,3 +45,13 @@ pub returns-clause-others : goal.returns-clause-others
 returns-clause-others g c honest m other =
     let reads = c.in_ok-read_link.ensures.reads in
     c.stage_page.ensures.others (still_honest g.S.PageStore _ _ reads honest) m (λ e. other (e ∙ number g c)) ∙ ap (λ (at : ℕ → Body). at m) (same_said g.S.PageStore _ _ reads honest)
+
+pub returns-clause-relinked : goal.returns-clause-relinked
+returns-clause-relinked g c honest =
+    let bytes = c.set_next.new.page.bytes in
+    let at' = body_at g.S.PageStore c.stage_page.new.store in
+    let read = page_pairs c.read_link.new.page.bytes in
+    let linked = link_linked _ bytes _ _ _ c.args.next c.in_ok-read_link.ensures.link c.set_next.ensures.page c.set_next.ensures.says in
+    on_ok c.stage_page.result (c.stage_page.ensures.says (still_honest g.S.PageStore _ _ c.in_ok-read_link.ensures.reads honest)) (λ says.
+    let here : at' c.args.n ≡ body_of c.args.n bytes = subst (λ (n : ℕ). at' n ≡ body_of n bytes) (number g c) says in
+    record { old_next = c.in_ok-read_link.field-0; pairs = read; was = c.in_ok-read_link.ensures.says honest; says = says_link at' bytes c.args.n c.args.kind c.args.next read here c.requires linked })

@@ -1,5 +1,6 @@
-use Rattle.std.proofs.Common.{◌≡◌, ◌⊎◌, inl, inr, ◌≤◌, ℕ, [], Option, IfSome, length, refl, sym, ap, ◌∙◌, subst, arith}
+use Rattle.std.proofs.Common.{◌≡◌, ◌⊎◌, inl, inr, ◌≤◌, ℕ, List, [], Option, IfSome, length, refl, sym, ap, ◌∙◌, subst, arith}
 use Rattle.std.proofs.lemmas.Result.{IfOk-from_err}
+use Rattle.dbm_model.specs.Pairs.{Pair}
 use Rattle.page_model.specs.Pages.{Body}
 use Rattle.page_model.specs.Reading.{body_of}
 use Rattle.page_io.specs.Page.{own_number}
@@ -10,14 +11,17 @@ use Rattle.page_io.proofs.Views.{stages_then, same_said, known_below}
 use Rattle.page_io.proofs.Exits.{exit_is, came, if_exit, cause_first, cause_then, cause_stage, cause_ok, stage_not_damaged}
 use Rattle.free_pages.specs.FreeList.{HasEnds}
 use Rattle.free_pages.specs.declared.free_state.FreeState.{FreeState}
+use Rattle.slot_page.specs.Contents.{HasKeyAt, page_pairs}
 use Rattle.chain_walks.specs.Chains.{IsChainAt}
-use Rattle.bucket_chain.specs.Hits.{IsHitOrNone, IsHeldHit}
+use Rattle.bucket_chain.specs.Hits.{IsHitOrNone, IsHeldHit, IsRelinked}
 use Rattle.bucket_chain.specs.declared.removes.Hit.{Hit}
 use Rattle.chain_walks.proofs.Headers.{header_of}
 use Rattle.chain_walks.proofs.ReadPages.{still_honest, link_after}
 use Rattle.bucket_chain.proofs.FoundKeys.{found_here, not_found, hit_walk}
 use Rattle.bucket_chain.proofs.Removals.{removed_here, removed_over, head_of, last_of, prior_links, unchanged}
 use Rattle.page_io.proofs.OwnNumbers.{own_same}
+use Rattle.bucket_chain.proofs.StagedPages.{IsRewrittenAlone, rewritten_alone}
+use Rattle.bucket_chain.proofs.TakenOut.{taken_from, taken_with}
 use Rattle.bucket_chain.proofs.Refusals.{walk_removes, relink_removes, give_removes, stage_removes, no_remove_refusal, cause_give, few_same, few_then, few_both, few_more, staged_same}
 use Rattle.bucket_chain.proofs.removes.remove.Given.{Over}
 use Rattle.bucket_chain.proofs.removes.remove.Goals as goal
@@ -44,6 +48,14 @@ number : (g : Over) (c : goal.In_ok-stage_page g) → own_number c.remove.new.pa
 number g c =
     let held = subst (λ (o : Option Hit). IfSome o (IsHeldHit (g.S.PageStore.state c.args.store.now) c.args.key.now c.find_hit.new.page.bytes)) c.in-Some.is c.in_ok-hit.ensures.held in
     own_same c.remove.new.page.bytes ∙ c.remove.ensures.header.own ∙ held.own
+
+-- it says what is left
+left_says : (g : Over) (c : goal.In_ok-stage_page g) → g.S.PageStore.honest c.args.store.now → IsRewrittenAlone (body_at g.S.PageStore c.args.store.now) (body_at g.S.PageStore c.stage_page.new.store) c.in-Some.hit.page (body_of c.in-Some.hit.page c.remove.new.page.bytes)
+left_says g c honest =
+    let reads = c.in_ok-hit.ensures.reads in
+    let honest' = still_honest g.S.PageStore _ _ reads honest in
+    let staged = c.in_ok-stage_page.ensures in
+    rewritten_alone g.S.PageStore c.args.store.now c.find_hit.new.store c.stage_page.new.store reads honest c.in-Some.hit.page c.remove.new.page.bytes _ (number g c) refl (staged.says honest') (staged.others honest')
 
 pub returns-in_default-clause-stages : goal.returns-in_default-clause-stages
 returns-in_default-clause-stages g c = c.in_ok-hit.ensures.reads.stages_only
@@ -76,6 +88,7 @@ returns-in_err-hit g c =
       cause = cause_first _ _ exit _ _ told.cause;
       answer = walk_removes _ _ refl _ _ exit _ told.answer;
       walked = λ honest. IfOk-from_err _ _ result.ensures.0;
+      taken_out = λ honest. IfOk-from_err _ _ result.ensures.0;
       absent = IfOk-from_err _ _ result.ensures.0;
       err = if_exit _ _ _ exit refl;
       end = refl;
@@ -100,6 +113,7 @@ returns-in_err-relink g c =
       cause = cause_then _ _ exit _ _ _ one.stages_only.later told.cause;
       answer = relink_removes _ _ (ap (λ (s : StoreState). s.usable) one.same) _ _ exit _ (staged_same _ _ one.same) told.answer;
       walked = λ honest. IfOk-from_err _ _ result.ensures.0;
+      taken_out = λ honest. IfOk-from_err _ _ result.ensures.0;
       absent = IfOk-from_err _ _ result.ensures.0;
       err = if_exit _ _ _ exit refl;
       end = refl;
@@ -134,6 +148,7 @@ returns-in_err-give g c =
       cause = cause_give _ _ exit _ _ _ so_far.later told.faults _ _ _ _ told.answer;
       answer = give_removes _ _ (ap (λ (s : StoreState). s.usable) so_far.state) _ _ exit _ _ _ (few_then _ _ _ 1 one.same two.few) told.answer;
       walked = λ honest. IfOk-from_err _ _ result.ensures.0;
+      taken_out = λ honest. IfOk-from_err _ _ result.ensures.0;
       absent = IfOk-from_err _ _ result.ensures.0;
       err = if_exit _ _ _ exit told.err;
       end = ap (λ (f : FreeState). f.file_end) told.err;
@@ -164,6 +179,19 @@ returns-then-slots-eq1 g c =
       walked = λ honest.
           let at = body_at g.S.PageStore c.args.store.now in
           hit_walk at c.args.head c.args.key.now c.find_hit.new.page.bytes c.in-Some.hit (subst (IsHitOrNone at c.args.head c.args.key.now c.find_hit.new.page.bytes) c.in-Some.is (c.in_ok-hit.ensures.walked honest));
+      taken_out = λ honest _.
+          let at = body_at st c.args.store.now in
+          let key = c.args.key.now in
+          let bytes = c.find_hit.new.page.bytes in
+          let reads = c.in_ok-hit.ensures.reads in
+          let honest' = still_honest st _ _ reads honest in
+          let honest'' = two.stages.honesty.1 honest' in
+          let same = same_said st _ _ reads honest in
+          let hit = subst (IsHitOrNone at c.args.head key bytes) c.in-Some.is (c.in_ok-hit.ensures.walked honest) in
+          let one : length (page_pairs bytes) ≡ 1 = sym (header_of _ _ _ _ _ hit.link).count ∙ sym c.slots.ensures ∙ c.if-slots-eq1.true in
+          let linked = subst (λ (f : ℕ → Body). IsRelinked f (body_at st c.relink.new.store) c.in-Some.hit.prior c.in-Some.hit.prior_kind c.in-Some.hit.next) same (two.relinked honest') in
+          taken_with at c.args.head key bytes c.in-Some.hit hit (body_at st c.relink.new.store) (body_at st c.give.new.store) c.args.space.now c.give.new.space c.if-hit-ne0.true one linked
+          (λ m other. two.others honest' m other ∙ ap (λ (a : ℕ → Body). a m) same) (given.free honest'') (given.others honest'') given.ok;
       absent = λ none. absurd cc;
       err = tt;
       end = ap (λ (f : FreeState). f.file_end) given.ok;
@@ -215,6 +243,7 @@ returns-in_err-stage_page g c =
       cause = cause_stage _ _ exit _ _ _ _ _ _ one.stages_only.later told.faults told.answer;
       answer = stage_removes _ _ (ap (λ (s : StoreState). s.usable) one.same) _ _ exit _ _ (few_same _ _ 1 one.same) told.answer;
       walked = λ honest. IfOk-from_err _ _ result.ensures.0;
+      taken_out = λ honest. IfOk-from_err _ _ result.ensures.0;
       absent = IfOk-from_err _ _ result.ensures.0;
       err = if_exit _ _ _ exit refl;
       end = refl;
@@ -239,6 +268,19 @@ returns g c =
       walked = λ honest.
           let at = body_at g.S.PageStore c.args.store.now in
           hit_walk at c.args.head c.args.key.now c.find_hit.new.page.bytes c.in-Some.hit (subst (IsHitOrNone at c.args.head c.args.key.now c.find_hit.new.page.bytes) c.in-Some.is (c.in_ok-hit.ensures.walked honest));
+      taken_out = λ honest _.
+          let at = body_at st c.args.store.now in
+          let key = c.args.key.now in
+          let bytes = c.find_hit.new.page.bytes in
+          let said = left_says g c honest in
+          let hit = subst (IsHitOrNone at c.args.head key bytes) c.in-Some.is (c.in_ok-hit.ensures.walked honest) in
+          let count = (header_of _ _ _ _ _ hit.link).count in
+          let within = subst (λ (ps : List Pair). HasKeyAt key ps c.in-Some.hit.slot) (sym hit.walked.walk.last.0.pairs) hit.walked.walk.last.0.has in
+          let why : (c.in-Some.hit.prior ≡ 0) ⊎ (2 ≤ length (page_pairs bytes)) = elim c.else-hit-ne0.branch [
+            | else-hit-ne0-via-then-hit-ne0+else-slots-eq1 w ↦ inr (omega (arith, count, within.0, w.slots.ensures, w.if-slots-eq1.false))
+            | else-hit-ne0-via-else-hit-ne0 w ↦ inl w.if-hit-ne0.false
+          ] in
+          taken_from at c.args.head key bytes c.in-Some.hit hit _ c.args.space.now _ why said.says c.remove.ensures.holds said.others;
       absent = λ none. absurd cc;
       err = tt;
       end = refl;
@@ -251,13 +293,9 @@ returns g c =
           c.in_ok-stage_page.ensures.may_end end (omega (arith, number g c, below)) (subst (λ (st : StoreState). MayEnd st end) (sym c.in_ok-hit.ensures.reads.same) may);
       exact = λ honest chain s placed once.
           let at = body_at g.S.PageStore c.args.store.now in
-          let at' = body_at g.S.PageStore c.stage_page.new.store in
           let key = c.args.key.now in
           let bytes = c.find_hit.new.page.bytes in
-          let new = c.remove.new.page.bytes in
-          let page = c.in-Some.hit.page in
-          let reads = c.in_ok-hit.ensures.reads in
-          let honest' = still_honest g.S.PageStore _ _ reads honest in
+          let said = left_says g c honest in
           let hit = subst (IsHitOrNone at c.args.head key bytes) c.in-Some.is (c.in_ok-hit.ensures.walked honest) in
           let found = found_here at s.end c.args.head chain key placed.chain_is bytes c.in-Some.hit hit once in
           let count = (header_of _ _ _ _ _ found.link).count in
@@ -266,12 +304,9 @@ returns g c =
             | else-hit-ne0-via-then-hit-ne0+else-slots-eq1 w ↦ inr (omega (arith, count, within, w.slots.ensures, w.if-slots-eq1.false))
             | else-hit-ne0-via-else-hit-ne0 w ↦ inl (head_of at chain key bytes c.in-Some.hit s found placed.apart w.if-hit-ne0.false)
           ] in
-          let read : at' page ≡ body_of page new = subst (λ (n : ℕ). at' n ≡ body_of n new) (number g c) (c.in_ok-stage_page.ensures.says honest') in
           record {
             was = (λ e. omega (arith, found.comes), λ some. refl);
-            left = removed_here at chain key bytes c.in-Some.hit s found placed.apart at' c.args.space.now placed.free_is
-                (λ m other. c.in_ok-stage_page.ensures.others honest' m (λ e. other (e ∙ number g c)) ∙ ap (λ (a : ℕ → Body). a m) (same_said g.S.PageStore _ _ reads honest))
-                new read c.remove.ensures.holds why;
+            left = removed_here at chain key bytes c.in-Some.hit s found placed.apart _ c.args.space.now placed.free_is said.others _ said.says c.remove.ensures.holds why;
           };
       whole = λ honest chain s placed once damaged. cc;
     }

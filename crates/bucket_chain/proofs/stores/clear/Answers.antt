@@ -1,6 +1,6 @@
-use Rattle.std.proofs.Common.{◌≡◌, ◌∷◌, [], inl, ℕ, refl, sym, subst, ◌∙◌, ap, arith}
+use Rattle.std.proofs.Common.{◌≡◌, ◌∷◌, [], inl, ℕ, OnOk, refl, sym, subst, ◌∙◌, ap, arith}
 use Rattle.std.proofs.lemmas.Result.{IfOk-from_err}
-use Rattle.page_model.specs.Pages.{Body, Bucket}
+use Rattle.page_model.specs.Pages.{Body, HeadPage, Bucket}
 use Rattle.page_model.specs.Reading.{body_of, bucket_of}
 use Rattle.page_model.specs.Chain.{Chain}
 use Rattle.page_io.specs.Page as model
@@ -12,11 +12,13 @@ use Rattle.page_io.proofs.Exits.{exit_is, came, cause_first, cause_then, cause_s
 use Rattle.bucket_chain.specs.Giving.{AreGiven}
 use Rattle.bucket_chain.specs.Changes.{IsCleared, store_in}
 use Rattle.page_io.proofs.OwnNumbers.{own_is, own_same}
+use Rattle.chain_walks.specs.Links.{IsLink}
 use Rattle.chain_walks.proofs.LinkBodies.{says_link}
-use Rattle.bucket_chain.proofs.StagedPages.{on_ok, if_ok}
+use Rattle.bucket_chain.proofs.StagedPages.{on_ok, if_ok, IsRewrittenAlone, rewritten_next}
 use Rattle.bucket_chain.proofs.PutLemmas.{placed_same}
-use Rattle.bucket_chain.proofs.Clearing.{was_read, first_is, head_link, head_some, cleared, each_chain}
+use Rattle.bucket_chain.proofs.Clearing.{was_read, emptied, first_is, head_link, head_some, cleared, each_chain}
 use Rattle.bucket_chain.proofs.Refusals.{walk_stores, store_stores, stage_stores_last, walk_has_room}
+use Rattle.bucket_chain.proofs.stores.clear.Given.{Over}
 use Rattle.bucket_chain.proofs.stores.clear.Goals as goal
 
 pub stage_page-requires : goal.stage_page-requires
@@ -37,6 +39,8 @@ returns-in_err-first g c =
       answer = walk_stores _ _ refl _ _ exit told.answer;
       room = λ none. absurd (walk_has_room _ _ told.answer (came _ _ exit NoRoom none));
       walked = λ honest. IfOk-from_err _ _ result.ensures.0;
+      emptied = λ honest. IfOk-from_err _ _ result.ensures.0;
+      end = refl;
       ends = λ e. e;
       may_end = λ may. IfOk-from_err _ _ result.ensures.0;
       exact = λ honest chain s placed. IfOk-from_err _ _ result.ensures.0;
@@ -58,6 +62,8 @@ returns-in_err-give_overflow g c =
       answer = store_stores _ _ (ap (λ (s : StoreState). s.usable) one.same) _ _ exit told.answer;
       room = λ none. told.room (came _ _ exit NoRoom none);
       walked = λ honest. IfOk-from_err _ _ result.ensures.0;
+      emptied = λ honest. IfOk-from_err _ _ result.ensures.0;
+      end = told.end;
       ends = told.ends;
       may_end = λ may. IfOk-from_err _ _ result.ensures.0;
       exact = λ honest chain s placed. IfOk-from_err _ _ result.ensures.0;
@@ -68,6 +74,23 @@ returns-in_err-give_overflow g c =
           c.in_err-give_overflow.ensures.whole h1 _ leaf rest s (placed_same _ _ c.args.space.now _ (leaf ∷ rest) s same placed')
           (first_is _ c.args.space.now _ _ _ leaf rest s placed' (c.in_ok-first.ensures.says honest)) (came _ _ exit Damaged damaged));
     }
+
+-- the head page says no pair then
+head_says : (g : Over) (c : goal.After-stage_page g) → g.S.PageStore.honest c.args.store.now → OnOk c.stage_page.result (IsRewrittenAlone (body_at g.S.PageStore c.give_overflow.new.store) (body_at g.S.PageStore c.stage_page.new.store) c.args.head (HeadPage 0 []))
+head_says g c honest =
+    let bytes = c.empty.result.bytes in
+    let h2 = c.in_ok-give_overflow.ensures.stages.honesty.1 (c.in_ok-first.ensures.reads.stages_only.honesty.1 honest) in
+    let own : model.own_number bytes ≡ c.args.head = own_same bytes ∙ sym (own_is bytes) ∙ ap (λ (b : Bucket). b.own) c.empty.ensures.says in
+    let link : IsLink bytes c.args.head 3 0 [] = record { page = c.empty.ensures.page; says = c.empty.ensures.says; filled = λ four. absurd (omega arith) } in
+    let body = (says_link (λ n. body_of n bytes) bytes c.args.head 3 0 [] refl (inl refl) link).says in
+    on_ok c.stage_page.result (c.stage_page.ensures.says h2) (λ says.
+    rewritten_next g.S.PageStore c.give_overflow.new.store c.stage_page.new.store c.args.head bytes _ own body says (c.stage_page.ensures.others h2))
+
+-- the overflow pages were given
+are_given : (g : Over) (c : goal.After-stage_page g) → g.S.PageStore.honest c.args.store.now → AreGiven (body_at g.S.PageStore c.args.store.now) (body_at g.S.PageStore c.give_overflow.new.store) c.args.space.now c.give_overflow.new.space c.in_ok-first.first 0
+are_given g c honest =
+    let reads = c.in_ok-first.ensures.reads in
+    subst (λ (at : ℕ → Body). AreGiven at (body_at g.S.PageStore c.give_overflow.new.store) c.args.space.now c.give_overflow.new.space c.in_ok-first.first 0) (same_said g.S.PageStore _ _ reads honest) (c.in_ok-give_overflow.ensures.given (reads.stages_only.honesty.1 honest))
 
 -- the head page is emptied
 pub returns : goal.returns
@@ -82,10 +105,10 @@ returns g c =
       cause = cause_stage_last _ _ _ _ _ _ _ so_far.later told.faults told.answer;
       answer = stage_stores_last _ _ _ _ (ap (λ (s : StoreState). s.usable) so_far.state) _ told.answer;
       room = λ none. last_has_room _ _ _ _ told.answer none;
-      walked = λ honest.
-          let same = same_said g.S.PageStore _ _ c.in_ok-first.ensures.reads honest in
-          let h1 = c.in_ok-first.ensures.reads.stages_only.honesty.1 honest in
-          if_ok c.stage_page.result (was_read _ _ _ _ _ _ _ (c.in_ok-first.ensures.says honest) (subst (λ (at : ℕ → Body). AreGiven at (body_at g.S.PageStore c.give_overflow.new.store) c.args.space.now c.give_overflow.new.space c.in_ok-first.first 0) same (c.in_ok-give_overflow.ensures.given h1)));
+      walked = λ honest. if_ok c.stage_page.result (was_read _ _ _ _ _ _ _ (c.in_ok-first.ensures.says honest) (are_given g c honest));
+      emptied = λ honest. on_ok c.stage_page.result (head_says g c honest) (λ said.
+          emptied _ (body_at st c.give_overflow.new.store) _ c.args.space.now _ c.args.head _ _ (c.in_ok-first.ensures.says honest) (are_given g c honest) given.end said.says said.others);
+      end = given.end;
       ends = given.ends;
       may_end = λ may.
           let own : (bucket_of c.empty.result.bytes).own ≡ c.args.head = ap (λ (b : Bucket). b.own) c.empty.ensures.says in
@@ -93,18 +116,10 @@ returns g c =
           let given = c.in_ok-give_overflow.ensures.may_end read in
           let below = known_below _ _ _ may c.in_ok-first.ensures.known.1 in
           if_ok c.stage_page.result (c.stage_page.ensures.may_end c.give_overflow.new.space.file_end (omega (arith, own_same c.empty.result.bytes, own_is c.empty.result.bytes, own, below, c.in_ok-give_overflow.ensures.end)) given);
-      exact = λ honest chain s placed.
-          let same = same_said st _ _ c.in_ok-first.ensures.reads honest in
-          let h1 = c.in_ok-first.ensures.reads.stages_only.honesty.1 honest in
-          let h2 = c.in_ok-give_overflow.ensures.stages.honesty.1 h1 in
-          let own : model.own_number c.empty.result.bytes ≡ c.args.head = own_same c.empty.result.bytes ∙ sym (own_is c.empty.result.bytes) ∙ ap (λ (b : Bucket). b.own) c.empty.ensures.says in
-          let given = subst (λ (at : ℕ → Body). AreGiven at (body_at st c.give_overflow.new.store) c.args.space.now c.give_overflow.new.space c.in_ok-first.first 0) same (c.in_ok-give_overflow.ensures.given h1) in
-          on_ok c.stage_page.result (c.stage_page.ensures.says h2) (λ says.
+      exact = λ honest chain s placed. on_ok c.stage_page.result (head_says g c honest) (λ said.
           let at' = body_at st c.stage_page.new.store in
-          let read : at' c.args.head ≡ body_of c.args.head c.empty.result.bytes = subst (λ (n : ℕ). at' n ≡ body_of n c.empty.result.bytes) own says in
-          let here = (says_link at' c.empty.result.bytes c.args.head 3 0 [] read (inl refl) (record { page = c.empty.ensures.page; says = c.empty.ensures.says; filled = λ four. absurd (omega arith) })).says in
           each_chain _ _ _ chain s placed (λ leaf rest is placed'.
           subst (λ (x : Chain). IsCleared (body_at st c.args.store.now) at' c.give_overflow.new.space c.args.head (store_in (x, s) [])) (sym is)
-          (cleared _ (body_at st c.give_overflow.new.store) at' c.args.space.now _ _ _ _ leaf rest s placed' (c.in_ok-first.ensures.says honest) given here (λ n other. c.stage_page.ensures.others h2 n (λ e. other (e ∙ own))))));
+          (cleared _ (body_at st c.give_overflow.new.store) at' c.args.space.now _ _ _ _ leaf rest s placed' (c.in_ok-first.ensures.says honest) (are_given g c honest) said.says said.others)));
       whole = λ honest chain s placed damaged. absurd (last_not_damaged _ _ _ _ told.answer damaged);
     }

@@ -1,16 +1,18 @@
 use Rattle.std.proofs.Common.{◌≡◌, ℕ, List, length, map, take, fold, sym, subst, ap, arith}
 use Rattle.std.proofs.lemmas.Result.{IfOk-from_err}
-use Rattle.std.proofs.lemmas.List.{length-map, take_all}
+use Rattle.std.proofs.lemmas.List.{length-map, length-take-le, take_all}
 use Rattle.dbm_model.specs.Pairs.{Pair, IsAllowed}
 use Rattle.page_model.specs.PairLists.{times}
 use Rattle.page_model.specs.Chain.{pairs_in}
 use Rattle.page_io.specs.Store.{StoreState}
-use Rattle.page_io.specs.Views.{body_at}
-use Rattle.page_io.specs.declared.store.PageFault.TheVariants.{Damaged}
+use Rattle.page_io.specs.Views.{body_at, MayEnd}
+use Rattle.page_io.specs.declared.store.PageFault.TheVariants.{NoRoom, Damaged}
 use Rattle.page_io.proofs.Views.{stages_then}
 use Rattle.page_io.proofs.Exits.{exit_is, came, cause_then}
 use Rattle.chain_walks.specs.Pairs.{pair_of}
+use Rattle.bucket_chain.specs.AnyFile.{IsAdded, AreAdded}
 use Rattle.bucket_chain.specs.Changes.{BecomesPlaced, put_in}
+use Rattle.bucket_chain.proofs.Added.{added_under, one_added, all_grow}
 use Rattle.bucket_chain.proofs.Refusals.{put_stores}
 use Rattle.bucket_chain.proofs.Storing.{HavePut, one_put, not_put, not_before, next_pair, pair_there}
 use Rattle.bucket_chain.proofs.stores.put_all.Goals as goal
@@ -28,6 +30,12 @@ returns-in_err-put g c =
       cause = cause_then _ _ exit _ _ _ so_far.stages.later told.cause;
       answer = put_stores _ _ (ap (λ (s : StoreState). s.usable) so_far.stages.state) _ _ exit _ _ told.answer;
       room = λ none fails. absurd (omega (arith, c.loop-pair-test.true, ap length none));
+      no_room = λ honest fails.
+          let i = c.loop-pair.pair-index in
+          let full = (told.answer.no_room (came _ _ exit NoRoom fails)).1 in
+          let grown = all_grow _ _ _ _ (take i (map pair_of c.args.pairs.now)) _ _ (so_far.added honest) in
+          omega (arith, full, grown, length-take-le i (map pair_of c.args.pairs.now) (omega (arith, c.loop-pair-test.true, length-map c.args.pairs.now pair_of)), c.loop-pair-test.true, ap (λ (s : StoreState). s.capacity) so_far.stages.state);
+      added = λ honest. IfOk-from_err _ _ result.ensures.0;
       ends = λ e. told.ends (so_far.ends e);
       may_end = λ may. IfOk-from_err _ _ result.ensures.0;
       exact = λ honest placed is empty distinct. IfOk-from_err _ _ result.ensures.0;
@@ -46,6 +54,18 @@ loop-pair-preserved g c =
       stages = stages_then st _ _ _ (g.met.S.PageStore.counts_now c.loop-pair.store) c.loop-pair.invariant.stages c.in_ok-put.ensures.stages;
       ends = λ e. c.in_ok-put.ensures.ends (c.loop-pair.invariant.ends e);
       may_end = λ may. c.in_ok-put.ensures.may_end (c.loop-pair.invariant.may_end may);
+      added = λ honest.
+          let i = c.loop-pair.pair-index in
+          let pairs = c.args.pairs.now in
+          let item = c.pair-item.result in
+          let Start = MayEnd (st.state c.args.store.now) c.args.space.now.file_end in
+          let at = body_at st c.loop-pair.store in
+          let at' = body_at st c.put.new.store in
+          let one : (c.deref.result.now, c.deref-in-loop-pair.result.now) ≡ pair_of item = (λ j. (c.deref.ensures.value j, c.deref-in-loop-pair.ensures.value j)) in
+          let added = subst (λ (p : Pair). IsAdded at at' (MayEnd (st.state c.loop-pair.store) c.loop-pair.space.file_end) c.loop-pair.space c.put.new.space c.args.head p) one (c.in_ok-put.ensures.added (c.loop-pair.invariant.stages.honesty.1 honest)) in
+          subst (λ (ps : List Pair). AreAdded (body_at st c.args.store.now) at' Start c.args.space.now c.put.new.space c.args.head ps) (sym (next_pair pairs i item c.loop-pair-test.true (sym c.pair-item.is)))
+          (one_added Start c.args.head _ c.args.space.now (take i (map pair_of pairs)) at c.loop-pair.space (pair_of item) at' c.put.new.space (c.loop-pair.invariant.added honest)
+          (added_under _ Start c.loop-pair.invariant.may_end at at' c.loop-pair.space c.put.new.space c.args.head (pair_of item) added));
       put = λ honest placed is empty distinct.
           let i = c.loop-pair.pair-index in
           let pairs = c.args.pairs.now in
@@ -68,3 +88,9 @@ returns-clause-exact g c honest placed is empty distinct =
     let so_far = c.loop-pair.invariant.put honest placed is empty distinct in
     let all = take_all c.loop-pair.pair-index (map pair_of c.args.pairs.now) (omega (arith, c.loop-pair-test.false, length-map c.args.pairs.now pair_of)) in
     record { becomes = λ at first. subst (λ (ps : List Pair). BecomesPlaced at (body_at g.S.PageStore c.loop-pair.store) c.loop-pair.space (fold put_in placed ps)) all (so_far.becomes at first) }
+
+pub returns-clause-added : goal.returns-clause-added
+returns-clause-added g c honest =
+    let st = g.S.PageStore in
+    let all = take_all c.loop-pair.pair-index (map pair_of c.args.pairs.now) (omega (arith, c.loop-pair-test.false, length-map c.args.pairs.now pair_of)) in
+    subst (λ (ps : List Pair). AreAdded (body_at st c.args.store.now) (body_at st c.loop-pair.store) (MayEnd (st.state c.args.store.now) c.args.space.now.file_end) c.args.space.now c.loop-pair.space c.args.head ps) all (c.loop-pair.invariant.added honest)

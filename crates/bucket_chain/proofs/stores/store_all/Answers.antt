@@ -1,11 +1,13 @@
-use Rattle.std.proofs.Common.{[], refl, ap}
+use Rattle.std.proofs.Common.{[], map, refl, ap, arith}
 use Rattle.std.proofs.lemmas.Result.{IfOk-from_err}
 use Rattle.page_io.specs.Store.{StoreState}
 use Rattle.page_io.specs.Views.{body_at}
 use Rattle.page_io.specs.declared.store.PageFault.TheVariants.{NoRoom, Damaged}
 use Rattle.page_io.proofs.Exits.{exit_is, came, cause_first, cause_last}
 use Rattle.page_io.proofs.Views.{stages_then}
+use Rattle.chain_walks.specs.Pairs.{pair_of}
 use Rattle.bucket_chain.specs.Changes.{store_in}
+use Rattle.bucket_chain.proofs.Added.{all_under}
 use Rattle.bucket_chain.proofs.Refusals.{store_stores, stores_last}
 use Rattle.bucket_chain.proofs.StagedPages.{on_ok}
 use Rattle.bucket_chain.proofs.stores.store_all.Goals as goal
@@ -22,6 +24,8 @@ returns-in_err-clear g c =
       answer = store_stores _ _ refl _ _ exit told.answer;
       room = λ empty none. told.room (came _ _ exit NoRoom none);
       walked = λ honest. IfOk-from_err _ _ result.ensures.0;
+      stored = λ honest. IfOk-from_err _ _ result.ensures.0;
+      no_room = λ honest none. absurd (told.room (came _ _ exit NoRoom none));
       ends = told.ends;
       may_end = λ may. IfOk-from_err _ _ result.ensures.0;
       exact = λ honest chain s placed distinct. IfOk-from_err _ _ result.ensures.0;
@@ -54,3 +58,19 @@ pub returns-clause-whole : goal.returns-clause-whole
 returns-clause-whole g c honest chain s placed distinct damaged =
     let empty = c.in_ok-clear.ensures.exact honest chain s placed in
     c.put_all.ensures.whole (c.in_ok-clear.ensures.stages.honesty.1 honest) (store_in (chain, s) []) empty.is_placed empty.empty distinct damaged
+
+pub returns-clause-stored : goal.returns-clause-stored
+returns-clause-stored g c honest =
+    let st = g.S.PageStore in
+    let h1 = c.in_ok-clear.ensures.stages.honesty.1 honest in
+    on_ok c.put_all.result (c.put_all.ensures.added h1) (λ all. record {
+      mid = body_at st c.clear.new.store;
+      between = c.clear.new.space;
+      first = c.in_ok-clear.ensures.emptied honest;
+      second = all_under _ _ c.in_ok-clear.ensures.may_end _ _ _ (map pair_of c.args.pairs.now) _ _ all;
+    })
+
+pub returns-clause-no_room : goal.returns-clause-no_room
+returns-clause-no_room g c honest none =
+    let full = c.put_all.ensures.no_room (c.in_ok-clear.ensures.stages.honesty.1 honest) none in
+    omega (arith, full, c.in_ok-clear.ensures.end, ap (λ (s : StoreState). s.capacity) c.in_ok-clear.ensures.stages.state)
