@@ -20,11 +20,11 @@ use Rattle.dbm_fault.specs.Faults.{fault_of}
 use Rattle.dbm_file.specs.Lending.{Lends}
 use Rattle.dbm_file.specs.declared.database.Database.{Database}
 use Rattle.dbm_fault.specs.declared.fault.Fault.{Fault}
-use Rattle.dbm_fault.specs.declared.fault.Fault.TheVariants.{Device, Broken}
+use Rattle.dbm_fault.specs.declared.fault.Fault.TheVariants.{Device, Broken, Damaged}
 use Rattle.dbm_file.proofs.Runs.{goes_nowhere, still_goes}
 use Rattle.dbm_dump.specs.Dumping.{KeepsMap, Stays, Reads, IsChance, IsCopied}
 use Rattle.dbm_fault.specs.declared.engine_fault.EngineFault.{EngineFault}
-use Rattle.dbm_fault.specs.declared.engine_fault.EngineFault.TheVariants.{Db}
+use Rattle.dbm_fault.specs.declared.engine_fault.EngineFault.TheVariants.{Memory, Db}
 
 -- a rule by which nothing changes but the error number and the pass
 abbrev pub IsReading : Case → Type 0
@@ -246,6 +246,16 @@ module _ {S : Type 0} (s : Ghosts S) where
     where
       not_refused : (fault : Fault) → ◌≡◌ {A = Result Unit EngineFault} (Ok (tt {0})) (Err (Db fault)) → ⊥
       not_refused fault e = cc
+
+  -- a value, and two refusals that no call gave
+  pub reads_gave : {T : Type 0} (old new : Database S s) (value : T) → Reads {T = Unit {0}} old new (Ok (tt {0})) → Reads {T = T} old new (Ok value)
+  reads_gave old new value h = reads_told old new (Ok value) h (λ is. cc) (λ is. cc)
+
+  pub reads_damaged : {T : Type 0} (old new : Database S s) → Reads {T = Unit {0}} old new (Ok (tt {0})) → Reads {T = T} old new (Err (Db Damaged))
+  reads_damaged {T} old new h = reads_told {T = T} old new (Err (Db Damaged)) h (λ is. cc) (λ is. cc)
+
+  pub reads_no_memory : {T : Type 0} (old new : Database S s) (result : Result T EngineFault) → result ≡ Err Memory → Reads {T = Unit {0}} old new (Ok (tt {0})) → Reads old new result
+  reads_no_memory old new result told h = reads_told old new result h (λ is. cc) (λ is. cc)
 
   -- the same refusal of another call
   pub reads_refused : {T U : Type 0} (old new : Database S s) (result : Result T EngineFault) (other : Result U EngineFault) (fault : EngineFault) → result ≡ Err fault → other ≡ Err fault → Reads old new result → Reads old new other

@@ -320,6 +320,11 @@ module _ {S : Type 0} {s : Ghosts S} where
       subst (λ (ks : List Key). IsPassing new start.state.map ks given 0) (sym none)
       (subst (λ (r : Result (Option (Vec ℕ)) EngineFault). MatchResult r (λ given. IsPassing new start.state.map [] given 0) IsChance) is (begun old new start result usable step))
 
+  pub pass_begins_not : (old new : Database S s) (start : Handle) (result : Result (Option (Vec ℕ)) EngineFault) (fault : EngineFault) → start.state.usable ≡ true → CopiesStep old new start First End result
+      → result ≡ Err fault → IsChance fault
+  pass_begins_not old new start result fault usable step is =
+      subst (λ (r : Result (Option (Vec ℕ)) EngineFault). MatchResult r (λ given. IsPassing new start.state.map [] given 0) IsChance) is (begun old new start result usable step)
+
   -- and goes on
   gone_on : (old new : Database S s) (m : Contents) (done : List Key) (given : Option (Vec ℕ)) (key : Vec ℕ) (count : ℕ) (result : Result (Option (Vec ℕ)) EngineFault) (so_far : IsPassing old m done given count) → given ≡ Some key
       → CopiesStep old new so_far.now Next End result → MatchResult result (λ next. IsPassing new m (insert_key key_cmp done key.items) next (count + 1)) IsChance
@@ -344,6 +349,20 @@ module _ {S : Type 0} {s : Ghosts S} where
     pub pass_goes_on_not : (fault : EngineFault) → result ≡ Err fault → IsChance fault
     pass_goes_on_not fault badly =
         subst (λ (r : Result (Option (Vec ℕ)) EngineFault). MatchResult r (λ next. IsPassing new m (insert_key key_cmp done key.items) next (count + 1)) IsChance) badly (gone_on old new m done given key count result so_far is step)
+
+module _ {S : Type 0} {s : Ghosts S} (db : Database S s) (m : Contents) (done : List Key) where
+  -- and ends, where no key came
+  pub pass_ends : (given : Option (Vec ℕ)) (count : ℕ) → IsPassing db m done given count → given ≡ None → done ≡ keys m
+  pass_ends given count so_far none = subst (λ (g : Option (Vec ℕ)). HasGathered m done g count so_far.now.state.pass) none so_far.held
+
+  -- before it has given as many keys as the map has
+  pub pass_too_long : (P : Type 0) (given : Option (Vec ℕ)) (count most : ℕ) → IsPassing db m done given count → is_some given ≡ true → most ≡ finite.len m → most ≤ count → P
+  pass_too_long P None count most so_far some is all = cc
+  pass_too_long P (Some key) count most so_far some is all = let counted = so_far.held.counted in absurd (omega (arith, counted, is, all))
+
+pub none_left : (given : Option (Vec ℕ)) → is_some given ≡ false → given ≡ None
+none_left None is = refl
+none_left (Some key) is = cc
 
 -- the bytes of a set that one more key is put into
 bytes_inserted : (ks : List (Vec ℕ)) (key : Vec ℕ) → map (λ (x : Vec ℕ). x.items) (insert_key (λ (x y : Vec ℕ). slice_cmp nat_cmp x.items y.items) ks key) ≡ insert_key key_cmp (map (λ (x : Vec ℕ). x.items) ks) key.items

@@ -1,3 +1,4 @@
 pub mod Dumping
 pub mod DumpingKeys
 pub mod DumpingPairs
+pub mod Exits

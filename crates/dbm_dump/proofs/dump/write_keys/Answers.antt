@@ -4,6 +4,7 @@ use Rattle.std.specs.Global.{Vec}
 use Rattle.std.specs.Io.KnownBytes.{Appends}
 use Rattle.std.specs.Map.Iter.{deref}
 use Rattle.std.proofs.lemmas.Map.Iter.{iter_end}
+use Rattle.std.proofs.lemmas.Result.{IfOk-from_err}
 use Rattle.dbm_text.specs.Lines.{with_line_feed}
 use Rattle.dbm_text.specs.Words.{word_of}
 use Rattle.dbm_dump.proofs.dump.write_keys.Goals as goal
@@ -17,3 +18,6 @@ returns g c =
     let all : map deref c.loop-key.yielded ≡ c.args.keys.now.keys = search (rules, iter_end) in
     subst (λ (keys : List (List ℕ)). Appends (g.W.Write.contents c.args.writer.now) (g.W.Write.contents c.loop-key.writer) (flat_map (λ key. with_line_feed (word_of key)) keys))
     (seen c.loop-key.yielded ∙ ap (map (λ (key : Vec ℕ). key.items)) all) c.loop-key.invariant
+
+pub returns-in_err-write_bytes : goal.returns-in_err-write_bytes
+returns-in_err-write_bytes g c = IfOk-from_err _ _ c.from_residual.ensures.0

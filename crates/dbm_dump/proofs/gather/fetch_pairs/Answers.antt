@@ -1,12 +1,18 @@
-use Rattle.std.proofs.Common.{◌≡◌, ◌∙◌, [], ◌∷◌, ◌++◌, Ok, Err, IfSome, map, ap, sym, subst, rules}
+use Rattle.std.proofs.Common.{◌≡◌, ◌∙◌, [], ◌∷◌, ◌++◌, inl, Ok, Err, IfSome, map, ap, refl, sym, subst, rules}
+use Rattle.std.proofs.lemmas.Result.{IfOk-from_err}
 use Rattle.std.specs.List.{All}
 use Rattle.std.proofs.lemmas.List.Elements.{All-head, All-rest, All-push}
 use Rattle.std.proofs.lemmas.Map.Iter.{rest_more, rest_all}
 use Rattle.dbm_dump.specs.Dumping.{IsShort}
 use Rattle.dbm_fault.specs.declared.engine_fault.EngineFault.TheVariants.{Memory}
-use Rattle.dbm_dump.proofs.Dumping.{reads_nothing, reads_on, reads_well, reads_told, reads_refused, chance_told}
+use Rattle.dbm_dump.proofs.Dumping.{reads_nothing, reads_on, reads_well, reads_gave, reads_damaged, reads_no_memory, reads_refused, chance_told}
+use Rattle.dbm_dump.proofs.Exits.{exit_is, if_exit}
 use Rattle.dbm_dump.proofs.DumpingPairs.{parts_go_on, parts_end, key_among, fetch_begins, fetch_goes_on, fetch_goes_on_not, none_missing, fetch_ends}
+use Rattle.dbm_dump.proofs.gather.fetch_pairs.Given.{Over}
 use Rattle.dbm_dump.proofs.gather.fetch_pairs.Goals as goal
+
+no_memory : (g : Over) (c : goal.After-drop-pairs-in_err-map_err g) → c.from_residual-in_err-map_err.result ≡ Err Memory
+no_memory g c = search rules
 
 pub loop-key-init : goal.loop-key-init
 loop-key-init g c =
@@ -22,14 +28,14 @@ loop-key-init g c =
 
 pub returns-in_err-content-clause-pairs : goal.returns-in_err-content-clause-pairs
 returns-in_err-content-clause-pairs g c honest h at usable keys =
-    let told : c.from_residual.result ≡ Err c.in_err-content.field-0.0 = search rules in
+    let told = exit_is c.from_residual.result c.in_err-content.field-0.0 c.from_residual.ensures.1 in
     let so_far = c.loop-key.invariant.fetching honest h at usable in
     let step = c.copy_content.ensures.step (c.loop-key.invariant.reads.goes.honesty.1 honest) so_far.now so_far.is_at in
     chance_told _ _ _ told (fetch_goes_on_not _ c.copy_content.new.db _ _ c.deref.result.now c.copy_content.result so_far step c.in_err-content.field-0.0 c.in_err-content.was)
 
 pub returns-in_err-content-clause-reads : goal.returns-in_err-content-clause-reads
 returns-in_err-content-clause-reads g c =
-    let told : c.from_residual.result ≡ Err c.in_err-content.field-0.0 = search rules in
+    let told = exit_is c.from_residual.result c.in_err-content.field-0.0 c.from_residual.ensures.1 in
     reads_refused g.S.PageStore _ _ c.copy_content.result _ c.in_err-content.field-0.0 c.in_err-content.was told (reads_on g.S.PageStore _ _ _ _ c.loop-key.invariant.reads _ c.copy_content.ensures.reads)
 
 pub returns-in_default-clause-pairs : goal.returns-in_default-clause-pairs
@@ -42,7 +48,7 @@ returns-in_default-clause-pairs g c honest h at usable keys =
 
 pub returns-in_default-clause-reads : goal.returns-in_default-clause-reads
 returns-in_default-clause-reads g c =
-    reads_told g.S.PageStore _ _ _ (reads_well g.S.PageStore _ _ c.copy_content.result c.in_ok-content.field-0 c.in_ok-content.was (reads_on g.S.PageStore _ _ _ _ c.loop-key.invariant.reads _ c.copy_content.ensures.reads)) (λ is. cc) (λ is. cc)
+    reads_damaged g.S.PageStore _ _ (reads_well g.S.PageStore _ _ c.copy_content.result c.in_ok-content.field-0 c.in_ok-content.was (reads_on g.S.PageStore _ _ _ _ c.loop-key.invariant.reads _ c.copy_content.ensures.reads))
 
 pub loop-key-preserved : goal.loop-key-preserved
 loop-key-preserved g c =
@@ -65,8 +71,7 @@ loop-key-preserved g c =
 
 pub returns-in_err-map_err-clause-reads : goal.returns-in_err-map_err-clause-reads
 returns-in_err-map_err-clause-reads g c =
-    let told : c.from_residual-in_err-map_err.result ≡ Err Memory = search rules in
-    reads_told g.S.PageStore _ _ _ (reads_well g.S.PageStore _ _ c.copy_content.result c.in_ok-content.field-0 c.in_ok-content.was (reads_on g.S.PageStore _ _ _ _ c.loop-key.invariant.reads _ c.copy_content.ensures.reads)) (λ is. cc) (λ is. cc)
+    reads_no_memory g.S.PageStore _ _ c.from_residual-in_err-map_err.result (no_memory g c) (reads_well g.S.PageStore _ _ c.copy_content.result c.in_ok-content.field-0 c.in_ok-content.was (reads_on g.S.PageStore _ _ _ _ c.loop-key.invariant.reads _ c.copy_content.ensures.reads))
 
 pub returns-clause-keys : goal.returns-clause-keys
 returns-clause-keys g c = parts_end _ _ _ c.loop-key.invariant.parts (rest_all (λ x. x) _ _ c.next.result c.in-None.is c.next.ensures.steps)
@@ -74,3 +79,32 @@ returns-clause-keys g c = parts_end _ _ _ c.loop-key.invariant.parts (rest_all (
 pub returns-clause-pairs : goal.returns-clause-pairs
 returns-clause-pairs g c honest h at usable keys =
     fetch_ends _ _ _ (c.loop-key.invariant.fetching honest h at usable) (parts_end _ _ _ c.loop-key.invariant.parts (rest_all (λ x. x) _ _ c.next.result c.in-None.is c.next.ensures.steps) ∙ keys)
+
+-- ---- the other clauses of each exit
+
+pub returns-in_err-content-clause-keys : goal.returns-in_err-content-clause-keys
+returns-in_err-content-clause-keys g c = IfOk-from_err _ _ c.from_residual.ensures.0
+
+pub returns-in_err-content-clause-short : goal.returns-in_err-content-clause-short
+returns-in_err-content-clause-short g c = IfOk-from_err _ _ c.from_residual.ensures.0
+
+pub returns-in_err-content-clause-only : goal.returns-in_err-content-clause-only
+returns-in_err-content-clause-only g c = if_exit _ _ c.in_err-content.field-0.0 (exit_is _ _ c.from_residual.ensures.1) c.in_err-content.ensures.only
+
+pub returns-in_err-map_err-clause-pairs : goal.returns-in_err-map_err-clause-pairs
+returns-in_err-map_err-clause-pairs g c honest h at usable keys = chance_told _ Memory _ (no_memory g c) (inl refl)
+
+pub returns-in_err-map_err-clause-keys : goal.returns-in_err-map_err-clause-keys
+returns-in_err-map_err-clause-keys g c = IfOk-from_err _ _ c.from_residual-in_err-map_err.ensures.0
+
+pub returns-in_err-map_err-clause-short : goal.returns-in_err-map_err-clause-short
+returns-in_err-map_err-clause-short g c = IfOk-from_err _ _ c.from_residual-in_err-map_err.ensures.0
+
+pub returns-in_err-map_err-clause-only : goal.returns-in_err-map_err-clause-only
+returns-in_err-map_err-clause-only g c = if_exit _ _ Memory (no_memory g c) (inl refl)
+
+pub returns-clause-short : goal.returns-clause-short
+returns-clause-short g c = c.loop-key.invariant.short
+
+pub returns-clause-reads : goal.returns-clause-reads
+returns-clause-reads g c = reads_gave g.S.PageStore _ _ c.loop-key.pairs c.loop-key.invariant.reads

@@ -1,0 +1,85 @@
+-- What is said where reading or writing ends.
+use Rattle.std.proofs.Common.{◌≡◌, ◌⊎◌, inl, inr, ⊎_elim, ℕ, ◌≤◌, List, [], ◌∷◌, length, map, Option, Result, Ok, Err, OnOk, IfErr, IsErrOf, sym, ◌∙◌, ap, subst, arith}
+use Rattle.std.specs.Global.{Vec}
+use Rattle.std.specs.BTreeSet.{BTreeSet}
+use Rattle.std.specs.Io.KnownBytes.{Appends}
+use Rattle.std.specs.Result.{IsErrAnd, is_ok}
+use Rattle.std.proofs.lemmas.List.{length-map}
+use Rattle.dbm_model.specs.Pairs.{Pair}
+use Rattle.dbm_fault.specs.Among.{IsAmong}
+use Rattle.dbm_fault.specs.declared.engine_fault.EngineFault.{EngineFault}
+use Rattle.dbm_fault.specs.declared.engine_fault.EngineFault.TheVariants.{Memory, Write, Db}
+use Rattle.dbm_fault.specs.declared.fault.Fault.{Fault}
+use Rattle.dbm_fault.specs.declared.fault.Fault.TheVariants.{Device, Broken, NoPass, Damaged}
+use Rattle.dbm_dump.specs.Dumping.{bytes_of_keys, pair_lines, key_lines, WritesPairs, WritesKeys}
+
+-- the result is the fault that came
+pub exit_is : {T : Type 0} (result : Result T EngineFault) (e : EngineFault) → IsErrAnd result (λ y. y ≡ e) → result ≡ Err e
+exit_is (Ok x) e told = absurd told
+exit_is (Err y) e told = ap Err told
+
+-- what holds of the fault
+pub if_exit : {T : Type 0} (Q : EngineFault → Type 0) (result : Result T EngineFault) (e : EngineFault) → result ≡ Err e → Q e → IfErr result Q
+if_exit {T} Q result e exit q = subst (λ (r : Result T EngineFault). IfErr r Q) (sym exit) q
+
+-- the fault is the one that the callee was bound to answer
+pub same_exit : {T U : Type 0} (result : Result T EngineFault) (e f : EngineFault) → result ≡ Err e → ◌≡◌ {A = Result U EngineFault} (Err e) (Err f) → result ≡ Err f
+same_exit {T} {U} result e f exit is = exit ∙ ap Err (one e f is)
+  where
+    one : (a b : EngineFault) → ◌≡◌ {A = Result U EngineFault} (Err a) (Err b) → a ≡ b
+    one a b same = cc
+
+-- what was answered well was not refused
+pub not_refused : {T : Type 0} {P : Type 0} (x : T) (f : EngineFault) → ◌≡◌ {A = Result T EngineFault} (Ok x) (Err f) → P
+not_refused x f is = cc
+
+-- ---- faults
+
+abbrev pub AnyOf : EngineFault → Type 0
+AnyOf f = IsAmong f (Memory ∷ Write ∷ Db Broken ∷ Db NoPass ∷ Db Device ∷ Db Damaged ∷ [])
+
+pub of_gathering : (f : EngineFault) → IsAmong f (Memory ∷ Db Broken ∷ Db NoPass ∷ Db Device ∷ Db Damaged ∷ []) → AnyOf f
+of_gathering f is = ⊎_elim (λ memory. inl memory) (λ other. inr (inr other)) is
+
+pub of_fetching : (f : EngineFault) → IsAmong f (Memory ∷ Db Broken ∷ Db Device ∷ Db Damaged ∷ []) → AnyOf f
+of_fetching f is = ⊎_elim (λ memory. inl memory) (λ other. ⊎_elim (λ broken. inr (inr (inl broken))) (λ last. inr (inr (inr (inr last)))) other) is
+
+pub of_beginning : (f : EngineFault) → IsAmong f (Memory ∷ Db Broken ∷ Db Device ∷ Db Damaged ∷ []) → IsAmong f (Memory ∷ Db Broken ∷ Db NoPass ∷ Db Device ∷ Db Damaged ∷ [])
+of_beginning f is = ⊎_elim (λ memory. inl memory) (λ other. ⊎_elim (λ broken. inr (inl broken)) (λ last. inr (inr (inr last))) other) is
+
+-- ---- what was written
+
+-- what holds where all was written, where a fault of the writer is told as another
+pub wrote_well : {E : Type 0} (P : Type 0) (wrote : Result Unit E) (result : Result Unit EngineFault) → is_ok result ≡ is_ok wrote → OnOk wrote P → OnOk result P
+wrote_well P (Ok x) (Ok y) same p = p
+wrote_well P (Err e) (Ok y) same p = cc
+wrote_well P wrote (Err f) same p = tt
+
+pub write_or : (Q : EngineFault → Type 0) (result : Result Unit EngineFault) → IfErr result (λ f. f ≡ Write) → IfErr result (λ f. (f ≡ Write) ⊎ Q f)
+write_or Q (Ok x) is = tt
+write_or Q (Err f) is = inl is
+
+pub write_among : (result : Result Unit EngineFault) → IfErr result (λ f. f ≡ Write) → IfErr result AnyOf
+write_among (Ok x) is = tt
+write_among (Err f) is = inr (inl is)
+
+-- the lines of these pairs, and of these keys
+pub writes_pairs : {E : Type 0} (wrote : Result Unit E) (pairs : List Pair) (keys : BTreeSet (Vec ℕ)) (most : ℕ) (before after : Option (List ℕ)) → map (λ (pair : Pair). pair.0) pairs ≡ bytes_of_keys keys → length keys.keys ≤ most
+    → OnOk wrote (Appends before after (pair_lines pairs)) → OnOk wrote (WritesPairs most before after)
+writes_pairs (Ok x) pairs keys most before after same bound written =
+    (pairs, omega (arith, sym (length-map pairs (λ (pair : Pair). pair.0)) ∙ ap length same ∙ length-map keys.keys (λ (key : Vec ℕ). key.items), bound), written)
+writes_pairs (Err e) pairs keys most before after same bound written = tt
+
+pub writes_keys : {E : Type 0} (wrote : Result Unit E) (keys : BTreeSet (Vec ℕ)) (most : ℕ) (before after : Option (List ℕ)) → length keys.keys ≤ most
+    → OnOk wrote (Appends before after (key_lines (bytes_of_keys keys))) → OnOk wrote (WritesKeys most before after)
+writes_keys (Ok x) keys most before after bound written = (bytes_of_keys keys, omega (arith, length-map keys.keys (λ (key : Vec ℕ). key.items), bound), written)
+writes_keys (Err e) keys most before after bound written = tt
+
+-- no call on the database was refused
+pub no_call_refused : (result : Result Unit EngineFault) (fault : Fault) → IfErr result (λ e. e ≡ Write) → IsErrOf result (Db fault) → ⊥
+no_call_refused (Ok done) fault write is = cc
+no_call_refused (Err e) fault write is = cc
+
+-- no more than are counted
+pub within : (n step most pairs : ℕ) → n ≤ step → step ≤ most → most ≡ pairs → n ≤ pairs
+within n step most pairs one two is = omega (arith, one, two, is)
