@@ -86,7 +86,7 @@ grep -q -- '--unknown' <("$program" --unknown 2>&1) || { echo "usage doesn't nam
 
 # help names each command, and ends with an example
 "$program" --help > out || wrong=1
-for command in create store insert fetch delete list dump load stat script; do
+for command in create store insert fetch delete list dump load stat script faults; do
   grep -qw "$command" out || { echo "the help has no $command"; wrong=1; }
   "$program" "$command" --help > command.out || { echo "no help of $command"; wrong=1; }
   grep -q "dbmtool $command" command.out || { echo "the help of $command has no example"; wrong=1; }

@@ -1,5 +1,6 @@
 // What each command does.
 ghost use Rattle.std.specs.Prelude.{◌≡◌, ◌≤◌, length, OnOk, IfSome};
+ghost use Rattle.std.specs.Io.KnownBytes.{Appends};
 ghost use Rattle.dbm_words.specs.declared.plan.Plan.TheVariants.{Script};
 ghost use Rattle.dbm_words.specs.declared.plan.Source.TheVariants.{Memory};
 ghost use Rattle.dbm_tool.specs.Plans.{Does};
@@ -8,7 +9,7 @@ use crate::{EngineFault, dump_engine, list_engine, load_engine, script_engine};
 use dbm_file::{Access, Db, DeleteReply, Fault, OpenHow, Stat, StoreMode, StoreReply, dbm_open};
 use dbm_lines::{DIGITS, decode_word, write_bytes};
 use dbm_script::script_in_memory;
-use dbm_words::{Plan, Source, Spelling};
+use dbm_words::{FAULT_TABLE, Plan, Source, Spelling};
 use sect_dev::{FileDev, SectorDev};
 use std::alloc::Global;
 use std::fs::File;
@@ -28,6 +29,8 @@ pub enum Outcome {
 pub enum Failure {
     /// A word that is to be hexadecimal is not.
     NotHex,
+    /// One of the program's words is not UTF-8.
+    NotText,
     Fault(EngineFault),
 }
 
@@ -95,6 +98,7 @@ pub fn carry_out<T: Files<File = File>, R: BufRead, O: Write>(
             script_in_memory(alloc, limit, input, output)?;
             Ok(Outcome::Done)
         }
+        Plan::Faults => print_faults(output),
     }
 }
 
@@ -110,6 +114,15 @@ fn bytes_of(alloc: Global, word: &str, spelling: Spelling) -> Result<Vec<u8>, Fa
             Vec::from_slice(alloc, bytes).map_err(memory)
         }
     }
+}
+
+/// Prints the exit statuses and the faults.
+fn print_faults<O: Write>(output: &mut O) -> Result<Outcome, Failure>
+    ensures { OnOk result (Appends (O.contents output.old) (O.contents output.new) FAULT_TABLE.now) }
+{
+    output.write_all(FAULT_TABLE.as_bytes()).map_err(unwritten)?;
+    output.flush().map_err(unwritten)?;
+    Ok(Outcome::Done)
 }
 
 /// Opens a database that is there.

@@ -25,10 +25,10 @@ const FAULT: u8 = 2;
 /// The status of words that are no plan.
 const USAGE: u8 = 3;
 
-/// The program over the words after its name. It answers the exit status: 0 where all was done or help was
-/// asked for, which goes to `output`; 1 where a fetched or deleted key isn't there or an inserted one is, with
-/// nothing printed; 2 for a fault, the first one, which alone is told in one line on `faults`; and 3 for words
-/// that are no plan, of which one text goes to `faults`. Faults are looked for in the words, in the words'
+/// The program over the words after its name. It answers the exit status: 0 where all was done, or help or the
+/// version was asked for, which goes to `output`; 1 where a fetched or deleted key isn't there or an inserted one
+/// is, with nothing printed; 2 for a fault, the first one, which alone is told in one line on `faults`; and 3 for
+/// words that are no plan, of which one text goes to `faults`. Faults are looked for in the words, in the words'
 /// hexadecimal digits, in the opening, in the call or the engine with the last of its output, and in the closing,
 /// in this order.
 pub fn tool<T: Files<File = File>, R: BufRead, O: Write, F: Write>(
@@ -67,11 +67,19 @@ pub fn out_of_memory<F: Write>(faults: &mut F) -> u8
     status_of(Err(Failure::Fault(EngineFault::Memory)), faults)
 }
 
+/// Tells on `faults` that one of the words is not UTF-8, which `tool` can't be given, and answers the status.
+pub fn not_text<F: Write>(faults: &mut F) -> u8
+    ensures { result ≡ 3 }
+{
+    status_of(Err(Failure::NotText), faults)
+}
+
 /// The status, with a failure told in one line where `faults` can be written.
 fn status_of<F: Write>(done: Result<Outcome, Failure>, faults: &mut F) -> u8
     ensures done { OnOk done (((result ≡ 0) ⊎ (result ≡ 1)) × (faults.new ≡ faults.old)) }
     ensures failed { OnErr done ((result ≡ 2) ⊎ (result ≡ 3)) }
     ensures fault { IfErr done (λ e. e ≡ Failure.Fault EngineFault.Memory → result ≡ 2) }
+    ensures text { IfErr done (λ e. e ≡ Failure.NotText → result ≡ 3) }
 {
     match done {
         Ok(Outcome::Done) => DONE,
@@ -79,7 +87,7 @@ fn status_of<F: Write>(done: Result<Outcome, Failure>, faults: &mut F) -> u8
         Err(failure) => {
             let _ = write_failure(faults, failure);
             match failure {
-                Failure::NotHex => USAGE,
+                Failure::NotHex | Failure::NotText => USAGE,
                 Failure::Fault(_) => FAULT,
             }
         }
@@ -92,6 +100,10 @@ fn write_failure<F: Write>(faults: &mut F, failure: Failure) -> io::Result<()>
 {
     match failure {
         Failure::NotHex => writeln!(faults, "dbmtool: not hex"),
+        Failure::NotText => writeln!(
+            faults,
+            "dbmtool: not UTF-8: such a KEY or CONTENT is given in hexadecimal, with -x"
+        ),
         Failure::Fault(EngineFault::Memory) => writeln!(faults, "dbmtool: fault 1"),
         Failure::Fault(EngineFault::Read) => writeln!(faults, "dbmtool: read"),
         Failure::Fault(EngineFault::Write) => writeln!(faults, "dbmtool: write"),

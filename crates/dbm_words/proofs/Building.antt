@@ -37,8 +37,8 @@ option_added old a r app rule was given adds = IfOk-weaker r _ _ (λ new add. wi
 abbrev lines_on : Shape → List Shape → App
 lines_on top lines = record { top = record top { is_leaf = false }; subs = lines }
 
--- ten subcommands, one after another; the steps are put together for any lines, since written out they are long
-pub ten_lines_added : {E : Type 0} (top : Shape) (l1 l2 l3 l4 l5 l6 l7 l8 l9 l10 : Shape) (c0 c1 c2 c3 c4 c5 c6 c7 c8 c9 : Command) (s1 s2 s3 s4 s5 s6 s7 s8 s9 s10 r : Result Command E)
+-- eleven subcommands, one after another; the steps are put together for any lines, since written out they are long
+pub eleven_lines_added : {E : Type 0} (top : Shape) (l1 l2 l3 l4 l5 l6 l7 l8 l9 l10 l11 : Shape) (c0 c1 c2 c3 c4 c5 c6 c7 c8 c9 c10 : Command) (s1 s2 s3 s4 s5 s6 s7 s8 s9 s10 s11 r : Result Command E)
     → IsApp c0 (alone top)
     → IfOk s1 (λ s. IsApp s (alone l1)) → Adds c0 s1 c1
     → IfOk s2 (λ s. IsApp s (alone l2)) → Adds c1 s2 c2
@@ -49,9 +49,10 @@ pub ten_lines_added : {E : Type 0} (top : Shape) (l1 l2 l3 l4 l5 l6 l7 l8 l9 l10
     → IfOk s7 (λ s. IsApp s (alone l7)) → Adds c6 s7 c7
     → IfOk s8 (λ s. IsApp s (alone l8)) → Adds c7 s8 c8
     → IfOk s9 (λ s. IsApp s (alone l9)) → Adds c8 s9 c9
-    → IfOk s10 (λ s. IsApp s (alone l10)) → IfOk r (Adds c9 s10)
-    → IfOk r (λ c. IsApp c (record { top = record top { is_leaf = false }; subs = l1 ∷ l2 ∷ l3 ∷ l4 ∷ l5 ∷ l6 ∷ l7 ∷ l8 ∷ l9 ∷ l10 ∷ [] }))
-ten_lines_added top l1 l2 l3 l4 l5 l6 l7 l8 l9 l10 c0 c1 c2 c3 c4 c5 c6 c7 c8 c9 s1 s2 s3 s4 s5 s6 s7 s8 s9 s10 r p0 p1 a1 p2 a2 p3 a3 p4 a4 p5 a5 p6 a6 p7 a7 p8 a8 p9 a9 p10 a10 =
+    → IfOk s10 (λ s. IsApp s (alone l10)) → Adds c9 s10 c10
+    → IfOk s11 (λ s. IsApp s (alone l11)) → IfOk r (Adds c10 s11)
+    → IfOk r (λ c. IsApp c (record { top = record top { is_leaf = false }; subs = l1 ∷ l2 ∷ l3 ∷ l4 ∷ l5 ∷ l6 ∷ l7 ∷ l8 ∷ l9 ∷ l10 ∷ l11 ∷ [] }))
+eleven_lines_added top l1 l2 l3 l4 l5 l6 l7 l8 l9 l10 l11 c0 c1 c2 c3 c4 c5 c6 c7 c8 c9 c10 s1 s2 s3 s4 s5 s6 s7 s8 s9 s10 s11 r p0 p1 a1 p2 a2 p3 a3 p4 a4 p5 a5 p6 a6 p7 a7 p8 a8 p9 a9 p10 a10 p11 a11 =
     let with_1 : IsApp c1 (lines_on top (l1 ∷ [])) = a1 (alone top) l1 p0 p1 in
     let with_2 : IsApp c2 (lines_on top (l1 ∷ l2 ∷ [])) = a2 (lines_on top (l1 ∷ [])) l2 with_1 p2 in
     let with_3 : IsApp c3 (lines_on top (l1 ∷ l2 ∷ l3 ∷ [])) = a3 (lines_on top (l1 ∷ l2 ∷ [])) l3 with_2 p3 in
@@ -61,4 +62,5 @@ ten_lines_added top l1 l2 l3 l4 l5 l6 l7 l8 l9 l10 c0 c1 c2 c3 c4 c5 c6 c7 c8 c9
     let with_7 : IsApp c7 (lines_on top (l1 ∷ l2 ∷ l3 ∷ l4 ∷ l5 ∷ l6 ∷ l7 ∷ [])) = a7 (lines_on top (l1 ∷ l2 ∷ l3 ∷ l4 ∷ l5 ∷ l6 ∷ [])) l7 with_6 p7 in
     let with_8 : IsApp c8 (lines_on top (l1 ∷ l2 ∷ l3 ∷ l4 ∷ l5 ∷ l6 ∷ l7 ∷ l8 ∷ [])) = a8 (lines_on top (l1 ∷ l2 ∷ l3 ∷ l4 ∷ l5 ∷ l6 ∷ l7 ∷ [])) l8 with_7 p8 in
     let with_9 : IsApp c9 (lines_on top (l1 ∷ l2 ∷ l3 ∷ l4 ∷ l5 ∷ l6 ∷ l7 ∷ l8 ∷ l9 ∷ [])) = a9 (lines_on top (l1 ∷ l2 ∷ l3 ∷ l4 ∷ l5 ∷ l6 ∷ l7 ∷ l8 ∷ [])) l9 with_8 p9 in
-    IfOk-weaker r _ _ (λ new add. add (lines_on top (l1 ∷ l2 ∷ l3 ∷ l4 ∷ l5 ∷ l6 ∷ l7 ∷ l8 ∷ l9 ∷ [])) l10 with_9 p10) a10
+    let with_10 : IsApp c10 (lines_on top (l1 ∷ l2 ∷ l3 ∷ l4 ∷ l5 ∷ l6 ∷ l7 ∷ l8 ∷ l9 ∷ l10 ∷ [])) = a10 (lines_on top (l1 ∷ l2 ∷ l3 ∷ l4 ∷ l5 ∷ l6 ∷ l7 ∷ l8 ∷ l9 ∷ [])) l10 with_9 p10 in
+    IfOk-weaker r _ _ (λ new add. add (lines_on top (l1 ∷ l2 ∷ l3 ∷ l4 ∷ l5 ∷ l6 ∷ l7 ∷ l8 ∷ l9 ∷ l10 ∷ [])) l11 with_10 p11) a11

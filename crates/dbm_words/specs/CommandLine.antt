@@ -6,7 +6,7 @@ use Rattle.clap.specs.Words.{App, Row, Rule, Shape, Text, first_of, new_app, new
 use Rattle.clap.specs.declared.builder.action.ArgAction.TheVariants.{SetTrue}
 use Rattle.clap.specs.declared.builder.value_parser.ValueParser.TheVariants as parser
 use Rattle.dbm_words.specs.declared.plan.Plan.{Plan}
-use Rattle.dbm_words.specs.declared.plan.Plan.TheVariants.{Create, Store, Insert, Fetch, Delete, List as ListKeys, Dump, Load, Stat, Script}
+use Rattle.dbm_words.specs.declared.plan.Plan.TheVariants.{Create, Store, Insert, Fetch, Delete, List as ListKeys, Dump, Load, Stat, Script, Faults}
 use Rattle.dbm_words.specs.declared.plan.Source.{Source}
 use Rattle.dbm_words.specs.declared.plan.Source.TheVariants.{File, Memory}
 use Rattle.dbm_words.specs.declared.plan.Spelling.{Spelling}
@@ -49,16 +49,20 @@ create_line = line (codes "create") (word_rule (codes "file") ∷ record (number
 abbrev pub script_line : Shape
 script_line = line (codes "script") (record (word_rule (codes "file")) { required = false } ∷ number_rule (codes "memory") ∷ [])
 
--- `dbmtool`, whose name is none of the words that are read
+-- `faults`
+abbrev pub faults_line : Shape
+faults_line = line (codes "faults") []
+
+-- `dbmtool [--version]`, whose name is none of the words that are read
 abbrev pub program_line : Shape
-program_line = record (new_app (codes "dbmtool")).top { no_binary_name = true; subcommand_required = true }
+program_line = record (new_app (codes "dbmtool")).top { has_version = true; no_binary_name = true; subcommand_required = true }
 
 -- `dbmtool`, and then one of the lines
 unfoldable pub command_line : App
 command_line = record {
   top = record program_line { is_leaf = false };
   subs = create_line ∷ pair_line (codes "store") ∷ pair_line (codes "insert") ∷ key_line (codes "fetch") ∷ key_line (codes "delete")
-      ∷ file_line (codes "list") ∷ file_line (codes "dump") ∷ file_line (codes "load") ∷ file_line (codes "stat") ∷ script_line ∷ [];
+      ∷ file_line (codes "list") ∷ file_line (codes "dump") ∷ file_line (codes "load") ∷ file_line (codes "stat") ∷ script_line ∷ faults_line ∷ [];
 }
 
 -- ---- the plan
@@ -105,6 +109,7 @@ Asks name rows (Dump file) = (name ≡ codes "dump") × IsText rows (codes "file
 Asks name rows (Load file) = (name ≡ codes "load") × IsText rows (codes "file") file.now
 Asks name rows (Stat file) = (name ≡ codes "stat") × IsText rows (codes "file") file.now
 Asks name rows (Script source) = (name ≡ codes "script") × IsSource rows source
+Asks name rows Faults = name ≡ codes "faults"
 
 abbrev pub Names : Option (Text × List Row) → Plan → Type 0
 Names None plan = ⊥

@@ -1,12 +1,16 @@
 // The commands and their options.
 ghost use Rattle.std.specs.Prelude.{IfOk, codes};
 ghost use Rattle.dbm_words.specs.Building.{Adds, IsApp, IsRule, alone};
-ghost use Rattle.dbm_words.specs.CommandLine.{command_line, create_line, file_line, hexadecimal_rule, key_line, number_rule, pair_line, program_line, script_line, word_rule};
+ghost use Rattle.dbm_words.specs.CommandLine.{command_line, create_line, faults_line, file_line, hexadecimal_rule, key_line, number_rule, pair_line, program_line, script_line, word_rule};
 
+use crate::help_text::FAULT_TABLE;
 use clap::{Arg, ArgAction, Command, value_parser};
 use std::alloc::{AllocError, Global};
 
 const NAME: &str = "dbmtool";
+
+/// The program's version, and the version that a file's meta page has.
+const VERSION: &str = "0.1.0, file format 1";
 
 pub const CREATE: &str = "create";
 
@@ -28,6 +32,8 @@ pub const STAT: &str = "stat";
 
 pub const SCRIPT: &str = "script";
 
+pub const FAULTS: &str = "faults";
+
 pub const FILE: &str = "file";
 
 pub const KEY: &str = "key";
@@ -42,7 +48,19 @@ pub const MEMORY: &str = "memory";
 
 const FILE_HELP: &str = "The name of the database, without `.db`";
 
-const EXAMPLE: &str = "A KEY or CONTENT that begins with a hyphen is given in hexadecimal, with -x.
+// Whoever gives -x to these is told by their usage that it isn't needed.
+const LIST_USAGE: &str = "dbmtool list <FILE>
+
+Keys are printed in hexadecimal always, so there is no -x.";
+
+const DUMP_USAGE: &str = "dbmtool dump <FILE>
+
+Pairs are printed in hexadecimal always, so there is no -x.";
+
+const ABOUT: &str = "Keeps pairs of a key and a content in a file, as the dbm interface does.
+
+A KEY or CONTENT that begins with a hyphen, or is not UTF-8, is given in
+hexadecimal, with -x.
 
 Example:
   dbmtool create colors
@@ -77,7 +95,8 @@ pub fn command<'a>(alloc: Global) -> Result<Command<'a>, AllocError>
     let command = added(command, dump_command(alloc))?;
     let command = added(command, load_command(alloc))?;
     let command = added(command, stat_command(alloc))?;
-    added(command, script_command(alloc))
+    let command = added(command, script_command(alloc))?;
+    added(command, Ok(faults_command(alloc)))
 }
 
 /// The command with one more subcommand, if that could be made. An early return that drops a command is long to
@@ -96,10 +115,11 @@ fn program<'a>(alloc: Global) -> Result<Command<'a>, AllocError>
     ensures { IfOk result (λ c. IsApp c (alone program_line)) }
 {
     Command::new(alloc, NAME)
-        .about("Keeps pairs of a key and a content in a file, as the dbm interface does.")
+        .about(ABOUT)
+        .version(VERSION)
         .no_binary_name(true)
         .subcommand_required(true)
-        .after_help(EXAMPLE)
+        .after_help(FAULT_TABLE)
         .bin_name(NAME)
 }
 
@@ -167,23 +187,25 @@ fn delete_command<'a>(alloc: Global) -> Result<Command<'a>, AllocError>
 fn list_command<'a>(alloc: Global) -> Result<Command<'a>, AllocError>
     ensures { IfOk result (λ c. IsApp c (alone (file_line (codes "list")))) }
 {
-    file_command(
+    let command = file_command(
         alloc,
         LIST,
         "Prints the keys in hexadecimal, one a line",
         "Example:\n  dbmtool list colors",
-    )
+    )?;
+    Ok(command.override_usage(LIST_USAGE))
 }
 
 fn dump_command<'a>(alloc: Global) -> Result<Command<'a>, AllocError>
     ensures { IfOk result (λ c. IsApp c (alone (file_line (codes "dump")))) }
 {
-    file_command(
+    let command = file_command(
         alloc,
         DUMP,
         "Prints the pairs in hexadecimal, one a line, as `load` reads them",
         "Example:\n  dbmtool dump colors > colors.txt",
-    )
+    )?;
+    Ok(command.override_usage(DUMP_USAGE))
 }
 
 fn load_command<'a>(alloc: Global) -> Result<Command<'a>, AllocError>
@@ -221,6 +243,15 @@ fn script_command<'a>(alloc: Global) -> Result<Command<'a>, AllocError>
         .after_help(SCRIPT_LINES)
         .arg(word(alloc, FILE, "FILE", FILE_HELP).required(false))?
         .arg(memory)
+}
+
+/// The command that prints the statuses and the faults.
+fn faults_command<'a>(alloc: Global) -> Command<'a>
+    ensures { IsApp result (alone faults_line) }
+{
+    Command::new(alloc, FAULTS)
+        .about("Prints the exit statuses and the faults, and what to do")
+        .after_help("Example:\n  dbmtool faults")
 }
 
 /// A command of a pair, as `key_command` has a key.

@@ -4,8 +4,8 @@ ghost use Rattle.clap.specs.Words.{first_of, found_of, one_of, rows_of, subcomma
 ghost use Rattle.dbm_words.specs.CommandLine.{Asks, IsNumberText, IsSource, IsText, LacksSource, Names, NamesNoSource, flag_text};
 
 use crate::commands::{
-    CONTENT, CREATE, DELETE, DUMP, FETCH, FILE, HEXADECIMAL, INSERT, KEY, LIMIT, LIST, LOAD,
-    MEMORY, SCRIPT, STAT, STORE,
+    CONTENT, CREATE, DELETE, DUMP, FAULTS, FETCH, FILE, HEXADECIMAL, INSERT, KEY, LIMIT, LIST,
+    LOAD, MEMORY, SCRIPT, STAT, STORE,
 };
 use crate::{Plan, Source, Spelling, WordsError};
 use clap::ArgMatches;
@@ -21,6 +21,9 @@ pub fn chosen<'a>(matches: &ArgMatches<'a>) -> Result<Plan<'a>, WordsError>
     };
     if name == SCRIPT {
         return Ok(Plan::Script(source(options)?));
+    }
+    if name == FAULTS {
+        return Ok(Plan::Faults);
     }
     of_file(name, options).ok_or(WordsError::NoPlan)
 }

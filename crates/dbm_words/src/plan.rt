@@ -54,6 +54,8 @@ pub enum Plan<'a> {
     },
     /// Run the script on standard input.
     Script(Source<'a>),
+    /// Print the exit statuses and the faults.
+    Faults,
 }
 
 /// How a key and a content are spelled.

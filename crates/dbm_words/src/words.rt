@@ -18,7 +18,7 @@ pub enum WordsError {
     /// A growth was refused.
     #[error("out of memory\n")]
     Memory,
-    /// Help was asked for, and this is its text.
+    /// Help or the version was asked for, and this is its text.
     #[error("{0}")]
     Help(Refusal),
     /// The words make no sense, and this says why.
@@ -32,7 +32,7 @@ pub enum WordsError {
     NoPlan,
 }
 
-/// Reads the words after the program's name. `Help` where help is among the words, and `Usage` where they
+/// Reads the words after the program's name. `Help` where they ask for help or the version, and `Usage` where they
 /// are no plan: no command, an unknown one, an option too many or too few, or a number that is no `u32`.
 /// `ScriptSource` where the parser takes the words, and a script has both of FILE and `--memory` or neither.
 pub fn read_words<'a>(alloc: Global, words: &'a [&'a str]) -> Result<Plan<'a>, WordsError>

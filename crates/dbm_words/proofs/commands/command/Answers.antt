@@ -1,14 +1,14 @@
-use Rattle.std.proofs.Common.{codes}
-use Rattle.dbm_words.specs.CommandLine.{command_line, create_line, file_line, key_line, pair_line, program_line, script_line}
-use Rattle.dbm_words.proofs.Building.{ten_lines_added}
+use Rattle.std.proofs.Common.{Ok, codes}
+use Rattle.dbm_words.specs.CommandLine.{command_line, create_line, faults_line, file_line, key_line, pair_line, program_line, script_line}
+use Rattle.dbm_words.proofs.Building.{eleven_lines_added}
 use Rattle.dbm_words.proofs.commands.command.Goals as goal
 
 pub returns : goal.returns
 unfolding command_line
 returns c =
-    ten_lines_added program_line create_line (pair_line (codes "store")) (pair_line (codes "insert")) (key_line (codes "fetch")) (key_line (codes "delete")) (file_line (codes "list")) (file_line (codes "dump")) (file_line (codes "load")) (file_line (codes "stat")) script_line
-    c.in_ok-program.field-0 c.in_ok-command.command c.in_ok-command-2.command c.in_ok-command-3.command c.in_ok-command-4.command c.in_ok-command-5.command c.in_ok-command-6.command c.in_ok-command-7.command c.in_ok-command-8.command c.in_ok-command-9.command
-    c.create_command.result c.store_command.result c.insert_command.result c.fetch_command.result c.delete_command.result c.list_command.result c.dump_command.result c.load_command.result c.stat_command.result c.script_command.result c.added-10.result
+    eleven_lines_added program_line create_line (pair_line (codes "store")) (pair_line (codes "insert")) (key_line (codes "fetch")) (key_line (codes "delete")) (file_line (codes "list")) (file_line (codes "dump")) (file_line (codes "load")) (file_line (codes "stat")) script_line faults_line
+    c.in_ok-program.field-0 c.in_ok-command.command c.in_ok-command-2.command c.in_ok-command-3.command c.in_ok-command-4.command c.in_ok-command-5.command c.in_ok-command-6.command c.in_ok-command-7.command c.in_ok-command-8.command c.in_ok-command-9.command c.in_ok-command-10.command
+    c.create_command.result c.store_command.result c.insert_command.result c.fetch_command.result c.delete_command.result c.list_command.result c.dump_command.result c.load_command.result c.stat_command.result c.script_command.result (Ok c.faults_command.result) c.added-11.result
     c.in_ok-program.ensures
     c.create_command.ensures c.in_ok-command.ensures
     c.store_command.ensures c.in_ok-command-2.ensures
@@ -19,4 +19,5 @@ returns c =
     c.dump_command.ensures c.in_ok-command-7.ensures
     c.load_command.ensures c.in_ok-command-8.ensures
     c.stat_command.ensures c.in_ok-command-9.ensures
-    c.script_command.ensures c.added-10.ensures
+    c.script_command.ensures c.in_ok-command-10.ensures
+    c.faults_command.ensures c.added-11.ensures

@@ -1,0 +1,52 @@
+# Completion of dbmtool for bash: its commands, their options, and the names of databases, without `.db`.
+
+# The names of databases and folders that begin with a word.
+_dbmtool_databases() {
+  local name
+  compgen -d -- "$1"
+  compgen -f -X '!*.db' -- "$1" | while IFS= read -r name; do printf '%s\n' "${name%.db}"; done
+}
+
+# How many words behind the command are neither an option nor an option's number.
+_dbmtool_places() {
+  local at count=0
+  for ((at = 2; at < COMP_CWORD; at++)); do
+    case ${COMP_WORDS[at]} in
+      --limit | --memory) at=$((at + 1)); [ "${COMP_WORDS[at]}" != = ] || at=$((at + 1)) ;;
+      -*) ;;
+      *) count=$((count + 1)) ;;
+    esac
+  done
+  echo "$count"
+}
+
+_dbmtool() {
+  local commands='create store insert fetch delete list dump load stat script faults help'
+  local word=${COMP_WORDS[COMP_CWORD]} options='' places
+  COMPREPLY=()
+  if [ "$COMP_CWORD" = 1 ]; then
+    mapfile -t COMPREPLY < <(compgen -W "$commands -h --help -V --version" -- "$word")
+    return
+  fi
+  case ${COMP_WORDS[COMP_CWORD - 1]} in
+    --limit | --memory | =) return ;;
+  esac
+  case ${COMP_WORDS[1]} in
+    create) options='--limit -h --help' ;;
+    store | insert | fetch | delete) options='-x -h --help' ;;
+    script) options='--memory -h --help' ;;
+    list | dump | load | stat | faults) options='-h --help' ;;
+  esac
+  places=$(_dbmtool_places)
+  case $word,$places,${COMP_WORDS[1]} in
+    -*) mapfile -t COMPREPLY < <(compgen -W "$options" -- "$word") ;;
+    *,0,help) mapfile -t COMPREPLY < <(compgen -W "$commands" -- "$word") ;;
+    *,*,faults | *,*,help) ;;
+    *,0,*)
+      compopt -o filenames 2> /dev/null
+      mapfile -t COMPREPLY < <(_dbmtool_databases "$word")
+      ;;
+  esac
+}
+
+complete -F _dbmtool dbmtool
