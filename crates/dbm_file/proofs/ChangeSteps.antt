@@ -181,7 +181,7 @@ module _ {S : Type 0} (s : Ghosts S) {old mid : Database S s} {map changed : Con
       refused_step = ⊎_elim (λ same. unchanged_step (ap (λ (st : store.StoreState). st.usable) same ∙ still_usable s old mid asked.read)) (λ broke. broken_step broke.0 (ap (λ (st : store.StoreState). st.usable) broke.1)) ended.ends.err.0
 
 -- a fault of the device is told as one, and so on
-told_device : (e : PageFault) → fault_from e ≡ Device → e ≡ page.Device
+pub told_device : (e : PageFault) → fault_from e ≡ Device → e ≡ page.Device
 told_device page.Memory is = absurd (let x = is in cc)
 told_device page.Device is = refl
 told_device page.Broken is = absurd (let x = is in cc)
@@ -189,7 +189,7 @@ told_device page.ReadOnly is = absurd (let x = is in cc)
 told_device page.NoRoom is = absurd (let x = is in cc)
 told_device page.Damaged is = absurd (let x = is in cc)
 
-told_broken : (e : PageFault) → fault_from e ≡ Broken → e ≡ page.Broken
+pub told_broken : (e : PageFault) → fault_from e ≡ Broken → e ≡ page.Broken
 told_broken page.Memory is = absurd (let x = is in cc)
 told_broken page.Device is = absurd (let x = is in cc)
 told_broken page.Broken is = refl

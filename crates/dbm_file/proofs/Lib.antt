@@ -2,6 +2,7 @@ pub mod Answered
 pub mod Breaks
 pub mod Cases
 pub mod ChangeSteps
+pub mod Endings
 pub mod FetchSteps
 pub mod Lends
 pub mod OpenedFiles

@@ -1,5 +1,6 @@
 -- Stores and deletes that change the file, and their refusals by the pages below.
-use Rattle.std.proofs.Common.{◌≡◌, ℕ, ◌+◌, ◌<◌, ◌≤◌, List, [], length, Bool, true, false, cond, is_some, Option, Some, Result, Ok, Err, sym, ◌∙◌, ap, subst, arith}
+use Rattle.std.proofs.Common.{◌≡◌, ℕ, ◌+◌, ◌<◌, ◌≤◌, List, [], length, Bool, true, false, cond, is_some, Option, Some, Result, Ok, Err, refl, sym, ◌∙◌, ap, subst, arith}
+use denote.Enum.Bare.{sameb}
 use Rattle.std.specs.Prelude.{IsErrAnd}
 use Rattle.std.specs.FinMap.{get, insert, remove, empty_of_len, get-empty}
 use Rattle.dbm_model.specs.Calls as model
@@ -20,7 +21,8 @@ use Rattle.dbm_file.specs.Answers.{IsStep}
 use Rattle.dbm_file.specs.Trying.{with_fault, with_error_of, IsRead}
 use Rattle.dbm_fault.specs.declared.fault.Fault.{Fault}
 use Rattle.dbm_file.specs.declared.calls.StoreMode.{StoreMode}
-use Rattle.dbm_file.specs.declared.calls.StoreMode.TheVariants.{Replace}
+use Rattle.dbm_file.specs.contracts.calls.StoreMode.{the_type}
+use Rattle.dbm_file.specs.declared.calls.StoreMode.TheVariants.{Insert, Replace}
 use Rattle.dbm_file.specs.declared.calls.StoreReply.{StoreReply}
 use Rattle.dbm_file.specs.declared.calls.DeleteReply.{DeleteReply}
 use Rattle.dbm_file.specs.declared.database.Database.{Database}
@@ -28,6 +30,18 @@ use Rattle.dbm_file.proofs.Cases.{store_rule, delete_rule, changes, removes}
 use Rattle.dbm_file.proofs.ChangeSteps.{IsAsked}
 use Rattle.dbm_file.proofs.Lends.{kept_error, flagged_step}
 use Rattle.linear_hash.proofs.Tables.{counted}
+
+-- the mode that a test found
+pub inserts_so : (mode : StoreMode) → true ≡ sameb the_type mode Insert → mode ≡ Insert
+inserts_so Insert is = refl
+inserts_so Replace is = absurd (let x = is in cc)
+
+pub replaces_so : (mode : StoreMode) → false ≡ sameb the_type mode Insert → mode ≡ Replace
+replaces_so Insert is = absurd (let x = is in cc)
+replaces_so Replace is = refl
+
+pub not_both : (b : Bool) → b ≡ true → b ≡ false → ⊥
+not_both b is is_not = absurd (let x = sym is ∙ is_not in cc)
 
 module _ {S : Type 0} (s : Ghosts S) (old mid : Database S s) (map : Contents) (pass : Option Keys) (key : List ℕ) (read : IsRead old mid) (usable : (page_state old).usable ≡ true) (writable : (page_state old).writable ≡ true) (honest : s.honest (store_of old))
     (h : Holds s (store_of old) (meta_kept old) map) (going : IsPass (s.committed (store_of old)) (meta_kept old) (cursor_of old) pass) (rests : (x : Settled) → s.settles_to (store_of old) x → ImageStandsFor x map (meta_kept old).limit) where

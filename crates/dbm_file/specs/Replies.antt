@@ -12,6 +12,10 @@ use Rattle.dbm_file.specs.declared.calls.Call.TheVariants.{Store, Fetch, Delete,
 use Rattle.dbm_file.specs.declared.calls.Reply.{Reply}
 use Rattle.dbm_file.specs.declared.calls.Reply.TheVariants.{Stored, Kept, Deleted, Absent, Bytes, NoRecord, End, Number, Refused}
 use Rattle.dbm_file.specs.declared.calls.StoreMode.TheVariants.{Insert}
+use Rattle.dbm_file.specs.declared.calls.StoreReply.{StoreReply}
+use Rattle.dbm_file.specs.declared.calls.StoreReply.TheVariants as stored
+use Rattle.dbm_file.specs.declared.calls.DeleteReply.{DeleteReply}
+use Rattle.dbm_file.specs.declared.calls.DeleteReply.TheVariants as deleted
 use Rattle.dbm_file.specs.declared.database.Database.{Database}
 
 -- the faults by which a delete may be refused, and those of a store
@@ -46,6 +50,17 @@ IsReplyTo (Fetch key) reply = IsBytesOr NoRecord read_faults reply
 IsReplyTo First reply = IsBytesOr End read_faults reply
 IsReplyTo Next reply = IsBytesOr End next_faults reply
 IsReplyTo _ reply = ⊥
+
+-- how a store and a delete are told
+abbrev pub told_of_store : Result StoreReply Fault → Reply
+told_of_store (Ok stored.Stored) = Stored
+told_of_store (Ok stored.Kept) = Kept
+told_of_store (Err fault) = Refused fault
+
+abbrev pub told_of_delete : Result DeleteReply Fault → Reply
+told_of_delete (Ok deleted.Deleted) = Deleted
+told_of_delete (Ok deleted.Absent) = Absent
+told_of_delete (Err fault) = Refused fault
 
 -- whether a call was refused, and by which fault: told by its reply, and by what it answers
 abbrev pub refusal : Reply → Result Unit Fault

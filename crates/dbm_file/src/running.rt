@@ -4,7 +4,7 @@ ghost use Rattle.dbm_fault.specs.Among.{IsErrAmong};
 ghost use Rattle.dbm_file.specs.Calls.{call_of, reply_of, lent_reply};
 ghost use Rattle.dbm_file.specs.Database.{AtEachHandle};
 ghost use Rattle.dbm_file.specs.Answers.{IsStep, IsSameDatabase};
-ghost use Rattle.dbm_file.specs.Replies.{IsAnswered, AreAnswered, IsBytesOr, refusal, refusal_in};
+ghost use Rattle.dbm_file.specs.Replies.{IsAnswered, AreAnswered, IsBytesOr, refusal, refusal_in, told_of_store, told_of_delete};
 ghost use Rattle.dbm_file.specs.Rooms.{IsRoom, AreRooms, rooms_in, gives_bytes as call_gives_bytes};
 ghost use Rattle.dbm_file.specs.Runs.{IsRun};
 
@@ -76,26 +76,46 @@ fn answer<S: PageStore>(db: &mut Database<S>, call: &Call, rooms: &mut Vec<Vec<u
 {
     match call {
         Call::Store { key, content, mode } => {
-            match db.store(key.as_slice(), content.as_slice(), *mode) {
-                Ok(StoreReply::Stored) => Reply::Stored,
-                Ok(StoreReply::Kept) => Reply::Kept,
-                Err(fault) => Reply::Refused(fault),
-            }
+            store_told(db.store(key.as_slice(), content.as_slice(), *mode))
         }
-        Call::Fetch(key) => bytes_in(
-            rooms.pop().unwrap(),
-            db.fetch(key.as_slice()),
-            Reply::NoRecord,
-        ),
-        Call::Delete(key) => match db.delete(key.as_slice()) {
-            Ok(DeleteReply::Deleted) => Reply::Deleted,
-            Ok(DeleteReply::Absent) => Reply::Absent,
-            Err(fault) => Reply::Refused(fault),
-        },
-        Call::First => bytes_in(rooms.pop().unwrap(), db.firstkey(), Reply::End),
-        Call::Next => bytes_in(rooms.pop().unwrap(), db.nextkey(), Reply::End),
+        Call::Fetch(key) => bytes_in(take_room(rooms), db.fetch(key.as_slice()), Reply::NoRecord),
+        Call::Delete(key) => delete_told(db.delete(key.as_slice())),
+        Call::First => bytes_in(take_room(rooms), db.firstkey(), Reply::End),
+        Call::Next => bytes_in(take_room(rooms), db.nextkey(), Reply::End),
         Call::Error => Reply::Number(db.error()),
         Call::Clear => Reply::Number(db.clearerr()),
+    }
+}
+
+/// One of the rooms.
+fn take_room(rooms: &mut Vec<Vec<u8>>) -> Vec<u8>
+    requires { AreRooms (vec_len rooms.old) rooms.old × (0 < vec_len rooms.old) }
+    ensures room { IsRoom result }
+    ensures rooms { AreRooms (vec_len rooms.new) rooms.new }
+    ensures taken { vec_len rooms.old ≡ vec_len rooms.new + 1 }
+{
+    rooms.pop().unwrap()
+}
+
+/// The reply to a store.
+fn store_told(ended: Result<StoreReply, Fault>) -> Reply
+    ensures { result ≡ told_of_store ended }
+{
+    match ended {
+        Ok(StoreReply::Stored) => Reply::Stored,
+        Ok(StoreReply::Kept) => Reply::Kept,
+        Err(fault) => Reply::Refused(fault),
+    }
+}
+
+/// The reply to a delete.
+fn delete_told(ended: Result<DeleteReply, Fault>) -> Reply
+    ensures { result ≡ told_of_delete ended }
+{
+    match ended {
+        Ok(DeleteReply::Deleted) => Reply::Deleted,
+        Ok(DeleteReply::Absent) => Reply::Absent,
+        Err(fault) => Reply::Refused(fault),
     }
 }
 

@@ -1,6 +1,20 @@
+use Rattle.dbm_file.proofs.Endings.{flagged_ended, flagged_store as ended_flagged}
 use Rattle.dbm_file.proofs.StoreSteps.{store_flagged}
 use Rattle.dbm_file.proofs.database.Database.store.Goals as goal
 
-pub returns-in-Err-clause-step : goal.returns-in-Err-clause-step
-returns-in-Err-clause-step g c honest h at =
-    store_flagged g.S.PageStore _ c.try_store.new.self h _ _ _ _ c.refuse.new.error c.in-Err.fault c.refuse.ensures.flag c.refuse.result c.refuse.ensures.answer (c.in-Err.ensures.step honest h at)
+pub returns-in-Err : goal.returns-in-Err
+returns-in-Err g c =
+    let all = c.in-Err.ensures in
+    let mid = c.try_store.new.self in
+    let end = ended_flagged c.args.self.now mid mid.idle mid.told mid.valid c.refuse.new.error c.in-Err.fault c.refuse.ensures.flag c.args.key.now c.args.content.now c.args.mode c.refuse.result c.refuse.ensures.answer
+    record { shape = all.shape; read_only = all.read_only; kept = all.kept; too_long = all.too_long; keeps = all.keeps; only = all.only } in
+    record {
+      step = λ honest h at.
+          store_flagged g.S.PageStore _ mid h _ _ _ _ c.refuse.new.error c.in-Err.fault c.refuse.ensures.flag c.refuse.result c.refuse.ensures.answer (all.step honest h at);
+      shape = end.shape;
+      read_only = end.read_only;
+      kept = end.kept;
+      too_long = end.too_long;
+      keeps = flagged_ended c.args.self.now mid _ _ _ c.refuse.new.error c.in-Err.fault c.refuse.ensures.flag c.refuse.result c.refuse.ensures.answer all.keeps;
+      only = end.only;
+    }

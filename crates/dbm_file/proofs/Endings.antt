@@ -1,0 +1,339 @@
+-- What holds at each exit of a store and of a delete, on any device.
+use Rattle.std.proofs.Common.{◌≡◌, ◌⊎◌, inl, inr, ℕ, ◌+◌, ◌*◌, ◌<◌, ◌≤◌, List, [], length, Bool, true, false, cond, Option, Some, is_some, Result, Ok, Err, refl, sym, ◌∙◌, ap, subst, arith}
+use Rattle.std.specs.Prelude.{◌↔◌, IsErrAnd, IfErr, IsErrOf}
+use Rattle.std.specs.Option.{option_map}
+use Rattle.std.proofs.lemmas.Bool.{le-ltb}
+use Rattle.page_model.specs.Address.{grown}
+use Rattle.page_model.specs.Pages.{Meta}
+use Rattle.page_model.specs.Valid.{IsMeta, meta_buckets}
+use Rattle.page_io.specs.Answers.{HasDeviceCause}
+use Rattle.page_io.specs.Store.{StoreState}
+use Rattle.page_io.specs.declared.store.PageStore.{Ghosts}
+use Rattle.page_io.specs.declared.store.PageFault.{PageFault}
+use Rattle.page_io.specs.declared.store.PageFault.TheVariants as page
+use Rattle.dbm_fault.specs.Among.{IsAmong, IsErrAmong}
+use Rattle.dbm_fault.specs.Faults.{fault_of, fault_from}
+use Rattle.dbm_fault.specs.declared.fault.Fault.{Fault}
+use Rattle.dbm_fault.specs.declared.fault.Fault.TheVariants.{Memory, Device, Broken, ReadOnly, TooLong, Full, NoRoom, Damaged}
+use Rattle.linear_hash.specs.Tables.{shape_in, shape_for}
+use Rattle.chain_walks.specs.Answers.{IsWalkAnswer}
+use Rattle.chain_walks.specs.Walks.{EndsWithout}
+use Rattle.dbm_file.specs.Answers.{IsCallEnded}
+use Rattle.dbm_file.specs.Database.{store_of, meta_kept, page_state}
+use Rattle.dbm_file.specs.Replies.{store_faults, delete_faults}
+use Rattle.dbm_file.specs.Searches.{Searched, EndsWith}
+use Rattle.dbm_file.specs.Trying.{with_fault, with_error_of, IsRead}
+use Rattle.dbm_file.specs.declared.calls.StoreMode.{StoreMode}
+use Rattle.dbm_file.specs.declared.calls.StoreMode.TheVariants.{Insert}
+use Rattle.dbm_file.specs.declared.calls.StoreReply.{StoreReply}
+use Rattle.dbm_file.specs.declared.calls.StoreReply.TheVariants as stored
+use Rattle.dbm_file.specs.declared.calls.DeleteReply.{DeleteReply}
+use Rattle.dbm_file.specs.declared.calls.DeleteReply.TheVariants as deleted
+use Rattle.dbm_file.specs.declared.database.Database.{Database}
+use Rattle.dbm_file.proofs.ChangeSteps.{IsDone, told_device, told_broken}
+use Rattle.dbm_file.proofs.Lends.{kept_error}
+use Rattle.dbm_file.proofs.ReadSteps.{broken_keeps, read_keeps, refused_keeps, still_meta, still_limit, still_writable, still_usable}
+
+-- neither of two things holds, or both do
+neither : {A B : Type 0} → (A → ⊥) → (B → ⊥) → A ↔ B
+neither no_a no_b = (λ a. absurd (no_a a), λ b. absurd (no_b b))
+
+both : {A B : Type 0} → A → B → A ↔ B
+both a b = (λ _. b, λ _. a)
+
+-- a file that counts no more pairs than its buckets allow keeps its shape
+stays : (m : Meta) → IsMeta m → shape_in m ≡ shape_for m.pairs (shape_in m)
+stays m valid = sym (ap (λ (more : Bool). cond more (grown (shape_in m)) (shape_in m)) (le-ltb (8 * meta_buckets m) m.pairs valid.few_pairs.1))
+
+stays_as : (old new : Meta) → IsMeta old → new ≡ old → shape_in new ≡ shape_for new.pairs (shape_in old)
+stays_as old new valid same = subst (λ (m : Meta). shape_in m ≡ shape_for m.pairs (shape_in old)) (sym same) (stays old valid)
+
+-- what is refused for another reason isn't refused for this one
+told_other : {T : Type 0} (r : Result T Fault) (e : PageFault) (other : Fault) → IsErrAnd r (λ fault. fault ≡ fault_from e) → (fault_from e ≡ other → ⊥) → r ≡ Err other → ⊥
+told_other (Ok value) e other told is_not is = absurd told
+told_other (Err fault) e other told is_not is = is_not (sym told ∙ (let same = is in let f : fault ≡ other = cc in f))
+
+told_by : {T : Type 0} (P : Fault → Type 0) (r : Result T Fault) (e : PageFault) → IsErrAnd r (λ fault. fault ≡ fault_from e) → P (fault_from e) → IfErr r P
+told_by P (Ok value) e told holds = absurd told
+told_by P (Err fault) e told holds = subst P (sym told) holds
+
+told_no_value : {T : Type 0} (r : Result T Fault) (e : PageFault) (value : T) → IsErrAnd r (λ fault. fault ≡ fault_from e) → r ≡ Ok value → ⊥
+told_no_value (Ok other) e value told is = told
+told_no_value (Err fault) e value told is = absurd (let same = is in cc)
+
+-- the faults of a walk, and of a change
+abbrev pub IsOfWalk : PageFault → Type 0
+IsOfWalk e = (e ≡ page.Broken) ⊎ ((e ≡ page.Damaged) ⊎ (e ≡ page.Device))
+
+abbrev pub IsOfChange : PageFault → Type 0
+IsOfChange e = (e ≡ page.Broken) ⊎ ((e ≡ page.Memory) ⊎ ((e ≡ page.NoRoom) ⊎ ((e ≡ page.Damaged) ⊎ (e ≡ page.Device))))
+
+pub as_change : (e : PageFault) → IsOfWalk e → IsOfChange e
+as_change e (inl is) = inl is
+as_change e (inr (inl is)) = inr (inr (inr (inl is)))
+as_change e (inr (inr is)) = inr (inr (inr (inr is)))
+
+-- by cases of the fault of the pages
+by_change : (P : Fault → Type 0) → P Broken → P Memory → P NoRoom → P Damaged → P Device → (e : PageFault) → IsOfChange e → P (fault_from e)
+by_change P broken memory no_room damaged device e (inl is) = subst (λ (x : PageFault). P (fault_from x)) (sym is) broken
+by_change P broken memory no_room damaged device e (inr (inl is)) = subst (λ (x : PageFault). P (fault_from x)) (sym is) memory
+by_change P broken memory no_room damaged device e (inr (inr (inl is))) = subst (λ (x : PageFault). P (fault_from x)) (sym is) no_room
+by_change P broken memory no_room damaged device e (inr (inr (inr (inl is)))) = subst (λ (x : PageFault). P (fault_from x)) (sym is) damaged
+by_change P broken memory no_room damaged device e (inr (inr (inr (inr is)))) = subst (λ (x : PageFault). P (fault_from x)) (sym is) device
+
+among_store : (e : PageFault) → IsOfChange e → IsAmong (fault_from e) store_faults
+among_store = by_change (λ fault. IsAmong fault store_faults) (inl refl) (inr (inr (inr (inr (inl refl))))) (inr (inr (inr (inr (inr (inr (inl refl))))))) (inr (inr (inr (inr (inr (inr (inr refl))))))) (inr (inr (inr (inr (inr (inl refl))))))
+
+among_delete : (e : PageFault) → IsOfChange e → IsAmong (fault_from e) delete_faults
+among_delete = by_change (λ fault. IsAmong fault delete_faults) (inl refl) (inr (inr (inl refl))) (inr (inr (inr (inr (inl refl))))) (inr (inr (inr (inr (inr refl))))) (inr (inr (inr (inl refl))))
+
+not_read_only : (e : PageFault) → IsOfChange e → fault_from e ≡ ReadOnly → ⊥
+not_read_only = by_change (λ fault. fault ≡ ReadOnly → ⊥) (λ is. absurd (let x = is in cc)) (λ is. absurd (let x = is in cc)) (λ is. absurd (let x = is in cc)) (λ is. absurd (let x = is in cc)) (λ is. absurd (let x = is in cc))
+
+never_too_long : (e : PageFault) → fault_from e ≡ TooLong → ⊥
+never_too_long page.Memory is = absurd (let x = is in cc)
+never_too_long page.Device is = absurd (let x = is in cc)
+never_too_long page.Broken is = absurd (let x = is in cc)
+never_too_long page.ReadOnly is = absurd (let x = is in cc)
+never_too_long page.NoRoom is = absurd (let x = is in cc)
+never_too_long page.Damaged is = absurd (let x = is in cc)
+
+module _ {S : Type 0} {s : Ghosts S} where
+  -- what a store says beside its step, and a delete, where the first fault is kept in the database that is told
+  pub record IsStoreEnd (old new told : Database S s) (key content : List ℕ) (mode : StoreMode) (result : Result StoreReply Fault) : Type 0 where
+    pub shape : shape_in (meta_kept new) ≡ shape_for (meta_kept new).pairs (shape_in (meta_kept old))
+    pub read_only : (result ≡ Err ReadOnly) ↔ (((page_state old).usable ≡ true) × ((page_state old).writable ≡ false))
+    pub kept : result ≡ Ok stored.Kept → (mode ≡ Insert) × Searched old key (EndsWith key)
+    pub too_long : (result ≡ Err TooLong) ↔ (((page_state old).usable ≡ true) × ((page_state old).writable ≡ true) × (2026 < length key + length content))
+    pub keeps : IsCallEnded old told result
+    pub only : IsErrAmong result store_faults
+
+  pub record IsDeleteEnd (old new told : Database S s) (key : List ℕ) (result : Result DeleteReply Fault) : Type 0 where
+    pub shape : shape_in (meta_kept new) ≡ shape_in (meta_kept old)
+    pub read_only : (result ≡ Err ReadOnly) ↔ (((page_state old).usable ≡ true) × ((page_state old).writable ≡ false))
+    pub absent : result ≡ Ok deleted.Absent → Searched old key (EndsWithout key)
+    pub counted : result ≡ Ok deleted.Deleted → (meta_kept new).pairs + 1 ≡ (meta_kept old).pairs
+    pub keeps : IsCallEnded old told result
+    pub only : IsErrAmong result delete_faults
+
+  module _ (old : Database S s) (key : List ℕ) where
+    -- a broken database
+    module _ (broken : (page_state old).usable ≡ false) where
+      pub ended_broken_store : (content : List ℕ) (mode : StoreMode) → IsStoreEnd old old (with_fault old Broken) key content mode (Err Broken)
+      ended_broken_store content mode = record {
+        shape = stays (meta_kept old) old.valid;
+        read_only = neither (λ is. absurd (let x = is in cc)) (λ all. absurd (let x = sym broken ∙ all.0 in cc));
+        kept = λ is. absurd (let x = is in cc);
+        too_long = neither (λ is. absurd (let x = is in cc)) (λ all. absurd (let x = sym broken ∙ all.0 in cc));
+        keeps = broken_keeps StoreReply s old broken;
+        only = inl refl;
+      }
+
+      pub ended_broken_delete : IsDeleteEnd old old (with_fault old Broken) key (Err Broken)
+      ended_broken_delete = record {
+        shape = refl;
+        read_only = neither (λ is. absurd (let x = is in cc)) (λ all. absurd (let x = sym broken ∙ all.0 in cc));
+        absent = λ is. absurd (let x = is in cc);
+        counted = λ is. absurd (let x = is in cc);
+        keeps = broken_keeps DeleteReply s old broken;
+        only = inl refl;
+      }
+
+    -- one that is open for reading
+    module _ (usable : (page_state old).usable ≡ true) (reading : (page_state old).writable ≡ false) (still : IsRead old old) where
+      pub unwritable_store : (content : List ℕ) (mode : StoreMode) → IsStoreEnd old old (with_fault old ReadOnly) key content mode (Err ReadOnly)
+      unwritable_store content mode = record {
+        shape = stays (meta_kept old) old.valid;
+        read_only = both refl (usable, reading);
+        kept = λ is. absurd (let x = is in cc);
+        too_long = neither (λ is. absurd (let x = is in cc)) (λ all. absurd (let x = sym reading ∙ all.1 in cc));
+        keeps = refused_keeps s old old still usable StoreReply ReadOnly (λ is. absurd (let x = is in cc)) (λ is. absurd (let x = is in cc));
+        only = inr (inl refl);
+      }
+
+      pub unwritable_delete : IsDeleteEnd old old (with_fault old ReadOnly) key (Err ReadOnly)
+      unwritable_delete = record {
+        shape = refl;
+        read_only = both refl (usable, reading);
+        absent = λ is. absurd (let x = is in cc);
+        counted = λ is. absurd (let x = is in cc);
+        keeps = refused_keeps s old old still usable DeleteReply ReadOnly (λ is. absurd (let x = is in cc)) (λ is. absurd (let x = is in cc));
+        only = inr (inl refl);
+      }
+
+    module _ (usable : (page_state old).usable ≡ true) (writable : (page_state old).writable ≡ true) where
+      may_write : ((page_state old).usable ≡ true) × ((page_state old).writable ≡ false) → ⊥
+      may_write all = absurd (let x = sym writable ∙ all.1 in cc)
+
+      -- a pair that is too long
+      pub long_store : (content : List ℕ) (mode : StoreMode) → IsRead old old → 2026 < length key + length content → IsStoreEnd old old (with_fault old TooLong) key content mode (Err TooLong)
+      long_store content mode still long = record {
+        shape = stays (meta_kept old) old.valid;
+        read_only = neither (λ is. absurd (let x = is in cc)) may_write;
+        kept = λ is. absurd (let x = is in cc);
+        too_long = both refl (usable, writable, long);
+        keeps = refused_keeps s old old still usable StoreReply TooLong (λ is. absurd (let x = is in cc)) (λ is. absurd (let x = is in cc));
+        only = inr (inr (inl refl));
+      }
+
+      module _ (new : Database S s) where
+        -- a store of an allowed pair
+        module _ (content : List ℕ) (mode : StoreMode) (short : length key + length content ≤ 2026) where
+          not_long : ((page_state old).usable ≡ true) × ((page_state old).writable ≡ true) × (2026 < length key + length content) → ⊥
+          not_long all = absurd (omega (arith, short, all.2))
+
+          -- refused by the pages below, as a `?` answers it
+          pub told_store : (r : Result StoreReply Fault) (e : PageFault) → IsErrAnd r (λ fault. fault ≡ fault_from e) → IsOfChange e → meta_kept new ≡ meta_kept old
+              → IsCallEnded old (with_error_of new r) r → IsStoreEnd old new (with_error_of new r) key content mode r
+          told_store r e told one meta keeps = record {
+            shape = stays_as (meta_kept old) (meta_kept new) old.valid meta;
+            read_only = neither (told_other r e ReadOnly told (not_read_only e one)) may_write;
+            kept = λ is. absurd (told_no_value r e stored.Kept told is);
+            too_long = neither (told_other r e TooLong told (never_too_long e)) not_long;
+            keeps = keeps;
+            only = told_by (λ fault. IsAmong fault store_faults) r e told (among_store e one);
+          }
+
+          -- the key was there, and its content stays
+          pub kept_store : IsRead old new → mode ≡ Insert → Searched old key (EndsWith key) → IsStoreEnd old new new key content mode (Ok stored.Kept)
+          kept_store read inserts searched = record {
+            shape = stays_as (meta_kept old) (meta_kept new) old.valid (still_meta s old new read);
+            read_only = neither (λ is. absurd (let x = is in cc)) may_write;
+            kept = λ _. (inserts, searched);
+            too_long = neither (λ is. absurd (let x = is in cc)) not_long;
+            keeps = read_keeps s old new read usable stored.Kept;
+            only = tt;
+          }
+
+          -- the limit is reached
+          pub full_store : IsRead old new → IsStoreEnd old new (with_fault new Full) key content mode (Err Full)
+          full_store read = record {
+            shape = stays_as (meta_kept old) (meta_kept new) old.valid (still_meta s old new read);
+            read_only = neither (λ is. absurd (let x = is in cc)) may_write;
+            kept = λ is. absurd (let x = is in cc);
+            too_long = neither (λ is. absurd (let x = is in cc)) not_long;
+            keeps = refused_keeps s old new read usable StoreReply Full (λ is. absurd (let x = is in cc)) (λ is. absurd (let x = is in cc));
+            only = inr (inr (inr (inl refl)));
+          }
+
+          -- the pair is there
+          pub done_store : shape_in (meta_kept new) ≡ shape_for (meta_kept new).pairs (shape_in (meta_kept old)) → IsCallEnded old new (Ok stored.Stored) → IsStoreEnd old new new key content mode (Ok stored.Stored)
+          done_store shape keeps = record {
+            shape = shape;
+            read_only = neither (λ is. absurd (let x = is in cc)) may_write;
+            kept = λ is. absurd (let x = is in cc);
+            too_long = neither (λ is. absurd (let x = is in cc)) not_long;
+            keeps = keeps;
+            only = tt;
+          }
+
+        -- a delete that the pages below refuse
+        pub told_delete : (r : Result DeleteReply Fault) (e : PageFault) → IsErrAnd r (λ fault. fault ≡ fault_from e) → IsOfChange e → meta_kept new ≡ meta_kept old
+            → IsCallEnded old (with_error_of new r) r → IsDeleteEnd old new (with_error_of new r) key r
+        told_delete r e told one meta keeps = record {
+          shape = ap shape_in meta;
+          read_only = neither (told_other r e ReadOnly told (not_read_only e one)) may_write;
+          absent = λ is. absurd (told_no_value r e deleted.Absent told is);
+          counted = λ is. absurd (told_no_value r e deleted.Deleted told is);
+          keeps = keeps;
+          only = told_by (λ fault. IsAmong fault delete_faults) r e told (among_delete e one);
+        }
+
+        -- the key isn't there
+        pub absent_delete : IsRead old new → Searched old key (EndsWithout key) → IsDeleteEnd old new new key (Ok deleted.Absent)
+        absent_delete read searched = record {
+          shape = ap shape_in (still_meta s old new read);
+          read_only = neither (λ is. absurd (let x = is in cc)) may_write;
+          absent = λ _. searched;
+          counted = λ is. absurd (let x = is in cc);
+          keeps = read_keeps s old new read usable deleted.Absent;
+          only = tt;
+        }
+
+        -- the key is there, and the file counts no pair
+        pub uncounted_delete : IsRead old new → IsDeleteEnd old new (with_fault new Damaged) key (Err Damaged)
+        uncounted_delete read = record {
+          shape = ap shape_in (still_meta s old new read);
+          read_only = neither (λ is. absurd (let x = is in cc)) may_write;
+          absent = λ is. absurd (let x = is in cc);
+          counted = λ is. absurd (let x = is in cc);
+          keeps = refused_keeps s old new read usable DeleteReply Damaged (λ is. absurd (let x = is in cc)) (λ is. absurd (let x = is in cc));
+          only = inr (inr (inr (inr (inr refl))));
+        }
+
+        -- the key is gone
+        pub done_delete : shape_in (meta_kept new) ≡ shape_in (meta_kept old) → (meta_kept new).pairs + 1 ≡ (meta_kept old).pairs → IsCallEnded old new (Ok deleted.Deleted) → IsDeleteEnd old new new key (Ok deleted.Deleted)
+        done_delete shape counted keeps = record {
+          shape = shape;
+          read_only = neither (λ is. absurd (let x = is in cc)) may_write;
+          absent = λ is. absurd (let x = is in cc);
+          counted = λ _. counted;
+          keeps = keeps;
+          only = tt;
+        }
+
+  -- what a walk that failed leaves
+  pub walk_told : {T : Type 0} (old new : Database S s) (e : PageFault) (r : Result T Fault) → IsRead old new → (page_state old).usable ≡ true → IsWalkAnswer {T = Bool} (page_state old) (Err e)
+      → HasDeviceCause {T = Bool} (s.faults (store_of old)) (s.faults (store_of new)) (Err e) → IsErrAnd r (λ fault. fault ≡ fault_from e) → IsCallEnded old (with_error_of new r) r
+  walk_told old new e (Ok value) read usable answer cause told = absurd told
+  walk_told {T} old new e (Err fault) read usable answer cause told =
+      subst (λ (f : Fault). IsCallEnded {T = T} old (with_fault new f) (Err f)) (sym told)
+      (refused_keeps s old new read usable T (fault_from e) (λ is. cause.fault (ap Err (told_device e is))) (λ is. absurd (let x = answer.broken (ap Err (told_broken e is)) ∙ refl in let y = sym usable ∙ x in cc)))
+
+  -- the same store and delete, whose fault was then kept as the first one
+  module _ (old db : Database S s) (idle : (page_state db).staged ≡ []) (access : (page_state db).writable ≡ db.writable) (valid : IsMeta (meta_kept db)) (error : Option Fault) (fault : Fault)
+      (flag : error ≡ cond (is_some db.error) db.error (Some fault)) where
+    abbrev flagged : Database S s
+    flagged = kept_error s db idle access valid error
+
+    flagged_keeps : {T : Type 0} → IsCallEnded {T = T} old (with_fault db fault) (Err fault) → IsCallEnded {T = T} old flagged (Err fault)
+    flagged_keeps {T} k = subst (λ (e : Option Fault). IsCallEnded {T = T} old (kept_error s db idle access valid e) (Err fault)) (sym flag) record {
+      goes = record { honesty = k.goes.honesty; later = k.goes.later; limit = k.goes.limit; capacity = k.goes.capacity; writable = k.goes.writable; still = λ broken. k.goes.still broken };
+      fault = λ is. k.fault is;
+      no_error = k.no_error;
+      error = k.error;
+      refused = k.refused;
+      breaks = k.breaks;
+      broken = k.broken;
+    }
+
+    pub flagged_ended : {T : Type 0} (r : Result T Fault) → r ≡ Err fault → IsCallEnded {T = T} old (with_fault db fault) (Err fault) → IsCallEnded old flagged r
+    flagged_ended {T} r is keeps = subst (λ (x : Result T Fault). IsCallEnded old flagged x) (sym is) (flagged_keeps keeps)
+
+    pub flagged_store : (key content : List ℕ) (mode : StoreMode) (r : Result StoreReply Fault) → r ≡ Err fault → IsStoreEnd old db (with_fault db fault) key content mode (Err fault) → IsStoreEnd old flagged flagged key content mode r
+    flagged_store key content mode r is end = subst (λ (x : Result StoreReply Fault). IsStoreEnd old flagged flagged key content mode x) (sym is)
+        record { shape = end.shape; read_only = end.read_only; kept = end.kept; too_long = end.too_long; keeps = flagged_keeps end.keeps; only = end.only }
+
+    pub flagged_delete : (key : List ℕ) (r : Result DeleteReply Fault) → r ≡ Err fault → IsDeleteEnd old db (with_fault db fault) key (Err fault) → IsDeleteEnd old flagged flagged key r
+    flagged_delete key r is end = subst (λ (x : Result DeleteReply Fault). IsDeleteEnd old flagged flagged key x) (sym is)
+        record { shape = end.shape; read_only = end.read_only; absent = end.absent; counted = end.counted; keeps = flagged_keeps end.keeps; only = end.only }
+
+  -- what a change that was done leaves
+  pub done_keeps : {T : Type 0} (old mid new : Database S s) (value : T) → IsRead old mid → (page_state old).usable ≡ true → IsDone s mid new (Ok tt) → IsCallEnded old new (Ok value)
+  done_keeps old mid new value read usable done = record {
+    goes = record {
+      honesty = (λ h. read.reads.stages_only.honesty.0 (done.ends.honesty.0 h), λ h. done.ends.honesty.1 (read.reads.stages_only.honesty.1 h));
+      later = omega (arith, read.reads.stages_only.later, done.ends.cause.later);
+      limit = done.ends.limit ∙ still_limit s old mid read;
+      capacity = ap (λ (st : StoreState). st.capacity) done.ends.ok ∙ ap (λ (st : StoreState). st.capacity) read.reads.same;
+      writable = ap (λ (st : StoreState). st.writable) done.ends.ok ∙ still_writable s old mid read;
+      still = λ broken. absurd (let x = sym usable ∙ broken in cc);
+    };
+    fault = λ is. absurd (let x = is in cc);
+    no_error = ap (λ (o : Option Fault). option_map fault_of o) (done.error_is ∙ read.error_is);
+    error = tt;
+    refused = tt;
+    breaks = inl (ap (λ (st : StoreState). st.usable) done.ends.ok ∙ still_usable s old mid read);
+    broken = neither (λ is. absurd (let x = is in cc)) (λ broken. absurd (let x = sym usable ∙ broken in cc));
+  }
+
+-- the shape behind a change, as before it
+pub changed_shape : (old mid new : Meta) → mid ≡ old → shape_in new ≡ shape_for new.pairs (shape_in mid) → shape_in new ≡ shape_for new.pairs (shape_in old)
+changed_shape old mid new same shape = subst (λ (m : Meta). shape_in new ≡ shape_for new.pairs (shape_in m)) same shape
+
+-- a walk of the pages that went well
+pub walk_was : {T : Type 0} {state : StoreState} (value : T) → IsWalkAnswer state (Ok value)
+walk_was value = record { broken = λ is. absurd (let x = is in cc); only = tt }
+
+pub never_damaged : {T : Type 0} (value : T) → IsErrOf {T = T} {E = PageFault} (Ok value) page.Damaged → ⊥
+never_damaged value is = absurd (let x = is in cc)
