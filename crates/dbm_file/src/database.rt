@@ -47,6 +47,7 @@ impl<S: PageStore> Database<S> {
     ghost use Rattle.dbm_file.specs.Database.{store_of, meta_kept, page_state, error_of, cursor_of, IsAt, AtEachHandle};
     ghost use Rattle.dbm_file.specs.Answers.{IsStep, IsCallEnded};
     ghost use Rattle.dbm_file.specs.Lending.{Lends};
+    ghost use Rattle.dbm_file.specs.Replies.{store_faults, delete_faults, read_faults, next_faults};
     ghost use Rattle.dbm_file.specs.Passing.{HasLeft};
     ghost use Rattle.dbm_file.specs.Searches.{Searched, EndsWith, EndsBy, EndsAtContent, Passed, IsReached, pass_start};
     ghost use Rattle.dbm_file.specs.Ending.{EndsAs};
@@ -67,7 +68,7 @@ impl<S: PageStore> Database<S> {
 
         // On any file the answer was read from the key's bucket, up to the key or to the end.
         ensures searched { IfOk result (λ found. Searched self.old key.now (EndsAtContent key.now found)) }
-        ensures only { IsErrAmong result (Fault.Broken ∷ Fault.Device ∷ Fault.Damaged ∷ []) }
+        ensures only { IsErrAmong result read_faults }
     {
         if self.store.is_broken() {
             return refuse(&mut self.error, Fault::Broken);
@@ -96,7 +97,7 @@ impl<S: PageStore> Database<S> {
         ensures kept { result ≡ Ok StoreReply.Kept → (mode ≡ StoreMode.Insert) × Searched self.old key.now (EndsWith key.now) }
         ensures too_long { (result ≡ Err Fault.TooLong) ↔ (((page_state self.old).usable ≡ true) × ((page_state self.old).writable ≡ true) × (2026 < length key.now + length content.now)) }
         ensures keeps { IsCallEnded self.old self.new result }
-        ensures only { IsErrAmong result (Fault.Broken ∷ Fault.ReadOnly ∷ Fault.TooLong ∷ Fault.Full ∷ Fault.Memory ∷ Fault.Device ∷ Fault.NoRoom ∷ Fault.Damaged ∷ []) }
+        ensures only { IsErrAmong result store_faults }
     {
         match self.try_store(key, content, mode) {
             Ok(reply) => Ok(reply),
@@ -114,7 +115,7 @@ impl<S: PageStore> Database<S> {
         ensures absent { result ≡ Ok DeleteReply.Absent → Searched self.old key.now (EndsWithout key.now) }
         ensures counted { result ≡ Ok DeleteReply.Deleted → (meta_kept self.new).pairs + 1 ≡ (meta_kept self.old).pairs }
         ensures keeps { IsCallEnded self.old self.new result }
-        ensures only { IsErrAmong result (Fault.Broken ∷ Fault.ReadOnly ∷ Fault.Memory ∷ Fault.Device ∷ Fault.NoRoom ∷ Fault.Damaged ∷ []) }
+        ensures only { IsErrAmong result delete_faults }
     {
         match self.try_delete(key) {
             Ok(reply) => Ok(reply),
@@ -131,7 +132,7 @@ impl<S: PageStore> Database<S> {
 
         // On any file the buckets were read from the first one on.
         ensures passed { IfOk result (λ found. Passed self.old pass_start found) }
-        ensures only { IsErrAmong result (Fault.Broken ∷ Fault.Device ∷ Fault.Damaged ∷ []) }
+        ensures only { IsErrAmong result read_faults }
     {
         if self.store.is_broken() {
             return refuse(&mut self.error, Fault::Broken);
@@ -153,7 +154,7 @@ impl<S: PageStore> Database<S> {
 
         // On any file the buckets were read from where the pass stood.
         ensures passed { IfOk result (λ found. IfSome (cursor_of self.old) (λ cursor. Passed self.old cursor found)) }
-        ensures only { IsErrAmong result (Fault.Broken ∷ Fault.NoPass ∷ Fault.Device ∷ Fault.Damaged ∷ []) }
+        ensures only { IsErrAmong result next_faults }
     {
         if self.store.is_broken() {
             return refuse(&mut self.error, Fault::Broken);
@@ -228,7 +229,7 @@ impl<S: PageStore> Database<S> {
         ensures kept { result ≡ Ok StoreReply.Kept → (mode ≡ StoreMode.Insert) × Searched self.old key.now (EndsWith key.now) }
         ensures too_long { (result ≡ Err Fault.TooLong) ↔ (((page_state self.old).usable ≡ true) × ((page_state self.old).writable ≡ true) × (2026 < length key.now + length content.now)) }
         ensures keeps { IsCallEnded self.old (with_error_of self.new result) result }
-        ensures only { IsErrAmong result (Fault.Broken ∷ Fault.ReadOnly ∷ Fault.TooLong ∷ Fault.Full ∷ Fault.Memory ∷ Fault.Device ∷ Fault.NoRoom ∷ Fault.Damaged ∷ []) }
+        ensures only { IsErrAmong result store_faults }
     {
         if self.store.is_broken() {
             return Err(Fault::Broken);
@@ -267,7 +268,7 @@ impl<S: PageStore> Database<S> {
         ensures absent { result ≡ Ok DeleteReply.Absent → Searched self.old key.now (EndsWithout key.now) }
         ensures counted { result ≡ Ok DeleteReply.Deleted → (meta_kept self.new).pairs + 1 ≡ (meta_kept self.old).pairs }
         ensures keeps { IsCallEnded self.old (with_error_of self.new result) result }
-        ensures only { IsErrAmong result (Fault.Broken ∷ Fault.ReadOnly ∷ Fault.Memory ∷ Fault.Device ∷ Fault.NoRoom ∷ Fault.Damaged ∷ []) }
+        ensures only { IsErrAmong result delete_faults }
     {
         if self.store.is_broken() {
             return Err(Fault::Broken);
