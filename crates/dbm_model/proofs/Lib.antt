@@ -1,4 +1,5 @@
 pub mod CaseLemmas
+pub mod NumberLemmas
 pub mod PassLemmas
 pub mod RefusalLemmas
 pub mod RunLemmas

@@ -1,5 +1,5 @@
 -- Runs that are worked out by hand.
-use Rattle.std.proofs.Common.{length, ◌+◌, not, ◌&&◌, ◌≡◌, inl, inr, ℕ, ◌≤◌, List, [], ◌∷◌, Bool, true, false, cond, Option, Some, None, refl, sym, ◌∙◌, ap, subst, arith}
+use Rattle.std.proofs.Common.{length, ◌+◌, not, ◌&&◌, ◌≡◌, inl, inr, ⊎_elim, ℕ, ◌≤◌, List, [], ◌∷◌, Bool, true, false, cond, Option, Some, None, refl, sym, ◌∙◌, ap, subst, arith}
 use Rattle.std.specs.FinMap.{empty, get, insert, remove, len, get-empty, get-insert, get-remove, len-empty, len-insert, keys, contains_key-keys, slice_cmp-IsAntisymmetric, nat_cmp-IsAntisymmetric}
 use Rattle.std.specs.Prelude.{nat_le, is_some, IsTrue}
 use Rattle.std.specs.Cmp.{IsTotalOrder}
@@ -7,11 +7,11 @@ use Rattle.std.specs.Cmp.Lexicographic.{nat_list_cmp_total}
 use Rattle.std.proofs.lemmas.Bool.{lt-leb}
 use Rattle.std.specs.Ordering.{eq_by_cmp}
 use Rattle.std.specs.FinSet as set
-use Rattle.dbm_model.specs.Calls.{Mode, Insert, Replace, Call, Store, Reply, Stored, Kept, Deleted, Absent, Bytes, NoRecord, Number, Fault, NoPass, Full, TooLong}
+use Rattle.dbm_model.specs.Calls.{Mode, Insert, Replace, Call, Store, Fetch, First, Next, End, Refused, Reply, Stored, Kept, Deleted, Absent, Bytes, NoRecord, Number, Fault, NoPass, Full, TooLong}
 use Rattle.dbm_model.specs.Pairs.{Contents, Key, key_cmp}
 use Rattle.dbm_model.specs.States.{State, Keys, Handle, fresh}
-use Rattle.dbm_model.specs.Steps.{Case, Tells, Refuses, Declines, Finds, Passes, Changes, fetched, deleted, stored, case_of, Answers, Run}
-use Rattle.dbm_model.specs.Examples.{StopsAtLimit, StoresAndDeletes, PassesOverNothing, PassesOn, EndsPass, MayAnswer, one}
+use Rattle.dbm_model.specs.Steps.{Case, Tells, Refuses, Declines, Finds, Passes, Changes, fetched, deleted, stored, case_of, Answers, Suffers, Step, Run}
+use Rattle.dbm_model.specs.Examples.{StopsAtLimit, StoresAndDeletes, PassesOverNothing, PassesOn, EndsPass, MayAnswer, WrongReplies, new_database, one}
 
 -- a first call that nothing stops
 calm : (h last : Handle) (call : Call) (calls : List Call) (c : Case) (reply : Reply) (replies : List Reply) (after : State)
@@ -185,3 +185,50 @@ stores_and_deletes =
     (goes second (Changes Deleted left) third (ap (deleted second k) (get-insert order map [] [] k ∙ had)) (refl, refl)
     (goes third (Finds Absent) third (ap (deleted third k) (get-remove order two k k)) (refl, refl)
     (goes third (Tells (Number 0) third) third refl (refl, refl) (done third)))))))))))
+
+-- a reply that isn't a refusal
+abbrev IsWell : Reply → Type 0
+IsWell reply = (fault : Fault) → reply ≡ Refused fault → ⊥
+
+-- it isn't one that comes instead
+well_unsuffered : (h after : Handle) (c : Case) (reply : Reply) → IsWell reply → Suffers h c reply after → ⊥
+well_unsuffered h after (Tells said told) reply well s = s
+well_unsuffered h after (Refuses fault) reply well s = s
+well_unsuffered h after (Declines fault) reply well s = well _ s.0
+well_unsuffered h after (Finds found) reply well s = well _ s.0
+well_unsuffered h after (Passes left) reply well s = well _ s.0
+well_unsuffered h after (Changes said map) reply well s = ⊎_elim (λ f. well _ f.0) (λ o. ⊎_elim (λ b. well _ b.0) (λ p. ⊎_elim (λ m. well _ m.0) (λ r. well _ r.0) p) o) s
+
+-- it comes by the rule that the call falls under
+surely : (h after : Handle) (s : State) (call : Call) (c : Case) (reply : Reply) → h.state ≡ s → case_of s call ≡ c → IsWell reply → Step h call reply after → Answers s c reply after.state
+surely h after s call c reply is falls well step =
+    let rule = ap (λ (t : State). case_of t call) is ∙ falls in
+    ⊎_elim
+    (λ a. subst (λ (t : State). Answers t c reply after.state) is (subst (λ (d : Case). Answers h.state d reply after.state) rule a))
+    (λ t. absurd (well_unsuffered h after c reply well (subst (λ (d : Case). Suffers h d reply after) rule t)))
+    step.answers
+
+-- what a first store leaves
+once : (limit : ℕ) → 1 ≤ limit → (after : Handle) → Step (new_database limit) (Store (one 0x61) (one 0x01) Replace) Stored after → after.state ≡ at limit (only (one 0x01)) None None
+once limit some after step =
+    let rule = adds limit empty None None (one 0x61) (one 0x01) allowed (get-empty key_cmp (one 0x61)) (none_yet limit some) in
+    (surely (new_database limit) after (at limit empty None None) (Store (one 0x61) (one 0x01) Replace) (Changes Stored (only (one 0x01))) Stored refl rule (λ fault is. absurd (let x = is in cc)) step).1
+
+some_key : all_of (only (one 0x01)) ≡ set.empty → ⊥
+some_key none = absurd (let x = sym (has_it (one 0x01)) ∙ ap (λ (keys : Keys). set.contains keys (one 0x61)) none ∙ set.contains-empty key_cmp (one 0x61) in cc)
+
+pub wrong_replies : WrongReplies
+wrong_replies =
+    let map = only (one 0x01) in
+    let s = at 100 map None None in
+    let has = is_only (one 0x01) (one 0x61) in
+    record {
+      invented = λ m. absurd (let a = surely (new_database 100) m.run.0 (at 100 empty None None) (Fetch (one 0x61)) (Finds NoRecord) (Bytes (one 0x01)) refl (ap fetched (get-empty key_cmp (one 0x61))) (λ fault is. absurd (let x = is in cc)) m.run.1 in let x = a.0 in cc);
+      lost = λ m. absurd (let a = surely m.run.0 m.run.2.0 s (Fetch (one 0x61)) (Finds (Bytes (one 0x01))) NoRecord (once 100 (omega arith) m.run.0 m.run.1) (ap fetched has) (λ fault is. absurd (let x = is in cc)) m.run.2.1 in let x = a.0 in cc);
+      another = λ m. absurd (let a = surely m.run.0 m.run.2.0 s (Fetch (one 0x61)) (Finds (Bytes (one 0x01))) (Bytes (one 0x02)) (once 100 (omega arith) m.run.0 m.run.1) (ap fetched has) (λ fault is. absurd (let x = is in cc)) m.run.2.1 in let x = a.0 in cc);
+      replaced = λ m. absurd (let a = surely m.run.0 m.run.2.0 s (Store (one 0x61) (one 0x02) Insert) (Finds Kept) Stored (once 100 (omega arith) m.run.0 m.run.1) (by_old 100 map None None (one 0x61) (one 0x02) allowed Insert (Some (one 0x01)) has) (λ fault is. absurd (let x = is in cc)) m.run.2.1 in let x = a.0 in cc);
+      beyond = λ m. absurd (let a = surely m.run.0 m.run.2.0 (at 1 map None None) (Store (one 0x62) (one 0x01) Replace) (Declines Full) Stored (once 1 (omega arith) m.run.0 m.run.1)
+          (declines 1 map None None (one 0x62) (one 0x01) allowed (is_only (one 0x01) (one 0x62)) (ap (nat_le 1) (one_more (one 0x61) (one 0x01)))) (λ fault is. absurd (let x = is in cc)) m.run.2.1 in let x = a.0 in cc);
+      ended = λ m. ⊎_elim (λ none. some_key none.0) (λ key. absurd (let x = key.2 in cc)) (surely m.run.0 m.run.2.0 s First (Passes (all_of map)) End (once 100 (omega arith) m.run.0 m.run.1) refl (λ fault is. absurd (let x = is in cc)) m.run.2.1);
+      unbegun = λ m. absurd (let a = surely (new_database 100) m.run.0 (at 100 empty None None) Next (Refuses NoPass) End refl refl (λ fault is. absurd (let x = is in cc)) m.run.1 in let x = a.0 in cc);
+    }

@@ -45,3 +45,17 @@ abbrev pub EndsPass : Type 0
 EndsPass = MayAnswer 100
     (Store (one 0x61) (one 0x01) Replace ∷ First ∷ Store (one 0x61) (one 0x02) Replace ∷ Next ∷ First ∷ [])
     (Stored ∷ Bytes (one 0x61) ∷ Stored ∷ Refused NoPass ∷ Bytes (one 0x61) ∷ [])
+
+-- a new database never answers the calls so
+abbrev pub NeverAnswers : ℕ → List Call → List Reply → Type 0
+NeverAnswers limit calls replies = MayAnswer limit calls replies → ⊥
+
+-- replies that no run has: a content is invented, a pair is lost, a content is another one, an insert replaces, the limit is passed, a pass ends with a key left or begins by itself
+pub record WrongReplies : Type 0 where
+  pub invented : NeverAnswers 100 (Fetch (one 0x61) ∷ []) (Bytes (one 0x01) ∷ [])
+  pub lost : NeverAnswers 100 (Store (one 0x61) (one 0x01) Replace ∷ Fetch (one 0x61) ∷ []) (Stored ∷ NoRecord ∷ [])
+  pub another : NeverAnswers 100 (Store (one 0x61) (one 0x01) Replace ∷ Fetch (one 0x61) ∷ []) (Stored ∷ Bytes (one 0x02) ∷ [])
+  pub replaced : NeverAnswers 100 (Store (one 0x61) (one 0x01) Replace ∷ Store (one 0x61) (one 0x02) Insert ∷ []) (Stored ∷ Stored ∷ [])
+  pub beyond : NeverAnswers 1 (Store (one 0x61) (one 0x01) Replace ∷ Store (one 0x62) (one 0x01) Replace ∷ []) (Stored ∷ Stored ∷ [])
+  pub ended : NeverAnswers 100 (Store (one 0x61) (one 0x01) Replace ∷ First ∷ []) (Stored ∷ End ∷ [])
+  pub unbegun : NeverAnswers 100 (Next ∷ []) (End ∷ [])

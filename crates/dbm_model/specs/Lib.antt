@@ -2,6 +2,7 @@ pub mod Calls
 pub mod Changes
 pub mod Examples
 pub mod FaultCount
+pub mod FaultNumbers
 pub mod Pairs
 pub mod Passes
 pub mod Refusals

@@ -1,8 +1,10 @@
-// Laws of calls and runs. What each says stands in `specs/Changes.antt`, `specs/Refusals.antt`, `specs/Passes.antt` and `specs/Examples.antt`.
+// Laws of calls and runs. What each says stands in `specs/Changes.antt`, `specs/Refusals.antt`, `specs/FaultNumbers.antt`,
+// `specs/Passes.antt` and `specs/Examples.antt`.
 ghost use Rattle.dbm_model.specs.Changes.{OnlyAcknowledgedChanges, OnlyChangesBreak, BrokenStays};
 ghost use Rattle.dbm_model.specs.Refusals.{RefusesOnlyWhereDue, BrokenRefuses, ReadingRefuses, ReadingKeeps, SettingsStay, TooLongIsRefused, InsertKeeps, FullIsRefused, AbsentIsTold, ErrorIsTold, ErrorIsCleared, FirstFaultIsKept};
+ghost use Rattle.dbm_model.specs.FaultNumbers.{FaultsAreNumbered, NumbersDiffer, NoFaultIsZero};
 ghost use Rattle.dbm_model.specs.Passes.{PassesAreComplete};
-ghost use Rattle.dbm_model.specs.Examples.{StoresAndDeletes, StopsAtLimit, PassesOverNothing, PassesOn, EndsPass};
+ghost use Rattle.dbm_model.specs.Examples.{StoresAndDeletes, StopsAtLimit, PassesOverNothing, PassesOn, EndsPass, WrongReplies};
 
 /// Only an acknowledged change changes the map of a handle that stays usable.
 pub fn only_acknowledged_changes()
@@ -43,16 +45,24 @@ pub fn first_fault_is_kept()
     ensures kept { FirstFaultIsKept }
 {}
 
+/// Each fault has a number of its own, from 1 to 15, and 0 is told where there is none.
+pub fn faults_have_numbers()
+    ensures in_order { FaultsAreNumbered }
+    ensures differ { NumbersDiffer }
+    ensures not_zero { NoFaultIsZero }
+{}
+
 /// A completed pass without a change gives each key exactly once.
 pub fn passes_are_complete()
     ensures { PassesAreComplete }
 {}
 
-/// Runs of a new database that are worked out by hand.
+/// Runs of a new database that are worked out by hand, and replies that none has.
 pub fn run_examples()
     ensures stores_and_deletes { StoresAndDeletes }
     ensures stops_at_limit { StopsAtLimit }
     ensures passes_over_nothing { PassesOverNothing }
     ensures passes_on { PassesOn }
     ensures ends_pass { EndsPass }
+    ensures never { WrongReplies }
 {}

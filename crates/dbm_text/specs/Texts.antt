@@ -1,6 +1,9 @@
 -- Words, lines and replies, worked out by hand, and the law of words.
 use Rattle.std.specs.Prelude.{◌≡◌, ℕ, ◌<◌, ◌≤◌, List, [], ◌∷◌, length, slice_index, Some, None, codes}
+use Rattle.std.specs.FinMap.{empty, insert}
+use Rattle.dbm_model.specs.Pairs.{Contents}
 use Rattle.dbm_model.specs.Calls.{Insert, Replace, Store, Fetch, Delete, First, Next, Error, Clear, Stored, Kept, Deleted, Absent, Bytes, NoRecord, End, Number, Refused, Full, Exists}
+use Rattle.dbm_text.specs.Dumps.{dump_of, listing_of}
 use Rattle.dbm_text.specs.Lines.{lines_of, words_in, call_of_words, call_in_line, reply_line}
 use Rattle.dbm_text.specs.Scripts.{script_of, calls_in, answer_of}
 use Rattle.dbm_text.specs.Words.{word_of, word_bytes}
@@ -56,3 +59,12 @@ abbrev pub ScriptExample : Type 0
 ScriptExample =
     (calls_in (script_of (codes "S 6b 76\nQ\nF 6b\n")) ≡ Store (0x6b ∷ []) (0x76 ∷ []) Replace ∷ Fetch (0x6b ∷ []) ∷ [])
     × (answer_of (script_of (codes "S 6b 76\nQ\nF 6b\n")) (Stored ∷ Bytes (0x76 ∷ []) ∷ []) ≡ codes "0\n-1 line\n76\n")
+
+-- two pairs, of which one has no content
+abbrev pub two_pairs : Contents
+two_pairs = insert (insert empty (0x62 ∷ []) []) (0x61 ∷ 0xff ∷ []) (0x01 ∷ [])
+
+pub record DumpExamples : Type 0 where
+  pub nothing : dump_of empty ≡ []
+  pub dump : dump_of two_pairs ≡ codes "61ff 01\n62 .\n"
+  pub listing : listing_of two_pairs ≡ codes "61ff\n62\n"

@@ -4,4 +4,4 @@
 
 mod text_laws;
 
-pub use text_laws::{line_examples, script_example, word_examples, words_read_back};
+pub use text_laws::{dump_examples, line_examples, script_example, word_examples, words_read_back};

@@ -1,5 +1,5 @@
 // Laws of words, lines and scripts. What each says stands in `specs/Texts.antt`.
-ghost use Rattle.dbm_text.specs.Texts.{WordsReadBack, WordExamples, LineExamples, LongLines, ScriptExample};
+ghost use Rattle.dbm_text.specs.Texts.{WordsReadBack, WordExamples, LineExamples, LongLines, ScriptExample, DumpExamples};
 
 /// A word stands for the bytes that it was made of.
 pub fn words_read_back()
@@ -20,4 +20,9 @@ pub fn line_examples()
 /// A script that is worked out by hand.
 pub fn script_example()
     ensures { ScriptExample }
+{}
+
+/// Dumps and a listing that are worked out by hand.
+pub fn dump_examples()
+    ensures { DumpExamples }
 {}

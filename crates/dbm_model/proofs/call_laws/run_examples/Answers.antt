@@ -1,4 +1,4 @@
-use Rattle.dbm_model.proofs.RunLemmas.{stores_and_deletes, stops_at_limit, passes_over_nothing, passes_on, ends_pass}
+use Rattle.dbm_model.proofs.RunLemmas.{stores_and_deletes, stops_at_limit, passes_over_nothing, passes_on, ends_pass, wrong_replies}
 use Rattle.dbm_model.proofs.call_laws.run_examples.Goals as goal
 
 pub returns : goal.returns
@@ -8,4 +8,5 @@ returns c = record {
   passes_over_nothing = passes_over_nothing;
   passes_on = passes_on;
   ends_pass = ends_pass;
+  never = wrong_replies;
 }
