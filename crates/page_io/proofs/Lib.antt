@@ -2,12 +2,16 @@ pub mod Exits
 pub mod Fields
 pub mod Meanings
 pub mod Memory
+mod MemoryAnswers
 pub mod Overlays
 pub mod OwnNumbers
 pub mod PageLaws
 pub mod PageLists
 mod Places
 pub mod PlainPages
+mod Replacing
 pub mod Runs
+mod SectorRuns
+mod Slices
 pub mod StagedPages
 pub mod Views

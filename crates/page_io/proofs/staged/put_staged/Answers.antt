@@ -1,4 +1,5 @@
 use Rattle.std.proofs.Common.{◌≡◌, List, ◌∷◌, ◌++◌, set, take, drop, true, false, Result, Ok, Err, OnErr, sym, ◌∙◌, ap, subst}
+use Rattle.std.specs.Prelude.{IsFalse}
 use Rattle.page_io.specs.Page.{own_number}
 use Rattle.page_io.specs.Store.{Pages, bytes_of, put_page, has_page, are_in_order}
 use Rattle.page_io.specs.declared.page.Page.{Page}
@@ -29,9 +30,10 @@ returns-clause-ok c =
     let place = c.place_of-at.ensures in
     let at = c.place_of-at.result in
     let page = c.args.page.now in
+    let other : IsFalse c.is_at.result = cc in
     ap bytes_of c.in_ok-insert.ensures.items
     ∙ subst (λ (ps : List Page). bytes_of (take at ps ++ page ∷ drop at ps) ≡ put_page (bytes_of ps) page.bytes) c.as_slice-pages.ensures.value
-    (inserted_at c.as_slice-pages.result.now at page place.within place.before place.after (c.is_at.ensures.no c.if-is_at.false))
+    (inserted_at c.as_slice-pages.result.now at page place.within place.before place.after (c.is_at.ensures.no other))
 
 pub returns-clause-order : goal.returns-clause-order
 returns-clause-order c =

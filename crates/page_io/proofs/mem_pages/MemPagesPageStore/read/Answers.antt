@@ -1,6 +1,7 @@
-use Rattle.std.proofs.Common.{◌≡◌, ◌<◌, ◌≤◌, ◌-◌, List, length, false, sym, ◌∙◌, ap, arith}
+use Rattle.std.proofs.Common.{◌≡◌, ◌<◌, ◌≤◌, ◌-◌, List, length, true, false, inl, inr, refl, sym, ◌∙◌, ap, arith}
 use Rattle.page_io.specs.Store.{bytes_of, file_pages, overlaid, page_of, has_page}
 use Rattle.page_io.proofs.Overlays.{overlaid-staged, overlaid-none, page_of-file}
+use Rattle.page_io.proofs.MemoryAnswers.{known_answer}
 use Rattle.page_io.proofs.PageLists.{bytes_at}
 use Rattle.page_io.specs.declared.page.Page.{Page}
 use Rattle.page_io.proofs.mem_pages.MemPagesPageStore.read.Goals as goal
@@ -26,3 +27,13 @@ returns-clause-found c honest =
     let inside : n - 1 < length old.pages.items = omega (arith, ge, lt, old.room) in
     sym (bytes_at old.pages.items (n - 1) c.index.result.now inside c.index.ensures)
     ∙ sym (page_of-file at old.end n ge lt) ∙ sym (overlaid-none (bytes_of old.staged.items) home n none)
+
+pub returns-then-find_staged-clause-answer : goal.returns-then-find_staged-clause-answer
+returns-then-find_staged-clause-answer c =
+    let n = c.args.n in
+    let has : has_page (bytes_of c.args.self.now.staged.items) n ≡ true =
+    ap (λ (ps : List Page). has_page (bytes_of ps) n) (sym c.as_slice.ensures.value) ∙ sym c.find_staged.ensures.found ∙ c.if-find_staged.true in
+    known_answer _ n refl tt (inl has)
+
+pub returns-clause-answer : goal.returns-clause-answer
+returns-clause-answer c = known_answer _ c.args.n refl tt (inr (omega arith, omega arith))
