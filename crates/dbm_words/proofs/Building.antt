@@ -1,12 +1,15 @@
 -- What an option and a subcommand add to a command's definitions.
-use Rattle.std.proofs.Common.{◌≡◌, ◌∙◌, ◌||◌, false, List, [], ◌∷◌, ap, ap₂, IfOk, Result}
+use Rattle.std.proofs.Common.{◌≡◌, ◌∙◌, ◌||◌, true, false, List, [], ◌∷◌, Some, Bool, ℕ, ap, ap₂, IfOk, Result}
+use Rattle.std.specs.Borrow.{Bor}
 use Rattle.std.proofs.lemmas.Result.{IfOk-weaker}
 use Rattle.clap.specs.Simple.{app_of_fields}
-use Rattle.clap.specs.Words.{AddsArg, AddsSubcommand, App, Rule, Shape, rule_of, with_rule, with_subcommand}
+use Rattle.clap.specs.Words.{AddsArg, AddsSubcommand, App, Rule, Shape, Text, rule_of, with_rule, with_subcommand}
 use Rattle.clap.specs.declared.builder.arg.Arg.{Arg}
+use Rattle.clap.specs.declared.builder.action.ArgAction.{ArgAction}
 use Rattle.clap.specs.declared.builder.command.Command.{Command}
 use Rattle.clap.specs.declared.builder.command.Command.TheOpen.{Command-F}
 use Rattle.clap.specs.declared.builder.command.Command.TheViews.{out-Command}
+use Rattle.clap.specs.declared.builder.value_parser.ValueParser.{ValueParser}
 use Rattle.dbm_words.specs.Building.{Adds, IsApp, IsRule, alone}
 
 -- a command of these fields
@@ -16,6 +19,63 @@ with_fields new fields app is shape local = record { shape = ap app_of_fields is
 -- an argument of these fields
 pub with_settings : (new fields : Arg) (rule : Rule) → new ≡ fields → rule_of fields ≡ rule → fields.global ≡ false → IsRule new rule
 with_settings new fields rule is shape local = record { shape = ap rule_of is ∙ shape; local = ap (λ (a : Arg). a.global) is ∙ local }
+
+-- ---- a command's settings, one by one
+
+-- a text is none of the definitions that the parser reads
+pub with_about : {text : Bor Text} (old new : Command) (app : App) → out-Command new ≡ record (out-Command old) { about = Some text } → IsApp old app → IsApp new app
+with_about {text} old new app is was = with_fields new (record (out-Command old) { about = Some text }) app is was.shape was.local
+
+pub with_after_help : {text : Bor Text} (old new : Command) (app : App) → out-Command new ≡ record (out-Command old) { after_help = Some text } → IsApp old app → IsApp new app
+with_after_help {text} old new app is was = with_fields new (record (out-Command old) { after_help = Some text }) app is was.shape was.local
+
+pub with_usage : {text : Bor Text} (old new : Command) (app : App) → out-Command new ≡ record (out-Command old) { usage_str = Some text } → IsApp old app → IsApp new app
+with_usage {text} old new app is was = with_fields new (record (out-Command old) { usage_str = Some text }) app is was.shape was.local
+
+pub with_version : {text : Bor Text} (old new : Command) (app : App) → out-Command new ≡ record (out-Command old) { version = Some text } → IsApp old app → IsApp new (record { top = record app.top { has_version = true }; subs = app.subs })
+with_version {text} old new app is was =
+    with_fields new (record (out-Command old) { version = Some text }) (record { top = record app.top { has_version = true }; subs = app.subs }) is (ap (λ (a : App). record { top = record a.top { has_version = true }; subs = a.subs }) was.shape) was.local
+
+pub with_no_binary_name : (old new : Command) (app : App) → out-Command new ≡ record (out-Command old) { no_binary_name = true } → IsApp old app → IsApp new (record { top = record app.top { no_binary_name = true }; subs = app.subs })
+with_no_binary_name old new app is was =
+    with_fields new (record (out-Command old) { no_binary_name = true }) (record { top = record app.top { no_binary_name = true }; subs = app.subs }) is (ap (λ (a : App). record { top = record a.top { no_binary_name = true }; subs = a.subs }) was.shape) was.local
+
+pub with_subcommand_required : (old new : Command) (app : App) → out-Command new ≡ record (out-Command old) { subcommand_required = true } → IsApp old app → IsApp new (record { top = record app.top { subcommand_required = true }; subs = app.subs })
+with_subcommand_required old new app is was =
+    with_fields new (record (out-Command old) { subcommand_required = true }) (record { top = record app.top { subcommand_required = true }; subs = app.subs }) is (ap (λ (a : App). record { top = record a.top { subcommand_required = true }; subs = a.subs }) was.shape) was.local
+
+pub with_bin_name : (old new : Command) (app : App) → out-Command new ≡ record (out-Command old) { bin_name = (out-Command new).bin_name } → IsApp old app → IsApp new app
+with_bin_name old new app is was = with_fields new (record (out-Command old) { bin_name = (out-Command new).bin_name }) app is was.shape was.local
+
+-- ---- an argument's settings, one by one
+
+pub with_help : {text : Bor Text} (old new : Arg) (rule : Rule) → new ≡ record old { help = Some text } → IsRule old rule → IsRule new rule
+with_help {text} old new rule is was = with_settings new (record old { help = Some text }) rule is was.shape was.local
+
+-- what stands behind these two has no name here, so their caller shows what the parser reads of it
+pub with_value_name : (old new : Arg) (rule : Rule) → rule_of new ≡ record (rule_of old) { value_names = 1 } → new.global ≡ old.global → IsRule old rule → IsRule new (record rule { value_names = 1 })
+with_value_name old new rule reads local was = record { shape = reads ∙ ap (λ (r : Rule). record r { value_names = 1 }) was.shape; local = local ∙ was.local }
+
+pub with_default : (value : Text) (old new : Arg) (rule : Rule) → rule_of new ≡ record (rule_of old) { defaults = value ∷ [] } → new.global ≡ old.global → IsRule old rule → IsRule new (record rule { defaults = value ∷ [] })
+with_default value old new rule reads local was = record { shape = reads ∙ ap (λ (r : Rule). record r { defaults = value ∷ [] }) was.shape; local = local ∙ was.local }
+
+pub with_required : (must : Bool) (old new : Arg) (rule : Rule) → new ≡ record old { required = must } → IsRule old rule → IsRule new (record rule { required = must })
+with_required must old new rule is was = with_settings new (record old { required = must }) (record rule { required = must }) is (ap (λ (r : Rule). record r { required = must }) was.shape) was.local
+
+pub with_long : {name : Bor Text} (old new : Arg) (rule : Rule) → new ≡ record old { long = Some name } → IsRule old rule → IsRule new (record rule { long = Some name.now })
+with_long {name} old new rule is was = with_settings new (record old { long = Some name }) (record rule { long = Some name.now }) is (ap (λ (r : Rule). record r { long = Some name.now }) was.shape) was.local
+
+pub with_short : (name : ℕ) (old new : Arg) (rule : Rule) → new ≡ record old { short = Some name } → IsRule old rule → IsRule new (record rule { short = Some name })
+with_short name old new rule is was = with_settings new (record old { short = Some name }) (record rule { short = Some name }) is (ap (λ (r : Rule). record r { short = Some name }) was.shape) was.local
+
+pub with_action_of : (action : ArgAction) (old new : Arg) (rule : Rule) → new ≡ record old { action = Some action } → IsRule old rule → IsRule new (record rule { action = Some action })
+with_action_of action old new rule is was = with_settings new (record old { action = Some action }) (record rule { action = Some action }) is (ap (λ (r : Rule). record r { action = Some action }) was.shape) was.local
+
+pub with_parser : (parser : ValueParser) (old new : Arg) (rule : Rule) → new ≡ record old { value_parser = new.value_parser } → new.value_parser ≡ Some parser → IsRule old rule → IsRule new (record rule { parser = Some parser })
+with_parser parser old new rule is read was =
+    with_settings new (record old { value_parser = new.value_parser }) (record rule { parser = Some parser }) is (ap₂ (λ (r : Rule) p. record r { parser = p }) was.shape read) was.local
+
+-- ---- an option or a subcommand more
 
 pub with_option : (old new : Command) (a : Arg) (app : App) (rule : Rule) → IsApp old app → IsRule a rule → AddsArg old a new → IsApp new (with_rule app rule)
 with_option old new a app rule was given adds = record {

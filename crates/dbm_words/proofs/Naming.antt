@@ -1,5 +1,8 @@
 -- What a parse entered, as a plan.
-use Rattle.std.proofs.Common.{◌≡◌, ◌∙◌, ℕ, Bool, true, false, List, Option, Some, None, IfSome, MatchBool, MatchOption, Ok, Result, option_map, refl, sym, ap, ap₂, codes}
+use Rattle.std.proofs.Common.{◌≡◌, ◌∙◌, ℕ, Bool, true, false, List, Option, Some, None, IfSome, MatchBool, MatchOption, Ok, Result, option_map, IfOk, refl, sym, ap, ap₂, subst, eqb, codes}
+use Rattle.std.specs.Option.{ok_or}
+use Rattle.std.proofs.lemmas.Bool.Decides.{Decides-eqb}
+use Rattle.std.proofs.lemmas.Slice.Eq.{slice_eq-Decides}
 use Rattle.std.specs.Str.Parse.{ExplainsUnsignedError, HasUnsignedDigitsIfOk, ParsesUnsigned}
 use Rattle.std.specs.declared.num.ParseIntError.{ParseIntError}
 use Rattle.std.specs.Borrow.{Bor}
@@ -7,7 +10,11 @@ use Rattle.clap.specs.Words.{ReadsOne, Row, Text, first_of, first_value, one_of,
 use Rattle.clap.specs.declared.parser.matches.ArgMatches.{ArgMatches}
 use Rattle.clap.specs.declared.parser.matches.Found.{Found}
 use Rattle.clap.proofs.WalkLemmas.{first_value-rows, one_text-rows}
-use Rattle.dbm_words.specs.CommandLine.{IsNumberText, IsText}
+use lib.Pointwise.{pointwise}
+use Rattle.dbm_words.specs.CommandLine.{Asks, IsNumberText, IsText, LacksSource, Names, NamesNoSource}
+use Rattle.dbm_words.specs.declared.plan.Plan.{Plan}
+use Rattle.dbm_words.specs.declared.words.WordsError.{WordsError}
+use Rattle.dbm_words.specs.declared.words.WordsError.TheVariants.{NoPlan}
 
 map_twice : {A B C : Type 0} (f : B → C) (g : A → B) (o : Option A) → option_map (λ x. f (g x)) o ≡ option_map f (option_map g o)
 map_twice f g None = refl
@@ -26,6 +33,30 @@ pair_of name rows (Some entered) named read =
 -- the command that was entered, by its name and its rows
 pub entered_is : (m : ArgMatches) (name : Text) (rows : List Row) → Some name ≡ subcommand_name_of m → Some rows ≡ option_map (λ p. p.1) (subcommand_rows_of m) → subcommand_rows_of m ≡ Some (name, rows)
 entered_is m name rows named read = pair_of name rows (subcommand_rows_of m) (named ∙ subcommand_name m) read
+
+-- of the command that was entered
+module _ (m : ArgMatches) (name : Text) (rows : List Row) (named : Some name ≡ subcommand_name_of m) (read : Some rows ≡ option_map (λ p. p.1) (subcommand_rows_of m)) where
+  -- what it asks for is what the words name
+  pub names_plan : (plan : Plan) → Asks name rows plan → Names (subcommand_rows_of m) plan
+  names_plan plan asks = subst (λ entered. Names entered plan) (sym (entered_is m name rows named read)) asks
+
+  pub names_found : (found : Option Plan) (result : Result Plan WordsError) → result ≡ ok_or found NoPlan → IfSome found (Asks name rows) → IfOk result (Names (subcommand_rows_of m))
+  names_found found result is asks = subst (λ r. IfOk r (Names (subcommand_rows_of m))) (sym is) (of_found found asks)
+    where
+      of_found : (o : Option Plan) → IfSome o (Asks name rows) → IfOk (ok_or o NoPlan) (Names (subcommand_rows_of m))
+      of_found None asks = tt
+      of_found (Some plan) asks = names_plan plan asks
+
+  pub names_no_source : name ≡ codes "script" → LacksSource rows → NamesNoSource (subcommand_rows_of m)
+  names_no_source is lacks = subst NamesNoSource (sym (entered_is m name rows named read)) (is, lacks)
+
+-- a text that was compared
+pub is_name : (text name : Text) (same : Bool) → same ≡ pointwise eqb text name → same ≡ true → text ≡ name
+is_name text name same is true_is = (slice_eq-Decides Decides-eqb text name same is).0 true_is
+
+-- where nothing was found
+pub if_none : {T : Type 0} (found : Option T) (P : T → Type 0) → found ≡ None → IfSome found P
+if_none {T} found P is = subst (λ (o : Option T). IfSome o P) (sym is) tt
 
 -- the first word under an id, or none
 word_read : (o : Option (Bor Text)) (rows : List Row) (id : Text) → option_map (λ s. s.now) o ≡ first_of id rows → MatchOption o (first_of id rows ≡ None) (λ word. IsText rows id word.now)

@@ -3,7 +3,7 @@ ghost use Rattle.std.specs.Prelude.{IfOk, codes};
 ghost use Rattle.dbm_words.specs.Building.{Adds, IsApp, IsRule, alone};
 ghost use Rattle.dbm_words.specs.CommandLine.{command_line, create_line, faults_line, file_line, hexadecimal_rule, key_line, number_rule, pair_line, program_line, script_line, word_rule};
 
-use crate::help_text::FAULT_TABLE;
+use crate::help_text::fault_table;
 use clap::{Arg, ArgAction, Command, value_parser};
 use std::alloc::{AllocError, Global};
 
@@ -115,12 +115,17 @@ fn program<'a>(alloc: Global) -> Result<Command<'a>, AllocError>
     ensures { IfOk result (λ c. IsApp c (alone program_line)) }
 {
     Command::new(alloc, NAME)
-        .about(ABOUT)
+        .about(about_text())
         .version(VERSION)
         .no_binary_name(true)
         .subcommand_required(true)
-        .after_help(FAULT_TABLE)
+        .after_help(fault_table())
         .bin_name(NAME)
+}
+
+// A long text stands in a function of its own, since each step of a function's proof repeats the texts in it.
+fn about_text<'a>() -> &'a str {
+    ABOUT
 }
 
 fn create_command<'a>(alloc: Global) -> Result<Command<'a>, AllocError>
@@ -240,9 +245,13 @@ fn script_command<'a>(alloc: Global) -> Result<Command<'a>, AllocError>
     );
     Command::new(alloc, SCRIPT)
         .about("Runs the calls on standard input, and answers each on a line of its own")
-        .after_help(SCRIPT_LINES)
+        .after_help(script_lines())
         .arg(word(alloc, FILE, "FILE", FILE_HELP).required(false))?
         .arg(memory)
+}
+
+fn script_lines<'a>() -> &'a str {
+    SCRIPT_LINES
 }
 
 /// The command that prints the statuses and the faults.

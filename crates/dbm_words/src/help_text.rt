@@ -35,3 +35,8 @@ Faults:
   14  there is no such file: look at the name, or use `dbmtool create`
   15  there is such a file already: take another name
 ";
+
+/// The same, where a proof is to read a call in place of the whole text.
+pub fn fault_table<'a>() -> &'a str {
+    FAULT_TABLE
+}

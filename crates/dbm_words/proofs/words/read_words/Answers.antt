@@ -1,8 +1,9 @@
-use Rattle.std.proofs.Common.{◌≡◌, ◌∙◌, IfErr, IfOk, inl, map, ap}
+use Rattle.std.proofs.Common.{◌≡◌, ◌∙◌, IfErr, IfOk, inl, map, ap, refl}
 use Rattle.clap.specs.Words.{app_of, takes}
 use Rattle.dbm_words.specs.CommandLine.{Names, NamesNoSource}
 use Rattle.dbm_words.specs.declared.words.WordsError.TheVariants.{ScriptSource}
 use Rattle.dbm_words.proofs.Reading.{of_words}
+use Rattle.dbm_words.proofs.Refusing.{choice_is_sorted, choice_passes, memory_is_other}
 use Rattle.dbm_words.proofs.words.read_words.Goals as goal
 
 pub returns-in-Ok-try_get_matches_from-clause-plan : goal.returns-in-Ok-try_get_matches_from-clause-plan
@@ -18,3 +19,18 @@ returns-in-Err-clause-source c = λ is. absurd (c.sorted.ensures.source is)
 
 pub returns-in-Err-clause-passes : goal.returns-in-Err-clause-passes
 returns-in-Err-clause-passes c = λ taken. inl (c.sorted.ensures.memory (c.in-Err.ensures.passes (ap (λ a. takes a (map (λ word. word.now) c.args.words.now)) c.in-Ok.ensures.shape ∙ taken)))
+
+pub returns-in_default-clause-source : goal.returns-in_default-clause-source
+returns-in_default-clause-source c = λ is. absurd (memory_is_other is)
+
+pub returns-in_default-clause-passes : goal.returns-in_default-clause-passes
+returns-in_default-clause-passes c = λ _. inl refl
+
+pub returns-in-Ok-try_get_matches_from-clause-sorted : goal.returns-in-Ok-try_get_matches_from-clause-sorted
+returns-in-Ok-try_get_matches_from-clause-sorted c = choice_is_sorted c.chosen.result c.chosen.ensures.others
+
+pub returns-in-Ok-try_get_matches_from-clause-passes : goal.returns-in-Ok-try_get_matches_from-clause-passes
+returns-in-Ok-try_get_matches_from-clause-passes c = λ _. choice_passes c.chosen.result c.chosen.ensures.others
+
+pub returns-in-Err-clause-sorted : goal.returns-in-Err-clause-sorted
+returns-in-Err-clause-sorted c = c.sorted.ensures.sorted
