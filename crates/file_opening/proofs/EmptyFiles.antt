@@ -110,6 +110,14 @@ below_run moment left_since below cap old new P same run = record {
   before = λ t y le left. run.before t y le (subst (λ (n : ℕ). IsOutcome left_since (settled n) (below new) t y) (sym same) left);
 }
 
+-- the run of an emptying, as one of the device, where the limit is known by another name
+pub run_below : {D : Type 0} (dev : device.Ghosts D) (old new : Pager D dev) (pages : Pages) (limit same : ℕ) → same ≡ limit → dev.sectors new.dev / 4 ≡ dev.sectors old.dev / 4
+    → LeavesOnly (λ (p : Pager D dev). dev.moment p.dev) (λ (p : Pager D dev). IsOutcome dev.left_since (settled (dev.sectors p.dev / 4)) p.dev) old new (OldOrEmpty pages same)
+    → LeavesOnly dev.moment (IsOutcome dev.left_since (settled (dev.sectors old.dev / 4))) old.dev new.dev (OldOrEmpty pages limit)
+run_below {D} dev old new pages limit same is size run =
+    subst (λ (n : ℕ). LeavesOnly dev.moment (IsOutcome dev.left_since (settled (dev.sectors old.dev / 4))) old.dev new.dev (OldOrEmpty pages n)) is
+    (below_run dev.moment dev.left_since (λ (p : Pager D dev). p.dev) (λ (p : Pager D dev). dev.sectors p.dev / 4) old new (OldOrEmpty pages same) size run)
+
 -- what is left later settles as something did at the start
 pub settles_from : (cap cap' : ℕ) (start mid : Candidates) (y : Settled) → cap' ≡ cap → ((image : Image) → IsImageOf mid image → SettlesAsBefore cap start image) → SettlesTo cap' mid y → SettlesTo cap start y
 settles_from cap cap' start mid y same before s =

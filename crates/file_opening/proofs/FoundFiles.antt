@@ -1,17 +1,27 @@
 -- What the file of a database says.
-use Rattle.std.proofs.Common.{◌≡◌, ℕ, List, [], Bool, false, cond, Result, Ok, Err, IfOk, sym, ap, subst, ◌∙◌}
+use Rattle.std.proofs.Common.{◌≡◌, ◌≢◌, ◌↔◌, inl, inr, ℕ, List, [], Bool, false, cond, Result, Ok, Err, IfOk, sym, ap, subst, ◌∙◌}
+use Rattle.std.proofs.lemmas.Bool.{cases_eq}
+use Rattle.std.specs.Prelude.{IsOkAnd}
 use Rattle.std.specs.FinMap.{empty}
 use Rattle.dbm_model.specs.Pairs.{Contents}
+use Rattle.page_model.specs.Bytes.{u32_at}
+use Rattle.page_model.specs.Pages.{Meta, MetaPage}
 use Rattle.page_model.specs.Reading.{body_of}
+use Rattle.page_model.specs.Valid.{IsMeta}
 use Rattle.page_model.specs.PageBodies as page_bodies
 use Rattle.page_model.proofs.GoodBodies.{bodies_valid}
 use Rattle.page_io.specs.Store.{Pages, page_of, overlaid}
 use Rattle.page_io.specs.Meaning.{FileStandsFor}
 use Rattle.page_io.specs.declared.store.PageStore as store
+use Rattle.seg_table.specs.MetaPages.{model_meta, HasMetaHeader}
+use Rattle.seg_table.specs.declared.meta.Meta as meta
+use Rattle.seg_table.specs.declared.meta.MetaFault.{MetaFault}
+use Rattle.seg_table.specs.declared.meta.MetaFault.TheVariants as meta_fault
 use Rattle.file_opening.specs.OpenFiles.{StandsAs, OpensAs}
-use Rattle.file_opening.specs.Opening.{is_exclusive, SaysMeta}
+use Rattle.file_opening.specs.Opening.{is_exclusive, SaysMeta, SaysNoMeta, RefusesMeta}
 use Rattle.file_opening.specs.declared.file.OpenFile.{OpenFile}
 use Rattle.file_opening.specs.declared.open_how.OpenHow.{OpenHow}
+use Rattle.dbm_fault.specs.declared.fault.Fault.TheVariants.{Version, Damaged}
 
 -- a file that stands for a map has a meta page, which is what is read of page 1 where nothing is staged
 pub says_meta : (pages staged : Pages) (map : Contents) (limit : ℕ) (bytes : List ℕ) → FileStandsFor pages map limit → staged ≡ [] → bytes ≡ overlaid staged (page_of pages) 1 → SaysMeta bytes
@@ -26,3 +36,25 @@ pub opens_kept : {S E : Type 0} {s : store.Ghosts S} (how : OpenHow) (map : Cont
     → IfOk r (λ file. (is_exclusive how ≡ false) × OpensAs how map limit file)
 opens_kept how map limit (Ok file) kept may stands = (may, subst (λ (b : Bool). StandsAs file (cond b empty map) (cond b how.limit limit)) (sym kept) stands)
 opens_kept how map limit (Err e) kept may stands = tt
+
+-- a page that is read and is no good meta page
+module _ (bytes read : List ℕ) (result : Result meta.Meta MetaFault) (fault : MetaFault) (was : result ≡ Err fault) (same : read ≡ bytes)
+    (body : (m : Meta) → IsMeta m → IsOkAnd result (λ r. model_meta r ≡ m) ↔ (body_of 1 read ≡ MetaPage m))
+    (version : (result ≡ Err meta_fault.Version) ↔ (HasMetaHeader read × (u32_at read 16 ≢ 1))) where
+  no_meta : SaysNoMeta read
+  no_meta m valid says = subst (λ (r : Result meta.Meta MetaFault). IsOkAnd r (λ (n : meta.Meta). model_meta n ≡ m)) was ((body m valid).1 says)
+
+  pub refused_version : fault ≡ meta_fault.Version → RefusesMeta bytes Version
+  refused_version is = subst (λ (b : List ℕ). RefusesMeta b Version) same (let says = version.0 (was ∙ ap Err is) in (no_meta, says.0, says.1))
+
+  pub refused_meta : fault ≡ meta_fault.Damaged → RefusesMeta bytes Damaged
+  refused_meta is = subst (λ (b : List ℕ). RefusesMeta b Damaged) same (
+    no_meta,
+    λ header. elim (cases_eq (u32_at read 16) 1) [
+      | inl one ↦ one
+      | inr other ↦ absurd (two_faults is (sym was ∙ version.1 (header, other)))
+    ],
+  )
+    where
+      two_faults : fault ≡ meta_fault.Damaged → ◌≡◌ {A = Result meta.Meta MetaFault} (Err fault) (Err meta_fault.Version) → ⊥
+      two_faults one two = cc

@@ -74,6 +74,19 @@ is_device Exists = inr (λ is. cc)
 
 -- ---- why the store of pages was not opened
 
+-- a refusal that says what the device holds
+abbrev pub IsTold : OpenFault → Type 0
+IsTold fault = (fault ≢ redo.Device) × (fault ≢ redo.Memory)
+
+pub blank_tells : IsTold redo.Blank
+blank_tells = (λ is. cc, λ is. cc)
+
+pub not_ours_tells : IsTold redo.NotOurs
+not_ours_tells = (λ is. cc, λ is. cc)
+
+pub damaged_tells : IsTold redo.Damaged
+damaged_tells = (λ is. cc, λ is. cc)
+
 -- an image at the start is refused so, and for writing what a stop now leaves settles as it does
 pub record Tells (how : OpenHow) (sectors : ℕ) (start now : Candidates) (answer : OpenFault) : Type 0 where
   pub image : Image

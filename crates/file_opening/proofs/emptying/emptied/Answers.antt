@@ -1,14 +1,24 @@
-use Rattle.std.proofs.Common.{◌/◌, inl, sym, ap, ◌∙◌, subst}
+use Rattle.std.proofs.Common.{◌≡◌, ◌⊎◌, ⊎_elim, inl, inr, ◌/◌, ◌≤◌, Option, Some, Err, sym, ap, ◌∙◌, subst}
+use Rattle.std.specs.Option.{option_or}
 use Rattle.std.specs.FinMap.{empty}
-use Rattle.sect_dev.specs.Device.{IsImageOf, LeavesOnly}
+use Rattle.sect_dev.specs.Device.{IsImageOf, LeavesOnly, MoreFaults}
 use Rattle.sect_dev.specs.Moments.{IsOutcome}
 use Rattle.redo_commit.specs.File.{settled}
 use Rattle.page_io.specs.Meaning.{ImageStandsFor}
 use Rattle.page_io.specs.Store.{Settled, StoreState, bytes_of, file_pages, overlaid}
 use Rattle.page_io.specs.Page.{page_at}
+use Rattle.redo_area.specs.Reading.{OnlyReads}
 use Rattle.redo_area.specs.Settling.{only_seen}
 use Rattle.page_model.specs.Pages.{Meta}
-use Rattle.file_opening.proofs.EmptyFiles.{settles_still, OldOrEmpty, left_as_before, still_good, still_capacity, state_of}
+use Rattle.page_model.specs.Sizes.{sectors_for}
+use Rattle.dbm_fault.specs.Faults.{fault_from}
+use Rattle.dbm_fault.specs.declared.fault.Fault.{Fault}
+use Rattle.dbm_fault.specs.declared.fault.Fault.TheVariants.{Memory}
+use Rattle.file_opening.specs.Opening.{room_fault, commit_fault, emptying_fault}
+use Rattle.file_opening.proofs.EmptyFiles.{settles_still, OldOrEmpty, left_as_before, still_good, still_capacity, state_of, reads_nothing, run_below}
+use Rattle.file_opening.proofs.Exits.{both_ways, later_then, same_honest, same_faults, reads_leave}
+use Rattle.file_opening.proofs.Rooms.{EmptyingOnly, of_room, of_room_apart, limit_of_room, fresh_meta, fresh_valid, of_commit, came_from, refuses_commit}
+use Rattle.file_opening.proofs.emptying.emptied.Given.{Over}
 use Rattle.file_opening.proofs.emptying.emptied.Goals as goal
 
 pub returns-in-Some-clause-any_moment : goal.returns-in-Some-clause-any_moment
@@ -43,3 +53,125 @@ returns-in-Err-clause-left g c honest other after left =
     let run = all.unchanged honest usable in
     left_as_before dev.left_since dev.candidate new.dev (dev.moment old.dev) (dev.sectors old.dev / 4) (dev.sectors new.dev / 4) _ (still_capacity (state_of old) (state_of new) c.in-Err.fault all.err) run.each
     (λ image is. g.met.D.SectorDev.counts_now new.dev (dev.moment old.dev) image (c.commit_empty.ensures.honesty.1 honest) run.later is) after (subst (λ d. IsImageOf (dev.candidate d) after) c.into_dev-in-Err.ensures left)
+
+-- ---- there is no room for it
+
+room_is : (g : Over) (c : goal.After-into_dev g) → room_fault (sectors_for c.args.limit) (g.D.SectorDev.sectors c.args.store.dev) ≡ Some c.in-Some.fault
+room_is g c = ap (room_fault (sectors_for c.args.limit)) (sym c.requires.sectors) ∙ sym c.room_refusal.ensures ∙ c.in-Some.is
+
+pub returns-in-Some-clause-fresh : goal.returns-in-Some-clause-fresh
+returns-in-Some-clause-fresh g c = tt
+
+pub returns-in-Some-clause-refused : goal.returns-in-Some-clause-refused
+returns-in-Some-clause-refused g c other = inl (ap (λ (o : Option Fault). option_or o (commit_fault (g.D.SectorDev.sectors c.args.store.dev) c.args.store.end)) (room_is g c))
+
+pub returns-in-Some-clause-left : goal.returns-in-Some-clause-left
+returns-in-Some-clause-left g c honest other =
+    let dev = g.D.SectorDev in
+    let store = c.args.store in
+    let d = store.dev in
+    let rest = store.rests honest c.requires.fresh.usable in
+    reads_leave dev (dev.sectors d / 4) d c.into_dev.result _ (subst (OnlyReads dev d) (sym c.into_dev.ensures) (reads_nothing dev d (λ image left. g.met.D.SectorDev.only_now d image honest left))) (rest.at_rest c.requires.fresh.writable).stable rest.settles
+
+pub returns-in-Some-clause-device : goal.returns-in-Some-clause-device
+returns-in-Some-clause-device g c is = of_room_apart (sectors_for c.args.limit) (g.D.SectorDev.sectors c.args.store.dev) c.in-Some.fault (room_is g c) is
+
+pub returns-in-Some-clause-only : goal.returns-in-Some-clause-only
+returns-in-Some-clause-only g c = ⊎_elim (λ limit. inl limit) (λ small. inr (inl small)) (of_room (sectors_for c.args.limit) (g.D.SectorDev.sectors c.args.store.dev) c.in-Some.fault (room_is g c))
+
+pub returns-in-Some-clause-honesty : goal.returns-in-Some-clause-honesty
+returns-in-Some-clause-honesty g c = same_honest g.D.SectorDev c.args.store.dev c.into_dev.result c.into_dev.ensures
+
+pub returns-in-Some-clause-later : goal.returns-in-Some-clause-later
+returns-in-Some-clause-later g c = same_faults g.D.SectorDev c.args.store.dev c.into_dev.result c.into_dev.ensures
+
+pub returns-in-Some-clause-size : goal.returns-in-Some-clause-size
+returns-in-Some-clause-size g c = ap (λ d. g.D.SectorDev.sectors d / 4) c.into_dev.ensures
+
+-- ---- it is emptied
+
+pub commit_empty-requires-clause-idle : goal.commit_empty-requires-clause-idle
+commit_empty-requires-clause-idle g c = c.requires.fresh.staged
+
+pub commit_empty-requires-clause-usable : goal.commit_empty-requires-clause-usable
+commit_empty-requires-clause-usable g c = c.requires.fresh.usable
+
+pub commit_empty-requires-clause-writable : goal.commit_empty-requires-clause-writable
+commit_empty-requires-clause-writable g c = c.requires.fresh.writable
+
+pub commit_empty-requires-clause-limited : goal.commit_empty-requires-clause-limited
+commit_empty-requires-clause-limited g c =
+    subst (λ n. (1 ≤ n) × (n ≤ 1000000)) (sym (ap (λ (n : Meta). n.limit) c.of_empty-meta.ensures)) (limit_of_room c.args.limit _ (sym c.room_refusal.ensures ∙ c.in_default.is))
+
+pub commit_empty-requires-clause-fresh : goal.commit_empty-requires-clause-fresh
+commit_empty-requires-clause-fresh g c = fresh_meta c.args.limit _ c.of_empty-meta.ensures
+
+pub invariant_of-result : goal.invariant_of-result
+invariant_of-result g c = record {
+  idle = ap (λ (st : StoreState). st.staged) c.in-Ok.ensures.ok ∙ c.requires.fresh.staged;
+  told = ap (λ (st : StoreState). st.writable) c.in-Ok.ensures.ok ∙ c.requires.fresh.writable;
+  valid = fresh_valid c.args.limit _ (limit_of_room c.args.limit _ (sym c.room_refusal.ensures ∙ c.in_default.is)) c.of_empty-meta.ensures;
+}
+
+pub returns-in-Ok-clause-fresh : goal.returns-in-Ok-clause-fresh
+returns-in-Ok-clause-fresh g c =
+    let same = c.in-Ok.ensures.ok in record {
+      usable = ap (λ (st : StoreState). st.usable) same ∙ c.requires.fresh.usable;
+      writable = ap (λ (st : StoreState). st.writable) same ∙ c.requires.fresh.writable;
+      capacity = ap (λ (st : StoreState). st.capacity) same ∙ c.requires.fresh.capacity;
+    }
+
+pub returns-in-Ok-clause-any_moment : goal.returns-in-Ok-clause-any_moment
+returns-in-Ok-clause-any_moment g c honest =
+    let dev = g.D.SectorDev in
+    let old = c.args.store in
+    let new = c.commit_empty.new.store in
+    run_below dev old new _ c.args.limit c.of_empty-meta.result.limit (ap (λ (n : Meta). n.limit) c.of_empty-meta.ensures) (ap (λ (st : StoreState). st.capacity) c.in-Ok.ensures.ok) (c.commit_empty.ensures.any_moment honest)
+
+pub returns-in-Ok-clause-honesty : goal.returns-in-Ok-clause-honesty
+returns-in-Ok-clause-honesty g c = c.commit_empty.ensures.honesty
+
+pub returns-in-Ok-clause-later : goal.returns-in-Ok-clause-later
+returns-in-Ok-clause-later g c = c.commit_empty.ensures.cause.later
+
+pub returns-in-Ok-clause-size : goal.returns-in-Ok-clause-size
+returns-in-Ok-clause-size g c = ap (λ (st : StoreState). st.capacity) c.in-Ok.ensures.ok
+
+-- ---- it is not emptied
+
+pub returns-in-Err-clause-fresh : goal.returns-in-Err-clause-fresh
+returns-in-Err-clause-fresh g c = tt
+
+pub returns-in-Err-clause-any_moment : goal.returns-in-Err-clause-any_moment
+returns-in-Err-clause-any_moment g c honest =
+    let dev = g.D.SectorDev in
+    let old = c.args.store in
+    let new = c.commit_empty.new.store in
+    subst (λ d. LeavesOnly dev.moment (IsOutcome dev.left_since (settled (dev.sectors old.dev / 4))) old.dev d (OldOrEmpty (file_pages (overlaid (bytes_of old.redo.items) (page_at (dev.seen old.dev))) old.end) c.args.limit)) (sym c.into_dev-in-Err.ensures)
+    (run_below dev old new _ c.args.limit c.of_empty-meta.result.limit (ap (λ (n : Meta). n.limit) c.of_empty-meta.ensures) (still_capacity (state_of old) (state_of new) c.in-Err.fault c.in-Err.ensures.err) (c.commit_empty.ensures.any_moment honest))
+
+pub returns-in-Err-clause-refused : goal.returns-in-Err-clause-refused
+returns-in-Err-clause-refused g c other =
+    let all = c.in-Err.ensures in
+    let room = ap (room_fault (sectors_for c.args.limit)) (sym c.requires.sectors) ∙ sym c.room_refusal.ensures ∙ c.in_default.is in
+    subst (λ f. (emptying_fault c.args.limit (g.D.SectorDev.sectors c.args.store.dev) c.args.store.end ≡ Some f) ⊎ (f ≡ Memory)) (sym c.from.ensures)
+    (refuses_commit c.in-Err.fault all.only c.args.limit (g.D.SectorDev.sectors c.args.store.dev) c.args.store.end room (λ is. all.no_room (ap Err is)) (λ device. other (c.from.ensures ∙ ap fault_from device)))
+
+pub returns-in-Err-clause-device : goal.returns-in-Err-clause-device
+returns-in-Err-clause-device g c is =
+    let dev = g.D.SectorDev in
+    subst (λ d. MoreFaults (dev.faults c.args.store.dev) (dev.faults d)) (sym c.into_dev-in-Err.ensures)
+    (c.in-Err.ensures.cause.fault (ap Err (came_from c.in-Err.fault c.in-Err.ensures.only (sym c.from.ensures ∙ is))))
+
+pub returns-in-Err-clause-only : goal.returns-in-Err-clause-only
+returns-in-Err-clause-only g c = subst EmptyingOnly (sym c.from.ensures) (of_commit c.in-Err.fault c.in-Err.ensures.only)
+
+pub returns-in-Err-clause-honesty : goal.returns-in-Err-clause-honesty
+returns-in-Err-clause-honesty g c = both_ways (same_honest g.D.SectorDev c.commit_empty.new.store.dev c.into_dev-in-Err.result c.into_dev-in-Err.ensures) c.commit_empty.ensures.honesty
+
+pub returns-in-Err-clause-later : goal.returns-in-Err-clause-later
+returns-in-Err-clause-later g c = later_then _ _ _ c.commit_empty.ensures.cause.later (same_faults g.D.SectorDev c.commit_empty.new.store.dev c.into_dev-in-Err.result c.into_dev-in-Err.ensures)
+
+pub returns-in-Err-clause-size : goal.returns-in-Err-clause-size
+returns-in-Err-clause-size g c =
+    ap (λ d. g.D.SectorDev.sectors d / 4) c.into_dev-in-Err.ensures ∙ still_capacity (state_of c.args.store) (state_of c.commit_empty.new.store) c.in-Err.fault c.in-Err.ensures.err

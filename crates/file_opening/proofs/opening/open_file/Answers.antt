@@ -1,19 +1,22 @@
-use Rattle.std.proofs.Common.{◌≡◌, ⊎_elim, inl, inr, ℕ, ◌/◌, refl, sym, ap, ◌∙◌, subst}
+use Rattle.std.proofs.Common.{◌≡◌, ⊎_elim, inl, inr, ℕ, ◌/◌, true, Some, refl, sym, ap, ◌∙◌, subst, rules}
 use Rattle.std.specs.Prelude.{IfErr}
 use Rattle.std.specs.FinMap.{empty}
 use Rattle.sect_dev.specs.Device.{LeavesOnly}
-use Rattle.sect_dev.specs.Moments.{IsOutcome, weaker}
+use Rattle.sect_dev.specs.Moments.{IsOutcome}
 use Rattle.page_io.specs.Page.{page_at}
 use Rattle.page_io.specs.Store.{Settled, bytes_of, file_pages, overlaid}
-use Rattle.redo_commit.specs.File.{settled, SettlesAsBefore}
+use Rattle.redo_commit.specs.File.{settled}
+use Rattle.redo_area.specs.Reading.{OnlyReads}
 use Rattle.redo_area.specs.Settling.{SettlesTo, only_seen}
+use Rattle.redo_area.proofs.ReadRuns.{more_reads}
 use Rattle.redo_area.specs.declared.open_fault.OpenFault.TheVariants as redo
 use Rattle.file_opening.specs.OpenFiles.{device_left}
-use Rattle.file_opening.specs.Opening.{writes, early_fault, making_fault, RefusesOpened, IsRefusedOpening, MayRemain}
+use Rattle.file_opening.specs.Opening.{writes, is_exclusive, early_fault, making_fault, RefusesOpened, IsRefusedOpening, MayRemain}
 use Rattle.dbm_fault.specs.declared.fault.Fault.TheVariants.{Device}
-use Rattle.file_opening.proofs.EmptyFiles.{settles_run, settles_on, settles_from}
+use Rattle.file_opening.proofs.EmptyFiles.{settles_run, settles_on, settles_from, reads_nothing}
+use Rattle.file_opening.proofs.Exits.{of_early, of_made, memory_opens, device_opens, of_no_file, of_damaged, memory_apart, if_none, not_none, early_err, not_on, same_honest, same_faults, both_ways, later_then, more_later, reads_settle, before_settle, just_opened, made_opened, fresh_there}
 use Rattle.file_opening.proofs.NewFiles.{BlankOrNew, was_asked, none_for_reading}
-use Rattle.file_opening.proofs.Refusals.{from_ok, both_ok, each_err, Tells, tells, has_blank, all_blank, refused_blank, refused_not_ours, refused_damaged, refused_file, only_memory, what_stood, opened_as_asked, may_empty, device_untouched, stable_still, by_access}
+use Rattle.file_opening.proofs.Refusals.{from_ok, both_ok, each_err, blank_tells, not_ours_tells, damaged_tells, Tells, tells, has_blank, all_blank, refused_blank, refused_not_ours, refused_damaged, refused_file, lacks_memory, only_memory, what_stood, opened_as_asked, may_empty, device_untouched, stable_still, by_access}
 use Rattle.file_opening.proofs.opening.open_file.Given.{Over}
 use Rattle.file_opening.proofs.opening.open_file.Goals as goal
 
@@ -34,7 +37,7 @@ returns-in-Ok-clause-any_moment g c honest =
     let file = file_pages (overlaid (bytes_of store.redo.items) (page_at (dev.seen mid))) store.end in
     let size = ap (λ (n : ℕ). n / 4) all.size in
     settles_on dev.moment dev.left_since old mid (device_left c.opened.result) cap (dev.sectors mid / 4) P _ size
-    (settles_run dev.moment dev.left_since old mid cap P (weaker dev.moment dev.left_since old mid (λ image. P (settled cap image)) (SettlesAsBefore cap (dev.candidate old)) run (λ image before. inl (record { image = before.0; is_image = before.1; reads = sym before.2 }))))
+    (before_settle dev cap old mid _ run)
     (c.opened.ensures.any_moment h1)
     (λ y. ⊎_elim
     (λ was. inl (settles_from cap (dev.sectors mid / 4) (dev.candidate old) (dev.candidate mid) y size (λ image is. run.each image (g.met.D.SectorDev.counts_now mid (dev.moment old) image h1 run.later is)) was))
@@ -80,6 +83,47 @@ returns-in-Ok-clause-opens g c honest none stand allow =
     let dev = g.D.SectorDev in
     each_err c.opened.result (file_refused g c honest) (λ e is why. only_memory c.args.how (dev.sectors c.args.dev) (dev.candidate c.args.dev) (dev.candidate e.0) e.1 stand allow why)
 
+pub opened-requires-clause-sectors : goal.opened-requires-clause-sectors
+opened-requires-clause-sectors g c = c.capacity-sectors.ensures ∙ sym c.in-Ok.ensures.size
+
+pub opened-requires-clause-fresh : goal.opened-requires-clause-fresh
+opened-requires-clause-fresh g c =
+    fresh_there _ _ _ _ c.in-Ok.ensures.state (ap (λ (n : ℕ). n / 4) c.in-Ok.ensures.size) (search rules)
+
+pub opened-requires-clause-written : goal.opened-requires-clause-written
+opened-requires-clause-written g c = may_empty c.args.how (g.D.SectorDev.sectors c.args.dev) (sym (ap (early_fault c.args.how) c.capacity-sectors.ensures) ∙ sym c.early_refusal.ensures ∙ c.in_default.is)
+
+pub returns-in-Ok-clause-early : goal.returns-in-Ok-clause-early
+returns-in-Ok-clause-early g c = if_none _ _ (sym (ap (early_fault c.args.how) c.capacity-sectors.ensures) ∙ sym c.early_refusal.ensures ∙ c.in_default.is)
+
+pub returns-in-Ok-clause-fresh : goal.returns-in-Ok-clause-fresh
+returns-in-Ok-clause-fresh g c = just_opened c.opened.result _ _ _ _ refl (ap (λ (n : ℕ). n / 4) c.in-Ok.ensures.size) c.opened.ensures.fresh
+
+pub returns-in-Ok-clause-only_reads : goal.returns-in-Ok-clause-only_reads
+returns-in-Ok-clause-only_reads g c reading honest =
+    let all = c.in-Ok.ensures in
+    more_reads g.D.SectorDev c.args.dev c.in-Ok.store.dev (device_left c.opened.result) (all.only_reads (c.is_writable.ensures ∙ reading) honest) (c.opened.ensures.only_reads reading (all.honesty.1 honest))
+
+pub returns-in-Ok-clause-device : goal.returns-in-Ok-clause-device
+returns-in-Ok-clause-device g c =
+    let dev = g.D.SectorDev in
+    each_err c.opened.result c.opened.ensures.device (λ e same more is. more_later (dev.faults c.args.dev) (dev.faults c.in-Ok.store.dev) (dev.faults e.0) c.in-Ok.ensures.cause.later (more is))
+
+pub returns-in-Ok-clause-only : goal.returns-in-Ok-clause-only
+returns-in-Ok-clause-only g c = c.opened.ensures.only
+
+pub returns-in-Ok-clause-honesty : goal.returns-in-Ok-clause-honesty
+returns-in-Ok-clause-honesty g c = both_ways c.opened.ensures.honesty c.in-Ok.ensures.honesty
+
+pub returns-in-Ok-clause-later : goal.returns-in-Ok-clause-later
+returns-in-Ok-clause-later g c = later_then _ _ _ c.in-Ok.ensures.cause.later c.opened.ensures.later
+
+pub returns-in-Ok-clause-size : goal.returns-in-Ok-clause-size
+returns-in-Ok-clause-size g c =
+    let all = c.in-Ok.ensures in
+    let then = c.opened.ensures in
+    (then.size.0 ∙ ap (λ (n : ℕ). n / 4) all.size, λ kept. then.size.1 kept ∙ all.size)
+
 -- ---- a blank device
 
 blank_told : (g : Over) (c : goal.After-made g) → g.D.SectorDev.honest c.args.dev → Tells c.args.how (g.D.SectorDev.sectors c.args.dev) (g.D.SectorDev.candidate c.args.dev) (g.D.SectorDev.candidate c.in-Err-default-Blank.dev) redo.Blank
@@ -88,7 +132,7 @@ blank_told g c honest =
     let all = c.in-Err-default-Blank.ensures in
     let new = c.in-Err-default-Blank.dev in
     tells c.args.how (dev.sectors c.args.dev) (dev.candidate c.args.dev) (dev.candidate new) c.is_writable.result (dev.seen c.args.dev) (dev.seen new) c.in-Err-default-Blank.field-0-1 redo.Blank c.is_writable.ensures c.in-Err-default-Blank.field-0-1-is
-    (λ is. cc) (λ is. cc) (g.met.D.SectorDev.seen_may_stay c.args.dev honest) (λ on. all.refused on honest) (λ off. all.refused_as_seen off honest)
+    blank_tells.0 blank_tells.1 (g.met.D.SectorDev.seen_may_stay c.args.dev honest) (λ on. all.refused on honest) (λ off. all.refused_as_seen off honest)
 
 pub returns-in-Err-default-Blank-clause-any_moment : goal.returns-in-Err-default-Blank-clause-any_moment
 returns-in-Err-default-Blank-clause-any_moment g c honest =
@@ -103,7 +147,7 @@ returns-in-Err-default-Blank-clause-any_moment g c honest =
     let size = ap (λ (n : ℕ). n / 4) all.size in
     let told = blank_told g c honest in
     let there = has_blank how (dev.sectors old) (dev.candidate old) (dev.candidate new) told in
-    let first = settles_run dev.moment dev.left_since old new cap P (weaker dev.moment dev.left_since old new (λ image. P (settled cap image)) (SettlesAsBefore cap (dev.candidate old)) (all.any_moment honest) (λ image before. inl (record { image = before.0; is_image = before.1; reads = sym before.2 }))) in
+    let first : LeavesOnly dev.moment (IsOutcome dev.left_since (settled cap)) old new P = before_settle dev cap old new _ (all.any_moment honest) in
     let fault = making_fault how (dev.sectors new) in
     by_access (writes how.access)
     (λ on.
@@ -145,6 +189,38 @@ returns-in-Err-default-Blank-clause-opens g c honest none stand allow =
     let dev = g.D.SectorDev in
     each_err c.made.result (blank_refused g c honest) (λ e is why. only_memory c.args.how (dev.sectors c.args.dev) (dev.candidate c.args.dev) (dev.candidate e.0) e.1 stand allow why)
 
+pub returns-in-Err-default-Blank-clause-early : goal.returns-in-Err-default-Blank-clause-early
+returns-in-Err-default-Blank-clause-early g c = if_none _ _ (sym (ap (early_fault c.args.how) c.capacity-sectors.ensures) ∙ sym c.early_refusal.ensures ∙ c.in_default.is)
+
+pub returns-in-Err-default-Blank-clause-fresh : goal.returns-in-Err-default-Blank-clause-fresh
+returns-in-Err-default-Blank-clause-fresh g c = made_opened c.made.result _ _ _ c.made.ensures.asked c.made.ensures.fresh (λ none. sym (was_asked c.args.how _ none).1) (ap (λ (n : ℕ). n / 4) c.in-Err-default-Blank.ensures.size)
+
+pub returns-in-Err-default-Blank-clause-only_reads : goal.returns-in-Err-default-Blank-clause-only_reads
+returns-in-Err-default-Blank-clause-only_reads g c reading honest =
+    let dev = g.D.SectorDev in
+    let new = c.in-Err-default-Blank.dev in
+    subst (OnlyReads dev c.args.dev) (sym (device_untouched (making_fault c.args.how (dev.sectors new)) new c.made.result (none_for_reading c.args.how (dev.sectors new) reading) c.made.ensures.untouched))
+    (c.in-Err-default-Blank.ensures.only_reads (c.is_writable.ensures ∙ reading) honest)
+
+pub returns-in-Err-default-Blank-clause-device : goal.returns-in-Err-default-Blank-clause-device
+returns-in-Err-default-Blank-clause-device g c =
+    let dev = g.D.SectorDev in
+    each_err c.made.result c.made.ensures.device (λ e same more is. more_later (dev.faults c.args.dev) (dev.faults c.in-Err-default-Blank.dev) (dev.faults e.0) c.in-Err-default-Blank.ensures.cause.later (more is))
+
+pub returns-in-Err-default-Blank-clause-only : goal.returns-in-Err-default-Blank-clause-only
+returns-in-Err-default-Blank-clause-only g c = each_err c.made.result c.made.ensures.only (λ e is among. of_made e.1 among)
+
+pub returns-in-Err-default-Blank-clause-honesty : goal.returns-in-Err-default-Blank-clause-honesty
+returns-in-Err-default-Blank-clause-honesty g c = both_ways c.made.ensures.honesty c.in-Err-default-Blank.ensures.honesty
+
+pub returns-in-Err-default-Blank-clause-later : goal.returns-in-Err-default-Blank-clause-later
+returns-in-Err-default-Blank-clause-later g c = later_then _ _ _ c.in-Err-default-Blank.ensures.cause.later c.made.ensures.later
+
+pub returns-in-Err-default-Blank-clause-size : goal.returns-in-Err-default-Blank-clause-size
+returns-in-Err-default-Blank-clause-size g c =
+    let size = c.made.ensures.size ∙ c.in-Err-default-Blank.ensures.size in
+    (ap (λ (n : ℕ). n / 4) size, λ kept. size)
+
 -- ---- a device that is no good file
 
 not_ours_refused : (g : Over) (c : goal.After-or_exists g) → g.D.SectorDev.honest c.args.dev → IsRefusedOpening c.args.how (g.D.SectorDev.sectors c.args.dev) (g.D.SectorDev.candidate c.args.dev) (g.D.SectorDev.candidate c.in-Err-default-NotOurs.dev) c.or_exists.result
@@ -155,15 +231,8 @@ not_ours_refused g c honest =
     let new = c.in-Err-default-NotOurs.dev in
     refused_not_ours c.args.how (dev.sectors old) (dev.candidate old) (dev.candidate new) c.or_exists.result
     (tells c.args.how (dev.sectors old) (dev.candidate old) (dev.candidate new) c.is_writable.result (dev.seen old) (dev.seen new) c.in-Err-default-NotOurs.field-0-1 redo.NotOurs c.is_writable.ensures c.in-Err-default-NotOurs.field-0-1-is
-    (λ is. cc) (λ is. cc) (g.met.D.SectorDev.seen_may_stay old honest) (λ on. all.refused on honest) (λ off. all.refused_as_seen off honest))
+    not_ours_tells.0 not_ours_tells.1 (g.met.D.SectorDev.seen_may_stay old honest) (λ on. all.refused on honest) (λ off. all.refused_as_seen off honest))
     c.or_exists.ensures
-
-pub returns-in-Err-default-NotOurs-clause-refused : goal.returns-in-Err-default-NotOurs-clause-refused
-returns-in-Err-default-NotOurs-clause-refused g c honest none other = not_ours_refused g c honest
-
-pub returns-in-Err-default-NotOurs-clause-opens : goal.returns-in-Err-default-NotOurs-clause-opens
-returns-in-Err-default-NotOurs-clause-opens g c honest none stand allow =
-    only_memory c.args.how (g.D.SectorDev.sectors c.args.dev) (g.D.SectorDev.candidate c.args.dev) (g.D.SectorDev.candidate c.in-Err-default-NotOurs.dev) c.or_exists.result stand allow (λ other. not_ours_refused g c honest)
 
 damaged_refused : (g : Over) (c : goal.After-or_exists-in-Err-default-Damaged g) → g.D.SectorDev.honest c.args.dev
     → IsRefusedOpening c.args.how (g.D.SectorDev.sectors c.args.dev) (g.D.SectorDev.candidate c.args.dev) (g.D.SectorDev.candidate c.in-Err-default-Damaged.dev) c.or_exists-in-Err-default-Damaged.result
@@ -174,12 +243,109 @@ damaged_refused g c honest =
     let new = c.in-Err-default-Damaged.dev in
     refused_damaged c.args.how (dev.sectors old) (dev.candidate old) (dev.candidate new) c.or_exists-in-Err-default-Damaged.result
     (tells c.args.how (dev.sectors old) (dev.candidate old) (dev.candidate new) c.is_writable.result (dev.seen old) (dev.seen new) c.in-Err-default-Damaged.field-0-1 redo.Damaged c.is_writable.ensures c.in-Err-default-Damaged.field-0-1-is
-    (λ is. cc) (λ is. cc) (g.met.D.SectorDev.seen_may_stay old honest) (λ on. all.refused on honest) (λ off. all.refused_as_seen off honest))
+    damaged_tells.0 damaged_tells.1 (g.met.D.SectorDev.seen_may_stay old honest) (λ on. all.refused on honest) (λ off. all.refused_as_seen off honest))
     c.or_exists-in-Err-default-Damaged.ensures
 
-pub returns-in-Err-default-Damaged-clause-refused : goal.returns-in-Err-default-Damaged-clause-refused
-returns-in-Err-default-Damaged-clause-refused g c honest none other = damaged_refused g c honest
+pub returns-in-Err-default-NotOurs : goal.returns-in-Err-default-NotOurs
+returns-in-Err-default-NotOurs g c = record {
+  early = if_none _ _ (sym (ap (early_fault c.args.how) c.capacity-sectors.ensures) ∙ sym c.early_refusal.ensures ∙ c.in_default.is);
+  fresh = tt;
+  any_moment = λ honest.
+      let dev = g.D.SectorDev in
+      before_settle dev (dev.sectors c.args.dev / 4) c.args.dev c.in-Err-default-NotOurs.dev _ (c.in-Err-default-NotOurs.ensures.any_moment honest);
+  stands = λ honest one stand. tt;
+  only_reads = λ reading honest. c.in-Err-default-NotOurs.ensures.only_reads (c.is_writable.ensures ∙ reading) honest;
+  opens = λ honest none stand allow. only_memory c.args.how (g.D.SectorDev.sectors c.args.dev) (g.D.SectorDev.candidate c.args.dev) (g.D.SectorDev.candidate c.in-Err-default-NotOurs.dev) c.or_exists.result stand allow (λ other. not_ours_refused g c honest);
+  refused = λ honest none other. not_ours_refused g c honest;
+  device = λ is. absurd ((of_no_file (is_exclusive c.args.how) c.or_exists.result c.or_exists.ensures).1 is);
+  only = (of_no_file (is_exclusive c.args.how) c.or_exists.result c.or_exists.ensures).0;
+  honesty = c.in-Err-default-NotOurs.ensures.honesty;
+  later = c.in-Err-default-NotOurs.ensures.cause.later;
+  size = (ap (λ (n : ℕ). n / 4) c.in-Err-default-NotOurs.ensures.size, λ kept. c.in-Err-default-NotOurs.ensures.size);
+}
 
-pub returns-in-Err-default-Damaged-clause-opens : goal.returns-in-Err-default-Damaged-clause-opens
-returns-in-Err-default-Damaged-clause-opens g c honest none stand allow =
-    only_memory c.args.how (g.D.SectorDev.sectors c.args.dev) (g.D.SectorDev.candidate c.args.dev) (g.D.SectorDev.candidate c.in-Err-default-Damaged.dev) c.or_exists-in-Err-default-Damaged.result stand allow (λ other. damaged_refused g c honest)
+pub returns-in-Err-default-Damaged : goal.returns-in-Err-default-Damaged
+returns-in-Err-default-Damaged g c = record {
+  early = if_none _ _ (sym (ap (early_fault c.args.how) c.capacity-sectors.ensures) ∙ sym c.early_refusal.ensures ∙ c.in_default.is);
+  fresh = tt;
+  any_moment = λ honest.
+      let dev = g.D.SectorDev in
+      before_settle dev (dev.sectors c.args.dev / 4) c.args.dev c.in-Err-default-Damaged.dev _ (c.in-Err-default-Damaged.ensures.any_moment honest);
+  stands = λ honest one stand. tt;
+  only_reads = λ reading honest. c.in-Err-default-Damaged.ensures.only_reads (c.is_writable.ensures ∙ reading) honest;
+  opens = λ honest none stand allow. only_memory c.args.how (g.D.SectorDev.sectors c.args.dev) (g.D.SectorDev.candidate c.args.dev) (g.D.SectorDev.candidate c.in-Err-default-Damaged.dev) c.or_exists-in-Err-default-Damaged.result stand allow (λ other. damaged_refused g c honest);
+  refused = λ honest none other. damaged_refused g c honest;
+  device = λ is. absurd ((of_damaged (is_exclusive c.args.how) c.or_exists-in-Err-default-Damaged.result c.or_exists-in-Err-default-Damaged.ensures).1 is);
+  only = (of_damaged (is_exclusive c.args.how) c.or_exists-in-Err-default-Damaged.result c.or_exists-in-Err-default-Damaged.ensures).0;
+  honesty = c.in-Err-default-Damaged.ensures.honesty;
+  later = c.in-Err-default-Damaged.ensures.cause.later;
+  size = (ap (λ (n : ℕ). n / 4) c.in-Err-default-Damaged.ensures.size, λ kept. c.in-Err-default-Damaged.ensures.size);
+}
+
+-- ---- want of memory, or a fault of the device
+
+not_writing : (g : Over) (c : goal.In-Err-default-Memory g) → c.is_writable.result ≡ true → ⊥
+not_writing g c writing = c.in-Err-default-Memory.ensures.cause.no_memory writing c.in-Err-default-Memory.field-0-1-is
+
+pub returns-in-Err-default-Memory : goal.returns-in-Err-default-Memory
+returns-in-Err-default-Memory g c = record {
+  early = if_none _ _ (sym (ap (early_fault c.args.how) c.capacity-sectors.ensures) ∙ sym c.early_refusal.ensures ∙ c.in_default.is);
+  fresh = tt;
+  any_moment = λ honest.
+      let dev = g.D.SectorDev in
+      before_settle dev (dev.sectors c.args.dev / 4) c.args.dev c.in-Err-default-Memory.dev _ (c.in-Err-default-Memory.ensures.any_moment honest);
+  stands = λ honest one stand. tt;
+  only_reads = λ reading honest. c.in-Err-default-Memory.ensures.only_reads (c.is_writable.ensures ∙ reading) honest;
+  opens = λ honest none stand allow. inr (refl, inr (sym c.is_writable.ensures ∙ not_on c.is_writable.result (not_writing g c)));
+  refused = λ honest none other.
+      let dev = g.D.SectorDev in
+      lacks_memory c.args.how (dev.sectors c.args.dev) (dev.candidate c.args.dev) (dev.candidate c.in-Err-default-Memory.dev) c.is_writable.result (dev.seen c.args.dev) c.is_writable.ensures (not_writing g c)
+      (g.met.D.SectorDev.seen_may_stay c.args.dev honest) (c.in-Err-default-Memory.ensures.memory honest c.in-Err-default-Memory.field-0-1-is);
+  device = λ is. memory_apart is;
+  only = memory_opens;
+  honesty = c.in-Err-default-Memory.ensures.honesty;
+  later = c.in-Err-default-Memory.ensures.cause.later;
+  size = (ap (λ (n : ℕ). n / 4) c.in-Err-default-Memory.ensures.size, λ kept. c.in-Err-default-Memory.ensures.size);
+}
+
+pub returns-in-Err-default-Device : goal.returns-in-Err-default-Device
+returns-in-Err-default-Device g c = record {
+  early = if_none _ _ (sym (ap (early_fault c.args.how) c.capacity-sectors.ensures) ∙ sym c.early_refusal.ensures ∙ c.in_default.is);
+  fresh = tt;
+  any_moment = λ honest.
+      let dev = g.D.SectorDev in
+      before_settle dev (dev.sectors c.args.dev / 4) c.args.dev c.in-Err-default-Device.dev _ (c.in-Err-default-Device.ensures.any_moment honest);
+  stands = λ honest one stand. tt;
+  only_reads = λ reading honest. c.in-Err-default-Device.ensures.only_reads (c.is_writable.ensures ∙ reading) honest;
+  opens = λ honest none stand allow. inl refl;
+  refused = λ honest none other. absurd (other refl);
+  device = λ is. c.in-Err-default-Device.ensures.cause.fault c.in-Err-default-Device.field-0-1-is;
+  only = device_opens;
+  honesty = c.in-Err-default-Device.ensures.honesty;
+  later = c.in-Err-default-Device.ensures.cause.later;
+  size = (ap (λ (n : ℕ). n / 4) c.in-Err-default-Device.ensures.size, λ kept. c.in-Err-default-Device.ensures.size);
+}
+
+-- ---- it is refused before the device is called
+
+early_is : (g : Over) (c : goal.In-Some g) → early_fault c.args.how (g.D.SectorDev.sectors c.args.dev) ≡ Some c.in-Some.fault
+early_is g c = sym (ap (early_fault c.args.how) c.capacity-sectors.ensures) ∙ sym c.early_refusal.ensures ∙ c.in-Some.is
+
+pub returns-in-Some : goal.returns-in-Some
+returns-in-Some g c = record {
+  early = early_err _ _ c.args.dev c.in-Some.fault (early_is g c);
+  fresh = tt;
+  any_moment = λ honest.
+      let dev = g.D.SectorDev in
+      let d = c.args.dev in
+      reads_settle dev (dev.sectors d / 4) d d _ (reads_nothing dev d (λ image left. g.met.D.SectorDev.only_now d image honest left));
+  stands = λ honest one stand. tt;
+  only_reads = λ reading honest. reads_nothing g.D.SectorDev c.args.dev (λ image left. g.met.D.SectorDev.only_now c.args.dev image honest left);
+  opens = λ honest none. not_none _ c.in-Some.fault (early_is g c) none;
+  refused = λ honest none. not_none _ c.in-Some.fault (early_is g c) none;
+  device = λ is. absurd ((of_early c.args.how _ c.in-Some.fault (early_is g c)).1 is);
+  only = (of_early c.args.how _ c.in-Some.fault (early_is g c)).0;
+  honesty = same_honest g.D.SectorDev c.args.dev c.args.dev refl;
+  later = same_faults g.D.SectorDev c.args.dev c.args.dev refl;
+  size = (refl, λ kept. refl);
+}

@@ -6,12 +6,15 @@ use Rattle.page_io.specs.Meaning.{ImageStandsFor}
 use Rattle.page_io.specs.Page.{page_at}
 use Rattle.page_io.specs.Store.{Pages, Settled, bytes_of, file_of, file_pages, overlaid}
 use Rattle.redo_commit.specs.File.{settled}
+use Rattle.redo_area.specs.Opening.{IsFresh as IsFreshStore}
+use Rattle.redo_area.specs.Reading.{OnlyReads}
 use Rattle.redo_area.specs.Settling.{SettlesTo}
 use Rattle.file_opening.specs.OpenFiles.{device_left}
 use Rattle.file_opening.specs.Opening.{emptying_fault, EmptiesFile}
-use Rattle.file_opening.proofs.EmptyFiles.{OldOrEmpty, settles_run, settles_on}
+use Rattle.file_opening.proofs.EmptyFiles.{OldOrEmpty, settles_run, settles_on, reads_nothing, state_of}
+use Rattle.file_opening.proofs.Exits.{exists_apart, exists_opens, of_found, of_emptied, same_honest, same_faults, reads_leave, reads_settle, opens_emptied, just_opened, both_ways, later_then, more_later, not_both}
 use Rattle.file_opening.proofs.FoundFiles.{opens_kept}
-use Rattle.file_opening.proofs.Refusals.{is_on, is_off, both_err}
+use Rattle.file_opening.proofs.Refusals.{is_on, is_off, both_err, each_err}
 use Rattle.file_opening.proofs.opening.opened.Goals as goal
 
 pub returns-then-not-how-clause-stands : goal.returns-then-not-how-clause-stands
@@ -58,3 +61,179 @@ returns-in-Ok-clause-refused g c honest =
           (why other),
       λ writing after is. ap (λ (n : ℕ). settled (n / 4) after) (sym all.size) ∙ left other after is ∙ ap file_of (all.kept honest),
     ))
+
+-- ---- a database may not be there
+
+pub returns-then-is_exclusive-clause-fresh : goal.returns-then-is_exclusive-clause-fresh
+returns-then-is_exclusive-clause-fresh g c = tt
+
+pub returns-then-is_exclusive-clause-any_moment : goal.returns-then-is_exclusive-clause-any_moment
+returns-then-is_exclusive-clause-any_moment g c honest =
+    let dev = g.D.SectorDev in
+    let d = c.args.store.dev in
+    reads_settle dev (dev.sectors d / 4) d c.into_dev.result _ (subst (OnlyReads dev d) (sym c.into_dev.ensures) (reads_nothing dev d (λ image left. g.met.D.SectorDev.only_now d image honest left)))
+
+pub returns-then-is_exclusive-clause-stands : goal.returns-then-is_exclusive-clause-stands
+returns-then-is_exclusive-clause-stands g c honest only map limit stands = tt
+
+pub returns-then-is_exclusive-clause-only_reads : goal.returns-then-is_exclusive-clause-only_reads
+returns-then-is_exclusive-clause-only_reads g c reading honest =
+    let dev = g.D.SectorDev in
+    let d = c.args.store.dev in
+    subst (OnlyReads dev d) (sym c.into_dev.ensures) (reads_nothing dev d (λ image left. g.met.D.SectorDev.only_now d image honest left))
+
+pub returns-then-is_exclusive-clause-refused : goal.returns-then-is_exclusive-clause-refused
+returns-then-is_exclusive-clause-refused g c honest other =
+    let dev = g.D.SectorDev in
+    let store = c.args.store in
+    let d = store.dev in
+    let rest = store.rests honest c.requires.fresh.usable in
+    let reads = subst (OnlyReads dev d) (sym c.into_dev.ensures) (reads_nothing dev d (λ image left. g.met.D.SectorDev.only_now d image honest left)) in (
+      inl (inl (sym c.is_exclusive.ensures ∙ c.if-is_exclusive.true, refl)),
+      λ writing. reads_leave dev (dev.sectors d / 4) d c.into_dev.result _ reads (rest.at_rest (c.requires.fresh.writable ∙ writing)).stable rest.settles,
+    )
+
+pub returns-then-is_exclusive-clause-device : goal.returns-then-is_exclusive-clause-device
+returns-then-is_exclusive-clause-device g c is = exists_apart is
+
+pub returns-then-is_exclusive-clause-only : goal.returns-then-is_exclusive-clause-only
+returns-then-is_exclusive-clause-only g c = exists_opens
+
+pub returns-then-is_exclusive-clause-honesty : goal.returns-then-is_exclusive-clause-honesty
+returns-then-is_exclusive-clause-honesty g c = same_honest g.D.SectorDev c.args.store.dev c.into_dev.result c.into_dev.ensures
+
+pub returns-then-is_exclusive-clause-later : goal.returns-then-is_exclusive-clause-later
+returns-then-is_exclusive-clause-later g c = same_faults g.D.SectorDev c.args.store.dev c.into_dev.result c.into_dev.ensures
+
+pub returns-then-is_exclusive-clause-size : goal.returns-then-is_exclusive-clause-size
+returns-then-is_exclusive-clause-size g c =
+    let dev = g.D.SectorDev in
+    (ap (λ d. dev.sectors d / 4) c.into_dev.ensures, λ kept. ap dev.sectors c.into_dev.ensures)
+
+-- ---- it is not to be emptied
+
+pub found-found-requires : goal.found-found-requires
+found-found-requires g c = record { fresh = subst (λ b. IsFreshStore (g.D.SectorDev.sectors c.args.store.dev / 4) b (state_of c.args.store)) (sym c.is_writable.ensures) c.requires.fresh }
+
+pub returns-then-not-how-clause-fresh : goal.returns-then-not-how-clause-fresh
+returns-then-not-how-clause-fresh g c = just_opened c.found-found.result _ _ _ _ c.is_writable.ensures refl c.found-found.ensures.fresh
+
+pub returns-then-not-how-clause-any_moment : goal.returns-then-not-how-clause-any_moment
+returns-then-not-how-clause-any_moment g c honest =
+    let dev = g.D.SectorDev in
+    let d = c.args.store.dev in
+    reads_settle dev (dev.sectors d / 4) d (device_left c.found-found.result) _ (c.found-found.ensures.only_reads honest)
+
+pub returns-then-not-how-clause-only_reads : goal.returns-then-not-how-clause-only_reads
+returns-then-not-how-clause-only_reads g c reading honest = c.found-found.ensures.only_reads honest
+
+pub returns-then-not-how-clause-refused : goal.returns-then-not-how-clause-refused
+returns-then-not-how-clause-refused g c honest =
+    let dev = g.D.SectorDev in
+    let store = c.args.store in
+    let d = store.dev in
+    let rest = store.rests honest c.requires.fresh.usable in
+    let all = c.found-found.ensures in
+    each_err c.found-found.result (all.refused honest) (λ e is why other. (
+      inl (inr (sym c.is_exclusive.ensures ∙ c.if-is_exclusive.false, inl (why other))),
+      λ writing. reads_leave dev (dev.sectors d / 4) d e.0 _ (subst (OnlyReads dev d) (ap device_left is) (all.only_reads honest)) (rest.at_rest (c.requires.fresh.writable ∙ writing)).stable rest.settles,
+    ))
+
+pub returns-then-not-how-clause-device : goal.returns-then-not-how-clause-device
+returns-then-not-how-clause-device g c = c.found-found.ensures.device
+
+pub returns-then-not-how-clause-only : goal.returns-then-not-how-clause-only
+returns-then-not-how-clause-only g c = each_err c.found-found.result c.found-found.ensures.only (λ e is among. of_found e.1 among)
+
+pub returns-then-not-how-clause-honesty : goal.returns-then-not-how-clause-honesty
+returns-then-not-how-clause-honesty g c = c.found-found.ensures.honesty
+
+pub returns-then-not-how-clause-later : goal.returns-then-not-how-clause-later
+returns-then-not-how-clause-later g c = c.found-found.ensures.later
+
+pub returns-then-not-how-clause-size : goal.returns-then-not-how-clause-size
+returns-then-not-how-clause-size g c = (ap (λ (n : ℕ). n / 4) c.found-found.ensures.size, λ kept. c.found-found.ensures.size)
+
+-- ---- it is emptied
+
+pub emptied-requires-clause-sectors : goal.emptied-requires-clause-sectors
+emptied-requires-clause-sectors g c = c.requires.sectors ∙ sym c.in-Ok.ensures.size
+
+pub emptied-requires-clause-fresh : goal.emptied-requires-clause-fresh
+emptied-requires-clause-fresh g c = record {
+  staged = c.in-Ok.file.idle;
+  capacity = refl;
+  usable = c.in-Ok.ensures.fresh.usable;
+  writable = c.in-Ok.ensures.fresh.writable ∙ c.is_writable.ensures ∙ c.requires.written (is_on c.args.how.truncate c.if-not-how.false);
+}
+
+pub returns-in-Ok-clause-fresh : goal.returns-in-Ok-clause-fresh
+returns-in-Ok-clause-fresh g c =
+    just_opened c.emptied.result _ _ _ _ (sym (c.requires.written (is_on c.args.how.truncate c.if-not-how.false))) (ap (λ (n : ℕ). n / 4) c.in-Ok.ensures.size) c.emptied.ensures.fresh
+
+pub returns-in-Ok-clause-stands : goal.returns-in-Ok-clause-stands
+returns-in-Ok-clause-stands g c honest only map limit stands =
+    opens_emptied c.args.how map limit c.emptied.result (is_on c.args.how.truncate c.if-not-how.false) (sym c.is_exclusive.ensures ∙ c.if-is_exclusive.false) (c.emptied.ensures.stands (c.in-Ok.ensures.honesty.1 honest))
+
+pub returns-in-Ok-clause-only_reads : goal.returns-in-Ok-clause-only_reads
+returns-in-Ok-clause-only_reads g c reading honest = not_both _ (c.requires.written (is_on c.args.how.truncate c.if-not-how.false)) reading
+
+pub returns-in-Ok-clause-device : goal.returns-in-Ok-clause-device
+returns-in-Ok-clause-device g c =
+    let dev = g.D.SectorDev in
+    each_err c.emptied.result c.emptied.ensures.device (λ e same more is. more_later (dev.faults c.args.store.dev) (dev.faults c.in-Ok.file.store.dev) (dev.faults e.0) c.in-Ok.ensures.later (more is))
+
+pub returns-in-Ok-clause-only : goal.returns-in-Ok-clause-only
+returns-in-Ok-clause-only g c = each_err c.emptied.result c.emptied.ensures.only (λ e is among. of_emptied e.1 among)
+
+pub returns-in-Ok-clause-honesty : goal.returns-in-Ok-clause-honesty
+returns-in-Ok-clause-honesty g c = both_ways c.emptied.ensures.honesty c.in-Ok.ensures.honesty
+
+pub returns-in-Ok-clause-later : goal.returns-in-Ok-clause-later
+returns-in-Ok-clause-later g c = later_then _ _ _ c.in-Ok.ensures.later c.emptied.ensures.later
+
+pub returns-in-Ok-clause-size : goal.returns-in-Ok-clause-size
+returns-in-Ok-clause-size g c =
+    (c.emptied.ensures.size ∙ ap (λ (n : ℕ). n / 4) c.in-Ok.ensures.size, λ kept. not_both _ (is_on c.args.how.truncate c.if-not-how.false) kept)
+
+-- ---- what was to be emptied is refused
+
+pub returns-in-Err-clause-fresh : goal.returns-in-Err-clause-fresh
+returns-in-Err-clause-fresh g c = tt
+
+pub returns-in-Err-clause-any_moment : goal.returns-in-Err-clause-any_moment
+returns-in-Err-clause-any_moment g c honest =
+    let dev = g.D.SectorDev in
+    let d = c.args.store.dev in
+    reads_settle dev (dev.sectors d / 4) d c.in-Err.refused.0 _ (c.in-Err.ensures.only_reads honest)
+
+pub returns-in-Err-clause-stands : goal.returns-in-Err-clause-stands
+returns-in-Err-clause-stands g c honest only map limit stands = tt
+
+pub returns-in-Err-clause-only_reads : goal.returns-in-Err-clause-only_reads
+returns-in-Err-clause-only_reads g c reading honest = c.in-Err.ensures.only_reads honest
+
+pub returns-in-Err-clause-refused : goal.returns-in-Err-clause-refused
+returns-in-Err-clause-refused g c honest other =
+    let dev = g.D.SectorDev in
+    let store = c.args.store in
+    let d = store.dev in
+    let rest = store.rests honest c.requires.fresh.usable in (
+      inl (inr (sym c.is_exclusive.ensures ∙ c.if-is_exclusive.false, inl (c.in-Err.ensures.refused honest other))),
+      λ writing. reads_leave dev (dev.sectors d / 4) d c.in-Err.refused.0 _ (c.in-Err.ensures.only_reads honest) (rest.at_rest (c.requires.fresh.writable ∙ writing)).stable rest.settles,
+    )
+
+pub returns-in-Err-clause-device : goal.returns-in-Err-clause-device
+returns-in-Err-clause-device g c = c.in-Err.ensures.device
+
+pub returns-in-Err-clause-only : goal.returns-in-Err-clause-only
+returns-in-Err-clause-only g c = of_found c.in-Err.refused.1 c.in-Err.ensures.only
+
+pub returns-in-Err-clause-honesty : goal.returns-in-Err-clause-honesty
+returns-in-Err-clause-honesty g c = c.in-Err.ensures.honesty
+
+pub returns-in-Err-clause-later : goal.returns-in-Err-clause-later
+returns-in-Err-clause-later g c = c.in-Err.ensures.later
+
+pub returns-in-Err-clause-size : goal.returns-in-Err-clause-size
+returns-in-Err-clause-size g c = (ap (λ (n : ℕ). n / 4) c.in-Err.ensures.size, λ kept. c.in-Err.ensures.size)
