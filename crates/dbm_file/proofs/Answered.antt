@@ -1,16 +1,19 @@
 -- Calls that were answered on any device.
-use Rattle.std.proofs.Common.{◌≡◌, ℕ, ◌+◌, List, [], ◌∷◌, ◌++◌, Result, Ok, Err, refl, sym, ap, subst, arith}
+use Rattle.std.proofs.Common.{◌≡◌, ℕ, ◌+◌, List, [], ◌∷◌, ◌++◌, None, Some, Result, Ok, Err, IfOk, IfSome, refl, sym, ap, subst, arith}
 use Rattle.dbm_fault.specs.Among.{IsErrAmong}
 use Rattle.dbm_fault.specs.declared.fault.Fault.{Fault}
 use Rattle.page_io.specs.declared.store.PageStore.{Ghosts}
+use Rattle.chain_walks.specs.Walks.{EndsWithout}
 use Rattle.dbm_file.specs.Answers.{IsSameDatabase, IsCallEnded}
-use Rattle.dbm_file.specs.Calls.{reply_of, store_reply, delete_reply}
-use Rattle.dbm_file.specs.Database.{store_of, meta_kept}
-use Rattle.dbm_file.specs.Replies.{IsCallAnswered, IsAnswered, AreAnswered, store_faults, delete_faults, refusal, refusal_in, told_of_store, told_of_delete}
+use Rattle.dbm_file.specs.Calls.{reply_of, store_reply, delete_reply, Lent, lent_reply, seen}
+use Rattle.dbm_file.specs.Database.{store_of, meta_kept, cursor_of}
+use Rattle.dbm_file.specs.Replies.{IsCallAnswered, IsAnswered, AreAnswered, store_faults, delete_faults, read_faults, next_faults, told_of_store, told_of_delete, told_of_bytes}
 use Rattle.dbm_file.specs.Rooms.{rooms_in}
+use Rattle.dbm_file.specs.Searches.{Searched, EndsWith, EndsAtContent, Passed, pass_start}
 use Rattle.dbm_file.specs.declared.calls.Call.{Call}
-use Rattle.dbm_file.specs.declared.calls.Call.TheVariants.{Store, Delete}
+use Rattle.dbm_file.specs.declared.calls.Call.TheVariants.{Store, Fetch, Delete, First, Next}
 use Rattle.dbm_file.specs.declared.calls.Reply.{Reply}
+use Rattle.dbm_file.specs.declared.calls.Reply.TheVariants.{NoRecord, End}
 use Rattle.dbm_file.specs.declared.calls.StoreMode.{StoreMode}
 use Rattle.dbm_file.specs.declared.calls.StoreMode.TheVariants.{Insert}
 use Rattle.dbm_file.specs.declared.calls.StoreReply.{StoreReply}
@@ -32,31 +35,11 @@ answered_next old mid new (c ∷ calls) (r ∷ replies) call reply (one, first, 
 pub answered_to : {S : Type 0} {s : Ghosts S} (old new : Database S s) (call call' : Call) (reply : Reply) → call ≡ call' → IsAnswered old new call' reply → IsAnswered old new call reply
 answered_to old new call call' reply is told = subst (λ (c : Call). IsAnswered old new c reply) (sym is) told
 
--- how a call ended, told by its refusal alone
-ended_so : {S T : Type 0} {s : Ghosts S} {old new : Database S s} (ended : Result T Fault) → IsCallEnded old new ended → IsCallEnded old new (refusal_in ended)
-ended_so (Ok value) keeps = keeps_as value tt keeps
-ended_so (Err fault) keeps = keeps_err fault keeps
-
--- a call that lends bytes
-pub lent_answered : {S T : Type 0} {s : Ghosts S} {old new : Database S s} (ended : Result T Fault) (reply : Reply) → refusal reply ≡ refusal_in ended → IsCallEnded old new ended → IsCallEnded old new (refusal reply)
-lent_answered {S} {T} {s} {old} {new} ended reply same keeps = subst (λ (r : Result Unit Fault). IsCallEnded old new r) (sym same) (ended_so ended keeps)
-
 -- a store
 pub store_is_told : (ended : Result StoreReply Fault) (reply : Reply) → reply ≡ told_of_store ended → reply_of reply ≡ store_reply ended
 store_is_told (Ok stored.Stored) reply is = ap reply_of is
 store_is_told (Ok stored.Kept) reply is = ap reply_of is
 store_is_told (Err fault) reply is = ap reply_of is
-
-stored_well : {S : Type 0} {s : Ghosts S} {old new : Database S s} (ended : Result StoreReply Fault) (key content : List ℕ) (mode : StoreMode)
-    → (ended ≡ Ok stored.Kept → mode ≡ Insert) → IsErrAmong ended store_faults → IsCallEnded old new ended → IsCallAnswered old new (Store key content mode) (told_of_store ended)
-stored_well (Ok stored.Stored) key content mode kept only keeps = record { replied = tt; keeps = keeps_as stored.Stored tt keeps }
-stored_well (Ok stored.Kept) key content mode kept only keeps = record { replied = kept refl; keeps = keeps_as stored.Kept tt keeps }
-stored_well (Err fault) key content mode kept only keeps = record { replied = only; keeps = keeps_err fault keeps }
-
-pub store_answered : {S : Type 0} {s : Ghosts S} {old new : Database S s} (ended : Result StoreReply Fault) (reply : Reply) (key content : List ℕ) (mode : StoreMode) → reply ≡ told_of_store ended
-    → (ended ≡ Ok stored.Kept → mode ≡ Insert) → IsErrAmong ended store_faults → IsCallEnded old new ended → IsCallAnswered old new (Store key content mode) reply
-store_answered {S} {s} {old} {new} ended reply key content mode is kept only keeps =
-    subst (λ (r : Reply). IsCallAnswered old new (Store key content mode) r) (sym is) (stored_well ended key content mode kept only keeps)
 
 -- a delete
 pub delete_is_told : (ended : Result DeleteReply Fault) (reply : Reply) → reply ≡ told_of_delete ended → reply_of reply ≡ delete_reply ended
@@ -64,15 +47,68 @@ delete_is_told (Ok deleted.Deleted) reply is = ap reply_of is
 delete_is_told (Ok deleted.Absent) reply is = ap reply_of is
 delete_is_told (Err fault) reply is = ap reply_of is
 
-deleted_well : {S : Type 0} {s : Ghosts S} {old new : Database S s} (ended : Result DeleteReply Fault) (key : List ℕ)
-    → IsErrAmong ended delete_faults → IsCallEnded old new ended → IsCallAnswered old new (Delete key) (told_of_delete ended)
-deleted_well (Ok deleted.Deleted) key only keeps = record { replied = tt; keeps = keeps_as deleted.Deleted tt keeps }
-deleted_well (Ok deleted.Absent) key only keeps = record { replied = tt; keeps = keeps_as deleted.Absent tt keeps }
-deleted_well (Err fault) key only keeps = record { replied = only; keeps = keeps_err fault keeps }
+-- a call that lends bytes
+pub bytes_are_told : (none : Reply) (found : Lent) (reply : Reply) → reply ≡ told_of_bytes none found → lent_reply (reply_of none) found ≡ reply_of reply
+bytes_are_told none (Ok None) reply is = ap reply_of (sym is)
+bytes_are_told none (Ok (Some bytes)) reply is = ap reply_of (sym is)
+bytes_are_told none (Err fault) reply is = ap reply_of (sym is)
 
-pub delete_answered : {S : Type 0} {s : Ghosts S} {old new : Database S s} (ended : Result DeleteReply Fault) (reply : Reply) (key : List ℕ) → reply ≡ told_of_delete ended
-    → IsErrAmong ended delete_faults → IsCallEnded old new ended → IsCallAnswered old new (Delete key) reply
-delete_answered {S} {s} {old} {new} ended reply key is only keeps = subst (λ (r : Reply). IsCallAnswered old new (Delete key) r) (sym is) (deleted_well ended key only keeps)
+module _ {S : Type 0} {s : Ghosts S} {old new : Database S s} where
+  stored_well : (ended : Result StoreReply Fault) (key content : List ℕ) (mode : StoreMode)
+      → (ended ≡ Ok stored.Kept → (mode ≡ Insert) × Searched old key (EndsWith key)) → IsErrAmong ended store_faults → IsCallEnded old new ended → IsCallAnswered old new (Store key content mode) (told_of_store ended)
+  stored_well (Ok stored.Stored) key content mode kept only keeps = record { replied = tt; read = tt; keeps = keeps_as stored.Stored tt keeps }
+  stored_well (Ok stored.Kept) key content mode kept only keeps = record { replied = (kept refl).0; read = (kept refl).1; keeps = keeps_as stored.Kept tt keeps }
+  stored_well (Err fault) key content mode kept only keeps = record { replied = only; read = tt; keeps = keeps_err fault keeps }
+
+  deleted_well : (ended : Result DeleteReply Fault) (key : List ℕ)
+      → (ended ≡ Ok deleted.Absent → Searched old key (EndsWithout key)) → IsErrAmong ended delete_faults → IsCallEnded old new ended → IsCallAnswered old new (Delete key) (told_of_delete ended)
+  deleted_well (Ok deleted.Deleted) key absent only keeps = record { replied = tt; read = tt; keeps = keeps_as deleted.Deleted tt keeps }
+  deleted_well (Ok deleted.Absent) key absent only keeps = record { replied = tt; read = absent refl; keeps = keeps_as deleted.Absent tt keeps }
+  deleted_well (Err fault) key absent only keeps = record { replied = only; read = tt; keeps = keeps_err fault keeps }
+
+  fetched_well : (found : Lent) (key : List ℕ) → IfOk found (λ content. Searched old key (EndsAtContent key (seen content))) → IsErrAmong found read_faults → IsCallEnded old new found
+      → IsCallAnswered old new (Fetch key) (told_of_bytes NoRecord found)
+  fetched_well (Ok None) key searched only keeps = record { replied = refl; read = searched; keeps = keeps_as None tt keeps }
+  fetched_well (Ok (Some content)) key searched only keeps = record { replied = tt; read = searched; keeps = keeps_as (Some content) tt keeps }
+  fetched_well (Err fault) key searched only keeps = record { replied = only; read = tt; keeps = keeps_err fault keeps }
+
+  begun_well : (found : Lent) → IfOk found (λ key. Passed old pass_start (seen key)) → IsErrAmong found read_faults → IsCallEnded old new found → IsCallAnswered old new First (told_of_bytes End found)
+  begun_well (Ok None) passed only keeps = record { replied = refl; read = passed; keeps = keeps_as None tt keeps }
+  begun_well (Ok (Some key)) passed only keeps = record { replied = tt; read = passed; keeps = keeps_as (Some key) tt keeps }
+  begun_well (Err fault) passed only keeps = record { replied = only; read = tt; keeps = keeps_err fault keeps }
+
+  passed_well : (found : Lent) → IfOk found (λ key. IfSome (cursor_of old) (λ cursor. Passed old cursor (seen key))) → IsErrAmong found next_faults → IsCallEnded old new found
+      → IsCallAnswered old new Next (told_of_bytes End found)
+  passed_well (Ok None) passed only keeps = record { replied = refl; read = passed; keeps = keeps_as None tt keeps }
+  passed_well (Ok (Some key)) passed only keeps = record { replied = tt; read = passed; keeps = keeps_as (Some key) tt keeps }
+  passed_well (Err fault) passed only keeps = record { replied = only; read = tt; keeps = keeps_err fault keeps }
+
+  -- under the reply that was given, and the key that stands in the call
+  pub store_answered : (ended : Result StoreReply Fault) (reply : Reply) (given key content : List ℕ) (mode : StoreMode) → reply ≡ told_of_store ended → given ≡ key
+      → (ended ≡ Ok stored.Kept → (mode ≡ Insert) × Searched old given (EndsWith given)) → IsErrAmong ended store_faults → IsCallEnded old new ended → IsCallAnswered old new (Store key content mode) reply
+  store_answered ended reply given key content mode is same kept only keeps =
+      subst (λ (r : Reply). IsCallAnswered old new (Store key content mode) r) (sym is)
+      (subst (λ (k : List ℕ). IsCallAnswered old new (Store k content mode) (told_of_store ended)) same (stored_well ended given content mode kept only keeps))
+
+  pub delete_answered : (ended : Result DeleteReply Fault) (reply : Reply) (given key : List ℕ) → reply ≡ told_of_delete ended → given ≡ key
+      → (ended ≡ Ok deleted.Absent → Searched old given (EndsWithout given)) → IsErrAmong ended delete_faults → IsCallEnded old new ended → IsCallAnswered old new (Delete key) reply
+  delete_answered ended reply given key is same absent only keeps =
+      subst (λ (r : Reply). IsCallAnswered old new (Delete key) r) (sym is)
+      (subst (λ (k : List ℕ). IsCallAnswered old new (Delete k) (told_of_delete ended)) same (deleted_well ended given absent only keeps))
+
+  pub fetch_answered : (found : Lent) (reply : Reply) (given key : List ℕ) → reply ≡ told_of_bytes NoRecord found → given ≡ key
+      → IfOk found (λ content. Searched old given (EndsAtContent given (seen content))) → IsErrAmong found read_faults → IsCallEnded old new found → IsCallAnswered old new (Fetch key) reply
+  fetch_answered found reply given key is same searched only keeps =
+      subst (λ (r : Reply). IsCallAnswered old new (Fetch key) r) (sym is)
+      (subst (λ (k : List ℕ). IsCallAnswered old new (Fetch k) (told_of_bytes NoRecord found)) same (fetched_well found given searched only keeps))
+
+  pub first_answered : (found : Lent) (reply : Reply) → reply ≡ told_of_bytes End found → IfOk found (λ key. Passed old pass_start (seen key)) → IsErrAmong found read_faults → IsCallEnded old new found
+      → IsCallAnswered old new First reply
+  first_answered found reply is passed only keeps = subst (λ (r : Reply). IsCallAnswered old new First r) (sym is) (begun_well found passed only keeps)
+
+  pub next_answered : (found : Lent) (reply : Reply) → reply ≡ told_of_bytes End found → IfOk found (λ key. IfSome (cursor_of old) (λ cursor. Passed old cursor (seen key))) → IsErrAmong found next_faults
+      → IsCallEnded old new found → IsCallAnswered old new Next reply
+  next_answered found reply is passed only keeps = subst (λ (r : Reply). IsCallAnswered old new Next r) (sym is) (passed_well found passed only keeps)
 
 -- the database with the same store and meta page
 pub same_goes : {S : Type 0} {s : Ghosts S} (old new : Database S s) → store_of new ≡ store_of old → meta_kept new ≡ meta_kept old → IsSameDatabase old new

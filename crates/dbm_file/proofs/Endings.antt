@@ -11,7 +11,7 @@ use Rattle.page_io.specs.Store.{StoreState}
 use Rattle.page_io.specs.declared.store.PageStore.{Ghosts}
 use Rattle.page_io.specs.declared.store.PageFault.{PageFault}
 use Rattle.page_io.specs.declared.store.PageFault.TheVariants as page
-use Rattle.dbm_fault.specs.Among.{IsAmong, IsErrAmong}
+use Rattle.dbm_fault.specs.Among.{IsAmong}
 use Rattle.dbm_fault.specs.Faults.{fault_of, fault_from}
 use Rattle.dbm_fault.specs.declared.fault.Fault.{Fault}
 use Rattle.dbm_fault.specs.declared.fault.Fault.TheVariants.{Memory, Device, Broken, ReadOnly, TooLong, Full, NoRoom, Damaged}
@@ -22,7 +22,7 @@ use Rattle.dbm_file.specs.Answers.{IsCallEnded}
 use Rattle.dbm_file.specs.Database.{store_of, meta_kept, page_state}
 use Rattle.dbm_file.specs.Replies.{store_faults, delete_faults}
 use Rattle.dbm_file.specs.Searches.{Searched, EndsWith}
-use Rattle.dbm_file.specs.Trying.{with_fault, with_error_of, IsRead}
+use Rattle.dbm_file.specs.Trying.{with_fault, with_error_of, IsRead, IsStoreEnd, IsDeleteEnd}
 use Rattle.dbm_file.specs.declared.calls.StoreMode.{StoreMode}
 use Rattle.dbm_file.specs.declared.calls.StoreMode.TheVariants.{Insert}
 use Rattle.dbm_file.specs.declared.calls.StoreReply.{StoreReply}
@@ -99,28 +99,11 @@ never_too_long page.NoRoom is = absurd (let x = is in cc)
 never_too_long page.Damaged is = absurd (let x = is in cc)
 
 module _ {S : Type 0} {s : Ghosts S} where
-  -- what a store says beside its step, and a delete, where the first fault is kept in the database that is told
-  pub record IsStoreEnd (old new told : Database S s) (key content : List ℕ) (mode : StoreMode) (result : Result StoreReply Fault) : Type 0 where
-    pub shape : shape_in (meta_kept new) ≡ shape_for (meta_kept new).pairs (shape_in (meta_kept old))
-    pub read_only : (result ≡ Err ReadOnly) ↔ (((page_state old).usable ≡ true) × ((page_state old).writable ≡ false))
-    pub kept : result ≡ Ok stored.Kept → (mode ≡ Insert) × Searched old key (EndsWith key)
-    pub too_long : (result ≡ Err TooLong) ↔ (((page_state old).usable ≡ true) × ((page_state old).writable ≡ true) × (2026 < length key + length content))
-    pub keeps : IsCallEnded old told result
-    pub only : IsErrAmong result store_faults
-
-  pub record IsDeleteEnd (old new told : Database S s) (key : List ℕ) (result : Result DeleteReply Fault) : Type 0 where
-    pub shape : shape_in (meta_kept new) ≡ shape_in (meta_kept old)
-    pub read_only : (result ≡ Err ReadOnly) ↔ (((page_state old).usable ≡ true) × ((page_state old).writable ≡ false))
-    pub absent : result ≡ Ok deleted.Absent → Searched old key (EndsWithout key)
-    pub counted : result ≡ Ok deleted.Deleted → (meta_kept new).pairs + 1 ≡ (meta_kept old).pairs
-    pub keeps : IsCallEnded old told result
-    pub only : IsErrAmong result delete_faults
-
   module _ (old : Database S s) (key : List ℕ) where
     -- a broken database
     module _ (broken : (page_state old).usable ≡ false) where
-      pub ended_broken_store : (content : List ℕ) (mode : StoreMode) → IsStoreEnd old old (with_fault old Broken) key content mode (Err Broken)
-      ended_broken_store content mode = record {
+      pub unusable_store : (content : List ℕ) (mode : StoreMode) → IsStoreEnd old old (with_fault old Broken) key content mode (Err Broken)
+      unusable_store content mode = record {
         shape = stays (meta_kept old) old.valid;
         read_only = neither (λ is. absurd (let x = is in cc)) (λ all. absurd (let x = sym broken ∙ all.0 in cc));
         kept = λ is. absurd (let x = is in cc);
@@ -129,8 +112,8 @@ module _ {S : Type 0} {s : Ghosts S} where
         only = inl refl;
       }
 
-      pub ended_broken_delete : IsDeleteEnd old old (with_fault old Broken) key (Err Broken)
-      ended_broken_delete = record {
+      pub unusable_delete : IsDeleteEnd old old (with_fault old Broken) key (Err Broken)
+      unusable_delete = record {
         shape = refl;
         read_only = neither (λ is. absurd (let x = is in cc)) (λ all. absurd (let x = sym broken ∙ all.0 in cc));
         absent = λ is. absurd (let x = is in cc);

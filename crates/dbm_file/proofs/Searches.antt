@@ -49,9 +49,9 @@ has_content key found content pairs slot has holds = λ d. holds d ∙ ap (λ (k
 
 -- the content that was found
 pub found_content : (at : ℕ → Body) (m : Meta) (key : Key) (bytes : List ℕ) (place : Option Place) (there : Place) (pair : Bor (List ℕ) × Bor (List ℕ)) → place ≡ Some there
-    → HoldsAt (λ p. p ≡ (pair.0.now, pair.1.now)) (page_pairs bytes) there.slot → IsSearch at m key (EndsAt key bytes place) → IsSearch at m key (EndsAtContent key (Some pair.1))
+    → HoldsAt (λ p. p ≡ (pair.0.now, pair.1.now)) (page_pairs bytes) there.slot → IsSearch at m key (EndsAt key bytes place) → IsSearch at m key (EndsAtContent key (Some pair.1.now))
 found_content at m key bytes place there pair is holds s =
-    ended_so at m key (EndsAt key bytes (Some there)) (EndsAtContent key (Some pair.1))
+    ended_so at m key (EndsAt key bytes (Some there)) (EndsAtContent key (Some pair.1.now))
     (λ leaf after ends. (there.slot, has_content key pair.0.now pair.1.now leaf.pairs there.slot ends.has.1 (subst (λ (ps : List Pair). HoldsAt (λ p. p ≡ (pair.0.now, pair.1.now)) ps there.slot) ends.pairs holds)))
     (subst (λ (p : Option Place). IsSearch at m key (EndsAt key bytes p)) is s)
 
@@ -61,7 +61,7 @@ nothing_searched {T} P r fault is = subst (λ (x : Result T Fault). IfOk x P) (s
 
 -- the key of the pair that a pass has reached
 pub given_key : (at : ℕ → Body) (m : Meta) (cursor : Cursor) (bytes : List ℕ) (reached : Option ℕ) (slot : ℕ) (pair : Bor (List ℕ) × Bor (List ℕ)) → reached ≡ Some slot
-    → HoldsAt (λ p. p ≡ (pair.0.now, pair.1.now)) (page_pairs bytes) slot → IsReached at m cursor bytes reached → IsGiven at m cursor (Some pair.0)
+    → HoldsAt (λ p. p ≡ (pair.0.now, pair.1.now)) (page_pairs bytes) slot → IsReached at m cursor bytes reached → IsGiven at m cursor (Some pair.0.now)
 given_key at m cursor bytes reached slot pair is holds there = (bytes, slot, subst (λ (o : Option ℕ). IsReached at m cursor bytes o) is there, λ d. ap (λ (p : Pair). p.0) (holds d))
 
 pub given_none : (at : ℕ → Body) (m : Meta) (cursor : Cursor) (bytes : List ℕ) (reached : Option ℕ) → reached ≡ None → IsReached at m cursor bytes reached → IsGiven at m cursor None

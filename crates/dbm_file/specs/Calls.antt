@@ -48,6 +48,11 @@ reply_of (Refused fault) = model.Refused (fault_of fault)
 abbrev pub Lent : Type 0
 Lent = Result (Option (Bor (List ℕ))) Fault
 
+-- its bytes alone
+abbrev pub seen : Option (Bor (List ℕ)) → Option (List ℕ)
+seen None = None
+seen (Some bytes) = Some bytes.now
+
 -- what a store answers
 abbrev pub store_reply : Result StoreReply Fault → model.Reply
 store_reply (Ok stored.Stored) = model.Stored

@@ -1,12 +1,15 @@
 -- Which replies a call may get on any device, and what it then leaves, whatever the bytes are.
-use Rattle.std.specs.Prelude.{◌≡◌, pos, List, [], ◌∷◌, None, Result, Ok, Err}
+use Rattle.std.specs.Prelude.{◌≡◌, pos, List, [], ◌∷◌, IfSome, None, Some, Result, Ok, Err}
 use Rattle.dbm_fault.specs.Among.{IsAmong}
 use Rattle.dbm_fault.specs.declared.fault.Fault.{Fault}
 use Rattle.dbm_fault.specs.declared.fault.Fault.TheVariants.{Memory, Device, Broken, ReadOnly, TooLong, Full, NoPass, NoRoom, Damaged}
 use Rattle.dbm_model.specs.States.{error_number}
 use Rattle.page_io.specs.declared.store.PageStore.{Ghosts}
+use Rattle.chain_walks.specs.Walks.{EndsWithout}
 use Rattle.dbm_file.specs.Answers.{IsCallEnded}
+use Rattle.dbm_file.specs.Calls.{Lent}
 use Rattle.dbm_file.specs.Database.{store_of, meta_kept, error_of, cursor_of}
+use Rattle.dbm_file.specs.Searches.{Searched, EndsWith, EndsAtContent, Passed, pass_start}
 use Rattle.dbm_file.specs.declared.calls.Call.{Call}
 use Rattle.dbm_file.specs.declared.calls.Call.TheVariants.{Store, Fetch, Delete, First, Next, Error, Clear}
 use Rattle.dbm_file.specs.declared.calls.Reply.{Reply}
@@ -62,14 +65,28 @@ told_of_delete (Ok deleted.Deleted) = Deleted
 told_of_delete (Ok deleted.Absent) = Absent
 told_of_delete (Err fault) = Refused fault
 
--- whether a call was refused, and by which fault: told by its reply, and by what it answers
+-- and bytes, or this reply where there are none
+abbrev pub told_of_bytes : Reply → Lent → Reply
+told_of_bytes none (Ok None) = none
+told_of_bytes none (Ok (Some bytes)) = Bytes bytes.now
+told_of_bytes none (Err fault) = Refused fault
+
+-- whether a call was refused, and by which fault
 abbrev pub refusal : Reply → Result Unit Fault
 refusal (Refused fault) = Err fault
 refusal reply = Ok tt
 
-abbrev pub refusal_in : {T : Type 0} → Result T Fault → Result Unit Fault
-refusal_in (Ok value) = Ok tt
-refusal_in (Err fault) = Err fault
+-- what was read of the file before a call was answered so; a change and a refusal tell nothing of it
+abbrev pub WasRead : {S : Type 0} {s : Ghosts S} → Database S s → Call → Reply → Type 0
+WasRead db (Store key content mode) Kept = Searched db key (EndsWith key)
+WasRead db (Delete key) Absent = Searched db key (EndsWithout key)
+WasRead db (Fetch key) NoRecord = Searched db key (EndsAtContent key None)
+WasRead db (Fetch key) (Bytes content) = Searched db key (EndsAtContent key (Some content))
+WasRead db First End = Passed db pass_start None
+WasRead db First (Bytes key) = Passed db pass_start (Some key)
+WasRead db Next End = IfSome (cursor_of db) (λ cursor. Passed db cursor None)
+WasRead db Next (Bytes key) = IfSome (cursor_of db) (λ cursor. Passed db cursor (Some key))
+WasRead db call reply = Unit {0}
 
 -- the error number was told, and nothing changed
 abbrev pub IsErrorTold : {S : Type 0} {s : Ghosts S} → Database S s → Database S s → Reply → Type 0
@@ -86,6 +103,7 @@ pub record IsErrorCleared {S : Type 0} {s : Ghosts S} (old new : Database S s) (
 -- any other call was answered by a reply to it
 pub record IsCallAnswered {S : Type 0} {s : Ghosts S} (old new : Database S s) (call : Call) (reply : Reply) : Type 0 where
   pub replied : IsReplyTo call reply
+  pub read : WasRead old call reply
   pub keeps : IsCallEnded old new (refusal reply)
 
 abbrev pub IsAnswered : {S : Type 0} {s : Ghosts S} → Database S s → Database S s → Call → Reply → Type 0

@@ -1,6 +1,5 @@
 -- What a call has read that looks for a key, on any file.
 use Rattle.std.specs.Prelude.{◌≡◌, ℕ, Bool, true, false, List, Option, Some, None}
-use Rattle.std.specs.Borrow.{Bor}
 use Rattle.std.specs.List.{HoldsAt}
 use Rattle.dbm_model.specs.Pairs.{Key}
 use Rattle.page_model.specs.Chain.{Leaf}
@@ -31,9 +30,9 @@ EndsBy key true leaf after = EndsWith key leaf after
 EndsBy key false leaf after = EndsWithout key leaf after
 
 -- at a page that has the key with this content, or behind all pages
-abbrev pub EndsAtContent : Key → Option (Bor (List ℕ)) → Leaf → ℕ → Type 0
+abbrev pub EndsAtContent : Key → Option (List ℕ) → Leaf → ℕ → Type 0
 EndsAtContent key None leaf after = EndsWithout key leaf after
-EndsAtContent key (Some content) leaf after = (slot : ℕ) × HoldsAt (λ pair. pair ≡ (key, content.now)) leaf.pairs slot
+EndsAtContent key (Some content) leaf after = (slot : ℕ) × HoldsAt (λ pair. pair ≡ (key, content)) leaf.pairs slot
 
 -- before all pairs
 abbrev pub pass_start : Cursor
@@ -45,10 +44,10 @@ IsReached at m cursor bytes None = GaveNothing at m cursor (meta_buckets m)
 IsReached at m cursor bytes (Some slot) = (bucket : ℕ) × (page : ℕ) × IsPassed at m cursor bytes (Some (bucket, place page slot))
 
 -- the key that was answered is that of the pair which the pass reached
-abbrev pub IsGiven : (ℕ → Body) → Meta → Cursor → Option (Bor (List ℕ)) → Type 0
+abbrev pub IsGiven : (ℕ → Body) → Meta → Cursor → Option Key → Type 0
 IsGiven at m cursor None = GaveNothing at m cursor (meta_buckets m)
-IsGiven at m cursor (Some key) = (bytes : List ℕ) × (slot : ℕ) × IsReached at m cursor bytes (Some slot) × HoldsAt (λ pair. pair.0 ≡ key.now) (page_pairs bytes) slot
+IsGiven at m cursor (Some key) = (bytes : List ℕ) × (slot : ℕ) × IsReached at m cursor bytes (Some slot) × HoldsAt (λ pair. pair.0 ≡ key) (page_pairs bytes) slot
 
 -- over an honest store: the pages that say where the buckets are, and those of their chains, were read from the cursor on
-abbrev pub Passed : {S : Type 0} {s : Ghosts S} → Database S s → Cursor → Option (Bor (List ℕ)) → Type 0
+abbrev pub Passed : {S : Type 0} {s : Ghosts S} → Database S s → Cursor → Option Key → Type 0
 Passed {S} {s} db cursor found = s.honest (store_of db) → IsGiven (body_at s (store_of db)) (meta_kept db) cursor found

@@ -1,12 +1,25 @@
 -- A call of a database before its error is looked at.
-use Rattle.std.specs.Prelude.{◌≡◌, ℕ, List, [], is_some, slice_index_or, if◌then◌else◌, Option, Some, None, Result, Ok, Err}
+use Rattle.std.specs.Prelude.{◌≡◌, ◌↔◌, ◌+◌, ◌<◌, ℕ, true, false, List, [], length, is_some, slice_index_or, if◌then◌else◌, Option, Some, None, Result, Ok, Err}
 use Rattle.dbm_model.specs.Calls as model
 use Rattle.page_io.specs.Views.{ReadsOnly}
 use Rattle.page_io.specs.declared.store.PageStore.{Ghosts}
 use Rattle.slot_page.specs.Contents.{page_pairs}
 use Rattle.dbm_fault.specs.Faults.{fault_of}
-use Rattle.dbm_file.specs.Database.{store_of}
+use Rattle.dbm_fault.specs.Among.{IsErrAmong}
 use Rattle.dbm_fault.specs.declared.fault.Fault.{Fault}
+use Rattle.dbm_fault.specs.declared.fault.Fault.TheVariants.{ReadOnly, TooLong}
+use Rattle.linear_hash.specs.Tables.{shape_in, shape_for}
+use Rattle.chain_walks.specs.Walks.{EndsWithout}
+use Rattle.dbm_file.specs.Answers.{IsCallEnded}
+use Rattle.dbm_file.specs.Database.{store_of, meta_kept, page_state}
+use Rattle.dbm_file.specs.Replies.{store_faults, delete_faults}
+use Rattle.dbm_file.specs.Searches.{Searched, EndsWith}
+use Rattle.dbm_file.specs.declared.calls.StoreMode.{StoreMode}
+use Rattle.dbm_file.specs.declared.calls.StoreMode.TheVariants.{Insert}
+use Rattle.dbm_file.specs.declared.calls.StoreReply.{StoreReply}
+use Rattle.dbm_file.specs.declared.calls.StoreReply.TheVariants.{Kept}
+use Rattle.dbm_file.specs.declared.calls.DeleteReply.{DeleteReply}
+use Rattle.dbm_file.specs.declared.calls.DeleteReply.TheVariants.{Absent, Deleted}
 use Rattle.dbm_file.specs.declared.database.Database.{Database}
 
 -- with this fault, unless there is an earlier one
@@ -30,3 +43,20 @@ abbrev pub slot_reply : List ℕ → Result (Option ℕ) Fault → model.Reply
 slot_reply bytes (Ok None) = model.End
 slot_reply bytes (Ok (Some slot)) = model.Bytes (slice_index_or (page_pairs bytes) slot ([], [])).0
 slot_reply bytes (Err fault) = model.Refused (fault_of fault)
+
+-- what a store says on any device beside its step, and a delete; the first fault is kept in the database that is told
+pub record IsStoreEnd {S : Type 0} {s : Ghosts S} (old new told : Database S s) (key content : List ℕ) (mode : StoreMode) (result : Result StoreReply Fault) : Type 0 where
+  pub shape : shape_in (meta_kept new) ≡ shape_for (meta_kept new).pairs (shape_in (meta_kept old))
+  pub read_only : (result ≡ Err ReadOnly) ↔ (((page_state old).usable ≡ true) × ((page_state old).writable ≡ false))
+  pub kept : result ≡ Ok Kept → (mode ≡ Insert) × Searched old key (EndsWith key)
+  pub too_long : (result ≡ Err TooLong) ↔ (((page_state old).usable ≡ true) × ((page_state old).writable ≡ true) × (2026 < length key + length content))
+  pub keeps : IsCallEnded old told result
+  pub only : IsErrAmong result store_faults
+
+pub record IsDeleteEnd {S : Type 0} {s : Ghosts S} (old new told : Database S s) (key : List ℕ) (result : Result DeleteReply Fault) : Type 0 where
+  pub shape : shape_in (meta_kept new) ≡ shape_in (meta_kept old)
+  pub read_only : (result ≡ Err ReadOnly) ↔ (((page_state old).usable ≡ true) × ((page_state old).writable ≡ false))
+  pub absent : result ≡ Ok Absent → Searched old key (EndsWithout key)
+  pub counted : result ≡ Ok Deleted → (meta_kept new).pairs + 1 ≡ (meta_kept old).pairs
+  pub keeps : IsCallEnded old told result
+  pub only : IsErrAmong result delete_faults

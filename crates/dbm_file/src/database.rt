@@ -43,7 +43,7 @@ impl<S: PageStore> Database<S> {
     ghost use Rattle.dbm_model.specs.Steps.{Passes, case_of};
     ghost use Rattle.page_model.specs.Valid.{meta_buckets};
     ghost use Rattle.linear_hash.specs.Tables.{shape_in, shape_for};
-    ghost use Rattle.dbm_file.specs.Calls.{mode_of, store_reply, delete_reply, lent_reply};
+    ghost use Rattle.dbm_file.specs.Calls.{mode_of, store_reply, delete_reply, lent_reply, seen};
     ghost use Rattle.dbm_file.specs.Database.{store_of, meta_kept, page_state, error_of, cursor_of, IsAt, AtEachHandle};
     ghost use Rattle.dbm_file.specs.Answers.{IsStep, IsCallEnded};
     ghost use Rattle.dbm_file.specs.Lending.{Lends};
@@ -51,7 +51,7 @@ impl<S: PageStore> Database<S> {
     ghost use Rattle.dbm_file.specs.Passing.{HasLeft};
     ghost use Rattle.dbm_file.specs.Searches.{Searched, EndsWith, EndsBy, EndsAtContent, Passed, IsReached, pass_start};
     ghost use Rattle.dbm_file.specs.Ending.{EndsAs};
-    ghost use Rattle.dbm_file.specs.Trying.{with_error_of, IsRead, slot_reply};
+    ghost use Rattle.dbm_file.specs.Trying.{with_error_of, IsRead, IsStoreEnd, IsDeleteEnd, slot_reply};
     ghost use Rattle.page_commit.specs.Committing.{Holds};
     ghost use Rattle.chain_walks.specs.Answers.{IsWalkAnswer};
     ghost use Rattle.chain_walks.specs.Walks.{EndsWithout};
@@ -67,7 +67,7 @@ impl<S: PageStore> Database<S> {
         ensures short { IfOk result (λ r. IfSome r (λ content. length content.now ≤ 2026)) }
 
         // On any file the answer was read from the key's bucket, up to the key or to the end.
-        ensures searched { IfOk result (λ found. Searched self.old key.now (EndsAtContent key.now found)) }
+        ensures searched { IfOk result (λ found. Searched self.old key.now (EndsAtContent key.now (seen found))) }
         ensures only { IsErrAmong result read_faults }
     {
         if self.store.is_broken() {
@@ -131,7 +131,7 @@ impl<S: PageStore> Database<S> {
         ensures short { IfOk result (λ r. IfSome r (λ key. length key.now ≤ 2026)) }
 
         // On any file the buckets were read from the first one on.
-        ensures passed { IfOk result (λ found. Passed self.old pass_start found) }
+        ensures passed { IfOk result (λ found. Passed self.old pass_start (seen found)) }
         ensures only { IsErrAmong result read_faults }
     {
         if self.store.is_broken() {
@@ -153,7 +153,7 @@ impl<S: PageStore> Database<S> {
         ensures short { IfOk result (λ r. IfSome r (λ key. length key.now ≤ 2026)) }
 
         // On any file the buckets were read from where the pass stood.
-        ensures passed { IfOk result (λ found. IfSome (cursor_of self.old) (λ cursor. Passed self.old cursor found)) }
+        ensures passed { IfOk result (λ found. IfSome (cursor_of self.old) (λ cursor. Passed self.old cursor (seen found))) }
         ensures only { IsErrAmong result next_faults }
     {
         if self.store.is_broken() {
@@ -224,12 +224,7 @@ impl<S: PageStore> Database<S> {
     ) -> Result<StoreReply, Fault>
         ensures step { AtEachHandle self.old (λ h.
             IsStep self.old (with_error_of self.new result) h (Store key.now content.now (mode_of mode)) (store_reply result)) }
-        ensures shape { shape_in (meta_kept self.new) ≡ shape_for (meta_kept self.new).pairs (shape_in (meta_kept self.old)) }
-        ensures read_only { (result ≡ Err Fault.ReadOnly) ↔ (((page_state self.old).usable ≡ true) × ((page_state self.old).writable ≡ false)) }
-        ensures kept { result ≡ Ok StoreReply.Kept → (mode ≡ StoreMode.Insert) × Searched self.old key.now (EndsWith key.now) }
-        ensures too_long { (result ≡ Err Fault.TooLong) ↔ (((page_state self.old).usable ≡ true) × ((page_state self.old).writable ≡ true) × (2026 < length key.now + length content.now)) }
-        ensures keeps { IsCallEnded self.old (with_error_of self.new result) result }
-        ensures only { IsErrAmong result store_faults }
+        ensures ends { IsStoreEnd self.old self.new (with_error_of self.new result) key.now content.now mode result }
     {
         if self.store.is_broken() {
             return Err(Fault::Broken);
@@ -263,12 +258,7 @@ impl<S: PageStore> Database<S> {
     fn try_delete(&mut self, key: &[u8]) -> Result<DeleteReply, Fault>
         ensures step { AtEachHandle self.old (λ h.
             IsStep self.old (with_error_of self.new result) h (Delete key.now) (delete_reply result)) }
-        ensures shape { shape_in (meta_kept self.new) ≡ shape_in (meta_kept self.old) }
-        ensures read_only { (result ≡ Err Fault.ReadOnly) ↔ (((page_state self.old).usable ≡ true) × ((page_state self.old).writable ≡ false)) }
-        ensures absent { result ≡ Ok DeleteReply.Absent → Searched self.old key.now (EndsWithout key.now) }
-        ensures counted { result ≡ Ok DeleteReply.Deleted → (meta_kept self.new).pairs + 1 ≡ (meta_kept self.old).pairs }
-        ensures keeps { IsCallEnded self.old (with_error_of self.new result) result }
-        ensures only { IsErrAmong result delete_faults }
+        ensures ends { IsDeleteEnd self.old self.new (with_error_of self.new result) key.now result }
     {
         if self.store.is_broken() {
             return Err(Fault::Broken);

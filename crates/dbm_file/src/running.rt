@@ -1,10 +1,9 @@
 // A list of calls, one after another.
-ghost use Rattle.std.specs.Prelude.{◌≡◌, ◌⊎◌, ◌<◌, ◌≤◌, ◌+◌, ◌∷◌, [], IfOk, IfErr, IfSome, IsTrue, List, map, vec_len, length};
-ghost use Rattle.dbm_fault.specs.Among.{IsErrAmong};
-ghost use Rattle.dbm_file.specs.Calls.{call_of, reply_of, lent_reply};
+ghost use Rattle.std.specs.Prelude.{◌≡◌, ◌<◌, ◌≤◌, ◌+◌, ◌∷◌, [], IfOk, IfErr, IfSome, IsTrue, map, vec_len, length};
+ghost use Rattle.dbm_file.specs.Calls.{call_of, reply_of};
 ghost use Rattle.dbm_file.specs.Database.{AtEachHandle};
 ghost use Rattle.dbm_file.specs.Answers.{IsStep, IsSameDatabase};
-ghost use Rattle.dbm_file.specs.Replies.{IsAnswered, AreAnswered, IsBytesOr, refusal, refusal_in, told_of_store, told_of_delete};
+ghost use Rattle.dbm_file.specs.Replies.{IsAnswered, AreAnswered, told_of_store, told_of_delete, told_of_bytes};
 ghost use Rattle.dbm_file.specs.Rooms.{IsRoom, AreRooms, rooms_in, gives_bytes as call_gives_bytes};
 ghost use Rattle.dbm_file.specs.Runs.{IsRun};
 
@@ -123,10 +122,7 @@ fn delete_told(ended: Result<DeleteReply, Fault>) -> Reply
 fn bytes_in(mut room: Vec<u8>, found: Result<Option<&[u8]>, Fault>, none: Reply) -> Reply
     requires room { IsRoom room }
     requires short { IfOk found (λ r. IfSome r (λ bytes. length bytes.now ≤ 2026)) }
-    requires plain { (none ≡ Reply.NoRecord) ⊎ (none ≡ Reply.End) }
-    ensures reply { reply_of result ≡ lent_reply (reply_of none) found.entry }
-    ensures refused { refusal result ≡ refusal_in found.entry }
-    ensures kind { (faults : List Fault) → IsErrAmong found.entry faults → IsBytesOr none faults result }
+    ensures { result ≡ told_of_bytes none found.entry }
 {
     match found {
         Ok(Some(bytes)) => {
