@@ -18,6 +18,6 @@ pub record IsRule (argument : Arg) (rule : Rule) : Type 0 where
   pub shape : rule_of argument ≡ rule
   pub local : argument.global ≡ false
 
--- one line more, where the subcommand could be made
-abbrev pub Adds : {E : Type 0} → Command → Result Command E → Command → Type 0
-Adds old sub new = (app : App) (line : Shape) → IsApp old app → IfOk sub (λ c. IsApp c (alone line)) → IsApp new (with_subcommand app line)
+-- one line more, where both could be made
+abbrev pub Adds : {E : Type 0} → Result Command E → Result Command E → Result Command E → Type 0
+Adds old sub new = (app : App) (line : Shape) → IfOk old (λ c. IsApp c app) → IfOk sub (λ c. IsApp c (alone line)) → IfOk new (λ c. IsApp c (with_subcommand app line))

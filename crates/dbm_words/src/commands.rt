@@ -86,28 +86,28 @@ Example:
 pub fn command<'a>(alloc: Global) -> Result<Command<'a>, AllocError>
     ensures { IfOk result (λ c. IsApp c command_line) }
 {
-    let command = added(program(alloc)?, create_command(alloc))?;
-    let command = added(command, store_command(alloc))?;
-    let command = added(command, insert_command(alloc))?;
-    let command = added(command, fetch_command(alloc))?;
-    let command = added(command, delete_command(alloc))?;
-    let command = added(command, list_command(alloc))?;
-    let command = added(command, dump_command(alloc))?;
-    let command = added(command, load_command(alloc))?;
-    let command = added(command, stat_command(alloc))?;
-    let command = added(command, script_command(alloc))?;
+    let command = added(program(alloc), create_command(alloc));
+    let command = added(command, store_command(alloc));
+    let command = added(command, insert_command(alloc));
+    let command = added(command, fetch_command(alloc));
+    let command = added(command, delete_command(alloc));
+    let command = added(command, list_command(alloc));
+    let command = added(command, dump_command(alloc));
+    let command = added(command, load_command(alloc));
+    let command = added(command, stat_command(alloc));
+    let command = added(command, script_command(alloc));
     added(command, Ok(faults_command(alloc)))
 }
 
-/// The command with one more subcommand, if that could be made. An early return that drops a command is long to
-/// prove, and this is the only one.
+/// The command with one more subcommand, if both could be made. An early return that drops a command is long to
+/// prove, and these are the only ones.
 fn added<'a>(
-    command: Command<'a>,
+    command: Result<Command<'a>, AllocError>,
     line: Result<Command<'a>, AllocError>,
 ) -> Result<Command<'a>, AllocError>
-    ensures { IfOk result (Adds command.entry line.entry) }
+    ensures { Adds command.entry line.entry result }
 {
-    command.subcommand(line?)
+    command?.subcommand(line?)
 }
 
 /// The program, with no command yet. Usage shows its name, although the words don't have it.

@@ -7,17 +7,17 @@ pub returns : goal.returns
 unfolding command_line
 returns c =
     eleven_lines_added program_line create_line (pair_line (codes "store")) (pair_line (codes "insert")) (key_line (codes "fetch")) (key_line (codes "delete")) (file_line (codes "list")) (file_line (codes "dump")) (file_line (codes "load")) (file_line (codes "stat")) script_line faults_line
-    c.in_ok-program.field-0 c.in_ok-command.command c.in_ok-command-2.command c.in_ok-command-3.command c.in_ok-command-4.command c.in_ok-command-5.command c.in_ok-command-6.command c.in_ok-command-7.command c.in_ok-command-8.command c.in_ok-command-9.command c.in_ok-command-10.command
-    c.create_command.result c.store_command.result c.insert_command.result c.fetch_command.result c.delete_command.result c.list_command.result c.dump_command.result c.load_command.result c.stat_command.result c.script_command.result (Ok c.faults_command.result) c.added-11.result
-    c.in_ok-program.ensures
-    c.create_command.ensures c.in_ok-command.ensures
-    c.store_command.ensures c.in_ok-command-2.ensures
-    c.insert_command.ensures c.in_ok-command-3.ensures
-    c.fetch_command.ensures c.in_ok-command-4.ensures
-    c.delete_command.ensures c.in_ok-command-5.ensures
-    c.list_command.ensures c.in_ok-command-6.ensures
-    c.dump_command.ensures c.in_ok-command-7.ensures
-    c.load_command.ensures c.in_ok-command-8.ensures
-    c.stat_command.ensures c.in_ok-command-9.ensures
-    c.script_command.ensures c.in_ok-command-10.ensures
-    c.faults_command.ensures c.added-11.ensures
+    c.program.result c.added-command.result c.added-command-2.result c.added-command-3.result c.added-command-4.result c.added-command-5.result c.added-command-6.result c.added-command-7.result c.added-command-8.result c.added-command-9.result c.added-command-10.result
+    c.create_command.result c.store_command.result c.insert_command.result c.fetch_command.result c.delete_command.result c.list_command.result c.dump_command.result c.load_command.result c.stat_command.result c.script_command.result (Ok c.faults_command.result) c.added.result
+    c.program.ensures
+    c.create_command.ensures c.added-command.ensures
+    c.store_command.ensures c.added-command-2.ensures
+    c.insert_command.ensures c.added-command-3.ensures
+    c.fetch_command.ensures c.added-command-4.ensures
+    c.delete_command.ensures c.added-command-5.ensures
+    c.list_command.ensures c.added-command-6.ensures
+    c.dump_command.ensures c.added-command-7.ensures
+    c.load_command.ensures c.added-command-8.ensures
+    c.stat_command.ensures c.added-command-9.ensures
+    c.script_command.ensures c.added-command-10.ensures
+    c.faults_command.ensures c.added.ensures
