@@ -1,0 +1,78 @@
+#!/usr/bin/env bash
+# Cases of the commands that no other check has, each on a real file: what they print on both streams, and their status.
+set -u
+top=$(cd "$(dirname "$0")/.." && pwd)
+program=$top/crates/dbmtool/out/dbmtool
+work=$(mktemp -d)
+trap 'rm -rf "$work"' EXIT
+cd "$work" || exit 1
+bad=0
+wrong() { echo "$1"; bad=1; }
+
+# run STATUS OUTPUT FAULTS WORD..
+run() {
+  local wanted=$1 output=$2 faults=$3 status=0
+  shift 3
+  "$program" "$@" > out 2> err < /dev/null || status=$?
+  printf '%b' "$output" > right.out
+  printf '%b' "$faults" > right.err
+  [ "$status" = "$wanted" ] && cmp -s out right.out && cmp -s err right.err ||
+    { wrong "dbmtool $*: status $status and not $wanted, or another text:"; head -c 400 out; head -c 400 err; }
+}
+
+# an insert of a new key, and bytes in hexadecimal for each command that takes them
+run 0 '' '' create t --limit 100
+run 0 '' '' insert t new first
+run 0 'first\n' '' fetch t new
+run 1 '' '' insert t new second
+run 0 'first\n' '' fetch t new
+run 0 '' '' insert t FF 0001 -x
+run 0 '0001\n' '' fetch t ff -x
+run 1 '' '' insert t ff 02 -x
+run 0 '' '' delete t fF -x
+run 1 '' '' delete t ff -x
+run 1 '' '' fetch t ff -x
+
+# what isn't hexadecimal changes nothing
+cp t.db before
+run 3 '' 'dbmtool: not hex\n' store t 6 01 -x
+run 3 '' 'dbmtool: not hex\n' store t 61 0 -x
+run 3 '' 'dbmtool: not hex\n' insert t 61 xy -x
+run 3 '' 'dbmtool: not hex\n' delete t 6g -x
+cmp -s before t.db || wrong "words that aren't hexadecimal changed a file"
+
+# no command but create makes a file
+run 2 '' 'dbmtool: fault 14\n' store missing a b
+run 2 '' 'dbmtool: fault 14\n' insert missing a b
+run 2 '' 'dbmtool: fault 14\n' delete missing a
+run 2 '' 'dbmtool: fault 14\n' stat missing
+[ ! -e missing.db ] || wrong "a file was made"
+
+# Two pairs of 1,500 bytes take a page each. Where the second one goes, its page is free, and the next such pair takes it.
+long=$(printf '%01499d' 0)
+run 0 '' '' create pages --limit 100
+run 0 '' '' store pages a "$long"
+run 0 '' '' store pages b "$long"
+run 0 'pairs 2\nlimit 100\nbuckets 1\nlevel 0\nsplit 0\npages 5\nfree 0\n' '' stat pages
+run 0 '' '' delete pages b
+run 0 'pairs 1\nlimit 100\nbuckets 1\nlevel 0\nsplit 0\npages 5\nfree 1\n' '' stat pages
+run 0 '' '' store pages c "$long"
+run 0 'pairs 2\nlimit 100\nbuckets 1\nlevel 0\nsplit 0\npages 5\nfree 0\n' '' stat pages
+run 0 "$long\n" '' fetch pages a
+
+# A script in which the device fails within a change goes on, each later change is refused as that of a broken database, and
+# the fault of closing is told.
+cc -shared -fPIC -O1 -o fail.so "$top/tests/fail.c" -ldl || exit 1
+printf 'S 61 02\n' > lines
+cp t.db first.db
+FAIL_CALL=0 LD_PRELOAD=./fail.so "$program" script t < lines > out 2> err || wrong "a script failed with no failed call"
+calls=$(sed -n 's/^calls //p' err)
+printf 'S 61 02\nS 62 03\nF 61\n' > lines
+cp first.db t.db
+FAIL_CALL=$calls LD_PRELOAD=./fail.so "$program" script t < lines > out 2> err
+status=$?
+printf -- '-1 fault 2\n-1 fault 3\n-1 fault 3\n' | cmp -s - out && [ "$(cat err)" = 'dbmtool: fault 3' ] && [ "$status" = 2 ] ||
+  { wrong "a script on a device that fails: status $status"; cat out err; }
+run 1 '' '' fetch t b
+run 0 'first\n' '' fetch t new
+exit $bad
