@@ -76,7 +76,7 @@ abbrev pub refusal : Reply → Result Unit Fault
 refusal (Refused fault) = Err fault
 refusal reply = Ok tt
 
--- what was read of the file before a call was answered so; a change and a refusal tell nothing of it
+-- what was read of the file, over an honest store, before a call was answered so; a change and a refusal tell nothing of it
 abbrev pub WasRead : {S : Type 0} {s : Ghosts S} → Database S s → Call → Reply → Type 0
 WasRead db (Store key content mode) Kept = Searched db key (EndsWith key)
 WasRead db (Delete key) Absent = Searched db key (EndsWithout key)

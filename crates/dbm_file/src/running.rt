@@ -25,8 +25,8 @@ pub fn run<S: PageStore>(
     ensures run { AtEachHandle db.old (λ h.
         IfOk result (λ replies. IsRun db.old db.new h (map call_of calls.now) (map reply_of replies.items))) }
 
-    // On any device each reply is one to its own call and tells nothing that wasn't read, and each call leaves
-    // what it leaves alone.
+    // On any device each reply is one to its own call, and each call leaves what it leaves alone. Over an honest
+    // store a reply tells nothing of the file that wasn't read.
     ensures answers { IfOk result (λ replies. AreAnswered db.old db.new calls.now replies.items) }
     ensures one_each { IfOk result (λ replies. vec_len replies ≡ length calls.now) }
     ensures goes { IsSameDatabase db.old db.new }
