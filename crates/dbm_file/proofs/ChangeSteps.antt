@@ -1,15 +1,15 @@
 -- Calls that change the file, as steps.
-use Rattle.std.proofs.Common.{◌≡◌, ◌⊎◌, inl, inr, ⊎_elim, ℕ, ◌≤◌, true, false, cond, Option, Some, None, is_some, Result, Ok, Err, OnOk, OnErr, refl, sym, ◌∙◌, ap, subst, arith}
+use Rattle.std.proofs.Common.{◌≡◌, ◌⊎◌, inl, inr, ⊎_elim, ℕ, ◌+◌, ◌≤◌, true, false, cond, Option, Some, None, is_some, Result, Ok, Err, OnOk, OnErr, refl, sym, ◌∙◌, ap, subst, arith}
 use Rattle.std.specs.Prelude.{IsErrAnd}
+use Rattle.std.specs.FinMap.{len}
 use Rattle.std.specs.Option.{option_map}
-use Rattle.std.proofs.lemmas.Bool.{lt-ltb}
 use Rattle.sect_dev.specs.Device.{LeavesOnly, MoreFaults}
 use Rattle.sect_dev.specs.Moments.{followed_by}
 use Rattle.dbm_model.specs.Calls as model
 use Rattle.page_model.specs.Pages.{Meta, MetaPage}
 use Rattle.dbm_model.specs.Pairs.{Contents}
 use Rattle.dbm_model.specs.States.{Keys, Handle, first_fault, flagged}
-use Rattle.dbm_model.specs.Steps.{Case, Changes, case_of, Answers, Suffers}
+use Rattle.dbm_model.specs.Steps.{Case, Changes, case_of, Answers, Suffers, IsShort, growth}
 use Rattle.page_model.specs.Meaning.{said_by}
 use Rattle.page_io.specs.Store.{Settled, Pages, file_of, page_of}
 use Rattle.page_io.specs.Store as store
@@ -28,7 +28,8 @@ use Rattle.dbm_fault.specs.declared.fault.Fault.{Fault}
 use Rattle.dbm_fault.specs.declared.fault.Fault.TheVariants.{Device, Broken}
 use Rattle.linear_hash.specs.declared.passing.Cursor.{Cursor}
 use Rattle.dbm_file.specs.declared.database.Database.{Database}
-use Rattle.dbm_file.proofs.ReadSteps.{kept_first, same_parts, at_own, same_pass, still_meta, still_limit, still_writable, still_usable, still_holds, still_passes, still_survives, flagged_is}
+use Rattle.dbm_file.proofs.ReadSteps.{kept_first, same_parts, at_own, same_pass, no_more_pages, still_meta, still_limit, still_writable, still_usable, still_capacity, still_end, still_holds, still_passes, still_survives, flagged_is}
+use Rattle.linear_hash.proofs.Tables.{counted}
 
 -- how a change of the file ended, with what it leaves of the error and of the pass
 pub record IsDone {S : Type 0} (s : Ghosts S) (old new : Database S s) (result : Result (Unit {0}) PageFault) : Type 0 where
@@ -41,6 +42,14 @@ pub record IsDone {S : Type 0} (s : Ghosts S) (old new : Database S s) (result :
 forgotten_writable : (old new : store.StoreState) (fault : PageFault) → IsForgotten old new fault → new.writable ≡ old.writable
 forgotten_writable old new fault (inl same) = ap (λ (st : store.StoreState). st.writable) same
 forgotten_writable old new fault (inr broke) = ap (λ (st : store.StoreState). st.writable) broke.1
+
+-- and as long, with as much room
+forgotten_room : (old new : store.StoreState) (fault : PageFault) → IsForgotten old new fault
+    → (new.capacity ≡ old.capacity) × (new.end ≡ old.end)
+forgotten_room old new fault (inl same) =
+    (ap (λ (st : store.StoreState). st.capacity) same, ap (λ (st : store.StoreState). st.end) same)
+forgotten_room old new fault (inr broke) =
+    (ap (λ (st : store.StoreState). st.capacity) broke.1, ap (λ (st : store.StoreState). st.end) broke.1)
 
 -- faults of a later part are faults of the whole
 more_later : (first mid last : ℕ) → first ≤ mid → MoreFaults mid last → MoreFaults first last
@@ -67,13 +76,24 @@ module _ {S : Type 0} (s : Ghosts S) {old mid : Database S s} {map changed : Con
   mid_holds = still_holds s old mid map asked.read asked.honest asked.holds
 
   mid_capacity : (page_state mid).capacity ≡ (page_state old).capacity
-  mid_capacity = ap (λ (st : store.StoreState). st.capacity) asked.read.reads.same
+  mid_capacity = still_capacity s old mid asked.read
 
   mid_end : (page_state mid).end ≡ (page_state old).end
-  mid_end = ap (λ (st : store.StoreState). st.end) asked.read.reads.same
+  mid_end = still_end s old mid asked.read
+
+  mid_pairs : (meta_kept mid).pairs ≡ len map
+  mid_pairs = ap (λ (m : Meta). m.pairs) (still_meta s old mid asked.read)
+      ∙ sym (counted s (store_of old) (meta_kept old) map asked.holds)
 
   abbrev before : Handle
   before = handle_of old map pass
+
+  -- the pages that a store adds are those of the definitions
+  pub store_growth : said ≡ model.Stored → (meta_kept mid).pairs + 4 ≤ growth before said
+  store_growth is = subst (λ (r : model.Reply). (meta_kept mid).pairs + 4 ≤ growth before r) (sym is) (omega (arith, mid_pairs))
+
+  pub no_growth : 0 ≤ growth before said
+  no_growth = omega arith
 
   module _ (new : Database S s) where
     stands_still : (x : Settled) (m : Contents) → ImageStandsFor x m (meta_kept mid).limit → ImageStandsFor x m (meta_kept old).limit
@@ -87,14 +107,16 @@ module _ {S : Type 0} (s : Ghosts S) {old mid : Database S s} {map changed : Con
         (λ x. ⊎_elim (λ is. (map, left, stands_still x map is)) (λ is. (changed, also, stands_still x changed is)))
 
     -- `only` is the store's law `only_committed`
-    pub changed_step : IsDone s mid new (Ok tt) → ChangesMap s (store_of mid) (store_of new) (meta_kept mid) (meta_kept new) map changed (Ok tt) → ((x : Settled) → s.settles_to (store_of new) x → x ≡ file_of (s.committed (store_of new))) → IsStep old new before call said
-    changed_step ended turns only =
+    pub changed_step : IsDone s mid new (Ok tt) → {most : ℕ} → most ≤ growth before said → ChangesMap s (store_of mid) (store_of new) (meta_kept mid) (meta_kept new) map changed most (Ok tt) → ((x : Settled) → s.settles_to (store_of new) x → x ≡ file_of (s.committed (store_of new))) → IsStep old new before call said
+    changed_step ended few turns only =
         let usable_is = ap (λ (st : store.StoreState). st.usable) ended.ends.ok ∙ still_usable s old mid asked.read in
         let writable_is = ap (λ (st : store.StoreState). st.writable) ended.ends.ok ∙ still_writable s old mid asked.read in
         record {
           after = handle_of new changed None;
           step = record {
             counts = omega (arith, asked.read.reads.stages_only.later, ended.ends.cause.later);
+            capacity = ap (λ (st : store.StoreState). st.capacity) ended.ends.ok ∙ mid_capacity;
+            pages = (omega (arith, turns.grows.0, mid_end), omega (arith, turns.grows.1, mid_end, few));
             answers = inl (subst (λ (c : Case). Answers before.state c said (handle_of new changed None).state) (sym asked.falls)
                 (refl, same_parts changed None _ _ _ _ _ _ _ _ (ended.ends.limit ∙ still_limit s old mid asked.read) (ap (λ (o : Option Fault). option_map fault_of o) (ended.error_is ∙ asked.read.error_is)) writable_is usable_is));
           };
@@ -103,7 +125,7 @@ module _ {S : Type 0} (s : Ghosts S) {old mid : Database S s} {map changed : Con
         }
 
     -- `counts` is the store's law `counts_now`
-    module _ (e : PageFault) (ended : IsDone s mid new (Err e)) (turns : ChangesMap s (store_of mid) (store_of new) (meta_kept mid) (meta_kept new) map changed (Err e))
+    module _ (e : PageFault) (ended : IsDone s mid new (Err e)) {most : ℕ} (turns : ChangesMap s (store_of mid) (store_of new) (meta_kept mid) (meta_kept new) map changed most (Err e))
         (counts : (t : ℕ) (x : Settled) → t ≤ s.moment (store_of new) → s.settles_to (store_of new) x → s.settled_since (store_of new) t x) where
       abbrev after : Handle
       after = handle_of (with_fault new (fault_from e)) map pass
@@ -114,13 +136,18 @@ module _ {S : Type 0} (s : Ghosts S) {old mid : Database S s} {map changed : Con
       error_is : error_of (with_fault new (fault_from e)) ≡ first_fault (error_of old) (fault_of (fault_from e))
       error_is = ap (λ (o : Option Fault). option_map fault_of (cond (is_some o) o (Some (fault_from e)))) (ended.error_is ∙ asked.read.error_is) ∙ kept_first old.error (fault_from e)
 
+      room_is : (after.capacity ≡ before.capacity) × (after.pages ≡ before.pages)
+      room_is =
+          let kept = forgotten_room (page_state mid) (page_state new) e ended.ends.err.0 in
+          (kept.0 ∙ mid_capacity, kept.1 ∙ mid_end)
+
       -- the store is as usable as before
       module _ (same : (page_state new).usable ≡ (page_state old).usable) where
         state_is : after.state ≡ flagged (fault_of (fault_from e)) before.state
         state_is = flagged_is s old new map pass (fault_from e) (ended.ends.limit ∙ still_limit s old mid asked.read) (ended.error_is ∙ asked.read.error_is) (forgotten_writable (page_state mid) (page_state new) e ended.ends.err.0 ∙ still_writable s old mid asked.read) same
 
-        short : e ≡ page.NoRoom → before.is_short ≡ true
-        short is = lt-ltb _ _ (omega (arith, turns.no_room (ap Err is), mid_capacity, mid_end, ap (λ (m : Meta). m.pairs) (still_meta s old mid asked.read)))
+        short : e ≡ page.NoRoom → IsShort before
+        short is = omega (arith, turns.no_room (ap Err is), mid_capacity, mid_end, mid_pairs)
 
         suffers : (e ≡ page.Broken) ⊎ ((e ≡ page.Memory) ⊎ ((e ≡ page.NoRoom) ⊎ ((e ≡ page.Damaged) ⊎ (e ≡ page.Device)))) → Suffers before (Changes said changed) reply after
         suffers (inl is) = let broken = ended.ends.answer.broken (ap Err is) in let was = mid_usable in absurd (cc)
@@ -149,6 +176,8 @@ module _ {S : Type 0} (s : Ghosts S) {old mid : Database S s} {map changed : Con
           after = after;
           step = record {
             counts = omega (arith, asked.read.reads.stages_only.later, ended.ends.cause.later);
+            capacity = room_is.0;
+            pages = no_more_pages before after reply room_is.1;
             answers = inr (subst (λ (c : Case). Suffers before c reply after) (sym asked.falls) (suffers ended.ends.answer.only));
           };
           is_at = at_own (with_fault new (fault_from e)) map pass (λ is. holds_on is) (λ is. rests_on is)
@@ -165,6 +194,8 @@ module _ {S : Type 0} (s : Ghosts S) {old mid : Database S s} {map changed : Con
         after = after;
         step = record {
           counts = omega (arith, asked.read.reads.stages_only.later, ended.ends.cause.later);
+          capacity = room_is.0;
+          pages = no_more_pages before after reply room_is.1;
           answers = inr (subst (λ (c : Case). Suffers before c reply after) (sym asked.falls) (inr (inl (
             ap (λ (f : PageFault). model.Refused (fault_of (fault_from f))) is,
             more_later _ _ _ asked.read.reads.stages_only.later (ended.ends.cause.fault (ap Err is)),
@@ -209,16 +240,16 @@ module _ {S : Type 0} (s : Ghosts S) (old mid new : Database S s) (read : IsRead
     breaks : ((page_state new).usable ≡ (page_state old).usable) ⊎ ((e ≡ page.Device) × ((page_state new).usable ≡ false))
 
   as_before : IsForgotten (page_state mid) (page_state new) e → IsAsBefore
-  as_before (inl same) = record {
-    capacity = ap (λ (st : store.StoreState). st.capacity) same ∙ ap (λ (st : store.StoreState). st.capacity) read.reads.same;
-    end = ap (λ (st : store.StoreState). st.end) same ∙ ap (λ (st : store.StoreState). st.end) read.reads.same;
-    breaks = inl (ap (λ (st : store.StoreState). st.usable) same ∙ still_usable s old mid read);
-  }
-  as_before (inr broke) = record {
-    capacity = ap (λ (st : store.StoreState). st.capacity) broke.1 ∙ ap (λ (st : store.StoreState). st.capacity) read.reads.same;
-    end = ap (λ (st : store.StoreState). st.end) broke.1 ∙ ap (λ (st : store.StoreState). st.end) read.reads.same;
-    breaks = inr (broke.0, ap (λ (st : store.StoreState). st.usable) broke.1);
-  }
+  as_before forgotten =
+      let room = forgotten_room (page_state mid) (page_state new) e forgotten in
+      record {
+        capacity = room.0 ∙ still_capacity s old mid read;
+        end = room.1 ∙ still_end s old mid read;
+        breaks = ⊎_elim
+            (λ same. inl (ap (λ (st : store.StoreState). st.usable) same ∙ still_usable s old mid read))
+            (λ broke. inr (broke.0, ap (λ (st : store.StoreState). st.usable) broke.1))
+            forgotten;
+      }
 
   refused_keeps : (T : Type 0) → IsCallEnded {T = T} old (with_fault new (fault_from e)) (Err (fault_from e))
   refused_keeps T =

@@ -42,7 +42,7 @@ use Rattle.dbm_file.proofs.Cases.{first_rule, next_rule, no_pass_rule, passes_fa
 use Rattle.dbm_file.proofs.Lends.{kept_error, flagged_step}
 use Rattle.linear_hash.proofs.Passes.{begins}
 use Rattle.dbm_file.proofs.PassKeys.{gives, all_keys}
-use Rattle.dbm_file.proofs.ReadSteps.{at_own, from_own, same_state, same_pass, still_limit, still_writable, still_usable, still_meta, still_holds, still_rests, still_survives, no_read, rejected_step, refused_keeps, walk_failed_step}
+use Rattle.dbm_file.proofs.ReadSteps.{at_own, from_own, same_state, same_pass, no_more_pages, still_limit, still_capacity, still_end, still_writable, still_usable, still_meta, still_holds, still_rests, still_survives, no_read, rejected_step, refused_keeps, walk_failed_step}
 use Rattle.linear_hash.proofs.Tables.{placed, is_table, map_placed, committed_said}
 
 -- the same database with its pass elsewhere
@@ -112,6 +112,8 @@ module _ {S : Type 0} (s : Ghosts S) (old new : Database S s) (h : Handle) (at :
     after = handle_of new map (Some left);
     step = record {
       counts = read.reads.stages_only.later;
+      capacity = still_capacity s old mid read;
+      pages = no_more_pages before (handle_of new map (Some left)) reply (still_end s old mid read);
       answers = inl (subst (λ (c : Case). Answers before.state c reply (handle_of new map (Some left)).state) (sym falls_own)
           (subst (GivesKey before.state keys reply) (sym (same_state s old mid map (Some left) (still_limit s old mid read) read.error_is (still_writable s old mid read) (still_usable s old mid read))) given));
     };
@@ -218,6 +220,8 @@ module _ {S : Type 0} (s : Ghosts S) (old : Database S s) (h : Handle) (at : IsA
         after = own;
         step = record {
           counts = omega arith;
+          capacity = refl;
+          pages = no_more_pages own own (model.Number (error_number (error_of old))) refl;
           answers = inl (subst (λ (c : Case). Answers own.state c (model.Number (error_number (error_of old))) own.state) (sym (error_rule own.state)) (refl, refl));
         };
         is_at = at_own old h.state.map h.state.pass at.map at.rests at.pass;
@@ -232,6 +236,8 @@ module _ {S : Type 0} (s : Ghosts S) (old : Database S s) (h : Handle) (at : IsA
         after = handle_of new h.state.map h.state.pass;
         step = record {
           counts = omega arith;
+          capacity = refl;
+          pages = no_more_pages own (handle_of new h.state.map h.state.pass) (model.Number 0) refl;
           answers = inl (subst (λ (c : Case). Answers own.state c (model.Number 0) (handle_of new h.state.map h.state.pass).state) (sym (clear_rule own.state)) (refl, refl));
         };
         is_at = at_own new h.state.map h.state.pass (λ usable. at.map usable) (λ usable. at.rests usable) (λ usable. at.pass usable);

@@ -1,5 +1,5 @@
 -- Calls that read pages at most, as steps.
-use Rattle.std.proofs.Common.{◌≡◌, ◌⊎◌, ◌↔◌, inl, inr, ℕ, Bool, true, false, cond, Option, Some, None, is_some, Ok, Err, IsErrOf, refl, sym, ◌∙◌, ap, subst, arith}
+use Rattle.std.proofs.Common.{◌≡◌, ◌⊎◌, ◌↔◌, inl, inr, ℕ, ◌+◌, ◌≤◌, Bool, true, false, cond, Option, Some, None, is_some, Ok, Err, IsErrOf, refl, sym, ◌∙◌, ap, subst, arith}
 use Rattle.std.specs.Prelude.{IsTrue}
 use Rattle.std.specs.Option.{option_map}
 use Rattle.sect_dev.specs.Device.{MoreFaults}
@@ -8,7 +8,7 @@ use Rattle.dbm_model.specs.Calls as model
 use Rattle.page_model.specs.Pages.{Meta, MetaPage}
 use Rattle.dbm_model.specs.Pairs.{Contents}
 use Rattle.dbm_model.specs.States.{State, Keys, Handle, first_fault, flagged}
-use Rattle.dbm_model.specs.Steps.{Case, Refuses, Declines, Finds, case_of, Answers, Suffers, Fails, Step}
+use Rattle.dbm_model.specs.Steps.{Case, Refuses, Declines, Finds, case_of, Answers, Suffers, Fails, growth, Step}
 use Rattle.page_model.specs.Meaning.{said_by}
 use Rattle.page_io.specs.Store.{Pages, Settled, file_of, page_of}
 use Rattle.page_io.specs.Store as store
@@ -92,6 +92,17 @@ module _ {S : Type 0} (s : Ghosts S) (old new : Database S s) (read : IsRead old
   pub still_writable : (page_state new).writable ≡ (page_state old).writable
   still_writable = ap (λ (st : store.StoreState). st.writable) read.reads.same
 
+  pub still_capacity : (page_state new).capacity ≡ (page_state old).capacity
+  still_capacity = ap (λ (st : store.StoreState). st.capacity) read.reads.same
+
+  pub still_end : (page_state new).end ≡ (page_state old).end
+  still_end = ap (λ (st : store.StoreState). st.end) read.reads.same
+
+-- a call that adds no page
+pub no_more_pages : (before after : Handle) (reply : model.Reply) → after.pages ≡ before.pages
+    → (before.pages ≤ after.pages) × (after.pages ≤ before.pages + growth before reply)
+no_more_pages before after reply same = (omega (arith, same), omega (arith, same))
+
 module _ {S : Type 0} (s : Ghosts S) (old new : Database S s) (map : Contents) (pass : Option Keys) where
   -- the state of a database with this fault
   pub flagged_is : (fault : Fault) → (meta_kept new).limit ≡ (meta_kept old).limit → new.error ≡ old.error → (page_state new).writable ≡ (page_state old).writable → (page_state new).usable ≡ (page_state old).usable
@@ -137,6 +148,8 @@ module _ {S : Type 0} (s : Ghosts S) (old new : Database S s) (map : Contents) (
     after = handle_of new map pass;
     step = record {
       counts = read.reads.stages_only.later;
+      capacity = still_capacity s old new read;
+      pages = no_more_pages before (handle_of new map pass) reply (still_end s old new read);
       answers = inl (subst (λ (c : Case). Answers before.state c reply (handle_of new map pass).state) (sym falls)
           (refl, same_state s old new map pass (still_limit s old new read) read.error_is (still_writable s old new read) (still_usable s old new read)));
     };
@@ -151,6 +164,9 @@ module _ {S : Type 0} (s : Ghosts S) (old new : Database S s) (map : Contents) (
     refused_state : (handle_of refused map pass).state ≡ flagged (fault_of fault) before.state
     refused_state = flagged_is s old new map pass fault (still_limit s old new read) read.error_is (still_writable s old new read) (still_usable s old new read)
 
+    still_pages : (before.pages ≤ (page_state new).end) × ((page_state new).end ≤ before.pages + growth before (model.Refused (fault_of fault)))
+    still_pages = no_more_pages before (handle_of refused map pass) (model.Refused (fault_of fault)) (still_end s old new read)
+
     refused_step : (Step before call (model.Refused (fault_of fault)) (handle_of refused map pass)) → IsStep old refused before call (model.Refused (fault_of fault))
     refused_step step = record {
       after = handle_of refused map pass;
@@ -162,6 +178,8 @@ module _ {S : Type 0} (s : Ghosts S) (old new : Database S s) (map : Contents) (
     told_step : (rule : Case) → case_of before.state call ≡ rule → Answers before.state rule (model.Refused (fault_of fault)) (handle_of refused map pass).state → IsStep old refused before call (model.Refused (fault_of fault))
     told_step rule falls is = refused_step record {
       counts = read.reads.stages_only.later;
+      capacity = still_capacity s old new read;
+      pages = still_pages;
       answers = inl (subst (λ (c : Case). Answers before.state c (model.Refused (fault_of fault)) (handle_of refused map pass).state) (sym falls) is);
     }
 
@@ -176,6 +194,8 @@ module _ {S : Type 0} (s : Ghosts S) (old new : Database S s) (map : Contents) (
         → IsStep old refused before call (model.Refused (fault_of fault))
     failed_step is more may = refused_step record {
       counts = read.reads.stages_only.later;
+      capacity = still_capacity s old new read;
+      pages = still_pages;
       answers = inr (may (model.Refused (fault_of fault)) (handle_of refused map pass)
           (ap (λ (f : Fault). model.Refused (fault_of f)) is, more, refused_state ∙ ap (λ (f : Fault). flagged (fault_of f) before.state) is));
     }
@@ -216,6 +236,8 @@ broken_step s old map pass call broken falls = record {
   after = handle_of (with_fault old Broken) map pass;
   step = record {
     counts = omega arith;
+    capacity = refl;
+    pages = no_more_pages (handle_of old map pass) (handle_of (with_fault old Broken) map pass) (model.Refused model.Broken) refl;
     answers = inl (subst (λ (c : Case). Answers (handle_of old map pass).state c (model.Refused model.Broken) (handle_of (with_fault old Broken) map pass).state) (sym falls)
         (refl, flagged_is s old old map pass Broken refl refl refl refl));
   };
@@ -229,7 +251,7 @@ module _ {S : Type 0} (s : Ghosts S) (old new : Database S s) (read : IsRead old
     honesty = read.reads.stages_only.honesty;
     later = read.reads.stages_only.later;
     limit = still_limit s old new read;
-    capacity = ap (λ (st : store.StoreState). st.capacity) read.reads.same;
+    capacity = still_capacity s old new read;
     writable = still_writable s old new read;
     still = λ broken. absurd (let e = broken in cc);
   }

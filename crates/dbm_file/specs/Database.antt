@@ -1,5 +1,5 @@
 -- What a caller sees of an open database.
-use Rattle.std.specs.Prelude.{◌≡◌, ◌+◌, ◌*◌, nat_lt, true, Option}
+use Rattle.std.specs.Prelude.{◌≡◌, true, Option}
 use Rattle.std.specs.Option.{option_map}
 use Rattle.dbm_model.specs.Calls as model
 use Rattle.page_model.specs.Pages.{Meta}
@@ -51,7 +51,8 @@ abbrev pub handle_of : {S : Type 0} {s : Ghosts S} → Database S s → Contents
 handle_of {S} {s} db map pass = record {
   state = record { map = map; limit = (meta_kept db).limit; error = error_of db; pass = pass; writable = (page_state db).writable; usable = (page_state db).usable };
   faults = s.faults (store_of db);
-  is_short = nat_lt (page_state db).capacity (2 * ((page_state db).end + (meta_kept db).pairs) + 8);
+  pages = (page_state db).end;
+  capacity = (page_state db).capacity;
 }
 
 -- The database is at this handle of the definitions. Of a broken one's map and pass nothing is said: of its file the clauses of the call that broke it speak.

@@ -17,22 +17,22 @@ use Rattle.dbm_model.specs.Examples.{StopsAtLimit, StoresAndDeletes, PassesOverN
 calm : (h last : Handle) (call : Call) (calls : List Call) (c : Case) (reply : Reply) (replies : List Reply) (after : State)
     → case_of h.state call ≡ c → Answers h.state c reply after → Run (record h { state = after }) calls replies last → Run h (call ∷ calls) (reply ∷ replies) last
 calm h last call calls c reply replies after falls answers rest =
-    (record h { state = after }, record { counts = omega arith; answers = inl (subst (λ (d : Case). Answers h.state d reply after) (sym falls) answers) }, rest)
+    (record h { state = after }, record { counts = omega arith; capacity = refl; pages = (omega arith, omega arith); answers = inl (subst (λ (d : Case). Answers h.state d reply after) (sym falls) answers) }, rest)
 
 -- from a state, the calls may get these replies
 record IsRunFrom (s : State) (calls : List Call) (replies : List Reply) : Type 0 where
   pub last : Handle
-  pub run : Run (record { state = s; faults = 0; is_short = false }) calls replies last
+  pub run : Run (record { state = s; faults = 0; pages = 4; capacity = 8 }) calls replies last
 
 goes : (s : State) {call : Call} {calls : List Call} {reply : Reply} {replies : List Reply} (c : Case) (after : State)
     → case_of s call ≡ c → Answers s c reply after → IsRunFrom after calls replies → IsRunFrom s (call ∷ calls) (reply ∷ replies)
 goes s {call} {calls} {reply} {replies} c after falls answers rest = record {
   last = rest.last;
-  run = calm (record { state = s; faults = 0; is_short = false }) rest.last call calls c reply replies after falls answers rest.run;
+  run = calm (record { state = s; faults = 0; pages = 4; capacity = 8 }) rest.last call calls c reply replies after falls answers rest.run;
 }
 
 done : (s : State) → IsRunFrom s [] []
-done s = record { last = record { state = s; faults = 0; is_short = false }; run = refl }
+done s = record { last = record { state = s; faults = 0; pages = 4; capacity = 8 }; run = refl }
 
 may : (limit : ℕ) {calls : List Call} {replies : List Reply} → IsRunFrom (fresh empty limit true) calls replies → MayAnswer limit calls replies
 may limit g = record { after = g.last; run = g.run }
@@ -53,7 +53,7 @@ no_keys left none = set.same_set order (slice_cmp-IsAntisymmetric nat_cmp-IsAnti
 none_of_empty : all_of empty ≡ set.empty
 none_of_empty = no_keys (all_of empty) (λ key. all_keys empty key ∙ ap is_some (get-empty key_cmp key))
 
-abbrev only : List ℕ → Contents
+abbrev pub only : List ℕ → Contents
 only content = insert empty (one 0x61) content
 
 is_only : (content : List ℕ) (key : Key) → get (only content) key ≡ cond (eq_by_cmp key_cmp key (one 0x61)) (Some content) None
@@ -78,7 +78,7 @@ one_more : (key content : List ℕ) → len (insert (empty {X = List ℕ} {R = k
 one_more key content = len-insert order empty key content ∙ ap (λ (old : Option (List ℕ)). cond (is_some old) (len (empty {X = List ℕ} {R = key_cmp})) (len (empty {X = List ℕ} {R = key_cmp}) + 1)) (get-empty key_cmp key) ∙ ap (λ (n : ℕ). n + 1) (len-empty key_cmp (List ℕ))
 
 -- usable and open for changes
-abbrev at : ℕ → Contents → Option Fault → Option Keys → State
+abbrev pub at : ℕ → Contents → Option Fault → Option Keys → State
 at limit map error pass = record { map = map; limit = limit; error = error; pass = pass; writable = true; usable = true }
 
 -- a store of an allowed pair
@@ -92,13 +92,13 @@ module _ (limit : ℕ) (map : Contents) (error : Option Fault) (pass : Option Ke
   by_room : (b : Bool) → nat_le limit (len map) ≡ b → cond (nat_le limit (len map)) (Declines Full) (Changes Stored (insert map key content)) ≡ cond b (Declines Full) (Changes Stored (insert map key content))
   by_room b is = ap (λ c. cond c (Declines Full) (Changes Stored (insert map key content))) is
 
-  adds : get map key ≡ None → nat_le limit (len map) ≡ false → case_of here (Store key content Replace) ≡ Changes Stored (insert map key content)
+  pub adds : get map key ≡ None → nat_le limit (len map) ≡ false → case_of here (Store key content Replace) ≡ Changes Stored (insert map key content)
   adds absent room = by_old Replace None absent ∙ by_room false room
 
   declines : get map key ≡ None → nat_le limit (len map) ≡ true → case_of here (Store key content Replace) ≡ Declines Full
   declines absent none = by_old Replace None absent ∙ by_room true none
 
-none_yet : (limit : ℕ) → 1 ≤ limit → nat_le limit (len (empty {X = List ℕ} {R = key_cmp})) ≡ false
+pub none_yet : (limit : ℕ) → 1 ≤ limit → nat_le limit (len (empty {X = List ℕ} {R = key_cmp})) ≡ false
 none_yet limit some = ap (nat_le limit) (len-empty key_cmp (List ℕ)) ∙ lt-leb limit 0 some
 
 abbrev allowed : true ≡ true

@@ -1,5 +1,5 @@
 -- Small runs, worked out by hand.
-use Rattle.std.specs.Prelude.{ℕ, false, true, List, [], ◌∷◌}
+use Rattle.std.specs.Prelude.{ℕ, true, List, [], ◌∷◌}
 use Rattle.std.specs.FinMap.{empty}
 use Rattle.dbm_model.specs.Calls.{Insert, Replace, Call, Store, Fetch, Delete, First, Next, Error, Reply, Stored, Kept, Deleted, Absent, Bytes, NoRecord, End, Number, Refused, NoPass, Full}
 use Rattle.dbm_model.specs.States.{Handle, fresh}
@@ -7,7 +7,7 @@ use Rattle.dbm_model.specs.Steps.{Run}
 
 -- a new database of that limit over a device that has not failed
 abbrev pub new_database : ℕ → Handle
-new_database limit = record { state = fresh empty limit true; faults = 0; is_short = false }
+new_database limit = record { state = fresh empty limit true; faults = 0; pages = 4; capacity = 8 }
 
 -- a new database may answer the calls so
 pub record MayAnswer (limit : ℕ) (calls : List Call) (replies : List Reply) : Type 0 where

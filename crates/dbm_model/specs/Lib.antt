@@ -6,5 +6,6 @@ pub mod FaultNumbers
 pub mod Pairs
 pub mod Passes
 pub mod Refusals
+pub mod Room
 pub mod States
 pub mod Steps

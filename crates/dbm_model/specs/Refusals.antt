@@ -1,11 +1,11 @@
 -- Why a call is refused, and what has to be refused, told from the handle and the reply.
-use Rattle.std.specs.Prelude.{◌≡◌, ◌⊎◌, ◌+◌, ◌<◌, ◌≤◌, ℕ, IsTrue, List, length, true, false, Some, None}
+use Rattle.std.specs.Prelude.{◌≡◌, ◌⊎◌, ◌+◌, ◌<◌, ◌≤◌, ℕ, List, length, true, false, Some, None}
 use Rattle.std.specs.FinMap.{get, len}
 use Rattle.dbm_model.specs.Calls.{Call, Store, Delete, Next, Error, Clear, Mode, Insert, Reply, Kept, Absent, Number, Refused, Fault, Memory, Device, Broken, ReadOnly, TooLong, Full, NoPass, NoRoom, is_changing}
 use Rattle.dbm_model.specs.FaultCount.{MoreFaults}
 use Rattle.dbm_model.specs.Pairs.{Key, Contents, IsAllowed}
 use Rattle.dbm_model.specs.States.{State, Handle, first_fault, error_number}
-use Rattle.dbm_model.specs.Steps.{Step}
+use Rattle.dbm_model.specs.Steps.{IsShort, Step}
 
 -- usable, and opened for changes
 pub record MayChange (s : State) : Type 0 where
@@ -31,7 +31,7 @@ IsDue Full before call after = MayChange before.state × IsOneTooMany before.sta
 IsDue NoPass before call after = (before.state.usable ≡ true) × (call ≡ Next) × (before.state.pass ≡ None)
 IsDue Device before call after = (before.state.usable ≡ true) × MoreFaults before.faults after.faults
 IsDue Memory before call after = MayChange before.state × (is_changing call ≡ true)
-IsDue NoRoom before call after = MayChange before.state × (is_changing call ≡ true) × IsTrue before.is_short
+IsDue NoRoom before call after = MayChange before.state × (is_changing call ≡ true) × IsShort before
 IsDue fault before call after = ⊥
 
 -- a call is refused only where that is due

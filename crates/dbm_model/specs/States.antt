@@ -43,5 +43,6 @@ pub record Handle : Type 0 where
   pub state : State
   -- how often the device below has failed
   pub faults : ℕ
-  -- the file may lack room for a change
-  pub is_short : Bool
+  -- how many pages the file has, and how many there is room for
+  pub pages : ℕ
+  pub capacity : ℕ

@@ -1,5 +1,5 @@
 -- What each call replies, and the state after it.
-use Rattle.std.specs.Prelude.{◌≡◌, ◌⊎◌, ℕ, ◌+◌, ◌≤◌, false, not, nat_le, IsTrue, if◌then◌else◌, List, [], ◌∷◌, length, Option, Some, None}
+use Rattle.std.specs.Prelude.{◌≡◌, ◌⊎◌, ℕ, ◌+◌, ◌*◌, ◌<◌, ◌≤◌, false, not, nat_le, IsTrue, if◌then◌else◌, List, [], ◌∷◌, length, Option, Some, None}
 use Rattle.std.specs.FinMap.{get, insert, remove, len, keys}
 use Rattle.std.specs.FinSet as set
 use Rattle.dbm_model.specs.Calls.{Mode, Insert, Replace, Call, Store, Fetch, Delete, First, Next, Error, Clear, Reply, Stored, Kept, Deleted, Absent, Bytes, NoRecord, End, Number, Refused, Fault, Memory, Device, Broken, ReadOnly, TooLong, Full, NoPass, NoRoom}
@@ -93,9 +93,13 @@ Breaks h map reply after =
 abbrev pub LacksMemory : Handle → Reply → Handle → Type 0
 LacksMemory h reply after = (reply ≡ Refused Memory) × (after.state ≡ flagged Memory h.state)
 
+-- there may be no room for a change: for as many pages more as the map has pairs, and four, with all of them twice
+abbrev pub IsShort : Handle → Type 0
+IsShort h = h.capacity < 2 * (h.pages + len h.state.map + 4)
+
 -- no room in the file for a change
 abbrev pub LacksRoom : Handle → Reply → Handle → Type 0
-LacksRoom h reply after = (reply ≡ Refused NoRoom) × IsTrue h.is_short × (after.state ≡ flagged NoRoom h.state)
+LacksRoom h reply after = (reply ≡ Refused NoRoom) × IsShort h × (after.state ≡ flagged NoRoom h.state)
 
 -- the refusals that may come instead, none of which changes the map of a usable handle
 abbrev pub Suffers : Handle → Case → Reply → Handle → Type 0
@@ -106,9 +110,16 @@ Suffers h (Finds found) reply after = Fails h reply after
 Suffers h (Passes left) reply after = Fails h reply after
 Suffers h (Changes said map) reply after = Fails h reply after ⊎ (Breaks h map reply after ⊎ (LacksMemory h reply after ⊎ LacksRoom h reply after))
 
+-- how many pages a call adds to the file at most: a store that is acknowledged those of a split, any other none
+abbrev pub growth : Handle → Reply → ℕ
+growth h Stored = len h.state.map + 4
+growth h reply = 0
+
 -- from one handle, the call may get this reply and leave the other
 pub record Step (before : Handle) (call : Call) (reply : Reply) (after : Handle) : Type 0 where
   pub counts : before.faults ≤ after.faults
+  pub capacity : after.capacity ≡ before.capacity
+  pub pages : (before.pages ≤ after.pages) × (after.pages ≤ before.pages + growth before reply)
   pub answers : Answers before.state (case_of before.state call) reply after.state ⊎ Suffers before (case_of before.state call) reply after
 
 -- the calls may get these replies, one after another

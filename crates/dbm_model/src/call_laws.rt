@@ -1,9 +1,10 @@
 // Laws of calls and runs. What each says stands in `specs/Changes.antt`, `specs/Refusals.antt`, `specs/FaultNumbers.antt`,
-// `specs/Passes.antt` and `specs/Examples.antt`.
+// `specs/Passes.antt`, `specs/Room.antt` and `specs/Examples.antt`.
 ghost use Rattle.dbm_model.specs.Changes.{OnlyAcknowledgedChanges, OnlyChangesBreak, BrokenStays};
 ghost use Rattle.dbm_model.specs.Refusals.{RefusesOnlyWhereDue, BrokenRefuses, ReadingRefuses, ReadingKeeps, SettingsStay, TooLongIsRefused, InsertKeeps, FullIsRefused, AbsentIsTold, ErrorIsTold, ErrorIsCleared, FirstFaultIsKept};
 ghost use Rattle.dbm_model.specs.FaultNumbers.{FaultsAreNumbered, NumbersDiffer, NoFaultIsZero};
 ghost use Rattle.dbm_model.specs.Passes.{PassesAreComplete};
+ghost use Rattle.dbm_model.specs.Room.{RoomStays, RoomExamples};
 ghost use Rattle.dbm_model.specs.Examples.{StoresAndDeletes, StopsAtLimit, PassesOverNothing, PassesOn, EndsPass, WrongReplies};
 
 /// Only an acknowledged change changes the map of a handle that stays usable.
@@ -36,6 +37,12 @@ pub fn refusals_are_due()
 pub fn settings_stay()
     ensures map { ReadingKeeps }
     ensures settings { SettingsStay }
+{}
+
+/// The capacity stays, and the pages but at a store that was acknowledged; NoRoom is told only where there may be too little.
+pub fn room_stays()
+    ensures stays { RoomStays }
+    ensures examples { RoomExamples }
 {}
 
 /// The first fault is kept until it is cleared.

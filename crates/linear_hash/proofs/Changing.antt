@@ -4,7 +4,7 @@ use Rattle.std.specs.Prelude.{IsOkAnd}
 use Rattle.std.proofs.lemmas.Bool.{and_parts, leb-true}
 use Rattle.sect_dev.specs.Device.{LeavesOnly}
 use Rattle.sect_dev.specs.Moments.{followed_by, weaker}
-use Rattle.page_model.specs.Pages.{Meta, MetaPage}
+use Rattle.page_model.specs.Pages.{Meta, MetaPage, Body}
 use Rattle.dbm_model.specs.Pairs.{Contents}
 use Rattle.page_model.specs.Placement.{Placement, contents, IsGood}
 use Rattle.page_model.specs.Reading.{body_of}
@@ -65,6 +65,19 @@ never_damaged (inl (inl e)) = absurd cc
 never_damaged (inl (inr (inl e))) = absurd cc
 never_damaged (inl (inr (inr e))) = absurd cc
 never_damaged (inr e) = absurd cc
+
+-- a change that is done leaves the file with the end that was staged
+pub grows_to : (at : ℕ → Body) (m : Meta) (q : Placement) (old mid new : StoreState) (most : ℕ)
+    (A : PageFault → Type 0) (r : Result ℕ PageFault) (result : Result Unit PageFault)
+    → IfErr r (λ e. (result ≡ Err e) × A e) → IfOk r (λ end. OnOk result (new ≡ record mid { staged = []; end = end }))
+    → IfOk r (λ end. old.end ≤ end) → IfOk r (λ end. IsStaged at m end q) → q.space.end ≤ old.end + most
+    → OnOk result ((old.end ≤ new.end) × (new.end ≤ old.end + most))
+grows_to at m q old mid new most A (Ok end) (Ok done) refused is least staged few =
+    let last = ap (λ (st : StoreState). st.end) is in
+    (omega (arith, least, last), omega (arith, few, staged.ends, last))
+grows_to at m q old mid new most A (Ok end) (Err e) refused is least staged few = tt
+grows_to at m q old mid new most A (Err fault) (Ok done) refused is least staged few = absurd (let x = refused.0 in cc)
+grows_to at m q old mid new most A (Err fault) (Err e) refused is least staged few = tt
 
 -- fewer staged pages than the file then has
 pub few_staged : (least end : ℕ) (pages : Pages) → are_in_order least (2 ^ 32) pages ≡ true → AllBelow end pages → least ≤ end → length pages + least ≤ end

@@ -1,5 +1,5 @@
 -- What a store of pages holds, and what a change of it leaves.
-use Rattle.std.specs.Prelude.{◌≡◌, ◌⊎◌, ◌↔◌, ◌+◌, ◌*◌, ◌<◌, ℕ, true, Result, OnOk, OnErr, IfErr, IsErrOf}
+use Rattle.std.specs.Prelude.{◌≡◌, ◌⊎◌, ◌↔◌, ◌+◌, ◌*◌, ◌<◌, ◌≤◌, ℕ, true, Result, OnOk, OnErr, IfErr, IsErrOf}
 use Rattle.sect_dev.specs.Device.{LeavesOnly}
 use Rattle.dbm_model.specs.Pairs.{Contents}
 use Rattle.page_model.specs.Pages.{Meta}
@@ -27,11 +27,12 @@ pub record IsEnded {S : Type 0} (s : Ghosts S) (old new : S) (before after : Met
   pub honesty : s.honest new ↔ s.honest old
   pub answer : IsChangeAnswer (s.state old) result
 
--- What it makes of a file that stood for the map: it stands for the changed one, or is as it was, and at every moment for one of the two.
-pub record ChangesMap {S : Type 0} (s : Ghosts S) (old new : S) (before after : Meta) (map changed : Contents) (result : Result Unit PageFault) : Type 0 where
+-- What it makes of a file that stood for the map: it stands for the changed one, with at most so many pages more, or is as it was, and at every moment for one of the two.
+pub record ChangesMap {S : Type 0} (s : Ghosts S) (old new : S) (before after : Meta) (map changed : Contents) (most : ℕ) (result : Result Unit PageFault) : Type 0 where
   pub done : OnOk result (Holds s new after changed)
   pub kept : OnErr result ((s.state new).usable ≡ true → s.committed new ≡ s.committed old)
   pub any_moment : LeavesOnly s.moment s.settled_since old new (StandsForEither map changed before.limit)
   pub unchanged : OnErr result ((s.state new).usable ≡ true → LeavesOnly s.moment s.settled_since old new (λ settled. ImageStandsFor settled map before.limit))
   pub whole : IsErrOf result Damaged → ⊥
+  pub grows : OnOk result (((s.state old).end ≤ (s.state new).end) × ((s.state new).end ≤ (s.state old).end + most))
   pub no_room : IsErrOf result NoRoom → (s.state old).capacity < 2 * ((s.state old).end + before.pairs) + 8

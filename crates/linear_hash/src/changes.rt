@@ -41,7 +41,7 @@ fn commit_store<S: PageStore>(
     ensures honesty { S.honest store.new ↔ S.honest store.old }
     ensures answer { IsChangeAnswer (S.state store.old) result }
     ensures turns { S.honest store.old → (S.state store.old).usable ≡ true → (map : Contents) → Holds S.PageStore store.old (model_meta meta.old) map → was_there ≡ is_some (get map key.now) →
-        ChangesMap S.PageStore store.old store.new (model_meta meta.old) (model_meta meta.new) map (insert map key.now content.now) result }
+        ChangesMap S.PageStore store.old store.new (model_meta meta.old) (model_meta meta.new) map (insert map key.now content.now) (meta.old.pairs + 4) result }
 {
     let staged = stage_store(alloc, store, meta, key, content, was_there);
     finish(store, staged)
@@ -67,7 +67,7 @@ pub fn store_pair<S: PageStore>(
 
     // Where the file stands for a map, it then stands for the changed one, and at every moment for one of the two.
     ensures turns { S.honest store.old → (S.state store.old).usable ≡ true → (map : Contents) → Holds S.PageStore store.old (model_meta meta.old) map → was_there ≡ is_some (get map key.now) →
-        ChangesMap S.PageStore store.old store.new (model_meta meta.old) (model_meta meta.new) map (insert map key.now content.now) result }
+        ChangesMap S.PageStore store.old store.new (model_meta meta.old) (model_meta meta.new) map (insert map key.now content.now) (meta.old.pairs + 4) result }
 {
     let mut changed = meta.copied();
     commit_store(alloc, store, &mut changed, key, content, was_there)?;
@@ -91,7 +91,7 @@ fn commit_delete<S: PageStore>(store: &mut S, meta: &mut Meta, key: &[u8]) -> Re
     ensures honesty { S.honest store.new ↔ S.honest store.old }
     ensures answer { IsChangeAnswer (S.state store.old) result }
     ensures turns { S.honest store.old → (S.state store.old).usable ≡ true → (map : Contents) → Holds S.PageStore store.old (model_meta meta.old) map → is_some (get map key.now) ≡ true →
-        ChangesMap S.PageStore store.old store.new (model_meta meta.old) (model_meta meta.new) map (remove map key.now) result }
+        ChangesMap S.PageStore store.old store.new (model_meta meta.old) (model_meta meta.new) map (remove map key.now) 0 result }
 {
     let staged = stage_delete(store, meta, key);
     finish(store, staged)
@@ -113,7 +113,7 @@ pub fn delete_pair<S: PageStore>(
 
     // Where the file stands for a map, it then stands for the changed one, and at every moment for one of the two.
     ensures turns { S.honest store.old → (S.state store.old).usable ≡ true → (map : Contents) → Holds S.PageStore store.old (model_meta meta.old) map → is_some (get map key.now) ≡ true →
-        ChangesMap S.PageStore store.old store.new (model_meta meta.old) (model_meta meta.new) map (remove map key.now) result }
+        ChangesMap S.PageStore store.old store.new (model_meta meta.old) (model_meta meta.new) map (remove map key.now) 0 result }
 {
     let mut changed = meta.copied();
     commit_delete(store, &mut changed, key)?;

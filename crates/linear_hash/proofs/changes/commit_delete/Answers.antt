@@ -14,7 +14,7 @@ use Rattle.page_commit.specs.Committing.{Holds, MayCommit}
 use Rattle.linear_hash.specs.Holding.{StandsForEither}
 use Rattle.linear_hash.specs.Staging.{IsStaged}
 use Rattle.page_commit.proofs.CommitResults.{commit_ok}
-use Rattle.linear_hash.proofs.Changing.{never_damaged, few_staged, lacks_few, change_answer, commit_holds, staged_stands, leaves_either, leaves_old, told_by, no_room_by}
+use Rattle.linear_hash.proofs.Changing.{never_damaged, few_staged, grows_to, lacks_few, change_answer, commit_holds, staged_stands, leaves_either, leaves_old, told_by, no_room_by}
 use Rattle.linear_hash.proofs.Plans.{now, was_placed, deleted_good, deleted_map}
 use Rattle.linear_hash.proofs.Tables.{is_table}
 use Rattle.linear_hash.proofs.changes.commit_delete.Given.{Over}
@@ -69,6 +69,11 @@ returns-clause-turns g c honest usable map holds was =
       whole = λ damaged.
           let early = told_by g.S.PageStore _ _ c.finish.new.store c.stage_delete-staged.result c.finish.result c.stage_delete-staged.ensures.stages _ Damaged never_damaged c.finish.ensures.answer c.finish.ensures.refused damaged in
           c.stage_delete-staged.ensures.whole honest (plan g c map holds) (table g c map holds) early;
+      grows =
+          let p = plan g c map holds in
+          let in_table = table g c map holds in
+          grows_to _ _ (delete p c.args.key.now) (g.S.PageStore.state c.args.store.now) (g.S.PageStore.state c.stage_delete-staged.new.store) (g.S.PageStore.state c.finish.new.store) 0 _ c.stage_delete-staged.result c.finish.result c.finish.ensures.refused c.finish.ensures.ok staged.grows
+          (staged.exact honest p in_table (there g c map holds was)) (omega (arith, in_table.ends));
       no_room = λ room.
           let in_table = table g c map holds in
           let by = no_room_by g.S.PageStore _ _ c.finish.new.store c.stage_delete-staged.result c.finish.result staged.stages _ c.finish.ensures.answer c.finish.ensures.refused room in

@@ -1,4 +1,4 @@
-use Rattle.std.proofs.Common.{◌≡◌, ◌∙◌, ◌≤◌, ℕ, Result, IfOk, OnOk, true, ⊎_elim, is_some, ap, subst, arith}
+use Rattle.std.proofs.Common.{◌≡◌, ◌∙◌, ◌+◌, ◌≤◌, ℕ, Result, IfOk, OnOk, true, ⊎_elim, is_some, ap, subst, arith}
 use Rattle.std.specs.FinMap.{get, insert}
 use Rattle.sect_dev.specs.Device.{LeavesOnly}
 use Rattle.std.proofs.lemmas.Result.{on_err_weaker}
@@ -16,7 +16,7 @@ use Rattle.page_commit.specs.Committing.{Holds, MayCommit}
 use Rattle.linear_hash.specs.Holding.{StandsForEither}
 use Rattle.linear_hash.specs.Staging.{IsStaged}
 use Rattle.page_commit.proofs.CommitResults.{commit_ok}
-use Rattle.linear_hash.proofs.Changing.{never_damaged, few_staged, lacks_few, change_answer, commit_holds, staged_stands, leaves_either, leaves_old, told_by, no_room_by}
+use Rattle.linear_hash.proofs.Changing.{never_damaged, few_staged, grows_to, lacks_few, change_answer, commit_holds, staged_stands, leaves_either, leaves_old, told_by, no_room_by}
 use Rattle.linear_hash.proofs.Plans.{now, was_placed, may_store, stored_good, stored_map}
 use Rattle.linear_hash.proofs.Tables.{is_table}
 use Rattle.linear_hash.proofs.changes.commit_store.Given.{Over}
@@ -76,6 +76,12 @@ returns-clause-turns g c honest usable map holds was =
       whole = λ damaged.
           let early = told_by g.S.PageStore _ _ c.finish.new.store c.stage_store-staged.result c.finish.result c.stage_store-staged.ensures.stages _ Damaged never_damaged c.finish.ensures.answer c.finish.ensures.refused damaged in
           c.stage_store-staged.ensures.whole honest (plan g c map holds was) (table g c map holds was) (there g c map holds was) early;
+      grows =
+          let p = plan g c map holds was in
+          let in_table = table g c map holds was in
+          let few = store_takes_few p (pair g c map holds was) in_table.good.sound c.requires.allowed in
+          grows_to _ _ (store p (pair g c map holds was)) (g.S.PageStore.state c.args.store.now) (g.S.PageStore.state c.stage_store-staged.new.store) (g.S.PageStore.state c.finish.new.store) (c.args.meta.now.pairs + 4) _ c.stage_store-staged.result c.finish.result c.finish.ensures.refused c.finish.ensures.ok staged.grows
+          (staged.exact honest p in_table (may g c map holds was) (there g c map holds was)) (omega (arith, few, in_table.ends, ap (λ (m : Meta). m.pairs) in_table.meta_is));
       no_room = λ room.
           let p = plan g c map holds was in
           let in_table = table g c map holds was in

@@ -10,7 +10,7 @@ use Rattle.dbm_file.specs.declared.calls.DeleteReply.TheVariants as deleted
 use Rattle.dbm_fault.specs.declared.fault.Fault.TheVariants.{ReadOnly}
 use Rattle.dbm_file.proofs.Cases.{broken_delete, delete_read_only, delete_rule, delete_fails, absent}
 use Rattle.dbm_file.proofs.ReadSteps.{from_own, no_read, still_meta, still_writable, not_broken, rejected_step, found_step, walk_failed_step, broken_step}
-use Rattle.dbm_file.proofs.ChangeSteps.{mid_honest, mid_usable, mid_holds, changed_step, refused_step, told_keeps}
+use Rattle.dbm_file.proofs.ChangeSteps.{mid_honest, mid_usable, mid_holds, changed_step, no_growth, refused_step, told_keeps}
 use Rattle.dbm_file.proofs.Endings.{unusable_delete, unwritable_delete, told_delete, absent_delete, uncounted_delete, done_delete, walk_told, done_keeps, as_change}
 use Rattle.dbm_file.proofs.Searches.{was_absent}
 use Rattle.dbm_file.proofs.StoreSteps.{delete_asked, no_key, delete_told}
@@ -146,6 +146,7 @@ returns g c =
           let asked = delete_asked s db c.has.new.self map pass key c.in_ok-has.ensures.reads usable writable honest (at.map usable) (at.pass usable) (at.rests usable) there in
           from_own at (changed_step s asked _
           record { ends = all.ends; error_is = refl; pass_ends = refl; pass_stays = tt }
+          (no_growth s asked)
           (all.turns (mid_honest s asked) (mid_usable s asked) map (mid_holds s asked) there)
           (λ x left. g.met.S.PageStore.only_committed c.delete_pair.new.store x (all.ends.honesty.1 (mid_honest s asked)) (ap (λ (st : StoreState). st.usable) all.ends.ok ∙ mid_usable s asked) (ap (λ (st : StoreState). st.writable) all.ends.ok ∙ still_writable s db c.has.new.self c.in_ok-has.ensures.reads ∙ writable) left));
       ends = done_delete db key usable writable _ (all.shape ∙ ap shape_in same) (all.pairs ∙ ap (λ (m : Meta). m.pairs) same) keeps;

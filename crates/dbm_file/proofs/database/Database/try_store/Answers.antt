@@ -11,7 +11,7 @@ use Rattle.dbm_file.specs.declared.calls.StoreReply.TheVariants as stored
 use Rattle.dbm_fault.specs.declared.fault.Fault.TheVariants.{ReadOnly, TooLong, Full}
 use Rattle.dbm_file.proofs.Cases.{broken_store, store_read_only, too_long_rule, store_rule, store_fails, kept, full}
 use Rattle.dbm_file.proofs.ReadSteps.{from_own, no_read, still_meta, still_writable, not_broken, found_step, declined_step, rejected_step, walk_failed_step, broken_step}
-use Rattle.dbm_file.proofs.ChangeSteps.{mid_honest, mid_usable, mid_holds, changed_step, refused_step, told_keeps}
+use Rattle.dbm_file.proofs.ChangeSteps.{mid_honest, mid_usable, mid_holds, changed_step, store_growth, refused_step, told_keeps}
 use Rattle.dbm_file.proofs.Endings.{unusable_store, unwritable_store, long_store, told_store, kept_store, full_store, done_store, walk_told, done_keeps, changed_shape, as_change}
 use Rattle.dbm_file.proofs.Searches.{was_found}
 use Rattle.dbm_file.proofs.StoreSteps.{store_asked, store_told, inserts_so, replaces_so, not_both}
@@ -214,6 +214,7 @@ returns g c =
           content mode c.in_ok-was_there.was_there short there replaces few in
           from_own at (changed_step s asked _
           record { ends = all.ends; error_is = refl; pass_ends = refl; pass_stays = tt }
+          (store_growth s asked refl)
           (all.turns (mid_honest s asked) (mid_usable s asked) map (mid_holds s asked) there)
           (λ x left. g.met.S.PageStore.only_committed c.store_pair.new.store x (all.ends.honesty.1 (mid_honest s asked)) (ap (λ (st : StoreState). st.usable) all.ends.ok ∙ mid_usable s asked) (ap (λ (st : StoreState). st.writable) all.ends.ok ∙ still_writable s db c.has.new.self c.in_ok-was_there.ensures.reads ∙ writable) left));
       ends = done_store db key usable writable _ content mode short (changed_shape (meta_kept db) (meta_kept c.has.new.self) (model_meta c.store_pair.new.meta) (still_meta s db c.has.new.self read) all.shape) keeps;

@@ -1,0 +1,68 @@
+-- The room of a file over a step.
+use Rattle.std.proofs.Common.{◌≡◌, ⊎_elim, inl, inr, ℕ, List, None, true, refl, subst, sym, arith}
+use Rattle.std.specs.FinMap.{empty, len, get-empty, len-empty}
+use Rattle.dbm_model.specs.Calls.{Store, Replace, Reply, Stored, Kept, Deleted, Absent, Bytes, NoRecord, End, Number, Refused, NoRoom}
+use Rattle.dbm_model.specs.Pairs.{Contents, key_cmp}
+use Rattle.dbm_model.specs.States.{Handle, flagged, fresh}
+use Rattle.dbm_model.specs.Steps.{Case, Changes, Suffers, IsShort, growth, case_of}
+use Rattle.dbm_model.specs.Examples.{one}
+use Rattle.dbm_model.specs.Room.{RoomStays, RoomExamples, with_room, IsFirstStore}
+use Rattle.dbm_model.proofs.RefusalLemmas.{falls}
+use Rattle.dbm_model.proofs.RunLemmas.{only, adds, none_yet}
+
+none_grows : (before : Handle) (reply : Reply) → (reply ≡ Stored → ⊥) → growth before reply ≡ 0
+none_grows before Stored other = absurd (other refl)
+none_grows before Kept other = refl
+none_grows before Deleted other = refl
+none_grows before Absent other = refl
+none_grows before (Bytes bytes) other = refl
+none_grows before NoRecord other = refl
+none_grows before End other = refl
+none_grows before (Number n) other = refl
+none_grows before (Refused fault) other = refl
+
+pub room_stays : RoomStays
+room_stays before after call reply step =
+    (step.capacity, λ other. omega (arith, step.pages, none_grows before reply other))
+
+no_pair : len (empty {X = List ℕ} {R = key_cmp}) ≡ 0
+no_pair = len-empty key_cmp (List ℕ)
+
+-- a first store changes the map, where nothing hinders it
+first_falls : case_of (fresh empty 100 true) (Store (one 0x61) (one 0x01) Replace) ≡ Changes Stored (only (one 0x01))
+first_falls = adds 100 empty None None (one 0x61) (one 0x01) refl (get-empty key_cmp (one 0x61)) (none_yet 100 (omega arith))
+
+-- a change that is refused for want of room is short of it
+short_of : (h after : Handle) (map : Contents) → Suffers h (Changes Stored map) (Refused NoRoom) after → IsShort h
+short_of h after map (inl fails) = absurd (let x = fails.0 in cc)
+short_of h after map (inr (inl breaks)) = absurd (let x = breaks.0 in cc)
+short_of h after map (inr (inr (inl memory))) = absurd (let x = memory.0 in cc)
+short_of h after map (inr (inr (inr room))) = room.1
+
+enough : (after : Handle) → IsFirstStore 16 (Refused NoRoom) after → ⊥
+enough after step =
+    ⊎_elim
+    (λ answered. absurd (let x = answered.0 in cc))
+    (λ hindered. omega (arith, short_of (with_room 16) after (only (one 0x01)) hindered, no_pair))
+    (falls (with_room 16) after (Store (one 0x61) (one 0x01) Replace) (Refused NoRoom) (Changes Stored (only (one 0x01))) first_falls step)
+
+short : (after : Handle) × IsFirstStore 15 (Refused NoRoom) after
+short =
+    let h = with_room 15 in
+    let after = record h { state = flagged NoRoom h.state } in (
+      after,
+      record {
+        counts = omega arith;
+        capacity = refl;
+        pages = (omega arith, omega arith);
+        answers = inr (subst (λ (c : Case). Suffers h c (Refused NoRoom) after) (sym first_falls)
+            (inr (inr (inr (refl, omega (arith, no_pair), refl)))));
+      },
+    )
+
+pub room_examples : RoomExamples
+room_examples = record {
+  short = short;
+  enough = enough;
+  eight = λ capacity after step. omega (arith, step.pages.1, no_pair);
+}
