@@ -1,6 +1,8 @@
 -- A database as it was just opened, and what its images stand for.
-use Rattle.std.proofs.Common.{◌≡◌, ℕ, Bool, true, Option, None, sym, ap, subst, ◌∙◌}
+use Rattle.std.proofs.Common.{◌≡◌, ◌⊎◌, inl, inr, ℕ, Bool, true, Option, Some, None, Result, Ok, Err, refl, sym, ap, subst, ◌∙◌}
+use Rattle.std.specs.Prelude.{IfSome}
 use Rattle.std.specs.FinMap.{len}
+use Rattle.sect_dev.specs.declared.device.SectorDev as device
 use Rattle.dbm_model.specs.Pairs.{Contents}
 use Rattle.dbm_model.specs.States.{Handle}
 use Rattle.page_io.specs.Store.{Settled}
@@ -8,6 +10,10 @@ use Rattle.page_io.specs.Meaning.{ImageStandsFor}
 use Rattle.page_io.specs.declared.store.PageStore as store
 use Rattle.dbm_file.specs.Database.{store_of, meta_kept, HoldsMap, StandsAfterStop, handle_of, IsAt}
 use Rattle.dbm_file.specs.Opened.{IsNewlyOpened, IsOpenedAt}
+use Rattle.dbm_file.specs.Named.{RefusesFile}
+use Rattle.file_opening.specs.Opening.{early_fault, IsRefusedOpening}
+use Rattle.file_opening.specs.declared.open_how.OpenHow.{OpenHow}
+use Rattle.dbm_fault.specs.declared.fault.Fault.{Fault}
 use Rattle.dbm_file.specs.Passing.{IsPass}
 use Rattle.linear_hash.specs.declared.passing.Cursor.{Cursor}
 use Rattle.dbm_file.specs.declared.database.Database.{Database}
@@ -34,3 +40,28 @@ pub stands_for : {S : Type 0} (s : store.Ghosts S) (db : Database S s) (h : Hand
 stands_for s db h y at usable left =
     let is_usable = sym (ap (λ (x : Handle). x.state.usable) at.shows) ∙ usable in
     subst (λ (n : ℕ). ImageStandsFor y h.state.map n) (sym (ap (λ (x : Handle). x.state.limit) at.shows)) (at.rests is_usable y left)
+
+-- the fault of a refusal
+abbrev fault_in : {T D : Type 0} → Fault → Result T (D × Fault) → Fault
+fault_in other (Ok x) = other
+fault_in other (Err e) = e.1
+
+-- what refused an opening at once, or else
+early_or : (T : Type 0) {D P : Type 0} (early : Option Fault) (fault : Fault) (first left : D) → IfSome early (λ told. ◌≡◌ {A = Result T (D × Fault)} (Err (left, fault)) (Err (first, told)))
+    → (early ≡ None → P) → (early ≡ Some fault) ⊎ P
+early_or T None fault first left told then = inr (then refl)
+early_or T (Some e) fault first left told then = inl (ap Some (sym (ap (fault_in fault) told)))
+
+-- a file of that size whose opening is refused
+pub refuses_file : (T : Type 0) {D : Type 0} (bound : device.Ghosts D) (how : OpenHow) (first left : D) (fault : Fault) → bound.moment first ≡ 0 → bound.sectors first ≡ 9001992
+    → IfSome (early_fault how (bound.sectors first)) (λ told. ◌≡◌ {A = Result T (D × Fault)} (Err (left, fault)) (Err (first, told)))
+    → (bound.honest first → early_fault how (bound.sectors first) ≡ None → IsRefusedOpening how (bound.sectors first) (bound.candidate first) (bound.candidate left) fault)
+    → RefusesFile bound how fault
+refuses_file T bound how first left fault begins size early refused = record {
+  first = first;
+  begins = begins;
+  size = size;
+  left = left;
+  refused = λ honest. subst (λ (n : ℕ). (early_fault how n ≡ Some fault) ⊎ IsRefusedOpening how n (bound.candidate first) (bound.candidate left) fault) size
+      (early_or T (early_fault how (bound.sectors first)) fault first left early (refused honest));
+}

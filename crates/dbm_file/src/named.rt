@@ -1,13 +1,14 @@
 //! A database by the name of its file.
 
-ghost use Rattle.std.specs.Prelude.{◌≡◌, ◌≢◌, ◌&&◌, false, IfOk, IfErr};
+ghost use Rattle.std.specs.Prelude.{◌≡◌, ◌≢◌, ◌&&◌, ◌++◌, codes, false, IfOk, IfErr};
+ghost use Rattle.std.specs.String.{string_bytes};
 ghost use Rattle.file_opening.specs.Opening.{writes};
 ghost use Rattle.dbm_file.specs.Opened.{IsNewlyOpened};
-ghost use Rattle.dbm_file.specs.Named.{OpensFile};
+ghost use Rattle.dbm_file.specs.Named.{OpensFile, RefusesFile};
 
 use crate::database::Db;
 use crate::{Fault, OpenHow};
-use sect_dev::{FileDev, FileFault};
+use sect_dev::{FileDev, FileFault, SectorDev};
 use std::alloc::{AllocError, Global};
 use std::fs::File;
 use std::rt::Files;
@@ -32,8 +33,9 @@ pub fn dbm_open<R: Files<File = File>>(
     ensures missing { IfErr result (λ fault. fault ≡ Fault.Missing → (writes how.access && how.create) ≡ false) }
     ensures only { IfErr result (λ fault. (fault ≢ Fault.Broken) × (fault ≢ Fault.TooLong) × (fault ≢ Fault.Full) × (fault ≢ Fault.NoPass)) }
 
-    // It is what `Db::open` gives of the device that the file was at first.
+    // It is what `Db::open` gives of the device that the file was at first, the fault too, but where the system refuses it.
     ensures opens { IfOk result (OpensFile how) }
+    ensures refused { IfErr result (λ fault. fault ≢ Fault.Memory → fault ≢ Fault.Missing → fault ≢ Fault.Device → RefusesFile ⟦<FileDev as SectorDev>⟧ how fault) }
 {
     let Ok(path) = path_of(alloc, name) else {
         return Err(Fault::Memory);
@@ -51,7 +53,9 @@ pub fn dbm_open<R: Files<File = File>>(
 }
 
 /// The path of the file.
-fn path_of(alloc: Global, name: &str) -> Result<String, AllocError> {
+fn path_of(alloc: Global, name: &str) -> Result<String, AllocError>
+    ensures { IfOk result (λ path. string_bytes path ≡ name.now ++ codes ".db") }
+{
     let mut path = String::from_str(alloc, name)?;
     path.push_str(".db")?;
     Ok(path)

@@ -10,8 +10,8 @@ ghost use Rattle.redo_commit.specs.File.{settled};
 ghost use Rattle.redo_area.specs.Pagers.{device_of};
 ghost use Rattle.redo_area.specs.Reading.{OnlyReads};
 ghost use Rattle.dbm_model.specs.States.{Handle};
-ghost use Rattle.dbm_file.specs.Database.{store_of, IsAt};
-ghost use Rattle.file_opening.specs.Opening.{writes, early_fault, IsRefusedOpening, AllAllow, MayRemain, AllStand, IsOpened};
+ghost use Rattle.dbm_file.specs.Database.{store_of, meta_kept, IsAt};
+ghost use Rattle.file_opening.specs.Opening.{writes, early_fault, IsRefusedOpening, AllAllow, MayRemain, AllStand, KeepsMeta, IsOpened};
 ghost use Rattle.dbm_file.specs.Opened.{device_opened, IsNewlyOpened, IsOpenedAt};
 
 use crate::database::{Database, Db};
@@ -44,10 +44,13 @@ impl<D: SectorDev> Database<Pager<D>> {
         ensures fresh { IfOk result (IsNewlyOpened (writes how.access) (D.sectors dev / 4)) }
 
         // Every image of every moment settles as one did at the start, or stands for the empty database that was asked for.
-        ensures any_moment { D.honest dev → LeavesOnly D.moment (IsOutcome D.left_since (settled (D.sectors dev / 4))) dev (device_opened result) (MayRemain how (D.sectors dev / 4) (D.candidate dev)) }
+        ensures any_moment { D.honest dev → LeavesOnly D.moment (IsOutcome D.left_since (settled (D.sectors dev / 4))) dev (device_opened result) (MayRemain how (D.sectors dev) (D.candidate dev)) }
+
+        // What it keeps of the meta page is what a file at the start says, whatever else is in it, or that of an empty database.
+        ensures opened { D.honest dev → IfOk result (λ db. KeepsMeta how (D.sectors dev) (D.candidate dev) (meta_kept db)) }
 
         // Where each image at the start is blank or stands for a map, what is opened holds one of these maps, or is new and empty.
-        ensures stands { D.honest dev → (writes how.access ≡ false → IsStable (D.candidate dev) (D.seen dev)) → AllStand (D.sectors dev / 4) (D.candidate dev) → IfOk result (λ db. (map : Contents) × (limit : ℕ) × IsOpenedAt (writes how.access) db map limit × IsOpened how (D.sectors dev / 4) (D.candidate dev) map limit) }
+        ensures stands { D.honest dev → (writes how.access ≡ false → IsStable (D.candidate dev) (D.seen dev)) → AllStand (D.sectors dev / 4) (D.candidate dev) → IfOk result (λ db. (map : Contents) × (limit : ℕ) × IsOpenedAt (writes how.access) db map limit × IsOpened how (D.sectors dev) (D.candidate dev) map limit) }
 
         // For reading, nothing is written and nothing synced.
         ensures only_reads { writes how.access ≡ false → D.honest dev → OnlyReads D.SectorDev dev (device_opened result) }

@@ -1,5 +1,5 @@
 -- A device in memory is large enough, and blank.
-use Rattle.std.proofs.Common.{◌≡◌, ◌⊎◌, inl, inr, ℕ, suc, ◌+◌, ◌*◌, ◌≤◌, Bool, true, false, cond, Option, Some, None, refl, ap, subst, ◌∙◌, arith}
+use Rattle.std.proofs.Common.{◌≡◌, ◌⊎◌, inl, inr, ℕ, suc, ◌+◌, ◌*◌, ◌/◌, ◌≤◌, Bool, true, false, cond, Option, Some, None, refl, ap, subst, ◌∙◌, arith}
 use Rattle.std.specs.FinMap.{empty}
 use Rattle.std.specs.Prelude.{nat_lt}
 use Rattle.std.proofs.lemmas.Bool.{le-ltb}
@@ -46,9 +46,9 @@ unfolding settled
 blank_there pages candidate stable image is = ap (λ (h : Header). settled_by h image) (ap (header_of pages) (stable 0 (image 0) (is 0)) ∙ blank_header pages)
 
 -- what is opened on one is new
-pub opened_new : (how : OpenHow) (pages : ℕ) (start : Candidates) (map : Contents) (limit : ℕ) → ((image : Image) → IsImageOf start image → settled pages image ≡ blank) → IsOpened how pages start map limit → (map ≡ empty) × (limit ≡ how.limit)
-opened_new how pages start map limit none (inl stood) = absurd (subst (λ (y : Settled). ImageStandsFor y map limit) (none stood.0.image stood.0.at_start) stood.0.stands)
-opened_new how pages start map limit none (inr new) = (new.1, new.2)
+pub opened_new : (how : OpenHow) (sectors : ℕ) (start : Candidates) (map : Contents) (limit : ℕ) → ((image : Image) → IsImageOf start image → settled (sectors / 4) image ≡ blank) → IsOpened how sectors start map limit → (map ≡ empty) × (limit ≡ how.limit)
+opened_new how sectors start map limit none (inl stood) = absurd (subst (λ (y : Settled). ImageStandsFor y map limit) (none stood.0.image stood.0.at_start) stood.0.stands)
+opened_new how sectors start map limit none (inr new) = (new.1, new.2)
 
 -- with 16 sectors nothing refuses an opening at once that doesn't empty the database
 pub large_enough : (sectors : ℕ) → 16 ≤ sectors → cond {A = Option Fault} (nat_lt sectors 16) (Some TooSmall) None ≡ None

@@ -1,6 +1,7 @@
 -- What the commit of an empty database answers, from what was staged and what was committed.
-use Rattle.std.proofs.Common.{◌≡◌, ◌⊎◌, inl, inr, ⊎_elim, ℕ, ◌+◌, ◌<◌, ◌≤◌, true, false, [], ◌∷◌, List, length, get_or, map, Result, Ok, Err, IfOk, IfErr, OnErr, refl, sym, ap, ◌∙◌, subst, arith}
-use Rattle.std.specs.Prelude.{IsErrOf}
+use Rattle.std.proofs.Common.{◌≡◌, ◌⊎◌, inl, inr, ⊎_elim, ℕ, ◌+◌, ◌<◌, ◌≤◌, Bool, true, false, [], ◌∷◌, List, length, get_or, map, Result, Ok, Err, IfOk, IfErr, OnOk, OnErr, refl, sym, ap, ◌∙◌, subst, arith}
+use Rattle.std.specs.Prelude.{IsErrOf, nat_lt}
+use Rattle.std.proofs.lemmas.Bool.Decides.{nat_tests}
 use Rattle.sect_dev.specs.Device.{LeavesOnly}
 use Rattle.sect_dev.specs.Moments.{followed_by, weaker}
 use Rattle.dbm_fault.specs.Among.{IsErrAmong}
@@ -14,6 +15,7 @@ use Rattle.page_io.specs.declared.store.PageFault.TheVariants.{Memory, Device, B
 use Rattle.page_io.proofs.Exits.{cause_last}
 use Rattle.page_commit.specs.Committing.{MayCommit, IsForgotten}
 use Rattle.file_opening.proofs.Exits.{not_both}
+use Rattle.file_opening.proofs.EmptyFiles.{OldOrEmpty}
 
 below_four : (pages : Pages) (end : ℕ) → end ≡ 4 → map own_number pages ≡ 1 ∷ 2 ∷ 3 ∷ [] → AllBelow end pages
 below_four [] end four is = tt
@@ -113,7 +115,54 @@ no_room_of A (Ok end) result old mid pages stages least numbers refused staged i
     )
 no_room_of A (Err e) result old mid pages stages least numbers refused staged is answer none = absurd (has_room e staged (same_fault result e NoRoom refused.0 none))
 
+fits_or_lacks : (capacity end : ℕ) (b : Bool) → nat_lt capacity (end + 3) ≡ b → (capacity < end + 3) ⊎ (end + 3 ≤ capacity)
+fits_or_lacks capacity end true is = inl (grind (arith, nat_tests))
+fits_or_lacks capacity end false is = inr (grind (arith, nat_tests))
+
+-- a commit that isn't refused for want of room has room
+pub no_room_or_room : (r : Result ℕ PageFault) (result : Result Unit PageFault) (old mid : StoreState) (pages : Pages) → mid ≡ record old { staged = mid.staged } → 4 ≤ old.end → map own_number pages ≡ 1 ∷ 2 ∷ 3 ∷ []
+    → IfOk r (λ end. (end ≡ 4) × (mid.staged ≡ pages)) → IfOk r (λ end. IsCommitAnswer mid end result) → mid.usable ≡ true → mid.writable ≡ true
+    → IsErrOf result NoRoom ⊎ IfOk r (λ end. old.end + 3 ≤ old.capacity)
+no_room_or_room (Ok end) result old mid pages stages least numbers is answer usable writable =
+    ⊎_elim
+    (λ lacks. inl (answer.no_room.1 (
+      usable,
+      writable,
+      omega (
+        arith,
+        lacks,
+        is.0,
+        least,
+        ap (λ (ps : Pages). length ps) is.1,
+        three_pages pages numbers,
+        ap (λ (st : StoreState). st.capacity) stages,
+        ap (λ (st : StoreState). st.end) stages,
+      ),
+    )))
+    (λ fits. inr fits)
+    (fits_or_lacks old.capacity old.end (nat_lt old.capacity (old.end + 3)) refl)
+no_room_or_room (Err e) result old mid pages stages least numbers is answer usable writable = inr tt
+
+pub room_of_ok : (A : PageFault → Type 0) (r : Result ℕ PageFault) (result : Result Unit PageFault) (Due : Type 0) → RefusedAs A r result → IsErrOf result NoRoom ⊎ IfOk r (λ end. Due) → OnOk result Due
+room_of_ok A r (Err e) Due refused either = tt
+room_of_ok A (Ok end) (Ok x) Due refused either = ⊎_elim (λ none. absurd (let x = none in cc)) (λ due. due) either
+room_of_ok A (Err e) (Ok x) Due refused either = absurd (let x = refused.0 in cc)
+
 -- ---- a refusal that left the store usable
+
+-- what was refused for want of room left the store as usable as it was
+still_usable : (old new : StoreState) (fault : PageFault) → fault ≡ NoRoom → IsForgotten old new fault → new.usable ≡ old.usable
+still_usable old new fault none (inl same) = ap (λ (st : StoreState). st.usable) same
+still_usable old new fault none (inr broke) = absurd (let both : Device ≡ NoRoom = sym broke.0 ∙ none in cc)
+
+-- and where it was refused for want of room, the pages
+pub left_by_refusal : {S : Type 0} (s : Ghosts S) (old new : S) (result : Result Unit PageFault) (Due : Type 0) (limit : ℕ) → IsErrOf result NoRoom → (s.state old).usable ≡ true
+    → IfErr result (IsForgotten (s.state old) (s.state new)) → OnErr result ((s.state new).usable ≡ true → LeavesOnly s.moment s.settled_since old new (λ y. y ≡ file_of (s.committed old)))
+    → LeavesOnly s.moment s.settled_since old new (OldOrEmpty (s.committed old) Due limit)
+left_by_refusal s old new (Ok x) Due limit none usable forgotten run = absurd (let x = none in cc)
+left_by_refusal s old new (Err e) Due limit none usable forgotten run =
+    weaker s.moment s.settled_since old new (OldOrEmpty (s.committed old) Due limit) (λ y. y ≡ file_of (s.committed old))
+    (run (still_usable (s.state old) (s.state new) e (same_fault (Err e) e NoRoom refl none) forgotten ∙ usable)) (λ y is. inl is)
 
 pub unchanged_since : {S T E : Type 0} (s : Ghosts S) (old mid new : S) (result : Result T E) (usable : Type 0) → StagesOnly s old mid → s.honest old → ((y : Settled) → s.settles_to old y → y ≡ file_of (s.committed old))
     → OnErr result (usable → LeavesOnly s.moment s.settled_since mid new (λ y. y ≡ file_of (s.committed mid))) → OnErr result (usable → LeavesOnly s.moment s.settled_since old new (λ y. y ≡ file_of (s.committed old)))

@@ -23,9 +23,9 @@ use Rattle.dbm_fault.specs.declared.fault.Fault.{Fault}
 use Rattle.dbm_fault.specs.declared.fault.Fault.TheVariants.{Device}
 use Rattle.file_opening.proofs.NewFiles.{three_committed}
 
--- the pages that were there, or an empty database
-abbrev pub OldOrEmpty : Pages → ℕ → Settled → Type 0
-OldOrEmpty pages limit y = (y ≡ file_of pages) ⊎ ImageStandsFor y empty limit
+-- the pages that were there, or where that is due an empty database
+abbrev pub OldOrEmpty : Pages → Type 0 → ℕ → Settled → Type 0
+OldOrEmpty pages Due limit y = (y ≡ file_of pages) ⊎ (Due × ImageStandsFor y empty limit)
 
 module _ {S : Type 0} (s : Ghosts S) (old mid new : S) (m : Meta) (pages : Pages) (stages : StagesOnly s old mid) (honest : s.honest old)
     (stands : FileStandsFor pages empty m.limit) (meta : said_by (page_of pages) 1 ≡ MetaPage m) (numbers : map own_number pages ≡ 1 ∷ 2 ∷ 3 ∷ []) where
@@ -43,17 +43,17 @@ module _ {S : Type 0} (s : Ghosts S) (old mid new : S) (m : Meta) (pages : Pages
       }
 
   -- `only` is the store's law `only_committed` of the old one
-  pub leaves_old_or_empty : (r : Result ℕ PageFault) → IfOk r (λ end. (end ≡ 4) × ((s.state mid).staged ≡ pages)) → ((y : Settled) → s.settles_to old y → y ≡ file_of (s.committed old))
+  pub leaves_old_or_empty : {Due : Type 0} (r : Result ℕ PageFault) → IfOk r (λ end. Due) → IfOk r (λ end. (end ≡ 4) × ((s.state mid).staged ≡ pages)) → ((y : Settled) → s.settles_to old y → y ≡ file_of (s.committed old))
       → LeavesOnly s.moment s.settled_since mid new (λ y. (y ≡ file_of (s.committed mid)) ⊎ IsOkAnd r (λ end. y ≡ file_of (committed_with (s.committed mid) (s.state mid).staged end)))
-      → LeavesOnly s.moment s.settled_since old new (OldOrEmpty (s.committed old) m.limit)
-  leaves_old_or_empty r staged only run =
-      followed_by s.moment s.settled_since old mid new (OldOrEmpty (s.committed old) m.limit) _
-      (weaker s.moment s.settled_since old mid (OldOrEmpty (s.committed old) m.limit) (s.settles_to old) (stages.kept honest).any_moment (λ y is. inl (only y is))) run
-      (λ y is. ⊎_elim (λ same. inl (same ∙ ap file_of (stages.kept honest).committed)) (λ then. inr (by_case r staged y then)) is)
+      → LeavesOnly s.moment s.settled_since old new (OldOrEmpty (s.committed old) Due m.limit)
+  leaves_old_or_empty {Due} r due staged only run =
+      followed_by s.moment s.settled_since old mid new (OldOrEmpty (s.committed old) Due m.limit) _
+      (weaker s.moment s.settled_since old mid (OldOrEmpty (s.committed old) Due m.limit) (s.settles_to old) (stages.kept honest).any_moment (λ y is. inl (only y is))) run
+      (λ y is. ⊎_elim (λ same. inl (same ∙ ap file_of (stages.kept honest).committed)) (λ then. inr (by_case r due staged y then)) is)
     where
-      by_case : (r : Result ℕ PageFault) → IfOk r (λ end. (end ≡ 4) × ((s.state mid).staged ≡ pages)) → (y : Settled) → IsOkAnd r (λ end. y ≡ file_of (committed_with (s.committed mid) (s.state mid).staged end)) → ImageStandsFor y empty m.limit
-      by_case (Ok end) staged y is = subst (λ (z : Settled). ImageStandsFor z empty m.limit) (sym (is ∙ ap file_of (file_is end staged))) stands
-      by_case (Err e) staged y is = absurd is
+      by_case : (r : Result ℕ PageFault) → IfOk r (λ end. Due) → IfOk r (λ end. (end ≡ 4) × ((s.state mid).staged ≡ pages)) → (y : Settled) → IsOkAnd r (λ end. y ≡ file_of (committed_with (s.committed mid) (s.state mid).staged end)) → Due × ImageStandsFor y empty m.limit
+      by_case (Ok end) due staged y is = (due, subst (λ (z : Settled). ImageStandsFor z empty m.limit) (sym (is ∙ ap file_of (file_is end staged))) stands)
+      by_case (Err e) due staged y is = absurd is
 
 -- ---- what is read of a device, as it settles
 
@@ -111,12 +111,15 @@ below_run moment left_since below cap old new P same run = record {
 }
 
 -- the run of an emptying, as one of the device, where the limit is known by another name
-pub run_below : {D : Type 0} (dev : device.Ghosts D) (old new : Pager D dev) (pages : Pages) (limit same : ℕ) → same ≡ limit → dev.sectors new.dev / 4 ≡ dev.sectors old.dev / 4
-    → LeavesOnly (λ (p : Pager D dev). dev.moment p.dev) (λ (p : Pager D dev). IsOutcome dev.left_since (settled (dev.sectors p.dev / 4)) p.dev) old new (OldOrEmpty pages same)
-    → LeavesOnly dev.moment (IsOutcome dev.left_since (settled (dev.sectors old.dev / 4))) old.dev new.dev (OldOrEmpty pages limit)
-run_below {D} dev old new pages limit same is size run =
-    subst (λ (n : ℕ). LeavesOnly dev.moment (IsOutcome dev.left_since (settled (dev.sectors old.dev / 4))) old.dev new.dev (OldOrEmpty pages n)) is
-    (below_run dev.moment dev.left_since (λ (p : Pager D dev). p.dev) (λ (p : Pager D dev). dev.sectors p.dev / 4) old new (OldOrEmpty pages same) size run)
+pub run_below : {D Due Then : Type 0} (dev : device.Ghosts D) (old new : Pager D dev) (pages : Pages) (limit same : ℕ) → same ≡ limit → (Due → Then) → dev.sectors new.dev / 4 ≡ dev.sectors old.dev / 4
+    → LeavesOnly (λ (p : Pager D dev). dev.moment p.dev) (λ (p : Pager D dev). IsOutcome dev.left_since (settled (dev.sectors p.dev / 4)) p.dev) old new (OldOrEmpty pages Due same)
+    → LeavesOnly dev.moment (IsOutcome dev.left_since (settled (dev.sectors old.dev / 4))) old.dev new.dev (OldOrEmpty pages Then limit)
+run_below {D} {Due} {Then} dev old new pages limit same is then size run =
+    let since = IsOutcome dev.left_since (settled (dev.sectors old.dev / 4)) in
+    subst (λ (n : ℕ). LeavesOnly dev.moment since old.dev new.dev (OldOrEmpty pages Then n)) is
+    (weaker dev.moment since old.dev new.dev (OldOrEmpty pages Then same) (OldOrEmpty pages Due same)
+    (below_run dev.moment dev.left_since (λ (p : Pager D dev). p.dev) (λ (p : Pager D dev). dev.sectors p.dev / 4) old new (OldOrEmpty pages Due same) size run)
+    (λ y. ⊎_elim (λ was. inl was) (λ new. inr (then new.0, new.1))))
 
 -- what is left later settles as something did at the start
 pub settles_from : (cap cap' : ℕ) (start mid : Candidates) (y : Settled) → cap' ≡ cap → ((image : Image) → IsImageOf mid image → SettlesAsBefore cap start image) → SettlesTo cap' mid y → SettlesTo cap start y

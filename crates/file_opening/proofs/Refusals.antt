@@ -1,5 +1,5 @@
 -- What an opening answers, from what the device had at the start.
-use Rattle.std.proofs.Common.{◌≡◌, ◌≢◌, ◌⊎◌, ⊎_elim, inl, inr, ℕ, ◌/◌, Bool, true, false, cond, not, ◌&&◌, Option, Some, None, is_some, Result, Ok, Err, refl, sym, ap, ◌∙◌, subst}
+use Rattle.std.proofs.Common.{◌≡◌, ◌≢◌, ◌⊎◌, ⊎_elim, inl, inr, ℕ, ◌+◌, ◌/◌, length, Bool, true, false, cond, not, ◌&&◌, Option, Some, None, is_some, Result, Ok, Err, refl, sym, ap, ◌∙◌, subst}
 use Rattle.std.specs.Prelude.{IfOk, IfErr, IfSome, nat_lt}
 use Rattle.std.specs.FinMap.{empty}
 use Rattle.sect_dev.specs.Device.{Image, Candidates, IsImageOf, IsStable}
@@ -21,7 +21,7 @@ use Rattle.redo_area.specs.Settling.{SettlesTo}
 use Rattle.redo_area.specs.declared.pager.Pager.{Pager}
 use Rattle.redo_area.specs.declared.open_fault.OpenFault.{OpenFault}
 use Rattle.redo_area.specs.declared.open_fault.OpenFault.TheVariants as redo
-use Rattle.file_opening.specs.Opening.{writes, is_exclusive, early_fault, making_fault, SaysMeta, SaysNoMeta, RefusesMeta, RefusesFile, RefusesBy, RefusesOpened, Refuses, IsRefusedOpening, Allows, AllAllow, AllStand, StoodFor, IsOpened}
+use Rattle.file_opening.specs.Opening.{writes, is_exclusive, early_fault, making_fault, emptying_fault, SaysMeta, SaysNoMeta, RefusesMeta, RefusesFile, RefusesBy, RefusesOpened, Refuses, IsRefusedOpening, Allows, AllAllow, AllStand, StoodFor, IsOpened}
 use Rattle.file_opening.specs.OpenFiles.{device_left, StandsAs, OpensAs}
 use Rattle.file_opening.specs.declared.file.OpenFile.{OpenFile}
 use Rattle.file_opening.specs.declared.open_how.OpenHow.{OpenHow}
@@ -266,20 +266,20 @@ has_meta : (file : Pages) (map : Contents) (limit : ℕ) → FileStandsFor file 
 has_meta file map limit stands = record { meta = meta_of stands.placement; valid = (bodies_valid stands.placement stands.good).0.1; says = stands.spelled.0 }
 
 -- a file that was opened: as it stood, or emptied
-module _ {S : Type 0} {s : store.Ghosts S} (how : OpenHow) (pages : ℕ) (start : Candidates) (pages_were : Pages) (what : WhatStood pages start pages_were) (file : OpenFile S s)
-    (at_start : SettlesTo pages start (file_of pages_were)) (may : is_exclusive how ≡ false) (opens : OpensAs how what.map what.limit file) where
-  pub opened_as_asked : (how.truncate ≡ true → writes how.access ≡ true) → (map : Contents) × (limit : ℕ) × StandsAs file map limit × IsOpened how pages start map limit
-  opened_as_asked written = by_case how.truncate refl
+module _ {S : Type 0} {s : store.Ghosts S} (how : OpenHow) (sectors : ℕ) (start : Candidates) (pages_were : Pages) (what : WhatStood (sectors / 4) start pages_were) (file : OpenFile S s)
+    (at_start : SettlesTo (sectors / 4) start (file_of pages_were)) (may : is_exclusive how ≡ false) (opens : OpensAs how what.map what.limit file) where
+  pub opened_as_asked : (how.truncate ≡ true → writes how.access ≡ true) → (how.truncate ≡ true → emptying_fault how.limit sectors (length pages_were + 1) ≡ None) → (map : Contents) × (limit : ℕ) × StandsAs file map limit × IsOpened how sectors start map limit
+  opened_as_asked written due = by_case how.truncate refl
     where
       stands_by : (b : Bool) → how.truncate ≡ b → StandsAs file (cond b empty what.map) (cond b how.limit what.limit)
       stands_by b is = subst (λ (x : Bool). StandsAs file (cond x empty what.map) (cond x how.limit what.limit)) is opens
 
-      by_case : (b : Bool) → how.truncate ≡ b → (map : Contents) × (limit : ℕ) × StandsAs file map limit × IsOpened how pages start map limit
+      by_case : (b : Bool) → how.truncate ≡ b → (map : Contents) × (limit : ℕ) × StandsAs file map limit × IsOpened how sectors start map limit
       by_case true on = (
         empty,
         how.limit,
         stands_by true on,
-        inr (inr (record { file = pages_were; at_start = at_start; empties = record { asked = on; written = written on; allowed = may; opens = has_meta pages_were what.map what.limit what.stands } }), refl, refl),
+        inr (inr (record { file = pages_were; at_start = at_start; empties = record { asked = on; written = written on; allowed = may; opens = has_meta pages_were what.map what.limit what.stands; due = due on } }), refl, refl),
       )
       by_case false off = (what.map, what.limit, stands_by false off, inl (what.stood, off, may))
 

@@ -59,6 +59,17 @@ apart f (inr small) is = let both = sym small ∙ is in cc
 pub of_room_apart : {P : Type 0} (needed : Option ℕ) (sectors : ℕ) (f : Fault) → room_fault needed sectors ≡ Some f → f ≡ Device → P
 of_room_apart needed sectors f is device = apart f (of_room needed sectors f is) device
 
+-- nothing was told that refuses the limit
+pub has_room : (limit sectors same : ℕ) (told : Option Fault) → same ≡ sectors → told ≡ room_fault (sectors_for limit) same → told ≡ None → room_fault (sectors_for limit) sectors ≡ None
+has_room limit sectors same told is said none = ap (room_fault (sectors_for limit)) (sym is) ∙ sym said ∙ none
+
+-- where the limit has room, and the commit too, nothing refuses an emptying
+pub allows_emptying : (limit sectors end : ℕ) → room_fault (sectors_for limit) sectors ≡ None → end + 3 ≤ sectors / 4 → emptying_fault limit sectors end ≡ None
+allows_emptying limit sectors end room fits = ap (λ (o : Option Fault). option_or o (commit_fault sectors end)) room ∙ commits fits
+  where
+    commits : end + 3 ≤ sectors / 4 → commit_fault sectors end ≡ None
+    commits le = grind (arith, nat_tests)
+
 -- ---- a new meta page
 
 pub fresh_meta : (limit : ℕ) (m : Meta) → m ≡ meta_of (fresh_placement limit) → m ≡ meta_of (fresh_placement m.limit)

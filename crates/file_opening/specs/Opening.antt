@@ -6,6 +6,8 @@ use Rattle.sect_dev.specs.Device.{Image, Candidates, IsImageOf}
 use Rattle.page_model.specs.Bytes.{u32_at}
 use Rattle.page_model.specs.Pages.{Meta, MetaPage}
 use Rattle.dbm_model.specs.Pairs.{Contents}
+use Rattle.page_model.specs.PageBodies.{meta_of}
+use Rattle.page_model.specs.Placement.{fresh_placement}
 use Rattle.page_model.specs.Reading.{body_of}
 use Rattle.page_model.specs.Sizes.{sectors_for}
 use Rattle.page_model.specs.Valid.{IsMeta}
@@ -115,34 +117,46 @@ AllAllow how sectors start = (image : Image) → IsImageOf start image → Allow
 
 -- ---- what it makes
 
--- a database may be made: it was asked for, and the device may be blank
-pub record Makes (how : OpenHow) (pages : ℕ) (start : Candidates) : Type 0 where
-  pub asked : how.create ≡ true
-  pub written : writes how.access ≡ true
-  pub on_blank : SettlesTo pages start blank
+-- a database may be made: nothing refuses that, and the device may be blank
+pub record Makes (how : OpenHow) (sectors : ℕ) (start : Candidates) : Type 0 where
+  pub due : making_fault how sectors ≡ None
+  pub on_blank : SettlesTo (sectors / 4) start blank
 
--- a file with a good meta page may be emptied, if that was asked for
-pub record EmptiesFile (how : OpenHow) (file : Pages) : Type 0 where
+-- a file with a good meta page may be emptied, if that was asked for and nothing refuses it
+pub record EmptiesFile (how : OpenHow) (sectors : ℕ) (file : Pages) : Type 0 where
   pub asked : how.truncate ≡ true
   pub written : writes how.access ≡ true
   pub allowed : is_exclusive how ≡ false
   pub opens : SaysMeta (page_of file 1)
+  pub due : emptying_fault how.limit sectors (length file + 1) ≡ None
 
 -- the device may hold such a file
-pub record Empties (how : OpenHow) (pages : ℕ) (start : Candidates) : Type 0 where
+pub record Empties (how : OpenHow) (sectors : ℕ) (start : Candidates) : Type 0 where
   pub file : Pages
-  pub at_start : SettlesTo pages start (file_of file)
-  pub empties : EmptiesFile how file
+  pub at_start : SettlesTo (sectors / 4) start (file_of file)
+  pub empties : EmptiesFile how sectors file
 
 -- a database is made or emptied
 abbrev pub BeginsEmpty : OpenHow → ℕ → Candidates → Type 0
-BeginsEmpty how pages start = Makes how pages start ⊎ Empties how pages start
+BeginsEmpty how sectors start = Makes how sectors start ⊎ Empties how sectors start
 
 -- what an opening may leave: what the device held at the start, or an empty database
 abbrev pub MayRemain : OpenHow → ℕ → Candidates → Settled → Type 0
-MayRemain how pages start now = SettlesTo pages start now ⊎ (BeginsEmpty how pages start × ImageStandsFor now empty how.limit)
+MayRemain how sectors start now = SettlesTo (sectors / 4) start now ⊎ (BeginsEmpty how sectors start × ImageStandsFor now empty how.limit)
 
 -- ---- what is opened
+
+-- what is kept of the meta page of a file: what it says, or where it was emptied that of an empty database
+abbrev pub KeepsMetaOf : OpenHow → ℕ → Pages → Meta → Type 0
+KeepsMetaOf how sectors file kept =
+    ((how.truncate ≡ false) × (is_exclusive how ≡ false) × IsMeta kept × (body_of 1 (page_of file 1) ≡ MetaPage kept))
+    ⊎ (EmptiesFile how sectors file × (kept ≡ meta_of (fresh_placement how.limit)))
+
+-- the same where the device may hold such a file, or where a database was made
+abbrev pub KeepsMeta : OpenHow → ℕ → Candidates → Meta → Type 0
+KeepsMeta how sectors start kept =
+    ((file : Pages) × SettlesTo (sectors / 4) start (file_of file) × KeepsMetaOf how sectors file kept)
+    ⊎ (Makes how sectors start × (kept ≡ meta_of (fresh_placement how.limit)))
 
 -- an image at the start stood for this map and limit
 pub record StoodFor (pages : ℕ) (start : Candidates) (map : Contents) (limit : ℕ) : Type 0 where
@@ -156,5 +170,5 @@ AllStand pages start = (image : Image) → IsImageOf start image → (settled pa
 
 -- what is opened is what an image at the start stood for, or is made or emptied
 abbrev pub IsOpened : OpenHow → ℕ → Candidates → Contents → ℕ → Type 0
-IsOpened how pages start map limit =
-    (StoodFor pages start map limit × (how.truncate ≡ false) × (is_exclusive how ≡ false)) ⊎ (BeginsEmpty how pages start × (map ≡ empty) × (limit ≡ how.limit))
+IsOpened how sectors start map limit =
+    (StoodFor (sectors / 4) start map limit × (how.truncate ≡ false) × (is_exclusive how ≡ false)) ⊎ (BeginsEmpty how sectors start × (map ≡ empty) × (limit ≡ how.limit))

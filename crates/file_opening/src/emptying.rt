@@ -1,6 +1,6 @@
 //! The emptying of a database that is there.
 
-ghost use Rattle.std.specs.Prelude.{◌≡◌, ◌≢◌, ◌⊎◌, ◌↔◌, ◌≤◌, ◌<◌, ◌+◌, ◌/◌, ◌∷◌, [], true, IfOk, IfErr, OnOk, OnErr, IsErrOf, Some, map};
+ghost use Rattle.std.specs.Prelude.{◌≡◌, ◌≢◌, ◌⊎◌, ◌↔◌, ◌≤◌, ◌<◌, ◌+◌, ◌/◌, ◌∷◌, [], true, IfOk, IfErr, OnOk, OnErr, IsErrOf, None, Some, map};
 ghost use Rattle.dbm_fault.specs.Among.{IsErrAmong};
 ghost use Rattle.std.specs.FinMap.{empty};
 ghost use Rattle.sect_dev.specs.Device.{Image, IsImageOf, LeavesOnly, MoreFaults};
@@ -58,7 +58,9 @@ fn commit_empty<S: PageStore>(store: &mut S, meta: &Meta) -> Result<(), PageFaul
     ensures only { IsErrAmong result (Memory ∷ NoRoom ∷ Device ∷ []) }
     ensures no_room { IsErrOf result NoRoom → (S.state store.old).capacity < (S.state store.old).end + 3 }
     ensures holds { S.honest store.old → OnOk result (Holds S.PageStore store.new (model_meta meta.now) empty) }
-    ensures any_moment { S.honest store.old → LeavesOnly S.moment S.settled_since store.old store.new (λ now. (now ≡ file_of (S.committed store.old)) ⊎ ImageStandsFor now empty meta.now.limit) }
+    ensures room { OnOk result ((S.state store.old).end + 3 ≤ (S.state store.old).capacity) }
+    ensures any_moment { S.honest store.old → LeavesOnly S.moment S.settled_since store.old store.new (λ now. (now ≡ file_of (S.committed store.old)) ⊎
+        (((S.state store.old).end + 3 ≤ (S.state store.old).capacity) × ImageStandsFor now empty meta.now.limit)) }
     ensures unchanged { S.honest store.old → OnErr result ((S.state store.new).usable ≡ true → LeavesOnly S.moment S.settled_since store.old store.new (λ now. now ≡ file_of (S.committed store.old))) }
 {
     let staged = stage_empty(store, &pages_of_empty(meta));
@@ -75,8 +77,11 @@ pub fn emptied<D: SectorDev>(
     requires fresh { IsFreshStore (D.sectors (device_of store) / 4) true (⟦<Pager<D> as PageStore>⟧.state store) }
     ensures fresh { IfOk result (IsJustOpened true (D.sectors (device_of store) / 4)) }
     ensures any_moment { D.honest (device_of store) → LeavesOnly D.moment (IsOutcome D.left_since (settled (D.sectors (device_of store) / 4))) (device_of store) (device_left result)
-        (λ now. (now ≡ file_of (⟦<Pager<D> as PageStore>⟧.committed store)) ⊎ ImageStandsFor now empty limit) }
+        (λ now. (now ≡ file_of (⟦<Pager<D> as PageStore>⟧.committed store)) ⊎
+        ((emptying_fault limit (D.sectors (device_of store)) (⟦<Pager<D> as PageStore>⟧.state store).end ≡ None) × ImageStandsFor now empty limit)) }
+    ensures room { IfOk result (λ file. emptying_fault limit (D.sectors (device_of store)) (⟦<Pager<D> as PageStore>⟧.state store).end ≡ None) }
     ensures stands { D.honest (device_of store) → IfOk result (λ file. StandsAs file empty limit) }
+    ensures meta { IfOk result (λ file. model_meta file.meta ≡ placement_meta (fresh_placement limit)) }
     ensures refused { IfErr result (λ e. e.1 ≢ Fault.Device → (emptying_fault limit (D.sectors (device_of store)) (⟦<Pager<D> as PageStore>⟧.state store).end ≡ Some e.1) ⊎ (e.1 ≡ Fault.Memory)) }
     ensures left { D.honest (device_of store) → IfErr result (λ e. e.1 ≢ Fault.Device → (after : Image) → IsImageOf (D.candidate e.0) after → settled (D.sectors (device_of store) / 4) after ≡ file_of (⟦<Pager<D> as PageStore>⟧.committed store)) }
     ensures device { IfErr result (λ e. e.1 ≡ Fault.Device → MoreFaults (D.faults (device_of store)) (D.faults e.0)) }

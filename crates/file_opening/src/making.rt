@@ -76,6 +76,7 @@ pub fn made<D: SectorDev>(
     ensures any_moment { D.honest dev → ((image : Image) → IsImageOf (D.candidate dev) image → settled (D.sectors dev / 4) image ≡ blank) → LeavesOnly D.moment D.left_since dev (device_left result)
         (λ image. (settled (D.sectors dev / 4) image ≡ blank) ⊎ ((making_fault how (D.sectors dev) ≡ None) × ImageStandsFor (settled (D.sectors dev / 4) image) empty how.limit)) }
     ensures stands { D.honest dev → IfOk result (λ file. StandsAs file empty how.limit) }
+    ensures meta { IfOk result (λ file. model_meta file.meta ≡ placement_meta (fresh_placement how.limit)) }
     ensures asked { IfOk result (λ file. making_fault how (D.sectors dev) ≡ None) }
     ensures refused { IfErr result (λ e. e.1 ≢ Fault.Device → (making_fault how (D.sectors dev) ≡ Some e.1) × (e.0 ≡ dev)) }
     ensures untouched { IfSome (making_fault how (D.sectors dev)) (λ fault. result ≡ Err (dev, fault)) }

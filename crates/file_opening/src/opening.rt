@@ -1,11 +1,13 @@
 //! Opening a device.
 
-ghost use Rattle.std.specs.Prelude.{◌≡◌, ◌≢◌, ◌⊎◌, ◌↔◌, ◌≤◌, ◌<◌, ◌/◌, ℕ, IfOk, IfErr, IfSome, Some, None, Err, true, false, if◌then◌else◌, map};
+ghost use Rattle.std.specs.Prelude.{◌≡◌, ◌≢◌, ◌⊎◌, ◌↔◌, ◌≤◌, ◌<◌, ◌+◌, ◌/◌, ℕ, length, IfOk, IfErr, IfSome, Some, None, Err, true, false, if◌then◌else◌, map};
 ghost use Rattle.std.specs.FinMap.{empty};
 ghost use Rattle.sect_dev.specs.Device.{Image, IsImageOf, IsStable, LeavesOnly, MoreFaults};
 ghost use Rattle.sect_dev.specs.Moments.{IsOutcome};
 ghost use Rattle.dbm_model.specs.Pairs.{Contents};
-ghost use Rattle.page_model.specs.Placement.{fresh_placement};
+ghost use Rattle.page_model.specs.Pages.{MetaPage};
+ghost use Rattle.page_model.specs.Reading.{body_of};
+ghost use Rattle.page_model.specs.Valid.{IsMeta};
 ghost use Rattle.page_io.specs.Meaning.{FileStandsFor, ImageStandsFor};
 ghost use Rattle.page_io.specs.Store.{Settled, blank, file_of, page_of};
 ghost use Rattle.redo_commit.specs.File.{settled};
@@ -13,7 +15,7 @@ ghost use Rattle.redo_area.specs.Opening.{IsFresh as IsFreshStore};
 ghost use Rattle.redo_area.specs.Pagers.{device_of};
 ghost use Rattle.redo_area.specs.Reading.{OnlyReads};
 ghost use Rattle.redo_area.specs.Settling.{SettlesTo};
-ghost use Rattle.file_opening.specs.Opening.{writes, is_exclusive, early_fault, RefusesMeta, RefusesOpened, SaysMeta, IsRefusedOpening, AllAllow, EmptiesFile, MayRemain, AllStand, IsOpened};
+ghost use Rattle.file_opening.specs.Opening.{writes, is_exclusive, early_fault, emptying_fault, RefusesMeta, RefusesOpened, IsRefusedOpening, AllAllow, EmptiesFile, MayRemain, AllStand, KeepsMetaOf, KeepsMeta, IsOpened};
 ghost use Rattle.file_opening.specs.OpenFiles.{device_left, IsJustOpened, StandsAs, OpensAs};
 ghost use Rattle.seg_table.specs.MetaPages.{model_meta};
 
@@ -54,10 +56,13 @@ pub fn open_file<D: SectorDev>(
     ensures fresh { IfOk result (IsJustOpened (writes how.access) (D.sectors dev / 4)) }
 
     // Every image of every moment settles as one did at the start, or stands for the empty database that was asked for.
-    ensures any_moment { D.honest dev → LeavesOnly D.moment (IsOutcome D.left_since (settled (D.sectors dev / 4))) dev (device_left result) (MayRemain how (D.sectors dev / 4) (D.candidate dev)) }
+    ensures any_moment { D.honest dev → LeavesOnly D.moment (IsOutcome D.left_since (settled (D.sectors dev / 4))) dev (device_left result) (MayRemain how (D.sectors dev) (D.candidate dev)) }
+
+    // What it keeps of the meta page is what a file at the start says, whatever else is in it, or that of an empty database.
+    ensures opened { D.honest dev → IfOk result (λ file. KeepsMeta how (D.sectors dev) (D.candidate dev) (model_meta file.meta)) }
 
     // Where each image at the start is blank or stands for a map, what is opened holds one of these maps, or is new and empty.
-    ensures stands { D.honest dev → (writes how.access ≡ false → IsStable (D.candidate dev) (D.seen dev)) → AllStand (D.sectors dev / 4) (D.candidate dev) → IfOk result (λ file. (map : Contents) × (limit : ℕ) × StandsAs file map limit × IsOpened how (D.sectors dev / 4) (D.candidate dev) map limit) }
+    ensures stands { D.honest dev → (writes how.access ≡ false → IsStable (D.candidate dev) (D.seen dev)) → AllStand (D.sectors dev / 4) (D.candidate dev) → IfOk result (λ file. (map : Contents) × (limit : ℕ) × StandsAs file map limit × IsOpened how (D.sectors dev) (D.candidate dev) map limit) }
 
     // For reading, nothing is written and nothing synced.
     ensures only_reads { writes how.access ≡ false → D.honest dev → OnlyReads D.SectorDev dev (device_left result) }
@@ -121,9 +126,11 @@ fn opened<D: SectorDev>(
     requires written { how.truncate ≡ true → writes how.access ≡ true }
     ensures fresh { IfOk result (IsJustOpened (writes how.access) (D.sectors (device_of store) / 4)) }
     ensures any_moment { D.honest (device_of store) → LeavesOnly D.moment (IsOutcome D.left_since (settled (D.sectors (device_of store) / 4))) (device_of store) (device_left result)
-        (λ now. SettlesTo (D.sectors (device_of store) / 4) (D.candidate (device_of store)) now ⊎ (EmptiesFile how (⟦<Pager<D> as PageStore>⟧.committed store) × ImageStandsFor now empty how.limit)) }
+        (λ now. SettlesTo (D.sectors (device_of store) / 4) (D.candidate (device_of store)) now ⊎ (EmptiesFile how (D.sectors (device_of store)) (⟦<Pager<D> as PageStore>⟧.committed store) × ImageStandsFor now empty how.limit)) }
     ensures stands { D.honest (device_of store) → ((now : Settled) → ⟦<Pager<D> as PageStore>⟧.settles_to store now → now ≡ file_of (⟦<Pager<D> as PageStore>⟧.committed store)) →
         (map : Contents) → (limit : ℕ) → FileStandsFor (⟦<Pager<D> as PageStore>⟧.committed store) map limit → IfOk result (λ file. (is_exclusive how ≡ false) × OpensAs how map limit file) }
+    ensures opened { D.honest (device_of store) → IfOk result (λ file. KeepsMetaOf how (D.sectors (device_of store)) (⟦<Pager<D> as PageStore>⟧.committed store) (model_meta file.meta)) }
+    ensures emptied { D.honest (device_of store) → IfOk result (λ file. how.truncate ≡ true → emptying_fault how.limit (D.sectors (device_of store)) (length (⟦<Pager<D> as PageStore>⟧.committed store) + 1) ≡ None) }
     ensures only_reads { writes how.access ≡ false → D.honest (device_of store) → OnlyReads D.SectorDev (device_of store) (device_left result) }
     ensures refused { D.honest (device_of store) → IfErr result (λ e. e.1 ≢ Fault.Device → RefusesOpened how (D.sectors (device_of store)) (⟦<Pager<D> as PageStore>⟧.committed store) e.1 ×
         (writes how.access ≡ true → (after : Image) → IsImageOf (D.candidate e.0) after → settled (D.sectors (device_of store) / 4) after ≡ file_of (⟦<Pager<D> as PageStore>⟧.committed store))) }
@@ -152,7 +159,7 @@ fn found<D: SectorDev>(store: Pager<D>, writable: bool) -> Result<OpenFile<Pager
     ensures fresh { IfOk result (IsJustOpened writable (D.sectors (device_of store) / 4)) }
     ensures only_reads { D.honest (device_of store) → OnlyReads D.SectorDev (device_of store) (device_left result) }
     ensures kept { D.honest (device_of store) → IfOk result (λ file. ⟦<Pager<D> as PageStore>⟧.committed file.store ≡ ⟦<Pager<D> as PageStore>⟧.committed store) }
-    ensures says { D.honest (device_of store) → IfOk result (λ file. SaysMeta (page_of (⟦<Pager<D> as PageStore>⟧.committed store) 1)) }
+    ensures says { D.honest (device_of store) → IfOk result (λ file. IsMeta (model_meta file.meta) × (body_of 1 (page_of (⟦<Pager<D> as PageStore>⟧.committed store) 1) ≡ MetaPage (model_meta file.meta))) }
     ensures stands { D.honest (device_of store) → ((now : Settled) → ⟦<Pager<D> as PageStore>⟧.settles_to store now → now ≡ file_of (⟦<Pager<D> as PageStore>⟧.committed store)) →
         (map : Contents) → (limit : ℕ) → FileStandsFor (⟦<Pager<D> as PageStore>⟧.committed store) map limit → IfOk result (λ file. StandsAs file map limit) }
     ensures refused { D.honest (device_of store) → IfErr result (λ e. e.1 ≢ Fault.Device → RefusesMeta (page_of (⟦<Pager<D> as PageStore>⟧.committed store) 1) e.1) }

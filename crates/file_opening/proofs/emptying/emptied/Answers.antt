@@ -1,4 +1,4 @@
-use Rattle.std.proofs.Common.{◌≡◌, ◌⊎◌, ⊎_elim, inl, inr, ◌/◌, ◌≤◌, Option, Some, Err, sym, ap, ◌∙◌, subst}
+use Rattle.std.proofs.Common.{◌≡◌, ◌⊎◌, ⊎_elim, inl, inr, ◌/◌, ◌≤◌, Option, Some, None, Err, sym, ap, ◌∙◌, subst}
 use Rattle.std.specs.Option.{option_or}
 use Rattle.std.specs.FinMap.{empty}
 use Rattle.sect_dev.specs.Device.{IsImageOf, LeavesOnly, MoreFaults}
@@ -17,7 +17,7 @@ use Rattle.dbm_fault.specs.declared.fault.Fault.TheVariants.{Memory}
 use Rattle.file_opening.specs.Opening.{room_fault, commit_fault, emptying_fault}
 use Rattle.file_opening.proofs.EmptyFiles.{settles_still, OldOrEmpty, left_as_before, still_good, still_capacity, state_of, reads_nothing, run_below}
 use Rattle.file_opening.proofs.Exits.{both_ways, later_then, same_honest, same_faults, reads_leave}
-use Rattle.file_opening.proofs.Rooms.{EmptyingOnly, of_room, of_room_apart, limit_of_room, fresh_meta, fresh_valid, of_commit, came_from, refuses_commit}
+use Rattle.file_opening.proofs.Rooms.{EmptyingOnly, of_room, of_room_apart, limit_of_room, fresh_meta, fresh_valid, of_commit, came_from, refuses_commit, has_room, allows_emptying}
 use Rattle.file_opening.proofs.emptying.emptied.Given.{Over}
 use Rattle.file_opening.proofs.emptying.emptied.Goals as goal
 
@@ -26,7 +26,7 @@ returns-in-Some-clause-any_moment g c honest =
     let dev = g.D.SectorDev in
     let store = c.args.store in
     let rest = store.rests honest c.requires.fresh.usable in
-    subst (λ d. LeavesOnly dev.moment (IsOutcome dev.left_since (settled (dev.sectors store.dev / 4))) store.dev d (OldOrEmpty (file_pages (overlaid (bytes_of store.redo.items) (page_at (dev.seen store.dev))) store.end) c.args.limit)) (sym c.into_dev.ensures)
+    subst (λ d. LeavesOnly dev.moment (IsOutcome dev.left_since (settled (dev.sectors store.dev / 4))) store.dev d (OldOrEmpty (file_pages (overlaid (bytes_of store.redo.items) (page_at (dev.seen store.dev))) store.end) (emptying_fault c.args.limit (dev.sectors store.dev) store.end ≡ None) c.args.limit)) (sym c.into_dev.ensures)
     (settles_still dev.moment dev.left_since dev.candidate store.dev (dev.sectors store.dev / 4) _ (λ image left. g.met.D.SectorDev.only_now store.dev image honest left)
     (λ y is. inl (only_seen (dev.sectors store.dev / 4) (dev.candidate store.dev) (dev.seen store.dev) y _ (rest.at_rest c.requires.fresh.writable).stable rest.settles is)))
 
@@ -126,7 +126,13 @@ returns-in-Ok-clause-any_moment g c honest =
     let dev = g.D.SectorDev in
     let old = c.args.store in
     let new = c.commit_empty.new.store in
-    run_below dev old new _ c.args.limit c.of_empty-meta.result.limit (ap (λ (n : Meta). n.limit) c.of_empty-meta.ensures) (ap (λ (st : StoreState). st.capacity) c.in-Ok.ensures.ok) (c.commit_empty.ensures.any_moment honest)
+    run_below dev old new _ c.args.limit c.of_empty-meta.result.limit (ap (λ (n : Meta). n.limit) c.of_empty-meta.ensures) (allows_emptying c.args.limit (dev.sectors old.dev) old.end (has_room c.args.limit (dev.sectors old.dev) c.args.sectors c.room_refusal.result c.requires.sectors c.room_refusal.ensures c.in_default.is)) (ap (λ (st : StoreState). st.capacity) c.in-Ok.ensures.ok) (c.commit_empty.ensures.any_moment honest)
+
+pub returns-in-Ok-clause-room : goal.returns-in-Ok-clause-room
+returns-in-Ok-clause-room g c =
+    let sectors = g.D.SectorDev.sectors c.args.store.dev in
+    let room = has_room c.args.limit sectors c.args.sectors c.room_refusal.result c.requires.sectors c.room_refusal.ensures c.in_default.is in
+    allows_emptying c.args.limit sectors c.args.store.end room c.in-Ok.ensures.room
 
 pub returns-in-Ok-clause-honesty : goal.returns-in-Ok-clause-honesty
 returns-in-Ok-clause-honesty g c = c.commit_empty.ensures.honesty
@@ -147,13 +153,13 @@ returns-in-Err-clause-any_moment g c honest =
     let dev = g.D.SectorDev in
     let old = c.args.store in
     let new = c.commit_empty.new.store in
-    subst (λ d. LeavesOnly dev.moment (IsOutcome dev.left_since (settled (dev.sectors old.dev / 4))) old.dev d (OldOrEmpty (file_pages (overlaid (bytes_of old.redo.items) (page_at (dev.seen old.dev))) old.end) c.args.limit)) (sym c.into_dev-in-Err.ensures)
-    (run_below dev old new _ c.args.limit c.of_empty-meta.result.limit (ap (λ (n : Meta). n.limit) c.of_empty-meta.ensures) (still_capacity (state_of old) (state_of new) c.in-Err.fault c.in-Err.ensures.err) (c.commit_empty.ensures.any_moment honest))
+    subst (λ d. LeavesOnly dev.moment (IsOutcome dev.left_since (settled (dev.sectors old.dev / 4))) old.dev d (OldOrEmpty (file_pages (overlaid (bytes_of old.redo.items) (page_at (dev.seen old.dev))) old.end) (emptying_fault c.args.limit (dev.sectors old.dev) old.end ≡ None) c.args.limit)) (sym c.into_dev-in-Err.ensures)
+    (run_below dev old new _ c.args.limit c.of_empty-meta.result.limit (ap (λ (n : Meta). n.limit) c.of_empty-meta.ensures) (allows_emptying c.args.limit (dev.sectors old.dev) old.end (has_room c.args.limit (dev.sectors old.dev) c.args.sectors c.room_refusal.result c.requires.sectors c.room_refusal.ensures c.in_default.is)) (still_capacity (state_of old) (state_of new) c.in-Err.fault c.in-Err.ensures.err) (c.commit_empty.ensures.any_moment honest))
 
 pub returns-in-Err-clause-refused : goal.returns-in-Err-clause-refused
 returns-in-Err-clause-refused g c other =
     let all = c.in-Err.ensures in
-    let room = ap (room_fault (sectors_for c.args.limit)) (sym c.requires.sectors) ∙ sym c.room_refusal.ensures ∙ c.in_default.is in
+    let room = has_room c.args.limit (g.D.SectorDev.sectors c.args.store.dev) c.args.sectors c.room_refusal.result c.requires.sectors c.room_refusal.ensures c.in_default.is in
     subst (λ f. (emptying_fault c.args.limit (g.D.SectorDev.sectors c.args.store.dev) c.args.store.end ≡ Some f) ⊎ (f ≡ Memory)) (sym c.from.ensures)
     (refuses_commit c.in-Err.fault all.only c.args.limit (g.D.SectorDev.sectors c.args.store.dev) c.args.store.end room (λ is. all.no_room (ap Err is)) (λ device. other (c.from.ensures ∙ ap fault_from device)))
 

@@ -102,11 +102,8 @@ returns-in-Ok-clause-says g c honest =
     let store = c.args.store in
     let file = file_pages (overlaid (bytes_of store.redo.items) (page_at (g.D.SectorDev.seen store.dev))) store.end in
     let read = c.in_default.ensures.found honest ∙ ap (λ (s : Pages). overlaid s (page_of file) 1) c.requires.fresh.staged in
-    let valid = c.in-Ok.ensures.found.0 in record {
-      meta = model_meta c.in-Ok.meta;
-      valid = valid;
-      says = ap (body_of 1) (sym read) ∙ (c.in-Ok.ensures.body (model_meta c.in-Ok.meta) valid).0 refl;
-    }
+    let valid = c.in-Ok.ensures.found.0 in
+    (valid, ap (body_of 1) (sym read) ∙ (c.in-Ok.ensures.body (model_meta c.in-Ok.meta) valid).0 refl)
 
 pub returns-in-Ok-clause-honesty : goal.returns-in-Ok-clause-honesty
 returns-in-Ok-clause-honesty g c = c.in_default.ensures.honesty

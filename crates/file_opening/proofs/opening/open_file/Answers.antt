@@ -1,4 +1,4 @@
-use Rattle.std.proofs.Common.{◌≡◌, ⊎_elim, inl, inr, ℕ, ◌/◌, true, Some, refl, sym, ap, ◌∙◌, subst, rules}
+use Rattle.std.proofs.Common.{◌≡◌, ⊎_elim, inl, inr, ℕ, ◌+◌, ◌/◌, length, true, Some, refl, sym, ap, ◌∙◌, subst, rules}
 use Rattle.std.specs.Prelude.{IfErr}
 use Rattle.std.specs.FinMap.{empty}
 use Rattle.sect_dev.specs.Device.{LeavesOnly}
@@ -10,8 +10,9 @@ use Rattle.redo_area.specs.Reading.{OnlyReads}
 use Rattle.redo_area.specs.Settling.{SettlesTo, only_seen}
 use Rattle.redo_area.proofs.ReadRuns.{more_reads}
 use Rattle.redo_area.specs.declared.open_fault.OpenFault.TheVariants as redo
+use Rattle.seg_table.specs.MetaPages.{model_meta}
 use Rattle.file_opening.specs.OpenFiles.{device_left}
-use Rattle.file_opening.specs.Opening.{writes, is_exclusive, early_fault, making_fault, RefusesOpened, IsRefusedOpening, MayRemain}
+use Rattle.file_opening.specs.Opening.{writes, is_exclusive, early_fault, making_fault, emptying_fault, RefusesOpened, IsRefusedOpening, EmptiesFile, MayRemain, KeepsMetaOf}
 use Rattle.dbm_fault.specs.declared.fault.Fault.TheVariants.{Device}
 use Rattle.file_opening.proofs.EmptyFiles.{settles_run, settles_on, settles_from, reads_nothing}
 use Rattle.file_opening.proofs.Exits.{of_early, of_made, memory_opens, device_opens, of_no_file, of_damaged, memory_apart, if_none, not_none, early_err, not_on, same_honest, same_faults, both_ways, later_then, more_later, reads_settle, before_settle, just_opened, made_opened, fresh_there}
@@ -33,7 +34,7 @@ returns-in-Ok-clause-any_moment g c honest =
     let all = c.in-Ok.ensures in
     let run = all.any_moment honest in
     let h1 = all.honesty.1 honest in
-    let P : Settled → Type 0 = MayRemain how cap (dev.candidate old) in
+    let P : Settled → Type 0 = MayRemain how (dev.sectors old) (dev.candidate old) in
     let file = file_pages (overlaid (bytes_of store.redo.items) (page_at (dev.seen mid))) store.end in
     let size = ap (λ (n : ℕ). n / 4) all.size in
     settles_on dev.moment dev.left_since old mid (device_left c.opened.result) cap (dev.sectors mid / 4) P _ size
@@ -41,7 +42,7 @@ returns-in-Ok-clause-any_moment g c honest =
     (c.opened.ensures.any_moment h1)
     (λ y. ⊎_elim
     (λ was. inl (settles_from cap (dev.sectors mid / 4) (dev.candidate old) (dev.candidate mid) y size (λ image is. run.each image (g.met.D.SectorDev.counts_now mid (dev.moment old) image h1 run.later is)) was))
-    (λ new. inr (inr (record { file = file; at_start = all.committed honest; empties = new.0 }), new.1)))
+    (λ new. inr (inr (record { file = file; at_start = all.committed honest; empties = subst (λ (n : ℕ). EmptiesFile how n file) all.size new.0 }), new.1)))
 
 pub returns-in-Ok-clause-stands : goal.returns-in-Ok-clause-stands
 returns-in-Ok-clause-stands g c honest one stand =
@@ -58,8 +59,18 @@ returns-in-Ok-clause-stands g c honest one stand =
     let rest = store.rests h1 all.state.usable in
     let stable = by_access c.is_writable.result (λ on. (rest.at_rest (all.state.writable ∙ on)).stable) (λ off. stable_still dev old mid (all.only_reads off honest) (one (sym c.is_writable.ensures ∙ off))) in
     let written = may_empty how (dev.sectors old) (sym (ap (early_fault how) c.capacity-sectors.ensures) ∙ sym c.early_refusal.ensures ∙ c.in_default.is) in
-    from_ok c.opened.result (c.opened.ensures.stands h1 (λ now was. only_seen (dev.sectors mid / 4) (dev.candidate mid) (dev.seen mid) now _ stable rest.settles was) what.map what.limit what.stands)
-    (λ new opens. opened_as_asked how cap (dev.candidate old) file what new (all.committed honest) opens.0 opens.1 written)
+    both_ok c.opened.result (c.opened.ensures.stands h1 (λ now was. only_seen (dev.sectors mid / 4) (dev.candidate mid) (dev.seen mid) now _ stable rest.settles was) what.map what.limit what.stands)
+    (c.opened.ensures.emptied h1)
+    (λ new opens due. opened_as_asked how (dev.sectors old) (dev.candidate old) file what new (all.committed honest) opens.0 opens.1 written
+    (λ asked. ap (λ (n : ℕ). emptying_fault how.limit n (length file + 1)) (sym all.size) ∙ due asked))
+
+pub returns-in-Ok-clause-opened : goal.returns-in-Ok-clause-opened
+returns-in-Ok-clause-opened g c honest =
+    let all = c.in-Ok.ensures in
+    let store = c.in-Ok.store in
+    let file = file_pages (overlaid (bytes_of store.redo.items) (page_at (g.D.SectorDev.seen store.dev))) store.end in
+    from_ok c.opened.result (c.opened.ensures.opened (all.honesty.1 honest)) (λ new keeps.
+    inl (file, all.committed honest, subst (λ (n : ℕ). KeepsMetaOf c.args.how n file (model_meta new.meta)) all.size keeps))
 
 -- what refuses a file that was found
 file_refused : (g : Over) (c : goal.After-opened g) → g.D.SectorDev.honest c.args.dev → IfErr c.opened.result (λ e. (e.1 ≡ Device → ⊥) → IsRefusedOpening c.args.how (g.D.SectorDev.sectors c.args.dev) (g.D.SectorDev.candidate c.args.dev) (g.D.SectorDev.candidate e.0) e.1)
@@ -143,7 +154,7 @@ returns-in-Err-default-Blank-clause-any_moment g c honest =
     let new = c.in-Err-default-Blank.dev in
     let all = c.in-Err-default-Blank.ensures in
     let h1 = all.honesty.1 honest in
-    let P : Settled → Type 0 = MayRemain how cap (dev.candidate old) in
+    let P : Settled → Type 0 = MayRemain how (dev.sectors old) (dev.candidate old) in
     let size = ap (λ (n : ℕ). n / 4) all.size in
     let told = blank_told g c honest in
     let there = has_blank how (dev.sectors old) (dev.candidate old) (dev.candidate new) told in
@@ -156,7 +167,7 @@ returns-in-Err-default-Blank-clause-any_moment g c honest =
     (c.made.ensures.any_moment h1 (λ image is. ap (λ (n : ℕ). settled n image) size ∙ all_blank how (dev.sectors old) (dev.candidate old) (dev.candidate new) told on image is)))
     (λ y. ⊎_elim
     (λ none. inl (subst (λ (z : Settled). SettlesTo cap (dev.candidate old) z) (sym none) there))
-    (λ made. let asked = was_asked how (dev.sectors new) made.0 in inr (inl (record { asked = asked.0; written = asked.1; on_blank = there }), made.1))))
+    (λ made. inr (inl (record { due = ap (making_fault how) (sym all.size) ∙ made.0; on_blank = there }), made.1))))
     (λ off. subst (λ d. LeavesOnly dev.moment (IsOutcome dev.left_since (settled cap)) old d P) (sym (device_untouched fault new c.made.result (none_for_reading how (dev.sectors new) off) c.made.ensures.untouched)) first)
 
 pub returns-in-Err-default-Blank-clause-stands : goal.returns-in-Err-default-Blank-clause-stands
@@ -167,8 +178,18 @@ returns-in-Err-default-Blank-clause-stands g c honest one stand =
     let new = c.in-Err-default-Blank.dev in
     let there = has_blank how (dev.sectors old) (dev.candidate old) (dev.candidate new) (blank_told g c honest) in
     both_ok c.made.result c.made.ensures.asked (c.made.ensures.stands (c.in-Err-default-Blank.ensures.honesty.1 honest)) (λ file none stands.
-    let asked = was_asked how (dev.sectors new) none in
-    (empty, how.limit, stands, inr (inl (record { asked = asked.0; written = asked.1; on_blank = there }), refl, refl)))
+    let due = ap (making_fault how) (sym c.in-Err-default-Blank.ensures.size) ∙ none in
+    (empty, how.limit, stands, inr (inl (record { due = due; on_blank = there }), refl, refl)))
+
+pub returns-in-Err-default-Blank-clause-opened : goal.returns-in-Err-default-Blank-clause-opened
+returns-in-Err-default-Blank-clause-opened g c honest =
+    let dev = g.D.SectorDev in
+    let old = c.args.dev in
+    let how = c.args.how in
+    let all = c.in-Err-default-Blank.ensures in
+    let there = has_blank how (dev.sectors old) (dev.candidate old) (dev.candidate c.in-Err-default-Blank.dev) (blank_told g c honest) in
+    both_ok c.made.result c.made.ensures.asked c.made.ensures.meta (λ file none fresh.
+    inr (record { due = ap (making_fault how) (sym all.size) ∙ none; on_blank = there }, fresh))
 
 blank_refused : (g : Over) (c : goal.After-made g) → g.D.SectorDev.honest c.args.dev → IfErr c.made.result (λ e. (e.1 ≡ Device → ⊥) → IsRefusedOpening c.args.how (g.D.SectorDev.sectors c.args.dev) (g.D.SectorDev.candidate c.args.dev) (g.D.SectorDev.candidate e.0) e.1)
 blank_refused g c honest =
@@ -254,6 +275,7 @@ returns-in-Err-default-NotOurs g c = record {
       let dev = g.D.SectorDev in
       before_settle dev (dev.sectors c.args.dev / 4) c.args.dev c.in-Err-default-NotOurs.dev _ (c.in-Err-default-NotOurs.ensures.any_moment honest);
   stands = λ honest one stand. tt;
+  opened = λ honest. tt;
   only_reads = λ reading honest. c.in-Err-default-NotOurs.ensures.only_reads (c.is_writable.ensures ∙ reading) honest;
   opens = λ honest none stand allow. only_memory c.args.how (g.D.SectorDev.sectors c.args.dev) (g.D.SectorDev.candidate c.args.dev) (g.D.SectorDev.candidate c.in-Err-default-NotOurs.dev) c.or_exists.result stand allow (λ other. not_ours_refused g c honest);
   refused = λ honest none other. not_ours_refused g c honest;
@@ -272,6 +294,7 @@ returns-in-Err-default-Damaged g c = record {
       let dev = g.D.SectorDev in
       before_settle dev (dev.sectors c.args.dev / 4) c.args.dev c.in-Err-default-Damaged.dev _ (c.in-Err-default-Damaged.ensures.any_moment honest);
   stands = λ honest one stand. tt;
+  opened = λ honest. tt;
   only_reads = λ reading honest. c.in-Err-default-Damaged.ensures.only_reads (c.is_writable.ensures ∙ reading) honest;
   opens = λ honest none stand allow. only_memory c.args.how (g.D.SectorDev.sectors c.args.dev) (g.D.SectorDev.candidate c.args.dev) (g.D.SectorDev.candidate c.in-Err-default-Damaged.dev) c.or_exists-in-Err-default-Damaged.result stand allow (λ other. damaged_refused g c honest);
   refused = λ honest none other. damaged_refused g c honest;
@@ -295,6 +318,7 @@ returns-in-Err-default-Memory g c = record {
       let dev = g.D.SectorDev in
       before_settle dev (dev.sectors c.args.dev / 4) c.args.dev c.in-Err-default-Memory.dev _ (c.in-Err-default-Memory.ensures.any_moment honest);
   stands = λ honest one stand. tt;
+  opened = λ honest. tt;
   only_reads = λ reading honest. c.in-Err-default-Memory.ensures.only_reads (c.is_writable.ensures ∙ reading) honest;
   opens = λ honest none stand allow. inr (refl, inr (sym c.is_writable.ensures ∙ not_on c.is_writable.result (not_writing g c)));
   refused = λ honest none other.
@@ -316,6 +340,7 @@ returns-in-Err-default-Device g c = record {
       let dev = g.D.SectorDev in
       before_settle dev (dev.sectors c.args.dev / 4) c.args.dev c.in-Err-default-Device.dev _ (c.in-Err-default-Device.ensures.any_moment honest);
   stands = λ honest one stand. tt;
+  opened = λ honest. tt;
   only_reads = λ reading honest. c.in-Err-default-Device.ensures.only_reads (c.is_writable.ensures ∙ reading) honest;
   opens = λ honest none stand allow. inl refl;
   refused = λ honest none other. absurd (other refl);
@@ -340,6 +365,7 @@ returns-in-Some g c = record {
       let d = c.args.dev in
       reads_settle dev (dev.sectors d / 4) d d _ (reads_nothing dev d (λ image left. g.met.D.SectorDev.only_now d image honest left));
   stands = λ honest one stand. tt;
+  opened = λ honest. tt;
   only_reads = λ reading honest. reads_nothing g.D.SectorDev c.args.dev (λ image left. g.met.D.SectorDev.only_now c.args.dev image honest left);
   opens = λ honest none. not_none _ c.in-Some.fault (early_is g c) none;
   refused = λ honest none. not_none _ c.in-Some.fault (early_is g c) none;
