@@ -1,13 +1,13 @@
 -- What the slots of a page say, one step on.
-use Rattle.std.proofs.Common.{◌≡◌, ℕ, zero, suc, ◌+◌, ◌≤◌, ◌<◌, List, [], ◌∷◌, ◌++◌, length, sym, ap, ◌∙◌, add-one, arith, ◌≢◌, Bool, false, inl, inr, All, get_or, subst}
+use Rattle.std.proofs.Common.{◌≡◌, ℕ, zero, suc, ◌+◌, ◌*◌, ◌≤◌, ◌<◌, List, [], ◌∷◌, ◌++◌, length, sym, ap, ◌∙◌, add-one, arith, ◌≢◌, Bool, false, inl, inr, All, get_or, subst}
 use Rattle.std.proofs.lemmas.List.FromFn.{map-range_with_len_more, length-map-range_with_len, get_or-map-range_with_len}
 use Rattle.std.specs.Bool.{Decides}
 use Rattle.std.proofs.lemmas.Bool.{cases_lt}
 use Rattle.std.proofs.lemmas.List.{get_or_default}
-use Rattle.page_model.specs.Reading.{slot_of, slot_count, low, key_of}
+use Rattle.page_model.specs.Reading.{slot_of, slot_count, low, key_of, IsClear}
 use Rattle.slot_page.specs.declared.slot.Slot.{Slot}
 use Rattle.slot_page.specs.Slots.{as_spelled, slot_at, first_slots}
-use Rattle.slot_page.specs.Layout.{end_of, AreInPlace, IsLaidOut}
+use Rattle.slot_page.specs.Layout.{end_of, AreInPlace, IsLaidOut, HasGoodHeader, SlotsHaveDistinctKeys}
 
 -- the next record ends where this one begins
 pub end_of-more : (bytes : List ℕ) (i : ℕ) → end_of bytes (i + 1) ≡ (slot_of bytes i).offset
@@ -59,3 +59,20 @@ differs_more bytes key got ss i blank r inside h e says was_false k d lt =
           let was_true = says.1 (e ∙ ap (λ (s : Slot). key_of bytes (as_spelled s)) read ∙ same) in
           absurd cc
     ]
+
+-- every test of a page
+pub tested : (bytes : List ℕ) (count from : ℕ) (ss : List Slot) → count ≡ slot_count bytes
+    → from ≡ low bytes
+    → HasGoodHeader bytes → 16 + 6 * count ≤ from → AreInPlace bytes count
+    → from ≡ end_of bytes count
+    → IsClear bytes (16 + 6 * count) from → ss ≡ first_slots bytes count
+    → SlotsHaveDistinctKeys bytes ss → IsLaidOut bytes
+tested bytes count from ss count_is low_is header room in_place ends gap slots distinct = record {
+  header = header;
+  room = omega (arith, room, count_is, low_is);
+  in_place = subst (AreInPlace bytes) count_is in_place;
+  low_is = sym low_is ∙ ends ∙ ap (end_of bytes) count_is;
+  gap = subst (λ (n : ℕ). IsClear bytes (16 + 6 * n) (low bytes)) count_is
+      (subst (IsClear bytes (16 + 6 * count)) low_is gap);
+  distinct = subst (SlotsHaveDistinctKeys bytes) (slots ∙ ap (first_slots bytes) count_is) distinct;
+}

@@ -15,3 +15,6 @@ returns-then-eq c =
 pub loop-i-preserved : goal.loop-i-preserved
 loop-i-preserved c =
     differs_here (page_pairs c.args.page.now.bytes) c.args.key.now c.pair_at.result.0.now c.pair_at.result.1.now c.loop-i.i c.eq.result c.pair_at.ensures (slice_eq-Decides Decides-eqb _ _ _ c.eq.ensures) c.if-eq.false c.loop-i.invariant
+
+pub loop-i-init : goal.loop-i-init
+loop-i-init _ _ _ less = absurd (omega (arith, less))

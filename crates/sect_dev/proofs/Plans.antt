@@ -1,0 +1,30 @@
+-- Which of the calls to come fail, as the plans count them.
+use Rattle.std.proofs.Common.{◌≡◌, ◌+◌, ℕ, leb, eqb, true, false, IsTrue, Option, Some, sym, ap, subst, ◌∙◌, arith, rules, ◌↔◌}
+use Rattle.std.proofs.lemmas.Bool.{le-leb}
+use Rattle.std.proofs.lemmas.Bool.Decides.{nat_tests, Decides-eqb}
+use Rattle.sect_dev.specs.Plan.{fails_once}
+
+-- the one call that fails is the next one
+module _ (plan : Option ℕ) (k : ℕ) (is : plan ≡ Some k) (first : k ≡ 0) where
+  pub fails_now : true ≡ fails_once plan 0
+  fails_now = sym (ap (λ (p : Option ℕ). fails_once p 0) (is ∙ ap Some first))
+
+  pub fails_no_more : (i : ℕ) → false ≡ fails_once plan (i + 1)
+  fails_no_more i =
+      let no : false ≡ eqb (i + 1) 0 = search (rules, nat_tests) in
+      no ∙ sym (ap (λ (p : Option ℕ). fails_once p (i + 1)) (is ∙ ap Some first))
+
+-- the only call that fails
+pub fails_at : (plan : Option ℕ) (k : ℕ) → plan ≡ Some k → (i : ℕ)
+    → IsTrue (fails_once plan i) ↔ (i ≡ k)
+fails_at plan k is i = subst (λ (p : Option ℕ). IsTrue (fails_once p i) ↔ (i ≡ k)) (sym is)
+    (Decides-eqb i k)
+
+-- no call is left that passes
+module _ (calls_left : ℕ) (none : calls_left ≡ 0) where
+  pub blown : true ≡ leb calls_left 0
+  blown = sym (le-leb calls_left 0 (omega (arith, none)))
+
+  pub stays_blown : (i : ℕ) → leb calls_left i ≡ leb calls_left (i + 1)
+  stays_blown i = le-leb calls_left i (omega (arith, none)) ∙ sym (le-leb calls_left (i + 1)
+      (omega (arith, none)))

@@ -1,0 +1,5 @@
+use Rattle.std.proofs.Common.{refl}
+use Rattle.sect_dev.proofs.file_dev.FileDev.open.Goals as goal
+
+pub returns-in-Ok-Some : goal.returns-in-Ok-Some
+returns-in-Ok-Some _ c = record { size = refl; faults = refl; begins = refl; missing = tt }

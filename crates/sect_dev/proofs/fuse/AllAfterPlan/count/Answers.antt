@@ -1,0 +1,8 @@
+use Rattle.sect_dev.proofs.Plans.{blown, stays_blown}
+use Rattle.sect_dev.proofs.fuse.AllAfterPlan.count.Goals as goal
+
+pub returns-then-self-eq0 : goal.returns-then-self-eq0
+returns-then-self-eq0 c = record {
+  now = blown c.args.self.now.calls_left c.if-self-eq0.true;
+  next = stays_blown c.args.self.now.calls_left c.if-self-eq0.true;
+}
