@@ -1,5 +1,5 @@
 -- The answers of the calls below, as answers of a change of a chain.
-use Rattle.std.proofs.Common.{◌≡◌, ◌⊎◌, inl, inr, ℕ, ◌+◌, ◌≤◌, false, length, Result, Ok, Err, sym, ap, ◌∙◌, arith}
+use Rattle.std.proofs.Common.{◌≡◌, ◌⊎◌, inl, inr, ℕ, ◌+◌, ◌≤◌, false, length, Result, Ok, Err, refl, sym, ap, ◌∙◌, arith}
 use Rattle.std.specs.Prelude.{IsErrOf}
 use Rattle.page_io.specs.Answers.{HasDeviceCause, IsStageAnswer}
 use Rattle.page_io.specs.Store.{StoreState}
@@ -169,6 +169,12 @@ module _ {T : Type 0} (reserved n : ℕ) (old mid : StoreState) (same : mid.usab
   stage_puts_last space (Ok x) few answer = record { broken = λ is. cc; memory = λ is. cc; no_room = λ is. cc; only = tt }
   stage_puts_last space (Err e) few answer = stage_puts {U = T} old mid same (Err e) e (λ i. Err e) reserved n space few answer
 
+  pub stage_removes_last : (result : Result T PageFault) → length mid.staged ≤ length old.staged + 1
+      → IsStageAnswer reserved mid n result → IsRemoveAnswer reserved old result
+  stage_removes_last (Ok x) few answer = record { broken = λ is. cc; memory = λ is. cc; only = tt }
+  stage_removes_last (Err e) few answer = stage_removes {U = T} old mid same (Err e) e (λ i. Err e)
+      reserved n few answer
+
   pub stage_stores_last : (result : Result T PageFault) → IsStageAnswer reserved mid n result → IsStoreAnswer old result
   stage_stores_last (Ok x) answer = record { broken = λ is. cc; only = tt }
   stage_stores_last (Err e) answer = record { broken = λ is. sym same ∙ answer.broken.0 is; only = remove_put e (stage_remove e answer.only) }
@@ -178,8 +184,31 @@ pub stores_last : {T : Type 0} (old mid : StoreState) (result : Result T PageFau
 stores_last old mid result same answer = record { broken = λ is. sym same ∙ answer.broken is; only = answer.only }
 
 -- all calls went well
+pub no_walk_refusal : {T : Type 0} (old : StoreState) (x : T) → IsWalkAnswer {T = T} old (Ok x)
+no_walk_refusal old x = record { broken = λ is. cc; only = tt }
+
+pub no_store_refusal : {T : Type 0} (old : StoreState) (x : T) → IsStoreAnswer {T = T} old (Ok x)
+no_store_refusal old x = record { broken = λ is. cc; only = tt }
+
+pub no_fault : {T : Type 0} (x : T) (fault : PageFault) → IsErrOf {T = T} (Ok x) fault → ⊥
+no_fault x fault is = cc
+
 pub no_remove_refusal : {T : Type 0} (reserved : ℕ) (old : StoreState) (x : T) → IsRemoveAnswer {T = T} reserved old (Ok x)
 no_remove_refusal reserved old x = record { broken = λ is. cc; memory = λ is. cc; only = tt }
+
+-- the walk was longer than it may be
+pub long_walk : {T : Type 0} (old : StoreState) → IsWalkAnswer {T = T} old (Err Damaged)
+long_walk old = record { broken = λ is. cc; only = inr (inl refl) }
+
+pub long_walk_stores : {T : Type 0} (old : StoreState) → IsStoreAnswer {T = T} old (Err Damaged)
+long_walk_stores old = record { broken = λ is. cc; only = inr (inr (inr (inl refl))) }
+
+pub long_walk_cause : {T : Type 0} (before now : ℕ) → before ≤ now
+    → HasDeviceCause {T = T} before now (Err Damaged)
+long_walk_cause before now le = record { later = le; fault = λ is. cc }
+
+pub long_walk_has_room : {T : Type 0} → IsErrOf {T = T} (Err Damaged) NoRoom → ⊥
+long_walk_has_room is = cc
 
 -- how many pages are staged, after a read and after one call more
 pub few_same : (old new : StoreState) (more : ℕ) → new ≡ old → length new.staged ≤ length old.staged + more

@@ -1,7 +1,7 @@
 -- Where a walk that looks for room ends.
 use Rattle.std.proofs.Common.{◌≡◌, ◌↔◌, ℕ, ◌+◌, ◌≤◌, Bool, true, false, List, length, refl, sym, ◌∙◌, subst, arith}
 use Rattle.std.specs.Prelude.{IsTrue}
-use Rattle.std.proofs.lemmas.Bool.{le-leb, lt-leb}
+use Rattle.std.proofs.lemmas.Bool.{le-leb, lt-leb, false≢true}
 use Rattle.dbm_model.specs.Pairs.{Pair}
 use Rattle.page_model.specs.Pages.{Body}
 use Rattle.page_model.specs.Slots.{taken, room_of}
@@ -25,6 +25,9 @@ full_leaf pair leaf most none = lt-leb _ _ (omega (arith, none, most))
 pub fits_is : (pair : Pair) (leaf : Leaf) (b : Bool) → taken leaf.pairs ≤ 2032 → (IsTrue b ↔ HasRoom pair leaf.pairs) → b ≡ fits pair leaf
 fits_is pair leaf true most asked = sym (fits_leaf pair leaf (asked.0 refl))
 fits_is pair leaf false most asked = sym (full_leaf pair leaf most (λ room. absurd (let e = asked.1 room in cc)))
+
+pub true_false : {A : Type 0} → true ≡ false → A
+true_false e = absurd (false≢true (sym e))
 
 -- the walk ends at the page
 pub spot_found : (at : ℕ → Body) (head : ℕ) (pair : Pair) (n kind step next : ℕ) (bytes : List ℕ) (has_room : Bool) → IsUnderWay at head (IsFull pair) n kind step → SaysLink at n kind next (page_pairs bytes) → 1 ≤ n

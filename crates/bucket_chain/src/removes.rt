@@ -1,6 +1,6 @@
 //! One key less in a chain.
 
-ghost use Rattle.std.specs.Prelude.{◌≡◌, ◌+◌, ◌≤◌, ◌<◌, ℕ, List, true, false, IfOk, IfSome, OnOk, OnErr, IsErrOf, length};
+ghost use Rattle.std.specs.Prelude.{◌≡◌, ◌+◌, ◌≤◌, ◌<◌, ℕ, List, true, false, IfOk, IfSome, IsSome, OnOk, OnErr, IsErrOf, length};
 ghost use Rattle.dbm_model.specs.Pairs.{Pair};
 ghost use Rattle.page_model.specs.PairLists.{times};
 ghost use Rattle.page_model.specs.Chain.{Chain, pairs_in};
@@ -46,6 +46,7 @@ fn find_hit<S: PageStore>(
     ensures answer { IsWalkAnswer (S.state store.old) result }
     ensures held { IfOk result (λ found. IfSome found (IsHeldHit (S.state store.old) key.now page.new.bytes)) }
     ensures walked { S.honest store.old → IfOk result (IsHitOrNone (body_at S.PageStore store.old) head key.now page.new.bytes) }
+    ensures has { S.honest store.old → IfOk result (λ found. IsSome found → IsKeyWalk (body_at S.PageStore store.old) head key.now true) }
     ensures whole { S.honest store.old → (chain : Chain) → IsChainAt (body_at S.PageStore store.old) most head chain → IsErrOf result Damaged → ⊥ }
 {
     let mut prior = 0;

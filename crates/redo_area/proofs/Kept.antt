@@ -1,12 +1,13 @@
 -- Redo images that are kept in memory over the device's pages, and none in a pager that commits.
-use Rattle.std.proofs.Common.{◌≡◌, inl, inr, ⊎_elim, ℕ, ◌<◌, ◌≤◌, ◌/◌, Bool, List, [], true, false, sym, ◌∙◌, ap}
-use Rattle.sect_dev.specs.Device.{LeavesOnly}
+use Rattle.std.proofs.Common.{◌≡◌, inl, inr, ⊎_elim, ℕ, ◌<◌, ◌≤◌, ◌/◌, Bool, List, [], true, false, refl, sym, ◌∙◌, ap}
+use Rattle.sect_dev.specs.Device.{IsImageOf, LeavesOnly}
 use Rattle.sect_dev.specs.Moments.{IsOutcome, weaker, lifted}
 use Rattle.sect_dev.specs.declared.device.SectorDev.{Ghosts}
 use Rattle.page_io.specs.Page.{page_at}
 use Rattle.page_io.specs.Store.{Pages, Settled, file_of, file_pages, page_of, overlaid, has_page, bytes_of, committed_with, IsEither}
 use Rattle.page_io.specs.declared.page.Page.{Page}
 use Rattle.redo_commit.specs.File.{settled}
+use Rattle.redo_area.specs.Settling.{SettlesTo}
 use Rattle.redo_area.specs.declared.pager.Pager.{Pager}
 use Rattle.page_io.proofs.Overlays.{overlaid-none, page_of-file}
 use Rattle.page_io.proofs.StagedPages.{replaced}
@@ -36,6 +37,20 @@ module _ (redo : Pages) (home : ℕ → List ℕ) (none : redo ≡ []) where
       → IsEither (file_pages (overlaid redo home) old_end) (committed_with (file_pages (overlaid redo home) old_end) staged new_end) y
   either old_end new_end pages staged y same grown is =
       ⊎_elim (λ old. inl (old ∙ ap (λ (f : ℕ → List ℕ). file_of (file_pages f old_end)) none_over)) (λ new. inr (new ∙ ap file_of (new_pages old_end new_end pages staged same grown))) is
+
+-- what a stop during reads leaves, as the store reads it
+pub read_leaves : {D : Type 0} (dev : Ghosts D) (old new : Pager D dev)
+    → dev.sectors new.dev ≡ dev.sectors old.dev
+    → LeavesOnly dev.moment dev.left_since old.dev new.dev (IsImageOf (dev.candidate old.dev))
+    → LeavesOnly (λ (p : Pager D dev). dev.moment p.dev) (λ (p : Pager D dev). IsOutcome dev.left_since (settled (dev.sectors p.dev / 4)) p.dev) old new
+    (SettlesTo (dev.sectors old.dev / 4) (dev.candidate old.dev))
+read_leaves {D} dev old new size run =
+    let cap : ℕ = dev.sectors old.dev / 4 in
+    let P = SettlesTo cap (dev.candidate old.dev) in
+    lifted dev.moment dev.left_since (λ (p : Pager D dev). p.dev) (λ (p : Pager D dev). settled (dev.sectors p.dev / 4)) old new P (ap (λ (s : ℕ). settled (s / 4)) size)
+    (weaker dev.moment dev.left_since old.dev new.dev (λ image. P (settled cap image))
+    (IsImageOf (dev.candidate old.dev)) run
+    (λ image is. record { image = image; is_image = is; reads = refl }))
 
 -- what a stop during a commit leaves, as the store reads it
 pub commit_leaves : {D : Type 0} (dev : Ghosts D) (old new : Pager D dev) (new_end : ℕ) (pages : List Page) → old.writable ≡ true → dev.sectors new.dev ≡ dev.sectors old.dev → pages ≡ old.staged.items

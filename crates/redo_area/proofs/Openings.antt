@@ -1,5 +1,5 @@
 -- What a device opens with, and why it is refused, from what its commit sector says.
-use Rattle.std.proofs.Common.{◌≡◌, ◌≢◌, ◌⊎◌, ⊎_elim, ◌/◌, ℕ, List, [], Bool, true, false, cond, Some, sym, ◌∙◌, ap}
+use Rattle.std.proofs.Common.{◌≡◌, ◌≢◌, ◌⊎◌, ⊎_elim, ◌+◌, ◌≤◌, ◌/◌, ℕ, List, [], Bool, true, false, cond, Some, sym, ◌∙◌, ap, arith}
 use Rattle.sect_dev.specs.Device.{Image}
 use Rattle.page_io.specs.Page.{page_at}
 use Rattle.page_io.specs.Store.{Pages, Settled, nothing, file_of, pages_from, file_pages, overlaid, are_in_order}
@@ -8,15 +8,26 @@ use Rattle.redo_commit.specs.Header.{header_of, has_magic}
 use Rattle.redo_commit.specs.declared.header.Header.{Header}
 use Rattle.redo_commit.specs.declared.header.Header.TheVariants.{Blank, Clear, Armed, NotOurs, Damaged}
 use Rattle.redo_commit.specs.File.{settled, redo_images}
-use Rattle.redo_area.specs.Opening.{refusal_by, refusal_of}
+use Rattle.redo_area.specs.Opening.{refusal_by, refusal_of, SaysArmed}
 use Rattle.redo_area.specs.declared.open_fault.OpenFault.{OpenFault}
 use Rattle.redo_area.specs.declared.open_fault.OpenFault.TheVariants.{Memory, Device, Blank as BlankFault, NotOurs as NotOursFault, Damaged as DamagedFault}
 use Rattle.redo_commit.proofs.Images.{settled-blank, settled-clear, settled-armed, settled-disordered, settled-not_ours, settled-damaged}
+
+-- an end below the redo images
+pub below_room : (end start count capacity : ℕ) → end ≤ start → start + count ≤ capacity
+    → end ≤ capacity
+below_room end start count capacity above room = omega (arith, above, room)
 
 -- the sector as it was read, on a device whose capacity was found
 module _ {sectors found : ℕ} (seen : Image) {content : List ℕ} (same : found ≡ sectors) (read : content ≡ seen 0) where
   pub as_read : (h : Header) → h ≡ header_of (found / 4) content → header_of (sectors / 4) (seen 0) ≡ h
   as_read h said = ap (header_of (sectors / 4)) (sym read) ∙ ap (λ (k : ℕ). header_of (k / 4) content) (sym same) ∙ sym said
+
+  -- the header with its fields
+  pub says_armed : (end start count : ℕ) → Armed end start count ≡ header_of (found / 4) content
+      → SaysArmed (sectors / 4) seen
+  says_armed end start count said = record
+      { end = end; start = start; count = count; header = as_read (Armed end start count) said }
 
   pub refused-blank : Blank ≡ header_of (found / 4) content → refusal_of (sectors / 4) seen ≡ Some BlankFault
   refused-blank said = ap (λ (s : Settled). refusal_by s (has_magic (seen 0))) (settled-blank (sectors / 4) seen (as_read Blank said))

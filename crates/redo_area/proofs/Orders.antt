@@ -16,6 +16,13 @@ too_high : (least end : ℕ) (page : List ℕ) (pages : Pages) → end ≤ own_n
 too_high least end page pages le =
     ap (λ (b : Bool). b && are_in_order (own_number page + 1) end pages) (and_right (leb least (own_number page)) (ltb (own_number page) end) (le-ltb (own_number page) end le))
 
+-- all images were read
+pub all_read : (count i : ℕ) → count ≤ i → i ≤ count → i ≡ count
+all_read count i le most = omega (arith, le, most)
+
+pub none_left : (count i : ℕ) → count ≤ i → count - i ≡ 0
+none_left count i le = omega (arith, le)
+
 -- the images that are left begin with this one
 split : (at : ℕ → List ℕ) (start count i : ℕ) → i < count → pages_from at (start + i) (count - i) ≡ at (start + i) ∷ pages_from at (start + i + 1) (count - (i + 1))
 split at start count i lt = let left : count - i ≡ suc (count - (i + 1)) = omega arith in ap (pages_from at (start + i)) left

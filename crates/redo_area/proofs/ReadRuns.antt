@@ -1,7 +1,7 @@
 -- Calls that only read, one after another.
 use Rattle.std.proofs.Common.{◌≡◌, ◌≤◌, ◌↔◌, ℕ, refl, ◌∙◌, ap}
-use Rattle.sect_dev.specs.Device.{Image, IsImageOf, NoNewCandidate, LeavesOnly}
-use Rattle.sect_dev.specs.Moments.{fewer_images, started, followed_by, weaker}
+use Rattle.sect_dev.specs.Device.{Image, IsImageOf, NoNewCandidate, Elapses, LeavesOnly}
+use Rattle.sect_dev.specs.Moments.{fewer_images, started, by_call, followed_by, weaker}
 use Rattle.sect_dev.specs.declared.device.SectorDev.{Ghosts}
 use Rattle.page_io.specs.Page.{KeepsWhere}
 use Rattle.redo_commit.proofs.WriteRuns.{Keeps, keeps_on}
@@ -15,6 +15,22 @@ module _ {D : Type 0} (dev : Ghosts D) where
     no_new = λ m c may. may;
     no_lost = λ m c may. may;
     any_moment = started dev.moment dev.left_since old (IsImageOf (dev.candidate old)) only_now;
+  }
+
+  -- the read of a sector
+  pub sector_read : (old new : D)
+      → ((image : Image) → dev.left_since old (dev.moment old) image → IsImageOf (dev.candidate old) image)
+      → dev.seen new ≡ dev.seen old → NoNewCandidate (dev.candidate old) (dev.candidate new)
+      → NoNewCandidate (dev.candidate new) (dev.candidate old)
+      → Elapses (dev.moment old) (dev.moment new) (dev.left_since old) (dev.left_since new) (IsImageOf (dev.candidate new))
+      → OnlyReads dev old new
+  sector_read old new only_now seen no_new no_lost time = record {
+    seen = seen;
+    no_new = no_new;
+    no_lost = no_lost;
+    any_moment = by_call dev.moment dev.left_since old new (IsImageOf (dev.candidate old))
+        (IsImageOf (dev.candidate new)) only_now time
+        (λ image is. fewer_images (dev.candidate old) (dev.candidate new) image no_new is);
   }
 
   -- one run after another

@@ -1,7 +1,7 @@
 -- What a stop may leave while opening ends a commit, call by call.
 use Rattle.std.proofs.Common.{◌≡◌, ◌<◌, ◌≤◌, ◌/◌, ◌^◌, ℕ, List, true, refl, sym, ◌∙◌, ap}
 use Rattle.sect_dev.specs.Device.{Image, IsImageOf, IsStable, NoNewCandidate, with_candidate, Elapses, LeavesOnly}
-use Rattle.sect_dev.specs.Moments.{only_image, followed_by, weaker, goes_on}
+use Rattle.sect_dev.specs.Moments.{only_image, fewer_images, by_call, followed_by, weaker, goes_on}
 use Rattle.sect_dev.specs.declared.device.SectorDev.{Ghosts}
 use Rattle.page_io.specs.Page.{page_at, KeepsWhere}
 use Rattle.page_io.specs.Store.{Pages, file_of, pages_from, file_pages, overlaid, are_in_order}
@@ -17,6 +17,30 @@ pub as_before : {D : Type 0} (dev : Ghosts D) (first new : D) → LeavesOnly dev
     → LeavesOnly dev.moment dev.left_since first new (SettlesAsBefore (dev.sectors first / 4) (dev.candidate first))
 as_before dev first new run =
     weaker dev.moment dev.left_since first new (SettlesAsBefore (dev.sectors first / 4) (dev.candidate first)) (IsImageOf (dev.candidate first)) run (λ image is. (image, is, refl))
+
+-- a sync
+module _ {D : Type 0} (dev : Ghosts D) (first mid : D)
+    (only_now : (image : Image) → dev.left_since first (dev.moment first) image → IsImageOf (dev.candidate first) image)
+    (time : Elapses (dev.moment first) (dev.moment mid) (dev.left_since first) (dev.left_since mid) (IsImageOf (dev.candidate mid)))
+    (fewer : NoNewCandidate (dev.candidate first) (dev.candidate mid)) where
+  pub sync_alone : LeavesOnly dev.moment dev.left_since first mid (IsImageOf (dev.candidate first))
+  sync_alone =
+      by_call dev.moment dev.left_since first mid (IsImageOf (dev.candidate first))
+      (IsImageOf (dev.candidate mid)) only_now time
+      (λ image is. fewer_images (dev.candidate first) (dev.candidate mid) image fewer is)
+
+  -- and a read behind it
+  module _ (new : D) (fewer' : NoNewCandidate (dev.candidate mid) (dev.candidate new)) where
+    pub sync_and_read : Elapses (dev.moment mid) (dev.moment new) (dev.left_since mid) (dev.left_since new) (IsImageOf (dev.candidate new))
+        → LeavesOnly dev.moment dev.left_since first new (IsImageOf (dev.candidate first))
+    sync_and_read time' =
+        goes_on dev.moment dev.left_since first mid new (IsImageOf (dev.candidate first))
+        (IsImageOf (dev.candidate new)) sync_alone time'
+        (λ image is m. fewer m (image m) (fewer' m (image m) (is m)))
+
+    pub still_at_start : IsImageOf (dev.candidate new) (dev.seen new)
+        → IsImageOf (dev.candidate first) (dev.seen new)
+    still_at_start seen m = fewer m (dev.seen new m) (fewer' m (dev.seen new m) (seen m))
 
 -- images are copied home and synced, on an armed device
 module _ {D : Type 0} (dev : Ghosts D) (first mid synced : D) {end start : ℕ} {redo : Pages} (is_armed : IsArmed (dev.sectors first / 4) end start redo (dev.candidate first) (dev.seen first)) (above : end ≤ start)

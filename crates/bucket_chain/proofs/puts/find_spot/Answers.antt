@@ -1,13 +1,14 @@
-use Rattle.std.proofs.Common.{◌≡◌, inr, false, refl, sym, ◌∙◌, ap, arith}
+use Rattle.std.proofs.Common.{◌≡◌, inr, false, refl, sym, ◌∙◌, ap}
 use Rattle.std.proofs.lemmas.Result.{IfOk-from_err}
 use Rattle.page_io.specs.Store.{StoreState}
 use Rattle.page_io.specs.declared.store.PageFault.TheVariants.{Damaged}
 use Rattle.page_io.proofs.Views.{reads_then}
-use Rattle.page_io.proofs.Exits.{exit_is, came, cause_then}
+use Rattle.page_io.proofs.Exits.{exit_is, came, cause_then, cause_ok}
 use Rattle.chain_walks.proofs.ReadPages.{still_honest, link_before, link_after}
 use Rattle.chain_walks.proofs.Walks.{walk_goes_on, walk_is_here, some_page, not_too_long}
-use Rattle.bucket_chain.proofs.SpotLemmas.{spot_found, is_full}
-use Rattle.bucket_chain.proofs.Refusals.{walk_walks}
+use Rattle.bucket_chain.proofs.SpotLemmas.{spot_found, is_full, true_false}
+use Rattle.bucket_chain.proofs.StagedPages.{known_same}
+use Rattle.bucket_chain.proofs.Refusals.{walk_walks, no_walk_refusal, no_fault, long_walk, long_walk_cause}
 use Rattle.bucket_chain.proofs.puts.find_spot.Goals as goal
 use Rattle.bucket_chain.proofs.puts.find_spot.Goals.{then-has_room-via-then-has_room, then-has_room-via-else-has_room+then-next-eq0}
 
@@ -33,14 +34,37 @@ returns-in_err-next g c =
           c.in_err-next.ensures.whole (still_honest g.S.PageStore _ _ reads honest) _ _ some (link_after g.S.PageStore _ _ reads honest _ _ _ _ here.link) (came _ _ exit Damaged damaged);
     }
 
-pub returns-then-has_room-clause-found : goal.returns-then-has_room-clause-found
-returns-then-has_room-clause-found g c honest =
-    let link = link_before g.S.PageStore _ _ c.loop-step.invariant.reads honest _ _ _ _ c.in_ok-next.ensures.says in
-    let last : c.fits-has_room.result ≡ false → c.in_ok-next.next ≡ 0 = elim c.then-has_room.branch [
-      | then-has_room-via-then-has_room w ↦ λ e. absurd (let f = sym e ∙ w.if-has_room.true in cc)
-      | then-has_room-via-else-has_room+then-next-eq0 w ↦ λ e. w.if-next-eq0.true
-    ] in
-    spot_found _ _ (c.args.key.now, c.args.content.now) _ _ _ _ c.read_link.new.page.bytes c.fits-has_room.result (c.loop-step.invariant.walked honest) link c.in_ok-next.ensures.known.0 c.in_ok-next.ensures.link c.fits-has_room.ensures last
+-- the page fits it, or is the last
+pub returns-then-has_room : goal.returns-then-has_room
+returns-then-has_room g c =
+    let st = g.S.PageStore in
+    let told = c.in_ok-next.ensures in
+    let before = c.loop-step.invariant.reads in
+    let counts = g.met.S.PageStore.counts_now c.loop-step.store in
+    let reads = reads_then st _ _ _ counts before told.reads in
+    record {
+      reads = reads;
+      cause = cause_ok _ _ _ reads.stages_only.later;
+      answer = no_walk_refusal _ _;
+      known = (told.known.0, known_same _ _ _ (sym before.same) told.known.1);
+      page = record {
+        kind = c.loop-step.kind;
+        next = c.in_ok-next.next;
+        link = told.link;
+        room = c.fits-has_room.ensures.0;
+      };
+      found = λ honest.
+          let link = link_before st _ _ before honest _ _ _ _ told.says in
+          let last : c.fits-has_room.result ≡ false → c.in_ok-next.next ≡ 0 =
+          elim c.then-has_room.branch [
+            | then-has_room-via-then-has_room w ↦ λ e. true_false (sym w.if-has_room.true ∙ e)
+            | then-has_room-via-else-has_room+then-next-eq0 w ↦ λ e. w.if-next-eq0.true
+          ] in
+          let walked = c.loop-step.invariant.walked honest in
+          spot_found _ _ (c.args.key.now, c.args.content.now) _ _ _ _ c.read_link.new.page.bytes
+          c.fits-has_room.result walked link told.known.0 told.link c.fits-has_room.ensures last;
+      whole = λ honest chain is damaged. absurd (no_fault _ _ damaged);
+    }
 
 pub loop-step-preserved : goal.loop-step-preserved
 loop-step-preserved g c = record {
@@ -52,5 +76,17 @@ loop-step-preserved g c = record {
       (is_full (c.args.key.now, c.args.content.now) c.loop-step.at c.read_link.new.page.bytes c.fits-has_room.result c.in_ok-next.ensures.link.page.sound.fits c.fits-has_room.ensures c.if-has_room.false);
 }
 
-pub returns-clause-whole : goal.returns-clause-whole
-returns-clause-whole g c honest chain is damaged = not_too_long _ _ _ _ _ _ _ chain is (c.loop-step.invariant.walked honest) (omega arith)
+-- more pages than there may be
+pub returns : goal.returns
+returns g c =
+    let reads = c.loop-step.invariant.reads in
+    record {
+      reads = reads;
+      cause = long_walk_cause _ _ reads.stages_only.later;
+      answer = long_walk _;
+      known = tt;
+      page = tt;
+      found = λ honest. tt;
+      whole = λ honest chain is damaged. not_too_long _ _ _ _ _ _ _ chain is
+          (c.loop-step.invariant.walked honest) c.loop-step-test.false;
+    }

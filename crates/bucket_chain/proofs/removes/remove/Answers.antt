@@ -1,4 +1,5 @@
-use Rattle.std.proofs.Common.{◌≡◌, ◌⊎◌, inl, inr, ◌≤◌, ℕ, List, [], Option, IfSome, length, refl, sym, ap, ◌∙◌, subst, arith}
+use Rattle.std.proofs.Common.{◌≡◌, ◌⊎◌, inl, inr, ◌≤◌, ℕ, List, [], Option, is_some, IfSome, length, refl, sym, ap, ◌∙◌, subst, arith}
+use Rattle.std.proofs.lemmas.Bool.{false≢true}
 use Rattle.std.proofs.lemmas.Result.{IfOk-from_err}
 use Rattle.dbm_model.specs.Pairs.{Pair}
 use Rattle.page_model.specs.Pages.{Body}
@@ -17,12 +18,12 @@ use Rattle.bucket_chain.specs.Hits.{IsHitOrNone, IsHeldHit, IsRelinked}
 use Rattle.bucket_chain.specs.declared.removes.Hit.{Hit}
 use Rattle.chain_walks.proofs.Headers.{header_of}
 use Rattle.chain_walks.proofs.ReadPages.{still_honest, link_after}
-use Rattle.bucket_chain.proofs.FoundKeys.{found_here, not_found, hit_walk}
+use Rattle.bucket_chain.proofs.FoundKeys.{found_here, not_found}
 use Rattle.bucket_chain.proofs.Removals.{removed_here, removed_over, head_of, last_of, prior_links, unchanged}
 use Rattle.page_io.proofs.OwnNumbers.{own_same}
 use Rattle.bucket_chain.proofs.StagedPages.{IsRewrittenAlone, rewritten_alone}
 use Rattle.bucket_chain.proofs.TakenOut.{taken_from, taken_with}
-use Rattle.bucket_chain.proofs.Refusals.{walk_removes, relink_removes, give_removes, stage_removes, no_remove_refusal, cause_give, few_same, few_then, few_both, few_more, staged_same}
+use Rattle.bucket_chain.proofs.Refusals.{no_fault, walk_removes, relink_removes, give_removes, stage_removes, no_remove_refusal, cause_give, few_same, few_then, few_both, few_more, staged_same}
 use Rattle.bucket_chain.proofs.removes.remove.Given.{Over}
 use Rattle.bucket_chain.proofs.removes.remove.Goals as goal
 use Rattle.bucket_chain.proofs.removes.remove.Goals.{else-hit-ne0-via-then-hit-ne0+else-slots-eq1, else-hit-ne0-via-else-hit-ne0}
@@ -34,7 +35,7 @@ returns-in_default-clause-exact g c honest chain s placed once =
     let walked = subst (IsHitOrNone at c.args.head key c.find_hit.new.page.bytes) c.in_default.is (c.in_ok-hit.ensures.walked honest) in
     let none = not_found at s.end c.args.head chain key placed.chain_is walked in
     record {
-      was = (λ e. absurd (cc), λ some. absurd (omega (arith, some, none.0)));
+      was = (λ e. absurd (false≢true e), λ some. absurd (omega (arith, some, none.0)));
       left = unchanged at (body_at g.S.PageStore c.find_hit.new.store) c.args.space.now c.args.head chain s key (same_said g.S.PageStore _ _ c.in_ok-hit.ensures.reads honest) placed none.1 none.2;
     }
 
@@ -176,9 +177,7 @@ returns-then-slots-eq1 g c =
       few = few_both _ _ _ (few_then _ _ _ 1 one.same two.few) given.few;
       cause = cause_ok _ _ _ all.later;
       answer = no_remove_refusal _ _ _;
-      walked = λ honest.
-          let at = body_at g.S.PageStore c.args.store.now in
-          hit_walk at c.args.head c.args.key.now c.find_hit.new.page.bytes c.in-Some.hit (subst (IsHitOrNone at c.args.head c.args.key.now c.find_hit.new.page.bytes) c.in-Some.is (c.in_ok-hit.ensures.walked honest));
+      walked = λ honest. c.in_ok-hit.ensures.has honest (ap is_some c.in-Some.is);
       taken_out = λ honest _.
           let at = body_at st c.args.store.now in
           let key = c.args.key.now in
@@ -192,7 +191,7 @@ returns-then-slots-eq1 g c =
           let linked = subst (λ (f : ℕ → Body). IsRelinked f (body_at st c.relink.new.store) c.in-Some.hit.prior c.in-Some.hit.prior_kind c.in-Some.hit.next) same (two.relinked honest') in
           taken_with at c.args.head key bytes c.in-Some.hit hit (body_at st c.relink.new.store) (body_at st c.give.new.store) c.args.space.now c.give.new.space c.if-hit-ne0.true one linked
           (λ m other. two.others honest' m other ∙ ap (λ (a : ℕ → Body). a m) same) (given.free honest'') (given.others honest'') given.ok;
-      absent = λ none. absurd cc;
+      absent = λ none. absurd (false≢true (sym none));
       err = tt;
       end = ap (λ (f : FreeState). f.file_end) given.ok;
       ends = λ e. (
@@ -226,7 +225,7 @@ returns-then-slots-eq1 g c =
                 (c.in_ok-give.ensures.exact honest'' s)
                 one;
           };
-      whole = λ honest chain s placed once damaged. cc;
+      whole = λ honest chain s placed once damaged. no_fault _ _ damaged;
     }
 
 -- its page is not staged
@@ -265,9 +264,7 @@ returns g c =
       few = few_more _ _ (few_then _ _ _ 1 one.same staged.few);
       cause = cause_ok _ _ _ all.later;
       answer = no_remove_refusal _ _ _;
-      walked = λ honest.
-          let at = body_at g.S.PageStore c.args.store.now in
-          hit_walk at c.args.head c.args.key.now c.find_hit.new.page.bytes c.in-Some.hit (subst (IsHitOrNone at c.args.head c.args.key.now c.find_hit.new.page.bytes) c.in-Some.is (c.in_ok-hit.ensures.walked honest));
+      walked = λ honest. c.in_ok-hit.ensures.has honest (ap is_some c.in-Some.is);
       taken_out = λ honest _.
           let at = body_at st c.args.store.now in
           let key = c.args.key.now in
@@ -281,7 +278,7 @@ returns g c =
             | else-hit-ne0-via-else-hit-ne0 w ↦ inl w.if-hit-ne0.false
           ] in
           taken_from at c.args.head key bytes c.in-Some.hit hit _ c.args.space.now _ why said.says c.remove.ensures.holds said.others;
-      absent = λ none. absurd cc;
+      absent = λ none. absurd (false≢true (sym none));
       err = tt;
       end = refl;
       ends = λ e. e;
@@ -308,5 +305,5 @@ returns g c =
             was = (λ e. omega (arith, found.comes), λ some. refl);
             left = removed_here at chain key bytes c.in-Some.hit s found placed.apart _ c.args.space.now placed.free_is said.others _ said.says c.remove.ensures.holds why;
           };
-      whole = λ honest chain s placed once damaged. cc;
+      whole = λ honest chain s placed once damaged. no_fault _ _ damaged;
     }

@@ -5,13 +5,14 @@ use Rattle.page_io.specs.Store.{StoreState}
 use Rattle.page_io.specs.Views.{body_at, MayEnd}
 use Rattle.page_io.specs.declared.store.PageFault.TheVariants.{NoRoom, Damaged}
 use Rattle.page_io.proofs.Views.{stages_then, same_said, known_below}
-use Rattle.page_io.proofs.Exits.{exit_is, came, cause_then}
+use Rattle.page_io.proofs.Exits.{exit_is, came, cause_then, cause_ok}
 use Rattle.slot_page.specs.Contents.{page_pairs}
 use Rattle.free_pages.specs.declared.free_state.FreeState.{FreeState}
 use Rattle.free_pages.specs.FreeList.{IsFreeList, HasEnds}
 use Rattle.chain_walks.proofs.ReadPages.{reads_none}
+use Rattle.bucket_chain.specs.Giving.{AreGiven}
 use Rattle.bucket_chain.proofs.Givings.{giving_starts, giving_goes_on, next_link, room_left, not_all}
-use Rattle.bucket_chain.proofs.Refusals.{walk_stores, give_stores, cause_give, walk_has_room, give_has_room}
+use Rattle.bucket_chain.proofs.Refusals.{walk_stores, give_stores, cause_give, walk_has_room, give_has_room, no_store_refusal, no_fault, long_walk_stores, long_walk_cause, long_walk_has_room}
 use Rattle.bucket_chain.proofs.stores.give_overflow.Goals as goal
 
 pub loop-step-init : goal.loop-step-init
@@ -48,9 +49,48 @@ loop-step-preserved g c =
           (λ s is apart. c.in_ok-give.ensures.exact h2 s (subst (λ (f : ℕ → Body). IsFreeList f c.loop-step.space s) (sym same) is) apart);
     }
 
-pub returns-clause-whole : goal.returns-clause-whole
-returns-clause-whole g c honest head leaf rest s placed from damaged =
-    not_all _ _ _ _ _ _ _ (c.loop-step.invariant.given honest) head leaf rest s placed from (omega (arith, c.loop-step-test.false, ap (λ (t : FreeState). t.file_end) placed.free_is.kept))
+-- more pages than there may be
+pub returns : goal.returns
+returns g c =
+    let so_far = c.loop-step.invariant in
+    record {
+      stages = so_far.stages;
+      cause = long_walk_cause _ _ so_far.stages.later;
+      answer = long_walk_stores _;
+      room = λ none. long_walk_has_room none;
+      ends = so_far.ends;
+      end = so_far.end;
+      may_end = so_far.may_end;
+      given = λ honest. tt;
+      whole = λ honest head leaf rest s placed from damaged.
+          not_all _ _ _ _ _ _ _ (so_far.given honest) head leaf rest s placed from
+          (omega (
+            arith,
+            c.loop-step-test.false,
+            ap (λ (t : FreeState). t.file_end)
+                placed.free_is.kept,
+          ));
+    }
+
+-- the last page was given
+pub returns-then-at-eq0 : goal.returns-then-at-eq0
+returns-then-at-eq0 g c =
+    let st = g.S.PageStore in
+    let so_far = c.loop-step.invariant in
+    record {
+      stages = so_far.stages;
+      cause = cause_ok _ _ _ so_far.stages.later;
+      answer = no_store_refusal _ _;
+      room = λ none. no_fault _ _ none;
+      ends = so_far.ends;
+      end = so_far.end;
+      may_end = so_far.may_end;
+      given = λ honest.
+          subst (AreGiven (body_at st c.args.store.now) (body_at st c.loop-step.store)
+          c.args.space.now c.loop-step.space c.args.first)
+          c.if-at-eq0.true (so_far.given honest).are;
+      whole = λ honest head leaf rest s placed from damaged. absurd (no_fault _ _ damaged);
+    }
 
 -- a page is not read
 pub returns-in_err-next : goal.returns-in_err-next

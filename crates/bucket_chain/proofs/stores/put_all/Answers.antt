@@ -8,12 +8,12 @@ use Rattle.page_io.specs.Store.{StoreState}
 use Rattle.page_io.specs.Views.{body_at, MayEnd}
 use Rattle.page_io.specs.declared.store.PageFault.TheVariants.{NoRoom, Damaged}
 use Rattle.page_io.proofs.Views.{stages_then}
-use Rattle.page_io.proofs.Exits.{exit_is, came, cause_then}
+use Rattle.page_io.proofs.Exits.{exit_is, came, cause_then, cause_ok}
 use Rattle.chain_walks.specs.Pairs.{pair_of}
 use Rattle.bucket_chain.specs.AnyFile.{IsAdded, AreAdded}
 use Rattle.bucket_chain.specs.Changes.{BecomesPlaced, put_in}
 use Rattle.bucket_chain.proofs.Added.{added_under, one_added, all_grow}
-use Rattle.bucket_chain.proofs.Refusals.{put_stores}
+use Rattle.bucket_chain.proofs.Refusals.{put_stores, no_store_refusal, no_fault}
 use Rattle.bucket_chain.proofs.Storing.{HavePut, one_put, not_put, not_before, next_pair, pair_there}
 use Rattle.bucket_chain.proofs.stores.put_all.Goals as goal
 
@@ -83,14 +83,30 @@ loop-pair-preserved g c =
           (subst (λ (p : Pair). BecomesPlaced (body_at st c.loop-pair.store) (body_at st c.put.new.store) c.put.new.space (put_in (fold put_in placed (take i (map pair_of pairs))) p)) one becomes));
     }
 
-pub returns-clause-exact : goal.returns-clause-exact
-returns-clause-exact g c honest placed is empty distinct =
-    let so_far = c.loop-pair.invariant.put honest placed is empty distinct in
-    let all = take_all c.loop-pair.pair-index (map pair_of c.args.pairs.now) (omega (arith, c.loop-pair-test.false, length-map c.args.pairs.now pair_of)) in
-    record { becomes = λ at first. subst (λ (ps : List Pair). BecomesPlaced at (body_at g.S.PageStore c.loop-pair.store) c.loop-pair.space (fold put_in placed ps)) all (so_far.becomes at first) }
-
-pub returns-clause-added : goal.returns-clause-added
-returns-clause-added g c honest =
+-- all pairs were put
+pub returns : goal.returns
+returns g c =
     let st = g.S.PageStore in
-    let all = take_all c.loop-pair.pair-index (map pair_of c.args.pairs.now) (omega (arith, c.loop-pair-test.false, length-map c.args.pairs.now pair_of)) in
-    subst (λ (ps : List Pair). AreAdded (body_at st c.args.store.now) (body_at st c.loop-pair.store) (MayEnd (st.state c.args.store.now) c.args.space.now.file_end) c.args.space.now c.loop-pair.space c.args.head ps) all (c.loop-pair.invariant.added honest)
+    let so_far = c.loop-pair.invariant in
+    let all = take_all c.loop-pair.pair-index (map pair_of c.args.pairs.now)
+    (omega (arith, c.loop-pair-test.false, length-map c.args.pairs.now pair_of)) in
+    record {
+      stages = so_far.stages;
+      cause = cause_ok _ _ _ so_far.stages.later;
+      answer = no_store_refusal _ _;
+      room = λ empty none. no_fault _ _ none;
+      no_room = λ honest none. absurd (no_fault _ _ none);
+      added = λ honest.
+          subst (AreAdded (body_at st c.args.store.now) (body_at st c.loop-pair.store)
+          (MayEnd (st.state c.args.store.now) c.args.space.now.file_end)
+          c.args.space.now c.loop-pair.space c.args.head) all (so_far.added honest);
+      ends = so_far.ends;
+      may_end = so_far.may_end;
+      exact = λ honest placed is empty distinct. record {
+        becomes = λ at first.
+            subst (λ (ps : List Pair). BecomesPlaced at (body_at st c.loop-pair.store)
+            c.loop-pair.space (fold put_in placed ps)) all
+            ((so_far.put honest placed is empty distinct).becomes at first);
+      };
+      whole = λ honest placed is empty distinct damaged. absurd (no_fault _ _ damaged);
+    }

@@ -9,7 +9,7 @@ use Rattle.chain_walks.specs.Pairs.{pair_of}
 use Rattle.bucket_chain.specs.Changes.{store_in}
 use Rattle.bucket_chain.proofs.Added.{all_under}
 use Rattle.bucket_chain.proofs.Refusals.{store_stores, stores_last}
-use Rattle.bucket_chain.proofs.StagedPages.{on_ok}
+use Rattle.bucket_chain.proofs.StagedPages.{on_ok, if_ok}
 use Rattle.bucket_chain.proofs.stores.store_all.Goals as goal
 
 -- the chain is not emptied
@@ -33,44 +33,45 @@ returns-in_err-clear g c =
     }
 
 -- the pairs are put
-pub returns-clause-cause : goal.returns-clause-cause
-returns-clause-cause g c = cause_last _ _ _ _ c.in_ok-clear.ensures.cause.later c.put_all.ensures.cause
-
-pub returns-clause-answer : goal.returns-clause-answer
-returns-clause-answer g c = stores_last _ _ _ (ap (λ (s : StoreState). s.usable) c.in_ok-clear.ensures.stages.state) c.put_all.ensures.answer
-
-pub returns-clause-ends : goal.returns-clause-ends
-returns-clause-ends g c e = c.put_all.ensures.ends (c.in_ok-clear.ensures.ends e)
-
-pub returns-clause-may_end : goal.returns-clause-may_end
-returns-clause-may_end g c may = c.put_all.ensures.may_end (c.in_ok-clear.ensures.may_end may)
-
-pub returns-clause-stages : goal.returns-clause-stages
-returns-clause-stages g c = stages_then g.S.PageStore _ _ _ (g.met.S.PageStore.counts_now c.clear.new.store) c.in_ok-clear.ensures.stages c.put_all.ensures.stages
-
-pub returns-clause-exact : goal.returns-clause-exact
-returns-clause-exact g c honest chain s placed distinct =
-    let empty = c.in_ok-clear.ensures.exact honest chain s placed in
-    let h1 = c.in_ok-clear.ensures.stages.honesty.1 honest in
-    on_ok c.put_all.result (c.put_all.ensures.exact h1 (store_in (chain, s) []) empty.is_placed empty.empty distinct) (λ all. all.becomes (body_at g.S.PageStore c.args.store.now) empty.becomes)
-
-pub returns-clause-whole : goal.returns-clause-whole
-returns-clause-whole g c honest chain s placed distinct damaged =
-    let empty = c.in_ok-clear.ensures.exact honest chain s placed in
-    c.put_all.ensures.whole (c.in_ok-clear.ensures.stages.honesty.1 honest) (store_in (chain, s) []) empty.is_placed empty.empty distinct damaged
-
-pub returns-clause-stored : goal.returns-clause-stored
-returns-clause-stored g c honest =
+pub returns : goal.returns
+returns g c =
     let st = g.S.PageStore in
-    let h1 = c.in_ok-clear.ensures.stages.honesty.1 honest in
-    on_ok c.put_all.result (c.put_all.ensures.added h1) (λ all. record {
-      mid = body_at st c.clear.new.store;
-      between = c.clear.new.space;
-      first = c.in_ok-clear.ensures.emptied honest;
-      second = all_under _ _ c.in_ok-clear.ensures.may_end _ _ _ (map pair_of c.args.pairs.now) _ _ all;
-    })
-
-pub returns-clause-no_room : goal.returns-clause-no_room
-returns-clause-no_room g c honest none =
-    let full = c.put_all.ensures.no_room (c.in_ok-clear.ensures.stages.honesty.1 honest) none in
-    omega (arith, full, c.in_ok-clear.ensures.end, ap (λ (s : StoreState). s.capacity) c.in_ok-clear.ensures.stages.state)
+    let cleared = c.in_ok-clear.ensures in
+    let told = c.put_all.ensures in
+    record {
+      stages = stages_then st _ _ _ (g.met.S.PageStore.counts_now c.clear.new.store) cleared.stages
+          told.stages;
+      cause = cause_last _ _ _ _ cleared.cause.later told.cause;
+      answer = stores_last _ _ _ (ap (λ (s : StoreState). s.usable) cleared.stages.state)
+          told.answer;
+      room = told.room;
+      no_room = λ honest none.
+          let full = told.no_room (cleared.stages.honesty.1 honest) none in
+          omega (
+            arith,
+            full,
+            cleared.end,
+            ap (λ (s : StoreState). s.capacity)
+                cleared.stages.state,
+          );
+      walked = λ honest. if_ok c.put_all.result (cleared.walked honest);
+      ends = λ e. told.ends (cleared.ends e);
+      may_end = λ may. told.may_end (cleared.may_end may);
+      stored = λ honest. on_ok c.put_all.result (told.added (cleared.stages.honesty.1 honest))
+          (λ all. record {
+            mid = body_at st c.clear.new.store;
+            between = c.clear.new.space;
+            first = cleared.emptied honest;
+            second = all_under _ _ cleared.may_end _ _ _ (map pair_of c.args.pairs.now) _ _ all;
+          });
+      exact = λ honest chain s placed distinct.
+          let empty = cleared.exact honest chain s placed in
+          let h1 = cleared.stages.honesty.1 honest in
+          on_ok c.put_all.result (told.exact h1 (store_in (chain, s) []) empty.is_placed
+          empty.empty distinct)
+          (λ all. all.becomes (body_at st c.args.store.now) empty.becomes);
+      whole = λ honest chain s placed distinct damaged.
+          let empty = cleared.exact honest chain s placed in
+          told.whole (cleared.stages.honesty.1 honest) (store_in (chain, s) []) empty.is_placed
+          empty.empty distinct damaged;
+    }

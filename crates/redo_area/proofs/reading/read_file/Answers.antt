@@ -1,49 +1,210 @@
-use Rattle.std.proofs.Common.{◌≡◌, [], Err, ◌∙◌, sym, ap}
-use Rattle.std.proofs.lemmas.Result.{err_from_is_err_and}
+use Rattle.std.proofs.Common.{◌≡◌, ◌≢◌, ◌≤◌, ◌/◌, ℕ, [], Err, Some, ◌∙◌, refl, sym, ap, subst}
+use Rattle.std.proofs.lemmas.Result.{IfOk-from_err}
 use Rattle.sect_dev.specs.Device.{Image}
 use Rattle.page_io.specs.Store.{bytes_of, are_in_order}
+use Rattle.page_io.proofs.Exits.{later_then}
 use Rattle.redo_commit.specs.File.{redo_images}
-use Rattle.redo_area.proofs.Openings.{found-clear, found-armed, refused-blank, refused-not_ours, refused-damaged, refused-armed}
-use Rattle.redo_area.proofs.Results.{from_test}
+use Rattle.redo_area.specs.Opening.{refusal_of}
+use Rattle.redo_area.specs.declared.open_fault.OpenFault.{OpenFault}
+use Rattle.redo_area.specs.declared.open_fault.OpenFault.TheVariants.{Memory, Device}
+use Rattle.redo_area.proofs.Openings.{below_room, says_armed, found-clear, found-armed, refused-blank, refused-not_ours, refused-damaged, refused-armed}
+use Rattle.redo_area.proofs.ReadRuns.{sector_read, more_reads}
+use Rattle.redo_area.proofs.Results.{from_test, fault_from_test, exit_is, came, if_exit, no_err, device_not_memory, blank_not_memory, blank_not_device, not_ours_not_memory, not_ours_not_device, damaged_not_memory, damaged_not_device, more_later}
 use Rattle.redo_area.proofs.reading.read_file.Goals as goal
 
-pub returns-in-Blank-clause-refused : goal.returns-in-Blank-clause-refused
-returns-in-Blank-clause-refused g c honest device memory =
-    let read = from_test c.read.result c.is_err.ensures.value c.if-is_err.false (c.read.ensures.read honest) in
-    refused-blank (g.D.SectorDev.seen c.args.dev.now) c.capacity-capacity.ensures read c.in-Blank.ensures.said
+-- the sector is not read
+pub returns-then-is_err : goal.returns-then-is_err
+returns-then-is_err g c =
+    let told = c.read.ensures in
+    record {
+      found = λ honest. tt;
+      end = tt;
+      refused = λ honest device memory. absurd (device refl);
+      memory = λ honest is. absurd (device_not_memory is);
+      only_reads = λ honest. sector_read g.D.SectorDev c.args.dev.now c.read.new.self
+          (λ image left. g.met.D.SectorDev.only_now c.args.dev.now image honest left)
+          (told.seen honest) (told.candidates honest) (told.keeps honest) (told.time honest);
+      later = told.cause.later;
+      cause = λ is. fault_from_test c.read.result c.is_err.ensures.value c.if-is_err.true
+          told.cause.fault;
+      honesty = told.honesty;
+      size = told.size;
+    }
 
-pub returns-in-NotOurs-clause-refused : goal.returns-in-NotOurs-clause-refused
-returns-in-NotOurs-clause-refused g c honest device memory =
-    let read = from_test c.read.result c.is_err.ensures.value c.if-is_err.false (c.read.ensures.read honest) in
-    refused-not_ours (g.D.SectorDev.seen c.args.dev.now) c.capacity-capacity.ensures read c.in-NotOurs.ensures.said c.in-NotOurs.ensures.ours
+-- all zeros
+pub returns-in-Blank : goal.returns-in-Blank
+returns-in-Blank g c =
+    let told = c.read.ensures in
+    record {
+      found = λ honest. tt;
+      end = tt;
+      refused = λ honest device memory.
+          let read = from_test c.read.result c.is_err.ensures.value c.if-is_err.false
+          (told.read honest) in
+          refused-blank (g.D.SectorDev.seen c.args.dev.now) c.capacity-capacity.ensures read
+          c.in-Blank.ensures.said;
+      memory = λ honest is. absurd (blank_not_memory is);
+      only_reads = λ honest. sector_read g.D.SectorDev c.args.dev.now c.read.new.self
+          (λ image left. g.met.D.SectorDev.only_now c.args.dev.now image honest left)
+          (told.seen honest) (told.candidates honest) (told.keeps honest) (told.time honest);
+      later = told.cause.later;
+      cause = λ is. absurd (blank_not_device is);
+      honesty = told.honesty;
+      size = told.size;
+    }
 
-pub returns-in-Damaged-clause-refused : goal.returns-in-Damaged-clause-refused
-returns-in-Damaged-clause-refused g c honest device memory =
-    let read = from_test c.read.result c.is_err.ensures.value c.if-is_err.false (c.read.ensures.read honest) in
-    refused-damaged (g.D.SectorDev.seen c.args.dev.now) c.capacity-capacity.ensures read c.in-Damaged.ensures.said c.in-Damaged.ensures.ours
+-- another magic
+pub returns-in-NotOurs : goal.returns-in-NotOurs
+returns-in-NotOurs g c =
+    let told = c.read.ensures in
+    record {
+      found = λ honest. tt;
+      end = tt;
+      refused = λ honest device memory.
+          let read = from_test c.read.result c.is_err.ensures.value c.if-is_err.false
+          (told.read honest) in
+          refused-not_ours (g.D.SectorDev.seen c.args.dev.now) c.capacity-capacity.ensures read
+          c.in-NotOurs.ensures.said c.in-NotOurs.ensures.ours;
+      memory = λ honest is. absurd (not_ours_not_memory is);
+      only_reads = λ honest. sector_read g.D.SectorDev c.args.dev.now c.read.new.self
+          (λ image left. g.met.D.SectorDev.only_now c.args.dev.now image honest left)
+          (told.seen honest) (told.candidates honest) (told.keeps honest) (told.time honest);
+      later = told.cause.later;
+      cause = λ is. absurd (not_ours_not_device is);
+      honesty = told.honesty;
+      size = told.size;
+    }
 
-pub returns-in-Clear-clause-found : goal.returns-in-Clear-clause-found
-returns-in-Clear-clause-found g c honest =
-    let read = from_test c.read.result c.is_err.ensures.value c.if-is_err.false (c.read.ensures.read honest) in
-    let none : c.new.result.items ≡ [] = c.new.ensures.items in
-    found-clear (g.D.SectorDev.seen c.args.dev.now) c.capacity-capacity.ensures read c.in-Clear.end (bytes_of c.new.result.items) c.in-Clear.ensures.said (ap bytes_of none)
+-- no header
+pub returns-in-Damaged : goal.returns-in-Damaged
+returns-in-Damaged g c =
+    let told = c.read.ensures in
+    record {
+      found = λ honest. tt;
+      end = tt;
+      refused = λ honest device memory.
+          let read = from_test c.read.result c.is_err.ensures.value c.if-is_err.false
+          (told.read honest) in
+          refused-damaged (g.D.SectorDev.seen c.args.dev.now) c.capacity-capacity.ensures read
+          c.in-Damaged.ensures.said c.in-Damaged.ensures.ours;
+      memory = λ honest is. absurd (damaged_not_memory is);
+      only_reads = λ honest. sector_read g.D.SectorDev c.args.dev.now c.read.new.self
+          (λ image left. g.met.D.SectorDev.only_now c.args.dev.now image honest left)
+          (told.seen honest) (told.candidates honest) (told.keeps honest) (told.time honest);
+      later = told.cause.later;
+      cause = λ is. absurd (damaged_not_device is);
+      honesty = told.honesty;
+      size = told.size;
+    }
 
-pub returns-in_ok-redo-in-Armed-clause-found : goal.returns-in_ok-redo-in-Armed-clause-found
-returns-in_ok-redo-in-Armed-clause-found g c honest =
+-- no commit to end
+pub returns-in-Clear : goal.returns-in-Clear
+returns-in-Clear g c =
+    let told = c.read.ensures in
+    let clear = c.in-Clear in
+    let seen = g.D.SectorDev.seen c.args.dev.now in
+    record {
+      found = λ honest.
+          let read = from_test c.read.result c.is_err.ensures.value c.if-is_err.false
+          (told.read honest) in
+          let none : c.new.result.items ≡ [] = c.new.ensures.items in
+          found-clear seen c.capacity-capacity.ensures read clear.end (bytes_of c.new.result.items)
+          clear.ensures.said (ap bytes_of none);
+      end = (
+        clear.ensures.in_range.0,
+        subst (λ (k : ℕ). clear.end ≤ k / 4)
+            c.capacity-capacity.ensures clear.ensures.in_range.1,
+      );
+      refused = λ honest. tt;
+      memory = λ honest is. absurd (no_err _ _ is);
+      only_reads = λ honest. sector_read g.D.SectorDev c.args.dev.now c.read.new.self
+          (λ image left. g.met.D.SectorDev.only_now c.args.dev.now image honest left)
+          (told.seen honest) (told.candidates honest) (told.keeps honest) (told.time honest);
+      later = told.cause.later;
+      cause = λ is. absurd (no_err _ _ is);
+      honesty = told.honesty;
+      size = told.size;
+    }
+
+-- the redo images are read
+pub returns-in_ok-redo-in-Armed : goal.returns-in_ok-redo-in-Armed
+returns-in_ok-redo-in-Armed g c =
+    let dev = g.D.SectorDev in
+    let first = c.args.dev.now in
     let armed = c.in-Armed in
     let redo = c.in_ok-redo-in-Armed in
-    let read = from_test c.read.result c.is_err.ensures.value c.if-is_err.false (c.read.ensures.read honest) in
-    let h1 = c.read.ensures.honesty.1 honest in
-    let as_seen = c.read.ensures.seen honest in
-    found-armed (g.D.SectorDev.seen c.args.dev.now) c.capacity-capacity.ensures read armed.end armed.start armed.count (bytes_of redo.redo.items) armed.ensures.said
-    (redo.ensures.images h1 ∙ ap (λ (s : Image). redo_images s armed.start armed.count) as_seen)
-    (ap (λ (s : Image). are_in_order 1 armed.end (redo_images s armed.start armed.count)) (sym as_seen) ∙ redo.ensures.in_order h1)
+    let told = c.read.ensures in
+    let more = redo.ensures in
+    let range = armed.ensures.in_range in
+    record {
+      found = λ honest.
+          let read = from_test c.read.result c.is_err.ensures.value c.if-is_err.false
+          (told.read honest) in
+          let h1 = told.honesty.1 honest in
+          let as_seen = told.seen honest in
+          found-armed (dev.seen first) c.capacity-capacity.ensures read armed.end armed.start
+          armed.count (bytes_of redo.redo.items) armed.ensures.said
+          (more.images h1 ∙ ap (λ (s : Image). redo_images s armed.start armed.count) as_seen)
+          (ap (λ (s : Image). are_in_order 1 armed.end (redo_images s armed.start armed.count))
+          (sym as_seen) ∙ more.in_order h1);
+      end = (
+        range.0,
+        subst (λ (k : ℕ). armed.end ≤ k / 4) c.capacity-capacity.ensures
+            (below_room _ _ _ _ range.1 range.2),
+      );
+      refused = λ honest. tt;
+      memory = λ honest is. absurd (no_err _ _ is);
+      only_reads = λ honest.
+          more_reads dev first c.read.new.self c.read_images.new.dev
+          (sector_read dev first c.read.new.self
+          (λ image left. g.met.D.SectorDev.only_now first image honest left)
+          (told.seen honest) (told.candidates honest) (told.keeps honest) (told.time honest))
+          (more.only_reads (told.honesty.1 honest));
+      later = later_then _ _ _ told.cause.later more.later;
+      cause = λ is. absurd (no_err _ _ is);
+      honesty = (λ h. told.honesty.0 (more.honesty.0 h), λ h. more.honesty.1 (told.honesty.1 h));
+      size = more.size ∙ told.size;
+    }
 
-pub returns-in_err-redo-in-Armed-clause-refused : goal.returns-in_err-redo-in-Armed-clause-refused
-returns-in_err-redo-in-Armed-clause-refused g c honest =
+-- or they are not
+pub returns-in_err-redo-in-Armed : goal.returns-in_err-redo-in-Armed
+returns-in_err-redo-in-Armed g c =
+    let dev = g.D.SectorDev in
+    let first = c.args.dev.now in
     let armed = c.in-Armed in
     let fault = c.in_err-redo-in-Armed in
-    let read = from_test c.read.result c.is_err.ensures.value c.if-is_err.false (c.read.ensures.read honest) in
-    let p = err_from_is_err_and c.from_residual.result c.from_residual.ensures.1 in
-    rw (p.1, p.2) (refused-armed (g.D.SectorDev.seen c.args.dev.now) c.capacity-capacity.ensures read fault.field-0.0 armed.end armed.start armed.count armed.ensures.said armed.ensures.ours fault.ensures.only
-    (λ is. ap (λ (s : Image). are_in_order 1 armed.end (redo_images s armed.start armed.count)) (sym (c.read.ensures.seen honest)) ∙ fault.ensures.damaged (c.read.ensures.honesty.1 honest) (ap Err is)))
+    let told = c.read.ensures in
+    let more = fault.ensures in
+    let result = c.from_residual in
+    let exit = exit_is result.result fault.field-0.0 result.ensures.1 in
+    record {
+      found = λ honest. IfOk-from_err _ _ result.ensures.0;
+      end = IfOk-from_err _ _ result.ensures.0;
+      refused = λ honest.
+          let read = from_test c.read.result c.is_err.ensures.value c.if-is_err.false
+          (told.read honest) in
+          if_exit (λ (e : OpenFault). e ≢ Device → e ≢ Memory → refusal_of (dev.sectors first / 4)
+          (dev.seen first) ≡ Some e) _ _ exit
+          (refused-armed (dev.seen first) c.capacity-capacity.ensures read fault.field-0.0
+          armed.end armed.start armed.count
+          armed.ensures.said armed.ensures.ours more.only
+          (λ is. ap
+          (λ (s : Image). are_in_order 1 armed.end (redo_images s armed.start armed.count))
+          (sym (told.seen honest))
+          ∙ more.damaged (told.honesty.1 honest) (ap Err is)));
+      memory = λ honest is.
+          let read = from_test c.read.result c.is_err.ensures.value c.if-is_err.false
+          (told.read honest) in
+          says_armed (dev.seen first) c.capacity-capacity.ensures read armed.end armed.start
+          armed.count armed.ensures.said;
+      only_reads = λ honest.
+          more_reads dev first c.read.new.self c.read_images.new.dev
+          (sector_read dev first c.read.new.self
+          (λ image left. g.met.D.SectorDev.only_now first image honest left)
+          (told.seen honest) (told.candidates honest) (told.keeps honest) (told.time honest))
+          (more.only_reads (told.honesty.1 honest));
+      later = later_then _ _ _ told.cause.later more.later;
+      cause = λ is. more_later _ _ _ told.cause.later (more.cause (came _ _ exit Device is));
+      honesty = (λ h. told.honesty.0 (more.honesty.0 h), λ h. more.honesty.1 (told.honesty.1 h));
+      size = more.size ∙ told.size;
+    }

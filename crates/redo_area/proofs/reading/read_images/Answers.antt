@@ -5,9 +5,10 @@ use Rattle.page_io.specs.Page.{page_at, own_number}
 use Rattle.page_io.specs.Store.{Pages, bytes_of, pages_from, are_in_order}
 use Rattle.page_io.specs.declared.page.Page.{Page}
 use Rattle.page_io.proofs.Overlays.{pages_more}
-use Rattle.redo_area.proofs.Orders.{not_in_order, one_in_order}
+use Rattle.page_io.proofs.Exits.{later_then}
+use Rattle.redo_area.proofs.Orders.{not_in_order, one_in_order, none_left, all_read}
 use Rattle.redo_area.proofs.ReadRuns.{none_yet, one_more}
-use Rattle.redo_area.proofs.Results.{from_test}
+use Rattle.redo_area.proofs.Results.{from_test, fault_from_test, no_err, device_not_damaged, memory_not_damaged, memory_not_device, damaged_not_device, more_later}
 use Rattle.redo_area.proofs.reading.read_images.Goals as goal
 use Rattle.redo_area.proofs.reading.read_images.Goals.{then-own-least-via-then-own-least, then-own-least-via-else-own-least+then-from-own}
 
@@ -29,37 +30,103 @@ loop-i-init g c =
       images = λ h. ap bytes_of none;
     }
 
-pub returns-then-is_err-clause-only_reads : goal.returns-then-is_err-clause-only_reads
-returns-then-is_err-clause-only_reads g c h =
+-- a page is not read
+pub returns-then-is_err : goal.returns-then-is_err
+returns-then-is_err g c =
     let inv = c.loop-i.invariant in
     let page = c.read_page.ensures in
-    let h1 = inv.honesty.1 h in
-    one_more g.D.SectorDev c.args.dev.now c.loop-i.dev c.read_page.new.dev (inv.only_reads h) (page.seen h1) (page.candidates h1) (page.keeps h1) (page.any_moment h1)
+    record {
+      images = λ h. tt;
+      in_order = λ h. tt;
+      damaged = λ h is. absurd (device_not_damaged is);
+      only = inl refl;
+      only_reads = λ h.
+          let h1 = inv.honesty.1 h in
+          one_more g.D.SectorDev c.args.dev.now c.loop-i.dev c.read_page.new.dev (inv.only_reads h)
+          (page.seen h1) (page.candidates h1) (page.keeps h1) (page.any_moment h1);
+      later = later_then _ _ _ inv.faults page.cause.later;
+      cause = λ _. more_later _ _ _ inv.faults
+          (fault_from_test c.read_page.result c.is_err.ensures.value c.if-is_err.true
+          page.cause.fault);
+      honesty = (λ h. inv.honesty.0 (page.honesty.0 h), λ h. page.honesty.1 (inv.honesty.1 h));
+      size = page.size ∙ inv.size;
+    }
 
-pub returns-then-own-least-clause-only_reads : goal.returns-then-own-least-clause-only_reads
-returns-then-own-least-clause-only_reads g c h =
+-- its number is out of range
+pub returns-then-own-least : goal.returns-then-own-least
+returns-then-own-least g c =
     let inv = c.loop-i.invariant in
     let page = c.read_page.ensures in
-    let h1 = inv.honesty.1 h in
-    one_more g.D.SectorDev c.args.dev.now c.loop-i.dev c.read_page.new.dev (inv.only_reads h) (page.seen h1) (page.candidates h1) (page.keeps h1) (page.any_moment h1)
+    record {
+      images = λ h. tt;
+      in_order = λ h. tt;
+      damaged = λ h _.
+          let at = page_at (g.D.SectorDev.seen c.args.dev.now) in
+          let read = from_test c.read_page.result c.is_err.ensures.value c.if-is_err.false
+          (page.read (inv.honesty.1 h)) in
+          let bytes = read ∙ ap (λ (s : Image). page_at s (c.args.start + c.loop-i.i))
+          (inv.only_reads h).seen in
+          let out : (c.from-own.result < c.loop-i.least) ⊎ (c.args.end ≤ c.from-own.result) =
+          elim c.then-own-least.branch
+          as (λ x. (c.from-own.result < c.loop-i.least) ⊎ (c.args.end ≤ c.from-own.result)) [
+            | then-own-least-via-then-own-least w ↦ inl w.if-own-least.true
+            | then-own-least-via-else-own-least+then-from-own w ↦ inr
+                (omega (arith, w.if-from-own.true, w.from.ensures))
+          ] in
+          inv.checked h ∙ not_in_order at c.args.start c.args.count c.args.end c.loop-i.i
+          c.loop-i.least c.from-own.result
+          c.loop-i-test.true (c.from-own.ensures ∙ c.own.ensures.number ∙ ap own_number bytes) out;
+      only = inr (inr refl);
+      only_reads = λ h.
+          let h1 = inv.honesty.1 h in
+          one_more g.D.SectorDev c.args.dev.now c.loop-i.dev c.read_page.new.dev (inv.only_reads h)
+          (page.seen h1) (page.candidates h1) (page.keeps h1) (page.any_moment h1);
+      later = later_then _ _ _ inv.faults page.cause.later;
+      cause = λ is. absurd (damaged_not_device is);
+      honesty = (λ h. inv.honesty.0 (page.honesty.0 h), λ h. page.honesty.1 (inv.honesty.1 h));
+      size = page.size ∙ inv.size;
+    }
 
-pub returns-then-is_err-2-clause-only_reads : goal.returns-then-is_err-2-clause-only_reads
-returns-then-is_err-2-clause-only_reads g c h =
+-- it finds no memory
+pub returns-then-is_err-2 : goal.returns-then-is_err-2
+returns-then-is_err-2 g c =
     let inv = c.loop-i.invariant in
     let page = c.read_page.ensures in
-    let h1 = inv.honesty.1 h in
-    one_more g.D.SectorDev c.args.dev.now c.loop-i.dev c.read_page.new.dev (inv.only_reads h) (page.seen h1) (page.candidates h1) (page.keeps h1) (page.any_moment h1)
+    record {
+      images = λ h. tt;
+      in_order = λ h. tt;
+      damaged = λ h is. absurd (memory_not_damaged is);
+      only = inr (inl refl);
+      only_reads = λ h.
+          let h1 = inv.honesty.1 h in
+          one_more g.D.SectorDev c.args.dev.now c.loop-i.dev c.read_page.new.dev (inv.only_reads h)
+          (page.seen h1) (page.candidates h1) (page.keeps h1) (page.any_moment h1);
+      later = later_then _ _ _ inv.faults page.cause.later;
+      cause = λ is. absurd (memory_not_device is);
+      honesty = (λ h. inv.honesty.0 (page.honesty.0 h), λ h. page.honesty.1 (inv.honesty.1 h));
+      size = page.size ∙ inv.size;
+    }
 
-pub returns-then-own-least-clause-damaged : goal.returns-then-own-least-clause-damaged
-returns-then-own-least-clause-damaged g c h is =
+-- all are read
+pub returns : goal.returns
+returns g c =
     let at = page_at (g.D.SectorDev.seen c.args.dev.now) in
     let inv = c.loop-i.invariant in
-    let bytes = from_test c.read_page.result c.is_err.ensures.value c.if-is_err.false (c.read_page.ensures.read (inv.honesty.1 h)) ∙ ap (λ (s : Image). page_at s (c.args.start + c.loop-i.i)) (inv.only_reads h).seen in
-    let out : (c.from-own.result < c.loop-i.least) ⊎ (c.args.end ≤ c.from-own.result) = elim c.then-own-least.branch as (λ x. (c.from-own.result < c.loop-i.least) ⊎ (c.args.end ≤ c.from-own.result)) [
-      | then-own-least-via-then-own-least w ↦ inl w.if-own-least.true
-      | then-own-least-via-else-own-least+then-from-own w ↦ inr (omega (arith, w.if-from-own.true, w.from.ensures))
-    ] in
-    inv.checked h ∙ not_in_order at c.args.start c.args.count c.args.end c.loop-i.i c.loop-i.least c.from-own.result c.loop-i-test.true (c.from-own.ensures ∙ c.own.ensures.number ∙ ap own_number bytes) out
+    record {
+      images = λ h. inv.images h ∙ ap (pages_from at c.args.start)
+          (all_read _ _ c.loop-i-test.false c.loop-i.auto.i-end);
+      in_order = λ h.
+          let none : c.args.count - c.loop-i.i ≡ 0 = none_left _ _ c.loop-i-test.false in
+          inv.checked h ∙ ap (λ (k : ℕ). are_in_order c.loop-i.least c.args.end
+          (pages_from at (c.args.start + c.loop-i.i) k)) none;
+      damaged = λ h is. absurd (no_err _ _ is);
+      only = tt;
+      only_reads = inv.only_reads;
+      later = inv.faults;
+      cause = λ is. absurd (no_err _ _ is);
+      honesty = inv.honesty;
+      size = inv.size;
+    }
 
 pushed : (ok : Bool) (now items : List Page) (page : Page) (old : Pages) (new : List ℕ) → now ≡ cond ok (items ++ page ∷ []) items → ok ≡ true → bytes_of items ≡ old → page.bytes ≡ new
     → bytes_of now ≡ old ++ new ∷ []
@@ -90,9 +157,3 @@ loop-i-preserved g c =
           pushed (is_ok c.push.result) c.push.new.self.items c.loop-i.images.items c.read_page.new.page (pages_from at c.args.start i) (at place) c.push.ensures.items c.if-is_err-2.ensures.negation (inv.images h) (bytes h)
           ∙ sym (pages_more at c.args.start i);
     }
-
-pub returns-clause-in_order : goal.returns-clause-in_order
-returns-clause-in_order g c h =
-    let at = page_at (g.D.SectorDev.seen c.args.dev.now) in
-    let none : c.args.count - c.loop-i.i ≡ 0 = omega arith in
-    c.loop-i.invariant.checked h ∙ ap (λ (k : ℕ). are_in_order c.loop-i.least c.args.end (pages_from at (c.args.start + c.loop-i.i) k)) none

@@ -1,11 +1,13 @@
 use Rattle.std.proofs.Common.{◌≡◌, ◌/◌, ℕ, List, inl, true, refl, sym, ◌∙◌, ap, subst}
+use Rattle.std.proofs.lemmas.Bool.{false≢true}
 use Rattle.sect_dev.specs.Moments.{started, lifted}
 use Rattle.page_io.specs.Page.{page_at}
 use Rattle.page_io.specs.Store.{file_of, IsEither, bytes_of, file_pages, overlaid, are_in_order, committed_with}
 use Rattle.page_io.specs.declared.page.Page.{Page}
 use Rattle.redo_commit.specs.File.{settled, IsAtRest}
 use Rattle.redo_area.specs.Settling.{only_seen, rests_at}
-use Rattle.redo_area.proofs.Kept.{none_over, new_pages, commit_leaves}
+use Rattle.redo_area.proofs.Kept.{none_over, new_pages, commit_leaves, read_leaves}
+use Rattle.redo_area.proofs.ReadRuns.{none_yet}
 use Rattle.redo_area.proofs.Results.{from_test}
 use Rattle.page_io.proofs.StagedPages.{order_below}
 use Rattle.redo_area.proofs.pager.PagerPageStore.commit.Goals as goal
@@ -59,3 +61,50 @@ returns-clause-committed g c honest =
     ap (λ (f : ℕ → List ℕ). file_pages f c.args.new_end) (sym (none_over redo (page_at (dev.seen c.commit_pages.new.dev)) none))
     ∙ from_test c.commit_pages.result c.is_err.ensures.value c.if-is_err.false (c.commit_pages.ensures.pages honest)
     ∙ new_pages redo home none old.end c.args.new_end (bytes_of c.as_slice.result.now) (bytes_of old.staged.items) (ap bytes_of c.as_slice.ensures.value) c.requires.grown
+
+-- the store is broken
+pub returns-then-not-self-clause-any_moment : goal.returns-then-not-self-clause-any_moment
+returns-then-not-self-clause-any_moment g c honest usable writable =
+    absurd (false≢true (sym c.if-not-self.true ∙ usable))
+
+pub returns-then-not-self-clause-refused : goal.returns-then-not-self-clause-refused
+returns-then-not-self-clause-refused g c refusal =
+    let old = c.args.self.now in (
+      refl,
+      λ honest. record {
+        committed = refl;
+        any_moment = read_leaves g.D.SectorDev old _ refl
+            (none_yet g.D.SectorDev old.dev
+            (λ image left. g.met.D.SectorDev.only_now old.dev image honest left)).any_moment;
+      },
+    )
+
+-- it is for reading alone
+pub returns-then-not-self-2-clause-any_moment : goal.returns-then-not-self-2-clause-any_moment
+returns-then-not-self-2-clause-any_moment g c honest usable writable =
+    absurd (false≢true (sym c.if-not-self-2.true ∙ writable))
+
+pub returns-then-not-self-2-clause-refused : goal.returns-then-not-self-2-clause-refused
+returns-then-not-self-2-clause-refused g c refusal =
+    let old = c.args.self.now in (
+      refl,
+      λ honest. record {
+        committed = refl;
+        any_moment = read_leaves g.D.SectorDev old _ refl
+            (none_yet g.D.SectorDev old.dev
+            (λ image left. g.met.D.SectorDev.only_now old.dev image honest left)).any_moment;
+      },
+    )
+
+-- the pages have no room
+pub returns-then-len-room-clause-refused : goal.returns-then-len-room-clause-refused
+returns-then-len-room-clause-refused g c refusal =
+    let old = c.args.self.now in (
+      refl,
+      λ honest. record {
+        committed = refl;
+        any_moment = read_leaves g.D.SectorDev old _ refl
+            (none_yet g.D.SectorDev old.dev
+            (λ image left. g.met.D.SectorDev.only_now old.dev image honest left)).any_moment;
+      },
+    )

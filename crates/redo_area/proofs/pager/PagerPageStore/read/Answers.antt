@@ -1,9 +1,11 @@
-use Rattle.std.proofs.Common.{List, sym, ◌∙◌, ap}
+use Rattle.std.proofs.Common.{List, refl, sym, ◌∙◌, ap}
+use Rattle.sect_dev.specs.Device.{Image}
 use Rattle.page_io.specs.Page.{page_at}
 use Rattle.page_io.specs.Store.{bytes_of, file_pages, overlaid, page_of}
 use Rattle.page_io.proofs.Overlays.{overlaid-staged, overlaid-none}
 use Rattle.page_io.specs.declared.page.Page.{Page}
-use Rattle.redo_area.proofs.Kept.{not_found, not_staged}
+use Rattle.redo_area.proofs.Kept.{not_found, not_staged, read_leaves}
+use Rattle.redo_area.proofs.ReadRuns.{none_yet}
 use Rattle.redo_area.proofs.Results.{from_test}
 use Rattle.redo_area.proofs.pager.PagerPageStore.read.Goals as goal
 
@@ -34,3 +36,101 @@ returns-clause-found g c honest =
     let not_kept = not_found c.args.n c.as_slice-2.ensures.value c.find_staged-2.ensures.found c.if-find_staged-2.false in
     from_test c.read_page.result c.is_err.ensures.value c.if-is_err.false (c.read_page.ensures.read honest)
     ∙ sym (overlaid-none redo seen c.args.n not_kept) ∙ sym (not_staged (bytes_of old.staged.items) (overlaid redo seen) old.end c.args.n c.if-n-lt1.false c.if-self-n.false none)
+
+-- the store is broken
+pub returns-then-not-self-clause-kept : goal.returns-then-not-self-clause-kept
+returns-then-not-self-clause-kept g c honest =
+    let old = c.args.self.now in
+    let reads = none_yet g.D.SectorDev old.dev
+    (λ image left. g.met.D.SectorDev.only_now old.dev image honest left) in
+    record { committed = refl; any_moment = read_leaves g.D.SectorDev old _ refl reads.any_moment }
+
+pub returns-then-not-self-clause-only_reads : goal.returns-then-not-self-clause-only_reads
+returns-then-not-self-clause-only_reads g c honest =
+    let old = c.args.self.now in
+    none_yet g.D.SectorDev old.dev (λ image left. g.met.D.SectorDev.only_now old.dev image honest
+    left)
+
+-- the page is staged
+pub returns-then-find_staged-clause-kept : goal.returns-then-find_staged-clause-kept
+returns-then-find_staged-clause-kept g c honest =
+    let old = c.args.self.now in
+    let reads = none_yet g.D.SectorDev old.dev
+    (λ image left. g.met.D.SectorDev.only_now old.dev image honest left) in
+    record { committed = refl; any_moment = read_leaves g.D.SectorDev old _ refl reads.any_moment }
+
+pub returns-then-find_staged-clause-only_reads : goal.returns-then-find_staged-clause-only_reads
+returns-then-find_staged-clause-only_reads g c honest =
+    let old = c.args.self.now in
+    none_yet g.D.SectorDev old.dev (λ image left. g.met.D.SectorDev.only_now old.dev image honest
+    left)
+
+-- there is no such page
+pub returns-then-n-lt1-clause-kept : goal.returns-then-n-lt1-clause-kept
+returns-then-n-lt1-clause-kept g c honest =
+    let old = c.args.self.now in
+    let reads = none_yet g.D.SectorDev old.dev
+    (λ image left. g.met.D.SectorDev.only_now old.dev image honest left) in
+    record { committed = refl; any_moment = read_leaves g.D.SectorDev old _ refl reads.any_moment }
+
+pub returns-then-n-lt1-clause-only_reads : goal.returns-then-n-lt1-clause-only_reads
+returns-then-n-lt1-clause-only_reads g c honest =
+    let old = c.args.self.now in
+    none_yet g.D.SectorDev old.dev (λ image left. g.met.D.SectorDev.only_now old.dev image honest
+    left)
+
+-- its image is kept
+pub returns-then-find_staged-2-clause-kept : goal.returns-then-find_staged-2-clause-kept
+returns-then-find_staged-2-clause-kept g c honest =
+    let old = c.args.self.now in
+    let reads = none_yet g.D.SectorDev old.dev
+    (λ image left. g.met.D.SectorDev.only_now old.dev image honest left) in
+    record { committed = refl; any_moment = read_leaves g.D.SectorDev old _ refl reads.any_moment }
+
+pub returns-then-find_staged-2-clause-only_reads : goal.returns-then-find_staged-2-clause-only_reads
+returns-then-find_staged-2-clause-only_reads g c honest =
+    let old = c.args.self.now in
+    none_yet g.D.SectorDev old.dev (λ image left. g.met.D.SectorDev.only_now old.dev image honest
+    left)
+
+-- the device fails
+pub returns-then-is_err-clause-kept : goal.returns-then-is_err-clause-kept
+returns-then-is_err-clause-kept g c honest =
+    let old = c.args.self.now in
+    let page = c.read_page.ensures in
+    record {
+      committed = ap (λ (s : Image). file_pages (overlaid (bytes_of old.redo.items) (page_at s))
+          old.end) (page.seen honest);
+      any_moment = read_leaves g.D.SectorDev old _ page.size (page.any_moment honest);
+    }
+
+pub returns-then-is_err-clause-only_reads : goal.returns-then-is_err-clause-only_reads
+returns-then-is_err-clause-only_reads g c honest =
+    let page = c.read_page.ensures in
+    record {
+      seen = page.seen honest;
+      no_new = page.candidates honest;
+      no_lost = page.keeps honest;
+      any_moment = page.any_moment honest;
+    }
+
+-- it is read from the device
+pub returns-clause-kept : goal.returns-clause-kept
+returns-clause-kept g c honest =
+    let old = c.args.self.now in
+    let page = c.read_page.ensures in
+    record {
+      committed = ap (λ (s : Image). file_pages (overlaid (bytes_of old.redo.items) (page_at s))
+          old.end) (page.seen honest);
+      any_moment = read_leaves g.D.SectorDev old _ page.size (page.any_moment honest);
+    }
+
+pub returns-clause-only_reads : goal.returns-clause-only_reads
+returns-clause-only_reads g c honest =
+    let page = c.read_page.ensures in
+    record {
+      seen = page.seen honest;
+      no_new = page.candidates honest;
+      no_lost = page.keeps honest;
+      any_moment = page.any_moment honest;
+    }
