@@ -1,5 +1,13 @@
 -- What the reading of a line takes from a text.
 use Rattle.std.specs.Prelude.{◌≡◌, ℕ, ◌+◌, ◌==◌, Bool, true, false, List, [], ◌∷◌, length, take, Option, Some, None, if◌then◌else◌}
+use Rattle.dbm_lines.specs.declared.lines.LineRead.{LineRead}
+use Rattle.dbm_lines.specs.declared.lines.LineRead.TheVariants.{End, Last, Followed}
+
+-- whether there was a line
+abbrev pub is_line : LineRead → Bool
+is_line End = false
+is_line Last = true
+is_line Followed = true
 
 -- the bytes before the first line feed, or all of them
 abbrev pub line_bytes : List ℕ → List ℕ

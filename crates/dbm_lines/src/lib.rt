@@ -7,7 +7,7 @@ mod parsing;
 mod replies;
 
 pub use buffers::Buffers;
-pub use lines::{KEPT, read_line};
+pub use lines::{KEPT, LineRead, read_line};
 pub use parsing::{LONGEST_WORD, Request, decode_word, pair_in_line, request_of};
 pub use replies::{
     DIGITS, write_absent, write_bad_line, write_bytes, write_deleted, write_end, write_kept,

@@ -52,8 +52,8 @@ fn load_lines<S: PageStore, R: BufRead>(
 {
     let mut left = u32::MAX;
     for number in 1..u64::MAX {
-        let more = read_line(reader, &mut buffers.line, &mut left);
-        if !more.map_err(|_| EngineFault::Read)? {
+        let read = read_line(reader, &mut buffers.line, &mut left);
+        if !read.map_err(|_| EngineFault::Read)?.is_line() {
             return Ok(());
         }
         load_line(db, buffers, number)?;

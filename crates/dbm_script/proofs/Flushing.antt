@@ -2,18 +2,36 @@
 use Rattle.std.proofs.Common.{◌≡◌, ◌∙◌, ℕ, true, List, Option, Some, None, Result, Ok, Err, IfSome, OnOk}
 use Rattle.std.specs.FinMap as map
 use Rattle.std.specs.Io.KnownBytes.{Appends, Keeps}
+use Rattle.dbm_model.specs.Calls.{Call}
+use Rattle.dbm_model.specs.States.{Handle}
+use Rattle.dbm_text.specs.Lines.{reply_line, bad_line}
 use Rattle.dbm_text.specs.Scripts.{script_of}
 use Rattle.page_model.specs.Sizes.{is_limit}
 use Rattle.page_io.specs.declared.store.PageStore.{Ghosts}
 use Rattle.dbm_file.specs.Opened.{IsOpenedAt}
 use Rattle.dbm_file.specs.declared.database.Database.{Database}
-use Rattle.dbm_script.specs.Scripts.{AnswersScript, AnswersInMemory}
+use Rattle.dbm_script.specs.Scripts.{AnswersScript, AnswersInMemory, AnswersLine}
 
 kept : (old mid new : Option (List ℕ)) (text : List ℕ) → Appends old mid text → Keeps mid new → Appends old new text
 kept None mid new text wrote keeps = tt
 kept (Some xs) None new text wrote keeps = absurd wrote
 kept (Some xs) (Some ys) None text wrote keeps = absurd keeps
 kept (Some xs) (Some ys) (Some zs) text wrote keeps = keeps ∙ wrote
+
+on_ok : {E : Type 0} (r : Result Unit E) (old mid new : Option (List ℕ)) (text : List ℕ)
+    → Appends old mid text → Keeps mid new → OnOk r (Appends old new text)
+on_ok (Ok u) old mid new text wrote keeps = kept old mid new text wrote keeps
+on_ok (Err e) old mid new text wrote keeps = tt
+
+-- the answer of a line, after a flush
+pub line_flushed : {S E : Type 0} {s : Ghosts S} (r : Result Unit E) (call : Option Call)
+    (old new : Database S s) (start : Handle) (before mid after : Option (List ℕ))
+    → AnswersLine call old new start (λ text. Appends before mid text) → Keeps mid after
+    → AnswersLine call old new start (λ text. OnOk r (Appends before after text))
+line_flushed r None old new start before mid after answer keeps =
+    (answer.0, on_ok r before mid after bad_line answer.1 keeps)
+line_flushed r (Some call) old new start before mid after answer keeps =
+    (answer.0, answer.1, on_ok r before mid after (reply_line answer.0) answer.2 keeps)
 
 -- the answer of a new database, after the last flush
 pub answered : {S E : Type 0} {s : Ghosts S} (r : Result Unit E) (limit : ℕ) (first old mid new : Option (List ℕ)) (db after : Database S s) (opened : IsOpenedAt true db map.empty limit) → is_limit limit ≡ true

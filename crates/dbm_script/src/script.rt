@@ -8,15 +8,15 @@ ghost use Rattle.dbm_text.specs.Scripts.{script_of};
 ghost use Rattle.dbm_file.specs.Answers.{IsSameDatabase};
 ghost use Rattle.dbm_file.specs.Calls.{mode_of};
 ghost use Rattle.dbm_file.specs.Database.{AtEachHandle};
-ghost use Rattle.dbm_lines.specs.Reading.{ReadsLine, IsCounted};
+ghost use Rattle.dbm_lines.specs.Reading.{is_line, ReadsLine, IsCounted};
 ghost use Rattle.dbm_script.specs.Scripts.{MakesFirst, AnswersFirst, AnswersScript, AnswersLine};
 
 use crate::replies::{write_fault, write_fetched, write_passed};
 use dbm_fault::EngineFault;
 use dbm_file::{Database, DeleteReply, StoreMode, StoreReply};
 use dbm_lines::{
-    Buffers, DIGITS, Request, read_line, request_of, write_absent, write_bad_line, write_deleted,
-    write_kept, write_number, write_stored,
+    Buffers, DIGITS, LineRead, Request, read_line, request_of, write_absent, write_bad_line,
+    write_deleted, write_kept, write_number, write_stored,
 };
 use page_io::PageStore;
 use std::alloc::Global;
@@ -24,7 +24,8 @@ use std::io::{self, BufRead, Write};
 
 /// Reads lines to the end, makes the call that each asks for, and writes one line for each: the reply,
 /// or `-1 line` where the line asks for no call. A line may have 8,192 bytes without its line feed, and
-/// a text 4,294,967,295. `Memory` comes before anything is read, `Read` where reading fails or the text
+/// a text 4,294,967,295. What is written is flushed where the reader's buffer holds no further whole line,
+/// since reading on may wait. `Memory` comes before anything is read, `Read` where reading fails or the text
 /// is too long, and `Write` where writing fails, also of a call that was made; the calls made so far stand.
 pub fn script_engine<S: PageStore, R: BufRead, W: Write>(
     alloc: Global,
@@ -70,25 +71,44 @@ fn run_lines<S: PageStore, R: BufRead, W: Write>(
 {
     let mut left = u32::MAX;
     for _ in 0..u64::MAX {
-        if !next_line(reader, buffers, &mut left)? {
+        let read = next_line(reader, buffers, &mut left)?;
+        if !read.is_line() {
             return Ok(());
         }
-        answer_line(db, buffers, writer).map_err(|_| EngineFault::Write)?;
+        answer_and_flush(db, buffers, writer, read).map_err(|_| EngineFault::Write)?;
     }
     Err(EngineFault::Read)
 }
 
-/// Reads the next line, and answers whether there was one.
+/// Reads the next line, and answers what it found.
 fn next_line<R: BufRead>(
     reader: &mut R,
     buffers: &mut Buffers,
     left: &mut u32,
-) -> Result<bool, EngineFault>
-    ensures line { IfOk result (λ more. IfSome (R.remaining reader.old) (λ text. ReadsLine 8193 text more buffers.new.line.items (R.remaining reader.new))) }
+) -> Result<LineRead, EngineFault>
+    ensures line { IfOk result (λ read. IfSome (R.remaining reader.old) (λ text. ReadsLine 8193 text (is_line read) buffers.new.line.items (R.remaining reader.new))) }
     ensures counted { OnOk result (IsCounted (R.remaining reader.old) left.old (R.remaining reader.new) left.new) }
     ensures only { IfErr result (λ e. e ≡ EngineFault.Read) }
 {
     read_line(reader, &mut buffers.line, left).map_err(|_| EngineFault::Read)
+}
+
+/// Answers the line, and flushes where reading on may wait.
+fn answer_and_flush<S: PageStore, W: Write>(
+    db: &mut Database<S>,
+    buffers: &mut Buffers,
+    writer: &mut W,
+    read: LineRead,
+) -> io::Result<()>
+    ensures line { AtEachHandle db.old (λ h.
+        AnswersLine (call_in_line buffers.old.line.items) db.old db.new h (λ text. OnOk result (Appends (W.contents writer.old) (W.contents writer.new) text))) }
+    ensures goes { IsSameDatabase db.old db.new }
+{
+    answer_line(db, buffers, writer)?;
+    match read {
+        LineRead::Followed => Ok(()),
+        LineRead::End | LineRead::Last => writer.flush(),
+    }
 }
 
 /// Makes the call that the line asks for, and writes the line that answers it.

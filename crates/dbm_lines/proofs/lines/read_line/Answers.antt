@@ -9,7 +9,7 @@ returns-in-None g c =
     let given : Gives _ (g.R.Read.remaining c.read_byte.new.reader) None = (rw c.in-None.is at byte, c.in_ok-read_byte.ensures.rest) in
     let count = c.in_ok-read_byte.ensures.counted in
     record {
-      line = at_end 8193 _ _ _ _ _ c.loop.invariant.reading given;
+      line = rw c.of.ensures (at_end 8193 _ _ _ _ c.loop.more c.loop.invariant.reading given);
       counted = one_counted _ _ _ _ _ _ _ c.loop.invariant.counted given (rw c.in-None.is at count);
     }
 
@@ -21,7 +21,7 @@ returns-in-Some-eq10 g c =
     let same : c.in-Some-eq10.field-0 ≡ 10 = search (rules, c.in-Some-eq10.field-0-test) in
     let feed = rw same at given in
     record {
-      line = at_feed 8193 _ _ _ _ c.loop.more c.loop.invariant.reading (feed, c.in_ok-read_byte.ensures.rest);
+      line = rw c.of-in-Some-eq10.ensures (at_feed 8193 _ _ _ _ c.loop.more c.loop.invariant.reading (feed, c.in_ok-read_byte.ensures.rest));
       counted = one_counted _ _ _ _ _ _ _ c.loop.invariant.counted (given, c.in_ok-read_byte.ensures.rest) (rw c.in-Some-eq10.is at count);
     }
 

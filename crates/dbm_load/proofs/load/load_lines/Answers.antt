@@ -23,15 +23,15 @@ returns-in_err-map_err-clause-loads g c =
 
 pub returns-in_err-load_line-clause-loads : goal.returns-in_err-load_line-clause-loads
 returns-in_err-load_line-clause-loads g c =
-    let read : IfSome (g.R.Read.remaining c.loop-number.reader) (λ text. ReadsLine 8193 text true c.read_line-more.new.line.items (g.R.Read.remaining c.read_line-more.new.reader)) = search rules in
+    let read : IfSome (g.R.Read.remaining c.loop-number.reader) (λ text. ReadsLine 8193 text true c.read_line-read.new.line.items (g.R.Read.remaining c.read_line-read.new.reader)) = search rules in
     let same : c.from_residual-in_err-load_line.result ≡ Err c.in_err-load_line.field-0.0 = search rules in
     let h = c.loop-number.invariant in
     rw same (stopped g.S.PageStore _ _ _ _ _ _ _ _ h.goes.limit h.goes.honesty.1 c.load_line.ensures.goes (λ honest t x le left. g.met.S.PageStore.counts_now (store_of c.load_line.new.db) t x honest le left) h.loading read _ c.in_err-load_line.ensures.line)
 
 pub loop-number-preserved : goal.loop-number-preserved
 loop-number-preserved g c =
-    let read : IfSome (g.R.Read.remaining c.loop-number.reader) (λ text. ReadsLine 8193 text true c.read_line-more.new.line.items (g.R.Read.remaining c.read_line-more.new.reader)) = search rules in
-    let count : IsCounted (g.R.Read.remaining c.loop-number.reader) c.loop-number.left (g.R.Read.remaining c.read_line-more.new.reader) c.read_line-more.new.left = search rules in
+    let read : IfSome (g.R.Read.remaining c.loop-number.reader) (λ text. ReadsLine 8193 text true c.read_line-read.new.line.items (g.R.Read.remaining c.read_line-read.new.reader)) = search rules in
+    let count : IsCounted (g.R.Read.remaining c.loop-number.reader) c.loop-number.left (g.R.Read.remaining c.read_line-read.new.reader) c.read_line-read.new.left = search rules in
     let h = c.loop-number.invariant in
     record {
       loading = go_on g.S.PageStore _ _ _ _ _ _ _ _ h.goes.limit h.goes.honesty.1 c.load_line.ensures.goes (λ honest t x le left. g.met.S.PageStore.counts_now (store_of c.load_line.new.db) t x honest le left) h.loading read c.in_ok-load_line.ensures.line;

@@ -1,4 +1,4 @@
-use Rattle.std.proofs.Common.{◌≡◌, true, is_ok, rules}
+use Rattle.std.proofs.Common.{◌≡◌, ◌∙◌, sym, true, is_ok, rules}
 use Rattle.dbm_file.specs.Database.{store_of}
 use Rattle.dbm_file.proofs.Runs.{no_run, goes_nowhere, still_goes}
 use Rattle.dbm_lines.proofs.TextLines.{counted_first, counted_on}
@@ -15,11 +15,11 @@ loop-init g c = record {
 }
 
 -- a line was cut short
-pub returns-in_err-next_line-clause-stands : goal.returns-in_err-next_line-clause-stands
-returns-in_err-next_line-clause-stands g c honest start at = stand _ _ start _ _ _ _ (c.loop.invariant.answered honest start at)
+pub returns-in_err-read-clause-stands : goal.returns-in_err-read-clause-stands
+returns-in_err-read-clause-stands g c honest start at = stand _ _ start _ _ _ _ (c.loop.invariant.answered honest start at)
 
-pub returns-in_err-next_line-clause-cut : goal.returns-in_err-next_line-clause-cut
-returns-in_err-next_line-clause-cut g c honest start at is = answered_first _ _ start _ _ _ _ (c.loop.invariant.answered honest start at)
+pub returns-in_err-read-clause-cut : goal.returns-in_err-read-clause-cut
+returns-in_err-read-clause-cut g c honest start at is = answered_first _ _ start _ _ _ _ (c.loop.invariant.answered honest start at)
 
 -- a reply was not written
 pub returns-in_err-map_err-clause-stands : goal.returns-in_err-map_err-clause-stands
@@ -27,14 +27,14 @@ returns-in_err-map_err-clause-stands g c honest start at =
     let so_far = c.loop.invariant in
     let h = so_far.answered honest start at in
     let mid = so_far.goes.honesty.1 honest in
-    stand_with g.S.PageStore _ _ _ start _ _ _ _ _ c.next_line.new.buffers.line.items _ so_far.goes.limit c.answer_line.ensures.goes
-    (λ t x le left. g.met.S.PageStore.counts_now (store_of c.answer_line.new.db) t x (c.answer_line.ensures.goes.honesty.1 mid) le left) h
-    (was_read _ _ _ _ c.if-not-branch.false c.in_ok-next_line.ensures.line)
-    (c.answer_line.ensures.line mid h.answered.run.after h.answered.run.is_at)
+    stand_with g.S.PageStore _ _ _ start _ _ _ _ _ c.next_line.new.buffers.line.items _ so_far.goes.limit c.answer_and_flush.ensures.goes
+    (λ t x le left. g.met.S.PageStore.counts_now (store_of c.answer_and_flush.new.db) t x (c.answer_and_flush.ensures.goes.honesty.1 mid) le left) h
+    (was_read _ _ _ _ (sym c.is_line.ensures ∙ c.if-not-is_line.false) c.in_ok-read.ensures.line)
+    (c.answer_and_flush.ensures.line mid h.answered.run.after h.answered.run.is_at)
 
 -- at the end of the text
-pub returns-then-not-branch-clause-stands : goal.returns-then-not-branch-clause-stands
-returns-then-not-branch-clause-stands g c honest start at = stand _ _ start _ _ _ _ (c.loop.invariant.answered honest start at)
+pub returns-then-not-is_line-clause-stands : goal.returns-then-not-is_line-clause-stands
+returns-then-not-is_line-clause-stands g c honest start at = stand _ _ start _ _ _ _ (c.loop.invariant.answered honest start at)
 
 -- after as many lines as can be counted
 pub returns-clause-stands : goal.returns-clause-stands
@@ -46,15 +46,15 @@ returns-clause-cut g c honest start at is = answered_first _ _ start _ _ _ _ (c.
 pub loop-preserved : goal.loop-preserved
 loop-preserved g c =
     let so_far = c.loop.invariant in
-    let wrote : is_ok c.answer_line.result ≡ true = search rules in
+    let wrote : is_ok c.answer_and_flush.result ≡ true = search rules in
     record {
       answered = λ honest start at.
           let h = so_far.answered honest start at in
           let mid = so_far.goes.honesty.1 honest in
-          go_on g.S.PageStore _ _ _ start _ _ _ _ _ _ c.next_line.new.buffers.line.items so_far.goes.limit c.answer_line.ensures.goes
-          (λ t x le left. g.met.S.PageStore.counts_now (store_of c.answer_line.new.db) t x (c.answer_line.ensures.goes.honesty.1 mid) le left) h
-          (was_read _ _ _ _ c.if-not-branch.false c.in_ok-next_line.ensures.line)
-          (said c.answer_line.result _ _ _ h.answered.run.after _ wrote (c.answer_line.ensures.line mid h.answered.run.after h.answered.run.is_at));
-      goes = still_goes _ _ _ so_far.goes c.answer_line.ensures.goes;
-      counted = counted_on _ _ _ _ _ _ so_far.counted c.in_ok-next_line.ensures.counted;
+          go_on g.S.PageStore _ _ _ start _ _ _ _ _ _ c.next_line.new.buffers.line.items so_far.goes.limit c.answer_and_flush.ensures.goes
+          (λ t x le left. g.met.S.PageStore.counts_now (store_of c.answer_and_flush.new.db) t x (c.answer_and_flush.ensures.goes.honesty.1 mid) le left) h
+          (was_read _ _ _ _ (sym c.is_line.ensures ∙ c.if-not-is_line.false) c.in_ok-read.ensures.line)
+          (said c.answer_and_flush.result _ _ _ h.answered.run.after _ wrote (c.answer_and_flush.ensures.line mid h.answered.run.after h.answered.run.is_at));
+      goes = still_goes _ _ _ so_far.goes c.answer_and_flush.ensures.goes;
+      counted = counted_on _ _ _ _ _ _ so_far.counted c.in_ok-read.ensures.counted;
     }

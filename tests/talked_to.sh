@@ -1,0 +1,156 @@
+#!/usr/bin/env bash
+# A script that is talked to through two pipes: each line's reply comes before the next line is sent, a line in two halves is answered
+# after the second, and a store whose reply was seen is there after a kill. A text in a file is answered in large writes.
+set -u
+top=$(cd "$(dirname "$0")/.." && pwd)
+program=$top/crates/dbmtool/out/dbmtool
+work=$(mktemp -d)
+pid=
+trap '[ -z "$pid" ] || kill -9 "$pid" 2> /dev/null; rm -rf "$work"' EXIT
+trap 'echo "the program reads no more"; exit 1' PIPE
+cd "$work" || exit 1
+bad=0
+wrong() { echo "$1"; bad=1; }
+
+# starts WORDS..: the program that is talked to from now on
+starts() {
+  rm -f lines replies
+  mkfifo lines replies || exit 1
+  "$program" "$@" < lines > replies 2> err &
+  pid=$!
+  exec {to}> lines {from}< replies
+}
+
+# sends TEXT, in which \n is a line feed
+sends() { printf '%b' "$1" >&"$to"; }
+
+# replied REPLY LINE: the reply comes now, with nothing more sent
+replied() {
+  local reply
+  read -t 20 -r -u "$from" reply || { echo "no reply to '$2'"; exit 1; }
+  [ "$reply" = "$1" ] || wrong "the reply to '$2' is '$reply', and not '$1'"
+}
+
+# waits TEXT: there is no reply to a text that ends no line
+waits() {
+  local reply
+  read -t 0.3 -r -u "$from" reply
+  [ $? -gt 128 ] || wrong "a reply to '$1', which is no line yet: '$reply'"
+}
+
+# ends STATUS [REPLY]: after the end of the input this reply comes, or none, and the program ends with this status
+ends() {
+  local reply
+  exec {to}>&-
+  [ $# = 1 ] || replied "$2" 'the line that the input ends in'
+  read -t 20 -r -u "$from" reply
+  if [ $? != 1 ] || [ -n "$reply" ]; then echo "no end after the end of the input: '$reply'"; exit 1; fi
+  exec {from}<&-
+  wait "$pid"
+  local status=$?
+  pid=
+  [ "$status" = "$1" ] || wrong "status $status, and not $1: $(cat err)"
+}
+
+# the lines of a round and their replies; it leaves an empty database, no pass and no error number
+round='E|0
+N|-1 fault 7
+E|7
+C|0
+1|end
+N|end
+S 6b 76|0
+F 6B|76
+I 6b 77|1
+F 6b|76
+I 6c .|0
+F 6c|.
+D 6c|0
+F 6c|none
+D 6c|-1 absent
+1|6b
+N|end
+S 6b .|0
+N|-1 fault 7
+F 6b|.
+E|7
+C|0
+E|0
+Q|-1 line
+|-1 line
+S 6|-1 line
+S 6b|-1 line
+D 6b|0'
+
+# talks WORDS..: a dozen rounds, and lines in parts, with the program of these words
+talks() {
+  local line reply long
+  long=$(head -c 20000 /dev/zero | tr '\0' '0')
+  starts "$@"
+  for _ in $(seq 1 12); do
+    while IFS='|' read -r line reply; do
+      sends "$line\\n"; replied "$reply" "$line"
+    done <<< "$round"
+  done
+  # a line in two halves
+  sends 'S 6b'; waits 'S 6b'; sends ' 76\n'; replied 0 'S 6b 76'
+  # a line and half of the next
+  sends 'F 6b\nF 6'; replied 76 'F 6b'; waits 'F 6'; sends 'c\n'; replied none 'F 6c'
+  # lines together
+  sends 'F 6b\nD 6b\n\n'; replied 76 'F 6b'; replied 0 'D 6b'; replied '-1 line' ''
+  # a line longer than any buffer
+  sends "S 6b $long"; waits 'S 6b 00..'; sends '\n'; replied '-1 line' 'S 6b 00..'
+  # the last line without its line feed
+  sends 'S 6b 77\nF 6b'; replied 0 'S 6b 77'; waits 'F 6b'; ends 0 77
+  # no line at all
+  starts "$@"; ends 0
+}
+
+# looks TURN: the stores that were answered in this turn are there
+looks() {
+  local key
+  while read -r key; do
+    [ "$("$program" fetch killed "$key" -x)" = "${key}76" ] || wrong "turn $1: the store of $key was answered, and is gone"
+  done < "answered.$1"
+}
+
+"$program" create t --limit 100 || exit 1
+talks script t
+[ "$("$program" dump t)" = '6b 77' ] || wrong "after the talk the database has other pairs"
+talks script --memory 100
+
+# stores that were answered, and a kill
+"$program" create killed --limit 10000 || exit 1
+for turn in $(seq 1 20); do
+  starts script killed
+  : > "answered.$turn"
+  for n in $(seq 1 $((turn * 7 % 20 + 1))); do
+    key=$(printf '%04x%04x' "$turn" "$n")
+    sends "S $key ${key}76\\n"; replied 0 "S $key ${key}76"
+    echo "$key" >> "answered.$turn"
+  done
+  # one more is under way
+  [ $((turn % 2)) = 0 ] || sends "S ffff 76\\n"
+  kill -9 "$pid"
+  wait "$pid" 2> /dev/null
+  pid=
+  exec {to}>&- {from}<&-
+  looks "$turn"
+done
+for turn in $(seq 1 20); do looks "$turn"; done
+
+# a text in a file
+for n in $(seq 1 1000); do printf 'S %08x %08x76\n' "$n" "$n"; done > text
+for n in $(seq 1 1000); do printf 'F %08x\n' "$n"; done >> text
+{ for _ in $(seq 1 1000); do echo 0; done; for n in $(seq 1 1000); do printf '%08x76\n' "$n"; done; } > wanted
+timeout 60 "$program" script --memory 1000 < text > found || wrong "a script of 2,000 lines: status $?"
+cmp -s found wanted || wrong "a script of 2,000 lines is answered otherwise"
+if strace -o trace true 2> /dev/null; then
+  timeout 60 strace -f -e trace=write,writev -o trace "$program" script --memory 1000 < text > found || wrong "traced: status $?"
+  cmp -s found wanted || wrong "traced: a script of 2,000 lines is answered otherwise"
+  writes=$(grep -cE 'writev?\(1,' trace)
+  [ "$writes" -ge 1 ] && [ "$writes" -lt 100 ] || wrong "a script of 2,000 lines is answered in $writes writes"
+else
+  echo "how large the writes are was not looked at: there is no strace that works" >&2
+fi
+exit $bad
