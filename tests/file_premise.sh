@@ -9,6 +9,15 @@ crates/sect_dev/proofs/file_dev/FileDev/pwrite/Answers.antt
 crates/sect_dev/specs/FileHistory.antt'
 [ "$cited" = "$wanted" ] || { echo "the laws of a file's history are cited elsewhere:"; echo "$cited"; exit 1; }
 
+# the file of a device is named where it is opened, and on the one line of each of the three
+named=$(grep -rhoE '(self|dev|device)\.file\b[^;]*' crates/sect_dev/src | sort)
+wanted='self.file.read_at(out, at)
+self.file.sync_all()
+self.file.write_all_at(from, at)'
+[ "$named" = "$wanted" ] || { echo "the file of a device is named elsewhere:"; echo "$named"; exit 1; }
+taken=$(grep -cE '^ *file(,|:)' crates/sect_dev/src/file_dev.rt)
+[ "$taken" = 2 ] || { echo "the file of a device is taken out of it: $taken lines"; exit 1; }
+
 # and each cites one law once, for the one call of its function
 for function in fsync pread pwrite; do
   proof=crates/sect_dev/proofs/file_dev/FileDev/$function/Answers.antt

@@ -24,6 +24,7 @@ for round in $(seq 1 100); do
   sleep "0.$(printf '%03d' $((20 + round * 7 % 60)))"
   kill -9 -- -"$group"
   wait "$group" 2> /dev/null
+  flock -x -w 20 t.db true || exit 1   # till the program that was killed is gone, and its lock with it
   "$program" dump t > found 2> err || { echo "round $round: $(cat err)"; exit 1; }
   missing=$(sort acknowledged | comm -23 - <(sort found) | wc -l)
   [ "$missing" = 0 ] || { echo "round $round: $missing acknowledged pairs are gone"; exit 1; }

@@ -21,8 +21,8 @@ const FILE_SECTORS: u32 = 9_001_992;
 /// with `exclusive` a file that is there is refused, unless it is blank.
 ///
 /// `Missing` where the file isn't there and isn't to be made, before anything else is looked at; `Memory` where there is no
-/// memory for the name, or the system has none; `Device` where the system refuses the file for another cause; then as
-/// `Db::open`. Where the file was made and the opening is then refused, the file stays.
+/// memory for the name, or the system has none; `Device` where the system refuses the file for another cause, or another
+/// opening has it locked (`FileDev::open`); then as `Db::open`. Where the file was made and the opening is then refused, the file stays.
 pub fn dbm_open<R: Files<File = File>>(
     rt: &R,
     alloc: Global,

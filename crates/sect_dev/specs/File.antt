@@ -20,6 +20,14 @@ pub record IsSame (old new : FileDev) : Type 0 where
   pub changes : new.changes ≡ old.changes
   pub capacity : new.capacity ≡ old.capacity
 
+-- the system was asked for this change, which is the next one, and all else is as it was
+pub record IsChanged (old new : FileDev) (change : Change) : Type 0 where
+  pub file : new.file ≡ old.file
+  pub changes : new.changes ≡ old.changes + 1
+  pub capacity : new.capacity ≡ old.capacity
+  pub faults : new.faults ≡ old.faults
+  pub next : IsNextChange old change
+
 -- the system was asked for this change and answered so, or no more changes can be counted, and the call failed
 pub record AsksSystem (old new : FileDev) (change : Change) (ok : Bool) : Type 0 where
   pub file : new.file ≡ old.file

@@ -100,18 +100,33 @@ fn find<R: Files<File = File>>(
         }
         opened => opened?,
     };
-    Ok(Some(above_standard(file)?))
+    let file = above_standard(file)?;
+    lock(&file, write)?;
+    Ok(Some(file))
+}
+
+// Takes the system's advisory lock on a file, alone for writing and shared for reading, and waits for none. It ends
+// with the last handle of the file.
+fn lock(file: &File, write: bool) -> io::Result<()> {
+    if write {
+        file.try_lock()?;
+    } else {
+        file.try_lock_shared()?;
+    }
+    Ok(())
 }
 
 impl FileDev {
-    ghost use Rattle.sect_dev.specs.File.{file_history, IsNextChange, Gave, IsSame};
+    ghost use Rattle.sect_dev.specs.File.{file_history, IsChanged, Gave, IsSame};
 
     /// Opens a file as a device of so many sectors, whatever its length: for reading and writing with `write`, else
     /// for reading alone, and then each write fails. With `write` and `create` a file that isn't there is made, and
-    /// its folder is synced.
+    /// its folder is synced. The file is locked (flock) till the device is dropped: no other opening has it beside
+    /// one with `write`.
     ///
     /// `Missing` where the file isn't there and `write` and `create` aren't both set, `Memory` where the system has
-    /// no memory for it, and `Device` where the system refuses it, or the sync of its folder, for another cause.
+    /// no memory for it, and `Device` where the system refuses it, the sync of its folder, or the lock, for another
+    /// cause; also where another opening holds the lock, before a byte is read or written.
     pub fn open<R: Files<File = File>>(
         rt: &R,
         path: &str,
@@ -145,17 +160,21 @@ impl FileDev {
         self.file.read_at(out, at)
     }
 
-    // Asks it to write a sector.
-    fn pwrite(&self, at: u64, from: &[u8; 512]) -> io::Result<()>
-        ensures { IsNextChange self.now (Writes at from.now (is_ok result)) }
+    // Asks it to write a sector. A change is counted where it is asked for, so none more can be.
+    fn pwrite(&mut self, at: u64, from: &[u8; 512]) -> io::Result<()>
+        requires { self.old.changes < 2 ^ 64 - 1 }
+        ensures { IsChanged self.old self.new (Writes at from.now (is_ok result)) }
     {
+        self.changes += 1;
         self.file.write_all_at(from, at)
     }
 
     // Asks it to sync the file.
-    fn fsync(&self) -> io::Result<()>
-        ensures { IsNextChange self.now (Syncs (is_ok result)) }
+    fn fsync(&mut self) -> io::Result<()>
+        requires { self.old.changes < 2 ^ 64 - 1 }
+        ensures { IsChanged self.old self.new (Syncs (is_ok result)) }
     {
+        self.changes += 1;
         self.file.sync_all()
     }
 
@@ -191,16 +210,12 @@ impl FileDev {
         Err(DevFault)
     }
 
-    // Counts a change that the system answered.
+    // Counts a fault where the system refused a change.
     fn note(&mut self, answer: io::Result<()>) -> Result<(), DevFault>
-        requires { self.old.changes < 2 ^ 64 - 1 }
         ensures answer { is_ok result ≡ is_ok answer }
-        ensures changes { self.new.changes ≡ self.old.changes + 1 }
-        ensures file { self.new.file ≡ self.old.file }
+        ensures same { IsSame self.old self.new }
         ensures cause { HasCause self.old.faults self.new.faults result }
-        ensures size { self.new.capacity ≡ self.old.capacity }
     {
-        self.changes += 1;
         if answer.is_err() {
             return self.fail();
         }

@@ -1,7 +1,14 @@
-use Rattle.std.proofs.Common.{is_ok}
+use Rattle.std.proofs.Common.{refl, is_ok}
 use Rattle.sect_dev.specs.FileHistory.{recorded_change}
 use Rattle.sect_dev.specs.FileHistory.Change.{Writes}
 use Rattle.sect_dev.proofs.file_dev.FileDev.pwrite.Goals as goal
 
 pub returns : goal.returns
-returns c = recorded_change c.args.self.now.file c.args.self.now.changes (Writes c.args.at c.args.from.now (is_ok c.write_all_at.result))
+returns c = record {
+  file = refl;
+  changes = refl;
+  capacity = refl;
+  faults = refl;
+  next = recorded_change c.args.self.now.file c.args.self.now.changes
+      (Writes c.args.at c.args.from.now (is_ok c.write_all_at.result));
+}

@@ -1,13 +1,15 @@
-use Rattle.std.proofs.Common.{inl, rules}
+use Rattle.std.proofs.Common.{◌∙◌, is_ok}
+use Rattle.sect_dev.proofs.Asking.{asked_to_sync, cause_since}
 use Rattle.sect_dev.proofs.file_dev.FileDevSectorDev.sync.Goals as goal
 
 pub returns : goal.returns
-returns c = record {
-  goes = record {
-    file = c.note.ensures.file;
-    answered = inl
-        (c.note.ensures.changes, search rules);
-  };
-  cause = c.note.ensures.cause;
-  size = c.note.ensures.size;
-}
+returns c =
+    let old = c.args.self.now in
+    let mid = c.fsync-answer.new.self in
+    let done = c.fsync-answer.ensures in
+    let told = c.note.ensures in
+    record {
+      goes = asked_to_sync old mid c.note.new.self (is_ok c.note.result) (is_ok c.fsync-answer.result) told.answer told.same done;
+      cause = cause_since c.note.result old.faults mid.faults c.note.new.self.faults done.faults told.cause;
+      size = told.same.capacity ∙ done.capacity;
+    }

@@ -1,21 +1,17 @@
-use Rattle.std.proofs.Common.{◌*◌, inl, is_ok}
-use Rattle.sect_dev.proofs.Asking.{next_write}
+use Rattle.std.proofs.Common.{◌*◌, ◌∙◌, is_ok}
+use Rattle.sect_dev.proofs.Asking.{asked_to_write, cause_since}
 use Rattle.sect_dev.proofs.file_dev.FileDevSectorDev.write.Goals as goal
 
 pub returns : goal.returns
 returns c =
-    let answer = c.note.ensures in
+    let old = c.args.self.now in
+    let mid = c.pwrite-answer.new.self in
+    let done = c.pwrite-answer.ensures in
+    let told = c.note.ensures in
     record {
-      goes = record {
-        file = answer.file;
-        answered = inl (
-          answer.changes,
-          next_write c.args.self.now c.offset_of.result (c.args.n * 512) c.args.from.now
-              (is_ok c.note.result) (is_ok c.pwrite-answer.result)
-              c.offset_of.ensures answer.answer c.pwrite-answer.ensures,
-        );
-      };
+      goes = asked_to_write old mid c.note.new.self (is_ok c.note.result) (is_ok c.pwrite-answer.result) told.answer told.same
+          c.offset_of.result (c.args.n * 512) c.args.from.now c.offset_of.ensures done;
       whole = c.told-from;
-      cause = answer.cause;
-      size = answer.size;
+      cause = cause_since c.note.result old.faults mid.faults c.note.new.self.faults done.faults told.cause;
+      size = told.same.capacity ∙ done.capacity;
     }
