@@ -3,5 +3,7 @@ pub mod NumberLemmas
 pub mod PassLemmas
 pub mod RefusalLemmas
 pub mod RoomLemmas
+pub mod RuleLemmas
 pub mod RunLemmas
 pub mod Runs
+pub mod StayLemmas

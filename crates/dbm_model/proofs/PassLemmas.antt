@@ -11,7 +11,8 @@ use Rattle.dbm_model.specs.Pairs.{Key, Contents, key_cmp}
 use Rattle.dbm_model.specs.States.{State, Keys, Handle}
 use Rattle.dbm_model.specs.Steps.{Case, Tells, Refuses, Declines, Finds, Passes, Changes, fetched, stored, deleted, passed, usable_case, case_of, GivesKey, Answers, Suffers, Step, Run}
 use Rattle.dbm_model.specs.Passes.{given_by, given, times_in, is_refused, GoesOn, PassesAreComplete}
-use Rattle.dbm_model.proofs.RefusalLemmas.{broken_refuses, error_told, error_cleared, ByCase, falls, if_usable, if_broken}
+use Rattle.dbm_model.proofs.RuleLemmas.{broken_refuses, ByCase, falls, if_usable, if_broken}
+use Rattle.dbm_model.proofs.StayLemmas.{error_told, error_cleared}
 
 abbrev order : IsTotalOrder key_cmp
 order = nat_list_cmp_total

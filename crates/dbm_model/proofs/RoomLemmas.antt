@@ -7,7 +7,7 @@ use Rattle.dbm_model.specs.States.{Handle, flagged, fresh}
 use Rattle.dbm_model.specs.Steps.{Case, Changes, Suffers, IsShort, growth, case_of}
 use Rattle.dbm_model.specs.Examples.{one}
 use Rattle.dbm_model.specs.Room.{RoomStays, RoomExamples, with_room, IsFirstStore}
-use Rattle.dbm_model.proofs.RefusalLemmas.{falls}
+use Rattle.dbm_model.proofs.RuleLemmas.{falls}
 use Rattle.dbm_model.proofs.RunLemmas.{only, adds, none_yet}
 
 none_grows : (before : Handle) (reply : Reply) → (reply ≡ Stored → ⊥) → growth before reply ≡ 0
