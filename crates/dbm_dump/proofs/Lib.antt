@@ -2,3 +2,4 @@ pub mod Dumping
 pub mod DumpingKeys
 pub mod DumpingPairs
 pub mod Exits
+pub mod KeySets
