@@ -16,8 +16,9 @@ pub const FAULT_TABLE: &str = "Exit status:
 
 Faults:
   1   no memory: give it more; the call that was refused changed nothing
-  2   the system failed to read, write, sync or open the file: look at the disk
-      and at the file's rights; a change cut short is there whole or not at all
+  2   the system failed to read, write, sync or open the file, or another
+      program has it open: look at the disk, at the file's rights and at who
+      uses it; a change cut short is there whole or not at all
   3   an earlier fault left a change in doubt: open the file again, which
       settles it
   4   a change of a database that was opened for reading: open it for writing
