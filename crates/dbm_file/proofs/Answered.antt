@@ -1,15 +1,15 @@
 -- Calls that were answered on any device.
-use Rattle.std.proofs.Common.{◌≡◌, ℕ, ◌+◌, List, [], ◌∷◌, ◌++◌, None, Some, Result, Ok, Err, IfOk, IfSome, refl, sym, ap, subst, arith}
+use Rattle.std.proofs.Common.{◌≡◌, ℕ, ◌+◌, List, [], ◌∷◌, ◌++◌, None, Some, Result, Ok, Err, IfOk, refl, sym, ap, subst, arith}
 use Rattle.dbm_fault.specs.Among.{IsErrAmong}
 use Rattle.dbm_fault.specs.declared.fault.Fault.{Fault}
 use Rattle.page_io.specs.declared.store.PageStore.{Ghosts}
 use Rattle.chain_walks.specs.Walks.{EndsWithout}
 use Rattle.dbm_file.specs.Answers.{IsSameDatabase, IsCallEnded}
 use Rattle.dbm_file.specs.Calls.{reply_of, store_reply, delete_reply, Lent, lent_reply, seen}
-use Rattle.dbm_file.specs.Database.{store_of, meta_kept, cursor_of}
+use Rattle.dbm_file.specs.Database.{store_of, meta_kept}
 use Rattle.dbm_file.specs.Replies.{IsCallAnswered, IsAnswered, AreAnswered, store_faults, delete_faults, read_faults, next_faults, told_of_store, told_of_delete, told_of_bytes}
 use Rattle.dbm_file.specs.Rooms.{rooms_in}
-use Rattle.dbm_file.specs.Searches.{Searched, EndsWith, EndsAtContent, Passed, pass_start}
+use Rattle.dbm_file.specs.Searches.{Searched, EndsWith, EndsAtContent, Passed, WentOn, pass_start}
 use Rattle.dbm_file.specs.declared.calls.Call.{Call}
 use Rattle.dbm_file.specs.declared.calls.Call.TheVariants.{Store, Fetch, Delete, First, Next}
 use Rattle.dbm_file.specs.declared.calls.Reply.{Reply}
@@ -77,7 +77,7 @@ module _ {S : Type 0} {s : Ghosts S} {old new : Database S s} where
   begun_well (Ok (Some key)) passed only keeps = record { replied = tt; read = passed; keeps = keeps_as (Some key) tt keeps }
   begun_well (Err fault) passed only keeps = record { replied = only; read = tt; keeps = keeps_err fault keeps }
 
-  passed_well : (found : Lent) → IfOk found (λ key. IfSome (cursor_of old) (λ cursor. Passed old cursor (seen key))) → IsErrAmong found next_faults → IsCallEnded old new found
+  passed_well : (found : Lent) → IfOk found (λ key. WentOn old (seen key)) → IsErrAmong found next_faults → IsCallEnded old new found
       → IsCallAnswered old new Next (told_of_bytes End found)
   passed_well (Ok None) passed only keeps = record { replied = refl; read = passed; keeps = keeps_as None tt keeps }
   passed_well (Ok (Some key)) passed only keeps = record { replied = tt; read = passed; keeps = keeps_as (Some key) tt keeps }
@@ -106,7 +106,7 @@ module _ {S : Type 0} {s : Ghosts S} {old new : Database S s} where
       → IsCallAnswered old new First reply
   first_answered found reply is passed only keeps = subst (λ (r : Reply). IsCallAnswered old new First r) (sym is) (begun_well found passed only keeps)
 
-  pub next_answered : (found : Lent) (reply : Reply) → reply ≡ told_of_bytes End found → IfOk found (λ key. IfSome (cursor_of old) (λ cursor. Passed old cursor (seen key))) → IsErrAmong found next_faults
+  pub next_answered : (found : Lent) (reply : Reply) → reply ≡ told_of_bytes End found → IfOk found (λ key. WentOn old (seen key)) → IsErrAmong found next_faults
       → IsCallEnded old new found → IsCallAnswered old new Next reply
   next_answered found reply is passed only keeps = subst (λ (r : Reply). IsCallAnswered old new Next r) (sym is) (passed_well found passed only keeps)
 

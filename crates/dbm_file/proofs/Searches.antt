@@ -1,5 +1,6 @@
 -- Searches, by what they answered.
-use Rattle.std.proofs.Common.{◌≡◌, ℕ, Bool, true, false, is_some, List, Option, Some, None, Result, Err, IfOk, IfSome, sym, ◌∙◌, ap, subst}
+use Rattle.std.proofs.Common.{◌≡◌, ◌⊎◌, ℕ, Bool, true, false, is_some, List, Option, Some, None, Result, Err, IfOk, inl, inr, sym, ◌∙◌, ap, subst}
+use Rattle.std.specs.Prelude.{◌↔◌}
 use Rattle.std.specs.Borrow.{Bor}
 use Rattle.std.specs.List.{HoldsAt}
 use Rattle.dbm_model.specs.Pairs.{Key, Pair}
@@ -10,6 +11,7 @@ use Rattle.chain_walks.specs.Walks.{EndsWithout}
 use Rattle.chain_walks.specs.declared.place.Place.{Place}
 use Rattle.linear_hash.specs.Looking.{IsSearch, EndsAt}
 use Rattle.dbm_fault.specs.declared.fault.Fault.{Fault}
+use Rattle.dbm_fault.specs.declared.fault.Fault.TheVariants.{NoPass, Device, Damaged}
 use Rattle.linear_hash.specs.Passing.{IsPassed}
 use Rattle.linear_hash.specs.declared.passing.Cursor.{Cursor}
 use Rattle.dbm_file.specs.Searches.{EndsWith, EndsBy, EndsAtContent, IsReached, IsGiven}
@@ -74,6 +76,28 @@ reached_place at m cursor bytes found bucket there is passed = (bucket, there.pa
 pub reached_end : (at : ℕ → Body) (m : Meta) (cursor : Cursor) (bytes : List ℕ) (found : Option (ℕ × Place)) → found ≡ None → IsPassed at m cursor bytes found → IsReached at m cursor bytes None
 reached_end at m cursor bytes found is passed = subst (λ (o : Option (ℕ × Place)). IsPassed at m cursor bytes o) is passed
 
--- by the cursor that the database had
-pub from_cursor : (P : Cursor → Type 0) (had : Option Cursor) (cursor : Cursor) → had ≡ Some cursor → P cursor → IfSome had P
-from_cursor P had cursor is p = subst (λ (o : Option Cursor). IfSome o P) (sym is) p
+same_fault : {T : Type 0} (r : Result T Fault) (one other : Fault) → r ≡ Err one → r ≡ Err other → one ≡ other
+same_fault r one other is also = let same = sym is ∙ also in cc
+
+-- whether a pass was on, by the cursor that the database had
+module _ {T : Type 0} (r : Result T Fault) (usable : Bool) (had : Option Cursor) where
+  -- a broken database doesn't say
+  pub broken_first : (fault : Fault) → r ≡ Err fault → (fault ≡ NoPass → ⊥) → usable ≡ false → (r ≡ Err NoPass) ↔ ((usable ≡ true) × (had ≡ None))
+  broken_first fault is other broken = (
+    (λ no_pass. absurd (other (same_fault r fault NoPass is no_pass))),
+    (λ lacks. absurd (let both = sym broken ∙ lacks.0 in cc)),
+  )
+
+  pub pass_lacked : r ≡ Err NoPass → usable ≡ true → had ≡ None → (r ≡ Err NoPass) ↔ ((usable ≡ true) × (had ≡ None))
+  pass_lacked is goes none = ((λ _. (goes, none)), λ _. is)
+
+  pub pass_on : (cursor : Cursor) → had ≡ Some cursor → (r ≡ Err NoPass → ⊥) → (r ≡ Err NoPass) ↔ ((usable ≡ true) × (had ≡ None))
+  pass_on cursor on other = (
+    (λ no_pass. absurd (other no_pass)),
+    (λ lacks. absurd (let both = sym on ∙ lacks.1 in cc)),
+  )
+
+-- what goes wrong while pages are read
+pub not_for_pass : (fault : Fault) → (fault ≡ Device) ⊎ (fault ≡ Damaged) → fault ≡ NoPass → ⊥
+not_for_pass fault (inl is) no_pass = let both = sym is ∙ no_pass in cc
+not_for_pass fault (inr is) no_pass = let both = sym is ∙ no_pass in cc

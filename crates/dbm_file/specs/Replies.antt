@@ -1,5 +1,5 @@
 -- Which replies a call may get on any device, and what it then leaves, whatever the bytes are.
-use Rattle.std.specs.Prelude.{◌≡◌, pos, List, [], ◌∷◌, IfSome, None, Some, Result, Ok, Err}
+use Rattle.std.specs.Prelude.{◌≡◌, pos, List, [], ◌∷◌, None, Some, Result, Ok, Err}
 use Rattle.dbm_fault.specs.Among.{IsAmong}
 use Rattle.dbm_fault.specs.declared.fault.Fault.{Fault}
 use Rattle.dbm_fault.specs.declared.fault.Fault.TheVariants.{Memory, Device, Broken, ReadOnly, TooLong, Full, NoPass, NoRoom, Damaged}
@@ -9,7 +9,7 @@ use Rattle.chain_walks.specs.Walks.{EndsWithout}
 use Rattle.dbm_file.specs.Answers.{IsCallEnded}
 use Rattle.dbm_file.specs.Calls.{Lent}
 use Rattle.dbm_file.specs.Database.{store_of, meta_kept, error_of, cursor_of}
-use Rattle.dbm_file.specs.Searches.{Searched, EndsWith, EndsAtContent, Passed, pass_start}
+use Rattle.dbm_file.specs.Searches.{Searched, EndsWith, EndsAtContent, Passed, WentOn, pass_start}
 use Rattle.dbm_file.specs.declared.calls.Call.{Call}
 use Rattle.dbm_file.specs.declared.calls.Call.TheVariants.{Store, Fetch, Delete, First, Next, Error, Clear}
 use Rattle.dbm_file.specs.declared.calls.Reply.{Reply}
@@ -84,8 +84,8 @@ WasRead db (Fetch key) NoRecord = Searched db key (EndsAtContent key None)
 WasRead db (Fetch key) (Bytes content) = Searched db key (EndsAtContent key (Some content))
 WasRead db First End = Passed db pass_start None
 WasRead db First (Bytes key) = Passed db pass_start (Some key)
-WasRead db Next End = IfSome (cursor_of db) (λ cursor. Passed db cursor None)
-WasRead db Next (Bytes key) = IfSome (cursor_of db) (λ cursor. Passed db cursor (Some key))
+WasRead db Next End = WentOn db None
+WasRead db Next (Bytes key) = WentOn db (Some key)
 WasRead db call reply = Unit {0}
 
 -- the error number was told, and nothing changed

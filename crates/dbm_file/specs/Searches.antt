@@ -13,7 +13,7 @@ use Rattle.chain_walks.specs.Walks.{EndsWithout}
 use Rattle.linear_hash.specs.Looking.{IsSearch}
 use Rattle.linear_hash.specs.Passing.{GaveNothing, IsPassed}
 use Rattle.linear_hash.specs.declared.passing.Cursor.{Cursor}
-use Rattle.dbm_file.specs.Database.{store_of, meta_kept}
+use Rattle.dbm_file.specs.Database.{store_of, meta_kept, page_state, cursor_of}
 use Rattle.dbm_file.specs.declared.database.Database.{Database}
 
 -- over an honest store: the pages that say where the key's bucket is, and those of its chain, were read up to the one that the search ended at
@@ -51,3 +51,11 @@ IsGiven at m cursor (Some key) = (bytes : List ℕ) × (slot : ℕ) × IsReached
 -- over an honest store: the pages that say where the buckets are, and those of their chains, were read from the cursor on
 abbrev pub Passed : {S : Type 0} {s : Ghosts S} → Database S s → Cursor → Option Key → Type 0
 Passed {S} {s} db cursor found = s.honest (store_of db) → IsGiven (body_at s (store_of db)) (meta_kept db) cursor found
+
+-- a pass was on, and they were read from where it stood
+abbrev pub WentOn : {S : Type 0} {s : Ghosts S} → Database S s → Option Key → Type 0
+WentOn db found = (cursor : Cursor) × (cursor_of db ≡ Some cursor) × Passed db cursor found
+
+-- no pass is on, and the database isn't broken
+abbrev pub LacksPass : {S : Type 0} {s : Ghosts S} → Database S s → Type 0
+LacksPass db = ((page_state db).usable ≡ true) × (cursor_of db ≡ None)

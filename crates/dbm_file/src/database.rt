@@ -49,7 +49,7 @@ impl<S: PageStore> Database<S> {
     ghost use Rattle.dbm_file.specs.Lending.{Lends};
     ghost use Rattle.dbm_file.specs.Replies.{store_faults, delete_faults, read_faults, next_faults};
     ghost use Rattle.dbm_file.specs.Passing.{HasLeft};
-    ghost use Rattle.dbm_file.specs.Searches.{Searched, EndsWith, EndsBy, EndsAtContent, Passed, IsReached, pass_start};
+    ghost use Rattle.dbm_file.specs.Searches.{Searched, EndsWith, EndsBy, EndsAtContent, Passed, WentOn, LacksPass, IsReached, pass_start};
     ghost use Rattle.dbm_file.specs.Ending.{EndsAs};
     ghost use Rattle.dbm_file.specs.Trying.{with_error_of, IsRead, IsStoreEnd, IsDeleteEnd, slot_reply};
     ghost use Rattle.page_commit.specs.Committing.{Holds};
@@ -153,7 +153,8 @@ impl<S: PageStore> Database<S> {
         ensures short { IfOk result (λ r. IfSome r (λ key. length key.now ≤ 2026)) }
 
         // On any file the buckets were read from where the pass stood.
-        ensures passed { IfOk result (λ found. IfSome (cursor_of self.old) (λ cursor. Passed self.old cursor (seen found))) }
+        ensures passed { IfOk result (λ found. WentOn self.old (seen found)) }
+        ensures no_pass { (result ≡ Err Fault.NoPass) ↔ LacksPass self.old }
         ensures only { IsErrAmong result next_faults }
     {
         if self.store.is_broken() {
