@@ -1,7 +1,7 @@
 -- What calls that read leave, one after another.
-use Rattle.std.proofs.Common.{◌≡◌, ◌⊎◌, inl, inr, ⊎_elim, ℕ, ◌≤◌, List, true, false, cond, Option, Some, None, Result, Ok, Err, MatchResult, OnOk, IfErr, IsErrOf, refl, sym, ◌∙◌, ap, subst, arith}
+use Rattle.std.proofs.Common.{◌≡◌, ◌⊎◌, inl, inr, ⊎_elim, ℕ, List, true, false, cond, Option, Some, None, Result, Ok, Err, MatchResult, OnOk, IfErr, IsErrOf, refl, sym, ◌∙◌, ap, subst}
 use Rattle.std.specs.Global.{Vec}
-use Rattle.sect_dev.specs.Device.{LeavesOnly, MoreFaults}
+use Rattle.sect_dev.specs.Device.{LeavesOnly}
 use Rattle.sect_dev.specs.Moments.{started, followed_by, weaker}
 use Rattle.dbm_model.specs.Calls.{Call, Reply, Fetch, First, Next, Refused}
 use Rattle.dbm_model.specs.Calls as model
@@ -13,6 +13,7 @@ use Rattle.std.specs.FinMap.{get}
 use Rattle.page_io.specs.Store.{Settled}
 use Rattle.page_io.specs.Meaning.{ImageStandsFor}
 use Rattle.page_io.specs.declared.store.PageStore.{Ghosts}
+use Rattle.page_io.proofs.Exits.{no_err, more_later}
 use Rattle.dbm_file.specs.Answers.{MayBeLeft, StandsForSome, Survives, IsStep, IsSameDatabase}
 use Rattle.dbm_file.specs.Calls.{Lent}
 use Rattle.dbm_file.specs.Database.{store_of, meta_kept, page_state, error_of, IsAt}
@@ -201,20 +202,14 @@ module _ {S : Type 0} (s : Ghosts S) where
           let first = earlier.stays honest h at in
           stays_on old mid new h earlier.goes later.goes first (later.stays (earlier.goes.honesty.1 honest) first.after first.is_at);
       goes = still_goes old mid new earlier.goes later.goes;
-      device = λ is. more (s.faults (store_of old)) (s.faults (store_of mid)) (s.faults (store_of new)) earlier.goes.later (later.device is);
+      device = λ is. more_later (s.faults (store_of old)) (s.faults (store_of mid)) (s.faults (store_of new)) earlier.goes.later (later.device is);
       broken = λ is. sym earlier.usable ∙ later.broken is;
       usable = both result later.usable;
       error = ⊎_elim
           (λ same. ⊎_elim (λ still. inl (still ∙ same)) (λ refused. inr (refused.0, refused.1, refused.2 ∙ ap (λ (e : Option model.Fault). first_fault e (fault_of refused.0)) same)) later.error)
-          (λ refused. absurd (not_refused refused.0 refused.1)) earlier.error;
+          (λ refused. no_err value (Db refused.0) refused.1) earlier.error;
     }
       where
-        not_refused : (fault : Fault) → ◌≡◌ {A = Result T EngineFault} (Ok value) (Err (Db fault)) → ⊥
-        not_refused fault e = cc
-
-        more : (a b c : ℕ) → a ≤ b → MoreFaults b c → MoreFaults a c
-        more a b c le rose = omega (arith, le, rose)
-
         both : (result : Result U EngineFault) → OnOk result ((page_state new).usable ≡ (page_state mid).usable) → OnOk result ((page_state new).usable ≡ (page_state old).usable)
         both (Ok value) same = same ∙ earlier.usable
         both (Err fault) same = tt
@@ -227,11 +222,8 @@ module _ {S : Type 0} (s : Ghosts S) where
     device = λ is. cc;
     broken = λ is. cc;
     usable = subst (λ (r : Result T EngineFault). OnOk r ((page_state new).usable ≡ (page_state old).usable)) is h.usable;
-    error = ⊎_elim (λ same. inl same) (λ refused. absurd (not_refused refused.0 refused.1)) h.error;
+    error = ⊎_elim (λ same. inl same) (λ refused. no_err value (Db refused.0) (sym is ∙ refused.1)) h.error;
   }
-    where
-      not_refused : (fault : Fault) → IsErrOf result (Db fault) → ⊥
-      not_refused fault e = cc
 
   -- and whatever is told of it
   pub reads_told : {T : Type 0} (old new : Database S s) (result : Result T EngineFault) → Reads {T = Unit {0}} old new (Ok (tt {0})) → (IsErrOf result (Db Device) → ⊥) → (IsErrOf result (Db Broken) → ⊥) → Reads old new result
@@ -241,11 +233,8 @@ module _ {S : Type 0} (s : Ghosts S) where
     device = λ is. absurd (no_device is);
     broken = λ is. absurd (no_break is);
     usable = on_ok result _ h.usable;
-    error = ⊎_elim (λ same. inl same) (λ refused. absurd (not_refused refused.0 refused.1)) h.error;
+    error = ⊎_elim (λ same. inl same) (λ refused. no_err (tt {0}) (Db refused.0) refused.1) h.error;
   }
-    where
-      not_refused : (fault : Fault) → ◌≡◌ {A = Result Unit EngineFault} (Ok (tt {0})) (Err (Db fault)) → ⊥
-      not_refused fault e = cc
 
   -- a value, and two refusals that no call gave
   pub reads_gave : {T : Type 0} (old new : Database S s) (value : T) → Reads {T = Unit {0}} old new (Ok (tt {0})) → Reads {T = T} old new (Ok value)

@@ -1,9 +1,9 @@
 -- What is said where reading or writing ends.
-use Rattle.std.proofs.Common.{◌≡◌, ◌⊎◌, inl, inr, ⊎_elim, ℕ, ◌≤◌, List, [], ◌∷◌, length, map, Option, Result, Ok, Err, OnOk, IfErr, IsErrOf, sym, ◌∙◌, ap, subst, arith}
+use Rattle.std.proofs.Common.{◌≡◌, ◌⊎◌, inl, inr, ⊎_elim, ℕ, ◌≤◌, List, [], ◌∷◌, length, map, Option, Result, Ok, Err, OnOk, IfErr, IsErrOf, refl, sym, ◌∙◌, ap, arith}
 use Rattle.std.specs.Global.{Vec}
 use Rattle.std.specs.BTreeSet.{BTreeSet}
 use Rattle.std.specs.Io.KnownBytes.{Appends}
-use Rattle.std.specs.Result.{IsErrAnd, is_ok}
+use Rattle.std.specs.Result.{is_ok}
 use Rattle.std.proofs.lemmas.List.{length-map}
 use Rattle.dbm_model.specs.Pairs.{Pair}
 use Rattle.dbm_fault.specs.Among.{IsAmong}
@@ -11,27 +11,12 @@ use Rattle.dbm_fault.specs.declared.engine_fault.EngineFault.{EngineFault}
 use Rattle.dbm_fault.specs.declared.engine_fault.EngineFault.TheVariants.{Memory, Write, Db}
 use Rattle.dbm_fault.specs.declared.fault.Fault.{Fault}
 use Rattle.dbm_fault.specs.declared.fault.Fault.TheVariants.{Device, Broken, NoPass, Damaged}
+use Rattle.page_io.proofs.Exits.{came}
 use Rattle.dbm_dump.specs.Dumping.{bytes_of_keys, pair_lines, key_lines, WritesPairs, WritesKeys}
-
--- the result is the fault that came
-pub exit_is : {T : Type 0} (result : Result T EngineFault) (e : EngineFault) → IsErrAnd result (λ y. y ≡ e) → result ≡ Err e
-exit_is (Ok x) e told = absurd told
-exit_is (Err y) e told = ap Err told
-
--- what holds of the fault
-pub if_exit : {T : Type 0} (Q : EngineFault → Type 0) (result : Result T EngineFault) (e : EngineFault) → result ≡ Err e → Q e → IfErr result Q
-if_exit {T} Q result e exit q = subst (λ (r : Result T EngineFault). IfErr r Q) (sym exit) q
 
 -- the fault is the one that the callee was bound to answer
 pub same_exit : {T U : Type 0} (result : Result T EngineFault) (e f : EngineFault) → result ≡ Err e → ◌≡◌ {A = Result U EngineFault} (Err e) (Err f) → result ≡ Err f
-same_exit {T} {U} result e f exit is = exit ∙ ap Err (one e f is)
-  where
-    one : (a b : EngineFault) → ◌≡◌ {A = Result U EngineFault} (Err a) (Err b) → a ≡ b
-    one a b same = cc
-
--- what was answered well was not refused
-pub not_refused : {T : Type 0} {P : Type 0} (x : T) (f : EngineFault) → ◌≡◌ {A = Result T EngineFault} (Ok x) (Err f) → P
-not_refused x f is = cc
+same_exit {T} {U} result e f exit is = exit ∙ came {T = U} {U = T} (Err e) e refl f is
 
 -- ---- faults
 

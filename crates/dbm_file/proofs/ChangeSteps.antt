@@ -3,7 +3,7 @@ use Rattle.std.proofs.Common.{◌≡◌, ◌⊎◌, inl, inr, ⊎_elim, ℕ, ◌
 use Rattle.std.specs.Prelude.{IsErrAnd}
 use Rattle.std.specs.FinMap.{len}
 use Rattle.std.specs.Option.{option_map}
-use Rattle.sect_dev.specs.Device.{LeavesOnly, MoreFaults}
+use Rattle.sect_dev.specs.Device.{LeavesOnly}
 use Rattle.sect_dev.specs.Moments.{followed_by}
 use Rattle.dbm_model.specs.Calls as model
 use Rattle.page_model.specs.Pages.{Meta, MetaPage}
@@ -17,6 +17,7 @@ use Rattle.page_io.specs.Meaning.{FileStandsFor, ImageStandsFor}
 use Rattle.page_io.specs.declared.store.PageStore.{Ghosts}
 use Rattle.page_io.specs.declared.store.PageFault.{PageFault}
 use Rattle.page_io.specs.declared.store.PageFault.TheVariants as page
+use Rattle.page_io.proofs.Exits.{more_later, both_ways}
 use Rattle.dbm_fault.specs.Faults.{fault_of, fault_from}
 use Rattle.page_commit.specs.Committing.{Holds, IsForgotten}
 use Rattle.linear_hash.specs.Holding.{StandsForEither, IsEnded, ChangesMap}
@@ -50,10 +51,6 @@ forgotten_room old new fault (inl same) =
     (ap (λ (st : store.StoreState). st.capacity) same, ap (λ (st : store.StoreState). st.end) same)
 forgotten_room old new fault (inr broke) =
     (ap (λ (st : store.StoreState). st.capacity) broke.1, ap (λ (st : store.StoreState). st.end) broke.1)
-
--- faults of a later part are faults of the whole
-more_later : (first mid last : ℕ) → first ≤ mid → MoreFaults mid last → MoreFaults first last
-more_later first mid last le more = omega (arith, le, more)
 
 -- What is known when a change begins: the call asks for it, after no more than a read.
 pub record IsAsked {S : Type 0} (s : Ghosts S) (old mid : Database S s) (map changed : Contents) (pass : Option Keys) (call : model.Call) (said : model.Reply) : Type 0 where
@@ -256,7 +253,7 @@ module _ {S : Type 0} (s : Ghosts S) (old mid new : Database S s) (read : IsRead
       let was = as_before ended.ends.err.0 in
       record {
         goes = record {
-          honesty = (λ h. read.reads.stages_only.honesty.0 (ended.ends.honesty.0 h), λ h. ended.ends.honesty.1 (read.reads.stages_only.honesty.1 h));
+          honesty = both_ways ended.ends.honesty read.reads.stages_only.honesty;
           later = omega (arith, read.reads.stages_only.later, ended.ends.cause.later);
           limit = ended.ends.limit ∙ still_limit s old mid read;
           capacity = was.capacity;

@@ -11,6 +11,7 @@ use Rattle.page_io.specs.Store.{StoreState}
 use Rattle.page_io.specs.declared.store.PageStore.{Ghosts}
 use Rattle.page_io.specs.declared.store.PageFault.{PageFault}
 use Rattle.page_io.specs.declared.store.PageFault.TheVariants as page
+use Rattle.page_io.proofs.Exits.{both_ways}
 use Rattle.dbm_fault.specs.Among.{IsAmong}
 use Rattle.dbm_fault.specs.Faults.{fault_of, fault_from}
 use Rattle.dbm_fault.specs.declared.fault.Fault.{Fault}
@@ -295,7 +296,7 @@ module _ {S : Type 0} {s : Ghosts S} where
   pub done_keeps : {T : Type 0} (old mid new : Database S s) (value : T) → IsRead old mid → (page_state old).usable ≡ true → IsDone s mid new (Ok tt) → IsCallEnded old new (Ok value)
   done_keeps old mid new value read usable done = record {
     goes = record {
-      honesty = (λ h. read.reads.stages_only.honesty.0 (done.ends.honesty.0 h), λ h. done.ends.honesty.1 (read.reads.stages_only.honesty.1 h));
+      honesty = both_ways done.ends.honesty read.reads.stages_only.honesty;
       later = omega (arith, read.reads.stages_only.later, done.ends.cause.later);
       limit = done.ends.limit ∙ still_limit s old mid read;
       capacity = ap (λ (st : StoreState). st.capacity) done.ends.ok ∙ ap (λ (st : StoreState). st.capacity) read.reads.same;

@@ -15,6 +15,7 @@ use Rattle.dbm_model.proofs.Runs.{run-push}
 use Rattle.page_io.specs.Store.{Settled}
 use Rattle.page_io.specs.Meaning.{ImageStandsFor}
 use Rattle.page_io.specs.declared.store.PageStore.{Ghosts}
+use Rattle.page_io.proofs.Exits.{both_ways}
 use Rattle.dbm_file.specs.Calls.{bits_of}
 use Rattle.dbm_file.specs.Database.{store_of, meta_kept, page_state, IsAt}
 use Rattle.dbm_file.specs.Answers.{MayBeLeft, StandsForSome, Survives, IsStep, IsSameDatabase}
@@ -140,7 +141,7 @@ goes_nowhere db = record { honesty = (λ h. h, λ h. h); later = omega arith; li
 
 pub still_goes : {S : Type 0} {s : Ghosts S} (old mid new : Database S s) → IsSameDatabase old mid → IsSameDatabase mid new → IsSameDatabase old new
 still_goes {S} {s} old mid new first second = record {
-  honesty = (λ h. first.honesty.0 (second.honesty.0 h), λ h. second.honesty.1 (first.honesty.1 h));
+  honesty = both_ways second.honesty first.honesty;
   later = omega (arith, first.later, second.later);
   limit = second.limit ∙ first.limit;
   capacity = second.capacity ∙ first.capacity;

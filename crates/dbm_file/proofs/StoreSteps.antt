@@ -40,9 +40,6 @@ pub replaces_so : (mode : StoreMode) → false ≡ sameb the_type mode Insert �
 replaces_so Insert is = absurd (let x = is in cc)
 replaces_so Replace is = refl
 
-pub not_both : (b : Bool) → b ≡ true → b ≡ false → ⊥
-not_both b is is_not = absurd (let x = sym is ∙ is_not in cc)
-
 module _ {S : Type 0} (s : Ghosts S) (old mid : Database S s) (map : Contents) (pass : Option Keys) (key : List ℕ) (read : IsRead old mid) (usable : (page_state old).usable ≡ true) (writable : (page_state old).writable ≡ true) (honest : s.honest (store_of old))
     (h : Holds s (store_of old) (meta_kept old) map) (going : IsPass (s.committed (store_of old)) (meta_kept old) (cursor_of old) pass) (rests : (x : Settled) → s.settles_to (store_of old) x → ImageStandsFor x map (meta_kept old).limit) where
   -- a store of an allowed pair, whose key was there or not

@@ -12,9 +12,8 @@ use Rattle.page_io.specs.Views.{StagesOnly}
 use Rattle.page_io.specs.declared.store.PageStore.{Ghosts}
 use Rattle.page_io.specs.declared.store.PageFault.{PageFault}
 use Rattle.page_io.specs.declared.store.PageFault.TheVariants.{Memory, Device, Broken, NoRoom}
-use Rattle.page_io.proofs.Exits.{cause_last}
+use Rattle.page_io.proofs.Exits.{cause_last, not_both}
 use Rattle.page_commit.specs.Committing.{MayCommit, IsForgotten}
-use Rattle.file_opening.proofs.Exits.{not_both}
 use Rattle.file_opening.proofs.EmptyFiles.{OldOrEmpty}
 
 below_four : (pages : Pages) (end : ℕ) → end ≡ 4 → map own_number pages ≡ 1 ∷ 2 ∷ 3 ∷ [] → AllBelow end pages

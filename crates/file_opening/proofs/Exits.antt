@@ -2,7 +2,7 @@
 use Rattle.std.proofs.Common.{◌≡◌, ◌≢◌, ◌⊎◌, ⊎_elim, inl, inr, ℕ, ◌≤◌, ◌↔◌, Bool, true, false, cond, not, ◌&&◌, Option, Some, None, Result, Ok, Err, IfOk, refl, sym, ap, ◌∙◌, subst, arith}
 use Rattle.std.specs.Prelude.{IfSome, nat_lt}
 use Rattle.std.specs.FinMap.{empty}
-use Rattle.sect_dev.specs.Device.{Image, IsImageOf, IsStable, LeavesOnly, MoreFaults}
+use Rattle.sect_dev.specs.Device.{Image, IsImageOf, IsStable, LeavesOnly}
 use Rattle.sect_dev.specs.Moments.{IsOutcome, weaker}
 use Rattle.sect_dev.specs.declared.device.SectorDev as device
 use Rattle.dbm_model.specs.Pairs.{Contents}
@@ -21,12 +21,10 @@ use Rattle.file_opening.specs.declared.file.OpenFile.{OpenFile}
 use Rattle.file_opening.specs.declared.open_how.OpenHow.{OpenHow}
 use Rattle.dbm_fault.specs.declared.fault.Fault.{Fault}
 use Rattle.dbm_fault.specs.declared.fault.Fault.TheVariants.{Memory, Device, Broken, ReadOnly, TooLong, Full, NoPass, NoRoom, Damaged, NotADatabase, Version, TooSmall, BadLimit, Missing, Exists}
+use Rattle.page_io.proofs.Exits.{not_both}
 use Rattle.file_opening.proofs.EmptyFiles.{settles_run}
 
 -- ---- Booleans
-
-pub not_both : {P : Type 0} (b : Bool) → b ≡ true → b ≡ false → P
-not_both b on off = let both = sym on ∙ off in cc
 
 pub not_on : (b : Bool) → (b ≡ true → ⊥) → b ≡ false
 not_on true none = absurd (none refl)
@@ -90,18 +88,6 @@ of_made f (inr (inr (inl is))) = opens_as f ReadOnly read_only_opens is
 of_made f (inr (inr (inr (inl is)))) = opens_as f BadLimit bad_limit_opens is
 of_made f (inr (inr (inr (inr is)))) = opens_as f TooSmall too_small_opens is
 
-pub exists_apart : {P : Type 0} → Exists ≡ Device → P
-exists_apart is = cc
-
-pub memory_apart : {P : Type 0} → Memory ≡ Device → P
-memory_apart is = cc
-
-pub version_apart : {P : Type 0} → Version ≡ Device → P
-version_apart is = cc
-
-pub damaged_apart : {P : Type 0} → Damaged ≡ Device → P
-damaged_apart is = cc
-
 -- a read of the meta page fails by the device alone
 pub only_device : {T : Type 0} (state : StoreState) (e : PageFault) → state.usable ≡ true → 4 ≤ state.end → IsReadAnswer {T = T} state 1 (Err e) → e ≡ page.Device
 only_device state e usable least answer = ⊎_elim
@@ -142,21 +128,10 @@ early_err T {D} o d f is = subst (λ (p : Option Fault). IfSome p (λ g. ◌≡�
 pub not_none : {P : Type 0} (o : Option Fault) (f : Fault) → o ≡ Some f → o ≡ None → P
 not_none o f some none = let both = sym some ∙ none in cc
 
--- ---- counts
-
-pub later_then : (a b c : ℕ) → a ≤ b → b ≤ c → a ≤ c
-later_then a b c one two = omega (arith, one, two)
-
-pub more_later : (a b c : ℕ) → a ≤ b → MoreFaults b c → MoreFaults a c
-more_later a b c one two = omega (arith, one, two)
-
-pub no_fewer : (a : ℕ) → a ≤ a
-no_fewer a = omega arith
-
-pub both_ways : {A B C : Type 0} → A ↔ B → B ↔ C → A ↔ C
-both_ways one two = (λ a. two.0 (one.0 a), λ c. one.1 (two.1 c))
-
 -- ---- devices
+
+no_fewer : (a : ℕ) → a ≤ a
+no_fewer a = omega arith
 
 -- what a device that is handed back unchanged shows
 module _ {D : Type 0} (dev : device.Ghosts D) (old new : D) (same : new ≡ old) where

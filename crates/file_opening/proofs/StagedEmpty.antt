@@ -6,9 +6,8 @@ use Rattle.page_io.specs.Store.{Pages, StoreState, bytes_of, put_page}
 use Rattle.page_io.specs.declared.page.Page.{Page}
 use Rattle.page_io.specs.declared.store.PageFault.{PageFault}
 use Rattle.page_io.specs.declared.store.PageFault.TheVariants.{Broken}
-use Rattle.page_io.proofs.Exits.{came}
+use Rattle.page_io.proofs.Exits.{came, not_both}
 use Rattle.page_io.proofs.StagedPages.{put_page-behind}
-use Rattle.file_opening.proofs.Exits.{not_both}
 
 -- the number of each page
 pub first_number : (pages : List Page) (page : Page) → map own_number (bytes_of pages) ≡ 1 ∷ 2 ∷ 3 ∷ [] → own_number (get_or pages 0 page).bytes ≡ 1

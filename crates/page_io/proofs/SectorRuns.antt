@@ -1,6 +1,5 @@
 -- Calls on the four sectors of a page, one after the other.
-use Rattle.std.proofs.Common.{◌≡◌, ◌≢◌, ℕ, ◌+◌, ◌*◌, ◌<◌, ◌≤◌, List, length, Result, Ok, Err, OnErr, arith}
-use Rattle.sect_dev.specs.Device.{MoreFaults}
+use Rattle.std.proofs.Common.{◌≡◌, ◌≢◌, ℕ, ◌+◌, ◌*◌, ◌<◌, ◌≤◌, List, length, arith}
 use Rattle.page_io.specs.Page.{IsOutsidePage}
 use Rattle.page_io.proofs.PageLaws.{not_inside}
 
@@ -35,10 +34,3 @@ whole_page bytes k long last = omega (arith, long, last)
 -- counts of faults
 pub later_faults : (n : ℕ) → n ≤ n
 later_faults n = omega arith
-
-pub more_faults : (before mid now : ℕ) → before ≤ mid → MoreFaults mid now → MoreFaults before now
-more_faults before mid now le more = omega (arith, le, more)
-
-pub at_error : {T E : Type 0} (r : Result T E) (P : Type 0) → P → OnErr r P
-at_error (Ok x) P p = tt
-at_error (Err e) P p = p

@@ -13,6 +13,7 @@ use Rattle.page_io.specs.declared.store.PageFault.{PageFault}
 use Rattle.page_io.proofs.Overlays.{overlaid-none, has_page-skip}
 use Rattle.page_io.proofs.StagedPages.{overlaid-put, overlaid-put_other, has_page-put, has_page-put_other, length-put_new, length-put_again, AllBelow-put}
 use Rattle.page_io.proofs.Runs.{kept_twice}
+use Rattle.page_io.proofs.Exits.{both_ways}
 
 module _ {S : Type 0} (s : Ghosts S) where
   -- `counts` is the store's law `counts_now`
@@ -44,7 +45,7 @@ module _ {S : Type 0} (s : Ghosts S) where
       → StagesOnly s old mid → StagesOnly s mid new → StagesOnly s old new
   stages_then old mid new counts first second = record {
     state = second.state ∙ ap (λ (st : StoreState). record st { staged = (s.state new).staged }) first.state;
-    honesty = (λ h. first.honesty.0 (second.honesty.0 h), λ h. second.honesty.1 (first.honesty.1 h));
+    honesty = both_ways second.honesty first.honesty;
     later = omega (arith, first.later, second.later);
     kept = λ h. kept_twice s.committed s.moment s.settled_since s.settles_to old mid new (λ t y le is. counts t y (first.honesty.1 h) le is) (first.kept h) (second.kept (first.honesty.1 h));
     now = λ h y is. first.now h y (second.now (first.honesty.1 h) y is);

@@ -1,8 +1,9 @@
 -- Redo images that are kept in memory over the device's pages, and none in a pager that commits.
-use Rattle.std.proofs.Common.{◌≡◌, inl, inr, ⊎_elim, ℕ, ◌<◌, ◌≤◌, ◌/◌, Bool, List, [], true, false, refl, sym, ◌∙◌, ap}
-use Rattle.sect_dev.specs.Device.{IsImageOf, LeavesOnly}
+use Rattle.std.proofs.Common.{◌≡◌, inl, inr, ⊎_elim, ℕ, ◌<◌, ◌≤◌, ◌/◌, Bool, List, [], true, false, refl, sym, ◌∙◌, ap, subst}
+use Rattle.sect_dev.specs.Device.{Image, IsImageOf, LeavesOnly}
 use Rattle.sect_dev.specs.Moments.{IsOutcome, weaker, lifted}
 use Rattle.sect_dev.specs.declared.device.SectorDev.{Ghosts}
+use Rattle.page_io.specs.Kept.{KeepsPages}
 use Rattle.page_io.specs.Page.{page_at}
 use Rattle.page_io.specs.Store.{Pages, Settled, file_of, file_pages, page_of, overlaid, has_page, bytes_of, committed_with, IsEither}
 use Rattle.page_io.specs.declared.page.Page.{Page}
@@ -11,6 +12,7 @@ use Rattle.redo_area.specs.Settling.{SettlesTo}
 use Rattle.redo_area.specs.declared.pager.Pager.{Pager}
 use Rattle.page_io.proofs.Overlays.{overlaid-none, page_of-file}
 use Rattle.page_io.proofs.StagedPages.{replaced}
+use Rattle.redo_area.proofs.ReadRuns.{none_yet}
 
 -- a page that was looked for in a list, and not found
 pub not_found : {pages items : List Page} {b : Bool} (n : ℕ) → pages ≡ items → b ≡ has_page (bytes_of pages) n → b ≡ false → has_page (bytes_of items) n ≡ false
@@ -38,6 +40,10 @@ module _ (redo : Pages) (home : ℕ → List ℕ) (none : redo ≡ []) where
   either old_end new_end pages staged y same grown is =
       ⊎_elim (λ old. inl (old ∙ ap (λ (f : ℕ → List ℕ). file_of (file_pages f old_end)) none_over)) (λ new. inr (new ∙ ap file_of (new_pages old_end new_end pages staged same grown))) is
 
+-- the pages that a pager reads
+abbrev pages_of : {D : Type 0} (dev : Ghosts D) → Pager D dev → Pages
+pages_of dev p = file_pages (overlaid (bytes_of p.redo.items) (page_at (dev.seen p.dev))) p.end
+
 -- what a stop during reads leaves, as the store reads it
 pub read_leaves : {D : Type 0} (dev : Ghosts D) (old new : Pager D dev)
     → dev.sectors new.dev ≡ dev.sectors old.dev
@@ -51,6 +57,18 @@ read_leaves {D} dev old new size run =
     (weaker dev.moment dev.left_since old.dev new.dev (λ image. P (settled cap image))
     (IsImageOf (dev.candidate old.dev)) run
     (λ image is. record { image = image; is_image = is; reads = refl }))
+
+-- what a call that asks the device for nothing keeps
+pub unasked : {D : Type 0} (dev : Ghosts D) (old new : Pager D dev) → new.dev ≡ old.dev → pages_of dev new ≡ pages_of dev old
+    → ((image : Image) → dev.left_since old.dev (dev.moment old.dev) image → IsImageOf (dev.candidate old.dev) image)
+    → KeepsPages (pages_of dev) (λ (p : Pager D dev). dev.moment p.dev) (λ (p : Pager D dev). IsOutcome dev.left_since (settled (dev.sectors p.dev / 4)) p.dev)
+    (λ (p : Pager D dev). SettlesTo (dev.sectors p.dev / 4) (dev.candidate p.dev)) old new
+unasked {D} dev old new same pages only_now = record {
+  committed = pages;
+  any_moment = read_leaves dev old new (ap dev.sectors same)
+      (subst (λ (d : D). LeavesOnly dev.moment dev.left_since old.dev d (IsImageOf (dev.candidate old.dev))) (sym same)
+      (none_yet dev old.dev only_now).any_moment);
+}
 
 -- what a stop during a commit leaves, as the store reads it
 pub commit_leaves : {D : Type 0} (dev : Ghosts D) (old new : Pager D dev) (new_end : ℕ) (pages : List Page) → old.writable ≡ true → dev.sectors new.dev ≡ dev.sectors old.dev → pages ≡ old.staged.items

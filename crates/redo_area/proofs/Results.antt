@@ -1,9 +1,11 @@
 -- What an answer carries, as `Ok` or as a fault.
-use Rattle.std.proofs.Common.{◌≡◌, ◌≤◌, ℕ, Bool, true, false, sym, ap, ◌∙◌, subst, Result, Ok, Err, is_err, OnOk, OnErr, IfErr, arith}
+use Rattle.std.proofs.Common.{◌≡◌, ◌≤◌, ℕ, Bool, true, false, sym, ◌∙◌, Result, Ok, Err, is_err, OnOk, OnErr, arith}
+use denote.Enum.Bare.{sameb, same_false}
 use Rattle.std.specs.Prelude.{IsErrOf}
-use Rattle.std.specs.Result.{IsErrAnd}
-use Rattle.sect_dev.specs.Device.{MoreFaults, HasCause}
-use Rattle.redo_area.specs.declared.open_fault.OpenFault.TheVariants.{Memory, Device, Blank, NotOurs, Damaged}
+use Rattle.sect_dev.specs.Device.{HasCause}
+use Rattle.page_io.proofs.Exits.{more_later}
+use Rattle.redo_area.specs.contracts.open_fault.OpenFault.{the_type}
+use Rattle.redo_area.specs.declared.open_fault.OpenFault.{OpenFault}
 
 from_ok : {T E P : Type 0} (r : Result T E) → is_err r ≡ false → OnOk r P → P
 from_ok (Ok x) ok p = p
@@ -22,57 +24,13 @@ pub fault_from_test : {T E P : Type 0} (r : Result T E) {b : Bool} → b ≡ is_
     → OnErr r P → P
 fault_from_test r is holds p = from_err r (sym is ∙ holds) p
 
--- the fault at the exit of a `?`
-pub exit_is : {T E : Type 0} (r : Result T E) (e : E) → IsErrAnd r (λ y. y ≡ e) → r ≡ Err e
-exit_is (Ok x) e told = absurd told
-exit_is (Err y) e told = ap Err told
+-- one fault of opening is no other: at two of them the test is `refl`
+pub other_fault : {T P : Type 0} (e fault : OpenFault) → sameb the_type e fault ≡ false
+    → IsErrOf {T = T} (Err e) fault → P
+other_fault e fault apart is =
+    absurd (same_false the_type e fault apart (let same : e ≡ fault = cc in same))
 
-pub came : {T U E : Type 0} (r : Result T E) (e : E) → r ≡ Err e → (fault : E) → IsErrOf r fault
-    → IsErrOf {T = U} (Err e) fault
-came r e exit fault is = let both = sym exit ∙ is in cc
-
-pub if_exit : {T E : Type 0} (Q : E → Type 0) (r : Result T E) (e : E) → r ≡ Err e → Q e → IfErr r Q
-if_exit Q r e exit q = subst (λ x. IfErr x Q) (sym exit) q
-
-pub no_err : {T E : Type 0} (x : T) (fault : E) → IsErrOf {T = T} (Ok x) fault → ⊥
-no_err x fault is = cc
-
--- one fault of opening is no other
-module _ {T : Type 0} where
-  pub device_not_memory : IsErrOf {T = T} (Err Device) Memory → ⊥
-  device_not_memory is = cc
-
-  pub device_not_damaged : IsErrOf {T = T} (Err Device) Damaged → ⊥
-  device_not_damaged is = cc
-
-  pub memory_not_damaged : IsErrOf {T = T} (Err Memory) Damaged → ⊥
-  memory_not_damaged is = cc
-
-  pub memory_not_device : IsErrOf {T = T} (Err Memory) Device → ⊥
-  memory_not_device is = cc
-
-  pub blank_not_memory : IsErrOf {T = T} (Err Blank) Memory → ⊥
-  blank_not_memory is = cc
-
-  pub blank_not_device : IsErrOf {T = T} (Err Blank) Device → ⊥
-  blank_not_device is = cc
-
-  pub not_ours_not_memory : IsErrOf {T = T} (Err NotOurs) Memory → ⊥
-  not_ours_not_memory is = cc
-
-  pub not_ours_not_device : IsErrOf {T = T} (Err NotOurs) Device → ⊥
-  not_ours_not_device is = cc
-
-  pub damaged_not_memory : IsErrOf {T = T} (Err Damaged) Memory → ⊥
-  damaged_not_memory is = cc
-
-  pub damaged_not_device : IsErrOf {T = T} (Err Damaged) Device → ⊥
-  damaged_not_device is = cc
-
--- counts of the device's faults, some calls before
-pub more_later : (a b c : ℕ) → a ≤ b → MoreFaults b c → MoreFaults a c
-more_later a b c le more = omega (arith, le, more)
-
+-- the device's faults, some calls before
 pub cause_after : {T U E : Type 0} (r : Result T E) (e : E) (a b c : ℕ) → a ≤ b
     → HasCause {T = U} b c (Err e) → HasCause a c r
 cause_after (Ok x) e a b c le cause = record { later = omega (arith, le, cause.later); fault = tt }

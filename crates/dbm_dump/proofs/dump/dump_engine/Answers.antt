@@ -7,7 +7,8 @@ use Rattle.dbm_fault.specs.declared.fault.Fault.TheVariants.{Device, Broken}
 use Rattle.dbm_fault.specs.declared.engine_fault.EngineFault.TheVariants.{Write, Db}
 use Rattle.dbm_dump.specs.Dumping.{pair_lines}
 use Rattle.dbm_dump.proofs.Dumping.{reads_on, reads_well, reads_told, reads_refused}
-use Rattle.dbm_dump.proofs.Exits.{exit_is, if_exit, same_exit, not_refused, of_gathering, of_fetching, wrote_well, write_or, write_among, no_call_refused, writes_pairs}
+use Rattle.page_io.proofs.Exits.{exit_is, if_exit, no_err}
+use Rattle.dbm_dump.proofs.Exits.{same_exit, of_gathering, of_fetching, wrote_well, write_or, write_among, no_call_refused, writes_pairs}
 use Rattle.dbm_dump.proofs.dump.dump_engine.Given.{Over}
 use Rattle.dbm_dump.proofs.dump.dump_engine.Goals as goal
 
@@ -61,7 +62,7 @@ pub returns-in_err-pairs-clause-lines : goal.returns-in_err-pairs-clause-lines
 returns-in_err-pairs-clause-lines g c = IfOk-from_err _ _ c.from_residual-in_err-pairs.ensures.0
 
 pub returns-in_err-pairs-clause-broken : goal.returns-in_err-pairs-clause-broken
-returns-in_err-pairs-clause-broken g c broken = not_refused c.in_ok-keys.keys (Db Broken) (c.in_ok-keys.ensures.broken broken)
+returns-in_err-pairs-clause-broken g c broken = no_err c.in_ok-keys.keys (Db Broken) (c.in_ok-keys.ensures.broken broken)
 
 pub returns-in_err-pairs-clause-unwritten : goal.returns-in_err-pairs-clause-unwritten
 returns-in_err-pairs-clause-unwritten g c = if_exit _ _ c.in_err-pairs.field-0.0 (exit_is _ _ c.from_residual-in_err-pairs.ensures.1) (inr refl)
@@ -101,7 +102,7 @@ returns-clause-lines g c =
     (ap (map (λ (pair : Pair). pair.0)) c.deref.ensures.value ∙ c.in_ok-pairs.ensures.keys) c.in_ok-keys.ensures.bound c.write_pairs.ensures)
 
 pub returns-clause-broken : goal.returns-clause-broken
-returns-clause-broken g c broken = not_refused c.in_ok-keys.keys (Db Broken) (c.in_ok-keys.ensures.broken broken)
+returns-clause-broken g c broken = no_err c.in_ok-keys.keys (Db Broken) (c.in_ok-keys.ensures.broken broken)
 
 pub returns-clause-unwritten : goal.returns-clause-unwritten
 returns-clause-unwritten g c = write_or _ _ (only_write g c)

@@ -3,7 +3,8 @@ use Rattle.std.proofs.lemmas.Result.{IfOk-from_err}
 use Rattle.dbm_fault.specs.declared.fault.Fault.TheVariants.{Device, Broken}
 use Rattle.dbm_fault.specs.declared.engine_fault.EngineFault.TheVariants.{Write, Db}
 use Rattle.dbm_dump.proofs.Dumping.{reads_well, reads_told, reads_refused}
-use Rattle.dbm_dump.proofs.Exits.{exit_is, if_exit, same_exit, not_refused, of_gathering, wrote_well, write_or, write_among, no_call_refused, writes_keys}
+use Rattle.page_io.proofs.Exits.{exit_is, if_exit, no_err}
+use Rattle.dbm_dump.proofs.Exits.{same_exit, of_gathering, wrote_well, write_or, write_among, no_call_refused, writes_keys}
 use Rattle.dbm_dump.proofs.dump.list_engine.Given.{Over}
 use Rattle.dbm_dump.proofs.dump.list_engine.Goals as goal
 
@@ -55,7 +56,7 @@ returns-clause-lines g c =
     (writes_keys c.write_keys.result c.in_ok-keys.keys _ (g.W.Write.contents c.args.writer.now) (g.W.Write.contents c.write_keys.new.writer) c.in_ok-keys.ensures.bound c.write_keys.ensures)
 
 pub returns-clause-broken : goal.returns-clause-broken
-returns-clause-broken g c broken = not_refused c.in_ok-keys.keys (Db Broken) (c.in_ok-keys.ensures.broken broken)
+returns-clause-broken g c broken = no_err c.in_ok-keys.keys (Db Broken) (c.in_ok-keys.ensures.broken broken)
 
 pub returns-clause-unwritten : goal.returns-clause-unwritten
 returns-clause-unwritten g c = write_or _ _ (only_write g c)

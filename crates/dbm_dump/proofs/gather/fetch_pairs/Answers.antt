@@ -6,7 +6,7 @@ use Rattle.std.proofs.lemmas.Map.Iter.{rest_more, rest_all}
 use Rattle.dbm_dump.specs.Dumping.{IsShort}
 use Rattle.dbm_fault.specs.declared.engine_fault.EngineFault.TheVariants.{Memory}
 use Rattle.dbm_dump.proofs.Dumping.{reads_nothing, reads_on, reads_well, reads_gave, reads_damaged, reads_no_memory, reads_refused, chance_told}
-use Rattle.dbm_dump.proofs.Exits.{exit_is, if_exit}
+use Rattle.page_io.proofs.Exits.{exit_is, if_exit}
 use Rattle.dbm_dump.proofs.DumpingPairs.{parts_go_on, parts_end, key_among, fetch_begins, fetch_goes_on, fetch_goes_on_not, none_missing, fetch_ends}
 use Rattle.dbm_dump.proofs.gather.fetch_pairs.Given.{Over}
 use Rattle.dbm_dump.proofs.gather.fetch_pairs.Goals as goal

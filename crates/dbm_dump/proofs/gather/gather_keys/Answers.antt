@@ -11,7 +11,8 @@ use Rattle.dbm_file.specs.declared.calls.Stat.{Stat}
 use Rattle.dbm_fault.specs.declared.fault.Fault.TheVariants.{Broken}
 use Rattle.dbm_fault.specs.declared.engine_fault.EngineFault.TheVariants.{Memory, Db}
 use Rattle.dbm_dump.proofs.Dumping.{reads_on, reads_well, reads_gave, reads_damaged, reads_no_memory, reads_refused, chance_told}
-use Rattle.dbm_dump.proofs.Exits.{exit_is, if_exit, same_exit, not_refused, of_beginning, within}
+use Rattle.page_io.proofs.Exits.{exit_is, if_exit, no_err}
+use Rattle.dbm_dump.proofs.Exits.{same_exit, of_beginning, within}
 use Rattle.dbm_dump.proofs.DumpingKeys.{pass_begins, pass_begins_not, pass_ends, pass_too_long, none_left, pass_goes_on, pass_goes_on_not, bytes_put, one_more_at_most}
 use Rattle.dbm_dump.proofs.gather.gather_keys.Given.{Over}
 use Rattle.dbm_dump.proofs.gather.gather_keys.Goals as goal
@@ -100,7 +101,7 @@ pub returns-in_default-clause-reads : goal.returns-in_default-clause-reads
 returns-in_default-clause-reads g c = reads_gave g.S.PageStore _ _ c.loop-step.keys c.loop-step.invariant.reads
 
 pub returns-in_default-clause-broken : goal.returns-in_default-clause-broken
-returns-in_default-clause-broken g c broken = not_refused c.in_ok-given.given (Db Broken) (c.in_ok-given.ensures.broken broken)
+returns-in_default-clause-broken g c broken = no_err c.in_ok-given.given (Db Broken) (c.in_ok-given.ensures.broken broken)
 
 pub returns-clause-keys : goal.returns-clause-keys
 returns-clause-keys g c honest h at usable =
@@ -117,7 +118,7 @@ pub returns-clause-reads : goal.returns-clause-reads
 returns-clause-reads g c = reads_gave g.S.PageStore _ _ c.loop-step.keys c.loop-step.invariant.reads
 
 pub returns-clause-broken : goal.returns-clause-broken
-returns-clause-broken g c broken = not_refused c.in_ok-given.given (Db Broken) (c.in_ok-given.ensures.broken broken)
+returns-clause-broken g c broken = no_err c.in_ok-given.given (Db Broken) (c.in_ok-given.ensures.broken broken)
 
 -- ---- want of memory
 
@@ -135,7 +136,7 @@ returns-in_err-map_err-clause-reads g c =
     reads_no_memory g.S.PageStore _ _ c.from_residual-in_err-map_err.result (no_memory g c) c.loop-step.invariant.reads
 
 pub returns-in_err-map_err-clause-broken : goal.returns-in_err-map_err-clause-broken
-returns-in_err-map_err-clause-broken g c broken = not_refused c.in_ok-given.given (Db Broken) (c.in_ok-given.ensures.broken broken)
+returns-in_err-map_err-clause-broken g c broken = no_err c.in_ok-given.given (Db Broken) (c.in_ok-given.ensures.broken broken)
 
 pub returns-in_err-map_err-clause-only : goal.returns-in_err-map_err-clause-only
 returns-in_err-map_err-clause-only g c = if_exit _ _ Memory (no_memory g c) (inl refl)
@@ -149,7 +150,7 @@ pub returns-in_err-given-2-clause-short : goal.returns-in_err-given-2-clause-sho
 returns-in_err-given-2-clause-short g c = IfOk-from_err _ _ c.from_residual-in_err-given-2.ensures.0
 
 pub returns-in_err-given-2-clause-broken : goal.returns-in_err-given-2-clause-broken
-returns-in_err-given-2-clause-broken g c broken = not_refused c.in_ok-given.given (Db Broken) (c.in_ok-given.ensures.broken broken)
+returns-in_err-given-2-clause-broken g c broken = no_err c.in_ok-given.given (Db Broken) (c.in_ok-given.ensures.broken broken)
 
 pub returns-in_err-given-2-clause-only : goal.returns-in_err-given-2-clause-only
 returns-in_err-given-2-clause-only g c = if_exit _ _ c.in_err-given-2.field-0.0 (exit_is _ _ c.from_residual-in_err-given-2.ensures.1) c.in_err-given-2.ensures.only
@@ -165,4 +166,4 @@ pub returns-then-is_some-clause-reads : goal.returns-then-is_some-clause-reads
 returns-then-is_some-clause-reads g c = reads_damaged g.S.PageStore _ _ c.loop-step.invariant.reads
 
 pub returns-then-is_some-clause-broken : goal.returns-then-is_some-clause-broken
-returns-then-is_some-clause-broken g c broken = not_refused c.in_ok-given.given (Db Broken) (c.in_ok-given.ensures.broken broken)
+returns-then-is_some-clause-broken g c broken = no_err c.in_ok-given.given (Db Broken) (c.in_ok-given.ensures.broken broken)

@@ -8,7 +8,7 @@ use Rattle.seg_table.specs.MetaPages.{model_meta}
 use Rattle.page_commit.proofs.CommitResults.{commit_ok}
 use Rattle.file_opening.proofs.EmptyCommits.{may_commit, committed_state, forgotten_since, cause_of, only_of, no_room_of, no_room_or_room, room_of_ok, left_by_refusal, unchanged_since}
 use Rattle.file_opening.proofs.EmptyFiles.{holds_empty, leaves_old_or_empty}
-use Rattle.file_opening.proofs.Exits.{both_ways}
+use Rattle.page_io.proofs.Exits.{both_ways}
 use Rattle.file_opening.proofs.Refusals.{each_err}
 use Rattle.file_opening.proofs.emptying.commit_empty.Given.{Over}
 use Rattle.file_opening.proofs.emptying.commit_empty.Goals as goal

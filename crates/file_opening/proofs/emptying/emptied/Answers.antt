@@ -16,7 +16,8 @@ use Rattle.dbm_fault.specs.declared.fault.Fault.{Fault}
 use Rattle.dbm_fault.specs.declared.fault.Fault.TheVariants.{Memory}
 use Rattle.file_opening.specs.Opening.{room_fault, commit_fault, emptying_fault}
 use Rattle.file_opening.proofs.EmptyFiles.{settles_still, OldOrEmpty, left_as_before, still_good, still_capacity, state_of, reads_nothing, run_below}
-use Rattle.file_opening.proofs.Exits.{both_ways, later_then, same_honest, same_faults, reads_leave}
+use Rattle.page_io.proofs.Exits.{both_ways, later_then}
+use Rattle.file_opening.proofs.Exits.{same_honest, same_faults, reads_leave}
 use Rattle.file_opening.proofs.Rooms.{EmptyingOnly, of_room, of_room_apart, limit_of_room, fresh_meta, fresh_valid, of_commit, came_from, refuses_commit, has_room, allows_emptying}
 use Rattle.file_opening.proofs.emptying.emptied.Given.{Over}
 use Rattle.file_opening.proofs.emptying.emptied.Goals as goal

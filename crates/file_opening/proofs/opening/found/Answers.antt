@@ -1,4 +1,5 @@
 use Rattle.std.proofs.Common.{◌≡◌, ℕ, ◌/◌, Err, inl, inr, refl, sym, ap, ◌∙◌, subst}
+use denote.Enum.Bare.{same_false}
 use Rattle.sect_dev.specs.Device.{MoreFaults}
 use Rattle.page_model.specs.Meaning.{said_by}
 use Rattle.page_model.specs.Pages.{Meta, MetaPage}
@@ -11,10 +12,12 @@ use Rattle.page_io.specs.Store.{Pages, Settled, StoreState, bytes_of, file_pages
 use Rattle.redo_area.specs.Reading.{OnlyReads}
 use Rattle.seg_table.specs.MetaPages.{model_meta}
 use Rattle.dbm_fault.specs.Faults.{fault_from}
-use Rattle.dbm_fault.specs.declared.fault.Fault.TheVariants.{Device}
+use Rattle.dbm_fault.specs.declared.fault.Fault.TheVariants.{Device, Damaged, Version}
 use Rattle.file_opening.proofs.EmptyFiles.{settles_before, state_of}
 use Rattle.file_opening.proofs.FoundFiles.{refused_version, refused_meta}
-use Rattle.file_opening.proofs.Exits.{version_apart, damaged_apart, only_device, both_ways, later_then, same_honest, same_faults}
+use Rattle.dbm_fault.specs.contracts.fault.Fault.{the_type}
+use Rattle.page_io.proofs.Exits.{both_ways, later_then}
+use Rattle.file_opening.proofs.Exits.{only_device, same_honest, same_faults}
 use Rattle.file_opening.proofs.opening.found.Given.{Over}
 use Rattle.file_opening.proofs.opening.found.Goals as goal
 
@@ -130,7 +133,7 @@ returns-in-Err-Version-clause-refused g c honest other =
     refused_version (page_of file 1) c.read.new.page.bytes c.read_meta.result c.in-Err-Version.field-0 c.in-Err-Version.is read c.read_meta.ensures.body c.read_meta.ensures.version c.in-Err-Version.field-0-is
 
 pub returns-in-Err-Version-clause-device : goal.returns-in-Err-Version-clause-device
-returns-in-Err-Version-clause-device g c is = version_apart is
+returns-in-Err-Version-clause-device g c is = absurd (same_false the_type Version Device refl is)
 
 pub returns-in-Err-Version-clause-only : goal.returns-in-Err-Version-clause-only
 returns-in-Err-Version-clause-only g c = inr (inl refl)
@@ -160,7 +163,7 @@ returns-in-Err-Damaged-clause-refused g c honest other =
     refused_meta (page_of file 1) c.read.new.page.bytes c.read_meta.result c.in-Err-Damaged.field-0 c.in-Err-Damaged.is read c.read_meta.ensures.body c.read_meta.ensures.version c.in-Err-Damaged.field-0-is
 
 pub returns-in-Err-Damaged-clause-device : goal.returns-in-Err-Damaged-clause-device
-returns-in-Err-Damaged-clause-device g c is = damaged_apart is
+returns-in-Err-Damaged-clause-device g c is = absurd (same_false the_type Damaged Device refl is)
 
 pub returns-in-Err-Damaged-clause-only : goal.returns-in-Err-Damaged-clause-only
 returns-in-Err-Damaged-clause-only g c = inr (inr refl)

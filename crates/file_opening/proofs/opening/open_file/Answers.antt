@@ -1,4 +1,5 @@
 use Rattle.std.proofs.Common.{◌≡◌, ⊎_elim, inl, inr, ℕ, ◌+◌, ◌/◌, length, true, Some, refl, sym, ap, ◌∙◌, subst, rules}
+use denote.Enum.Bare.{same_false}
 use Rattle.std.specs.Prelude.{IfErr}
 use Rattle.std.specs.FinMap.{empty}
 use Rattle.sect_dev.specs.Device.{LeavesOnly}
@@ -13,9 +14,11 @@ use Rattle.redo_area.specs.declared.open_fault.OpenFault.TheVariants as redo
 use Rattle.seg_table.specs.MetaPages.{model_meta}
 use Rattle.file_opening.specs.OpenFiles.{device_left}
 use Rattle.file_opening.specs.Opening.{writes, is_exclusive, early_fault, making_fault, emptying_fault, RefusesOpened, IsRefusedOpening, EmptiesFile, MayRemain, KeepsMetaOf}
-use Rattle.dbm_fault.specs.declared.fault.Fault.TheVariants.{Device}
+use Rattle.dbm_fault.specs.declared.fault.Fault.TheVariants.{Memory, Device}
 use Rattle.file_opening.proofs.EmptyFiles.{settles_run, settles_on, settles_from, reads_nothing}
-use Rattle.file_opening.proofs.Exits.{of_early, of_made, memory_opens, device_opens, of_no_file, of_damaged, memory_apart, if_none, not_none, early_err, not_on, same_honest, same_faults, both_ways, later_then, more_later, reads_settle, before_settle, just_opened, made_opened, fresh_there}
+use Rattle.dbm_fault.specs.contracts.fault.Fault.{the_type}
+use Rattle.page_io.proofs.Exits.{both_ways, later_then, more_later}
+use Rattle.file_opening.proofs.Exits.{of_early, of_made, memory_opens, device_opens, of_no_file, of_damaged, if_none, not_none, early_err, not_on, same_honest, same_faults, reads_settle, before_settle, just_opened, made_opened, fresh_there}
 use Rattle.file_opening.proofs.NewFiles.{BlankOrNew, was_asked, none_for_reading}
 use Rattle.file_opening.proofs.Refusals.{from_ok, both_ok, each_err, blank_tells, not_ours_tells, damaged_tells, Tells, tells, has_blank, all_blank, refused_blank, refused_not_ours, refused_damaged, refused_file, lacks_memory, only_memory, what_stood, opened_as_asked, may_empty, device_untouched, stable_still, by_access}
 use Rattle.file_opening.proofs.opening.open_file.Given.{Over}
@@ -325,7 +328,7 @@ returns-in-Err-default-Memory g c = record {
       let dev = g.D.SectorDev in
       lacks_memory c.args.how (dev.sectors c.args.dev) (dev.candidate c.args.dev) (dev.candidate c.in-Err-default-Memory.dev) c.is_writable.result (dev.seen c.args.dev) c.is_writable.ensures (not_writing g c)
       (g.met.D.SectorDev.seen_may_stay c.args.dev honest) (c.in-Err-default-Memory.ensures.memory honest c.in-Err-default-Memory.field-0-1-is);
-  device = λ is. memory_apart is;
+  device = λ is. absurd (same_false the_type Memory Device refl is);
   only = memory_opens;
   honesty = c.in-Err-default-Memory.ensures.honesty;
   later = c.in-Err-default-Memory.ensures.cause.later;

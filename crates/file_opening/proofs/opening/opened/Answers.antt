@@ -1,4 +1,5 @@
 use Rattle.std.proofs.Common.{◌≡◌, ◌⊎◌, ⊎_elim, inl, inr, ℕ, ◌+◌, ◌/◌, length, None, refl, sym, ap, ◌∙◌, subst}
+use denote.Enum.Bare.{same_false}
 use Rattle.std.specs.FinMap.{empty}
 use Rattle.sect_dev.specs.Moments.{weaker}
 use Rattle.page_io.specs.Counts.{counts_end}
@@ -13,7 +14,10 @@ use Rattle.file_opening.specs.OpenFiles.{device_left}
 use Rattle.seg_table.specs.MetaPages.{model_meta}
 use Rattle.file_opening.specs.Opening.{emptying_fault, SaysMeta, EmptiesFile}
 use Rattle.file_opening.proofs.EmptyFiles.{OldOrEmpty, settles_run, settles_on, reads_nothing, state_of}
-use Rattle.file_opening.proofs.Exits.{exists_apart, exists_opens, of_found, of_emptied, same_honest, same_faults, reads_leave, reads_settle, opens_emptied, just_opened, both_ways, later_then, more_later, not_both}
+use Rattle.dbm_fault.specs.declared.fault.Fault.TheVariants.{Device, Exists}
+use Rattle.dbm_fault.specs.contracts.fault.Fault.{the_type}
+use Rattle.page_io.proofs.Exits.{both_ways, later_then, more_later, not_both}
+use Rattle.file_opening.proofs.Exits.{exists_opens, of_found, of_emptied, same_honest, same_faults, reads_leave, reads_settle, opens_emptied, just_opened}
 use Rattle.file_opening.proofs.FoundFiles.{opens_kept}
 use Rattle.file_opening.proofs.Refusals.{is_on, is_off, from_ok, both_ok, both_err, each_err}
 use Rattle.file_opening.proofs.opening.opened.Given.{Over}
@@ -139,7 +143,7 @@ returns-then-is_exclusive-clause-refused g c honest other =
     )
 
 pub returns-then-is_exclusive-clause-device : goal.returns-then-is_exclusive-clause-device
-returns-then-is_exclusive-clause-device g c is = exists_apart is
+returns-then-is_exclusive-clause-device g c is = absurd (same_false the_type Exists Device refl is)
 
 pub returns-then-is_exclusive-clause-only : goal.returns-then-is_exclusive-clause-only
 returns-then-is_exclusive-clause-only g c = exists_opens

@@ -3,9 +3,9 @@ use Rattle.std.proofs.lemmas.List.{take_all}
 use Rattle.std.proofs.lemmas.Result.{IfOk-from_err}
 use Rattle.sect_dev.specs.Device.{Image, IsImageOf}
 use Rattle.sect_dev.specs.Moments.{started, goes_on}
-use Rattle.page_io.proofs.Exits.{later_then}
+use Rattle.page_io.proofs.Exits.{at_error, later_then, more_later, both_ways}
 use Rattle.page_io.proofs.PageLaws.{joined, page_at-joined, joined-more, take_over}
-use Rattle.page_io.proofs.SectorRuns.{place_fits, all_parts, whole_page, part_ends, later_faults, more_faults, at_error}
+use Rattle.page_io.proofs.SectorRuns.{place_fits, all_parts, whole_page, part_ends, later_faults}
 use Rattle.page_io.proofs.sectors.read_page.Goals as goal
 
 pub loop-k-init : goal.loop-k-init
@@ -40,7 +40,7 @@ loop-k-preserved g c =
     let fewer = λ (h : dev.honest first) (m : ℕ) (x : List ℕ) (may : dev.candidate after m x). inv.candidates h m x (c.read.ensures.candidates (still h) m x may) in
     record {
       size = c.read.ensures.size ∙ inv.size;
-      honesty = (λ h. inv.honesty.0 (c.read.ensures.honesty.0 h), λ h. c.read.ensures.honesty.1 (inv.honesty.1 h));
+      honesty = both_ways c.read.ensures.honesty inv.honesty;
       faults = later_then (dev.faults first) (dev.faults before) (dev.faults after) inv.faults c.read.ensures.cause.later;
       seen = λ h. c.read.ensures.seen (still h) ∙ inv.seen h;
       candidates = fewer;
@@ -80,7 +80,7 @@ returns-in_err-read-clause-any_moment g c h =
 pub returns-in_err-read-clause-honesty : goal.returns-in_err-read-clause-honesty
 returns-in_err-read-clause-honesty g c =
     let inv = c.loop-k.invariant in
-    (λ h. inv.honesty.0 (c.read.ensures.honesty.0 h), λ h. c.read.ensures.honesty.1 (inv.honesty.1 h))
+    both_ways c.read.ensures.honesty inv.honesty
 
 pub returns-in_err-read-clause-cause : goal.returns-in_err-read-clause-cause
 returns-in_err-read-clause-cause g c =
@@ -89,7 +89,7 @@ returns-in_err-read-clause-cause g c =
     let cause = c.in_err-read.ensures.cause in
     record {
       later = later_then (faults c.args.dev.now) (faults c.loop-k.dev) (faults c.read.new.self) inv.faults cause.later;
-      fault = at_error c.from_residual.result _ (more_faults (faults c.args.dev.now) (faults c.loop-k.dev) (faults c.read.new.self) inv.faults cause.fault);
+      fault = at_error c.from_residual.result _ (more_later (faults c.args.dev.now) (faults c.loop-k.dev) (faults c.read.new.self) inv.faults cause.fault);
     }
 
 pub returns-in_err-read-clause-size : goal.returns-in_err-read-clause-size

@@ -4,8 +4,8 @@ use Rattle.sect_dev.specs.Device.{Image}
 use Rattle.sect_dev.specs.Moments.{started, goes_on}
 use Rattle.page_io.specs.Page.{part, IsOutsidePage, IsPartlyWritten, KeepsWhere}
 use Rattle.page_io.proofs.PageLaws.{at_same, at_other, page_of_parts}
-use Rattle.page_io.proofs.SectorRuns.{apart_from, same_part, before_it, within_all, no_part, later_faults, more_faults, at_error}
-use Rattle.page_io.proofs.Exits.{later_then}
+use Rattle.page_io.proofs.SectorRuns.{apart_from, same_part, before_it, within_all, no_part, later_faults}
+use Rattle.page_io.proofs.Exits.{at_error, later_then, more_later, both_ways}
 use Rattle.page_io.proofs.sectors.write_page.Goals as goal
 
 pub loop-k-init : goal.loop-k-init
@@ -47,7 +47,7 @@ loop-k-preserved g c =
     (λ new. inr (new.1 ∙ c.sector.ensures ∙ ap (part 512 c.args.page.now.bytes) (same_part n k j new.0))) (c.write.ensures.candidates (still h) (4 * n + j) x may) in
     record {
       size = c.write.ensures.size ∙ inv.size;
-      honesty = (λ h. inv.honesty.0 (c.write.ensures.honesty.0 h), λ h. c.write.ensures.honesty.1 (inv.honesty.1 h));
+      honesty = both_ways c.write.ensures.honesty inv.honesty;
       faults = later_then (dev.faults first) (dev.faults before) (dev.faults after) inv.faults c.write.ensures.cause.later;
       moments = λ h. goes_on dev.moment dev.left_since first before after (KeepsWhere (dev.candidate first) (IsOutsidePage n)) _ (inv.moments h) (c.write.ensures.time (still h))
           (λ image is m out. fewer h m (image m) out (is m));
@@ -108,7 +108,7 @@ returns-in_err-write-clause-candidates g c h m x out may =
 pub returns-in_err-write-clause-honesty : goal.returns-in_err-write-clause-honesty
 returns-in_err-write-clause-honesty g c =
     let inv = c.loop-k.invariant in
-    (λ h. inv.honesty.0 (c.write.ensures.honesty.0 h), λ h. c.write.ensures.honesty.1 (inv.honesty.1 h))
+    both_ways c.write.ensures.honesty inv.honesty
 
 pub returns-in_err-write-clause-cause : goal.returns-in_err-write-clause-cause
 returns-in_err-write-clause-cause g c =
@@ -117,7 +117,7 @@ returns-in_err-write-clause-cause g c =
     let cause = c.in_err-write.ensures.cause in
     record {
       later = later_then (faults c.args.dev.now) (faults c.loop-k.dev) (faults c.write.new.self) inv.faults cause.later;
-      fault = at_error c.from_residual.result _ (more_faults (faults c.args.dev.now) (faults c.loop-k.dev) (faults c.write.new.self) inv.faults cause.fault);
+      fault = at_error c.from_residual.result _ (more_later (faults c.args.dev.now) (faults c.loop-k.dev) (faults c.write.new.self) inv.faults cause.fault);
     }
 
 pub returns-in_err-write-clause-size : goal.returns-in_err-write-clause-size

@@ -1,15 +1,12 @@
-use Rattle.std.proofs.Common.{◌≡◌, List, ◌∷◌, ◌++◌, set, take, drop, true, false, Result, Ok, Err, OnErr, sym, ◌∙◌, ap, subst}
+use Rattle.std.proofs.Common.{◌≡◌, List, ◌∷◌, ◌++◌, set, take, drop, true, false, sym, ◌∙◌, ap, subst}
 use Rattle.std.specs.Prelude.{IsFalse}
 use Rattle.page_io.specs.Page.{own_number}
 use Rattle.page_io.specs.Store.{Pages, bytes_of, put_page, has_page, are_in_order}
 use Rattle.page_io.specs.declared.page.Page.{Page}
+use Rattle.page_io.proofs.Exits.{at_error}
 use Rattle.page_io.proofs.Places.{replaced_at, inserted_at, absent_at}
 use Rattle.page_io.proofs.StagedPages.{order_put}
 use Rattle.page_io.proofs.staged.put_staged.Goals as goal
-
-at_error : {T E : Type 0} (r : Result T E) (P : Type 0) → P → OnErr r P
-at_error (Ok x) P p = tt
-at_error (Err e) P p = p
 
 pub returns-then-is_at-clause-ok : goal.returns-then-is_at-clause-ok
 returns-then-is_at-clause-ok c =

@@ -2,14 +2,14 @@ use Rattle.std.proofs.Common.{◌≡◌, ◌≢◌, ◌≤◌, ◌/◌, ℕ, [],
 use Rattle.std.proofs.lemmas.Result.{IfOk-from_err}
 use Rattle.sect_dev.specs.Device.{Image}
 use Rattle.page_io.specs.Store.{bytes_of, are_in_order}
-use Rattle.page_io.proofs.Exits.{later_then}
+use Rattle.page_io.proofs.Exits.{exit_is, came, if_exit, no_err, later_then, more_later, both_ways}
 use Rattle.redo_commit.specs.File.{redo_images}
 use Rattle.redo_area.specs.Opening.{refusal_of}
 use Rattle.redo_area.specs.declared.open_fault.OpenFault.{OpenFault}
-use Rattle.redo_area.specs.declared.open_fault.OpenFault.TheVariants.{Memory, Device}
+use Rattle.redo_area.specs.declared.open_fault.OpenFault.TheVariants.{Memory, Device, Blank, NotOurs, Damaged}
 use Rattle.redo_area.proofs.Openings.{below_room, says_armed, found-clear, found-armed, refused-blank, refused-not_ours, refused-damaged, refused-armed}
 use Rattle.redo_area.proofs.ReadRuns.{sector_read, more_reads}
-use Rattle.redo_area.proofs.Results.{from_test, fault_from_test, exit_is, came, if_exit, no_err, device_not_memory, blank_not_memory, blank_not_device, not_ours_not_memory, not_ours_not_device, damaged_not_memory, damaged_not_device, more_later}
+use Rattle.redo_area.proofs.Results.{from_test, fault_from_test, other_fault}
 use Rattle.redo_area.proofs.reading.read_file.Goals as goal
 
 -- the sector is not read
@@ -20,7 +20,7 @@ returns-then-is_err g c =
       found = λ honest. tt;
       end = tt;
       refused = λ honest device memory. absurd (device refl);
-      memory = λ honest is. absurd (device_not_memory is);
+      memory = λ honest is. other_fault Device Memory refl is;
       only_reads = λ honest. sector_read g.D.SectorDev c.args.dev.now c.read.new.self
           (λ image left. g.met.D.SectorDev.only_now c.args.dev.now image honest left)
           (told.seen honest) (told.candidates honest) (told.keeps honest) (told.time honest);
@@ -43,12 +43,12 @@ returns-in-Blank g c =
           (told.read honest) in
           refused-blank (g.D.SectorDev.seen c.args.dev.now) c.capacity-capacity.ensures read
           c.in-Blank.ensures.said;
-      memory = λ honest is. absurd (blank_not_memory is);
+      memory = λ honest is. other_fault Blank Memory refl is;
       only_reads = λ honest. sector_read g.D.SectorDev c.args.dev.now c.read.new.self
           (λ image left. g.met.D.SectorDev.only_now c.args.dev.now image honest left)
           (told.seen honest) (told.candidates honest) (told.keeps honest) (told.time honest);
       later = told.cause.later;
-      cause = λ is. absurd (blank_not_device is);
+      cause = λ is. other_fault Blank Device refl is;
       honesty = told.honesty;
       size = told.size;
     }
@@ -65,12 +65,12 @@ returns-in-NotOurs g c =
           (told.read honest) in
           refused-not_ours (g.D.SectorDev.seen c.args.dev.now) c.capacity-capacity.ensures read
           c.in-NotOurs.ensures.said c.in-NotOurs.ensures.ours;
-      memory = λ honest is. absurd (not_ours_not_memory is);
+      memory = λ honest is. other_fault NotOurs Memory refl is;
       only_reads = λ honest. sector_read g.D.SectorDev c.args.dev.now c.read.new.self
           (λ image left. g.met.D.SectorDev.only_now c.args.dev.now image honest left)
           (told.seen honest) (told.candidates honest) (told.keeps honest) (told.time honest);
       later = told.cause.later;
-      cause = λ is. absurd (not_ours_not_device is);
+      cause = λ is. other_fault NotOurs Device refl is;
       honesty = told.honesty;
       size = told.size;
     }
@@ -87,12 +87,12 @@ returns-in-Damaged g c =
           (told.read honest) in
           refused-damaged (g.D.SectorDev.seen c.args.dev.now) c.capacity-capacity.ensures read
           c.in-Damaged.ensures.said c.in-Damaged.ensures.ours;
-      memory = λ honest is. absurd (damaged_not_memory is);
+      memory = λ honest is. other_fault Damaged Memory refl is;
       only_reads = λ honest. sector_read g.D.SectorDev c.args.dev.now c.read.new.self
           (λ image left. g.met.D.SectorDev.only_now c.args.dev.now image honest left)
           (told.seen honest) (told.candidates honest) (told.keeps honest) (told.time honest);
       later = told.cause.later;
-      cause = λ is. absurd (damaged_not_device is);
+      cause = λ is. other_fault Damaged Device refl is;
       honesty = told.honesty;
       size = told.size;
     }
@@ -116,12 +116,12 @@ returns-in-Clear g c =
             c.capacity-capacity.ensures clear.ensures.in_range.1,
       );
       refused = λ honest. tt;
-      memory = λ honest is. absurd (no_err _ _ is);
+      memory = λ honest is. no_err _ _ is;
       only_reads = λ honest. sector_read g.D.SectorDev c.args.dev.now c.read.new.self
           (λ image left. g.met.D.SectorDev.only_now c.args.dev.now image honest left)
           (told.seen honest) (told.candidates honest) (told.keeps honest) (told.time honest);
       later = told.cause.later;
-      cause = λ is. absurd (no_err _ _ is);
+      cause = λ is. no_err _ _ is;
       honesty = told.honesty;
       size = told.size;
     }
@@ -153,7 +153,7 @@ returns-in_ok-redo-in-Armed g c =
             (below_room _ _ _ _ range.1 range.2),
       );
       refused = λ honest. tt;
-      memory = λ honest is. absurd (no_err _ _ is);
+      memory = λ honest is. no_err _ _ is;
       only_reads = λ honest.
           more_reads dev first c.read.new.self c.read_images.new.dev
           (sector_read dev first c.read.new.self
@@ -161,8 +161,8 @@ returns-in_ok-redo-in-Armed g c =
           (told.seen honest) (told.candidates honest) (told.keeps honest) (told.time honest))
           (more.only_reads (told.honesty.1 honest));
       later = later_then _ _ _ told.cause.later more.later;
-      cause = λ is. absurd (no_err _ _ is);
-      honesty = (λ h. told.honesty.0 (more.honesty.0 h), λ h. more.honesty.1 (told.honesty.1 h));
+      cause = λ is. no_err _ _ is;
+      honesty = both_ways more.honesty told.honesty;
       size = more.size ∙ told.size;
     }
 
@@ -205,6 +205,6 @@ returns-in_err-redo-in-Armed g c =
           (more.only_reads (told.honesty.1 honest));
       later = later_then _ _ _ told.cause.later more.later;
       cause = λ is. more_later _ _ _ told.cause.later (more.cause (came _ _ exit Device is));
-      honesty = (λ h. told.honesty.0 (more.honesty.0 h), λ h. more.honesty.1 (told.honesty.1 h));
+      honesty = both_ways more.honesty told.honesty;
       size = more.size ∙ told.size;
     }

@@ -5,10 +5,11 @@ use Rattle.page_io.specs.Page.{page_at, own_number}
 use Rattle.page_io.specs.Store.{Pages, bytes_of, pages_from, are_in_order}
 use Rattle.page_io.specs.declared.page.Page.{Page}
 use Rattle.page_io.proofs.Overlays.{pages_more}
-use Rattle.page_io.proofs.Exits.{later_then}
+use Rattle.page_io.proofs.Exits.{no_err, later_then, more_later, both_ways}
 use Rattle.redo_area.proofs.Orders.{not_in_order, one_in_order, none_left, all_read}
 use Rattle.redo_area.proofs.ReadRuns.{none_yet, one_more}
-use Rattle.redo_area.proofs.Results.{from_test, fault_from_test, no_err, device_not_damaged, memory_not_damaged, memory_not_device, damaged_not_device, more_later}
+use Rattle.redo_area.specs.declared.open_fault.OpenFault.TheVariants.{Memory, Device, Damaged}
+use Rattle.redo_area.proofs.Results.{from_test, fault_from_test, other_fault}
 use Rattle.redo_area.proofs.reading.read_images.Goals as goal
 use Rattle.redo_area.proofs.reading.read_images.Goals.{then-own-least-via-then-own-least, then-own-least-via-else-own-least+then-from-own}
 
@@ -38,7 +39,7 @@ returns-then-is_err g c =
     record {
       images = λ h. tt;
       in_order = λ h. tt;
-      damaged = λ h is. absurd (device_not_damaged is);
+      damaged = λ h is. other_fault Device Damaged refl is;
       only = inl refl;
       only_reads = λ h.
           let h1 = inv.honesty.1 h in
@@ -48,7 +49,7 @@ returns-then-is_err g c =
       cause = λ _. more_later _ _ _ inv.faults
           (fault_from_test c.read_page.result c.is_err.ensures.value c.if-is_err.true
           page.cause.fault);
-      honesty = (λ h. inv.honesty.0 (page.honesty.0 h), λ h. page.honesty.1 (inv.honesty.1 h));
+      honesty = both_ways page.honesty inv.honesty;
       size = page.size ∙ inv.size;
     }
 
@@ -82,8 +83,8 @@ returns-then-own-least g c =
           one_more g.D.SectorDev c.args.dev.now c.loop-i.dev c.read_page.new.dev (inv.only_reads h)
           (page.seen h1) (page.candidates h1) (page.keeps h1) (page.any_moment h1);
       later = later_then _ _ _ inv.faults page.cause.later;
-      cause = λ is. absurd (damaged_not_device is);
-      honesty = (λ h. inv.honesty.0 (page.honesty.0 h), λ h. page.honesty.1 (inv.honesty.1 h));
+      cause = λ is. other_fault Damaged Device refl is;
+      honesty = both_ways page.honesty inv.honesty;
       size = page.size ∙ inv.size;
     }
 
@@ -95,15 +96,15 @@ returns-then-is_err-2 g c =
     record {
       images = λ h. tt;
       in_order = λ h. tt;
-      damaged = λ h is. absurd (memory_not_damaged is);
+      damaged = λ h is. other_fault Memory Damaged refl is;
       only = inr (inl refl);
       only_reads = λ h.
           let h1 = inv.honesty.1 h in
           one_more g.D.SectorDev c.args.dev.now c.loop-i.dev c.read_page.new.dev (inv.only_reads h)
           (page.seen h1) (page.candidates h1) (page.keeps h1) (page.any_moment h1);
       later = later_then _ _ _ inv.faults page.cause.later;
-      cause = λ is. absurd (memory_not_device is);
-      honesty = (λ h. inv.honesty.0 (page.honesty.0 h), λ h. page.honesty.1 (inv.honesty.1 h));
+      cause = λ is. other_fault Memory Device refl is;
+      honesty = both_ways page.honesty inv.honesty;
       size = page.size ∙ inv.size;
     }
 
@@ -119,11 +120,11 @@ returns g c =
           let none : c.args.count - c.loop-i.i ≡ 0 = none_left _ _ c.loop-i-test.false in
           inv.checked h ∙ ap (λ (k : ℕ). are_in_order c.loop-i.least c.args.end
           (pages_from at (c.args.start + c.loop-i.i) k)) none;
-      damaged = λ h is. absurd (no_err _ _ is);
+      damaged = λ h is. no_err _ _ is;
       only = tt;
       only_reads = inv.only_reads;
       later = inv.faults;
-      cause = λ is. absurd (no_err _ _ is);
+      cause = λ is. no_err _ _ is;
       honesty = inv.honesty;
       size = inv.size;
     }
@@ -148,7 +149,7 @@ loop-i-preserved g c =
     record {
       size = page.size ∙ inv.size;
       small = omega arith;
-      honesty = (λ h. inv.honesty.0 (page.honesty.0 h), λ h. page.honesty.1 (inv.honesty.1 h));
+      honesty = both_ways page.honesty inv.honesty;
       faults = omega (arith, page.cause.later, inv.faults);
       only_reads = λ h. one_more dev first c.loop-i.dev c.read_page.new.dev (inv.only_reads h) (page.seen (h1 h)) (page.candidates (h1 h)) (page.keeps (h1 h)) (page.any_moment (h1 h));
       checked = λ h. inv.checked h ∙ one_in_order at c.args.start c.args.count c.args.end c.loop-i.i c.loop-i.least c.from-own.result c.loop-i-test.true (c.from-own.ensures ∙ c.own.ensures.number ∙ ap own_number (bytes h)) (omega (arith, c.if-own-least.false))

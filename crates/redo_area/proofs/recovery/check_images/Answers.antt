@@ -4,7 +4,7 @@ use Rattle.sect_dev.specs.Device.{Image, IsImageOf}
 use Rattle.sect_dev.specs.Moments.{followed_by}
 use Rattle.page_io.specs.Page.{page_at, own_number}
 use Rattle.page_io.specs.Store.{pages_from, are_in_order}
-use Rattle.page_io.proofs.Exits.{later_then}
+use Rattle.page_io.proofs.Exits.{later_then, both_ways}
 use Rattle.redo_area.proofs.Orders.{not_in_order, one_in_order, none_left}
 use Rattle.redo_area.proofs.Results.{cause_after, cause_ok}
 use Rattle.redo_area.proofs.recovery.check_images.Goals as goal
@@ -28,7 +28,7 @@ returns-in_err-read_page g c =
           (IsImageOf (dev.candidate first)) (IsImageOf (dev.candidate before))
           (inv.moments h) (page.any_moment (inv.honesty.1 h))
           (λ image is m. inv.candidates h m (image m) (is m));
-      honesty = (λ h. inv.honesty.0 (page.honesty.0 h), λ h. page.honesty.1 (inv.honesty.1 h));
+      honesty = both_ways page.honesty inv.honesty;
       cause = cause_after _ c.in_err-read_page.field-0.0 _ _ _ inv.faults
           c.in_err-read_page.ensures.cause;
       size = page.size ∙ inv.size;
@@ -64,7 +64,7 @@ returns-then-own-least g c =
           (IsImageOf (dev.candidate first)) (IsImageOf (dev.candidate before))
           (inv.moments h) (page.any_moment (inv.honesty.1 h))
           (λ image is m. inv.candidates h m (image m) (is m));
-      honesty = (λ h. inv.honesty.0 (page.honesty.0 h), λ h. page.honesty.1 (inv.honesty.1 h));
+      honesty = both_ways page.honesty inv.honesty;
       cause = cause_ok _ _ _ (later_then _ _ _ inv.faults page.cause.later);
       size = page.size ∙ inv.size;
     }
@@ -99,7 +99,7 @@ loop-i-preserved g c =
     record {
       size = c.read_page.ensures.size ∙ inv.size;
       small = omega arith;
-      honesty = (λ h. inv.honesty.0 (c.read_page.ensures.honesty.0 h), λ h. c.read_page.ensures.honesty.1 (inv.honesty.1 h));
+      honesty = both_ways c.read_page.ensures.honesty inv.honesty;
       faults = omega (arith, c.read_page.ensures.cause.later, inv.faults);
       seen = λ h. c.read_page.ensures.seen (h1 h) ∙ inv.seen h;
       candidates = λ h m x may. inv.candidates h m x (c.read_page.ensures.candidates (h1 h) m x may);

@@ -1,7 +1,7 @@
 use Rattle.std.proofs.Common.{sym, ap, ◌∙◌}
 use Rattle.std.proofs.lemmas.Result.{IfOk-from_err}
 use Rattle.sect_dev.specs.Device.{Image}
-use Rattle.page_io.proofs.Exits.{later_then}
+use Rattle.page_io.proofs.Exits.{later_then, both_ways}
 use Rattle.redo_area.proofs.Recoveries.{sync_alone, sync_and_read, still_at_start}
 use Rattle.redo_area.proofs.Results.{cause_first, cause_after, cause_ok}
 use Rattle.redo_area.proofs.recovery.look.Goals as goal
@@ -48,7 +48,7 @@ returns-in_err-read g c =
           new (told.candidates (synced.honesty.1 h)) (stays (told.honesty.1 (synced.honesty.1 h)));
       stable = λ h. IfOk-from_err _ _ result.ensures.0;
       read = λ h. IfOk-from_err _ _ result.ensures.0;
-      honesty = (λ h. synced.honesty.0 (told.honesty.0 h), λ h. told.honesty.1 (synced.honesty.1 h));
+      honesty = both_ways told.honesty synced.honesty;
       cause = cause_after _ failed.field-0.0 _ _ _ synced.cause.later failed.ensures.cause;
       size = told.size ∙ synced.size;
     }
@@ -76,7 +76,7 @@ returns g c =
       read = λ h.
           let h1 = synced.honesty.1 h in
           c.in_ok-read.ensures.read h1 ∙ sym (ap (λ (s : Image). s 0) (told.seen h1));
-      honesty = (λ h. synced.honesty.0 (told.honesty.0 h), λ h. told.honesty.1 (synced.honesty.1 h));
+      honesty = both_ways told.honesty synced.honesty;
       cause = cause_ok _ _ _ (later_then _ _ _ synced.cause.later told.cause.later);
       size = told.size ∙ synced.size;
     }

@@ -9,12 +9,13 @@ use Rattle.dbm_file.specs.Database.{handle_of, meta_kept}
 use Rattle.dbm_file.specs.declared.calls.StoreMode.TheVariants.{Replace}
 use Rattle.dbm_file.specs.declared.calls.StoreReply.TheVariants as stored
 use Rattle.dbm_fault.specs.declared.fault.Fault.TheVariants.{ReadOnly, TooLong, Full}
+use Rattle.page_io.proofs.Exits.{not_both}
 use Rattle.dbm_file.proofs.Cases.{broken_store, store_read_only, too_long_rule, store_rule, store_fails, kept, full}
 use Rattle.dbm_file.proofs.ReadSteps.{from_own, no_read, still_meta, still_writable, not_broken, found_step, declined_step, rejected_step, walk_failed_step, broken_step}
 use Rattle.dbm_file.proofs.ChangeSteps.{mid_honest, mid_usable, mid_holds, changed_step, store_growth, refused_step, told_keeps}
 use Rattle.dbm_file.proofs.Endings.{unusable_store, unwritable_store, long_store, told_store, kept_store, full_store, done_store, walk_told, done_keeps, changed_shape, as_change}
 use Rattle.dbm_file.proofs.Searches.{was_found}
-use Rattle.dbm_file.proofs.StoreSteps.{store_asked, store_told, inserts_so, replaces_so, not_both}
+use Rattle.dbm_file.proofs.StoreSteps.{store_asked, store_told, inserts_so, replaces_so}
 use Rattle.linear_hash.proofs.Tables.{counted}
 use Rattle.dbm_file.proofs.database.Database.try_store.Goals.{else-was_there-via-then-was_there+else-eq, else-was_there-via-else-was_there, else-not-was_there-via-then-not-was_there+else-self, else-not-was_there-via-else-not-was_there}
 use Rattle.dbm_file.proofs.database.Database.try_store.Goals as goal
@@ -167,11 +168,11 @@ returns-in_err-store_pair g c =
           let there = c.in_ok-was_there.ensures.exact honest map (at.map usable) in
           let replaces : c.in_ok-was_there.was_there ≡ true → mode ≡ Replace = elim c.else-was_there.branch [
             | else-was_there-via-then-was_there+else-eq w ↦ λ is. replaces_so mode w.if-eq.ensures
-            | else-was_there-via-else-was_there w ↦ λ is. absurd (not_both _ is w.if-was_there.false)
+            | else-was_there-via-else-was_there w ↦ λ is. not_both _ is w.if-was_there.false
           ] in
           let few : c.in_ok-was_there.was_there ≡ false → c.has.new.self.meta.pairs < c.has.new.self.meta.limit = elim c.else-not-was_there.branch [
             | else-not-was_there-via-then-not-was_there+else-self w ↦ λ is. w.if-self.false
-            | else-not-was_there-via-else-not-was_there w ↦ λ is. absurd (not_both _ w.if-not-was_there.false is)
+            | else-not-was_there-via-else-not-was_there w ↦ λ is. not_both _ w.if-not-was_there.false is
           ] in
           let asked = store_asked s db c.has.new.self map pass key c.in_ok-was_there.ensures.reads usable writable honest (at.map usable) (at.pass usable) (at.rests usable)
           content mode c.in_ok-was_there.was_there short there replaces few in
@@ -204,11 +205,11 @@ returns g c =
           let there = c.in_ok-was_there.ensures.exact honest map (at.map usable) in
           let replaces : c.in_ok-was_there.was_there ≡ true → mode ≡ Replace = elim c.else-was_there.branch [
             | else-was_there-via-then-was_there+else-eq w ↦ λ is. replaces_so mode w.if-eq.ensures
-            | else-was_there-via-else-was_there w ↦ λ is. absurd (not_both _ is w.if-was_there.false)
+            | else-was_there-via-else-was_there w ↦ λ is. not_both _ is w.if-was_there.false
           ] in
           let few : c.in_ok-was_there.was_there ≡ false → c.has.new.self.meta.pairs < c.has.new.self.meta.limit = elim c.else-not-was_there.branch [
             | else-not-was_there-via-then-not-was_there+else-self w ↦ λ is. w.if-self.false
-            | else-not-was_there-via-else-not-was_there w ↦ λ is. absurd (not_both _ w.if-not-was_there.false is)
+            | else-not-was_there-via-else-not-was_there w ↦ λ is. not_both _ w.if-not-was_there.false is
           ] in
           let asked = store_asked s db c.has.new.self map pass key c.in_ok-was_there.ensures.reads usable writable honest (at.map usable) (at.pass usable) (at.rests usable)
           content mode c.in_ok-was_there.was_there short there replaces few in

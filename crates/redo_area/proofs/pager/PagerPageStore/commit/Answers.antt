@@ -6,8 +6,7 @@ use Rattle.page_io.specs.Store.{file_of, IsEither, bytes_of, file_pages, overlai
 use Rattle.page_io.specs.declared.page.Page.{Page}
 use Rattle.redo_commit.specs.File.{settled, IsAtRest}
 use Rattle.redo_area.specs.Settling.{only_seen, rests_at}
-use Rattle.redo_area.proofs.Kept.{none_over, new_pages, commit_leaves, read_leaves}
-use Rattle.redo_area.proofs.ReadRuns.{none_yet}
+use Rattle.redo_area.proofs.Kept.{none_over, new_pages, commit_leaves, unasked}
 use Rattle.redo_area.proofs.Results.{from_test}
 use Rattle.page_io.proofs.StagedPages.{order_below}
 use Rattle.redo_area.proofs.pager.PagerPageStore.commit.Goals as goal
@@ -68,16 +67,11 @@ returns-then-not-self-clause-any_moment g c honest usable writable =
     absurd (false≢true (sym c.if-not-self.true ∙ usable))
 
 pub returns-then-not-self-clause-refused : goal.returns-then-not-self-clause-refused
-returns-then-not-self-clause-refused g c refusal =
-    let old = c.args.self.now in (
-      refl,
-      λ honest. record {
-        committed = refl;
-        any_moment = read_leaves g.D.SectorDev old _ refl
-            (none_yet g.D.SectorDev old.dev
-            (λ image left. g.met.D.SectorDev.only_now old.dev image honest left)).any_moment;
-      },
-    )
+returns-then-not-self-clause-refused g c refusal = (
+  refl,
+  λ honest. unasked g.D.SectorDev c.args.self.now _ refl refl
+      (λ image. g.met.D.SectorDev.only_now c.args.self.now.dev image honest),
+)
 
 -- it is for reading alone
 pub returns-then-not-self-2-clause-any_moment : goal.returns-then-not-self-2-clause-any_moment
@@ -85,26 +79,16 @@ returns-then-not-self-2-clause-any_moment g c honest usable writable =
     absurd (false≢true (sym c.if-not-self-2.true ∙ writable))
 
 pub returns-then-not-self-2-clause-refused : goal.returns-then-not-self-2-clause-refused
-returns-then-not-self-2-clause-refused g c refusal =
-    let old = c.args.self.now in (
-      refl,
-      λ honest. record {
-        committed = refl;
-        any_moment = read_leaves g.D.SectorDev old _ refl
-            (none_yet g.D.SectorDev old.dev
-            (λ image left. g.met.D.SectorDev.only_now old.dev image honest left)).any_moment;
-      },
-    )
+returns-then-not-self-2-clause-refused g c refusal = (
+  refl,
+  λ honest. unasked g.D.SectorDev c.args.self.now _ refl refl
+      (λ image. g.met.D.SectorDev.only_now c.args.self.now.dev image honest),
+)
 
 -- the pages have no room
 pub returns-then-len-room-clause-refused : goal.returns-then-len-room-clause-refused
-returns-then-len-room-clause-refused g c refusal =
-    let old = c.args.self.now in (
-      refl,
-      λ honest. record {
-        committed = refl;
-        any_moment = read_leaves g.D.SectorDev old _ refl
-            (none_yet g.D.SectorDev old.dev
-            (λ image left. g.met.D.SectorDev.only_now old.dev image honest left)).any_moment;
-      },
-    )
+returns-then-len-room-clause-refused g c refusal = (
+  refl,
+  λ honest. unasked g.D.SectorDev c.args.self.now _ refl refl
+      (λ image. g.met.D.SectorDev.only_now c.args.self.now.dev image honest),
+)

@@ -4,7 +4,7 @@ use Rattle.page_io.specs.Page.{page_at}
 use Rattle.page_io.specs.Store.{bytes_of, file_pages, overlaid, page_of}
 use Rattle.page_io.proofs.Overlays.{overlaid-staged, overlaid-none}
 use Rattle.page_io.specs.declared.page.Page.{Page}
-use Rattle.redo_area.proofs.Kept.{not_found, not_staged, read_leaves}
+use Rattle.redo_area.proofs.Kept.{not_found, not_staged, read_leaves, unasked}
 use Rattle.redo_area.proofs.ReadRuns.{none_yet}
 use Rattle.redo_area.proofs.Results.{from_test}
 use Rattle.redo_area.proofs.pager.PagerPageStore.read.Goals as goal
@@ -40,58 +40,46 @@ returns-clause-found g c honest =
 -- the store is broken
 pub returns-then-not-self-clause-kept : goal.returns-then-not-self-clause-kept
 returns-then-not-self-clause-kept g c honest =
-    let old = c.args.self.now in
-    let reads = none_yet g.D.SectorDev old.dev
-    (λ image left. g.met.D.SectorDev.only_now old.dev image honest left) in
-    record { committed = refl; any_moment = read_leaves g.D.SectorDev old _ refl reads.any_moment }
+    unasked g.D.SectorDev c.args.self.now _ refl refl
+    (λ image. g.met.D.SectorDev.only_now c.args.self.now.dev image honest)
 
 pub returns-then-not-self-clause-only_reads : goal.returns-then-not-self-clause-only_reads
 returns-then-not-self-clause-only_reads g c honest =
-    let old = c.args.self.now in
-    none_yet g.D.SectorDev old.dev (λ image left. g.met.D.SectorDev.only_now old.dev image honest
-    left)
+    none_yet g.D.SectorDev c.args.self.now.dev
+    (λ image. g.met.D.SectorDev.only_now c.args.self.now.dev image honest)
 
 -- the page is staged
 pub returns-then-find_staged-clause-kept : goal.returns-then-find_staged-clause-kept
 returns-then-find_staged-clause-kept g c honest =
-    let old = c.args.self.now in
-    let reads = none_yet g.D.SectorDev old.dev
-    (λ image left. g.met.D.SectorDev.only_now old.dev image honest left) in
-    record { committed = refl; any_moment = read_leaves g.D.SectorDev old _ refl reads.any_moment }
+    unasked g.D.SectorDev c.args.self.now _ refl refl
+    (λ image. g.met.D.SectorDev.only_now c.args.self.now.dev image honest)
 
 pub returns-then-find_staged-clause-only_reads : goal.returns-then-find_staged-clause-only_reads
 returns-then-find_staged-clause-only_reads g c honest =
-    let old = c.args.self.now in
-    none_yet g.D.SectorDev old.dev (λ image left. g.met.D.SectorDev.only_now old.dev image honest
-    left)
+    none_yet g.D.SectorDev c.args.self.now.dev
+    (λ image. g.met.D.SectorDev.only_now c.args.self.now.dev image honest)
 
 -- there is no such page
 pub returns-then-n-lt1-clause-kept : goal.returns-then-n-lt1-clause-kept
 returns-then-n-lt1-clause-kept g c honest =
-    let old = c.args.self.now in
-    let reads = none_yet g.D.SectorDev old.dev
-    (λ image left. g.met.D.SectorDev.only_now old.dev image honest left) in
-    record { committed = refl; any_moment = read_leaves g.D.SectorDev old _ refl reads.any_moment }
+    unasked g.D.SectorDev c.args.self.now _ refl refl
+    (λ image. g.met.D.SectorDev.only_now c.args.self.now.dev image honest)
 
 pub returns-then-n-lt1-clause-only_reads : goal.returns-then-n-lt1-clause-only_reads
 returns-then-n-lt1-clause-only_reads g c honest =
-    let old = c.args.self.now in
-    none_yet g.D.SectorDev old.dev (λ image left. g.met.D.SectorDev.only_now old.dev image honest
-    left)
+    none_yet g.D.SectorDev c.args.self.now.dev
+    (λ image. g.met.D.SectorDev.only_now c.args.self.now.dev image honest)
 
 -- its image is kept
 pub returns-then-find_staged-2-clause-kept : goal.returns-then-find_staged-2-clause-kept
 returns-then-find_staged-2-clause-kept g c honest =
-    let old = c.args.self.now in
-    let reads = none_yet g.D.SectorDev old.dev
-    (λ image left. g.met.D.SectorDev.only_now old.dev image honest left) in
-    record { committed = refl; any_moment = read_leaves g.D.SectorDev old _ refl reads.any_moment }
+    unasked g.D.SectorDev c.args.self.now _ refl refl
+    (λ image. g.met.D.SectorDev.only_now c.args.self.now.dev image honest)
 
 pub returns-then-find_staged-2-clause-only_reads : goal.returns-then-find_staged-2-clause-only_reads
 returns-then-find_staged-2-clause-only_reads g c honest =
-    let old = c.args.self.now in
-    none_yet g.D.SectorDev old.dev (λ image left. g.met.D.SectorDev.only_now old.dev image honest
-    left)
+    none_yet g.D.SectorDev c.args.self.now.dev
+    (λ image. g.met.D.SectorDev.only_now c.args.self.now.dev image honest)
 
 -- the device fails
 pub returns-then-is_err-clause-kept : goal.returns-then-is_err-clause-kept
