@@ -4,8 +4,8 @@ use Rattle.std.specs.Fmt.{decimal}
 use Rattle.dbm_model.specs.Calls.{number_of}
 use Rattle.dbm_text.specs.Lines.{with_line_feed}
 use Rattle.dbm_fault.specs.Faults.{fault_of}
-use Rattle.dbm_tool.specs.declared.commands.Failure.{Failure}
-use Rattle.dbm_tool.specs.declared.commands.Failure.TheVariants as failure
+use Rattle.dbm_commands.specs.declared.outcomes.Failure.{Failure}
+use Rattle.dbm_commands.specs.declared.outcomes.Failure.TheVariants as failure
 use Rattle.dbm_fault.specs.declared.engine_fault.EngineFault.{EngineFault}
 use Rattle.dbm_fault.specs.declared.engine_fault.EngineFault.TheVariants.{Memory, Read, Write, Line, Db}
 

@@ -2,10 +2,10 @@
 use Rattle.std.specs.Prelude.{ℕ, List, Option, IfSome}
 use Rattle.std.specs.Io.KnownBytes.{Appends}
 use Rattle.dbm_words.specs.CommandLine.{IsPlan}
-use Rattle.dbm_words.specs.declared.help_text.TheConstants.{FAULT_TABLE}
-use Rattle.dbm_words.specs.declared.plan.Plan.{Plan}
-use Rattle.dbm_words.specs.declared.plan.Plan.TheVariants.{Script, Faults}
-use Rattle.dbm_words.specs.declared.plan.Source.TheVariants.{Memory}
+use Rattle.dbm_plan.specs.declared.help_text.TheConstants.{FAULT_TABLE}
+use Rattle.dbm_plan.specs.declared.plan.Plan.{Plan}
+use Rattle.dbm_plan.specs.declared.plan.Plan.TheVariants.{Script, Faults}
+use Rattle.dbm_plan.specs.declared.plan.Source.TheVariants.{Memory}
 use Rattle.dbm_script.specs.Scripts.{AnswersInMemory}
 
 -- a script in memory was answered as the definitions say; the faults were printed as the one text of them

@@ -1,50 +1,18 @@
 // What each command does.
-ghost use Rattle.std.specs.Prelude.{◌≡◌, ◌≤◌, length, OnOk, IfSome};
+ghost use Rattle.std.specs.Prelude.{OnOk};
 ghost use Rattle.std.specs.Io.KnownBytes.{Appends};
-ghost use Rattle.dbm_words.specs.declared.plan.Plan.TheVariants.{Script};
-ghost use Rattle.dbm_words.specs.declared.plan.Source.TheVariants.{Memory};
 ghost use Rattle.dbm_tool.specs.Plans.{Does};
 
 use crate::{EngineFault, dump_engine, list_engine, load_engine, script_engine};
-use dbm_file::{Access, Db, DeleteReply, Fault, OpenHow, Stat, StoreMode, StoreReply, dbm_open};
-use dbm_lines::{DIGITS, decode_word, write_bytes};
+use dbm_commands::{Failure, Outcome, bytes_of, closed, flushed};
+use dbm_file::{Access, Db, Fault, OpenHow, StoreMode, dbm_open};
+use dbm_plan::{FAULT_TABLE, Plan, Source, Spelling};
 use dbm_script::script_in_memory;
-use dbm_words::{FAULT_TABLE, Plan, Source, Spelling};
-use sect_dev::{FileDev, SectorDev};
+use sect_dev::FileDev;
 use std::alloc::Global;
 use std::fs::File;
 use std::io::{self, BufRead, Write};
 use std::rt::Files;
-
-/// How a command ended that met no fault.
-#[derive(Clone, Copy, Debug, PartialEq, Eq)]
-pub enum Outcome {
-    Done,
-    /// A fetched or deleted key isn't there, or an inserted one is.
-    Nothing,
-}
-
-/// Why a command was not carried out to its end.
-#[derive(Clone, Copy, Debug, PartialEq, Eq)]
-pub enum Failure {
-    /// A word that is to be hexadecimal is not.
-    NotHex,
-    /// One of the program's words is not UTF-8.
-    NotText,
-    Fault(EngineFault),
-}
-
-impl From<EngineFault> for Failure {
-    fn from(fault: EngineFault) -> Failure {
-        Failure::Fault(fault)
-    }
-}
-
-impl From<Fault> for Failure {
-    fn from(fault: Fault) -> Failure {
-        Failure::Fault(EngineFault::Db(fault))
-    }
-}
 
 /// Carries out a plan.
 pub fn carry_out<T: Files<File = File>, R: BufRead, O: Write>(
@@ -102,20 +70,6 @@ pub fn carry_out<T: Files<File = File>, R: BufRead, O: Write>(
     }
 }
 
-/// The bytes of a word: its own, or those that its digits spell.
-fn bytes_of(alloc: Global, word: &str, spelling: Spelling) -> Result<Vec<u8>, Failure> {
-    let memory = |_| Failure::Fault(EngineFault::Memory);
-    match spelling {
-        Spelling::Text => Vec::from_slice(alloc, word.as_bytes()).map_err(memory),
-        Spelling::Hexadecimal => {
-            let mut room = Vec::new(alloc);
-            room.resize(word.len(), 0).map_err(memory)?;
-            let bytes = decode_word(word.as_bytes(), &mut room).ok_or(Failure::NotHex)?;
-            Vec::from_slice(alloc, bytes).map_err(memory)
-        }
-    }
-}
-
 /// Prints the exit statuses and the faults.
 fn print_faults<O: Write>(output: &mut O) -> Result<Outcome, Failure>
     ensures { OnOk result (Appends (O.contents output.old) (O.contents output.new) FAULT_TABLE.now) }
@@ -123,6 +77,10 @@ fn print_faults<O: Write>(output: &mut O) -> Result<Outcome, Failure>
     output.write_all(FAULT_TABLE.as_bytes()).map_err(unwritten)?;
     output.flush().map_err(unwritten)?;
     Ok(Outcome::Done)
+}
+
+fn unwritten(_: io::Error) -> Failure {
+    Failure::Fault(EngineFault::Write)
 }
 
 /// Opens a database that is there.
@@ -140,17 +98,6 @@ fn open<T: Files<File = File>>(
         limit: 0,
     };
     dbm_open(rt, alloc, file, how)
-}
-
-/// Closes a database after what was done with it. Of two faults the earlier one is told.
-fn closed<D: SectorDev + Drop>(
-    db: Db<D>,
-    done: Result<Outcome, Failure>,
-) -> Result<Outcome, Failure> {
-    let (_, answer) = db.close();
-    let outcome = done?;
-    answer?;
-    Ok(outcome)
 }
 
 fn create<T: Files<File = File>>(
@@ -181,11 +128,7 @@ fn store<T: Files<File = File>>(
     let key = bytes_of(alloc, key, spelling)?;
     let content = bytes_of(alloc, content, spelling)?;
     let mut db = open(rt, alloc, file, Access::ReadWrite)?;
-    let done = match db.store(&key, &content, mode) {
-        Ok(StoreReply::Stored) => Ok(Outcome::Done),
-        Ok(StoreReply::Kept) => Ok(Outcome::Nothing),
-        Err(fault) => Err(Failure::from(fault)),
-    };
+    let done = dbm_commands::store(&mut db, &key, &content, mode);
     closed(db, done)
 }
 
@@ -198,11 +141,7 @@ fn delete<T: Files<File = File>>(
 ) -> Result<Outcome, Failure> {
     let key = bytes_of(alloc, key, spelling)?;
     let mut db = open(rt, alloc, file, Access::ReadWrite)?;
-    let done = match db.delete(&key) {
-        Ok(DeleteReply::Deleted) => Ok(Outcome::Done),
-        Ok(DeleteReply::Absent) => Ok(Outcome::Nothing),
-        Err(fault) => Err(Failure::from(fault)),
-    };
+    let done = dbm_commands::delete(&mut db, &key);
     closed(db, done)
 }
 
@@ -216,32 +155,8 @@ fn fetch<T: Files<File = File>, O: Write>(
 ) -> Result<Outcome, Failure> {
     let key = bytes_of(alloc, key, spelling)?;
     let mut db = open(rt, alloc, file, Access::ReadOnly)?;
-    let done = match db.fetch(&key) {
-        Ok(Some(content)) => print_content(content, spelling, output)
-            .map(|()| Outcome::Done)
-            .map_err(unwritten),
-        Ok(None) => Ok(Outcome::Nothing),
-        Err(fault) => Err(Failure::from(fault)),
-    };
+    let done = dbm_commands::fetch(&mut db, &key, spelling, output);
     closed(db, done)
-}
-
-/// Prints a content as it is, or as a word, and a line feed.
-fn print_content<O: Write>(content: &[u8], spelling: Spelling, output: &mut O) -> io::Result<()>
-    requires { length content.now ≤ 2026 }
-{
-    match spelling {
-        Spelling::Text => {
-            output.write_all(content)?;
-            output.write_all(b"\n")?;
-        }
-        Spelling::Hexadecimal => write_bytes(output, content, &mut [0; DIGITS])?,
-    }
-    output.flush()
-}
-
-fn unwritten(_: io::Error) -> Failure {
-    Failure::Fault(EngineFault::Write)
 }
 
 fn list<T: Files<File = File>, O: Write>(
@@ -264,14 +179,6 @@ fn dump<T: Files<File = File>, O: Write>(
     let mut db = open(rt, alloc, file, Access::ReadOnly)?;
     let done = dump_engine(alloc, &mut db, output);
     closed(db, flushed(done, output))
-}
-
-/// After an engine that wrote, with the last of the output.
-fn flushed<O: Write>(done: Result<(), EngineFault>, output: &mut O) -> Result<Outcome, Failure> {
-    let flushed = output.flush();
-    done?;
-    flushed.map_err(unwritten)?;
-    Ok(Outcome::Done)
 }
 
 fn load<T: Files<File = File>, R: BufRead>(
@@ -307,21 +214,6 @@ fn stat<T: Files<File = File>, O: Write>(
     output: &mut O,
 ) -> Result<Outcome, Failure> {
     let db = open(rt, alloc, file, Access::ReadOnly)?;
-    let done = match print_stat(&db.stat(), output) {
-        Ok(()) => Ok(Outcome::Done),
-        Err(error) => Err(unwritten(error)),
-    };
+    let done = dbm_commands::stat(&db, output);
     closed(db, done)
-}
-
-/// Prints the numbers of a database, one in a line.
-fn print_stat<O: Write>(stat: &Stat, output: &mut O) -> io::Result<()> {
-    writeln!(output, "pairs {}", stat.pairs)?;
-    writeln!(output, "limit {}", stat.limit)?;
-    writeln!(output, "buckets {}", stat.buckets)?;
-    writeln!(output, "level {}", stat.level)?;
-    writeln!(output, "split {}", stat.split)?;
-    writeln!(output, "pages {}", stat.pages)?;
-    writeln!(output, "free {}", stat.free)?;
-    output.flush()
 }

@@ -6,7 +6,8 @@ ghost use Rattle.dbm_tool.specs.Faults.{failure_line};
 ghost use Rattle.dbm_tool.specs.Plans.{DoesWords};
 
 use crate::EngineFault;
-use crate::commands::{Failure, Outcome, carry_out};
+use crate::commands::carry_out;
+use dbm_commands::{Failure, Outcome};
 use dbm_words::{WordsError, read_words};
 use std::alloc::Global;
 use std::fs::File;

@@ -5,12 +5,12 @@ use Rattle.std.specs.declared.num.ParseIntError.{ParseIntError}
 use Rattle.clap.specs.Words.{App, Row, Rule, Shape, Text, first_of, new_app, new_rule, one_of, subcommand_of, takes}
 use Rattle.clap.specs.declared.builder.action.ArgAction.TheVariants.{SetTrue}
 use Rattle.clap.specs.declared.builder.value_parser.ValueParser.TheVariants as parser
-use Rattle.dbm_words.specs.declared.plan.Plan.{Plan}
-use Rattle.dbm_words.specs.declared.plan.Plan.TheVariants.{Create, Store, Insert, Fetch, Delete, List as ListKeys, Dump, Load, Stat, Script, Faults}
-use Rattle.dbm_words.specs.declared.plan.Source.{Source}
-use Rattle.dbm_words.specs.declared.plan.Source.TheVariants.{File, Memory}
-use Rattle.dbm_words.specs.declared.plan.Spelling.{Spelling}
-use Rattle.dbm_words.specs.declared.plan.Spelling.TheVariants as spelling
+use Rattle.dbm_plan.specs.declared.plan.Plan.{Plan}
+use Rattle.dbm_plan.specs.declared.plan.Plan.TheVariants.{Create, Store, Insert, Fetch, Delete, List as ListKeys, Dump, Load, Stat, Script, Faults}
+use Rattle.dbm_plan.specs.declared.plan.Source.{Source}
+use Rattle.dbm_plan.specs.declared.plan.Source.TheVariants.{File, Memory}
+use Rattle.dbm_plan.specs.declared.plan.Spelling.{Spelling}
+use Rattle.dbm_plan.specs.declared.plan.Spelling.TheVariants as spelling
 
 -- ---- the words that the parser takes
 

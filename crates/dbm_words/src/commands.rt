@@ -3,8 +3,8 @@ ghost use Rattle.std.specs.Prelude.{IfOk, codes};
 ghost use Rattle.dbm_words.specs.Building.{Adds, IsApp, IsRule, alone};
 ghost use Rattle.dbm_words.specs.CommandLine.{command_line, create_line, faults_line, file_line, hexadecimal_rule, key_line, number_rule, pair_line, program_line, script_line, word_rule};
 
-use crate::help_text::fault_table;
 use clap::{Arg, ArgAction, Command, value_parser};
+use dbm_plan::fault_table;
 use std::alloc::{AllocError, Global};
 
 const NAME: &str = "dbmtool";

@@ -3,12 +3,13 @@ ghost use Rattle.std.specs.Prelude.{◌≡◌, ◌⊎◌, IfErr, IfOk, IfSome, M
 ghost use Rattle.clap.specs.Words.{first_of, found_of, one_of, rows_of, subcommand_rows_of};
 ghost use Rattle.dbm_words.specs.CommandLine.{Asks, IsNumberText, IsSource, IsText, LacksSource, Names, NamesNoSource, flag_text};
 
+use crate::WordsError;
 use crate::commands::{
     CONTENT, CREATE, DELETE, DUMP, FAULTS, FETCH, FILE, HEXADECIMAL, INSERT, KEY, LIMIT, LIST,
     LOAD, MEMORY, SCRIPT, STAT, STORE,
 };
-use crate::{Plan, Source, Spelling, WordsError};
 use clap::ArgMatches;
+use dbm_plan::{Plan, Source, Spelling};
 
 /// The plan that the words name.
 pub fn chosen<'a>(matches: &ArgMatches<'a>) -> Result<Plan<'a>, WordsError>

@@ -4,11 +4,11 @@ ghost use Rattle.clap.specs.Words.{kind_of};
 ghost use Rattle.dbm_words.specs.CommandLine.{AreTaken, IsPlan, IsWithoutSource};
 ghost use Rattle.dbm_words.specs.Sorting.{IsSorted};
 
-use crate::Plan;
 use crate::commands::command;
 use crate::options::chosen;
 use clap::Error as Refusal;
 use clap::error::ErrorKind;
+use dbm_plan::Plan;
 use std::alloc::Global;
 use thiserror::Error;
 

@@ -2,7 +2,7 @@ use Rattle.std.proofs.Common.{◌≡◌, ◌⊎◌, inl, codes, refl}
 use Rattle.std.proofs.lemmas.Result.{IfOk-from_err}
 use Rattle.clap.specs.Words.{found_of, rows_of, subcommand_rows_of}
 use Rattle.dbm_words.specs.CommandLine.{Names, NamesNoSource}
-use Rattle.dbm_words.specs.declared.plan.Plan.TheVariants.{Faults, Script}
+use Rattle.dbm_plan.specs.declared.plan.Plan.TheVariants.{Faults, Script}
 use Rattle.dbm_words.specs.declared.words.WordsError.TheVariants.{NoPlan, ScriptSource}
 use Rattle.dbm_words.proofs.Naming.{is_name, names_found, names_no_source, names_plan}
 use Rattle.dbm_words.proofs.Refusing.{exit_is, if_exit, no_plan_is_other, no_plan_or}

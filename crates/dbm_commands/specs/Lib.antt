@@ -1,0 +1,3 @@
+pub mod Outcomes
+pub mod Printing
+pub mod Words

@@ -1,0 +1,10 @@
+-- The bytes of a word.
+use Rattle.std.specs.Prelude.{ℕ, List, Option, Some}
+use Rattle.dbm_text.specs.Words.{word_bytes}
+use Rattle.dbm_plan.specs.declared.plan.Spelling.{Spelling}
+use Rattle.dbm_plan.specs.declared.plan.Spelling.TheVariants.{Text, Hexadecimal}
+
+-- the word's own bytes, or those that its digits stand for
+abbrev pub spelled : Spelling → List ℕ → Option (List ℕ)
+spelled Text word = Some word
+spelled Hexadecimal word = word_bytes word

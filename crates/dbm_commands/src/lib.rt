@@ -1,0 +1,14 @@
+//! What the commands do with a database that is open, and how each ends.
+#![tactic(auto)]
+
+mod ending;
+mod outcomes;
+mod pairs;
+mod printing;
+mod words;
+
+pub use ending::{closed, flushed};
+pub use outcomes::{Failure, Outcome};
+pub use pairs::{delete, fetch, store};
+pub use printing::stat;
+pub use words::bytes_of;

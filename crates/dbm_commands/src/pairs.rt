@@ -1,0 +1,91 @@
+// The commands on one pair.
+ghost use Rattle.std.specs.Prelude.{◌≡◌, ◌≢◌, ◌≤◌, Ok, Err, IfOk, IfSome, length};
+ghost use Rattle.dbm_file.specs.Replies.{told_of_store, told_of_delete, told_of_bytes};
+ghost use Rattle.dbm_file.specs.declared.calls.Call.TheVariants.{Store, Fetch, Delete};
+ghost use Rattle.dbm_file.specs.declared.calls.Reply.TheVariants.{NoRecord};
+ghost use Rattle.dbm_commands.specs.Outcomes.{IsTold, MakesCall};
+ghost use Rattle.dbm_commands.specs.Printing.{IsFetched};
+
+use crate::outcomes::unwritten;
+use crate::printing::print_content;
+use crate::{Failure, Outcome};
+use dbm_fault::{EngineFault, Fault};
+use dbm_file::{Database, DeleteReply, StoreMode, StoreReply};
+use dbm_plan::Spelling;
+use page_io::PageStore;
+use std::io::Write;
+
+/// Stores a pair by one call, whose faults come in its order.
+pub fn store<S: PageStore>(
+    db: &mut Database<S>,
+    key: &[u8],
+    content: &[u8],
+    mode: StoreMode,
+) -> Result<Outcome, Failure>
+    ensures { MakesCall db.old db.new (Store key.now content.now mode) (IsTold result) }
+{
+    store_told(db.store(key, content, mode))
+}
+
+/// Deletes a pair by one call, whose faults come in its order.
+pub fn delete<S: PageStore>(db: &mut Database<S>, key: &[u8]) -> Result<Outcome, Failure>
+    ensures { MakesCall db.old db.new (Delete key.now) (IsTold result) }
+{
+    delete_told(db.delete(key))
+}
+
+/// Prints the content that the key has, as it is or as a word, and a line feed, and flushes the output. The
+/// call's faults come in its order, before anything is printed. After `Write` some of the content may be out.
+pub fn fetch<S: PageStore, W: Write>(
+    db: &mut Database<S>,
+    key: &[u8],
+    spelling: Spelling,
+    output: &mut W,
+) -> Result<Outcome, Failure>
+    ensures call { MakesCall db.old db.new (Fetch key.now) (IsFetched spelling (W.contents output.old) (W.contents output.new) result) }
+    ensures quiet { result ≢ Ok Outcome.Done → result ≢ Err (Failure.Fault EngineFault.Write) → output.new ≡ output.old }
+{
+    print_fetched(db.fetch(key), spelling, output)
+}
+
+/// What a store tells.
+fn store_told(ended: Result<StoreReply, Fault>) -> Result<Outcome, Failure>
+    ensures { IsTold result (told_of_store ended) }
+{
+    match ended {
+        Ok(StoreReply::Stored) => Ok(Outcome::Done),
+        Ok(StoreReply::Kept) => Ok(Outcome::Nothing),
+        Err(fault) => Err(Failure::from(fault)),
+    }
+}
+
+/// What a delete tells.
+fn delete_told(ended: Result<DeleteReply, Fault>) -> Result<Outcome, Failure>
+    ensures { IsTold result (told_of_delete ended) }
+{
+    match ended {
+        Ok(DeleteReply::Deleted) => Ok(Outcome::Done),
+        Ok(DeleteReply::Absent) => Ok(Outcome::Nothing),
+        Err(fault) => Err(Failure::from(fault)),
+    }
+}
+
+/// Prints the content that was fetched before the next call ends it.
+fn print_fetched<W: Write>(
+    found: Result<Option<&[u8]>, Fault>,
+    spelling: Spelling,
+    output: &mut W,
+) -> Result<Outcome, Failure>
+    requires { IfOk found (λ r. IfSome r (λ content. length content.now ≤ 2026)) }
+    ensures told { IsFetched spelling (W.contents output.old) (W.contents output.new) result (told_of_bytes NoRecord found.entry) }
+    ensures quiet { result ≢ Ok Outcome.Done → result ≢ Err (Failure.Fault EngineFault.Write) → output.new ≡ output.old }
+{
+    match found {
+        Ok(Some(content)) => match print_content(content, spelling, output) {
+            Ok(()) => Ok(Outcome::Done),
+            Err(error) => Err(unwritten(error)),
+        },
+        Ok(None) => Ok(Outcome::Nothing),
+        Err(fault) => Err(Failure::from(fault)),
+    }
+}

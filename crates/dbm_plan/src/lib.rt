@@ -1,0 +1,8 @@
+//! What the program may be asked to do, and the text of its statuses and faults.
+#![tactic(auto)]
+
+mod help_text;
+mod plan;
+
+pub use help_text::{FAULT_TABLE, fault_table};
+pub use plan::{Plan, Source, Spelling};
