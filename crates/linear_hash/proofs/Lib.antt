@@ -1,7 +1,9 @@
 pub mod Buckets
 pub mod Changing
+pub mod Ended
 pub mod Fillings
 pub mod Found
+pub mod Fullness
 pub mod MetaStaging
 pub mod Midway
 pub mod Openings

@@ -5,7 +5,7 @@ use Rattle.page_model.specs.Bytes.{u32_at, overwrite}
 use Rattle.page_model.specs.Numbers.{numbers_bytes, numbers_at}
 use Rattle.page_model.specs.Pages as model
 use Rattle.page_model.specs.Pages.{MetaPage}
-use Rattle.page_model.specs.Reading.{body_of, fields_of}
+use Rattle.page_model.specs.Reading.{body_of, fields_of, IsClear}
 use Rattle.page_model.specs.Spelling.{header, counts, meta_spelling}
 use Rattle.page_model.specs.Valid.{IsMeta}
 use Rattle.page_model.proofs.Bodies.{body_is}
@@ -13,6 +13,7 @@ use Rattle.page_model.proofs.Metas.{level_small, few_segments, counts_again, fie
 use Rattle.page_model.proofs.Numbers.{length-numbers_bytes, length-numbers_at, numbers_text}
 use Rattle.page_model.proofs.Texts.{IsBytes, IsText, text_then, zeros_text, skip, clear_again, whole}
 use Rattle.page_model.proofs.Writes.{overwrite_mid}
+use Rattle.lin_addr.specs.Shapes.{CanBe}
 use Rattle.page_io.proofs.PlainPages.{plain_text, plain_again}
 use Rattle.seg_table.specs.MetaPages.{HasMetaHeader, IsMetaLayout}
 
@@ -103,6 +104,15 @@ pub fields_read : (bytes segments : List ℕ) (limit pairs level split free_head
     → record { limit = limit; pairs = pairs; level = level; split = split; free_head = free_head; free_count = free_count; segments = segments } ≡ fields_of bytes
 unfolding fields_of
 fields_read bytes segments limit pairs level split free_head free_count a b d e f g k = rw (a, b, d, e, f, g, k) refl
+
+-- and it is laid out as it was read
+pub layout_read : (bytes : List ℕ) (level split count : ℕ) → level ≡ u32_at bytes 28 → split ≡ u32_at bytes 32 → count ≡ u32_at bytes 44 → CanBe level split → count ≤ 496 → IsClear bytes 48 64 → IsClear bytes (64 + 4 * count) 2048 → IsMetaLayout bytes
+layout_read bytes level split count a b d can few zeros rest = record {
+  shape = subst (λ (l : ℕ). CanBe l (u32_at bytes 32)) a (subst (CanBe level) b can);
+  few = subst (λ (n : ℕ). n ≤ 496) d few;
+  zeros = zeros;
+  rest = subst (λ (n : ℕ). IsClear bytes (64 + 4 * n) 2048) d rest;
+}
 
 -- a page that isn't laid out so is spelled by no meta
 pub none_spelled : (bytes : List ℕ) → (IsMetaPage bytes → ⊥) → (m : model.Meta) → IsMeta m → bytes ≡ meta_spelling 1 m → ⊥

@@ -1,5 +1,5 @@
 -- Segment pages: what is read by places is what is spelled.
-use Rattle.std.proofs.Common.{◌≡◌, ℕ, ◌+◌, ◌-◌, ◌*◌, ◌≤◌, List, [], ◌++◌, length, replicate, drop, refl, sym, ap, subst, ◌∙◌, arith}
+use Rattle.std.proofs.Common.{◌≡◌, ℕ, ◌+◌, ◌-◌, ◌*◌, ◌<◌, ◌≤◌, min, List, [], ◌++◌, length, replicate, drop, refl, sym, ap, subst, ◌∙◌, arith}
 use Rattle.std.proofs.lemmas.List.{append-nil}
 use Rattle.std.proofs.lemmas.List.Elements.{All-from_recursion}
 use Rattle.page_model.specs.Numbers.{IsNumber, numbers_bytes, numbers_at}
@@ -50,3 +50,7 @@ segment_again bytes own count a le h =
       no_next = plain.next_is;
       rest = clear_again bytes [] (16 + 4 * count) (2032 - 4 * length heads) 2048 (dn ∙ sym (append-nil zeros)) (omega arith);
     }
+
+-- so many of a segment's buckets exist, where no product is too large
+pub heads_counted : (s b buckets product left heads : ℕ) → b < 4294967296 → b ≡ buckets → product ≡ min (508 * s) 18446744073709551615 → left ≡ b - product → heads ≡ min left 508 → heads ≡ min (buckets - 508 * s) 508
+heads_counted s b buckets product left heads small is multiplied less most = omega (arith, small, is, multiplied, less, most)

@@ -1,11 +1,22 @@
-use Rattle.std.proofs.Common.{refl, ap}
+use Rattle.std.proofs.Common.{◌≡◌, ℕ, ◌*◌, ◌<◌, ◌≤◌, refl, sym, ap, subst}
 use Rattle.std.proofs.lemmas.Result.{IfOk-from_err}
 use Rattle.page_model.specs.Pages.{Meta}
+use Rattle.page_io.specs.Views.{body_at}
 use Rattle.page_io.specs.declared.store.PageFault.TheVariants.{NoRoom, Damaged}
 use Rattle.page_io.proofs.Exits.{exit_is, came, cause_first, cause_ok}
+use Rattle.seg_table.specs.MetaPages.{model_meta}
 use Rattle.chain_walks.proofs.ReadPages.{reads_none}
+use Rattle.linear_hash.specs.Tables.{shape_in, shape_for}
+use Rattle.linear_hash.specs.Staging.{IsMidway}
+use Rattle.linear_hash.proofs.Fullness.{few_where_full, counted_valid, grown_valid, grown_shape, same_shape, full_is_split, few_is_same}
 use Rattle.linear_hash.proofs.Refusals.{change_refused, no_refusal}
 use Rattle.linear_hash.proofs.staging.split_if_full.Goals as goal
+
+-- the bucket can be split
+pub split_bucket-requires : goal.split_bucket-requires
+split_bucket-requires g c =
+    let full = subst (λ (b : ℕ). 8 * b < c.args.meta.now.pairs) c.buckets.ensures c.if-meta-buckets.true in
+    record { segments = c.requires.valid.all_segments; few = few_where_full (model_meta c.args.meta.now) c.requires.valid c.requires.few.0 full }
 
 -- the bucket is not split
 pub returns-in_err-split_bucket : goal.returns-in_err-split_bucket
@@ -54,6 +65,22 @@ returns-in_ok-split_bucket-clause-whole g c honest p mid near damaged = cc
 pub returns-in_ok-split_bucket-clause-room : goal.returns-in_ok-split_bucket-clause-room
 returns-in_ok-split_bucket-clause-room g c honest p mid near none = absurd cc
 
+pub returns-in_ok-split_bucket-clause-valid : goal.returns-in_ok-split_bucket-clause-valid
+returns-in_ok-split_bucket-clause-valid g c =
+    let full = subst (λ (b : ℕ). 8 * b < c.args.meta.now.pairs) c.buckets.ensures c.if-meta-buckets.true in
+    grown_valid (model_meta c.args.meta.now) c.requires.valid c.requires.few.0 full (model_meta c.split_bucket.new.meta) c.requires.few.1 c.in_ok-split_bucket.ensures.grown
+
+pub returns-in_ok-split_bucket-clause-shape : goal.returns-in_ok-split_bucket-clause-shape
+returns-in_ok-split_bucket-clause-shape g c =
+    let full = subst (λ (b : ℕ). 8 * b < c.args.meta.now.pairs) c.buckets.ensures c.if-meta-buckets.true in
+    let grows = c.in_ok-split_bucket.ensures.grown in
+    subst (λ (n : ℕ). shape_in (model_meta c.split_bucket.new.meta) ≡ shape_for n (shape_in (model_meta c.args.meta.now))) (sym (ap (λ (m : Meta). m.pairs) grows.rest)) (grown_shape c.args.meta.now.pairs _ _ full grows.shape)
+
+pub returns-in_ok-split_bucket-clause-exact : goal.returns-in_ok-split_bucket-clause-exact
+returns-in_ok-split_bucket-clause-exact g c honest p mid near counted =
+    let full = subst (λ (b : ℕ). 8 * b < c.args.meta.now.pairs) c.buckets.ensures c.if-meta-buckets.true in
+    subst (IsMidway (body_at g.S.PageStore c.split_bucket.new.store) (model_meta c.split_bucket.new.meta) c.split_bucket.new.space) (sym (full_is_split _ _ _ p mid counted full)) (c.in_ok-split_bucket.ensures.exact honest p mid near)
+
 -- there are few pairs
 pub returns-else-meta-buckets-clause-stages : goal.returns-else-meta-buckets-clause-stages
 returns-else-meta-buckets-clause-stages g c = (reads_none g.S.PageStore c.args.store.now (g.met.S.PageStore.only_now c.args.store.now)).stages_only
@@ -78,3 +105,18 @@ returns-else-meta-buckets-clause-whole g c honest p mid near damaged = cc
 
 pub returns-else-meta-buckets-clause-room : goal.returns-else-meta-buckets-clause-room
 returns-else-meta-buckets-clause-room g c honest p mid near none = absurd cc
+
+pub returns-else-meta-buckets-clause-valid : goal.returns-else-meta-buckets-clause-valid
+returns-else-meta-buckets-clause-valid g c =
+    let few = subst (λ (b : ℕ). c.args.meta.now.pairs ≤ 8 * b) c.buckets.ensures c.if-meta-buckets.false in
+    counted_valid (model_meta c.args.meta.now) c.requires.valid c.requires.few.0 few
+
+pub returns-else-meta-buckets-clause-shape : goal.returns-else-meta-buckets-clause-shape
+returns-else-meta-buckets-clause-shape g c =
+    let few = subst (λ (b : ℕ). c.args.meta.now.pairs ≤ 8 * b) c.buckets.ensures c.if-meta-buckets.false in
+    same_shape c.args.meta.now.pairs (shape_in (model_meta c.args.meta.now)) few
+
+pub returns-else-meta-buckets-clause-exact : goal.returns-else-meta-buckets-clause-exact
+returns-else-meta-buckets-clause-exact g c honest p mid near counted =
+    let few = subst (λ (b : ℕ). c.args.meta.now.pairs ≤ 8 * b) c.buckets.ensures c.if-meta-buckets.false in
+    subst (IsMidway (body_at g.S.PageStore c.args.store.now) (model_meta c.args.meta.now) c.args.space.now) (sym (few_is_same _ _ _ p mid counted few)) mid
