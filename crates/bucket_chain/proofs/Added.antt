@@ -28,12 +28,17 @@ unfolding body_of
 nothing_said n = refl
 
 -- where a commit may end the file, no page stands
-pub says_nothing : {S : Type 0} (s : Ghosts S) (store : S) (end : ℕ) → length (s.committed store) + 1 ≡ (s.state store).end → 4 ≤ (s.state store).end → MayEnd (s.state store) end → body_at s store end ≡ Other
+pub says_nothing : {S : Type 0} (s : Ghosts S) (store : S) (end : ℕ)
+    → length (s.committed store) + 1 ≡ (s.state store).end → 4 ≤ (s.state store).end
+    → MayEnd (s.state store) end → body_at s store end ≡ Other
 says_nothing s store end ends some may =
     let staged = (s.state store).staged in
     let pages = s.committed store in
-    let absent : page_of pages end ≡ [] = get_or_past pages (end - 1) [] (omega (arith, ends, may.least)) in
-    ap (body_of end) (overlaid-none staged (page_of pages) end (none (has_page staged end) (λ has. below_end end staged end may.below has)) ∙ absent) ∙ nothing_said end
+    let absent : page_of pages end ≡ [] =
+    get_or_past pages (end - 1) [] (omega (arith, ends, may.least)) in
+    ap (body_of end) (overlaid-none staged (page_of pages) end
+    (none (has_page staged end) (λ has. below_end end staged end may.below has)) ∙ absent)
+    ∙ nothing_said end
   where
     none : (has : Bool) → (has ≡ true → end < end) → has ≡ false
     none true below = absurd (omega (arith, below refl))
@@ -48,7 +53,8 @@ IsNoLink body = (kind next : ℕ) (pairs : List Pair) → body ≡ link_body kin
 not_free : (body : Body) (n : ℕ) → body ≡ FreePage n → IsNoLink body
 not_free body n free kind next pairs says = by_kind (kind == 3) (sym says ∙ free)
   where
-    by_kind : (head : Bool) → cond head (HeadPage next pairs) (OverflowPage next pairs) ≡ FreePage n → ⊥
+    by_kind : (head : Bool) → cond head (HeadPage next pairs) (OverflowPage next pairs)
+        ≡ FreePage n → ⊥
     by_kind true e = absurd (cc)
     by_kind false e = absurd (cc)
 
@@ -59,41 +65,77 @@ not_nothing body nothing kind next pairs says = by_kind (kind == 3) (sym says �
     by_kind true e = absurd (cc)
     by_kind false e = absurd (cc)
 
-taken_is_none : (old : ℕ → Body) (before after : FreeState) (n : ℕ) → IsTaken old before n after → old before.file_end ≡ Other → IsNoLink (old n)
+taken_is_none : (old : ℕ → Body) (before after : FreeState) (n : ℕ) → IsTaken old before n after
+    → old before.file_end ≡ Other → IsNoLink (old n)
 taken_is_none old before after n is_taken nothing = ⊎_elim
     (λ first. not_free (old n) after.head first.free)
     (λ end. not_nothing (old n) (ap old end.last ∙ nothing))
     is_taken
 
 -- so it is none of those that were read
-linked_apart : (at : ℕ → Body) (n : ℕ) (rest : Chain) (next : ℕ) → IsNoLink (at n) → AreLinked at rest next → AllByRecursion (λ page. page.number ≢ n) rest
+linked_apart : (at : ℕ → Body) (n : ℕ) (rest : Chain) (next : ℕ) → IsNoLink (at n)
+    → AreLinked at rest next → AllByRecursion (λ page. page.number ≢ n) rest
 linked_apart at n [] next none linked = tt
-linked_apart at n (leaf ∷ rest) next none linked = (λ same. none 4 _ leaf.pairs (ap at (sym same) ∙ linked.0), linked_apart at n rest next none linked.2)
+linked_apart at n (leaf ∷ rest) next none linked = (
+  λ same. none 4 _ leaf.pairs (ap at (sym same) ∙ linked.0),
+  linked_apart at n rest next none linked.2,
+)
 
-begins_apart : (at : ℕ → Body) (head n : ℕ) (pages : Chain) (next : ℕ) → IsNoLink (at n) → BeginsAt at head pages next → AllByRecursion (λ page. page.number ≢ n) pages
+begins_apart : (at : ℕ → Body) (head n : ℕ) (pages : Chain) (next : ℕ) → IsNoLink (at n)
+    → BeginsAt at head pages next → AllByRecursion (λ page. page.number ≢ n) pages
 begins_apart at head n [] next none begins = absurd begins
-begins_apart at head n (leaf ∷ rest) next none begins = (λ same. none 3 _ leaf.pairs (ap at (sym same ∙ begins.0) ∙ begins.1), linked_apart at n rest next none begins.2)
+begins_apart at head n (leaf ∷ rest) next none begins = (
+  λ same. none 3 _ leaf.pairs (ap at (sym same ∙ begins.0) ∙ begins.1),
+  linked_apart at n rest next none begins.2,
+)
 
 -- ---- the two ways of a put
 
-module _ (old new : ℕ → Body) (Ends : Type 0) (before after : FreeState) (head : ℕ) (pair : Pair) (bytes : List ℕ) (spot : Spot) (found : IsSpot old head pair bytes spot) where
+module _ (old new : ℕ → Body) (Ends : Type 0) (before after : FreeState) (head : ℕ) (pair : Pair)
+    (bytes : List ℕ) (spot : Spot) (found : IsSpot old head pair bytes spot) where
   -- to a page that it fits
-  pub added_to : spot.has_room ≡ true → after ≡ before → IsRewrittenAlone old new spot.page (link_body (kind_behind found.before) found.next (page_pairs bytes ++ pair ∷ [])) → IsAdded old new Ends before after head pair
+  pub added_to : spot.has_room ≡ true → after ≡ before
+      → IsRewrittenAlone old new spot.page
+      (link_body (kind_behind found.before) found.next (page_pairs bytes ++ pair ∷ []))
+      → IsAdded old new Ends before after head pair
   added_to room kept here = record {
-    walk = record { before = found.before; leaf = leaf_on spot bytes; after = found.next; are_read = found.begins; passed = found.passed; last = inl (found.room room) };
-    added = inl (record { has_room = found.room room; says = here.says; others = here.others }, kept);
+    walk = record {
+      before = found.before;
+      leaf = leaf_on spot bytes;
+      after = found.next;
+      are_read =
+          found.begins;
+      passed = found.passed;
+      last = inl (found.room room);
+    };
+    added = inl (
+      record { has_room = found.room room; says = here.says; others = here.others },
+      kept,
+    );
   }
 
   -- to a page of its own
-  pub added_behind : spot.has_room ≡ false → (n : ℕ) → IsTaken old before n after → (Ends → old before.file_end ≡ Other)
-      → AreRewritten old new n (OverflowPage 0 (pair ∷ [])) spot.page (link_body (kind_behind found.before) n (page_pairs bytes)) → IsAdded old new Ends before after head pair
+  pub added_behind : spot.has_room ≡ false → (n : ℕ) → IsTaken old before n after
+      → (Ends → old before.file_end ≡ Other)
+      → AreRewritten old new n (OverflowPage 0 (pair ∷ [])) spot.page
+      (link_body (kind_behind found.before) n (page_pairs bytes))
+      → IsAdded old new Ends before after head pair
   added_behind full n is_taken nothing both = record {
-    walk = record { before = found.before; leaf = leaf_on spot bytes; after = found.next; are_read = found.begins; passed = found.passed; last = inr (found.full full).1 };
+    walk = record {
+      before = found.before;
+      leaf = leaf_on spot bytes;
+      after = found.next;
+      are_read =
+          found.begins;
+      passed = found.passed;
+      last = inr (found.full full).1;
+    };
     added = inr (record {
       taken = n;
       is_full = found.full full;
       is_taken = is_taken;
-      apart = λ ends. begins_apart old head n (found.before ++ leaf_on spot bytes ∷ []) found.next (taken_is_none old before after n is_taken (nothing ends)) found.begins;
+      apart = λ ends. begins_apart old head n (found.before ++ leaf_on spot bytes ∷ []) found.next
+          (taken_is_none old before after n is_taken (nothing ends)) found.begins;
       says = both.first;
       named = both.second;
       others = both.others;
@@ -103,7 +145,9 @@ module _ (old new : ℕ → Body) (Ends : Type 0) (before after : FreeState) (he
 -- ---- many puts
 
 -- under what else says that the kept end is the file's
-pub added_under : (E F : Type 0) → (F → E) → (old new : ℕ → Body) (before after : FreeState) (head : ℕ) (pair : Pair) → IsAdded old new E before after head pair → IsAdded old new F before after head pair
+pub added_under : (E F : Type 0) → (F → E)
+    → (old new : ℕ → Body) (before after : FreeState) (head : ℕ) (pair : Pair)
+    → IsAdded old new E before after head pair → IsAdded old new F before after head pair
 added_under E F then old new before after head pair is = record {
   walk = is.walk;
   added = ⊎_elim
@@ -120,7 +164,10 @@ added_under E F then old new before after head pair is = record {
       is.added;
 }
 
-pub all_under : (E F : Type 0) → (F → E) → (head : ℕ) (old : ℕ → Body) (before : FreeState) (pairs : List Pair) (new : ℕ → Body) (after : FreeState) → AreAdded old new E before after head pairs → AreAdded old new F before after head pairs
+pub all_under : (E F : Type 0) → (F → E)
+    → (head : ℕ) (old : ℕ → Body) (before : FreeState) (pairs : List Pair) (new : ℕ → Body)
+    (after : FreeState) → AreAdded old new E before after head pairs
+    → AreAdded old new F before after head pairs
 all_under E F then head old before [] new after all = all
 all_under E F then head old before (pair ∷ pairs) new after all = record {
   mid = all.mid;
@@ -130,12 +177,15 @@ all_under E F then head old before (pair ∷ pairs) new after all = record {
 }
 
 -- one more
-pub one_added : (Ends : Type 0) (head : ℕ) (old : ℕ → Body) (before : FreeState) (pairs : List Pair) (mid : ℕ → Body) (between : FreeState) (pair : Pair) (new : ℕ → Body) (after : FreeState)
-    → AreAdded old mid Ends before between head pairs → IsAdded mid new Ends between after head pair → AreAdded old new Ends before after head (pairs ++ pair ∷ [])
+pub one_added : (Ends : Type 0) (head : ℕ) (old : ℕ → Body) (before : FreeState) (pairs : List Pair)
+    (mid : ℕ → Body) (between : FreeState) (pair : Pair) (new : ℕ → Body) (after : FreeState)
+    → AreAdded old mid Ends before between head pairs → IsAdded mid new Ends between after head pair
+    → AreAdded old new Ends before after head (pairs ++ pair ∷ [])
 one_added Ends head old before [] mid between pair new after none more = record {
   mid = new;
   between = after;
-  first = subst (λ (f : ℕ → Body). IsAdded f new Ends before after head pair) none.0 (subst (λ (s : FreeState). IsAdded mid new Ends s after head pair) none.1 more);
+  first = subst (λ (f : ℕ → Body). IsAdded f new Ends before after head pair) none.0
+      (subst (λ (s : FreeState). IsAdded mid new Ends s after head pair) none.1 more);
   second = (refl, refl);
 }
 one_added Ends head old before (p ∷ pairs) mid between pair new after all more = record {
@@ -146,13 +196,22 @@ one_added Ends head old before (p ∷ pairs) mid between pair new after all more
 }
 
 -- each takes one page at most
-one_grows : (Ends : Type 0) (old new : ℕ → Body) (before after : FreeState) (head : ℕ) (pair : Pair) → IsAdded old new Ends before after head pair → after.file_end ≤ before.file_end + 1
+one_grows : (Ends : Type 0) (old new : ℕ → Body) (before after : FreeState) (head : ℕ) (pair : Pair)
+    → IsAdded old new Ends before after head pair → after.file_end ≤ before.file_end + 1
 one_grows Ends old new before after head pair is = ⊎_elim
     (λ here. omega (arith, ap (λ (s : FreeState). s.file_end) here.1))
-    (λ behind. ⊎_elim (λ first. omega (arith, first.end)) (λ last. omega (arith, ap (λ (s : FreeState). s.file_end) last.grown)) behind.is_taken)
+    (λ behind. ⊎_elim (λ first. omega (arith, first.end))
+    (λ last. omega (arith, ap (λ (s : FreeState). s.file_end) last.grown)) behind.is_taken)
     is.added
 
-pub all_grow : (Ends : Type 0) (head : ℕ) (old : ℕ → Body) (before : FreeState) (pairs : List Pair) (new : ℕ → Body) (after : FreeState) → AreAdded old new Ends before after head pairs → after.file_end ≤ before.file_end + length pairs
-all_grow Ends head old before [] new after none = omega (arith, ap (λ (s : FreeState). s.file_end) none.1)
+pub all_grow : (Ends : Type 0) (head : ℕ) (old : ℕ → Body) (before : FreeState) (pairs : List Pair)
+    (new : ℕ → Body) (after : FreeState) → AreAdded old new Ends before after head pairs
+    → after.file_end ≤ before.file_end + length pairs
+all_grow Ends head old before [] new after none =
+    omega (arith, ap (λ (s : FreeState). s.file_end) none.1)
 all_grow Ends head old before (pair ∷ pairs) new after all =
-    omega (arith, one_grows Ends old all.mid before all.between head pair all.first, all_grow Ends head all.mid all.between pairs new after all.second)
+    omega (
+      arith,
+      one_grows Ends old all.mid before all.between head pair all.first,
+      all_grow Ends head all.mid all.between pairs new after all.second,
+    )

@@ -22,19 +22,25 @@ use Rattle.bucket_chain.proofs.Rewriting.{free_kept, not_there, not_here}
 use Rattle.bucket_chain.proofs.Givings.{AreGivenIn, given_split, still_free, times_given}
 
 -- all pages were given
-abbrev pub all_given : (old mid : ℕ → Body) (state state' : FreeState) (first n : ℕ) (given : AreGiven old mid state state' first n) → AreGivenIn old mid state state' first n (length given.pages)
+abbrev pub all_given : (old mid : ℕ → Body) (state state' : FreeState) (first n : ℕ)
+    (given : AreGiven old mid state state' first n)
+    → AreGivenIn old mid state state' first n (length given.pages)
 all_given old mid state state' first n given = record { are = given; count = refl }
 
 -- the chain was read to its end
-pub was_read : (old mid : ℕ → Body) (state state' : FreeState) (head first : ℕ) (pairs : List Pair) → SaysLink old head 3 first pairs → AreGiven old mid state state' first 0 → IsReadToEnd old head
+pub was_read : (old mid : ℕ → Body) (state state' : FreeState) (head first : ℕ) (pairs : List Pair)
+    → SaysLink old head 3 first pairs → AreGiven old mid state state' first 0 → IsReadToEnd old head
 was_read old mid state state' head first pairs link given = record {
   chain = leaf_of head pairs ∷ given.pages;
   are_read = (refl, link.says ∙ ap (λ (n : ℕ). HeadPage n pairs) given.first_is, given.linked);
 }
 
 -- on any file: it was, its overflow pages were given, and its head page was emptied
-pub emptied : (old mid new : ℕ → Body) (before after : FreeState) (head first : ℕ) (pairs : List Pair) → SaysLink old head 3 first pairs → AreGiven old mid before after first 0 → after.file_end ≡ before.file_end
-    → new head ≡ HeadPage 0 [] → ((m : ℕ) → (m ≡ head → ⊥) → new m ≡ mid m) → IsEmptied old new before after head
+pub emptied : (old mid new : ℕ → Body) (before after : FreeState) (head first : ℕ)
+    (pairs : List Pair) → SaysLink old head 3 first pairs → AreGiven old mid before after first 0
+    → after.file_end ≡ before.file_end
+    → new head ≡ HeadPage 0 [] → ((m : ℕ) → (m ≡ head → ⊥) → new m ≡ mid m)
+    → IsEmptied old new before after head
 emptied old mid new before after head first pairs link given end here others = record {
   leaf = leaf_of head pairs;
   overflow = given.pages;
@@ -46,19 +52,33 @@ emptied old mid new before after head first pairs link given end here others = r
 }
 
 -- what its head says
-pub head_link : (old : ℕ → Body) (state : FreeState) (head : ℕ) (leaf : Leaf) (rest : Chain) (s : Space) → IsPlaced old state head (leaf ∷ rest) s → SaysLink old head 3 (first_of (numbers rest)) leaf.pairs
-head_link old state head leaf rest s placed = record { says = ap old placed.chain_is.from ∙ placed.chain_is.are_read.0; filled = λ four. absurd (omega arith); distinct = placed.chain_is.distinct.0 }
+pub head_link : (old : ℕ → Body) (state : FreeState) (head : ℕ) (leaf : Leaf) (rest : Chain)
+    (s : Space) → IsPlaced old state head (leaf ∷ rest) s
+    → SaysLink old head 3 (first_of (numbers rest)) leaf.pairs
+head_link old state head leaf rest s placed =
+    record {
+      says = ap old placed.chain_is.from ∙ placed.chain_is.are_read.0;
+      filled = λ four.
+          absurd (omega arith);
+      distinct = placed.chain_is.distinct.0;
+    }
 
 -- its head has a number
-pub head_some : (old : ℕ → Body) (state : FreeState) (head : ℕ) (leaf : Leaf) (rest : Chain) (s : Space) → IsPlaced old state head (leaf ∷ rest) s → 1 ≤ head
-head_some old state head leaf rest s placed = subst (λ (n : ℕ). 1 ≤ n) (sym placed.chain_is.from) placed.chain_is.numbered.0
+pub head_some : (old : ℕ → Body) (state : FreeState) (head : ℕ) (leaf : Leaf) (rest : Chain)
+    (s : Space) → IsPlaced old state head (leaf ∷ rest) s → 1 ≤ head
+head_some old state head leaf rest s placed =
+    subst (λ (n : ℕ). 1 ≤ n) (sym placed.chain_is.from) placed.chain_is.numbered.0
 
 -- the page that its head names
-pub first_is : (old : ℕ → Body) (state : FreeState) (head first : ℕ) (pairs : List Pair) (leaf : Leaf) (rest : Chain) (s : Space) → IsPlaced old state head (leaf ∷ rest) s → SaysLink old head 3 first pairs → first ≡ first_of (numbers rest)
+pub first_is : (old : ℕ → Body) (state : FreeState) (head first : ℕ) (pairs : List Pair)
+    (leaf : Leaf) (rest : Chain) (s : Space) → IsPlaced old state head (leaf ∷ rest) s
+    → SaysLink old head 3 first pairs → first ≡ first_of (numbers rest)
 first_is old state head first pairs leaf rest s placed link =
-    (one_next old head 3 first (first_of (numbers rest)) pairs leaf.pairs link (head_link old state head leaf rest s placed)).0
+    (one_next old head 3 first (first_of (numbers rest)) pairs leaf.pairs link
+    (head_link old state head leaf rest s placed)).0
 
-module _ (old mid at' : ℕ → Body) (state state' : FreeState) (head first : ℕ) (pairs : List Pair) (leaf : Leaf) (rest : Chain) (s : Space) (placed : IsPlaced old state head (leaf ∷ rest) s)
+module _ (old mid at' : ℕ → Body) (state state' : FreeState) (head first : ℕ) (pairs : List Pair)
+    (leaf : Leaf) (rest : Chain) (s : Space) (placed : IsPlaced old state head (leaf ∷ rest) s)
     (link : SaysLink old head 3 first pairs) (given : AreGiven old mid state state' first 0) where
   from : first ≡ first_of (numbers rest)
   from = first_is old state head first pairs leaf rest s placed link
@@ -68,39 +88,62 @@ module _ (old mid at' : ℕ → Body) (state state' : FreeState) (head first : �
 
   same_pages : given.pages ≡ rest
   same_pages =
-      let split = given_split old mid state state' first 0 (length given.pages) in_all head leaf rest s placed from in
-      let numbered = AllByRecursion-right (λ (l : Leaf). 1 ≤ l.number) (leaf ∷ given.pages) split.later (subst AreNumbered split.parts placed.chain_is.numbered) in
+      let split = given_split old mid state state' first 0 (length given.pages) in_all head leaf
+      rest s placed from in
+      let numbered = AllByRecursion-right (λ (l : Leaf). 1 ≤ l.number) (leaf ∷ given.pages)
+      split.later (subst AreNumbered split.parts placed.chain_is.numbered) in
       let nothing : split.later ≡ [] = none_later split.later numbered (sym split.next) in
       let tail : rest ≡ given.pages ++ split.later = let parts = split.parts in cc in
       sym (tail ∙ ap (λ (c : Chain). given.pages ++ c) nothing ∙ append-nil given.pages)
 
   free_list : IsFreeList mid state' (give (numbers rest) s)
-  free_list = subst (λ (c : Chain). IsFreeList mid state' (give (numbers c) s)) same_pages (still_free old mid state state' first 0 (length given.pages) in_all head leaf rest s placed from)
+  free_list = subst (λ (c : Chain). IsFreeList mid state' (give (numbers c) s)) same_pages
+      (still_free old mid state state' first 0 (length given.pages) in_all head leaf
+      rest s placed from)
 
   apart : (n : ℕ) → times_of n (leaf.number ∷ numbers rest) + times_of n s.free ≤ 1
   apart n = by_test (is_page n s.end) (placed.apart n)
     where
-      by_test : (b : Bool) → times_of n (leaf.number ∷ numbers rest) + times_of n s.free ≤ cond b 1 0 → times_of n (leaf.number ∷ numbers rest) + times_of n s.free ≤ 1
+      by_test : (b : Bool) → times_of n (leaf.number ∷ numbers rest) + times_of n s.free
+          ≤ cond b 1 0 → times_of n (leaf.number ∷ numbers rest) + times_of n s.free ≤ 1
       by_test true le = le
       by_test false le = omega (arith, le)
 
   head_apart : times_of leaf.number (give (numbers rest) s).free ≡ 0
-  head_apart = omega (arith, apart leaf.number, times_head leaf.number (numbers rest), times_given leaf.number (numbers rest) s)
+  head_apart = omega (
+    arith,
+    apart leaf.number,
+    times_head leaf.number (numbers rest),
+    times_given leaf.number (numbers rest) s,
+  )
 
-  pub cleared : at' head ≡ HeadPage 0 [] → ((n : ℕ) → (n ≡ head → ⊥) → at' n ≡ mid n) → IsCleared old at' state' head (store_in (leaf ∷ rest, s) [])
+  pub cleared : at' head ≡ HeadPage 0 [] → ((n : ℕ) → (n ≡ head → ⊥) → at' n ≡ mid n)
+      → IsCleared old at' state' head (store_in (leaf ∷ rest, s) [])
   cleared here others =
       let number : head ≡ leaf.number = placed.chain_is.from in
       let read : at' leaf.number ≡ HeadPage 0 [] = ap at' (sym number) ∙ here in
-      let free_read : AreRead at' (free_bodies (give (numbers rest) s).free) = free_kept mid at' (give (numbers rest) s).free
-      (λ n stands. others n (λ same. not_there leaf.number n (give (numbers rest) s).free head_apart stands (same ∙ number))) free_list.are_read in
+      let free_read : AreRead at' (free_bodies (give (numbers rest) s).free) =
+      free_kept mid at' (give (numbers rest) s).free
+      (λ n stands. others n (λ same.
+      not_there leaf.number n (give (numbers rest) s).free head_apart stands
+      (same ∙ number))) free_list.are_read in
       record {
         becomes = record {
           rewritten = record {
             chain_read = (read, tt);
             free_read = free_read;
             others = λ n none.
-                let other : n ≡ head → ⊥ = λ same. not_here leaf.number n (leaf.number ∷ []) (omega (arith, times_head leaf.number [])) (omega (arith, none)) (same ∙ number) in
-                others n other ∙ given.others n (omega (arith, none, times_given n (numbers rest) s, ap (λ (c : Chain). times_of n (numbers c)) same_pages));
+                let other : n ≡ head → ⊥ = λ same.
+                not_here leaf.number n (leaf.number ∷ [])
+                (omega (arith, times_head leaf.number [])) (omega (arith, none))
+                (same ∙ number) in
+                others n other ∙ given.others n
+                (omega (
+                  arith,
+                  none,
+                  times_given n (numbers rest) s,
+                  ap (λ (c : Chain). times_of n (numbers c)) same_pages,
+                ));
           };
           kept = free_list.kept;
         };
@@ -113,9 +156,20 @@ module _ (old mid at' : ℕ → Body) (state state' : FreeState) (head first : �
             numbered = (placed.chain_is.numbered.0, tt);
             distinct = (no_keys, tt);
           };
-          free_is = record { kept = free_list.kept; are_read = free_read; some = placed.free_is.some };
+          free_is = record {
+            kept = free_list.kept;
+            are_read = free_read;
+            some =
+                placed.free_is.some;
+          };
           apart = λ n. omega (arith, placed.apart n, times_given n (numbers rest) s, one_more n);
-          fits = omega (arith, placed.fits, length-append (reverse (numbers rest)) s.free, length-reverse (numbers rest), length-numbers rest);
+          fits = omega (
+            arith,
+            placed.fits,
+            length-append (reverse (numbers rest)) s.free,
+            length-reverse (numbers rest),
+            length-numbers rest,
+          );
         };
         empty = refl;
       }
@@ -123,7 +177,8 @@ module _ (old mid at' : ℕ → Body) (state state' : FreeState) (head first : �
       no_keys : HaveDistinctKeys []
       no_keys i j d lt le = absurd (omega arith)
 
-      one_more : (n : ℕ) → times_of n (leaf.number ∷ numbers rest) ≡ times_of n (leaf.number ∷ []) + times_of n (numbers rest)
+      one_more : (n : ℕ) → times_of n (leaf.number ∷ numbers rest) ≡ times_of n (leaf.number ∷ [])
+          + times_of n (numbers rest)
       one_more n = sum_by-append (λ (m : ℕ). cond (m == n) 1 0) (leaf.number ∷ []) (numbers rest)
 
       length-numbers : (chain : Chain) → length (numbers chain) ≡ length chain
@@ -131,6 +186,9 @@ module _ (old mid at' : ℕ → Body) (state state' : FreeState) (head first : �
       length-numbers (l ∷ chain) = omega (arith, length-numbers chain)
 
 -- a chain has a head page
-pub each_chain : {X : Type 0} (at : ℕ → Body) (state : FreeState) (head : ℕ) (chain : Chain) (s : Space) → IsPlaced at state head chain s → ((leaf : Leaf) (rest : Chain) → chain ≡ leaf ∷ rest → IsPlaced at state head (leaf ∷ rest) s → X) → X
+pub each_chain : {X : Type 0} (at : ℕ → Body) (state : FreeState) (head : ℕ) (chain : Chain)
+    (s : Space) → IsPlaced at state head chain s
+    → ((leaf : Leaf) (rest : Chain) → chain ≡ leaf ∷ rest
+    → IsPlaced at state head (leaf ∷ rest) s → X) → X
 each_chain at state head [] s placed f = absurd placed.chain_is.is_chain
 each_chain at state head (leaf ∷ rest) s placed f = f leaf rest refl placed

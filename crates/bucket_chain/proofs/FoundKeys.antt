@@ -26,7 +26,8 @@ first_or [] = refl
 first_or (leaf ∷ rest) = refl
 
 -- The chain has the key in this page alone, which is read as the hit says.
-pub record IsFoundHere (at : ℕ → Body) (chain : Chain) (key : Key) (bytes : List ℕ) (hit : Hit) : Type 0 where
+pub record IsFoundHere (at : ℕ → Body) (chain : Chain) (key : Key) (bytes : List ℕ)
+    (hit : Hit) : Type 0 where
   pub before : Chain
   pub leaf : Leaf
   pub later : Chain
@@ -50,29 +51,45 @@ pub record IsFoundHere (at : ℕ → Body) (chain : Chain) (key : Key) (bytes : 
   pub distinct : AllByRecursion (λ leaf. HaveDistinctKeys leaf.pairs) before
   pub said : AreSaid at 3 (before ++ leaf ∷ later) 0
 
-none_passed : (key : Key) (pages : Chain) → AllByRecursion (LacksKey key) pages → times key (pairs_in pages) ≡ 0
+none_passed : (key : Key) (pages : Chain) → AllByRecursion (LacksKey key) pages
+    → times key (pairs_in pages) ≡ 0
 none_passed key [] lacks = refl
-none_passed key (leaf ∷ rest) lacks = omega (arith, times-append key leaf.pairs (pairs_in rest), lacks.0, none_passed key rest lacks.1)
+none_passed key (leaf ∷ rest) lacks =
+    omega (
+      arith,
+      times-append key leaf.pairs (pairs_in rest),
+      lacks.0,
+      none_passed key rest lacks.1,
+    )
 
-filled_of : (before : Chain) (leaf : Leaf) (later : Chain) → IsChain (before ++ leaf ∷ later) → AreFilled (drop 1 before) × AreFilled later
+filled_of : (before : Chain) (leaf : Leaf) (later : Chain) → IsChain (before ++ leaf ∷ later)
+    → AreFilled (drop 1 before) × AreFilled later
 filled_of [] leaf later is = (tt, is.2)
 filled_of (first ∷ before) leaf later is =
-    let Filled : Leaf → Type 0 = λ (l : Leaf). 0 < length l.pairs in
-    (AllByRecursion-left Filled before (leaf ∷ later) is.2, (AllByRecursion-right Filled before (leaf ∷ later) is.2).1)
+    let Filled : Leaf → Type 0 = λ (l : Leaf). 0 < length l.pairs in (
+      AllByRecursion-left Filled before (leaf ∷ later) is.2,
+      (AllByRecursion-right Filled before (leaf ∷ later) is.2).1,
+    )
 
-module _ (at : ℕ → Body) (end head : ℕ) (chain : Chain) (key : Key) (is : IsChainAt at end head chain) where
+module _ (at : ℕ → Body) (end head : ℕ) (chain : Chain) (key : Key)
+    (is : IsChainAt at end head chain) where
   -- the pages that were read are the chain's first
-  split_of : {Last : Leaf → ℕ → Type 0} (walked : IsNumberedWalk at head (LacksKey key) Last) → IsSplit chain (walked.walk.before ++ walked.walk.leaf ∷ []) walked.walk.after
-  split_of walked = begins_same at end head (walked.walk.before ++ walked.walk.leaf ∷ []) chain walked.walk.after walked.walk.are_read walked.numbered is
+  split_of : {Last : Leaf → ℕ → Type 0} (walked : IsNumberedWalk at head (LacksKey key) Last)
+      → IsSplit chain (walked.walk.before ++ walked.walk.leaf ∷ []) walked.walk.after
+  split_of walked = begins_same at end head (walked.walk.before ++ walked.walk.leaf ∷ []) chain
+      walked.walk.after walked.walk.are_read walked.numbered is
 
-  pub found_here : (bytes : List ℕ) (hit : Hit) → IsHit at head key bytes hit → times key (pairs_in chain) ≤ 1 → IsFoundHere at chain key bytes hit
+  pub found_here : (bytes : List ℕ) (hit : Hit) → IsHit at head key bytes hit
+      → times key (pairs_in chain) ≤ 1 → IsFoundHere at chain key bytes hit
   found_here bytes hit found once =
       let walk = found.walked.walk in
       let split = split_of found.walked in
-      let parts : chain ≡ walk.before ++ (walk.leaf ∷ split.later) = split.parts ∙ append_assoc walk.before (walk.leaf ∷ []) split.later in
+      let parts : chain ≡ walk.before ++ (walk.leaf ∷ split.later) =
+      split.parts ∙ append_assoc walk.before (walk.leaf ∷ []) split.later in
       let pair = walk.last.0 in
       let filled = filled_of walk.before walk.leaf split.later (subst IsChain parts is.is_chain) in
-      let count = ap (λ (c : Chain). times key (pairs_in c)) parts ∙ times_parts key walk.before walk.leaf split.later in
+      let count = ap (λ (c : Chain). times key (pairs_in c)) parts
+      ∙ times_parts key walk.before walk.leaf split.later in
       let some = slot_times key walk.leaf.pairs hit.slot pair.has in
       let out = slot_out key walk.leaf.pairs hit.slot pair.has (omega arith) in
       record {
@@ -92,66 +109,113 @@ module _ (at : ℕ → Body) (end head : ℕ) (chain : Chain) (key : Key) (is : 
         within = pair.has.0;
         out = out;
         comes = omega arith;
-        shorter = ap (λ (ps : List Pair). length ps + 1) out ∙ length-remove walk.leaf.pairs hit.slot pair.has.0;
-        numbered = AllByRecursion-left (λ (l : Leaf). 1 ≤ l.number) walk.before (walk.leaf ∷ []) found.walked.numbered;
-        distinct = AllByRecursion-left (λ (l : Leaf). HaveDistinctKeys l.pairs) walk.before (walk.leaf ∷ split.later) (subst (AllByRecursion (λ (l : Leaf). HaveDistinctKeys l.pairs)) parts is.distinct);
+        shorter = ap (λ (ps : List Pair). length ps + 1) out
+            ∙ length-remove walk.leaf.pairs hit.slot pair.has.0;
+        numbered = AllByRecursion-left (λ (l : Leaf). 1 ≤ l.number) walk.before (walk.leaf ∷ [])
+            found.walked.numbered;
+        distinct = AllByRecursion-left (λ (l : Leaf). HaveDistinctKeys l.pairs) walk.before
+            (walk.leaf ∷ split.later) (subst
+            (AllByRecursion (λ (l : Leaf). HaveDistinctKeys l.pairs)) parts is.distinct);
         said = subst (λ (c : Chain). AreSaid at 3 c 0) parts (chain_said at chain is.are_read);
       }
 
   -- a walk to its end shows that the chain lacks the key, and nothing is taken out
-  pub not_found : IsNumberedWalk at head (LacksKey key) (EndsWithout key) → (times key (pairs_in chain) ≡ 0) × (remove key chain ≡ chain) × (emptied key chain ≡ [])
+  pub not_found : IsNumberedWalk at head (LacksKey key) (EndsWithout key)
+      → (times key (pairs_in chain) ≡ 0) × (remove key chain ≡ chain) × (emptied key chain ≡ [])
   not_found walked =
       let walk = walked.walk in
       let split = split_of walked in
-      let numbered = AllByRecursion-right (λ (l : Leaf). 1 ≤ l.number) (walk.before ++ walk.leaf ∷ []) split.later (subst AreNumbered split.parts is.numbered) in
+      let numbered = AllByRecursion-right (λ (l : Leaf). 1 ≤ l.number)
+      (walk.before ++ walk.leaf ∷ []) split.later (subst AreNumbered split.parts is.numbered) in
       let over = none_later split.later numbered (sym split.next ∙ walk.last.0) in
-      let parts : chain ≡ walk.before ++ walk.leaf ∷ [] = split.parts ∙ append_assoc walk.before (walk.leaf ∷ []) split.later ∙ ap (λ (c : Chain). walk.before ++ walk.leaf ∷ c) over in
-      let none : times key (pairs_in chain) ≡ 0 = omega (arith, ap (λ (c : Chain). times key (pairs_in c)) parts, times_parts key walk.before walk.leaf [], none_passed key walk.before walk.passed, walk.last.1) in
+      let parts : chain ≡ walk.before ++ walk.leaf ∷ [] =
+      split.parts ∙ append_assoc walk.before (walk.leaf ∷ []) split.later
+      ∙ ap (λ (c : Chain). walk.before ++ walk.leaf ∷ c) over in
+      let none : times key (pairs_in chain) ≡ 0 =
+      omega (
+        arith,
+        ap (λ (c : Chain). times key (pairs_in c)) parts,
+        times_parts key walk.before walk.leaf [],
+        none_passed key walk.before walk.passed,
+        walk.last.1,
+      ) in
       let same = unchanged chain none is.is_chain in
       (none, same.0, same.1)
     where
-      unchanged : (c : Chain) → times key (pairs_in c) ≡ 0 → IsChain c → (remove key c ≡ c) × (emptied key c ≡ [])
+      unchanged : (c : Chain) → times key (pairs_in c) ≡ 0 → IsChain c
+          → (remove key c ≡ c) × (emptied key c ≡ [])
       unchanged [] none chain_is = absurd chain_is
       unchanged (first ∷ rest) none chain_is = removed_none key first rest none chain_is.2
 
 -- what is taken out of the chain
-module _ (at : ℕ → Body) (chain : Chain) (key : Key) (bytes : List ℕ) (hit : Hit) (found : IsFoundHere at chain key bytes hit) where
-  bare_is : (bare : Bool) → (bare ≡ true → length found.leaf.pairs ≡ 1) → (bare ≡ false → 2 ≤ length found.leaf.pairs) → is_bare (take_out key found.leaf) ≡ bare
-  bare_is true one two = let a = one refl in let b = found.shorter in eq-eqb (length (without key found.leaf.pairs)) 0 (omega arith)
-  bare_is false one two = let a = two refl in let b = found.shorter in ne_eqb (length (without key found.leaf.pairs)) 0 (λ e. omega arith)
+module _ (at : ℕ → Body) (chain : Chain) (key : Key) (bytes : List ℕ) (hit : Hit)
+    (found : IsFoundHere at chain key bytes hit) where
+  bare_is : (bare : Bool) → (bare ≡ true → length found.leaf.pairs ≡ 1)
+      → (bare ≡ false → 2 ≤ length found.leaf.pairs) → is_bare (take_out key found.leaf) ≡ bare
+  bare_is true one two = let a = one refl in let b = found.shorter in
+      eq-eqb (length (without key found.leaf.pairs)) 0 (omega arith)
+  bare_is false one two = let a = two refl in let b = found.shorter in
+      ne_eqb (length (without key found.leaf.pairs)) 0 (λ e. omega arith)
 
-  over : (first : Leaf) (rest : Chain) (bare : Bool) → found.before ≡ first ∷ rest → is_bare (take_out key found.leaf) ≡ bare
-      → (remove key chain ≡ first ∷ rest ++ cond bare found.later (take_out key found.leaf ∷ found.later)) × (emptied key chain ≡ cond bare (found.leaf.number ∷ []) [])
+  over : (first : Leaf) (rest : Chain) (bare : Bool) → found.before ≡ first ∷ rest
+      → is_bare (take_out key found.leaf) ≡ bare
+      → (remove key chain ≡ first ∷ rest
+      ++ cond bare found.later (take_out key found.leaf ∷ found.later))
+      × (emptied key chain ≡ cond bare (found.leaf.number ∷ []) [])
   over first rest bare e is =
-      let none : times key (pairs_in (first ∷ rest)) ≡ 0 = ap (λ (c : Chain). times key (pairs_in c)) (sym e) ∙ found.none_before in
-      let filled : AreFilled rest = subst (λ (c : Chain). AreFilled (drop 1 c)) e found.filled_before in
-      let both = removed_over key first rest found.leaf found.later none found.none_later filled found.filled_later bare is in
-      let parts : chain ≡ first ∷ rest ++ found.leaf ∷ found.later = found.parts ∙ ap (λ (c : Chain). c ++ found.leaf ∷ found.later) e in
+      let none : times key (pairs_in (first ∷ rest)) ≡ 0 =
+      ap (λ (c : Chain). times key (pairs_in c)) (sym e) ∙ found.none_before in
+      let filled : AreFilled rest =
+      subst (λ (c : Chain). AreFilled (drop 1 c)) e found.filled_before in
+      let both = removed_over key first rest found.leaf found.later none found.none_later filled
+      found.filled_later bare is in
+      let parts : chain ≡ first ∷ rest ++ found.leaf ∷ found.later =
+      found.parts ∙ ap (λ (c : Chain). c ++ found.leaf ∷ found.later) e in
       (ap (remove key) parts ∙ both.0, ap (emptied key) parts ∙ both.1)
 
   -- the page stays, since it is the head or has more pairs
-  pub page_stays : (found.before ≡ []) ⊎ (2 ≤ length found.leaf.pairs) → (remove key chain ≡ found.before ++ take_out key found.leaf ∷ found.later) × (emptied key chain ≡ [])
+  pub page_stays : (found.before ≡ []) ⊎ (2 ≤ length found.leaf.pairs)
+      → (remove key chain ≡ found.before ++ take_out key found.leaf ∷ found.later)
+      × (emptied key chain ≡ [])
   page_stays why = by_before found.before refl why
     where
-      by_before : (before : Chain) → found.before ≡ before → (before ≡ []) ⊎ (2 ≤ length found.leaf.pairs) → (remove key chain ≡ before ++ take_out key found.leaf ∷ found.later) × (emptied key chain ≡ [])
+      by_before : (before : Chain) → found.before ≡ before
+          → (before ≡ []) ⊎ (2 ≤ length found.leaf.pairs)
+          → (remove key chain ≡ before ++ take_out key found.leaf ∷ found.later)
+          × (emptied key chain ≡ [])
       by_before [] e why =
           let both = removed_head key found.leaf found.later found.none_later found.filled_later in
-          let parts : chain ≡ found.leaf ∷ found.later = found.parts ∙ ap (λ (c : Chain). c ++ found.leaf ∷ found.later) e in
+          let parts : chain ≡ found.leaf ∷ found.later =
+          found.parts ∙ ap (λ (c : Chain). c ++ found.leaf ∷ found.later) e in
           (ap (remove key) parts ∙ both.0, ap (emptied key) parts ∙ both.1)
       by_before (first ∷ rest) e why =
-          let two : 2 ≤ length found.leaf.pairs = elim why [ inl none ↦ absurd cc | inr two ↦ two ] in
+          let two : 2 ≤ length found.leaf.pairs =
+          elim why [ inl none ↦ absurd cc | inr two ↦ two ] in
           over first rest false e (bare_is false (λ y. absurd cc) (λ _. two))
 
   -- the page leaves the chain with its one pair
-  pub page_leaves : (found.before ≡ [] → ⊥) → length found.leaf.pairs ≡ 1 → (remove key chain ≡ found.before ++ found.later) × (emptied key chain ≡ found.leaf.number ∷ [])
+  pub page_leaves : (found.before ≡ [] → ⊥) → length found.leaf.pairs ≡ 1
+      → (remove key chain ≡ found.before ++ found.later)
+      × (emptied key chain ≡ found.leaf.number ∷ [])
   page_leaves behind one = by_before found.before refl behind
     where
-      by_before : (before : Chain) → found.before ≡ before → (before ≡ [] → ⊥) → (remove key chain ≡ before ++ found.later) × (emptied key chain ≡ found.leaf.number ∷ [])
+      by_before : (before : Chain) → found.before ≡ before → (before ≡ [] → ⊥)
+          → (remove key chain ≡ before ++ found.later)
+          × (emptied key chain ≡ found.leaf.number ∷ [])
       by_before [] e behind = absurd (behind refl)
-      by_before (first ∷ rest) e behind = over first rest true e (bare_is true (λ _. one) (λ y. absurd cc))
+      by_before (first ∷ rest) e behind =
+          over first rest true e (bare_is true (λ _. one) (λ y. absurd cc))
 
 -- a walk that found the key
-pub hit_walk : (at : ℕ → Body) (head : ℕ) (key : Key) (bytes : List ℕ) (hit : Hit) → IsHit at head key bytes hit → IsWalk at head (LacksKey key) (HasKey key)
+pub hit_walk : (at : ℕ → Body) (head : ℕ) (key : Key) (bytes : List ℕ) (hit : Hit)
+    → IsHit at head key bytes hit → IsWalk at head (LacksKey key) (HasKey key)
 hit_walk at head key bytes hit found =
     let walk = found.walked.walk in
-    record { before = walk.before; leaf = walk.leaf; after = walk.after; are_read = walk.are_read; passed = walk.passed; last = slot_times key walk.leaf.pairs hit.slot walk.last.0.has }
+    record {
+      before = walk.before;
+      leaf = walk.leaf;
+      after = walk.after;
+      are_read = walk.are_read;
+      passed = walk.passed;
+      last = slot_times key walk.leaf.pairs hit.slot walk.last.0.has;
+    }

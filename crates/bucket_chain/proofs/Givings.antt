@@ -22,11 +22,13 @@ use Rattle.chain_walks.proofs.Walks.{leaf_of, number_more, linked_more, IsSplit,
 use Rattle.bucket_chain.proofs.Rewriting.{times_in}
 
 -- so many pages were given
-pub record AreGivenIn (old new : ℕ → Body) (before after : FreeState) (first n step : ℕ) : Type 0 where
+pub record AreGivenIn (old new : ℕ → Body) (before after : FreeState)
+    (first n step : ℕ) : Type 0 where
   pub are : AreGiven old new before after first n
   pub count : length are.pages ≡ step
 
-pub giving_starts : (at : ℕ → Body) (state : FreeState) (first : ℕ) → AreGivenIn at at state state first first 0
+pub giving_starts : (at : ℕ → Body) (state : FreeState) (first : ℕ)
+    → AreGivenIn at at state state first first 0
 giving_starts at state first = record {
   are = record {
     pages = [];
@@ -41,26 +43,35 @@ giving_starts at state first = record {
 }
 
 -- as many of each page in the free list and among those given
-pub times_given : (n : ℕ) (pages : List ℕ) (s : Space) → times_of n (give pages s).free ≡ times_of n pages + times_of n s.free
+pub times_given : (n : ℕ) (pages : List ℕ) (s : Space)
+    → times_of n (give pages s).free ≡ times_of n pages + times_of n s.free
 times_given n pages s =
     let one : ℕ → ℕ = λ m. cond (m == n) 1 0 in
-    sum_by-append one (reverse pages) s.free ∙ ap (λ (k : ℕ). k + sum_by one s.free) (sum_by-IsPermutation one pages (reverse pages) (IsPermutation-reverse pages))
+    sum_by-append one (reverse pages) s.free
+    ∙ ap (λ (k : ℕ). k + sum_by one s.free)
+    (sum_by-IsPermutation one pages (reverse pages) (IsPermutation-reverse pages))
 
 -- one more in front
-give_more : (pages : List ℕ) (n : ℕ) (s : Space) → give (n ∷ []) (give pages s) ≡ give (pages ++ n ∷ []) s
-give_more pages n s = ap (λ (free : List ℕ). record s { free = free }) (sym (ap (λ (ns : List ℕ). ns ++ s.free) (reverse-append pages (n ∷ []))))
+give_more : (pages : List ℕ) (n : ℕ) (s : Space)
+    → give (n ∷ []) (give pages s) ≡ give (pages ++ n ∷ []) s
+give_more pages n s = ap (λ (free : List ℕ). record s { free = free })
+    (sym (ap (λ (ns : List ℕ). ns ++ s.free) (reverse-append pages (n ∷ []))))
 
-numbers_more : (pages : Chain) (n : ℕ) (pairs : List Pair) → numbers (pages ++ leaf_of n pairs ∷ []) ≡ numbers pages ++ n ∷ []
+numbers_more : (pages : Chain) (n : ℕ) (pairs : List Pair)
+    → numbers (pages ++ leaf_of n pairs ∷ []) ≡ numbers pages ++ n ∷ []
 numbers_more pages n pairs = map-append (λ (leaf : Leaf). leaf.number) pages (leaf_of n pairs ∷ [])
 
 -- a page isn't free where it says that it is an overflow page
-not_free : (body : Body) (next : ℕ) (pairs : List Pair) → IsFree body → body ≡ OverflowPage next pairs → ⊥
+not_free : (body : Body) (next : ℕ) (pairs : List Pair) → IsFree body
+    → body ≡ OverflowPage next pairs → ⊥
 not_free body next pairs free over = let same = sym free.free ∙ over in absurd (cc)
 
 none_or_some : (k : ℕ) → (1 ≤ k → ⊥) → k ≡ 0
 none_or_some k none = omega (arith, none)
 
-module _ (old mid new : ℕ → Body) (before after after' : FreeState) (first n step next : ℕ) (pairs : List Pair) (so_far : AreGivenIn old mid before after first n step) (link : SaysLink mid n 4 next pairs) where
+module _ (old mid new : ℕ → Body) (before after after' : FreeState) (first n step next : ℕ)
+    (pairs : List Pair) (so_far : AreGivenIn old mid before after first n step)
+    (link : SaysLink mid n 4 next pairs) where
   abbrev pages : Chain
   pages = so_far.are.pages
 
@@ -68,49 +79,73 @@ module _ (old mid new : ℕ → Body) (before after after' : FreeState) (first n
   more = pages ++ leaf_of n pairs ∷ []
 
   apart : times_of n (numbers pages) ≡ 0
-  apart = none_or_some _ (λ stands. not_free (mid n) next pairs (so_far.are.given n stands) link.says)
+  apart = none_or_some _ (λ stands.
+      not_free (mid n) next pairs (so_far.are.given n stands) link.says)
 
   counted : (m : ℕ) → times_of m (numbers more) ≡ times_of m (numbers pages) + times_of m (n ∷ [])
   counted m = times_in m pages (leaf_of n pairs ∷ [])
 
   -- the page is given too
   pub giving_goes_on : 1 ≤ n → new n ≡ FreePage after.head → ((m : ℕ) → (m ≡ n → ⊥) → new m ≡ mid m)
-      → ((s : Space) → IsFreeList mid after s → IsApart (n ∷ []) s → IsFreeList new after' (give (n ∷ []) s)) → AreGivenIn old new before after' first next (step + 1)
+      → ((s : Space) → IsFreeList mid after s → IsApart (n ∷ []) s
+      → IsFreeList new after' (give (n ∷ []) s))
+      → AreGivenIn old new before after' first next (step + 1)
   giving_goes_on some free others list = record {
     are = record {
       pages = more;
-      linked = linked_more old pages n next pairs so_far.are.linked (sym (so_far.are.others n apart) ∙ link.says) (link.filled refl);
+      linked = linked_more old pages n next pairs so_far.are.linked
+          (sym (so_far.are.others n apart) ∙ link.says) (link.filled refl);
       first_is = so_far.are.first_is ∙ sym (number_more pages n next pairs);
-      numbered = AllByRecursion-append (λ (leaf : Leaf). 1 ≤ leaf.number) pages (leaf_of n pairs ∷ []) so_far.are.numbered (some, tt);
+      numbered = AllByRecursion-append (λ (leaf : Leaf). 1 ≤ leaf.number) pages
+          (leaf_of n pairs ∷ []) so_far.are.numbered (some, tt);
       given = λ m stands. elim (cases_eq m n) [
-        | inl same ↦ subst (λ (k : ℕ). IsFree (new k)) (sym same) (record { next = after.head; free = free })
-        | inr other ↦ subst IsFree (sym (others m other)) (so_far.are.given m (omega (arith, stands, counted m, others_none m other)))
+        | inl same ↦ subst (λ (k : ℕ). IsFree (new k)) (sym same)
+            (record { next = after.head; free = free })
+        | inr other ↦ subst IsFree (sym (others m other))
+            (so_far.are.given m (omega (arith, stands, counted m, others_none m other)))
       ];
       others = λ m none.
-          let other : m ≡ n → ⊥ = λ same. omega (arith, none, counted m, subst (λ (k : ℕ). 1 ≤ times_of k (n ∷ [])) (sym same) (omega (arith, times_head n []))) in
+          let other : m ≡ n → ⊥ = λ same.
+          omega (
+            arith,
+            none,
+            counted m,
+            subst (λ (k : ℕ). 1 ≤ times_of k (n ∷ [])) (sym same)
+                (omega (arith, times_head n [])),
+          ) in
           others m other ∙ so_far.are.others m (omega (arith, none, counted m));
       list = λ s is stands.
-          let own : (m : ℕ) → times_of m (numbers pages) + times_of m s.free ≤ cond (is_page m s.end) 1 0 = λ m. omega (arith, stands m, counted m) in
+          let own : (m : ℕ) → times_of m (numbers pages) + times_of m s.free
+          ≤ cond (is_page m s.end) 1 0 = λ m. omega (arith, stands m, counted m) in
           let given : IsFreeList mid after (give (numbers pages) s) = so_far.are.list s is own in
-          let alone : IsApart (n ∷ []) (give (numbers pages) s) = λ m. omega (arith, stands m, counted m, times_given m (numbers pages) s) in
-          subst (IsFreeList new after') (give_more (numbers pages) n s ∙ ap (λ (ns : List ℕ). give ns s) (sym (numbers_more pages n pairs))) (list (give (numbers pages) s) given alone);
+          let alone : IsApart (n ∷ []) (give (numbers pages) s) = λ m.
+          omega (arith, stands m, counted m, times_given m (numbers pages) s) in
+          subst (IsFreeList new after')
+          (give_more (numbers pages) n s
+          ∙ ap (λ (ns : List ℕ). give ns s) (sym (numbers_more pages n pairs)))
+          (list (give (numbers pages) s) given alone);
     };
     count = omega (arith, so_far.count, length-append pages (leaf_of n pairs ∷ []));
   }
     where
       others_none : (m : ℕ) → (m ≡ n → ⊥) → times_of m (n ∷ []) ≡ 0
       others_none m other =
-          let not_it : cond {A = ℕ} (n == m) 1 0 ≡ 0 = ap (λ (b : Bool). cond b 1 0) (ne_eqb n m (λ same. other (sym same))) in
+          let not_it : cond {A = ℕ} (n == m) 1 0 ≡ 0 =
+          ap (λ (b : Bool). cond b 1 0) (ne_eqb n m (λ same. other (sym same))) in
           omega (arith, not_it, sum_by-cons (λ (k : ℕ). cond (k == m) 1 0) n [])
 
 -- ---- in a chain that is read as one
 
-module _ (old mid : ℕ → Body) (before after : FreeState) (first n step : ℕ) (so_far : AreGivenIn old mid before after first n step) (head : ℕ) (leaf : Leaf) (rest : Chain) (s : Space)
-    (placed : IsPlaced old before head (leaf ∷ rest) s) (from : first ≡ first_of (numbers rest)) where
+module _ (old mid : ℕ → Body) (before after : FreeState) (first n step : ℕ)
+    (so_far : AreGivenIn old mid before after first n step) (head : ℕ) (leaf : Leaf)
+    (rest : Chain) (s : Space)
+    (placed : IsPlaced old before head (leaf ∷ rest) s)
+    (from : first ≡ first_of (numbers rest)) where
   begins : BeginsAt old head (leaf ∷ so_far.are.pages) n
   begins = (
     sym placed.chain_is.from,
-    ap old placed.chain_is.from ∙ placed.chain_is.are_read.0 ∙ ap (λ (k : ℕ). HeadPage k leaf.pairs) (sym from ∙ so_far.are.first_is),
+    ap old placed.chain_is.from ∙ placed.chain_is.are_read.0
+        ∙ ap (λ (k : ℕ). HeadPage k leaf.pairs) (sym from ∙ so_far.are.first_is),
     so_far.are.linked,
   )
 
@@ -118,14 +153,28 @@ module _ (old mid : ℕ → Body) (before after : FreeState) (first n step : ℕ
   head_some = placed.chain_is.numbered.0
 
   pub given_split : IsSplit (leaf ∷ rest) (leaf ∷ so_far.are.pages) n
-  given_split = begins_same old s.end head (leaf ∷ so_far.are.pages) (leaf ∷ rest) n begins (head_some, so_far.are.numbered) placed.chain_is
+  given_split = begins_same old s.end head (leaf ∷ so_far.are.pages) (leaf ∷ rest) n begins
+      (head_some, so_far.are.numbered) placed.chain_is
 
   pub not_all : s.end ≤ step → ⊥
-  not_all over = omega (arith, over, so_far.count, placed.fits, ap length given_split.parts, length-append (leaf ∷ so_far.are.pages) given_split.later)
+  not_all over = omega (
+    arith,
+    over,
+    so_far.count,
+    placed.fits,
+    ap length given_split.parts,
+    length-append (leaf ∷ so_far.are.pages) given_split.later,
+  )
 
   given_apart : IsApart (numbers so_far.are.pages) s
   given_apart m =
-      omega (arith, placed.apart m, ap (λ (c : Chain). times_of m (numbers c)) given_split.parts, times_in m (leaf ∷ so_far.are.pages) given_split.later, times_tail m leaf.number (numbers so_far.are.pages))
+      omega (
+        arith,
+        placed.apart m,
+        ap (λ (c : Chain). times_of m (numbers c)) given_split.parts,
+        times_in m (leaf ∷ so_far.are.pages) given_split.later,
+        times_tail m leaf.number (numbers so_far.are.pages),
+      )
 
   pub still_free : IsFreeList mid after (give (numbers so_far.are.pages) s)
   still_free = so_far.are.list s placed.free_is given_apart
@@ -133,9 +182,21 @@ module _ (old mid : ℕ → Body) (before after : FreeState) (first n step : ℕ
   -- so many are free that one more fits
   pub room_left : after.file_end ≤ after.count → ⊥
   room_left over =
-      let count : after.count ≡ length (reverse (numbers so_far.are.pages) ++ s.free) = ap (λ (t : FreeState). t.count) still_free.kept in
+      let count : after.count ≡ length (reverse (numbers so_far.are.pages) ++ s.free) =
+      ap (λ (t : FreeState). t.count) still_free.kept in
       let end : after.file_end ≡ s.end = ap (λ (t : FreeState). t.file_end) still_free.kept in
-      omega (arith, over, count, end, length-append (reverse (numbers so_far.are.pages)) s.free, length-reverse (numbers so_far.are.pages), length_numbers so_far.are.pages, placed.fits, ap length given_split.parts, length-append (leaf ∷ so_far.are.pages) given_split.later)
+      omega (
+        arith,
+        over,
+        count,
+        end,
+        length-append (reverse (numbers so_far.are.pages)) s.free,
+        length-reverse (numbers so_far.are.pages),
+        length_numbers so_far.are.pages,
+        placed.fits,
+        ap length given_split.parts,
+        length-append (leaf ∷ so_far.are.pages) given_split.later,
+      )
     where
       length_numbers : (chain : Chain) → length (numbers chain) ≡ length chain
       length_numbers [] = refl
@@ -143,26 +204,49 @@ module _ (old mid : ℕ → Body) (before after : FreeState) (first n step : ℕ
 
   -- where there are more pages, the next says so still
   pub next_says : n ≢ 0 → IsHere old (leaf ∷ rest) (leaf ∷ so_far.are.pages) n 4
-  next_says more = walk_is_here old s.end head (λ _. Unit {0}) n 4 (length so_far.are.pages + 1) (leaf ∷ rest) placed.chain_is
-      (record { before = leaf ∷ so_far.are.pages; has_passed = (begins, more); numbered = (head_some, so_far.are.numbered); passed = all so_far.are.pages; kind_is = refl; count = omega arith })
+  next_says more = walk_is_here old s.end head (λ _. Unit {0}) n 4 (length so_far.are.pages + 1)
+      (leaf ∷ rest) placed.chain_is
+      (record {
+        before = leaf ∷ so_far.are.pages;
+        has_passed = (begins, more);
+        numbered =
+            (head_some, so_far.are.numbered);
+        passed = all so_far.are.pages;
+        kind_is = refl;
+        count = omega arith;
+      })
     where
       all : (chain : Chain) → Unit {0} × AllByRecursion (λ (_ : Leaf). Unit {0}) chain
       all [] = (tt, tt)
       all (leaf ∷ rest) = (tt, all rest)
 
-  pub next_link : (more : n ≢ 0) → SaysLink mid n 4 (first_of (numbers (next_says more).later)) (next_says more).leaf.pairs
+  pub next_link : (more : n ≢ 0)
+      → SaysLink mid n 4 (first_of (numbers (next_says more).later)) (next_says more).leaf.pairs
   next_link more =
       let here = next_says more in
       let apart : times_of n (numbers so_far.are.pages) ≡ 0
-      = omega (arith, one_at_most n, ap (λ (c : Chain). times_of n (numbers c)) here.parts, times_in n (leaf ∷ so_far.are.pages) (here.leaf ∷ here.later), times_tail n leaf.number (numbers so_far.are.pages), stands here.leaf here.later here.number) in
-      record { says = so_far.are.others n apart ∙ here.link.says; filled = here.link.filled; distinct = here.link.distinct }
+      = omega (
+        arith,
+        one_at_most n,
+        ap (λ (c : Chain). times_of n (numbers c)) here.parts,
+        times_in n (leaf ∷ so_far.are.pages) (here.leaf ∷ here.later),
+        times_tail n leaf.number (numbers so_far.are.pages),
+        stands here.leaf here.later here.number,
+      ) in
+      record {
+        says = so_far.are.others n apart ∙ here.link.says;
+        filled = here.link.filled;
+        distinct = here.link.distinct;
+      }
     where
       one_at_most : (m : ℕ) → times_of m (numbers (leaf ∷ rest)) ≤ 1
       one_at_most m = by_test (is_page m s.end) (placed.apart m)
         where
-          by_test : (b : Bool) → times_of m (numbers (leaf ∷ rest)) + times_of m s.free ≤ cond b 1 0 → times_of m (numbers (leaf ∷ rest)) ≤ 1
+          by_test : (b : Bool) → times_of m (numbers (leaf ∷ rest)) + times_of m s.free ≤ cond b 1 0
+              → times_of m (numbers (leaf ∷ rest)) ≤ 1
           by_test true le = omega (arith, le)
           by_test false le = omega (arith, le)
 
       stands : (l : Leaf) (later : Chain) → n ≡ l.number → 1 ≤ times_of n (numbers (l ∷ later))
-      stands l later same = subst (λ (k : ℕ). 1 ≤ times_of k (numbers (l ∷ later))) (sym same) (omega (arith, times_head l.number (numbers later)))
+      stands l later same = subst (λ (k : ℕ). 1 ≤ times_of k (numbers (l ∷ later))) (sym same)
+          (omega (arith, times_head l.number (numbers later)))

@@ -11,36 +11,69 @@ use Rattle.bucket_chain.specs.Hits.{IsPrior, IsNumberedWalk, IsHitAt, IsHit}
 use Rattle.chain_walks.proofs.Walks.{leaf_of, IsUnderWay, walk_starts, walk_goes_on, passed_more, numbered_more}
 
 -- the walk stands at page n, and has passed page `prior` last
-pub record IsTracked (at : ℕ → Body) (head : ℕ) (key : Key) (prior prior_kind n kind step : ℕ) : Type 0 where
+pub record IsTracked (at : ℕ → Body) (head : ℕ) (key : Key)
+    (prior prior_kind n kind step : ℕ) : Type 0 where
   pub walk : IsUnderWay at head (LacksKey key) n kind step
   pub prior_is : IsPrior walk.before prior prior_kind
 
-pub track_starts : (at : ℕ → Body) (head : ℕ) (key : Key) (prior_kind : ℕ) → IsTracked at head key 0 prior_kind head 3 0
+pub track_starts : (at : ℕ → Body) (head : ℕ) (key : Key) (prior_kind : ℕ)
+    → IsTracked at head key 0 prior_kind head 3 0
 unfolding walk_starts
-track_starts at head key prior_kind = record { walk = walk_starts at head (LacksKey key); prior_is = inl (refl, refl) }
+track_starts at head key prior_kind =
+    record { walk = walk_starts at head (LacksKey key); prior_is = inl (refl, refl) }
 
-module _ (at : ℕ → Body) (head : ℕ) (key : Key) (prior prior_kind n kind step : ℕ) (tracked : IsTracked at head key prior prior_kind n kind step) (next : ℕ) (pairs : List Pair) (link : SaysLink at n kind next pairs) (some : 1 ≤ n) where
+module _ (at : ℕ → Body) (head : ℕ) (key : Key) (prior prior_kind n kind step : ℕ)
+    (tracked : IsTracked at head key prior prior_kind n kind step) (next : ℕ) (pairs : List Pair)
+    (link : SaysLink at n kind next pairs) (some : 1 ≤ n) where
   -- it goes on to the next page
-  pub track_goes_on : next ≢ 0 → times key pairs ≡ 0 → IsTracked at head key n kind next 4 (step + 1)
+  pub track_goes_on : next ≢ 0 → times key pairs ≡ 0
+      → IsTracked at head key n kind next 4 (step + 1)
   unfolding walk_goes_on
   track_goes_on more lacks = record {
-    walk = walk_goes_on at head (LacksKey key) n kind step tracked.walk next pairs link some more lacks;
-    prior_is = inr (record { front = tracked.walk.before; leaf = leaf_of n pairs; parts = refl; number = refl; kind_is = tracked.walk.kind_is });
+    walk = walk_goes_on at head (LacksKey key) n kind step tracked.walk next pairs link
+        some more lacks;
+    prior_is = inr (record {
+      front = tracked.walk.before;
+      leaf = leaf_of n pairs;
+      parts = refl;
+      number = refl;
+      kind_is = tracked.walk.kind_is;
+    });
   }
 
   -- or ends here
-  pub track_ends : (Last : Leaf → ℕ → Type 0) → Last (leaf_of n pairs) next → IsNumberedWalk at head (LacksKey key) Last
+  pub track_ends : (Last : Leaf → ℕ → Type 0) → Last (leaf_of n pairs) next
+      → IsNumberedWalk at head (LacksKey key) Last
   track_ends Last last = record {
-    walk = record { before = tracked.walk.before; leaf = leaf_of n pairs; after = next; are_read = passed_more at head (LacksKey key) n kind step tracked.walk next pairs link; passed = tracked.walk.passed; last = last };
+    walk = record {
+      before = tracked.walk.before;
+      leaf = leaf_of n pairs;
+      after = next;
+      are_read =
+          passed_more at head (LacksKey key) n kind step tracked.walk next pairs link;
+      passed =
+          tracked.walk.passed;
+      last = last;
+    };
     numbered = numbered_more at head (LacksKey key) n kind step tracked.walk pairs some;
   }
 
   -- at the page with the key
-  pub track_hits : (bytes : List ℕ) (slot : ℕ) → IsLink bytes n kind next (page_pairs bytes) → page_pairs bytes ≡ pairs → HasKeyAt key pairs slot
-      → IsHit at head key bytes (record { page = n; slot = slot; prior = prior; prior_kind = prior_kind; next = next })
+  pub track_hits : (bytes : List ℕ) (slot : ℕ) → IsLink bytes n kind next (page_pairs bytes)
+      → page_pairs bytes ≡ pairs → HasKeyAt key pairs slot
+      → IsHit at head key bytes (record {
+        page = n;
+        slot = slot;
+        prior = prior;
+        prior_kind =
+            prior_kind;
+        next = next;
+      })
   unfolding track_ends
   track_hits bytes slot is_link read has = record {
-    walked = track_ends (IsHitAt key bytes (record { page = n; slot = slot; prior = prior; prior_kind = prior_kind; next = next })) (record { number = refl; page = is_link.page; pairs = read; has = has }, refl);
+    walked = track_ends (IsHitAt key bytes
+        (record { page = n; slot = slot; prior = prior; prior_kind = prior_kind; next = next }))
+        (record { number = refl; page = is_link.page; pairs = read; has = has }, refl);
     link = subst (λ (k : ℕ). IsLink bytes n k next (page_pairs bytes)) tracked.walk.kind_is is_link;
     prior = tracked.prior_is;
   }

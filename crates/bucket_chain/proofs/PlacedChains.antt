@@ -20,25 +20,32 @@ use Rattle.bucket_chain.specs.Placements.{ChainsArePlaced, PutsArePlacements, Re
 use Rattle.bucket_chain.proofs.DistinctKeys.{distinct_by_page}
 
 -- a sum over one of many lists
-one_part : {X Y : Type 0} (f : Y → ℕ) (g : X → List Y) (xs : List X) (i : ℕ) (d : X) → i < length xs → sum_by f (g (get_or xs i d)) ≤ sum_by f (flat_map g xs)
+one_part : {X Y : Type 0} (f : Y → ℕ) (g : X → List Y) (xs : List X) (i : ℕ) (d : X) → i < length xs
+    → sum_by f (g (get_or xs i d)) ≤ sum_by f (flat_map g xs)
 one_part f g [] i d lt = absurd (omega (arith, lt))
 one_part f g (x ∷ xs) zero d lt = omega (arith, sum_by-append f (g x) (flat_map g xs))
-one_part f g (x ∷ xs) (suc i) d lt = omega (arith, sum_by-append f (g x) (flat_map g xs), one_part f g xs i d (omega (arith, lt)))
+one_part f g (x ∷ xs) (suc i) d lt =
+    omega (arith, sum_by-append f (g x) (flat_map g xs), one_part f g xs i d (omega (arith, lt)))
 
 -- what holds of all of many lists holds of one
-one_all : {X Y : Type 0} (P : Y → Type 0) (g : X → List Y) (xs : List X) (i : ℕ) (d : X) → i < length xs → AllByRecursion P (flat_map g xs) → AllByRecursion P (g (get_or xs i d))
+one_all : {X Y : Type 0} (P : Y → Type 0) (g : X → List Y) (xs : List X) (i : ℕ) (d : X)
+    → i < length xs → AllByRecursion P (flat_map g xs) → AllByRecursion P (g (get_or xs i d))
 one_all P g [] i d lt all = absurd (omega (arith, lt))
 one_all P g (x ∷ xs) zero d lt all = AllByRecursion-left P (g x) (flat_map g xs) all
-one_all P g (x ∷ xs) (suc i) d lt all = one_all P g xs i d (omega (arith, lt)) (AllByRecursion-right P (g x) (flat_map g xs) all)
+one_all P g (x ∷ xs) (suc i) d lt all =
+    one_all P g xs i d (omega (arith, lt)) (AllByRecursion-right P (g x) (flat_map g xs) all)
 
 page_some : (n end : ℕ) → 1 ≤ cond {A = ℕ} (is_page n end) 1 0 → 1 ≤ n
 page_some n end stands = grind (arith, nat_tests)
 
 -- pages that stand in the file are none of page 0
-some_numbers : (chain : Chain) (end : ℕ) → ((n : ℕ) → times_of n (numbers chain) ≤ cond {A = ℕ} (is_page n end) 1 0) → AllByRecursion (λ leaf. 1 ≤ leaf.number) chain
+some_numbers : (chain : Chain) (end : ℕ)
+    → ((n : ℕ) → times_of n (numbers chain) ≤ cond {A = ℕ} (is_page n end) 1 0)
+    → AllByRecursion (λ leaf. 1 ≤ leaf.number) chain
 some_numbers [] end within = tt
 some_numbers (leaf ∷ rest) end within = (
-  page_some leaf.number end (omega (arith, within leaf.number, times_head leaf.number (numbers rest))),
+  page_some leaf.number end (omega
+      (arith, within leaf.number, times_head leaf.number (numbers rest))),
   some_numbers rest end (λ n. omega (arith, within n, times_tail n leaf.number (numbers rest))),
 )
 
@@ -51,14 +58,32 @@ chains_placed at state p bucket sound below lt =
     let chain = chain_at p bucket in
     let s = segment_bodies p.segments (heads_of p.chains) in
     let P : NumberedBody → Type 0 = λ numbered. at numbered.number ≡ numbered.body in
-    let upper = AllByRecursion-left P (s ++ flat_map chain_bodies p.chains) (free_bodies p.space.free) below.are_read in
+    let upper = AllByRecursion-left P (s ++ flat_map chain_bodies p.chains)
+    (free_bodies p.space.free) below.are_read in
     let chains = AllByRecursion-right P s (flat_map chain_bodies p.chains) upper in
-    let apart : (n : ℕ) → times_of n (numbers chain) + times_of n p.space.free ≤ cond {A = ℕ} (is_page n p.space.end) 1 0 = λ n.
+    let apart : (n : ℕ) → times_of n (numbers chain) + times_of n p.space.free
+    ≤ cond {A = ℕ} (is_page n p.space.end) 1 0 = λ n.
     let one : ℕ → ℕ = λ m. cond (m == n) 1 0 in
-    omega (arith, sound.pages.once n, sum_by-append one (1 ∷ p.segments) (flat_map numbers p.chains), one_part one numbers p.chains bucket [] lt) in
+    omega (
+      arith,
+      sound.pages.once n,
+      sum_by-append one (1 ∷ p.segments) (flat_map numbers p.chains),
+      one_part one numbers p.chains bucket [] lt,
+    ) in
     let fits : length chain + length p.space.free < p.space.end =
-    omega (arith, sound.pages.as_many, length-append p.segments (flat_map numbers p.chains), length-flat_map-take numbers p.chains bucket [] lt, length-numbers chain) in
-    let once : (key : List ℕ) → times key (pairs_in chain) ≤ 1 = λ key. omega (arith, sound.no_key_twice key, one_part (λ (q : Pair). cond (has_key key q) 1 0) pairs_in p.chains bucket [] lt) in
+    omega (
+      arith,
+      sound.pages.as_many,
+      length-append p.segments (flat_map numbers p.chains),
+      length-flat_map-take numbers p.chains bucket [] lt,
+      length-numbers chain,
+    ) in
+    let once : (key : List ℕ) → times key (pairs_in chain) ≤ 1 = λ key.
+    omega (
+      arith,
+      sound.no_key_twice key,
+      one_part (λ (q : Pair). cond (has_key key q) 1 0) pairs_in p.chains bucket [] lt,
+    ) in
     record {
       chain_is = record {
         are_read = one_all P chain_bodies p.chains bucket [] lt chains;
@@ -70,7 +95,8 @@ chains_placed at state p bucket sound below lt =
       };
       free_is = record {
         kept = below.kept;
-        are_read = AllByRecursion-right P (s ++ flat_map chain_bodies p.chains) (free_bodies p.space.free) below.are_read;
+        are_read = AllByRecursion-right P (s ++ flat_map chain_bodies p.chains)
+            (free_bodies p.space.free) below.are_read;
         some = omega (arith, fits);
       };
       apart = apart;
@@ -85,6 +111,7 @@ puts_placements at at' state state' p pair sound sound' below becomes = record {
 
 pub removals_placements : RemovalsArePlacements
 removals_placements at at' state state' p key sound below becomes = record {
-  are_read = delete_rewrites p at at' key sound (delete_sound p sound key) below.are_read becomes.rewritten;
+  are_read = delete_rewrites p at at' key sound (delete_sound p sound key) below.are_read
+      becomes.rewritten;
   kept = becomes.kept;
 }

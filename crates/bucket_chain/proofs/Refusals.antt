@@ -30,7 +30,8 @@ walk_remove : (e : PageFault) → OfWalk e → OfRemove e
 walk_remove e (inl is) = inl is
 walk_remove e (inr is) = inr (inr is)
 
-take_put : (e : PageFault) → (e ≡ NoRoom) ⊎ ((e ≡ Broken) ⊎ ((e ≡ Damaged) ⊎ (e ≡ Device))) → OfPut e
+take_put : (e : PageFault) → (e ≡ NoRoom)
+    ⊎ ((e ≡ Broken) ⊎ ((e ≡ Damaged) ⊎ (e ≡ Device))) → OfPut e
 take_put e (inl is) = inr (inr (inl is))
 take_put e (inr (inl is)) = inl is
 take_put e (inr (inr is)) = inr (inr (inr is))
@@ -49,7 +50,8 @@ no_memory e (inl is) memory = cc
 no_memory e (inr (inl is)) memory = cc
 no_memory e (inr (inr is)) memory = cc
 
-take_no_memory : (e : PageFault) → (e ≡ NoRoom) ⊎ ((e ≡ Broken) ⊎ ((e ≡ Damaged) ⊎ (e ≡ Device))) → e ≡ Memory → ⊥
+take_no_memory : (e : PageFault) → (e ≡ NoRoom) ⊎ ((e ≡ Broken) ⊎ ((e ≡ Damaged) ⊎ (e ≡ Device)))
+    → e ≡ Memory → ⊥
 take_no_memory e (inl is) memory = cc
 take_no_memory e (inr (inl is)) memory = cc
 take_no_memory e (inr (inr (inl is))) memory = cc
@@ -69,68 +71,88 @@ module _ {T : Type 0} (state : StoreState) (e : PageFault) where
   pub walk_has_room : IsWalkAnswer {T = T} state (Err e) → IsErrOf {T = T} (Err e) NoRoom → ⊥
   walk_has_room answer is = has_room e (walk_remove e answer.only) (the_fault e NoRoom is)
 
-  pub give_has_room : (reserved n : ℕ) (space : FreeState) → IsGiveAnswer {T = T} reserved state space n (Err e) → IsErrOf {T = T} (Err e) NoRoom → ⊥
-  give_has_room reserved n space answer is = has_room e (give_remove e answer.only) (the_fault e NoRoom is)
+  pub give_has_room : (reserved n : ℕ) (space : FreeState)
+      → IsGiveAnswer {T = T} reserved state space n (Err e) → IsErrOf {T = T} (Err e) NoRoom → ⊥
+  give_has_room reserved n space answer is =
+      has_room e (give_remove e answer.only) (the_fault e NoRoom is)
 
-is_fault : {T : Type 0} (result : Result T PageFault) (e : PageFault) → result ≡ Err e → (fault : PageFault) → IsErrOf result fault → e ≡ fault
+is_fault : {T : Type 0} (result : Result T PageFault) (e : PageFault) → result ≡ Err e
+    → (fault : PageFault) → IsErrOf result fault → e ≡ fault
 is_fault result e exit fault is = let both = sym exit ∙ is in cc
 
 -- the exit of a `?`, in a state that is usable where the one at the start was
-module _ {T U : Type 0} (old mid : StoreState) (same : mid.usable ≡ old.usable) (result : Result T PageFault) (e : PageFault) (exit : result ≡ Err e) where
-  is_broken : (IsErrOf {T = U} (Err e) Broken → mid.usable ≡ false) → IsErrOf result Broken → old.usable ≡ false
+module _ {T U : Type 0} (old mid : StoreState) (same : mid.usable ≡ old.usable)
+    (result : Result T PageFault) (e : PageFault) (exit : result ≡ Err e) where
+  is_broken : (IsErrOf {T = U} (Err e) Broken → mid.usable ≡ false) → IsErrOf result Broken
+      → old.usable ≡ false
   is_broken broken is = sym same ∙ broken (came {U = U} result e exit Broken is)
 
   pub walk_walks : IsWalkAnswer {T = U} mid (Err e) → IsWalkAnswer old result
-  walk_walks answer = record { broken = is_broken answer.broken; only = if_exit OfWalk result e exit answer.only }
+  walk_walks answer = record {
+    broken = is_broken answer.broken;
+    only =
+        if_exit OfWalk result e exit answer.only;
+  }
 
   -- of a put
-  pub walk_puts : (reserved : ℕ) (space : FreeState) → IsWalkAnswer {T = U} mid (Err e) → IsPutAnswer reserved old space result
+  pub walk_puts : (reserved : ℕ) (space : FreeState) → IsWalkAnswer {T = U} mid (Err e)
+      → IsPutAnswer reserved old space result
   walk_puts reserved space answer = record {
     broken = is_broken answer.broken;
     memory = λ is. absurd (no_memory e answer.only (is_fault result e exit Memory is));
-    no_room = λ is. absurd (has_room e (walk_remove e answer.only) (is_fault result e exit NoRoom is));
+    no_room = λ is. absurd (has_room e (walk_remove e answer.only)
+        (is_fault result e exit NoRoom is));
     only = if_exit OfPut result e exit (remove_put e (walk_remove e answer.only));
   }
 
-  pub take_puts : (reserved : ℕ) (space : FreeState) → mid.capacity ≡ old.capacity → IsTakeAnswer {T = U} mid space (Err e) → IsPutAnswer reserved old space result
+  pub take_puts : (reserved : ℕ) (space : FreeState) → mid.capacity ≡ old.capacity
+      → IsTakeAnswer {T = U} mid space (Err e) → IsPutAnswer reserved old space result
   take_puts reserved space capacity answer = record {
     broken = is_broken answer.broken;
     memory = λ is. absurd (take_no_memory e answer.only (is_fault result e exit Memory is));
-    no_room = λ is. let full = answer.no_room.0 (came {U = U} result e exit NoRoom is) in (full.0, omega (arith, full.3, capacity));
+    no_room = λ is. let full = answer.no_room.0 (came {U = U} result e exit NoRoom is) in
+        (full.0, omega (arith, full.3, capacity));
     only = if_exit OfPut result e exit (take_put e answer.only);
   }
 
-  pub stage_puts : (reserved n : ℕ) (space : FreeState) → length mid.staged ≤ length old.staged + 1 → IsStageAnswer {T = U} reserved mid n (Err e) → IsPutAnswer reserved old space result
+  pub stage_puts : (reserved n : ℕ) (space : FreeState) → length mid.staged ≤ length old.staged + 1
+      → IsStageAnswer {T = U} reserved mid n (Err e) → IsPutAnswer reserved old space result
   stage_puts reserved n space few answer = record {
     broken = is_broken answer.broken.0;
     memory = λ is. omega (arith, few, (answer.memory (came {U = U} result e exit Memory is)).1);
-    no_room = λ is. absurd (has_room e (stage_remove e answer.only) (is_fault result e exit NoRoom is));
+    no_room = λ is. absurd (has_room e (stage_remove e answer.only)
+        (is_fault result e exit NoRoom is));
     only = if_exit OfPut result e exit (remove_put e (stage_remove e answer.only));
   }
 
   -- of a remove
-  pub walk_removes : (reserved : ℕ) → IsWalkAnswer {T = U} mid (Err e) → IsRemoveAnswer reserved old result
+  pub walk_removes : (reserved : ℕ) → IsWalkAnswer {T = U} mid (Err e)
+      → IsRemoveAnswer reserved old result
   walk_removes reserved answer = record {
     broken = is_broken answer.broken;
     memory = λ is. absurd (no_memory e answer.only (is_fault result e exit Memory is));
     only = if_exit OfRemove result e exit (walk_remove e answer.only);
   }
 
-  pub relink_removes : (reserved : ℕ) → length mid.staged ≤ length old.staged → IsRemoveAnswer {T = U} reserved mid (Err e) → IsRemoveAnswer reserved old result
+  pub relink_removes : (reserved : ℕ) → length mid.staged ≤ length old.staged
+      → IsRemoveAnswer {T = U} reserved mid (Err e) → IsRemoveAnswer reserved old result
   relink_removes reserved few answer = record {
     broken = is_broken answer.broken;
     memory = λ is. omega (arith, few, answer.memory (came {U = U} result e exit Memory is));
     only = if_exit OfRemove result e exit answer.only;
   }
 
-  pub give_removes : (reserved n : ℕ) (space : FreeState) → length mid.staged ≤ length old.staged + 1 → IsGiveAnswer {T = U} reserved mid space n (Err e) → IsRemoveAnswer reserved old result
+  pub give_removes : (reserved n : ℕ) (space : FreeState)
+      → length mid.staged ≤ length old.staged + 1
+      → IsGiveAnswer {T = U} reserved mid space n (Err e) → IsRemoveAnswer reserved old result
   give_removes reserved n space few answer = record {
     broken = is_broken answer.broken;
     memory = λ is. omega (arith, few, (answer.memory (came {U = U} result e exit Memory is)).1);
     only = if_exit OfRemove result e exit (give_remove e answer.only);
   }
 
-  pub stage_removes : (reserved n : ℕ) → length mid.staged ≤ length old.staged + 1 → IsStageAnswer {T = U} reserved mid n (Err e) → IsRemoveAnswer reserved old result
+  pub stage_removes : (reserved n : ℕ) → length mid.staged ≤ length old.staged + 1
+      → IsStageAnswer {T = U} reserved mid n (Err e) → IsRemoveAnswer reserved old result
   stage_removes reserved n few answer = record {
     broken = is_broken answer.broken.0;
     memory = λ is. omega (arith, few, (answer.memory (came {U = U} result e exit Memory is)).1);
@@ -139,19 +161,37 @@ module _ {T U : Type 0} (old mid : StoreState) (same : mid.usable ≡ old.usable
 
   -- of a chain stored anew
   pub walk_stores : IsWalkAnswer {T = U} mid (Err e) → IsStoreAnswer old result
-  walk_stores answer = record { broken = is_broken answer.broken; only = if_exit OfPut result e exit (remove_put e (walk_remove e answer.only)) }
+  walk_stores answer = record {
+    broken = is_broken answer.broken;
+    only =
+        if_exit OfPut result e exit (remove_put e (walk_remove e answer.only));
+  }
 
-  pub give_stores : (reserved n : ℕ) (space : FreeState) → IsGiveAnswer {T = U} reserved mid space n (Err e) → IsStoreAnswer old result
-  give_stores reserved n space answer = record { broken = is_broken answer.broken; only = if_exit OfPut result e exit (remove_put e (give_remove e answer.only)) }
+  pub give_stores : (reserved n : ℕ) (space : FreeState)
+      → IsGiveAnswer {T = U} reserved mid space n (Err e) → IsStoreAnswer old result
+  give_stores reserved n space answer =
+      record {
+        broken = is_broken answer.broken;
+        only =
+            if_exit OfPut result e exit (remove_put e (give_remove e answer.only));
+      }
 
-  pub put_stores : (reserved : ℕ) (space : FreeState) → IsPutAnswer {T = U} reserved mid space (Err e) → IsStoreAnswer old result
-  put_stores reserved space answer = record { broken = is_broken answer.broken; only = if_exit OfPut result e exit answer.only }
+  pub put_stores : (reserved : ℕ) (space : FreeState)
+      → IsPutAnswer {T = U} reserved mid space (Err e) → IsStoreAnswer old result
+  put_stores reserved space answer =
+      record { broken = is_broken answer.broken; only = if_exit OfPut result e exit answer.only }
 
   pub store_stores : IsStoreAnswer {T = U} mid (Err e) → IsStoreAnswer old result
-  store_stores answer = record { broken = is_broken answer.broken; only = if_exit OfPut result e exit answer.only }
+  store_stores answer = record {
+    broken = is_broken answer.broken;
+    only =
+        if_exit OfPut result e exit answer.only;
+  }
 
 -- of the device's faults, where a page was to be given
-pub cause_give : {T U : Type 0} (result : Result T PageFault) (e : PageFault) → result ≡ Err e → (before mid now : ℕ) → before ≤ mid → now ≡ mid → (reserved n : ℕ) (state : StoreState) (space : FreeState)
+pub cause_give : {T U : Type 0} (result : Result T PageFault) (e : PageFault) → result ≡ Err e
+    → (before mid now : ℕ) → before ≤ mid → now ≡ mid
+    → (reserved n : ℕ) (state : StoreState) (space : FreeState)
     → IsGiveAnswer {T = U} reserved state space n (Err e) → HasDeviceCause before now result
 cause_give {T} {U} result e exit before mid now le same reserved n state space answer = record {
   later = omega (arith, le, same);
@@ -165,9 +205,13 @@ cause_give {T} {U} result e exit before mid now le same reserved n state space a
 
 -- the answer of the last stage is the answer
 module _ {T : Type 0} (reserved n : ℕ) (old mid : StoreState) (same : mid.usable ≡ old.usable) where
-  pub stage_puts_last : (space : FreeState) (result : Result T PageFault) → length mid.staged ≤ length old.staged + 1 → IsStageAnswer reserved mid n result → IsPutAnswer reserved old space result
-  stage_puts_last space (Ok x) few answer = record { broken = λ is. cc; memory = λ is. cc; no_room = λ is. cc; only = tt }
-  stage_puts_last space (Err e) few answer = stage_puts {U = T} old mid same (Err e) e (λ i. Err e) reserved n space few answer
+  pub stage_puts_last : (space : FreeState) (result : Result T PageFault)
+      → length mid.staged ≤ length old.staged + 1 → IsStageAnswer reserved mid n result
+      → IsPutAnswer reserved old space result
+  stage_puts_last space (Ok x) few answer =
+      record { broken = λ is. cc; memory = λ is. cc; no_room = λ is. cc; only = tt }
+  stage_puts_last space (Err e) few answer =
+      stage_puts {U = T} old mid same (Err e) e (λ i. Err e) reserved n space few answer
 
   pub stage_removes_last : (result : Result T PageFault) → length mid.staged ≤ length old.staged + 1
       → IsStageAnswer reserved mid n result → IsRemoveAnswer reserved old result
@@ -175,13 +219,21 @@ module _ {T : Type 0} (reserved n : ℕ) (old mid : StoreState) (same : mid.usab
   stage_removes_last (Err e) few answer = stage_removes {U = T} old mid same (Err e) e (λ i. Err e)
       reserved n few answer
 
-  pub stage_stores_last : (result : Result T PageFault) → IsStageAnswer reserved mid n result → IsStoreAnswer old result
+  pub stage_stores_last : (result : Result T PageFault) → IsStageAnswer reserved mid n result
+      → IsStoreAnswer old result
   stage_stores_last (Ok x) answer = record { broken = λ is. cc; only = tt }
-  stage_stores_last (Err e) answer = record { broken = λ is. sym same ∙ answer.broken.0 is; only = remove_put e (stage_remove e answer.only) }
+  stage_stores_last (Err e) answer =
+      record {
+        broken = λ is. sym same ∙ answer.broken.0 is;
+        only =
+            remove_put e (stage_remove e answer.only);
+      }
 
 -- and so is that of the last call
-pub stores_last : {T : Type 0} (old mid : StoreState) (result : Result T PageFault) → mid.usable ≡ old.usable → IsStoreAnswer mid result → IsStoreAnswer old result
-stores_last old mid result same answer = record { broken = λ is. sym same ∙ answer.broken is; only = answer.only }
+pub stores_last : {T : Type 0} (old mid : StoreState) (result : Result T PageFault)
+    → mid.usable ≡ old.usable → IsStoreAnswer mid result → IsStoreAnswer old result
+stores_last old mid result same answer =
+    record { broken = λ is. sym same ∙ answer.broken is; only = answer.only }
 
 -- all calls went well
 pub no_walk_refusal : {T : Type 0} (old : StoreState) (x : T) → IsWalkAnswer {T = T} old (Ok x)
@@ -193,7 +245,8 @@ no_store_refusal old x = record { broken = λ is. cc; only = tt }
 pub no_fault : {T : Type 0} (x : T) (fault : PageFault) → IsErrOf {T = T} (Ok x) fault → ⊥
 no_fault x fault is = cc
 
-pub no_remove_refusal : {T : Type 0} (reserved : ℕ) (old : StoreState) (x : T) → IsRemoveAnswer {T = T} reserved old (Ok x)
+pub no_remove_refusal : {T : Type 0} (reserved : ℕ) (old : StoreState) (x : T)
+    → IsRemoveAnswer {T = T} reserved old (Ok x)
 no_remove_refusal reserved old x = record { broken = λ is. cc; memory = λ is. cc; only = tt }
 
 -- the walk was longer than it may be
@@ -211,14 +264,17 @@ pub long_walk_has_room : {T : Type 0} → IsErrOf {T = T} (Err Damaged) NoRoom �
 long_walk_has_room is = cc
 
 -- how many pages are staged, after a read and after one call more
-pub few_same : (old new : StoreState) (more : ℕ) → new ≡ old → length new.staged ≤ length old.staged + more
+pub few_same : (old new : StoreState) (more : ℕ) → new ≡ old
+    → length new.staged ≤ length old.staged + more
 few_same old new more same = omega (arith, ap (λ (s : StoreState). length s.staged) same)
 
 pub staged_same : (old new : StoreState) → new ≡ old → length new.staged ≤ length old.staged
 staged_same old new same = omega (arith, ap (λ (s : StoreState). length s.staged) same)
 
-pub few_then : (old mid : StoreState) (new more : ℕ) → mid ≡ old → new ≤ length mid.staged + more → new ≤ length old.staged + more
-few_then old mid new more same few = omega (arith, few, ap (λ (s : StoreState). length s.staged) same)
+pub few_then : (old mid : StoreState) (new more : ℕ) → mid ≡ old → new ≤ length mid.staged + more
+    → new ≤ length old.staged + more
+few_then old mid new more same few =
+    omega (arith, few, ap (λ (s : StoreState). length s.staged) same)
 
 pub few_both : (old mid new : ℕ) → mid ≤ old + 1 → new ≤ mid + 1 → new ≤ old + 2
 few_both old mid new one two = omega (arith, one, two)

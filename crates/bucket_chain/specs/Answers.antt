@@ -6,19 +6,24 @@ use Rattle.page_io.specs.declared.store.PageFault.TheVariants.{Memory, Device, B
 use Rattle.free_pages.specs.declared.free_state.FreeState.{FreeState}
 
 -- of a call that stages at most two pages; `reserved` pages can be staged with no memory taken
-pub record IsPutAnswer {T : Type 0} (reserved : ℕ) (state : StoreState) (space : FreeState) (result : Result T PageFault) : Type 0 where
+pub record IsPutAnswer {T : Type 0} (reserved : ℕ) (state : StoreState) (space : FreeState)
+    (result : Result T PageFault) : Type 0 where
   pub broken : IsErrOf result Broken → state.usable ≡ false
   pub memory : IsErrOf result Memory → reserved ≤ length state.staged + 1
   pub no_room : IsErrOf result NoRoom → (space.head ≡ 0) × (state.capacity ≤ space.file_end)
-  pub only : IfErr result (λ e. (e ≡ Broken) ⊎ ((e ≡ Memory) ⊎ ((e ≡ NoRoom) ⊎ ((e ≡ Damaged) ⊎ (e ≡ Device)))))
+  pub only : IfErr result (λ e.
+      (e ≡ Broken) ⊎ ((e ≡ Memory) ⊎ ((e ≡ NoRoom) ⊎ ((e ≡ Damaged) ⊎ (e ≡ Device)))))
 
 -- of one that takes no page
-pub record IsRemoveAnswer {T : Type 0} (reserved : ℕ) (state : StoreState) (result : Result T PageFault) : Type 0 where
+pub record IsRemoveAnswer {T : Type 0} (reserved : ℕ) (state : StoreState)
+    (result : Result T PageFault) : Type 0 where
   pub broken : IsErrOf result Broken → state.usable ≡ false
   pub memory : IsErrOf result Memory → reserved ≤ length state.staged + 1
   pub only : IfErr result (λ e. (e ≡ Broken) ⊎ ((e ≡ Memory) ⊎ ((e ≡ Damaged) ⊎ (e ≡ Device))))
 
 -- of one that stages as many as it must
-pub record IsStoreAnswer {T : Type 0} (state : StoreState) (result : Result T PageFault) : Type 0 where
+pub record IsStoreAnswer {T : Type 0} (state : StoreState)
+    (result : Result T PageFault) : Type 0 where
   pub broken : IsErrOf result Broken → state.usable ≡ false
-  pub only : IfErr result (λ e. (e ≡ Broken) ⊎ ((e ≡ Memory) ⊎ ((e ≡ NoRoom) ⊎ ((e ≡ Damaged) ⊎ (e ≡ Device)))))
+  pub only : IfErr result (λ e.
+      (e ≡ Broken) ⊎ ((e ≡ Memory) ⊎ ((e ≡ NoRoom) ⊎ ((e ≡ Damaged) ⊎ (e ≡ Device)))))

@@ -13,7 +13,8 @@ pub record IsFree (body : Body) : Type 0 where
   pub next : ℕ
   pub free : body ≡ FreePage next
 
--- The overflow pages from page `first` up to page n, which follows them, were read and given; no other page was changed.
+-- The overflow pages from page `first` up to page n, which follows them, were read and given; no
+-- other page was changed.
 pub record AreGiven (old new : ℕ → Body) (before after : FreeState) (first n : ℕ) : Type 0 where
   pub pages : Chain
   pub linked : AreLinked old pages n
@@ -21,4 +22,5 @@ pub record AreGiven (old new : ℕ → Body) (before after : FreeState) (first n
   pub numbered : AllByRecursion (λ leaf. 1 ≤ leaf.number) pages
   pub given : (m : ℕ) → 1 ≤ times_of m (numbers pages) → IsFree (new m)
   pub others : (m : ℕ) → times_of m (numbers pages) ≡ 0 → new m ≡ old m
-  pub list : (s : Space) → IsFreeList old before s → IsApart (numbers pages) s → IsFreeList new after (give (numbers pages) s)
+  pub list : (s : Space) → IsFreeList old before s → IsApart (numbers pages) s
+      → IsFreeList new after (give (numbers pages) s)

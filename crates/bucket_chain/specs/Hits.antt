@@ -30,13 +30,15 @@ abbrev pub IsPrior : Chain → ℕ → ℕ → Type 0
 IsPrior before n kind = ((before ≡ []) × (n ≡ 0)) ⊎ IsLast before n kind
 
 -- a walk that met no page 0
-pub record IsNumberedWalk (at : ℕ → Body) (head : ℕ) (Passed : Leaf → Type 0) (Last : Leaf → ℕ → Type 0) : Type 0 where
+pub record IsNumberedWalk (at : ℕ → Body) (head : ℕ) (Passed : Leaf → Type 0)
+    (Last : Leaf → ℕ → Type 0) : Type 0 where
   pub walk : IsWalk at head Passed Last
   pub numbered : AllByRecursion (λ leaf. 1 ≤ leaf.number) (walk.before ++ walk.leaf ∷ [])
 
 -- the key's pair stands there in the page, and the next page is the one that it names
 abbrev pub IsHitAt : Key → List ℕ → Hit → Leaf → ℕ → Type 0
-IsHitAt key bytes hit leaf after = IsPairAt key bytes (place hit.page hit.slot) leaf after × (hit.next ≡ after)
+IsHitAt key bytes hit leaf after =
+    IsPairAt key bytes (place hit.page hit.slot) leaf after × (hit.next ≡ after)
 
 -- the walk ended at the page with the key
 pub record IsHit (at : ℕ → Body) (head : ℕ) (key : Key) (bytes : List ℕ) (hit : Hit) : Type 0 where

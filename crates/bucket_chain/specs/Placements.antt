@@ -1,4 +1,5 @@
--- What the calls mean for a placement: each bucket's chain, with the free list beside it, is one of its parts.
+-- What the calls mean for a placement: each bucket's chain, with the free list beside it, is one of
+-- its parts.
 use Rattle.std.specs.Prelude.{◌≡◌, ℕ, ◌<◌, length}
 use Rattle.dbm_model.specs.Pairs.{Key, Pair}
 use Rattle.page_model.specs.Pages.{Body}
@@ -20,12 +21,20 @@ placed_for p key = (chain_at p (key_bucket p.shape key), p.space)
 
 -- where the pages say a sound placement, the chain of each bucket is placed
 abbrev pub ChainsArePlaced : Type 0
-ChainsArePlaced = (at : ℕ → Body) (state : FreeState) (p : Placement) (bucket : ℕ) → IsSound p → IsBelow at state p → bucket < length p.chains → IsPlaced at state (first_of (numbers (chain_at p bucket))) (chain_at p bucket) p.space
+ChainsArePlaced = (at : ℕ → Body) (state : FreeState) (p : Placement) (bucket : ℕ) → IsSound p
+    → IsBelow at state p → bucket < length p.chains
+    → IsPlaced at state (first_of (numbers (chain_at p bucket))) (chain_at p bucket) p.space
 
 -- a pair that is put into the chain of its bucket is put into the placement
 abbrev pub PutsArePlacements : Type 0
-PutsArePlacements = (at at' : ℕ → Body) (state state' : FreeState) (p : Placement) (pair : Pair) → IsSound p → IsSound (put p pair) → IsBelow at state p → BecomesPlaced at at' state' (put_in (placed_for p pair.0) pair) → IsBelow at' state' (put p pair)
+PutsArePlacements = (at at' : ℕ → Body) (state state' : FreeState) (p : Placement) (pair : Pair)
+    → IsSound p → IsSound (put p pair) → IsBelow at state p
+    → BecomesPlaced at at' state' (put_in (placed_for p pair.0) pair)
+    → IsBelow at' state' (put p pair)
 
 -- a key that is removed from the chain of its bucket is deleted from the placement
 abbrev pub RemovalsArePlacements : Type 0
-RemovalsArePlacements = (at at' : ℕ → Body) (state state' : FreeState) (p : Placement) (key : Key) → IsSound p → IsBelow at state p → BecomesPlaced at at' state' (remove_from (placed_for p key) key) → IsBelow at' state' (delete p key)
+RemovalsArePlacements = (at at' : ℕ → Body) (state state' : FreeState) (p : Placement) (key : Key)
+    → IsSound p → IsBelow at state p
+    → BecomesPlaced at at' state' (remove_from (placed_for p key) key)
+    → IsBelow at' state' (delete p key)

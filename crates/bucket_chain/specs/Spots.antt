@@ -23,7 +23,8 @@ pub record IsSpotPage (pair : Pair) (bytes : List ℕ) (spot : Spot) : Type 0 wh
   pub room : spot.has_room ≡ true → length pair.0 + length pair.1 + 6 ≤ room_of (page_pairs bytes)
 
 -- the pages up to the spot were read, and it is the first that the pair fits, else the last
-pub record IsSpot (at : ℕ → Body) (head : ℕ) (pair : Pair) (bytes : List ℕ) (spot : Spot) : Type 0 where
+pub record IsSpot (at : ℕ → Body) (head : ℕ) (pair : Pair) (bytes : List ℕ)
+    (spot : Spot) : Type 0 where
   pub before : Chain
   pub next : ℕ
   pub begins : BeginsAt at head (before ++ leaf_on spot bytes ∷ []) next

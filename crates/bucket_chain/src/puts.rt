@@ -30,8 +30,8 @@ pub struct Spot {
     has_room: bool,
 }
 
-/// The first page of the chain with room for the pair, else its last page, read into `page`. At most `most` pages are
-/// read.
+/// The first page of the chain with room for the pair, else its last page, read into `page`. At
+/// most `most` pages are read.
 fn find_spot<S: PageStore>(
     store: &mut S,
     head: u32,
@@ -45,8 +45,11 @@ fn find_spot<S: PageStore>(
     ensures answer { IsWalkAnswer (S.state store.old) result }
     ensures known { IfOk result (λ spot. (1 ≤ spot.page) × IsKnown (S.state store.old) spot.page) }
     ensures page { IfOk result (λ spot. IsSpotPage (key.now, content.now) page.new.bytes spot) }
-    ensures found { S.honest store.old → IfOk result (λ spot. IsSpot (body_at S.PageStore store.old) head (key.now, content.now) page.new.bytes spot) }
-    ensures whole { S.honest store.old → (chain : Chain) → IsChainAt (body_at S.PageStore store.old) most head chain → IsErrOf result Damaged → ⊥ }
+    ensures found { S.honest store.old
+        → IfOk result (λ spot. IsSpot (body_at S.PageStore store.old) head (key.now, content.now)
+        page.new.bytes spot) }
+    ensures whole { S.honest store.old → (chain : Chain)
+        → IsChainAt (body_at S.PageStore store.old) most head chain → IsErrOf result Damaged → ⊥ }
 {
     let mut at = head;
     let mut kind = HEAD;
@@ -62,10 +65,11 @@ fn find_spot<S: PageStore>(
     Err(PageFault::Damaged)
 }
 
-/// Adds a pair to the chain from page `head` on: to the first page that it fits, as the last slot, else to a page that is
-/// taken and becomes the last. The key must not be in the chain already. At most two pages are staged: the one that gets
-/// the pair, and where a page was taken the old last one. After an `Err` the caller has to unstage and to go back to its
-/// old `FreeState`. Damaged is answered as by `lookup`.
+/// Adds a pair to the chain from page `head` on: to the first page that it fits, as the last slot,
+/// else to a page that is taken and becomes the last. The key must not be in the chain already. At
+/// most two pages are staged: the one that gets the pair, and where a page was taken the old last
+/// one. After an `Err` the caller has to unstage and to go back to its old `FreeState`. Damaged is
+/// answered as by `lookup`.
 pub fn put<S: PageStore>(
     store: &mut S,
     space: &mut FreeState,
@@ -78,16 +82,25 @@ pub fn put<S: PageStore>(
     ensures few { length (S.state store.new).staged ≤ length (S.state store.old).staged + 2 }
     ensures cause { HasDeviceCause (S.faults store.old) (S.faults store.new) result }
     ensures answer { IsPutAnswer S.reserved (S.state store.old) space.old result }
-    ensures walked { S.honest store.old → OnOk result (IsRoomWalk (body_at S.PageStore store.old) head (key.now, content.now)) }
+    ensures walked { S.honest store.old
+        → OnOk result (IsRoomWalk (body_at S.PageStore store.old) head (key.now, content.now)) }
     ensures ends { HasEnds space.old → HasEnds space.new }
-    ensures may_end { MayEnd (S.state store.old) space.old.file_end → OnOk result (MayEnd (S.state store.new) space.new.file_end) }
+    ensures may_end { MayEnd (S.state store.old) space.old.file_end
+        → OnOk result (MayEnd (S.state store.new) space.new.file_end) }
 
-    // On any file the pair is added to the first page that it fits, else to a page of its own behind the last.
-    ensures added { S.honest store.old → OnOk result (IsAdded (body_at S.PageStore store.old) (body_at S.PageStore store.new) (MayEnd (S.state store.old) space.old.file_end) space.old space.new head (key.now, content.now)) }
+    // On any file the pair is added to the first page that it fits, else to a page of its own
+    // behind the last.
+    ensures added { S.honest store.old
+        → OnOk result (IsAdded (body_at S.PageStore store.old) (body_at S.PageStore store.new)
+        (MayEnd (S.state store.old) space.old.file_end) space.old space.new head
+        (key.now, content.now)) }
 
     // On a chain and a free list that are read as such it leaves the model's, and is never Damaged.
     ensures exact { ForEachPlaced S.PageStore store.old space.old head (λ chain s.
-        times key.now (pairs_in chain) ≡ 0 → OnOk result (BecomesPlaced (body_at S.PageStore store.old) (body_at S.PageStore store.new) space.new (put_in (chain, s) (key.now, content.now)))) }
+        times key.now (pairs_in chain) ≡ 0
+        → OnOk result (BecomesPlaced (body_at S.PageStore store.old)
+        (body_at S.PageStore store.new) space.new
+        (put_in (chain, s) (key.now, content.now)))) }
     ensures whole { ForEachPlaced S.PageStore store.old space.old head (λ chain s.
         times key.now (pairs_in chain) ≡ 0 → IsErrOf result Damaged → ⊥) }
 

@@ -44,10 +44,15 @@ fn find_hit<S: PageStore>(
     ensures reads { ReadsOnly S.PageStore store.old store.new }
     ensures cause { HasDeviceCause (S.faults store.old) (S.faults store.new) result }
     ensures answer { IsWalkAnswer (S.state store.old) result }
-    ensures held { IfOk result (λ found. IfSome found (IsHeldHit (S.state store.old) key.now page.new.bytes)) }
-    ensures walked { S.honest store.old → IfOk result (IsHitOrNone (body_at S.PageStore store.old) head key.now page.new.bytes) }
-    ensures has { S.honest store.old → IfOk result (λ found. IsSome found → IsKeyWalk (body_at S.PageStore store.old) head key.now true) }
-    ensures whole { S.honest store.old → (chain : Chain) → IsChainAt (body_at S.PageStore store.old) most head chain → IsErrOf result Damaged → ⊥ }
+    ensures held { IfOk result (λ found.
+        IfSome found (IsHeldHit (S.state store.old) key.now page.new.bytes)) }
+    ensures walked { S.honest store.old
+        → IfOk result (IsHitOrNone (body_at S.PageStore store.old) head key.now page.new.bytes) }
+    ensures has { S.honest store.old
+        → IfOk result (λ found. IsSome found
+        → IsKeyWalk (body_at S.PageStore store.old) head key.now true) }
+    ensures whole { S.honest store.old → (chain : Chain)
+        → IsChainAt (body_at S.PageStore store.old) most head chain → IsErrOf result Damaged → ⊥ }
 {
     let mut prior = 0;
     let mut prior_kind = HEAD;
@@ -88,22 +93,30 @@ fn relink<S: PageStore>(
     ensures few { length (S.state store.new).staged ≤ length (S.state store.old).staged + 1 }
     ensures cause { HasDeviceCause (S.faults store.old) (S.faults store.new) result }
     ensures answer { IsRemoveAnswer S.reserved (S.state store.old) result }
-    ensures may_end { (end : ℕ) → MayEnd (S.state store.old) end → OnOk result (MayEnd (S.state store.new) end) }
-    ensures says { S.honest store.old → (old_next : ℕ) (pairs : List Pair) → SaysLink (body_at S.PageStore store.old) n kind old_next pairs →
+    ensures may_end { (end : ℕ) → MayEnd (S.state store.old) end
+        → OnOk result (MayEnd (S.state store.new) end) }
+    ensures says { S.honest store.old → (old_next : ℕ) (pairs : List Pair)
+        → SaysLink (body_at S.PageStore store.old) n kind old_next pairs →
         OnOk result (SaysLink (body_at S.PageStore store.new) n kind next pairs) }
-    ensures relinked { S.honest store.old → OnOk result (IsRelinked (body_at S.PageStore store.old) (body_at S.PageStore store.new) n kind next) }
-    ensures others { S.honest store.old → (m : ℕ) → (m ≡ n → ⊥) → body_at S.PageStore store.new m ≡ body_at S.PageStore store.old m }
-    ensures whole { S.honest store.old → (old_next : ℕ) (pairs : List Pair) → 1 ≤ n → SaysLink (body_at S.PageStore store.old) n kind old_next pairs → IsErrOf result Damaged → ⊥ }
+    ensures relinked { S.honest store.old
+        → OnOk result (IsRelinked (body_at S.PageStore store.old)
+        (body_at S.PageStore store.new) n kind next) }
+    ensures others { S.honest store.old → (m : ℕ) → (m ≡ n → ⊥)
+        → body_at S.PageStore store.new m ≡ body_at S.PageStore store.old m }
+    ensures whole { S.honest store.old → (old_next : ℕ) (pairs : List Pair) → 1 ≤ n
+        → SaysLink (body_at S.PageStore store.old) n kind old_next pairs
+        → IsErrOf result Damaged → ⊥ }
 {
     read_link(store, n, kind, page)?;
     set_next(page, next);
     stage_page(store, page)
 }
 
-/// Takes a key out of the chain from page `head` on, and answers whether it was there. An overflow page that becomes empty
-/// leaves the chain and is given to the free list. At most two pages are staged: the page, or where it becomes empty the
-/// one before it and the page given. After an `Err` the caller has to unstage; the `FreeState` is the old one. Damaged is
-/// answered as by `lookup`, and where a page is to be given while as many are free as the file has.
+/// Takes a key out of the chain from page `head` on, and answers whether it was there. An overflow
+/// page that becomes empty leaves the chain and is given to the free list. At most two pages are
+/// staged: the page, or where it becomes empty the one before it and the page given. After an `Err`
+/// the caller has to unstage; the `FreeState` is the old one. Damaged is answered as by `lookup`,
+/// and where a page is to be given while as many are free as the file has.
 pub fn remove<S: PageStore>(
     store: &mut S,
     space: &mut FreeState,
@@ -114,19 +127,27 @@ pub fn remove<S: PageStore>(
     ensures few { length (S.state store.new).staged ≤ length (S.state store.old).staged + 2 }
     ensures cause { HasDeviceCause (S.faults store.old) (S.faults store.new) result }
     ensures answer { IsRemoveAnswer S.reserved (S.state store.old) result }
-    ensures walked { S.honest store.old → IfOk result (λ was. IsKeyWalk (body_at S.PageStore store.old) head key.now was) }
-    ensures absent { IfOk result (λ was. was ≡ false → (S.state store.new ≡ S.state store.old) × (space.new ≡ space.old)) }
+    ensures walked { S.honest store.old
+        → IfOk result (λ was. IsKeyWalk (body_at S.PageStore store.old) head key.now was) }
+    ensures absent { IfOk result (λ was.
+        was ≡ false → (S.state store.new ≡ S.state store.old) × (space.new ≡ space.old)) }
     ensures err { OnErr result (space.new ≡ space.old) }
     ensures end { space.new.file_end ≡ space.old.file_end }
     ensures ends { HasEnds space.old → HasEnds space.new }
-    ensures may_end { MayEnd (S.state store.old) space.old.file_end → OnOk result (MayEnd (S.state store.new) space.new.file_end) }
+    ensures may_end { MayEnd (S.state store.old) space.old.file_end
+        → OnOk result (MayEnd (S.state store.new) space.new.file_end) }
 
     // On any file the key's pair is taken out of its page, or that page out of the chain.
-    ensures taken_out { S.honest store.old → IfOk result (λ was. was ≡ true → IsTakenOut (body_at S.PageStore store.old) (body_at S.PageStore store.new) space.old space.new head key.now) }
+    ensures taken_out { S.honest store.old
+        → IfOk result (λ was. was ≡ true
+        → IsTakenOut (body_at S.PageStore store.old) (body_at S.PageStore store.new) space.old
+        space.new head key.now) }
 
     // On a chain and a free list that are read as such it leaves the model's, and is never Damaged.
     ensures exact { ForEachPlaced S.PageStore store.old space.old head (λ chain s.
-        times key.now (pairs_in chain) ≤ 1 → IfOk result (λ was. IsRemoved (body_at S.PageStore store.old) (body_at S.PageStore store.new) space.new (chain, s) key.now was)) }
+        times key.now (pairs_in chain) ≤ 1
+        → IfOk result (λ was. IsRemoved (body_at S.PageStore store.old)
+        (body_at S.PageStore store.new) space.new (chain, s) key.now was)) }
     ensures whole { ForEachPlaced S.PageStore store.old space.old head (λ chain s.
         times key.now (pairs_in chain) ≤ 1 → IsErrOf result Damaged → ⊥) }
 {

@@ -15,12 +15,19 @@ pub fn stage_page<S: PageStore>(store: &mut S, page: &Page) -> Result<(), PageFa
     ensures stages { StagesOnly S.PageStore store.old store.new }
     ensures few { length (S.state store.new).staged ≤ length (S.state store.old).staged + 1 }
     ensures faults { S.faults store.new ≡ S.faults store.old }
-    ensures answer { IsStageAnswer S.reserved (S.state store.old) (own_number page.now.bytes) result }
-    ensures says { S.honest store.old → OnOk result (body_at S.PageStore store.new (own_number page.now.bytes) ≡ body_of (own_number page.now.bytes) page.now.bytes) }
-    ensures others { S.honest store.old → (n : ℕ) → (n ≡ own_number page.now.bytes → ⊥) → body_at S.PageStore store.new n ≡ body_at S.PageStore store.old n }
+    ensures answer { IsStageAnswer S.reserved (S.state store.old)
+        (own_number page.now.bytes) result }
+    ensures says { S.honest store.old
+        → OnOk result (body_at S.PageStore store.new (own_number page.now.bytes)
+        ≡ body_of (own_number page.now.bytes) page.now.bytes) }
+    ensures others { S.honest store.old → (n : ℕ) → (n ≡ own_number page.now.bytes → ⊥)
+        → body_at S.PageStore store.new n ≡ body_at S.PageStore store.old n }
     ensures known { (n : ℕ) → IsKnown (S.state store.old) n → IsKnown (S.state store.new) n }
-    ensures may_end { (end : ℕ) → own_number page.now.bytes < end → MayEnd (S.state store.old) end → MayEnd (S.state store.new) end }
-    ensures may_end_with { (end : ℕ) → MayEndWith (S.state store.old) (own_number page.now.bytes) end → OnOk result (MayEnd (S.state store.new) end) }
+    ensures may_end { (end : ℕ) → own_number page.now.bytes < end → MayEnd (S.state store.old) end
+        → MayEnd (S.state store.new) end }
+    ensures may_end_with { (end : ℕ)
+        → MayEndWith (S.state store.old) (own_number page.now.bytes) end
+        → OnOk result (MayEnd (S.state store.new) end) }
 {
     store.stage(page.own(), page)
 }

@@ -37,9 +37,14 @@ fn give_overflow<S: PageStore>(
     ensures room { IsErrOf result NoRoom → ⊥ }
     ensures ends { HasEnds space.old → HasEnds space.new }
     ensures end { space.new.file_end ≡ space.old.file_end }
-    ensures may_end { MayEnd (S.state store.old) space.old.file_end → MayEnd (S.state store.new) space.new.file_end }
-    ensures given { S.honest store.old → OnOk result (AreGiven (body_at S.PageStore store.old) (body_at S.PageStore store.new) space.old space.new first 0) }
-    ensures whole { S.honest store.old → (head : ℕ) (leaf : Leaf) (rest : Chain) (s : Space) → IsPlaced (body_at S.PageStore store.old) space.old head (leaf ∷ rest) s → first ≡ first_of (numbers rest) → IsErrOf result Damaged → ⊥ }
+    ensures may_end { MayEnd (S.state store.old) space.old.file_end
+        → MayEnd (S.state store.new) space.new.file_end }
+    ensures given { S.honest store.old
+        → OnOk result (AreGiven (body_at S.PageStore store.old) (body_at S.PageStore store.new)
+        space.old space.new first 0) }
+    ensures whole { S.honest store.old → (head : ℕ) (leaf : Leaf) (rest : Chain) (s : Space)
+        → IsPlaced (body_at S.PageStore store.old) space.old head (leaf ∷ rest) s
+        → first ≡ first_of (numbers rest) → IsErrOf result Damaged → ⊥ }
 {
     let mut page = Page::blank();
     let mut at = first;
@@ -60,11 +65,15 @@ fn clear<S: PageStore>(store: &mut S, space: &mut FreeState, head: u32) -> Resul
     ensures cause { HasDeviceCause (S.faults store.old) (S.faults store.new) result }
     ensures answer { IsStoreAnswer (S.state store.old) result }
     ensures room { IsErrOf result NoRoom → ⊥ }
-    ensures walked { S.honest store.old → OnOk result (IsReadToEnd (body_at S.PageStore store.old) head) }
-    ensures emptied { S.honest store.old → OnOk result (IsEmptied (body_at S.PageStore store.old) (body_at S.PageStore store.new) space.old space.new head) }
+    ensures walked { S.honest store.old
+        → OnOk result (IsReadToEnd (body_at S.PageStore store.old) head) }
+    ensures emptied { S.honest store.old
+        → OnOk result (IsEmptied (body_at S.PageStore store.old) (body_at S.PageStore store.new)
+        space.old space.new head) }
     ensures end { space.new.file_end ≡ space.old.file_end }
     ensures ends { HasEnds space.old → HasEnds space.new }
-    ensures may_end { MayEnd (S.state store.old) space.old.file_end → OnOk result (MayEnd (S.state store.new) space.new.file_end) }
+    ensures may_end { MayEnd (S.state store.old) space.old.file_end
+        → OnOk result (MayEnd (S.state store.new) space.new.file_end) }
     ensures exact { ForEachPlaced S.PageStore store.old space.old head (λ chain s.
         OnOk result (IsCleared (body_at S.PageStore store.old) (body_at S.PageStore store.new) space.new head (store_in (chain, s) []))) }
     ensures whole { ForEachPlaced S.PageStore store.old space.old head (λ chain s.
@@ -88,13 +97,23 @@ fn put_all<S: PageStore>(
     ensures cause { HasDeviceCause (S.faults store.old) (S.faults store.new) result }
     ensures answer { IsStoreAnswer (S.state store.old) result }
     ensures room { pairs.now ≡ [] → IsErrOf result NoRoom → ⊥ }
-    ensures no_room { S.honest store.old → IsErrOf result NoRoom → (S.state store.old).capacity < space.old.file_end + length pairs.now }
-    ensures added { S.honest store.old → OnOk result (AreAdded (body_at S.PageStore store.old) (body_at S.PageStore store.new) (MayEnd (S.state store.old) space.old.file_end) space.old space.new head (map pair_of pairs.now)) }
+    ensures no_room { S.honest store.old → IsErrOf result NoRoom
+        → (S.state store.old).capacity < space.old.file_end + length pairs.now }
+    ensures added { S.honest store.old
+        → OnOk result (AreAdded (body_at S.PageStore store.old) (body_at S.PageStore store.new)
+        (MayEnd (S.state store.old) space.old.file_end) space.old space.new head
+        (map pair_of pairs.now)) }
     ensures ends { HasEnds space.old → HasEnds space.new }
-    ensures may_end { MayEnd (S.state store.old) space.old.file_end → OnOk result (MayEnd (S.state store.new) space.new.file_end) }
-    ensures exact { S.honest store.old → (placed : Placed) → IsPlaced (body_at S.PageStore store.old) space.old head placed.0 placed.1 → pairs_in placed.0 ≡ [] → HaveDistinctKeys (map pair_of pairs.now) →
+    ensures may_end { MayEnd (S.state store.old) space.old.file_end
+        → OnOk result (MayEnd (S.state store.new) space.new.file_end) }
+    ensures exact { S.honest store.old → (placed : Placed)
+        → IsPlaced (body_at S.PageStore store.old) space.old head placed.0 placed.1
+        → pairs_in placed.0 ≡ [] → HaveDistinctKeys (map pair_of pairs.now) →
         OnOk result (IsPutAll (body_at S.PageStore store.old) (body_at S.PageStore store.new) space.old space.new placed (map pair_of pairs.now)) }
-    ensures whole { S.honest store.old → (placed : Placed) → IsPlaced (body_at S.PageStore store.old) space.old head placed.0 placed.1 → pairs_in placed.0 ≡ [] → HaveDistinctKeys (map pair_of pairs.now) → IsErrOf result Damaged → ⊥ }
+    ensures whole { S.honest store.old → (placed : Placed)
+        → IsPlaced (body_at S.PageStore store.old) space.old head placed.0 placed.1
+        → pairs_in placed.0 ≡ [] → HaveDistinctKeys (map pair_of pairs.now)
+        → IsErrOf result Damaged → ⊥ }
 {
     for pair in pairs {
         put(store, space, head, &pair.key, &pair.content)?;
@@ -102,9 +121,10 @@ fn put_all<S: PageStore>(
     Ok(())
 }
 
-/// Makes these the pairs of the chain from page `head` on: its overflow pages are given to the free list in chain order,
-/// its head page is emptied, and the pairs are added in order. After an `Err` the caller has to unstage and to go back to
-/// its old `FreeState`. Damaged is answered as by `lookup`, and where as many pages are free as the file has.
+/// Makes these the pairs of the chain from page `head` on: its overflow pages are given to the free
+/// list in chain order, its head page is emptied, and the pairs are added in order. After an `Err`
+/// the caller has to unstage and to go back to its old `FreeState`. Damaged is answered as by
+/// `lookup`, and where as many pages are free as the file has.
 pub fn store_all<S: PageStore>(
     store: &mut S,
     space: &mut FreeState,
@@ -116,17 +136,26 @@ pub fn store_all<S: PageStore>(
     ensures cause { HasDeviceCause (S.faults store.old) (S.faults store.new) result }
     ensures answer { IsStoreAnswer (S.state store.old) result }
     ensures room { pairs.now ≡ [] → IsErrOf result NoRoom → ⊥ }
-    ensures no_room { S.honest store.old → IsErrOf result NoRoom → (S.state store.old).capacity < space.old.file_end + length pairs.now }
-    ensures walked { S.honest store.old → OnOk result (IsReadToEnd (body_at S.PageStore store.old) head) }
+    ensures no_room { S.honest store.old → IsErrOf result NoRoom
+        → (S.state store.old).capacity < space.old.file_end + length pairs.now }
+    ensures walked { S.honest store.old
+        → OnOk result (IsReadToEnd (body_at S.PageStore store.old) head) }
     ensures ends { HasEnds space.old → HasEnds space.new }
-    ensures may_end { MayEnd (S.state store.old) space.old.file_end → OnOk result (MayEnd (S.state store.new) space.new.file_end) }
+    ensures may_end { MayEnd (S.state store.old) space.old.file_end
+        → OnOk result (MayEnd (S.state store.new) space.new.file_end) }
 
     // On any file the chain is emptied, and the pairs are added in order.
-    ensures stored { S.honest store.old → OnOk result (AreStored (body_at S.PageStore store.old) (body_at S.PageStore store.new) (MayEnd (S.state store.old) space.old.file_end) space.old space.new head (map pair_of pairs.now)) }
+    ensures stored { S.honest store.old
+        → OnOk result (AreStored (body_at S.PageStore store.old) (body_at S.PageStore store.new)
+        (MayEnd (S.state store.old) space.old.file_end) space.old space.new head
+        (map pair_of pairs.now)) }
 
     // On a chain and a free list that are read as such it leaves the model's, and is never Damaged.
     ensures exact { ForEachPlaced S.PageStore store.old space.old head (λ chain s.
-        HaveDistinctKeys (map pair_of pairs.now) → OnOk result (BecomesPlaced (body_at S.PageStore store.old) (body_at S.PageStore store.new) space.new (store_in (chain, s) (map pair_of pairs.now)))) }
+        HaveDistinctKeys (map pair_of pairs.now)
+        → OnOk result (BecomesPlaced (body_at S.PageStore store.old)
+        (body_at S.PageStore store.new) space.new
+        (store_in (chain, s) (map pair_of pairs.now)))) }
     ensures whole { ForEachPlaced S.PageStore store.old space.old head (λ chain s.
         HaveDistinctKeys (map pair_of pairs.now) → IsErrOf result Damaged → ⊥) }
 {

@@ -123,8 +123,8 @@ fn store_empty<S: PageStore>(db: &mut Database<S>, keys: u16) -> Result<(), Faul
     Ok(())
 }
 
-/// The first of so many keys that isn't there as it was stored; else, once the odd ones are deleted, the first that was absent then, or that
-/// isn't as it has to be now.
+/// The first of so many keys that isn't there as it was stored; else, once the odd ones are
+/// deleted, the first that was absent then, or that isn't as it has to be now.
 fn first_astray<S: PageStore>(db: &mut Database<S>, keys: u16) -> Result<Option<u16>, Fault> {
     if let Some(n) = first_not_empty(db, keys)? {
         return Ok(Some(n));

@@ -160,8 +160,8 @@ fn a_change_ends_a_pass(rt: HostRuntime) -> Result<(), Fail> {
     Ok(())
 }
 
-/// The device calls of an opening of a file that no stop cut short, and the reads of a firstkey that finds a key in bucket 0: the
-/// segment page and the head page.
+/// The device calls of an opening of a file that no stop cut short, and the reads of a firstkey
+/// that finds a key in bucket 0: the segment page and the head page.
 const OPENING: u64 = 6;
 
 const FIRST: u64 = 8;

@@ -16,7 +16,8 @@ next_is : (bytes : List ℕ) → (bucket_of bytes).next ≡ next_of bytes
 unfolding bucket_of
 next_is bytes = refl
 
-bucket_is : (bytes : List ℕ) (n kind next : ℕ) → own_number bytes ≡ n → kind_of bytes ≡ kind → next_of bytes ≡ next → bucket_of bytes ≡ bucket n kind next (page_pairs bytes)
+bucket_is : (bytes : List ℕ) (n kind next : ℕ) → own_number bytes ≡ n → kind_of bytes ≡ kind
+    → next_of bytes ≡ next → bucket_of bytes ≡ bucket n kind next (page_pairs bytes)
 unfolding bucket_of
 bucket_is bytes n kind next own k after = λ i. bucket (own i) (k i) (after i) (page_pairs bytes)
 
@@ -28,9 +29,11 @@ pub record IsHeader (bytes : List ℕ) (n kind next : ℕ) (pairs : List Pair) :
   pub count : slot_count bytes ≡ length pairs
   pub filled : kind ≡ 4 → 0 < slot_count bytes
 
-pub header_of : (bytes : List ℕ) (n kind next : ℕ) (pairs : List Pair) → IsLink bytes n kind next pairs → IsHeader bytes n kind next pairs
+pub header_of : (bytes : List ℕ) (n kind next : ℕ) (pairs : List Pair)
+    → IsLink bytes n kind next pairs → IsHeader bytes n kind next pairs
 header_of bytes n kind next pairs link =
-    let count : slot_count bytes ≡ length pairs = (counted bytes link.page).count_is ∙ ap (λ (b : Bucket). length b.pairs) link.says in
+    let count : slot_count bytes ≡ length pairs =
+    (counted bytes link.page).count_is ∙ ap (λ (b : Bucket). length b.pairs) link.says in
     record {
       own = sym (own_is bytes) ∙ ap (λ (b : Bucket). b.own) link.says;
       kind_of = sym (kind_is bytes) ∙ ap (λ (b : Bucket). b.kind) link.says;
@@ -40,7 +43,9 @@ header_of bytes n kind next pairs link =
     }
 
 -- a bucket page with this header is a page of a chain
-pub link_is : (bytes : List ℕ) (n kind next : ℕ) → IsBucketPage bytes → own_number bytes ≡ n → kind_of bytes ≡ kind → next_of bytes ≡ next → (kind ≡ 4 → 0 < slot_count bytes) → IsLink bytes n kind next (page_pairs bytes)
+pub link_is : (bytes : List ℕ) (n kind next : ℕ) → IsBucketPage bytes → own_number bytes ≡ n
+    → kind_of bytes ≡ kind → next_of bytes ≡ next → (kind ≡ 4 → 0 < slot_count bytes)
+    → IsLink bytes n kind next (page_pairs bytes)
 link_is bytes n kind next page own k after some = record {
   page = page;
   says = bucket_is bytes n kind next own k after;
@@ -48,5 +53,6 @@ link_is bytes n kind next page own k after some = record {
 }
 
 -- what the bytes say of it is their list of pairs
-pub pairs_read : (bytes : List ℕ) (n kind next : ℕ) (pairs : List Pair) → IsLink bytes n kind next pairs → page_pairs bytes ≡ pairs
+pub pairs_read : (bytes : List ℕ) (n kind next : ℕ) (pairs : List Pair)
+    → IsLink bytes n kind next pairs → page_pairs bytes ≡ pairs
 pairs_read bytes n kind next pairs link = ap (λ (b : Bucket). b.pairs) link.says

@@ -14,58 +14,93 @@ use Rattle.page_io.proofs.Views.{same_said}
 use Rattle.chain_walks.specs.Links.{SaysLink}
 
 -- before the first call; `only` is the store's law `only_now`
-pub reads_none : {S : Type 0} (s : Ghosts S) (store : S) → ((y : Settled) → s.honest store → s.settled_since store (s.moment store) y → s.settles_to store y) → ReadsOnly s store store
+pub reads_none : {S : Type 0} (s : Ghosts S) (store : S)
+    → ((y : Settled) → s.honest store → s.settled_since store (s.moment store) y
+    → s.settles_to store y) → ReadsOnly s store store
 reads_none s store only = record {
   same = refl;
   stages_only = record {
     state = refl;
     honesty = (λ h. h, λ h. h);
     later = omega arith;
-    kept = λ h. record { committed = refl; any_moment = record { later = omega arith; each = λ y left. only y h left; before = λ t y le left. inl left } };
+    kept = λ h. record {
+      committed = refl;
+      any_moment =
+          record {
+            later = omega arith;
+            each = λ y left. only y h left;
+            before =
+                λ t y le left. inl left;
+          };
+    };
     now = λ h y is. is;
   };
 }
 
 -- a page that was read is known
-pub read_known : {T : Type 0} (state : StoreState) (n : ℕ) (value : T) → IsReadAnswer {T = T} state n (Ok value) → IsKnown state n
-read_known state n value answer = elim (has_page state.staged n) as (λ b. has_page state.staged n ≡ b → IsKnown state n) [
-  | true ↦ λ has. inl has
-  | false ↦ λ none. elim (cases_lt 0 n) [
-    | inl some ↦ elim (cases_lt n state.end) [
-      | inl within ↦ inr (some, within)
-      | inr behind ↦ absurd (damaged (λ known. ⊎_elim (λ has. false≢true (sym none ∙ has)) (λ in_file. omega (arith, behind, in_file.1)) known))
-    ]
-    | inr zeroth ↦ absurd (damaged (λ known. ⊎_elim (λ has. false≢true (sym none ∙ has)) (λ in_file. omega (arith, zeroth, in_file.0)) known))
-  ]
-] refl
+pub read_known : {T : Type 0} (state : StoreState) (n : ℕ) (value : T)
+    → IsReadAnswer {T = T} state n (Ok value) → IsKnown state n
+read_known state n value answer =
+    elim (has_page state.staged n) as (λ b. has_page state.staged n ≡ b → IsKnown state n) [
+      | true ↦ λ has. inl has
+      | false ↦ λ none. elim (cases_lt 0 n) [
+        | inl some ↦ elim (cases_lt n state.end) [
+          | inl within ↦ inr (some, within)
+          | inr behind ↦ absurd (damaged
+              (λ known. ⊎_elim (λ has. false≢true (sym none ∙ has))
+              (λ in_file. omega (arith, behind, in_file.1)) known))
+        ]
+        | inr zeroth ↦ absurd (damaged
+            (λ known. ⊎_elim (λ has. false≢true (sym none ∙ has))
+            (λ in_file. omega (arith, zeroth, in_file.0)) known))
+      ]
+    ] refl
   where
     usable : state.usable ≡ true
-    usable = elim state.usable as (λ b. state.usable ≡ b → state.usable ≡ true) [ true ↦ λ e. e | false ↦ λ e. (let broken = answer.broken.1 e in absurd (cc)) ] refl
+    usable = elim state.usable as
+        (λ b. state.usable ≡ b → state.usable ≡ true) [
+          | true ↦ λ e. e
+          | false ↦ λ e.
+              (let broken = answer.broken.1 e in absurd (cc))
+        ] refl
 
     damaged : (IsKnown state n → ⊥) → ⊥
     damaged unknown = let err = answer.damaged.1 (usable, unknown) in cc
 
 -- no staged page is page 0; `order` is the store's law `in_order`
-staged_some : (high : ℕ) (pages : Pages) (n : ℕ) → are_in_order 1 high pages ≡ true → has_page pages n ≡ true → 1 ≤ n
+staged_some : (high : ℕ) (pages : Pages) (n : ℕ) → are_in_order 1 high pages ≡ true
+    → has_page pages n ≡ true → 1 ≤ n
 staged_some high pages zero order has =
-    absurd (false≢true (sym (has_between 1 high pages 0 0 order (λ k lt. absurd (omega arith)) (λ lt. (in_range 1 high pages 0 order lt).0) (omega arith)) ∙ has))
+    absurd (false≢true (sym (has_between 1 high pages 0 0 order (λ k lt. absurd (omega arith))
+    (λ lt. (in_range 1 high pages 0 order lt).0) (omega arith)) ∙ has))
 staged_some high pages (suc n) order has = omega arith
 
-pub known_some : (high : ℕ) (state : StoreState) (n : ℕ) → are_in_order 1 high state.staged ≡ true → IsKnown state n → 1 ≤ n
-known_some high state n order known = ⊎_elim (λ has. staged_some high state.staged n order has) (λ within. within.0) known
+pub known_some : (high : ℕ) (state : StoreState) (n : ℕ) → are_in_order 1 high state.staged ≡ true
+    → IsKnown state n → 1 ≤ n
+known_some high state n order known =
+    ⊎_elim (λ has. staged_some high state.staged n order has) (λ within. within.0) known
 
 -- an answer that came from an option
-pub if_some : {A E : Type 0} (P Q : A → Type 0) (option : Option A) (result : Result A E) (e : E) → result ≡ ok_or option e → IfSome option P → ((x : A) → P x → Q x) → IfOk result Q
+pub if_some : {A E : Type 0} (P Q : A → Type 0) (option : Option A) (result : Result A E) (e : E)
+    → result ≡ ok_or option e → IfSome option P → ((x : A) → P x → Q x) → IfOk result Q
 if_some P Q None result e is some then = rw is tt
 if_some P Q (Some x) result e is some then = rw is (then x some)
 
 -- a page of a chain, as it is read before and after
-module _ {S : Type 0} (s : Ghosts S) (old mid : S) (reads : ReadsOnly s old mid) (honest : s.honest old) where
+module _ {S : Type 0} (s : Ghosts S) (old mid : S) (reads : ReadsOnly s old mid)
+    (honest : s.honest old) where
   pub still_honest : s.honest mid
   still_honest = reads.stages_only.honesty.1 honest
 
-  pub link_before : (n kind next : ℕ) (pairs : List Pair) → (s.honest mid → SaysLink (body_at s mid) n kind next pairs) → SaysLink (body_at s old) n kind next pairs
-  link_before n kind next pairs link = subst (λ (at : ℕ → Body). SaysLink at n kind next pairs) (same_said s old mid reads honest) (link still_honest)
+  pub link_before : (n kind next : ℕ) (pairs : List Pair)
+      → (s.honest mid → SaysLink (body_at s mid) n kind next pairs)
+      → SaysLink (body_at s old) n kind next pairs
+  link_before n kind next pairs link =
+      subst (λ (at : ℕ → Body). SaysLink at n kind next pairs) (same_said s old mid reads honest)
+      (link still_honest)
 
-  pub link_after : (n kind next : ℕ) (pairs : List Pair) → SaysLink (body_at s old) n kind next pairs → SaysLink (body_at s mid) n kind next pairs
-  link_after n kind next pairs link = subst (λ (at : ℕ → Body). SaysLink at n kind next pairs) (sym (same_said s old mid reads honest)) link
+  pub link_after : (n kind next : ℕ) (pairs : List Pair)
+      → SaysLink (body_at s old) n kind next pairs → SaysLink (body_at s mid) n kind next pairs
+  link_after n kind next pairs link =
+      subst (λ (at : ℕ → Body). SaysLink at n kind next pairs)
+      (sym (same_said s old mid reads honest)) link

@@ -26,12 +26,16 @@ number_or (leaf ∷ rest) after = leaf.number
 -- overflow pages in a row, the last of which names page `after`, 0 for none
 abbrev pub AreLinked : (ℕ → Body) → Chain → ℕ → Type 0
 AreLinked at [] after = Unit {0}
-AreLinked at (leaf ∷ rest) after = (at leaf.number ≡ OverflowPage (number_or rest after) leaf.pairs) × (0 < length leaf.pairs) × AreLinked at rest after
+AreLinked at (leaf ∷ rest) after =
+    (at leaf.number ≡ OverflowPage (number_or rest after) leaf.pairs) × (0 < length leaf.pairs)
+    × AreLinked at rest after
 
 -- the first pages of a chain from page `head` on, the last of which names page `after`
 abbrev pub BeginsAt : (ℕ → Body) → ℕ → Chain → ℕ → Type 0
 BeginsAt at head [] after = ⊥
-BeginsAt at head (leaf ∷ rest) after = (leaf.number ≡ head) × (at head ≡ HeadPage (number_or rest after) leaf.pairs) × AreLinked at rest after
+BeginsAt at head (leaf ∷ rest) after =
+    (leaf.number ≡ head) × (at head ≡ HeadPage (number_or rest after) leaf.pairs)
+    × AreLinked at rest after
 
 -- the kind of the page behind these: that of a head page behind none
 abbrev pub kind_behind : Chain → ℕ
@@ -40,4 +44,6 @@ kind_behind (leaf ∷ rest) = 4
 
 -- what is said of an honest store whose pages say a chain from this head page on
 abbrev pub ForEachChain : {S : Type 0} → Ghosts S → S → ℕ → (Chain → Type 0) → Type 0
-ForEachChain s store head Says = s.honest store → (chain : Chain) → IsChainAt (body_at s store) (s.state store).end head chain → Says chain
+ForEachChain s store head Says =
+    s.honest store → (chain : Chain)
+    → IsChainAt (body_at s store) (s.state store).end head chain → Says chain

@@ -51,7 +51,9 @@ slot_from (Some at) = at.slot + 1
 
 -- what page n of a chain says: the head page, or an overflow page, which is never empty
 abbrev pub SaysPairs : (ℕ → Body) → ℕ → ℕ → ℕ → List Pair → Type 0
-SaysPairs at head n after pairs = ((n ≡ head) × (at n ≡ HeadPage after pairs)) ⊎ ((at n ≡ OverflowPage after pairs) × (0 < length pairs))
+SaysPairs at head n after pairs =
+    ((n ≡ head) × (at n ≡ HeadPage after pairs))
+    ⊎ ((at n ≡ OverflowPage after pairs) × (0 < length pairs))
 
 -- page n is an overflow page of these pairs
 pub record SaysMore (at : ℕ → Body) (n : ℕ) (pairs : List Pair) : Type 0 where
@@ -59,11 +61,15 @@ pub record SaysMore (at : ℕ → Body) (n : ℕ) (pairs : List Pair) : Type 0 w
   pub overflow : at n ≡ OverflowPage after pairs
   pub some : 0 < length pairs
 
--- On any file: the page of the place was read, and where it has no slot behind the place the page that it names.
-pub record IsChainStep (at : ℕ → Body) (head : ℕ) (from : Option Place) (bytes : List ℕ) (answer : Option Place) : Type 0 where
+-- On any file: the page of the place was read, and where it has no slot behind the place the page
+-- that it names.
+pub record IsChainStep (at : ℕ → Body) (head : ℕ) (from : Option Place) (bytes : List ℕ)
+    (answer : Option Place) : Type 0 where
   pub pairs : List Pair
   pub after : ℕ
   pub more : List Pair
   pub here : SaysPairs at head (page_from head from) after pairs
-  pub behind : (slot_from from < length pairs) ⊎ (((after ≡ 0) × (more ≡ [])) ⊎ SaysMore at after more)
-  pub first : IsFirst (drop (slot_from from) (entries_from (page_from head from) 0 pairs) ++ entries_from after 0 more) bytes answer
+  pub behind : (slot_from from < length pairs)
+      ⊎ (((after ≡ 0) × (more ≡ [])) ⊎ SaysMore at after more)
+  pub first : IsFirst (drop (slot_from from) (entries_from (page_from head from) 0 pairs)
+      ++ entries_from after 0 more) bytes answer

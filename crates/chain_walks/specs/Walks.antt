@@ -10,8 +10,10 @@ use Rattle.slot_page.specs.Contents.{IsBucketPage, HasKeyAt, page_pairs}
 use Rattle.chain_walks.specs.Chains.{BeginsAt}
 use Rattle.chain_walks.specs.declared.place.Place.{Place}
 
--- the pages up to one where the walk ended: each one before it was passed, and it is the last as stated
-pub record IsWalk (at : ℕ → Body) (head : ℕ) (Passed : Leaf → Type 0) (Last : Leaf → ℕ → Type 0) : Type 0 where
+-- the pages up to one where the walk ended: each one before it was passed, and it is the last as
+-- stated
+pub record IsWalk (at : ℕ → Body) (head : ℕ) (Passed : Leaf → Type 0)
+    (Last : Leaf → ℕ → Type 0) : Type 0 where
   pub before : Chain
   pub leaf : Leaf
   pub after : ℕ
@@ -27,7 +29,8 @@ abbrev pub EndsWithout : Key → Leaf → ℕ → Type 0
 EndsWithout key leaf after = (after ≡ 0) × LacksKey key leaf
 
 -- the key's pair stands at the place in the page, which the bytes are
-pub record IsPairAt (key : Key) (bytes : List ℕ) (place : Place) (leaf : Leaf) (after : ℕ) : Type 0 where
+pub record IsPairAt (key : Key) (bytes : List ℕ) (place : Place) (leaf : Leaf)
+    (after : ℕ) : Type 0 where
   pub number : place.page ≡ leaf.number
   pub page : IsBucketPage bytes
   pub pairs : page_pairs bytes ≡ leaf.pairs

@@ -1,5 +1,5 @@
-//! Walks over the chain of a bucket, from its head page over its overflow pages: looking a key up, stepping from pair to
-//! pair, and loading all pairs.
+//! Walks over the chain of a bucket, from its head page over its overflow pages: looking a key up,
+//! stepping from pair to pair, and loading all pairs.
 #![tactic(auto)]
 
 mod link;

@@ -19,11 +19,13 @@ pub const HEAD: u8 = 3;
 /// The kind of an overflow page.
 pub const OVERFLOW: u8 = 4;
 
-/// What follows the page in its chain, 0 for none, if it is page `n` and has this kind. An empty overflow page is no page
-/// of a chain.
+/// What follows the page in its chain, 0 for none, if it is page `n` and has this kind. An empty
+/// overflow page is no page of a chain.
 pub fn link_of(page: &Page, n: u32, kind: u8) -> Option<u32>
-    ensures sound { IfSome result (λ next. IsLink page.now.bytes n kind next (page_pairs page.now.bytes)) }
-    ensures every { (next : ℕ) (pairs : List Pair) → IsLink page.now.bytes n kind next pairs → result ≡ Some next }
+    ensures sound { IfSome result
+        (λ next. IsLink page.now.bytes n kind next (page_pairs page.now.bytes)) }
+    ensures every { (next : ℕ) (pairs : List Pair) → IsLink page.now.bytes n kind next pairs
+        → result ≡ Some next }
 {
     decode(page)?;
     if page.own() != n || page.kind() != kind {
@@ -48,9 +50,13 @@ pub fn read_link<S: PageStore>(
     ensures cause { HasDeviceCause (S.faults store.old) (S.faults store.new) result }
     ensures answer { IsWalkAnswer (S.state store.old) result }
     ensures known { OnOk result ((1 ≤ n) × IsKnown (S.state store.old) n) }
-    ensures link { IfOk result (λ next. IsLink page.new.bytes n kind next (page_pairs page.new.bytes)) }
-    ensures says { S.honest store.old → IfOk result (λ next. SaysLink (body_at S.PageStore store.old) n kind next (page_pairs page.new.bytes)) }
-    ensures whole { S.honest store.old → (next : ℕ) (pairs : List Pair) → 1 ≤ n → SaysLink (body_at S.PageStore store.old) n kind next pairs → IsErrOf result Damaged → ⊥ }
+    ensures link { IfOk result (λ next.
+        IsLink page.new.bytes n kind next (page_pairs page.new.bytes)) }
+    ensures says { S.honest store.old
+        → IfOk result (λ next. SaysLink (body_at S.PageStore store.old) n kind next
+        (page_pairs page.new.bytes)) }
+    ensures whole { S.honest store.old → (next : ℕ) (pairs : List Pair) → 1 ≤ n
+        → SaysLink (body_at S.PageStore store.old) n kind next pairs → IsErrOf result Damaged → ⊥ }
 {
     store.read(n, page)?;
     link_of(page, n, kind).ok_or(PageFault::Damaged)

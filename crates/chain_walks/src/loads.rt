@@ -23,7 +23,8 @@ use std::alloc::{AllocError, Global};
 fn load_pair(alloc: Global, page: &Page, slot: usize) -> Result<Pair, AllocError>
     requires page { IsBucketPage page.now.bytes }
     requires within { slot < length (page_pairs page.now.bytes) }
-    ensures { IfOk result (λ pair. HoldsAt (λ p. p ≡ pair_of pair) (page_pairs page.now.bytes) slot) }
+    ensures { IfOk result (λ pair.
+        HoldsAt (λ p. p ≡ pair_of pair) (page_pairs page.now.bytes) slot) }
 {
     let (key, content) = pair_at(page, slot);
     let key = Vec::from_slice(alloc, key)?;
@@ -34,7 +35,8 @@ fn load_pair(alloc: Global, page: &Page, slot: usize) -> Result<Pair, AllocError
 /// Appends the pairs of a page, slot by slot.
 fn load_page(alloc: Global, page: &Page, pairs: &mut Vec<Pair>) -> Result<(), AllocError>
     requires { IsBucketPage page.now.bytes }
-    ensures { OnOk result (map pair_of pairs.new.items ≡ map pair_of pairs.old.items ++ page_pairs page.now.bytes) }
+    ensures { OnOk result (map pair_of pairs.new.items ≡ map pair_of pairs.old.items
+        ++ page_pairs page.now.bytes) }
 {
     for slot in 0..page.slots() as usize {
         let pair = load_pair(alloc, page, slot)?;
@@ -43,7 +45,8 @@ fn load_page(alloc: Global, page: &Page, pairs: &mut Vec<Pair>) -> Result<(), Al
     Ok(())
 }
 
-/// All pairs of the chain from page `head` on, page by page and slot by slot. Damaged is answered as by `lookup`.
+/// All pairs of the chain from page `head` on, page by page and slot by slot. Damaged is answered
+/// as by `lookup`.
 pub fn load_all<S: PageStore>(
     alloc: Global,
     store: &mut S,
@@ -53,7 +56,9 @@ pub fn load_all<S: PageStore>(
     ensures cause { HasDeviceCause (S.faults store.old) (S.faults store.new) result }
     ensures answer { IsLoadAnswer (S.state store.old) result }
     ensures small { IfOk result (λ pairs. All (λ pair. IsAllowed (pair_of pair)) pairs.items) }
-    ensures walked { S.honest store.old → IfOk result (λ pairs. SaysAll (body_at S.PageStore store.old) head (map pair_of pairs.items)) }
+    ensures walked { S.honest store.old
+        → IfOk result (λ pairs. SaysAll (body_at S.PageStore store.old) head
+        (map pair_of pairs.items)) }
 
     // Of a chain that is read as one it is the pairs, and never Damaged.
     ensures exact { ForEachChain S.PageStore store.old head (λ chain.

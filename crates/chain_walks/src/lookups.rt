@@ -14,9 +14,9 @@ use crate::link::{HEAD, OVERFLOW, read_link};
 use page_io::{Page, PageFault, PageStore};
 use slot_page::find;
 
-/// Where the chain from page `head` on has the key; `page` is then its page. It takes no memory. Damaged is answered where
-/// a page has another number or kind than the chain says, is no bucket page, or is an empty overflow page, and where there
-/// are more pages than the file has.
+/// Where the chain from page `head` on has the key; `page` is then its page. It takes no memory.
+/// Damaged is answered where a page has another number or kind than the chain says, is no bucket
+/// page, or is an empty overflow page, and where there are more pages than the file has.
 pub fn lookup<S: PageStore>(
     store: &mut S,
     head: u32,
@@ -26,8 +26,12 @@ pub fn lookup<S: PageStore>(
     ensures reads { ReadsOnly S.PageStore store.old store.new }
     ensures cause { HasDeviceCause (S.faults store.old) (S.faults store.new) result }
     ensures answer { IsWalkAnswer (S.state store.old) result }
-    ensures held { IfOk result (λ place. IfSome place (λ at. IsBucketPage page.new.bytes × HasKeyAt key.now (page_pairs page.new.bytes) at.slot)) }
-    ensures walked { S.honest store.old → IfOk result (λ place. IsLookup (body_at S.PageStore store.old) head key.now page.new.bytes place) }
+    ensures held { IfOk result (λ place.
+        IfSome place (λ at. IsBucketPage page.new.bytes
+        × HasKeyAt key.now (page_pairs page.new.bytes) at.slot)) }
+    ensures walked { S.honest store.old
+        → IfOk result (λ place. IsLookup (body_at S.PageStore store.old) head key.now
+        page.new.bytes place) }
 
     // On a chain that is read as one it answers the first of the key's pairs, and is never Damaged.
     ensures exact { ForEachChain S.PageStore store.old head (λ chain.

@@ -40,9 +40,9 @@ fn kind_in(head: u32, n: u32) -> u8
     if n == head { HEAD } else { OVERFLOW }
 }
 
-/// The place behind `from` in the chain from page `head` on, the first one where `from` is `None`; `page` is then its page.
-/// `None` is answered behind the last. It reads at most two pages and takes no memory. Damaged is answered as by `lookup`,
-/// of the pages read.
+/// The place behind `from` in the chain from page `head` on, the first one where `from` is `None`;
+/// `page` is then its page. `None` is answered behind the last. It reads at most two pages and
+/// takes no memory. Damaged is answered as by `lookup`, of the pages read.
 pub fn step<S: PageStore>(
     store: &mut S,
     head: u32,
@@ -52,13 +52,20 @@ pub fn step<S: PageStore>(
     ensures reads { ReadsOnly S.PageStore store.old store.new }
     ensures cause { HasDeviceCause (S.faults store.old) (S.faults store.new) result }
     ensures answer { IsWalkAnswer (S.state store.old) result }
-    ensures held { IfOk result (λ place. IfSome place (λ at. IsBucketPage page.new.bytes × (at.slot < length (page_pairs page.new.bytes)))) }
-    ensures stepped { S.honest store.old → IfOk result (λ place. IsChainStep (body_at S.PageStore store.old) head from page.new.bytes place) }
+    ensures held { IfOk result (λ place.
+        IfSome place (λ at. IsBucketPage page.new.bytes
+        × (at.slot < length (page_pairs page.new.bytes)))) }
+    ensures stepped { S.honest store.old
+        → IfOk result (λ place. IsChainStep (body_at S.PageStore store.old) head from
+        page.new.bytes place) }
 
     // On a chain that is read as one it answers each place once, in order, and is never Damaged.
-    ensures exact { S.honest store.old → (chain : Chain) (passed left : List Entry) → IsChainAt (body_at S.PageStore store.old) (S.state store.old).end head chain →
-        entries chain ≡ passed ++ left → from ≡ last_place passed → IfOk result (λ place. IsFirst left page.new.bytes place) }
-    ensures whole { S.honest store.old → (chain : Chain) (passed left : List Entry) → IsChainAt (body_at S.PageStore store.old) (S.state store.old).end head chain →
+    ensures exact { S.honest store.old → (chain : Chain) (passed left : List Entry)
+        → IsChainAt (body_at S.PageStore store.old) (S.state store.old).end head chain →
+        entries chain ≡ passed ++ left → from ≡ last_place passed
+        → IfOk result (λ place. IsFirst left page.new.bytes place) }
+    ensures whole { S.honest store.old → (chain : Chain) (passed left : List Entry)
+        → IsChainAt (body_at S.PageStore store.old) (S.state store.old).end head chain →
         entries chain ≡ passed ++ left → from ≡ last_place passed → IsErrOf result Damaged → ⊥ }
 {
     let look = first_look(head, from);

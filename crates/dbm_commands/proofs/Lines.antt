@@ -4,10 +4,13 @@ use Rattle.std.proofs.KnownBytes.{Appends-trans, Appends-kept}
 use Rattle.std.specs.Io.KnownBytes.{Appends, Keeps}
 
 -- seven lines, which a flush keeps
-pub seven_printed : {T E : Type 0} (flushed : Result T E) (a b c d e f g h i : Option (List ℕ)) (one two three four five six seven : List ℕ)
-    → Appends a b one → Appends b c two → Appends c d three → Appends d e four → Appends e f five → Appends f g six → Appends g h seven → Keeps h i
+pub seven_printed : {T E : Type 0} (flushed : Result T E) (a b c d e f g h i : Option (List ℕ))
+    (one two three four five six seven : List ℕ)
+    → Appends a b one → Appends b c two → Appends c d three → Appends d e four → Appends e f five
+    → Appends f g six → Appends g h seven → Keeps h i
     → OnOk flushed (Appends a i (one ++ two ++ three ++ four ++ five ++ six ++ seven))
-seven_printed (Err fault) a b c d e f g h i one two three four five six seven p q r s t u v keeps = tt
+seven_printed (Err fault) a b c d e f g h i one two three four five six seven p q r s
+    t u v keeps = tt
 seven_printed (Ok x) a b c d e f g h i one two three four five six seven p q r s t u v keeps =
     let to_c = Appends-trans a b c one two p q in
     let to_d = Appends-trans a c d _ three to_c r in

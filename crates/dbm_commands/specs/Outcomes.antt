@@ -26,7 +26,8 @@ IsTold result (Refused fault) = result ≡ Err (Fault (Db fault))
 IsTold result _ = ⊥
 
 -- Exactly this call was made, and Tells holds of its reply.
-pub record MakesCall {S : Type 0} {s : Ghosts S} (old new : Database S s) (call : Call) (Tells : Reply → Type 0) : Type 0 where
+pub record MakesCall {S : Type 0} {s : Ghosts S} (old new : Database S s) (call : Call)
+    (Tells : Reply → Type 0) : Type 0 where
   pub reply : Reply
   pub told : Tells reply
   -- a step of the model, at each handle that an honest database is at

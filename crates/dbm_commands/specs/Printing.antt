@@ -26,8 +26,11 @@ content_line Text content = with_line_feed content
 content_line Hexadecimal content = with_line_feed (word_of content)
 
 -- a content was printed, or could not be; any other reply is told
-abbrev pub IsFetched : Spelling → Option (List ℕ) → Option (List ℕ) → Result Outcome Failure → Reply → Type 0
-IsFetched spelling old new result (Bytes content) = ((result ≡ Ok Done) × Appends old new (content_line spelling content)) ⊎ (result ≡ Err (Fault Write))
+abbrev pub IsFetched : Spelling → Option (List ℕ) → Option (List ℕ) → Result Outcome Failure
+    → Reply → Type 0
+IsFetched spelling old new result (Bytes content) =
+    ((result ≡ Ok Done) × Appends old new (content_line spelling content))
+    ⊎ (result ≡ Err (Fault Write))
 IsFetched spelling old new result reply = IsTold result reply
 
 -- what a database tells of itself

@@ -10,10 +10,12 @@ use dbm_file::{Db, Fault};
 use sect_dev::SectorDev;
 use std::io::Write;
 
-/// Ends a command that wrote: the output is flushed, also after a failure. Of two failures the earlier one is told.
+/// Ends a command that wrote: the output is flushed, also after a failure. Of two failures the
+/// earlier one is told.
 pub fn flushed<W: Write>(done: Result<(), EngineFault>, output: &mut W) -> Result<Outcome, Failure>
     ensures failed { IfErr done (λ fault. result ≡ Err (Failure.Fault fault)) }
-    ensures done { OnOk done ((result ≡ Ok Outcome.Done) ⊎ (result ≡ Err (Failure.Fault EngineFault.Write))) }
+    ensures done { OnOk done ((result ≡ Ok Outcome.Done)
+        ⊎ (result ≡ Err (Failure.Fault EngineFault.Write))) }
     ensures bytes { Keeps (W.contents output.old) (W.contents output.new) }
 {
     let flushed = output.flush();
@@ -22,13 +24,16 @@ pub fn flushed<W: Write>(done: Result<(), EngineFault>, output: &mut W) -> Resul
     Ok(Outcome::Done)
 }
 
-/// Closes a database after what was done with it. Of two failures the earlier one is told. No device call is made.
+/// Closes a database after what was done with it. Of two failures the earlier one is told. No
+/// device call is made.
 pub fn closed<D: SectorDev + Drop>(
     db: Db<D>,
     done: Result<Outcome, Failure>,
 ) -> Result<Outcome, Failure>
     ensures failed { IfErr done (λ failure. result ≡ Err failure) }
-    ensures done { IfOk done (λ outcome. result ≡ (if (page_state db).usable then Ok outcome else Err (Failure.Fault (EngineFault.Db Fault.Broken)))) }
+    ensures done { IfOk done (λ outcome.
+        result ≡ (if (page_state db).usable then Ok outcome
+        else Err (Failure.Fault (EngineFault.Db Fault.Broken)))) }
 {
     let (_, answer) = db.close();
     let outcome = done?;

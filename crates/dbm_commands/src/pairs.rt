@@ -34,16 +34,19 @@ pub fn delete<S: PageStore>(db: &mut Database<S>, key: &[u8]) -> Result<Outcome,
     delete_told(db.delete(key))
 }
 
-/// Prints the content that the key has, as it is or as a word, and a line feed, and flushes the output. The
-/// call's faults come in its order, before anything is printed. After `Write` some of the content may be out.
+/// Prints the content that the key has, as it is or as a word, and a line feed, and flushes the
+/// output. The call's faults come in its order, before anything is printed. After `Write` some of
+/// the content may be out.
 pub fn fetch<S: PageStore, W: Write>(
     db: &mut Database<S>,
     key: &[u8],
     spelling: Spelling,
     output: &mut W,
 ) -> Result<Outcome, Failure>
-    ensures call { MakesCall db.old db.new (Fetch key.now) (IsFetched spelling (W.contents output.old) (W.contents output.new) result) }
-    ensures quiet { result ≢ Ok Outcome.Done → result ≢ Err (Failure.Fault EngineFault.Write) → output.new ≡ output.old }
+    ensures call { MakesCall db.old db.new (Fetch key.now)
+        (IsFetched spelling (W.contents output.old) (W.contents output.new) result) }
+    ensures quiet { result ≢ Ok Outcome.Done → result ≢ Err (Failure.Fault EngineFault.Write)
+        → output.new ≡ output.old }
 {
     print_fetched(db.fetch(key), spelling, output)
 }
@@ -77,8 +80,10 @@ fn print_fetched<W: Write>(
     output: &mut W,
 ) -> Result<Outcome, Failure>
     requires { IfOk found (λ r. IfSome r (λ content. length content.now ≤ 2026)) }
-    ensures told { IsFetched spelling (W.contents output.old) (W.contents output.new) result (told_of_bytes NoRecord found.entry) }
-    ensures quiet { result ≢ Ok Outcome.Done → result ≢ Err (Failure.Fault EngineFault.Write) → output.new ≡ output.old }
+    ensures told { IsFetched spelling (W.contents output.old) (W.contents output.new) result
+        (told_of_bytes NoRecord found.entry) }
+    ensures quiet { result ≢ Ok Outcome.Done → result ≢ Err (Failure.Fault EngineFault.Write)
+        → output.new ≡ output.old }
 {
     match found {
         Ok(Some(content)) => match print_content(content, spelling, output) {

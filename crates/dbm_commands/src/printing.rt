@@ -15,11 +15,13 @@ use dbm_plan::Spelling;
 use page_io::PageStore;
 use std::io::{self, Write};
 
-/// Prints the numbers of a database in seven lines, and flushes the output. No device call is made. After
-/// `Write` some of the lines may be out.
+/// Prints the numbers of a database in seven lines, and flushes the output. No device call is made.
+/// After `Write` some of the lines may be out.
 pub fn stat<S: PageStore, W: Write>(db: &Database<S>, output: &mut W) -> Result<Outcome, Failure>
-    ensures printed { OnOk result (Appends (W.contents output.old) (W.contents output.new) (stat_text (stat_of db.now))) }
-    ensures counts { (h : Handle) → IsAt db.now h → h.state.usable ≡ true → ((stat_of db.now).pairs ≡ len h.state.map) × ((stat_of db.now).limit ≡ h.state.limit) }
+    ensures printed { OnOk result
+        (Appends (W.contents output.old) (W.contents output.new) (stat_text (stat_of db.now))) }
+    ensures counts { (h : Handle) → IsAt db.now h → h.state.usable ≡ true
+        → ((stat_of db.now).pairs ≡ len h.state.map) × ((stat_of db.now).limit ≡ h.state.limit) }
     ensures only { (result ≡ Ok Outcome.Done) ⊎ (result ≡ Err (Failure.Fault EngineFault.Write)) }
 {
     match print_stat(&db.stat(), output) {
@@ -30,7 +32,8 @@ pub fn stat<S: PageStore, W: Write>(db: &Database<S>, output: &mut W) -> Result<
 
 /// Prints the numbers of a database, one in a line.
 fn print_stat<W: Write>(stat: &Stat, output: &mut W) -> io::Result<()>
-    ensures { OnOk result (Appends (W.contents output.old) (W.contents output.new) (stat_text stat.now)) }
+    ensures { OnOk result (Appends (W.contents output.old) (W.contents output.new)
+        (stat_text stat.now)) }
 {
     print_number(output, "pairs", stat.pairs)?;
     print_number(output, "limit", stat.limit)?;
@@ -44,7 +47,8 @@ fn print_stat<W: Write>(stat: &Stat, output: &mut W) -> io::Result<()>
 
 /// Prints a number behind its name.
 fn print_number<W: Write>(output: &mut W, name: &str, number: u32) -> io::Result<()>
-    ensures { OnOk result (Appends (W.contents output.old) (W.contents output.new) (number_line name.now number)) }
+    ensures { OnOk result (Appends (W.contents output.old) (W.contents output.new)
+        (number_line name.now number)) }
 {
     writeln!(output, "{name} {number}")
 }
@@ -52,7 +56,8 @@ fn print_number<W: Write>(output: &mut W, name: &str, number: u32) -> io::Result
 /// Prints a content as it is, or as a word, and a line feed.
 pub fn print_content<W: Write>(content: &[u8], spelling: Spelling, output: &mut W) -> io::Result<()>
     requires { length content.now ≤ 2026 }
-    ensures { OnOk result (Appends (W.contents output.old) (W.contents output.new) (content_line spelling content.now)) }
+    ensures { OnOk result (Appends (W.contents output.old) (W.contents output.new)
+        (content_line spelling content.now)) }
 {
     match spelling {
         Spelling::Text => {

@@ -9,7 +9,8 @@ use dbm_lines::decode_word;
 use dbm_plan::Spelling;
 use std::alloc::Global;
 
-/// The bytes of a word: its own, or those that its digits spell. `Memory` may come before the digits are looked at.
+/// The bytes of a word: its own, or those that its digits spell. `Memory` may come before the
+/// digits are looked at.
 pub fn bytes_of(alloc: Global, word: &str, spelling: Spelling) -> Result<Vec<u8>, Failure>
     ensures spelled { IfOk result (λ bytes. spelled spelling word.now ≡ Some bytes.items) }
     ensures not_hex { IfErr result (λ e. e ≡ Failure.NotHex → spelled spelling word.now ≡ None) }

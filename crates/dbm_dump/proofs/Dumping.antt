@@ -37,86 +37,152 @@ IsReading (Passes left) = Unit {0}
 IsReading (Changes said map) = ⊥
 
 pub reads_first : (s : State) → IsReading (case_of s First)
-reads_first s = elim s.usable as (λ b. IsReading (cond b (usable_case s First) (broken_case s First))) [ true ↦ tt | false ↦ tt ]
+reads_first s = elim s.usable as
+    (λ b. IsReading (cond b (usable_case s First) (broken_case s First))) [ true ↦ tt | false ↦ tt ]
 
 reads_passed : (pass : Option Keys) → IsReading (passed pass)
 reads_passed None = tt
 reads_passed (Some left) = tt
 
 pub reads_next : (s : State) → IsReading (case_of s Next)
-reads_next s = elim s.usable as (λ b. IsReading (cond b (usable_case s Next) (broken_case s Next))) [ true ↦ reads_passed s.pass | false ↦ tt ]
+reads_next s = elim s.usable as
+    (λ b. IsReading (cond b (usable_case s Next) (broken_case s Next))) [
+      | true ↦
+          reads_passed s.pass
+      | false ↦ tt
+    ]
 
 reads_fetched : (found : Option (List ℕ)) → IsReading (fetched found)
 reads_fetched None = tt
 reads_fetched (Some content) = tt
 
 pub reads_content : (key : Key) (s : State) → IsReading (case_of s (Fetch key))
-reads_content key s = elim s.usable as (λ b. IsReading (cond b (usable_case s (Fetch key)) (broken_case s (Fetch key)))) [ true ↦ reads_fetched (get s.map key) | false ↦ tt ]
+reads_content key s = elim s.usable as
+    (λ b. IsReading (cond b (usable_case s (Fetch key)) (broken_case s (Fetch key)))) [
+      | true ↦
+          reads_fetched (get s.map key)
+      | false ↦ tt
+    ]
 
 keeps_all : (s after : State) → after ≡ s → KeepsMap s after
-keeps_all s after is = record { map = ap (λ (x : State). x.map) is; limit = ap (λ (x : State). x.limit) is; writable = ap (λ (x : State). x.writable) is; usable = ap (λ (x : State). x.usable) is }
+keeps_all s after is = record {
+  map = ap (λ (x : State). x.map) is;
+  limit =
+      ap (λ (x : State). x.limit) is;
+  writable = ap (λ (x : State). x.writable) is;
+  usable =
+      ap (λ (x : State). x.usable) is;
+}
 
 keeps_flagged : (s after : State) (fault : model.Fault) → after ≡ flagged fault s → KeepsMap s after
-keeps_flagged s after fault is = record { map = ap (λ (x : State). x.map) is; limit = ap (λ (x : State). x.limit) is; writable = ap (λ (x : State). x.writable) is; usable = ap (λ (x : State). x.usable) is }
+keeps_flagged s after fault is =
+    record {
+      map = ap (λ (x : State). x.map) is;
+      limit = ap (λ (x : State). x.limit) is;
+      writable =
+          ap (λ (x : State). x.writable) is;
+      usable = ap (λ (x : State). x.usable) is;
+    }
 
-keeps_passed : (s after : State) (pass : Option Keys) → after ≡ record s { pass = pass } → KeepsMap s after
-keeps_passed s after pass is = record { map = ap (λ (x : State). x.map) is; limit = ap (λ (x : State). x.limit) is; writable = ap (λ (x : State). x.writable) is; usable = ap (λ (x : State). x.usable) is }
+keeps_passed : (s after : State) (pass : Option Keys) → after ≡ record s { pass = pass }
+    → KeepsMap s after
+keeps_passed s after pass is =
+    record {
+      map = ap (λ (x : State). x.map) is;
+      limit = ap (λ (x : State). x.limit) is;
+      writable =
+          ap (λ (x : State). x.writable) is;
+      usable = ap (λ (x : State). x.usable) is;
+    }
 
 -- a step of such a rule keeps the map
-pub keeps_map : (before after : Handle) (case : Case) (reply : Reply) → IsReading case → Answers before.state case reply after.state ⊎ Suffers before case reply after → KeepsMap before.state after.state
+pub keeps_map : (before after : Handle) (case : Case) (reply : Reply)
+    → IsReading case → Answers before.state case reply after.state ⊎ Suffers before case reply after
+    → KeepsMap before.state after.state
 keeps_map before after (Tells said told) reply reads h = absurd reads
-keeps_map before after (Refuses fault) reply reads h = ⊎_elim (λ x. keeps_flagged before.state after.state fault x.1) (λ x. absurd x) h
-keeps_map before after (Declines fault) reply reads h = ⊎_elim (λ x. keeps_flagged before.state after.state fault x.1) (λ x. keeps_flagged before.state after.state model.Device x.2) h
-keeps_map before after (Finds found) reply reads h = ⊎_elim (λ x. keeps_all before.state after.state x.1) (λ x. keeps_flagged before.state after.state model.Device x.2) h
+keeps_map before after (Refuses fault) reply reads h =
+    ⊎_elim (λ x. keeps_flagged before.state after.state fault x.1) (λ x. absurd x) h
+keeps_map before after (Declines fault) reply reads h =
+    ⊎_elim (λ x. keeps_flagged before.state after.state fault x.1)
+    (λ x. keeps_flagged before.state after.state model.Device x.2) h
+keeps_map before after (Finds found) reply reads h =
+    ⊎_elim (λ x. keeps_all before.state after.state x.1)
+    (λ x. keeps_flagged before.state after.state model.Device x.2) h
 keeps_map before after (Passes left) reply reads h = ⊎_elim
-    (λ given. ⊎_elim (λ x. keeps_passed before.state after.state _ x.2) (λ x. keeps_passed before.state after.state _ x.3) given)
+    (λ given. ⊎_elim (λ x. keeps_passed before.state after.state _ x.2)
+    (λ x. keeps_passed before.state after.state _ x.3) given)
     (λ x. keeps_flagged before.state after.state model.Device x.2) h
 keeps_map before after (Changes said map) reply reads h = absurd reads
 
 -- what a stop within it may leave is the map
-left_is : (before after : Handle) (call : Call) (map : Contents) → IsReading (case_of before.state call) → KeepsMap before.state after.state → MayBeLeft before after call map → map ≡ before.state.map
-left_is before after call map reads keeps left = ⊎_elim (λ is. is) (λ other. ⊎_elim (λ is. is ∙ keeps.map) (λ asked. absurd (subst IsReading asked.1.1 reads)) other) left
+left_is : (before after : Handle) (call : Call) (map : Contents)
+    → IsReading (case_of before.state call) → KeepsMap before.state after.state
+    → MayBeLeft before after call map → map ≡ before.state.map
+left_is before after call map reads keeps left =
+    ⊎_elim (λ is. is) (λ other. ⊎_elim (λ is. is ∙ keeps.map)
+    (λ asked. absurd (subst IsReading asked.1.1 reads)) other) left
 
 module _ {S : Type 0} (s : Ghosts S) where
   -- one call
-  pub stays_by : (old new : Database S s) (before : Handle) (call : Call) (reply : Reply) → IsReading (case_of before.state call) → IsStep old new before call reply → Stays old new before
+  pub stays_by : (old new : Database S s) (before : Handle) (call : Call) (reply : Reply)
+      → IsReading (case_of before.state call) → IsStep old new before call reply
+      → Stays old new before
   stays_by old new before call reply reads step =
-      let keeps = keeps_map before step.after (case_of before.state call) reply reads step.step.answers in
+      let keeps = keeps_map before step.after (case_of before.state call) reply reads
+      step.step.answers in
       record {
         after = step.after;
         is_at = step.is_at;
         keeps = keeps;
         survives = λ usable.
-            weaker s.moment s.settled_since (store_of old) (store_of new) (StandsForSome (λ map. map ≡ before.state.map) (meta_kept old).limit) (StandsForSome (MayBeLeft before step.after call) (meta_kept old).limit) (step.survives usable)
+            weaker s.moment s.settled_since (store_of old) (store_of new)
+            (StandsForSome (λ map. map ≡ before.state.map) (meta_kept old).limit)
+            (StandsForSome (MayBeLeft before step.after call) (meta_kept old).limit)
+            (step.survives usable)
             (λ x is. (is.0, left_is before step.after call is.0 reads keeps is.1, is.2));
       }
 
   -- no call
-  stays_there : (db : Database S s) (h : Handle) → IsAt db h → ((x : Settled) → s.settled_since (store_of db) (s.moment (store_of db)) x → s.settles_to (store_of db) x) → Stays db db h
+  stays_there : (db : Database S s) (h : Handle) → IsAt db h
+      → ((x : Settled) → s.settled_since (store_of db) (s.moment (store_of db)) x
+      → s.settles_to (store_of db) x) → Stays db db h
   stays_there db h at now = record {
     after = h;
     is_at = at;
     keeps = keeps_all h.state h.state refl;
     survives = λ usable.
-        started s.moment s.settled_since (store_of db) (StandsForSome (λ map. map ≡ h.state.map) (meta_kept db).limit)
+        started s.moment s.settled_since (store_of db)
+        (StandsForSome (λ map. map ≡ h.state.map) (meta_kept db).limit)
         (λ x left. (h.state.map, refl, at.rests usable x (now x left)));
   }
 
   -- some calls after others
-  module _ (old mid new : Database S s) (before : Handle) (first : IsSameDatabase old mid) (second : IsSameDatabase mid new) (earlier : Stays old mid before) (later : Stays mid new earlier.after) where
+  module _ (old mid new : Database S s) (before : Handle) (first : IsSameDatabase old mid)
+      (second : IsSameDatabase mid new) (earlier : Stays old mid before)
+      (later : Stays mid new earlier.after) where
     Kept : Settled → Type 0
     Kept = StandsForSome (λ map. map ≡ before.state.map) (meta_kept old).limit
 
-    goes_on : (page_state old).usable ≡ true → (page_state mid).usable ≡ true → Survives old new (λ map. map ≡ before.state.map)
+    goes_on : (page_state old).usable ≡ true → (page_state mid).usable ≡ true
+        → Survives old new (λ map. map ≡ before.state.map)
     goes_on was usable =
-        followed_by s.moment s.settled_since (store_of old) (store_of mid) (store_of new) (StandsForSome (λ map. map ≡ before.state.map) (meta_kept old).limit) (StandsForSome (λ map. map ≡ earlier.after.state.map) (meta_kept mid).limit)
+        followed_by s.moment s.settled_since (store_of old) (store_of mid) (store_of new)
+        (StandsForSome (λ map. map ≡ before.state.map) (meta_kept old).limit)
+        (StandsForSome (λ map. map ≡ earlier.after.state.map) (meta_kept mid).limit)
         (earlier.survives was) (later.survives usable)
-        (λ x is. (is.0, is.1 ∙ earlier.keeps.map, subst (λ (n : ℕ). ImageStandsFor x is.0 n) first.limit is.2))
+        (λ x is. (
+          is.0,
+          is.1 ∙ earlier.keeps.map,
+          subst (λ (n : ℕ). ImageStandsFor x is.0 n) first.limit is.2,
+        ))
 
     -- a broken one makes no device call
-    stays_broken : (page_state old).usable ≡ true → (page_state mid).usable ≡ false → Survives old new (λ map. map ≡ before.state.map)
+    stays_broken : (page_state old).usable ≡ true → (page_state mid).usable ≡ false
+        → Survives old new (λ map. map ≡ before.state.map)
     stays_broken was broken =
-        subst (λ (store : S). LeavesOnly s.moment s.settled_since (store_of old) store (StandsForSome (λ map. map ≡ before.state.map) (meta_kept old).limit)) (sym (second.still broken)) (earlier.survives was)
+        subst (λ (store : S). LeavesOnly s.moment s.settled_since (store_of old) store
+        (StandsForSome (λ map. map ≡ before.state.map) (meta_kept old).limit))
+        (sym (second.still broken)) (earlier.survives was)
 
     stays_on : Stays old new before
     stays_on = record {
@@ -128,14 +194,16 @@ module _ {S : Type 0} (s : Ghosts S) where
         writable = later.keeps.writable ∙ earlier.keeps.writable;
         usable = later.keeps.usable ∙ earlier.keeps.usable;
       };
-      survives = λ was. elim (page_state mid).usable as (λ u. (page_state mid).usable ≡ u → Survives old new (λ map. map ≡ before.state.map)) [
-        | true ↦ goes_on was
-        | false ↦ stays_broken was
-      ] refl;
+      survives = λ was. elim (page_state mid).usable as
+          (λ u. (page_state mid).usable ≡ u → Survives old new (λ map. map ≡ before.state.map)) [
+            | true ↦ goes_on was
+            | false ↦ stays_broken was
+          ] refl;
     }
 
   -- a refused copy is a refused call
-  refused : (lent : Lent) (result : Result (Option (Vec ℕ)) EngineFault) (fault : Fault) → IsCopied lent result → IsErrOf result (Db fault) → IsErrOf lent fault
+  refused : (lent : Lent) (result : Result (Option (Vec ℕ)) EngineFault) (fault : Fault)
+      → IsCopied lent result → IsErrOf result (Db fault) → IsErrOf lent fault
   refused (Ok None) (Ok None) fault copied is = cc
   refused (Ok None) (Ok (Some copy)) fault copied is = absurd copied
   refused (Ok None) (Err told) fault copied is = absurd copied
@@ -147,7 +215,8 @@ module _ {S : Type 0} (s : Ghosts S) where
   refused (Err why) (Err told) fault copied is = cc
 
   -- a copy comes of a call that was answered
-  answered : (lent : Lent) (result : Result (Option (Vec ℕ)) EngineFault) (fault : Fault) (P : Type 0) → IsCopied lent result → (IsErrOf lent fault → OnOk result P)
+  answered : (lent : Lent) (result : Result (Option (Vec ℕ)) EngineFault) (fault : Fault)
+      (P : Type 0) → IsCopied lent result → (IsErrOf lent fault → OnOk result P)
   answered (Ok None) (Ok None) fault P copied is = cc
   answered (Ok None) (Ok (Some copy)) fault P copied is = absurd copied
   answered (Ok None) (Err told) fault P copied is = tt
@@ -159,7 +228,9 @@ module _ {S : Type 0} (s : Ghosts S) where
   answered (Err why) (Err told) fault P copied is = tt
 
   -- the error number after a copy
-  errors : (lent : Lent) (result : Result (Option (Vec ℕ)) EngineFault) (A : Type 0) (B : Fault → Type 0) → IsCopied lent result → OnOk lent A → IfErr lent B → A ⊎ ((fault : Fault) × IsErrOf result (Db fault) × B fault)
+  errors : (lent : Lent) (result : Result (Option (Vec ℕ)) EngineFault) (A : Type 0)
+      (B : Fault → Type 0) → IsCopied lent result → OnOk lent A → IfErr lent B
+      → A ⊎ ((fault : Fault) × IsErrOf result (Db fault) × B fault)
   errors (Ok given) result A B copied same kept = inl same
   errors (Err why) (Ok given) A B copied same kept = absurd (none given copied)
     where
@@ -173,18 +244,28 @@ module _ {S : Type 0} (s : Ghosts S) where
   on_ok (Err fault) P p = tt
 
   -- a call whose bytes are copied
-  pub reads_by : (call : Call) (reply_of : Lent → Reply) (old new : Database S s) (lent : Lent) (result : Result (Option (Vec ℕ)) EngineFault) → ((state : State) → IsReading (case_of state call)) → Lends call reply_of old lent new → IsCopied lent result → Reads old new result
+  pub reads_by : (call : Call) (reply_of : Lent → Reply) (old new : Database S s) (lent : Lent)
+      (result : Result (Option (Vec ℕ)) EngineFault)
+      → ((state : State) → IsReading (case_of state call)) → Lends call reply_of old lent new
+      → IsCopied lent result → Reads old new result
   reads_by call reply_of old new lent result reads lends copied = record {
-    stays = λ honest h at. stays_by old new h call (reply_of lent) (reads h.state) (lends.step honest h at);
+    stays = λ honest h at. stays_by old new h call (reply_of lent) (reads h.state)
+        (lends.step honest h at);
     goes = lends.keeps.goes;
     device = λ is. lends.keeps.fault (refused lent result Device copied is);
     broken = λ is. lends.keeps.broken.0 (refused lent result Broken copied is);
-    usable = ⊎_elim (λ same. on_ok result _ same) (λ broke. answered lent result Device _ copied broke.0) lends.keeps.breaks;
-    error = errors lent result _ (λ fault. error_of new ≡ first_fault (error_of old) (fault_of fault)) copied lends.keeps.no_error lends.keeps.error;
+    usable = ⊎_elim (λ same. on_ok result _ same)
+        (λ broke. answered lent result Device _ copied broke.0) lends.keeps.breaks;
+    error = errors lent result _ (λ fault.
+        error_of new ≡ first_fault (error_of old) (fault_of fault)) copied lends.keeps.no_error
+        lends.keeps.error;
   }
 
   -- nothing is read yet
-  pub reads_nothing : (db : Database S s) → (s.honest (store_of db) → (x : Settled) → s.settled_since (store_of db) (s.moment (store_of db)) x → s.settles_to (store_of db) x) → Reads {T = Unit {0}} db db (Ok (tt {0}))
+  pub reads_nothing : (db : Database S s)
+      → (s.honest (store_of db) → (x : Settled)
+      → s.settled_since (store_of db) (s.moment (store_of db)) x → s.settles_to (store_of db) x)
+      → Reads {T = Unit {0}} db db (Ok (tt {0}))
   reads_nothing db now = record {
     stays = λ honest h at. stays_there db h at (now honest);
     goes = goes_nowhere db;
@@ -195,38 +276,54 @@ module _ {S : Type 0} (s : Ghosts S) where
   }
 
   -- more is read after what was read well
-  module _ {T U : Type 0} (old mid new : Database S s) (value : T) (earlier : Reads old mid (Ok value)) where
+  module _ {T U : Type 0} (old mid new : Database S s) (value : T)
+      (earlier : Reads old mid (Ok value)) where
     pub reads_on : (result : Result U EngineFault) → Reads mid new result → Reads old new result
     reads_on result later = record {
       stays = λ honest h at.
           let first = earlier.stays honest h at in
-          stays_on old mid new h earlier.goes later.goes first (later.stays (earlier.goes.honesty.1 honest) first.after first.is_at);
+          stays_on old mid new h earlier.goes later.goes first
+          (later.stays (earlier.goes.honesty.1 honest) first.after first.is_at);
       goes = still_goes old mid new earlier.goes later.goes;
-      device = λ is. more_later (s.faults (store_of old)) (s.faults (store_of mid)) (s.faults (store_of new)) earlier.goes.later (later.device is);
+      device = λ is. more_later (s.faults (store_of old)) (s.faults (store_of mid))
+          (s.faults (store_of new)) earlier.goes.later (later.device is);
       broken = λ is. sym earlier.usable ∙ later.broken is;
       usable = both result later.usable;
       error = ⊎_elim
-          (λ same. ⊎_elim (λ still. inl (still ∙ same)) (λ refused. inr (refused.0, refused.1, refused.2 ∙ ap (λ (e : Option model.Fault). first_fault e (fault_of refused.0)) same)) later.error)
+          (λ same. ⊎_elim (λ still. inl (still ∙ same))
+          (λ refused. inr (
+            refused.0,
+            refused.1,
+            refused.2 ∙ ap (λ (e : Option model.Fault).
+                first_fault e (fault_of refused.0)) same,
+          )) later.error)
           (λ refused. no_err value (Db refused.0) refused.1) earlier.error;
     }
       where
-        both : (result : Result U EngineFault) → OnOk result ((page_state new).usable ≡ (page_state mid).usable) → OnOk result ((page_state new).usable ≡ (page_state old).usable)
+        both : (result : Result U EngineFault)
+            → OnOk result ((page_state new).usable ≡ (page_state mid).usable)
+            → OnOk result ((page_state new).usable ≡ (page_state old).usable)
         both (Ok value) same = same ∙ earlier.usable
         both (Err fault) same = tt
 
   -- what was read well, whatever came of it
-  pub reads_well : {T : Type 0} (old new : Database S s) (result : Result T EngineFault) (value : T) → result ≡ Ok value → Reads old new result → Reads {T = Unit {0}} old new (Ok (tt {0}))
+  pub reads_well : {T : Type 0} (old new : Database S s) (result : Result T EngineFault) (value : T)
+      → result ≡ Ok value → Reads old new result → Reads {T = Unit {0}} old new (Ok (tt {0}))
   reads_well {T} old new result value is h = record {
     stays = h.stays;
     goes = h.goes;
     device = λ is. cc;
     broken = λ is. cc;
-    usable = subst (λ (r : Result T EngineFault). OnOk r ((page_state new).usable ≡ (page_state old).usable)) is h.usable;
-    error = ⊎_elim (λ same. inl same) (λ refused. no_err value (Db refused.0) (sym is ∙ refused.1)) h.error;
+    usable = subst (λ (r : Result T EngineFault).
+        OnOk r ((page_state new).usable ≡ (page_state old).usable)) is h.usable;
+    error = ⊎_elim (λ same. inl same)
+        (λ refused. no_err value (Db refused.0) (sym is ∙ refused.1)) h.error;
   }
 
   -- and whatever is told of it
-  pub reads_told : {T : Type 0} (old new : Database S s) (result : Result T EngineFault) → Reads {T = Unit {0}} old new (Ok (tt {0})) → (IsErrOf result (Db Device) → ⊥) → (IsErrOf result (Db Broken) → ⊥) → Reads old new result
+  pub reads_told : {T : Type 0} (old new : Database S s) (result : Result T EngineFault)
+      → Reads {T = Unit {0}} old new (Ok (tt {0})) → (IsErrOf result (Db Device) → ⊥)
+      → (IsErrOf result (Db Broken) → ⊥) → Reads old new result
   reads_told old new result h no_device no_break = record {
     stays = h.stays;
     goes = h.goes;
@@ -237,24 +334,38 @@ module _ {S : Type 0} (s : Ghosts S) where
   }
 
   -- a value, and two refusals that no call gave
-  pub reads_gave : {T : Type 0} (old new : Database S s) (value : T) → Reads {T = Unit {0}} old new (Ok (tt {0})) → Reads {T = T} old new (Ok value)
+  pub reads_gave : {T : Type 0} (old new : Database S s) (value : T)
+      → Reads {T = Unit {0}} old new (Ok (tt {0})) → Reads {T = T} old new (Ok value)
   reads_gave old new value h = reads_told old new (Ok value) h (λ is. cc) (λ is. cc)
 
-  pub reads_damaged : {T : Type 0} (old new : Database S s) → Reads {T = Unit {0}} old new (Ok (tt {0})) → Reads {T = T} old new (Err (Db Damaged))
-  reads_damaged {T} old new h = reads_told {T = T} old new (Err (Db Damaged)) h (λ is. cc) (λ is. cc)
+  pub reads_damaged : {T : Type 0} (old new : Database S s)
+      → Reads {T = Unit {0}} old new (Ok (tt {0})) → Reads {T = T} old new (Err (Db Damaged))
+  reads_damaged {T} old new h =
+      reads_told {T = T} old new (Err (Db Damaged)) h (λ is. cc) (λ is. cc)
 
-  pub reads_no_memory : {T : Type 0} (old new : Database S s) (result : Result T EngineFault) → result ≡ Err Memory → Reads {T = Unit {0}} old new (Ok (tt {0})) → Reads old new result
+  pub reads_no_memory : {T : Type 0} (old new : Database S s) (result : Result T EngineFault)
+      → result ≡ Err Memory → Reads {T = Unit {0}} old new (Ok (tt {0})) → Reads old new result
   reads_no_memory old new result told h = reads_told old new result h (λ is. cc) (λ is. cc)
 
   -- the same refusal of another call
-  pub reads_refused : {T U : Type 0} (old new : Database S s) (result : Result T EngineFault) (other : Result U EngineFault) (fault : EngineFault) → result ≡ Err fault → other ≡ Err fault → Reads old new result → Reads old new other
+  pub reads_refused : {T U : Type 0} (old new : Database S s) (result : Result T EngineFault)
+      (other : Result U EngineFault) (fault : EngineFault) → result ≡ Err fault → other ≡ Err fault
+      → Reads old new result → Reads old new other
   reads_refused {T} {U} old new result other fault is told h = record {
     stays = h.stays;
     goes = h.goes;
     device = λ why. h.device (is ∙ ap Err (one_fault fault (Db Device) (sym told ∙ why)));
     broken = λ why. h.broken (is ∙ ap Err (one_fault fault (Db Broken) (sym told ∙ why)));
-    usable = subst (λ (r : Result U EngineFault). OnOk r ((page_state new).usable ≡ (page_state old).usable)) (sym told) tt;
-    error = ⊎_elim (λ same. inl same) (λ refused. inr (refused.0, told ∙ ap Err (same_fault fault (Db refused.0) (sym is ∙ refused.1)), refused.2)) h.error;
+    usable = subst (λ (r : Result U EngineFault).
+        OnOk r ((page_state new).usable ≡ (page_state old).usable)) (sym told) tt;
+    error = ⊎_elim (λ same. inl same)
+        (λ refused. inr (
+          refused.0,
+          told
+              ∙ ap Err (same_fault fault (Db refused.0) (sym is ∙ refused.1)),
+          refused.2,
+        ))
+        h.error;
   }
     where
       same_fault : (a b : EngineFault) → ◌≡◌ {A = Result T EngineFault} (Err a) (Err b) → a ≡ b
@@ -263,5 +374,7 @@ module _ {S : Type 0} (s : Ghosts S) where
       one_fault : (a b : EngineFault) → ◌≡◌ {A = Result U EngineFault} (Err a) (Err b) → a ≡ b
       one_fault a b e = cc
 
-pub chance_told : {T : Type 0} (result : Result T EngineFault) (fault : EngineFault) (P : T → Type 0) → result ≡ Err fault → IsChance fault → MatchResult result P IsChance
-chance_told {T} result fault P is chance = subst (λ (r : Result T EngineFault). MatchResult r P IsChance) (sym is) chance
+pub chance_told : {T : Type 0} (result : Result T EngineFault) (fault : EngineFault)
+    (P : T → Type 0) → result ≡ Err fault → IsChance fault → MatchResult result P IsChance
+chance_told {T} result fault P is chance =
+    subst (λ (r : Result T EngineFault). MatchResult r P IsChance) (sym is) chance

@@ -52,7 +52,8 @@ device_only fault.Missing e = cc
 device_only fault.Exists e = cc
 
 -- what refuses a call that is answered from the file
-pub by_chance : (why : Fault) (told : EngineFault) → told ≡ Db why → model.Refused (fault_of why) ≡ model.Refused model.Device → IsChance told
+pub by_chance : (why : Fault) (told : EngineFault) → told ≡ Db why
+    → model.Refused (fault_of why) ≡ model.Refused model.Device → IsChance told
 by_chance why told is refused =
     let e : fault_of why ≡ model.Device = cc in
     inr (is ∙ ap Db (device_only why e))
@@ -60,12 +61,18 @@ by_chance why told is refused =
 -- what a pass with these keys left gives
 abbrev PassGives : Keys → Option Keys → Result (Option (Vec ℕ)) EngineFault → Type 0
 PassGives left pass (Ok None) = left ≡ set.empty
-PassGives left pass (Ok (Some key)) = (set.contains left key.items ≡ true) × (pass ≡ Some (set.remove left key.items))
+PassGives left pass (Ok (Some key)) =
+    (set.contains left key.items ≡ true) × (pass ≡ Some (set.remove left key.items))
 PassGives left pass (Err fault) = IsChance fault
 
-pass_gives : (before after : Handle) (left : Keys) (lent : Lent) (result : Result (Option (Vec ℕ)) EngineFault) → IsCopied lent result
-    → Answers before.state (Passes left) (lent_reply End lent) after.state ⊎ Suffers before (Passes left) (lent_reply End lent) after → PassGives left after.state.pass result
-pass_gives before after left (Ok None) (Ok None) copied h = ⊎_elim (λ given. ⊎_elim (λ x. x.0) (λ x. let e = x.2 in absurd (no_key x.0 e)) given) (λ x. let e = x.0 in cc) h
+pass_gives : (before after : Handle) (left : Keys) (lent : Lent)
+    (result : Result (Option (Vec ℕ)) EngineFault) → IsCopied lent result
+    → Answers before.state (Passes left) (lent_reply End lent) after.state
+    ⊎ Suffers before (Passes left) (lent_reply End lent) after
+    → PassGives left after.state.pass result
+pass_gives before after left (Ok None) (Ok None) copied h =
+    ⊎_elim (λ given. ⊎_elim (λ x. x.0) (λ x. let e = x.2 in absurd (no_key x.0 e)) given)
+    (λ x. let e = x.0 in cc) h
   where
     no_key : (key : Key) → End ≡ Bytes key → ⊥
     no_key key e = cc
@@ -74,8 +81,11 @@ pass_gives before after left (Ok None) (Err told) copied h = absurd copied
 pass_gives before after left (Ok (Some bytes)) (Ok None) copied h = absurd copied
 pass_gives before after left (Ok (Some bytes)) (Ok (Some copy)) copied h = ⊎_elim
     (λ given. ⊎_elim (λ x. absurd (no_end x.1)) (λ x.
-    let same : x.0 ≡ copy.items = sym (one_key x.0 x.2) ∙ sym copied in
-    (subst (λ (k : Key). set.contains left k ≡ true) same x.1, ap (λ (s : State). s.pass) x.3 ∙ ap (λ (k : Key). Some (set.remove left k)) same)) given)
+    let same : x.0 ≡ copy.items = sym (one_key x.0 x.2) ∙ sym copied in (
+      subst (λ (k : Key). set.contains left k ≡ true) same x.1,
+      ap (λ (s : State). s.pass) x.3 ∙ ap (λ (k : Key). Some (set.remove left k)) same,
+    ))
+    given)
     (λ x. absurd (no_fault x.0)) h
   where
     no_end : Bytes bytes.now ≡ End → ⊥
@@ -101,13 +111,16 @@ pass_gives before after left (Err why) (Err told) copied h = ⊎_elim
 
 -- ---- what is gathered
 
--- of the map's keys these are gathered, this one is to come next, and the others are left to the pass
-pub record IsGathering (m : Contents) (done : List Key) (key : Key) (count : ℕ) (pass : Option Keys) : Type 0 where
+-- of the map's keys these are gathered, this one is to come next, and the others are left to the
+-- pass
+pub record IsGathering (m : Contents) (done : List Key) (key : Key) (count : ℕ)
+    (pass : Option Keys) : Type 0 where
   pub left : Keys
   pub some : Gathered
   pub on : pass ≡ Some left
   pub done_is : done ≡ keys some
-  pub whole : (q : Key) → contains_key m q ≡ (contains_key some q || (eq_by_cmp key_cmp q key || set.contains left q))
+  pub whole : (q : Key) → contains_key m q
+      ≡ (contains_key some q || (eq_by_cmp key_cmp q key || set.contains left q))
   pub counted : count + 1 + set.len left ≡ finite.len m
 
 -- where no key came, all are gathered
@@ -115,10 +128,14 @@ abbrev pub HasGathered : Contents → List Key → Option (Vec ℕ) → ℕ → 
 HasGathered m done None count pass = done ≡ keys m
 HasGathered m done (Some key) count pass = IsGathering m done key.items count pass
 
-begins : (m : Contents) (pass : Option Keys) (result : Result (Option (Vec ℕ)) EngineFault) → PassGives (set.from_list (keys m)) pass result → MatchResult result (λ given. HasGathered m [] given 0 pass) IsChance
+begins : (m : Contents) (pass : Option Keys) (result : Result (Option (Vec ℕ)) EngineFault)
+    → PassGives (set.from_list (keys m)) pass result
+    → MatchResult result (λ given. HasGathered m [] given 0 pass) IsChance
 begins m pass (Ok None) none =
     sym keys_of_nothing ∙ all_gathered m nothing (λ q.
-    finite.contains_key-keys m q ∙ sym (set.contains-from_list nat_list_cmp_total (keys m) q) ∙ ap (λ (x : Keys). set.contains x q) none ∙ set.contains-empty key_cmp q ∙ sym (contains_nothing q))
+    finite.contains_key-keys m q ∙ sym (set.contains-from_list nat_list_cmp_total (keys m) q)
+    ∙ ap (λ (x : Keys). set.contains x q) none ∙ set.contains-empty key_cmp q
+    ∙ sym (contains_nothing q))
 begins m pass (Ok (Some key)) given =
     let all : Keys = set.from_list (keys m) in
     record {
@@ -127,9 +144,12 @@ begins m pass (Ok (Some key)) given =
       on = given.1;
       done_is = sym keys_of_nothing;
       whole = λ q.
-          finite.contains_key-keys m q ∙ sym (set.contains-from_list nat_list_cmp_total (keys m) q) ∙ taken all key.items q given.0
-          ∙ ap (λ b. b || (eq_by_cmp key_cmp q key.items || set.contains (set.remove all key.items) q)) (sym (contains_nothing q));
-      counted = let one = fewer_by_one all key.items given.0 in let many = all_counted m in omega (arith, one, many);
+          finite.contains_key-keys m q ∙ sym (set.contains-from_list nat_list_cmp_total (keys m) q)
+          ∙ taken all key.items q given.0
+          ∙ ap (λ b. b || (eq_by_cmp key_cmp q key.items || set.contains (set.remove all key.items)
+          q)) (sym (contains_nothing q));
+      counted = let one = fewer_by_one all key.items given.0 in let many = all_counted m in
+          omega (arith, one, many);
     }
 begins m pass (Err fault) chance = chance
 
@@ -145,33 +165,47 @@ gone_over true false c = refl
 gone_over false true c = refl
 gone_over false false c = refl
 
-goes_on : (m : Contents) (done : List Key) (key : Key) (count : ℕ) (before pass : Option Keys) (held : IsGathering m done key count before) (result : Result (Option (Vec ℕ)) EngineFault)
-    → PassGives held.left pass result → MatchResult result (λ given. HasGathered m (insert_key key_cmp done key) given (count + 1) pass) IsChance
+goes_on : (m : Contents) (done : List Key) (key : Key) (count : ℕ) (before pass : Option Keys)
+    (held : IsGathering m done key count before) (result : Result (Option (Vec ℕ)) EngineFault)
+    → PassGives held.left pass result
+    → MatchResult result (λ given.
+    HasGathered m (insert_key key_cmp done key) given (count + 1) pass) IsChance
 goes_on m done key count before pass held (Ok None) none =
-    ap (λ (ks : List Key). insert_key key_cmp ks key) held.done_is ∙ key_inserted held.some key ∙ all_gathered m (finite.insert held.some key tt) (λ q.
+    ap (λ (ks : List Key). insert_key key_cmp ks key) held.done_is ∙ key_inserted held.some key
+    ∙ all_gathered m (finite.insert held.some key tt) (λ q.
     held.whole q
-    ∙ no_more (contains_key held.some q) (eq_by_cmp key_cmp q key) (set.contains held.left q) (ap (λ (x : Keys). set.contains x q) none ∙ set.contains-empty key_cmp q)
+    ∙ no_more (contains_key held.some q) (eq_by_cmp key_cmp q key) (set.contains held.left q)
+    (ap (λ (x : Keys). set.contains x q) none ∙ set.contains-empty key_cmp q)
     ∙ sym (contains_inserted held.some key q))
 goes_on m done key count before pass held (Ok (Some next)) given = record {
   left = set.remove held.left next.items;
   some = finite.insert held.some key tt;
   on = given.1;
-  done_is = ap (λ (ks : List Key). insert_key key_cmp ks key) held.done_is ∙ key_inserted held.some key;
+  done_is = ap (λ (ks : List Key). insert_key key_cmp ks key) held.done_is
+      ∙ key_inserted held.some key;
   whole = λ q.
-      held.whole q ∙ gone_over (contains_key held.some q) (eq_by_cmp key_cmp q key) (set.contains held.left q)
+      held.whole q ∙ gone_over (contains_key held.some q) (eq_by_cmp key_cmp q key)
+      (set.contains held.left q)
       ∙ (λ i. sym (contains_inserted held.some key q) i || taken held.left next.items q given.0 i);
-  counted = let one = fewer_by_one held.left next.items given.0 in let many = held.counted in omega (arith, one, many);
+  counted = let one = fewer_by_one held.left next.items given.0 in let many = held.counted in
+      omega (arith, one, many);
 }
 goes_on m done key count before pass held (Err fault) chance = chance
 
 -- the rule of a call on a usable handle
-pub on_usable : (before after : Handle) (call : Call) (reply : model.Reply) → before.state.usable ≡ true → Step before call reply after
-    → Answers before.state (usable_case before.state call) reply after.state ⊎ Suffers before (usable_case before.state call) reply after
+pub on_usable : (before after : Handle) (call : Call) (reply : model.Reply)
+    → before.state.usable ≡ true → Step before call reply after
+    → Answers before.state (usable_case before.state call) reply after.state
+    ⊎ Suffers before (usable_case before.state call) reply after
 on_usable before after call reply usable step =
-    subst (λ (rule : Case). Answers before.state rule reply after.state ⊎ Suffers before rule reply after) (ap (λ b. cond b (usable_case before.state call) (broken_case before.state call)) usable) step.answers
+    subst (λ (rule : Case). Answers before.state rule reply after.state
+    ⊎ Suffers before rule reply after)
+    (ap (λ b. cond b (usable_case before.state call) (broken_case before.state call)) usable)
+    step.answers
 
 -- a pass over a database of the map, as far as it has come
-pub record IsPassing {S : Type 0} {s : Ghosts S} (db : Database S s) (m : Contents) (done : List Key) (given : Option (Vec ℕ)) (count : ℕ) : Type 0 where
+pub record IsPassing {S : Type 0} {s : Ghosts S} (db : Database S s) (m : Contents)
+    (done : List Key) (given : Option (Vec ℕ)) (count : ℕ) : Type 0 where
   pub now : Handle
   pub is_at : IsAt db now
   pub map_is : now.state.map ≡ m
@@ -179,92 +213,151 @@ pub record IsPassing {S : Type 0} {s : Ghosts S} (db : Database S s) (m : Conten
   pub held : HasGathered m done given count now.state.pass
 
 module _ {S : Type 0} {s : Ghosts S} where
-  passing : (db : Database S s) (m : Contents) (after : Handle) (done : List Key) (count : ℕ) (result : Result (Option (Vec ℕ)) EngineFault) → IsAt db after → after.state.map ≡ m → after.state.usable ≡ true
-      → MatchResult result (λ given. HasGathered m done given count after.state.pass) IsChance → MatchResult result (λ given. IsPassing db m done given count) IsChance
-  passing db m after done count (Ok given) at map usable held = record { now = after; is_at = at; map_is = map; usable = usable; held = held }
+  passing : (db : Database S s) (m : Contents) (after : Handle) (done : List Key) (count : ℕ)
+      (result : Result (Option (Vec ℕ)) EngineFault) → IsAt db after → after.state.map ≡ m
+      → after.state.usable ≡ true
+      → MatchResult result (λ given. HasGathered m done given count after.state.pass) IsChance
+      → MatchResult result (λ given. IsPassing db m done given count) IsChance
+  passing db m after done count (Ok given) at map usable held =
+      record { now = after; is_at = at; map_is = map; usable = usable; held = held }
   passing db m after done count (Err fault) at map usable held = held
 
   -- a pass is begun
-  begun : (old new : Database S s) (start : Handle) (result : Result (Option (Vec ℕ)) EngineFault) → start.state.usable ≡ true → CopiesStep old new start First End result
+  begun : (old new : Database S s) (start : Handle) (result : Result (Option (Vec ℕ)) EngineFault)
+      → start.state.usable ≡ true → CopiesStep old new start First End result
       → MatchResult result (λ given. IsPassing new start.state.map [] given 0) IsChance
   begun old new start result usable (lent, copied, made) =
-      let keeps = keeps_map start made.after (case_of start.state First) (lent_reply End lent) (reads_first start.state) made.step.answers in
-      let gives = pass_gives start made.after (set.from_list (keys start.state.map)) lent result copied (on_usable start made.after First (lent_reply End lent) usable made.step) in
-      passing new start.state.map made.after [] 0 result made.is_at keeps.map (keeps.usable ∙ usable) (begins start.state.map made.after.state.pass result gives)
+      let keeps = keeps_map start made.after (case_of start.state First) (lent_reply End lent)
+      (reads_first start.state) made.step.answers in
+      let gives = pass_gives start made.after (set.from_list (keys start.state.map)) lent result
+      copied (on_usable start made.after First (lent_reply End lent) usable made.step) in
+      passing new start.state.map made.after [] 0 result made.is_at keeps.map
+      (keeps.usable ∙ usable) (begins start.state.map made.after.state.pass result gives)
 
-  pub pass_begins : (old new : Database S s) (start : Handle) (result : Result (Option (Vec ℕ)) EngineFault) (given : Option (Vec ℕ)) (done : List Key) → start.state.usable ≡ true → CopiesStep old new start First End result
+  pub pass_begins : (old new : Database S s) (start : Handle)
+      (result : Result (Option (Vec ℕ)) EngineFault) (given : Option (Vec ℕ)) (done : List Key)
+      → start.state.usable ≡ true → CopiesStep old new start First End result
       → result ≡ Ok given → done ≡ [] → IsPassing new start.state.map done given 0
   pass_begins old new start result given done usable step is none =
       subst (λ (ks : List Key). IsPassing new start.state.map ks given 0) (sym none)
-      (subst (λ (r : Result (Option (Vec ℕ)) EngineFault). MatchResult r (λ given. IsPassing new start.state.map [] given 0) IsChance) is (begun old new start result usable step))
+      (subst (λ (r : Result (Option (Vec ℕ)) EngineFault).
+      MatchResult r (λ given. IsPassing new start.state.map [] given 0) IsChance) is
+      (begun old new start result usable step))
 
-  pub pass_begins_not : (old new : Database S s) (start : Handle) (result : Result (Option (Vec ℕ)) EngineFault) (fault : EngineFault) → start.state.usable ≡ true → CopiesStep old new start First End result
+  pub pass_begins_not : (old new : Database S s) (start : Handle)
+      (result : Result (Option (Vec ℕ)) EngineFault) (fault : EngineFault)
+      → start.state.usable ≡ true → CopiesStep old new start First End result
       → result ≡ Err fault → IsChance fault
   pass_begins_not old new start result fault usable step is =
-      subst (λ (r : Result (Option (Vec ℕ)) EngineFault). MatchResult r (λ given. IsPassing new start.state.map [] given 0) IsChance) is (begun old new start result usable step)
+      subst (λ (r : Result (Option (Vec ℕ)) EngineFault).
+      MatchResult r (λ given. IsPassing new start.state.map [] given 0) IsChance) is
+      (begun old new start result usable step)
 
   -- and goes on
-  gone_on : (old new : Database S s) (m : Contents) (done : List Key) (given : Option (Vec ℕ)) (key : Vec ℕ) (count : ℕ) (result : Result (Option (Vec ℕ)) EngineFault) (so_far : IsPassing old m done given count) → given ≡ Some key
-      → CopiesStep old new so_far.now Next End result → MatchResult result (λ next. IsPassing new m (insert_key key_cmp done key.items) next (count + 1)) IsChance
+  gone_on : (old new : Database S s) (m : Contents) (done : List Key) (given : Option (Vec ℕ))
+      (key : Vec ℕ) (count : ℕ) (result : Result (Option (Vec ℕ)) EngineFault)
+      (so_far : IsPassing old m done given count) → given ≡ Some key
+      → CopiesStep old new so_far.now Next End result
+      → MatchResult result (λ next.
+      IsPassing new m (insert_key key_cmp done key.items) next (count + 1)) IsChance
   gone_on old new m done None key count result so_far is step = cc
   gone_on old new m done (Some given) key count result so_far is (lent, copied, made) =
       let start = so_far.now in
       let same : given ≡ key = cc in
-      let keeps = keeps_map start made.after (case_of start.state Next) (lent_reply End lent) (reads_next start.state) made.step.answers in
+      let keeps = keeps_map start made.after (case_of start.state Next) (lent_reply End lent)
+      (reads_next start.state) made.step.answers in
       let step = on_usable start made.after Next (lent_reply End lent) so_far.usable made.step in
-      let left = subst (λ (pass : Option Keys). Answers start.state (passed pass) (lent_reply End lent) made.after.state ⊎ Suffers start (passed pass) (lent_reply End lent) made.after) so_far.held.on step in
+      let left = subst (λ (pass : Option Keys).
+      Answers start.state (passed pass) (lent_reply End lent) made.after.state
+      ⊎ Suffers start (passed pass) (lent_reply End lent) made.after) so_far.held.on step in
       let gives = pass_gives start made.after so_far.held.left lent result copied left in
-      subst (λ (k : Vec ℕ). MatchResult result (λ next. IsPassing new m (insert_key key_cmp done k.items) next (count + 1)) IsChance) same
-      (passing new m made.after (insert_key key_cmp done given.items) (count + 1) result made.is_at (keeps.map ∙ so_far.map_is) (keeps.usable ∙ so_far.usable) (goes_on m done given.items count start.state.pass made.after.state.pass so_far.held result gives))
+      subst (λ (k : Vec ℕ). MatchResult result
+      (λ next. IsPassing new m (insert_key key_cmp done k.items) next (count + 1)) IsChance)
+      same
+      (passing new m made.after (insert_key key_cmp done given.items) (count + 1) result made.is_at
+      (keeps.map ∙ so_far.map_is) (keeps.usable ∙ so_far.usable)
+      (goes_on m done given.items count start.state.pass made.after.state.pass
+      so_far.held result gives))
 
-  module _ (old new : Database S s) (m : Contents) (done : List Key) (given : Option (Vec ℕ)) (key : Vec ℕ) (count : ℕ) (result : Result (Option (Vec ℕ)) EngineFault) (so_far : IsPassing old m done given count) (is : given ≡ Some key)
+  module _ (old new : Database S s) (m : Contents) (done : List Key) (given : Option (Vec ℕ))
+      (key : Vec ℕ) (count : ℕ) (result : Result (Option (Vec ℕ)) EngineFault)
+      (so_far : IsPassing old m done given count) (is : given ≡ Some key)
       (step : CopiesStep old new so_far.now Next End result) where
-    pub pass_goes_on : (next : Option (Vec ℕ)) (more : List Key) → result ≡ Ok next → more ≡ insert_key key_cmp done key.items → IsPassing new m more next (count + 1)
+    pub pass_goes_on : (next : Option (Vec ℕ)) (more : List Key) → result ≡ Ok next
+        → more ≡ insert_key key_cmp done key.items → IsPassing new m more next (count + 1)
     pass_goes_on next more well put =
         subst (λ (ks : List Key). IsPassing new m ks next (count + 1)) (sym put)
-        (subst (λ (r : Result (Option (Vec ℕ)) EngineFault). MatchResult r (λ next. IsPassing new m (insert_key key_cmp done key.items) next (count + 1)) IsChance) well (gone_on old new m done given key count result so_far is step))
+        (subst (λ (r : Result (Option (Vec ℕ)) EngineFault).
+        MatchResult r (λ next. IsPassing new m (insert_key key_cmp done key.items) next
+        (count + 1)) IsChance) well (gone_on old new m done given key count result
+        so_far is step))
 
     pub pass_goes_on_not : (fault : EngineFault) → result ≡ Err fault → IsChance fault
     pass_goes_on_not fault badly =
-        subst (λ (r : Result (Option (Vec ℕ)) EngineFault). MatchResult r (λ next. IsPassing new m (insert_key key_cmp done key.items) next (count + 1)) IsChance) badly (gone_on old new m done given key count result so_far is step)
+        subst (λ (r : Result (Option (Vec ℕ)) EngineFault).
+        MatchResult r (λ next. IsPassing new m (insert_key key_cmp done key.items) next
+        (count + 1)) IsChance) badly (gone_on old new m done given key count result
+        so_far is step)
 
 module _ {S : Type 0} {s : Ghosts S} (db : Database S s) (m : Contents) (done : List Key) where
   -- and ends, where no key came
-  pub pass_ends : (given : Option (Vec ℕ)) (count : ℕ) → IsPassing db m done given count → given ≡ None → done ≡ keys m
-  pass_ends given count so_far none = subst (λ (g : Option (Vec ℕ)). HasGathered m done g count so_far.now.state.pass) none so_far.held
+  pub pass_ends : (given : Option (Vec ℕ)) (count : ℕ) → IsPassing db m done given count
+      → given ≡ None → done ≡ keys m
+  pass_ends given count so_far none =
+      subst (λ (g : Option (Vec ℕ)). HasGathered m done g count so_far.now.state.pass)
+      none so_far.held
 
   -- before it has given as many keys as the map has
-  pub pass_too_long : (P : Type 0) (given : Option (Vec ℕ)) (count most : ℕ) → IsPassing db m done given count → is_some given ≡ true → most ≡ finite.len m → most ≤ count → P
+  pub pass_too_long : (P : Type 0) (given : Option (Vec ℕ)) (count most : ℕ)
+      → IsPassing db m done given count → is_some given ≡ true → most ≡ finite.len m
+      → most ≤ count → P
   pass_too_long P None count most so_far some is all = cc
-  pass_too_long P (Some key) count most so_far some is all = let counted = so_far.held.counted in absurd (omega (arith, counted, is, all))
+  pass_too_long P (Some key) count most so_far some is all = let counted = so_far.held.counted in
+      absurd (omega (arith, counted, is, all))
 
 pub none_left : (given : Option (Vec ℕ)) → is_some given ≡ false → given ≡ None
 none_left None is = refl
 none_left (Some key) is = cc
 
 -- the bytes of a set that one more key is put into
-bytes_inserted : (ks : List (Vec ℕ)) (key : Vec ℕ) → map (λ (x : Vec ℕ). x.items) (insert_key (λ (x y : Vec ℕ). slice_cmp nat_cmp x.items y.items) ks key) ≡ insert_key key_cmp (map (λ (x : Vec ℕ). x.items) ks) key.items
+bytes_inserted : (ks : List (Vec ℕ)) (key : Vec ℕ)
+    → map (λ (x : Vec ℕ). x.items)
+    (insert_key (λ (x y : Vec ℕ). slice_cmp nat_cmp x.items y.items) ks key)
+    ≡ insert_key key_cmp (map (λ (x : Vec ℕ). x.items) ks) key.items
 bytes_inserted [] key = refl
 bytes_inserted (k ∷ ks) key = seen _ _ (slice_cmp nat_cmp key.items k.items) (bytes_inserted ks key)
   where
-    seen : (more : List (Vec ℕ)) (rest : List Key) (r : Ordering) → map (λ (x : Vec ℕ). x.items) more ≡ rest
-        → map (λ (x : Vec ℕ). x.items) (match_ordering r (key ∷ k ∷ ks) (k ∷ ks) (k ∷ more)) ≡ match_ordering r (key.items ∷ k.items ∷ map (λ (x : Vec ℕ). x.items) ks) (k.items ∷ map (λ (x : Vec ℕ). x.items) ks) (k.items ∷ rest)
+    seen : (more : List (Vec ℕ)) (rest : List Key) (r : Ordering)
+        → map (λ (x : Vec ℕ). x.items) more ≡ rest
+        → map (λ (x : Vec ℕ). x.items) (match_ordering r (key ∷ k ∷ ks) (k ∷ ks) (k ∷ more))
+        ≡ match_ordering r (key.items ∷ k.items ∷ map (λ (x : Vec ℕ). x.items) ks)
+        (k.items ∷ map (λ (x : Vec ℕ). x.items) ks) (k.items ∷ rest)
     seen more rest Less h = refl
     seen more rest Equal h = refl
     seen more rest Greater h = ap (λ xs. k.items ∷ xs) h
 
-pub bytes_put : (old new : List (Vec ℕ)) (key : Vec ℕ) → new ≡ insert_key (λ (x y : Vec ℕ). slice_cmp nat_cmp x.items y.items) old key → map (λ (x : Vec ℕ). x.items) new ≡ insert_key key_cmp (map (λ (x : Vec ℕ). x.items) old) key.items
+pub bytes_put : (old new : List (Vec ℕ)) (key : Vec ℕ)
+    → new ≡ insert_key (λ (x y : Vec ℕ). slice_cmp nat_cmp x.items y.items) old key
+    → map (λ (x : Vec ℕ). x.items) new
+    ≡ insert_key key_cmp (map (λ (x : Vec ℕ). x.items) old) key.items
 bytes_put old new key put = ap (map (λ (x : Vec ℕ). x.items)) put ∙ bytes_inserted old key
 
 -- at most one key more
-inserted_length : (ks : List (Vec ℕ)) (key : Vec ℕ) → length (insert_key (λ (x y : Vec ℕ). slice_cmp nat_cmp x.items y.items) ks key) ≤ length ks + 1
+inserted_length : (ks : List (Vec ℕ)) (key : Vec ℕ)
+    → length (insert_key (λ (x y : Vec ℕ). slice_cmp nat_cmp x.items y.items) ks key)
+    ≤ length ks + 1
 inserted_length [] key = omega arith
-inserted_length (k ∷ ks) key = by_place _ (slice_cmp nat_cmp key.items k.items) (inserted_length ks key)
+inserted_length (k ∷ ks) key =
+    by_place _ (slice_cmp nat_cmp key.items k.items) (inserted_length ks key)
   where
-    by_place : (more : List (Vec ℕ)) (r : Ordering) → length more ≤ length ks + 1 → length (match_ordering r (key ∷ k ∷ ks) (k ∷ ks) (k ∷ more)) ≤ length (k ∷ ks) + 1
+    by_place : (more : List (Vec ℕ)) (r : Ordering) → length more ≤ length ks + 1
+        → length (match_ordering r (key ∷ k ∷ ks) (k ∷ ks) (k ∷ more)) ≤ length (k ∷ ks) + 1
     by_place more Less le = omega arith
     by_place more Equal le = omega arith
     by_place more Greater le = omega (arith, le)
 
-pub one_more_at_most : (old new : List (Vec ℕ)) (key : Vec ℕ) (count : ℕ) → new ≡ insert_key (λ (x y : Vec ℕ). slice_cmp nat_cmp x.items y.items) old key → length old ≤ count → length new ≤ count + 1
-one_more_at_most old new key count put le = omega (arith, ap length put, inserted_length old key, le)
+pub one_more_at_most : (old new : List (Vec ℕ)) (key : Vec ℕ) (count : ℕ)
+    → new ≡ insert_key (λ (x y : Vec ℕ). slice_cmp nat_cmp x.items y.items) old key
+    → length old ≤ count → length new ≤ count + 1
+one_more_at_most old new key count put le =
+    omega (arith, ap length put, inserted_length old key, le)

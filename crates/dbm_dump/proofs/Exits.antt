@@ -15,7 +15,8 @@ use Rattle.page_io.proofs.Exits.{came}
 use Rattle.dbm_dump.specs.Dumping.{bytes_of_keys, pair_lines, key_lines, WritesPairs, WritesKeys}
 
 -- the fault is the one that the callee was bound to answer
-pub same_exit : {T U : Type 0} (result : Result T EngineFault) (e f : EngineFault) → result ≡ Err e → ◌≡◌ {A = Result U EngineFault} (Err e) (Err f) → result ≡ Err f
+pub same_exit : {T U : Type 0} (result : Result T EngineFault) (e f : EngineFault) → result ≡ Err e
+    → ◌≡◌ {A = Result U EngineFault} (Err e) (Err f) → result ≡ Err f
 same_exit {T} {U} result e f exit is = exit ∙ came {T = U} {U = T} (Err e) e refl f is
 
 -- ---- faults
@@ -23,45 +24,72 @@ same_exit {T} {U} result e f exit is = exit ∙ came {T = U} {U = T} (Err e) e r
 abbrev pub AnyOf : EngineFault → Type 0
 AnyOf f = IsAmong f (Memory ∷ Write ∷ Db Broken ∷ Db NoPass ∷ Db Device ∷ Db Damaged ∷ [])
 
-pub of_gathering : (f : EngineFault) → IsAmong f (Memory ∷ Db Broken ∷ Db NoPass ∷ Db Device ∷ Db Damaged ∷ []) → AnyOf f
+pub of_gathering : (f : EngineFault)
+    → IsAmong f (Memory ∷ Db Broken ∷ Db NoPass ∷ Db Device ∷ Db Damaged ∷ []) → AnyOf f
 of_gathering f is = ⊎_elim (λ memory. inl memory) (λ other. inr (inr other)) is
 
-pub of_fetching : (f : EngineFault) → IsAmong f (Memory ∷ Db Broken ∷ Db Device ∷ Db Damaged ∷ []) → AnyOf f
-of_fetching f is = ⊎_elim (λ memory. inl memory) (λ other. ⊎_elim (λ broken. inr (inr (inl broken))) (λ last. inr (inr (inr (inr last)))) other) is
+pub of_fetching : (f : EngineFault)
+    → IsAmong f (Memory ∷ Db Broken ∷ Db Device ∷ Db Damaged ∷ []) → AnyOf f
+of_fetching f is = ⊎_elim (λ memory. inl memory)
+    (λ other. ⊎_elim (λ broken. inr (inr (inl broken))) (λ last. inr (inr (inr (inr last)))) other)
+    is
 
-pub of_beginning : (f : EngineFault) → IsAmong f (Memory ∷ Db Broken ∷ Db Device ∷ Db Damaged ∷ []) → IsAmong f (Memory ∷ Db Broken ∷ Db NoPass ∷ Db Device ∷ Db Damaged ∷ [])
-of_beginning f is = ⊎_elim (λ memory. inl memory) (λ other. ⊎_elim (λ broken. inr (inl broken)) (λ last. inr (inr (inr last))) other) is
+pub of_beginning : (f : EngineFault) → IsAmong f (Memory ∷ Db Broken ∷ Db Device ∷ Db Damaged ∷ [])
+    → IsAmong f (Memory ∷ Db Broken ∷ Db NoPass ∷ Db Device ∷ Db Damaged ∷ [])
+of_beginning f is = ⊎_elim (λ memory. inl memory)
+    (λ other. ⊎_elim (λ broken. inr (inl broken)) (λ last. inr (inr (inr last))) other) is
 
 -- ---- what was written
 
 -- what holds where all was written, where a fault of the writer is told as another
-pub wrote_well : {E : Type 0} (P : Type 0) (wrote : Result Unit E) (result : Result Unit EngineFault) → is_ok result ≡ is_ok wrote → OnOk wrote P → OnOk result P
+pub wrote_well : {E : Type 0} (P : Type 0) (wrote : Result Unit E)
+    (result : Result Unit EngineFault) → is_ok result ≡ is_ok wrote → OnOk wrote P → OnOk result P
 wrote_well P (Ok x) (Ok y) same p = p
 wrote_well P (Err e) (Ok y) same p = cc
 wrote_well P wrote (Err f) same p = tt
 
-pub write_or : (Q : EngineFault → Type 0) (result : Result Unit EngineFault) → IfErr result (λ f. f ≡ Write) → IfErr result (λ f. (f ≡ Write) ⊎ Q f)
+pub write_or : (Q : EngineFault → Type 0) (result : Result Unit EngineFault)
+    → IfErr result (λ f. f ≡ Write) → IfErr result (λ f. (f ≡ Write) ⊎ Q f)
 write_or Q (Ok x) is = tt
 write_or Q (Err f) is = inl is
 
-pub write_among : (result : Result Unit EngineFault) → IfErr result (λ f. f ≡ Write) → IfErr result AnyOf
+pub write_among : (result : Result Unit EngineFault) → IfErr result (λ f. f ≡ Write)
+    → IfErr result AnyOf
 write_among (Ok x) is = tt
 write_among (Err f) is = inr (inl is)
 
 -- the lines of these pairs, and of these keys
-pub writes_pairs : {E : Type 0} (wrote : Result Unit E) (pairs : List Pair) (keys : BTreeSet (Vec ℕ)) (most : ℕ) (before after : Option (List ℕ)) → map (λ (pair : Pair). pair.0) pairs ≡ bytes_of_keys keys → length keys.keys ≤ most
-    → OnOk wrote (Appends before after (pair_lines pairs)) → OnOk wrote (WritesPairs most before after)
-writes_pairs (Ok x) pairs keys most before after same bound written =
-    (pairs, omega (arith, sym (length-map pairs (λ (pair : Pair). pair.0)) ∙ ap length same ∙ length-map keys.keys (λ (key : Vec ℕ). key.items), bound), written)
+pub writes_pairs : {E : Type 0} (wrote : Result Unit E) (pairs : List Pair)
+    (keys : BTreeSet (Vec ℕ)) (most : ℕ) (before after : Option (List ℕ))
+    → map (λ (pair : Pair). pair.0) pairs ≡ bytes_of_keys keys → length keys.keys ≤ most
+    → OnOk wrote (Appends before after (pair_lines pairs))
+    → OnOk wrote (WritesPairs most before after)
+writes_pairs (Ok x) pairs keys most before after same bound written = (
+  pairs,
+  omega (
+    arith,
+    sym (length-map pairs (λ (pair : Pair). pair.0)) ∙ ap length same
+        ∙ length-map keys.keys (λ (key : Vec ℕ). key.items),
+    bound,
+  ),
+  written,
+)
 writes_pairs (Err e) pairs keys most before after same bound written = tt
 
-pub writes_keys : {E : Type 0} (wrote : Result Unit E) (keys : BTreeSet (Vec ℕ)) (most : ℕ) (before after : Option (List ℕ)) → length keys.keys ≤ most
-    → OnOk wrote (Appends before after (key_lines (bytes_of_keys keys))) → OnOk wrote (WritesKeys most before after)
-writes_keys (Ok x) keys most before after bound written = (bytes_of_keys keys, omega (arith, length-map keys.keys (λ (key : Vec ℕ). key.items), bound), written)
+pub writes_keys : {E : Type 0} (wrote : Result Unit E) (keys : BTreeSet (Vec ℕ)) (most : ℕ)
+    (before after : Option (List ℕ)) → length keys.keys ≤ most
+    → OnOk wrote (Appends before after (key_lines (bytes_of_keys keys)))
+    → OnOk wrote (WritesKeys most before after)
+writes_keys (Ok x) keys most before after bound written = (
+  bytes_of_keys keys,
+  omega (arith, length-map keys.keys (λ (key : Vec ℕ). key.items), bound),
+  written,
+)
 writes_keys (Err e) keys most before after bound written = tt
 
 -- no call on the database was refused
-pub no_call_refused : (result : Result Unit EngineFault) (fault : Fault) → IfErr result (λ e. e ≡ Write) → IsErrOf result (Db fault) → ⊥
+pub no_call_refused : (result : Result Unit EngineFault) (fault : Fault)
+    → IfErr result (λ e. e ≡ Write) → IsErrOf result (Db fault) → ⊥
 no_call_refused (Ok done) fault write is = cc
 no_call_refused (Err e) fault write is = cc
 

@@ -28,22 +28,28 @@ pub record KeepsMap (before after : State) : Type 0 where
   pub writable : after.writable ≡ before.writable
   pub usable : after.usable ≡ before.usable
 
--- The database is at a handle of the same map, and every image of every moment since stands for that map.
-pub record Stays {S : Type 0} {s : Ghosts S} (old new : Database S s) (before : Handle) : Type 0 where
+-- The database is at a handle of the same map, and every image of every moment since stands for
+-- that map.
+pub record Stays {S : Type 0} {s : Ghosts S} (old new : Database S s)
+    (before : Handle) : Type 0 where
   pub after : Handle
   pub is_at : IsAt new after
   pub keeps : KeepsMap before.state after.state
   pub survives : (page_state old).usable ≡ true → Survives old new (λ map. map ≡ before.state.map)
 
 -- What any number of calls that read leave on any device, and on an honest one.
-pub record Reads {S T : Type 0} {s : Ghosts S} (old new : Database S s) (result : Result T EngineFault) : Type 0 where
+pub record Reads {S T : Type 0} {s : Ghosts S} (old new : Database S s)
+    (result : Result T EngineFault) : Type 0 where
   pub stays : s.honest (store_of old) → (h : Handle) → IsAt old h → Stays old new h
   pub goes : IsSameDatabase old new
-  pub device : IsErrOf result (Db Device) → MoreFaults (s.faults (store_of old)) (s.faults (store_of new))
+  pub device : IsErrOf result (Db Device)
+      → MoreFaults (s.faults (store_of old)) (s.faults (store_of new))
   pub broken : IsErrOf result (Db Broken) → (page_state old).usable ≡ false
   pub usable : OnOk result ((page_state new).usable ≡ (page_state old).usable)
   -- the first fault is kept, and that of a refused call is one
-  pub error : (error_of new ≡ error_of old) ⊎ ((fault : Fault) × IsErrOf result (Db fault) × (error_of new ≡ first_fault (error_of old) (fault_of fault)))
+  pub error : (error_of new ≡ error_of old)
+      ⊎ ((fault : Fault) × IsErrOf result (Db fault)
+      × (error_of new ≡ first_fault (error_of old) (fault_of fault)))
 
 -- what may hinder the reading of a usable database on an honest device
 abbrev pub IsChance : EngineFault → Type 0
@@ -66,8 +72,10 @@ IsCopied (Err fault) (Err told) = told ≡ Db fault
 IsCopied _ _ = ⊥
 
 -- the call was made, and what it lent is copied
-abbrev pub CopiesStep : {S : Type 0} {s : Ghosts S} → Database S s → Database S s → Handle → Call → Reply → Result (Option (Vec ℕ)) EngineFault → Type 0
-CopiesStep old new start call none result = (lent : Lent) × IsCopied lent result × IsStep old new start call (lent_reply none lent)
+abbrev pub CopiesStep : {S : Type 0} {s : Ghosts S} → Database S s → Database S s → Handle → Call
+    → Reply → Result (Option (Vec ℕ)) EngineFault → Type 0
+CopiesStep old new start call none result =
+    (lent : Lent) × IsCopied lent result × IsStep old new start call (lent_reply none lent)
 
 abbrev pub pair_lines : List Pair → List ℕ
 pair_lines pairs = flat_map dump_line pairs
@@ -77,8 +85,10 @@ key_lines keys = flat_map (λ key. with_line_feed (word_of key)) keys
 
 -- the lines of some pairs were written, at most as many as the first number
 abbrev pub WritesPairs : ℕ → Option (List ℕ) → Option (List ℕ) → Type 0
-WritesPairs most before after = (pairs : List Pair) × (length pairs ≤ most) × Appends before after (pair_lines pairs)
+WritesPairs most before after =
+    (pairs : List Pair) × (length pairs ≤ most) × Appends before after (pair_lines pairs)
 
 -- the same of keys
 abbrev pub WritesKeys : ℕ → Option (List ℕ) → Option (List ℕ) → Type 0
-WritesKeys most before after = (keys : List Key) × (length keys ≤ most) × Appends before after (key_lines keys)
+WritesKeys most before after =
+    (keys : List Key) × (length keys ≤ most) × Appends before after (key_lines keys)

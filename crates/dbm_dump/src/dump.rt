@@ -16,17 +16,18 @@ use std::alloc::Global;
 use std::collections::BTreeSet;
 use std::io::{self, Write};
 
-/// Writes each pair as `key content` in a line, in ascending byte order of keys. It reads everything
-/// before it writes, by a pass and a fetch of each key, and keeps the keys and the contents in memory
-/// until it ends. `Db(Damaged)` comes where the pass gives more keys than the file counts pairs, or a
-/// key that fetch doesn't find. After `Write` some of the text may be out.
+/// Writes each pair as `key content` in a line, in ascending byte order of keys. It reads
+/// everything before it writes, by a pass and a fetch of each key, and keeps the keys and the
+/// contents in memory until it ends. `Db(Damaged)` comes where the pass gives more keys than the
+/// file counts pairs, or a key that fetch doesn't find. After `Write` some of the text may be out.
 pub fn dump_engine<S: PageStore, W: Write>(
     alloc: Global,
     db: &mut Database<S>,
     writer: &mut W,
 ) -> Result<(), EngineFault>
     ensures dump { AtEachHandle db.old (λ h.
-        h.state.usable ≡ true → OnOk result (Appends (W.contents writer.old) (W.contents writer.new) (dump_of h.state.map))) }
+        h.state.usable ≡ true → OnOk result
+        (Appends (W.contents writer.old) (W.contents writer.new) (dump_of h.state.map))) }
     ensures whole { AtEachHandle db.old (λ h.
         h.state.usable ≡ true → IfErr result (λ e. (e ≡ EngineFault.Write) ⊎ IsChance e)) }
 
@@ -34,26 +35,32 @@ pub fn dump_engine<S: PageStore, W: Write>(
     ensures reads { Reads db.old db.new result }
 
     // On any device.
-    ensures lines { OnOk result (WritesPairs (meta_kept db.old).pairs (W.contents writer.old) (W.contents writer.new)) }
-    ensures broken { (page_state db.old).usable ≡ false → result ≡ Err (EngineFault.Db Fault.Broken) }
+    ensures lines { OnOk result (WritesPairs (meta_kept db.old).pairs (W.contents writer.old)
+        (W.contents writer.new)) }
+    ensures broken { (page_state db.old).usable ≡ false
+        → result ≡ Err (EngineFault.Db Fault.Broken) }
     ensures unwritten { IfErr result (λ e. (e ≡ EngineFault.Write) ⊎ (writer.new ≡ writer.old)) }
-    ensures only { IsErrAmong result (EngineFault.Memory ∷ EngineFault.Write ∷ EngineFault.Db Fault.Broken ∷ EngineFault.Db Fault.NoPass ∷ EngineFault.Db Fault.Device ∷ EngineFault.Db Fault.Damaged ∷ []) }
+    ensures only { IsErrAmong result
+        (EngineFault.Memory ∷ EngineFault.Write ∷ EngineFault.Db Fault.Broken
+        ∷ EngineFault.Db Fault.NoPass ∷ EngineFault.Db Fault.Device
+        ∷ EngineFault.Db Fault.Damaged ∷ []) }
 {
     let keys = gather_keys(alloc, db)?;
     let pairs = fetch_pairs(alloc, db, keys)?;
     write_pairs(writer, &pairs).map_err(|_| EngineFault::Write)
 }
 
-/// Writes each key in a line, in ascending byte order. It reads all keys before it writes, by a pass, and
-/// keeps them in memory until it ends. `Db(Damaged)` comes where the pass gives more keys than the file
-/// counts pairs. After `Write` some of the text may be out.
+/// Writes each key in a line, in ascending byte order. It reads all keys before it writes, by a
+/// pass, and keeps them in memory until it ends. `Db(Damaged)` comes where the pass gives more keys
+/// than the file counts pairs. After `Write` some of the text may be out.
 pub fn list_engine<S: PageStore, W: Write>(
     alloc: Global,
     db: &mut Database<S>,
     writer: &mut W,
 ) -> Result<(), EngineFault>
     ensures list { AtEachHandle db.old (λ h.
-        h.state.usable ≡ true → OnOk result (Appends (W.contents writer.old) (W.contents writer.new) (listing_of h.state.map))) }
+        h.state.usable ≡ true → OnOk result
+        (Appends (W.contents writer.old) (W.contents writer.new) (listing_of h.state.map))) }
     ensures whole { AtEachHandle db.old (λ h.
         h.state.usable ≡ true → IfErr result (λ e. (e ≡ EngineFault.Write) ⊎ IsChance e)) }
 
@@ -61,10 +68,15 @@ pub fn list_engine<S: PageStore, W: Write>(
     ensures reads { Reads db.old db.new result }
 
     // On any device.
-    ensures lines { OnOk result (WritesKeys (meta_kept db.old).pairs (W.contents writer.old) (W.contents writer.new)) }
-    ensures broken { (page_state db.old).usable ≡ false → result ≡ Err (EngineFault.Db Fault.Broken) }
+    ensures lines { OnOk result (WritesKeys (meta_kept db.old).pairs (W.contents writer.old)
+        (W.contents writer.new)) }
+    ensures broken { (page_state db.old).usable ≡ false
+        → result ≡ Err (EngineFault.Db Fault.Broken) }
     ensures unwritten { IfErr result (λ e. (e ≡ EngineFault.Write) ⊎ (writer.new ≡ writer.old)) }
-    ensures only { IsErrAmong result (EngineFault.Memory ∷ EngineFault.Write ∷ EngineFault.Db Fault.Broken ∷ EngineFault.Db Fault.NoPass ∷ EngineFault.Db Fault.Device ∷ EngineFault.Db Fault.Damaged ∷ []) }
+    ensures only { IsErrAmong result
+        (EngineFault.Memory ∷ EngineFault.Write ∷ EngineFault.Db Fault.Broken
+        ∷ EngineFault.Db Fault.NoPass ∷ EngineFault.Db Fault.Device
+        ∷ EngineFault.Db Fault.Damaged ∷ []) }
 {
     let keys = gather_keys(alloc, db)?;
     write_keys(writer, &keys).map_err(|_| EngineFault::Write)
@@ -73,7 +85,8 @@ pub fn list_engine<S: PageStore, W: Write>(
 /// Writes the line of each pair.
 fn write_pairs<W: Write>(writer: &mut W, pairs: &[(Octets, Octets)]) -> io::Result<()>
     requires { All (λ pair. IsShort pair.0 × IsShort pair.1) pairs.now }
-    ensures { OnOk result (Appends (W.contents writer.old) (W.contents writer.new) (pair_lines pairs.now)) }
+    ensures { OnOk result (Appends (W.contents writer.old) (W.contents writer.new)
+        (pair_lines pairs.now)) }
 {
     let mut digits = [0; DIGITS];
     for (key, content) in pairs {
@@ -87,7 +100,8 @@ fn write_pairs<W: Write>(writer: &mut W, pairs: &[(Octets, Octets)]) -> io::Resu
 /// Writes the line of each key.
 fn write_keys<W: Write>(writer: &mut W, keys: &BTreeSet<Vec<u8>>) -> io::Result<()>
     requires { All (λ key. IsShort key.items) keys.now.keys }
-    ensures { OnOk result (Appends (W.contents writer.old) (W.contents writer.new) (key_lines (bytes_of_keys keys.now))) }
+    ensures { OnOk result (Appends (W.contents writer.old) (W.contents writer.new)
+        (key_lines (bytes_of_keys keys.now))) }
 {
     let mut digits = [0; DIGITS];
     for key in keys {

@@ -14,19 +14,23 @@ use page_io::PageStore;
 use std::alloc::Global;
 use std::collections::BTreeSet;
 
-/// The keys of the database, by a pass. `Damaged` where the pass gives more keys than the file counts
-/// pairs.
+/// The keys of the database, by a pass. `Damaged` where the pass gives more keys than the file
+/// counts pairs.
 pub fn gather_keys<S: PageStore>(
     alloc: Global,
     db: &mut Database<S>,
 ) -> Result<BTreeSet<Vec<u8>>, EngineFault>
     ensures keys { AtEachHandle db.old (λ h.
-        h.state.usable ≡ true → MatchResult result (λ keys. bytes_of_keys keys ≡ map_keys h.state.map) IsChance) }
+        h.state.usable ≡ true → MatchResult result
+        (λ keys. bytes_of_keys keys ≡ map_keys h.state.map) IsChance) }
     ensures bound { IfOk result (λ keys. btree_set_len keys ≤ (meta_kept db.old).pairs) }
     ensures short { IfOk result (λ keys. All (λ key. IsShort key.items) keys.keys) }
     ensures reads { Reads db.old db.new result }
-    ensures broken { (page_state db.old).usable ≡ false → result ≡ Err (EngineFault.Db Fault.Broken) }
-    ensures only { IsErrAmong result (EngineFault.Memory ∷ EngineFault.Db Fault.Broken ∷ EngineFault.Db Fault.NoPass ∷ EngineFault.Db Fault.Device ∷ EngineFault.Db Fault.Damaged ∷ []) }
+    ensures broken { (page_state db.old).usable ≡ false
+        → result ≡ Err (EngineFault.Db Fault.Broken) }
+    ensures only { IsErrAmong result
+        (EngineFault.Memory ∷ EngineFault.Db Fault.Broken ∷ EngineFault.Db Fault.NoPass
+        ∷ EngineFault.Db Fault.Device ∷ EngineFault.Db Fault.Damaged ∷ []) }
 {
     let most = db.stat().pairs;
     let mut keys = BTreeSet::new(alloc);
@@ -52,11 +56,15 @@ pub fn fetch_pairs<S: PageStore>(
 ) -> Result<Vec<(Octets, Octets)>, EngineFault>
     requires { All (λ key. IsShort key.items) keys.keys }
     ensures pairs { AtEachHandle db.old (λ h.
-        h.state.usable ≡ true → bytes_of_keys keys ≡ map_keys h.state.map → MatchResult result (λ pairs. pairs.items ≡ entries h.state.map) IsChance) }
+        h.state.usable ≡ true → bytes_of_keys keys ≡ map_keys h.state.map
+        → MatchResult result (λ pairs. pairs.items ≡ entries h.state.map) IsChance) }
     ensures keys { IfOk result (λ pairs. map (λ pair. pair.0) pairs.items ≡ bytes_of_keys keys) }
-    ensures short { IfOk result (λ pairs. All (λ pair. IsShort pair.0 × IsShort pair.1) pairs.items) }
+    ensures short { IfOk result (λ pairs.
+        All (λ pair. IsShort pair.0 × IsShort pair.1) pairs.items) }
     ensures reads { Reads db.old db.new result }
-    ensures only { IsErrAmong result (EngineFault.Memory ∷ EngineFault.Db Fault.Broken ∷ EngineFault.Db Fault.Device ∷ EngineFault.Db Fault.Damaged ∷ []) }
+    ensures only { IsErrAmong result
+        (EngineFault.Memory ∷ EngineFault.Db Fault.Broken ∷ EngineFault.Db Fault.Device
+        ∷ EngineFault.Db Fault.Damaged ∷ []) }
 {
     let mut pairs = Vec::new(alloc);
     for key in keys {
@@ -77,8 +85,11 @@ fn copy_first<S: PageStore>(
     ensures step { AtEachHandle db.old (λ h. CopiesStep db.old db.new h First End result) }
     ensures short { IfOk result (λ r. IfSome r (λ key. IsShort key.items)) }
     ensures reads { Reads db.old db.new result }
-    ensures broken { (page_state db.old).usable ≡ false → result ≡ Err (EngineFault.Db Fault.Broken) }
-    ensures only { IsErrAmong result (EngineFault.Memory ∷ EngineFault.Db Fault.Broken ∷ EngineFault.Db Fault.Device ∷ EngineFault.Db Fault.Damaged ∷ []) }
+    ensures broken { (page_state db.old).usable ≡ false
+        → result ≡ Err (EngineFault.Db Fault.Broken) }
+    ensures only { IsErrAmong result
+        (EngineFault.Memory ∷ EngineFault.Db Fault.Broken ∷ EngineFault.Db Fault.Device
+        ∷ EngineFault.Db Fault.Damaged ∷ []) }
 {
     copied(alloc, db.firstkey())
 }
@@ -91,7 +102,9 @@ fn copy_next<S: PageStore>(
     ensures step { AtEachHandle db.old (λ h. CopiesStep db.old db.new h Next End result) }
     ensures short { IfOk result (λ r. IfSome r (λ key. IsShort key.items)) }
     ensures reads { Reads db.old db.new result }
-    ensures only { IsErrAmong result (EngineFault.Memory ∷ EngineFault.Db Fault.Broken ∷ EngineFault.Db Fault.NoPass ∷ EngineFault.Db Fault.Device ∷ EngineFault.Db Fault.Damaged ∷ []) }
+    ensures only { IsErrAmong result
+        (EngineFault.Memory ∷ EngineFault.Db Fault.Broken ∷ EngineFault.Db Fault.NoPass
+        ∷ EngineFault.Db Fault.Device ∷ EngineFault.Db Fault.Damaged ∷ []) }
 {
     copied(alloc, db.nextkey())
 }
@@ -102,10 +115,13 @@ fn copy_content<S: PageStore>(
     db: &mut Database<S>,
     key: &[u8],
 ) -> Result<Option<Vec<u8>>, EngineFault>
-    ensures step { AtEachHandle db.old (λ h. CopiesStep db.old db.new h (Fetch key.now) NoRecord result) }
+    ensures step { AtEachHandle db.old
+        (λ h. CopiesStep db.old db.new h (Fetch key.now) NoRecord result) }
     ensures short { IfOk result (λ r. IfSome r (λ content. IsShort content.items)) }
     ensures reads { Reads db.old db.new result }
-    ensures only { IsErrAmong result (EngineFault.Memory ∷ EngineFault.Db Fault.Broken ∷ EngineFault.Db Fault.Device ∷ EngineFault.Db Fault.Damaged ∷ []) }
+    ensures only { IsErrAmong result
+        (EngineFault.Memory ∷ EngineFault.Db Fault.Broken ∷ EngineFault.Db Fault.Device
+        ∷ EngineFault.Db Fault.Damaged ∷ []) }
 {
     copied(alloc, db.fetch(key))
 }

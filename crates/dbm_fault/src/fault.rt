@@ -13,7 +13,8 @@ pub enum Fault {
     /// 2: a read, a write or a sync of the device failed.
     #[error("the device failed")]
     Device,
-    /// 3: an earlier fault of the device left a change in doubt; the database has to be opened again.
+    /// 3: an earlier fault of the device left a change in doubt; the database has to be opened
+    /// again.
     #[error("a change is in doubt")]
     Broken,
     /// 4: a change of a database that was opened for reading.

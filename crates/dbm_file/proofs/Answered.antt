@@ -24,94 +24,152 @@ use Rattle.dbm_file.specs.declared.database.Database.{Database}
 use Rattle.dbm_file.proofs.PassSteps.{keeps_as, keeps_err}
 
 -- one call more
-pub answered_next : {S : Type 0} {s : Ghosts S} (old mid new : Database S s) (calls : List Call) (replies : List Reply) (call : Call) (reply : Reply)
-    → AreAnswered old mid calls replies → IsAnswered mid new call reply → AreAnswered old new (calls ++ call ∷ []) (replies ++ reply ∷ [])
-answered_next {S} {s} old mid new [] [] call reply same next = (new, subst (λ (db : Database S s). IsAnswered db new call reply) same next, refl)
+pub answered_next : {S : Type 0} {s : Ghosts S} (old mid new : Database S s) (calls : List Call)
+    (replies : List Reply) (call : Call) (reply : Reply)
+    → AreAnswered old mid calls replies → IsAnswered mid new call reply
+    → AreAnswered old new (calls ++ call ∷ []) (replies ++ reply ∷ [])
+answered_next {S} {s} old mid new [] [] call reply same next =
+    (new, subst (λ (db : Database S s). IsAnswered db new call reply) same next, refl)
 answered_next old mid new [] (r ∷ replies) call reply before next = absurd before
 answered_next old mid new (c ∷ calls) [] call reply before next = absurd before
-answered_next old mid new (c ∷ calls) (r ∷ replies) call reply (one, first, before) next = (one, first, answered_next one mid new calls replies call reply before next)
+answered_next old mid new (c ∷ calls) (r ∷ replies) call reply (one, first, before) next =
+    (one, first, answered_next one mid new calls replies call reply before next)
 
 -- the same call under another name
-pub answered_to : {S : Type 0} {s : Ghosts S} (old new : Database S s) (call call' : Call) (reply : Reply) → call ≡ call' → IsAnswered old new call' reply → IsAnswered old new call reply
-answered_to old new call call' reply is told = subst (λ (c : Call). IsAnswered old new c reply) (sym is) told
+pub answered_to : {S : Type 0} {s : Ghosts S} (old new : Database S s) (call call' : Call)
+    (reply : Reply) → call ≡ call' → IsAnswered old new call' reply → IsAnswered old new call reply
+answered_to old new call call' reply is told =
+    subst (λ (c : Call). IsAnswered old new c reply) (sym is) told
 
 -- a store
-pub store_is_told : (ended : Result StoreReply Fault) (reply : Reply) → reply ≡ told_of_store ended → reply_of reply ≡ store_reply ended
+pub store_is_told : (ended : Result StoreReply Fault) (reply : Reply) → reply ≡ told_of_store ended
+    → reply_of reply ≡ store_reply ended
 store_is_told (Ok stored.Stored) reply is = ap reply_of is
 store_is_told (Ok stored.Kept) reply is = ap reply_of is
 store_is_told (Err fault) reply is = ap reply_of is
 
 -- a delete
-pub delete_is_told : (ended : Result DeleteReply Fault) (reply : Reply) → reply ≡ told_of_delete ended → reply_of reply ≡ delete_reply ended
+pub delete_is_told : (ended : Result DeleteReply Fault) (reply : Reply)
+    → reply ≡ told_of_delete ended → reply_of reply ≡ delete_reply ended
 delete_is_told (Ok deleted.Deleted) reply is = ap reply_of is
 delete_is_told (Ok deleted.Absent) reply is = ap reply_of is
 delete_is_told (Err fault) reply is = ap reply_of is
 
 -- a call that lends bytes
-pub bytes_are_told : (none : Reply) (found : Lent) (reply : Reply) → reply ≡ told_of_bytes none found → lent_reply (reply_of none) found ≡ reply_of reply
+pub bytes_are_told : (none : Reply) (found : Lent) (reply : Reply)
+    → reply ≡ told_of_bytes none found → lent_reply (reply_of none) found ≡ reply_of reply
 bytes_are_told none (Ok None) reply is = ap reply_of (sym is)
 bytes_are_told none (Ok (Some bytes)) reply is = ap reply_of (sym is)
 bytes_are_told none (Err fault) reply is = ap reply_of (sym is)
 
 module _ {S : Type 0} {s : Ghosts S} {old new : Database S s} where
   stored_well : (ended : Result StoreReply Fault) (key content : List ℕ) (mode : StoreMode)
-      → (ended ≡ Ok stored.Kept → (mode ≡ Insert) × Searched old key (EndsWith key)) → IsErrAmong ended store_faults → IsCallEnded old new ended → IsCallAnswered old new (Store key content mode) (told_of_store ended)
-  stored_well (Ok stored.Stored) key content mode kept only keeps = record { replied = tt; read = tt; keeps = keeps_as stored.Stored tt keeps }
-  stored_well (Ok stored.Kept) key content mode kept only keeps = record { replied = (kept refl).0; read = (kept refl).1; keeps = keeps_as stored.Kept tt keeps }
-  stored_well (Err fault) key content mode kept only keeps = record { replied = only; read = tt; keeps = keeps_err fault keeps }
+      → (ended ≡ Ok stored.Kept → (mode ≡ Insert) × Searched old key (EndsWith key))
+      → IsErrAmong ended store_faults → IsCallEnded old new ended
+      → IsCallAnswered old new (Store key content mode) (told_of_store ended)
+  stored_well (Ok stored.Stored) key content mode kept only keeps =
+      record { replied = tt; read = tt; keeps = keeps_as stored.Stored tt keeps }
+  stored_well (Ok stored.Kept) key content mode kept only keeps =
+      record {
+        replied = (kept refl).0;
+        read = (kept refl).1;
+        keeps =
+            keeps_as stored.Kept tt keeps;
+      }
+  stored_well (Err fault) key content mode kept only keeps =
+      record { replied = only; read = tt; keeps = keeps_err fault keeps }
 
   deleted_well : (ended : Result DeleteReply Fault) (key : List ℕ)
-      → (ended ≡ Ok deleted.Absent → Searched old key (EndsWithout key)) → IsErrAmong ended delete_faults → IsCallEnded old new ended → IsCallAnswered old new (Delete key) (told_of_delete ended)
-  deleted_well (Ok deleted.Deleted) key absent only keeps = record { replied = tt; read = tt; keeps = keeps_as deleted.Deleted tt keeps }
-  deleted_well (Ok deleted.Absent) key absent only keeps = record { replied = tt; read = absent refl; keeps = keeps_as deleted.Absent tt keeps }
-  deleted_well (Err fault) key absent only keeps = record { replied = only; read = tt; keeps = keeps_err fault keeps }
+      → (ended ≡ Ok deleted.Absent → Searched old key (EndsWithout key))
+      → IsErrAmong ended delete_faults → IsCallEnded old new ended
+      → IsCallAnswered old new (Delete key) (told_of_delete ended)
+  deleted_well (Ok deleted.Deleted) key absent only keeps =
+      record { replied = tt; read = tt; keeps = keeps_as deleted.Deleted tt keeps }
+  deleted_well (Ok deleted.Absent) key absent only keeps =
+      record { replied = tt; read = absent refl; keeps = keeps_as deleted.Absent tt keeps }
+  deleted_well (Err fault) key absent only keeps =
+      record { replied = only; read = tt; keeps = keeps_err fault keeps }
 
-  fetched_well : (found : Lent) (key : List ℕ) → IfOk found (λ content. Searched old key (EndsAtContent key (seen content))) → IsErrAmong found read_faults → IsCallEnded old new found
+  fetched_well : (found : Lent) (key : List ℕ)
+      → IfOk found (λ content. Searched old key (EndsAtContent key (seen content)))
+      → IsErrAmong found read_faults → IsCallEnded old new found
       → IsCallAnswered old new (Fetch key) (told_of_bytes NoRecord found)
-  fetched_well (Ok None) key searched only keeps = record { replied = refl; read = searched; keeps = keeps_as None tt keeps }
-  fetched_well (Ok (Some content)) key searched only keeps = record { replied = tt; read = searched; keeps = keeps_as (Some content) tt keeps }
-  fetched_well (Err fault) key searched only keeps = record { replied = only; read = tt; keeps = keeps_err fault keeps }
+  fetched_well (Ok None) key searched only keeps =
+      record { replied = refl; read = searched; keeps = keeps_as None tt keeps }
+  fetched_well (Ok (Some content)) key searched only keeps =
+      record { replied = tt; read = searched; keeps = keeps_as (Some content) tt keeps }
+  fetched_well (Err fault) key searched only keeps =
+      record { replied = only; read = tt; keeps = keeps_err fault keeps }
 
-  begun_well : (found : Lent) → IfOk found (λ key. Passed old pass_start (seen key)) → IsErrAmong found read_faults → IsCallEnded old new found → IsCallAnswered old new First (told_of_bytes End found)
-  begun_well (Ok None) passed only keeps = record { replied = refl; read = passed; keeps = keeps_as None tt keeps }
-  begun_well (Ok (Some key)) passed only keeps = record { replied = tt; read = passed; keeps = keeps_as (Some key) tt keeps }
-  begun_well (Err fault) passed only keeps = record { replied = only; read = tt; keeps = keeps_err fault keeps }
+  begun_well : (found : Lent) → IfOk found (λ key. Passed old pass_start (seen key))
+      → IsErrAmong found read_faults → IsCallEnded old new found
+      → IsCallAnswered old new First (told_of_bytes End found)
+  begun_well (Ok None) passed only keeps =
+      record { replied = refl; read = passed; keeps = keeps_as None tt keeps }
+  begun_well (Ok (Some key)) passed only keeps =
+      record { replied = tt; read = passed; keeps = keeps_as (Some key) tt keeps }
+  begun_well (Err fault) passed only keeps =
+      record { replied = only; read = tt; keeps = keeps_err fault keeps }
 
-  passed_well : (found : Lent) → IfOk found (λ key. WentOn old (seen key)) → IsErrAmong found next_faults → IsCallEnded old new found
+  passed_well : (found : Lent) → IfOk found (λ key. WentOn old (seen key))
+      → IsErrAmong found next_faults → IsCallEnded old new found
       → IsCallAnswered old new Next (told_of_bytes End found)
-  passed_well (Ok None) passed only keeps = record { replied = refl; read = passed; keeps = keeps_as None tt keeps }
-  passed_well (Ok (Some key)) passed only keeps = record { replied = tt; read = passed; keeps = keeps_as (Some key) tt keeps }
-  passed_well (Err fault) passed only keeps = record { replied = only; read = tt; keeps = keeps_err fault keeps }
+  passed_well (Ok None) passed only keeps =
+      record { replied = refl; read = passed; keeps = keeps_as None tt keeps }
+  passed_well (Ok (Some key)) passed only keeps =
+      record { replied = tt; read = passed; keeps = keeps_as (Some key) tt keeps }
+  passed_well (Err fault) passed only keeps =
+      record { replied = only; read = tt; keeps = keeps_err fault keeps }
 
   -- under the reply that was given, and the key that stands in the call
-  pub store_answered : (ended : Result StoreReply Fault) (reply : Reply) (given key content : List ℕ) (mode : StoreMode) → reply ≡ told_of_store ended → given ≡ key
-      → (ended ≡ Ok stored.Kept → (mode ≡ Insert) × Searched old given (EndsWith given)) → IsErrAmong ended store_faults → IsCallEnded old new ended → IsCallAnswered old new (Store key content mode) reply
+  pub store_answered : (ended : Result StoreReply Fault) (reply : Reply)
+      (given key content : List ℕ) (mode : StoreMode) → reply ≡ told_of_store ended → given ≡ key
+      → (ended ≡ Ok stored.Kept → (mode ≡ Insert) × Searched old given (EndsWith given))
+      → IsErrAmong ended store_faults → IsCallEnded old new ended
+      → IsCallAnswered old new (Store key content mode) reply
   store_answered ended reply given key content mode is same kept only keeps =
       subst (λ (r : Reply). IsCallAnswered old new (Store key content mode) r) (sym is)
-      (subst (λ (k : List ℕ). IsCallAnswered old new (Store k content mode) (told_of_store ended)) same (stored_well ended given content mode kept only keeps))
+      (subst (λ (k : List ℕ). IsCallAnswered old new (Store k content mode) (told_of_store ended))
+      same (stored_well ended given content mode kept only keeps))
 
-  pub delete_answered : (ended : Result DeleteReply Fault) (reply : Reply) (given key : List ℕ) → reply ≡ told_of_delete ended → given ≡ key
-      → (ended ≡ Ok deleted.Absent → Searched old given (EndsWithout given)) → IsErrAmong ended delete_faults → IsCallEnded old new ended → IsCallAnswered old new (Delete key) reply
+  pub delete_answered : (ended : Result DeleteReply Fault) (reply : Reply) (given key : List ℕ)
+      → reply ≡ told_of_delete ended → given ≡ key
+      → (ended ≡ Ok deleted.Absent → Searched old given (EndsWithout given))
+      → IsErrAmong ended delete_faults → IsCallEnded old new ended
+      → IsCallAnswered old new (Delete key) reply
   delete_answered ended reply given key is same absent only keeps =
       subst (λ (r : Reply). IsCallAnswered old new (Delete key) r) (sym is)
-      (subst (λ (k : List ℕ). IsCallAnswered old new (Delete k) (told_of_delete ended)) same (deleted_well ended given absent only keeps))
+      (subst (λ (k : List ℕ). IsCallAnswered old new (Delete k) (told_of_delete ended)) same
+      (deleted_well ended given absent only keeps))
 
-  pub fetch_answered : (found : Lent) (reply : Reply) (given key : List ℕ) → reply ≡ told_of_bytes NoRecord found → given ≡ key
-      → IfOk found (λ content. Searched old given (EndsAtContent given (seen content))) → IsErrAmong found read_faults → IsCallEnded old new found → IsCallAnswered old new (Fetch key) reply
+  pub fetch_answered : (found : Lent) (reply : Reply) (given key : List ℕ)
+      → reply ≡ told_of_bytes NoRecord found → given ≡ key
+      → IfOk found (λ content. Searched old given (EndsAtContent given (seen content)))
+      → IsErrAmong found read_faults → IsCallEnded old new found
+      → IsCallAnswered old new (Fetch key) reply
   fetch_answered found reply given key is same searched only keeps =
       subst (λ (r : Reply). IsCallAnswered old new (Fetch key) r) (sym is)
-      (subst (λ (k : List ℕ). IsCallAnswered old new (Fetch k) (told_of_bytes NoRecord found)) same (fetched_well found given searched only keeps))
+      (subst (λ (k : List ℕ). IsCallAnswered old new (Fetch k) (told_of_bytes NoRecord found)) same
+      (fetched_well found given searched only keeps))
 
-  pub first_answered : (found : Lent) (reply : Reply) → reply ≡ told_of_bytes End found → IfOk found (λ key. Passed old pass_start (seen key)) → IsErrAmong found read_faults → IsCallEnded old new found
+  pub first_answered : (found : Lent) (reply : Reply) → reply ≡ told_of_bytes End found
+      → IfOk found (λ key. Passed old pass_start (seen key)) → IsErrAmong found read_faults
+      → IsCallEnded old new found
       → IsCallAnswered old new First reply
-  first_answered found reply is passed only keeps = subst (λ (r : Reply). IsCallAnswered old new First r) (sym is) (begun_well found passed only keeps)
+  first_answered found reply is passed only keeps =
+      subst (λ (r : Reply). IsCallAnswered old new First r) (sym is)
+      (begun_well found passed only keeps)
 
-  pub next_answered : (found : Lent) (reply : Reply) → reply ≡ told_of_bytes End found → IfOk found (λ key. WentOn old (seen key)) → IsErrAmong found next_faults
+  pub next_answered : (found : Lent) (reply : Reply) → reply ≡ told_of_bytes End found
+      → IfOk found (λ key. WentOn old (seen key)) → IsErrAmong found next_faults
       → IsCallEnded old new found → IsCallAnswered old new Next reply
-  next_answered found reply is passed only keeps = subst (λ (r : Reply). IsCallAnswered old new Next r) (sym is) (passed_well found passed only keeps)
+  next_answered found reply is passed only keeps =
+      subst (λ (r : Reply). IsCallAnswered old new Next r) (sym is)
+      (passed_well found passed only keeps)
 
 -- the database with the same store and meta page
-pub same_goes : {S : Type 0} {s : Ghosts S} (old new : Database S s) → store_of new ≡ store_of old → meta_kept new ≡ meta_kept old → IsSameDatabase old new
+pub same_goes : {S : Type 0} {s : Ghosts S} (old new : Database S s) → store_of new ≡ store_of old
+    → meta_kept new ≡ meta_kept old → IsSameDatabase old new
 same_goes {S} {s} old new store meta = record {
   honesty = (λ h. subst s.honest store h, λ h. subst s.honest (sym store) h);
   later = omega (arith, ap s.faults store);
@@ -122,8 +180,11 @@ same_goes {S} {s} old new store meta = record {
 }
 
 -- the rooms that a call takes
-pub no_room_taken : (call other : Call) (left : ℕ) → call ≡ other → rooms_in (other ∷ []) ≡ 0 → left ≡ rooms_in (call ∷ []) + left
+pub no_room_taken : (call other : Call) (left : ℕ) → call ≡ other → rooms_in (other ∷ []) ≡ 0
+    → left ≡ rooms_in (call ∷ []) + left
 no_room_taken call other left is none = omega (arith, ap (λ (c : Call). rooms_in (c ∷ [])) is, none)
 
-pub room_taken : (call other : Call) (rooms left : ℕ) → call ≡ other → rooms_in (other ∷ []) ≡ 1 → rooms ≡ left + 1 → rooms ≡ rooms_in (call ∷ []) + left
-room_taken call other rooms left is one taken = omega (arith, ap (λ (c : Call). rooms_in (c ∷ [])) is, one, taken)
+pub room_taken : (call other : Call) (rooms left : ℕ) → call ≡ other → rooms_in (other ∷ []) ≡ 1
+    → rooms ≡ left + 1 → rooms ≡ rooms_in (call ∷ []) + left
+room_taken call other rooms left is one taken =
+    omega (arith, ap (λ (c : Call). rooms_in (c ∷ [])) is, one, taken)

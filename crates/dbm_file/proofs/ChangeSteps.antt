@@ -33,14 +33,16 @@ use Rattle.dbm_file.proofs.ReadSteps.{kept_first, same_parts, at_own, same_pass,
 use Rattle.linear_hash.proofs.Tables.{counted}
 
 -- how a change of the file ended, with what it leaves of the error and of the pass
-pub record IsDone {S : Type 0} (s : Ghosts S) (old new : Database S s) (result : Result (Unit {0}) PageFault) : Type 0 where
+pub record IsDone {S : Type 0} (s : Ghosts S) (old new : Database S s)
+    (result : Result (Unit {0}) PageFault) : Type 0 where
   pub ends : IsEnded s (store_of old) (store_of new) (meta_kept old) (meta_kept new) result
   pub error_is : new.error ≡ old.error
   pub pass_ends : OnOk result (new.pass ≡ None)
   pub pass_stays : OnErr result (new.pass ≡ old.pass)
 
 -- what is forgotten leaves a store as writable as it was
-forgotten_writable : (old new : store.StoreState) (fault : PageFault) → IsForgotten old new fault → new.writable ≡ old.writable
+forgotten_writable : (old new : store.StoreState) (fault : PageFault) → IsForgotten old new fault
+    → new.writable ≡ old.writable
 forgotten_writable old new fault (inl same) = ap (λ (st : store.StoreState). st.writable) same
 forgotten_writable old new fault (inr broke) = ap (λ (st : store.StoreState). st.writable) broke.1
 
@@ -49,20 +51,26 @@ forgotten_room : (old new : store.StoreState) (fault : PageFault) → IsForgotte
     → (new.capacity ≡ old.capacity) × (new.end ≡ old.end)
 forgotten_room old new fault (inl same) =
     (ap (λ (st : store.StoreState). st.capacity) same, ap (λ (st : store.StoreState). st.end) same)
-forgotten_room old new fault (inr broke) =
-    (ap (λ (st : store.StoreState). st.capacity) broke.1, ap (λ (st : store.StoreState). st.end) broke.1)
+forgotten_room old new fault (inr broke) = (
+  ap (λ (st : store.StoreState). st.capacity) broke.1,
+  ap (λ (st : store.StoreState). st.end) broke.1,
+)
 
 -- What is known when a change begins: the call asks for it, after no more than a read.
-pub record IsAsked {S : Type 0} (s : Ghosts S) (old mid : Database S s) (map changed : Contents) (pass : Option Keys) (call : model.Call) (said : model.Reply) : Type 0 where
+pub record IsAsked {S : Type 0} (s : Ghosts S) (old mid : Database S s) (map changed : Contents)
+    (pass : Option Keys) (call : model.Call) (said : model.Reply) : Type 0 where
   pub read : IsRead old mid
   pub usable : (page_state old).usable ≡ true
   pub honest : s.honest (store_of old)
   pub holds : Holds s (store_of old) (meta_kept old) map
-  pub rests : (x : Settled) → s.settles_to (store_of old) x → ImageStandsFor x map (meta_kept old).limit
+  pub rests : (x : Settled) → s.settles_to (store_of old) x
+      → ImageStandsFor x map (meta_kept old).limit
   pub going : IsPass (s.committed (store_of old)) (meta_kept old) (cursor_of old) pass
   pub falls : case_of (handle_of old map pass).state call ≡ Changes said changed
 
-module _ {S : Type 0} (s : Ghosts S) {old mid : Database S s} {map changed : Contents} {pass : Option Keys} {call : model.Call} {said : model.Reply} (asked : IsAsked s old mid map changed pass call said) where
+module _ {S : Type 0} (s : Ghosts S) {old mid : Database S s} {map changed : Contents}
+    {pass : Option Keys} {call : model.Call} {said : model.Reply}
+    (asked : IsAsked s old mid map changed pass call said) where
   pub mid_honest : s.honest (store_of mid)
   mid_honest = asked.read.reads.stages_only.honesty.1 asked.honest
 
@@ -87,51 +95,87 @@ module _ {S : Type 0} (s : Ghosts S) {old mid : Database S s} {map changed : Con
 
   -- the pages that a store adds are those of the definitions
   pub store_growth : said ≡ model.Stored → (meta_kept mid).pairs + 4 ≤ growth before said
-  store_growth is = subst (λ (r : model.Reply). (meta_kept mid).pairs + 4 ≤ growth before r) (sym is) (omega (arith, mid_pairs))
+  store_growth is = subst (λ (r : model.Reply). (meta_kept mid).pairs + 4 ≤ growth before r)
+      (sym is) (omega (arith, mid_pairs))
 
   pub no_growth : 0 ≤ growth before said
   no_growth = omega arith
 
   module _ (new : Database S s) where
-    stands_still : (x : Settled) (m : Contents) → ImageStandsFor x m (meta_kept mid).limit → ImageStandsFor x m (meta_kept old).limit
-    stands_still x m is = subst (λ (n : ℕ). ImageStandsFor x m n) (still_limit s old mid asked.read) is
+    stands_still : (x : Settled) (m : Contents) → ImageStandsFor x m (meta_kept mid).limit
+        → ImageStandsFor x m (meta_kept old).limit
+    stands_still x m is = subst (λ (n : ℕ). ImageStandsFor x m n)
+        (still_limit s old mid asked.read) is
 
     -- what a stop leaves is one of the two maps
-    survives_change : (Left : Contents → Type 0) → Left map → Left changed → LeavesOnly s.moment s.settled_since (store_of mid) (store_of new) (StandsForEither map changed (meta_kept mid).limit) → Survives old new Left
+    survives_change : (Left : Contents → Type 0) → Left map → Left changed
+        → LeavesOnly s.moment s.settled_since (store_of mid) (store_of new)
+        (StandsForEither map changed (meta_kept mid).limit) → Survives old new Left
     survives_change Left left also change =
-        followed_by s.moment s.settled_since (store_of old) (store_of mid) (store_of new) (StandsForSome Left (meta_kept old).limit) (StandsForEither map changed (meta_kept mid).limit)
+        followed_by s.moment s.settled_since (store_of old) (store_of mid) (store_of new)
+        (StandsForSome Left (meta_kept old).limit)
+        (StandsForEither map changed (meta_kept mid).limit)
         (still_survives s old mid map asked.read asked.honest asked.rests Left left) change
-        (λ x. ⊎_elim (λ is. (map, left, stands_still x map is)) (λ is. (changed, also, stands_still x changed is)))
+        (λ x. ⊎_elim (λ is. (map, left, stands_still x map is))
+        (λ is. (changed, also, stands_still x changed is)))
 
     -- `only` is the store's law `only_committed`
-    pub changed_step : IsDone s mid new (Ok tt) → {most : ℕ} → most ≤ growth before said → ChangesMap s (store_of mid) (store_of new) (meta_kept mid) (meta_kept new) map changed most (Ok tt) → ((x : Settled) → s.settles_to (store_of new) x → x ≡ file_of (s.committed (store_of new))) → IsStep old new before call said
+    pub changed_step : IsDone s mid new (Ok tt) → {most : ℕ} → most ≤ growth before said
+        → ChangesMap s (store_of mid) (store_of new) (meta_kept mid) (meta_kept new) map changed
+        most (Ok tt) → ((x : Settled) → s.settles_to (store_of new) x
+        → x ≡ file_of (s.committed (store_of new))) → IsStep old new before call said
     changed_step ended few turns only =
-        let usable_is = ap (λ (st : store.StoreState). st.usable) ended.ends.ok ∙ still_usable s old mid asked.read in
-        let writable_is = ap (λ (st : store.StoreState). st.writable) ended.ends.ok ∙ still_writable s old mid asked.read in
+        let usable_is = ap (λ (st : store.StoreState). st.usable) ended.ends.ok
+        ∙ still_usable s old mid asked.read in
+        let writable_is = ap (λ (st : store.StoreState). st.writable) ended.ends.ok
+        ∙ still_writable s old mid asked.read in
         record {
           after = handle_of new changed None;
           step = record {
             counts = omega (arith, asked.read.reads.stages_only.later, ended.ends.cause.later);
             capacity = ap (λ (st : store.StoreState). st.capacity) ended.ends.ok ∙ mid_capacity;
-            pages = (omega (arith, turns.grows.0, mid_end), omega (arith, turns.grows.1, mid_end, few));
-            answers = inl (subst (λ (c : Case). Answers before.state c said (handle_of new changed None).state) (sym asked.falls)
-                (refl, same_parts changed None _ _ _ _ _ _ _ _ (ended.ends.limit ∙ still_limit s old mid asked.read) (ap (λ (o : Option Fault). option_map fault_of o) (ended.error_is ∙ asked.read.error_is)) writable_is usable_is));
+            pages = (
+              omega (arith, turns.grows.0, mid_end),
+              omega (arith, turns.grows.1, mid_end, few),
+            );
+            answers = inl (subst (λ (c : Case).
+                Answers before.state c said (handle_of new changed None).state)
+                (sym asked.falls) (
+                  refl,
+                  same_parts changed None _ _ _ _ _ _ _ _
+                      (ended.ends.limit ∙ still_limit s old mid asked.read)
+                      (ap (λ (o : Option Fault). option_map fault_of o)
+                      (ended.error_is ∙ asked.read.error_is)) writable_is usable_is,
+                ));
           };
-          is_at = at_own new changed None (λ usable. turns.done) (λ usable x left. subst (λ (y : Settled). ImageStandsFor y changed (meta_kept new).limit) (sym (only x left)) turns.done.stands) (λ usable. subst (λ (c : Option Cursor). IsPass (s.committed (store_of new)) (meta_kept new) c None) (sym ended.pass_ends) tt);
-          survives = λ usable. survives_change (MayBeLeft before (handle_of new changed None) call) (inl refl) (inr (inl refl)) turns.any_moment;
+          is_at = at_own new changed None (λ usable. turns.done)
+              (λ usable x left. subst (λ (y : Settled).
+              ImageStandsFor y changed (meta_kept new).limit) (sym (only x left))
+              turns.done.stands) (λ usable.
+              subst (λ (c : Option Cursor).
+              IsPass (s.committed (store_of new)) (meta_kept new) c None)
+              (sym ended.pass_ends) tt);
+          survives = λ usable. survives_change (MayBeLeft before (handle_of new changed None) call)
+              (inl refl) (inr (inl refl)) turns.any_moment;
         }
 
     -- `counts` is the store's law `counts_now`
-    module _ (e : PageFault) (ended : IsDone s mid new (Err e)) {most : ℕ} (turns : ChangesMap s (store_of mid) (store_of new) (meta_kept mid) (meta_kept new) map changed most (Err e))
-        (counts : (t : ℕ) (x : Settled) → t ≤ s.moment (store_of new) → s.settles_to (store_of new) x → s.settled_since (store_of new) t x) where
+    module _ (e : PageFault) (ended : IsDone s mid new (Err e)) {most : ℕ}
+        (turns : ChangesMap s (store_of mid) (store_of new) (meta_kept mid) (meta_kept new) map
+        changed most (Err e))
+        (counts : (t : ℕ) (x : Settled) → t ≤ s.moment (store_of new)
+        → s.settles_to (store_of new) x → s.settled_since (store_of new) t x) where
       abbrev after : Handle
       after = handle_of (with_fault new (fault_from e)) map pass
 
       abbrev reply : model.Reply
       reply = model.Refused (fault_of (fault_from e))
 
-      error_is : error_of (with_fault new (fault_from e)) ≡ first_fault (error_of old) (fault_of (fault_from e))
-      error_is = ap (λ (o : Option Fault). option_map fault_of (cond (is_some o) o (Some (fault_from e)))) (ended.error_is ∙ asked.read.error_is) ∙ kept_first old.error (fault_from e)
+      error_is : error_of (with_fault new (fault_from e))
+          ≡ first_fault (error_of old) (fault_of (fault_from e))
+      error_is = ap (λ (o : Option Fault).
+          option_map fault_of (cond (is_some o) o (Some (fault_from e))))
+          (ended.error_is ∙ asked.read.error_is) ∙ kept_first old.error (fault_from e)
 
       room_is : (after.capacity ≡ before.capacity) × (after.pages ≡ before.pages)
       room_is =
@@ -141,32 +185,63 @@ module _ {S : Type 0} (s : Ghosts S) {old mid : Database S s} {map changed : Con
       -- the store is as usable as before
       module _ (same : (page_state new).usable ≡ (page_state old).usable) where
         state_is : after.state ≡ flagged (fault_of (fault_from e)) before.state
-        state_is = flagged_is s old new map pass (fault_from e) (ended.ends.limit ∙ still_limit s old mid asked.read) (ended.error_is ∙ asked.read.error_is) (forgotten_writable (page_state mid) (page_state new) e ended.ends.err.0 ∙ still_writable s old mid asked.read) same
+        state_is = flagged_is s old new map pass (fault_from e)
+            (ended.ends.limit ∙ still_limit s old mid asked.read)
+            (ended.error_is ∙ asked.read.error_is)
+            (forgotten_writable (page_state mid) (page_state new) e ended.ends.err.0
+            ∙ still_writable s old mid asked.read) same
 
         short : e ≡ page.NoRoom → IsShort before
         short is = omega (arith, turns.no_room (ap Err is), mid_capacity, mid_end, mid_pairs)
 
-        suffers : (e ≡ page.Broken) ⊎ ((e ≡ page.Memory) ⊎ ((e ≡ page.NoRoom) ⊎ ((e ≡ page.Damaged) ⊎ (e ≡ page.Device)))) → Suffers before (Changes said changed) reply after
-        suffers (inl is) = let broken = ended.ends.answer.broken (ap Err is) in let was = mid_usable in absurd (cc)
-        suffers (inr (inl is)) = inr (inr (inl (ap (λ (f : PageFault). model.Refused (fault_of (fault_from f))) is, state_is ∙ ap (λ (f : PageFault). flagged (fault_of (fault_from f)) before.state) is)))
-        suffers (inr (inr (inl is))) = inr (inr (inr (ap (λ (f : PageFault). model.Refused (fault_of (fault_from f))) is, short is, state_is ∙ ap (λ (f : PageFault). flagged (fault_of (fault_from f)) before.state) is)))
+        suffers : (e ≡ page.Broken) ⊎ ((e ≡ page.Memory)
+            ⊎ ((e ≡ page.NoRoom) ⊎ ((e ≡ page.Damaged) ⊎ (e ≡ page.Device))))
+            → Suffers before (Changes said changed) reply after
+        suffers (inl is) = let broken = ended.ends.answer.broken (ap Err is) in let was =
+            mid_usable in absurd (cc)
+        suffers (inr (inl is)) = inr (inr
+            (inl (
+              ap (λ (f : PageFault). model.Refused (fault_of (fault_from f))) is,
+              state_is ∙ ap (λ (f : PageFault).
+                  flagged (fault_of (fault_from f)) before.state) is,
+            )))
+        suffers (inr (inr (inl is))) =
+            inr (inr (inr (
+              ap (λ (f : PageFault). model.Refused (fault_of (fault_from f))) is,
+              short is,
+              state_is ∙ ap (λ (f : PageFault).
+                  flagged (fault_of (fault_from f)) before.state) is,
+            )))
         suffers (inr (inr (inr (inl is)))) = absurd (turns.whole (ap Err is))
         suffers (inr (inr (inr (inr is)))) =
-            inl (ap (λ (f : PageFault). model.Refused (fault_of (fault_from f))) is, more_later _ _ _ asked.read.reads.stages_only.later (ended.ends.cause.fault (ap Err is)), state_is ∙ ap (λ (f : PageFault). flagged (fault_of (fault_from f)) before.state) is)
+            inl (
+              ap (λ (f : PageFault). model.Refused (fault_of (fault_from f))) is,
+              more_later _ _ _ asked.read.reads.stages_only.later
+                  (ended.ends.cause.fault (ap Err is)),
+              state_is ∙ ap (λ (f : PageFault).
+                  flagged (fault_of (fault_from f)) before.state) is,
+            )
 
         holds_on : (page_state new).usable ≡ true → Holds s (store_of new) (meta_kept new) map
         holds_on is =
             let pages = sym (turns.kept is) in
             let m = sym ended.ends.err.1 in
             record {
-              stands = subst (λ (n : Meta). FileStandsFor (s.committed (store_of new)) map n.limit) m (subst (λ (ps : Pages). FileStandsFor ps map (meta_kept mid).limit) pages mid_holds.stands);
-              meta_is = subst (λ (n : Meta). said_by (page_of (s.committed (store_of new))) 1 ≡ MetaPage n) m (subst (λ (ps : Pages). said_by (page_of ps) 1 ≡ MetaPage (meta_kept mid)) pages mid_holds.meta_is);
+              stands = subst (λ (n : Meta). FileStandsFor (s.committed (store_of new)) map n.limit)
+                  m (subst (λ (ps : Pages). FileStandsFor ps map (meta_kept mid).limit) pages
+                  mid_holds.stands);
+              meta_is = subst (λ (n : Meta).
+                  said_by (page_of (s.committed (store_of new))) 1 ≡ MetaPage n) m
+                  (subst (λ (ps : Pages). said_by (page_of ps) 1 ≡ MetaPage (meta_kept mid)) pages
+                  mid_holds.meta_is);
             }
 
-        rests_on : (page_state new).usable ≡ true → (x : Settled) → s.settles_to (store_of new) x → ImageStandsFor x map (meta_kept new).limit
+        rests_on : (page_state new).usable ≡ true → (x : Settled) → s.settles_to (store_of new) x
+            → ImageStandsFor x map (meta_kept new).limit
         rests_on is x left =
             let run = turns.unchanged is in
-            subst (λ (n : ℕ). ImageStandsFor x map n) (sym ended.ends.limit) (run.each x (counts (s.moment (store_of mid)) x run.later left))
+            subst (λ (n : ℕ). ImageStandsFor x map n) (sym ended.ends.limit)
+            (run.each x (counts (s.moment (store_of mid)) x run.later left))
 
         unchanged_step : IsStep old (with_fault new (fault_from e)) before call reply
         unchanged_step = record {
@@ -175,38 +250,59 @@ module _ {S : Type 0} (s : Ghosts S) {old mid : Database S s} {map changed : Con
             counts = omega (arith, asked.read.reads.stages_only.later, ended.ends.cause.later);
             capacity = room_is.0;
             pages = no_more_pages before after reply room_is.1;
-            answers = inr (subst (λ (c : Case). Suffers before c reply after) (sym asked.falls) (suffers ended.ends.answer.only));
+            answers = inr (subst (λ (c : Case). Suffers before c reply after) (sym asked.falls)
+                (suffers ended.ends.answer.only));
           };
-          is_at = at_own (with_fault new (fault_from e)) map pass (λ is. holds_on is) (λ is. rests_on is)
-              (λ is. same_pass _ _ _ _ _ _ pass (turns.kept is) ended.ends.err.1 ended.pass_stays (still_passes s old mid pass asked.read asked.honest asked.going));
+          is_at = at_own (with_fault new (fault_from e)) map pass (λ is. holds_on is)
+              (λ is. rests_on is)
+              (λ is. same_pass _ _ _ _ _ _ pass (turns.kept is) ended.ends.err.1 ended.pass_stays
+              (still_passes s old mid pass asked.read asked.honest asked.going));
           survives = λ was.
-              followed_by s.moment s.settled_since (store_of old) (store_of mid) (store_of new) (StandsForSome (MayBeLeft before after call) (meta_kept old).limit) (λ x. ImageStandsFor x map (meta_kept mid).limit)
-              (still_survives s old mid map asked.read asked.honest asked.rests (MayBeLeft before after call) (inl refl)) (turns.unchanged (same ∙ asked.usable))
+              followed_by s.moment s.settled_since (store_of old) (store_of mid) (store_of new)
+              (StandsForSome (MayBeLeft before after call) (meta_kept old).limit)
+              (λ x. ImageStandsFor x map (meta_kept mid).limit)
+              (still_survives s old mid map asked.read asked.honest asked.rests
+              (MayBeLeft before after call) (inl refl))
+              (turns.unchanged (same ∙ asked.usable))
               (λ x is. (map, inl refl, stands_still x map is));
         }
 
       -- the device broke it
-      broken_step : e ≡ page.Device → (page_state new).usable ≡ false → IsStep old (with_fault new (fault_from e)) before call reply
+      broken_step : e ≡ page.Device → (page_state new).usable ≡ false
+          → IsStep old (with_fault new (fault_from e)) before call reply
       broken_step is broken = record {
         after = after;
         step = record {
           counts = omega (arith, asked.read.reads.stages_only.later, ended.ends.cause.later);
           capacity = room_is.0;
           pages = no_more_pages before after reply room_is.1;
-          answers = inr (subst (λ (c : Case). Suffers before c reply after) (sym asked.falls) (inr (inl (
-            ap (λ (f : PageFault). model.Refused (fault_of (fault_from f))) is,
-            more_later _ _ _ asked.read.reads.stages_only.later (ended.ends.cause.fault (ap Err is)),
-            map,
-            inl refl,
-            same_parts map pass _ _ _ _ _ _ _ _ (ended.ends.limit ∙ still_limit s old mid asked.read) (error_is ∙ ap (λ (f : PageFault). first_fault (error_of old) (fault_of (fault_from f))) is) (forgotten_writable (page_state mid) (page_state new) e ended.ends.err.0 ∙ still_writable s old mid asked.read) broken,
-          ))));
+          answers = inr (subst (λ (c : Case). Suffers before c reply after)
+              (sym asked.falls) (inr (inl (
+                ap (λ (f : PageFault). model.Refused (fault_of (fault_from f))) is,
+                more_later _ _ _ asked.read.reads.stages_only.later
+                    (ended.ends.cause.fault (ap Err is)),
+                map,
+                inl refl,
+                same_parts map pass _ _ _ _ _ _ _ _
+                    (ended.ends.limit ∙ still_limit s old mid asked.read)
+                    (error_is ∙ ap (λ (f : PageFault).
+                    first_fault (error_of old) (fault_of (fault_from f))) is)
+                    (forgotten_writable (page_state mid) (page_state new) e ended.ends.err.0
+                    ∙ still_writable s old mid asked.read) broken,
+              ))));
         };
-        is_at = at_own (with_fault new (fault_from e)) map pass (λ now. absurd (let x = now in cc)) (λ now. absurd (let x = now in cc)) (λ now. absurd (let x = now in cc));
-        survives = λ was. survives_change (MayBeLeft before after call) (inl refl) (inr (inr (broken, (said, asked.falls)))) turns.any_moment;
+        is_at = at_own (with_fault new (fault_from e)) map pass (λ now. absurd (let x = now in cc))
+            (λ now. absurd (let x = now in cc)) (λ now. absurd (let x = now in cc));
+        survives = λ was. survives_change (MayBeLeft before after call) (inl refl)
+            (inr (inr (broken, (said, asked.falls)))) turns.any_moment;
       }
 
       pub refused_step : IsStep old (with_fault new (fault_from e)) before call reply
-      refused_step = ⊎_elim (λ same. unchanged_step (ap (λ (st : store.StoreState). st.usable) same ∙ still_usable s old mid asked.read)) (λ broke. broken_step broke.0 (ap (λ (st : store.StoreState). st.usable) broke.1)) ended.ends.err.0
+      refused_step = ⊎_elim (λ same.
+          unchanged_step (ap (λ (st : store.StoreState). st.usable) same
+          ∙ still_usable s old mid asked.read))
+          (λ broke. broken_step broke.0 (ap (λ (st : store.StoreState). st.usable) broke.1))
+          ended.ends.err.0
 
 -- a fault of the device is told as one, and so on
 pub told_device : (e : PageFault) → fault_from e ≡ Device → e ≡ page.Device
@@ -226,15 +322,19 @@ told_broken page.NoRoom is = absurd (let x = is in cc)
 told_broken page.Damaged is = absurd (let x = is in cc)
 
 -- what a refused change leaves on any device
-module _ {S : Type 0} (s : Ghosts S) (old mid new : Database S s) (read : IsRead old mid) (usable : (page_state old).usable ≡ true) (e : PageFault) (ended : IsDone s mid new (Err e)) where
+module _ {S : Type 0} (s : Ghosts S) (old mid new : Database S s) (read : IsRead old mid)
+    (usable : (page_state old).usable ≡ true) (e : PageFault)
+    (ended : IsDone s mid new (Err e)) where
   sound : e ≡ page.Broken → ⊥
-  sound is = let broken = ended.ends.answer.broken (ap Err is) in let was = still_usable s old mid read ∙ usable in absurd (cc)
+  sound is = let broken = ended.ends.answer.broken (ap Err is) in let was =
+      still_usable s old mid read ∙ usable in absurd (cc)
 
   -- the store is as before, but for what was forgotten
   record IsAsBefore : Type 0 where
     capacity : (page_state new).capacity ≡ (page_state old).capacity
     end : (page_state new).end ≡ (page_state old).end
-    breaks : ((page_state new).usable ≡ (page_state old).usable) ⊎ ((e ≡ page.Device) × ((page_state new).usable ≡ false))
+    breaks : ((page_state new).usable ≡ (page_state old).usable)
+        ⊎ ((e ≡ page.Device) × ((page_state new).usable ≡ false))
 
   as_before : IsForgotten (page_state mid) (page_state new) e → IsAsBefore
   as_before forgotten =
@@ -243,12 +343,14 @@ module _ {S : Type 0} (s : Ghosts S) (old mid new : Database S s) (read : IsRead
         capacity = room.0 ∙ still_capacity s old mid read;
         end = room.1 ∙ still_end s old mid read;
         breaks = ⊎_elim
-            (λ same. inl (ap (λ (st : store.StoreState). st.usable) same ∙ still_usable s old mid read))
+            (λ same. inl (ap (λ (st : store.StoreState). st.usable) same
+            ∙ still_usable s old mid read))
             (λ broke. inr (broke.0, ap (λ (st : store.StoreState). st.usable) broke.1))
             forgotten;
       }
 
-  refused_keeps : (T : Type 0) → IsCallEnded {T = T} old (with_fault new (fault_from e)) (Err (fault_from e))
+  refused_keeps : (T : Type 0) → IsCallEnded {T = T} old (with_fault new (fault_from e))
+      (Err (fault_from e))
   refused_keeps T =
       let was = as_before ended.ends.err.0 in
       record {
@@ -257,18 +359,34 @@ module _ {S : Type 0} (s : Ghosts S) (old mid new : Database S s) (read : IsRead
           later = omega (arith, read.reads.stages_only.later, ended.ends.cause.later);
           limit = ended.ends.limit ∙ still_limit s old mid read;
           capacity = was.capacity;
-          writable = forgotten_writable (page_state mid) (page_state new) e ended.ends.err.0 ∙ still_writable s old mid read;
+          writable = forgotten_writable (page_state mid) (page_state new) e ended.ends.err.0
+              ∙ still_writable s old mid read;
           still = λ broken. absurd (let x = broken in cc);
         };
-        fault = λ is. more_later _ _ _ read.reads.stages_only.later (ended.ends.cause.fault (ap Err (told_device e (let x = is in cc))));
+        fault = λ is. more_later _ _ _ read.reads.stages_only.later
+            (ended.ends.cause.fault (ap Err (told_device e (let x = is in cc))));
         no_error = tt;
-        error = ap (λ (o : Option Fault). option_map fault_of (cond (is_some o) o (Some (fault_from e)))) (ended.error_is ∙ read.error_is) ∙ kept_first old.error (fault_from e);
-        refused = (ended.ends.err.1 ∙ still_meta s old mid read, was.end, ended.pass_stays ∙ read.pass_is);
-        breaks = ⊎_elim (λ same. inl same) (λ broke. inr (ap Err (ap fault_from broke.0), broke.1)) was.breaks;
-        broken = (λ is. absurd (sound (told_broken e (let x = is in cc))), λ broken. absurd (let x = broken in cc));
+        error = ap (λ (o : Option Fault).
+            option_map fault_of (cond (is_some o) o (Some (fault_from e))))
+            (ended.error_is ∙ read.error_is) ∙ kept_first old.error (fault_from e);
+        refused = (
+          ended.ends.err.1 ∙ still_meta s old mid read,
+          was.end,
+          ended.pass_stays ∙ read.pass_is,
+        );
+        breaks = ⊎_elim (λ same. inl same)
+            (λ broke. inr (ap Err (ap fault_from broke.0), broke.1)) was.breaks;
+        broken = (
+          λ is. absurd (sound (told_broken e (let x = is in cc))),
+          λ broken.
+              absurd (let x = broken in cc),
+        );
       }
 
   -- as a `?` answers it
-  pub told_keeps : {T : Type 0} (r : Result T Fault) → IsErrAnd r (λ fault. fault ≡ fault_from e) → IsCallEnded old (with_error_of new r) r
+  pub told_keeps : {T : Type 0} (r : Result T Fault) → IsErrAnd r (λ fault. fault ≡ fault_from e)
+      → IsCallEnded old (with_error_of new r) r
   told_keeps {T} (Ok value) is = absurd is
-  told_keeps {T} (Err fault) is = subst (λ (f : Fault). IsCallEnded {T = T} old (with_fault new f) (Err f)) (sym is) (refused_keeps T)
+  told_keeps {T} (Err fault) is =
+      subst (λ (f : Fault). IsCallEnded {T = T} old (with_fault new f) (Err f)) (sym is)
+      (refused_keeps T)

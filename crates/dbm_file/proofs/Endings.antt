@@ -44,21 +44,28 @@ both a b = (λ _. b, λ _. a)
 
 -- a file that counts no more pairs than its buckets allow keeps its shape
 stays : (m : Meta) → IsMeta m → shape_in m ≡ shape_for m.pairs (shape_in m)
-stays m valid = sym (ap (λ (more : Bool). cond more (grown (shape_in m)) (shape_in m)) (le-ltb (8 * meta_buckets m) m.pairs valid.few_pairs.1))
+stays m valid = sym (ap (λ (more : Bool). cond more (grown (shape_in m)) (shape_in m))
+    (le-ltb (8 * meta_buckets m) m.pairs valid.few_pairs.1))
 
-stays_as : (old new : Meta) → IsMeta old → new ≡ old → shape_in new ≡ shape_for new.pairs (shape_in old)
-stays_as old new valid same = subst (λ (m : Meta). shape_in m ≡ shape_for m.pairs (shape_in old)) (sym same) (stays old valid)
+stays_as : (old new : Meta) → IsMeta old → new ≡ old
+    → shape_in new ≡ shape_for new.pairs (shape_in old)
+stays_as old new valid same =
+    subst (λ (m : Meta). shape_in m ≡ shape_for m.pairs (shape_in old)) (sym same) (stays old valid)
 
 -- what is refused for another reason isn't refused for this one
-told_other : {T : Type 0} (r : Result T Fault) (e : PageFault) (other : Fault) → IsErrAnd r (λ fault. fault ≡ fault_from e) → (fault_from e ≡ other → ⊥) → r ≡ Err other → ⊥
+told_other : {T : Type 0} (r : Result T Fault) (e : PageFault) (other : Fault)
+    → IsErrAnd r (λ fault. fault ≡ fault_from e) → (fault_from e ≡ other → ⊥) → r ≡ Err other → ⊥
 told_other (Ok value) e other told is_not is = absurd told
-told_other (Err fault) e other told is_not is = is_not (sym told ∙ (let same = is in let f : fault ≡ other = cc in f))
+told_other (Err fault) e other told is_not is =
+    is_not (sym told ∙ (let same = is in let f : fault ≡ other = cc in f))
 
-told_by : {T : Type 0} (P : Fault → Type 0) (r : Result T Fault) (e : PageFault) → IsErrAnd r (λ fault. fault ≡ fault_from e) → P (fault_from e) → IfErr r P
+told_by : {T : Type 0} (P : Fault → Type 0) (r : Result T Fault) (e : PageFault)
+    → IsErrAnd r (λ fault. fault ≡ fault_from e) → P (fault_from e) → IfErr r P
 told_by P (Ok value) e told holds = absurd told
 told_by P (Err fault) e told holds = subst P (sym told) holds
 
-told_no_value : {T : Type 0} (r : Result T Fault) (e : PageFault) (value : T) → IsErrAnd r (λ fault. fault ≡ fault_from e) → r ≡ Ok value → ⊥
+told_no_value : {T : Type 0} (r : Result T Fault) (e : PageFault) (value : T)
+    → IsErrAnd r (λ fault. fault ≡ fault_from e) → r ≡ Ok value → ⊥
 told_no_value (Ok other) e value told is = told
 told_no_value (Err fault) e value told is = absurd (let same = is in cc)
 
@@ -67,7 +74,8 @@ abbrev pub IsOfWalk : PageFault → Type 0
 IsOfWalk e = (e ≡ page.Broken) ⊎ ((e ≡ page.Damaged) ⊎ (e ≡ page.Device))
 
 abbrev pub IsOfChange : PageFault → Type 0
-IsOfChange e = (e ≡ page.Broken) ⊎ ((e ≡ page.Memory) ⊎ ((e ≡ page.NoRoom) ⊎ ((e ≡ page.Damaged) ⊎ (e ≡ page.Device))))
+IsOfChange e = (e ≡ page.Broken)
+    ⊎ ((e ≡ page.Memory) ⊎ ((e ≡ page.NoRoom) ⊎ ((e ≡ page.Damaged) ⊎ (e ≡ page.Device))))
 
 pub as_change : (e : PageFault) → IsOfWalk e → IsOfChange e
 as_change e (inl is) = inl is
@@ -75,21 +83,33 @@ as_change e (inr (inl is)) = inr (inr (inr (inl is)))
 as_change e (inr (inr is)) = inr (inr (inr (inr is)))
 
 -- by cases of the fault of the pages
-by_change : (P : Fault → Type 0) → P Broken → P Memory → P NoRoom → P Damaged → P Device → (e : PageFault) → IsOfChange e → P (fault_from e)
-by_change P broken memory no_room damaged device e (inl is) = subst (λ (x : PageFault). P (fault_from x)) (sym is) broken
-by_change P broken memory no_room damaged device e (inr (inl is)) = subst (λ (x : PageFault). P (fault_from x)) (sym is) memory
-by_change P broken memory no_room damaged device e (inr (inr (inl is))) = subst (λ (x : PageFault). P (fault_from x)) (sym is) no_room
-by_change P broken memory no_room damaged device e (inr (inr (inr (inl is)))) = subst (λ (x : PageFault). P (fault_from x)) (sym is) damaged
-by_change P broken memory no_room damaged device e (inr (inr (inr (inr is)))) = subst (λ (x : PageFault). P (fault_from x)) (sym is) device
+by_change : (P : Fault → Type 0) → P Broken → P Memory → P NoRoom → P Damaged → P Device
+    → (e : PageFault) → IsOfChange e → P (fault_from e)
+by_change P broken memory no_room damaged device e (inl is) =
+    subst (λ (x : PageFault). P (fault_from x)) (sym is) broken
+by_change P broken memory no_room damaged device e (inr (inl is)) =
+    subst (λ (x : PageFault). P (fault_from x)) (sym is) memory
+by_change P broken memory no_room damaged device e (inr (inr (inl is))) =
+    subst (λ (x : PageFault). P (fault_from x)) (sym is) no_room
+by_change P broken memory no_room damaged device e (inr (inr (inr (inl is)))) =
+    subst (λ (x : PageFault). P (fault_from x)) (sym is) damaged
+by_change P broken memory no_room damaged device e (inr (inr (inr (inr is)))) =
+    subst (λ (x : PageFault). P (fault_from x)) (sym is) device
 
 among_store : (e : PageFault) → IsOfChange e → IsAmong (fault_from e) store_faults
-among_store = by_change (λ fault. IsAmong fault store_faults) (inl refl) (inr (inr (inr (inr (inl refl))))) (inr (inr (inr (inr (inr (inr (inl refl))))))) (inr (inr (inr (inr (inr (inr (inr refl))))))) (inr (inr (inr (inr (inr (inl refl))))))
+among_store = by_change (λ fault. IsAmong fault store_faults) (inl refl)
+    (inr (inr (inr (inr (inl refl))))) (inr (inr (inr (inr (inr (inr (inl refl)))))))
+    (inr (inr (inr (inr (inr (inr (inr refl))))))) (inr (inr (inr (inr (inr (inl refl))))))
 
 among_delete : (e : PageFault) → IsOfChange e → IsAmong (fault_from e) delete_faults
-among_delete = by_change (λ fault. IsAmong fault delete_faults) (inl refl) (inr (inr (inl refl))) (inr (inr (inr (inr (inl refl))))) (inr (inr (inr (inr (inr refl))))) (inr (inr (inr (inl refl))))
+among_delete = by_change (λ fault. IsAmong fault delete_faults) (inl refl) (inr (inr (inl refl)))
+    (inr (inr (inr (inr (inl refl))))) (inr (inr (inr (inr (inr refl)))))
+    (inr (inr (inr (inl refl))))
 
 not_read_only : (e : PageFault) → IsOfChange e → fault_from e ≡ ReadOnly → ⊥
-not_read_only = by_change (λ fault. fault ≡ ReadOnly → ⊥) (λ is. absurd (let x = is in cc)) (λ is. absurd (let x = is in cc)) (λ is. absurd (let x = is in cc)) (λ is. absurd (let x = is in cc)) (λ is. absurd (let x = is in cc))
+not_read_only = by_change (λ fault. fault ≡ ReadOnly → ⊥) (λ is. absurd (let x = is in cc))
+    (λ is. absurd (let x = is in cc)) (λ is. absurd (let x = is in cc))
+    (λ is. absurd (let x = is in cc)) (λ is. absurd (let x = is in cc))
 
 never_too_long : (e : PageFault) → fault_from e ≡ TooLong → ⊥
 never_too_long page.Memory is = absurd (let x = is in cc)
@@ -103,12 +123,15 @@ module _ {S : Type 0} {s : Ghosts S} where
   module _ (old : Database S s) (key : List ℕ) where
     -- a broken database
     module _ (broken : (page_state old).usable ≡ false) where
-      pub unusable_store : (content : List ℕ) (mode : StoreMode) → IsStoreEnd old old (with_fault old Broken) key content mode (Err Broken)
+      pub unusable_store : (content : List ℕ) (mode : StoreMode)
+          → IsStoreEnd old old (with_fault old Broken) key content mode (Err Broken)
       unusable_store content mode = record {
         shape = stays (meta_kept old) old.valid;
-        read_only = neither (λ is. absurd (let x = is in cc)) (λ all. absurd (let x = sym broken ∙ all.0 in cc));
+        read_only = neither (λ is. absurd (let x = is in cc))
+            (λ all. absurd (let x = sym broken ∙ all.0 in cc));
         kept = λ is. absurd (let x = is in cc);
-        too_long = neither (λ is. absurd (let x = is in cc)) (λ all. absurd (let x = sym broken ∙ all.0 in cc));
+        too_long = neither (λ is. absurd (let x = is in cc))
+            (λ all. absurd (let x = sym broken ∙ all.0 in cc));
         keeps = broken_keeps StoreReply s old broken;
         only = inl refl;
       }
@@ -116,7 +139,8 @@ module _ {S : Type 0} {s : Ghosts S} where
       pub unusable_delete : IsDeleteEnd old old (with_fault old Broken) key (Err Broken)
       unusable_delete = record {
         shape = refl;
-        read_only = neither (λ is. absurd (let x = is in cc)) (λ all. absurd (let x = sym broken ∙ all.0 in cc));
+        read_only = neither (λ is. absurd (let x = is in cc))
+            (λ all. absurd (let x = sym broken ∙ all.0 in cc));
         absent = λ is. absurd (let x = is in cc);
         counted = λ is. absurd (let x = is in cc);
         keeps = broken_keeps DeleteReply s old broken;
@@ -124,14 +148,18 @@ module _ {S : Type 0} {s : Ghosts S} where
       }
 
     -- one that is open for reading
-    module _ (usable : (page_state old).usable ≡ true) (reading : (page_state old).writable ≡ false) (still : IsRead old old) where
-      pub unwritable_store : (content : List ℕ) (mode : StoreMode) → IsStoreEnd old old (with_fault old ReadOnly) key content mode (Err ReadOnly)
+    module _ (usable : (page_state old).usable ≡ true) (reading : (page_state old).writable ≡ false)
+        (still : IsRead old old) where
+      pub unwritable_store : (content : List ℕ) (mode : StoreMode)
+          → IsStoreEnd old old (with_fault old ReadOnly) key content mode (Err ReadOnly)
       unwritable_store content mode = record {
         shape = stays (meta_kept old) old.valid;
         read_only = both refl (usable, reading);
         kept = λ is. absurd (let x = is in cc);
-        too_long = neither (λ is. absurd (let x = is in cc)) (λ all. absurd (let x = sym reading ∙ all.1 in cc));
-        keeps = refused_keeps s old old still usable StoreReply ReadOnly (λ is. absurd (let x = is in cc)) (λ is. absurd (let x = is in cc));
+        too_long = neither (λ is. absurd (let x = is in cc))
+            (λ all. absurd (let x = sym reading ∙ all.1 in cc));
+        keeps = refused_keeps s old old still usable StoreReply ReadOnly
+            (λ is. absurd (let x = is in cc)) (λ is. absurd (let x = is in cc));
         only = inr (inl refl);
       }
 
@@ -141,34 +169,44 @@ module _ {S : Type 0} {s : Ghosts S} where
         read_only = both refl (usable, reading);
         absent = λ is. absurd (let x = is in cc);
         counted = λ is. absurd (let x = is in cc);
-        keeps = refused_keeps s old old still usable DeleteReply ReadOnly (λ is. absurd (let x = is in cc)) (λ is. absurd (let x = is in cc));
+        keeps = refused_keeps s old old still usable DeleteReply ReadOnly
+            (λ is. absurd (let x = is in cc)) (λ is. absurd (let x = is in cc));
         only = inr (inl refl);
       }
 
-    module _ (usable : (page_state old).usable ≡ true) (writable : (page_state old).writable ≡ true) where
+    module _ (usable : (page_state old).usable ≡ true)
+        (writable : (page_state old).writable ≡ true) where
       may_write : ((page_state old).usable ≡ true) × ((page_state old).writable ≡ false) → ⊥
       may_write all = absurd (let x = sym writable ∙ all.1 in cc)
 
       -- a pair that is too long
-      pub long_store : (content : List ℕ) (mode : StoreMode) → IsRead old old → 2026 < length key + length content → IsStoreEnd old old (with_fault old TooLong) key content mode (Err TooLong)
+      pub long_store : (content : List ℕ) (mode : StoreMode) → IsRead old old
+          → 2026 < length key + length content
+          → IsStoreEnd old old (with_fault old TooLong) key content mode (Err TooLong)
       long_store content mode still long = record {
         shape = stays (meta_kept old) old.valid;
         read_only = neither (λ is. absurd (let x = is in cc)) may_write;
         kept = λ is. absurd (let x = is in cc);
         too_long = both refl (usable, writable, long);
-        keeps = refused_keeps s old old still usable StoreReply TooLong (λ is. absurd (let x = is in cc)) (λ is. absurd (let x = is in cc));
+        keeps = refused_keeps s old old still usable StoreReply TooLong
+            (λ is. absurd (let x = is in cc)) (λ is. absurd (let x = is in cc));
         only = inr (inr (inl refl));
       }
 
       module _ (new : Database S s) where
         -- a store of an allowed pair
-        module _ (content : List ℕ) (mode : StoreMode) (short : length key + length content ≤ 2026) where
-          not_long : ((page_state old).usable ≡ true) × ((page_state old).writable ≡ true) × (2026 < length key + length content) → ⊥
+        module _ (content : List ℕ) (mode : StoreMode)
+            (short : length key + length content ≤ 2026) where
+          not_long : ((page_state old).usable ≡ true) × ((page_state old).writable ≡ true)
+              × (2026 < length key + length content) → ⊥
           not_long all = absurd (omega (arith, short, all.2))
 
           -- refused by the pages below, as a `?` answers it
-          pub told_store : (r : Result StoreReply Fault) (e : PageFault) → IsErrAnd r (λ fault. fault ≡ fault_from e) → IsOfChange e → meta_kept new ≡ meta_kept old
-              → IsCallEnded old (with_error_of new r) r → IsStoreEnd old new (with_error_of new r) key content mode r
+          pub told_store : (r : Result StoreReply Fault) (e : PageFault)
+              → IsErrAnd r (λ fault. fault ≡ fault_from e) → IsOfChange e
+              → meta_kept new ≡ meta_kept old
+              → IsCallEnded old (with_error_of new r) r
+              → IsStoreEnd old new (with_error_of new r) key content mode r
           told_store r e told one meta keeps = record {
             shape = stays_as (meta_kept old) (meta_kept new) old.valid meta;
             read_only = neither (told_other r e ReadOnly told (not_read_only e one)) may_write;
@@ -179,7 +217,8 @@ module _ {S : Type 0} {s : Ghosts S} where
           }
 
           -- the key was there, and its content stays
-          pub kept_store : IsRead old new → mode ≡ Insert → Searched old key (EndsWith key) → IsStoreEnd old new new key content mode (Ok stored.Kept)
+          pub kept_store : IsRead old new → mode ≡ Insert → Searched old key (EndsWith key)
+              → IsStoreEnd old new new key content mode (Ok stored.Kept)
           kept_store read inserts searched = record {
             shape = stays_as (meta_kept old) (meta_kept new) old.valid (still_meta s old new read);
             read_only = neither (λ is. absurd (let x = is in cc)) may_write;
@@ -190,18 +229,23 @@ module _ {S : Type 0} {s : Ghosts S} where
           }
 
           -- the limit is reached
-          pub full_store : IsRead old new → IsStoreEnd old new (with_fault new Full) key content mode (Err Full)
+          pub full_store : IsRead old new
+              → IsStoreEnd old new (with_fault new Full) key content mode (Err Full)
           full_store read = record {
             shape = stays_as (meta_kept old) (meta_kept new) old.valid (still_meta s old new read);
             read_only = neither (λ is. absurd (let x = is in cc)) may_write;
             kept = λ is. absurd (let x = is in cc);
             too_long = neither (λ is. absurd (let x = is in cc)) not_long;
-            keeps = refused_keeps s old new read usable StoreReply Full (λ is. absurd (let x = is in cc)) (λ is. absurd (let x = is in cc));
+            keeps = refused_keeps s old new read usable StoreReply Full
+                (λ is. absurd (let x = is in cc)) (λ is. absurd (let x = is in cc));
             only = inr (inr (inr (inl refl)));
           }
 
           -- the pair is there
-          pub done_store : shape_in (meta_kept new) ≡ shape_for (meta_kept new).pairs (shape_in (meta_kept old)) → IsCallEnded old new (Ok stored.Stored) → IsStoreEnd old new new key content mode (Ok stored.Stored)
+          pub done_store : shape_in (meta_kept new)
+              ≡ shape_for (meta_kept new).pairs (shape_in (meta_kept old))
+              → IsCallEnded old new (Ok stored.Stored)
+              → IsStoreEnd old new new key content mode (Ok stored.Stored)
           done_store shape keeps = record {
             shape = shape;
             read_only = neither (λ is. absurd (let x = is in cc)) may_write;
@@ -212,8 +256,11 @@ module _ {S : Type 0} {s : Ghosts S} where
           }
 
         -- a delete that the pages below refuse
-        pub told_delete : (r : Result DeleteReply Fault) (e : PageFault) → IsErrAnd r (λ fault. fault ≡ fault_from e) → IsOfChange e → meta_kept new ≡ meta_kept old
-            → IsCallEnded old (with_error_of new r) r → IsDeleteEnd old new (with_error_of new r) key r
+        pub told_delete : (r : Result DeleteReply Fault) (e : PageFault)
+            → IsErrAnd r (λ fault. fault ≡ fault_from e) → IsOfChange e
+            → meta_kept new ≡ meta_kept old
+            → IsCallEnded old (with_error_of new r) r
+            → IsDeleteEnd old new (with_error_of new r) key r
         told_delete r e told one meta keeps = record {
           shape = ap shape_in meta;
           read_only = neither (told_other r e ReadOnly told (not_read_only e one)) may_write;
@@ -224,7 +271,8 @@ module _ {S : Type 0} {s : Ghosts S} where
         }
 
         -- the key isn't there
-        pub absent_delete : IsRead old new → Searched old key (EndsWithout key) → IsDeleteEnd old new new key (Ok deleted.Absent)
+        pub absent_delete : IsRead old new → Searched old key (EndsWithout key)
+            → IsDeleteEnd old new new key (Ok deleted.Absent)
         absent_delete read searched = record {
           shape = ap shape_in (still_meta s old new read);
           read_only = neither (λ is. absurd (let x = is in cc)) may_write;
@@ -235,18 +283,23 @@ module _ {S : Type 0} {s : Ghosts S} where
         }
 
         -- the key is there, and the file counts no pair
-        pub uncounted_delete : IsRead old new → IsDeleteEnd old new (with_fault new Damaged) key (Err Damaged)
+        pub uncounted_delete : IsRead old new
+            → IsDeleteEnd old new (with_fault new Damaged) key (Err Damaged)
         uncounted_delete read = record {
           shape = ap shape_in (still_meta s old new read);
           read_only = neither (λ is. absurd (let x = is in cc)) may_write;
           absent = λ is. absurd (let x = is in cc);
           counted = λ is. absurd (let x = is in cc);
-          keeps = refused_keeps s old new read usable DeleteReply Damaged (λ is. absurd (let x = is in cc)) (λ is. absurd (let x = is in cc));
+          keeps = refused_keeps s old new read usable DeleteReply Damaged
+              (λ is. absurd (let x = is in cc)) (λ is. absurd (let x = is in cc));
           only = inr (inr (inr (inr (inr refl))));
         }
 
         -- the key is gone
-        pub done_delete : shape_in (meta_kept new) ≡ shape_in (meta_kept old) → (meta_kept new).pairs + 1 ≡ (meta_kept old).pairs → IsCallEnded old new (Ok deleted.Deleted) → IsDeleteEnd old new new key (Ok deleted.Deleted)
+        pub done_delete : shape_in (meta_kept new) ≡ shape_in (meta_kept old)
+            → (meta_kept new).pairs + 1 ≡ (meta_kept old).pairs
+            → IsCallEnded old new (Ok deleted.Deleted)
+            → IsDeleteEnd old new new key (Ok deleted.Deleted)
         done_delete shape counted keeps = record {
           shape = shape;
           read_only = neither (λ is. absurd (let x = is in cc)) may_write;
@@ -257,49 +310,95 @@ module _ {S : Type 0} {s : Ghosts S} where
         }
 
   -- what a walk that failed leaves
-  pub walk_told : {T : Type 0} (old new : Database S s) (e : PageFault) (r : Result T Fault) → IsRead old new → (page_state old).usable ≡ true → IsWalkAnswer {T = Bool} (page_state old) (Err e)
-      → HasDeviceCause {T = Bool} (s.faults (store_of old)) (s.faults (store_of new)) (Err e) → IsErrAnd r (λ fault. fault ≡ fault_from e) → IsCallEnded old (with_error_of new r) r
+  pub walk_told : {T : Type 0} (old new : Database S s) (e : PageFault) (r : Result T Fault)
+      → IsRead old new → (page_state old).usable ≡ true
+      → IsWalkAnswer {T = Bool} (page_state old) (Err e)
+      → HasDeviceCause {T = Bool} (s.faults (store_of old)) (s.faults (store_of new)) (Err e)
+      → IsErrAnd r (λ fault. fault ≡ fault_from e) → IsCallEnded old (with_error_of new r) r
   walk_told old new e (Ok value) read usable answer cause told = absurd told
   walk_told {T} old new e (Err fault) read usable answer cause told =
       subst (λ (f : Fault). IsCallEnded {T = T} old (with_fault new f) (Err f)) (sym told)
-      (refused_keeps s old new read usable T (fault_from e) (λ is. cause.fault (ap Err (told_device e is))) (λ is. absurd (let x = answer.broken (ap Err (told_broken e is)) ∙ refl in let y = sym usable ∙ x in cc)))
+      (refused_keeps s old new read usable T (fault_from e)
+      (λ is. cause.fault (ap Err (told_device e is)))
+      (λ is. absurd (let x = answer.broken (ap Err (told_broken e is)) ∙ refl in let y =
+      sym usable ∙ x in cc)))
 
   -- the same store and delete, whose fault was then kept as the first one
-  module _ (old db : Database S s) (idle : (page_state db).staged ≡ []) (access : (page_state db).writable ≡ db.writable) (valid : IsMeta (meta_kept db)) (error : Option Fault) (fault : Fault)
+  module _ (old db : Database S s) (idle : (page_state db).staged ≡ [])
+      (access : (page_state db).writable ≡ db.writable) (valid : IsMeta (meta_kept db))
+      (error : Option Fault) (fault : Fault)
       (flag : error ≡ cond (is_some db.error) db.error (Some fault)) where
     abbrev flagged : Database S s
     flagged = kept_error s db idle access valid error
 
-    flagged_keeps : {T : Type 0} → IsCallEnded {T = T} old (with_fault db fault) (Err fault) → IsCallEnded {T = T} old flagged (Err fault)
-    flagged_keeps {T} k = subst (λ (e : Option Fault). IsCallEnded {T = T} old (kept_error s db idle access valid e) (Err fault)) (sym flag) record {
-      goes = record { honesty = k.goes.honesty; later = k.goes.later; limit = k.goes.limit; capacity = k.goes.capacity; writable = k.goes.writable; still = λ broken. k.goes.still broken };
-      fault = λ is. k.fault is;
-      no_error = k.no_error;
-      error = k.error;
-      refused = k.refused;
-      breaks = k.breaks;
-      broken = k.broken;
-    }
+    flagged_keeps : {T : Type 0} → IsCallEnded {T = T} old (with_fault db fault) (Err fault)
+        → IsCallEnded {T = T} old flagged (Err fault)
+    flagged_keeps {T} k = subst (λ (e : Option Fault).
+        IsCallEnded {T = T} old (kept_error s db idle access valid e) (Err fault))
+        (sym flag) record {
+          goes = record {
+            honesty = k.goes.honesty;
+            later = k.goes.later;
+            limit = k.goes.limit;
+            capacity = k.goes.capacity;
+            writable = k.goes.writable;
+            still = λ broken.
+                k.goes.still broken;
+          };
+          fault = λ is. k.fault is;
+          no_error = k.no_error;
+          error = k.error;
+          refused = k.refused;
+          breaks = k.breaks;
+          broken = k.broken;
+        }
 
-    pub flagged_ended : {T : Type 0} (r : Result T Fault) → r ≡ Err fault → IsCallEnded {T = T} old (with_fault db fault) (Err fault) → IsCallEnded old flagged r
-    flagged_ended {T} r is keeps = subst (λ (x : Result T Fault). IsCallEnded old flagged x) (sym is) (flagged_keeps keeps)
+    pub flagged_ended : {T : Type 0} (r : Result T Fault) → r ≡ Err fault
+        → IsCallEnded {T = T} old (with_fault db fault) (Err fault) → IsCallEnded old flagged r
+    flagged_ended {T} r is keeps =
+        subst (λ (x : Result T Fault). IsCallEnded old flagged x) (sym is) (flagged_keeps keeps)
 
-    pub flagged_store : (key content : List ℕ) (mode : StoreMode) (r : Result StoreReply Fault) → r ≡ Err fault → IsStoreEnd old db (with_fault db fault) key content mode (Err fault) → IsStoreEnd old flagged flagged key content mode r
-    flagged_store key content mode r is end = subst (λ (x : Result StoreReply Fault). IsStoreEnd old flagged flagged key content mode x) (sym is)
-        record { shape = end.shape; read_only = end.read_only; kept = end.kept; too_long = end.too_long; keeps = flagged_keeps end.keeps; only = end.only }
+    pub flagged_store : (key content : List ℕ) (mode : StoreMode) (r : Result StoreReply Fault)
+        → r ≡ Err fault → IsStoreEnd old db (with_fault db fault) key content mode (Err fault)
+        → IsStoreEnd old flagged flagged key content mode r
+    flagged_store key content mode r is end =
+        subst (λ (x : Result StoreReply Fault). IsStoreEnd old flagged flagged key content mode x)
+        (sym is)
+        record {
+          shape = end.shape;
+          read_only = end.read_only;
+          kept = end.kept;
+          too_long =
+              end.too_long;
+          keeps = flagged_keeps end.keeps;
+          only = end.only;
+        }
 
-    pub flagged_delete : (key : List ℕ) (r : Result DeleteReply Fault) → r ≡ Err fault → IsDeleteEnd old db (with_fault db fault) key (Err fault) → IsDeleteEnd old flagged flagged key r
-    flagged_delete key r is end = subst (λ (x : Result DeleteReply Fault). IsDeleteEnd old flagged flagged key x) (sym is)
-        record { shape = end.shape; read_only = end.read_only; absent = end.absent; counted = end.counted; keeps = flagged_keeps end.keeps; only = end.only }
+    pub flagged_delete : (key : List ℕ) (r : Result DeleteReply Fault) → r ≡ Err fault
+        → IsDeleteEnd old db (with_fault db fault) key (Err fault)
+        → IsDeleteEnd old flagged flagged key r
+    flagged_delete key r is end =
+        subst (λ (x : Result DeleteReply Fault). IsDeleteEnd old flagged flagged key x) (sym is)
+        record {
+          shape = end.shape;
+          read_only = end.read_only;
+          absent = end.absent;
+          counted =
+              end.counted;
+          keeps = flagged_keeps end.keeps;
+          only = end.only;
+        }
 
   -- what a change that was done leaves
-  pub done_keeps : {T : Type 0} (old mid new : Database S s) (value : T) → IsRead old mid → (page_state old).usable ≡ true → IsDone s mid new (Ok tt) → IsCallEnded old new (Ok value)
+  pub done_keeps : {T : Type 0} (old mid new : Database S s) (value : T) → IsRead old mid
+      → (page_state old).usable ≡ true → IsDone s mid new (Ok tt) → IsCallEnded old new (Ok value)
   done_keeps old mid new value read usable done = record {
     goes = record {
       honesty = both_ways done.ends.honesty read.reads.stages_only.honesty;
       later = omega (arith, read.reads.stages_only.later, done.ends.cause.later);
       limit = done.ends.limit ∙ still_limit s old mid read;
-      capacity = ap (λ (st : StoreState). st.capacity) done.ends.ok ∙ ap (λ (st : StoreState). st.capacity) read.reads.same;
+      capacity = ap (λ (st : StoreState). st.capacity) done.ends.ok
+          ∙ ap (λ (st : StoreState). st.capacity) read.reads.same;
       writable = ap (λ (st : StoreState). st.writable) done.ends.ok ∙ still_writable s old mid read;
       still = λ broken. absurd (let x = sym usable ∙ broken in cc);
     };
@@ -308,16 +407,21 @@ module _ {S : Type 0} {s : Ghosts S} where
     error = tt;
     refused = tt;
     breaks = inl (ap (λ (st : StoreState). st.usable) done.ends.ok ∙ still_usable s old mid read);
-    broken = neither (λ is. absurd (let x = is in cc)) (λ broken. absurd (let x = sym usable ∙ broken in cc));
+    broken = neither (λ is. absurd (let x = is in cc))
+        (λ broken. absurd (let x = sym usable ∙ broken in cc));
   }
 
 -- the shape behind a change, as before it
-pub changed_shape : (old mid new : Meta) → mid ≡ old → shape_in new ≡ shape_for new.pairs (shape_in mid) → shape_in new ≡ shape_for new.pairs (shape_in old)
-changed_shape old mid new same shape = subst (λ (m : Meta). shape_in new ≡ shape_for new.pairs (shape_in m)) same shape
+pub changed_shape : (old mid new : Meta) → mid ≡ old
+    → shape_in new ≡ shape_for new.pairs (shape_in mid)
+    → shape_in new ≡ shape_for new.pairs (shape_in old)
+changed_shape old mid new same shape =
+    subst (λ (m : Meta). shape_in new ≡ shape_for new.pairs (shape_in m)) same shape
 
 -- a walk of the pages that went well
 pub walk_was : {T : Type 0} {state : StoreState} (value : T) → IsWalkAnswer state (Ok value)
 walk_was value = record { broken = λ is. absurd (let x = is in cc); only = tt }
 
-pub never_damaged : {T : Type 0} (value : T) → IsErrOf {T = T} {E = PageFault} (Ok value) page.Damaged → ⊥
+pub never_damaged : {T : Type 0} (value : T)
+    → IsErrOf {T = T} {E = PageFault} (Ok value) page.Damaged → ⊥
 never_damaged value is = absurd (let x = is in cc)

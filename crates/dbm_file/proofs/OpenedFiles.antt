@@ -21,25 +21,37 @@ use Rattle.dbm_file.proofs.ReadSteps.{at_own, same_parts}
 use Rattle.linear_hash.proofs.Tables.{counted}
 
 -- a database that was just opened is at a fresh handle
-pub opened_at : {S : Type 0} {s : store.Ghosts S} (writable : Bool) (pages : ℕ) (db : Database S s) (map : Contents) (limit : ℕ) → HoldsMap db map → StandsAfterStop db map → (meta_kept db).limit ≡ limit → IsNewlyOpened writable pages db
+pub opened_at : {S : Type 0} {s : store.Ghosts S} (writable : Bool) (pages : ℕ) (db : Database S s)
+    (map : Contents) (limit : ℕ) → HoldsMap db map → StandsAfterStop db map
+    → (meta_kept db).limit ≡ limit → IsNewlyOpened writable pages db
     → IsOpenedAt writable db map limit
 opened_at {S} {s} writable pages db map limit held rests limit_is fresh = record {
   handle = handle_of db map None;
-  is_at = at_own db map None held rests (λ usable. subst (λ (c : Option Cursor). IsPass (s.committed (store_of db)) (meta_kept db) c None) (sym fresh.no_pass) tt);
-  is_fresh = same_parts map None _ _ _ _ _ _ _ _ limit_is fresh.no_error fresh.writable fresh.usable;
+  is_at = at_own db map None held rests
+      (λ usable. subst (λ (c : Option Cursor).
+      IsPass (s.committed (store_of db)) (meta_kept db) c None) (sym fresh.no_pass) tt);
+  is_fresh = same_parts map None _ _ _ _ _ _ _ _ limit_is fresh.no_error
+      fresh.writable fresh.usable;
 }
 
 -- a usable one holds a map that its file stands for, and its meta page counts the pairs
-pub counts_pairs : {S : Type 0} (s : store.Ghosts S) (db : Database S s) (h : Handle) → IsAt db h → h.state.usable ≡ true → ((meta_kept db).pairs ≡ len h.state.map) × ((meta_kept db).limit ≡ h.state.limit)
+pub counts_pairs : {S : Type 0} (s : store.Ghosts S) (db : Database S s) (h : Handle) → IsAt db h
+    → h.state.usable ≡ true → ((meta_kept db).pairs ≡ len h.state.map)
+    × ((meta_kept db).limit ≡ h.state.limit)
 counts_pairs s db h at usable =
-    let is_usable = sym (ap (λ (x : Handle). x.state.usable) at.shows) ∙ usable in
-    (sym (counted s (store_of db) (meta_kept db) h.state.map (at.map is_usable)), sym (ap (λ (x : Handle). x.state.limit) at.shows))
+    let is_usable = sym (ap (λ (x : Handle). x.state.usable) at.shows) ∙ usable in (
+      sym (counted s (store_of db) (meta_kept db) h.state.map (at.map is_usable)),
+      sym (ap (λ (x : Handle). x.state.limit) at.shows),
+    )
 
 -- every image that is left of it stands for the map
-pub stands_for : {S : Type 0} (s : store.Ghosts S) (db : Database S s) (h : Handle) (y : Settled) → IsAt db h → h.state.usable ≡ true → s.settles_to (store_of db) y → ImageStandsFor y h.state.map h.state.limit
+pub stands_for : {S : Type 0} (s : store.Ghosts S) (db : Database S s) (h : Handle) (y : Settled)
+    → IsAt db h → h.state.usable ≡ true → s.settles_to (store_of db) y
+    → ImageStandsFor y h.state.map h.state.limit
 stands_for s db h y at usable left =
     let is_usable = sym (ap (λ (x : Handle). x.state.usable) at.shows) ∙ usable in
-    subst (λ (n : ℕ). ImageStandsFor y h.state.map n) (sym (ap (λ (x : Handle). x.state.limit) at.shows)) (at.rests is_usable y left)
+    subst (λ (n : ℕ). ImageStandsFor y h.state.map n)
+    (sym (ap (λ (x : Handle). x.state.limit) at.shows)) (at.rests is_usable y left)
 
 -- the fault of a refusal
 abbrev fault_in : {T D : Type 0} → Fault → Result T (D × Fault) → Fault
@@ -47,21 +59,28 @@ fault_in other (Ok x) = other
 fault_in other (Err e) = e.1
 
 -- what refused an opening at once, or else
-early_or : (T : Type 0) {D P : Type 0} (early : Option Fault) (fault : Fault) (first left : D) → IfSome early (λ told. ◌≡◌ {A = Result T (D × Fault)} (Err (left, fault)) (Err (first, told)))
+early_or : (T : Type 0) {D P : Type 0} (early : Option Fault) (fault : Fault) (first left : D)
+    → IfSome early (λ told. ◌≡◌ {A = Result T (D × Fault)} (Err (left, fault)) (Err (first, told)))
     → (early ≡ None → P) → (early ≡ Some fault) ⊎ P
 early_or T None fault first left told then = inr (then refl)
 early_or T (Some e) fault first left told then = inl (ap Some (sym (ap (fault_in fault) told)))
 
 -- a file of that size whose opening is refused
-pub refuses_file : (T : Type 0) {D : Type 0} (bound : device.Ghosts D) (how : OpenHow) (first left : D) (fault : Fault) → bound.moment first ≡ 0 → bound.sectors first ≡ 9001992
-    → IfSome (early_fault how (bound.sectors first)) (λ told. ◌≡◌ {A = Result T (D × Fault)} (Err (left, fault)) (Err (first, told)))
-    → (bound.honest first → early_fault how (bound.sectors first) ≡ None → IsRefusedOpening how (bound.sectors first) (bound.candidate first) (bound.candidate left) fault)
+pub refuses_file : (T : Type 0) {D : Type 0} (bound : device.Ghosts D) (how : OpenHow)
+    (first left : D) (fault : Fault) → bound.moment first ≡ 0 → bound.sectors first ≡ 9001992
+    → IfSome (early_fault how (bound.sectors first))
+    (λ told. ◌≡◌ {A = Result T (D × Fault)} (Err (left, fault)) (Err (first, told)))
+    → (bound.honest first → early_fault how (bound.sectors first) ≡ None
+    → IsRefusedOpening how (bound.sectors first) (bound.candidate first)
+    (bound.candidate left) fault)
     → RefusesFile bound how fault
 refuses_file T bound how first left fault begins size early refused = record {
   first = first;
   begins = begins;
   size = size;
   left = left;
-  refused = λ honest. subst (λ (n : ℕ). (early_fault how n ≡ Some fault) ⊎ IsRefusedOpening how n (bound.candidate first) (bound.candidate left) fault) size
+  refused = λ honest. subst (λ (n : ℕ).
+      (early_fault how n ≡ Some fault)
+      ⊎ IsRefusedOpening how n (bound.candidate first) (bound.candidate left) fault) size
       (early_or T (early_fault how (bound.sectors first)) fault first left early (refused honest));
 }

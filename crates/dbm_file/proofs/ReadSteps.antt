@@ -34,38 +34,73 @@ use Rattle.linear_hash.specs.declared.passing.Cursor.{Cursor}
 use Rattle.dbm_file.specs.declared.database.Database.{Database}
 
 -- the flag of the program is that of the definitions
-pub kept_first : (old : Option Fault) (fault : Fault) → option_map fault_of (cond (is_some old) old (Some fault)) ≡ first_fault (option_map fault_of old) (fault_of fault)
+pub kept_first : (old : Option Fault) (fault : Fault)
+    → option_map fault_of (cond (is_some old) old (Some fault))
+    ≡ first_fault (option_map fault_of old) (fault_of fault)
 kept_first None fault = refl
 kept_first (Some earlier) fault = refl
 
 abbrev state_with : Contents → Option Keys → ℕ → Option model.Fault → Bool → Bool → State
-state_with map pass limit error writable usable = record { map = map; limit = limit; error = error; pass = pass; writable = writable; usable = usable }
+state_with map pass limit error writable usable =
+    record {
+      map = map;
+      limit = limit;
+      error = error;
+      pass = pass;
+      writable = writable;
+      usable = usable;
+    }
 
-pub same_parts : (map : Contents) (pass : Option Keys) (limit limit' : ℕ) (error error' : Option model.Fault) (writable writable' usable usable' : Bool) → limit ≡ limit' → error ≡ error' → writable ≡ writable' → usable ≡ usable'
-    → state_with map pass limit error writable usable ≡ state_with map pass limit' error' writable' usable'
+pub same_parts : (map : Contents) (pass : Option Keys) (limit limit' : ℕ)
+    (error error' : Option model.Fault) (writable writable' usable usable' : Bool) → limit ≡ limit'
+    → error ≡ error' → writable ≡ writable' → usable ≡ usable'
+    → state_with map pass limit error writable usable
+    ≡ state_with map pass limit' error' writable' usable'
 same_parts map pass limit limit' error error' writable writable' usable usable' l e w u =
-    ap (λ (n : ℕ). state_with map pass n error writable usable) l ∙ ap (λ (f : Option model.Fault). state_with map pass limit' f writable usable) e
-    ∙ ap (λ (b : Bool). state_with map pass limit' error' b usable) w ∙ ap (state_with map pass limit' error' writable') u
+    ap (λ (n : ℕ). state_with map pass n error writable usable) l
+    ∙ ap (λ (f : Option model.Fault). state_with map pass limit' f writable usable) e
+    ∙ ap (λ (b : Bool). state_with map pass limit' error' b usable) w
+    ∙ ap (state_with map pass limit' error' writable') u
 
 -- a database at its own map and pass
-pub at_own : {S : Type 0} {s : Ghosts S} (db : Database S s) (map : Contents) (pass : Option Keys) → HoldsMap db map → StandsAfterStop db map → HoldsPass db pass → IsAt db (handle_of db map pass)
-at_own db map pass held rests going = record { shows = refl; map = held; rests = rests; pass = going }
+pub at_own : {S : Type 0} {s : Ghosts S} (db : Database S s) (map : Contents) (pass : Option Keys)
+    → HoldsMap db map → StandsAfterStop db map → HoldsPass db pass → IsAt db (handle_of db map pass)
+at_own db map pass held rests going =
+    record { shows = refl; map = held; rests = rests; pass = going }
 
 -- a step from there is one from the handle that it is at
-pub from_own : {S : Type 0} {s : Ghosts S} {old new : Database S s} {h : Handle} {call : model.Call} {reply : model.Reply} → IsAt old h → IsStep old new (handle_of old h.state.map h.state.pass) call reply → IsStep old new h call reply
-from_own {S} {s} {old} {new} {h} {call} {reply} at step = subst (λ (x : Handle). IsStep old new x call reply) (sym at.shows) step
+pub from_own : {S : Type 0} {s : Ghosts S} {old new : Database S s} {h : Handle} {call : model.Call}
+    {reply : model.Reply} → IsAt old h
+    → IsStep old new (handle_of old h.state.map h.state.pass) call reply
+    → IsStep old new h call reply
+from_own {S} {s} {old} {new} {h} {call} {reply} at step =
+    subst (λ (x : Handle). IsStep old new x call reply) (sym at.shows) step
 
 -- the pass depends on the committed pages, the meta page and the cursor
-pub same_pass : (pages pages' : Pages) (m m' : Meta) (cursor cursor' : Option Cursor) (pass : Option Keys) → pages' ≡ pages → m' ≡ m → cursor' ≡ cursor → IsPass pages m cursor pass → IsPass pages' m' cursor' pass
+pub same_pass : (pages pages' : Pages) (m m' : Meta) (cursor cursor' : Option Cursor)
+    (pass : Option Keys) → pages' ≡ pages → m' ≡ m → cursor' ≡ cursor → IsPass pages m cursor pass
+    → IsPass pages' m' cursor' pass
 same_pass pages pages' m m' cursor cursor' pass p n c is =
-    subst (λ (x : Pages). IsPass x m' cursor' pass) (sym p) (subst (λ (x : Meta). IsPass pages x cursor' pass) (sym n) (subst (λ (x : Option Cursor). IsPass pages m x pass) (sym c) is))
+    subst (λ (x : Pages). IsPass x m' cursor' pass) (sym p)
+    (subst (λ (x : Meta). IsPass pages x cursor' pass) (sym n)
+    (subst (λ (x : Option Cursor). IsPass pages m x pass) (sym c) is))
 
 -- with no call of the store; `only` is its law `only_now`
-pub no_read : {S : Type 0} (s : Ghosts S) (db : Database S s) → ((y : Settled) → s.honest (store_of db) → s.settled_since (store_of db) (s.moment (store_of db)) y → s.settles_to (store_of db) y) → IsRead db db
-no_read s db only = record { reads = reads_none s (store_of db) only; meta_is = refl; error_is = refl; pass_is = refl }
+pub no_read : {S : Type 0} (s : Ghosts S) (db : Database S s)
+    → ((y : Settled) → s.honest (store_of db)
+    → s.settled_since (store_of db) (s.moment (store_of db)) y → s.settles_to (store_of db) y)
+    → IsRead db db
+no_read s db only = record {
+  reads = reads_none s (store_of db) only;
+  meta_is = refl;
+  error_is =
+      refl;
+  pass_is = refl;
+}
 
 -- with another store, of which pages were read, and another page
-abbrev pub after_reads : {S : Type 0} (s : Ghosts S) (db : Database S s) (read : S) (page : Page) → ReadsOnly s (store_of db) read → Database S s
+abbrev pub after_reads : {S : Type 0} (s : Ghosts S) (db : Database S s) (read : S) (page : Page)
+    → ReadsOnly s (store_of db) read → Database S s
 after_reads s db read page reads = record db {
   store = read;
   page = page;
@@ -74,7 +109,8 @@ after_reads s db read page reads = record db {
 }
 
 -- a store that isn't broken is usable
-pub not_broken : (test usable : Bool) → IsTrue test ↔ (usable ≡ false) → test ≡ false → usable ≡ true
+pub not_broken : (test usable : Bool) → IsTrue test ↔ (usable ≡ false) → test ≡ false
+    → usable ≡ true
 not_broken test true is told = refl
 not_broken test false is told = let broken = is.1 refl in cc
 
@@ -103,58 +139,100 @@ pub no_more_pages : (before after : Handle) (reply : model.Reply) → after.page
     → (before.pages ≤ after.pages) × (after.pages ≤ before.pages + growth before reply)
 no_more_pages before after reply same = (omega (arith, same), omega (arith, same))
 
-module _ {S : Type 0} (s : Ghosts S) (old new : Database S s) (map : Contents) (pass : Option Keys) where
+module _ {S : Type 0} (s : Ghosts S) (old new : Database S s) (map : Contents)
+    (pass : Option Keys) where
   -- the state of a database with this fault
-  pub flagged_is : (fault : Fault) → (meta_kept new).limit ≡ (meta_kept old).limit → new.error ≡ old.error → (page_state new).writable ≡ (page_state old).writable → (page_state new).usable ≡ (page_state old).usable
-      → (handle_of (with_fault new fault) map pass).state ≡ flagged (fault_of fault) (handle_of old map pass).state
+  pub flagged_is : (fault : Fault) → (meta_kept new).limit ≡ (meta_kept old).limit
+      → new.error ≡ old.error → (page_state new).writable ≡ (page_state old).writable
+      → (page_state new).usable ≡ (page_state old).usable
+      → (handle_of (with_fault new fault) map pass).state
+      ≡ flagged (fault_of fault) (handle_of old map pass).state
   flagged_is fault limit error writable usable =
-      same_parts map pass _ _ _ _ _ _ _ _ limit (ap (λ (e : Option Fault). option_map fault_of (cond (is_some e) e (Some fault))) error ∙ kept_first old.error fault) writable usable
+      same_parts map pass _ _ _ _ _ _ _ _ limit
+      (ap (λ (e : Option Fault). option_map fault_of (cond (is_some e) e (Some fault))) error
+      ∙ kept_first old.error fault) writable usable
 
-  pub same_state : (meta_kept new).limit ≡ (meta_kept old).limit → new.error ≡ old.error → (page_state new).writable ≡ (page_state old).writable → (page_state new).usable ≡ (page_state old).usable → (handle_of new map pass).state ≡ (handle_of old map pass).state
-  same_state limit error writable usable = same_parts map pass _ _ _ _ _ _ _ _ limit (ap (λ (e : Option Fault). option_map fault_of e) error) writable usable
+  pub same_state : (meta_kept new).limit ≡ (meta_kept old).limit → new.error ≡ old.error
+      → (page_state new).writable ≡ (page_state old).writable
+      → (page_state new).usable ≡ (page_state old).usable
+      → (handle_of new map pass).state ≡ (handle_of old map pass).state
+  same_state limit error writable usable =
+      same_parts map pass _ _ _ _ _ _ _ _ limit
+      (ap (λ (e : Option Fault). option_map fault_of e) error) writable usable
 
 module _ {S : Type 0} (s : Ghosts S) (old new : Database S s) (map : Contents) where
   module _ (read : IsRead old new) where
     -- the committed pages and the meta page stay
-    pub still_holds : s.honest (store_of old) → Holds s (store_of old) (meta_kept old) map → Holds s (store_of new) (meta_kept new) map
+    pub still_holds : s.honest (store_of old) → Holds s (store_of old) (meta_kept old) map
+        → Holds s (store_of new) (meta_kept new) map
     still_holds honest h =
         let pages = sym (read.reads.stages_only.kept honest).committed in
         let meta = sym (still_meta s old new read) in
         record {
-          stands = subst (λ (m : Meta). FileStandsFor (s.committed (store_of new)) map m.limit) meta (subst (λ (ps : Pages). FileStandsFor ps map (meta_kept old).limit) pages h.stands);
-          meta_is = subst (λ (m : Meta). said_by (page_of (s.committed (store_of new))) 1 ≡ MetaPage m) meta (subst (λ (ps : Pages). said_by (page_of ps) 1 ≡ MetaPage (meta_kept old)) pages h.meta_is);
+          stands = subst (λ (m : Meta). FileStandsFor (s.committed (store_of new)) map m.limit) meta
+              (subst (λ (ps : Pages). FileStandsFor ps map (meta_kept old).limit) pages h.stands);
+          meta_is = subst (λ (m : Meta).
+              said_by (page_of (s.committed (store_of new))) 1 ≡ MetaPage m) meta
+              (subst (λ (ps : Pages). said_by (page_of ps) 1 ≡ MetaPage (meta_kept old))
+              pages h.meta_is);
         }
 
-    pub still_rests : s.honest (store_of old) → ((x : Settled) → s.settles_to (store_of old) x → ImageStandsFor x map (meta_kept old).limit) → (x : Settled) → s.settles_to (store_of new) x → ImageStandsFor x map (meta_kept new).limit
-    still_rests honest rests x left = subst (λ (n : ℕ). ImageStandsFor x map n) (sym (still_limit s old new read)) (rests x (read.reads.stages_only.now honest x left))
+    pub still_rests : s.honest (store_of old)
+        → ((x : Settled) → s.settles_to (store_of old) x
+        → ImageStandsFor x map (meta_kept old).limit) → (x : Settled)
+        → s.settles_to (store_of new) x → ImageStandsFor x map (meta_kept new).limit
+    still_rests honest rests x left =
+        subst (λ (n : ℕ). ImageStandsFor x map n) (sym (still_limit s old new read))
+        (rests x (read.reads.stages_only.now honest x left))
 
-    pub still_survives : s.honest (store_of old) → ((x : Settled) → s.settles_to (store_of old) x → ImageStandsFor x map (meta_kept old).limit) → (Left : Contents → Type 0) → Left map → Survives old new Left
+    pub still_survives : s.honest (store_of old)
+        → ((x : Settled) → s.settles_to (store_of old) x
+        → ImageStandsFor x map (meta_kept old).limit) → (Left : Contents → Type 0) → Left map
+        → Survives old new Left
     still_survives honest rests Left left =
-        weaker s.moment s.settled_since (store_of old) (store_of new) (StandsForSome Left (meta_kept old).limit) (s.settles_to (store_of old)) (read.reads.stages_only.kept honest).any_moment
+        weaker s.moment s.settled_since (store_of old) (store_of new)
+        (StandsForSome Left (meta_kept old).limit) (s.settles_to (store_of old))
+        (read.reads.stages_only.kept honest).any_moment
         (λ x is. (map, left, rests x is))
 
 -- what was kept of the pass stays right
-pub still_passes : {S : Type 0} (s : Ghosts S) (old new : Database S s) (pass : Option Keys) → IsRead old new → s.honest (store_of old) → IsPass (s.committed (store_of old)) (meta_kept old) (cursor_of old) pass
+pub still_passes : {S : Type 0} (s : Ghosts S) (old new : Database S s) (pass : Option Keys)
+    → IsRead old new → s.honest (store_of old)
+    → IsPass (s.committed (store_of old)) (meta_kept old) (cursor_of old) pass
     → IsPass (s.committed (store_of new)) (meta_kept new) (cursor_of new) pass
-still_passes s old new pass read honest going = same_pass _ _ _ _ _ _ pass (read.reads.stages_only.kept honest).committed (still_meta s old new read) read.pass_is going
+still_passes s old new pass read honest going =
+    same_pass _ _ _ _ _ _ pass (read.reads.stages_only.kept honest).committed
+    (still_meta s old new read) read.pass_is going
 
-module _ {S : Type 0} (s : Ghosts S) (old new : Database S s) (map : Contents) (pass : Option Keys) (call : model.Call) (read : IsRead old new) (honest : s.honest (store_of old)) (h : Holds s (store_of old) (meta_kept old) map)
-    (going : IsPass (s.committed (store_of old)) (meta_kept old) (cursor_of old) pass) (rests : (x : Settled) → s.settles_to (store_of old) x → ImageStandsFor x map (meta_kept old).limit) where
+module _ {S : Type 0} (s : Ghosts S) (old new : Database S s) (map : Contents) (pass : Option Keys)
+    (call : model.Call) (read : IsRead old new) (honest : s.honest (store_of old))
+    (h : Holds s (store_of old) (meta_kept old) map)
+    (going : IsPass (s.committed (store_of old)) (meta_kept old) (cursor_of old) pass)
+    (rests : (x : Settled) → s.settles_to (store_of old) x
+    → ImageStandsFor x map (meta_kept old).limit) where
   abbrev before : Handle
   before = handle_of old map pass
 
-  pub found_step : (reply : model.Reply) → case_of before.state call ≡ Finds reply → IsStep old new before call reply
+  pub found_step : (reply : model.Reply) → case_of before.state call ≡ Finds reply
+      → IsStep old new before call reply
   found_step reply falls = record {
     after = handle_of new map pass;
     step = record {
       counts = read.reads.stages_only.later;
       capacity = still_capacity s old new read;
       pages = no_more_pages before (handle_of new map pass) reply (still_end s old new read);
-      answers = inl (subst (λ (c : Case). Answers before.state c reply (handle_of new map pass).state) (sym falls)
-          (refl, same_state s old new map pass (still_limit s old new read) read.error_is (still_writable s old new read) (still_usable s old new read)));
+      answers = inl (subst (λ (c : Case).
+          Answers before.state c reply (handle_of new map pass).state) (sym falls) (
+            refl,
+            same_state s old new map pass (still_limit s old new read) read.error_is
+                (still_writable s old new read) (still_usable s old new read),
+          ));
     };
-    is_at = at_own new map pass (λ usable. still_holds s old new map read honest h) (λ usable. still_rests s old new map read honest rests) (λ usable. still_passes s old new pass read honest going);
-    survives = λ usable. still_survives s old new map read honest rests (MayBeLeft before (handle_of new map pass) call) (inl refl);
+    is_at = at_own new map pass (λ usable. still_holds s old new map read honest h)
+        (λ usable. still_rests s old new map read honest rests)
+        (λ usable. still_passes s old new pass read honest going);
+    survives = λ usable. still_survives s old new map read honest rests
+        (MayBeLeft before (handle_of new map pass) call) (inl refl);
   }
 
   module _ (fault : Fault) where
@@ -162,66 +240,100 @@ module _ {S : Type 0} (s : Ghosts S) (old new : Database S s) (map : Contents) (
     refused = with_fault new fault
 
     refused_state : (handle_of refused map pass).state ≡ flagged (fault_of fault) before.state
-    refused_state = flagged_is s old new map pass fault (still_limit s old new read) read.error_is (still_writable s old new read) (still_usable s old new read)
+    refused_state = flagged_is s old new map pass fault (still_limit s old new read) read.error_is
+        (still_writable s old new read) (still_usable s old new read)
 
-    still_pages : (before.pages ≤ (page_state new).end) × ((page_state new).end ≤ before.pages + growth before (model.Refused (fault_of fault)))
-    still_pages = no_more_pages before (handle_of refused map pass) (model.Refused (fault_of fault)) (still_end s old new read)
+    still_pages : (before.pages ≤ (page_state new).end)
+        × ((page_state new).end ≤ before.pages + growth before (model.Refused (fault_of fault)))
+    still_pages = no_more_pages before (handle_of refused map pass) (model.Refused (fault_of fault))
+        (still_end s old new read)
 
-    refused_step : (Step before call (model.Refused (fault_of fault)) (handle_of refused map pass)) → IsStep old refused before call (model.Refused (fault_of fault))
+    refused_step : (Step before call (model.Refused (fault_of fault)) (handle_of refused map pass))
+        → IsStep old refused before call (model.Refused (fault_of fault))
     refused_step step = record {
       after = handle_of refused map pass;
       step = step;
-      is_at = at_own refused map pass (λ usable. still_holds s old new map read honest h) (λ usable. still_rests s old new map read honest rests) (λ usable. still_passes s old new pass read honest going);
-      survives = λ usable. still_survives s old new map read honest rests (MayBeLeft before (handle_of refused map pass) call) (inl refl);
+      is_at = at_own refused map pass (λ usable. still_holds s old new map read honest h)
+          (λ usable. still_rests s old new map read honest rests)
+          (λ usable. still_passes s old new pass read honest going);
+      survives = λ usable. still_survives s old new map read honest rests
+          (MayBeLeft before (handle_of refused map pass) call) (inl refl);
     }
 
-    told_step : (rule : Case) → case_of before.state call ≡ rule → Answers before.state rule (model.Refused (fault_of fault)) (handle_of refused map pass).state → IsStep old refused before call (model.Refused (fault_of fault))
+    told_step : (rule : Case) → case_of before.state call ≡ rule
+        → Answers before.state rule (model.Refused (fault_of fault))
+        (handle_of refused map pass).state
+        → IsStep old refused before call (model.Refused (fault_of fault))
     told_step rule falls is = refused_step record {
       counts = read.reads.stages_only.later;
       capacity = still_capacity s old new read;
       pages = still_pages;
-      answers = inl (subst (λ (c : Case). Answers before.state c (model.Refused (fault_of fault)) (handle_of refused map pass).state) (sym falls) is);
+      answers = inl (subst (λ (c : Case).
+          Answers before.state c (model.Refused (fault_of fault))
+          (handle_of refused map pass).state) (sym falls) is);
     }
 
-    pub rejected_step : case_of before.state call ≡ Refuses (fault_of fault) → IsStep old refused before call (model.Refused (fault_of fault))
+    pub rejected_step : case_of before.state call ≡ Refuses (fault_of fault)
+        → IsStep old refused before call (model.Refused (fault_of fault))
     rejected_step falls = told_step (Refuses (fault_of fault)) falls (refl, refused_state)
 
-    pub declined_step : case_of before.state call ≡ Declines (fault_of fault) → IsStep old refused before call (model.Refused (fault_of fault))
+    pub declined_step : case_of before.state call ≡ Declines (fault_of fault)
+        → IsStep old refused before call (model.Refused (fault_of fault))
     declined_step falls = told_step (Declines (fault_of fault)) falls (refl, refused_state)
 
-    pub failed_step : fault ≡ Device → MoreFaults (s.faults (store_of old)) (s.faults (store_of new))
-        → ((reply : model.Reply) (after : Handle) → Fails before reply after → Suffers before (case_of before.state call) reply after)
+    pub failed_step : fault ≡ Device
+        → MoreFaults (s.faults (store_of old)) (s.faults (store_of new))
+        → ((reply : model.Reply) (after : Handle) → Fails before reply after
+        → Suffers before (case_of before.state call) reply after)
         → IsStep old refused before call (model.Refused (fault_of fault))
     failed_step is more may = refused_step record {
       counts = read.reads.stages_only.later;
       capacity = still_capacity s old new read;
       pages = still_pages;
-      answers = inr (may (model.Refused (fault_of fault)) (handle_of refused map pass)
-          (ap (λ (f : Fault). model.Refused (fault_of f)) is, more, refused_state ∙ ap (λ (f : Fault). flagged (fault_of f) before.state) is));
+      answers = inr (may (model.Refused (fault_of fault)) (handle_of refused map pass) (
+        ap (λ (f : Fault). model.Refused (fault_of f)) is,
+        more,
+        refused_state ∙ ap (λ (f : Fault). flagged (fault_of f) before.state) is,
+      ));
     }
 
   -- where a walk through the pages failed, the device did
-  pub walk_failed_step : (T : Type 0) (e : PageFault) → (page_state old).usable ≡ true → IsWalkAnswer {T = T} (page_state old) (Err e) → HasDeviceCause {T = T} (s.faults (store_of old)) (s.faults (store_of new)) (Err e)
-      → (IsErrOf {T = T} (Err e) page.Damaged → ⊥) → ((reply : model.Reply) (after : Handle) → Fails before reply after → Suffers before (case_of before.state call) reply after)
-      → IsStep old (with_fault new (fault_from e)) before call (model.Refused (fault_of (fault_from e)))
+  pub walk_failed_step : (T : Type 0) (e : PageFault) → (page_state old).usable ≡ true
+      → IsWalkAnswer {T = T} (page_state old) (Err e)
+      → HasDeviceCause {T = T} (s.faults (store_of old)) (s.faults (store_of new)) (Err e)
+      → (IsErrOf {T = T} (Err e) page.Damaged → ⊥)
+      → ((reply : model.Reply) (after : Handle) → Fails before reply after
+      → Suffers before (case_of before.state call) reply after)
+      → IsStep old (with_fault new (fault_from e)) before call
+      (model.Refused (fault_of (fault_from e)))
   walk_failed_step T e usable answer cause whole may = device answer.only
     where
-      device : (e ≡ page.Broken) ⊎ ((e ≡ page.Damaged) ⊎ (e ≡ page.Device)) → IsStep old (with_fault new (fault_from e)) before call (model.Refused (fault_of (fault_from e)))
+      device : (e ≡ page.Broken) ⊎ ((e ≡ page.Damaged) ⊎ (e ≡ page.Device))
+          → IsStep old (with_fault new (fault_from e)) before call
+          (model.Refused (fault_of (fault_from e)))
       device (inl is) = let broken = answer.broken (ap Err is) in absurd (let x = broken in cc)
       device (inr (inl is)) = absurd (whole (ap Err is))
-      device (inr (inr is)) = failed_step (fault_from e) (ap fault_from is) (cause.fault (ap Err is)) may
+      device (inr (inr is)) = failed_step (fault_from e) (ap fault_from is)
+          (cause.fault (ap Err is)) may
 
--- a walk through pages that failed says Device only where the device did, and Broken never of a usable store
-pub walk_more : {S T : Type 0} (s : Ghosts S) (old new : Database S s) (e : PageFault) → IsWalkAnswer {T = T} (page_state old) (Err e) → HasDeviceCause {T = T} (s.faults (store_of old)) (s.faults (store_of new)) (Err e) → fault_from e ≡ Device
+-- a walk through pages that failed says Device only where the device did, and Broken never of a
+-- usable store
+pub walk_more : {S T : Type 0} (s : Ghosts S) (old new : Database S s) (e : PageFault)
+    → IsWalkAnswer {T = T} (page_state old) (Err e)
+    → HasDeviceCause {T = T} (s.faults (store_of old)) (s.faults (store_of new)) (Err e)
+    → fault_from e ≡ Device
     → MoreFaults (s.faults (store_of old)) (s.faults (store_of new))
 walk_more s old new e answer cause same = by_case answer.only
   where
-    by_case : (e ≡ page.Broken) ⊎ ((e ≡ page.Damaged) ⊎ (e ≡ page.Device)) → MoreFaults (s.faults (store_of old)) (s.faults (store_of new))
+    by_case : (e ≡ page.Broken) ⊎ ((e ≡ page.Damaged) ⊎ (e ≡ page.Device))
+        → MoreFaults (s.faults (store_of old)) (s.faults (store_of new))
     by_case (inl is) = absurd (let x = sym same ∙ ap fault_from is in cc)
     by_case (inr (inl is)) = absurd (let x = sym same ∙ ap fault_from is in cc)
     by_case (inr (inr is)) = cause.fault (ap Err is)
 
-pub walk_sound : {S T : Type 0} (s : Ghosts S) (old : Database S s) (e : PageFault) → (page_state old).usable ≡ true → IsWalkAnswer {T = T} (page_state old) (Err e) → fault_from e ≡ Broken → ⊥
+pub walk_sound : {S T : Type 0} (s : Ghosts S) (old : Database S s) (e : PageFault)
+    → (page_state old).usable ≡ true → IsWalkAnswer {T = T} (page_state old) (Err e)
+    → fault_from e ≡ Broken → ⊥
 walk_sound s old e usable answer same = by_case answer.only
   where
     by_case : (e ≡ page.Broken) ⊎ ((e ≡ page.Damaged) ⊎ (e ≡ page.Device)) → ⊥
@@ -230,22 +342,30 @@ walk_sound s old e usable answer same = by_case answer.only
     by_case (inr (inr is)) = absurd (let x = sym same ∙ ap fault_from is in cc)
 
 -- what a broken database answers
-pub broken_step : {S : Type 0} (s : Ghosts S) (old : Database S s) (map : Contents) (pass : Option Keys) (call : model.Call) → (page_state old).usable ≡ false
-    → case_of (handle_of old map pass).state call ≡ Refuses model.Broken → IsStep old (with_fault old Broken) (handle_of old map pass) call (model.Refused model.Broken)
+pub broken_step : {S : Type 0} (s : Ghosts S) (old : Database S s) (map : Contents)
+    (pass : Option Keys) (call : model.Call) → (page_state old).usable ≡ false
+    → case_of (handle_of old map pass).state call ≡ Refuses model.Broken
+    → IsStep old (with_fault old Broken) (handle_of old map pass) call
+    (model.Refused model.Broken)
 broken_step s old map pass call broken falls = record {
   after = handle_of (with_fault old Broken) map pass;
   step = record {
     counts = omega arith;
     capacity = refl;
-    pages = no_more_pages (handle_of old map pass) (handle_of (with_fault old Broken) map pass) (model.Refused model.Broken) refl;
-    answers = inl (subst (λ (c : Case). Answers (handle_of old map pass).state c (model.Refused model.Broken) (handle_of (with_fault old Broken) map pass).state) (sym falls)
+    pages = no_more_pages (handle_of old map pass) (handle_of (with_fault old Broken) map pass)
+        (model.Refused model.Broken) refl;
+    answers = inl (subst (λ (c : Case).
+        Answers (handle_of old map pass).state c (model.Refused model.Broken)
+        (handle_of (with_fault old Broken) map pass).state) (sym falls)
         (refl, flagged_is s old old map pass Broken refl refl refl refl));
   };
-  is_at = at_own (with_fault old Broken) map pass (λ usable. absurd (let e = usable in cc)) (λ usable. absurd (let e = usable in cc)) (λ usable. absurd (let e = usable in cc));
+  is_at = at_own (with_fault old Broken) map pass (λ usable. absurd (let e = usable in cc))
+      (λ usable. absurd (let e = usable in cc)) (λ usable. absurd (let e = usable in cc));
   survives = λ usable. absurd (let e = usable in cc);
 }
 
-module _ {S : Type 0} (s : Ghosts S) (old new : Database S s) (read : IsRead old new) (usable : (page_state old).usable ≡ true) where
+module _ {S : Type 0} (s : Ghosts S) (old new : Database S s) (read : IsRead old new)
+    (usable : (page_state old).usable ≡ true) where
   read_goes : IsSameDatabase old new
   read_goes = record {
     honesty = read.reads.stages_only.honesty;
@@ -267,21 +387,44 @@ module _ {S : Type 0} (s : Ghosts S) (old new : Database S s) (read : IsRead old
     broken = (λ is. absurd (let e = is in cc), λ broken. absurd (let e = broken in cc));
   }
 
-  pub refused_keeps : (T : Type 0) (fault : Fault) → (fault ≡ Device → MoreFaults (s.faults (store_of old)) (s.faults (store_of new))) → (fault ≡ Broken → ⊥)
+  pub refused_keeps : (T : Type 0) (fault : Fault)
+      → (fault ≡ Device → MoreFaults (s.faults (store_of old)) (s.faults (store_of new)))
+      → (fault ≡ Broken → ⊥)
       → IsCallEnded {T = T} old (with_fault new fault) (Err fault)
   refused_keeps T fault more sound = record {
-    goes = record { honesty = read_goes.honesty; later = read_goes.later; limit = read_goes.limit; capacity = read_goes.capacity; writable = read_goes.writable; still = λ broken. read_goes.still broken };
+    goes = record {
+      honesty = read_goes.honesty;
+      later = read_goes.later;
+      limit = read_goes.limit;
+      capacity = read_goes.capacity;
+      writable = read_goes.writable;
+      still = λ broken.
+          read_goes.still broken;
+    };
     fault = λ is. more (let e = is in cc);
     no_error = tt;
-    error = ap (λ (e : Option Fault). option_map fault_of (cond (is_some e) e (Some fault))) read.error_is ∙ kept_first old.error fault;
-    refused = (still_meta s old new read, ap (λ (st : store.StoreState). st.end) read.reads.same, read.pass_is);
+    error = ap (λ (e : Option Fault). option_map fault_of (cond (is_some e) e (Some fault)))
+        read.error_is ∙ kept_first old.error fault;
+    refused = (
+      still_meta s old new read,
+      ap (λ (st : store.StoreState). st.end) read.reads.same,
+      read.pass_is,
+    );
     breaks = inl (still_usable s old new read);
     broken = (λ is. absurd (sound (let e = is in cc)), λ broken. absurd (let e = broken in cc));
   }
 
-pub broken_keeps : {S : Type 0} (T : Type 0) (s : Ghosts S) (old : Database S s) → (page_state old).usable ≡ false → IsCallEnded {T = T} old (with_fault old Broken) (Err Broken)
+pub broken_keeps : {S : Type 0} (T : Type 0) (s : Ghosts S) (old : Database S s)
+    → (page_state old).usable ≡ false → IsCallEnded {T = T} old (with_fault old Broken) (Err Broken)
 broken_keeps T s old broken = record {
-  goes = record { honesty = (λ h. h, λ h. h); later = omega arith; limit = refl; capacity = refl; writable = refl; still = λ is. refl };
+  goes = record {
+    honesty = (λ h. h, λ h. h);
+    later = omega arith;
+    limit = refl;
+    capacity = refl;
+    writable = refl;
+    still = λ is. refl;
+  };
   fault = λ is. absurd (let e = is in cc);
   no_error = tt;
   error = kept_first old.error Broken;

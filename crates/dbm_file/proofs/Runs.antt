@@ -23,20 +23,29 @@ use Rattle.dbm_file.specs.Runs.{MayBeLeftWithin, IsBreak, IsRun}
 use Rattle.dbm_file.specs.declared.database.Database.{Database}
 use Rattle.dbm_file.proofs.Breaks.{CountsNow, breaks_now, breaks_before}
 
-module _ {S : Type 0} {s : Ghosts S} {old new : Database S s} {held : Handle} {call call' : Call} {reply reply' : Reply} where
+module _ {S : Type 0} {s : Ghosts S} {old new : Database S s} {held : Handle} {call call' : Call}
+    {reply reply' : Reply} where
   -- a step of a call that is told otherwise
-  pub same_step : call' ≡ call → reply' ≡ reply → IsStep old new held call' reply' → IsStep old new held call reply
-  same_step same_call same_reply step = subst (λ (c : Call). IsStep old new held c reply) same_call (subst (λ (r : Reply). IsStep old new held call' r) same_reply step)
+  pub same_step : call' ≡ call → reply' ≡ reply → IsStep old new held call' reply'
+      → IsStep old new held call reply
+  same_step same_call same_reply step =
+      subst (λ (c : Call). IsStep old new held c reply) same_call
+      (subst (λ (r : Reply). IsStep old new held call' r) same_reply step)
 
-pub same_store : (key key' content content' : List ℕ) (mode : model.Mode) → key ≡ key' → content ≡ content' → model.Store key content mode ≡ model.Store key' content' mode
-same_store key key' content content' mode k v = ap (λ (x : List ℕ). model.Store x content mode) k ∙ ap (λ (x : List ℕ). model.Store key' x mode) v
+pub same_store : (key key' content content' : List ℕ) (mode : model.Mode) → key ≡ key'
+    → content ≡ content' → model.Store key content mode ≡ model.Store key' content' mode
+same_store key key' content content' mode k v =
+    ap (λ (x : List ℕ). model.Store x content mode) k
+    ∙ ap (λ (x : List ℕ). model.Store key' x mode) v
 
 -- a number is the same behind its bits
 pub same_number : (z : ℤ) → mag z < 2147483648 → to_z w32 (of_z w32 z) ≡ z
-same_number z small = to_z-of_z (sfits_lit {w = w32} (subst T (sym (lt-ltb (mag z) 2147483648 small)) tt))
+same_number z small = to_z-of_z
+    (sfits_lit {w = w32} (subst T (sym (lt-ltb (mag z) 2147483648 small)) tt))
 
 -- a number is told as it is
-pub told_number : (z : ℤ) (n : ℕ) → mag z < 2147483648 → z ≡ pos n → bits_of (to_z w32 (of_z w32 z)) ≡ n
+pub told_number : (z : ℤ) (n : ℕ) → mag z < 2147483648 → z ≡ pos n
+    → bits_of (to_z w32 (of_z w32 z)) ≡ n
 told_number z n small is = ap bits_of (same_number z small ∙ is)
 
 pub all_taken : {X : Type 0} (xs : List X) (n : ℕ) → length xs ≤ n → take n xs ≡ xs
@@ -47,9 +56,11 @@ all_taken (x ∷ xs) (suc n) le = ap (λ (ys : List _). x ∷ ys) (all_taken xs 
 
 -- what a stop may leave within the calls that were made, once one more is made
 module _ (call : Call) (reply : Reply) where
-  pub left_before : (before mid after : Handle) (calls : List Call) (replies : List Reply) (map : Contents) → MayBeLeftWithin before calls replies mid map → Step mid call reply after
+  pub left_before : (before mid after : Handle) (calls : List Call) (replies : List Reply)
+      (map : Contents) → MayBeLeftWithin before calls replies mid map → Step mid call reply after
       → MayBeLeftWithin before (calls ++ call ∷ []) (replies ++ reply ∷ []) after map
-  left_before before mid after [] [] map (same, is) step = (after, subst (λ (h : Handle). Step h call reply after) same step, inl (inl is, refl))
+  left_before before mid after [] [] map (same, is) step =
+      (after, subst (λ (h : Handle). Step h call reply after) same step, inl (inl is, refl))
   left_before before mid after [] (r ∷ replies) map left step = absurd left
   left_before before mid after (c ∷ calls) [] map left step = absurd left
   left_before before mid after (c ∷ calls) (r ∷ replies) map (next, first, left) step = (
@@ -62,28 +73,40 @@ module _ (call : Call) (reply : Reply) where
   )
 
   -- within the last one
-  pub left_within : (before mid after : Handle) (calls : List Call) (replies : List Reply) (map : Contents) → Run before calls replies mid → Step mid call reply after → MayBeLeft mid after call map
+  pub left_within : (before mid after : Handle) (calls : List Call) (replies : List Reply)
+      (map : Contents) → Run before calls replies mid → Step mid call reply after
+      → MayBeLeft mid after call map
       → MayBeLeftWithin before (calls ++ call ∷ []) (replies ++ reply ∷ []) after map
-  left_within before mid after [] [] map same step left = (after, subst (λ (h : Handle). Step h call reply after) same step, inl (subst (λ (h : Handle). MayBeLeft h after call map) same left, refl))
+  left_within before mid after [] [] map same step left = (
+    after,
+    subst (λ (h : Handle). Step h call reply after) same step,
+    inl (subst (λ (h : Handle). MayBeLeft h after call map) same left, refl),
+  )
   left_within before mid after [] (r ∷ replies) map run step left = absurd run
   left_within before mid after (c ∷ calls) [] map run step left = absurd run
-  left_within before mid after (c ∷ calls) (r ∷ replies) map (next, first, run) step left = (next, first, inr (left_within next mid after calls replies map run step left))
+  left_within before mid after (c ∷ calls) (r ∷ replies) map (next, first, run) step left =
+      (next, first, inr (left_within next mid after calls replies map run step left))
 
 -- no call made
-pub no_run : {S : Type 0} (s : Ghosts S) (db : Database S s) (h : Handle) → IsAt db h → ((x : Settled) → s.settled_since (store_of db) (s.moment (store_of db)) x → s.settles_to (store_of db) x)
+pub no_run : {S : Type 0} (s : Ghosts S) (db : Database S s) (h : Handle) → IsAt db h
+    → ((x : Settled) → s.settled_since (store_of db) (s.moment (store_of db)) x
+    → s.settles_to (store_of db) x)
     → IsRun db db h [] []
 no_run s db h at now = record {
   after = h;
   run = refl;
   is_at = at;
   survives = λ usable.
-      started s.moment s.settled_since (store_of db) (StandsForSome (MayBeLeftWithin h [] [] h) (meta_kept db).limit)
+      started s.moment s.settled_since (store_of db)
+      (StandsForSome (MayBeLeftWithin h [] [] h) (meta_kept db).limit)
       (λ x left. (h.state.map, (refl, refl), at.rests usable x (now x left)));
   breaks = λ usable broken. absurd (let both = sym usable ∙ broken in cc);
 }
 
 -- one call more
-module _ {S : Type 0} (s : Ghosts S) (old mid new : Database S s) (h : Handle) (calls : List Call) (replies : List Reply) (call : Call) (reply : Reply) (limit : (meta_kept mid).limit ≡ (meta_kept old).limit) (goes : IsSameDatabase mid new)
+module _ {S : Type 0} (s : Ghosts S) (old mid new : Database S s) (h : Handle) (calls : List Call)
+    (replies : List Reply) (call : Call) (reply : Reply)
+    (limit : (meta_kept mid).limit ≡ (meta_kept old).limit) (goes : IsSameDatabase mid new)
     (run : IsRun old mid h calls replies) (step : IsStep mid new run.after call reply)
     (counts : CountsNow new) where
   abbrev Within : Contents → Type 0
@@ -92,59 +115,100 @@ module _ {S : Type 0} (s : Ghosts S) (old mid new : Database S s) (h : Handle) (
   -- what was left before the last call
   earlier : (page_state old).usable ≡ true → Survives old mid Within
   earlier was =
-      weaker s.moment s.settled_since (store_of old) (store_of mid) (StandsForSome Within (meta_kept old).limit) (StandsForSome (MayBeLeftWithin h calls replies run.after) (meta_kept old).limit) (run.survives was)
-      (λ x is. (is.0, left_before call reply h run.after step.after calls replies is.0 is.1 step.step, is.2))
+      weaker s.moment s.settled_since (store_of old) (store_of mid)
+      (StandsForSome Within (meta_kept old).limit)
+      (StandsForSome (MayBeLeftWithin h calls replies run.after) (meta_kept old).limit)
+      (run.survives was)
+      (λ x is. (
+        is.0,
+        left_before call reply h run.after step.after calls replies is.0 is.1
+            step.step,
+        is.2,
+      ))
 
-  goes_on : (page_state old).usable ≡ true → (page_state mid).usable ≡ true → Survives old new Within
+  goes_on : (page_state old).usable ≡ true → (page_state mid).usable ≡ true
+      → Survives old new Within
   goes_on was usable =
-      followed_by s.moment s.settled_since (store_of old) (store_of mid) (store_of new) (StandsForSome Within (meta_kept old).limit) (StandsForSome (MayBeLeft run.after step.after call) (meta_kept mid).limit)
+      followed_by s.moment s.settled_since (store_of old) (store_of mid) (store_of new)
+      (StandsForSome Within (meta_kept old).limit)
+      (StandsForSome (MayBeLeft run.after step.after call) (meta_kept mid).limit)
       (earlier was) (step.survives usable)
-      (λ x is. (is.0, left_within call reply h run.after step.after calls replies is.0 run.run step.step is.1, subst (λ (n : ℕ). ImageStandsFor x is.0 n) limit is.2))
+      (λ x is. (
+        is.0,
+        left_within call reply h run.after step.after calls replies is.0 run.run
+            step.step is.1,
+        subst (λ (n : ℕ). ImageStandsFor x is.0 n) limit is.2,
+      ))
 
   -- a broken one makes no device call
-  stays_broken : (page_state old).usable ≡ true → (page_state mid).usable ≡ false → Survives old new Within
-  stays_broken was broken = subst (λ (store : S). LeavesOnly s.moment s.settled_since (store_of old) store (StandsForSome Within (meta_kept old).limit)) (sym (goes.still broken)) (earlier was)
+  stays_broken : (page_state old).usable ≡ true → (page_state mid).usable ≡ false
+      → Survives old new Within
+  stays_broken was broken = subst
+      (λ (store : S). LeavesOnly s.moment s.settled_since (store_of old) store
+      (StandsForSome Within (meta_kept old).limit)) (sym (goes.still broken)) (earlier was)
 
   one_more : IsRun old new h (calls ++ call ∷ []) (replies ++ reply ∷ [])
   one_more = record {
     after = step.after;
     run = run-push h run.after step.after calls replies call reply run.run step.step;
     is_at = step.is_at;
-    survives = λ was. elim (page_state mid).usable as (λ u. (page_state mid).usable ≡ u → Survives old new Within) [
-      | true ↦ goes_on was
-      | false ↦ stays_broken was
-    ] refl;
-    breaks = λ was now. elim (page_state mid).usable as (λ u. (page_state mid).usable ≡ u → IsBreak new h (calls ++ call ∷ []) (replies ++ reply ∷ []) step.after) [
-      | true ↦ λ usable. breaks_now s old mid new h run.after calls replies call reply run.run run.is_at step usable now counts goes.limit
-      | false ↦ λ broken. breaks_before s mid new h run.after step.after calls replies call reply (run.breaks was broken) step.step (goes.still broken) goes.limit
-    ] refl;
+    survives = λ was. elim (page_state mid).usable as
+        (λ u. (page_state mid).usable ≡ u → Survives old new Within) [
+          | true ↦ goes_on was
+          | false ↦ stays_broken was
+        ] refl;
+    breaks = λ was now. elim (page_state mid).usable as
+        (λ u. (page_state mid).usable ≡ u
+        → IsBreak new h (calls ++ call ∷ []) (replies ++ reply ∷ []) step.after) [
+          | true ↦ λ usable. breaks_now s old mid new h run.after calls replies call reply run.run
+              run.is_at step usable now counts goes.limit
+          | false ↦ λ broken. breaks_before s mid new h run.after step.after calls replies call reply
+              (run.breaks was broken) step.step (goes.still broken) goes.limit
+        ] refl;
   }
 
   -- as the lists of calls and of replies are told
-  pub goes_on_with : (calls' : List Call) (replies' : List Reply) → calls' ≡ calls ++ call ∷ [] → replies' ≡ replies ++ reply ∷ [] → IsRun old new h calls' replies'
-  goes_on_with calls' replies' c r = subst (λ (cs : List Call). IsRun old new h cs replies') (sym c) (subst (λ (rs : List Reply). IsRun old new h (calls ++ call ∷ []) rs) (sym r) one_more)
+  pub goes_on_with : (calls' : List Call) (replies' : List Reply) → calls' ≡ calls ++ call ∷ []
+      → replies' ≡ replies ++ reply ∷ [] → IsRun old new h calls' replies'
+  goes_on_with calls' replies' c r =
+      subst (λ (cs : List Call). IsRun old new h cs replies') (sym c)
+      (subst (λ (rs : List Reply). IsRun old new h (calls ++ call ∷ []) rs) (sym r) one_more)
 
 -- the first elements with the next one
-pub taken_next : {X : Type 0} (xs : List X) (i : ℕ) (x : X) → i < length xs → x ≡ slice_index_or xs i x → take (i + 1) xs ≡ take i xs ++ x ∷ []
+pub taken_next : {X : Type 0} (xs : List X) (i : ℕ) (x : X) → i < length xs
+    → x ≡ slice_index_or xs i x → take (i + 1) xs ≡ take i xs ++ x ∷ []
 taken_next {X} xs i x lt is = take_more xs i x lt ∙ ap (λ (y : X). take i xs ++ y ∷ []) (sym is)
 
 -- the next element of a list, seen through a function
-pub seen_next : {X Y : Type 0} (f : X → Y) (xs : List X) (i : ℕ) (x : X) → i < length xs → x ≡ slice_index_or xs i x → map f (take (i + 1) xs) ≡ map f (take i xs) ++ f x ∷ []
+pub seen_next : {X Y : Type 0} (f : X → Y) (xs : List X) (i : ℕ) (x : X) → i < length xs
+    → x ≡ slice_index_or xs i x → map f (take (i + 1) xs) ≡ map f (take i xs) ++ f x ∷ []
 seen_next f xs i x lt is = ap (map f) (taken_next xs i x lt is) ∙ map-append f (take i xs) (x ∷ [])
 
 -- one that was appended, seen so
-pub seen_last : {X Y : Type 0} (f : X → Y) (old new : List X) (x : X) → new ≡ old ++ x ∷ [] → map f new ≡ map f old ++ f x ∷ []
+pub seen_last : {X Y : Type 0} (f : X → Y) (old new : List X) (x : X) → new ≡ old ++ x ∷ []
+    → map f new ≡ map f old ++ f x ∷ []
 seen_last f old new x is = ap (map f) is ∙ map-append f old (x ∷ [])
 
 pub goes_nowhere : {S : Type 0} {s : Ghosts S} (db : Database S s) → IsSameDatabase db db
-goes_nowhere db = record { honesty = (λ h. h, λ h. h); later = omega arith; limit = refl; capacity = refl; writable = refl; still = λ broken. refl }
+goes_nowhere db = record {
+  honesty = (λ h. h, λ h. h);
+  later = omega arith;
+  limit = refl;
+  capacity =
+      refl;
+  writable = refl;
+  still = λ broken. refl;
+}
 
-pub still_goes : {S : Type 0} {s : Ghosts S} (old mid new : Database S s) → IsSameDatabase old mid → IsSameDatabase mid new → IsSameDatabase old new
+pub still_goes : {S : Type 0} {s : Ghosts S} (old mid new : Database S s) → IsSameDatabase old mid
+    → IsSameDatabase mid new → IsSameDatabase old new
 still_goes {S} {s} old mid new first second = record {
   honesty = both_ways second.honesty first.honesty;
   later = omega (arith, first.later, second.later);
   limit = second.limit ∙ first.limit;
   capacity = second.capacity ∙ first.capacity;
   writable = second.writable ∙ first.writable;
-  still = λ broken. second.still (ap (λ (store : S). (s.state store).usable) (first.still broken) ∙ broken) ∙ first.still broken;
+  still = λ broken. second.still
+      (ap (λ (store : S). (s.state store).usable) (first.still broken) ∙ broken)
+      ∙ first.still broken;
 }

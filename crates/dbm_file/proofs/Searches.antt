@@ -17,81 +17,136 @@ use Rattle.linear_hash.specs.declared.passing.Cursor.{Cursor}
 use Rattle.dbm_file.specs.Searches.{EndsWith, EndsBy, EndsAtContent, IsReached, IsGiven}
 
 -- a search of whose last page less is said
-pub ended_so : (at : ℕ → Body) (m : Meta) (key : Key) (P Q : Leaf → ℕ → Type 0) → ((leaf : Leaf) (after : ℕ) → P leaf after → Q leaf after) → IsSearch at m key P → IsSearch at m key Q
+pub ended_so : (at : ℕ → Body) (m : Meta) (key : Key) (P Q : Leaf → ℕ → Type 0)
+    → ((leaf : Leaf) (after : ℕ) → P leaf after → Q leaf after) → IsSearch at m key P
+    → IsSearch at m key Q
 ended_so at m key P Q implies s = record {
   head = s.head;
   segment = s.segment;
-  walk = record { before = s.walk.before; leaf = s.walk.leaf; after = s.walk.after; are_read = s.walk.are_read; passed = s.walk.passed; last = implies s.walk.leaf s.walk.after s.walk.last };
+  walk = record {
+    before = s.walk.before;
+    leaf = s.walk.leaf;
+    after = s.walk.after;
+    are_read =
+        s.walk.are_read;
+    passed = s.walk.passed;
+    last =
+        implies s.walk.leaf s.walk.after s.walk.last;
+  };
 }
 
 -- whether the key is there
-there_or_not : (key : Key) (bytes : List ℕ) (place : Option Place) (there : Bool) → there ≡ is_some place → (leaf : Leaf) (after : ℕ) → EndsAt key bytes place leaf after → EndsBy key there leaf after
+there_or_not : (key : Key) (bytes : List ℕ) (place : Option Place) (there : Bool)
+    → there ≡ is_some place → (leaf : Leaf) (after : ℕ) → EndsAt key bytes place leaf after
+    → EndsBy key there leaf after
 there_or_not key bytes None true is leaf after ends = cc
 there_or_not key bytes None false is leaf after ends = ends
 there_or_not key bytes (Some place) true is leaf after ends = (place.slot, ends.has)
 there_or_not key bytes (Some place) false is leaf after ends = cc
 
-pub searched_for : (at : ℕ → Body) (m : Meta) (key : Key) (bytes : List ℕ) (place : Option Place) (there : Bool) → there ≡ is_some place → IsSearch at m key (EndsAt key bytes place) → IsSearch at m key (EndsBy key there)
-searched_for at m key bytes place there is s = ended_so at m key (EndsAt key bytes place) (EndsBy key there) (there_or_not key bytes place there is) s
+pub searched_for : (at : ℕ → Body) (m : Meta) (key : Key) (bytes : List ℕ) (place : Option Place)
+    (there : Bool) → there ≡ is_some place → IsSearch at m key (EndsAt key bytes place)
+    → IsSearch at m key (EndsBy key there)
+searched_for at m key bytes place there is s =
+    ended_so at m key (EndsAt key bytes place) (EndsBy key there)
+    (there_or_not key bytes place there is) s
 
 -- a key that was found, or wasn't
-pub was_found : (at : ℕ → Body) (m : Meta) (key : Key) (there : Bool) → there ≡ true → IsSearch at m key (EndsBy key there) → IsSearch at m key (EndsWith key)
+pub was_found : (at : ℕ → Body) (m : Meta) (key : Key) (there : Bool) → there ≡ true
+    → IsSearch at m key (EndsBy key there) → IsSearch at m key (EndsWith key)
 was_found at m key there is s = subst (λ (b : Bool). IsSearch at m key (EndsBy key b)) is s
 
-pub was_absent : (at : ℕ → Body) (m : Meta) (key : Key) (there : Bool) → there ≡ false → IsSearch at m key (EndsBy key there) → IsSearch at m key (EndsWithout key)
+pub was_absent : (at : ℕ → Body) (m : Meta) (key : Key) (there : Bool) → there ≡ false
+    → IsSearch at m key (EndsBy key there) → IsSearch at m key (EndsWithout key)
 was_absent at m key there is s = subst (λ (b : Bool). IsSearch at m key (EndsBy key b)) is s
 
 -- nothing was found
-pub found_nothing : (at : ℕ → Body) (m : Meta) (key : Key) (bytes : List ℕ) (place : Option Place) → place ≡ None → IsSearch at m key (EndsAt key bytes place) → IsSearch at m key (EndsAtContent key None)
-found_nothing at m key bytes place is s = subst (λ (p : Option Place). IsSearch at m key (EndsAt key bytes p)) is s
+pub found_nothing : (at : ℕ → Body) (m : Meta) (key : Key) (bytes : List ℕ) (place : Option Place)
+    → place ≡ None → IsSearch at m key (EndsAt key bytes place)
+    → IsSearch at m key (EndsAtContent key None)
+found_nothing at m key bytes place is s =
+    subst (λ (p : Option Place). IsSearch at m key (EndsAt key bytes p)) is s
 
 -- the pair of a slot that has the key
-has_content : (key found content : List ℕ) (pairs : List Pair) (slot : ℕ) → HoldsAt (λ pair. pair.0 ≡ key) pairs slot → HoldsAt (λ pair. pair ≡ (found, content)) pairs slot → HoldsAt (λ pair. pair ≡ (key, content)) pairs slot
-has_content key found content pairs slot has holds = λ d. holds d ∙ ap (λ (k : List ℕ). (k, content)) (sym (ap (λ (p : Pair). p.0) (holds d)) ∙ has d)
+has_content : (key found content : List ℕ) (pairs : List Pair) (slot : ℕ)
+    → HoldsAt (λ pair. pair.0 ≡ key) pairs slot
+    → HoldsAt (λ pair. pair ≡ (found, content)) pairs slot
+    → HoldsAt (λ pair. pair ≡ (key, content)) pairs slot
+has_content key found content pairs slot has holds = λ d.
+    holds d ∙ ap (λ (k : List ℕ). (k, content)) (sym (ap (λ (p : Pair). p.0) (holds d)) ∙ has d)
 
 -- the content that was found
-pub found_content : (at : ℕ → Body) (m : Meta) (key : Key) (bytes : List ℕ) (place : Option Place) (there : Place) (pair : Bor (List ℕ) × Bor (List ℕ)) → place ≡ Some there
-    → HoldsAt (λ p. p ≡ (pair.0.now, pair.1.now)) (page_pairs bytes) there.slot → IsSearch at m key (EndsAt key bytes place) → IsSearch at m key (EndsAtContent key (Some pair.1.now))
+pub found_content : (at : ℕ → Body) (m : Meta) (key : Key) (bytes : List ℕ) (place : Option Place)
+    (there : Place) (pair : Bor (List ℕ) × Bor (List ℕ)) → place ≡ Some there
+    → HoldsAt (λ p. p ≡ (pair.0.now, pair.1.now)) (page_pairs bytes) there.slot
+    → IsSearch at m key (EndsAt key bytes place)
+    → IsSearch at m key (EndsAtContent key (Some pair.1.now))
 found_content at m key bytes place there pair is holds s =
     ended_so at m key (EndsAt key bytes (Some there)) (EndsAtContent key (Some pair.1.now))
-    (λ leaf after ends. (there.slot, has_content key pair.0.now pair.1.now leaf.pairs there.slot ends.has.1 (subst (λ (ps : List Pair). HoldsAt (λ p. p ≡ (pair.0.now, pair.1.now)) ps there.slot) ends.pairs holds)))
+    (λ leaf after ends. (
+      there.slot,
+      has_content key pair.0.now pair.1.now leaf.pairs there.slot ends.has.1
+          (subst (λ (ps : List Pair). HoldsAt (λ p. p ≡ (pair.0.now, pair.1.now)) ps
+          there.slot) ends.pairs holds),
+    ))
     (subst (λ (p : Option Place). IsSearch at m key (EndsAt key bytes p)) is s)
 
 -- a refusal tells of no search
-pub nothing_searched : {T : Type 0} (P : T → Type 0) (r : Result T Fault) (fault : Fault) → r ≡ Err fault → IfOk r P
+pub nothing_searched : {T : Type 0} (P : T → Type 0) (r : Result T Fault) (fault : Fault)
+    → r ≡ Err fault → IfOk r P
 nothing_searched {T} P r fault is = subst (λ (x : Result T Fault). IfOk x P) (sym is) tt
 
 -- the key of the pair that a pass has reached
-pub given_key : (at : ℕ → Body) (m : Meta) (cursor : Cursor) (bytes : List ℕ) (reached : Option ℕ) (slot : ℕ) (pair : Bor (List ℕ) × Bor (List ℕ)) → reached ≡ Some slot
-    → HoldsAt (λ p. p ≡ (pair.0.now, pair.1.now)) (page_pairs bytes) slot → IsReached at m cursor bytes reached → IsGiven at m cursor (Some pair.0.now)
-given_key at m cursor bytes reached slot pair is holds there = (bytes, slot, subst (λ (o : Option ℕ). IsReached at m cursor bytes o) is there, λ d. ap (λ (p : Pair). p.0) (holds d))
+pub given_key : (at : ℕ → Body) (m : Meta) (cursor : Cursor) (bytes : List ℕ) (reached : Option ℕ)
+    (slot : ℕ) (pair : Bor (List ℕ) × Bor (List ℕ)) → reached ≡ Some slot
+    → HoldsAt (λ p. p ≡ (pair.0.now, pair.1.now)) (page_pairs bytes) slot
+    → IsReached at m cursor bytes reached → IsGiven at m cursor (Some pair.0.now)
+given_key at m cursor bytes reached slot pair is holds there = (
+  bytes,
+  slot,
+  subst (λ (o : Option ℕ). IsReached at m cursor bytes o) is there,
+  λ d.
+      ap (λ (p : Pair). p.0) (holds d),
+)
 
-pub given_none : (at : ℕ → Body) (m : Meta) (cursor : Cursor) (bytes : List ℕ) (reached : Option ℕ) → reached ≡ None → IsReached at m cursor bytes reached → IsGiven at m cursor None
-given_none at m cursor bytes reached is there = subst (λ (o : Option ℕ). IsReached at m cursor bytes o) is there
+pub given_none : (at : ℕ → Body) (m : Meta) (cursor : Cursor) (bytes : List ℕ) (reached : Option ℕ)
+    → reached ≡ None → IsReached at m cursor bytes reached → IsGiven at m cursor None
+given_none at m cursor bytes reached is there =
+    subst (λ (o : Option ℕ). IsReached at m cursor bytes o) is there
 
 -- a pass that reached a place, or none
-pub reached_place : (at : ℕ → Body) (m : Meta) (cursor : Cursor) (bytes : List ℕ) (found : Option (ℕ × Place)) (bucket : ℕ) (there : Place) → found ≡ Some (bucket, there) → IsPassed at m cursor bytes found → IsReached at m cursor bytes (Some there.slot)
-reached_place at m cursor bytes found bucket there is passed = (bucket, there.page, subst (λ (o : Option (ℕ × Place)). IsPassed at m cursor bytes o) is passed)
+pub reached_place : (at : ℕ → Body) (m : Meta) (cursor : Cursor) (bytes : List ℕ)
+    (found : Option (ℕ × Place)) (bucket : ℕ) (there : Place) → found ≡ Some (bucket, there)
+    → IsPassed at m cursor bytes found → IsReached at m cursor bytes (Some there.slot)
+reached_place at m cursor bytes found bucket there is passed =
+    (bucket, there.page, subst (λ (o : Option (ℕ × Place)). IsPassed at m cursor bytes o) is passed)
 
-pub reached_end : (at : ℕ → Body) (m : Meta) (cursor : Cursor) (bytes : List ℕ) (found : Option (ℕ × Place)) → found ≡ None → IsPassed at m cursor bytes found → IsReached at m cursor bytes None
-reached_end at m cursor bytes found is passed = subst (λ (o : Option (ℕ × Place)). IsPassed at m cursor bytes o) is passed
+pub reached_end : (at : ℕ → Body) (m : Meta) (cursor : Cursor) (bytes : List ℕ)
+    (found : Option (ℕ × Place)) → found ≡ None → IsPassed at m cursor bytes found
+    → IsReached at m cursor bytes None
+reached_end at m cursor bytes found is passed =
+    subst (λ (o : Option (ℕ × Place)). IsPassed at m cursor bytes o) is passed
 
-same_fault : {T : Type 0} (r : Result T Fault) (one other : Fault) → r ≡ Err one → r ≡ Err other → one ≡ other
+same_fault : {T : Type 0} (r : Result T Fault) (one other : Fault) → r ≡ Err one
+    → r ≡ Err other → one ≡ other
 same_fault r one other is also = let same = sym is ∙ also in cc
 
 -- whether a pass was on, by the cursor that the database had
 module _ {T : Type 0} (r : Result T Fault) (usable : Bool) (had : Option Cursor) where
   -- a broken database doesn't say
-  pub broken_first : (fault : Fault) → r ≡ Err fault → (fault ≡ NoPass → ⊥) → usable ≡ false → (r ≡ Err NoPass) ↔ ((usable ≡ true) × (had ≡ None))
+  pub broken_first : (fault : Fault) → r ≡ Err fault → (fault ≡ NoPass → ⊥) → usable ≡ false
+      → (r ≡ Err NoPass) ↔ ((usable ≡ true) × (had ≡ None))
   broken_first fault is other broken = (
     (λ no_pass. absurd (other (same_fault r fault NoPass is no_pass))),
     (λ lacks. absurd (let both = sym broken ∙ lacks.0 in cc)),
   )
 
-  pub pass_lacked : r ≡ Err NoPass → usable ≡ true → had ≡ None → (r ≡ Err NoPass) ↔ ((usable ≡ true) × (had ≡ None))
+  pub pass_lacked : r ≡ Err NoPass → usable ≡ true → had ≡ None
+      → (r ≡ Err NoPass) ↔ ((usable ≡ true) × (had ≡ None))
   pass_lacked is goes none = ((λ _. (goes, none)), λ _. is)
 
-  pub pass_on : (cursor : Cursor) → had ≡ Some cursor → (r ≡ Err NoPass → ⊥) → (r ≡ Err NoPass) ↔ ((usable ≡ true) × (had ≡ None))
+  pub pass_on : (cursor : Cursor) → had ≡ Some cursor → (r ≡ Err NoPass → ⊥)
+      → (r ≡ Err NoPass) ↔ ((usable ≡ true) × (had ≡ None))
   pass_on cursor on other = (
     (λ no_pass. absurd (other no_pass)),
     (λ lacks. absurd (let both = sym on ∙ lacks.1 in cc)),

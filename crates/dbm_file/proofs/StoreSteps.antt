@@ -40,11 +40,19 @@ pub replaces_so : (mode : StoreMode) → false ≡ sameb the_type mode Insert �
 replaces_so Insert is = absurd (let x = is in cc)
 replaces_so Replace is = refl
 
-module _ {S : Type 0} (s : Ghosts S) (old mid : Database S s) (map : Contents) (pass : Option Keys) (key : List ℕ) (read : IsRead old mid) (usable : (page_state old).usable ≡ true) (writable : (page_state old).writable ≡ true) (honest : s.honest (store_of old))
-    (h : Holds s (store_of old) (meta_kept old) map) (going : IsPass (s.committed (store_of old)) (meta_kept old) (cursor_of old) pass) (rests : (x : Settled) → s.settles_to (store_of old) x → ImageStandsFor x map (meta_kept old).limit) where
+module _ {S : Type 0} (s : Ghosts S) (old mid : Database S s) (map : Contents) (pass : Option Keys)
+    (key : List ℕ) (read : IsRead old mid) (usable : (page_state old).usable ≡ true)
+    (writable : (page_state old).writable ≡ true) (honest : s.honest (store_of old))
+    (h : Holds s (store_of old) (meta_kept old) map)
+    (going : IsPass (s.committed (store_of old)) (meta_kept old) (cursor_of old) pass)
+    (rests : (x : Settled) → s.settles_to (store_of old) x
+    → ImageStandsFor x map (meta_kept old).limit) where
   -- a store of an allowed pair, whose key was there or not
-  pub store_asked : (content : List ℕ) (mode : StoreMode) (there : Bool) → length key + length content ≤ 2026 → there ≡ is_some (get map key) → (there ≡ true → mode ≡ Replace) → (there ≡ false → mid.meta.pairs < mid.meta.limit)
-      → IsAsked s old mid map (insert map key content) pass (model.Store key content (mode_of mode)) model.Stored
+  pub store_asked : (content : List ℕ) (mode : StoreMode) (there : Bool)
+      → length key + length content ≤ 2026 → there ≡ is_some (get map key)
+      → (there ≡ true → mode ≡ Replace) → (there ≡ false → mid.meta.pairs < mid.meta.limit)
+      → IsAsked s old mid map (insert map key content) pass
+      (model.Store key content (mode_of mode)) model.Stored
   store_asked content mode there short is replaces few = record {
     read = read;
     usable = usable;
@@ -52,13 +60,22 @@ module _ {S : Type 0} (s : Ghosts S) (old mid : Database S s) (map : Contents) (
     holds = h;
     rests = rests;
     going = going;
-    falls = store_rule (handle_of old map pass).state key content (mode_of mode) usable writable short
-        ∙ changes (handle_of old map pass).state key content (get map key) (mode_of mode) (λ has. ap mode_of (replaces (is ∙ has)))
-        (λ absent. omega (arith, few (is ∙ absent), counted s old.store (meta_kept old) map h, ap (λ (m : code.Meta). m.limit) read.meta_is, ap (λ (m : code.Meta). m.pairs) read.meta_is));
+    falls = store_rule (handle_of old map pass).state key content (mode_of mode)
+        usable writable short
+        ∙ changes (handle_of old map pass).state key content (get map key) (mode_of mode)
+        (λ has. ap mode_of (replaces (is ∙ has)))
+        (λ absent. omega (
+          arith,
+          few (is ∙ absent),
+          counted s old.store (meta_kept old) map h,
+          ap (λ (m : code.Meta). m.limit) read.meta_is,
+          ap (λ (m : code.Meta). m.pairs) read.meta_is,
+        ));
   }
 
   -- a delete of a key that is there
-  pub delete_asked : is_some (get map key) ≡ true → IsAsked s old mid map (remove map key) pass (model.Delete key) model.Deleted
+  pub delete_asked : is_some (get map key) ≡ true
+      → IsAsked s old mid map (remove map key) pass (model.Delete key) model.Deleted
   delete_asked is = record {
     read = read;
     usable = usable;
@@ -66,31 +83,58 @@ module _ {S : Type 0} (s : Ghosts S) (old mid : Database S s) (map : Contents) (
     holds = h;
     rests = rests;
     going = going;
-    falls = delete_rule (handle_of old map pass).state key usable writable ∙ removes (handle_of old map pass).state key (get map key) is;
+    falls = delete_rule (handle_of old map pass).state key usable writable
+        ∙ removes (handle_of old map pass).state key (get map key) is;
   }
 
 -- a file that counts no pair has no key
-pub no_key : {S : Type 0} (s : Ghosts S) (old : Database S s) (map : Contents) (key : List ℕ) → Holds s (store_of old) (meta_kept old) map → old.meta.pairs ≡ 0 → is_some (get map key) ≡ true → ⊥
+pub no_key : {S : Type 0} (s : Ghosts S) (old : Database S s) (map : Contents) (key : List ℕ)
+    → Holds s (store_of old) (meta_kept old) map → old.meta.pairs ≡ 0
+    → is_some (get map key) ≡ true → ⊥
 no_key s old map key h none there =
     let nothing = empty_of_len map (omega (arith, counted s old.store (meta_kept old) map h)) in
-    let absent = ap (λ (m : Contents). is_some (get m key)) nothing ∙ ap is_some (get-empty key_cmp key) in
+    let absent = ap (λ (m : Contents). is_some (get m key)) nothing
+    ∙ ap is_some (get-empty key_cmp key) in
     absurd (let e = sym there ∙ absent in cc)
 
-module _ {S : Type 0} {s : Ghosts S} {old : Database S s} (new : Database S s) {h : Handle} {call : model.Call} (e : PageFault) (step : IsStep old (with_fault new (fault_from e)) h call (model.Refused (fault_of (fault_from e)))) where
+module _ {S : Type 0} {s : Ghosts S} {old : Database S s} (new : Database S s) {h : Handle}
+    {call : model.Call} (e : PageFault)
+    (step : IsStep old (with_fault new (fault_from e)) h call
+    (model.Refused (fault_of (fault_from e)))) where
   -- what a `?` answers of a fault of the pages
-  pub store_told : (r : Result StoreReply Fault) → IsErrAnd r (λ fault. fault ≡ fault_from e) → IsStep old (with_error_of new r) h call (store_reply r)
+  pub store_told : (r : Result StoreReply Fault) → IsErrAnd r (λ fault. fault ≡ fault_from e)
+      → IsStep old (with_error_of new r) h call (store_reply r)
   store_told (Ok value) is = absurd is
-  store_told (Err fault) is = subst (λ (f : Fault). IsStep old (with_fault new f) h call (model.Refused (fault_of f))) (sym is) step
+  store_told (Err fault) is = subst
+      (λ (f : Fault). IsStep old (with_fault new f) h call (model.Refused (fault_of f))) (sym is)
+      step
 
-  pub delete_told : (r : Result DeleteReply Fault) → IsErrAnd r (λ fault. fault ≡ fault_from e) → IsStep old (with_error_of new r) h call (delete_reply r)
+  pub delete_told : (r : Result DeleteReply Fault) → IsErrAnd r (λ fault. fault ≡ fault_from e)
+      → IsStep old (with_error_of new r) h call (delete_reply r)
   delete_told (Ok value) is = absurd is
-  delete_told (Err fault) is = subst (λ (f : Fault). IsStep old (with_fault new f) h call (model.Refused (fault_of f))) (sym is) step
+  delete_told (Err fault) is = subst
+      (λ (f : Fault). IsStep old (with_fault new f) h call (model.Refused (fault_of f))) (sym is)
+      step
 
 -- the step of a call whose fault was then kept as the first one
-module _ {S : Type 0} (s : Ghosts S) (old db : Database S s) (h : Handle) (idle : (page_state db).staged ≡ []) (access : (page_state db).writable ≡ db.writable) (valid : IsMeta (meta_kept db)) (call : model.Call) (error : Option Fault) (fault : Fault)
+module _ {S : Type 0} (s : Ghosts S) (old db : Database S s) (h : Handle)
+    (idle : (page_state db).staged ≡ []) (access : (page_state db).writable ≡ db.writable)
+    (valid : IsMeta (meta_kept db)) (call : model.Call) (error : Option Fault) (fault : Fault)
     (flag : error ≡ cond (is_some db.error) db.error (Some fault)) where
-  pub store_flagged : (r : Result StoreReply Fault) → r ≡ Err fault → IsStep old (with_fault db fault) h call (model.Refused (fault_of fault)) → IsStep old (kept_error s db idle access valid error) h call (store_reply r)
-  store_flagged r is step = subst (λ (x : Result StoreReply Fault). IsStep old (kept_error s db idle access valid error) h call (store_reply x)) (sym is) (flagged_step s old db h idle access valid call error fault flag (model.Refused (fault_of fault)) step)
+  pub store_flagged : (r : Result StoreReply Fault) → r ≡ Err fault
+      → IsStep old (with_fault db fault) h call (model.Refused (fault_of fault))
+      → IsStep old (kept_error s db idle access valid error) h call (store_reply r)
+  store_flagged r is step = subst
+      (λ (x : Result StoreReply Fault).
+      IsStep old (kept_error s db idle access valid error) h call (store_reply x)) (sym is)
+      (flagged_step s old db h idle access valid call error fault flag
+      (model.Refused (fault_of fault)) step)
 
-  pub delete_flagged : (r : Result DeleteReply Fault) → r ≡ Err fault → IsStep old (with_fault db fault) h call (model.Refused (fault_of fault)) → IsStep old (kept_error s db idle access valid error) h call (delete_reply r)
-  delete_flagged r is step = subst (λ (x : Result DeleteReply Fault). IsStep old (kept_error s db idle access valid error) h call (delete_reply x)) (sym is) (flagged_step s old db h idle access valid call error fault flag (model.Refused (fault_of fault)) step)
+  pub delete_flagged : (r : Result DeleteReply Fault) → r ≡ Err fault
+      → IsStep old (with_fault db fault) h call (model.Refused (fault_of fault))
+      → IsStep old (kept_error s db idle access valid error) h call (delete_reply r)
+  delete_flagged r is step = subst
+      (λ (x : Result DeleteReply Fault).
+      IsStep old (kept_error s db idle access valid error) h call (delete_reply x)) (sym is)
+      (flagged_step s old db h idle access valid call error fault flag
+      (model.Refused (fault_of fault)) step)

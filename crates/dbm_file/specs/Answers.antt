@@ -18,20 +18,27 @@ use Rattle.dbm_file.specs.declared.database.Database.{Database}
 abbrev pub AsksFor : Handle → Call → Contents → Type 0
 AsksFor h call map = (reply : Reply) × (case_of h.state call ≡ Changes reply map)
 
--- a map that a stop within the call may leave: that before, that after, or where the call broke the database the one that it asks for
+-- a map that a stop within the call may leave: that before, that after, or where the call broke the
+-- database the one that it asks for
 abbrev pub MayBeLeft : Handle → Handle → Call → Contents → Type 0
-MayBeLeft before after call map = (map ≡ before.state.map) ⊎ ((map ≡ after.state.map) ⊎ ((after.state.usable ≡ false) × AsksFor before call map))
+MayBeLeft before after call map =
+    (map ≡ before.state.map) ⊎ ((map ≡ after.state.map)
+    ⊎ ((after.state.usable ≡ false) × AsksFor before call map))
 
 -- an image stands for one of these maps
 abbrev pub StandsForSome : (Contents → Type 0) → ℕ → Settled → Type 0
 StandsForSome Left limit settled = (map : Contents) × Left map × ImageStandsFor settled map limit
 
 -- every image of every moment since the old database stands for one of these maps
-abbrev pub Survives : {S : Type 0} {s : Ghosts S} → Database S s → Database S s → (Contents → Type 0) → Type 0
-Survives {S} {s} old new Left = LeavesOnly s.moment s.settled_since (store_of old) (store_of new) (StandsForSome Left (meta_kept old).limit)
+abbrev pub Survives : {S : Type 0} {s : Ghosts S} → Database S s → Database S s
+    → (Contents → Type 0) → Type 0
+Survives {S} {s} old new Left =
+    LeavesOnly s.moment s.settled_since (store_of old) (store_of new)
+    (StandsForSome Left (meta_kept old).limit)
 
 -- A call on a database at this handle: a step of the model, and what a stop leaves within it.
-pub record IsStep {S : Type 0} {s : Ghosts S} (old new : Database S s) (before : Handle) (call : Call) (reply : Reply) : Type 0 where
+pub record IsStep {S : Type 0} {s : Ghosts S} (old new : Database S s) (before : Handle)
+    (call : Call) (reply : Reply) : Type 0 where
   pub after : Handle
   pub step : Step before call reply after
   pub is_at : IsAt new after
@@ -48,13 +55,16 @@ pub record IsSameDatabase {S : Type 0} {s : Ghosts S} (old new : Database S s) :
   pub still : (page_state old).usable ≡ false → store_of new ≡ store_of old
 
 -- What any call leaves on any device, whatever its bytes.
-pub record IsCallEnded {S T : Type 0} {s : Ghosts S} (old new : Database S s) (result : Result T Fault) : Type 0 where
+pub record IsCallEnded {S T : Type 0} {s : Ghosts S} (old new : Database S s)
+    (result : Result T Fault) : Type 0 where
   pub goes : IsSameDatabase old new
   pub fault : IsErrOf result Device → MoreFaults (s.faults (store_of old)) (s.faults (store_of new))
   -- the first fault is kept
   pub no_error : OnOk result (error_of new ≡ error_of old)
   pub error : IfErr result (λ e. error_of new ≡ first_fault (error_of old) (fault_of e))
   -- a refusal changes nothing, but that a fault of the device may break the database
-  pub refused : OnErr result ((meta_kept new ≡ meta_kept old) × ((page_state new).end ≡ (page_state old).end) × (cursor_of new ≡ cursor_of old))
-  pub breaks : ((page_state new).usable ≡ (page_state old).usable) ⊎ (IsErrOf result Device × ((page_state new).usable ≡ false))
+  pub refused : OnErr result ((meta_kept new ≡ meta_kept old)
+      × ((page_state new).end ≡ (page_state old).end) × (cursor_of new ≡ cursor_of old))
+  pub breaks : ((page_state new).usable ≡ (page_state old).usable)
+      ⊎ (IsErrOf result Device × ((page_state new).usable ≡ false))
   pub broken : IsErrOf result Broken ↔ ((page_state old).usable ≡ false)

@@ -40,22 +40,33 @@ HoldsMap {S} {s} db map = (page_state db).usable ≡ true → Holds s (store_of 
 
 -- every image that a stop may leave now stands for the map
 abbrev pub StandsAfterStop : {S : Type 0} {s : Ghosts S} → Database S s → Contents → Type 0
-StandsAfterStop {S} {s} db map = (page_state db).usable ≡ true → (settled : Settled) → s.settles_to (store_of db) settled → ImageStandsFor settled map (meta_kept db).limit
+StandsAfterStop {S} {s} db map =
+    (page_state db).usable ≡ true → (settled : Settled) → s.settles_to (store_of db) settled
+    → ImageStandsFor settled map (meta_kept db).limit
 
 -- its pass has these keys yet to give, or none is on
 abbrev pub HoldsPass : {S : Type 0} {s : Ghosts S} → Database S s → Option Keys → Type 0
-HoldsPass {S} {s} db pass = (page_state db).usable ≡ true → IsPass (s.committed (store_of db)) (meta_kept db) (cursor_of db) pass
+HoldsPass {S} {s} db pass = (page_state db).usable ≡ true
+    → IsPass (s.committed (store_of db)) (meta_kept db) (cursor_of db) pass
 
 -- the handle of a database at this map and pass
 abbrev pub handle_of : {S : Type 0} {s : Ghosts S} → Database S s → Contents → Option Keys → Handle
 handle_of {S} {s} db map pass = record {
-  state = record { map = map; limit = (meta_kept db).limit; error = error_of db; pass = pass; writable = (page_state db).writable; usable = (page_state db).usable };
+  state = record {
+    map = map;
+    limit = (meta_kept db).limit;
+    error = error_of db;
+    pass = pass;
+    writable = (page_state db).writable;
+    usable = (page_state db).usable;
+  };
   faults = s.faults (store_of db);
   pages = (page_state db).end;
   capacity = (page_state db).capacity;
 }
 
--- The database is at this handle of the definitions. Of a broken one's map and pass nothing is said: of its file the clauses of the call that broke it speak.
+-- The database is at this handle of the definitions. Of a broken one's map and pass nothing is
+-- said: of its file the clauses of the call that broke it speak.
 pub record IsAt {S : Type 0} {s : Ghosts S} (db : Database S s) (h : Handle) : Type 0 where
   pub shows : h ≡ handle_of db h.state.map h.state.pass
   pub map : HoldsMap db h.state.map

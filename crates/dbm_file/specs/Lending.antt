@@ -8,6 +8,8 @@ use Rattle.dbm_file.specs.Answers.{IsStep, IsCallEnded}
 use Rattle.dbm_file.specs.declared.database.Database.{Database}
 
 -- a step of the call, whose reply is told so
-pub record Lends {S : Type 0} {s : Ghosts S} (call : Call) (reply_of : Lent → Reply) (old : Database S s) (result : Lent) (new : Database S s) : Type 0 where
-  pub step : s.honest (store_of old) → (h : Handle) → IsAt old h → IsStep old new h call (reply_of result)
+pub record Lends {S : Type 0} {s : Ghosts S} (call : Call) (reply_of : Lent → Reply)
+    (old : Database S s) (result : Lent) (new : Database S s) : Type 0 where
+  pub step : s.honest (store_of old) → (h : Handle) → IsAt old h
+      → IsStep old new h call (reply_of result)
   pub keeps : IsCallEnded old new result

@@ -15,19 +15,33 @@ use Rattle.file_opening.specs.declared.open_how.OpenHow.{OpenHow}
 use Rattle.dbm_fault.specs.declared.fault.Fault.{Fault}
 use Rattle.dbm_file.specs.declared.database.Database.{Database}
 
--- As the file was at first: where each image of it was blank or stood for a map, the database holds one of these maps, or is new and empty; it keeps the meta page of a file that it was, or that of an empty database; and every image of every moment since settles as one did, or stands for the empty database that was asked for.
-pub record OpensFile {D : Type 0} {bound : device.Ghosts D} {s : store.Ghosts (Pager D bound)} (how : OpenHow) (db : Database (Pager D bound) s) : Type 0 where
+-- As the file was at first: where each image of it was blank or stood for a map, the database holds
+-- one of these maps, or is new and empty; it keeps the meta page of a file that it was, or that of
+-- an empty database; and every image of every moment since settles as one did, or stands for the
+-- empty database that was asked for.
+pub record OpensFile {D : Type 0} {bound : device.Ghosts D} {s : store.Ghosts (Pager D bound)}
+    (how : OpenHow) (db : Database (Pager D bound) s) : Type 0 where
   pub first : D
   pub begins : bound.moment first ≡ 0
   pub size : bound.sectors first ≡ 9001992
-  pub stands : bound.honest first → (writes how.access ≡ false → IsStable (bound.candidate first) (bound.seen first)) → AllStand (bound.sectors first / 4) (bound.candidate first) → (map : Contents) × (limit : ℕ) × IsOpenedAt (writes how.access) db map limit × IsOpened how (bound.sectors first) (bound.candidate first) map limit
-  pub opened : bound.honest first → KeepsMeta how (bound.sectors first) (bound.candidate first) (meta_kept db)
-  pub any_moment : bound.honest first → LeavesOnly bound.moment (IsOutcome bound.left_since (settled (bound.sectors first / 4))) first (device_of (store_of db)) (MayRemain how (bound.sectors first) (bound.candidate first))
+  pub stands : bound.honest first
+      → (writes how.access ≡ false → IsStable (bound.candidate first) (bound.seen first))
+      → AllStand (bound.sectors first / 4) (bound.candidate first)
+      → (map : Contents) × (limit : ℕ) × IsOpenedAt (writes how.access) db map limit
+      × IsOpened how (bound.sectors first) (bound.candidate first) map limit
+  pub opened : bound.honest first
+      → KeepsMeta how (bound.sectors first) (bound.candidate first) (meta_kept db)
+  pub any_moment : bound.honest first
+      → LeavesOnly bound.moment (IsOutcome bound.left_since (settled (bound.sectors first / 4)))
+      first (device_of (store_of db)) (MayRemain how (bound.sectors first) (bound.candidate first))
 
 -- As the file was at first, an opening of it is refused by this fault, and this is left of it.
-pub record RefusesFile {D : Type 0} (bound : device.Ghosts D) (how : OpenHow) (fault : Fault) : Type 0 where
+pub record RefusesFile {D : Type 0} (bound : device.Ghosts D) (how : OpenHow)
+    (fault : Fault) : Type 0 where
   pub first : D
   pub begins : bound.moment first ≡ 0
   pub size : bound.sectors first ≡ 9001992
   pub left : D
-  pub refused : bound.honest first → (early_fault how 9001992 ≡ Some fault) ⊎ IsRefusedOpening how 9001992 (bound.candidate first) (bound.candidate left) fault
+  pub refused : bound.honest first
+      → (early_fault how 9001992 ≡ Some fault)
+      ⊎ IsRefusedOpening how 9001992 (bound.candidate first) (bound.candidate left) fault

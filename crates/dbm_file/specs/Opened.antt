@@ -12,12 +12,14 @@ use Rattle.dbm_fault.specs.declared.fault.Fault.{Fault}
 use Rattle.dbm_file.specs.declared.database.Database.{Database}
 
 -- the device that an opening was given, whatever it answers
-abbrev pub device_opened : {D : Type 0} {bound : Ghosts D} {s : store.Ghosts (Pager D bound)} → Result (Database (Pager D bound) s) (D × Fault) → D
+abbrev pub device_opened : {D : Type 0} {bound : Ghosts D} {s : store.Ghosts (Pager D bound)}
+    → Result (Database (Pager D bound) s) (D × Fault) → D
 device_opened (Ok db) = device_of (store_of db)
 device_opened (Err e) = e.0
 
 -- a database as an opening leaves it
-pub record IsNewlyOpened {S : Type 0} {s : store.Ghosts S} (for_writing : Bool) (pages : ℕ) (db : Database S s) : Type 0 where
+pub record IsNewlyOpened {S : Type 0} {s : store.Ghosts S} (for_writing : Bool) (pages : ℕ)
+    (db : Database S s) : Type 0 where
   pub usable : (page_state db).usable ≡ true
   pub writable : (page_state db).writable ≡ for_writing
   pub capacity : (page_state db).capacity ≡ pages
@@ -25,7 +27,8 @@ pub record IsNewlyOpened {S : Type 0} {s : store.Ghosts S} (for_writing : Bool) 
   pub no_pass : cursor_of db ≡ None
 
 -- just opened, its file stands for this map and limit
-pub record IsOpenedAt {S : Type 0} {s : store.Ghosts S} (writable : Bool) (db : Database S s) (map : Contents) (limit : ℕ) : Type 0 where
+pub record IsOpenedAt {S : Type 0} {s : store.Ghosts S} (writable : Bool) (db : Database S s)
+    (map : Contents) (limit : ℕ) : Type 0 where
   pub handle : Handle
   pub is_at : IsAt db handle
   pub is_fresh : handle.state ≡ model.fresh map limit writable

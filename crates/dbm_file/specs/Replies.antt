@@ -76,7 +76,8 @@ abbrev pub refusal : Reply → Result Unit Fault
 refusal (Refused fault) = Err fault
 refusal reply = Ok tt
 
--- what was read of the file, over an honest store, before a call was answered so; a change and a refusal tell nothing of it
+-- what was read of the file, over an honest store, before a call was answered so; a change and a
+-- refusal tell nothing of it
 abbrev pub WasRead : {S : Type 0} {s : Ghosts S} → Database S s → Call → Reply → Type 0
 WasRead db (Store key content mode) Kept = Searched db key (EndsWith key)
 WasRead db (Delete key) Absent = Searched db key (EndsWithout key)
@@ -93,7 +94,8 @@ abbrev pub IsErrorTold : {S : Type 0} {s : Ghosts S} → Database S s → Databa
 IsErrorTold old new reply = (reply ≡ Number (pos (error_number (error_of old)))) × (new ≡ old)
 
 -- the error was forgotten, and nothing else changed
-pub record IsErrorCleared {S : Type 0} {s : Ghosts S} (old new : Database S s) (reply : Reply) : Type 0 where
+pub record IsErrorCleared {S : Type 0} {s : Ghosts S} (old new : Database S s)
+    (reply : Reply) : Type 0 where
   pub zero : reply ≡ Number (pos 0)
   pub cleared : error_of new ≡ None
   pub still : store_of new ≡ store_of old
@@ -101,19 +103,23 @@ pub record IsErrorCleared {S : Type 0} {s : Ghosts S} (old new : Database S s) (
   pub pass : cursor_of new ≡ cursor_of old
 
 -- any other call was answered by a reply to it
-pub record IsCallAnswered {S : Type 0} {s : Ghosts S} (old new : Database S s) (call : Call) (reply : Reply) : Type 0 where
+pub record IsCallAnswered {S : Type 0} {s : Ghosts S} (old new : Database S s) (call : Call)
+    (reply : Reply) : Type 0 where
   pub replied : IsReplyTo call reply
   pub read : WasRead old call reply
   pub keeps : IsCallEnded old new (refusal reply)
 
-abbrev pub IsAnswered : {S : Type 0} {s : Ghosts S} → Database S s → Database S s → Call → Reply → Type 0
+abbrev pub IsAnswered : {S : Type 0} {s : Ghosts S} → Database S s → Database S s → Call
+    → Reply → Type 0
 IsAnswered old new Error reply = IsErrorTold old new reply
 IsAnswered old new Clear reply = IsErrorCleared old new reply
 IsAnswered old new call reply = IsCallAnswered old new call reply
 
 -- the calls were answered so, one after another
-abbrev pub AreAnswered : {S : Type 0} {s : Ghosts S} → Database S s → Database S s → List Call → List Reply → Type 0
+abbrev pub AreAnswered : {S : Type 0} {s : Ghosts S} → Database S s → Database S s → List Call
+    → List Reply → Type 0
 AreAnswered old new [] [] = new ≡ old
-AreAnswered {S} {s} old new (call ∷ calls) (reply ∷ replies) = (mid : Database S s) × IsAnswered old mid call reply × AreAnswered mid new calls replies
+AreAnswered {S} {s} old new (call ∷ calls) (reply ∷ replies) =
+    (mid : Database S s) × IsAnswered old mid call reply × AreAnswered mid new calls replies
 AreAnswered old new [] (reply ∷ replies) = ⊥
 AreAnswered old new (call ∷ calls) [] = ⊥

@@ -11,20 +11,27 @@ use Rattle.dbm_file.specs.Answers.{MayBeLeft, StandsForSome, Survives}
 use Rattle.dbm_file.specs.Database.{store_of, meta_kept, page_state, IsAt}
 use Rattle.dbm_file.specs.declared.database.Database.{Database}
 
--- a map that a stop within these calls, answered so, may leave: one that a stop within one of them may
+-- a map that a stop within these calls, answered so, may leave: one that a stop within one of them
+-- may
 abbrev pub MayBeLeftWithin : Handle → List Call → List Reply → Handle → Contents → Type 0
 MayBeLeftWithin before [] [] after map = (after ≡ before) × (map ≡ before.state.map)
-MayBeLeftWithin before (call ∷ calls) (reply ∷ replies) after map = (mid : Handle) × Step before call reply mid × ((MayBeLeft before mid call map × Run mid calls replies after) ⊎ MayBeLeftWithin mid calls replies after map)
+MayBeLeftWithin before (call ∷ calls) (reply ∷ replies) after map =
+    (mid : Handle) × Step before call reply mid
+    × ((MayBeLeft before mid call map × Run mid calls replies after)
+    ⊎ MayBeLeftWithin mid calls replies after map)
 MayBeLeftWithin before [] (reply ∷ replies) after map = ⊥
 MayBeLeftWithin before (call ∷ calls) [] after map = ⊥
 
--- a map that may be left where the call broke the database: the one before it, or the one that it asks for
+-- a map that may be left where the call broke the database: the one before it, or the one that it
+-- asks for
 abbrev pub IsInDoubt : Contents → Call → Contents → Type 0
 IsInDoubt before call map = (map ≡ before) ⊎ (map ≡ map_asked before call)
 
--- Where the calls broke the database: those before the one that broke it leave it usable, and each image that a stop may leave
--- now stands for the map that they left, or for the one that the call asks for which broke it.
-pub record IsBreak {S : Type 0} {s : Ghosts S} (new : Database S s) (before : Handle) (calls : List Call) (replies : List Reply) (after : Handle) : Type 0 where
+-- Where the calls broke the database: those before the one that broke it leave it usable, and each
+-- image that a stop may leave now stands for the map that they left, or for the one that the call
+-- asks for which broke it.
+pub record IsBreak {S : Type 0} {s : Ghosts S} (new : Database S s) (before : Handle)
+    (calls : List Call) (replies : List Reply) (after : Handle) : Type 0 where
   pub earlier : List Call
   pub answered : List Reply
   pub call : Call
@@ -39,12 +46,17 @@ pub record IsBreak {S : Type 0} {s : Ghosts S} (new : Database S s) (before : Ha
   pub step : Step sound call (Refused Device) broken
   pub breaks : broken.state.usable ≡ false
   pub rest : Run broken later refused after
-  pub in_doubt : (settled : Settled) → s.settles_to (store_of new) settled → StandsForSome (IsInDoubt sound.state.map call) (meta_kept new).limit settled
+  pub in_doubt : (settled : Settled) → s.settles_to (store_of new) settled
+      → StandsForSome (IsInDoubt sound.state.map call) (meta_kept new).limit settled
 
--- A list of calls on a database at this handle: steps of the model one after another, and what a stop leaves within them and after them.
-pub record IsRun {S : Type 0} {s : Ghosts S} (old new : Database S s) (before : Handle) (calls : List Call) (replies : List Reply) : Type 0 where
+-- A list of calls on a database at this handle: steps of the model one after another, and what a
+-- stop leaves within them and after them.
+pub record IsRun {S : Type 0} {s : Ghosts S} (old new : Database S s) (before : Handle)
+    (calls : List Call) (replies : List Reply) : Type 0 where
   pub after : Handle
   pub run : Run before calls replies after
   pub is_at : IsAt new after
-  pub survives : (page_state old).usable ≡ true → Survives old new (MayBeLeftWithin before calls replies after)
-  pub breaks : (page_state old).usable ≡ true → (page_state new).usable ≡ false → IsBreak new before calls replies after
+  pub survives : (page_state old).usable ≡ true
+      → Survives old new (MayBeLeftWithin before calls replies after)
+  pub breaks : (page_state old).usable ≡ true → (page_state new).usable ≡ false
+      → IsBreak new before calls replies after

@@ -16,9 +16,12 @@ use Rattle.linear_hash.specs.declared.passing.Cursor.{Cursor}
 use Rattle.dbm_file.specs.Database.{store_of, meta_kept, page_state, cursor_of}
 use Rattle.dbm_file.specs.declared.database.Database.{Database}
 
--- over an honest store: the pages that say where the key's bucket is, and those of its chain, were read up to the one that the search ended at
-abbrev pub Searched : {S : Type 0} {s : Ghosts S} → Database S s → Key → (Leaf → ℕ → Type 0) → Type 0
-Searched {S} {s} db key Last = s.honest (store_of db) → IsSearch (body_at s (store_of db)) (meta_kept db) key Last
+-- over an honest store: the pages that say where the key's bucket is, and those of its chain, were
+-- read up to the one that the search ended at
+abbrev pub Searched : {S : Type 0} {s : Ghosts S} → Database S s → Key
+    → (Leaf → ℕ → Type 0) → Type 0
+Searched {S} {s} db key Last =
+    s.honest (store_of db) → IsSearch (body_at s (store_of db)) (meta_kept db) key Last
 
 -- the search ended at a page that has the key
 abbrev pub EndsWith : Key → Leaf → ℕ → Type 0
@@ -32,25 +35,32 @@ EndsBy key false leaf after = EndsWithout key leaf after
 -- at a page that has the key with this content, or behind all pages
 abbrev pub EndsAtContent : Key → Option (List ℕ) → Leaf → ℕ → Type 0
 EndsAtContent key None leaf after = EndsWithout key leaf after
-EndsAtContent key (Some content) leaf after = (slot : ℕ) × HoldsAt (λ pair. pair ≡ (key, content)) leaf.pairs slot
+EndsAtContent key (Some content) leaf after =
+    (slot : ℕ) × HoldsAt (λ pair. pair ≡ (key, content)) leaf.pairs slot
 
 -- before all pairs
 abbrev pub pass_start : Cursor
 pass_start = record { bucket = 0; behind = None }
 
--- a pass went on from the cursor to this slot of the page, which the bytes are; or no bucket had a pair for it
+-- a pass went on from the cursor to this slot of the page, which the bytes are; or no bucket had a
+-- pair for it
 abbrev pub IsReached : (ℕ → Body) → Meta → Cursor → List ℕ → Option ℕ → Type 0
 IsReached at m cursor bytes None = GaveNothing at m cursor (meta_buckets m)
-IsReached at m cursor bytes (Some slot) = (bucket : ℕ) × (page : ℕ) × IsPassed at m cursor bytes (Some (bucket, place page slot))
+IsReached at m cursor bytes (Some slot) =
+    (bucket : ℕ) × (page : ℕ) × IsPassed at m cursor bytes (Some (bucket, place page slot))
 
 -- the key that was answered is that of the pair which the pass reached
 abbrev pub IsGiven : (ℕ → Body) → Meta → Cursor → Option Key → Type 0
 IsGiven at m cursor None = GaveNothing at m cursor (meta_buckets m)
-IsGiven at m cursor (Some key) = (bytes : List ℕ) × (slot : ℕ) × IsReached at m cursor bytes (Some slot) × HoldsAt (λ pair. pair.0 ≡ key) (page_pairs bytes) slot
+IsGiven at m cursor (Some key) =
+    (bytes : List ℕ) × (slot : ℕ) × IsReached at m cursor bytes (Some slot)
+    × HoldsAt (λ pair. pair.0 ≡ key) (page_pairs bytes) slot
 
--- over an honest store: the pages that say where the buckets are, and those of their chains, were read from the cursor on
+-- over an honest store: the pages that say where the buckets are, and those of their chains, were
+-- read from the cursor on
 abbrev pub Passed : {S : Type 0} {s : Ghosts S} → Database S s → Cursor → Option Key → Type 0
-Passed {S} {s} db cursor found = s.honest (store_of db) → IsGiven (body_at s (store_of db)) (meta_kept db) cursor found
+Passed {S} {s} db cursor found =
+    s.honest (store_of db) → IsGiven (body_at s (store_of db)) (meta_kept db) cursor found
 
 -- a pass was on, and they were read from where it stood
 abbrev pub WentOn : {S : Type 0} {s : Ghosts S} → Database S s → Option Key → Type 0

@@ -27,7 +27,8 @@ abbrev pub with_fault : {S : Type 0} {s : Ghosts S} → Database S s → Fault �
 with_fault db fault = record db { error = if is_some db.error then db.error else Some fault }
 
 -- with the fault of a refusal
-abbrev pub with_error_of : {S T : Type 0} {s : Ghosts S} → Database S s → Result T Fault → Database S s
+abbrev pub with_error_of : {S T : Type 0} {s : Ghosts S} → Database S s
+    → Result T Fault → Database S s
 with_error_of db (Ok value) = db
 with_error_of db (Err fault) = with_fault db fault
 
@@ -44,18 +45,25 @@ slot_reply bytes (Ok None) = model.End
 slot_reply bytes (Ok (Some slot)) = model.Bytes (slice_index_or (page_pairs bytes) slot ([], [])).0
 slot_reply bytes (Err fault) = model.Refused (fault_of fault)
 
--- what a store says on any device beside its step, and a delete; the first fault is kept in the database that is told
-pub record IsStoreEnd {S : Type 0} {s : Ghosts S} (old new told : Database S s) (key content : List ℕ) (mode : StoreMode) (result : Result StoreReply Fault) : Type 0 where
+-- what a store says on any device beside its step, and a delete; the first fault is kept in the
+-- database that is told
+pub record IsStoreEnd {S : Type 0} {s : Ghosts S} (old new told : Database S s)
+    (key content : List ℕ) (mode : StoreMode) (result : Result StoreReply Fault) : Type 0 where
   pub shape : shape_in (meta_kept new) ≡ shape_for (meta_kept new).pairs (shape_in (meta_kept old))
-  pub read_only : (result ≡ Err ReadOnly) ↔ (((page_state old).usable ≡ true) × ((page_state old).writable ≡ false))
+  pub read_only : (result ≡ Err ReadOnly)
+      ↔ (((page_state old).usable ≡ true) × ((page_state old).writable ≡ false))
   pub kept : result ≡ Ok Kept → (mode ≡ Insert) × Searched old key (EndsWith key)
-  pub too_long : (result ≡ Err TooLong) ↔ (((page_state old).usable ≡ true) × ((page_state old).writable ≡ true) × (2026 < length key + length content))
+  pub too_long : (result ≡ Err TooLong)
+      ↔ (((page_state old).usable ≡ true) × ((page_state old).writable ≡ true)
+      × (2026 < length key + length content))
   pub keeps : IsCallEnded old told result
   pub only : IsErrAmong result store_faults
 
-pub record IsDeleteEnd {S : Type 0} {s : Ghosts S} (old new told : Database S s) (key : List ℕ) (result : Result DeleteReply Fault) : Type 0 where
+pub record IsDeleteEnd {S : Type 0} {s : Ghosts S} (old new told : Database S s) (key : List ℕ)
+    (result : Result DeleteReply Fault) : Type 0 where
   pub shape : shape_in (meta_kept new) ≡ shape_in (meta_kept old)
-  pub read_only : (result ≡ Err ReadOnly) ↔ (((page_state old).usable ≡ true) × ((page_state old).writable ≡ false))
+  pub read_only : (result ≡ Err ReadOnly)
+      ↔ (((page_state old).usable ≡ true) × ((page_state old).writable ≡ false))
   pub absent : result ≡ Ok Absent → Searched old key (EndsWithout key)
   pub counted : result ≡ Ok Deleted → (meta_kept new).pairs + 1 ≡ (meta_kept old).pairs
   pub keeps : IsCallEnded old told result

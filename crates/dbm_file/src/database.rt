@@ -60,14 +60,17 @@ impl<S: PageStore> Database<S> {
     ghost use Rattle.slot_page.specs.Contents.{IsBucketPage, page_pairs};
     ghost use Rattle.page_io.specs.declared.store.PageFault.TheVariants.{Damaged};
 
-    /// The content that the key has (POSIX: `dbm_fetch`). The slice lies in the database, and ends with the next call. It
-    /// takes no memory. In this order: `Broken`; then `Device` or `Damaged` while pages are read.
+    /// The content that the key has (POSIX: `dbm_fetch`). The slice lies in the database, and ends
+    /// with the next call. It takes no memory. In this order: `Broken`; then `Device` or `Damaged`
+    /// while pages are read.
     pub fn fetch(&mut self, key: &[u8]) -> Result<Option<&[u8]>, Fault>
-        ensures* after { sem 𝓛 (EndsAs S.row S.PageStore self.entry (Lends (Fetch key.now) (lent_reply NoRecord) self.old result)) }
+        ensures* after { sem 𝓛 (EndsAs S.row S.PageStore self.entry
+            (Lends (Fetch key.now) (lent_reply NoRecord) self.old result)) }
         ensures short { IfOk result (λ r. IfSome r (λ content. length content.now ≤ 2026)) }
 
         // On any file the answer was read from the key's bucket, up to the key or to the end.
-        ensures searched { IfOk result (λ found. Searched self.old key.now (EndsAtContent key.now (seen found))) }
+        ensures searched { IfOk result
+            (λ found. Searched self.old key.now (EndsAtContent key.now (seen found))) }
         ensures only { IsErrAmong result read_faults }
     {
         if self.store.is_broken() {
@@ -80,10 +83,12 @@ impl<S: PageStore> Database<S> {
         }
     }
 
-    /// Stores a pair (POSIX: `dbm_store`), in one commit. In this order: `Broken`; `ReadOnly`; `TooLong` where key and content
-    /// together are above 2,026 bytes; `Device` or `Damaged` while the key is looked up; `Kept`; `Full` where the key is new and the
-    /// limit is reached; then `Memory`, `Device`, `NoRoom` or `Damaged` as the work meets them. Where the commit fails by
-    /// `Device`, the database is broken, and opening the device again settles whether the pair is there.
+    /// Stores a pair (POSIX: `dbm_store`), in one commit. In this order: `Broken`; `ReadOnly`;
+    /// `TooLong` where key and content together are above 2,026 bytes; `Device` or `Damaged` while
+    /// the key is looked up; `Kept`; `Full` where the key is new and the limit is reached; then
+    /// `Memory`, `Device`, `NoRoom` or `Damaged` as the work meets them. Where the commit fails by
+    /// `Device`, the database is broken, and opening the device again settles whether the pair is
+    /// there.
     pub fn store(
         &mut self,
         key: &[u8],
@@ -92,10 +97,15 @@ impl<S: PageStore> Database<S> {
     ) -> Result<StoreReply, Fault>
         ensures step { AtEachHandle self.old (λ h.
             IsStep self.old self.new h (Store key.now content.now (mode_of mode)) (store_reply result)) }
-        ensures shape { shape_in (meta_kept self.new) ≡ shape_for (meta_kept self.new).pairs (shape_in (meta_kept self.old)) }
-        ensures read_only { (result ≡ Err Fault.ReadOnly) ↔ (((page_state self.old).usable ≡ true) × ((page_state self.old).writable ≡ false)) }
-        ensures kept { result ≡ Ok StoreReply.Kept → (mode ≡ StoreMode.Insert) × Searched self.old key.now (EndsWith key.now) }
-        ensures too_long { (result ≡ Err Fault.TooLong) ↔ (((page_state self.old).usable ≡ true) × ((page_state self.old).writable ≡ true) × (2026 < length key.now + length content.now)) }
+        ensures shape { shape_in (meta_kept self.new)
+            ≡ shape_for (meta_kept self.new).pairs (shape_in (meta_kept self.old)) }
+        ensures read_only { (result ≡ Err Fault.ReadOnly)
+            ↔ (((page_state self.old).usable ≡ true) × ((page_state self.old).writable ≡ false)) }
+        ensures kept { result ≡ Ok StoreReply.Kept
+            → (mode ≡ StoreMode.Insert) × Searched self.old key.now (EndsWith key.now) }
+        ensures too_long { (result ≡ Err Fault.TooLong)
+            ↔ (((page_state self.old).usable ≡ true) × ((page_state self.old).writable ≡ true)
+            × (2026 < length key.now + length content.now)) }
         ensures keeps { IsCallEnded self.old self.new result }
         ensures only { IsErrAmong result store_faults }
     {
@@ -105,15 +115,19 @@ impl<S: PageStore> Database<S> {
         }
     }
 
-    /// Deletes a key with its content (POSIX: `dbm_delete`), in one commit. In this order: `Broken`; `ReadOnly`; `Device` or
-    /// `Damaged` while the key is looked up; `Absent`; then as `store`, and `Damaged` where the file counts no pair.
+    /// Deletes a key with its content (POSIX: `dbm_delete`), in one commit. In this order:
+    /// `Broken`; `ReadOnly`; `Device` or `Damaged` while the key is looked up; `Absent`; then as
+    /// `store`, and `Damaged` where the file counts no pair.
     pub fn delete(&mut self, key: &[u8]) -> Result<DeleteReply, Fault>
         ensures step { AtEachHandle self.old (λ h.
             IsStep self.old self.new h (Delete key.now) (delete_reply result)) }
         ensures shape { shape_in (meta_kept self.new) ≡ shape_in (meta_kept self.old) }
-        ensures read_only { (result ≡ Err Fault.ReadOnly) ↔ (((page_state self.old).usable ≡ true) × ((page_state self.old).writable ≡ false)) }
-        ensures absent { result ≡ Ok DeleteReply.Absent → Searched self.old key.now (EndsWithout key.now) }
-        ensures counted { result ≡ Ok DeleteReply.Deleted → (meta_kept self.new).pairs + 1 ≡ (meta_kept self.old).pairs }
+        ensures read_only { (result ≡ Err Fault.ReadOnly)
+            ↔ (((page_state self.old).usable ≡ true) × ((page_state self.old).writable ≡ false)) }
+        ensures absent { result ≡ Ok DeleteReply.Absent
+            → Searched self.old key.now (EndsWithout key.now) }
+        ensures counted { result ≡ Ok DeleteReply.Deleted
+            → (meta_kept self.new).pairs + 1 ≡ (meta_kept self.old).pairs }
         ensures keeps { IsCallEnded self.old self.new result }
         ensures only { IsErrAmong result delete_faults }
     {
@@ -123,11 +137,13 @@ impl<S: PageStore> Database<S> {
         }
     }
 
-    /// Begins a pass over all keys, in no set order, and gives the first one, or `None` where there is none (POSIX:
-    /// `dbm_firstkey`). The slice lies in the database, and ends with the next call. It takes no memory. In this order:
-    /// `Broken`; then `Device` or `Damaged` while pages are read. Where it is refused, a pass that was on stays.
+    /// Begins a pass over all keys, in no set order, and gives the first one, or `None` where there
+    /// is none (POSIX: `dbm_firstkey`). The slice lies in the database, and ends with the next
+    /// call. It takes no memory. In this order: `Broken`; then `Device` or `Damaged` while pages
+    /// are read. Where it is refused, a pass that was on stays.
     pub fn firstkey(&mut self) -> Result<Option<&[u8]>, Fault>
-        ensures* after { sem 𝓛 (EndsAs S.row S.PageStore self.entry (Lends First (lent_reply End) self.old result)) }
+        ensures* after { sem 𝓛 (EndsAs S.row S.PageStore self.entry
+            (Lends First (lent_reply End) self.old result)) }
         ensures short { IfOk result (λ r. IfSome r (λ key. length key.now ≤ 2026)) }
 
         // On any file the buckets were read from the first one on.
@@ -144,12 +160,14 @@ impl<S: PageStore> Database<S> {
         }
     }
 
-    /// The next key of the pass, each once, or `None` where it has given all, then and after that (POSIX: `dbm_nextkey`).
-    /// The slice lies in the database, and ends with the next call. It takes no memory. In this order: `Broken`; `NoPass`
-    /// where no pass was begun since the opening or the last `Stored` or `Deleted`; then `Device` or `Damaged` while pages
-    /// are read. A refusal leaves the pass where it is.
+    /// The next key of the pass, each once, or `None` where it has given all, then and after that
+    /// (POSIX: `dbm_nextkey`). The slice lies in the database, and ends with the next call. It
+    /// takes no memory. In this order: `Broken`; `NoPass` where no pass was begun since the opening
+    /// or the last `Stored` or `Deleted`; then `Device` or `Damaged` while pages are read. A
+    /// refusal leaves the pass where it is.
     pub fn nextkey(&mut self) -> Result<Option<&[u8]>, Fault>
-        ensures* after { sem 𝓛 (EndsAs S.row S.PageStore self.entry (Lends Next (lent_reply End) self.old result)) }
+        ensures* after { sem 𝓛 (EndsAs S.row S.PageStore self.entry
+            (Lends Next (lent_reply End) self.old result)) }
         ensures short { IfOk result (λ r. IfSome r (λ key. length key.now ≤ 2026)) }
 
         // On any file the buckets were read from where the pass stood.
@@ -170,8 +188,8 @@ impl<S: PageStore> Database<S> {
         }
     }
 
-    /// The number of the first fault since the opening or the last clearing, or 0 (POSIX: `dbm_error`). No device call is
-    /// made, and a broken database tells it too.
+    /// The number of the first fault since the opening or the last clearing, or 0 (POSIX:
+    /// `dbm_error`). No device call is made, and a broken database tells it too.
     pub fn error(&self) -> i32
         ensures step { AtEachHandle self.now (λ h.
             IsStep self.now self.now h Error (Number (error_number (error_of self.now)))) }
@@ -180,21 +198,25 @@ impl<S: PageStore> Database<S> {
         self.error.map_or(0, Fault::number)
     }
 
-    /// Forgets the first fault, and gives 0 (POSIX: `dbm_clearerr`). No device call is made; the pass goes on, and a broken
-    /// database stays broken.
+    /// Forgets the first fault, and gives 0 (POSIX: `dbm_clearerr`). No device call is made; the
+    /// pass goes on, and a broken database stays broken.
     pub fn clearerr(&mut self) -> i32
         ensures step { AtEachHandle self.old (λ h. IsStep self.old self.new h Clear (Number 0)) }
         ensures zero { result ≡ pos 0 }
         ensures clear { error_of self.new ≡ None }
-        ensures still { (store_of self.new ≡ store_of self.old) × (meta_kept self.new ≡ meta_kept self.old) × (cursor_of self.new ≡ cursor_of self.old) }
+        ensures still { (store_of self.new ≡ store_of self.old)
+            × (meta_kept self.new ≡ meta_kept self.old)
+            × (cursor_of self.new ≡ cursor_of self.old) }
     {
         self.error = None;
         0
     }
 
-    /// The numbers of the database. No device call is made; a broken database tells what it told before.
+    /// The numbers of the database. No device call is made; a broken database tells what it told
+    /// before.
     pub fn stat(&self) -> Stat
-        ensures counts { (h : Handle) → IsAt self.now h → h.state.usable ≡ true → (result.pairs ≡ len h.state.map) × (result.limit ≡ h.state.limit) }
+        ensures counts { (h : Handle) → IsAt self.now h → h.state.usable ≡ true
+            → (result.pairs ≡ len h.state.map) × (result.limit ≡ h.state.limit) }
         ensures shown { result ≡ record {
           pairs = (meta_kept self.now).pairs;
           limit = (meta_kept self.now).limit;
@@ -225,7 +247,8 @@ impl<S: PageStore> Database<S> {
     ) -> Result<StoreReply, Fault>
         ensures step { AtEachHandle self.old (λ h.
             IsStep self.old (with_error_of self.new result) h (Store key.now content.now (mode_of mode)) (store_reply result)) }
-        ensures ends { IsStoreEnd self.old self.new (with_error_of self.new result) key.now content.now mode result }
+        ensures ends { IsStoreEnd self.old self.new (with_error_of self.new result) key.now
+            content.now mode result }
     {
         if self.store.is_broken() {
             return Err(Fault::Broken);
@@ -259,7 +282,8 @@ impl<S: PageStore> Database<S> {
     fn try_delete(&mut self, key: &[u8]) -> Result<DeleteReply, Fault>
         ensures step { AtEachHandle self.old (λ h.
             IsStep self.old (with_error_of self.new result) h (Delete key.now) (delete_reply result)) }
-        ensures ends { IsDeleteEnd self.old self.new (with_error_of self.new result) key.now result }
+        ensures ends { IsDeleteEnd self.old self.new (with_error_of self.new result)
+            key.now result }
     {
         if self.store.is_broken() {
             return Err(Fault::Broken);
@@ -278,14 +302,20 @@ impl<S: PageStore> Database<S> {
         Ok(DeleteReply::Deleted)
     }
 
-    // Moves the pass to the pair behind the cursor, and gives its slot in the page. A refusal leaves the pass where it is,
-    // and the first fault is kept.
+    // Moves the pass to the pair behind the cursor, and gives its slot in the page. A refusal
+    // leaves the pass where it is, and the first fault is kept.
     fn advance(&mut self, from: Cursor) -> Result<Option<usize>, Fault>
         requires { (page_state self.old).usable ≡ true }
         ensures step { AtEachHandle self.old (λ h.
-            (call : Call) (keys : Keys) → case_of h.state call ≡ Passes keys → HasLeft (S.committed (store_of self.old)) (meta_kept self.old) from keys → IsStep self.old self.new h call (slot_reply self.new.page.bytes result)) }
-        ensures held { IfOk result (λ found. IfSome found (λ slot. IsBucketPage self.new.page.bytes × (slot < length (page_pairs self.new.page.bytes)))) }
-        ensures passed { S.honest (store_of self.old) → IfOk result (IsReached (body_at S.PageStore (store_of self.old)) (meta_kept self.old) from self.new.page.bytes) }
+            (call : Call) (keys : Keys) → case_of h.state call ≡ Passes keys
+            → HasLeft (S.committed (store_of self.old)) (meta_kept self.old) from keys
+            → IsStep self.old self.new h call (slot_reply self.new.page.bytes result)) }
+        ensures held { IfOk result (λ found.
+            IfSome found (λ slot. IsBucketPage self.new.page.bytes
+            × (slot < length (page_pairs self.new.page.bytes)))) }
+        ensures passed { S.honest (store_of self.old)
+            → IfOk result (IsReached (body_at S.PageStore (store_of self.old)) (meta_kept self.old)
+            from self.new.page.bytes) }
         ensures keeps { IsCallEnded self.old self.new result }
         ensures only { IsErrAmong result (Fault.Device ∷ Fault.Damaged ∷ []) }
     {
@@ -308,11 +338,16 @@ impl<S: PageStore> Database<S> {
     // Whether the key is there.
     fn has(&mut self, key: &[u8]) -> Result<bool, PageFault>
         ensures reads { IsRead self.old self.new }
-        ensures cause { HasDeviceCause (S.faults (store_of self.old)) (S.faults (store_of self.new)) result }
+        ensures cause { HasDeviceCause (S.faults (store_of self.old))
+            (S.faults (store_of self.new)) result }
         ensures answer { IsWalkAnswer (page_state self.old) result }
         ensures searched { IfOk result (λ there. Searched self.old key.now (EndsBy key.now there)) }
-        ensures exact { S.honest (store_of self.old) → (map : Contents) → Holds S.PageStore (store_of self.old) (meta_kept self.old) map → IfOk result (λ there. there ≡ is_some (get map key.now)) }
-        ensures whole { S.honest (store_of self.old) → (map : Contents) → Holds S.PageStore (store_of self.old) (meta_kept self.old) map → IsErrOf result Damaged → ⊥ }
+        ensures exact { S.honest (store_of self.old) → (map : Contents)
+            → Holds S.PageStore (store_of self.old) (meta_kept self.old) map
+            → IfOk result (λ there. there ≡ is_some (get map key.now)) }
+        ensures whole { S.honest (store_of self.old) → (map : Contents)
+            → Holds S.PageStore (store_of self.old) (meta_kept self.old) map
+            → IsErrOf result Damaged → ⊥ }
     {
         let place = find_pair(&mut self.store, &self.meta, key, &mut self.page)?;
         Ok(place.is_some())

@@ -1,4 +1,5 @@
-//! A database of pairs, as the dbm interface has it, in a linear hash file over a device of sectors.
+//! A database of pairs, as the dbm interface has it, in a linear hash file over a device of
+//! sectors.
 #![tactic(auto)]
 
 mod calls;

@@ -13,16 +13,19 @@ use std::alloc::{AllocError, Global};
 use std::fs::File;
 use std::rt::Files;
 
-/// How many sectors a file has room for: what a database of 1,000,000 pairs needs, 4.6 GB. A file grows as it is written.
+/// How many sectors a file has room for: what a database of 1,000,000 pairs needs, 4.6 GB. A file
+/// grows as it is written.
 const FILE_SECTORS: u32 = 9_001_992;
 
-/// Opens the database of that name, which is the file `name` with `.db` appended (POSIX: `dbm_open`; the two files that the
-/// standard speaks of are one here). With `create` a file that isn't there is made, unless it is opened for reading alone;
-/// with `exclusive` a file that is there is refused, unless it is blank.
+/// Opens the database of that name, which is the file `name` with `.db` appended (POSIX:
+/// `dbm_open`; the two files that the standard speaks of are one here). With `create` a file that
+/// isn't there is made, unless it is opened for reading alone; with `exclusive` a file that is
+/// there is refused, unless it is blank.
 ///
-/// `Missing` where the file isn't there and isn't to be made, before anything else is looked at; `Memory` where there is no
-/// memory for the name, or the system has none; `Device` where the system refuses the file for another cause, or another
-/// opening has it locked (`FileDev::open`); then as `Db::open`. Where the file was made and the opening is then refused, the file stays.
+/// `Missing` where the file isn't there and isn't to be made, before anything else is looked at;
+/// `Memory` where there is no memory for the name, or the system has none; `Device` where the
+/// system refuses the file for another cause, or another opening has it locked (`FileDev::open`);
+/// then as `Db::open`. Where the file was made and the opening is then refused, the file stays.
 pub fn dbm_open<R: Files<File = File>>(
     rt: &R,
     alloc: Global,
@@ -30,12 +33,18 @@ pub fn dbm_open<R: Files<File = File>>(
     how: OpenHow,
 ) -> Result<Db<FileDev>, Fault>
     ensures fresh { IfOk result (IsNewlyOpened (writes how.access) 2250498) }
-    ensures missing { IfErr result (λ fault. fault ≡ Fault.Missing → (writes how.access && how.create) ≡ false) }
-    ensures only { IfErr result (λ fault. (fault ≢ Fault.Broken) × (fault ≢ Fault.TooLong) × (fault ≢ Fault.Full) × (fault ≢ Fault.NoPass)) }
+    ensures missing { IfErr result
+        (λ fault. fault ≡ Fault.Missing → (writes how.access && how.create) ≡ false) }
+    ensures only { IfErr result (λ fault.
+        (fault ≢ Fault.Broken) × (fault ≢ Fault.TooLong) × (fault ≢ Fault.Full)
+        × (fault ≢ Fault.NoPass)) }
 
-    // It is what `Db::open` gives of the device that the file was at first, the fault too, but where the system refuses it.
+    // It is what `Db::open` gives of the device that the file was at first, the fault too, but
+    // where the system refuses it.
     ensures opens { IfOk result (OpensFile how) }
-    ensures refused { IfErr result (λ fault. fault ≢ Fault.Memory → fault ≢ Fault.Missing → fault ≢ Fault.Device → RefusesFile ⟦<FileDev as SectorDev>⟧ how fault) }
+    ensures refused { IfErr result
+        (λ fault. fault ≢ Fault.Memory → fault ≢ Fault.Missing → fault ≢ Fault.Device
+        → RefusesFile ⟦<FileDev as SectorDev>⟧ how fault) }
 {
     let Ok(path) = path_of(alloc, name) else {
         return Err(Fault::Memory);

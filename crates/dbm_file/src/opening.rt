@@ -40,30 +40,54 @@ impl<D: SectorDev> Database<Pager<D>> {
     ///
     /// A stop within it leaves the database that was there, or the empty one that was asked for.
     pub fn open(alloc: Global, dev: D, how: OpenHow) -> Result<Db<D>, (D, Fault)>
-        ensures early { IfSome (early_fault how (D.sectors dev)) (λ fault. result ≡ Err (dev, fault)) }
+        ensures early { IfSome (early_fault how (D.sectors dev))
+            (λ fault. result ≡ Err (dev, fault)) }
         ensures fresh { IfOk result (IsNewlyOpened (writes how.access) (D.sectors dev / 4)) }
 
-        // Every image of every moment settles as one did at the start, or stands for the empty database that was asked for.
-        ensures any_moment { D.honest dev → LeavesOnly D.moment (IsOutcome D.left_since (settled (D.sectors dev / 4))) dev (device_opened result) (MayRemain how (D.sectors dev) (D.candidate dev)) }
+        // Every image of every moment settles as one did at the start, or stands for the empty
+        // database that was asked for.
+        ensures any_moment { D.honest dev
+            → LeavesOnly D.moment (IsOutcome D.left_since (settled (D.sectors dev / 4))) dev
+            (device_opened result) (MayRemain how (D.sectors dev) (D.candidate dev)) }
 
-        // What it keeps of the meta page is what a file at the start says, whatever else is in it, or that of an empty database.
-        ensures opened { D.honest dev → IfOk result (λ db. KeepsMeta how (D.sectors dev) (D.candidate dev) (meta_kept db)) }
+        // What it keeps of the meta page is what a file at the start says, whatever else is in it,
+        // or that of an empty database.
+        ensures opened { D.honest dev
+            → IfOk result (λ db. KeepsMeta how (D.sectors dev) (D.candidate dev) (meta_kept db)) }
 
-        // Where each image at the start is blank or stands for a map, what is opened holds one of these maps, or is new and empty.
-        ensures stands { D.honest dev → (writes how.access ≡ false → IsStable (D.candidate dev) (D.seen dev)) → AllStand (D.sectors dev / 4) (D.candidate dev) → IfOk result (λ db. (map : Contents) × (limit : ℕ) × IsOpenedAt (writes how.access) db map limit × IsOpened how (D.sectors dev) (D.candidate dev) map limit) }
+        // Where each image at the start is blank or stands for a map, what is opened holds one of
+        // these maps, or is new and empty.
+        ensures stands { D.honest dev
+            → (writes how.access ≡ false → IsStable (D.candidate dev) (D.seen dev))
+            → AllStand (D.sectors dev / 4) (D.candidate dev)
+            → IfOk result (λ db. (map : Contents) × (limit : ℕ)
+            × IsOpenedAt (writes how.access) db map limit
+            × IsOpened how (D.sectors dev) (D.candidate dev) map limit) }
 
         // For reading, nothing is written and nothing synced.
-        ensures only_reads { writes how.access ≡ false → D.honest dev → OnlyReads D.SectorDev dev (device_opened result) }
+        ensures only_reads { writes how.access ≡ false → D.honest dev
+            → OnlyReads D.SectorDev dev (device_opened result) }
 
-        // Where each image stands for a map and allows what is asked, nothing but the device and want of memory refuses it.
-        ensures opens { D.honest dev → early_fault how (D.sectors dev) ≡ None → AllStand (D.sectors dev / 4) (D.candidate dev) → AllAllow how (D.sectors dev) (D.candidate dev) →
-            IfErr result (λ e. (e.1 ≡ Fault.Device) ⊎ ((e.1 ≡ Fault.Memory) × ((how.truncate ≡ true) ⊎ (writes how.access ≡ false)))) }
-        ensures refused { D.honest dev → early_fault how (D.sectors dev) ≡ None → IfErr result (λ e. e.1 ≢ Fault.Device → IsRefusedOpening how (D.sectors dev) (D.candidate dev) (D.candidate e.0) e.1) }
-        ensures device { IfErr result (λ e. e.1 ≡ Fault.Device → MoreFaults (D.faults dev) (D.faults e.0)) }
-        ensures only { IfErr result (λ e. (e.1 ≢ Fault.Broken) × (e.1 ≢ Fault.TooLong) × (e.1 ≢ Fault.Full) × (e.1 ≢ Fault.NoPass) × (e.1 ≢ Fault.Missing)) }
+        // Where each image stands for a map and allows what is asked, nothing but the device and
+        // want of memory refuses it.
+        ensures opens { D.honest dev → early_fault how (D.sectors dev) ≡ None
+            → AllStand (D.sectors dev / 4) (D.candidate dev)
+            → AllAllow how (D.sectors dev) (D.candidate dev) →
+            IfErr result (λ e. (e.1 ≡ Fault.Device)
+            ⊎ ((e.1 ≡ Fault.Memory) × ((how.truncate ≡ true)
+            ⊎ (writes how.access ≡ false)))) }
+        ensures refused { D.honest dev → early_fault how (D.sectors dev) ≡ None
+            → IfErr result (λ e. e.1 ≢ Fault.Device
+            → IsRefusedOpening how (D.sectors dev) (D.candidate dev) (D.candidate e.0) e.1) }
+        ensures device { IfErr result
+            (λ e. e.1 ≡ Fault.Device → MoreFaults (D.faults dev) (D.faults e.0)) }
+        ensures only { IfErr result (λ e.
+            (e.1 ≢ Fault.Broken) × (e.1 ≢ Fault.TooLong) × (e.1 ≢ Fault.Full)
+            × (e.1 ≢ Fault.NoPass) × (e.1 ≢ Fault.Missing)) }
         ensures honesty { D.honest (device_opened result) ↔ D.honest dev }
         ensures later { D.faults dev ≤ D.faults (device_opened result) }
-        ensures size { (D.sectors (device_opened result) / 4 ≡ D.sectors dev / 4) × (how.truncate ≡ false → D.sectors (device_opened result) ≡ D.sectors dev) }
+        ensures size { (D.sectors (device_opened result) / 4 ≡ D.sectors dev / 4)
+            × (how.truncate ≡ false → D.sectors (device_opened result) ≡ D.sectors dev) }
     {
         match open_file(alloc, dev, how) {
             Ok(file) => Ok(Database {
@@ -82,10 +106,13 @@ impl<D: SectorDev> Database<Pager<D>> {
     /// Gives the device back. `Broken` where a change was left in doubt. No device call is made.
     pub fn close(self) -> (D, Result<(), Fault>)
         ensures device { result.0 ≡ device_of (store_of self) }
-        ensures answer { result.1 ≡ (if (⟦<Pager<D> as PageStore>⟧.state (store_of self)).usable then Ok tt else Err Fault.Broken) }
+        ensures answer { result.1 ≡ (if (⟦<Pager<D> as PageStore>⟧.state (store_of self)).usable
+            then Ok tt else Err Fault.Broken) }
 
         // Every image that is now left stands for the map of the database that was closed.
-        ensures stands { D.honest result.0 → (h : Handle) → IsAt self h → h.state.usable ≡ true → (image : Image) → IsImageOf (D.candidate result.0) image → ImageStandsFor (settled (D.sectors result.0 / 4) image) h.state.map h.state.limit }
+        ensures stands { D.honest result.0 → (h : Handle) → IsAt self h → h.state.usable ≡ true
+            → (image : Image) → IsImageOf (D.candidate result.0) image
+            → ImageStandsFor (settled (D.sectors result.0 / 4) image) h.state.map h.state.limit }
     {
         let usable = !self.store.is_broken();
         let dev = self.store.into_dev();

@@ -14,19 +14,20 @@ use std::alloc::{AllocError, Global};
 /// The bytes that a content or a key may have.
 const LONGEST_REPLY: usize = 2026;
 
-/// Makes the calls in order, and gives one reply a call. The list of the replies and the room of each
-/// content and key are reserved first: `Memory` there means that no call was made, and no call fails for
-/// memory of its reply afterwards.
+/// Makes the calls in order, and gives one reply a call. The list of the replies and the room of
+/// each content and key are reserved first: `Memory` there means that no call was made, and no call
+/// fails for memory of its reply afterwards.
 pub fn run<S: PageStore>(
     alloc: Global,
     db: &mut Database<S>,
     calls: &[Call],
 ) -> Result<Vec<Reply>, Fault>
     ensures run { AtEachHandle db.old (λ h.
-        IfOk result (λ replies. IsRun db.old db.new h (map call_of calls.now) (map reply_of replies.items))) }
+        IfOk result (λ replies. IsRun db.old db.new h (map call_of calls.now)
+        (map reply_of replies.items))) }
 
-    // On any device each reply is one to its own call, and each call leaves what it leaves alone. Over an honest
-    // store a reply tells nothing of the file that wasn't read.
+    // On any device each reply is one to its own call, and each call leaves what it leaves alone.
+    // Over an honest store a reply tells nothing of the file that wasn't read.
     ensures answers { IfOk result (λ replies. AreAnswered db.old db.new calls.now replies.items) }
     ensures one_each { IfOk result (λ replies. vec_len replies ≡ length calls.now) }
     ensures goes { IsSameDatabase db.old db.new }
@@ -67,8 +68,10 @@ fn gives_bytes(call: &Call) -> bool
 
 /// Makes a call. One that gives bytes takes one of the rooms.
 fn answer<S: PageStore>(db: &mut Database<S>, call: &Call, rooms: &mut Vec<Vec<u8>>) -> Reply
-    requires { AreRooms (vec_len rooms.old) rooms.old × (IsTrue (call_gives_bytes call.now) → 0 < vec_len rooms.old) }
-    ensures step { AtEachHandle db.old (λ h. IsStep db.old db.new h (call_of call.now) (reply_of result)) }
+    requires { AreRooms (vec_len rooms.old) rooms.old
+        × (IsTrue (call_gives_bytes call.now) → 0 < vec_len rooms.old) }
+    ensures step { AtEachHandle db.old
+        (λ h. IsStep db.old db.new h (call_of call.now) (reply_of result)) }
     ensures answered { IsAnswered db.old db.new call.now result }
     ensures goes { IsSameDatabase db.old db.new }
     ensures rooms { AreRooms (vec_len rooms.new) rooms.new }

@@ -8,14 +8,18 @@ use Rattle.std.proofs.lemmas.Bool.Decides.{leb_tells}
 module _ (p : ℕ → Bool) where
   whole : (xs : List ℕ) → length xs ≤ position_or_len p xs → slice_split p xs ≡ xs ∷ []
   whole [] h = refl
-  whole (x ∷ xs) h = (elim (p x) as (λ b. (length (x ∷ xs) ≤ cond (not b) (1 + position_or_len p xs) 0) → cond b ([] ∷ slice_split p xs) (onto_first x (slice_split p xs)) ≡ (x ∷ xs) ∷ []) [
-    | true ↦ λ h. absurd (omega (arith, h))
-    | false ↦ λ h. rw (whole xs (omega (arith, h))) refl
-  ]) h
+  whole (x ∷ xs) h = (elim (p x) as
+      (λ b. (length (x ∷ xs) ≤ cond (not b) (1 + position_or_len p xs) 0)
+      → cond b ([] ∷ slice_split p xs) (onto_first x (slice_split p xs)) ≡ (x ∷ xs) ∷ []) [
+        | true ↦ λ h. absurd (omega (arith, h))
+        | false ↦ λ h. rw (whole xs (omega (arith, h))) refl
+      ]) h
 
-  there : (xs : List ℕ) (i : ℕ) → position p xs ≡ Some i → (slice_split p xs ≡ take i xs ∷ slice_split p (drop (i + 1) xs)) × (i < length xs)
+  there : (xs : List ℕ) (i : ℕ) → position p xs ≡ Some i
+      → (slice_split p xs ≡ take i xs ∷ slice_split p (drop (i + 1) xs)) × (i < length xs)
   there xs i h = elim (leb_tells (suc (position_or_len p xs)) (length xs)) [
-    | inl w ↦ let e = rw (w.0) at h in let same : i ≡ position_or_len p xs = cc in rw same (slice_split_first p xs 0 w.1, w.1)
+    | inl w ↦ let e = rw (w.0) at h in let same : i ≡ position_or_len p xs = cc in
+        rw same (slice_split_first p xs 0 w.1, w.1)
     | inr w ↦ let e = rw (w.0) at h in cc
   ]
 
@@ -27,8 +31,11 @@ module _ (p : ℕ → Bool) where
   ]
 
   -- the parts before and behind the first that passes
-  pub split_there : (xs : List ℕ) (i : ℕ) → Some i ≡ position p xs → slice_split p xs ≡ take i xs ∷ slice_split p (take (length xs - (i + 1)) (drop (i + 1) xs))
+  pub split_there : (xs : List ℕ) (i : ℕ) → Some i ≡ position p xs
+      → slice_split p xs ≡ take i xs ∷ slice_split p (take (length xs - (i + 1)) (drop (i + 1) xs))
   split_there xs i h =
       let cut = there xs i (sym h) in
-      let rest : take (length xs - (i + 1)) (drop (i + 1) xs) ≡ drop (i + 1) xs = take_all (length xs - (i + 1)) (drop (i + 1) xs) (omega (arith, length-drop (i + 1) xs, cut.1)) in
+      let rest : take (length xs - (i + 1)) (drop (i + 1) xs) ≡ drop (i + 1) xs =
+      take_all (length xs - (i + 1)) (drop (i + 1) xs)
+      (omega (arith, length-drop (i + 1) xs, cut.1)) in
       rw rest cut.0

@@ -7,7 +7,8 @@ use Rattle.dbm_text.specs.Words.{word_bytes}
 
 -- `key content`
 abbrev pub pair_of_words : List (List ℕ) → Option Pair
-pair_of_words (key ∷ content ∷ []) = option_and_then (λ k. option_map (λ c. (k, c)) (word_bytes content)) (word_bytes key)
+pair_of_words (key ∷ content ∷ []) =
+    option_and_then (λ k. option_map (λ c. (k, c)) (word_bytes content)) (word_bytes key)
 pair_of_words _ = None
 
 -- the pair that a line says, if it is no bad line

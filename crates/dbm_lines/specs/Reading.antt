@@ -19,10 +19,13 @@ abbrev pub after_line : List ℕ → List ℕ
 after_line [] = []
 after_line (byte ∷ text) = if byte == 10 then text else after_line text
 
--- where a line is left, its first bytes were read, up to the limit, and the bytes behind it are left
+-- where a line is left, its first bytes were read, up to the limit, and the bytes behind it are
+-- left
 abbrev pub ReadsLine : ℕ → List ℕ → Bool → List ℕ → Option (List ℕ) → Type 0
 ReadsLine limit [] more line rest = (more ≡ false) × (rest ≡ Some [])
-ReadsLine limit (byte ∷ text) more line rest = (more ≡ true) × (line ≡ take limit (line_bytes (byte ∷ text))) × (rest ≡ Some (after_line (byte ∷ text)))
+ReadsLine limit (byte ∷ text) more line rest =
+    (more ≡ true) × (line ≡ take limit (line_bytes (byte ∷ text)))
+    × (rest ≡ Some (after_line (byte ∷ text)))
 
 -- a count goes down by a byte for each that is read
 abbrev pub TakesOne : Option ℕ → ℕ → ℕ → Type 0

@@ -25,4 +25,5 @@ IsNamed word (Some name.Store) = word ≡ codes "S"
 IsNamed word (Some name.Insert) = word ≡ codes "I"
 IsNamed word (Some name.Fetch) = word ≡ codes "F"
 IsNamed word (Some name.Delete) = word ≡ codes "D"
-IsNamed word None = (key content : List ℕ) → (key_call word key ≡ None) × (pair_call word key content ≡ None)
+IsNamed word None = (key content : List ℕ)
+    → (key_call word key ≡ None) × (pair_call word key content ≡ None)

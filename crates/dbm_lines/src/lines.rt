@@ -39,16 +39,19 @@ impl LineRead {
     }
 }
 
-/// Reads a line without its line feed, and keeps its first 8,193 bytes. Answers whether there was one, and
-/// whether another whole one is in the reader's buffer. An error where reading fails, and where more
-/// than `left` bytes would be read, which goes down by those that were.
+/// Reads a line without its line feed, and keeps its first 8,193 bytes. Answers whether there was
+/// one, and whether another whole one is in the reader's buffer. An error where reading fails, and
+/// where more than `left` bytes would be read, which goes down by those that were.
 pub fn read_line<R: BufRead>(
     reader: &mut R,
     line: &mut ArrayVec<u8, KEPT>,
     left: &mut u32,
 ) -> io::Result<LineRead>
-    ensures line { IfOk result (λ read. IfSome (R.remaining reader.old) (λ text. ReadsLine 8193 text (is_line read) line.new.items (R.remaining reader.new))) }
-    ensures counted { OnOk result (IsCounted (R.remaining reader.old) left.old (R.remaining reader.new) left.new) }
+    ensures line { IfOk result (λ read.
+        IfSome (R.remaining reader.old)
+        (λ text. ReadsLine 8193 text (is_line read) line.new.items (R.remaining reader.new))) }
+    ensures counted { OnOk result
+        (IsCounted (R.remaining reader.old) left.old (R.remaining reader.new) left.new) }
 {
     line.clear();
     let mut more = false;
@@ -68,15 +71,17 @@ pub fn read_line<R: BufRead>(
     Err(io::ErrorKind::InvalidInput.into())
 }
 
-/// The next byte, or `None` at the end, and in `followed` what `is_followed` tells of the reader's buffer.
-/// An error where reading fails, and for a byte past `left`.
+/// The next byte, or `None` at the end, and in `followed` what `is_followed` tells of the reader's
+/// buffer. An error where reading fails, and for a byte past `left`.
 fn read_byte<R: BufRead>(
     reader: &mut R,
     left: &mut u32,
     followed: &mut bool,
 ) -> io::Result<Option<u8>>
-    ensures byte { IfOk result (λ byte. IfSome (R.remaining reader.old) (λ text. byte ≡ slice_get text 0)) }
-    ensures rest { OnOk result (IfSome (R.remaining reader.old) (λ text. R.remaining reader.new ≡ Some (drop 1 text))) }
+    ensures byte { IfOk result (λ byte.
+        IfSome (R.remaining reader.old) (λ text. byte ≡ slice_get text 0)) }
+    ensures rest { OnOk result (IfSome (R.remaining reader.old)
+        (λ text. R.remaining reader.new ≡ Some (drop 1 text))) }
     ensures counted { IfOk result (λ byte. TakesOne byte left.old left.new) }
 {
     let bytes = reader.fill_buf()?;

@@ -139,7 +139,8 @@ fn insert_request<'a>(
     }
 }
 
-/// The pair of a line `key content` without its line feed, if it says one. The bytes of the words go to `key` and `content`.
+/// The pair of a line `key content` without its line feed, if it says one. The bytes of the words
+/// go to `key` and `content`.
 pub fn pair_in_line<'a>(
     line: &[u8],
     key: &'a mut [u8; LONGEST_WORD],
@@ -160,7 +161,8 @@ fn pair_in_words<'a>(
     content: &'a mut [u8; LONGEST_WORD],
 ) -> Option<(&'a [u8], &'a [u8])>
     requires { length words.now ≤ 8192 }
-    ensures { option_map (λ pair. (pair.0.now, pair.1.now)) result ≡ pair_of_words (words_in words.now) }
+    ensures { option_map (λ pair. (pair.0.now, pair.1.now)) result
+        ≡ pair_of_words (words_in words.now) }
 {
     let (first, second) = split_word(words)?;
     if split_word(second).is_some() {
@@ -174,8 +176,10 @@ fn pair_in_words<'a>(
 
 /// The word before the first space, and what is behind the space, if there is one.
 fn split_word(line: &[u8]) -> Option<(&[u8], &[u8])>
-    ensures split { IfSome result (λ parts. words_in line.now ≡ parts.0.now ∷ words_in parts.1.now) }
-    ensures shorter { IfSome result (λ parts. (length parts.0.now ≤ length line.now) × (length parts.1.now ≤ length line.now)) }
+    ensures split { IfSome result
+        (λ parts. words_in line.now ≡ parts.0.now ∷ words_in parts.1.now) }
+    ensures shorter { IfSome result
+        (λ parts. (length parts.0.now ≤ length line.now) × (length parts.1.now ≤ length line.now)) }
     ensures single { IfNone result (words_in line.now ≡ line.now ∷ []) }
 {
     let end = first_space(line)?;

@@ -15,49 +15,57 @@ pub const DIGITS: usize = 2 * LONGEST_REPLY;
 
 /// Writes the line of a call that stored its pair.
 pub fn write_stored<W: Write>(writer: &mut W) -> io::Result<()>
-    ensures { OnOk result (Appends (W.contents writer.old) (W.contents writer.new) (reply_line Stored)) }
+    ensures { OnOk result (Appends (W.contents writer.old) (W.contents writer.new)
+        (reply_line Stored)) }
 {
     writer.write_all(b"0\n")
 }
 
 /// Writes the line of a store that left the old content.
 pub fn write_kept<W: Write>(writer: &mut W) -> io::Result<()>
-    ensures { OnOk result (Appends (W.contents writer.old) (W.contents writer.new) (reply_line Kept)) }
+    ensures { OnOk result (Appends (W.contents writer.old) (W.contents writer.new)
+        (reply_line Kept)) }
 {
     writer.write_all(b"1\n")
 }
 
 /// Writes the line of a delete that took its key out.
 pub fn write_deleted<W: Write>(writer: &mut W) -> io::Result<()>
-    ensures { OnOk result (Appends (W.contents writer.old) (W.contents writer.new) (reply_line Deleted)) }
+    ensures { OnOk result (Appends (W.contents writer.old) (W.contents writer.new)
+        (reply_line Deleted)) }
 {
     writer.write_all(b"0\n")
 }
 
 /// Writes the line of a delete that found nothing.
 pub fn write_absent<W: Write>(writer: &mut W) -> io::Result<()>
-    ensures { OnOk result (Appends (W.contents writer.old) (W.contents writer.new) (reply_line Absent)) }
+    ensures { OnOk result (Appends (W.contents writer.old) (W.contents writer.new)
+        (reply_line Absent)) }
 {
     writer.write_all(b"-1 absent\n")
 }
 
 /// Writes the line of a fetch that found nothing.
 pub fn write_no_record<W: Write>(writer: &mut W) -> io::Result<()>
-    ensures { OnOk result (Appends (W.contents writer.old) (W.contents writer.new) (reply_line NoRecord)) }
+    ensures { OnOk result (Appends (W.contents writer.old) (W.contents writer.new)
+        (reply_line NoRecord)) }
 {
     writer.write_all(b"none\n")
 }
 
 /// Writes the line of a pass that has given every key.
 pub fn write_end<W: Write>(writer: &mut W) -> io::Result<()>
-    ensures { OnOk result (Appends (W.contents writer.old) (W.contents writer.new) (reply_line End)) }
+    ensures { OnOk result (Appends (W.contents writer.old) (W.contents writer.new)
+        (reply_line End)) }
 {
     writer.write_all(b"end\n")
 }
 
 /// Writes the line of an error number.
 pub fn write_number<W: Write>(writer: &mut W, number: i32) -> io::Result<()>
-    ensures { (n : ℕ) → number ≡ pos n → OnOk result (Appends (W.contents writer.old) (W.contents writer.new) (reply_line (Number n))) }
+    ensures { (n : ℕ) → number ≡ pos n
+        → OnOk result (Appends (W.contents writer.old) (W.contents writer.new)
+        (reply_line (Number n))) }
 {
     writeln!(writer, "{number}")
 }
@@ -71,7 +79,9 @@ pub fn write_bad_line<W: Write>(writer: &mut W) -> io::Result<()>
 
 /// Writes the line of a call that was refused by the fault of this number.
 pub fn write_refused<W: Write>(writer: &mut W, number: i32) -> io::Result<()>
-    ensures { (fault : Fault) → number ≡ pos (number_of fault) → OnOk result (Appends (W.contents writer.old) (W.contents writer.new) (reply_line (Refused fault))) }
+    ensures { (fault : Fault) → number ≡ pos (number_of fault)
+        → OnOk result (Appends (W.contents writer.old) (W.contents writer.new)
+        (reply_line (Refused fault))) }
 {
     writer.write_all(b"-1 fault ")?;
     writeln!(writer, "{number}")
@@ -84,7 +94,8 @@ pub fn write_bytes<W: Write>(
     digits: &mut [u8; DIGITS],
 ) -> io::Result<()>
     requires { length bytes.now ≤ 2026 }
-    ensures { OnOk result (Appends (W.contents writer.old) (W.contents writer.new) (reply_line (Bytes bytes.now))) }
+    ensures { OnOk result (Appends (W.contents writer.old) (W.contents writer.new)
+        (reply_line (Bytes bytes.now))) }
 {
     write_word(writer, bytes, digits)?;
     writer.write_all(b"\n")
@@ -97,7 +108,8 @@ pub fn write_word<W: Write>(
     digits: &mut [u8; DIGITS],
 ) -> io::Result<()>
     requires { length bytes.now ≤ 2026 }
-    ensures { OnOk result (Appends (W.contents writer.old) (W.contents writer.new) (word_of bytes.now)) }
+    ensures { OnOk result (Appends (W.contents writer.old) (W.contents writer.new)
+        (word_of bytes.now)) }
 {
     if bytes.is_empty() {
         return writer.write_all(b".");

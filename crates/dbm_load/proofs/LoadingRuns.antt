@@ -16,26 +16,39 @@ use Rattle.dbm_model.proofs.CaseLemmas.{map_of_usable, breaks_by_change}
 use Rattle.dbm_load.specs.Loading.{replacing}
 
 -- a broken handle refuses each store
-when_broken : (before after : Handle) (key content : List ℕ) (mode : Mode) (reply : Reply) → Step before (Store key content mode) reply after → before.state.usable ≡ false → reply ≡ Refused Broken
+when_broken : (before after : Handle) (key content : List ℕ) (mode : Mode) (reply : Reply)
+    → Step before (Store key content mode) reply after → before.state.usable ≡ false
+    → reply ≡ Refused Broken
 when_broken before after key content mode reply step was =
     let call = Store key content mode in
     ⊎_elim (λ is. is.0) (λ bad. absurd bad)
-    (subst (λ (b : Bool). Answers before.state (cond b (usable_case before.state call) (broken_case before.state call)) reply after.state
-    ⊎ Suffers before (cond b (usable_case before.state call) (broken_case before.state call)) reply after) was step.answers)
+    (subst (λ (b : Bool). Answers before.state
+    (cond b (usable_case before.state call) (broken_case before.state call))
+    reply after.state
+    ⊎ Suffers before (cond b (usable_case before.state call) (broken_case before.state call)) reply
+    after) was step.answers)
 
 -- after Stored the handle is usable
-stays_usable : (before after : Handle) (key content : List ℕ) (mode : Mode) → Step before (Store key content mode) Stored after → after.state.usable ≡ false → ⊥
-stays_usable before after key content mode step now = elim before.state.usable as (λ u. before.state.usable ≡ u → ⊥) [
-  | true ↦ λ was. let told : Stored ≡ Refused Device = (breaks_by_change before after (Store key content mode) Stored step was now).1 in cc
-  | false ↦ λ was. let told : Stored ≡ Refused Broken = when_broken before after key content mode Stored step was in cc
-] refl
+stays_usable : (before after : Handle) (key content : List ℕ) (mode : Mode)
+    → Step before (Store key content mode) Stored after → after.state.usable ≡ false → ⊥
+stays_usable before after key content mode step now =
+    elim before.state.usable as (λ u. before.state.usable ≡ u → ⊥) [
+      | true ↦ λ was. let told : Stored ≡ Refused Device =
+          (breaks_by_change before after (Store key content mode) Stored step was now).1 in cc
+      | false ↦ λ was. let told : Stored ≡ Refused Broken =
+          when_broken before after key content mode Stored step was in cc
+    ] refl
 
 -- what was stored is in the map
-stored_map : (before after : Handle) (key content : List ℕ) (mode : Mode) → Step before (Store key content mode) Stored after → after.state.map ≡ insert before.state.map key content
-stored_map before after key content mode step = elim after.state.usable as (λ u. after.state.usable ≡ u → after.state.map ≡ insert before.state.map key content) [
-  | true ↦ λ now. map_of_usable before after (Store key content mode) Stored step now
-  | false ↦ λ now. absurd (stays_usable before after key content mode step now)
-] refl
+stored_map : (before after : Handle) (key content : List ℕ) (mode : Mode)
+    → Step before (Store key content mode) Stored after
+    → after.state.map ≡ insert before.state.map key content
+stored_map before after key content mode step =
+    elim after.state.usable as (λ u.
+    after.state.usable ≡ u → after.state.map ≡ insert before.state.map key content) [
+      | true ↦ λ now. map_of_usable before after (Store key content mode) Stored step now
+      | false ↦ λ now. absurd (stays_usable before after key content mode step now)
+    ] refl
 
 -- the rule doesn't answer that an old content stays
 abbrev IsNoKept : Case → Type 0
@@ -65,34 +78,53 @@ not_suffered before after (Finds found) is = refused_not_kept _ is.0
 not_suffered before after (Passes left) is = refused_not_kept _ is.0
 not_suffered before after (Changes said contents) (inl fails) = refused_not_kept _ fails.0
 not_suffered before after (Changes said contents) (inr (inl breaks)) = refused_not_kept _ breaks.0
-not_suffered before after (Changes said contents) (inr (inr (inl memory))) = refused_not_kept _ memory.0
+not_suffered before after (Changes said contents) (inr (inr (inl memory))) =
+    refused_not_kept _ memory.0
 not_suffered before after (Changes said contents) (inr (inr (inr room))) = refused_not_kept _ room.0
 
-stored_no_kept : (s : State) (key content : List ℕ) (old : Option (List ℕ)) → IsNoKept (stored s key content Replace old)
+stored_no_kept : (s : State) (key content : List ℕ) (old : Option (List ℕ))
+    → IsNoKept (stored s key content Replace old)
 stored_no_kept s key content (Some old) = λ e. cc
-stored_no_kept s key content None = elim (nat_le s.limit (len s.map)) as (λ b. IsNoKept (cond b (Declines Full) (Changes Stored (insert s.map key content)))) [ true ↦ tt | false ↦ λ e. cc ]
+stored_no_kept s key content None =
+    elim (nat_le s.limit (len s.map)) as
+    (λ b. IsNoKept (cond b (Declines Full) (Changes Stored (insert s.map key content)))) [
+      | true ↦
+          tt
+      | false ↦ λ e. cc
+    ]
 
-usable_no_kept : (s : State) (key content : List ℕ) → IsNoKept (usable_case s (Store key content Replace))
+usable_no_kept : (s : State) (key content : List ℕ)
+    → IsNoKept (usable_case s (Store key content Replace))
 usable_no_kept s key content =
-    elim s.writable as (λ b. IsNoKept (cond (not b) (Refuses ReadOnly) (cond (nat_le (length key + length content) 2026) (stored s key content Replace (get s.map key)) (Refuses TooLong)))) [
-      | true ↦ elim (nat_le (length key + length content) 2026) as (λ b. IsNoKept (cond b (stored s key content Replace (get s.map key)) (Refuses TooLong))) [
-        | true ↦ stored_no_kept s key content (get s.map key)
-        | false ↦ tt
-      ]
+    elim s.writable as (λ b. IsNoKept
+    (cond (not b) (Refuses ReadOnly)
+    (cond (nat_le (length key + length content) 2026)
+    (stored s key content Replace (get s.map key)) (Refuses TooLong)))) [
+      | true ↦ elim (nat_le (length key + length content) 2026) as
+          (λ b. IsNoKept (cond b (stored s key content Replace (get s.map key))
+          (Refuses TooLong))) [
+            | true ↦ stored_no_kept s key content (get s.map key)
+            | false ↦ tt
+          ]
       | false ↦ tt
     ]
 
 no_kept : (s : State) (key content : List ℕ) → IsNoKept (case_of s (Store key content Replace))
-no_kept s key content = elim s.usable as (λ b. IsNoKept (cond b (usable_case s (Store key content Replace)) (broken_case s (Store key content Replace)))) [
-  | true ↦ usable_no_kept s key content
-  | false ↦ tt
-]
+no_kept s key content = elim s.usable as
+    (λ b. IsNoKept (cond b (usable_case s (Store key content Replace))
+    (broken_case s (Store key content Replace)))) [
+      | true ↦ usable_no_kept s key content
+      | false ↦ tt
+    ]
 
 -- a replacing store is never answered so
-pub never_kept : (before after : Handle) (key content : List ℕ) → Step before (Store key content Replace) Kept after → ⊥
+pub never_kept : (before after : Handle) (key content : List ℕ)
+    → Step before (Store key content Replace) Kept after → ⊥
 never_kept before after key content step =
     let call = Store key content Replace in
-    ⊎_elim (not_answered before.state (case_of before.state call) after.state (no_kept before.state key content)) (not_suffered before after (case_of before.state call)) step.answers
+    ⊎_elim (not_answered before.state (case_of before.state call) after.state
+    (no_kept before.state key content))
+    (not_suffered before after (case_of before.state call)) step.answers
 
 first : (a b : Bool) → T (a && b) → T a
 first true b p = tt
@@ -108,30 +140,50 @@ less Equal p = absurd p
 less Greater p = absurd p
 
 -- a key below all of a list is below each of it
-below_one : (key : Key) (done : List Pair) (pair : Pair) (todo : List Pair) → T (below_all key_cmp key (done ++ pair ∷ todo)) → key_cmp key pair.0 ≡ Less
+below_one : (key : Key) (done : List Pair) (pair : Pair) (todo : List Pair)
+    → T (below_all key_cmp key (done ++ pair ∷ todo)) → key_cmp key pair.0 ≡ Less
 below_one key [] pair todo h = less (key_cmp key pair.0) (first _ _ h)
 below_one key (e ∷ done) pair todo h = below_one key done pair todo (second _ _ h)
 
 -- a pair whose key is above all goes to the end
-put_last : (done : List Pair) (pair : Pair) (todo : List Pair) → T (is_sorted key_cmp (done ++ pair ∷ todo)) → put key_cmp pair.0 pair.1 done ≡ done ++ pair ∷ []
+put_last : (done : List Pair) (pair : Pair) (todo : List Pair)
+    → T (is_sorted key_cmp (done ++ pair ∷ todo))
+    → put key_cmp pair.0 pair.1 done ≡ done ++ pair ∷ []
 put_last [] pair todo h = refl
 put_last (e ∷ done) pair todo h =
-    let above : key_cmp pair.0 e.0 ≡ Greater = nat_list_cmp_total.antisymm pair.0 e.0 ∙ ap ordering_reverse (below_one e.0 done pair todo (first _ _ h)) in
-    ap (λ (o : Ordering). by_order o ((pair.0, pair.1) ∷ e ∷ done) ((e.0, pair.1) ∷ done) (e ∷ put key_cmp pair.0 pair.1 done)) above
+    let above : key_cmp pair.0 e.0 ≡ Greater =
+    nat_list_cmp_total.antisymm pair.0 e.0
+    ∙ ap ordering_reverse (below_one e.0 done pair todo (first _ _ h)) in
+    ap (λ (o : Ordering). by_order o ((pair.0, pair.1) ∷ e ∷ done) ((e.0, pair.1) ∷ done)
+    (e ∷ put key_cmp pair.0 pair.1 done)) above
     ∙ ap (λ (rest : List Pair). e ∷ rest) (put_last done pair todo (second _ _ h))
 
 -- pairs in ascending order of keys are stored one behind another
-stored_behind : (done todo : List Pair) (before after : Handle) → T (is_sorted key_cmp (done ++ todo)) → entries before.state.map ≡ done → Run before (map replacing todo) (map (λ _. Stored) todo) after → entries after.state.map ≡ done ++ todo
-stored_behind done [] before after sorted is run = ap (λ (h : Handle). entries h.state.map) run ∙ is ∙ sym (append-nil done)
+stored_behind : (done todo : List Pair) (before after : Handle)
+    → T (is_sorted key_cmp (done ++ todo)) → entries before.state.map ≡ done
+    → Run before (map replacing todo) (map (λ _. Stored) todo) after
+    → entries after.state.map ≡ done ++ todo
+stored_behind done [] before after sorted is run =
+    ap (λ (h : Handle). entries h.state.map) run ∙ is ∙ sym (append-nil done)
 stored_behind done (pair ∷ todo) before after sorted is run =
     let one : entries run.0.state.map ≡ done ++ pair ∷ [] =
-    ap entries (stored_map before run.0 pair.0 pair.1 Replace run.1) ∙ entries-insert nat_list_cmp_total before.state.map pair.0 pair.1 ∙ ap (put key_cmp pair.0 pair.1) is ∙ put_last done pair todo sorted in
-    stored_behind (done ++ pair ∷ []) todo run.0 after (subst (λ (pairs : List Pair). T (is_sorted key_cmp pairs)) (sym (append_assoc done (pair ∷ []) todo)) sorted) one run.2
+    ap entries (stored_map before run.0 pair.0 pair.1 Replace run.1)
+    ∙ entries-insert nat_list_cmp_total before.state.map pair.0 pair.1
+    ∙ ap (put key_cmp pair.0 pair.1) is ∙ put_last done pair todo sorted in
+    stored_behind (done ++ pair ∷ []) todo run.0 after
+    (subst (λ (pairs : List Pair). T (is_sorted key_cmp pairs))
+    (sym (append_assoc done (pair ∷ []) todo)) sorted) one run.2
     ∙ append_assoc done (pair ∷ []) todo
 
 no_entries : entries (empty {X = List ℕ} {R = key_cmp}) ≡ []
-no_entries = nil_from_length (entries (empty {X = List ℕ} {R = key_cmp})) (sym (len-entries (empty {X = List ℕ} {R = key_cmp})) ∙ len-empty key_cmp (List ℕ))
+no_entries = nil_from_length (entries (empty {X = List ℕ} {R = key_cmp}))
+    (sym (len-entries (empty {X = List ℕ} {R = key_cmp})) ∙ len-empty key_cmp (List ℕ))
 
 -- the pairs of a map, stored into the empty map in ascending order, give the map
-pub fills : (contents : Contents) (before after : Handle) → before.state.map ≡ empty → Run before (map replacing (entries contents)) (map (λ _. Stored) (entries contents)) after → after.state.map ≡ contents
-fills contents before after is run = same_entries_map after.state.map contents (stored_behind [] (entries contents) before after (entries_sorted contents) (ap entries is ∙ no_entries) run)
+pub fills : (contents : Contents) (before after : Handle) → before.state.map ≡ empty
+    → Run before (map replacing (entries contents)) (map (λ _. Stored) (entries contents)) after
+    → after.state.map ≡ contents
+fills contents before after is run =
+    same_entries_map after.state.map contents
+    (stored_behind [] (entries contents) before after (entries_sorted contents)
+    (ap entries is ∙ no_entries) run)

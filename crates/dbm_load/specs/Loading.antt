@@ -33,23 +33,33 @@ abbrev pub IsOfBytes : Contents → Type 0
 IsOfBytes contents = All HasBytes (entries contents)
 
 -- on an honest store the pairs were stored one after another, and no other call was made
-abbrev pub StoresAll : {S : Type 0} {s : Ghosts S} → Database S s → Database S s → List Pair → Type 0
-StoresAll {S} {s} old new pairs = s.honest (store_of old) → (h : Handle) → IsAt old h → IsRun old new h (map replacing pairs) (map (λ _. Stored) pairs)
+abbrev pub StoresAll : {S : Type 0} {s : Ghosts S} → Database S s → Database S s
+    → List Pair → Type 0
+StoresAll {S} {s} old new pairs =
+    s.honest (store_of old) → (h : Handle) → IsAt old h
+    → IsRun old new h (map replacing pairs) (map (λ _. Stored) pairs)
 
 -- the same, and then the store of one more was refused
-abbrev pub StoresBefore : {S : Type 0} {s : Ghosts S} → Database S s → Database S s → List Pair → Pair → model.Fault → Type 0
-StoresBefore {S} {s} old new pairs refused fault = s.honest (store_of old) → (h : Handle) → IsAt old h →
-    IsRun old new h (map replacing pairs ++ replacing refused ∷ []) (map (λ _. Stored) pairs ++ Refused fault ∷ [])
+abbrev pub StoresBefore : {S : Type 0} {s : Ghosts S} → Database S s → Database S s → List Pair
+    → Pair → model.Fault → Type 0
+StoresBefore {S} {s} old new pairs refused fault =
+    s.honest (store_of old) → (h : Handle) → IsAt old h →
+    IsRun old new h (map replacing pairs ++ replacing refused ∷ [])
+    (map (λ _. Stored) pairs ++ Refused fault ∷ [])
 
 -- how a load ended that stored these pairs, of the first lines, and did not store the rest
-abbrev pub EndsBy : {S : Type 0} {s : Ghosts S} → Result Unit EngineFault → Database S s → Database S s → List (List ℕ) → List (List ℕ) → List Pair → Type 0
+abbrev pub EndsBy : {S : Type 0} {s : Ghosts S} → Result Unit EngineFault → Database S s
+    → Database S s → List (List ℕ) → List (List ℕ) → List Pair → Type 0
 EndsBy (Ok done) old new first rest stored = (rest ≡ []) × StoresAll old new stored
-EndsBy (Err (Line n)) old new first rest stored = (n ≡ length first + 1) × FirstSays rest None × StoresAll old new stored
-EndsBy (Err (Db fault)) old new first rest stored = (pair : Pair) × FirstSays rest (Some pair) × StoresBefore old new stored pair (fault_of fault)
+EndsBy (Err (Line n)) old new first rest stored =
+    (n ≡ length first + 1) × FirstSays rest None × StoresAll old new stored
+EndsBy (Err (Db fault)) old new first rest stored =
+    (pair : Pair) × FirstSays rest (Some pair) × StoresBefore old new stored pair (fault_of fault)
 EndsBy _ old new first rest stored = StoresAll old new stored
 
 -- What a load of a text did, whatever it answers: it stored what the first lines say.
-pub record Loads {S : Type 0} {s : Ghosts S} (result : Result Unit EngineFault) (text : Option (List ℕ)) (old new : Database S s) : Type 0 where
+pub record Loads {S : Type 0} {s : Ghosts S} (result : Result Unit EngineFault)
+    (text : Option (List ℕ)) (old new : Database S s) : Type 0 where
   pub first : List (List ℕ)
   pub rest : List (List ℕ)
   pub stored : List Pair
@@ -58,13 +68,20 @@ pub record Loads {S : Type 0} {s : Ghosts S} (result : Result Unit EngineFault) 
   pub ends : EndsBy result old new first rest stored
 
 -- of the dump of a map, loaded into an empty database: it then has that map
-abbrev pub LoadsDump : {S : Type 0} {s : Ghosts S} → Option (List ℕ) → Database S s → Database S s → Type 0
-LoadsDump {S} {s} text old new = s.honest (store_of old) → (h : Handle) → IsAt old h → h.state.map ≡ empty →
-    (contents : Contents) → IsOfBytes contents → text ≡ Some (dump_of contents) → (after : Handle) × IsAt new after × (after.state.map ≡ contents)
+abbrev pub LoadsDump : {S : Type 0} {s : Ghosts S} → Option (List ℕ) → Database S s
+    → Database S s → Type 0
+LoadsDump {S} {s} text old new =
+    s.honest (store_of old) → (h : Handle) → IsAt old h → h.state.map ≡ empty →
+    (contents : Contents) → IsOfBytes contents → text ≡ Some (dump_of contents)
+    → (after : Handle) × IsAt new after × (after.state.map ≡ contents)
 
 -- what became of one line of this number that says this pair, or is bad
-abbrev pub LoadsLine : {S : Type 0} {s : Ghosts S} → Result Unit EngineFault → Option Pair → ℕ → Database S s → Database S s → Type 0
-LoadsLine {S} {s} (Ok done) (Some pair) number old new = s.honest (store_of old) → (h : Handle) → IsAt old h → IsStep old new h (replacing pair) Stored
-LoadsLine {S} {s} (Err (Db fault)) (Some pair) number old new = s.honest (store_of old) → (h : Handle) → IsAt old h → IsStep old new h (replacing pair) (Refused (fault_of fault))
+abbrev pub LoadsLine : {S : Type 0} {s : Ghosts S} → Result Unit EngineFault → Option Pair → ℕ
+    → Database S s → Database S s → Type 0
+LoadsLine {S} {s} (Ok done) (Some pair) number old new =
+    s.honest (store_of old) → (h : Handle) → IsAt old h → IsStep old new h (replacing pair) Stored
+LoadsLine {S} {s} (Err (Db fault)) (Some pair) number old new =
+    s.honest (store_of old) → (h : Handle) → IsAt old h
+    → IsStep old new h (replacing pair) (Refused (fault_of fault))
 LoadsLine (Err (Line n)) None number old new = (n ≡ number) × (new ≡ old)
 LoadsLine _ said number old new = ⊥

@@ -11,24 +11,28 @@ use page_io::PageStore;
 use std::alloc::Global;
 use std::io::BufRead;
 
-/// Stores the pair that each line says, in place of an older one of its key, and stops at the first line that says none,
-/// told by its number from 1 as `Line`, or at the first store that is refused, told as `Db`. A line is `key content`, may
-/// have 8,192 bytes without its line feed, and a text 4,294,967,295. `Memory` comes before anything is read; no line takes
-/// memory of its own, and a store that finds none is told as `Db`. `Read` comes where reading fails or the text is too
-/// long. The stores made so far stand.
+/// Stores the pair that each line says, in place of an older one of its key, and stops at the first
+/// line that says none, told by its number from 1 as `Line`, or at the first store that is refused,
+/// told as `Db`. A line is `key content`, may have 8,192 bytes without its line feed, and a text
+/// 4,294,967,295. `Memory` comes before anything is read; no line takes memory of its own, and a
+/// store that finds none is told as `Db`. `Read` comes where reading fails or the text is too long.
+/// The stores made so far stand.
 pub fn load_engine<S: PageStore, R: BufRead>(
     alloc: Global,
     db: &mut Database<S>,
     reader: &mut R,
 ) -> Result<(), EngineFault>
     ensures loads { Loads result (R.remaining reader.old) db.old db.new }
-    ensures read { OnOk result (IfSome (R.remaining reader.old) (λ text. R.remaining reader.new ≡ Some [])) }
-    ensures size { OnOk result (IfSome (R.remaining reader.old) (λ text. length text ≤ 4294967295)) }
+    ensures read { OnOk result (IfSome (R.remaining reader.old)
+        (λ text. R.remaining reader.new ≡ Some [])) }
+    ensures size { OnOk result (IfSome (R.remaining reader.old)
+        (λ text. length text ≤ 4294967295)) }
 
     // A dump is loaded back.
     ensures dump { OnOk result (LoadsDump (R.remaining reader.old) db.old db.new) }
     ensures goes { IsSameDatabase db.old db.new }
-    ensures memory { result ≡ Err EngineFault.Memory → (db.new ≡ db.old) × (reader.new ≡ reader.old) }
+    ensures memory { result ≡ Err EngineFault.Memory
+        → (db.new ≡ db.old) × (reader.new ≡ reader.old) }
     ensures only { result ≡ Err EngineFault.Write → ⊥ }
 {
     let Ok(mut buffers) = Box::new(alloc, Buffers::new()) else {
@@ -44,8 +48,10 @@ fn load_lines<S: PageStore, R: BufRead>(
     buffers: &mut Buffers,
 ) -> Result<(), EngineFault>
     ensures loads { Loads result (R.remaining reader.old) db.old db.new }
-    ensures read { OnOk result (IfSome (R.remaining reader.old) (λ text. R.remaining reader.new ≡ Some [])) }
-    ensures size { OnOk result (IfSome (R.remaining reader.old) (λ text. length text ≤ 4294967295)) }
+    ensures read { OnOk result (IfSome (R.remaining reader.old)
+        (λ text. R.remaining reader.new ≡ Some [])) }
+    ensures size { OnOk result (IfSome (R.remaining reader.old)
+        (λ text. length text ≤ 4294967295)) }
     ensures goes { IsSameDatabase db.old db.new }
     ensures no_memory { result ≡ Err EngineFault.Memory → ⊥ }
     ensures no_write { result ≡ Err EngineFault.Write → ⊥ }

@@ -32,49 +32,72 @@ Explains s call (Passes left) = s.usable ≡ true
 Explains s call (Changes said map) = MayChange s × (is_changing call ≡ true) × IsNoRefusal said
 
 -- a new key, by whether there are as many pairs as the limit allows
-new_explains : (s : State) (key content : List ℕ) (mode : Mode) → MayChange s → get s.map key ≡ None → Explains s (Store key content mode) (cond (nat_le s.limit (len s.map)) (Declines Full) (Changes Stored (insert s.map key content)))
+new_explains : (s : State) (key content : List ℕ) (mode : Mode) → MayChange s → get s.map key ≡ None
+    → Explains s (Store key content mode)
+    (cond (nat_le s.limit (len s.map)) (Declines Full) (Changes Stored (insert s.map key content)))
 new_explains s key content mode may absent =
-    elim (nat_le s.limit (len s.map)) as (λ b. nat_le s.limit (len s.map) ≡ b → Explains s (Store key content mode) (cond b (Declines Full) (Changes Stored (insert s.map key content)))) [
+    elim (nat_le s.limit (len s.map)) as
+    (λ b. nat_le s.limit (len s.map) ≡ b
+    → Explains s (Store key content mode)
+    (cond b (Declines Full) (Changes Stored (insert s.map key content)))) [
       | true ↦ λ full. (may.usable, (may, (absent, leb-true s.limit (len s.map) full)))
       | false ↦ λ room. (may, refl, tt)
     ] refl
 
-stored_explains : (s : State) (key content : List ℕ) (mode : Mode) (old : Option (List ℕ)) → MayChange s → get s.map key ≡ old → Explains s (Store key content mode) (stored s key content mode old)
+stored_explains : (s : State) (key content : List ℕ) (mode : Mode) (old : Option (List ℕ))
+    → MayChange s → get s.map key ≡ old
+    → Explains s (Store key content mode) (stored s key content mode old)
 stored_explains s key content Insert (Some old) may has = (may.usable, tt)
 stored_explains s key content Replace (Some old) may has = (may, refl, tt)
 stored_explains s key content Insert None may has = new_explains s key content Insert may has
 stored_explains s key content Replace None may has = new_explains s key content Replace may has
 
-deleted_explains : (s : State) (key : Key) (old : Option (List ℕ)) → MayChange s → Explains s (Delete key) (deleted s key old)
+deleted_explains : (s : State) (key : Key) (old : Option (List ℕ)) → MayChange s
+    → Explains s (Delete key) (deleted s key old)
 deleted_explains s key None may = (may.usable, tt)
 deleted_explains s key (Some content) may = (may, refl, tt)
 
-fetched_explains : (s : State) (key : Key) (old : Option (List ℕ)) → s.usable ≡ true → Explains s (Fetch key) (fetched old)
+fetched_explains : (s : State) (key : Key) (old : Option (List ℕ)) → s.usable ≡ true
+    → Explains s (Fetch key) (fetched old)
 fetched_explains s key None usable = (usable, tt)
 fetched_explains s key (Some content) usable = (usable, tt)
 
-passed_explains : (s : State) (pass : Option Keys) → s.usable ≡ true → s.pass ≡ pass → Explains s Next (passed pass)
+passed_explains : (s : State) (pass : Option Keys) → s.usable ≡ true → s.pass ≡ pass
+    → Explains s Next (passed pass)
 passed_explains s None usable is = (usable, refl, is)
 passed_explains s (Some left) usable is = usable
 
 -- a store on a handle for changes, by its length
-length_explains : (s : State) (key content : List ℕ) (mode : Mode) → MayChange s → Explains s (Store key content mode) (cond (nat_le (length key + length content) 2026) (stored s key content mode (get s.map key)) (Refuses TooLong))
+length_explains : (s : State) (key content : List ℕ) (mode : Mode) → MayChange s
+    → Explains s (Store key content mode)
+    (cond (nat_le (length key + length content) 2026) (stored s key content mode (get s.map key))
+    (Refuses TooLong))
 length_explains s key content mode may =
-    elim (nat_le (length key + length content) 2026) as (λ b. nat_le (length key + length content) 2026 ≡ b → Explains s (Store key content mode) (cond b (stored s key content mode (get s.map key)) (Refuses TooLong))) [
+    elim (nat_le (length key + length content) 2026) as
+    (λ b. nat_le (length key + length content) 2026 ≡ b
+    → Explains s (Store key content mode)
+    (cond b (stored s key content mode (get s.map key)) (Refuses TooLong))) [
       | true ↦ λ allowed. stored_explains s key content mode (get s.map key) may refl
       | false ↦ λ long. (may, leb-false (length key + length content) 2026 long)
     ] refl
 
 usable_explains : (s : State) (call : Call) → s.usable ≡ true → Explains s call (usable_case s call)
 usable_explains s (Store key content mode) usable =
-    elim s.writable as (λ b. s.writable ≡ b → Explains s (Store key content mode) (cond (not b) (Refuses ReadOnly) (cond (nat_le (length key + length content) 2026) (stored s key content mode (get s.map key)) (Refuses TooLong)))) [
-      | true ↦ λ writable. length_explains s key content mode (record { usable = usable; writable = writable })
+    elim s.writable as (λ b. s.writable ≡ b
+    → Explains s (Store key content mode)
+    (cond (not b) (Refuses ReadOnly)
+    (cond (nat_le (length key + length content) 2026)
+    (stored s key content mode (get s.map key)) (Refuses TooLong)))) [
+      | true ↦ λ writable. length_explains s key content mode
+          (record { usable = usable; writable = writable })
       | false ↦ λ reading. (usable, reading, refl)
     ] refl
 usable_explains s (Fetch key) usable = fetched_explains s key (get s.map key) usable
 usable_explains s (Delete key) usable =
-    elim s.writable as (λ b. s.writable ≡ b → Explains s (Delete key) (cond b (deleted s key (get s.map key)) (Refuses ReadOnly))) [
-      | true ↦ λ writable. deleted_explains s key (get s.map key) (record { usable = usable; writable = writable })
+    elim s.writable as (λ b. s.writable ≡ b
+    → Explains s (Delete key) (cond b (deleted s key (get s.map key)) (Refuses ReadOnly))) [
+      | true ↦ λ writable. deleted_explains s key (get s.map key)
+          (record { usable = usable; writable = writable })
       | false ↦ λ reading. (usable, reading, refl)
     ] refl
 usable_explains s First usable = usable
@@ -82,7 +105,8 @@ usable_explains s Next usable = passed_explains s s.pass usable refl
 usable_explains s Error usable = tt
 usable_explains s Clear usable = tt
 
-broken_explains : (s : State) (call : Call) → s.usable ≡ false → Explains s call (broken_case s call)
+broken_explains : (s : State) (call : Call) → s.usable ≡ false
+    → Explains s call (broken_case s call)
 broken_explains s (Store key content mode) broken = broken
 broken_explains s (Fetch key) broken = broken
 broken_explains s (Delete key) broken = broken
@@ -92,7 +116,11 @@ broken_explains s Error broken = tt
 broken_explains s Clear broken = tt
 
 pub explains : (s : State) (call : Call) → Explains s call (case_of s call)
-explains s call = elim s.usable as (λ b. s.usable ≡ b → Explains s call (cond b (usable_case s call) (broken_case s call))) [ true ↦ usable_explains s call | false ↦ broken_explains s call ] refl
+explains s call = elim s.usable as
+    (λ b. s.usable ≡ b → Explains s call (cond b (usable_case s call) (broken_case s call))) [
+      | true ↦ usable_explains s call
+      | false ↦ broken_explains s call
+    ] refl
 
 fault_in : Reply → Fault
 fault_in (Refused fault) = fault
@@ -103,7 +131,8 @@ pub same_fault : (fault other : Fault) → Refused fault ≡ Refused other → o
 unfolding fault_in
 same_fault fault other is = ap fault_in (sym is)
 
-due_by_reason : (before after : Handle) (call : Call) (fault : Fault) → Reason fault before.state call → IsDue fault before call after
+due_by_reason : (before after : Handle) (call : Call) (fault : Fault)
+    → Reason fault before.state call → IsDue fault before call after
 due_by_reason before after call Broken why = why
 due_by_reason before after call ReadOnly why = why
 due_by_reason before after call TooLong why = why
@@ -120,34 +149,59 @@ due_by_reason before after call BadLimit why = absurd why
 due_by_reason before after call Missing why = absurd why
 due_by_reason before after call Exists why = absurd why
 
-by_reason : (before after : Handle) (call : Call) (fault other : Fault) → Refused fault ≡ Refused other → Reason other before.state call → IsDue fault before call after
-by_reason before after call fault other is why = due_by_reason before after call fault (subst (λ f. Reason f before.state call) (same_fault fault other is) why)
+by_reason : (before after : Handle) (call : Call) (fault other : Fault)
+    → Refused fault ≡ Refused other → Reason other before.state call → IsDue fault before call after
+by_reason before after call fault other is why =
+    due_by_reason before after call fault
+    (subst (λ f. Reason f before.state call) (same_fault fault other is) why)
 
-due_answer : (before after : Handle) (call : Call) (c : Case) (fault : Fault) → Explains before.state call c → Answers before.state c (Refused fault) after.state → IsDue fault before call after
-due_answer before after call (Tells said told) fault why is = absurd (subst IsNoRefusal (sym is.0) why)
-due_answer before after call (Refuses other) fault why is = by_reason before after call fault other is.0 why
-due_answer before after call (Declines other) fault why is = by_reason before after call fault other is.0 why.1
-due_answer before after call (Finds found) fault why is = absurd (subst IsNoRefusal (sym is.0) why.1)
-due_answer before after call (Passes left) fault why (inl end) = absurd (subst IsNoRefusal (sym end.1) tt)
-due_answer before after call (Passes left) fault why (inr given) = absurd (subst IsNoRefusal (sym given.2) tt)
-due_answer before after call (Changes said map) fault why is = absurd (subst IsNoRefusal (sym is.0) why.2)
+due_answer : (before after : Handle) (call : Call) (c : Case) (fault : Fault)
+    → Explains before.state call c → Answers before.state c (Refused fault) after.state
+    → IsDue fault before call after
+due_answer before after call (Tells said told) fault why is =
+    absurd (subst IsNoRefusal (sym is.0) why)
+due_answer before after call (Refuses other) fault why is =
+    by_reason before after call fault other is.0 why
+due_answer before after call (Declines other) fault why is =
+    by_reason before after call fault other is.0 why.1
+due_answer before after call (Finds found) fault why is =
+    absurd (subst IsNoRefusal (sym is.0) why.1)
+due_answer before after call (Passes left) fault why (inl end) =
+    absurd (subst IsNoRefusal (sym end.1) tt)
+due_answer before after call (Passes left) fault why (inr given) =
+    absurd (subst IsNoRefusal (sym given.2) tt)
+due_answer before after call (Changes said map) fault why is =
+    absurd (subst IsNoRefusal (sym is.0) why.2)
 
 -- the same of a fault that was told in the place of the answer
-due_as : (before after : Handle) (call : Call) (fault other : Fault) → Refused fault ≡ Refused other → IsDue other before call after → IsDue fault before call after
-due_as before after call fault other is due = subst (λ f. IsDue f before call after) (same_fault fault other is) due
+due_as : (before after : Handle) (call : Call) (fault other : Fault) → Refused fault ≡ Refused other
+    → IsDue other before call after → IsDue fault before call after
+due_as before after call fault other is due =
+    subst (λ f. IsDue f before call after) (same_fault fault other is) due
 
-due_suffered : (before after : Handle) (call : Call) (c : Case) (fault : Fault) → Explains before.state call c → Suffers before c (Refused fault) after → IsDue fault before call after
+due_suffered : (before after : Handle) (call : Call) (c : Case) (fault : Fault)
+    → Explains before.state call c → Suffers before c (Refused fault) after
+    → IsDue fault before call after
 due_suffered before after call (Tells said told) fault why is = absurd is
 due_suffered before after call (Refuses other) fault why is = absurd is
-due_suffered before after call (Declines other) fault why is = due_as before after call fault Device is.0 (why.0, is.1)
-due_suffered before after call (Finds found) fault why is = due_as before after call fault Device is.0 (why.0, is.1)
-due_suffered before after call (Passes left) fault why is = due_as before after call fault Device is.0 (why, is.1)
-due_suffered before after call (Changes said map) fault why (inl fails) = due_as before after call fault Device fails.0 (why.0.usable, fails.1)
-due_suffered before after call (Changes said map) fault why (inr (inl breaks)) = due_as before after call fault Device breaks.0 (why.0.usable, breaks.1)
-due_suffered before after call (Changes said map) fault why (inr (inr (inl memory))) = due_as before after call fault Memory memory.0 (why.0, why.1)
-due_suffered before after call (Changes said map) fault why (inr (inr (inr room))) = due_as before after call fault NoRoom room.0 (why.0, why.1, room.1)
+due_suffered before after call (Declines other) fault why is =
+    due_as before after call fault Device is.0 (why.0, is.1)
+due_suffered before after call (Finds found) fault why is =
+    due_as before after call fault Device is.0 (why.0, is.1)
+due_suffered before after call (Passes left) fault why is =
+    due_as before after call fault Device is.0 (why, is.1)
+due_suffered before after call (Changes said map) fault why (inl fails) =
+    due_as before after call fault Device fails.0 (why.0.usable, fails.1)
+due_suffered before after call (Changes said map) fault why (inr (inl breaks)) =
+    due_as before after call fault Device breaks.0 (why.0.usable, breaks.1)
+due_suffered before after call (Changes said map) fault why (inr (inr (inl memory))) =
+    due_as before after call fault Memory memory.0 (why.0, why.1)
+due_suffered before after call (Changes said map) fault why (inr (inr (inr room))) =
+    due_as before after call fault NoRoom room.0 (why.0, why.1, room.1)
 
 pub refuses_where_due : RefusesOnlyWhereDue
 refuses_where_due before after call fault step =
-    ⊎_elim (due_answer before after call (case_of before.state call) fault (explains before.state call))
-    (due_suffered before after call (case_of before.state call) fault (explains before.state call)) step.answers
+    ⊎_elim (due_answer before after call (case_of before.state call) fault
+    (explains before.state call))
+    (due_suffered before after call (case_of before.state call) fault (explains before.state call))
+    step.answers

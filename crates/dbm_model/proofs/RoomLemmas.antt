@@ -29,11 +29,14 @@ no_pair : len (empty {X = List ℕ} {R = key_cmp}) ≡ 0
 no_pair = len-empty key_cmp (List ℕ)
 
 -- a first store changes the map, where nothing hinders it
-first_falls : case_of (fresh empty 100 true) (Store (one 0x61) (one 0x01) Replace) ≡ Changes Stored (only (one 0x01))
-first_falls = adds 100 empty None None (one 0x61) (one 0x01) refl (get-empty key_cmp (one 0x61)) (none_yet 100 (omega arith))
+first_falls : case_of (fresh empty 100 true) (Store (one 0x61) (one 0x01) Replace)
+    ≡ Changes Stored (only (one 0x01))
+first_falls = adds 100 empty None None (one 0x61) (one 0x01) refl (get-empty key_cmp (one 0x61))
+    (none_yet 100 (omega arith))
 
 -- a change that is refused for want of room is short of it
-short_of : (h after : Handle) (map : Contents) → Suffers h (Changes Stored map) (Refused NoRoom) after → IsShort h
+short_of : (h after : Handle) (map : Contents)
+    → Suffers h (Changes Stored map) (Refused NoRoom) after → IsShort h
 short_of h after map (inl fails) = absurd (let x = fails.0 in cc)
 short_of h after map (inr (inl breaks)) = absurd (let x = breaks.0 in cc)
 short_of h after map (inr (inr (inl memory))) = absurd (let x = memory.0 in cc)
@@ -44,7 +47,8 @@ enough after step =
     ⊎_elim
     (λ answered. absurd (let x = answered.0 in cc))
     (λ hindered. omega (arith, short_of (with_room 16) after (only (one 0x01)) hindered, no_pair))
-    (falls (with_room 16) after (Store (one 0x61) (one 0x01) Replace) (Refused NoRoom) (Changes Stored (only (one 0x01))) first_falls step)
+    (falls (with_room 16) after (Store (one 0x61) (one 0x01) Replace) (Refused NoRoom)
+    (Changes Stored (only (one 0x01))) first_falls step)
 
 short : (after : Handle) × IsFirstStore 15 (Refused NoRoom) after
 short =

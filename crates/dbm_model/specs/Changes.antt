@@ -20,14 +20,21 @@ map_asked map call = map
 
 -- only an acknowledged change changes the map of a handle that stays usable
 abbrev pub OnlyAcknowledgedChanges : Type 0
-OnlyAcknowledgedChanges = (before after : Handle) (call : Call) (reply : Reply) → Step before call reply after → after.state.usable ≡ true → after.state.map ≡ map_after before.state.map call reply
+OnlyAcknowledgedChanges = (before after : Handle) (call : Call) (reply : Reply)
+    → Step before call reply after → after.state.usable ≡ true
+    → after.state.map ≡ map_after before.state.map call reply
 
--- a handle breaks only by a fault of the device in a change, and its file then stands for the old map or the new one
+-- a handle breaks only by a fault of the device in a change, and its file then stands for the old
+-- map or the new one
 abbrev pub OnlyChangesBreak : Type 0
-OnlyChangesBreak = (before after : Handle) (call : Call) (reply : Reply) → Step before call reply after → before.state.usable ≡ true → after.state.usable ≡ false →
-    (is_changing call ≡ true) × (reply ≡ Refused Device) × ((after.state.map ≡ before.state.map) ⊎ (after.state.map ≡ map_asked before.state.map call))
+OnlyChangesBreak = (before after : Handle) (call : Call) (reply : Reply)
+    → Step before call reply after → before.state.usable ≡ true → after.state.usable ≡ false →
+    (is_changing call ≡ true) × (reply ≡ Refused Device)
+    × ((after.state.map ≡ before.state.map)
+    ⊎ (after.state.map ≡ map_asked before.state.map call))
 
 -- a broken handle stays broken, and its map stays
 abbrev pub BrokenStays : Type 0
-BrokenStays = (before after : Handle) (call : Call) (reply : Reply) → Step before call reply after → before.state.usable ≡ false →
+BrokenStays = (before after : Handle) (call : Call) (reply : Reply) → Step before call reply after
+    → before.state.usable ≡ false →
     (after.state.usable ≡ false) × (after.state.map ≡ before.state.map)

@@ -6,10 +6,12 @@ use Rattle.dbm_model.specs.States.{error_number}
 -- all faults, in the order of their numbers
 abbrev pub all_faults : List Fault
 all_faults =
-    Memory ∷ Device ∷ Broken ∷ ReadOnly ∷ TooLong ∷ Full ∷ NoPass ∷ NoRoom ∷ Damaged ∷ NotADatabase ∷ Version ∷ TooSmall ∷ BadLimit ∷ Missing ∷ Exists ∷ []
+    Memory ∷ Device ∷ Broken ∷ ReadOnly ∷ TooLong ∷ Full ∷ NoPass ∷ NoRoom ∷ Damaged ∷ NotADatabase
+    ∷ Version ∷ TooSmall ∷ BadLimit ∷ Missing ∷ Exists ∷ []
 
 abbrev pub FaultsAreNumbered : Type 0
-FaultsAreNumbered = map number_of all_faults ≡ 1 ∷ 2 ∷ 3 ∷ 4 ∷ 5 ∷ 6 ∷ 7 ∷ 8 ∷ 9 ∷ 10 ∷ 11 ∷ 12 ∷ 13 ∷ 14 ∷ 15 ∷ []
+FaultsAreNumbered = map number_of all_faults ≡ 1 ∷ 2 ∷ 3 ∷ 4 ∷ 5 ∷ 6 ∷ 7 ∷ 8 ∷ 9 ∷ 10 ∷ 11 ∷ 12
+    ∷ 13 ∷ 14 ∷ 15 ∷ []
 
 -- no two faults share a number
 abbrev pub NumbersDiffer : Type 0

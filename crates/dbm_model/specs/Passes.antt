@@ -1,4 +1,5 @@
--- A pass over the keys, told from the replies (POSIX: each key once, where no change comes between).
+-- A pass over the keys, told from the replies (POSIX: each key once, where no change comes
+-- between).
 use Rattle.std.specs.Prelude.{◌≡◌, ◌≢◌, ◌+◌, ℕ, Bool, true, false, is_some, if◌then◌else◌, List, [], ◌∷◌, ◌++◌}
 use Rattle.std.specs.FinMap.{get}
 use Rattle.std.specs.Ordering.{eq_by_cmp}
@@ -29,11 +30,16 @@ is_refused reply = false
 
 -- none of these calls begins a pass, and none is an acknowledged change
 abbrev pub GoesOn : List Call → List Reply → Type 0
-GoesOn (call ∷ calls) (reply ∷ replies) = (call ≢ First) × (is_acknowledged reply ≡ false) × GoesOn calls replies
+GoesOn (call ∷ calls) (reply ∷ replies) =
+    (call ≢ First) × (is_acknowledged reply ≡ false) × GoesOn calls replies
 GoesOn calls replies = Unit {0}
 
--- From a firstkey that was answered to the end of its pass, with no change between, each key of the map is given once and
--- no other key at all, whatever else is called, and whatever fails.
+-- From a firstkey that was answered to the end of its pass, with no change between, each key of the
+-- map is given once and no other key at all, whatever else is called, and whatever fails.
 abbrev pub PassesAreComplete : Type 0
-PassesAreComplete = (before mid after : Handle) (calls : List Call) (reply : Reply) (replies : List Reply) → Run before (First ∷ calls) (reply ∷ replies) mid → is_refused reply ≡ false → GoesOn calls replies
-    → Step mid Next End after → (key : Key) → times_in (given (First ∷ calls) (reply ∷ replies)) key ≡ (if is_some (get before.state.map key) then 1 else 0)
+PassesAreComplete = (before mid after : Handle) (calls : List Call) (reply : Reply)
+    (replies : List Reply) → Run before (First ∷ calls) (reply ∷ replies) mid
+    → is_refused reply ≡ false → GoesOn calls replies
+    → Step mid Next End after → (key : Key)
+    → times_in (given (First ∷ calls) (reply ∷ replies)) key
+    ≡ (if is_some (get before.state.map key) then 1 else 0)

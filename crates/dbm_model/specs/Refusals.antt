@@ -25,60 +25,83 @@ IsOneTooMany map limit call = ⊥
 -- what a refusal by this fault says of the handle and the call
 abbrev pub IsDue : Fault → Handle → Call → Handle → Type 0
 IsDue Broken before call after = before.state.usable ≡ false
-IsDue ReadOnly before call after = (before.state.usable ≡ true) × (before.state.writable ≡ false) × (is_changing call ≡ true)
+IsDue ReadOnly before call after =
+    (before.state.usable ≡ true) × (before.state.writable ≡ false) × (is_changing call ≡ true)
 IsDue TooLong before call after = MayChange before.state × IsTooLong call
-IsDue Full before call after = MayChange before.state × IsOneTooMany before.state.map before.state.limit call
-IsDue NoPass before call after = (before.state.usable ≡ true) × (call ≡ Next) × (before.state.pass ≡ None)
-IsDue Device before call after = (before.state.usable ≡ true) × MoreFaults before.faults after.faults
+IsDue Full before call after =
+    MayChange before.state × IsOneTooMany before.state.map before.state.limit call
+IsDue NoPass before call after =
+    (before.state.usable ≡ true) × (call ≡ Next) × (before.state.pass ≡ None)
+IsDue Device before call after =
+    (before.state.usable ≡ true) × MoreFaults before.faults after.faults
 IsDue Memory before call after = MayChange before.state × (is_changing call ≡ true)
 IsDue NoRoom before call after = MayChange before.state × (is_changing call ≡ true) × IsShort before
 IsDue fault before call after = ⊥
 
 -- a call is refused only where that is due
 abbrev pub RefusesOnlyWhereDue : Type 0
-RefusesOnlyWhereDue = (before after : Handle) (call : Call) (fault : Fault) → Step before call (Refused fault) after → IsDue fault before call after
+RefusesOnlyWhereDue = (before after : Handle) (call : Call) (fault : Fault)
+    → Step before call (Refused fault) after → IsDue fault before call after
 
 -- a broken handle refuses each call that looks at the file or changes it
 abbrev pub BrokenRefuses : Type 0
-BrokenRefuses = (before after : Handle) (call : Call) (reply : Reply) → Step before call reply after → before.state.usable ≡ false → (call ≡ Error) ⊎ ((call ≡ Clear) ⊎ (reply ≡ Refused Broken))
+BrokenRefuses = (before after : Handle) (call : Call) (reply : Reply) → Step before call reply after
+    → before.state.usable ≡ false → (call ≡ Error) ⊎ ((call ≡ Clear) ⊎ (reply ≡ Refused Broken))
 
 -- a handle for reading refuses each change, and keeps its map
 abbrev pub ReadingRefuses : Type 0
-ReadingRefuses = (before after : Handle) (call : Call) (reply : Reply) → Step before call reply after → before.state.usable ≡ true → before.state.writable ≡ false → is_changing call ≡ true → reply ≡ Refused ReadOnly
+ReadingRefuses = (before after : Handle) (call : Call) (reply : Reply)
+    → Step before call reply after → before.state.usable ≡ true → before.state.writable ≡ false
+    → is_changing call ≡ true → reply ≡ Refused ReadOnly
 
 abbrev pub ReadingKeeps : Type 0
-ReadingKeeps = (before after : Handle) (call : Call) (reply : Reply) → Step before call reply after → before.state.writable ≡ false → after.state.map ≡ before.state.map
+ReadingKeeps = (before after : Handle) (call : Call) (reply : Reply) → Step before call reply after
+    → before.state.writable ≡ false → after.state.map ≡ before.state.map
 
 -- the limit, and whether it was opened for changes, stay
 abbrev pub SettingsStay : Type 0
-SettingsStay = (before after : Handle) (call : Call) (reply : Reply) → Step before call reply after → (after.state.limit ≡ before.state.limit) × (after.state.writable ≡ before.state.writable)
+SettingsStay = (before after : Handle) (call : Call) (reply : Reply) → Step before call reply after
+    → (after.state.limit ≡ before.state.limit) × (after.state.writable ≡ before.state.writable)
 
 -- a pair that is too long is refused, whatever its key
 abbrev pub TooLongIsRefused : Type 0
-TooLongIsRefused = (before after : Handle) (call : Call) (reply : Reply) → Step before call reply after → MayChange before.state → IsTooLong call → reply ≡ Refused TooLong
+TooLongIsRefused = (before after : Handle) (call : Call) (reply : Reply)
+    → Step before call reply after → MayChange before.state → IsTooLong call
+    → reply ≡ Refused TooLong
 
 -- an insert of an allowed pair whose key is there keeps what is there, also at the limit
 abbrev pub InsertKeeps : Type 0
-InsertKeeps = (before after : Handle) (key content old : List ℕ) (reply : Reply) → Step before (Store key content Insert) reply after → MayChange before.state → IsAllowed (key, content) → get before.state.map key ≡ Some old →
+InsertKeeps = (before after : Handle) (key content old : List ℕ) (reply : Reply)
+    → Step before (Store key content Insert) reply after → MayChange before.state
+    → IsAllowed (key, content) → get before.state.map key ≡ Some old →
     (reply ≡ Kept) ⊎ (reply ≡ Refused Device)
 
 -- an allowed pair with a new key is refused at the limit
 abbrev pub FullIsRefused : Type 0
-FullIsRefused = (before after : Handle) (key content : List ℕ) (mode : Mode) (reply : Reply) → Step before (Store key content mode) reply after → MayChange before.state → IsAllowed (key, content) →
-    IsOneTooMany before.state.map before.state.limit (Store key content mode) → (reply ≡ Refused Full) ⊎ (reply ≡ Refused Device)
+FullIsRefused = (before after : Handle) (key content : List ℕ) (mode : Mode) (reply : Reply)
+    → Step before (Store key content mode) reply after → MayChange before.state
+    → IsAllowed (key, content) →
+    IsOneTooMany before.state.map before.state.limit (Store key content mode)
+    → (reply ≡ Refused Full) ⊎ (reply ≡ Refused Device)
 
 -- a delete of a key that isn't there says so
 abbrev pub AbsentIsTold : Type 0
-AbsentIsTold = (before after : Handle) (key : Key) (reply : Reply) → Step before (Delete key) reply after → MayChange before.state → get before.state.map key ≡ None → (reply ≡ Absent) ⊎ (reply ≡ Refused Device)
+AbsentIsTold = (before after : Handle) (key : Key) (reply : Reply)
+    → Step before (Delete key) reply after → MayChange before.state
+    → get before.state.map key ≡ None → (reply ≡ Absent) ⊎ (reply ≡ Refused Device)
 
 -- dbm_error gives the number of the error that is kept, and changes nothing
 abbrev pub ErrorIsTold : Type 0
-ErrorIsTold = (before after : Handle) (reply : Reply) → Step before Error reply after → (reply ≡ Number (error_number before.state.error)) × (after.state ≡ before.state)
+ErrorIsTold = (before after : Handle) (reply : Reply) → Step before Error reply after
+    → (reply ≡ Number (error_number before.state.error)) × (after.state ≡ before.state)
 
 -- dbm_clearerr forgets it, and changes nothing else
 abbrev pub ErrorIsCleared : Type 0
-ErrorIsCleared = (before after : Handle) (reply : Reply) → Step before Clear reply after → (reply ≡ Number 0) × (after.state ≡ record before.state { error = None })
+ErrorIsCleared = (before after : Handle) (reply : Reply) → Step before Clear reply after
+    → (reply ≡ Number 0) × (after.state ≡ record before.state { error = None })
 
 -- a refusal sets the error where there was none
 abbrev pub FirstFaultIsKept : Type 0
-FirstFaultIsKept = (before after : Handle) (call : Call) (fault : Fault) → Step before call (Refused fault) after → after.state.error ≡ first_fault before.state.error fault
+FirstFaultIsKept = (before after : Handle) (call : Call) (fault : Fault)
+    → Step before call (Refused fault) after
+    → after.state.error ≡ first_fault before.state.error fault

@@ -15,9 +15,11 @@ abbrev pub with_room : ℕ → Handle
 with_room capacity = record (new_database 100) { capacity = capacity }
 
 abbrev pub IsFirstStore : ℕ → Reply → Handle → Type 0
-IsFirstStore capacity reply after = Step (with_room capacity) (Store (one 0x61) (one 0x01) Replace) reply after
+IsFirstStore capacity reply after =
+    Step (with_room capacity) (Store (one 0x61) (one 0x01) Replace) reply after
 
--- room for 15 pages may be too little for a first store, room for 16 is not, and it leaves at most 8
+-- room for 15 pages may be too little for a first store, room for 16 is not, and it leaves at most
+-- 8
 pub record RoomExamples : Type 0 where
   pub short : (after : Handle) × IsFirstStore 15 (Refused NoRoom) after
   pub enough : (after : Handle) → IsFirstStore 16 (Refused NoRoom) after → ⊥

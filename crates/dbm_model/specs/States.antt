@@ -22,7 +22,15 @@ pub record State : Type 0 where
 
 -- just opened
 abbrev pub fresh : Contents → ℕ → Bool → State
-fresh map limit writable = record { map = map; limit = limit; error = None; pass = None; writable = writable; usable = true }
+fresh map limit writable = record {
+  map = map;
+  limit = limit;
+  error = None;
+  pass = None;
+  writable =
+      writable;
+  usable = true;
+}
 
 -- the first fault is kept
 abbrev pub first_fault : Option Fault → Fault → Option Fault

@@ -83,17 +83,20 @@ Answers s (Changes said map) reply after = (reply ≡ said) × (after ≡ record
 abbrev pub Fails : Handle → Reply → Handle → Type 0
 Fails h reply after = (reply ≡ Refused Device) × MoreFaults h.faults after.faults × (after.state ≡ flagged Device h.state)
 
--- a fault of the device in the midst of a change: the file stands for the old map or for the new one until it is opened again
+-- a fault of the device in the midst of a change: the file stands for the old map or for the new
+-- one until it is opened again
 abbrev pub Breaks : Handle → Contents → Reply → Handle → Type 0
 Breaks h map reply after =
     (reply ≡ Refused Device) × MoreFaults h.faults after.faults
-    × (left : Contents) × ((left ≡ h.state.map) ⊎ (left ≡ map)) × (after.state ≡ record (flagged Device h.state) { map = left; usable = false })
+    × (left : Contents) × ((left ≡ h.state.map) ⊎ (left ≡ map))
+    × (after.state ≡ record (flagged Device h.state) { map = left; usable = false })
 
 -- no memory for a change
 abbrev pub LacksMemory : Handle → Reply → Handle → Type 0
 LacksMemory h reply after = (reply ≡ Refused Memory) × (after.state ≡ flagged Memory h.state)
 
--- there may be no room for a change: for as many pages more as the map has pairs, and four, with all of them twice
+-- there may be no room for a change: for as many pages more as the map has pairs, and four, with
+-- all of them twice
 abbrev pub IsShort : Handle → Type 0
 IsShort h = h.capacity < 2 * (h.pages + len h.state.map + 4)
 
@@ -108,9 +111,12 @@ Suffers h (Refuses fault) reply after = ⊥
 Suffers h (Declines fault) reply after = Fails h reply after
 Suffers h (Finds found) reply after = Fails h reply after
 Suffers h (Passes left) reply after = Fails h reply after
-Suffers h (Changes said map) reply after = Fails h reply after ⊎ (Breaks h map reply after ⊎ (LacksMemory h reply after ⊎ LacksRoom h reply after))
+Suffers h (Changes said map) reply after =
+    Fails h reply after ⊎ (Breaks h map reply after
+    ⊎ (LacksMemory h reply after ⊎ LacksRoom h reply after))
 
--- how many pages a call adds to the file at most: a store that is acknowledged those of a split, any other none
+-- how many pages a call adds to the file at most: a store that is acknowledged those of a split,
+-- any other none
 abbrev pub growth : Handle → Reply → ℕ
 growth h Stored = len h.state.map + 4
 growth h reply = 0
@@ -120,11 +126,13 @@ pub record Step (before : Handle) (call : Call) (reply : Reply) (after : Handle)
   pub counts : before.faults ≤ after.faults
   pub capacity : after.capacity ≡ before.capacity
   pub pages : (before.pages ≤ after.pages) × (after.pages ≤ before.pages + growth before reply)
-  pub answers : Answers before.state (case_of before.state call) reply after.state ⊎ Suffers before (case_of before.state call) reply after
+  pub answers : Answers before.state (case_of before.state call) reply after.state
+      ⊎ Suffers before (case_of before.state call) reply after
 
 -- the calls may get these replies, one after another
 abbrev pub Run : Handle → List Call → List Reply → Handle → Type 0
 Run before [] [] after = after ≡ before
-Run before (call ∷ calls) (reply ∷ replies) after = (mid : Handle) × Step before call reply mid × Run mid calls replies after
+Run before (call ∷ calls) (reply ∷ replies) after =
+    (mid : Handle) × Step before call reply mid × Run mid calls replies after
 Run before [] (reply ∷ replies) after = ⊥
 Run before (call ∷ calls) [] after = ⊥

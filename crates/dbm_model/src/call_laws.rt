@@ -1,5 +1,5 @@
-// Laws of calls and runs. What each says stands in `specs/Changes.antt`, `specs/Refusals.antt`, `specs/FaultNumbers.antt`,
-// `specs/Passes.antt`, `specs/Room.antt` and `specs/Examples.antt`.
+// Laws of calls and runs. What each says stands in `specs/Changes.antt`, `specs/Refusals.antt`,
+// `specs/FaultNumbers.antt`, `specs/Passes.antt`, `specs/Room.antt` and `specs/Examples.antt`.
 ghost use Rattle.dbm_model.specs.Changes.{OnlyAcknowledgedChanges, OnlyChangesBreak, BrokenStays};
 ghost use Rattle.dbm_model.specs.Refusals.{RefusesOnlyWhereDue, BrokenRefuses, ReadingRefuses, ReadingKeeps, SettingsStay, TooLongIsRefused, InsertKeeps, FullIsRefused, AbsentIsTold, ErrorIsTold, ErrorIsCleared, FirstFaultIsKept};
 ghost use Rattle.dbm_model.specs.FaultNumbers.{FaultsAreNumbered, NumbersDiffer, NoFaultIsZero};
@@ -22,7 +22,8 @@ pub fn broken_stays()
     ensures { BrokenStays }
 {}
 
-/// Each refusal has its reason, and what has to be refused is, in the order broken, for reading, too long, kept, full.
+/// Each refusal has its reason, and what has to be refused is, in the order broken, for reading,
+/// too long, kept, full.
 pub fn refusals_are_due()
     ensures only { RefusesOnlyWhereDue }
     ensures broken { BrokenRefuses }
@@ -39,7 +40,8 @@ pub fn settings_stay()
     ensures settings { SettingsStay }
 {}
 
-/// The capacity stays, and the pages but at a store that was acknowledged; NoRoom is told only where there may be too little.
+/// The capacity stays, and the pages but at a store that was acknowledged; NoRoom is told only
+/// where there may be too little.
 pub fn room_stays()
     ensures stays { RoomStays }
     ensures examples { RoomExamples }

@@ -1,5 +1,5 @@
-//! The map that a database is to its callers: pairs, calls, states and steps, and their laws. There is no code here: a
-//! function of this crate has an empty body, and its clause is the law.
+//! The map that a database is to its callers: pairs, calls, states and steps, and their laws. There
+//! is no code here: a function of this crate has an empty body, and its clause is the law.
 #![tactic(auto)]
 
 mod call_laws;

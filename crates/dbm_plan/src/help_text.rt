@@ -1,7 +1,7 @@
 // What the help tells of the exit statuses and the faults.
 
-/// The exit statuses of the program and its faults, with what to do, in lines of under 80 columns. The
-/// program's help ends with it, and `dbmtool faults` prints it.
+/// The exit statuses of the program and its faults, with what to do, in lines of under 80 columns.
+/// The program's help ends with it, and `dbmtool faults` prints it.
 pub const FAULT_TABLE: &str = "Exit status:
   0   all was done; in a script calls may have been refused, as its replies say
   1   a fetched or deleted key isn't there, or an inserted one is

@@ -1,7 +1,7 @@
 // What the program may be asked to do.
 
-/// What the words ask for. Each `file` is a name without `.db`, and each `key` and `content` is the word as it
-/// was given: what it spells is left to the caller.
+/// What the words ask for. Each `file` is a name without `.db`, and each `key` and `content` is the
+/// word as it was given: what it spells is left to the caller.
 #[derive(Clone, Copy, Debug, PartialEq, Eq)]
 pub enum Plan<'a> {
     /// Make a new database.

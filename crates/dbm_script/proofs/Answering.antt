@@ -21,32 +21,53 @@ call_of-take : (line : List ℕ) → call_in_line (take 8193 line) ≡ call_in_l
 call_of-take line = limited-take (λ line. call_of_words (words_in line)) 8192 line
 
 -- the first line of a script and the rest
-first_call : (x : ℕ) (xs line : List ℕ) → line ≡ take 8193 (line_bytes (x ∷ xs)) → script_of (x ∷ xs) ≡ call_in_line line ∷ script_of (after_line (x ∷ xs))
-first_call x xs line h = ap (map call_in_line) (first_line x xs) ∙ ap (λ call. call ∷ script_of (after_line (x ∷ xs))) (sym (ap call_in_line h ∙ call_of-take (line_bytes (x ∷ xs))))
+first_call : (x : ℕ) (xs line : List ℕ) → line ≡ take 8193 (line_bytes (x ∷ xs))
+    → script_of (x ∷ xs) ≡ call_in_line line ∷ script_of (after_line (x ∷ xs))
+first_call x xs line h = ap (map call_in_line) (first_line x xs)
+    ∙ ap (λ call. call ∷ script_of (after_line (x ∷ xs)))
+    (sym (ap call_in_line h ∙ call_of-take (line_bytes (x ∷ xs))))
 
-calls_in-push : (script : List (Option Call)) (call : Option Call) → calls_in (script ++ call ∷ []) ≡ calls_in script ++ calls_in (call ∷ [])
+calls_in-push : (script : List (Option Call)) (call : Option Call)
+    → calls_in (script ++ call ∷ []) ≡ calls_in script ++ calls_in (call ∷ [])
 calls_in-push [] call = refl
 calls_in-push (None ∷ script) call = calls_in-push script call
-calls_in-push (Some earlier ∷ script) call = ap (λ calls. earlier ∷ calls) (calls_in-push script call)
+calls_in-push (Some earlier ∷ script) call =
+    ap (λ calls. earlier ∷ calls) (calls_in-push script call)
 
-answer_of-bad : (before after : Handle) (script : List (Option Call)) (replies : List Reply) → Run before (calls_in script) replies after → answer_of (script ++ None ∷ []) replies ≡ answer_of script replies ++ bad_line
+answer_of-bad : (before after : Handle) (script : List (Option Call)) (replies : List Reply)
+    → Run before (calls_in script) replies after
+    → answer_of (script ++ None ∷ []) replies ≡ answer_of script replies ++ bad_line
 answer_of-bad before after [] replies run = refl
-answer_of-bad before after (None ∷ script) replies run = ap (λ text. bad_line ++ text) (answer_of-bad before after script replies run) ∙ sym (append_assoc bad_line (answer_of script replies) bad_line)
+answer_of-bad before after (None ∷ script) replies run =
+    ap (λ text. bad_line ++ text) (answer_of-bad before after script replies run)
+    ∙ sym (append_assoc bad_line (answer_of script replies) bad_line)
 answer_of-bad before after (Some call ∷ script) [] run = absurd run
-answer_of-bad before after (Some call ∷ script) (reply ∷ replies) run = ap (λ text. reply_line reply ++ text) (answer_of-bad run.0 after script replies run.2) ∙ sym (append_assoc (reply_line reply) (answer_of script replies) bad_line)
+answer_of-bad before after (Some call ∷ script) (reply ∷ replies) run =
+    ap (λ text. reply_line reply ++ text) (answer_of-bad run.0 after script replies run.2)
+    ∙ sym (append_assoc (reply_line reply) (answer_of script replies) bad_line)
 
-answer_of-call : (before after : Handle) (script : List (Option Call)) (replies : List Reply) (call : Call) (reply : Reply) → Run before (calls_in script) replies after → answer_of (script ++ Some call ∷ []) (replies ++ reply ∷ []) ≡ answer_of script replies ++ reply_line reply
+answer_of-call : (before after : Handle) (script : List (Option Call)) (replies : List Reply)
+    (call : Call) (reply : Reply) → Run before (calls_in script) replies after
+    → answer_of (script ++ Some call ∷ []) (replies ++ reply ∷ []) ≡ answer_of script replies
+    ++ reply_line reply
 answer_of-call before after [] [] call reply run = append-nil (reply_line reply)
 answer_of-call before after [] (other ∷ replies) call reply run = absurd run
-answer_of-call before after (None ∷ script) replies call reply run = ap (λ text. bad_line ++ text) (answer_of-call before after script replies call reply run) ∙ sym (append_assoc bad_line (answer_of script replies) (reply_line reply))
+answer_of-call before after (None ∷ script) replies call reply run =
+    ap (λ text. bad_line ++ text) (answer_of-call before after script replies call reply run)
+    ∙ sym (append_assoc bad_line (answer_of script replies) (reply_line reply))
 answer_of-call before after (Some earlier ∷ script) [] call reply run = absurd run
-answer_of-call before after (Some earlier ∷ script) (other ∷ replies) call reply run = ap (λ text. reply_line other ++ text) (answer_of-call run.0 after script replies call reply run.2) ∙ sym (append_assoc (reply_line other) (answer_of script replies) (reply_line reply))
+answer_of-call before after (Some earlier ∷ script) (other ∷ replies) call reply run =
+    ap (λ text. reply_line other ++ text)
+    (answer_of-call run.0 after script replies call reply run.2)
+    ∙ sym (append_assoc (reply_line other) (answer_of script replies) (reply_line reply))
 
-joined : (a b c : Option (List ℕ)) (first second : List ℕ) → Appends a b first → Appends b c second → Appends a c (first ++ second)
+joined : (a b c : Option (List ℕ)) (first second : List ℕ) → Appends a b first → Appends b c second
+    → Appends a c (first ++ second)
 joined None b c first second p q = tt
 joined (Some x) None c first second p q = absurd p
 joined (Some x) (Some y) None first second p q = absurd q
-joined (Some x) (Some y) (Some z) first second p q = q ∙ ap (λ text. text ++ second) p ∙ append_assoc x first second
+joined (Some x) (Some y) (Some z) first second p q =
+    q ∙ ap (λ text. text ++ second) p ∙ append_assoc x first second
 
 -- of a script, what was answered and what is left
 abbrev pub IsLeft : Option (List ℕ) → Option (List ℕ) → List (Option Call) → Type 0
@@ -55,82 +76,149 @@ IsLeft (Some text) None done = ⊥
 IsLeft (Some text) (Some rest) done = done ++ script_of rest ≡ script_of text
 
 -- how far a script has been answered
-pub record IsAnswered {S : Type 0} {s : Ghosts S} (old new : Database S s) (start : Handle) (first now before after : Option (List ℕ)) : Type 0 where
+pub record IsAnswered {S : Type 0} {s : Ghosts S} (old new : Database S s) (start : Handle)
+    (first now before after : Option (List ℕ)) : Type 0 where
   pub done : List (Option Call)
   pub answered : AnswersScript done old new start before after
   pub left : IsLeft first now done
 
-pub at_start : {S : Type 0} {s : Ghosts S} (db : Database S s) (start : Handle) (first before : Option (List ℕ)) → IsRun db db start [] [] → IsAnswered db db start first first before before
-at_start db start None None none = record { done = []; answered = record { replies = []; run = none; written = tt }; left = tt }
-at_start db start None (Some text) none = record { done = []; answered = record { replies = []; run = none; written = sym (append-nil text) }; left = tt }
-at_start db start (Some script) None none = record { done = []; answered = record { replies = []; run = none; written = tt }; left = refl }
-at_start db start (Some script) (Some text) none = record { done = []; answered = record { replies = []; run = none; written = sym (append-nil text) }; left = refl }
+pub at_start : {S : Type 0} {s : Ghosts S} (db : Database S s) (start : Handle)
+    (first before : Option (List ℕ)) → IsRun db db start [] []
+    → IsAnswered db db start first first before before
+at_start db start None None none =
+    record { done = []; answered = record { replies = []; run = none; written = tt }; left = tt }
+at_start db start None (Some text) none =
+    record {
+      done = [];
+      answered =
+          record { replies = []; run = none; written = sym (append-nil text) };
+      left = tt;
+    }
+at_start db start (Some script) None none =
+    record { done = []; answered = record { replies = []; run = none; written = tt }; left = refl }
+at_start db start (Some script) (Some text) none =
+    record {
+      done = [];
+      answered =
+          record { replies = []; run = none; written = sym (append-nil text) };
+      left = refl;
+    }
 
-module _ {S : Type 0} (s : Ghosts S) (old mid new : Database S s) (start : Handle) (limit : (meta_kept mid).limit ≡ (meta_kept old).limit) (goes : IsSameDatabase mid new) (counts : CountsNow new) where
-  one_more : (before now after : Option (List ℕ)) (done : List (Option Call)) (call : Option Call) (h : AnswersScript done old mid start before now) → AnswersLine call mid new h.run.after (λ text. Appends now after text) → AnswersScript (done ++ call ∷ []) old new start before after
+module _ {S : Type 0} (s : Ghosts S) (old mid new : Database S s) (start : Handle)
+    (limit : (meta_kept mid).limit ≡ (meta_kept old).limit) (goes : IsSameDatabase mid new)
+    (counts : CountsNow new) where
+  one_more : (before now after : Option (List ℕ)) (done : List (Option Call)) (call : Option Call)
+      (h : AnswersScript done old mid start before now)
+      → AnswersLine call mid new h.run.after (λ text. Appends now after text)
+      → AnswersScript (done ++ call ∷ []) old new start before after
   one_more before now after done None h answer = record {
     replies = h.replies;
     run = rw (calls_in-push done None, append-nil (calls_in done), answer.0) h.run;
-    written = rw (answer_of-bad _ _ done h.replies h.run.run) (joined before now after (answer_of done h.replies) bad_line h.written answer.1);
+    written = rw (answer_of-bad _ _ done h.replies h.run.run)
+        (joined before now after (answer_of done h.replies) bad_line h.written answer.1);
   }
   one_more before now after done (Some call) h answer = record {
     replies = h.replies ++ answer.0 ∷ [];
-    run = goes_on_with s old mid new start (calls_in done) h.replies call answer.0 limit goes h.run answer.1 counts _ _ (calls_in-push done (Some call)) refl;
-    written = rw (answer_of-call _ _ done h.replies call answer.0 h.run.run) (joined before now after (answer_of done h.replies) (reply_line answer.0) h.written answer.2);
+    run = goes_on_with s old mid new start (calls_in done) h.replies call answer.0 limit goes h.run
+        answer.1 counts _ _ (calls_in-push done (Some call)) refl;
+    written = rw (answer_of-call _ _ done h.replies call answer.0 h.run.run)
+        (joined before now after (answer_of done h.replies) (reply_line answer.0)
+        h.written answer.2);
   }
 
-left_after : (first now next : Option (List ℕ)) (line : List ℕ) (done : List (Option Call)) → IsLeft first now done → IfSome now (λ text. ReadsLine 8193 text true line next) → IsLeft first next (done ++ call_in_line line ∷ [])
+left_after : (first now next : Option (List ℕ)) (line : List ℕ) (done : List (Option Call))
+    → IsLeft first now done → IfSome now (λ text. ReadsLine 8193 text true line next)
+    → IsLeft first next (done ++ call_in_line line ∷ [])
 left_after None now next line done h r = tt
 left_after (Some text) None next line done h r = absurd h
 left_after (Some text) (Some []) next line done h r = let e = r.0 in cc
-left_after (Some text) (Some (x ∷ xs)) next line done h r = rw (r.2) (append_assoc done (call_in_line line ∷ []) (script_of (after_line (x ∷ xs))) ∙ ap (λ rest. done ++ rest) (sym (first_call x xs line r.1)) ∙ h)
+left_after (Some text) (Some (x ∷ xs)) next line done h r =
+    rw (r.2) (append_assoc done (call_in_line line ∷ []) (script_of (after_line (x ∷ xs)))
+    ∙ ap (λ rest. done ++ rest) (sym (first_call x xs line r.1)) ∙ h)
 
 -- a line was read and answered
-pub go_on : {S : Type 0} (s : Ghosts S) (old mid new : Database S s) (start : Handle) (first now next before written after : Option (List ℕ)) (line : List ℕ) → (meta_kept mid).limit ≡ (meta_kept old).limit → IsSameDatabase mid new → CountsNow new → (h : IsAnswered old mid start first now before written)
-    → IfSome now (λ text. ReadsLine 8193 text true line next) → AnswersLine (call_in_line line) mid new h.answered.run.after (λ text. Appends written after text) → IsAnswered old new start first next before after
-go_on s old mid new start first now next before written after line limit goes counts h read answer = record {
-  done = h.done ++ call_in_line line ∷ [];
-  answered = one_more s old mid new start limit goes counts before written after h.done (call_in_line line) h.answered answer;
-  left = left_after first now next line h.done h.left read;
-}
+pub go_on : {S : Type 0} (s : Ghosts S) (old mid new : Database S s) (start : Handle)
+    (first now next before written after : Option (List ℕ)) (line : List ℕ)
+    → (meta_kept mid).limit ≡ (meta_kept old).limit → IsSameDatabase mid new → CountsNow new
+    → (h : IsAnswered old mid start first now before written)
+    → IfSome now (λ text. ReadsLine 8193 text true line next)
+    → AnswersLine (call_in_line line) mid new h.answered.run.after
+    (λ text. Appends written after text) → IsAnswered old new start first next before after
+go_on s old mid new start first now next before written after line limit goes counts h read
+    answer = record {
+      done = h.done ++ call_in_line line ∷ [];
+      answered = one_more s old mid new start limit goes counts before written after h.done
+          (call_in_line line) h.answered answer;
+      left = left_after first now next line h.done h.left read;
+    }
 
 -- what is said where the writing went well
-pub said : {S E : Type 0} {s : Ghosts S} (r : Result Unit E) (call : Option Call) (old new : Database S s) (start : Handle) (Says : List ℕ → Type 0) → is_ok r ≡ true → AnswersLine call old new start (λ text. OnOk r (Says text)) → AnswersLine call old new start Says
+pub said : {S E : Type 0} {s : Ghosts S} (r : Result Unit E) (call : Option Call)
+    (old new : Database S s) (start : Handle) (Says : List ℕ → Type 0) → is_ok r ≡ true
+    → AnswersLine call old new start (λ text. OnOk r (Says text))
+    → AnswersLine call old new start Says
 said (Ok u) None old new start Says ok answer = answer
 said (Ok u) (Some call) old new start Says ok answer = answer
 said (Err e) call old new start Says ok answer = cc
 
 -- a line that was there
-pub was_read : (now next : Option (List ℕ)) (line : List ℕ) (more : Bool) → more ≡ true → IfSome now (λ text. ReadsLine 8193 text more line next) → IfSome now (λ text. ReadsLine 8193 text true line next)
-was_read now next line more is read = subst (λ (b : Bool). IfSome now (λ text. ReadsLine 8193 text b line next)) is read
+pub was_read : (now next : Option (List ℕ)) (line : List ℕ) (more : Bool) → more ≡ true
+    → IfSome now (λ text. ReadsLine 8193 text more line next)
+    → IfSome now (λ text. ReadsLine 8193 text true line next)
+was_read now next line more is read =
+    subst (λ (b : Bool). IfSome now (λ text. ReadsLine 8193 text b line next)) is read
 
 -- no call was made
-pub no_call : {S : Type 0} {s : Ghosts S} (db : Database S s) (start : Handle) (text : Option (List ℕ)) → IsRun db db start [] [] → MakesFirst text db db start
+pub no_call : {S : Type 0} {s : Ghosts S} (db : Database S s) (start : Handle)
+    (text : Option (List ℕ)) → IsRun db db start [] [] → MakesFirst text db db start
 no_call db start None none = record { made = []; first = ([], tt); replies = []; run = none }
-no_call db start (Some text) none = record { made = []; first = (script_of text, refl); replies = []; run = none }
+no_call db start (Some text) none =
+    record { made = []; first = (script_of text, refl); replies = []; run = none }
 
 -- what was answered are the first lines
-first_lines : (first now : Option (List ℕ)) (done : List (Option Call)) → IsLeft first now done → AreFirstLines first done
+first_lines : (first now : Option (List ℕ)) (done : List (Option Call)) → IsLeft first now done
+    → AreFirstLines first done
 first_lines None now done left = ([], tt)
 first_lines (Some text) None done left = absurd left
 first_lines (Some text) (Some rest) done left = (script_of rest, sym left)
 
 -- with the line that was read
-with_line : (first now next : Option (List ℕ)) (line : List ℕ) (done : List (Option Call)) → IsLeft first now done → IfSome now (λ text. ReadsLine 8193 text true line next) → AreFirstLines first (done ++ call_in_line line ∷ [])
-with_line first now next line done left read = first_lines first next (done ++ call_in_line line ∷ []) (left_after first now next line done left read)
+with_line : (first now next : Option (List ℕ)) (line : List ℕ) (done : List (Option Call))
+    → IsLeft first now done → IfSome now (λ text. ReadsLine 8193 text true line next)
+    → AreFirstLines first (done ++ call_in_line line ∷ [])
+with_line first now next line done left read =
+    first_lines first next (done ++ call_in_line line ∷ [])
+    (left_after first now next line done left read)
 
 -- the calls that were made stand
-pub stand : {S : Type 0} {s : Ghosts S} (old new : Database S s) (start : Handle) (first now before after : Option (List ℕ)) → IsAnswered old new start first now before after → MakesFirst first old new start
-stand old new start first now before after h = record { made = h.done; first = first_lines first now h.done h.left; replies = h.answered.replies; run = h.answered.run }
+pub stand : {S : Type 0} {s : Ghosts S} (old new : Database S s) (start : Handle)
+    (first now before after : Option (List ℕ)) → IsAnswered old new start first now before after
+    → MakesFirst first old new start
+stand old new start first now before after h =
+    record {
+      made = h.done;
+      first = first_lines first now h.done h.left;
+      replies =
+          h.answered.replies;
+      run = h.answered.run;
+    }
 
 -- and their answers
-pub answered_first : {S : Type 0} {s : Ghosts S} (old new : Database S s) (start : Handle) (first now before after : Option (List ℕ)) → IsAnswered old new start first now before after → AnswersFirst first old new start before after
-answered_first old new start first now before after h = record { made = h.done; first = first_lines first now h.done h.left; answers = h.answered }
+pub answered_first : {S : Type 0} {s : Ghosts S} (old new : Database S s) (start : Handle)
+    (first now before after : Option (List ℕ)) → IsAnswered old new start first now before after
+    → AnswersFirst first old new start before after
+answered_first old new start first now before after h =
+    record { made = h.done; first = first_lines first now h.done h.left; answers = h.answered }
 
 -- so does a call whose reply was not written
-module _ {S : Type 0} (s : Ghosts S) (old mid new : Database S s) (start : Handle) (first now next before after : Option (List ℕ)) (line : List ℕ) (Says : List ℕ → Type 0) (limit : (meta_kept mid).limit ≡ (meta_kept old).limit) (goes : IsSameDatabase mid new) (counts : CountsNow new)
-    (h : IsAnswered old mid start first now before after) (read : IfSome now (λ text. ReadsLine 8193 text true line next)) where
-  stands_by : (call : Option Call) → AnswersLine call mid new h.answered.run.after Says → AreFirstLines first (h.done ++ call ∷ []) → MakesFirst first old new start
+module _ {S : Type 0} (s : Ghosts S) (old mid new : Database S s) (start : Handle)
+    (first now next before after : Option (List ℕ)) (line : List ℕ) (Says : List ℕ → Type 0)
+    (limit : (meta_kept mid).limit ≡ (meta_kept old).limit) (goes : IsSameDatabase mid new)
+    (counts : CountsNow new)
+    (h : IsAnswered old mid start first now before after)
+    (read : IfSome now (λ text. ReadsLine 8193 text true line next)) where
+  stands_by : (call : Option Call) → AnswersLine call mid new h.answered.run.after Says
+      → AreFirstLines first (h.done ++ call ∷ []) → MakesFirst first old new start
   stands_by None answer lines = record {
     made = h.done ++ None ∷ [];
     first = lines;
@@ -141,20 +229,33 @@ module _ {S : Type 0} (s : Ghosts S) (old mid new : Database S s) (start : Handl
     made = h.done ++ Some call ∷ [];
     first = lines;
     replies = h.answered.replies ++ answer.0 ∷ [];
-    run = goes_on_with s old mid new start (calls_in h.done) h.answered.replies call answer.0 limit goes h.answered.run answer.1 counts _ _ (calls_in-push h.done (Some call)) refl;
+    run = goes_on_with s old mid new start (calls_in h.done) h.answered.replies call answer.0 limit
+        goes h.answered.run answer.1 counts _ _ (calls_in-push h.done (Some call)) refl;
   }
 
-  pub stand_with : AnswersLine (call_in_line line) mid new h.answered.run.after Says → MakesFirst first old new start
-  stand_with answer = stands_by (call_in_line line) answer (with_line first now next line h.done h.left read)
+  pub stand_with : AnswersLine (call_in_line line) mid new h.answered.run.after Says
+      → MakesFirst first old new start
+  stand_with answer = stands_by (call_in_line line) answer
+      (with_line first now next line h.done h.left read)
 
-whole : {S : Type 0} {s : Ghosts S} (old new : Database S s) (start : Handle) (text : List ℕ) (now next before after : Option (List ℕ)) (line : List ℕ) (done : List (Option Call)) → IsLeft (Some text) now done → AnswersScript done old new start before after
-    → IfSome now (λ text. ReadsLine 8193 text false line next) → AnswersScript (script_of text) old new start before after
+whole : {S : Type 0} {s : Ghosts S} (old new : Database S s) (start : Handle) (text : List ℕ)
+    (now next before after : Option (List ℕ)) (line : List ℕ) (done : List (Option Call))
+    → IsLeft (Some text) now done → AnswersScript done old new start before after
+    → IfSome now (λ text. ReadsLine 8193 text false line next)
+    → AnswersScript (script_of text) old new start before after
 whole old new start text None next before after line done left h read = absurd left
-whole old new start text (Some []) next before after line done left h read = subst (λ (script : List (Option Call)). AnswersScript script old new start before after) (sym (append-nil done) ∙ left) h
-whole old new start text (Some (x ∷ xs)) next before after line done left h read = let e = read.0 in cc
+whole old new start text (Some []) next before after line done left h read =
+    subst (λ (script : List (Option Call)). AnswersScript script old new start before after)
+    (sym (append-nil done) ∙ left) h
+whole old new start text (Some (x ∷ xs)) next before after line done left h read =
+    let e = read.0 in cc
 
 -- at the end of the text the whole script is answered
-pub at_end : {S : Type 0} {s : Ghosts S} (old new : Database S s) (start : Handle) (first now next before after : Option (List ℕ)) (line : List ℕ) → IsAnswered old new start first now before after → IfSome now (λ text. ReadsLine 8193 text false line next)
+pub at_end : {S : Type 0} {s : Ghosts S} (old new : Database S s) (start : Handle)
+    (first now next before after : Option (List ℕ)) (line : List ℕ)
+    → IsAnswered old new start first now before after
+    → IfSome now (λ text. ReadsLine 8193 text false line next)
     → IfSome first (λ text. AnswersScript (script_of text) old new start before after)
 at_end old new start None now next before after line h read = tt
-at_end old new start (Some text) now next before after line h read = whole old new start text now next before after line h.done h.left h.answered read
+at_end old new start (Some text) now next before after line h read =
+    whole old new start text now next before after line h.done h.left h.answered read

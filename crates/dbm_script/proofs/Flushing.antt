@@ -12,7 +12,8 @@ use Rattle.dbm_file.specs.Opened.{IsOpenedAt}
 use Rattle.dbm_file.specs.declared.database.Database.{Database}
 use Rattle.dbm_script.specs.Scripts.{AnswersScript, AnswersInMemory, AnswersLine}
 
-kept : (old mid new : Option (List ℕ)) (text : List ℕ) → Appends old mid text → Keeps mid new → Appends old new text
+kept : (old mid new : Option (List ℕ)) (text : List ℕ) → Appends old mid text → Keeps mid new
+    → Appends old new text
 kept None mid new text wrote keeps = tt
 kept (Some xs) None new text wrote keeps = absurd wrote
 kept (Some xs) (Some ys) None text wrote keeps = absurd keeps
@@ -34,11 +35,16 @@ line_flushed r (Some call) old new start before mid after answer keeps =
     (answer.0, answer.1, on_ok r before mid after (reply_line answer.0) answer.2 keeps)
 
 -- the answer of a new database, after the last flush
-pub answered : {S E : Type 0} {s : Ghosts S} (r : Result Unit E) (limit : ℕ) (first old mid new : Option (List ℕ)) (db after : Database S s) (opened : IsOpenedAt true db map.empty limit) → is_limit limit ≡ true
-    → IfSome first (λ text. AnswersScript (script_of text) db after opened.handle old mid) → Keeps mid new → OnOk r (IfSome first (λ text. AnswersInMemory limit text old new))
-answered {S} {E} {s} r limit first old mid new db after opened allowed answers keeps = by_case r first answers
+pub answered : {S E : Type 0} {s : Ghosts S} (r : Result Unit E) (limit : ℕ)
+    (first old mid new : Option (List ℕ)) (db after : Database S s)
+    (opened : IsOpenedAt true db map.empty limit) → is_limit limit ≡ true
+    → IfSome first (λ text. AnswersScript (script_of text) db after opened.handle old mid)
+    → Keeps mid new → OnOk r (IfSome first (λ text. AnswersInMemory limit text old new))
+answered {S} {E} {s} r limit first old mid new db after opened allowed answers keeps =
+    by_case r first answers
   where
-    of_text : (text : List ℕ) → AnswersScript (script_of text) db after opened.handle old mid → AnswersInMemory limit text old new
+    of_text : (text : List ℕ) → AnswersScript (script_of text) db after opened.handle old mid
+        → AnswersInMemory limit text old new
     of_text text answers = record {
       allowed = allowed;
       before = opened.handle;
@@ -49,7 +55,9 @@ answered {S} {E} {s} r limit first old mid new db after opened allowed answers k
       written = kept old mid new _ answers.written keeps;
     }
 
-    by_case : (r : Result Unit E) (first : Option (List ℕ)) → IfSome first (λ text. AnswersScript (script_of text) db after opened.handle old mid) → OnOk r (IfSome first (λ text. AnswersInMemory limit text old new))
+    by_case : (r : Result Unit E) (first : Option (List ℕ))
+        → IfSome first (λ text. AnswersScript (script_of text) db after opened.handle old mid)
+        → OnOk r (IfSome first (λ text. AnswersInMemory limit text old new))
     by_case (Err e) first answers = tt
     by_case (Ok u) None answers = tt
     by_case (Ok u) (Some text) answers = of_text text answers

@@ -21,10 +21,12 @@ use Rattle.dbm_fault.specs.declared.fault.Fault.TheVariants.{TooSmall}
 
 -- each allowed limit needs at least 16 sectors
 pub enough : (limit n : ℕ) → Some n ≡ sectors_for limit → 16 ≤ n
-enough limit n h = (elim (is_limit limit) as (λ b. Some n ≡ cond b (Some (8 * home limit)) None → 16 ≤ n) [
-  | true ↦ λ h. let e : n ≡ 8 * (2 + segments_for (buckets_for limit) + buckets_for limit + limit) = cc in omega (arith, e)
-  | false ↦ λ h. cc
-]) h
+enough limit n h = (elim (is_limit limit) as
+    (λ b. Some n ≡ cond b (Some (8 * home limit)) None → 16 ≤ n) [
+      | true ↦ λ h. let e : n ≡ 8 * (2 + segments_for (buckets_for limit) + buckets_for limit + limit) =
+          cc in omega (arith, e)
+      | false ↦ λ h. cc
+    ]) h
 
 fits : (n : ℕ) → room_fault (Some n) n ≡ None
 fits n = elim (leb_tells (suc n) n) [
@@ -33,7 +35,8 @@ fits n = elim (leb_tells (suc n) n) [
 ]
 
 -- a database may be made on a blank device of so many sectors
-pub makes_room : (how : OpenHow) (n sectors : ℕ) → how.create ≡ true → writes how.access ≡ true → Some n ≡ sectors_for how.limit → sectors ≡ n → making_fault how sectors ≡ None
+pub makes_room : (how : OpenHow) (n sectors : ℕ) → how.create ≡ true → writes how.access ≡ true
+    → Some n ≡ sectors_for how.limit → sectors ≡ n → making_fault how sectors ≡ None
 makes_room how n sectors create writing needed same = rw (create, writing, ← needed, same) (fits n)
 
 blank_header : (pages : ℕ) → header_of pages zeros ≡ Blank
@@ -41,18 +44,27 @@ unfolding header_of zeros
 blank_header pages = refl
 
 -- a device of which nothing was written is blank
-pub blank_there : (pages : ℕ) (candidate : Candidates) → IsStable candidate (λ _. zeros) → (image : Image) → IsImageOf candidate image → settled pages image ≡ blank
+pub blank_there : (pages : ℕ) (candidate : Candidates) → IsStable candidate (λ _. zeros)
+    → (image : Image) → IsImageOf candidate image → settled pages image ≡ blank
 unfolding settled
-blank_there pages candidate stable image is = ap (λ (h : Header). settled_by h image) (ap (header_of pages) (stable 0 (image 0) (is 0)) ∙ blank_header pages)
+blank_there pages candidate stable image is =
+    ap (λ (h : Header). settled_by h image)
+    (ap (header_of pages) (stable 0 (image 0) (is 0)) ∙ blank_header pages)
 
 -- what is opened on one is new
-pub opened_new : (how : OpenHow) (sectors : ℕ) (start : Candidates) (map : Contents) (limit : ℕ) → ((image : Image) → IsImageOf start image → settled (sectors / 4) image ≡ blank) → IsOpened how sectors start map limit → (map ≡ empty) × (limit ≡ how.limit)
-opened_new how sectors start map limit none (inl stood) = absurd (subst (λ (y : Settled). ImageStandsFor y map limit) (none stood.0.image stood.0.at_start) stood.0.stands)
+pub opened_new : (how : OpenHow) (sectors : ℕ) (start : Candidates) (map : Contents) (limit : ℕ)
+    → ((image : Image) → IsImageOf start image → settled (sectors / 4) image ≡ blank)
+    → IsOpened how sectors start map limit → (map ≡ empty) × (limit ≡ how.limit)
+opened_new how sectors start map limit none (inl stood) =
+    absurd (subst (λ (y : Settled). ImageStandsFor y map limit)
+    (none stood.0.image stood.0.at_start) stood.0.stands)
 opened_new how sectors start map limit none (inr new) = (new.1, new.2)
 
 -- with 16 sectors nothing refuses an opening at once that doesn't empty the database
-pub large_enough : (sectors : ℕ) → 16 ≤ sectors → cond {A = Option Fault} (nat_lt sectors 16) (Some TooSmall) None ≡ None
-large_enough sectors le = ap (λ (b : Bool). cond {A = Option Fault} b (Some TooSmall) None) (le-ltb sectors 16 le)
+pub large_enough : (sectors : ℕ) → 16 ≤ sectors
+    → cond {A = Option Fault} (nat_lt sectors 16) (Some TooSmall) None ≡ None
+large_enough sectors le = ap (λ (b : Bool). cond {A = Option Fault} b (Some TooSmall) None)
+    (le-ltb sectors 16 le)
 
 -- for writing, and with nothing emptied, no memory is wanted
 pub only_device : {A B : Type 0} → A ⊎ (B × ((false ≡ true) ⊎ (true ≡ false))) → A

@@ -15,31 +15,37 @@ use Rattle.dbm_file.specs.declared.database.Database.{Database}
 
 -- the first lines of a text, as the calls that they ask for, and the rest
 abbrev pub AreFirstLines : Option (List ℕ) → List (Option Call) → Type 0
-AreFirstLines text made = (rest : List (Option Call)) × IfSome text (λ bytes. script_of bytes ≡ made ++ rest)
+AreFirstLines text made = (rest : List (Option Call))
+    × IfSome text (λ bytes. script_of bytes ≡ made ++ rest)
 
 -- The calls of the first lines of the text were made, in order, and no other.
-pub record MakesFirst {S : Type 0} {s : Ghosts S} (text : Option (List ℕ)) (old new : Database S s) (start : Handle) : Type 0 where
+pub record MakesFirst {S : Type 0} {s : Ghosts S} (text : Option (List ℕ)) (old new : Database S s)
+    (start : Handle) : Type 0 where
   pub made : List (Option Call)
   pub first : AreFirstLines text made
   pub replies : List Reply
   pub run : IsRun old new start (calls_in made) replies
 
 -- the calls of the script were made in order, and exactly the answer to it was written
-pub record AnswersScript {S : Type 0} {s : Ghosts S} (script : List (Option Call)) (old new : Database S s) (start : Handle) (before after : Option (List ℕ)) : Type 0 where
+pub record AnswersScript {S : Type 0} {s : Ghosts S} (script : List (Option Call))
+    (old new : Database S s) (start : Handle) (before after : Option (List ℕ)) : Type 0 where
   pub replies : List Reply
   pub run : IsRun old new start (calls_in script) replies
   pub written : Appends before after (answer_of script replies)
 
 -- the first lines of the text were answered so, and no call of a later one was made
-pub record AnswersFirst {S : Type 0} {s : Ghosts S} (text : Option (List ℕ)) (old new : Database S s) (start : Handle) (before after : Option (List ℕ)) : Type 0 where
+pub record AnswersFirst {S : Type 0} {s : Ghosts S} (text : Option (List ℕ))
+    (old new : Database S s) (start : Handle) (before after : Option (List ℕ)) : Type 0 where
   pub made : List (Option Call)
   pub first : AreFirstLines text made
   pub answers : AnswersScript made old new start before after
 
 -- the call of a line was made, or none for a bad line, and Says holds of the line that answers it
-abbrev pub AnswersLine : {S : Type 0} {s : Ghosts S} → Option Call → Database S s → Database S s → Handle → (List ℕ → Type 0) → Type 0
+abbrev pub AnswersLine : {S : Type 0} {s : Ghosts S} → Option Call → Database S s → Database S s
+    → Handle → (List ℕ → Type 0) → Type 0
 AnswersLine None old new start Says = (new ≡ old) × Says bad_line
-AnswersLine (Some call) old new start Says = (reply : Reply) × IsStep old new start call reply × Says (reply_line reply)
+AnswersLine (Some call) old new start Says =
+    (reply : Reply) × IsStep old new start call reply × Says (reply_line reply)
 
 -- the script was answered by a run of a new database of the limit
 pub record AnswersInMemory (limit : ℕ) (text : List ℕ) (old new : Option (List ℕ)) : Type 0 where

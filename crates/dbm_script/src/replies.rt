@@ -17,7 +17,8 @@ pub fn write_fetched<W: Write>(
     digits: &mut [u8; DIGITS],
 ) -> io::Result<()>
     requires { IfOk content (λ r. IfSome r (λ bytes. length bytes.now ≤ 2026)) }
-    ensures { OnOk result (Appends (W.contents writer.old) (W.contents writer.new) (reply_line (lent_reply NoRecord content.entry))) }
+    ensures { OnOk result (Appends (W.contents writer.old) (W.contents writer.new)
+        (reply_line (lent_reply NoRecord content.entry))) }
 {
     match content {
         Ok(Some(content)) => write_bytes(writer, content, digits),
@@ -33,7 +34,8 @@ pub fn write_passed<W: Write>(
     digits: &mut [u8; DIGITS],
 ) -> io::Result<()>
     requires { IfOk key (λ r. IfSome r (λ bytes. length bytes.now ≤ 2026)) }
-    ensures { OnOk result (Appends (W.contents writer.old) (W.contents writer.new) (reply_line (lent_reply End key.entry))) }
+    ensures { OnOk result (Appends (W.contents writer.old) (W.contents writer.new)
+        (reply_line (lent_reply End key.entry))) }
 {
     match key {
         Ok(Some(key)) => write_bytes(writer, key, digits),
@@ -44,7 +46,8 @@ pub fn write_passed<W: Write>(
 
 /// Writes the line of a call that was refused.
 pub fn write_fault<W: Write>(writer: &mut W, fault: Fault) -> io::Result<()>
-    ensures { OnOk result (Appends (W.contents writer.old) (W.contents writer.new) (reply_line (Refused (fault_of fault)))) }
+    ensures { OnOk result (Appends (W.contents writer.old) (W.contents writer.new)
+        (reply_line (Refused (fault_of fault)))) }
 {
     write_refused(writer, fault.number())
 }

@@ -22,29 +22,40 @@ use page_io::PageStore;
 use std::alloc::Global;
 use std::io::{self, BufRead, Write};
 
-/// Reads lines to the end, makes the call that each asks for, and writes one line for each: the reply,
-/// or `-1 line` where the line asks for no call. A line may have 8,192 bytes without its line feed, and
-/// a text 4,294,967,295. What is written is flushed where the reader's buffer holds no further whole line,
-/// since reading on may wait. `Memory` comes before anything is read, `Read` where reading fails or the text
-/// is too long, and `Write` where writing fails, also of a call that was made; the calls made so far stand.
+/// Reads lines to the end, makes the call that each asks for, and writes one line for each: the
+/// reply, or `-1 line` where the line asks for no call. A line may have 8,192 bytes without its
+/// line feed, and a text 4,294,967,295. What is written is flushed where the reader's buffer holds
+/// no further whole line, since reading on may wait. `Memory` comes before anything is read, `Read`
+/// where reading fails or the text is too long, and `Write` where writing fails, also of a call
+/// that was made; the calls made so far stand.
 pub fn script_engine<S: PageStore, R: BufRead, W: Write>(
     alloc: Global,
     db: &mut Database<S>,
     reader: &mut R,
     writer: &mut W,
 ) -> Result<(), EngineFault>
-    ensures read { OnOk result (IfSome (R.remaining reader.old) (λ text. R.remaining reader.new ≡ Some [])) }
-    ensures size { OnOk result (IfSome (R.remaining reader.old) (λ text. length text ≤ 4294967295)) }
+    ensures read { OnOk result (IfSome (R.remaining reader.old)
+        (λ text. R.remaining reader.new ≡ Some [])) }
+    ensures size { OnOk result (IfSome (R.remaining reader.old)
+        (λ text. length text ≤ 4294967295)) }
     ensures answer { AtEachHandle db.old (λ h.
-        OnOk result (IfSome (R.remaining reader.old) (λ text. AnswersScript (script_of text) db.old db.new h (W.contents writer.old) (W.contents writer.new)))) }
+        OnOk result (IfSome (R.remaining reader.old)
+        (λ text. AnswersScript (script_of text) db.old db.new h (W.contents writer.old)
+        (W.contents writer.new)))) }
 
-    // Whatever it answers, the calls made are those of the first lines, and they stand. A line that was cut short makes none.
-    ensures stands { AtEachHandle db.old (λ h. MakesFirst (R.remaining reader.old) db.old db.new h) }
+    // Whatever it answers, the calls made are those of the first lines, and they stand. A line that
+    // was cut short makes none.
+    ensures stands { AtEachHandle db.old
+        (λ h. MakesFirst (R.remaining reader.old) db.old db.new h) }
     ensures cut { AtEachHandle db.old (λ h.
-        result ≡ Err EngineFault.Read → AnswersFirst (R.remaining reader.old) db.old db.new h (W.contents writer.old) (W.contents writer.new)) }
+        result ≡ Err EngineFault.Read
+        → AnswersFirst (R.remaining reader.old) db.old db.new h (W.contents writer.old)
+        (W.contents writer.new)) }
     ensures goes { IsSameDatabase db.old db.new }
-    ensures memory { result ≡ Err EngineFault.Memory → (db.new ≡ db.old) × ((reader.new ≡ reader.old) × (writer.new ≡ writer.old)) }
-    ensures only { IsErrAmong result (EngineFault.Memory ∷ EngineFault.Read ∷ EngineFault.Write ∷ []) }
+    ensures memory { result ≡ Err EngineFault.Memory
+        → (db.new ≡ db.old) × ((reader.new ≡ reader.old) × (writer.new ≡ writer.old)) }
+    ensures only { IsErrAmong result
+        (EngineFault.Memory ∷ EngineFault.Read ∷ EngineFault.Write ∷ []) }
 {
     let Ok(mut buffers) = Box::new(alloc, Buffers::new()) else {
         return Err(EngineFault::Memory);
@@ -59,13 +70,20 @@ fn run_lines<S: PageStore, R: BufRead, W: Write>(
     writer: &mut W,
     buffers: &mut Buffers,
 ) -> Result<(), EngineFault>
-    ensures read { OnOk result (IfSome (R.remaining reader.old) (λ text. R.remaining reader.new ≡ Some [])) }
-    ensures size { OnOk result (IfSome (R.remaining reader.old) (λ text. length text ≤ 4294967295)) }
+    ensures read { OnOk result (IfSome (R.remaining reader.old)
+        (λ text. R.remaining reader.new ≡ Some [])) }
+    ensures size { OnOk result (IfSome (R.remaining reader.old)
+        (λ text. length text ≤ 4294967295)) }
     ensures answer { AtEachHandle db.old (λ h.
-        OnOk result (IfSome (R.remaining reader.old) (λ text. AnswersScript (script_of text) db.old db.new h (W.contents writer.old) (W.contents writer.new)))) }
-    ensures stands { AtEachHandle db.old (λ h. MakesFirst (R.remaining reader.old) db.old db.new h) }
+        OnOk result (IfSome (R.remaining reader.old)
+        (λ text. AnswersScript (script_of text) db.old db.new h (W.contents writer.old)
+        (W.contents writer.new)))) }
+    ensures stands { AtEachHandle db.old
+        (λ h. MakesFirst (R.remaining reader.old) db.old db.new h) }
     ensures cut { AtEachHandle db.old (λ h.
-        result ≡ Err EngineFault.Read → AnswersFirst (R.remaining reader.old) db.old db.new h (W.contents writer.old) (W.contents writer.new)) }
+        result ≡ Err EngineFault.Read
+        → AnswersFirst (R.remaining reader.old) db.old db.new h (W.contents writer.old)
+        (W.contents writer.new)) }
     ensures goes { IsSameDatabase db.old db.new }
     ensures only { IsErrAmong result (EngineFault.Read ∷ EngineFault.Write ∷ []) }
 {
@@ -86,8 +104,12 @@ fn next_line<R: BufRead>(
     buffers: &mut Buffers,
     left: &mut u32,
 ) -> Result<LineRead, EngineFault>
-    ensures line { IfOk result (λ read. IfSome (R.remaining reader.old) (λ text. ReadsLine 8193 text (is_line read) buffers.new.line.items (R.remaining reader.new))) }
-    ensures counted { OnOk result (IsCounted (R.remaining reader.old) left.old (R.remaining reader.new) left.new) }
+    ensures line { IfOk result (λ read.
+        IfSome (R.remaining reader.old)
+        (λ text. ReadsLine 8193 text (is_line read) buffers.new.line.items
+        (R.remaining reader.new))) }
+    ensures counted { OnOk result
+        (IsCounted (R.remaining reader.old) left.old (R.remaining reader.new) left.new) }
     ensures only { IfErr result (λ e. e ≡ EngineFault.Read) }
 {
     read_line(reader, &mut buffers.line, left).map_err(|_| EngineFault::Read)
@@ -101,7 +123,8 @@ fn answer_and_flush<S: PageStore, W: Write>(
     read: LineRead,
 ) -> io::Result<()>
     ensures line { AtEachHandle db.old (λ h.
-        AnswersLine (call_in_line buffers.old.line.items) db.old db.new h (λ text. OnOk result (Appends (W.contents writer.old) (W.contents writer.new) text))) }
+        AnswersLine (call_in_line buffers.old.line.items) db.old db.new h
+        (λ text. OnOk result (Appends (W.contents writer.old) (W.contents writer.new) text))) }
     ensures goes { IsSameDatabase db.old db.new }
 {
     answer_line(db, buffers, writer)?;
@@ -118,7 +141,8 @@ fn answer_line<S: PageStore, W: Write>(
     writer: &mut W,
 ) -> io::Result<()>
     ensures line { AtEachHandle db.old (λ h.
-        AnswersLine (call_in_line buffers.old.line.items) db.old db.new h (λ text. OnOk result (Appends (W.contents writer.old) (W.contents writer.new) text))) }
+        AnswersLine (call_in_line buffers.old.line.items) db.old db.new h
+        (λ text. OnOk result (Appends (W.contents writer.old) (W.contents writer.new) text))) }
     ensures goes { IsSameDatabase db.old db.new }
 {
     let line = buffers.line.as_slice();
@@ -148,7 +172,8 @@ fn answer_store<S: PageStore, W: Write>(
     writer: &mut W,
 ) -> io::Result<()>
     ensures line { AtEachHandle db.old (λ h.
-        AnswersLine (Some (Store key.now content.now (mode_of mode))) db.old db.new h (λ text. OnOk result (Appends (W.contents writer.old) (W.contents writer.new) text))) }
+        AnswersLine (Some (Store key.now content.now (mode_of mode))) db.old db.new h
+        (λ text. OnOk result (Appends (W.contents writer.old) (W.contents writer.new) text))) }
     ensures goes { IsSameDatabase db.old db.new }
 {
     match db.store(key, content, mode) {
@@ -166,7 +191,8 @@ fn answer_fetch<S: PageStore, W: Write>(
     writer: &mut W,
 ) -> io::Result<()>
     ensures line { AtEachHandle db.old (λ h.
-        AnswersLine (Some (Fetch key.now)) db.old db.new h (λ text. OnOk result (Appends (W.contents writer.old) (W.contents writer.new) text))) }
+        AnswersLine (Some (Fetch key.now)) db.old db.new h
+        (λ text. OnOk result (Appends (W.contents writer.old) (W.contents writer.new) text))) }
     ensures goes { IsSameDatabase db.old db.new }
 {
     write_fetched(writer, db.fetch(key), digits)
@@ -179,7 +205,8 @@ fn answer_delete<S: PageStore, W: Write>(
     writer: &mut W,
 ) -> io::Result<()>
     ensures line { AtEachHandle db.old (λ h.
-        AnswersLine (Some (Delete key.now)) db.old db.new h (λ text. OnOk result (Appends (W.contents writer.old) (W.contents writer.new) text))) }
+        AnswersLine (Some (Delete key.now)) db.old db.new h
+        (λ text. OnOk result (Appends (W.contents writer.old) (W.contents writer.new) text))) }
     ensures goes { IsSameDatabase db.old db.new }
 {
     match db.delete(key) {
@@ -196,7 +223,8 @@ fn answer_first<S: PageStore, W: Write>(
     writer: &mut W,
 ) -> io::Result<()>
     ensures line { AtEachHandle db.old (λ h.
-        AnswersLine (Some First) db.old db.new h (λ text. OnOk result (Appends (W.contents writer.old) (W.contents writer.new) text))) }
+        AnswersLine (Some First) db.old db.new h
+        (λ text. OnOk result (Appends (W.contents writer.old) (W.contents writer.new) text))) }
     ensures goes { IsSameDatabase db.old db.new }
 {
     write_passed(writer, db.firstkey(), digits)
@@ -209,7 +237,8 @@ fn answer_next<S: PageStore, W: Write>(
     writer: &mut W,
 ) -> io::Result<()>
     ensures line { AtEachHandle db.old (λ h.
-        AnswersLine (Some Next) db.old db.new h (λ text. OnOk result (Appends (W.contents writer.old) (W.contents writer.new) text))) }
+        AnswersLine (Some Next) db.old db.new h
+        (λ text. OnOk result (Appends (W.contents writer.old) (W.contents writer.new) text))) }
     ensures goes { IsSameDatabase db.old db.new }
 {
     write_passed(writer, db.nextkey(), digits)
@@ -218,7 +247,8 @@ fn answer_next<S: PageStore, W: Write>(
 /// Writes the error number.
 fn answer_error<S: PageStore, W: Write>(db: &mut Database<S>, writer: &mut W) -> io::Result<()>
     ensures line { AtEachHandle db.old (λ h.
-        AnswersLine (Some Error) db.old db.new h (λ text. OnOk result (Appends (W.contents writer.old) (W.contents writer.new) text))) }
+        AnswersLine (Some Error) db.old db.new h
+        (λ text. OnOk result (Appends (W.contents writer.old) (W.contents writer.new) text))) }
     ensures goes { IsSameDatabase db.old db.new }
 {
     write_number(writer, db.error())
@@ -227,7 +257,8 @@ fn answer_error<S: PageStore, W: Write>(db: &mut Database<S>, writer: &mut W) ->
 /// Clears the error number, and writes the reply.
 fn answer_clear<S: PageStore, W: Write>(db: &mut Database<S>, writer: &mut W) -> io::Result<()>
     ensures line { AtEachHandle db.old (λ h.
-        AnswersLine (Some Clear) db.old db.new h (λ text. OnOk result (Appends (W.contents writer.old) (W.contents writer.new) text))) }
+        AnswersLine (Some Clear) db.old db.new h
+        (λ text. OnOk result (Appends (W.contents writer.old) (W.contents writer.new) text))) }
     ensures goes { IsSameDatabase db.old db.new }
 {
     write_number(writer, db.clearerr())

@@ -8,10 +8,13 @@ use Rattle.dbm_model.specs.Pairs.{Pair, Contents, key_cmp}
 use Rattle.dbm_text.specs.Texts.{two_pairs}
 
 pub no_entries : entries (empty {X = List ℕ} {R = key_cmp}) ≡ []
-no_entries = nil_from_length (entries (empty {X = List ℕ} {R = key_cmp})) (sym (len-entries (empty {X = List ℕ} {R = key_cmp})) ∙ len-empty key_cmp (List ℕ))
+no_entries = nil_from_length (entries (empty {X = List ℕ} {R = key_cmp}))
+    (sym (len-entries (empty {X = List ℕ} {R = key_cmp})) ∙ len-empty key_cmp (List ℕ))
 
 -- the second key comes first
 pub two_entries : entries two_pairs ≡ (0x61 ∷ 0xff ∷ [], 0x01 ∷ []) ∷ (0x62 ∷ [], []) ∷ []
 two_entries =
     entries-insert nat_list_cmp_total (insert empty (0x62 ∷ []) []) (0x61 ∷ 0xff ∷ []) (0x01 ∷ [])
-    ∙ ap (put key_cmp (0x61 ∷ 0xff ∷ []) (0x01 ∷ [])) (entries-insert nat_list_cmp_total empty (0x62 ∷ []) [] ∙ ap (put key_cmp (0x62 ∷ []) []) no_entries)
+    ∙ ap (put key_cmp (0x61 ∷ 0xff ∷ []) (0x01 ∷ []))
+    (entries-insert nat_list_cmp_total empty (0x62 ∷ []) []
+    ∙ ap (put key_cmp (0x62 ∷ []) []) no_entries)

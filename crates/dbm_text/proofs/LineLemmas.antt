@@ -7,6 +7,8 @@ use Rattle.dbm_text.specs.Texts.{LongLines}
 
 pub long_lines : LongLines
 long_lines = record {
-  longest = λ line le. ap (λ b. cond {A = Option Call} b None (call_of_words (words_in line))) (lt-leb (suc 8192) (length line) (omega (arith, le)));
-  longer = λ line lt. ap (λ b. cond {A = Option Call} b None (call_of_words (words_in line))) (le-leb (suc 8192) (length line) (omega (arith, lt)));
+  longest = λ line le. ap (λ b. cond {A = Option Call} b None (call_of_words (words_in line)))
+      (lt-leb (suc 8192) (length line) (omega (arith, le)));
+  longer = λ line lt. ap (λ b. cond {A = Option Call} b None (call_of_words (words_in line)))
+      (le-leb (suc 8192) (length line) (omega (arith, lt)));
 }

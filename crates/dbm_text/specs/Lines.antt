@@ -46,7 +46,8 @@ pair_call name key content =
 abbrev pub call_of_words : List (List ℕ) → Option Call
 call_of_words (name ∷ []) = bare_call name
 call_of_words (name ∷ key ∷ []) = option_and_then (key_call name) (word_bytes key)
-call_of_words (name ∷ key ∷ content ∷ []) = option_and_then (λ k. option_and_then (pair_call name k) (word_bytes content)) (word_bytes key)
+call_of_words (name ∷ key ∷ content ∷ []) =
+    option_and_then (λ k. option_and_then (pair_call name k) (word_bytes content)) (word_bytes key)
 call_of_words _ = None
 
 -- the call that a line asks for, if it is no bad line

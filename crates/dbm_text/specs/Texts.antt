@@ -10,7 +10,8 @@ use Rattle.dbm_text.specs.Words.{word_of, word_bytes}
 
 -- a word stands for the bytes that it was made of
 abbrev pub WordsReadBack : Type 0
-WordsReadBack = (bytes : List ℕ) → ((i : ℕ) → slice_index bytes i < 256) → word_bytes (word_of bytes) ≡ Some bytes
+WordsReadBack = (bytes : List ℕ) → ((i : ℕ) → slice_index bytes i < 256)
+    → word_bytes (word_of bytes) ≡ Some bytes
 
 pub record WordExamples : Type 0 where
   pub empty : word_of [] ≡ codes "."
@@ -51,14 +52,17 @@ pub record LineExamples : Type 0 where
 
 -- a line of 8,192 bytes may be a call, and one of more is none
 pub record LongLines : Type 0 where
-  pub longest : (line : List ℕ) → length line ≤ 8192 → call_in_line line ≡ call_of_words (words_in line)
+  pub longest : (line : List ℕ) → length line ≤ 8192
+      → call_in_line line ≡ call_of_words (words_in line)
   pub longer : (line : List ℕ) → 8192 < length line → call_in_line line ≡ None
 
 -- the script of two lines and a bad one between them
 abbrev pub ScriptExample : Type 0
 ScriptExample =
-    (calls_in (script_of (codes "S 6b 76\nQ\nF 6b\n")) ≡ Store (0x6b ∷ []) (0x76 ∷ []) Replace ∷ Fetch (0x6b ∷ []) ∷ [])
-    × (answer_of (script_of (codes "S 6b 76\nQ\nF 6b\n")) (Stored ∷ Bytes (0x76 ∷ []) ∷ []) ≡ codes "0\n-1 line\n76\n")
+    (calls_in (script_of (codes "S 6b 76\nQ\nF 6b\n")) ≡ Store (0x6b ∷ []) (0x76 ∷ []) Replace
+    ∷ Fetch (0x6b ∷ []) ∷ [])
+    × (answer_of (script_of (codes "S 6b 76\nQ\nF 6b\n")) (Stored ∷ Bytes (0x76 ∷ []) ∷ [])
+    ≡ codes "0\n-1 line\n76\n")
 
 -- two pairs, of which one has no content
 abbrev pub two_pairs : Contents

@@ -1,5 +1,5 @@
-//! The texts of the program: words, lines, scripts and dumps, and their laws. There is no code here: a function of this
-//! crate has an empty body, and its clause is the law.
+//! The texts of the program: words, lines, scripts and dumps, and their laws. There is no code
+//! here: a function of this crate has an empty body, and its clause is the law.
 #![tactic(auto)]
 
 mod text_laws;

@@ -23,5 +23,6 @@ fault_line fault = with_line_feed (codes "dbmtool: " ++ fault_text fault)
 -- the one line that tells a failure
 abbrev pub failure_line : Failure → List ℕ
 failure_line failure.NotHex = with_line_feed (codes "dbmtool: not hex")
-failure_line failure.NotText = with_line_feed (codes "dbmtool: not UTF-8: such a KEY or CONTENT is given in hexadecimal, with -x")
+failure_line failure.NotText =
+    with_line_feed (codes "dbmtool: not UTF-8: such a KEY or CONTENT is given in hexadecimal, with -x")
 failure_line (failure.Fault fault) = fault_line fault

@@ -8,9 +8,11 @@ use Rattle.dbm_plan.specs.declared.plan.Plan.TheVariants.{Script, Faults}
 use Rattle.dbm_plan.specs.declared.plan.Source.TheVariants.{Memory}
 use Rattle.dbm_script.specs.Scripts.{AnswersInMemory}
 
--- a script in memory was answered as the definitions say; the faults were printed as the one text of them
+-- a script in memory was answered as the definitions say; the faults were printed as the one text
+-- of them
 abbrev pub Does : Plan → Option (List ℕ) → Option (List ℕ) → Option (List ℕ) → Type 0
-Does (Script (Memory limit)) input old new = IfSome input (λ text. AnswersInMemory limit text old new)
+Does (Script (Memory limit)) input old new =
+    IfSome input (λ text. AnswersInMemory limit text old new)
 Does Faults input old new = Appends old new FAULT_TABLE.now
 Does _ input old new = Unit {0}
 

@@ -22,7 +22,8 @@ pub fn carry_out<T: Files<File = File>, R: BufRead, O: Write>(
     input: &mut R,
     output: &mut O,
 ) -> Result<Outcome, Failure>
-    ensures { OnOk result (Does plan.entry (R.remaining input.old) (O.contents output.old) (O.contents output.new)) }
+    ensures { OnOk result (Does plan.entry (R.remaining input.old) (O.contents output.old)
+        (O.contents output.new)) }
 {
     match plan {
         Plan::Create { file, limit } => create(rt, alloc, file, limit),
@@ -72,7 +73,8 @@ pub fn carry_out<T: Files<File = File>, R: BufRead, O: Write>(
 
 /// Prints the exit statuses and the faults.
 fn print_faults<O: Write>(output: &mut O) -> Result<Outcome, Failure>
-    ensures { OnOk result (Appends (O.contents output.old) (O.contents output.new) FAULT_TABLE.now) }
+    ensures { OnOk result (Appends (O.contents output.old) (O.contents output.new)
+        FAULT_TABLE.now) }
 {
     output.write_all(FAULT_TABLE.as_bytes()).map_err(unwritten)?;
     output.flush().map_err(unwritten)?;

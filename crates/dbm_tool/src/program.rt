@@ -26,12 +26,13 @@ const FAULT: u8 = 2;
 /// The status of words that are no plan.
 const USAGE: u8 = 3;
 
-/// The program over the words after its name. It answers the exit status: 0 where all was done, or help or the
-/// version was asked for, which goes to `output`; 1 where a fetched or deleted key isn't there or an inserted one
-/// is, with nothing printed; 2 for a fault, the first one, which alone is told in one line on `faults`; and 3 for
-/// words that are no plan, of which one text goes to `faults`. Faults are looked for in the words, in the words'
-/// hexadecimal digits, in the opening, in the call or the engine with the last of its output, and in the closing,
-/// in this order.
+/// The program over the words after its name. It answers the exit status: 0 where all was done, or
+/// help or the version was asked for, which goes to `output`; 1 where a fetched or deleted key
+/// isn't there or an inserted one is, with nothing printed; 2 for a fault, the first one, which
+/// alone is told in one line on `faults`; and 3 for words that are no plan, of which one text goes
+/// to `faults`. Faults are looked for in the words, in the words' hexadecimal digits, in the
+/// opening, in the call or the engine with the last of its output, and in the closing, in this
+/// order.
 pub fn tool<T: Files<File = File>, R: BufRead, O: Write, F: Write>(
     rt: &T,
     alloc: Global,
@@ -44,8 +45,10 @@ pub fn tool<T: Files<File = File>, R: BufRead, O: Write, F: Write>(
     ensures quiet { (result ≡ 0) ⊎ (result ≡ 1) → faults.new ≡ faults.old }
 
     // The words are a plan that was carried out; where they name no command, nothing was read.
-    ensures done { result ≡ 0 → ((input.new ≡ input.old) × (AreTaken (map (λ word. word.now) words.now) → ⊥))
-        ⊎ DoesWords (map (λ word. word.now) words.now) (R.remaining input.old) (O.contents output.old) (O.contents output.new) }
+    ensures done { result ≡ 0 → ((input.new ≡ input.old)
+        × (AreTaken (map (λ word. word.now) words.now) → ⊥))
+        ⊎ DoesWords (map (λ word. word.now) words.now) (R.remaining input.old)
+        (O.contents output.old) (O.contents output.new) }
 {
     match read_words(alloc, words) {
         Ok(plan) => status_of(carry_out(rt, alloc, plan, input, output), faults),
@@ -68,7 +71,8 @@ pub fn out_of_memory<F: Write>(faults: &mut F) -> u8
     status_of(Err(Failure::Fault(EngineFault::Memory)), faults)
 }
 
-/// Tells on `faults` that one of the words is not UTF-8, which `tool` can't be given, and answers the status.
+/// Tells on `faults` that one of the words is not UTF-8, which `tool` can't be given, and answers
+/// the status.
 pub fn not_text<F: Write>(faults: &mut F) -> u8
     ensures { result ≡ 3 }
 {
@@ -97,7 +101,8 @@ fn status_of<F: Write>(done: Result<Outcome, Failure>, faults: &mut F) -> u8
 
 /// Writes the line of a failure.
 fn write_failure<F: Write>(faults: &mut F, failure: Failure) -> io::Result<()>
-    ensures { OnOk result (Appends (F.contents faults.old) (F.contents faults.new) (failure_line failure)) }
+    ensures { OnOk result (Appends (F.contents faults.old) (F.contents faults.new)
+        (failure_line failure)) }
 {
     match failure {
         Failure::NotHex => writeln!(faults, "dbmtool: not hex"),

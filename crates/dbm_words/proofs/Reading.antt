@@ -10,5 +10,8 @@ unfolding command_line
 line_is_simple = refl
 
 -- what holds of what was entered holds of what the words enter
-pub of_words : (m : ArgMatches) (app : App) (words : List Text) (P : Option (Text × List Row) → Type 0) → app ≡ command_line → HasMatchesOf app words m → P (subcommand_rows_of m) → P (subcommand_of command_line words)
-of_words m app words P is matches p = subst P ((matches (ap is_simple is ∙ line_is_simple)).1 ∙ ap (λ a. subcommand_of a words) is) p
+pub of_words : (m : ArgMatches) (app : App) (words : List Text)
+    (P : Option (Text × List Row) → Type 0) → app ≡ command_line → HasMatchesOf app words m
+    → P (subcommand_rows_of m) → P (subcommand_of command_line words)
+of_words m app words P is matches p =
+    subst P ((matches (ap is_simple is ∙ line_is_simple)).1 ∙ ap (λ a. subcommand_of a words) is) p

@@ -9,7 +9,8 @@ use Rattle.clap.specs.declared.builder.command.Command.TheViews.{out-Command}
 abbrev pub alone : Shape → App
 alone line = record { top = line; subs = [] }
 
--- these definitions are what the parser reads of the command, and none of its options is its subcommands' too
+-- these definitions are what the parser reads of the command, and none of its options is its
+-- subcommands' too
 pub record IsApp (command : Command) (app : App) : Type 0 where
   pub shape : app_of command ≡ app
   pub local : (out-Command command).has_globals ≡ false
@@ -20,4 +21,5 @@ pub record IsRule (argument : Arg) (rule : Rule) : Type 0 where
 
 -- one line more, where both could be made
 abbrev pub Adds : {E : Type 0} → Result Command E → Result Command E → Result Command E → Type 0
-Adds old sub new = (app : App) (line : Shape) → IfOk old (λ c. IsApp c app) → IfOk sub (λ c. IsApp c (alone line)) → IfOk new (λ c. IsApp c (with_subcommand app line))
+Adds old sub new = (app : App) (line : Shape) → IfOk old (λ c. IsApp c app)
+    → IfOk sub (λ c. IsApp c (alone line)) → IfOk new (λ c. IsApp c (with_subcommand app line))

@@ -20,11 +20,19 @@ word_rule id = record (new_rule id) { value_names = 1; required = true }
 
 -- `--NAME N`, and N a `u32`
 abbrev pub number_rule : Text → Rule
-number_rule name = record (new_rule name) { long = Some name; value_names = 1; parser = Some (parser.Signed (pos 0) (pos 4294967295)) }
+number_rule name = record (new_rule name) {
+  long = Some name;
+  value_names = 1;
+  parser =
+      Some (parser.Signed (pos 0) (pos 4294967295));
+}
 
 -- `-x`
 abbrev pub hexadecimal_rule : Rule
-hexadecimal_rule = record (new_rule (codes "hexadecimal")) { short = Some 120; action = Some SetTrue }
+hexadecimal_rule = record (new_rule (codes "hexadecimal")) {
+  short = Some 120;
+  action = Some SetTrue;
+}
 
 abbrev pub line : Text → List Rule → Shape
 line name rules = record (new_app name).top { rules = rules }
@@ -35,19 +43,26 @@ file_line name = line name (word_rule (codes "file") ∷ [])
 
 -- `NAME FILE KEY [-x]`
 abbrev pub key_line : Text → Shape
-key_line name = line name (word_rule (codes "file") ∷ word_rule (codes "key") ∷ hexadecimal_rule ∷ [])
+key_line name = line name (word_rule (codes "file") ∷ word_rule (codes "key")
+    ∷ hexadecimal_rule ∷ [])
 
 -- `NAME FILE KEY CONTENT [-x]`
 abbrev pub pair_line : Text → Shape
-pair_line name = line name (word_rule (codes "file") ∷ word_rule (codes "key") ∷ hexadecimal_rule ∷ word_rule (codes "content") ∷ [])
+pair_line name = line name (word_rule (codes "file") ∷ word_rule (codes "key") ∷ hexadecimal_rule
+    ∷ word_rule (codes "content") ∷ [])
 
 -- `create FILE [--limit N]`
 abbrev pub create_line : Shape
-create_line = line (codes "create") (word_rule (codes "file") ∷ record (number_rule (codes "limit")) { defaults = codes "1000000" ∷ [] } ∷ [])
+create_line = line (codes "create")
+    (word_rule (codes "file") ∷ record (number_rule (codes "limit")) {
+      defaults =
+          codes "1000000" ∷ [];
+    } ∷ [])
 
 -- `script [FILE] [--memory N]`
 abbrev pub script_line : Shape
-script_line = line (codes "script") (record (word_rule (codes "file")) { required = false } ∷ number_rule (codes "memory") ∷ [])
+script_line = line (codes "script")
+    (record (word_rule (codes "file")) { required = false } ∷ number_rule (codes "memory") ∷ [])
 
 -- `faults`
 abbrev pub faults_line : Shape
@@ -55,14 +70,20 @@ faults_line = line (codes "faults") []
 
 -- `dbmtool [--version]`, whose name is none of the words that are read
 abbrev pub program_line : Shape
-program_line = record (new_app (codes "dbmtool")).top { has_version = true; no_binary_name = true; subcommand_required = true }
+program_line = record (new_app (codes "dbmtool")).top {
+  has_version = true;
+  no_binary_name = true;
+  subcommand_required = true;
+}
 
 -- `dbmtool`, and then one of the lines
 unfoldable pub command_line : App
 command_line = record {
   top = record program_line { is_leaf = false };
-  subs = create_line ∷ pair_line (codes "store") ∷ pair_line (codes "insert") ∷ key_line (codes "fetch") ∷ key_line (codes "delete")
-      ∷ file_line (codes "list") ∷ file_line (codes "dump") ∷ file_line (codes "load") ∷ file_line (codes "stat") ∷ script_line ∷ faults_line ∷ [];
+  subs = create_line ∷ pair_line (codes "store") ∷ pair_line (codes "insert")
+      ∷ key_line (codes "fetch") ∷ key_line (codes "delete")
+      ∷ file_line (codes "list") ∷ file_line (codes "dump") ∷ file_line (codes "load")
+      ∷ file_line (codes "stat") ∷ script_line ∷ faults_line ∷ [];
 }
 
 -- ---- the plan
@@ -73,7 +94,9 @@ IsText rows id text = first_of id rows ≡ Some text
 
 -- the text under the id is the number
 abbrev pub IsNumberText : List Row → Text → ℕ → Type 0
-IsNumberText rows id number = (text : Text) × (one_of id rows ≡ Some text) × ParsesUnsigned {E = ParseIntError} 32 10 text (Ok number)
+IsNumberText rows id number =
+    (text : Text) × (one_of id rows ≡ Some text)
+    × ParsesUnsigned {E = ParseIntError} 32 10 text (Ok number)
 
 abbrev pub flag_text : Spelling → Text
 flag_text spelling.Text = codes "false"
@@ -90,8 +113,10 @@ pub record IsPair (rows : List Row) (name word value : Text) (spelled : Spelling
 
 -- what is given of FILE and `--memory`, one alone, is the source
 abbrev pub IsSource : List Row → Source → Type 0
-IsSource rows (File file) = IsText rows (codes "file") file.now × (first_of (codes "memory") rows ≡ None)
-IsSource rows (Memory limit) = (first_of (codes "file") rows ≡ None) × IsNumberText rows (codes "memory") limit
+IsSource rows (File file) = IsText rows (codes "file") file.now
+    × (first_of (codes "memory") rows ≡ None)
+IsSource rows (Memory limit) =
+    (first_of (codes "file") rows ≡ None) × IsNumberText rows (codes "memory") limit
 
 -- both of FILE and `--memory` are given, or neither
 abbrev pub LacksSource : List Row → Type 0
@@ -99,11 +124,17 @@ LacksSource rows = is_some (first_of (codes "file") rows) ≡ is_some (first_of 
 
 -- the command of this name, with what was entered for it, asks for the plan
 abbrev pub Asks : Text → List Row → Plan → Type 0
-Asks name rows (Create file limit) = (name ≡ codes "create") × IsText rows (codes "file") file.now × IsNumberText rows (codes "limit") limit
-Asks name rows (Store file key content spelled) = (name ≡ codes "store") × IsPair rows file.now key.now content.now spelled
-Asks name rows (Insert file key content spelled) = (name ≡ codes "insert") × IsPair rows file.now key.now content.now spelled
-Asks name rows (Fetch file key spelled) = (name ≡ codes "fetch") × IsKey rows file.now key.now spelled
-Asks name rows (Delete file key spelled) = (name ≡ codes "delete") × IsKey rows file.now key.now spelled
+Asks name rows (Create file limit) =
+    (name ≡ codes "create") × IsText rows (codes "file") file.now
+    × IsNumberText rows (codes "limit") limit
+Asks name rows (Store file key content spelled) =
+    (name ≡ codes "store") × IsPair rows file.now key.now content.now spelled
+Asks name rows (Insert file key content spelled) =
+    (name ≡ codes "insert") × IsPair rows file.now key.now content.now spelled
+Asks name rows (Fetch file key spelled) =
+    (name ≡ codes "fetch") × IsKey rows file.now key.now spelled
+Asks name rows (Delete file key spelled) =
+    (name ≡ codes "delete") × IsKey rows file.now key.now spelled
 Asks name rows (ListKeys file) = (name ≡ codes "list") × IsText rows (codes "file") file.now
 Asks name rows (Dump file) = (name ≡ codes "dump") × IsText rows (codes "file") file.now
 Asks name rows (Load file) = (name ≡ codes "load") × IsText rows (codes "file") file.now

@@ -9,6 +9,7 @@ use Rattle.dbm_words.specs.declared.words.WordsError.TheVariants.{Memory, Help, 
 abbrev pub IsSorted : WordsError → Type 0
 IsSorted Memory = Unit {0}
 IsSorted (Help text) = (kind_of text ≡ DisplayHelp) ⊎ (kind_of text ≡ DisplayVersion)
-IsSorted (Usage text) = (kind_of text ≢ OutOfMemory) × (kind_of text ≢ DisplayHelp) × (kind_of text ≢ DisplayVersion)
+IsSorted (Usage text) = (kind_of text ≢ OutOfMemory) × (kind_of text ≢ DisplayHelp)
+    × (kind_of text ≢ DisplayVersion)
 IsSorted ScriptSource = Unit {0}
 IsSorted NoPlan = Unit {0}

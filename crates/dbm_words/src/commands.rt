@@ -99,8 +99,8 @@ pub fn command<'a>(alloc: Global) -> Result<Command<'a>, AllocError>
     added(command, Ok(faults_command(alloc)))
 }
 
-/// The command with one more subcommand, if both could be made. An early return that drops a command is long to
-/// prove, and these are the only ones.
+/// The command with one more subcommand, if both could be made. An early return that drops a
+/// command is long to prove, and these are the only ones.
 fn added<'a>(
     command: Result<Command<'a>, AllocError>,
     line: Result<Command<'a>, AllocError>,
@@ -123,7 +123,8 @@ fn program<'a>(alloc: Global) -> Result<Command<'a>, AllocError>
         .bin_name(NAME)
 }
 
-// A long text stands in a function of its own, since each step of a function's proof repeats the texts in it.
+// A long text stands in a function of its own, since each step of a function's proof repeats the
+// texts in it.
 fn about_text<'a>() -> &'a str {
     ABOUT
 }

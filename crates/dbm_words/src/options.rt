@@ -14,7 +14,8 @@ use dbm_plan::{Plan, Source, Spelling};
 /// The plan that the words name.
 pub fn chosen<'a>(matches: &ArgMatches<'a>) -> Result<Plan<'a>, WordsError>
     ensures plan { IfOk result (Names (subcommand_rows_of matches.now)) }
-    ensures source { IfErr result (λ e. e ≡ WordsError.ScriptSource → NamesNoSource (subcommand_rows_of matches.now)) }
+    ensures source { IfErr result
+        (λ e. e ≡ WordsError.ScriptSource → NamesNoSource (subcommand_rows_of matches.now)) }
     ensures others { IfErr result (λ e. (e ≡ WordsError.NoPlan) ⊎ (e ≡ WordsError.ScriptSource)) }
 {
     let Some((name, options)) = matches.subcommand() else {
@@ -32,7 +33,8 @@ pub fn chosen<'a>(matches: &ArgMatches<'a>) -> Result<Plan<'a>, WordsError>
 /// The database that a script is to run on.
 fn source<'a>(options: &ArgMatches<'a>) -> Result<Source<'a>, WordsError>
     ensures source { IfOk result (IsSource (rows_of (found_of options.now))) }
-    ensures lacks { IfErr result (λ e. e ≡ WordsError.ScriptSource → LacksSource (rows_of (found_of options.now))) }
+    ensures lacks { IfErr result (λ e.
+        e ≡ WordsError.ScriptSource → LacksSource (rows_of (found_of options.now))) }
     ensures others { IfErr result (λ e. (e ≡ WordsError.NoPlan) ⊎ (e ≡ WordsError.ScriptSource)) }
 {
     match (text(options, FILE), text(options, MEMORY)) {
@@ -99,7 +101,8 @@ fn of_key<'a>(name: &str, options: &ArgMatches<'a>) -> Option<Plan<'a>>
 
 /// The word that was given under `id`.
 fn text<'a>(options: &ArgMatches<'a>, id: &str) -> Option<&'a str>
-    ensures { MatchOption result (first_of id.now (rows_of (found_of options.now)) ≡ None) (λ word. IsText (rows_of (found_of options.now)) id.now word.now) }
+    ensures { MatchOption result (first_of id.now (rows_of (found_of options.now)) ≡ None)
+        (λ word. IsText (rows_of (found_of options.now)) id.now word.now) }
 {
     options.get_str(id)
 }

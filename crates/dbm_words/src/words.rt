@@ -32,14 +32,18 @@ pub enum WordsError {
     NoPlan,
 }
 
-/// Reads the words after the program's name. `Help` where they ask for help or the version, and `Usage` where they
-/// are no plan: no command, an unknown one, an option too many or too few, or a number that is no `u32`.
-/// `ScriptSource` where the parser takes the words, and a script has both of FILE and `--memory` or neither.
+/// Reads the words after the program's name. `Help` where they ask for help or the version, and
+/// `Usage` where they are no plan: no command, an unknown one, an option too many or too few, or a
+/// number that is no `u32`. `ScriptSource` where the parser takes the words, and a script has both
+/// of FILE and `--memory` or neither.
 pub fn read_words<'a>(alloc: Global, words: &'a [&'a str]) -> Result<Plan<'a>, WordsError>
     ensures plan { IfOk result (IsPlan (map (λ word. word.now) words.now)) }
     ensures sorted { IfErr result IsSorted }
-    ensures source { IfErr result (λ e. e ≡ WordsError.ScriptSource → IsWithoutSource (map (λ word. word.now) words.now)) }
-    ensures passes { AreTaken (map (λ word. word.now) words.now) → IfErr result (λ e. (e ≡ WordsError.Memory) ⊎ ((e ≡ WordsError.NoPlan) ⊎ (e ≡ WordsError.ScriptSource))) }
+    ensures source { IfErr result
+        (λ e. e ≡ WordsError.ScriptSource → IsWithoutSource (map (λ word. word.now) words.now)) }
+    ensures passes { AreTaken (map (λ word. word.now) words.now)
+        → IfErr result (λ e. (e ≡ WordsError.Memory)
+        ⊎ ((e ≡ WordsError.NoPlan) ⊎ (e ≡ WordsError.ScriptSource))) }
 {
     let Ok(command) = command(alloc) else {
         return Err(WordsError::Memory);

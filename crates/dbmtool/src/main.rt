@@ -16,8 +16,8 @@ fn main(rt: HostRuntime) -> ExitCode {
     ExitCode::from(status)
 }
 
-/// The exit status. The error is `OutOfMemory` where there is no memory for the words or the streams, and
-/// another where a word is not UTF-8.
+/// The exit status. The error is `OutOfMemory` where there is no memory for the words or the
+/// streams, and another where a word is not UTF-8.
 fn run<F: Write>(rt: &HostRuntime, faults: &mut F) -> io::Result<u8> {
     let alloc = rt.alloc();
     let mut words: Vec<String> = Vec::new(alloc);

@@ -83,7 +83,8 @@ fn commit_four<S: PageStore>(
     Ok(store.commit(5))
 }
 
-/// A commit of new pages 1 to 4 to a new file of old ones, stopped after so many of its device calls.
+/// A commit of new pages 1 to 4 to a new file of old ones, stopped after so many of its device
+/// calls.
 pub fn stopped(
     alloc: Global,
     calls: u64,
@@ -99,7 +100,8 @@ pub fn stopped(
     Ok(pager.into_dev().into_inner())
 }
 
-/// Which of the unsynced writes happened: none, all, and each second one. There are at most 16 of them.
+/// Which of the unsynced writes happened: none, all, and each second one. There are at most 16 of
+/// them.
 pub const MARKS: [[bool; 16]; 4] = [
     [false; 16],
     [true; 16],

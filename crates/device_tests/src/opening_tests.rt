@@ -60,7 +60,8 @@ fn with_sector(alloc: Global, content: &[u8; 512]) -> Result<MemDev, DevFault> {
     Ok(dev)
 }
 
-/// Whether a device with this commit sector opens so. The write is pending, and opening for reading leaves it so.
+/// Whether a device with this commit sector opens so. The write is pending, and opening for reading
+/// leaves it so.
 fn opens_so(alloc: Global, content: &[u8; 512], wanted: Option<OpenFault>) -> Result<bool, Fail> {
     let written = open_fault(alloc, with_sector(alloc, content)?, true);
     let read = open_fault(alloc, with_sector(alloc, content)?, false);
@@ -94,7 +95,8 @@ fn refuses_other_bytes(alloc: Global) -> Result<bool, Fail> {
     )
 }
 
-/// Whether clear commit sectors are taken, of a file of three pages and of one that fills the device.
+/// Whether clear commit sectors are taken, of a file of three pages and of one that fills the
+/// device.
 fn takes_clear(alloc: Global) -> Result<bool, Fail> {
     Ok(opens_so(alloc, &sector(0, 4, 0, 0), None)? && opens_so(alloc, &sector(0, 16, 0, 0), None)?)
 }
@@ -137,7 +139,8 @@ fn bad_images_are_refused(rt: HostRuntime) -> Result<(), Fail> {
     Ok(())
 }
 
-/// Whether opening a device with so many calls fails on the device just where it needs more of them.
+/// Whether opening a device with so many calls fails on the device just where it needs more of
+/// them.
 fn opens_in(alloc: Global, dev: MemDev, writable: bool, calls: u64, needed: u64) -> bool {
     let fault = store_on(alloc, Fuse::new(dev, calls), writable).err();
     let wanted = if calls < needed {
@@ -157,7 +160,8 @@ fn opening_a_clear_file_is_two_calls(rt: HostRuntime) -> Result<(), Fail> {
     Ok(())
 }
 
-/// A commit that was stopped with its armed sector on the disk and six of its sectors at home pending.
+/// A commit that was stopped with its armed sector on the disk and six of its sectors at home
+/// pending.
 fn armed(alloc: Global) -> Result<MemDev, Fail> {
     stopped(alloc, 25, &filled(), &refilled())
 }
@@ -184,7 +188,8 @@ fn an_armed_file_is_read_with_its_images(rt: HostRuntime) -> Result<(), Fail> {
     Ok(())
 }
 
-/// How many device calls open that file for reading: a read of the commit sector, and four of each image.
+/// How many device calls open that file for reading: a read of the commit sector, and four of each
+/// image.
 const READING: u64 = 1 + 16;
 
 #[test]

@@ -86,7 +86,8 @@ fn a_written_page_is_read_back(rt: HostRuntime) -> Result<(), Fail> {
     Ok(())
 }
 
-/// What the device has after a write of page 1 with so many calls, and whether the page was written.
+/// What the device has after a write of page 1 with so many calls, and whether the page was
+/// written.
 fn written_in(alloc: Global, calls: u64) -> (MemDev, bool) {
     let mut fuse = Fuse::new(MemDev::new(alloc, 16), calls);
     let is_written = write_page(&mut fuse, 1, &numbered(1, 7)).is_ok();
@@ -116,7 +117,9 @@ fn sectors_are_written_in_order(rt: HostRuntime) -> Result<(), Fail> {
 
 /// Pages 1 to 3, filled by their own numbers, with room for seven.
 fn three_pages(alloc: Global) -> Result<MemPages, AllocError>
-    ensures { IfOk result (λ store. ⟦<MemPages as PageStore>⟧.state store ≡ record { staged = []; end = 4; capacity = 7; usable = true; writable = true }) }
+    ensures { IfOk result (λ store.
+        ⟦<MemPages as PageStore>⟧.state store
+        ≡ record { staged = []; end = 4; capacity = 7; usable = true; writable = true }) }
 {
     MemPages::new(alloc, &[numbered(1, 1), numbered(2, 2), numbered(3, 3)], 7)
 }
@@ -177,7 +180,8 @@ fn a_commit_in_memory(rt: HostRuntime) -> Result<(), Fail> {
 
 /// What a commit of pages 4 and 5 to a file of three pages answers.
 fn commit_five(store: &mut MemPages) -> Result<Result<(), PageFault>, PageFault>
-    requires { ⟦<MemPages as PageStore>⟧.state store.old ≡ record { staged = []; end = 4; capacity = 7; usable = true; writable = true } }
+    requires { ⟦<MemPages as PageStore>⟧.state store.old
+        ≡ record { staged = []; end = 4; capacity = 7; usable = true; writable = true } }
 {
     store.stage(4, &numbered(4, 40))?;
     store.stage(5, &numbered(5, 50))?;

@@ -18,7 +18,8 @@ fn pending_with(dev: &mut MemDev, n: u32, byte: u8) -> Result<usize, DevFault> {
     Ok(dev.pending())
 }
 
-/// Whether two writes of sector 1 are pending up to a sync, and the last is read before and behind it.
+/// Whether two writes of sector 1 are pending up to a sync, and the last is read before and behind
+/// it.
 fn is_pending_until_a_sync(dev: &mut MemDev) -> Result<bool, DevFault> {
     let pending = [pending_with(dev, 1, 7)?, pending_with(dev, 1, 9)?];
     let read = sector_of(dev, 1)? == [9; 512] && ends(dev, 0)?[0] == 0;
@@ -43,7 +44,8 @@ fn with_three_pending(alloc: Global) -> Result<MemDev, DevFault> {
     Ok(dev)
 }
 
-/// Whether a stop with these marks leaves these first bytes, in as many sectors and with nothing pending.
+/// Whether a stop with these marks leaves these first bytes, in as many sectors and with nothing
+/// pending.
 fn leaves(alloc: Global, dev: &MemDev, marks: &[bool], wanted: [u8; 2]) -> Result<bool, Fail> {
     let mut after = dev.crashed(alloc, marks)?;
     Ok(after.capacity() == 3 && after.pending() == 0 && first_bytes(&mut after)? == wanted)
@@ -85,8 +87,8 @@ fn calls_passed(dev: &mut impl SectorDev) -> [usize; 4] {
     ]
 }
 
-/// Whether those calls pass as the first four numbers say, and leave the device below as the others say: the first bytes
-/// of its two sectors, and how many writes are pending.
+/// Whether those calls pass as the first four numbers say, and leave the device below as the others
+/// say: the first bytes of its two sectors, and how many writes are pending.
 fn ends_as<P: Plan>(mut dev: Failing<MemDev, P>, wanted: [usize; 7]) -> Result<bool, DevFault> {
     let [write, sync, second, read] = calls_passed(&mut dev);
     let mut inner = dev.into_inner();

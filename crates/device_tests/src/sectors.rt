@@ -1,4 +1,5 @@
-//! Sectors of a device without the contracts of its calls, which no test needs and which would stand in each of its goals.
+//! Sectors of a device without the contracts of its calls, which no test needs and which would
+//! stand in each of its goals.
 
 use sect_dev::{DevFault, SectorDev};
 

@@ -8,8 +8,8 @@ use sect_dev::{DevFault, Fuse, MemDev};
 use std::alloc::Global;
 use std::test::Fail;
 
-/// Whether a commit that was stopped after so many calls leaves the old pages or the new, as it has to, with each kind of
-/// marks. The armed sector is call 17, and call 18 syncs it.
+/// Whether a commit that was stopped after so many calls leaves the old pages or the new, as it has
+/// to, with each kind of marks. The armed sector is call 17, and call 18 syncs it.
 fn leaves_old_or_new(
     alloc: Global,
     calls: u64,
@@ -27,7 +27,8 @@ fn leaves_old_or_new(
     Ok(true)
 }
 
-/// The first of the 38 calls of a commit, or their end, where a stop leaves something else than it has to.
+/// The first of the 38 calls of a commit, or their end, where a stop leaves something else than it
+/// has to.
 fn first_bad_stop(alloc: Global, old: &[Page; 3], new: &[Page; 4]) -> Result<Option<u64>, Fail> {
     for calls in 0..39 {
         if !leaves_old_or_new(alloc, calls, old, new)? {
@@ -56,7 +57,8 @@ fn page_of(header: &[u8; 16], numbers: &[u32], last: &[u8]) -> Page {
     page
 }
 
-/// A new database of limit 100: the meta page, its segment page and the empty head page of its one bucket.
+/// A new database of limit 100: the meta page, its segment page and the empty head page of its one
+/// bucket.
 fn new_database() -> [Page; 3] {
     let mut meta = page_of(
         &[0, 0, 0, 1, 1, 0, 0, 0, 0, 0, 0, 0, 0, 0, 0, 0],
@@ -71,7 +73,8 @@ fn new_database() -> [Page; 3] {
     ]
 }
 
-/// The same database with nine pairs of one byte each, keys 61 to 69, after the split of its bucket.
+/// The same database with nine pairs of one byte each, keys 61 to 69, after the split of its
+/// bucket.
 fn nine_pairs() -> [Page; 4] {
     let mut meta = page_of(
         &[0, 0, 0, 1, 1, 0, 0, 0, 0, 0, 0, 0, 0, 0, 0, 0],
@@ -136,8 +139,8 @@ fn told(before: &mut MemDev, after: &mut MemDev) -> Result<Did, DevFault> {
     Ok(Did::Neither)
 }
 
-/// Call `i` of a commit of four pages to a file of three: the images at pages 5 to 8, the armed sector, the pages at their
-/// own numbers, the clear sector, and a sync behind each of these.
+/// Call `i` of a commit of four pages to a file of three: the images at pages 5 to 8, the armed
+/// sector, the pages at their own numbers, the clear sector, and a sync behind each of these.
 fn wanted_call(i: u32) -> Did {
     match i {
         0..=15 => Did::Wrote(20 + i),
@@ -168,8 +171,9 @@ fn the_calls_of_a_commit_come_in_order(rt: HostRuntime) -> Result<(), Fail> {
     Ok(())
 }
 
-/// How many device calls end an armed commit of four pages: a sync and a read, four reads of an image to check it, four
-/// reads and four writes of each to copy it, a sync, and the clear sector with its sync.
+/// How many device calls end an armed commit of four pages: a sync and a read, four reads of an
+/// image to check it, four reads and four writes of each to copy it, a sync, and the clear sector
+/// with its sync.
 const RECOVERY: u64 = 2 + 16 + 32 + 1 + 2;
 
 /// What a recovery leaves that has so many device calls, and whether it was done.

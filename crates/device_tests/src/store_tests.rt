@@ -22,7 +22,8 @@ fn staged_pages_are_read_and_forgotten(rt: HostRuntime) -> Result<(), Fail> {
     Ok(())
 }
 
-/// Whether a commit of pages 1 and 4 is refused since the store is opened for reading, and leaves it as it was.
+/// Whether a commit of pages 1 and 4 is refused since the store is opened for reading, and leaves
+/// it as it was.
 fn is_read_only(store: &mut impl PageStore) -> Result<bool, PageFault> {
     store.unstage();
     stage(store, &numbered(1, 9))?;

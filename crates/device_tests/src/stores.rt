@@ -26,7 +26,8 @@ pub fn page_of(store: &mut impl PageStore, n: u32) -> Result<Page, PageFault> {
 
 /// Whether page 4 can be the first new page of a commit.
 pub fn grows_by_page_4<S: PageStore>(store: &S) -> bool
-    ensures { IsTrue result → (n : ℕ) → (S.state store.now).end ≤ n → n < 5 → has_page (S.state store.now).staged n ≡ true }
+    ensures { IsTrue result → (n : ℕ) → (S.state store.now).end ≤ n → n < 5
+        → has_page (S.state store.now).staged n ≡ true }
 {
     store.end() == 4 && store.is_staged(4)
 }

@@ -23,29 +23,44 @@ use Rattle.file_opening.specs.declared.file.OpenFile.{OpenFile}
 use Rattle.file_opening.specs.declared.open_how.OpenHow.{OpenHow}
 use Rattle.dbm_fault.specs.declared.fault.Fault.TheVariants.{Version, Damaged}
 
--- a file that stands for a map has a meta page, which is what is read of page 1 where nothing is staged
-pub says_meta : (pages staged : Pages) (map : Contents) (limit : ℕ) (bytes : List ℕ) → FileStandsFor pages map limit → staged ≡ [] → bytes ≡ overlaid staged (page_of pages) 1 → SaysMeta bytes
+-- a file that stands for a map has a meta page, which is what is read of page 1 where nothing is
+-- staged
+pub says_meta : (pages staged : Pages) (map : Contents) (limit : ℕ) (bytes : List ℕ)
+    → FileStandsFor pages map limit → staged ≡ [] → bytes ≡ overlaid staged (page_of pages) 1
+    → SaysMeta bytes
 says_meta pages staged map limit bytes stands none read = record {
   meta = page_bodies.meta_of stands.placement;
   valid = (bodies_valid stands.placement stands.good).0.1;
-  says = ap (body_of 1) (read ∙ ap (λ (s : Pages). overlaid s (page_of pages) 1) none) ∙ stands.spelled.0;
+  says = ap (body_of 1) (read ∙ ap (λ (s : Pages). overlaid s (page_of pages) 1) none)
+      ∙ stands.spelled.0;
 }
 
 -- a file that isn't emptied opens as it stands
-pub opens_kept : {S E : Type 0} {s : store.Ghosts S} (how : OpenHow) (map : Contents) (limit : ℕ) (r : Result (OpenFile S s) E) → how.truncate ≡ false → is_exclusive how ≡ false → IfOk r (λ file. StandsAs file map limit)
+pub opens_kept : {S E : Type 0} {s : store.Ghosts S} (how : OpenHow) (map : Contents) (limit : ℕ)
+    (r : Result (OpenFile S s) E) → how.truncate ≡ false → is_exclusive how ≡ false
+    → IfOk r (λ file. StandsAs file map limit)
     → IfOk r (λ file. (is_exclusive how ≡ false) × OpensAs how map limit file)
-opens_kept how map limit (Ok file) kept may stands = (may, subst (λ (b : Bool). StandsAs file (cond b empty map) (cond b how.limit limit)) (sym kept) stands)
+opens_kept how map limit (Ok file) kept may stands = (
+  may,
+  subst (λ (b : Bool). StandsAs file (cond b empty map) (cond b how.limit limit))
+      (sym kept) stands,
+)
 opens_kept how map limit (Err e) kept may stands = tt
 
 -- a page that is read and is no good meta page
-module _ (bytes read : List ℕ) (result : Result meta.Meta MetaFault) (fault : MetaFault) (was : result ≡ Err fault) (same : read ≡ bytes)
-    (body : (m : Meta) → IsMeta m → IsOkAnd result (λ r. model_meta r ≡ m) ↔ (body_of 1 read ≡ MetaPage m))
-    (version : (result ≡ Err meta_fault.Version) ↔ (HasMetaHeader read × (u32_at read 16 ≢ 1))) where
+module _ (bytes read : List ℕ) (result : Result meta.Meta MetaFault) (fault : MetaFault)
+    (was : result ≡ Err fault) (same : read ≡ bytes)
+    (body : (m : Meta) → IsMeta m
+    → IsOkAnd result (λ r. model_meta r ≡ m) ↔ (body_of 1 read ≡ MetaPage m))
+    (version : (result ≡ Err meta_fault.Version)
+    ↔ (HasMetaHeader read × (u32_at read 16 ≢ 1))) where
   no_meta : SaysNoMeta read
-  no_meta m valid says = subst (λ (r : Result meta.Meta MetaFault). IsOkAnd r (λ (n : meta.Meta). model_meta n ≡ m)) was ((body m valid).1 says)
+  no_meta m valid says = subst (λ (r : Result meta.Meta MetaFault).
+      IsOkAnd r (λ (n : meta.Meta). model_meta n ≡ m)) was ((body m valid).1 says)
 
   pub refused_version : fault ≡ meta_fault.Version → RefusesMeta bytes Version
-  refused_version is = subst (λ (b : List ℕ). RefusesMeta b Version) same (let says = version.0 (was ∙ ap Err is) in (no_meta, says.0, says.1))
+  refused_version is = subst (λ (b : List ℕ). RefusesMeta b Version) same
+      (let says = version.0 (was ∙ ap Err is) in (no_meta, says.0, says.1))
 
   pub refused_meta : fault ≡ meta_fault.Damaged → RefusesMeta bytes Damaged
   refused_meta is = subst (λ (b : List ℕ). RefusesMeta b Damaged) same (
@@ -56,5 +71,6 @@ module _ (bytes read : List ℕ) (result : Result meta.Meta MetaFault) (fault : 
     ],
   )
     where
-      two_faults : fault ≡ meta_fault.Damaged → ◌≡◌ {A = Result meta.Meta MetaFault} (Err fault) (Err meta_fault.Version) → ⊥
+      two_faults : fault ≡ meta_fault.Damaged
+          → ◌≡◌ {A = Result meta.Meta MetaFault} (Err fault) (Err meta_fault.Version) → ⊥
       two_faults one two = cc

@@ -27,28 +27,36 @@ limit_says : (limit : ℕ) → is_limit limit ≡ true → (1 ≤ limit) × (lim
 limit_says limit is = (grind (arith, nat_tests), grind (arith, nat_tests))
 
 -- what is counted is what is needed
-pub sectors_are : (limit buckets segments : ℕ) → 1 ≤ limit → limit ≤ 1000000 → buckets ≡ div_ceil limit 8 → segments ≡ div_ceil buckets 508 → Some (8 * (2 + segments + buckets + limit)) ≡ sectors_for limit
+pub sectors_are : (limit buckets segments : ℕ) → 1 ≤ limit → limit ≤ 1000000
+    → buckets ≡ div_ceil limit 8 → segments ≡ div_ceil buckets 508
+    → Some (8 * (2 + segments + buckets + limit)) ≡ sectors_for limit
 sectors_are limit buckets segments least most are parts =
     let b : buckets ≡ buckets_for limit = are ∙ omega arith in
-    let s : segments ≡ segments_for (buckets_for limit) = parts ∙ ap (λ (n : ℕ). div_ceil n 508) b ∙ omega arith in
-    ap (λ (n : ℕ). Some (8 * n)) (ap (λ (n : ℕ). 2 + n + buckets + limit) s ∙ ap (λ (n : ℕ). 2 + segments_for (buckets_for limit) + n + limit) b)
+    let s : segments ≡ segments_for (buckets_for limit) =
+    parts ∙ ap (λ (n : ℕ). div_ceil n 508) b ∙ omega arith in
+    ap (λ (n : ℕ). Some (8 * n)) (ap (λ (n : ℕ). 2 + n + buckets + limit) s
+    ∙ ap (λ (n : ℕ). 2 + segments_for (buckets_for limit) + n + limit) b)
     ∙ ap (λ (x : Bool). cond x (Some (8 * home limit)) None) (sym (limit_is limit least most))
 
 -- ---- room
 
-room_limit : (b : Bool) (n sectors : ℕ) → room_fault (cond b (Some n) None) sectors ≡ None → b ≡ true
+room_limit : (b : Bool) (n sectors : ℕ)
+    → room_fault (cond b (Some n) None) sectors ≡ None → b ≡ true
 room_limit true n sectors none = refl
 room_limit false n sectors none = absurd (cc)
 
 -- where there is room, the limit is one
-pub limit_of_room : (limit sectors : ℕ) → room_fault (sectors_for limit) sectors ≡ None → (1 ≤ limit) × (limit ≤ 1000000)
-limit_of_room limit sectors none = limit_says limit (room_limit (is_limit limit) (8 * home limit) sectors none)
+pub limit_of_room : (limit sectors : ℕ) → room_fault (sectors_for limit) sectors ≡ None
+    → (1 ≤ limit) × (limit ≤ 1000000)
+limit_of_room limit sectors none =
+    limit_says limit (room_limit (is_limit limit) (8 * home limit) sectors none)
 
 small_room : (b : Bool) (f : Fault) → cond b (Some TooSmall) None ≡ Some f → f ≡ TooSmall
 small_room true f is = cc
 small_room false f is = absurd (cc)
 
-pub of_room : (needed : Option ℕ) (sectors : ℕ) (f : Fault) → room_fault needed sectors ≡ Some f → (f ≡ BadLimit) ⊎ (f ≡ TooSmall)
+pub of_room : (needed : Option ℕ) (sectors : ℕ) (f : Fault) → room_fault needed sectors ≡ Some f
+    → (f ≡ BadLimit) ⊎ (f ≡ TooSmall)
 of_room None sectors f is = inl (cc)
 of_room (Some n) sectors f is = inr (small_room (nat_lt sectors n) f is)
 
@@ -56,27 +64,38 @@ apart : {P : Type 0} (f : Fault) → (f ≡ BadLimit) ⊎ (f ≡ TooSmall) → f
 apart f (inl limit) is = let both = sym limit ∙ is in cc
 apart f (inr small) is = let both = sym small ∙ is in cc
 
-pub of_room_apart : {P : Type 0} (needed : Option ℕ) (sectors : ℕ) (f : Fault) → room_fault needed sectors ≡ Some f → f ≡ Device → P
+pub of_room_apart : {P : Type 0} (needed : Option ℕ) (sectors : ℕ) (f : Fault)
+    → room_fault needed sectors ≡ Some f → f ≡ Device → P
 of_room_apart needed sectors f is device = apart f (of_room needed sectors f is) device
 
 -- nothing was told that refuses the limit
-pub has_room : (limit sectors same : ℕ) (told : Option Fault) → same ≡ sectors → told ≡ room_fault (sectors_for limit) same → told ≡ None → room_fault (sectors_for limit) sectors ≡ None
-has_room limit sectors same told is said none = ap (room_fault (sectors_for limit)) (sym is) ∙ sym said ∙ none
+pub has_room : (limit sectors same : ℕ) (told : Option Fault) → same ≡ sectors
+    → told ≡ room_fault (sectors_for limit) same → told ≡ None
+    → room_fault (sectors_for limit) sectors ≡ None
+has_room limit sectors same told is said none =
+    ap (room_fault (sectors_for limit)) (sym is) ∙ sym said ∙ none
 
 -- where the limit has room, and the commit too, nothing refuses an emptying
-pub allows_emptying : (limit sectors end : ℕ) → room_fault (sectors_for limit) sectors ≡ None → end + 3 ≤ sectors / 4 → emptying_fault limit sectors end ≡ None
-allows_emptying limit sectors end room fits = ap (λ (o : Option Fault). option_or o (commit_fault sectors end)) room ∙ commits fits
+pub allows_emptying : (limit sectors end : ℕ) → room_fault (sectors_for limit) sectors ≡ None
+    → end + 3 ≤ sectors / 4 → emptying_fault limit sectors end ≡ None
+allows_emptying limit sectors end room fits =
+    ap (λ (o : Option Fault). option_or o (commit_fault sectors end)) room ∙ commits fits
   where
     commits : end + 3 ≤ sectors / 4 → commit_fault sectors end ≡ None
     commits le = grind (arith, nat_tests)
 
 -- ---- a new meta page
 
-pub fresh_meta : (limit : ℕ) (m : Meta) → m ≡ meta_of (fresh_placement limit) → m ≡ meta_of (fresh_placement m.limit)
-fresh_meta limit m is = is ∙ ap (λ (n : ℕ). meta_of (fresh_placement n)) (sym (ap (λ (x : Meta). x.limit) is))
+pub fresh_meta : (limit : ℕ) (m : Meta) → m ≡ meta_of (fresh_placement limit)
+    → m ≡ meta_of (fresh_placement m.limit)
+fresh_meta limit m is = is ∙ ap (λ (n : ℕ). meta_of (fresh_placement n))
+    (sym (ap (λ (x : Meta). x.limit) is))
 
-pub fresh_valid : (limit : ℕ) (m : Meta) → (1 ≤ limit) × (limit ≤ 1000000) → m ≡ meta_of (fresh_placement limit) → IsMeta m
-fresh_valid limit m bounds is = subst IsMeta (sym is) (bodies_valid (fresh_placement limit) (fresh_is_good limit bounds.0 bounds.1).0).0.1
+pub fresh_valid : (limit : ℕ) (m : Meta) → (1 ≤ limit) × (limit ≤ 1000000)
+    → m ≡ meta_of (fresh_placement limit) → IsMeta m
+fresh_valid limit m bounds is =
+    subst IsMeta (sym is) (bodies_valid (fresh_placement limit)
+    (fresh_is_good limit bounds.0 bounds.1).0).0.1
 
 -- ---- a commit that was refused
 
@@ -86,19 +105,26 @@ EmptyingOnly f = (f ≡ BadLimit) ⊎ ((f ≡ TooSmall) ⊎ ((f ≡ Memory) ⊎ 
 
 module _ (e : PageFault) (only : (e ≡ page.Memory) ⊎ ((e ≡ page.NoRoom) ⊎ (e ≡ page.Device))) where
   pub of_commit : EmptyingOnly (fault_from e)
-  of_commit = inr (inr (⊎_elim (λ memory. inl (ap fault_from memory)) (λ other. ⊎_elim (λ room. inr (inl (ap fault_from room))) (λ device. inr (inr (ap fault_from device))) other) only))
+  of_commit = inr (inr (⊎_elim (λ memory. inl (ap fault_from memory))
+      (λ other. ⊎_elim (λ room. inr (inl (ap fault_from room)))
+      (λ device. inr (inr (ap fault_from device))) other) only))
 
   pub came_from : fault_from e ≡ Device → e ≡ page.Device
   came_from is = ⊎_elim
       (λ memory. absurd (let both : Memory ≡ Device = sym (ap fault_from memory) ∙ is in cc))
-      (λ other. ⊎_elim (λ room. absurd (let both : NoRoom ≡ Device = sym (ap fault_from room) ∙ is in cc)) (λ device. device) other)
+      (λ other. ⊎_elim (λ room. absurd
+      (let both : NoRoom ≡ Device = sym (ap fault_from room) ∙ is in cc))
+      (λ device. device) other)
       only
 
-  pub refuses_commit : (limit sectors end : ℕ) → room_fault (sectors_for limit) sectors ≡ None → (e ≡ page.NoRoom → sectors / 4 < end + 3) → (e ≡ page.Device → ⊥) → (emptying_fault limit sectors end ≡ Some (fault_from e)) ⊎ (fault_from e ≡ Memory)
+  pub refuses_commit : (limit sectors end : ℕ) → room_fault (sectors_for limit) sectors ≡ None
+      → (e ≡ page.NoRoom → sectors / 4 < end + 3) → (e ≡ page.Device → ⊥)
+      → (emptying_fault limit sectors end ≡ Some (fault_from e)) ⊎ (fault_from e ≡ Memory)
   refuses_commit limit sectors end room short other = ⊎_elim
       (λ memory. inr (ap fault_from memory))
       (λ more. ⊎_elim
-      (λ none. inl (ap (λ (o : Option Fault). option_or o (commit_fault sectors end)) room ∙ lacks (short none) ∙ ap (λ (x : PageFault). Some (fault_from x)) (sym none)))
+      (λ none. inl (ap (λ (o : Option Fault). option_or o (commit_fault sectors end)) room
+      ∙ lacks (short none) ∙ ap (λ (x : PageFault). Some (fault_from x)) (sym none)))
       (λ device. absurd (other device))
       more)
       only

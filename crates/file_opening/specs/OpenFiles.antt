@@ -15,22 +15,28 @@ use Rattle.dbm_fault.specs.declared.fault.Fault.{Fault}
 use Rattle.file_opening.specs.declared.file.OpenFile.{OpenFile}
 
 -- the device that an opening was given, whatever it answers
-abbrev pub device_left : {D : Type 0} {bound : device.Ghosts D} {s : Ghosts (Pager D bound)} → Result (OpenFile (Pager D bound) s) (D × Fault) → D
+abbrev pub device_left : {D : Type 0} {bound : device.Ghosts D} {s : Ghosts (Pager D bound)}
+    → Result (OpenFile (Pager D bound) s) (D × Fault) → D
 device_left (Ok file) = device_of file.store
 device_left (Err e) = e.0
 
 -- a file as an opening leaves it
-pub record IsJustOpened {S : Type 0} {s : Ghosts S} (for_writing : Bool) (pages : ℕ) (file : OpenFile S s) : Type 0 where
+pub record IsJustOpened {S : Type 0} {s : Ghosts S} (for_writing : Bool) (pages : ℕ)
+    (file : OpenFile S s) : Type 0 where
   pub usable : (s.state file.store).usable ≡ true
   pub writable : (s.state file.store).writable ≡ for_writing
   pub capacity : (s.state file.store).capacity ≡ pages
 
 -- its pages stand for this map and limit, and so does every image that a stop may leave now
-pub record StandsAs {S : Type 0} {s : Ghosts S} (file : OpenFile S s) (map : Contents) (limit : ℕ) : Type 0 where
+pub record StandsAs {S : Type 0} {s : Ghosts S} (file : OpenFile S s) (map : Contents)
+    (limit : ℕ) : Type 0 where
   pub holds : (s.state file.store).usable ≡ true → Holds s file.store (model_meta file.meta) map
-  pub rests : (s.state file.store).usable ≡ true → (settled : Settled) → s.settles_to file.store settled → ImageStandsFor settled map (model_meta file.meta).limit
+  pub rests : (s.state file.store).usable ≡ true → (settled : Settled)
+      → s.settles_to file.store settled → ImageStandsFor settled map (model_meta file.meta).limit
   pub limit_is : (model_meta file.meta).limit ≡ limit
 
--- it stands for the map, with this limit, or where it was to be emptied for none, with the limit asked for
+-- it stands for the map, with this limit, or where it was to be emptied for none, with the limit
+-- asked for
 abbrev pub OpensAs : {S : Type 0} {s : Ghosts S} → OpenHow → Contents → ℕ → OpenFile S s → Type 0
-OpensAs how map limit file = StandsAs file (if how.truncate then empty else map) (if how.truncate then how.limit else limit)
+OpensAs how map limit file = StandsAs file (if how.truncate then empty else map)
+    (if how.truncate then how.limit else limit)

@@ -26,7 +26,8 @@ use Rattle.dbm_fault.specs.declared.fault.Fault.TheVariants.{Memory, ReadOnly, N
 
 -- ---- what is asked
 
--- stores and deletes are allowed (POSIX: one opened for writing only is opened for reading and writing)
+-- stores and deletes are allowed (POSIX: one opened for writing only is opened for reading and
+-- writing)
 abbrev pub writes : Access → Bool
 writes access.ReadOnly = false
 writes access.WriteOnly = true
@@ -40,7 +41,8 @@ is_exclusive how = how.create && how.exclusive
 
 -- what refuses an opening before the device is called, if anything does
 abbrev pub early_fault : OpenHow → ℕ → Option Fault
-early_fault how sectors = if how.truncate && not (writes how.access) then Some ReadOnly else (if nat_lt sectors 16 then Some TooSmall else None)
+early_fault how sectors = if how.truncate && not (writes how.access) then Some ReadOnly
+    else (if nat_lt sectors 16 then Some TooSmall else None)
 
 -- a device of so many sectors has room for a database of the limit, if the limit is one
 abbrev pub room_fault : Option ℕ → ℕ → Option Fault
@@ -49,7 +51,9 @@ room_fault (Some needed) sectors = if nat_lt sectors needed then Some TooSmall e
 
 -- why no database is made on a blank device, if none is
 abbrev pub making_fault : OpenHow → ℕ → Option Fault
-making_fault how sectors = if not how.create then Some NotADatabase else (if not (writes how.access) then Some ReadOnly else room_fault (sectors_for how.limit) sectors)
+making_fault how sectors = if not how.create then Some NotADatabase
+    else (if not (writes how.access) then Some ReadOnly
+    else room_fault (sectors_for how.limit) sectors)
 
 -- a commit of the three pages of an empty database has no room behind a file that ends there
 abbrev pub commit_fault : ℕ → ℕ → Option Fault
@@ -57,7 +61,8 @@ commit_fault sectors end = if nat_lt (sectors / 4) (end + 3) then Some NoRoom el
 
 -- why a database whose file ends there is not emptied with that limit, if it is not
 abbrev pub emptying_fault : ℕ → ℕ → ℕ → Option Fault
-emptying_fault limit sectors end = option_or (room_fault (sectors_for limit) sectors) (commit_fault sectors end)
+emptying_fault limit sectors end =
+    option_or (room_fault (sectors_for limit) sectors) (commit_fault sectors end)
 
 -- a good meta page
 pub record SaysMeta (bytes : List ℕ) : Type 0 where
@@ -76,44 +81,61 @@ RefusesMeta bytes _ = ⊥
 
 -- why a file is refused: its meta page, and then where it was to be emptied
 abbrev pub RefusesFile : OpenHow → ℕ → Pages → Fault → Type 0
-RefusesFile how sectors pages fault = RefusesMeta (page_of pages 1) fault ⊎ (SaysMeta (page_of pages 1) × (how.truncate ≡ true) × (emptying_fault how.limit sectors (length pages + 1) ≡ Some fault))
+RefusesFile how sectors pages fault =
+    RefusesMeta (page_of pages 1) fault
+    ⊎ (SaysMeta (page_of pages 1) × (how.truncate ≡ true)
+    × (emptying_fault how.limit sectors (length pages + 1) ≡ Some fault))
 
 -- the same where no database may be there
 abbrev pub RefusesFound : OpenHow → ℕ → Pages → Fault → Type 0
-RefusesFound how sectors pages fault = ((is_exclusive how ≡ true) × (fault ≡ Exists)) ⊎ ((is_exclusive how ≡ false) × RefusesFile how sectors pages fault)
+RefusesFound how sectors pages fault =
+    ((is_exclusive how ≡ true) × (fault ≡ Exists))
+    ⊎ ((is_exclusive how ≡ false) × RefusesFile how sectors pages fault)
 
 abbrev pub RefusesBy : Settled → OpenHow → ℕ → Image → Fault → Type 0
 RefusesBy blank how sectors image fault = making_fault how sectors ≡ Some fault
 RefusesBy (file_of pages) how sectors image fault = RefusesFound how sectors pages fault
-RefusesBy nothing how sectors image fault = fault ≡ (if is_exclusive how then Exists else (if has_magic (image 0) then Damaged else NotADatabase))
+RefusesBy nothing how sectors image fault =
+    fault ≡ (if is_exclusive how then Exists
+    else (if has_magic (image 0) then Damaged else NotADatabase))
 
 -- the same, or want of memory for its pages where it was to be emptied
 abbrev pub RefusesOpened : OpenHow → ℕ → Pages → Fault → Type 0
-RefusesOpened how sectors pages fault = RefusesFound how sectors pages fault ⊎ ((fault ≡ Memory) × (how.truncate ≡ true))
+RefusesOpened how sectors pages fault =
+    RefusesFound how sectors pages fault ⊎ ((fault ≡ Memory) × (how.truncate ≡ true))
 
 -- memory is taken for the pages of an emptied database, and for redo images that may not be written
 abbrev pub TakesMemory : OpenHow → ℕ → Image → Type 0
-TakesMemory how sectors image = (how.truncate ≡ true) ⊎ ((writes how.access ≡ false) × SaysArmed (sectors / 4) image)
+TakesMemory how sectors image =
+    (how.truncate ≡ true) ⊎ ((writes how.access ≡ false) × SaysArmed (sectors / 4) image)
 
 -- why an opening of a device with this image is refused
 abbrev pub Refuses : OpenHow → ℕ → Image → Fault → Type 0
-Refuses how sectors image fault = RefusesBy (settled (sectors / 4) image) how sectors image fault ⊎ ((fault ≡ Memory) × TakesMemory how sectors image)
+Refuses how sectors image fault =
+    RefusesBy (settled (sectors / 4) image) how sectors image fault
+    ⊎ ((fault ≡ Memory) × TakesMemory how sectors image)
 
--- the fault is that of an image that the device had at the start, and for writing what a stop now leaves settles as it does
-pub record IsRefusedOpening (how : OpenHow) (sectors : ℕ) (start now : Candidates) (fault : Fault) : Type 0 where
+-- the fault is that of an image that the device had at the start, and for writing what a stop now
+-- leaves settles as it does
+pub record IsRefusedOpening (how : OpenHow) (sectors : ℕ) (start now : Candidates)
+    (fault : Fault) : Type 0 where
   pub image : Image
   pub at_start : IsImageOf start image
   pub refuses : Refuses how sectors image fault
-  pub left : writes how.access ≡ true → (after : Image) → IsImageOf now after → settled (sectors / 4) after ≡ settled (sectors / 4) image
+  pub left : writes how.access ≡ true → (after : Image) → IsImageOf now after
+      → settled (sectors / 4) after ≡ settled (sectors / 4) image
 
 -- nothing that is asked refuses what the device holds
 abbrev pub Allows : OpenHow → ℕ → Settled → Type 0
 Allows how sectors blank = making_fault how sectors ≡ None
-Allows how sectors (file_of pages) = (is_exclusive how ≡ false) × (how.truncate ≡ true → emptying_fault how.limit sectors (length pages + 1) ≡ None)
+Allows how sectors (file_of pages) =
+    (is_exclusive how ≡ false) × (how.truncate ≡ true
+    → emptying_fault how.limit sectors (length pages + 1) ≡ None)
 Allows how sectors nothing = Unit {0}
 
 abbrev pub AllAllow : OpenHow → ℕ → Candidates → Type 0
-AllAllow how sectors start = (image : Image) → IsImageOf start image → Allows how sectors (settled (sectors / 4) image)
+AllAllow how sectors start = (image : Image) → IsImageOf start image
+    → Allows how sectors (settled (sectors / 4) image)
 
 -- ---- what it makes
 
@@ -142,20 +164,25 @@ BeginsEmpty how sectors start = Makes how sectors start ⊎ Empties how sectors 
 
 -- what an opening may leave: what the device held at the start, or an empty database
 abbrev pub MayRemain : OpenHow → ℕ → Candidates → Settled → Type 0
-MayRemain how sectors start now = SettlesTo (sectors / 4) start now ⊎ (BeginsEmpty how sectors start × ImageStandsFor now empty how.limit)
+MayRemain how sectors start now =
+    SettlesTo (sectors / 4) start now
+    ⊎ (BeginsEmpty how sectors start × ImageStandsFor now empty how.limit)
 
 -- ---- what is opened
 
--- what is kept of the meta page of a file: what it says, or where it was emptied that of an empty database
+-- what is kept of the meta page of a file: what it says, or where it was emptied that of an empty
+-- database
 abbrev pub KeepsMetaOf : OpenHow → ℕ → Pages → Meta → Type 0
 KeepsMetaOf how sectors file kept =
-    ((how.truncate ≡ false) × (is_exclusive how ≡ false) × IsMeta kept × (body_of 1 (page_of file 1) ≡ MetaPage kept))
+    ((how.truncate ≡ false) × (is_exclusive how ≡ false) × IsMeta kept
+    × (body_of 1 (page_of file 1) ≡ MetaPage kept))
     ⊎ (EmptiesFile how sectors file × (kept ≡ meta_of (fresh_placement how.limit)))
 
 -- the same where the device may hold such a file, or where a database was made
 abbrev pub KeepsMeta : OpenHow → ℕ → Candidates → Meta → Type 0
 KeepsMeta how sectors start kept =
-    ((file : Pages) × SettlesTo (sectors / 4) start (file_of file) × KeepsMetaOf how sectors file kept)
+    ((file : Pages) × SettlesTo (sectors / 4) start (file_of file)
+    × KeepsMetaOf how sectors file kept)
     ⊎ (Makes how sectors start × (kept ≡ meta_of (fresh_placement how.limit)))
 
 -- an image at the start stood for this map and limit
@@ -166,9 +193,12 @@ pub record StoodFor (pages : ℕ) (start : Candidates) (map : Contents) (limit :
 
 -- each image at the start is blank or stands for a map
 abbrev pub AllStand : ℕ → Candidates → Type 0
-AllStand pages start = (image : Image) → IsImageOf start image → (settled pages image ≡ blank) ⊎ ((map : Contents) × (limit : ℕ) × ImageStandsFor (settled pages image) map limit)
+AllStand pages start = (image : Image) → IsImageOf start image
+    → (settled pages image ≡ blank)
+    ⊎ ((map : Contents) × (limit : ℕ) × ImageStandsFor (settled pages image) map limit)
 
 -- what is opened is what an image at the start stood for, or is made or emptied
 abbrev pub IsOpened : OpenHow → ℕ → Candidates → Contents → ℕ → Type 0
 IsOpened how sectors start map limit =
-    (StoodFor (sectors / 4) start map limit × (how.truncate ≡ false) × (is_exclusive how ≡ false)) ⊎ (BeginsEmpty how sectors start × (map ≡ empty) × (limit ≡ how.limit))
+    (StoodFor (sectors / 4) start map limit × (how.truncate ≡ false) × (is_exclusive how ≡ false))
+    ⊎ (BeginsEmpty how sectors start × (map ≡ empty) × (limit ≡ how.limit))

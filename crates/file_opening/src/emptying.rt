@@ -36,7 +36,8 @@ fn stage_empty<S: PageStore>(store: &mut S, pages: &[Page; 3]) -> Result<u32, Pa
     ensures stages { StagesOnly S.PageStore store.old store.new }
     ensures only { IsErrAmong result (Broken ∷ Memory ∷ []) }
     ensures broken { IsErrOf result Broken → (S.state store.old).usable ≡ true → ⊥ }
-    ensures staged { IfOk result (λ end. (end ≡ 4) × ((S.state store.new).staged ≡ bytes_of pages.now)) }
+    ensures staged { IfOk result (λ end.
+        (end ≡ 4) × ((S.state store.new).staged ≡ bytes_of pages.now)) }
 {
     store.stage(1, &pages[0])?;
     store.stage(2, &pages[1])?;
@@ -56,12 +57,20 @@ fn commit_empty<S: PageStore>(store: &mut S, meta: &Meta) -> Result<(), PageFaul
     ensures cause { HasDeviceCause (S.faults store.old) (S.faults store.new) result }
     ensures honesty { S.honest store.new ↔ S.honest store.old }
     ensures only { IsErrAmong result (Memory ∷ NoRoom ∷ Device ∷ []) }
-    ensures no_room { IsErrOf result NoRoom → (S.state store.old).capacity < (S.state store.old).end + 3 }
-    ensures holds { S.honest store.old → OnOk result (Holds S.PageStore store.new (model_meta meta.now) empty) }
+    ensures no_room { IsErrOf result NoRoom
+        → (S.state store.old).capacity < (S.state store.old).end + 3 }
+    ensures holds { S.honest store.old
+        → OnOk result (Holds S.PageStore store.new (model_meta meta.now) empty) }
     ensures room { OnOk result ((S.state store.old).end + 3 ≤ (S.state store.old).capacity) }
-    ensures any_moment { S.honest store.old → LeavesOnly S.moment S.settled_since store.old store.new (λ now. (now ≡ file_of (S.committed store.old)) ⊎
-        (((S.state store.old).end + 3 ≤ (S.state store.old).capacity) × ImageStandsFor now empty meta.now.limit)) }
-    ensures unchanged { S.honest store.old → OnErr result ((S.state store.new).usable ≡ true → LeavesOnly S.moment S.settled_since store.old store.new (λ now. now ≡ file_of (S.committed store.old))) }
+    ensures any_moment { S.honest store.old
+        → LeavesOnly S.moment S.settled_since store.old store.new
+        (λ now. (now ≡ file_of (S.committed store.old)) ⊎
+        (((S.state store.old).end + 3 ≤ (S.state store.old).capacity)
+        × ImageStandsFor now empty meta.now.limit)) }
+    ensures unchanged { S.honest store.old
+        → OnErr result ((S.state store.new).usable ≡ true
+        → LeavesOnly S.moment S.settled_since store.old store.new
+        (λ now. now ≡ file_of (S.committed store.old))) }
 {
     let staged = stage_empty(store, &pages_of_empty(meta));
     finish(store, staged)
@@ -74,18 +83,35 @@ pub fn emptied<D: SectorDev>(
     sectors: u32,
 ) -> Result<OpenFile<Pager<D>>, (D, Fault)>
     requires sectors { sectors ≡ D.sectors (device_of store) }
-    requires fresh { IsFreshStore (D.sectors (device_of store) / 4) true (⟦<Pager<D> as PageStore>⟧.state store) }
+    requires fresh { IsFreshStore (D.sectors (device_of store) / 4) true
+        (⟦<Pager<D> as PageStore>⟧.state store) }
     ensures fresh { IfOk result (IsJustOpened true (D.sectors (device_of store) / 4)) }
-    ensures any_moment { D.honest (device_of store) → LeavesOnly D.moment (IsOutcome D.left_since (settled (D.sectors (device_of store) / 4))) (device_of store) (device_left result)
+    ensures any_moment { D.honest (device_of store)
+        → LeavesOnly D.moment (IsOutcome D.left_since (settled (D.sectors (device_of store) / 4)))
+        (device_of store) (device_left result)
         (λ now. (now ≡ file_of (⟦<Pager<D> as PageStore>⟧.committed store)) ⊎
-        ((emptying_fault limit (D.sectors (device_of store)) (⟦<Pager<D> as PageStore>⟧.state store).end ≡ None) × ImageStandsFor now empty limit)) }
-    ensures room { IfOk result (λ file. emptying_fault limit (D.sectors (device_of store)) (⟦<Pager<D> as PageStore>⟧.state store).end ≡ None) }
+        ((emptying_fault limit (D.sectors (device_of store))
+        (⟦<Pager<D> as PageStore>⟧.state store).end ≡ None)
+        × ImageStandsFor now empty limit)) }
+    ensures room { IfOk result (λ file.
+        emptying_fault limit (D.sectors (device_of store))
+        (⟦<Pager<D> as PageStore>⟧.state store).end ≡ None) }
     ensures stands { D.honest (device_of store) → IfOk result (λ file. StandsAs file empty limit) }
-    ensures meta { IfOk result (λ file. model_meta file.meta ≡ placement_meta (fresh_placement limit)) }
-    ensures refused { IfErr result (λ e. e.1 ≢ Fault.Device → (emptying_fault limit (D.sectors (device_of store)) (⟦<Pager<D> as PageStore>⟧.state store).end ≡ Some e.1) ⊎ (e.1 ≡ Fault.Memory)) }
-    ensures left { D.honest (device_of store) → IfErr result (λ e. e.1 ≢ Fault.Device → (after : Image) → IsImageOf (D.candidate e.0) after → settled (D.sectors (device_of store) / 4) after ≡ file_of (⟦<Pager<D> as PageStore>⟧.committed store)) }
-    ensures device { IfErr result (λ e. e.1 ≡ Fault.Device → MoreFaults (D.faults (device_of store)) (D.faults e.0)) }
-    ensures only { IfErr result (λ e. (e.1 ≡ Fault.BadLimit) ⊎ ((e.1 ≡ Fault.TooSmall) ⊎ ((e.1 ≡ Fault.Memory) ⊎ ((e.1 ≡ Fault.NoRoom) ⊎ (e.1 ≡ Fault.Device))))) }
+    ensures meta { IfOk result (λ file.
+        model_meta file.meta ≡ placement_meta (fresh_placement limit)) }
+    ensures refused { IfErr result
+        (λ e. e.1 ≢ Fault.Device → (emptying_fault limit (D.sectors (device_of store))
+        (⟦<Pager<D> as PageStore>⟧.state store).end ≡ Some e.1) ⊎ (e.1 ≡ Fault.Memory)) }
+    ensures left { D.honest (device_of store)
+        → IfErr result (λ e. e.1 ≢ Fault.Device → (after : Image)
+        → IsImageOf (D.candidate e.0) after
+        → settled (D.sectors (device_of store) / 4) after
+        ≡ file_of (⟦<Pager<D> as PageStore>⟧.committed store)) }
+    ensures device { IfErr result
+        (λ e. e.1 ≡ Fault.Device → MoreFaults (D.faults (device_of store)) (D.faults e.0)) }
+    ensures only { IfErr result (λ e.
+        (e.1 ≡ Fault.BadLimit) ⊎ ((e.1 ≡ Fault.TooSmall)
+        ⊎ ((e.1 ≡ Fault.Memory) ⊎ ((e.1 ≡ Fault.NoRoom) ⊎ (e.1 ≡ Fault.Device))))) }
     ensures honesty { D.honest (device_left result) ↔ D.honest (device_of store) }
     ensures later { D.faults (device_of store) ≤ D.faults (device_left result) }
     ensures size { D.sectors (device_left result) / 4 ≡ D.sectors (device_of store) / 4 }

@@ -51,7 +51,8 @@ fn making_refusal(how: OpenHow, sectors: u32) -> Option<Fault>
     room_refusal(how.limit, sectors)
 }
 
-/// The pages of a new file: the meta page, one segment page with one head, and that head page, which is empty.
+/// The pages of a new file: the meta page, one segment page with one head, and that head page,
+/// which is empty.
 pub fn pages_of_empty(meta: &Meta) -> [Page; 3]
     requires limited { (1 ≤ meta.now.limit) × (meta.now.limit ≤ 1000000) }
     requires fresh { model_meta meta.now ≡ placement_meta (fresh_placement meta.now.limit) }
@@ -72,16 +73,28 @@ pub fn made<D: SectorDev>(
 ) -> Result<OpenFile<Pager<D>>, (D, Fault)>
     ensures fresh { IfOk result (IsJustOpened true (D.sectors dev / 4)) }
 
-    // Where every image was blank, every image of every moment since is blank or that of the new database.
-    ensures any_moment { D.honest dev → ((image : Image) → IsImageOf (D.candidate dev) image → settled (D.sectors dev / 4) image ≡ blank) → LeavesOnly D.moment D.left_since dev (device_left result)
-        (λ image. (settled (D.sectors dev / 4) image ≡ blank) ⊎ ((making_fault how (D.sectors dev) ≡ None) × ImageStandsFor (settled (D.sectors dev / 4) image) empty how.limit)) }
+    // Where every image was blank, every image of every moment since is blank or that of the new
+    // database.
+    ensures any_moment { D.honest dev
+        → ((image : Image) → IsImageOf (D.candidate dev) image
+        → settled (D.sectors dev / 4) image ≡ blank)
+        → LeavesOnly D.moment D.left_since dev (device_left result)
+        (λ image. (settled (D.sectors dev / 4) image ≡ blank)
+        ⊎ ((making_fault how (D.sectors dev) ≡ None)
+        × ImageStandsFor (settled (D.sectors dev / 4) image) empty how.limit)) }
     ensures stands { D.honest dev → IfOk result (λ file. StandsAs file empty how.limit) }
-    ensures meta { IfOk result (λ file. model_meta file.meta ≡ placement_meta (fresh_placement how.limit)) }
+    ensures meta { IfOk result (λ file.
+        model_meta file.meta ≡ placement_meta (fresh_placement how.limit)) }
     ensures asked { IfOk result (λ file. making_fault how (D.sectors dev) ≡ None) }
-    ensures refused { IfErr result (λ e. e.1 ≢ Fault.Device → (making_fault how (D.sectors dev) ≡ Some e.1) × (e.0 ≡ dev)) }
-    ensures untouched { IfSome (making_fault how (D.sectors dev)) (λ fault. result ≡ Err (dev, fault)) }
-    ensures device { IfErr result (λ e. e.1 ≡ Fault.Device → MoreFaults (D.faults dev) (D.faults e.0)) }
-    ensures only { IfErr result (λ e. (e.1 ≡ Fault.Device) ⊎ ((e.1 ≡ Fault.NotADatabase) ⊎ ((e.1 ≡ Fault.ReadOnly) ⊎ ((e.1 ≡ Fault.BadLimit) ⊎ (e.1 ≡ Fault.TooSmall))))) }
+    ensures refused { IfErr result
+        (λ e. e.1 ≢ Fault.Device → (making_fault how (D.sectors dev) ≡ Some e.1) × (e.0 ≡ dev)) }
+    ensures untouched { IfSome (making_fault how (D.sectors dev))
+        (λ fault. result ≡ Err (dev, fault)) }
+    ensures device { IfErr result
+        (λ e. e.1 ≡ Fault.Device → MoreFaults (D.faults dev) (D.faults e.0)) }
+    ensures only { IfErr result (λ e.
+        (e.1 ≡ Fault.Device) ⊎ ((e.1 ≡ Fault.NotADatabase)
+        ⊎ ((e.1 ≡ Fault.ReadOnly) ⊎ ((e.1 ≡ Fault.BadLimit) ⊎ (e.1 ≡ Fault.TooSmall))))) }
     ensures honesty { D.honest (device_left result) ↔ D.honest dev }
     ensures later { D.faults dev ≤ D.faults (device_left result) }
     ensures size { D.sectors (device_left result) ≡ D.sectors dev }

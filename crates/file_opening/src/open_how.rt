@@ -5,9 +5,11 @@ ghost use Rattle.file_opening.specs.Opening.{writes, is_exclusive};
 /// What an opened database may be asked to do (POSIX: the access mode of the open flags).
 #[derive(Clone, Copy, Debug, PartialEq, Eq)]
 pub enum Access {
-    /// Reading alone: a store or a delete is refused as `ReadOnly`, and the device is never written.
+    /// Reading alone: a store or a delete is refused as `ReadOnly`, and the device is never
+    /// written.
     ReadOnly,
-    /// The same as `ReadWrite` (POSIX: a database opened for writing only is opened for reading and writing).
+    /// The same as `ReadWrite` (POSIX: a database opened for writing only is opened for reading and
+    /// writing).
     WriteOnly,
     ReadWrite,
 }
@@ -34,7 +36,8 @@ pub struct OpenHow {
     pub exclusive: bool,
     /// Make a database that is there empty, with a new limit (POSIX: O_TRUNC).
     pub truncate: bool,
-    /// How many pairs a database that is made or emptied may have: 1 to 1,000,000. It is looked at in no other case.
+    /// How many pairs a database that is made or emptied may have: 1 to 1,000,000. It is looked at
+    /// in no other case.
     pub limit: u32,
 }
 

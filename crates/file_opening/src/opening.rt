@@ -55,27 +55,49 @@ pub fn open_file<D: SectorDev>(
     ensures early { IfSome (early_fault how (D.sectors dev)) (λ fault. result ≡ Err (dev, fault)) }
     ensures fresh { IfOk result (IsJustOpened (writes how.access) (D.sectors dev / 4)) }
 
-    // Every image of every moment settles as one did at the start, or stands for the empty database that was asked for.
-    ensures any_moment { D.honest dev → LeavesOnly D.moment (IsOutcome D.left_since (settled (D.sectors dev / 4))) dev (device_left result) (MayRemain how (D.sectors dev) (D.candidate dev)) }
+    // Every image of every moment settles as one did at the start, or stands for the empty database
+    // that was asked for.
+    ensures any_moment { D.honest dev
+        → LeavesOnly D.moment (IsOutcome D.left_since (settled (D.sectors dev / 4))) dev
+        (device_left result) (MayRemain how (D.sectors dev) (D.candidate dev)) }
 
-    // What it keeps of the meta page is what a file at the start says, whatever else is in it, or that of an empty database.
-    ensures opened { D.honest dev → IfOk result (λ file. KeepsMeta how (D.sectors dev) (D.candidate dev) (model_meta file.meta)) }
+    // What it keeps of the meta page is what a file at the start says, whatever else is in it, or
+    // that of an empty database.
+    ensures opened { D.honest dev
+        → IfOk result (λ file. KeepsMeta how (D.sectors dev) (D.candidate dev)
+        (model_meta file.meta)) }
 
-    // Where each image at the start is blank or stands for a map, what is opened holds one of these maps, or is new and empty.
-    ensures stands { D.honest dev → (writes how.access ≡ false → IsStable (D.candidate dev) (D.seen dev)) → AllStand (D.sectors dev / 4) (D.candidate dev) → IfOk result (λ file. (map : Contents) × (limit : ℕ) × StandsAs file map limit × IsOpened how (D.sectors dev) (D.candidate dev) map limit) }
+    // Where each image at the start is blank or stands for a map, what is opened holds one of these
+    // maps, or is new and empty.
+    ensures stands { D.honest dev
+        → (writes how.access ≡ false → IsStable (D.candidate dev) (D.seen dev))
+        → AllStand (D.sectors dev / 4) (D.candidate dev)
+        → IfOk result (λ file. (map : Contents) × (limit : ℕ) × StandsAs file map limit
+        × IsOpened how (D.sectors dev) (D.candidate dev) map limit) }
 
     // For reading, nothing is written and nothing synced.
-    ensures only_reads { writes how.access ≡ false → D.honest dev → OnlyReads D.SectorDev dev (device_left result) }
+    ensures only_reads { writes how.access ≡ false → D.honest dev
+        → OnlyReads D.SectorDev dev (device_left result) }
 
-    // Where each image stands for a map and allows what is asked, nothing but the device and want of memory refuses it.
-    ensures opens { D.honest dev → early_fault how (D.sectors dev) ≡ None → AllStand (D.sectors dev / 4) (D.candidate dev) → AllAllow how (D.sectors dev) (D.candidate dev) →
-        IfErr result (λ e. (e.1 ≡ Fault.Device) ⊎ ((e.1 ≡ Fault.Memory) × ((how.truncate ≡ true) ⊎ (writes how.access ≡ false)))) }
-    ensures refused { D.honest dev → early_fault how (D.sectors dev) ≡ None → IfErr result (λ e. e.1 ≢ Fault.Device → IsRefusedOpening how (D.sectors dev) (D.candidate dev) (D.candidate e.0) e.1) }
-    ensures device { IfErr result (λ e. e.1 ≡ Fault.Device → MoreFaults (D.faults dev) (D.faults e.0)) }
-    ensures only { IfErr result (λ e. (e.1 ≢ Fault.Broken) × (e.1 ≢ Fault.TooLong) × (e.1 ≢ Fault.Full) × (e.1 ≢ Fault.NoPass) × (e.1 ≢ Fault.Missing)) }
+    // Where each image stands for a map and allows what is asked, nothing but the device and want
+    // of memory refuses it.
+    ensures opens { D.honest dev → early_fault how (D.sectors dev) ≡ None
+        → AllStand (D.sectors dev / 4) (D.candidate dev)
+        → AllAllow how (D.sectors dev) (D.candidate dev) →
+        IfErr result (λ e. (e.1 ≡ Fault.Device)
+        ⊎ ((e.1 ≡ Fault.Memory) × ((how.truncate ≡ true) ⊎ (writes how.access ≡ false)))) }
+    ensures refused { D.honest dev → early_fault how (D.sectors dev) ≡ None
+        → IfErr result (λ e. e.1 ≢ Fault.Device
+        → IsRefusedOpening how (D.sectors dev) (D.candidate dev) (D.candidate e.0) e.1) }
+    ensures device { IfErr result
+        (λ e. e.1 ≡ Fault.Device → MoreFaults (D.faults dev) (D.faults e.0)) }
+    ensures only { IfErr result (λ e.
+        (e.1 ≢ Fault.Broken) × (e.1 ≢ Fault.TooLong) × (e.1 ≢ Fault.Full) × (e.1 ≢ Fault.NoPass)
+        × (e.1 ≢ Fault.Missing)) }
     ensures honesty { D.honest (device_left result) ↔ D.honest dev }
     ensures later { D.faults dev ≤ D.faults (device_left result) }
-    ensures size { (D.sectors (device_left result) / 4 ≡ D.sectors dev / 4) × (how.truncate ≡ false → D.sectors (device_left result) ≡ D.sectors dev) }
+    ensures size { (D.sectors (device_left result) / 4 ≡ D.sectors dev / 4)
+        × (how.truncate ≡ false → D.sectors (device_left result) ≡ D.sectors dev) }
 {
     let sectors = dev.capacity();
     if let Some(fault) = early_refusal(how, sectors) {
@@ -122,23 +144,49 @@ fn opened<D: SectorDev>(
     sectors: u32,
 ) -> Result<OpenFile<Pager<D>>, (D, Fault)>
     requires sectors { sectors ≡ D.sectors (device_of store) }
-    requires fresh { IsFreshStore (D.sectors (device_of store) / 4) (writes how.access) (⟦<Pager<D> as PageStore>⟧.state store) }
+    requires fresh { IsFreshStore (D.sectors (device_of store) / 4) (writes how.access)
+        (⟦<Pager<D> as PageStore>⟧.state store) }
     requires written { how.truncate ≡ true → writes how.access ≡ true }
-    ensures fresh { IfOk result (IsJustOpened (writes how.access) (D.sectors (device_of store) / 4)) }
-    ensures any_moment { D.honest (device_of store) → LeavesOnly D.moment (IsOutcome D.left_since (settled (D.sectors (device_of store) / 4))) (device_of store) (device_left result)
-        (λ now. SettlesTo (D.sectors (device_of store) / 4) (D.candidate (device_of store)) now ⊎ (EmptiesFile how (D.sectors (device_of store)) (⟦<Pager<D> as PageStore>⟧.committed store) × ImageStandsFor now empty how.limit)) }
-    ensures stands { D.honest (device_of store) → ((now : Settled) → ⟦<Pager<D> as PageStore>⟧.settles_to store now → now ≡ file_of (⟦<Pager<D> as PageStore>⟧.committed store)) →
-        (map : Contents) → (limit : ℕ) → FileStandsFor (⟦<Pager<D> as PageStore>⟧.committed store) map limit → IfOk result (λ file. (is_exclusive how ≡ false) × OpensAs how map limit file) }
-    ensures opened { D.honest (device_of store) → IfOk result (λ file. KeepsMetaOf how (D.sectors (device_of store)) (⟦<Pager<D> as PageStore>⟧.committed store) (model_meta file.meta)) }
-    ensures emptied { D.honest (device_of store) → IfOk result (λ file. how.truncate ≡ true → emptying_fault how.limit (D.sectors (device_of store)) (length (⟦<Pager<D> as PageStore>⟧.committed store) + 1) ≡ None) }
-    ensures only_reads { writes how.access ≡ false → D.honest (device_of store) → OnlyReads D.SectorDev (device_of store) (device_left result) }
-    ensures refused { D.honest (device_of store) → IfErr result (λ e. e.1 ≢ Fault.Device → RefusesOpened how (D.sectors (device_of store)) (⟦<Pager<D> as PageStore>⟧.committed store) e.1 ×
-        (writes how.access ≡ true → (after : Image) → IsImageOf (D.candidate e.0) after → settled (D.sectors (device_of store) / 4) after ≡ file_of (⟦<Pager<D> as PageStore>⟧.committed store))) }
-    ensures device { IfErr result (λ e. e.1 ≡ Fault.Device → MoreFaults (D.faults (device_of store)) (D.faults e.0)) }
-    ensures only { IfErr result (λ e. (e.1 ≢ Fault.Broken) × (e.1 ≢ Fault.TooLong) × (e.1 ≢ Fault.Full) × (e.1 ≢ Fault.NoPass) × (e.1 ≢ Fault.Missing)) }
+    ensures fresh { IfOk result (IsJustOpened (writes how.access)
+        (D.sectors (device_of store) / 4)) }
+    ensures any_moment { D.honest (device_of store)
+        → LeavesOnly D.moment (IsOutcome D.left_since (settled (D.sectors (device_of store) / 4)))
+        (device_of store) (device_left result)
+        (λ now. SettlesTo (D.sectors (device_of store) / 4) (D.candidate (device_of store)) now
+        ⊎ (EmptiesFile how (D.sectors (device_of store))
+        (⟦<Pager<D> as PageStore>⟧.committed store)
+        × ImageStandsFor now empty how.limit)) }
+    ensures stands { D.honest (device_of store)
+        → ((now : Settled) → ⟦<Pager<D> as PageStore>⟧.settles_to store now
+        → now ≡ file_of (⟦<Pager<D> as PageStore>⟧.committed store)) →
+        (map : Contents) → (limit : ℕ)
+        → FileStandsFor (⟦<Pager<D> as PageStore>⟧.committed store) map limit
+        → IfOk result (λ file. (is_exclusive how ≡ false) × OpensAs how map limit file) }
+    ensures opened { D.honest (device_of store)
+        → IfOk result (λ file. KeepsMetaOf how (D.sectors (device_of store))
+        (⟦<Pager<D> as PageStore>⟧.committed store) (model_meta file.meta)) }
+    ensures emptied { D.honest (device_of store)
+        → IfOk result (λ file. how.truncate ≡ true
+        → emptying_fault how.limit (D.sectors (device_of store))
+        (length (⟦<Pager<D> as PageStore>⟧.committed store) + 1) ≡ None) }
+    ensures only_reads { writes how.access ≡ false → D.honest (device_of store)
+        → OnlyReads D.SectorDev (device_of store) (device_left result) }
+    ensures refused { D.honest (device_of store)
+        → IfErr result (λ e. e.1 ≢ Fault.Device
+        → RefusesOpened how (D.sectors (device_of store))
+        (⟦<Pager<D> as PageStore>⟧.committed store) e.1 ×
+        (writes how.access ≡ true → (after : Image) → IsImageOf (D.candidate e.0) after
+        → settled (D.sectors (device_of store) / 4) after
+        ≡ file_of (⟦<Pager<D> as PageStore>⟧.committed store))) }
+    ensures device { IfErr result
+        (λ e. e.1 ≡ Fault.Device → MoreFaults (D.faults (device_of store)) (D.faults e.0)) }
+    ensures only { IfErr result (λ e.
+        (e.1 ≢ Fault.Broken) × (e.1 ≢ Fault.TooLong) × (e.1 ≢ Fault.Full) × (e.1 ≢ Fault.NoPass)
+        × (e.1 ≢ Fault.Missing)) }
     ensures honesty { D.honest (device_left result) ↔ D.honest (device_of store) }
     ensures later { D.faults (device_of store) ≤ D.faults (device_left result) }
-    ensures size { (D.sectors (device_left result) / 4 ≡ D.sectors (device_of store) / 4) × (how.truncate ≡ false → D.sectors (device_left result) ≡ D.sectors (device_of store)) }
+    ensures size { (D.sectors (device_left result) / 4 ≡ D.sectors (device_of store) / 4)
+        × (how.truncate ≡ false → D.sectors (device_left result) ≡ D.sectors (device_of store)) }
 {
     if how.is_exclusive() {
         return Err((store.into_dev(), Fault::Exists));
@@ -155,16 +203,31 @@ fn opened<D: SectorDev>(
 
 /// The file as it is.
 fn found<D: SectorDev>(store: Pager<D>, writable: bool) -> Result<OpenFile<Pager<D>>, (D, Fault)>
-    requires fresh { IsFreshStore (D.sectors (device_of store) / 4) writable (⟦<Pager<D> as PageStore>⟧.state store) }
+    requires fresh { IsFreshStore (D.sectors (device_of store) / 4) writable
+        (⟦<Pager<D> as PageStore>⟧.state store) }
     ensures fresh { IfOk result (IsJustOpened writable (D.sectors (device_of store) / 4)) }
-    ensures only_reads { D.honest (device_of store) → OnlyReads D.SectorDev (device_of store) (device_left result) }
-    ensures kept { D.honest (device_of store) → IfOk result (λ file. ⟦<Pager<D> as PageStore>⟧.committed file.store ≡ ⟦<Pager<D> as PageStore>⟧.committed store) }
-    ensures says { D.honest (device_of store) → IfOk result (λ file. IsMeta (model_meta file.meta) × (body_of 1 (page_of (⟦<Pager<D> as PageStore>⟧.committed store) 1) ≡ MetaPage (model_meta file.meta))) }
-    ensures stands { D.honest (device_of store) → ((now : Settled) → ⟦<Pager<D> as PageStore>⟧.settles_to store now → now ≡ file_of (⟦<Pager<D> as PageStore>⟧.committed store)) →
-        (map : Contents) → (limit : ℕ) → FileStandsFor (⟦<Pager<D> as PageStore>⟧.committed store) map limit → IfOk result (λ file. StandsAs file map limit) }
-    ensures refused { D.honest (device_of store) → IfErr result (λ e. e.1 ≢ Fault.Device → RefusesMeta (page_of (⟦<Pager<D> as PageStore>⟧.committed store) 1) e.1) }
-    ensures device { IfErr result (λ e. e.1 ≡ Fault.Device → MoreFaults (D.faults (device_of store)) (D.faults e.0)) }
-    ensures only { IfErr result (λ e. (e.1 ≡ Fault.Device) ⊎ ((e.1 ≡ Fault.Version) ⊎ (e.1 ≡ Fault.Damaged))) }
+    ensures only_reads { D.honest (device_of store)
+        → OnlyReads D.SectorDev (device_of store) (device_left result) }
+    ensures kept { D.honest (device_of store)
+        → IfOk result (λ file. ⟦<Pager<D> as PageStore>⟧.committed file.store
+        ≡ ⟦<Pager<D> as PageStore>⟧.committed store) }
+    ensures says { D.honest (device_of store)
+        → IfOk result (λ file. IsMeta (model_meta file.meta)
+        × (body_of 1 (page_of (⟦<Pager<D> as PageStore>⟧.committed store) 1)
+        ≡ MetaPage (model_meta file.meta))) }
+    ensures stands { D.honest (device_of store)
+        → ((now : Settled) → ⟦<Pager<D> as PageStore>⟧.settles_to store now
+        → now ≡ file_of (⟦<Pager<D> as PageStore>⟧.committed store)) →
+        (map : Contents) → (limit : ℕ)
+        → FileStandsFor (⟦<Pager<D> as PageStore>⟧.committed store) map limit
+        → IfOk result (λ file. StandsAs file map limit) }
+    ensures refused { D.honest (device_of store)
+        → IfErr result (λ e. e.1 ≢ Fault.Device
+        → RefusesMeta (page_of (⟦<Pager<D> as PageStore>⟧.committed store) 1) e.1) }
+    ensures device { IfErr result
+        (λ e. e.1 ≡ Fault.Device → MoreFaults (D.faults (device_of store)) (D.faults e.0)) }
+    ensures only { IfErr result (λ e.
+        (e.1 ≡ Fault.Device) ⊎ ((e.1 ≡ Fault.Version) ⊎ (e.1 ≡ Fault.Damaged))) }
     ensures honesty { D.honest (device_left result) ↔ D.honest (device_of store) }
     ensures later { D.faults (device_of store) ≤ D.faults (device_left result) }
     ensures size { D.sectors (device_left result) ≡ D.sectors (device_of store) }

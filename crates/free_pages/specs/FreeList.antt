@@ -17,7 +17,8 @@ pub record IsFreeList (at : ℕ → Body) (state : FreeState) (s : Space) : Type
 
 -- no page of the file stands twice in these and the free list, and neither names any other page
 abbrev pub IsApart : List ℕ → Space → Type 0
-IsApart pages s = (n : ℕ) → times_of n pages + times_of n s.free ≤ (if is_page n s.end then 1 else 0)
+IsApart pages s = (n : ℕ) → times_of n pages + times_of n s.free
+    ≤ (if is_page n s.end then 1 else 0)
 
 -- the first free page was taken, and the list goes on as that page says
 pub record IsFirstTaken (at : ℕ → Body) (old : FreeState) (n : ℕ) (new : FreeState) : Type 0 where

@@ -25,7 +25,8 @@ const HEADER_LEN: usize = 16;
 
 /// The next free page after page `n`, 0 for none, if the page is spelled as free page `n`.
 pub fn read_free(page: &Page, n: u32) -> Option<u32>
-    ensures spelled { (next : ℕ) → IsNumber next → (result ≡ Some next) ↔ (page.now.bytes ≡ free_spelling n next) }
+    ensures spelled { (next : ℕ) → IsNumber next
+        → (result ≡ Some next) ↔ (page.now.bytes ≡ free_spelling n next) }
     ensures says { (next : ℕ) → (result ≡ Some next) ↔ (body_of n page.now.bytes ≡ FreePage next) }
 {
     if !page.is_plain(n, FREE) || !page.is_clear(HEADER_LEN, PAGE_LEN) {
@@ -44,8 +45,11 @@ fn take_first<S: PageStore>(store: &mut S, space: &FreeState) -> Result<FreeStat
     ensures known { OnOk result (IsKnown (S.state store.old) space.now.head) }
     ensures ends { IfOk result HasEnds }
     ensures end { IfOk result (λ rest. rest.file_end ≡ space.now.file_end) }
-    ensures taken { S.honest store.old → IfOk result (IsFirstTaken (body_at S.PageStore store.old) space.now space.now.head) }
-    ensures whole { S.honest store.old → (rest : FreeState) → IsFirstTaken (body_at S.PageStore store.old) space.now space.now.head rest → IsErrOf result Damaged → ⊥ }
+    ensures taken { S.honest store.old
+        → IfOk result (IsFirstTaken (body_at S.PageStore store.old) space.now space.now.head) }
+    ensures whole { S.honest store.old → (rest : FreeState)
+        → IsFirstTaken (body_at S.PageStore store.old) space.now space.now.head rest
+        → IsErrOf result Damaged → ⊥ }
 {
     let mut page = Page::blank();
     store.read(space.head, &mut page)?;
@@ -60,23 +64,29 @@ fn take_first<S: PageStore>(store: &mut S, space: &FreeState) -> Result<FreeStat
     })
 }
 
-/// Takes the first free page, else the page at the file's end, which then grows by one. Nothing is staged: the caller
-/// stages the page. NoRoom is answered where the device has no room for a page at the end, Damaged where what is kept or
-/// the first free page is no free list's; Broken and Device are the store's, from the read of that page.
+/// Takes the first free page, else the page at the file's end, which then grows by one. Nothing is
+/// staged: the caller stages the page. NoRoom is answered where the device has no room for a page
+/// at the end, Damaged where what is kept or the first free page is no free list's; Broken and
+/// Device are the store's, from the read of that page.
 pub fn take<S: PageStore>(store: &mut S, space: &mut FreeState) -> Result<u32, PageFault>
     ensures reads { ReadsOnly S.PageStore store.old store.new }
     ensures cause { HasDeviceCause (S.faults store.old) (S.faults store.new) result }
     ensures answer { IsTakeAnswer (S.state store.old) space.old result }
     ensures err { OnErr result (space.new ≡ space.old) }
     ensures number { IfOk result (λ n. 1 ≤ n) }
-    ensures taken { S.honest store.old → IfOk result (λ n. IsTaken (body_at S.PageStore store.old) space.old n space.new) }
+    ensures taken { S.honest store.old
+        → IfOk result (λ n. IsTaken (body_at S.PageStore store.old) space.old n space.new) }
     ensures ends { HasEnds space.old → HasEnds space.new }
-    ensures may_end { MayEnd (S.state store.old) space.old.file_end → IfOk result (λ n. MayEndWith (S.state store.old) n space.new.file_end) }
+    ensures may_end { MayEnd (S.state store.old) space.old.file_end
+        → IfOk result (λ n. MayEndWith (S.state store.old) n space.new.file_end) }
 
     // On a free list that is read as one it takes what the placement takes, and is never Damaged.
-    ensures exact { S.honest store.old → (s : Space) → IsFreeList (body_at S.PageStore store.old) space.old s → IsApart [] s →
+    ensures exact { S.honest store.old → (s : Space)
+        → IsFreeList (body_at S.PageStore store.old) space.old s → IsApart [] s →
         IfOk result (λ n. (n ≡ next_page s) × (space.new ≡ state_of (after_take s))) }
-    ensures whole { S.honest store.old → (s : Space) → IsFreeList (body_at S.PageStore store.old) space.old s → IsApart [] s → IsErrOf result Damaged → ⊥ }
+    ensures whole { S.honest store.old → (s : Space)
+        → IsFreeList (body_at S.PageStore store.old) space.old s → IsApart [] s
+        → IsErrOf result Damaged → ⊥ }
 {
     if (space.head == 0) != (space.count == 0) {
         return Err(PageFault::Damaged);
@@ -98,8 +108,8 @@ pub fn take<S: PageStore>(store: &mut S, space: &mut FreeState) -> Result<u32, P
     Ok(last)
 }
 
-/// Stages page `n` as the first free one. Damaged is answered, before anything is staged, where as many pages are free
-/// as the file has, page 0 among them; Broken and Memory are the store's.
+/// Stages page `n` as the first free one. Damaged is answered, before anything is staged, where as
+/// many pages are free as the file has, page 0 among them; Broken and Memory are the store's.
 pub fn give<S: PageStore>(store: &mut S, space: &mut FreeState, n: u32) -> Result<(), PageFault>
     requires { 1 ≤ n }
     ensures stages { StagesOnly S.PageStore store.old store.new }
@@ -108,13 +118,18 @@ pub fn give<S: PageStore>(store: &mut S, space: &mut FreeState, n: u32) -> Resul
     ensures answer { IsGiveAnswer S.reserved (S.state store.old) space.old n result }
     ensures err { OnErr result (space.new ≡ space.old) }
     ensures err_state { OnErr result (S.state store.new ≡ S.state store.old) }
-    ensures ok { OnOk result (space.new ≡ record { head = n; count = space.old.count + 1; file_end = space.old.file_end }) }
-    ensures free { S.honest store.old → OnOk result (body_at S.PageStore store.new n ≡ FreePage space.old.head) }
-    ensures others { S.honest store.old → (m : ℕ) → (m ≡ n → ⊥) → body_at S.PageStore store.new m ≡ body_at S.PageStore store.old m }
-    ensures may_end { n < space.old.file_end → MayEnd (S.state store.old) space.old.file_end → MayEnd (S.state store.new) space.new.file_end }
+    ensures ok { OnOk result (space.new
+        ≡ record { head = n; count = space.old.count + 1; file_end = space.old.file_end }) }
+    ensures free { S.honest store.old
+        → OnOk result (body_at S.PageStore store.new n ≡ FreePage space.old.head) }
+    ensures others { S.honest store.old → (m : ℕ) → (m ≡ n → ⊥)
+        → body_at S.PageStore store.new m ≡ body_at S.PageStore store.old m }
+    ensures may_end { n < space.old.file_end → MayEnd (S.state store.old) space.old.file_end
+        → MayEnd (S.state store.new) space.new.file_end }
 
     // A free list that is read as one is read with the page in front.
-    ensures exact { S.honest store.old → (s : Space) → IsFreeList (body_at S.PageStore store.old) space.old s → IsApart (n ∷ []) s →
+    ensures exact { S.honest store.old → (s : Space)
+        → IsFreeList (body_at S.PageStore store.old) space.old s → IsApart (n ∷ []) s →
         OnOk result (IsFreeList (body_at S.PageStore store.new) space.new (given (n ∷ []) s)) }
 {
     if space.count >= space.file_end {

@@ -13,4 +13,5 @@ CanBe level split = (level ≤ 16) × (split < 2 ^ level)
 
 -- a hash of the bucket that is split belongs to the new bucket, or stays
 abbrev pub BelongsTo : model.Shape → ℕ → Bool → Type 0
-BelongsTo s hash goes_up = address s hash ≡ s.split → address (grown s) hash ≡ (if goes_up then s.split + 2 ^ s.level else s.split)
+BelongsTo s hash goes_up = address s hash ≡ s.split
+    → address (grown s) hash ≡ (if goes_up then s.split + 2 ^ s.level else s.split)

@@ -1,8 +1,9 @@
 //! How far the buckets have grown.
 ghost use Rattle.std.specs.Prelude.{◌≡◌, ◌↔◌, ◌+◌, ◌^◌, ◌<◌, ◌≤◌, ◌==◌, ◌&&◌, ℕ, IsTrue, IsSome, IfSome, if◌then◌else◌};
 
-/// So many buckets: `2^level + split`. Buckets below `split`, and those from `2^level` on, have the hashes of one
-/// bit more; `split` is the bucket that is split next. There are at most 131,071 buckets.
+/// So many buckets: `2^level + split`. Buckets below `split`, and those from `2^level` on, have the
+/// hashes of one bit more; `split` is the bucket that is split next. There are at most 131,071
+/// buckets.
 #[derive(Clone, Copy, Debug, PartialEq, Eq)]
 pub struct Shape {
     pub level: u32,
@@ -32,9 +33,11 @@ impl Shape {
         Shape { level: 0, split: 0 }
     }
 
-    /// The shape of these numbers, or `None` where `level` is above 16 or `split` isn't below `2^level`.
+    /// The shape of these numbers, or `None` where `level` is above 16 or `split` isn't below
+    /// `2^level`.
     pub fn new(level: u32, split: u32) -> Option<Shape>
-        ensures found { IfSome result (λ shape. shape_of shape ≡ record { level = level; split = split }) }
+        ensures found { IfSome result
+            (λ shape. shape_of shape ≡ record { level = level; split = split }) }
         ensures only { IsSome result ↔ CanBe level split }
     {
         if level <= 16 && split < power(level) {
@@ -71,7 +74,10 @@ impl Shape {
     pub fn grown(&self) -> Shape
         requires { model.buckets (shape_of self.now) < 125000 }
         ensures grown { shape_of result ≡ model.grown (shape_of self.now) }
-        ensures moves { (hash : ℕ) → address (shape_of result) hash ≡ (if address (shape_of self.now) hash == self.now.split && bit_at hash self.now.level == 1 then self.now.split + 2 ^ self.now.level else address (shape_of self.now) hash) }
+        ensures moves { (hash : ℕ) → address (shape_of result) hash
+            ≡ (if address (shape_of self.now) hash == self.now.split && bit_at hash
+            self.now.level == 1 then self.now.split + 2 ^ self.now.level
+            else address (shape_of self.now) hash) }
     {
         if self.split + 1 == power(self.level) {
             Shape {

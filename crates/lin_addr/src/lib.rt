@@ -1,4 +1,5 @@
-//! Where a key belongs: its hash, and the bucket of a hash while buckets are added one at a time (linear hashing).
+//! Where a key belongs: its hash, and the bucket of a hash while buckets are added one at a time
+//! (linear hashing).
 #![tactic(auto)]
 
 mod fnv;

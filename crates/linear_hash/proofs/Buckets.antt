@@ -28,10 +28,14 @@ use Rattle.linear_hash.specs.Tables.{shape_in, IsTable}
 use Rattle.linear_hash.specs.Looking.{IsFound}
 
 -- the bucket as the code finds it
-pub bucket_of : (meta : code.Meta) (key : Key) (bucket hash : ℕ) → bucket ≡ address (shape_of meta.shape) hash → hash ≡ hash_of key → bucket ≡ address (shape_in (model_meta meta)) (hash_of key)
+pub bucket_of : (meta : code.Meta) (key : Key) (bucket hash : ℕ)
+    → bucket ≡ address (shape_of meta.shape) hash → hash ≡ hash_of key
+    → bucket ≡ address (shape_in (model_meta meta)) (hash_of key)
 bucket_of meta key bucket hash is hashed = is ∙ ap (address (shape_of meta.shape)) hashed
 
-module _ (at : ℕ → Body) (m : Meta) (p : Placement) (sound : IsSound p) (used : All (λ n. (0 < n) × IsNumber n) m.segments) (read : AreRead at (lower_bodies p)) (shape : shape_in m ≡ p.shape) (segments : m.segments ≡ p.segments) where
+module _ (at : ℕ → Body) (m : Meta) (p : Placement) (sound : IsSound p)
+    (used : All (λ n. (0 < n) × IsNumber n) m.segments) (read : AreRead at (lower_bodies p))
+    (shape : shape_in m ≡ p.shape) (segments : m.segments ≡ p.segments) where
   of_p : HasHeads at p
   of_p = heads_read at p sound (subst (All (λ n. (0 < n) × IsNumber n)) segments used) read
 
@@ -39,7 +43,8 @@ module _ (at : ℕ → Body) (m : Meta) (p : Placement) (sound : IsSound p) (use
   pub heads_are : AreHeads at m (heads_of p.chains)
   heads_are =
       record {
-        are_read = subst (λ (ss : List ℕ). AreRead at (segment_bodies ss (heads_of p.chains))) (sym segments) of_p.heads_are.are_read;
+        are_read = subst (λ (ss : List ℕ). AreRead at (segment_bodies ss (heads_of p.chains)))
+            (sym segments) of_p.heads_are.are_read;
         many = of_p.heads_are.many ∙ ap buckets (sym shape);
         used = used;
       }
@@ -49,21 +54,32 @@ module _ (at : ℕ → Body) (m : Meta) (p : Placement) (sound : IsSound p) (use
     bucket_is = is ∙ ap (λ (s : Shape). key_bucket s key) shape
 
     pub bucket_below : bucket < length p.chains
-    bucket_below = omega (arith, bucket_is, address_below p.shape (hash_of key) sound.split_in, sound.all_buckets)
+    bucket_below = omega (
+      arith,
+      bucket_is,
+      address_below p.shape (hash_of key) sound.split_in,
+      sound.all_buckets,
+    )
 
     pub bucket_heads : bucket < length (heads_of p.chains)
     bucket_heads = omega (arith, bucket_below, of_p.heads_are.many, sound.all_buckets)
 
     -- its head page is that of its chain, which is placed
-    pub placed : (state : FreeState) (head : ℕ) → state ≡ state_of p.space → head ≡ get_or (heads_of p.chains) bucket 0 → IsPlaced at state head (chain_at p (key_bucket p.shape key)) p.space
+    pub placed : (state : FreeState) (head : ℕ) → state ≡ state_of p.space
+        → head ≡ get_or (heads_of p.chains) bucket 0
+        → IsPlaced at state head (chain_at p (key_bucket p.shape key)) p.space
     placed state head kept head_is =
-        let first : head ≡ first_of (numbers (chain_at p bucket)) = head_is ∙ of_p.each bucket bucket_below in
-        let there = chains_placed at state p bucket sound (record { are_read = read; kept = kept }) bucket_below in
-        subst (λ (b : ℕ). IsPlaced at state head (chain_at p b) p.space) bucket_is (subst (λ (n : ℕ). IsPlaced at state n (chain_at p bucket) p.space) (sym first) there)
+        let first : head ≡ first_of (numbers (chain_at p bucket)) =
+        head_is ∙ of_p.each bucket bucket_below in
+        let there = chains_placed at state p bucket sound (record { are_read = read; kept = kept })
+        bucket_below in
+        subst (λ (b : ℕ). IsPlaced at state head (chain_at p b) p.space) bucket_is
+        (subst (λ (n : ℕ). IsPlaced at state n (chain_at p bucket) p.space) (sym first) there)
 
 module _ (at : ℕ → Body) (m : Meta) (end : ℕ) (p : Placement) (table : IsTable at m end p) where
   used : All (λ n. (0 < n) × IsNumber n) m.segments
-  used = subst (All (λ n. (0 < n) × IsNumber n)) (ap (λ (n : Meta). n.segments) (sym table.meta_is)) (used_segments p table.good.sound (omega (arith, table.good.bounded, table.good.limited)))
+  used = subst (All (λ n. (0 < n) × IsNumber n)) (ap (λ (n : Meta). n.segments) (sym table.meta_is))
+      (used_segments p table.good.sound (omega (arith, table.good.bounded, table.good.limited)))
 
   pub table_shape : shape_in m ≡ p.shape
   table_shape = ap shape_in table.meta_is
@@ -76,15 +92,21 @@ module _ (at : ℕ → Body) (m : Meta) (end : ℕ) (p : Placement) (table : IsT
 
   module _ (key : Key) (bucket : ℕ) (is : bucket ≡ address (shape_in m) (hash_of key)) where
     pub table_below : bucket < length (heads_of p.chains)
-    table_below = bucket_heads at m p table.good.sound used table.are_read table_shape table_segments key bucket is
+    table_below = bucket_heads at m p table.good.sound used table.are_read table_shape
+        table_segments key bucket is
 
-    pub table_chain : (head : ℕ) → head ≡ get_or (heads_of p.chains) bucket 0 → IsChainAt at end head (chain_at p (key_bucket p.shape key))
+    pub table_chain : (head : ℕ) → head ≡ get_or (heads_of p.chains) bucket 0
+        → IsChainAt at end head (chain_at p (key_bucket p.shape key))
     table_chain head head_is =
-        let there = placed at m p table.good.sound used table.are_read table_shape table_segments key bucket is (state_of p.space) head refl head_is in
-        subst (λ (n : ℕ). IsChainAt at n head (chain_at p (key_bucket p.shape key))) table.ends there.chain_is
+        let there = placed at m p table.good.sound used table.are_read table_shape table_segments
+        key bucket is (state_of p.space) head refl head_is in
+        subst (λ (n : ℕ). IsChainAt at n head (chain_at p (key_bucket p.shape key)))
+        table.ends there.chain_is
 
 -- what is found in the chain of the key's bucket is what the map has at the key
-pub found_in : (p : Placement) (key : Key) (bytes : List ℕ) (place : Option Place) → IsSound p → IsLookedUp key (chain_at p (key_bucket p.shape key)) bytes place → IsFound key (get (contents p) key) bytes place
+pub found_in : (p : Placement) (key : Key) (bytes : List ℕ) (place : Option Place) → IsSound p
+    → IsLookedUp key (chain_at p (key_bucket p.shape key)) bytes place
+    → IsFound key (get (contents p) key) bytes place
 found_in p key bytes place sound looked = by_place place looked
   where
     chain : List Pair
@@ -93,6 +115,10 @@ found_in p key bytes place sound looked = by_place place looked
     has : get (contents p) key ≡ find key_cmp key chain
     has = looks_in_one_chain p key sound
 
-    by_place : (place : Option Place) → IsLookedUp key (chain_at p (key_bucket p.shape key)) bytes place → IsFound key (get (contents p) key) bytes place
-    by_place None none = subst (λ (o : Option (List ℕ)). IsFound key o bytes None) (sym (has ∙ none)) refl
-    by_place (Some at) some = subst (λ (o : Option (List ℕ)). IsFound key o bytes (Some at)) (sym (has ∙ some.found)) some.there
+    by_place : (place : Option Place)
+        → IsLookedUp key (chain_at p (key_bucket p.shape key)) bytes place
+        → IsFound key (get (contents p) key) bytes place
+    by_place None none = subst (λ (o : Option (List ℕ)). IsFound key o bytes None)
+        (sym (has ∙ none)) refl
+    by_place (Some at) some = subst (λ (o : Option (List ℕ)). IsFound key o bytes (Some at))
+        (sym (has ∙ some.found)) some.there

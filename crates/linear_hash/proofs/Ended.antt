@@ -12,20 +12,45 @@ use Rattle.linear_hash.specs.Staging.{IsChangeAnswer}
 
 module _ {S : Type 0} (s : Ghosts S) (old new : S) (before : Meta) where
   -- what it makes of the map
-  pub turned : (copied after : Meta) (map changed : Contents) (most : Meta → ℕ) (result : Result Unit PageFault) → copied ≡ before
-      → (Holds s old copied map → ChangesMap s old new copied after map changed (most copied) result) → Holds s old before map → ChangesMap s old new before after map changed (most before) result
+  pub turned : (copied after : Meta) (map changed : Contents) (most : Meta → ℕ)
+      (result : Result Unit PageFault) → copied ≡ before
+      → (Holds s old copied map → ChangesMap s old new copied after map changed (most copied)
+      result) → Holds s old before map
+      → ChangesMap s old new before after map changed (most before) result
   turned copied after map changed most result is told =
-      subst (λ (m : Meta). Holds s old m map → ChangesMap s old new m after map changed (most m) result) is told
+      subst (λ (m : Meta). Holds s old m map
+      → ChangesMap s old new m after map changed (most m) result) is told
 
   -- where it was refused, nothing of the copy is kept
   module _ (result : Result Unit PageFault) (e : PageFault) (exit : result ≡ Err e) where
-    pub refused_ends : IsMeta before → IsForgotten (s.state old) (s.state new) e → HasDeviceCause {T = Unit} (s.faults old) (s.faults new) (Err e) → (s.honest new ↔ s.honest old)
+    pub refused_ends : IsMeta before → IsForgotten (s.state old) (s.state new) e
+        → HasDeviceCause {T = Unit} (s.faults old) (s.faults new) (Err e)
+        → (s.honest new ↔ s.honest old)
         → IsChangeAnswer {T = Unit} (s.state old) (Err e) → IsEnded s old new before before result
     refused_ends valid forgotten cause honesty answer =
         subst (IsEnded s old new before before) (sym exit)
-        (record { ok = tt; err = (forgotten, refl); valid = valid; limit = refl; cause = cause; honesty = honesty; answer = answer })
+        (record {
+          ok = tt;
+          err = (forgotten, refl);
+          valid = valid;
+          limit = refl;
+          cause = cause;
+          honesty = honesty;
+          answer = answer;
+        })
 
-    pub refused_turn : (after : Meta) (map changed : Contents) (most : ℕ) → ChangesMap s old new before after map changed most (Err e) → ChangesMap s old new before before map changed most result
+    pub refused_turn : (after : Meta) (map changed : Contents) (most : ℕ)
+        → ChangesMap s old new before after map changed most (Err e)
+        → ChangesMap s old new before before map changed most result
     refused_turn after map changed most told =
         subst (ChangesMap s old new before before map changed most) (sym exit)
-        (record { done = tt; kept = told.kept; any_moment = told.any_moment; unchanged = told.unchanged; whole = told.whole; grows = tt; no_room = told.no_room })
+        (record {
+          done = tt;
+          kept = told.kept;
+          any_moment = told.any_moment;
+          unchanged =
+              told.unchanged;
+          whole = told.whole;
+          grows = tt;
+          no_room = told.no_room;
+        })

@@ -5,7 +5,8 @@ use Rattle.chain_walks.specs.declared.place.Place.{Place}
 use Rattle.linear_hash.specs.Looking.{IsFound}
 
 -- a place is found where the key has a content
-pub found_some : (key : Key) (old : Option (List ℕ)) (bytes : List ℕ) (place : Option Place) → IsFound key old bytes place → is_some place ≡ is_some old
+pub found_some : (key : Key) (old : Option (List ℕ)) (bytes : List ℕ) (place : Option Place)
+    → IsFound key old bytes place → is_some place ≡ is_some old
 found_some key None bytes place is = ap is_some is
 found_some key (Some content) bytes None is = absurd is
 found_some key (Some content) bytes (Some place) is = refl

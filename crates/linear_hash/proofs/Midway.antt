@@ -30,47 +30,69 @@ use Rattle.linear_hash.specs.Staging.{IsMidway}
 use Rattle.linear_hash.proofs.Buckets as buckets
 
 bucket_in : (p : Placement) → IsSound p → (key : Key) → key_bucket p.shape key < length p.chains
-bucket_in p sound key = omega (arith, address_below p.shape (hash_of key) sound.split_in, sound.all_buckets)
+bucket_in p sound key = omega
+    (arith, address_below p.shape (hash_of key) sound.split_in, sound.all_buckets)
 
 -- a key that is nowhere is not in its chain
-pub not_in_chain : (p : Placement) (key : Key) → IsSound p → value_in key (pairs_of p) ≡ None → times key (pairs_in (chain_at p (key_bucket p.shape key))) ≡ 0
-not_in_chain p key sound none = times_none key (pairs_in (chain_at p (key_bucket p.shape key))) (sym (value_at p.shape p.chains key sound.split_in sound.all_buckets sound.in_place) ∙ none)
+pub not_in_chain : (p : Placement) (key : Key) → IsSound p → value_in key (pairs_of p) ≡ None
+    → times key (pairs_in (chain_at p (key_bucket p.shape key))) ≡ 0
+not_in_chain p key sound none =
+    times_none key (pairs_in (chain_at p (key_bucket p.shape key)))
+    (sym (value_at p.shape p.chains key sound.split_in sound.all_buckets sound.in_place) ∙ none)
 
 -- one that is not in the map is nowhere
-pub nowhere : (p : Placement) (key : Key) → is_some (get (contents p) key) ≡ false → value_in key (pairs_of p) ≡ None
-nowhere p key gone = sym (get-from_entries nat_list_cmp_total (pairs_of p) key) ∙ is_none (get (contents p) key) gone
+pub nowhere : (p : Placement) (key : Key) → is_some (get (contents p) key) ≡ false
+    → value_in key (pairs_of p) ≡ None
+nowhere p key gone = sym (get-from_entries nat_list_cmp_total (pairs_of p) key)
+    ∙ is_none (get (contents p) key) gone
   where
     is_none : (o : Option (List ℕ)) → is_some o ≡ false → o ≡ None
     is_none None gone = refl
     is_none (Some content) gone = absurd cc
 
 -- and its delete changes nothing
-pub delete_none : (p : Placement) (key : Key) → IsSound p → is_some (get (contents p) key) ≡ false → delete p key ≡ p
-delete_none p key sound gone = delete_absent p key sound (get-from_entries nat_list_cmp_total (pairs_of p) key ∙ nowhere p key gone)
+pub delete_none : (p : Placement) (key : Key) → IsSound p → is_some (get (contents p) key) ≡ false
+    → delete p key ≡ p
+delete_none p key sound gone =
+    delete_absent p key sound (get-from_entries nat_list_cmp_total (pairs_of p) key
+    ∙ nowhere p key gone)
 
 -- a chain keeps its head page
-head_kept : (key : Key) (chain : Chain) → first_of (numbers (remove key chain)) ≡ first_of (numbers chain)
+head_kept : (key : Key) (chain : Chain)
+    → first_of (numbers (remove key chain)) ≡ first_of (numbers chain)
 head_kept key [] = refl
 head_kept key (leaf ∷ rest) = refl
 
-module _ (at : ℕ → Body) (m : Meta) (space : FreeState) (p : Placement) (mid : IsMidway at m space p) (used : All (λ n. (0 < n) × IsNumber n) m.segments) where
+module _ (at : ℕ → Body) (m : Meta) (space : FreeState) (p : Placement)
+    (mid : IsMidway at m space p) (used : All (λ n. (0 < n) × IsNumber n) m.segments) where
   pub midway_heads : AreHeads at m (heads_of p.chains)
-  midway_heads = buckets.heads_are at m p mid.sound used mid.below.are_read mid.shape_is mid.segments_are
+  midway_heads = buckets.heads_are at m p mid.sound used mid.below.are_read mid.shape_is
+      mid.segments_are
 
   module _ (key : Key) (bucket : ℕ) (is : bucket ≡ address (shape_in m) (hash_of key)) where
     pub midway_below : bucket < length (heads_of p.chains)
-    midway_below = buckets.bucket_heads at m p mid.sound used mid.below.are_read mid.shape_is mid.segments_are key bucket is
+    midway_below = buckets.bucket_heads at m p mid.sound used mid.below.are_read mid.shape_is
+        mid.segments_are key bucket is
 
-    pub midway_chain : (head : ℕ) → head ≡ get_or (heads_of p.chains) bucket 0 → IsPlaced at space head (chain_at p (key_bucket p.shape key)) p.space
-    midway_chain head head_is = buckets.placed at m p mid.sound used mid.below.are_read mid.shape_is mid.segments_are key bucket is space head mid.below.kept head_is
+    pub midway_chain : (head : ℕ) → head ≡ get_or (heads_of p.chains) bucket 0
+        → IsPlaced at space head (chain_at p (key_bucket p.shape key)) p.space
+    midway_chain head head_is = buckets.placed at m p mid.sound used mid.below.are_read mid.shape_is
+        mid.segments_are key bucket is space head mid.below.kept head_is
 
   pub midway_once : (key : Key) → times key (pairs_in (chain_at p (key_bucket p.shape key))) ≤ 1
   midway_once key =
       let f : Pair → ℕ = λ pair. cond (has_key key pair) 1 0 in
-      omega (arith, mid.sound.no_key_twice key, sum_by-flat_map-set f pairs_in p.chains (key_bucket p.shape key) [] [] (bucket_in p mid.sound key))
+      omega (
+        arith,
+        mid.sound.no_key_twice key,
+        sum_by-flat_map-set f pairs_in p.chains (key_bucket p.shape key) [] []
+            (bucket_in p mid.sound key),
+      )
 
   -- a key taken out of its chain is deleted
-  pub midway_deleted : (at' : ℕ → Body) (space' : FreeState) (key : Key) → BecomesPlaced at at' space' (remove_from (placed_for p key) key) → IsMidway at' m space' (delete p key)
+  pub midway_deleted : (at' : ℕ → Body) (space' : FreeState) (key : Key)
+      → BecomesPlaced at at' space' (remove_from (placed_for p key) key)
+      → IsMidway at' m space' (delete p key)
   midway_deleted at' space' key becomes = record {
     sound = delete_sound p mid.sound key;
     below = removals_placements at at' space space' p key mid.sound mid.below becomes;
@@ -80,7 +102,10 @@ module _ (at : ℕ → Body) (m : Meta) (space : FreeState) (p : Placement) (mid
   }
 
   -- a pair whose key is nowhere, put into its chain
-  pub midway_put : (at' : ℕ → Body) (space' : FreeState) (pair : Pair) → IsAllowed pair → value_in pair.0 (pairs_of p) ≡ None → BecomesPlaced at at' space' (put_in (placed_for p pair.0) pair) → IsMidway at' m space' (put p pair)
+  pub midway_put : (at' : ℕ → Body) (space' : FreeState) (pair : Pair) → IsAllowed pair
+      → value_in pair.0 (pairs_of p) ≡ None
+      → BecomesPlaced at at' space' (put_in (placed_for p pair.0) pair)
+      → IsMidway at' m space' (put p pair)
   midway_put at' space' pair small none becomes =
       let sound = put_sound p mid.sound pair small none in
       record {
@@ -92,7 +117,9 @@ module _ (at : ℕ → Body) (m : Meta) (space : FreeState) (p : Placement) (mid
       }
 
 -- a delete keeps the head page of the key's bucket
-pub head_still : (p : Placement) (key : Key) (bucket head : ℕ) → IsSound p → bucket ≡ key_bucket p.shape key → head ≡ get_or (heads_of p.chains) bucket 0 → head ≡ get_or (heads_of (delete p key).chains) bucket 0
+pub head_still : (p : Placement) (key : Key) (bucket head : ℕ) → IsSound p
+    → bucket ≡ key_bucket p.shape key → head ≡ get_or (heads_of p.chains) bucket 0
+    → head ≡ get_or (heads_of (delete p key).chains) bucket 0
 head_still p key bucket head sound same is =
     let at = key_bucket p.shape key in
     let chain = chain_at p at in
@@ -100,21 +127,36 @@ head_still p key bucket head sound same is =
     let first : Chain → ℕ = λ c. first_of (numbers c) in
     let after = set p.chains at (remove key chain) in
     is ∙ ap (λ (b : ℕ). get_or (heads_of p.chains) b 0) same
-    ∙ get_or-map first p.chains at [] 0 below ∙ sym (head_kept key chain) ∙ ap first (sym (get_or-set_same p.chains at (remove key chain) [] below))
-    ∙ sym (get_or-map first after at [] 0 (omega (arith, below, length-set p.chains at (remove key chain)))) ∙ ap (λ (b : ℕ). get_or (heads_of after) b 0) (sym same)
+    ∙ get_or-map first p.chains at [] 0 below ∙ sym (head_kept key chain)
+    ∙ ap first (sym (get_or-set_same p.chains at (remove key chain) [] below))
+    ∙ sym (get_or-map first after at [] 0
+    (omega (arith, below, length-set p.chains at (remove key chain))))
+    ∙ ap (λ (b : ℕ). get_or (heads_of after) b 0) (sym same)
 
 -- pages that were read alone are as they were
-pub midway_read : {S : Type 0} (s : Ghosts S) (old new : S) (m : Meta) (space : FreeState) (p : Placement) → ReadsOnly s old new → s.honest old → IsMidway (body_at s old) m space p → IsMidway (body_at s new) m space p
-midway_read s old new m space p reads honest mid = subst (λ (at : ℕ → Body). IsMidway at m space p) (sym (same_said s old new reads honest)) mid
+pub midway_read : {S : Type 0} (s : Ghosts S) (old new : S) (m : Meta) (space : FreeState)
+    (p : Placement) → ReadsOnly s old new → s.honest old → IsMidway (body_at s old) m space p
+    → IsMidway (body_at s new) m space p
+midway_read s old new m space p reads honest mid =
+    subst (λ (at : ℕ → Body). IsMidway at m space p) (sym (same_said s old new reads honest)) mid
 
 -- the same of equal stores
-pub midway_same : {S : Type 0} (s : Ghosts S) (old new : S) (m : Meta) (space space' : FreeState) (p : Placement) → new ≡ old → space' ≡ space → IsMidway (body_at s old) m space p → IsMidway (body_at s new) m space' p
-midway_same {S} s old new m space space' p store free mid = subst (λ (st : S). IsMidway (body_at s st) m space' p) (sym store) (subst (λ (f : FreeState). IsMidway (body_at s old) m f p) (sym free) mid)
+pub midway_same : {S : Type 0} (s : Ghosts S) (old new : S) (m : Meta) (space space' : FreeState)
+    (p : Placement) → new ≡ old → space' ≡ space → IsMidway (body_at s old) m space p
+    → IsMidway (body_at s new) m space' p
+midway_same {S} s old new m space space' p store free mid =
+    subst (λ (st : S). IsMidway (body_at s st) m space' p) (sym store)
+    (subst (λ (f : FreeState). IsMidway (body_at s old) m f p) (sym free) mid)
 
 -- where a commit may end, of equal stores
-pub may_end_same : {S : Type 0} (s : Ghosts S) (old new : S) (space space' : FreeState) → new ≡ old → space' ≡ space → MayEnd (s.state old) space.file_end → MayEnd (s.state new) space'.file_end
-may_end_same {S} s old new space space' store free may = subst (λ (st : S). MayEnd (s.state st) space'.file_end) (sym store) (subst (λ (f : FreeState). MayEnd (s.state old) f.file_end) (sym free) may)
+pub may_end_same : {S : Type 0} (s : Ghosts S) (old new : S) (space space' : FreeState) → new ≡ old
+    → space' ≡ space → MayEnd (s.state old) space.file_end → MayEnd (s.state new) space'.file_end
+may_end_same {S} s old new space space' store free may =
+    subst (λ (st : S). MayEnd (s.state st) space'.file_end) (sym store)
+    (subst (λ (f : FreeState). MayEnd (s.state old) f.file_end) (sym free) may)
 
 -- and after a read
-pub may_end_read : {S : Type 0} (s : Ghosts S) (old new : S) (end : ℕ) → ReadsOnly s old new → MayEnd (s.state old) end → MayEnd (s.state new) end
-may_end_read s old new end reads may = subst (λ (st : StoreState). MayEnd st end) (sym reads.same) may
+pub may_end_read : {S : Type 0} (s : Ghosts S) (old new : S) (end : ℕ) → ReadsOnly s old new
+    → MayEnd (s.state old) end → MayEnd (s.state new) end
+may_end_read s old new end reads may =
+    subst (λ (st : StoreState). MayEnd st end) (sym reads.same) may

@@ -46,22 +46,29 @@ use Rattle.linear_hash.specs.Splitting.{IsBucketOpened}
 -- ---- lists of numbers
 
 -- the page that is taken was the first free one or the one at the end
-free_split : (n : ℕ) (s : Space) → times_of n s.free ≤ times_of n (next_page s ∷ []) + times_of n (after_take s).free
+free_split : (n : ℕ) (s : Space)
+    → times_of n s.free ≤ times_of n (next_page s ∷ []) + times_of n (after_take s).free
 free_split n s = by_free s.free s.end where
-  by_free : (free : List ℕ) (end : ℕ) → times_of n free ≤ times_of n (next_page (record { free = free; end = end }) ∷ []) + times_of n (after_take (record { free = free; end = end })).free
+  by_free : (free : List ℕ) (end : ℕ)
+      → times_of n free ≤ times_of n (next_page (record { free = free; end = end }) ∷ [])
+      + times_of n (after_take (record { free = free; end = end })).free
   by_free [] end = omega arith
-  by_free (m ∷ rest) end = let f : ℕ → ℕ = λ k. cond (k == n) 1 0 in omega (arith, sum_by-cons f m rest, sum_by-cons f m [])
+  by_free (m ∷ rest) end = let f : ℕ → ℕ = λ k. cond (k == n) 1 0 in
+      omega (arith, sum_by-cons f m rest, sum_by-cons f m [])
 
 -- the others are read as they were
-free_rest : (at : ℕ → Body) (s : Space) → AreRead at (free_bodies s.free) → AreRead at (free_bodies (after_take s).free)
+free_rest : (at : ℕ → Body) (s : Space) → AreRead at (free_bodies s.free)
+    → AreRead at (free_bodies (after_take s).free)
 free_rest at s = by_free s.free s.end where
-  by_free : (free : List ℕ) (end : ℕ) → AreRead at (free_bodies free) → AreRead at (free_bodies (after_take (record { free = free; end = end })).free)
+  by_free : (free : List ℕ) (end : ℕ) → AreRead at (free_bodies free)
+      → AreRead at (free_bodies (after_take (record { free = free; end = end })).free)
   by_free [] end read = tt
   by_free (m ∷ rest) end read = read.1
 
 end_some : (s : Space) → 1 ≤ s.end → 1 ≤ (after_take s).end
 end_some s = by_free s.free s.end where
-  by_free : (free : List ℕ) (end : ℕ) → 1 ≤ end → 1 ≤ (after_take (record { free = free; end = end })).end
+  by_free : (free : List ℕ) (end : ℕ) → 1 ≤ end
+      → 1 ≤ (after_take (record { free = free; end = end })).end
   by_free [] end some = omega arith
   by_free (m ∷ rest) end some = some
 
@@ -72,7 +79,8 @@ last_there zero (n ∷ rest) lt = omega (arith, times_head n rest)
 last_there (suc i) (n ∷ rest) lt = last_there i rest (omega arith)
 
 -- a number behind a list is left of it
-last_behind : (m n : ℕ) (ns : List ℕ) → times_of m (n ∷ []) ≤ times_of m (drop (length ns) (ns ++ n ∷ []))
+last_behind : (m n : ℕ) (ns : List ℕ)
+    → times_of m (n ∷ []) ≤ times_of m (drop (length ns) (ns ++ n ∷ []))
 last_behind m n [] = omega arith
 last_behind m n (k ∷ rest) = last_behind m n rest
 
@@ -80,7 +88,8 @@ last_behind m n (k ∷ rest) = last_behind m n rest
 opens_same : (b k : ℕ) → k ≡ segments_for b → (b / 508 == k) ≡ (b % 508 == 0)
 opens_same b k e = elim (b % 508 == 0) as (λ t. (b % 508 == 0) ≡ t → (b / 508 == k) ≡ t) [
   | true ↦ λ t. let z = eqb-true _ _ t in eq-eqb (b / 508) k (omega arith)
-  | false ↦ λ t. let z : b % 508 ≡ 0 → ⊥ = eqb-false _ _ t in ne_eqb (b / 508) k (λ same. omega arith)
+  | false ↦ λ t. let z : b % 508 ≡ 0 → ⊥ = eqb-false _ _ t in
+      ne_eqb (b / 508) k (λ same. omega arith)
 ] refl
 
 one_more : (t : Bool) (ns : List ℕ) (n : ℕ) → cond t (ns ++ n ∷ []) ns ≡ ns ++ cond t (n ∷ []) []
@@ -88,7 +97,8 @@ one_more true ns n = refl
 one_more false ns n = sym (append-nil ns)
 
 -- the next bucket's head stands behind the others
-head_behind : (heads : List ℕ) (b head : ℕ) → b ≡ length heads → with_head heads b head ≡ heads ++ head ∷ []
+head_behind : (heads : List ℕ) (b head : ℕ) → b ≡ length heads
+    → with_head heads b head ≡ heads ++ head ∷ []
 head_behind heads b head same = grind (arith, nat_tests)
 
 -- ---- where a bucket is opened
@@ -109,7 +119,10 @@ module _ (p : Placement) (sound : IsSound p) where
   split_below = let e = sound.all_buckets in let l = sound.split_in in omega arith
 
   -- how often a page comes once the new bucket has its head
-  headed_places : (m : ℕ) → times_of m p.segments + times_of m (numbers (bared (chain_at p p.shape.split))) + times_of m ((new_head p).number ∷ []) + times_of m (headed_space p).free ≤ cond (is_page m (headed_space p).end) 1 0
+  headed_places : (m : ℕ) → times_of m p.segments
+      + times_of m (numbers (bared (chain_at p p.shape.split)))
+      + times_of m ((new_head p).number ∷ []) + times_of m (headed_space p).free
+      ≤ cond (is_page m (headed_space p).end) 1 0
   headed_places m =
       let f : ℕ → ℕ = λ k. cond (k == m) 1 0 in
       let chain = chain_at p p.shape.split in
@@ -119,17 +132,26 @@ module _ (p : Placement) (sound : IsSound p) where
       let c = sum_by-cons f 1 p.segments in
       let d = sum_by-flat_map-set f numbers p.chains p.shape.split (bared chain) [] split_below in
       let e = sum_by-flat_map-set f numbers p.chains p.shape.split [] [] split_below in
-      let g = ap (sum_by f) (flat_map-append numbers cs ((new_head p ∷ []) ∷ [])) ∙ sum_by-append f (flat_map numbers cs) ((new_head p).number ∷ []) in
+      let g = ap (sum_by f) (flat_map-append numbers cs ((new_head p ∷ []) ∷ []))
+      ∙ sum_by-append f (flat_map numbers cs) ((new_head p).number ∷ []) in
       omega arith
 
-  headed_once : (m : ℕ) → times_of m p.segments + times_of m (numbers (bared (chain_at p p.shape.split))) + times_of m ((new_head p).number ∷ []) + times_of m (headed_space p).free ≤ 1
+  headed_once : (m : ℕ) → times_of m p.segments
+      + times_of m (numbers (bared (chain_at p p.shape.split)))
+      + times_of m ((new_head p).number ∷ []) + times_of m (headed_space p).free ≤ 1
   headed_once m = omega (arith, headed_places m, at_most_one (is_page m (headed_space p).end))
 
   -- the pages that are given were apart from the free ones
-  pub given_apart : (at : ℕ → Body) (space : FreeState) (head : ℕ) → IsPlaced at space head (chain_at p p.shape.split) p.space → IsApart [] (given_space p)
+  pub given_apart : (at : ℕ → Body) (space : FreeState) (head : ℕ)
+      → IsPlaced at space head (chain_at p p.shape.split) p.space → IsApart [] (given_space p)
   given_apart at space head placed m =
       let chain = chain_at p p.shape.split in
-      omega (arith, placed.apart m, times_given m (drop 1 (numbers chain)) p.space, dropped m (numbers chain))
+      omega (
+        arith,
+        placed.apart m,
+        times_given m (drop 1 (numbers chain)) p.space,
+        dropped m (numbers chain),
+      )
     where
       dropped : (m : ℕ) (ns : List ℕ) → times_of m (drop 1 ns) ≤ times_of m ns
       dropped m [] = omega arith
@@ -138,56 +160,93 @@ module _ (p : Placement) (sound : IsSound p) where
   -- the last segment page is the one of the new bucket
   many_segments : length (opened p).segments ≡ length p.chains / 508 + 1
   many_segments =
-      let many : length (opened p).chains ≡ length p.chains + 1 = length-append (set p.chains p.shape.split (bared (chain_at p p.shape.split))) _ ∙ ap (λ n. n + 1) (length-set p.chains p.shape.split (bared (chain_at p p.shape.split))) in
+      let many : length (opened p).chains ≡ length p.chains + 1 =
+      length-append (set p.chains p.shape.split (bared (chain_at p p.shape.split))) _
+      ∙ ap (λ n. n + 1) (length-set p.chains p.shape.split
+      (bared (chain_at p p.shape.split))) in
       let after = (opened_sound p sound).all_segments in
       omega arith
 
   -- the free pages of before are those of after and the page of a new segment
-  free_opened : (m : ℕ) → times_of m (headed_space p).free ≤ times_of m (drop (length (opened p).segments - 1) (opened p).segments) + times_of m (opened p).space.free
+  free_opened : (m : ℕ) → times_of m (headed_space p).free
+      ≤ times_of m (drop (length (opened p).segments - 1) (opened p).segments)
+      + times_of m (opened p).space.free
   free_opened m =
       let s = headed_space p in
       let new = next_page s in
-      elim (placement.opens_segment p) as (λ t. times_of m s.free ≤ times_of m (drop (length (p.segments ++ cond t (new ∷ []) []) - 1) (p.segments ++ cond t (new ∷ []) [])) + times_of m (cond {A = Space} t (after_take s) s).free) [
+      elim (placement.opens_segment p) as
+      (λ t. times_of m s.free ≤ times_of m
+      (drop (length (p.segments ++ cond t (new ∷ []) []) - 1)
+      (p.segments ++ cond t (new ∷ []) []))
+      + times_of m (cond {A = Space} t (after_take s) s).free) [
         | true ↦
-            let last : length (p.segments ++ new ∷ []) - 1 ≡ length p.segments = omega (arith, length-append p.segments (new ∷ [])) in
-            let behind = subst (λ k. times_of m (new ∷ []) ≤ times_of m (drop k (p.segments ++ new ∷ []))) (sym last) (last_behind m new p.segments) in
+            let last : length (p.segments ++ new ∷ []) - 1 ≡ length p.segments =
+            omega (arith, length-append p.segments (new ∷ [])) in
+            let behind = subst (λ k. times_of m (new ∷ [])
+            ≤ times_of m (drop k (p.segments ++ new ∷ []))) (sym last)
+            (last_behind m new p.segments) in
             omega (arith, free_split m s, behind)
         | false ↦ omega arith
       ]
 
-  free_read_then : (at : ℕ → Body) → AreRead at (free_bodies (headed_space p).free) → AreRead at (free_bodies (opened p).space.free)
+  free_read_then : (at : ℕ → Body) → AreRead at (free_bodies (headed_space p).free)
+      → AreRead at (free_bodies (opened p).space.free)
   free_read_then at read =
       let s = headed_space p in
-      elim (placement.opens_segment p) as (λ t. AreRead at (free_bodies (cond {A = Space} t (after_take s) s).free)) [ true ↦ free_rest at s read | false ↦ read ]
+      elim (placement.opens_segment p) as
+      (λ t. AreRead at (free_bodies (cond {A = Space} t (after_take s) s).free)) [
+        | true ↦
+            free_rest at s read
+        | false ↦ read
+      ]
 
 -- the chain of the bucket that is split
-pub split_placed : (at : ℕ → Body) (m : Meta) (space : FreeState) (p : Placement) (head : ℕ) → IsMidway at m space p → head ≡ first_of (numbers (chain_at p p.shape.split)) → IsPlaced at space head (chain_at p p.shape.split) p.space
+pub split_placed : (at : ℕ → Body) (m : Meta) (space : FreeState) (p : Placement) (head : ℕ)
+    → IsMidway at m space p → head ≡ first_of (numbers (chain_at p p.shape.split))
+    → IsPlaced at space head (chain_at p p.shape.split) p.space
 split_placed at m space p head midway from =
-    subst (λ (k : ℕ). IsPlaced at space k (chain_at p p.shape.split) p.space) (sym from) (chains_placed at space p p.shape.split midway.sound midway.below (split_below p midway.sound))
+    subst (λ (k : ℕ). IsPlaced at space k (chain_at p p.shape.split) p.space) (sym from)
+    (chains_placed at space p p.shape.split midway.sound midway.below
+    (split_below p midway.sound))
 
 -- a list of no pairs has no key twice
 pub no_keys : HaveDistinctKeys []
 no_keys i j d lt le = absurd (omega arith)
 
 -- the segment pages say the heads
-pub midway_heads : (at : ℕ → Body) (m : Meta) (space : FreeState) (p : Placement) → IsMidway at m space p → space.file_end < 2 ^ 32 → HasHeads at p
-midway_heads at m space p midway small = placements_heads at p midway.sound (omega (arith, small, ap (λ (s : FreeState). s.file_end) midway.below.kept)) midway.below.are_read
+pub midway_heads : (at : ℕ → Body) (m : Meta) (space : FreeState) (p : Placement)
+    → IsMidway at m space p → space.file_end < 2 ^ 32 → HasHeads at p
+midway_heads at m space p midway small =
+    placements_heads at p midway.sound
+    (omega (arith, small, ap (λ (s : FreeState). s.file_end) midway.below.kept))
+    midway.below.are_read
 
 -- the next bucket
-pub next_bucket : (at : ℕ → Body) (m : Meta) (space : FreeState) (p : Placement) → IsMidway at m space p → meta_buckets m ≡ length p.chains
-next_bucket at m space p midway = ap (λ (s : Shape). 2 ^ s.level + s.split) midway.shape_is ∙ sym midway.sound.all_buckets
+pub next_bucket : (at : ℕ → Body) (m : Meta) (space : FreeState) (p : Placement)
+    → IsMidway at m space p → meta_buckets m ≡ length p.chains
+next_bucket at m space p midway =
+    ap (λ (s : Shape). 2 ^ s.level + s.split) midway.shape_is ∙ sym midway.sound.all_buckets
 
 -- a head page with no pair was staged
-pub says_head : (at : ℕ → Body) (bytes : List ℕ) (n : ℕ) → at n ≡ body_of n bytes → IsBucketPage bytes → bucket_of bytes ≡ bucket n 3 0 [] → at n ≡ HeadPage 0 []
-says_head at bytes n read page says = (says_link at bytes n 3 0 [] read (inl refl) (record { page = page; says = says; filled = λ four. absurd (omega arith) })).says
+pub says_head : (at : ℕ → Body) (bytes : List ℕ) (n : ℕ) → at n ≡ body_of n bytes
+    → IsBucketPage bytes → bucket_of bytes ≡ bucket n 3 0 [] → at n ≡ HeadPage 0 []
+says_head at bytes n read page says =
+    (says_link at bytes n 3 0 [] read (inl refl)
+    (record { page = page; says = says; filled = λ four. absurd (omega arith) })).says
 
 -- the free list once the bucket's overflow pages are given
-pub given_free : (p : Placement) (at0 at1 : ℕ → Body) (space1 : FreeState) → BecomesPlaced at0 at1 space1 (store_in (chain_at p p.shape.split, p.space) []) → 1 ≤ p.space.end → IsFreeList at1 space1 (given_space p)
-given_free p at0 at1 space1 emptied some = record { kept = emptied.kept; are_read = emptied.rewritten.free_read; some = some }
+pub given_free : (p : Placement) (at0 at1 : ℕ → Body) (space1 : FreeState)
+    → BecomesPlaced at0 at1 space1 (store_in (chain_at p p.shape.split, p.space) [])
+    → 1 ≤ p.space.end → IsFreeList at1 space1 (given_space p)
+given_free p at0 at1 space1 emptied some =
+    record { kept = emptied.kept; are_read = emptied.rewritten.free_read; some = some }
 
-module _ (p : Placement) (sound : IsSound p) (at0 at1 at2 : ℕ → Body) (space0 space1 space2 : FreeState) (n : ℕ) (below : IsBelow at0 space0 p)
-    (emptied : BecomesPlaced at0 at1 space1 (store_in (chain_at p p.shape.split, p.space) [])) (some : 1 ≤ p.space.end) where
-  module _ (taken : (n ≡ next_page (given_space p)) × (space2 ≡ state_of (headed_space p))) (here : at2 n ≡ HeadPage 0 []) (others : (m : ℕ) → (m ≡ n → ⊥) → at2 m ≡ at1 m) where
+module _ (p : Placement) (sound : IsSound p) (at0 at1 at2 : ℕ → Body)
+    (space0 space1 space2 : FreeState) (n : ℕ) (below : IsBelow at0 space0 p)
+    (emptied : BecomesPlaced at0 at1 space1 (store_in (chain_at p p.shape.split, p.space) []))
+    (some : 1 ≤ p.space.end) where
+  module _ (taken : (n ≡ next_page (given_space p)) × (space2 ≡ state_of (headed_space p)))
+      (here : at2 n ≡ HeadPage 0 []) (others : (m : ℕ) → (m ≡ n → ⊥) → at2 m ≡ at1 m) where
     is_head : times_of n ((new_head p).number ∷ []) ≡ 1
     is_head = ap (λ k. times_of n (k ∷ [])) (sym taken.0) ∙ times_head n []
 
@@ -195,16 +254,25 @@ module _ (p : Placement) (sound : IsSound p) (at0 at1 at2 : ℕ → Body) (space
     other_head : (m : ℕ) → times_of m ((new_head p).number ∷ []) ≡ 0 → m ≡ n → ⊥
     other_head m none = not_here n m ((new_head p).number ∷ []) (omega (arith, is_head)) none
 
-    untouched : (m : ℕ) → times_of m (numbers (bared (chain_at p p.shape.split))) + times_of m ((new_head p).number ∷ []) + times_of m (headed_space p).free ≡ 0 → at2 m ≡ at0 m
-    untouched m none = others m (other_head m (omega arith)) ∙ emptied.rewritten.others m (omega (arith, none, free_split m (given_space p)))
+    untouched : (m : ℕ) → times_of m (numbers (bared (chain_at p p.shape.split)))
+        + times_of m ((new_head p).number ∷ []) + times_of m (headed_space p).free ≡ 0
+        → at2 m ≡ at0 m
+    untouched m none = others m (other_head m (omega arith))
+        ∙ emptied.rewritten.others m (omega (arith, none, free_split m (given_space p)))
 
     -- the new head can be set
-    pub can_set : (m : Meta) (b : ℕ) → b ≡ length p.chains → shape_in m ≡ p.shape → m.segments ≡ p.segments → 1 ≤ n → HasHeads at0 p → CanSet at2 m space2 (heads_of p.chains) b n (headed_space p)
+    pub can_set : (m : Meta) (b : ℕ) → b ≡ length p.chains → shape_in m ≡ p.shape
+        → m.segments ≡ p.segments → 1 ≤ n → HasHeads at0 p
+        → CanSet at2 m space2 (heads_of p.chains) b n (headed_space p)
     can_set m b b_is shape segments positive has =
         let heads = heads_of p.chains in
-        let same : meta_buckets m ≡ meta_buckets (meta_of p) = ap (λ (s : Shape). 2 ^ s.level + s.split) shape in
-        let read : AreRead at2 (segment_bodies p.segments heads) = kept at0 at2 (segment_bodies p.segments heads)
-        (λ k l. untouched k (let a = headed_once p sound k in let b = subst (λ ns. 1 ≤ times_of k ns) (numbers-segments p.segments heads) l in omega arith)) has.heads_are.are_read in
+        let same : meta_buckets m ≡ meta_buckets (meta_of p) =
+        ap (λ (s : Shape). 2 ^ s.level + s.split) shape in
+        let read : AreRead at2 (segment_bodies p.segments heads) =
+        kept at0 at2 (segment_bodies p.segments heads)
+        (λ k l. untouched k (let a = headed_once p sound k in let b =
+        subst (λ ns. 1 ≤ times_of k ns) (numbers-segments p.segments heads) l in
+        omega arith)) has.heads_are.are_read in
         record {
           heads_are = record {
             are_read = subst (λ ns. AreRead at2 (segment_bodies ns heads)) (sym segments) read;
@@ -214,48 +282,72 @@ module _ (p : Placement) (sound : IsSound p) (at0 at1 at2 : ℕ → Body) (space
           free_is = record {
             kept = taken.1;
             are_read = kept at1 at2 (free_bodies (headed_space p).free)
-                (λ k l. others k (other_head k (let a = headed_once p sound k in let b = subst (λ ns. 1 ≤ times_of k ns) (numbers-free (headed_space p).free) l in omega arith)))
+                (λ k l. others k (other_head k
+                (let a = headed_once p sound k in let b =
+                subst (λ ns. 1 ≤ times_of k ns) (numbers-free (headed_space p).free)
+                l in omega arith)))
                 (free_rest at1 (given_space p) emptied.rewritten.free_read);
             some = end_some (given_space p) some;
           };
-          apart = λ k. subst (λ ns. times_of k ns + times_of k (headed_space p).free ≤ cond (is_page k (headed_space p).end) 1 0) (sym segments) (omega (arith, headed_places p sound k));
+          apart = λ k. subst (λ ns. times_of k ns + times_of k (headed_space p).free
+              ≤ cond (is_page k (headed_space p).end) 1 0) (sym segments)
+              (omega (arith, headed_places p sound k));
           room = subst (λ ns. length heads ≤ 508 * length ns) (sym segments) has.room;
-          bucket = omega (arith, b_is, length-map p.chains (λ (chain : Chain). first_of (numbers chain)));
+          bucket = omega (
+            arith,
+            b_is,
+            length-map p.chains
+                (λ (chain : Chain). first_of (numbers chain)),
+          );
           some = positive;
         }
 
-    module _ (at3 : ℕ → Body) (space3 : FreeState) (m m' : Meta) (b : ℕ) (b_is : b ≡ length p.chains) (segments : m.segments ≡ p.segments) (head_set : IsHeadSet at2 at3 m m' space3 (heads_of p.chains) b n (headed_space p)) where
+    module _ (at3 : ℕ → Body) (space3 : FreeState) (m m' : Meta) (b : ℕ)
+        (b_is : b ≡ length p.chains) (segments : m.segments ≡ p.segments)
+        (head_set : IsHeadSet at2 at3 m m' space3 (heads_of p.chains) b n (headed_space p)) where
       opens : needs_segment m b ≡ placement.opens_segment p
-      opens = ap (λ (ns : List ℕ). (b / 508) == length ns) segments ∙ ap (λ (k : ℕ). (k / 508) == length p.segments) b_is ∙ opens_same (length p.chains) (length p.segments) sound.all_segments
+      opens = ap (λ (ns : List ℕ). (b / 508) == length ns) segments
+          ∙ ap (λ (k : ℕ). (k / 508) == length p.segments) b_is
+          ∙ opens_same (length p.chains) (length p.segments) sound.all_segments
 
       segments_now : m'.segments ≡ (opened p).segments
       segments_now =
           let new = next_page (headed_space p) in
-          ap (λ (x : Meta). x.segments) head_set.segments_are ∙ one_more (needs_segment m b) m.segments new
-          ∙ ap (λ (t : Bool). m.segments ++ cond t (new ∷ []) []) opens ∙ ap (λ (ns : List ℕ). ns ++ cond (placement.opens_segment p) (new ∷ []) []) segments
+          ap (λ (x : Meta). x.segments) head_set.segments_are
+          ∙ one_more (needs_segment m b) m.segments new
+          ∙ ap (λ (t : Bool). m.segments ++ cond t (new ∷ []) []) opens
+          ∙ ap (λ (ns : List ℕ). ns ++ cond (placement.opens_segment p) (new ∷ []) []) segments
 
       space_now : space3 ≡ state_of (opened p).space
-      space_now = head_set.free_is ∙ ap (λ (t : Bool). state_of (cond t (after_take (headed_space p)) (headed_space p))) opens
+      space_now = head_set.free_is ∙ ap
+          (λ (t : Bool). state_of (cond t (after_take (headed_space p)) (headed_space p))) opens
 
       heads_now : with_head (heads_of p.chains) b n ≡ heads_of (opened p).chains
       heads_now =
           let heads = heads_of p.chains in
-          head_behind heads b n (b_is ∙ sym (length-map p.chains (λ (chain : Chain). first_of (numbers chain))))
+          head_behind heads b n (b_is ∙ sym
+          (length-map p.chains (λ (chain : Chain). first_of (numbers chain))))
           ∙ ap (λ (k : ℕ). heads ++ k ∷ []) taken.0 ∙ sym (heads_opened p sound at0 at2)
 
       segments_read : AreRead at3 (segment_bodies (opened p).segments (heads_of (opened p).chains))
-      segments_read = subst (λ (hs : List ℕ). AreRead at3 (segment_bodies (opened p).segments hs)) heads_now
-          (subst (λ (ns : List ℕ). AreRead at3 (segment_bodies ns (with_head (heads_of p.chains) b n))) segments_now head_set.are_read)
+      segments_read = subst (λ (hs : List ℕ). AreRead at3 (segment_bodies (opened p).segments hs))
+          heads_now
+          (subst (λ (ns : List ℕ). AreRead at3
+          (segment_bodies ns (with_head (heads_of p.chains) b n))) segments_now
+          head_set.are_read)
 
       -- pages other than the last segment page stay
-      segment_alone : (k : ℕ) → times_of k (drop (length (opened p).segments - 1) (opened p).segments) ≡ 0 → at3 k ≡ at2 k
+      segment_alone : (k : ℕ) → times_of k
+          (drop (length (opened p).segments - 1) (opened p).segments) ≡ 0 → at3 k ≡ at2 k
       segment_alone k none =
           let ns = (opened p).segments in
           let last = length ns - 1 in
           let many = many_segments p sound in
           let index : b / 508 ≡ last = ap (λ (k : ℕ). k / 508) b_is ∙ omega arith in
           let there = last_there last ns (omega arith) in
-          head_set.others k (λ same. not_here (get_or ns last 0) k (drop last ns) there none (same ∙ ap (λ (xs : List ℕ). get_or xs (b / 508) 0) segments_now ∙ ap (λ (i : ℕ). get_or ns i 0) index))
+          head_set.others k (λ same. not_here (get_or ns last 0) k (drop last ns) there none
+          (same ∙ ap (λ (xs : List ℕ). get_or xs (b / 508) 0) segments_now
+          ∙ ap (λ (i : ℕ). get_or ns i 0) index))
 
       rewritten : AreRewritten at0 at3 (opened_bodies p)
       rewritten =
@@ -268,22 +360,48 @@ module _ (p : Placement) (sound : IsSound p) (at0 at1 at2 : ℕ → Body) (space
           let h = chain_bodies (new_head p ∷ []) in
           let c = last_segment q in
           let d = free_bodies q.space.free in
-          let later : (k : ℕ) → times_of k (q.segments) ≡ 0 → times_of k ((new_head p).number ∷ []) ≡ 0 → at3 k ≡ at1 k
-          = λ (k : ℕ) (one : times_of k (q.segments) ≡ 0) (two : times_of k ((new_head p).number ∷ []) ≡ 0). segment_alone k (omega (arith, one, taken_dropped k last q.segments)) ∙ others k (other_head k two) in
-          let a_read : AllByRecursion Q a = kept at1 at3 a (λ k l. let x = places p sound at0 at3 k in let y = subst (λ ns. 1 ≤ times_of k ns) (numbers-chain_bodies chain) l in later k (omega arith) (omega arith)) emptied.rewritten.chain_read in
-          let h_read : AllByRecursion Q h = (segment_alone _ (let x = places p sound at0 at3 (new_head p).number in let y = times_head (new_head p).number [] in let z = taken_dropped (new_head p).number last q.segments in omega arith) ∙ ap at2 number ∙ here, tt) in
-          let c_read : AllByRecursion Q c = AllByRecursion-right Q (segment_bodies (take last q.segments) (heads_of q.chains)) c (subst (AllByRecursion Q) (segments_split last q.segments (heads_of q.chains)) segments_read) in
-          let d_read : AllByRecursion Q d = kept at1 at3 d (λ k l. let x = places p sound at0 at3 k in let y = subst (λ ns. 1 ≤ times_of k ns) (numbers-free q.space.free) l in later k (omega arith) (omega arith)) (free_read_then p sound at1 (free_rest at1 (given_space p) emptied.rewritten.free_read)) in
+          let later : (k : ℕ) → times_of k (q.segments) ≡ 0
+          → times_of k ((new_head p).number ∷ []) ≡ 0 → at3 k ≡ at1 k
+          = λ (k : ℕ) (one : times_of k (q.segments) ≡ 0) (two : times_of k ((new_head p).number ∷ []) ≡ 0).
+          segment_alone k (omega (arith, one, taken_dropped k last q.segments))
+          ∙ others k (other_head k two) in
+          let a_read : AllByRecursion Q a =
+          kept at1 at3 a (λ k l. let x = places p sound at0 at3 k in let y =
+          subst (λ ns. 1 ≤ times_of k ns) (numbers-chain_bodies chain) l in
+          later k (omega arith) (omega arith)) emptied.rewritten.chain_read in
+          let h_read : AllByRecursion Q h = (
+            segment_alone _ (let x = places p sound at0 at3 (new_head p).number in let y =
+                times_head (new_head p).number [] in let z =
+                taken_dropped (new_head p).number last q.segments in omega arith)
+                ∙ ap at2 number ∙ here,
+            tt,
+          ) in
+          let c_read : AllByRecursion Q c =
+          AllByRecursion-right Q (segment_bodies (take last q.segments) (heads_of q.chains)) c
+          (subst (AllByRecursion Q) (segments_split last q.segments (heads_of q.chains))
+          segments_read) in
+          let d_read : AllByRecursion Q d =
+          kept at1 at3 d (λ k l. let x = places p sound at0 at3 k in let y =
+          subst (λ ns. 1 ≤ times_of k ns) (numbers-free q.space.free) l in
+          later k (omega arith) (omega arith))
+          (free_read_then p sound at1 (free_rest at1 (given_space p)
+          emptied.rewritten.free_read)) in
           record {
-            are_read = AllByRecursion-append Q (a ++ h ++ c) d (AllByRecursion-append Q (a ++ h) c (AllByRecursion-append Q a h a_read h_read) c_read) d_read;
+            are_read = AllByRecursion-append Q (a ++ h ++ c) d
+                (AllByRecursion-append Q (a ++ h) c (AllByRecursion-append Q a h a_read h_read)
+                c_read) d_read;
             others = λ k none.
                 let x = touched p sound at0 at3 k in
-                segment_alone k (omega arith) ∙ untouched k (omega (arith, x, none, free_opened p sound k));
+                segment_alone k (omega arith)
+                ∙ untouched k (omega (arith, x, none, free_opened p sound k));
           }
 
       pub opened_now : IsBucketOpened at3 m' space3 p n
       opened_now = record {
-        below = record { are_read = open_rewrites p at0 at3 sound below.are_read rewritten; kept = space_now };
+        below = record {
+          are_read = open_rewrites p at0 at3 sound below.are_read rewritten;
+          kept = space_now;
+        };
         segments_are = segments_now;
         head = taken.0;
       }

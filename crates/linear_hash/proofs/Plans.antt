@@ -10,30 +10,44 @@ use Rattle.page_io.specs.declared.store.PageStore.{Ghosts}
 use Rattle.page_commit.specs.Committing.{Holds}
 use Rattle.linear_hash.proofs.Tables.{placed, meta_held, map_placed}
 
-module _ {S : Type 0} (s : Ghosts S) (old : S) (m : Meta) (map : Contents) (holds : Holds s old m map) where
+module _ {S : Type 0} (s : Ghosts S) (old : S) (m : Meta) (map : Contents)
+    (holds : Holds s old m map) where
   abbrev pub now : Placement
   now = placed s old m map holds
 
-  pub was_placed : (key : Key) (was : Bool) → was ≡ is_some (get map key) → was ≡ is_some (get (contents now) key)
-  was_placed key was is = is ∙ ap (λ (c : Contents). is_some (get c key)) (sym (map_placed s old m map holds))
+  pub was_placed : (key : Key) (was : Bool) → was ≡ is_some (get map key)
+      → was ≡ is_some (get (contents now) key)
+  was_placed key was is = is ∙ ap (λ (c : Contents). is_some (get c key))
+      (sym (map_placed s old m map holds))
 
-  pub may_store : (pair : Pair) (was : Bool) → IsAllowed pair → HasBytes pair → was ≡ is_some (get map pair.0) → (was ≡ false → m.pairs < m.limit) → MayStore now pair
+  pub may_store : (pair : Pair) (was : Bool) → IsAllowed pair → HasBytes pair
+      → was ≡ is_some (get map pair.0) → (was ≡ false → m.pairs < m.limit) → MayStore now pair
   may_store pair was small bytes is room = record {
     allowed = small;
     bytes = bytes;
     room = λ none.
-        let new : was ≡ false = was_placed pair.0 was is ∙ ap (λ (o : Option (List ℕ)). is_some o) none in
-        omega (arith, room new, counts_keys now holds.stands.good.sound, ap (λ (n : Meta). n.pairs) (meta_held s old m map holds), ap (λ (n : Meta). n.limit) (meta_held s old m map holds));
+        let new : was ≡ false = was_placed pair.0 was is
+        ∙ ap (λ (o : Option (List ℕ)). is_some o) none in
+        omega (
+          arith,
+          room new,
+          counts_keys now holds.stands.good.sound,
+          ap (λ (n : Meta). n.pairs) (meta_held s old m map holds),
+          ap (λ (n : Meta). n.limit) (meta_held s old m map holds),
+        );
   }
 
   pub stored_good : (pair : Pair) → MayStore now pair → IsGood (store now pair)
   stored_good pair may = (store_stays_good now pair holds.stands.good may).0
 
-  pub stored_map : (pair : Pair) → MayStore now pair → contents (store now pair) ≡ insert map pair.0 pair.1
-  stored_map pair may = (store_stays_good now pair holds.stands.good may).1 ∙ ap (λ (c : Contents). insert c pair.0 pair.1) (map_placed s old m map holds)
+  pub stored_map : (pair : Pair) → MayStore now pair
+      → contents (store now pair) ≡ insert map pair.0 pair.1
+  stored_map pair may = (store_stays_good now pair holds.stands.good may).1
+      ∙ ap (λ (c : Contents). insert c pair.0 pair.1) (map_placed s old m map holds)
 
   pub deleted_good : (key : Key) → IsGood (delete now key)
   deleted_good key = (delete_stays_good now key holds.stands.good).0
 
   pub deleted_map : (key : Key) → contents (delete now key) ≡ remove map key
-  deleted_map key = (delete_stays_good now key holds.stands.good).1 ∙ ap (λ (c : Contents). remove c key) (map_placed s old m map holds)
+  deleted_map key = (delete_stays_good now key holds.stands.good).1
+      ∙ ap (λ (c : Contents). remove c key) (map_placed s old m map holds)

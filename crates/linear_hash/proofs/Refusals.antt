@@ -22,13 +22,15 @@ of_head e (inl is) = inl is
 of_head e (inr (inl is)) = inr (inr (inr (inl is)))
 of_head e (inr (inr is)) = inr (inr (inr (inr is)))
 
-of_load : (e : PageFault) → (e ≡ Memory) ⊎ ((e ≡ Broken) ⊎ ((e ≡ Damaged) ⊎ (e ≡ Device))) → IsChangeFault e
+of_load : (e : PageFault) → (e ≡ Memory) ⊎ ((e ≡ Broken) ⊎ ((e ≡ Damaged) ⊎ (e ≡ Device)))
+    → IsChangeFault e
 of_load e (inl is) = inr (inl is)
 of_load e (inr (inl is)) = inl is
 of_load e (inr (inr (inl is))) = inr (inr (inr (inl is)))
 of_load e (inr (inr (inr is))) = inr (inr (inr (inr is)))
 
-of_take : (e : PageFault) → (e ≡ NoRoom) ⊎ ((e ≡ Broken) ⊎ ((e ≡ Damaged) ⊎ (e ≡ Device))) → IsChangeFault e
+of_take : (e : PageFault) → (e ≡ NoRoom) ⊎ ((e ≡ Broken) ⊎ ((e ≡ Damaged) ⊎ (e ≡ Device)))
+    → IsChangeFault e
 of_take e (inl is) = inr (inr (inl is))
 of_take e (inr (inl is)) = inl is
 of_take e (inr (inr (inl is))) = inr (inr (inr (inl is)))
@@ -38,20 +40,24 @@ of_stage : (e : PageFault) → (e ≡ Broken) ⊎ (e ≡ Memory) → IsChangeFau
 of_stage e (inl is) = inl is
 of_stage e (inr is) = inr (inl is)
 
-of_remove : (e : PageFault) → (e ≡ Broken) ⊎ ((e ≡ Memory) ⊎ ((e ≡ Damaged) ⊎ (e ≡ Device))) → IsChangeFault e
+of_remove : (e : PageFault) → (e ≡ Broken) ⊎ ((e ≡ Memory) ⊎ ((e ≡ Damaged) ⊎ (e ≡ Device)))
+    → IsChangeFault e
 of_remove e (inl is) = inl is
 of_remove e (inr (inl is)) = inr (inl is)
 of_remove e (inr (inr (inl is))) = inr (inr (inr (inl is)))
 of_remove e (inr (inr (inr is))) = inr (inr (inr (inr is)))
 
-head_no_memory : {T : Type 0} (e : PageFault) → (e ≡ Broken) ⊎ ((e ≡ Damaged) ⊎ (e ≡ Device)) → IsErrOf {T = T} (Err e) Memory → ⊥
+head_no_memory : {T : Type 0} (e : PageFault) → (e ≡ Broken) ⊎ ((e ≡ Damaged) ⊎ (e ≡ Device))
+    → IsErrOf {T = T} (Err e) Memory → ⊥
 head_no_memory e (inl broken) is = cc
 head_no_memory e (inr (inl damaged)) is = cc
 head_no_memory e (inr (inr device)) is = cc
 
 -- the exit of a `?`, in a state that is usable where the one at the start was
-module _ {T U : Type 0} (old mid : StoreState) (same : mid.usable ≡ old.usable) (result : Result T PageFault) (e : PageFault) (exit : result ≡ Err e) where
-  refused : (IsErrOf {T = U} (Err e) Broken → mid.usable ≡ false) → IsChangeFault e → IsChangeAnswer old result
+module _ {T U : Type 0} (old mid : StoreState) (same : mid.usable ≡ old.usable)
+    (result : Result T PageFault) (e : PageFault) (exit : result ≡ Err e) where
+  refused : (IsErrOf {T = U} (Err e) Broken → mid.usable ≡ false) → IsChangeFault e
+      → IsChangeAnswer old result
   refused broken only = record {
     broken = λ is. sym same ∙ broken (came {U = U} result e exit Broken is);
     only = if_exit IsChangeFault result e exit only;
@@ -63,19 +69,24 @@ module _ {T U : Type 0} (old mid : StoreState) (same : mid.usable ≡ old.usable
   pub load_refused : IsLoadAnswer {T = U} mid (Err e) → IsChangeAnswer old result
   load_refused answer = refused answer.broken (of_load e answer.only)
 
-  pub take_refused : (space : FreeState) → IsTakeAnswer {T = U} mid space (Err e) → IsChangeAnswer old result
+  pub take_refused : (space : FreeState) → IsTakeAnswer {T = U} mid space (Err e)
+      → IsChangeAnswer old result
   take_refused space answer = refused answer.broken (of_take e answer.only)
 
-  pub stage_refused : (reserved n : ℕ) → IsStageAnswer {T = U} reserved mid n (Err e) → IsChangeAnswer old result
+  pub stage_refused : (reserved n : ℕ) → IsStageAnswer {T = U} reserved mid n (Err e)
+      → IsChangeAnswer old result
   stage_refused reserved n answer = refused answer.broken.0 (of_stage e answer.only)
 
-  pub set_refused : (reserved : ℕ) (space : FreeState) → IsSetAnswer {T = U} reserved mid space (Err e) → IsChangeAnswer old result
+  pub set_refused : (reserved : ℕ) (space : FreeState)
+      → IsSetAnswer {T = U} reserved mid space (Err e) → IsChangeAnswer old result
   set_refused reserved space answer = refused answer.broken answer.only
 
-  pub put_refused : (reserved : ℕ) (space : FreeState) → IsPutAnswer {T = U} reserved mid space (Err e) → IsChangeAnswer old result
+  pub put_refused : (reserved : ℕ) (space : FreeState)
+      → IsPutAnswer {T = U} reserved mid space (Err e) → IsChangeAnswer old result
   put_refused reserved space answer = refused answer.broken answer.only
 
-  pub remove_refused : (reserved : ℕ) → IsRemoveAnswer {T = U} reserved mid (Err e) → IsChangeAnswer old result
+  pub remove_refused : (reserved : ℕ) → IsRemoveAnswer {T = U} reserved mid (Err e)
+      → IsChangeAnswer old result
   remove_refused reserved answer = refused answer.broken (of_remove e answer.only)
 
   pub store_refused : IsStoreAnswer {T = U} mid (Err e) → IsChangeAnswer old result
@@ -85,7 +96,8 @@ module _ {T U : Type 0} (old mid : StoreState) (same : mid.usable ≡ old.usable
   change_refused answer = refused answer.broken answer.only
 
 -- and one of a call that takes no page
-module _ {T U : Type 0} (old mid : StoreState) (same : mid.usable ≡ old.usable) (result : Result T PageFault) (e : PageFault) (exit : result ≡ Err e) where
+module _ {T U : Type 0} (old mid : StoreState) (same : mid.usable ≡ old.usable)
+    (result : Result T PageFault) (e : PageFault) (exit : result ≡ Err e) where
   pub walk_passed : IsWalkAnswer {T = U} mid (Err e) → IsWalkAnswer old result
   walk_passed answer = record {
     broken = λ is. sym same ∙ answer.broken (came {U = U} result e exit Broken is);
@@ -95,20 +107,29 @@ module _ {T U : Type 0} (old mid : StoreState) (same : mid.usable ≡ old.usable
   pub head_of_walk : IsHeadAnswer {T = U} mid (Err e) → IsWalkAnswer old result
   head_of_walk answer = walk_passed (record { broken = answer.broken; only = answer.only })
 
-  pub head_of_remove : (reserved : ℕ) → IsHeadAnswer {T = U} mid (Err e) → IsRemoveAnswer reserved old result
+  pub head_of_remove : (reserved : ℕ) → IsHeadAnswer {T = U} mid (Err e)
+      → IsRemoveAnswer reserved old result
   head_of_remove reserved answer = record {
     broken = λ is. sym same ∙ answer.broken (came {U = U} result e exit Broken is);
-    memory = λ is. absurd (head_no_memory {T = U} e answer.only (came {U = U} result e exit Memory is));
-    only = if_exit (λ e. (e ≡ Broken) ⊎ ((e ≡ Memory) ⊎ ((e ≡ Damaged) ⊎ (e ≡ Device)))) result e exit (elim answer.only [ inl is ↦ inl is | inr is ↦ inr (inr is) ]);
+    memory = λ is. absurd (head_no_memory {T = U} e answer.only
+        (came {U = U} result e exit Memory is));
+    only = if_exit (λ e. (e ≡ Broken) ⊎ ((e ≡ Memory) ⊎ ((e ≡ Damaged) ⊎ (e ≡ Device)))) result e
+        exit (elim answer.only [ inl is ↦ inl is | inr is ↦ inr (inr is) ]);
   }
 
 -- the answer of the last call is the answer
-pub put_answers : {T : Type 0} (reserved : ℕ) (old mid : StoreState) (space : FreeState) (result : Result T PageFault) → mid.usable ≡ old.usable → IsPutAnswer reserved mid space result → IsChangeAnswer old result
-put_answers reserved old mid space result same answer = record { broken = λ is. sym same ∙ answer.broken is; only = answer.only }
+pub put_answers : {T : Type 0} (reserved : ℕ) (old mid : StoreState) (space : FreeState)
+    (result : Result T PageFault) → mid.usable ≡ old.usable → IsPutAnswer reserved mid space result
+    → IsChangeAnswer old result
+put_answers reserved old mid space result same answer =
+    record { broken = λ is. sym same ∙ answer.broken is; only = answer.only }
 
-pub stage_answers : {T : Type 0} (reserved n : ℕ) (old mid : StoreState) (result : Result T PageFault) → mid.usable ≡ old.usable → IsStageAnswer reserved mid n result → IsChangeAnswer old result
+pub stage_answers : {T : Type 0} (reserved n : ℕ) (old mid : StoreState)
+    (result : Result T PageFault) → mid.usable ≡ old.usable → IsStageAnswer reserved mid n result
+    → IsChangeAnswer old result
 stage_answers reserved n old mid (Ok x) same answer = record { broken = λ is. cc; only = tt }
-stage_answers reserved n old mid (Err e) same answer = record { broken = λ is. sym same ∙ answer.broken.0 is; only = of_stage e answer.only }
+stage_answers reserved n old mid (Err e) same answer =
+    record { broken = λ is. sym same ∙ answer.broken.0 is; only = of_stage e answer.only }
 
 -- calls that take no page
 module _ {T : Type 0} (state : StoreState) (e : PageFault) where
@@ -127,7 +148,8 @@ module _ {T : Type 0} (state : StoreState) (e : PageFault) where
     | inr (inr (inr is)) ↦ let i : e ≡ Device = is in cc
   ]
 
-pub remove_has_room : {T : Type 0} (reserved : ℕ) (state : StoreState) (e : PageFault) → IsRemoveAnswer {T = T} reserved state (Err e) → IsErrOf {T = T} (Err e) NoRoom → ⊥
+pub remove_has_room : {T : Type 0} (reserved : ℕ) (state : StoreState) (e : PageFault)
+    → IsRemoveAnswer {T = T} reserved state (Err e) → IsErrOf {T = T} (Err e) NoRoom → ⊥
 remove_has_room reserved state e answer none = elim answer.only [
   | inl is ↦ let i : e ≡ Broken = is in cc
   | inr (inl is) ↦ let i : e ≡ Memory = is in cc

@@ -28,7 +28,8 @@ use Rattle.linear_hash.proofs.Openings.{split_below, split_placed, midway_heads,
 
 -- ---- what is read
 
-module _ (at : ℕ → Body) (m : Meta) (space : FreeState) (p : Placement) (midway : IsMidway at m space p) (small : space.file_end < 2 ^ 32) where
+module _ (at : ℕ → Body) (m : Meta) (space : FreeState) (p : Placement)
+    (midway : IsMidway at m space p) (small : space.file_end < 2 ^ 32) where
   -- the segment pages of the meta page say the heads
   pub heads_read : AreHeads at m (heads_of p.chains)
   heads_read =
@@ -37,24 +38,39 @@ module _ (at : ℕ → Body) (m : Meta) (space : FreeState) (p : Placement) (mid
       let same = sym midway.segments_are in
       record {
         are_read = subst (λ (ns : List ℕ). AreRead at (segment_bodies ns heads)) same has.are_read;
-        many = length-map p.chains (λ (chain : Chain). first_of (numbers chain)) ∙ sym (next_bucket at m space p midway);
+        many = length-map p.chains (λ (chain : Chain). first_of (numbers chain))
+            ∙ sym (next_bucket at m space p midway);
         used = subst (λ (ns : List ℕ). All (λ k. (0 < k) × IsNumber k) ns) same has.used;
       }
 
   -- and that of the bucket that is split
-  pub split_head : (head : ℕ) → (AreHeads at m (heads_of p.chains) → m.split < length (heads_of p.chains) → head ≡ slice_index (heads_of p.chains) m.split) → head ≡ first_of (numbers (chain_at p p.shape.split))
+  pub split_head : (head : ℕ) → (AreHeads at m (heads_of p.chains)
+      → m.split < length (heads_of p.chains) → head ≡ slice_index (heads_of p.chains) m.split)
+      → head ≡ first_of (numbers (chain_at p p.shape.split))
   split_head head is =
       let bucket : m.split ≡ p.shape.split = ap (λ (s : Shape). s.split) midway.shape_is in
       let below = split_below p midway.sound in
-      is heads_read (omega (arith, bucket, below, length-map p.chains (λ (chain : Chain). first_of (numbers chain))))
-      ∙ ap (slice_index (heads_of p.chains)) bucket ∙ (midway_heads at m space p midway small).each p.shape.split below
+      is heads_read (omega (
+        arith,
+        bucket,
+        below,
+        length-map p.chains (λ (chain : Chain). first_of (numbers chain)),
+      ))
+      ∙ ap (slice_index (heads_of p.chains)) bucket
+      ∙ (midway_heads at m space p midway small).each p.shape.split below
 
 -- reads change nothing
-midway_then : {S : Type 0} (s : Ghosts S) (old new : S) (m : Meta) (space : FreeState) (p : Placement) → ReadsOnly s old new → s.honest old → IsMidway (body_at s old) m space p → IsMidway (body_at s new) m space p
-midway_then s old new m space p reads honest midway = subst (λ (at : ℕ → Body). IsMidway at m space p) (sym (same_said s old new reads honest)) midway
+midway_then : {S : Type 0} (s : Ghosts S) (old new : S) (m : Meta) (space : FreeState)
+    (p : Placement) → ReadsOnly s old new → s.honest old → IsMidway (body_at s old) m space p
+    → IsMidway (body_at s new) m space p
+midway_then s old new m space p reads honest midway =
+    subst (λ (at : ℕ → Body). IsMidway at m space p) (sym (same_said s old new reads honest)) midway
 
 -- the chain of the bucket that is split is no longer than the committed file
-chain_here : (at : ℕ → Body) (m : Meta) (space : FreeState) (p : Placement) (end head : ℕ) → IsMidway at m space p → p.space.end ≤ end + 1 → head ≡ first_of (numbers (chain_at p p.shape.split)) → IsChainAt at end head (chain_at p p.shape.split)
+chain_here : (at : ℕ → Body) (m : Meta) (space : FreeState) (p : Placement) (end head : ℕ)
+    → IsMidway at m space p → p.space.end ≤ end + 1
+    → head ≡ first_of (numbers (chain_at p p.shape.split))
+    → IsChainAt at end head (chain_at p p.shape.split)
 chain_here at m space p end head midway near from =
     let placed = split_placed at m space p head midway from in
     let chain = placed.chain_is in
@@ -69,7 +85,10 @@ chain_here at m space p end head midway near from =
 
 -- ---- what is put again
 
-refilled : (at0 at : ℕ → Body) (m m' : Meta) (space0 space : FreeState) (p : Placement) (b head n : ℕ) (pairs : List Pair) → IsMidway at0 m space0 p → head ≡ first_of (numbers (chain_at p p.shape.split)) → AddsSegment m m' b → IsBucketOpened at m' space p n
+refilled : (at0 at : ℕ → Body) (m m' : Meta) (space0 space : FreeState) (p : Placement)
+    (b head n : ℕ) (pairs : List Pair) → IsMidway at0 m space0 p
+    → head ≡ first_of (numbers (chain_at p p.shape.split)) → AddsSegment m m' b
+    → IsBucketOpened at m' space p n
     → pairs ≡ pairs_in (chain_at p p.shape.split) → IsRefilled at space (shape_in m') head n pairs p
 refilled at0 at m m' space0 space p b head n pairs midway from added now are = record {
   sound = midway.sound;
@@ -82,25 +101,39 @@ refilled at0 at m m' space0 space p b head n pairs midway from added now are = r
 
 -- ---- two calls that read, the second of which gives the pairs, and one that opens a bucket
 
-module _ {S : Type 0} (s : Ghosts S) (first second : S) (m : Meta) (space : FreeState) (p : Placement) (head : ℕ) (from : head ≡ first_of (numbers (chain_at p p.shape.split)))
-    (one : ReadsOnly s first second) (honest : s.honest first) (midway : IsMidway (body_at s first) m space p) where
-  pub chain_then : p.space.end ≤ (s.state first).end + 1 → IsChainAt (body_at s second) (s.state second).end head (chain_at p p.shape.split)
-  chain_then near = chain_here (body_at s second) m space p (s.state second).end head (midway_then s first second m space p one honest midway) (omega (arith, near, ap (λ (st : StoreState). st.end) one.same)) from
+module _ {S : Type 0} (s : Ghosts S) (first second : S) (m : Meta) (space : FreeState)
+    (p : Placement) (head : ℕ) (from : head ≡ first_of (numbers (chain_at p p.shape.split)))
+    (one : ReadsOnly s first second) (honest : s.honest first)
+    (midway : IsMidway (body_at s first) m space p) where
+  pub chain_then : p.space.end ≤ (s.state first).end + 1
+      → IsChainAt (body_at s second) (s.state second).end head (chain_at p p.shape.split)
+  chain_then near = chain_here (body_at s second) m space p (s.state second).end head
+      (midway_then s first second m space p one honest midway)
+      (omega (arith, near, ap (λ (st : StoreState). st.end) one.same)) from
 
   module _ (third : S) (two : ReadsOnly s second third) where
     pub honest_later : s.honest third
     honest_later = two.stages_only.honesty.1 (one.stages_only.honesty.1 honest)
 
     pub midway_later : IsMidway (body_at s third) m space p
-    midway_later = midway_then s second third m space p two (one.stages_only.honesty.1 honest) (midway_then s first second m space p one honest midway)
+    midway_later = midway_then s second third m space p two (one.stages_only.honesty.1 honest)
+        (midway_then s first second m space p one honest midway)
 
     -- what the pairs are put into
-    pub refilled_later : (at : ℕ → Body) (m' : Meta) (space' : FreeState) (b n : ℕ) (pairs again : List Pair) → p.space.end ≤ (s.state first).end + 1
-        → (s.honest second → (chain : Chain) → IsChainAt (body_at s second) (s.state second).end head chain → pairs ≡ pairs_in chain)
-        → (s.honest third → (q : Placement) → IsMidway (body_at s third) m space q → head ≡ first_of (numbers (chain_at q q.shape.split)) → IsBucketOpened at m' space' q n)
+    pub refilled_later : (at : ℕ → Body) (m' : Meta) (space' : FreeState) (b n : ℕ)
+        (pairs again : List Pair) → p.space.end ≤ (s.state first).end + 1
+        → (s.honest second → (chain : Chain)
+        → IsChainAt (body_at s second) (s.state second).end head chain
+        → pairs ≡ pairs_in chain)
+        → (s.honest third → (q : Placement) → IsMidway (body_at s third) m space q
+        → head ≡ first_of (numbers (chain_at q q.shape.split))
+        → IsBucketOpened at m' space' q n)
         → AddsSegment m m' b → again ≡ pairs → IsRefilled at space' (shape_in m') head n again p
     refilled_later at m' space' b n pairs again near are opens added same =
-        refilled (body_at s third) at m m' space space' p b head n again midway_later from added (opens honest_later p midway_later from) (same ∙ are (one.stages_only.honesty.1 honest) (chain_at p p.shape.split) (chain_then near))
+        refilled (body_at s third) at m m' space space' p b head n again midway_later from added
+        (opens honest_later p midway_later from)
+        (same ∙ are (one.stages_only.honesty.1 honest) (chain_at p p.shape.split)
+        (chain_then near))
 
 -- ---- what is left
 
@@ -113,28 +146,48 @@ kept_segments : (pairs : List Pair) (q : Placement) → (fold put q pairs).segme
 kept_segments [] q = refl
 kept_segments (x ∷ pairs) q = kept_segments pairs (put q x)
 
-pub midway_split : (at0 at1 at : ℕ → Body) (m m1 m' : Meta) (space0 space1 space : FreeState) (p : Placement) (b n : ℕ) → IsMidway at0 m space0 p → AddsSegment m m1 b → IsBucketOpened at1 m1 space1 p n → IsBelow at space (split p)
-    → shape_in m' ≡ grown (shape_in m1) → m'.segments ≡ m1.segments → m'.limit ≡ m1.limit → IsMidway at m' space (split p)
-midway_split at0 at1 at m m1 m' space0 space1 space p b n midway added now below shape segments limit =
+pub midway_split : (at0 at1 at : ℕ → Body) (m m1 m' : Meta) (space0 space1 space : FreeState)
+    (p : Placement) (b n : ℕ) → IsMidway at0 m space0 p → AddsSegment m m1 b
+    → IsBucketOpened at1 m1 space1 p n → IsBelow at space (split p)
+    → shape_in m' ≡ grown (shape_in m1) → m'.segments ≡ m1.segments → m'.limit ≡ m1.limit
+    → IsMidway at m' space (split p)
+midway_split at0 at1 at m m1 m' space0 space1 space p b n midway added now below shape
+    segments limit =
     let pairs = pairs_in (chain_at p p.shape.split) in
     record {
       sound = (split_keeps p midway.sound).0;
       below = below;
-      shape_is = shape ∙ ap grown (ap shape_in added.rest ∙ midway.shape_is) ∙ sym (kept_shape pairs (opened p));
+      shape_is = shape ∙ ap grown (ap shape_in added.rest ∙ midway.shape_is)
+          ∙ sym (kept_shape pairs (opened p));
       segments_are = segments ∙ now.segments_are ∙ sym (kept_segments pairs (opened p));
-      limit_is = limit ∙ ap (λ (x : Meta). x.limit) added.rest ∙ midway.limit_is ∙ sym (split_filled p midway.sound).limit;
+      limit_is = limit ∙ ap (λ (x : Meta). x.limit) added.rest ∙ midway.limit_is
+          ∙ sym (split_filled p midway.sound).limit;
     }
 
 -- one bucket more, where at most a segment was added and then the shape grew
-pub is_grown : (m m1 m' : Meta) → AddsSegment m m1 (2 ^ m.level + m.split) → shape_in m' ≡ grown (shape_in m1) → m'.segments ≡ m1.segments → m' ≡ record m1 { level = m'.level; split = m'.split } → IsGrown m m'
+pub is_grown : (m m1 m' : Meta) → AddsSegment m m1 (2 ^ m.level + m.split)
+    → shape_in m' ≡ grown (shape_in m1) → m'.segments ≡ m1.segments
+    → m' ≡ record m1 { level = m'.level; split = m'.split } → IsGrown m m'
 is_grown m m1 m' added shape segments rest = record {
   shape = shape ∙ ap (λ (x : Meta). grown (shape_in x)) added.rest;
-  segments = subst (λ (ns : List ℕ). AddsSegment m (record m { segments = ns }) (2 ^ m.level + m.split)) (sym segments) (subst (λ (x : Meta). AddsSegment m x (2 ^ m.level + m.split)) added.rest added);
-  rest = rest ∙ ap (λ (x : Meta). record x { level = m'.level; split = m'.split }) added.rest ∙ ap (λ (ns : List ℕ). record m { level = m'.level; split = m'.split; segments = ns }) (sym segments);
+  segments = subst (λ (ns : List ℕ).
+      AddsSegment m (record m { segments = ns }) (2 ^ m.level + m.split)) (sym segments)
+      (subst (λ (x : Meta). AddsSegment m x (2 ^ m.level + m.split)) added.rest added);
+  rest = rest ∙ ap (λ (x : Meta). record x { level = m'.level; split = m'.split }) added.rest
+      ∙ ap (λ (ns : List ℕ). record m { level = m'.level; split = m'.split; segments = ns })
+      (sym segments);
 }
 
 -- a page for each pair of the bucket, and two more
-pub end_refilled : (p : Placement) → IsSound p → (opened p).space.end + length (pairs_in (chain_at p p.shape.split)) ≤ p.space.end + length (pairs_of p) + 2
+pub end_refilled : (p : Placement) → IsSound p
+    → (opened p).space.end + length (pairs_in (chain_at p p.shape.split)) ≤ p.space.end
+    + length (pairs_of p) + 2
 end_refilled p sound =
     let pairs = pairs_in (chain_at p p.shape.split) in
-    omega (arith, end_opened p, sum_by-opened p sound (λ _. 1), length-sum_by pairs, length-sum_by (pairs_of p))
+    omega (
+      arith,
+      end_opened p,
+      sum_by-opened p sound (λ _. 1),
+      length-sum_by pairs,
+      length-sum_by (pairs_of p),
+    )

@@ -15,16 +15,23 @@ use Rattle.linear_hash.specs.Tables.{shape_in, space_in, IsTable}
 use Rattle.linear_hash.specs.Staging.{IsMidway, IsStaged}
 
 -- a change begins at a good placement
-pub table_midway : (at : ℕ → Body) (m : Meta) (end : ℕ) (p : Placement) → IsTable at m end p → IsMidway at m (space_in m end) p
+pub table_midway : (at : ℕ → Body) (m : Meta) (end : ℕ) (p : Placement) → IsTable at m end p
+    → IsMidway at m (space_in m end) p
 table_midway at m end p table = record {
   sound = table.good.sound;
-  below = record { are_read = table.are_read; kept = ap (λ (n : Meta). space_in n end) table.meta_is ∙ ap (space_in (meta_of p)) (sym table.ends) };
+  below = record {
+    are_read = table.are_read;
+    kept =
+        ap (λ (n : Meta). space_in n end) table.meta_is
+        ∙ ap (space_in (meta_of p)) (sym table.ends);
+  };
   shape_is = ap shape_in table.meta_is;
   segments_are = ap (λ (n : Meta). n.segments) table.meta_is;
   limit_is = ap (λ (n : Meta). n.limit) table.meta_is;
 }
 
-module _ (at : ℕ → Body) (m : Meta) (space : FreeState) (p : Placement) (mid : IsMidway at m space p) (counted : m.pairs ≡ length (pairs_of p)) where
+module _ (at : ℕ → Body) (m : Meta) (space : FreeState) (p : Placement)
+    (mid : IsMidway at m space p) (counted : m.pairs ≡ length (pairs_of p)) where
   -- what is kept is what the placement's meta page says
   meta_is : record m { free_head = space.head; free_count = space.count } ≡ meta_of p
   meta_is = λ i. record {
@@ -38,34 +45,57 @@ module _ (at : ℕ → Body) (m : Meta) (space : FreeState) (p : Placement) (mid
   }
 
   -- it ends where the meta page is staged
-  pub staged_at_last : (at' : ℕ → Body) (n : Meta) (end : ℕ) → n ≡ record m { free_head = space.head; free_count = space.count } → end ≡ space.file_end → at' 1 ≡ MetaPage n → ((k : ℕ) → (k ≡ 1 → ⊥) → at' k ≡ at k) → IsStaged at' n end p
+  pub staged_at_last : (at' : ℕ → Body) (n : Meta) (end : ℕ)
+      → n ≡ record m { free_head = space.head; free_count = space.count } → end ≡ space.file_end
+      → at' 1 ≡ MetaPage n → ((k : ℕ) → (k ≡ 1 → ⊥) → at' k ≡ at k) → IsStaged at' n end p
   staged_at_last at' n end is last page others =
       let says : n ≡ meta_of p = is ∙ meta_is in
       record {
-        spelled = meta_rewrites p at at' mid.sound mid.below.are_read (record { are_read = (page ∙ ap MetaPage says, tt); others = λ k none. others k (λ same. absurd (apart k same none)) });
+        spelled = meta_rewrites p at at' mid.sound mid.below.are_read
+            (record {
+              are_read = (page ∙ ap MetaPage says, tt);
+              others = λ k none.
+                  others k (λ same. absurd (apart k same none));
+            });
         meta_is = says;
         ends = sym (last ∙ ap (λ (s : FreeState). s.file_end) mid.below.kept);
       }
     where
       apart : (k : ℕ) → k ≡ 1 → times_of k (1 ∷ []) ≡ 0 → ⊥
-      apart k same none = let one = ap (λ (n : ℕ). times_of n (1 ∷ [])) same in omega (arith, one, none)
+      apart k same none = let one = ap (λ (n : ℕ). times_of n (1 ∷ [])) same in
+          omega (arith, one, none)
 
 -- what holds of any value that was answered
-pub removed_ok : {T E P : Type 0} {Q : T → Type 0} (result : Result T E) → ((x : T) → Q x → P) → IfOk result Q → OnOk result P
+pub removed_ok : {T E P : Type 0} {Q : T → Type 0} (result : Result T E) → ((x : T) → Q x → P)
+    → IfOk result Q → OnOk result P
 removed_ok (Ok x) then q = then x q
 removed_ok (Err e) then q = tt
 
 -- where a value is answered, and what is said then
-pub staged_ok : {T E P : Type 0} {Q R : T → Type 0} (result : Result T E) → (P → (x : T) → Q x → R x) → OnOk result P → IfOk result Q → IfOk result R
+pub staged_ok : {T E P : Type 0} {Q R : T → Type 0} (result : Result T E)
+    → (P → (x : T) → Q x → R x) → OnOk result P → IfOk result Q → IfOk result R
 staged_ok (Ok x) then p q = then p x q
 staged_ok (Err e) then p q = tt
 
 -- the number of pairs is not looked at midway
-pub midway_pairs : (at : ℕ → Body) (m : Meta) (space : FreeState) (p : Placement) (pairs : ℕ) → IsMidway at m space p → IsMidway at (record m { pairs = pairs }) space p
-midway_pairs at m space p pairs mid = record { sound = mid.sound; below = mid.below; shape_is = mid.shape_is; segments_are = mid.segments_are; limit_is = mid.limit_is }
+pub midway_pairs : (at : ℕ → Body) (m : Meta) (space : FreeState) (p : Placement) (pairs : ℕ)
+    → IsMidway at m space p → IsMidway at (record m { pairs = pairs }) space p
+midway_pairs at m space p pairs mid =
+    record {
+      sound = mid.sound;
+      below = mid.below;
+      shape_is = mid.shape_is;
+      segments_are =
+          mid.segments_are;
+      limit_is = mid.limit_is;
+    }
 
 -- a deleted key leaves one pair less
-pub deleted_count : (p : Placement) (key : Key) → IsSound p → is_some (get (contents p) key) ≡ true → length (pairs_of (delete p key)) ≡ length (pairs_of p) - 1
+pub deleted_count : (p : Placement) (key : Key) → IsSound p → is_some (get (contents p) key) ≡ true
+    → length (pairs_of (delete p key)) ≡ length (pairs_of p) - 1
 deleted_count p key sound was =
-    sym (counts_keys (delete p key) (delete_sound p sound key)) ∙ ap (λ (c : Contents). len c) (contents-delete p sound key)
-    ∙ len-remove nat_list_cmp_total (contents p) key ∙ ap (λ (b : Bool). cond b (len (contents p) - 1) (len (contents p))) was ∙ ap (λ (n : ℕ). n - 1) (counts_keys p sound)
+    sym (counts_keys (delete p key) (delete_sound p sound key))
+    ∙ ap (λ (c : Contents). len c) (contents-delete p sound key)
+    ∙ len-remove nat_list_cmp_total (contents p) key
+    ∙ ap (λ (b : Bool). cond b (len (contents p) - 1) (len (contents p))) was
+    ∙ ap (λ (n : ℕ). n - 1) (counts_keys p sound)

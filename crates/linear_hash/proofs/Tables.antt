@@ -20,8 +20,10 @@ same_meta m n body is also = let e = sym is ∙ also in cc
 
 module _ {S : Type 0} (s : Ghosts S) (store : S) where
   -- where nothing is staged, pages say what the committed ones do
-  pub committed_said : (s.state store).staged ≡ [] → body_at s store ≡ said_by (page_of (s.committed store))
-  committed_said idle = ap (λ (staged : Pages). λ (n : ℕ). body_of n (overlaid staged (page_of (s.committed store)) n)) idle
+  pub committed_said : (s.state store).staged ≡ []
+      → body_at s store ≡ said_by (page_of (s.committed store))
+  committed_said idle = ap (λ (staged : Pages). λ (n : ℕ).
+      body_of n (overlaid staged (page_of (s.committed store)) n)) idle
 
   module _ (m : Meta) (map : Contents) (h : Holds s store m map) where
     -- what the pages say
@@ -29,13 +31,16 @@ module _ {S : Type 0} (s : Ghosts S) (store : S) where
     placed = h.stands.placement
 
     pub meta_held : m ≡ meta_of placed
-    meta_held = same_meta m (meta_of placed) (said_by (page_of (s.committed store)) 1) h.meta_is h.stands.spelled.0
+    meta_held = same_meta m (meta_of placed) (said_by (page_of (s.committed store)) 1) h.meta_is
+        h.stands.spelled.0
 
     -- `ends` is the store's law
-    pub is_table : length (s.committed store) + 1 ≡ (s.state store).end → (s.state store).staged ≡ [] → IsTable (body_at s store) m (s.state store).end placed
+    pub is_table : length (s.committed store) + 1 ≡ (s.state store).end
+        → (s.state store).staged ≡ [] → IsTable (body_at s store) m (s.state store).end placed
     is_table ends idle = record {
       good = h.stands.good;
-      are_read = subst (λ (at : ℕ → Body). AreRead at (lower_bodies placed)) (sym (committed_said idle)) h.stands.spelled.1;
+      are_read = subst (λ (at : ℕ → Body). AreRead at (lower_bodies placed))
+          (sym (committed_said idle)) h.stands.spelled.1;
       meta_is = meta_held;
       ends = h.stands.ends ∙ ends;
     }
@@ -50,8 +55,15 @@ module _ {S : Type 0} (s : Ghosts S) (store : S) where
 
     -- the meta page counts the pairs of the map
     pub counted : len map ≡ m.pairs
-    counted = ap (λ (c : Contents). len c) (sym map_placed) ∙ counts_keys placed h.stands.good.sound ∙ ap (λ (n : Meta). n.pairs) (sym meta_held)
+    counted = ap (λ (c : Contents). len c) (sym map_placed) ∙ counts_keys placed h.stands.good.sound
+        ∙ ap (λ (n : Meta). n.pairs) (sym meta_held)
 
     -- and they are no more than its limit
     pub within_limit : len map ≤ m.limit
-    within_limit = omega (arith, counted, ap (λ (n : Meta). n.pairs) meta_held, ap (λ (n : Meta). n.limit) meta_held, h.stands.good.few_pairs)
+    within_limit = omega (
+      arith,
+      counted,
+      ap (λ (n : Meta). n.pairs) meta_held,
+      ap (λ (n : Meta). n.limit) meta_held,
+      h.stands.good.few_pairs,
+    )

@@ -15,10 +15,13 @@ use Rattle.linear_hash.specs.Staging.{IsChangeAnswer}
 
 -- an image stands for one of two maps
 abbrev pub StandsForEither : Contents → Contents → ℕ → Settled → Type 0
-StandsForEither old new limit settled = ImageStandsFor settled old limit ⊎ ImageStandsFor settled new limit
+StandsForEither old new limit settled =
+    ImageStandsFor settled old limit ⊎ ImageStandsFor settled new limit
 
--- How a change ends on any device, where `before` and `after` are kept of the meta page: it is done, or refused with nothing changed, but that a fault of the device may break the store.
-pub record IsEnded {S : Type 0} (s : Ghosts S) (old new : S) (before after : Meta) (result : Result Unit PageFault) : Type 0 where
+-- How a change ends on any device, where `before` and `after` are kept of the meta page: it is
+-- done, or refused with nothing changed, but that a fault of the device may break the store.
+pub record IsEnded {S : Type 0} (s : Ghosts S) (old new : S) (before after : Meta)
+    (result : Result Unit PageFault) : Type 0 where
   pub ok : OnOk result (s.state new ≡ record (s.state old) { end = (s.state new).end })
   pub err : IfErr result (λ e. IsForgotten (s.state old) (s.state new) e × (after ≡ before))
   pub valid : IsMeta after
@@ -27,12 +30,19 @@ pub record IsEnded {S : Type 0} (s : Ghosts S) (old new : S) (before after : Met
   pub honesty : s.honest new ↔ s.honest old
   pub answer : IsChangeAnswer (s.state old) result
 
--- What it makes of a file that stood for the map: it stands for the changed one, with at most so many pages more, or is as it was, and at every moment for one of the two.
-pub record ChangesMap {S : Type 0} (s : Ghosts S) (old new : S) (before after : Meta) (map changed : Contents) (most : ℕ) (result : Result Unit PageFault) : Type 0 where
+-- What it makes of a file that stood for the map: it stands for the changed one, with at most so
+-- many pages more, or is as it was, and at every moment for one of the two.
+pub record ChangesMap {S : Type 0} (s : Ghosts S) (old new : S) (before after : Meta)
+    (map changed : Contents) (most : ℕ) (result : Result Unit PageFault) : Type 0 where
   pub done : OnOk result (Holds s new after changed)
   pub kept : OnErr result ((s.state new).usable ≡ true → s.committed new ≡ s.committed old)
-  pub any_moment : LeavesOnly s.moment s.settled_since old new (StandsForEither map changed before.limit)
-  pub unchanged : OnErr result ((s.state new).usable ≡ true → LeavesOnly s.moment s.settled_since old new (λ settled. ImageStandsFor settled map before.limit))
+  pub any_moment : LeavesOnly s.moment s.settled_since old new
+      (StandsForEither map changed before.limit)
+  pub unchanged : OnErr result ((s.state new).usable ≡ true
+      → LeavesOnly s.moment s.settled_since old new
+      (λ settled. ImageStandsFor settled map before.limit))
   pub whole : IsErrOf result Damaged → ⊥
-  pub grows : OnOk result (((s.state old).end ≤ (s.state new).end) × ((s.state new).end ≤ (s.state old).end + most))
-  pub no_room : IsErrOf result NoRoom → (s.state old).capacity < 2 * ((s.state old).end + before.pairs) + 8
+  pub grows : OnOk result (((s.state old).end ≤ (s.state new).end)
+      × ((s.state new).end ≤ (s.state old).end + most))
+  pub no_room : IsErrOf result NoRoom
+      → (s.state old).capacity < 2 * ((s.state old).end + before.pairs) + 8

@@ -23,14 +23,15 @@ key_segment m key = slice_index m.segments (key_bucket (shape_in m) key / 508)
 abbrev pub key_entry : Meta → Key → ℕ
 key_entry m key = key_bucket (shape_in m) key % 508
 
--- On any file: from the head page that is read for the key's bucket the pages of its chain were read, none of them but the last has the
--- key, and the last one is as stated.
+-- On any file: from the head page that is read for the key's bucket the pages of its chain were
+-- read, none of them but the last has the key, and the last one is as stated.
 pub record IsSearch (at : ℕ → Body) (m : Meta) (key : Key) (Last : Leaf → ℕ → Type 0) : Type 0 where
   pub head : ℕ
   pub segment : HasEntry (at (key_segment m key)) (key_entry m key) head
   pub walk : IsWalk at head (LacksKey key) Last
 
--- the search ended at the key's pair, which stands at the place in the page, which the bytes are; or behind all pages
+-- the search ended at the key's pair, which stands at the place in the page, which the bytes are;
+-- or behind all pages
 abbrev pub EndsAt : Key → List ℕ → Option Place → Leaf → ℕ → Type 0
 EndsAt key bytes None leaf after = EndsWithout key leaf after
 EndsAt key bytes (Some place) leaf after = IsPairAt key bytes place leaf after
@@ -39,4 +40,5 @@ EndsAt key bytes (Some place) leaf after = IsPairAt key bytes place leaf after
 abbrev pub IsFound : Key → Option (List ℕ) → List ℕ → Option Place → Type 0
 IsFound key None bytes place = place ≡ None
 IsFound key (Some content) bytes None = ⊥
-IsFound key (Some content) bytes (Some place) = HoldsAt (λ pair. pair ≡ (key, content)) (page_pairs bytes) place.slot
+IsFound key (Some content) bytes (Some place) =
+    HoldsAt (λ pair. pair ≡ (key, content)) (page_pairs bytes) place.slot

@@ -11,13 +11,16 @@ use Rattle.free_pages.specs.declared.free_state.FreeState.{FreeState}
 use Rattle.bucket_chain.specs.Placements.{IsBelow}
 
 -- the pages but the meta page say the placement with a further bucket, whose head is page n
-pub record IsBucketOpened (at : ℕ → Body) (m : Meta) (space : FreeState) (p : Placement) (n : ℕ) : Type 0 where
+pub record IsBucketOpened (at : ℕ → Body) (m : Meta) (space : FreeState) (p : Placement)
+    (n : ℕ) : Type 0 where
   pub below : IsBelow at space (opened p)
   pub segments_are : m.segments ≡ (opened p).segments
   pub head : n ≡ (new_head p).number
 
--- the opened placement is said by the pages, and these are the pairs that are put again, with the head pages of their two buckets
-pub record IsRefilled (at : ℕ → Body) (space : FreeState) (shape : Shape) (head n : ℕ) (pairs : List Pair) (p : Placement) : Type 0 where
+-- the opened placement is said by the pages, and these are the pairs that are put again, with the
+-- head pages of their two buckets
+pub record IsRefilled (at : ℕ → Body) (space : FreeState) (shape : Shape) (head n : ℕ)
+    (pairs : List Pair) (p : Placement) : Type 0 where
   pub sound : IsSound p
   pub below : IsBelow at space (opened p)
   pub shape_is : shape ≡ p.shape

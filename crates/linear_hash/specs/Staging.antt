@@ -14,7 +14,8 @@ use Rattle.linear_hash.specs.Tables.{shape_in}
 use Rattle.page_io.specs.declared.store.PageStore.{Ghosts}
 use Rattle.page_io.specs.Views.{body_at}
 
--- the pages but the meta page say a sound placement midway in a change, and this is kept of it beside the number of its pairs
+-- the pages but the meta page say a sound placement midway in a change, and this is kept of it
+-- beside the number of its pairs
 pub record IsMidway (at : ℕ → Body) (m : Meta) (space : FreeState) (p : Placement) : Type 0 where
   pub sound : IsSound p
   pub below : IsBelow at space p
@@ -23,14 +24,17 @@ pub record IsMidway (at : ℕ → Body) (m : Meta) (space : FreeState) (p : Plac
   pub limit_is : m.limit ≡ p.limit
 
 -- a change may be refused so
-pub record IsChangeAnswer {T : Type 0} (state : StoreState) (result : Result T PageFault) : Type 0 where
+pub record IsChangeAnswer {T : Type 0} (state : StoreState)
+    (result : Result T PageFault) : Type 0 where
   pub broken : IsErrOf result Broken → state.usable ≡ false
-  pub only : IfErr result (λ e. (e ≡ Broken) ⊎ ((e ≡ Memory) ⊎ ((e ≡ NoRoom) ⊎ ((e ≡ Damaged) ⊎ (e ≡ Device)))))
+  pub only : IfErr result (λ e.
+      (e ≡ Broken) ⊎ ((e ≡ Memory) ⊎ ((e ≡ NoRoom) ⊎ ((e ≡ Damaged) ⊎ (e ≡ Device)))))
 
 -- one bucket more, and at most one segment
 pub record IsGrown (old new : Meta) : Type 0 where
   pub shape : shape_in new ≡ grown (shape_in old)
-  pub segments : AddsSegment old (record old { segments = new.segments }) (2 ^ old.level + old.split)
+  pub segments : AddsSegment old (record old { segments = new.segments })
+      (2 ^ old.level + old.split)
   pub rest : new ≡ record old { level = new.level; split = new.split; segments = new.segments }
 
 -- with those that are staged the pages spell this placement, and this is kept of it
@@ -40,5 +44,7 @@ pub record IsStaged (at : ℕ → Body) (m : Meta) (end : ℕ) (p : Placement) :
   pub ends : p.space.end ≡ end
 
 -- what is said of an honest store whose pages say a placement midway in a change
-abbrev pub ForEachMidway : {S : Type 0} → Ghosts S → S → Meta → FreeState → (Placement → Type 0) → Type 0
-ForEachMidway s store m space Says = s.honest store → (p : Placement) → IsMidway (body_at s store) m space p → Says p
+abbrev pub ForEachMidway : {S : Type 0} → Ghosts S → S → Meta → FreeState
+    → (Placement → Type 0) → Type 0
+ForEachMidway s store m space Says =
+    s.honest store → (p : Placement) → IsMidway (body_at s store) m space p → Says p

@@ -32,4 +32,5 @@ split_where_full p = if nat_lt (8 * length p.chains) (length (pairs_of p)) then 
 
 -- what is said of an honest store whose pages say a good placement
 abbrev pub ForEachTable : {S : Type 0} → Ghosts S → S → Meta → (Placement → Type 0) → Type 0
-ForEachTable s store m Says = s.honest store → (p : Placement) → IsTable (body_at s store) m (s.state store).end p → Says p
+ForEachTable s store m Says =
+    s.honest store → (p : Placement) → IsTable (body_at s store) m (s.state store).end p → Says p

@@ -17,7 +17,8 @@ use page_io::{PageFault, PageStore};
 use seg_table::Meta;
 use std::alloc::Global;
 
-/// Commits a pair, in the place of its key's where that is there. At `Err` what is kept of the meta page is unspecified.
+/// Commits a pair, in the place of its key's where that is there. At `Err` what is kept of the meta
+/// page is unspecified.
 fn commit_store<S: PageStore>(
     alloc: Global,
     store: &mut S,
@@ -31,16 +32,21 @@ fn commit_store<S: PageStore>(
     requires writable { (S.state store.old).writable ≡ true }
     requires valid { IsMeta (model_meta meta.old) }
     requires room { was_there ≡ false → meta.old.pairs < meta.old.limit }
-    ensures ok { OnOk result (S.state store.new ≡ record (S.state store.old) { end = (S.state store.new).end }) }
+    ensures ok { OnOk result (S.state store.new
+        ≡ record (S.state store.old) { end = (S.state store.new).end }) }
     ensures err { IfErr result (IsForgotten (S.state store.old) (S.state store.new)) }
     ensures valid { OnOk result (IsMeta (model_meta meta.new)) }
     ensures limit { OnOk result (meta.new.limit ≡ meta.old.limit) }
-    ensures pairs { OnOk result (meta.new.pairs ≡ (if was_there then meta.old.pairs else meta.old.pairs + 1)) }
-    ensures shape { OnOk result (shape_in (model_meta meta.new) ≡ shape_for meta.new.pairs (shape_in (model_meta meta.old))) }
+    ensures pairs { OnOk result (meta.new.pairs
+        ≡ (if was_there then meta.old.pairs else meta.old.pairs + 1)) }
+    ensures shape { OnOk result (shape_in (model_meta meta.new)
+        ≡ shape_for meta.new.pairs (shape_in (model_meta meta.old))) }
     ensures cause { HasDeviceCause (S.faults store.old) (S.faults store.new) result }
     ensures honesty { S.honest store.new ↔ S.honest store.old }
     ensures answer { IsChangeAnswer (S.state store.old) result }
-    ensures turns { S.honest store.old → (S.state store.old).usable ≡ true → (map : Contents) → Holds S.PageStore store.old (model_meta meta.old) map → was_there ≡ is_some (get map key.now) →
+    ensures turns { S.honest store.old → (S.state store.old).usable ≡ true → (map : Contents)
+        → Holds S.PageStore store.old (model_meta meta.old) map
+        → was_there ≡ is_some (get map key.now) →
         ChangesMap S.PageStore store.old store.new (model_meta meta.old) (model_meta meta.new) map (insert map key.now content.now) (meta.old.pairs + 4) result }
 {
     let staged = stage_store(alloc, store, meta, key, content, was_there);
@@ -61,12 +67,18 @@ pub fn store_pair<S: PageStore>(
     requires writable { (S.state store.old).writable ≡ true }
     requires valid { IsMeta (model_meta meta.old) }
     requires room { was_there ≡ false → meta.old.pairs < meta.old.limit }
-    ensures ends { IsEnded S.PageStore store.old store.new (model_meta meta.old) (model_meta meta.new) result }
-    ensures pairs { OnOk result (meta.new.pairs ≡ (if was_there then meta.old.pairs else meta.old.pairs + 1)) }
-    ensures shape { OnOk result (shape_in (model_meta meta.new) ≡ shape_for meta.new.pairs (shape_in (model_meta meta.old))) }
+    ensures ends { IsEnded S.PageStore store.old store.new (model_meta meta.old)
+        (model_meta meta.new) result }
+    ensures pairs { OnOk result (meta.new.pairs
+        ≡ (if was_there then meta.old.pairs else meta.old.pairs + 1)) }
+    ensures shape { OnOk result (shape_in (model_meta meta.new)
+        ≡ shape_for meta.new.pairs (shape_in (model_meta meta.old))) }
 
-    // Where the file stands for a map, it then stands for the changed one, and at every moment for one of the two.
-    ensures turns { S.honest store.old → (S.state store.old).usable ≡ true → (map : Contents) → Holds S.PageStore store.old (model_meta meta.old) map → was_there ≡ is_some (get map key.now) →
+    // Where the file stands for a map, it then stands for the changed one, and at every moment for
+    // one of the two.
+    ensures turns { S.honest store.old → (S.state store.old).usable ≡ true → (map : Contents)
+        → Holds S.PageStore store.old (model_meta meta.old) map
+        → was_there ≡ is_some (get map key.now) →
         ChangesMap S.PageStore store.old store.new (model_meta meta.old) (model_meta meta.new) map (insert map key.now content.now) (meta.old.pairs + 4) result }
 {
     let mut changed = meta.copied();
@@ -75,13 +87,15 @@ pub fn store_pair<S: PageStore>(
     Ok(())
 }
 
-/// Commits the delete of a key that is there. At `Err` what is kept of the meta page is unspecified.
+/// Commits the delete of a key that is there. At `Err` what is kept of the meta page is
+/// unspecified.
 fn commit_delete<S: PageStore>(store: &mut S, meta: &mut Meta, key: &[u8]) -> Result<(), PageFault>
     requires idle { (S.state store.old).staged ≡ [] }
     requires writable { (S.state store.old).writable ≡ true }
     requires valid { IsMeta (model_meta meta.old) }
     requires some { 0 < meta.old.pairs }
-    ensures ok { OnOk result (S.state store.new ≡ record (S.state store.old) { end = (S.state store.new).end }) }
+    ensures ok { OnOk result (S.state store.new
+        ≡ record (S.state store.old) { end = (S.state store.new).end }) }
     ensures err { IfErr result (IsForgotten (S.state store.old) (S.state store.new)) }
     ensures valid { OnOk result (IsMeta (model_meta meta.new)) }
     ensures limit { OnOk result (meta.new.limit ≡ meta.old.limit) }
@@ -90,7 +104,8 @@ fn commit_delete<S: PageStore>(store: &mut S, meta: &mut Meta, key: &[u8]) -> Re
     ensures cause { HasDeviceCause (S.faults store.old) (S.faults store.new) result }
     ensures honesty { S.honest store.new ↔ S.honest store.old }
     ensures answer { IsChangeAnswer (S.state store.old) result }
-    ensures turns { S.honest store.old → (S.state store.old).usable ≡ true → (map : Contents) → Holds S.PageStore store.old (model_meta meta.old) map → is_some (get map key.now) ≡ true →
+    ensures turns { S.honest store.old → (S.state store.old).usable ≡ true → (map : Contents)
+        → Holds S.PageStore store.old (model_meta meta.old) map → is_some (get map key.now) ≡ true →
         ChangesMap S.PageStore store.old store.new (model_meta meta.old) (model_meta meta.new) map (remove map key.now) 0 result }
 {
     let staged = stage_delete(store, meta, key);
@@ -107,12 +122,15 @@ pub fn delete_pair<S: PageStore>(
     requires writable { (S.state store.old).writable ≡ true }
     requires valid { IsMeta (model_meta meta.old) }
     requires some { 0 < meta.old.pairs }
-    ensures ends { IsEnded S.PageStore store.old store.new (model_meta meta.old) (model_meta meta.new) result }
+    ensures ends { IsEnded S.PageStore store.old store.new (model_meta meta.old)
+        (model_meta meta.new) result }
     ensures pairs { OnOk result (meta.new.pairs + 1 ≡ meta.old.pairs) }
     ensures shape { OnOk result (shape_in (model_meta meta.new) ≡ shape_in (model_meta meta.old)) }
 
-    // Where the file stands for a map, it then stands for the changed one, and at every moment for one of the two.
-    ensures turns { S.honest store.old → (S.state store.old).usable ≡ true → (map : Contents) → Holds S.PageStore store.old (model_meta meta.old) map → is_some (get map key.now) ≡ true →
+    // Where the file stands for a map, it then stands for the changed one, and at every moment for
+    // one of the two.
+    ensures turns { S.honest store.old → (S.state store.old).usable ≡ true → (map : Contents)
+        → Holds S.PageStore store.old (model_meta meta.old) map → is_some (get map key.now) ≡ true →
         ChangesMap S.PageStore store.old store.new (model_meta meta.old) (model_meta meta.new) map (remove map key.now) 0 result }
 {
     let mut changed = meta.copied();

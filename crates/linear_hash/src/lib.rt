@@ -1,5 +1,5 @@
-//! A linear hash table over a store of pages (Litwin 1980): looking a key up, passing over all pairs, and changes, each in
-//! one commit.
+//! A linear hash table over a store of pages (Litwin 1980): looking a key up, passing over all
+//! pairs, and changes, each in one commit.
 #![tactic(auto)]
 
 mod changes;

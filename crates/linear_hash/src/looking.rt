@@ -28,7 +28,8 @@ pub fn find_pair<S: PageStore>(
     ensures reads { ReadsOnly S.PageStore store.old store.new }
     ensures cause { HasDeviceCause (S.faults store.old) (S.faults store.new) result }
     ensures answer { IsWalkAnswer (S.state store.old) result }
-    ensures held { IfOk result (λ place. IfSome place (λ at. IsHeld key.now page.new.bytes at.slot)) }
+    ensures held { IfOk result (λ place.
+        IfSome place (λ at. IsHeld key.now page.new.bytes at.slot)) }
 
     // On any file the key's bucket was searched.
     ensures searched { S.honest store.old → IfOk result (λ place.

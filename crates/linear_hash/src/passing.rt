@@ -34,9 +34,10 @@ impl Cursor {
     };
 }
 
-/// The next pair of a pass: its bucket and its place; `page` is then its page. `None` is answered behind the last, also where
-/// there is no bucket of that number. It reads at most three pages for each bucket from the cursor's on, and takes no memory.
-/// Damaged is answered as by `head_of` and `step`, of the pages read.
+/// The next pair of a pass: its bucket and its place; `page` is then its page. `None` is answered
+/// behind the last, also where there is no bucket of that number. It reads at most three pages for
+/// each bucket from the cursor's on, and takes no memory. Damaged is answered as by `head_of` and
+/// `step`, of the pages read.
 pub fn next_pair<S: PageStore>(
     store: &mut S,
     meta: &Meta,
@@ -49,15 +50,23 @@ pub fn next_pair<S: PageStore>(
     ensures answer { IsWalkAnswer (S.state store.old) result }
 
     // On any bytes the pair may be read from the page.
-    ensures held { IfOk result (λ found. IfSome found (λ at. IsBucketPage page.new.bytes × (at.1.slot < length (page_pairs page.new.bytes)))) }
+    ensures held { IfOk result (λ found.
+        IfSome found (λ at. IsBucketPage page.new.bytes
+        × (at.1.slot < length (page_pairs page.new.bytes)))) }
 
-    // On any file the buckets were read from the cursor's place on, and none before the answer's has a pair there.
-    ensures passed { S.honest store.old → IfOk result (IsPassed (body_at S.PageStore store.old) (model_meta meta.now) from page.new.bytes) }
+    // On any file the buckets were read from the cursor's place on, and none before the answer's
+    // has a pair there.
+    ensures passed { S.honest store.old
+        → IfOk result (IsPassed (body_at S.PageStore store.old) (model_meta meta.now) from
+        page.new.bytes) }
 
-    // On pages that say a good placement it answers the first of the pairs that are left, and is never Damaged.
-    ensures exact { S.honest store.old → (p : Placement) (left : List Pair) → IsTable (body_at S.PageStore store.old) (model_meta meta.now) (S.state store.old).end p →
+    // On pages that say a good placement it answers the first of the pairs that are left, and is
+    // never Damaged.
+    ensures exact { S.honest store.old → (p : Placement) (left : List Pair)
+        → IsTable (body_at S.PageStore store.old) (model_meta meta.now) (S.state store.old).end p →
         IsBehind p from left → IfOk result (λ found. IsNext p left page.new.bytes found) }
-    ensures whole { S.honest store.old → (p : Placement) (left : List Pair) → IsTable (body_at S.PageStore store.old) (model_meta meta.now) (S.state store.old).end p →
+    ensures whole { S.honest store.old → (p : Placement) (left : List Pair)
+        → IsTable (body_at S.PageStore store.old) (model_meta meta.now) (S.state store.old).end p →
         IsBehind p from left → IsErrOf result Damaged → ⊥ }
 {
     let mut behind = from.behind;

@@ -37,23 +37,28 @@ pub fn split_bucket<S: PageStore>(
     meta: &mut Meta,
     space: &mut FreeState,
 ) -> Result<(), PageFault>
-    requires segments { length (model_meta meta.old).segments ≡ segments_for (meta_buckets (model_meta meta.old)) }
+    requires segments { length (model_meta meta.old).segments
+        ≡ segments_for (meta_buckets (model_meta meta.old)) }
     requires few { 8 * meta_buckets (model_meta meta.old) < 1000000 }
     ensures stages { StagesOnly S.PageStore store.old store.new }
     ensures cause { HasDeviceCause (S.faults store.old) (S.faults store.new) result }
     ensures answer { IsChangeAnswer (S.state store.old) result }
     ensures grown { OnOk result (IsGrown (model_meta meta.old) (model_meta meta.new)) }
     ensures ends { HasEnds space.old → HasEnds space.new }
-    ensures may_end { MayEnd (S.state store.old) space.old.file_end → OnOk result (MayEnd (S.state store.new) space.new.file_end) }
+    ensures may_end { MayEnd (S.state store.old) space.old.file_end
+        → OnOk result (MayEnd (S.state store.new) space.new.file_end) }
 
-    // Where at most one page was taken since the last commit, it leaves the model's placement, is never Damaged, and takes
-    // a page for each pair and two more at most.
+    // Where at most one page was taken since the last commit, it leaves the model's placement, is
+    // never Damaged, and takes a page for each pair and two more at most.
     ensures exact { ForEachMidway S.PageStore store.old (model_meta meta.old) space.old (λ p.
-        p.space.end ≤ (S.state store.old).end + 1 → OnOk result (IsMidway (body_at S.PageStore store.new) (model_meta meta.new) space.new (split p))) }
+        p.space.end ≤ (S.state store.old).end + 1
+        → OnOk result (IsMidway (body_at S.PageStore store.new) (model_meta meta.new)
+        space.new (split p))) }
     ensures whole { ForEachMidway S.PageStore store.old (model_meta meta.old) space.old (λ p.
         p.space.end ≤ (S.state store.old).end + 1 → IsErrOf result Damaged → ⊥) }
     ensures room { ForEachMidway S.PageStore store.old (model_meta meta.old) space.old (λ p.
-        p.space.end ≤ (S.state store.old).end + 1 → IsErrOf result NoRoom → (S.state store.old).capacity ≤ p.space.end + length (pairs_of p) + 2) }
+        p.space.end ≤ (S.state store.old).end + 1 → IsErrOf result NoRoom
+        → (S.state store.old).capacity ≤ p.space.end + length (pairs_of p) + 2) }
 {
     // Every page has a number of four bytes.
     prove!(space.file_end <= u32::MAX);
@@ -65,30 +70,38 @@ pub fn split_bucket<S: PageStore>(
     Ok(())
 }
 
-/// Empties the bucket of page `head`, which is bucket `split`, and opens one bucket more. It answers the new one's head page.
+/// Empties the bucket of page `head`, which is bucket `split`, and opens one bucket more. It
+/// answers the new one's head page.
 fn open_bucket<S: PageStore>(
     store: &mut S,
     meta: &mut Meta,
     space: &mut FreeState,
     head: u32,
 ) -> Result<u32, PageFault>
-    requires segments { length (model_meta meta.old).segments ≡ segments_for (meta_buckets (model_meta meta.old)) }
+    requires segments { length (model_meta meta.old).segments
+        ≡ segments_for (meta_buckets (model_meta meta.old)) }
     requires few { 8 * meta_buckets (model_meta meta.old) < 1000000 }
     requires small { space.old.file_end < 2 ^ 32 }
     ensures stages { StagesOnly S.PageStore store.old store.new }
     ensures cause { HasDeviceCause (S.faults store.old) (S.faults store.new) result }
     ensures answer { IsChangeAnswer (S.state store.old) result }
-    ensures added { OnOk result (AddsSegment (model_meta meta.old) (model_meta meta.new) (meta_buckets (model_meta meta.old))) }
+    ensures added { OnOk result (AddsSegment (model_meta meta.old) (model_meta meta.new)
+        (meta_buckets (model_meta meta.old))) }
     ensures ends { HasEnds space.old → HasEnds space.new }
-    ensures may_end { MayEnd (S.state store.old) space.old.file_end → OnOk result (MayEnd (S.state store.new) space.new.file_end) }
+    ensures may_end { MayEnd (S.state store.old) space.old.file_end
+        → OnOk result (MayEnd (S.state store.new) space.new.file_end) }
 
-    // It leaves the model's placement with no pair in either bucket, is never Damaged, and takes two pages at most.
+    // It leaves the model's placement with no pair in either bucket, is never Damaged, and takes
+    // two pages at most.
     ensures exact { ForEachMidway S.PageStore store.old (model_meta meta.old) space.old (λ p.
-        head ≡ first_of (numbers (chain_at p p.shape.split)) → IfOk result (IsBucketOpened (body_at S.PageStore store.new) (model_meta meta.new) space.new p)) }
+        head ≡ first_of (numbers (chain_at p p.shape.split))
+        → IfOk result (IsBucketOpened (body_at S.PageStore store.new) (model_meta meta.new)
+        space.new p)) }
     ensures whole { ForEachMidway S.PageStore store.old (model_meta meta.old) space.old (λ p.
         head ≡ first_of (numbers (chain_at p p.shape.split)) → IsErrOf result Damaged → ⊥) }
     ensures room { ForEachMidway S.PageStore store.old (model_meta meta.old) space.old (λ p.
-        head ≡ first_of (numbers (chain_at p p.shape.split)) → IsErrOf result NoRoom → (S.state store.old).capacity ≤ p.space.end + 2) }
+        head ≡ first_of (numbers (chain_at p p.shape.split)) → IsErrOf result NoRoom
+        → (S.state store.old).capacity ≤ p.space.end + 2) }
 {
     store_all(store, space, head, &[])?;
     let new_head = take(store, space)?;
@@ -112,12 +125,22 @@ fn refill<S: PageStore>(
     ensures cause { HasDeviceCause (S.faults store.old) (S.faults store.new) result }
     ensures answer { IsChangeAnswer (S.state store.old) result }
     ensures ends { HasEnds space.old → HasEnds space.new }
-    ensures may_end { MayEnd (S.state store.old) space.old.file_end → OnOk result (MayEnd (S.state store.new) space.new.file_end) }
+    ensures may_end { MayEnd (S.state store.old) space.old.file_end
+        → OnOk result (MayEnd (S.state store.new) space.new.file_end) }
 
-    // From the opened placement it leaves the split one, is never Damaged, and takes a page for each pair at most.
-    ensures exact { S.honest store.old → (p : Placement) → IsRefilled (body_at S.PageStore store.old) space.old (shape_of shape) head new_head (map pair_of pairs.now) p → OnOk result (IsBelow (body_at S.PageStore store.new) space.new (split p)) }
-    ensures whole { S.honest store.old → (p : Placement) → IsRefilled (body_at S.PageStore store.old) space.old (shape_of shape) head new_head (map pair_of pairs.now) p → IsErrOf result Damaged → ⊥ }
-    ensures room { S.honest store.old → (p : Placement) → IsRefilled (body_at S.PageStore store.old) space.old (shape_of shape) head new_head (map pair_of pairs.now) p → IsErrOf result NoRoom → (S.state store.old).capacity ≤ (opened p).space.end + length pairs.now }
+    // From the opened placement it leaves the split one, is never Damaged, and takes a page for
+    // each pair at most.
+    ensures exact { S.honest store.old → (p : Placement)
+        → IsRefilled (body_at S.PageStore store.old) space.old (shape_of shape) head new_head
+        (map pair_of pairs.now) p → OnOk result
+        (IsBelow (body_at S.PageStore store.new) space.new (split p)) }
+    ensures whole { S.honest store.old → (p : Placement)
+        → IsRefilled (body_at S.PageStore store.old) space.old (shape_of shape) head new_head
+        (map pair_of pairs.now) p → IsErrOf result Damaged → ⊥ }
+    ensures room { S.honest store.old → (p : Placement)
+        → IsRefilled (body_at S.PageStore store.old) space.old (shape_of shape) head new_head
+        (map pair_of pairs.now) p → IsErrOf result NoRoom
+        → (S.state store.old).capacity ≤ (opened p).space.end + length pairs.now }
 {
     for pair in pairs {
         let goes_up = shape.split_goes_up(hash(&pair.key));

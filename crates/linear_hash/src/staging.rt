@@ -53,10 +53,13 @@ fn replace_pair<S: PageStore>(
     ensures cause { HasDeviceCause (S.faults store.old) (S.faults store.new) result }
     ensures answer { IsChangeAnswer (S.state store.old) result }
     ensures ends { HasEnds space.old → HasEnds space.new }
-    ensures may_end { MayEnd (S.state store.old) space.old.file_end → OnOk result (MayEnd (S.state store.new) space.new.file_end) }
+    ensures may_end { MayEnd (S.state store.old) space.old.file_end
+        → OnOk result (MayEnd (S.state store.new) space.new.file_end) }
     ensures room { IsErrOf result NoRoom → (S.state store.old).capacity ≤ space.old.file_end }
     ensures exact { ForEachMidway S.PageStore store.old (model_meta meta.now) space.old (λ p.
-        was_there ≡ is_some (get (contents p) key.now) → OnOk result (IsMidway (body_at S.PageStore store.new) (model_meta meta.now) space.new (replace p (key.now, content.now)))) }
+        was_there ≡ is_some (get (contents p) key.now)
+        → OnOk result (IsMidway (body_at S.PageStore store.new) (model_meta meta.now) space.new
+        (replace p (key.now, content.now)))) }
     ensures whole { ForEachMidway S.PageStore store.old (model_meta meta.now) space.old (λ p.
         was_there ≡ is_some (get (contents p) key.now) → IsErrOf result Damaged → ⊥) }
 {
@@ -74,22 +77,31 @@ fn split_if_full<S: PageStore>(
     meta: &mut Meta,
     space: &mut FreeState,
 ) -> Result<(), PageFault>
-    requires valid { IsMeta (record (model_meta meta.old) { pairs = 0; free_head = 0; free_count = 0 }) }
-    requires few { (meta.old.pairs ≤ meta.old.limit) × (meta.old.pairs ≤ 8 * meta_buckets (model_meta meta.old) + 1) }
+    requires valid { IsMeta (record
+        (model_meta meta.old) { pairs = 0; free_head = 0; free_count = 0 }) }
+    requires few { (meta.old.pairs ≤ meta.old.limit)
+        × (meta.old.pairs ≤ 8 * meta_buckets (model_meta meta.old) + 1) }
     ensures stages { StagesOnly S.PageStore store.old store.new }
     ensures cause { HasDeviceCause (S.faults store.old) (S.faults store.new) result }
     ensures answer { IsChangeAnswer (S.state store.old) result }
-    ensures valid { OnOk result (IsMeta (record (model_meta meta.new) { free_head = 0; free_count = 0 })) }
-    ensures kept { OnOk result ((meta.new.limit ≡ meta.old.limit) × (meta.new.pairs ≡ meta.old.pairs)) }
-    ensures shape { OnOk result (shape_in (model_meta meta.new) ≡ shape_for meta.new.pairs (shape_in (model_meta meta.old))) }
+    ensures valid { OnOk result (IsMeta
+        (record (model_meta meta.new) { free_head = 0; free_count = 0 })) }
+    ensures kept { OnOk result ((meta.new.limit ≡ meta.old.limit)
+        × (meta.new.pairs ≡ meta.old.pairs)) }
+    ensures shape { OnOk result (shape_in (model_meta meta.new)
+        ≡ shape_for meta.new.pairs (shape_in (model_meta meta.old))) }
     ensures ends { HasEnds space.old → HasEnds space.new }
-    ensures may_end { MayEnd (S.state store.old) space.old.file_end → OnOk result (MayEnd (S.state store.new) space.new.file_end) }
+    ensures may_end { MayEnd (S.state store.old) space.old.file_end
+        → OnOk result (MayEnd (S.state store.new) space.new.file_end) }
     ensures exact { ForEachMidway S.PageStore store.old (model_meta meta.old) space.old (λ p.
-        p.space.end ≤ (S.state store.old).end + 1 → meta.old.pairs ≡ length (pairs_of p) → OnOk result (IsMidway (body_at S.PageStore store.new) (model_meta meta.new) space.new (split_where_full p))) }
+        p.space.end ≤ (S.state store.old).end + 1 → meta.old.pairs ≡ length (pairs_of p)
+        → OnOk result (IsMidway (body_at S.PageStore store.new) (model_meta meta.new) space.new
+        (split_where_full p))) }
     ensures whole { ForEachMidway S.PageStore store.old (model_meta meta.old) space.old (λ p.
         p.space.end ≤ (S.state store.old).end + 1 → IsErrOf result Damaged → ⊥) }
     ensures room { ForEachMidway S.PageStore store.old (model_meta meta.old) space.old (λ p.
-        p.space.end ≤ (S.state store.old).end + 1 → IsErrOf result NoRoom → (S.state store.old).capacity ≤ p.space.end + length (pairs_of p) + 2) }
+        p.space.end ≤ (S.state store.old).end + 1 → IsErrOf result NoRoom
+        → (S.state store.old).capacity ≤ p.space.end + length (pairs_of p) + 2) }
 {
     if meta.pairs > PER_BUCKET * meta.shape.buckets() {
         split_bucket(alloc, store, meta, space)?;
@@ -109,12 +121,17 @@ fn stage_meta<S: PageStore>(
     ensures cause { HasDeviceCause (S.faults store.old) (S.faults store.new) result }
     ensures answer { IsStageAnswer S.reserved (S.state store.old) 1 result }
     ensures valid { IsMeta (model_meta meta.new) }
-    ensures meta { model_meta meta.new ≡ record (model_meta meta.old) { free_head = space.head; free_count = space.count } }
+    ensures meta { model_meta meta.new
+        ≡ record (model_meta meta.old) { free_head = space.head; free_count = space.count } }
     ensures end { IfOk result (λ end. end ≡ space.file_end) }
-    ensures may_commit { MayEnd (S.state store.old) space.file_end → IfOk result (MayCommit (S.state store.new)) }
-    ensures grows { MayEnd (S.state store.old) space.file_end → IfOk result (λ end. (S.state store.old).end ≤ end) }
-    ensures page { S.honest store.old → OnOk result (body_at S.PageStore store.new 1 ≡ MetaPage (model_meta meta.new)) }
-    ensures others { S.honest store.old → (n : ℕ) → (n ≡ 1 → ⊥) → body_at S.PageStore store.new n ≡ body_at S.PageStore store.old n }
+    ensures may_commit { MayEnd (S.state store.old) space.file_end
+        → IfOk result (MayCommit (S.state store.new)) }
+    ensures grows { MayEnd (S.state store.old) space.file_end
+        → IfOk result (λ end. (S.state store.old).end ≤ end) }
+    ensures page { S.honest store.old
+        → OnOk result (body_at S.PageStore store.new 1 ≡ MetaPage (model_meta meta.new)) }
+    ensures others { S.honest store.old → (n : ℕ) → (n ≡ 1 → ⊥)
+        → body_at S.PageStore store.new n ≡ body_at S.PageStore store.old n }
 {
     meta.free_head = space.head;
     meta.free_count = space.count;
@@ -131,8 +148,8 @@ fn added(was_there: bool) -> u32
     if was_there { 0 } else { 1 }
 }
 
-/// Stages what a store of a pair changes, and answers where the file then ends. One bucket is split where there would be
-/// more than eight pairs to a bucket.
+/// Stages what a store of a pair changes, and answers where the file then ends. One bucket is split
+/// where there would be more than eight pairs to a bucket.
 pub fn stage_store<S: PageStore>(
     alloc: Global,
     store: &mut S,
@@ -150,18 +167,24 @@ pub fn stage_store<S: PageStore>(
     ensures answer { IsChangeAnswer (S.state store.old) result }
     ensures valid { OnOk result (IsMeta (model_meta meta.new)) }
     ensures limit { OnOk result (meta.new.limit ≡ meta.old.limit) }
-    ensures pairs { OnOk result (meta.new.pairs ≡ (if was_there then meta.old.pairs else meta.old.pairs + 1)) }
-    ensures shape { OnOk result (shape_in (model_meta meta.new) ≡ shape_for meta.new.pairs (shape_in (model_meta meta.old))) }
+    ensures pairs { OnOk result (meta.new.pairs
+        ≡ (if was_there then meta.old.pairs else meta.old.pairs + 1)) }
+    ensures shape { OnOk result (shape_in (model_meta meta.new)
+        ≡ shape_for meta.new.pairs (shape_in (model_meta meta.old))) }
     ensures may_commit { IfOk result (MayCommit (S.state store.new)) }
     ensures grows { IfOk result (λ end. (S.state store.old).end ≤ end) }
 
-    // On the pages of a good placement it leaves the model's, is never Damaged, and takes few pages.
+    // On the pages of a good placement it leaves the model's, is never Damaged, and takes few
+    // pages.
     ensures exact { ForEachTable S.PageStore store.old (model_meta meta.old) (λ p.
-        MayStore p (key.now, content.now) → was_there ≡ is_some (get (contents p) key.now) → IfOk result (λ end. IsStaged (body_at S.PageStore store.new) (model_meta meta.new) end (stored p (key.now, content.now)))) }
+        MayStore p (key.now, content.now) → was_there ≡ is_some (get (contents p) key.now)
+        → IfOk result (λ end. IsStaged (body_at S.PageStore store.new) (model_meta meta.new) end
+        (stored p (key.now, content.now)))) }
     ensures whole { ForEachTable S.PageStore store.old (model_meta meta.old) (λ p.
         was_there ≡ is_some (get (contents p) key.now) → IsErrOf result Damaged → ⊥) }
     ensures few { ForEachTable S.PageStore store.old (model_meta meta.old) (λ p.
-        was_there ≡ is_some (get (contents p) key.now) → IsErrOf result NoRoom → (S.state store.old).capacity ≤ p.space.end + length (pairs_of p) + 4) }
+        was_there ≡ is_some (get (contents p) key.now) → IsErrOf result NoRoom
+        → (S.state store.old).capacity ≤ p.space.end + length (pairs_of p) + 4) }
 {
     let mut space = space_of(meta, store.end());
     replace_pair(store, meta, &mut space, key, content, was_there)?;
@@ -182,7 +205,8 @@ fn remove_key<S: PageStore>(
     ensures cause { HasDeviceCause (S.faults store.old) (S.faults store.new) result }
     ensures answer { IsRemoveAnswer S.reserved (S.state store.old) result }
     ensures ends { HasEnds space.old → HasEnds space.new }
-    ensures may_end { MayEnd (S.state store.old) space.old.file_end → OnOk result (MayEnd (S.state store.new) space.new.file_end) }
+    ensures may_end { MayEnd (S.state store.old) space.old.file_end
+        → OnOk result (MayEnd (S.state store.new) space.new.file_end) }
     ensures exact { ForEachMidway S.PageStore store.old (model_meta meta.now) space.old (λ p.
         OnOk result (IsMidway (body_at S.PageStore store.new) (model_meta meta.now) space.new (delete p key.now))) }
     ensures whole { ForEachMidway S.PageStore store.old (model_meta meta.now) space.old (λ p.
@@ -214,7 +238,9 @@ pub fn stage_delete<S: PageStore>(
 
     // On the pages of a good placement it leaves the model's, and is never Damaged.
     ensures exact { ForEachTable S.PageStore store.old (model_meta meta.old) (λ p.
-        is_some (get (contents p) key.now) ≡ true → IfOk result (λ end. IsStaged (body_at S.PageStore store.new) (model_meta meta.new) end (delete p key.now))) }
+        is_some (get (contents p) key.now) ≡ true
+        → IfOk result (λ end. IsStaged (body_at S.PageStore store.new) (model_meta meta.new) end
+        (delete p key.now))) }
     ensures whole { ForEachTable S.PageStore store.old (model_meta meta.old) (λ p.
         IsErrOf result Damaged → ⊥) }
 {

@@ -30,7 +30,8 @@ fn fault_of<R: Files<File = File>>(
     Ok(dbm_open(rt, alloc, name, how_of(how)?).err())
 }
 
-/// The first line of a table whose opening of a file isn't refused by the fault that it has behind its arrow.
+/// The first line of a table whose opening of a file isn't refused by the fault that it has behind
+/// its arrow.
 fn first_not_refused<'a, R: Files<File = File>>(
     rt: &R,
     alloc: Global,

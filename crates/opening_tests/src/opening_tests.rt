@@ -33,7 +33,8 @@ enum Held {
     OtherMeta,
 }
 
-/// A device with the nine pairs and so many sectors, which keeps a short record: it is often copied.
+/// A device with the nine pairs and so many sectors, which keeps a short record: it is often
+/// copied.
 fn nine_pairs(alloc: Global, sectors: u32) -> Result<MemDev, DevFault> {
     let mut dev = MemDev::new(alloc, sectors);
     for (page, n) in nine_file().iter().zip(0..) {
@@ -142,8 +143,9 @@ fn an_emptied_database_has_the_new_limit(rt: HostRuntime) -> Result<(), Fail> {
     Ok(())
 }
 
-/// The device calls of an emptying: a sync, a read of sector 0 and four of page 1; twelve writes of images and a sync; the
-/// armed sector and a sync; twelve writes and a sync; the clear sector and a sync.
+/// The device calls of an emptying: a sync, a read of sector 0 and four of page 1; twelve writes of
+/// images and a sync; the armed sector and a sync; twelve writes and a sync; the clear sector and a
+/// sync.
 const EMPTYING: u64 = 6 + 13 + 2 + 13 + 2;
 
 /// The sync behind the armed sector of an emptying, from which on it is done.
@@ -159,7 +161,8 @@ fn has_left(alloc: Global, dev: MemDev, emptied: bool) -> Result<bool, Fault> {
     }
 }
 
-/// Whether an emptying of so many device calls leaves all pairs or none, as it has to, with each kind of marks.
+/// Whether an emptying of so many device calls leaves all pairs or none, as it has to, with each
+/// kind of marks.
 fn leaves_all_or_none(alloc: Global, dev: &MemDev, calls: u64) -> Result<bool, Fail> {
     for marks in MARKS.iter() {
         let emptied = calls > EMPTIED || calls == EMPTIED && marks[0];
@@ -195,8 +198,9 @@ fn a_stopped_emptying_leaves_all_pairs_or_none(rt: HostRuntime) -> Result<(), Fa
     Ok(())
 }
 
-/// The calls of a ninth store up to the sync behind its armed sector, which has returned: an opening, the reads of the
-/// store, 16 writes of images and a sync, and the armed sector and its sync.
+/// The calls of a ninth store up to the sync behind its armed sector, which has returned: an
+/// opening, the reads of the store, 16 writes of images and a sync, and the armed sector and its
+/// sync.
 const ARMED: u64 = 6 + 24 + 17 + 2;
 
 /// The device after an opening and a ninth store that had so many device calls.
@@ -207,7 +211,8 @@ fn armed(alloc: Global, calls: u64) -> Result<MemDev, Fail> {
     Ok(db.close().0.into_inner().crashed(alloc, &[true; 16])?)
 }
 
-/// Whether an opening for reading has the nine pairs, and writes nothing: page 0 stays, and no write is pending.
+/// Whether an opening for reading has the nine pairs, and writes nothing: page 0 stays, and no
+/// write is pending.
 fn is_read_as_nine(alloc: Global, mut dev: MemDev) -> Result<bool, Fail> {
     let first = page_at(&mut dev, 0)?;
     let mut db = open_so(alloc, dev, how_of("reading")?)?;
@@ -307,8 +312,8 @@ fn what_is_there_is_looked_at_before_it_is_emptied(rt: HostRuntime) -> Result<()
     Ok(())
 }
 
-/// A device of ten pages with a file of eight: one pair of 2,001 bytes fills a page, so four of five stand in pages of
-/// their own behind the first.
+/// A device of ten pages with a file of eight: one pair of 2,001 bytes fills a page, so four of
+/// five stand in pages of their own behind the first.
 fn nearly_full(alloc: Global) -> Result<MemDev, Fail> {
     let mut db = with_first(alloc, 0)?;
     for (key, _) in PAIRS.iter().take(5) {

@@ -10,21 +10,25 @@ use test_databases::asking::first_wrong;
 use test_databases::databases::{closed, has_first, is_nine, opened, opening, put, with_first};
 use test_databases::pages::{eight_file, first_other, new_file, nine_file, page_at, set_page};
 
-/// The device calls of an opening with no commit on its way: a sync, a read of sector 0, and four of page 1.
+/// The device calls of an opening with no commit on its way: a sync, a read of sector 0, and four
+/// of page 1.
 const OPENING: u64 = 6;
 
-/// Those of an opening that ends a commit of four pages: a sync and a read; four reads of each image to check it, four
-/// reads and four writes to copy it; a sync; the clear sector and its sync; and four reads of page 1.
+/// Those of an opening that ends a commit of four pages: a sync and a read; four reads of each
+/// image to check it, four reads and four writes to copy it; a sync; the clear sector and its sync;
+/// and four reads of page 1.
 const RECOVERY: u64 = 2 + 16 + 32 + 1 + 2 + 4;
 
-/// The first call of the ninth store's commit, after the opening and the reads of the store: page 2 and page 3 to look the
-/// key up, both again to put the pair, and page 2 twice to split the bucket.
+/// The first call of the ninth store's commit, after the opening and the reads of the store: page 2
+/// and page 3 to look the key up, both again to put the pair, and page 2 twice to split the bucket.
 const COMMIT: u64 = OPENING + 24;
 
-/// The sync behind the armed sector, after the 16 writes of the images, their sync and the armed sector.
+/// The sync behind the armed sector, after the 16 writes of the images, their sync and the armed
+/// sector.
 const ARMING: u64 = COMMIT + 18;
 
-/// The end of the ninth store, after the 16 writes of the pages, their sync, the clear sector and its sync.
+/// The end of the ninth store, after the 16 writes of the pages, their sync, the clear sector and
+/// its sync.
 const STORED: u64 = ARMING + 1 + 19;
 
 /// A device with the first eight pairs, which keeps a short record: it is often copied.
@@ -65,7 +69,8 @@ fn store_stopped(alloc: Global, dev: MemDev, calls: u64) -> Stopped {
     }
 }
 
-/// How many pairs there are after so many calls, where the first of the unsynced writes happened or not.
+/// How many pairs there are after so many calls, where the first of the unsynced writes happened or
+/// not.
 fn pairs_after(calls: u64, first: bool) -> usize {
     if calls > ARMING || calls == ARMING && first {
         9
@@ -74,7 +79,8 @@ fn pairs_after(calls: u64, first: bool) -> usize {
     }
 }
 
-/// Whether what a store of so many device calls leaves opens with the pairs that it has to, with each kind of marks.
+/// Whether what a store of so many device calls leaves opens with the pairs that it has to, with
+/// each kind of marks.
 fn leaves_pairs(alloc: Global, dev: &MemDev, calls: u64) -> Result<bool, Fail> {
     for marks in MARKS.iter() {
         let mut db = opened(alloc, dev.crashed(alloc, marks)?, false, 0)?;
@@ -131,8 +137,8 @@ fn kinds(dev: &MemDev) -> usize {
     }
 }
 
-/// The first page of a device that doesn't begin and end as these do. Between their first 96 and last 32 bytes these have
-/// zeros; a look at each byte would take too long here.
+/// The first page of a device that doesn't begin and end as these do. Between their first 96 and
+/// last 32 bytes these have zeros; a look at each byte would take too long here.
 fn first_with_other_ends(dev: &mut MemDev, pages: &[Page]) -> Result<Option<u32>, DevFault> {
     for (page, n) in pages.iter().zip(0..) {
         let found = page_at(dev, n)?;
@@ -154,8 +160,9 @@ fn opens_as(alloc: Global, dev: &MemDev, pairs: u32, file: &[Page]) -> Result<bo
     Ok(true)
 }
 
-/// Opens a device again and again, with one call more each time, until it isn't stopped, and then what that leaves. It
-/// answers how many calls there were, or None where a stop left something else.
+/// Opens a device again and again, with one call more each time, until it isn't stopped, and then
+/// what that leaves. It answers how many calls there were, or None where a stop left something
+/// else.
 fn stop_each_opening(
     alloc: Global,
     dev: &MemDev,
@@ -168,7 +175,8 @@ fn stop_each_opening(
         if stopped.done {
             return Ok(Some(calls));
         }
-        // Where there are as many unsynced writes as before, the call between was a read, and what is left is the same.
+        // Where there are as many unsynced writes as before, the call between was a read, and what
+        // is left is the same.
         let pending = Some(stopped.dev.pending());
         if pending != before && !opens_as(alloc, &stopped.dev, pairs, file)? {
             return Ok(None);
@@ -178,7 +186,8 @@ fn stop_each_opening(
     Ok(Some(RECOVERY))
 }
 
-/// How many calls open what a store leaves after so many calls, where the first of the unsynced writes happened or not.
+/// How many calls open what a store leaves after so many calls, where the first of the unsynced
+/// writes happened or not.
 fn calls_to_open(calls: u64, first: bool) -> u64 {
     let is_clear = pairs_after(calls, first) == 8
         || calls == STORED
@@ -186,7 +195,8 @@ fn calls_to_open(calls: u64, first: bool) -> u64 {
     if is_clear { OPENING } else { RECOVERY }
 }
 
-/// Whether what a store leaves after so many calls may be opened again and again, with each kind of marks.
+/// Whether what a store leaves after so many calls may be opened again and again, with each kind of
+/// marks.
 fn opens_again(alloc: Global, left: &MemDev, calls: u64) -> Result<bool, Fail> {
     for marks in MARKS.iter().take(kinds(left)) {
         let dev = left.crashed(alloc, marks)?;
@@ -240,7 +250,8 @@ fn a_failed_sync_leaves_a_change_in_doubt(rt: HostRuntime) -> Result<(), Fail> {
     Ok(())
 }
 
-/// Whether a store of the ninth pair is refused where this call of the device fails, and leaves the pairs, and is done then.
+/// Whether a store of the ninth pair is refused where this call of the device fails, and leaves the
+/// pairs, and is done then.
 fn outlives_failure(alloc: Global, call: u64) -> Result<bool, Fail> {
     let mut db = opened(alloc, FailOnce::new(eight_pairs(alloc)?, call), false, 0)?;
     let refused = first_wrong(alloc, &mut db, "put i #09 -> refused Device")?.is_none();
@@ -257,8 +268,8 @@ fn a_failed_read_breaks_nothing(rt: HostRuntime) -> Result<(), Fail> {
     Ok(())
 }
 
-/// The calls that make a database: a sync and a read, the twelve writes of three pages and a sync, and the first sector
-/// and its sync.
+/// The calls that make a database: a sync and a read, the twelve writes of three pages and a sync,
+/// and the first sector and its sync.
 const MAKING: u64 = 2 + 13 + 2;
 
 /// Whether a device opens as a new database where it may be made, as every device here.
@@ -270,7 +281,8 @@ fn opens_as_new(alloc: Global, dev: MemDev) -> Result<bool, Fail> {
     Ok(first_other(&mut closed(db)?, &new_file())?.is_none())
 }
 
-/// Whether a making of so many device calls leaves a blank device or a new database, as it has to, with each kind of marks.
+/// Whether a making of so many device calls leaves a blank device or a new database, as it has to,
+/// with each kind of marks.
 fn leaves_blank_or_new(alloc: Global, left: &MemDev, calls: u64) -> Result<bool, Fail> {
     for marks in MARKS.iter() {
         let dev = left.crashed(alloc, marks)?;

@@ -9,7 +9,8 @@ use Rattle.page_io.specs.declared.store.PageStore.{Ghosts}
 use Rattle.page_io.specs.declared.store.PageFault.{PageFault}
 use Rattle.page_io.specs.declared.store.PageFault.TheVariants.{Device}
 
--- the staged pages can be committed with this end: they are below it, and those behind the old end are among them
+-- the staged pages can be committed with this end: they are below it, and those behind the old end
+-- are among them
 pub record MayCommit (state : StoreState) (end : ℕ) : Type 0 where
   pub below : AllBelow end state.staged
   pub grown : (n : ℕ) → state.end ≤ n → n < end → has_page state.staged n ≡ true
@@ -21,6 +22,8 @@ pub record Holds {S : Type 0} (s : Ghosts S) (store : S) (m : Meta) (map : Conte
   pub stands : FileStandsFor (s.committed store) map m.limit
   pub meta_is : said_by (page_of (s.committed store)) 1 ≡ MetaPage m
 
--- what was staged is forgotten, and the store broken where the device was the cause of the fault in a commit
+-- what was staged is forgotten, and the store broken where the device was the cause of the fault in
+-- a commit
 abbrev pub IsForgotten : StoreState → StoreState → PageFault → Type 0
-IsForgotten old new fault = (new ≡ record old { staged = [] }) ⊎ ((fault ≡ Device) × (new ≡ record old { staged = []; usable = false }))
+IsForgotten old new fault = (new ≡ record old { staged = [] })
+    ⊎ ((fault ≡ Device) × (new ≡ record old { staged = []; usable = false }))

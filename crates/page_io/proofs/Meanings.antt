@@ -18,7 +18,8 @@ use Rattle.page_io.proofs.Overlays.{page_of-file}
 
 pub one_meaning : ImagesHaveOneMeaning
 one_meaning blank m n limit other s t = absurd s
-one_meaning (file_of pages) m n limit other s t = pages_one_meaning (page_of pages) (length pages + 1) m n limit other s t
+one_meaning (file_of pages) m n limit other s t =
+    pages_one_meaning (page_of pages) (length pages + 1) m n limit other s t
 one_meaning nothing m n limit other s t = absurd s
 
 -- a page of the file is from 1 to end - 1
@@ -32,16 +33,25 @@ commits pages staged p good spelled =
     let new = committed_with pages staged end in
     let some : 1 ≤ end = omega (arith, good.sound.pages.as_many) in
     let ends : end ≡ length new + 1 = omega (arith, some, length-pages_from page 1 (end - 1)) in
-    let same : (n : ℕ) → 1 ≤ times_of n (map (λ numbered. numbered.number) (page_bodies p)) → said_by (page_of new) n ≡ said_by page n = λ n stands.
-    let counted : 1 ≤ times_of n (in_use p ++ p.space.free) = subst (λ (ns : List ℕ). 1 ≤ times_of n ns) (numbers-page_bodies p) stands in
-    let within = is_within n end (omega (arith, counted, good.sound.pages.once n, sum_by-append (λ (m : ℕ). cond (m == n) 1 0) (in_use p) p.space.free)) in
+    let same : (n : ℕ) → 1 ≤ times_of n (map (λ numbered. numbered.number) (page_bodies p))
+    → said_by (page_of new) n ≡ said_by page n = λ n stands.
+    let counted : 1 ≤ times_of n (in_use p ++ p.space.free) =
+    subst (λ (ns : List ℕ). 1 ≤ times_of n ns) (numbers-page_bodies p) stands in
+    let within = is_within n end (omega (
+      arith,
+      counted,
+      good.sound.pages.once n,
+      sum_by-append (λ (m : ℕ). cond (m == n) 1 0) (in_use p) p.space.free,
+    )) in
     ap (body_of n) (page_of-file page end n within.0 within.1) in
-    let read : IsSpelled (said_by (page_of new)) p = kept (said_by page) (said_by (page_of new)) (page_bodies p) same spelled in
+    let read : IsSpelled (said_by (page_of new)) p =
+    kept (said_by page) (said_by (page_of new)) (page_bodies p) same spelled in
     record {
       placement = p;
       good = good;
       spelled = read;
       ends = ends;
       limited = refl;
-      holds = ap (λ (k : ℕ). contents_of (flat_pairs (said_by (page_of new)) k)) (sym ends) ∙ flat_is_contents p (said_by (page_of new)) good.sound read;
+      holds = ap (λ (k : ℕ). contents_of (flat_pairs (said_by (page_of new)) k)) (sym ends)
+          ∙ flat_is_contents p (said_by (page_of new)) good.sound read;
     }

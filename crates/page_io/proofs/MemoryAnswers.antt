@@ -14,7 +14,8 @@ module _ {T : Type 0} (state : StoreState) (n : ℕ) (usable : state.usable ≡ 
     only = tt;
   }
 
-module _ {T : Type 0} (state : StoreState) (end : ℕ) (usable : state.usable ≡ true) (writable : state.writable ≡ true) where
+module _ {T : Type 0} (state : StoreState) (end : ℕ) (usable : state.usable ≡ true)
+    (writable : state.writable ≡ true) where
   -- a commit for which there is room is done
   pub fits_answer : (x : T) → (LacksPages state end → ⊥) → IsCommitAnswer state end (Ok x)
   fits_answer x fits = record {
@@ -34,7 +35,8 @@ module _ {T : Type 0} (state : StoreState) (end : ℕ) (usable : state.usable �
   }
 
 -- the room behind the greater end, and how many pages are staged
-module _ (room capacity all greater old new count staged : ℕ) (is : room ≡ capacity - greater) (all_is : capacity ≡ all) (greater_is : greater ≡ max old new) (count_is : count ≡ staged) where
+module _ (room capacity all greater old new count staged : ℕ) (is : room ≡ capacity - greater)
+    (all_is : capacity ≡ all) (greater_is : greater ≡ max old new) (count_is : count ≡ staged) where
   pub lacks_room : room < count → all < max old new + staged
   lacks_room more = omega (arith, is, all_is, greater_is, count_is, more)
 

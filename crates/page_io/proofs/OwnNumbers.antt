@@ -16,5 +16,6 @@ unfolding bucket_of
 own_is bytes = refl
 
 -- a head page with no pair has the number that it says
-pub own_of_head : (bytes : List ℕ) (n : ℕ) → bucket_of bytes ≡ bucket n 3 0 [] → own_number bytes ≡ n
+pub own_of_head : (bytes : List ℕ) (n : ℕ) → bucket_of bytes ≡ bucket n 3 0 []
+    → own_number bytes ≡ n
 own_of_head bytes n says = own_same bytes ∙ sym (own_is bytes) ∙ ap (λ (b : Bucket). b.own) says

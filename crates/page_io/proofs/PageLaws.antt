@@ -18,11 +18,13 @@ not_inside from to m n ge lt (inr above) same = omega arith
 pub at_same : (image : Image) (n : ℕ) (c : List ℕ) (m : ℕ) → m ≡ n → with_sector image n c m ≡ c
 at_same image n c m same = search (rules, nat_tests)
 
-pub at_other : (image : Image) (n : ℕ) (c : List ℕ) (m : ℕ) → m ≢ n → with_sector image n c m ≡ image m
+pub at_other : (image : Image) (n : ℕ) (c : List ℕ) (m : ℕ) → m ≢ n
+    → with_sector image n c m ≡ image m
 at_other image n c m other = search (rules, nat_tests)
 
 -- pages that agree sector by sector
-pub same_page : (a b : Image) (n : ℕ) → ((m : ℕ) → 4 * n ≤ m → m < 4 * n + 4 → a m ≡ b m) → page_at a n ≡ page_at b n
+pub same_page : (a b : Image) (n : ℕ) → ((m : ℕ) → 4 * n ≤ m → m < 4 * n + 4 → a m ≡ b m)
+    → page_at a n ≡ page_at b n
 unfolding page_at
 same_page a b n same =
     let s0 = same (4 * n) (omega arith) (omega arith) in
@@ -31,16 +33,23 @@ same_page a b n same =
     let s3 = same (4 * n + 3) (omega arith) (omega arith) in
     cc
 
-join_step : (size : ℕ) (bytes : List ℕ) (at next : ℕ) → at + size ≡ next → take size (drop at bytes) ++ drop next bytes ≡ drop at bytes
+join_step : (size : ℕ) (bytes : List ℕ) (at next : ℕ) → at + size ≡ next
+    → take size (drop at bytes) ++ drop next bytes ≡ drop at bytes
 join_step size bytes at next e =
-    ap (λ (ys : List ℕ). take size (drop at bytes) ++ ys) (ap (λ (k : ℕ). drop k bytes) (sym e) ∙ sym (drop-drop size at bytes)) ∙ take-append-drop size (drop at bytes)
+    ap (λ (ys : List ℕ). take size (drop at bytes) ++ ys)
+    (ap (λ (k : ℕ). drop k bytes) (sym e) ∙ sym (drop-drop size at bytes))
+    ∙ take-append-drop size (drop at bytes)
 
-join_last : (size : ℕ) (bytes : List ℕ) (at : ℕ) → at + size ≡ length bytes → take size (drop at bytes) ≡ drop at bytes
+join_last : (size : ℕ) (bytes : List ℕ) (at : ℕ) → at + size ≡ length bytes
+    → take size (drop at bytes) ≡ drop at bytes
 join_last size bytes at e =
     let none : drop (at + size) bytes ≡ [] = drop_all (at + size) bytes (omega arith) in
-    sym (append-nil (take size (drop at bytes))) ∙ ap (λ (ys : List ℕ). take size (drop at bytes) ++ ys) (sym none) ∙ join_step size bytes at (at + size) refl
+    sym (append-nil (take size (drop at bytes)))
+    ∙ ap (λ (ys : List ℕ). take size (drop at bytes) ++ ys) (sym none)
+    ∙ join_step size bytes at (at + size) refl
 
-pub parts_join : (size : ℕ) (bytes : List ℕ) → length bytes ≡ 4 * size → part size bytes 0 ++ (part size bytes 1 ++ (part size bytes 2 ++ part size bytes 3)) ≡ bytes
+pub parts_join : (size : ℕ) (bytes : List ℕ) → length bytes ≡ 4 * size
+    → part size bytes 0 ++ (part size bytes 1 ++ (part size bytes 2 ++ part size bytes 3)) ≡ bytes
 unfolding part
 parts_join size bytes long =
     let p3 = join_last size bytes (size * 3) (omega (arith, long)) in
@@ -51,7 +60,8 @@ parts_join size bytes long =
     let all : drop (size * 0) bytes ≡ bytes = ap (λ (k : ℕ). drop k bytes) none in
     cc
 
-pub page_of_parts : (image : Image) (n : ℕ) (bytes : List ℕ) → length bytes ≡ 2048 → ((k : ℕ) → k < 4 → image (4 * n + k) ≡ part 512 bytes k) → page_at image n ≡ bytes
+pub page_of_parts : (image : Image) (n : ℕ) (bytes : List ℕ) → length bytes ≡ 2048
+    → ((k : ℕ) → k < 4 → image (4 * n + k) ≡ part 512 bytes k) → page_at image n ≡ bytes
 unfolding page_at
 page_of_parts image n bytes long parts =
     let none : 4 * n + 0 ≡ 4 * n = omega arith in
@@ -66,15 +76,19 @@ pub page_at-joined : (image : Image) (n : ℕ) → joined image (4 * n) 4 ≡ pa
 unfolding page_at
 page_at-joined image n =
     let none : 4 * n + 0 ≡ 4 * n = omega arith in
-    ap (λ (m : ℕ). ((image m ++ image (4 * n + 1)) ++ image (4 * n + 2)) ++ image (4 * n + 3)) none ∙ simp append_assoc
+    ap (λ (m : ℕ). ((image m ++ image (4 * n + 1)) ++ image (4 * n + 2)) ++ image (4 * n + 3)) none
+    ∙ simp append_assoc
 
-pub joined-more : (image : Image) (at k : ℕ) → joined image at (k + 1) ≡ joined image at k ++ image (at + k)
+pub joined-more : (image : Image) (at k : ℕ)
+    → joined image at (k + 1) ≡ joined image at k ++ image (at + k)
 joined-more image at k = let more : k + 1 ≡ suc k = omega arith in ap (joined image at) more
 
 -- the front after a write
-pub take_over : (xs c : List ℕ) (at to : ℕ) → at ≤ length xs → at + length c ≡ to → take to (overwrite xs at c) ≡ take at xs ++ c
+pub take_over : (xs c : List ℕ) (at to : ℕ) → at ≤ length xs → at + length c ≡ to
+    → take to (overwrite xs at c) ≡ take at xs ++ c
 take_over xs c at to le e =
     let rest : List ℕ = drop (at + length c) xs in
     let front : List ℕ = take at xs ++ c in
-    let long : length front ≡ to = omega (arith, length-append (take at xs) c, length-take-le at xs le) in
+    let long : length front ≡ to =
+    omega (arith, length-append (take at xs) c, length-take-le at xs le) in
     ap (take to) (sym (append_assoc (take at xs) c rest)) ∙ take_at front rest to long

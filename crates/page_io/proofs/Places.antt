@@ -6,20 +6,29 @@ use Rattle.page_io.specs.Store.{Pages, bytes_of, put_page, has_page, are_in_orde
 use Rattle.page_io.proofs.StagedPages.{put_page-before, put_page-over, put_page-behind, has_between}
 use Rattle.page_io.specs.declared.page.Page.{Page}
 
-set_same : (pages : Pages) (at : ℕ) (new : List ℕ) → at < length pages → ((k : ℕ) → k < at → own_number (get_or pages k []) < own_number new) → own_number new ≡ own_number (get_or pages at [])
+set_same : (pages : Pages) (at : ℕ) (new : List ℕ) → at < length pages
+    → ((k : ℕ) → k < at → own_number (get_or pages k []) < own_number new)
+    → own_number new ≡ own_number (get_or pages at [])
     → set pages at new ≡ put_page pages new
 set_same [] at new lt below same = absurd (omega (arith, lt))
 set_same (page ∷ pages) zero new lt below same = sym (put_page-over page pages new same)
 set_same (page ∷ pages) (suc at) new lt below same =
-    ap (λ (ps : Pages). page ∷ ps) (set_same pages at new (omega (arith, lt)) (λ k lk. below (suc k) (omega (arith, lk))) same) ∙ sym (put_page-behind page pages new (below 0 (omega arith)))
+    ap (λ (ps : Pages). page ∷ ps)
+    (set_same pages at new (omega (arith, lt)) (λ k lk. below (suc k) (omega (arith, lk))) same)
+    ∙ sym (put_page-behind page pages new (below 0 (omega arith)))
 
-insert_before : (pages : Pages) (at : ℕ) (new : List ℕ) → at ≤ length pages → ((k : ℕ) → k < at → own_number (get_or pages k []) < own_number new) → (at < length pages → own_number new < own_number (get_or pages at []))
+insert_before : (pages : Pages) (at : ℕ) (new : List ℕ) → at ≤ length pages
+    → ((k : ℕ) → k < at → own_number (get_or pages k []) < own_number new)
+    → (at < length pages → own_number new < own_number (get_or pages at []))
     → take at pages ++ new ∷ drop at pages ≡ put_page pages new
 insert_before [] zero new le below above = refl
 insert_before [] (suc at) new le below above = absurd (omega (arith, le))
-insert_before (page ∷ pages) zero new le below above = sym (put_page-before page pages new (above (omega arith)))
+insert_before (page ∷ pages) zero new le below above =
+    sym (put_page-before page pages new (above (omega arith)))
 insert_before (page ∷ pages) (suc at) new le below above =
-    ap (λ (ps : Pages). page ∷ ps) (insert_before pages at new (omega (arith, le)) (λ k lk. below (suc k) (omega (arith, lk))) (λ lt. above (omega (arith, lt))))
+    ap (λ (ps : Pages). page ∷ ps)
+    (insert_before pages at new (omega (arith, le)) (λ k lk. below (suc k) (omega (arith, lk)))
+    (λ lt. above (omega (arith, lt))))
     ∙ sym (put_page-behind page pages new (below 0 (omega arith)))
 
 bytes-take : (pages : List Page) (i : ℕ) → bytes_of (take i pages) ≡ take i (bytes_of pages)
@@ -32,7 +41,9 @@ bytes-drop pages zero = refl
 bytes-drop [] (suc i) = refl
 bytes-drop (page ∷ pages) (suc i) = bytes-drop pages i
 
-bytes-insert : (pages : List Page) (i : ℕ) (page : Page) → bytes_of (take i pages ++ page ∷ drop i pages) ≡ take i (bytes_of pages) ++ page.bytes ∷ drop i (bytes_of pages)
+bytes-insert : (pages : List Page) (i : ℕ) (page : Page)
+    → bytes_of (take i pages ++ page ∷ drop i pages) ≡ take i (bytes_of pages) ++ page.bytes
+    ∷ drop i (bytes_of pages)
 bytes-insert pages i page =
     map-append (λ (p : Page). p.bytes) (take i pages) (page ∷ drop i pages)
     ∙ ap (λ (ps : Pages). ps ++ page.bytes ∷ bytes_of (drop i pages)) (bytes-take pages i)
@@ -43,22 +54,32 @@ long pages = length-map pages (λ (p : Page). p.bytes)
 
 -- a page that goes to place `at` of staged pages: all before it have lower numbers
 module _ (items : List Page) (at : ℕ) (page : Page) (le : at ≤ length items)
-    (before : (k : ℕ) → k < at → own_number (get_or (bytes_of items) k []) < own_number page.bytes) where
-  pub replaced_at : at < length items → own_number (get_or (bytes_of items) at []) ≡ own_number page.bytes
+    (before : (k : ℕ) → k < at → own_number (get_or (bytes_of items) k [])
+    < own_number page.bytes) where
+  pub replaced_at : at < length items
+      → own_number (get_or (bytes_of items) at []) ≡ own_number page.bytes
       → bytes_of (set items at page) ≡ put_page (bytes_of items) page.bytes
-  replaced_at lt same = map-set (λ (p : Page). p.bytes) items at page ∙ set_same (bytes_of items) at page.bytes (omega (arith, lt, long items)) before (sym same)
+  replaced_at lt same = map-set (λ (p : Page). p.bytes) items at page
+      ∙ set_same (bytes_of items) at page.bytes (omega (arith, lt, long items)) before (sym same)
 
-  module _ (after : at < length items → own_number page.bytes ≤ own_number (get_or (bytes_of items) at []))
-      (other : at < length items → own_number (get_or (bytes_of items) at []) ≢ own_number page.bytes) where
-    above : at < length (bytes_of items) → own_number page.bytes < own_number (get_or (bytes_of items) at [])
+  module _ (after : at < length items
+      → own_number page.bytes ≤ own_number (get_or (bytes_of items) at []))
+      (other : at < length items → own_number (get_or (bytes_of items) at [])
+      ≢ own_number page.bytes) where
+    above : at < length (bytes_of items)
+        → own_number page.bytes < own_number (get_or (bytes_of items) at [])
     above lt =
         let lt' : at < length items = omega (arith, lt, long items) in
         let low = after lt' in
         let ne = other lt' in
         omega (arith, low, ne)
 
-    pub inserted_at : bytes_of (take at items ++ page ∷ drop at items) ≡ put_page (bytes_of items) page.bytes
-    inserted_at = bytes-insert items at page ∙ insert_before (bytes_of items) at page.bytes (omega (arith, le, long items)) before above
+    pub inserted_at : bytes_of (take at items ++ page ∷ drop at items)
+        ≡ put_page (bytes_of items) page.bytes
+    inserted_at = bytes-insert items at page
+        ∙ insert_before (bytes_of items) at page.bytes (omega (arith, le, long items)) before above
 
-    pub absent_at : (least high : ℕ) → are_in_order least high (bytes_of items) ≡ true → has_page (bytes_of items) (own_number page.bytes) ≡ false
-    absent_at least high order = has_between least high (bytes_of items) at (own_number page.bytes) order before above (omega (arith, le, long items))
+    pub absent_at : (least high : ℕ) → are_in_order least high (bytes_of items) ≡ true
+        → has_page (bytes_of items) (own_number page.bytes) ≡ false
+    absent_at least high order = has_between least high (bytes_of items) at (own_number page.bytes)
+        order before above (omega (arith, le, long items))

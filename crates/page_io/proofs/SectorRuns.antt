@@ -4,7 +4,8 @@ use Rattle.page_io.specs.Page.{IsOutsidePage}
 use Rattle.page_io.proofs.PageLaws.{not_inside}
 
 pub apart_from : (n k m : ℕ) → k < 4 → IsOutsidePage n m → m ≢ 4 * n + k
-apart_from n k m lt out = not_inside (4 * n) (4 * n + 4) m (4 * n + k) (omega arith) (omega (arith, lt)) out
+apart_from n k m lt out = not_inside (4 * n) (4 * n + 4) m (4 * n + k) (omega arith)
+    (omega (arith, lt)) out
 
 pub same_part : (n k j : ℕ) → 4 * n + j ≡ 4 * n + k → k ≡ j
 same_part n k j e = omega arith
@@ -22,7 +23,8 @@ no_part j lt = omega (arith, lt)
 pub place_fits : (bytes : List ℕ) (k : ℕ) → length bytes ≡ 2048 → k < 4 → 512 * k ≤ length bytes
 place_fits bytes k long lt = omega (arith, long, lt)
 
-pub part_ends : (content : List ℕ) (k : ℕ) → length content ≡ 512 → 512 * k + length content ≡ 512 * (k + 1)
+pub part_ends : (content : List ℕ) (k : ℕ) → length content ≡ 512
+    → 512 * k + length content ≡ 512 * (k + 1)
 part_ends content k long = omega (arith, long)
 
 pub all_parts : (k : ℕ) → k ≤ 4 → 4 ≤ k → k ≡ 4

@@ -34,7 +34,8 @@ pub none_between : (from k : ℕ) → from ≤ k → k < from → ⊥
 none_between from k ge lt = omega (arith, ge, lt)
 
 -- a part that is written over
-pub put_over : (xs part new : List ℕ) (at size : ℕ) → part ≡ new → length new ≡ size → put_mid at (at + size - at) xs part ≡ overwrite xs at new
+pub put_over : (xs part new : List ℕ) (at size : ℕ) → part ≡ new → length new ≡ size
+    → put_mid at (at + size - at) xs part ≡ overwrite xs at new
 put_over xs part new at size is long =
     let count : at + size - at ≡ length new = omega (arith, long) in
     ap (λ (ys : List ℕ). put_mid at (at + size - at) xs ys) is
@@ -42,8 +43,11 @@ put_over xs part new at size is long =
     ∙ ap (λ (ys : List ℕ). take at xs ++ (new ++ ys)) (drop-drop (length new) at xs)
 
 -- a part that is written over from its front on
-pub write_over : (xs part new : List ℕ) (at size : ℕ) → part ≡ new ++ drop size (take (at + size - at) (drop at xs)) → length new ≡ size
+pub write_over : (xs part new : List ℕ) (at size : ℕ)
+    → part ≡ new ++ drop size (take (at + size - at) (drop at xs)) → length new ≡ size
     → put_mid at (at + size - at) xs part ≡ overwrite xs at new
 write_over xs part new at size is long =
-    let rest : drop size (take (at + size - at) (drop at xs)) ≡ [] = drop_all size (take (at + size - at) (drop at xs)) (omega (arith, length-take (at + size - at) (drop at xs))) in
+    let rest : drop size (take (at + size - at) (drop at xs)) ≡ [] =
+    drop_all size (take (at + size - at) (drop at xs))
+    (omega (arith, length-take (at + size - at) (drop at xs))) in
     put_over xs part new at size (is ∙ ap (λ (ys : List ℕ). new ++ ys) rest ∙ append-nil new) long

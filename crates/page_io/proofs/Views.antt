@@ -17,22 +17,27 @@ use Rattle.page_io.proofs.Exits.{both_ways}
 
 module _ {S : Type 0} (s : Ghosts S) where
   -- `counts` is the store's law `counts_now`
-  now_from : (old new : S) → ((t : ℕ) (y : Settled) → s.honest new → t ≤ s.moment new → s.settles_to new y → s.settled_since new t y)
-      → (s.honest new ↔ s.honest old) → (s.honest old → KeepsPages s.committed s.moment s.settled_since s.settles_to old new)
+  now_from : (old new : S) → ((t : ℕ) (y : Settled) → s.honest new → t ≤ s.moment new
+      → s.settles_to new y → s.settled_since new t y)
+      → (s.honest new ↔ s.honest old)
+      → (s.honest old → KeepsPages s.committed s.moment s.settled_since s.settles_to old new)
       → s.honest old → (y : Settled) → s.settles_to new y → s.settles_to old y
   now_from old new counts honesty kept h y is =
       let run = (kept h).any_moment in
       run.each y (counts (s.moment old) y (honesty.1 h) run.later is)
 
   -- what a read does
-  pub after_read : (old new : S) → ((t : ℕ) (y : Settled) → s.honest new → t ≤ s.moment new → s.settles_to new y → s.settled_since new t y)
+  pub after_read : (old new : S)
+      → ((t : ℕ) (y : Settled) → s.honest new → t ≤ s.moment new → s.settles_to new y
+      → s.settled_since new t y)
       → s.state new ≡ s.state old → (s.honest new ↔ s.honest old) → s.faults old ≤ s.faults new
       → (s.honest old → KeepsPages s.committed s.moment s.settled_since s.settles_to old new)
       → ReadsOnly s old new
   after_read old new counts same honesty later kept = record {
     same = same;
     stages_only = record {
-      state = same ∙ ap (λ (st : StoreState). record (s.state old) { staged = st.staged }) (sym same);
+      state = same ∙ ap (λ (st : StoreState). record (s.state old) { staged = st.staged })
+          (sym same);
       honesty = honesty;
       later = later;
       kept = kept;
@@ -41,18 +46,25 @@ module _ {S : Type 0} (s : Ghosts S) where
   }
 
   -- two calls that stage pages at most
-  pub stages_then : (old mid new : S) → ((t : ℕ) (y : Settled) → s.honest mid → t ≤ s.moment mid → s.settles_to mid y → s.settled_since mid t y)
+  pub stages_then : (old mid new : S)
+      → ((t : ℕ) (y : Settled) → s.honest mid → t ≤ s.moment mid → s.settles_to mid y
+      → s.settled_since mid t y)
       → StagesOnly s old mid → StagesOnly s mid new → StagesOnly s old new
   stages_then old mid new counts first second = record {
-    state = second.state ∙ ap (λ (st : StoreState). record st { staged = (s.state new).staged }) first.state;
+    state = second.state ∙ ap (λ (st : StoreState). record st { staged = (s.state new).staged })
+        first.state;
     honesty = both_ways second.honesty first.honesty;
     later = omega (arith, first.later, second.later);
-    kept = λ h. kept_twice s.committed s.moment s.settled_since s.settles_to old mid new (λ t y le is. counts t y (first.honesty.1 h) le is) (first.kept h) (second.kept (first.honesty.1 h));
+    kept = λ h. kept_twice s.committed s.moment s.settled_since s.settles_to old mid new
+        (λ t y le is. counts t y (first.honesty.1 h) le is) (first.kept h)
+        (second.kept (first.honesty.1 h));
     now = λ h y is. first.now h y (second.now (first.honesty.1 h) y is);
   }
 
   -- two that read pages at most
-  pub reads_then : (old mid new : S) → ((t : ℕ) (y : Settled) → s.honest mid → t ≤ s.moment mid → s.settles_to mid y → s.settled_since mid t y)
+  pub reads_then : (old mid new : S)
+      → ((t : ℕ) (y : Settled) → s.honest mid → t ≤ s.moment mid → s.settles_to mid y
+      → s.settled_since mid t y)
       → ReadsOnly s old mid → ReadsOnly s mid new → ReadsOnly s old new
   reads_then old mid new counts first second = record {
     same = second.same ∙ first.same;
@@ -61,16 +73,25 @@ module _ {S : Type 0} (s : Ghosts S) where
 
   -- what a stage does
   pub after_stage : {T : Type 0} (old new : S) (bytes : List ℕ) (result : Result T PageFault)
-      → ((t : ℕ) (y : Settled) → s.honest new → t ≤ s.moment new → s.settles_to new y → s.settled_since new t y)
-      → OnOk result (s.state new ≡ record (s.state old) { staged = put_page (s.state old).staged bytes }) → OnErr result (s.state new ≡ s.state old)
+      → ((t : ℕ) (y : Settled) → s.honest new → t ≤ s.moment new → s.settles_to new y
+      → s.settled_since new t y)
+      → OnOk result (s.state new ≡ record (s.state old) {
+        staged =
+            put_page (s.state old).staged bytes;
+      }) → OnErr result (s.state new ≡ s.state old)
       → (s.honest new ↔ s.honest old) → s.faults new ≡ s.faults old
       → (s.honest old → KeepsPages s.committed s.moment s.settled_since s.settles_to old new)
       → StagesOnly s old new
   after_stage old new bytes result counts ok err honesty faults kept = record {
-    state = elim result as (λ r. OnOk r (s.state new ≡ record (s.state old) { staged = put_page (s.state old).staged bytes }) → OnErr r (s.state new ≡ s.state old) → s.state new ≡ record (s.state old) { staged = (s.state new).staged }) [
-      | Ok x ↦ λ put same. put ∙ ap (λ (st : StoreState). record (s.state old) { staged = st.staged }) (sym put)
-      | Err e ↦ λ put same. same ∙ ap (λ (st : StoreState). record (s.state old) { staged = st.staged }) (sym same)
-    ] ok err;
+    state = elim result as (λ r. OnOk r
+        (s.state new ≡ record (s.state old) { staged = put_page (s.state old).staged bytes })
+        → OnErr r (s.state new ≡ s.state old)
+        → s.state new ≡ record (s.state old) { staged = (s.state new).staged }) [
+          | Ok x ↦ λ put same. put ∙ ap
+              (λ (st : StoreState). record (s.state old) { staged = st.staged }) (sym put)
+          | Err e ↦ λ put same. same ∙ ap
+              (λ (st : StoreState). record (s.state old) { staged = st.staged }) (sym same)
+        ] ok err;
     honesty = honesty;
     later = omega (arith, faults);
     kept = kept;
@@ -78,17 +99,22 @@ module _ {S : Type 0} (s : Ghosts S) where
   }
 
   -- what was read is what it was
-  pub same_shown : (old new : S) → ReadsOnly s old new → s.honest old → visible_page s new ≡ visible_page s old
+  pub same_shown : (old new : S) → ReadsOnly s old new → s.honest old
+      → visible_page s new ≡ visible_page s old
   same_shown old new reads honest =
       ap (λ (st : StoreState). overlaid st.staged (page_of (s.committed new))) reads.same
-      ∙ ap (λ (ps : Pages). overlaid (s.state old).staged (page_of ps)) (reads.stages_only.kept honest).committed
+      ∙ ap (λ (ps : Pages). overlaid (s.state old).staged (page_of ps))
+      (reads.stages_only.kept honest).committed
 
   pub same_said : (old new : S) → ReadsOnly s old new → s.honest old → body_at s new ≡ body_at s old
-  same_said old new reads honest = ap (λ (page : ℕ → List ℕ). λ (n : ℕ). body_of n (page n)) (same_shown old new reads honest)
+  same_said old new reads honest =
+      ap (λ (page : ℕ → List ℕ). λ (n : ℕ). body_of n (page n)) (same_shown old new reads honest)
 
   -- the staged page is shown in the place of its number
-  pub staged_shown : (old new : S) (n : ℕ) (bytes : List ℕ) → StagesOnly s old new → s.honest old → are_in_order 1 (2 ^ 32) (s.state old).staged ≡ true
-      → s.state new ≡ record (s.state old) { staged = put_page (s.state old).staged bytes } → own_number bytes ≡ n
+  pub staged_shown : (old new : S) (n : ℕ) (bytes : List ℕ) → StagesOnly s old new → s.honest old
+      → are_in_order 1 (2 ^ 32) (s.state old).staged ≡ true
+      → s.state new ≡ record (s.state old) { staged = put_page (s.state old).staged bytes }
+      → own_number bytes ≡ n
       → visible_page s new n ≡ bytes
   staged_shown old new n bytes only honest order put own =
       ap (λ (st : StoreState). overlaid st.staged (page_of (s.committed new)) n) put
@@ -96,31 +122,42 @@ module _ {S : Type 0} (s : Ghosts S) where
 
   -- and every other as before
   pub others_shown : (old new : S) (n m : ℕ) (bytes : List ℕ) → StagesOnly s old new → s.honest old
-      → s.state new ≡ record (s.state old) { staged = put_page (s.state old).staged bytes } → own_number bytes ≡ n → (m ≡ n → ⊥)
+      → s.state new ≡ record (s.state old) { staged = put_page (s.state old).staged bytes }
+      → own_number bytes ≡ n → (m ≡ n → ⊥)
       → visible_page s new m ≡ visible_page s old m
   others_shown old new n m bytes only honest put own other =
       ap (λ (st : StoreState). overlaid st.staged (page_of (s.committed new)) m) put
-      ∙ overlaid-put_other (s.state old).staged (page_of (s.committed new)) bytes m (λ same. other (sym same ∙ own))
-      ∙ ap (λ (ps : Pages). overlaid (s.state old).staged (page_of ps) m) (only.kept honest).committed
+      ∙ overlaid-put_other (s.state old).staged (page_of (s.committed new)) bytes m
+      (λ same. other (sym same ∙ own))
+      ∙ ap (λ (ps : Pages). overlaid (s.state old).staged (page_of ps) m)
+      (only.kept honest).committed
 
-  pub staged_said : (old new : S) (n : ℕ) (bytes : List ℕ) → StagesOnly s old new → s.honest old → are_in_order 1 (2 ^ 32) (s.state old).staged ≡ true
-      → s.state new ≡ record (s.state old) { staged = put_page (s.state old).staged bytes } → own_number bytes ≡ n
+  pub staged_said : (old new : S) (n : ℕ) (bytes : List ℕ) → StagesOnly s old new → s.honest old
+      → are_in_order 1 (2 ^ 32) (s.state old).staged ≡ true
+      → s.state new ≡ record (s.state old) { staged = put_page (s.state old).staged bytes }
+      → own_number bytes ≡ n
       → body_at s new n ≡ body_of n bytes
-  staged_said old new n bytes only honest order put own = ap (body_of n) (staged_shown old new n bytes only honest order put own)
+  staged_said old new n bytes only honest order put own =
+      ap (body_of n) (staged_shown old new n bytes only honest order put own)
 
   pub others_said : (old new : S) (n m : ℕ) (bytes : List ℕ) → StagesOnly s old new → s.honest old
-      → s.state new ≡ record (s.state old) { staged = put_page (s.state old).staged bytes } → own_number bytes ≡ n → (m ≡ n → ⊥)
+      → s.state new ≡ record (s.state old) { staged = put_page (s.state old).staged bytes }
+      → own_number bytes ≡ n → (m ≡ n → ⊥)
       → body_at s new m ≡ body_at s old m
-  others_said old new n m bytes only honest put own other = ap (body_of m) (others_shown old new n m bytes only honest put own other)
+  others_said old new n m bytes only honest put own other =
+      ap (body_of m) (others_shown old new n m bytes only honest put own other)
 
   -- A page that isn't known says nothing. `ends` is the store's law.
-  pub unknown_said : (store : S) (n : ℕ) → length (s.committed store) + 1 ≡ (s.state store).end → 1 ≤ n → (IsKnown (s.state store) n → ⊥) → body_at s store n ≡ Other
+  pub unknown_said : (store : S) (n : ℕ) → length (s.committed store) + 1 ≡ (s.state store).end
+      → 1 ≤ n → (IsKnown (s.state store) n → ⊥) → body_at s store n ≡ Other
   unfolding body_of
-  unknown_said store n ends some unknown = ap (body_of n) (staged_none ∙ nothing_behind (s.committed store) (n - 1) behind)
+  unknown_said store n ends some unknown =
+      ap (body_of n) (staged_none ∙ nothing_behind (s.committed store) (n - 1) behind)
     where
       staged_none : visible_page s store n ≡ page_of (s.committed store) n
       staged_none = overlaid-none (s.state store).staged (page_of (s.committed store)) n
-          (elim (has_page (s.state store).staged n) as (λ b. has_page (s.state store).staged n ≡ b → b ≡ false) [
+          (elim (has_page (s.state store).staged n) as
+          (λ b. has_page (s.state store).staged n ≡ b → b ≡ false) [
             | true ↦ λ has. absurd (unknown (inl has))
             | false ↦ λ has. refl
           ] refl)
@@ -137,7 +174,8 @@ module _ {S : Type 0} (s : Ghosts S) where
       nothing_behind (page ∷ pages) (suc i) le = nothing_behind pages i (omega (arith, le))
 
 -- a page that is known is below an end
-pub below_end : (end : ℕ) (pages : Pages) (n : ℕ) → AllBelow end pages → has_page pages n ≡ true → n < end
+pub below_end : (end : ℕ) (pages : Pages) (n : ℕ) → AllBelow end pages
+    → has_page pages n ≡ true → n < end
 below_end end [] n below has = absurd (false≢true has)
 below_end end (page ∷ pages) n below has = elim (cases_eq (own_number page) n) [
   | inl same ↦ omega (arith, same, below.0)
@@ -145,10 +183,13 @@ below_end end (page ∷ pages) n below has = elim (cases_eq (own_number page) n)
 ]
 
 pub known_below : (st : StoreState) (end n : ℕ) → MayEnd st end → IsKnown st n → n < end
-known_below st end n may known = ⊎_elim (λ has. below_end end st.staged n may.below has) (λ within. omega (arith, within.1, may.least)) known
+known_below st end n may known =
+    ⊎_elim (λ has. below_end end st.staged n may.below has)
+    (λ within. omega (arith, within.1, may.least)) known
 
 -- a page below the end is staged
-pub end_stays : (st : StoreState) (end : ℕ) (bytes : List ℕ) → MayEnd st end → own_number bytes < end → MayEnd (record st { staged = put_page st.staged bytes }) end
+pub end_stays : (st : StoreState) (end : ℕ) (bytes : List ℕ) → MayEnd st end
+    → own_number bytes < end → MayEnd (record st { staged = put_page st.staged bytes }) end
 end_stays st end bytes may lt = record {
   least = may.least;
   below = AllBelow-put end st.staged bytes may.below lt;
@@ -159,23 +200,29 @@ end_stays st end bytes may lt = record {
 }
 
 -- the page at the end is staged
-pub end_grows : (st : StoreState) (end : ℕ) (bytes : List ℕ) → MayEnd st end → own_number bytes ≡ end → MayEnd (record st { staged = put_page st.staged bytes }) (end + 1)
+pub end_grows : (st : StoreState) (end : ℕ) (bytes : List ℕ) → MayEnd st end
+    → own_number bytes ≡ end → MayEnd (record st { staged = put_page st.staged bytes }) (end + 1)
 end_grows st end bytes may is = record {
   least = omega (arith, may.least);
-  below = AllBelow-put (end + 1) st.staged bytes (AllBelow-more end st.staged may.below) (omega (arith, is));
+  below = AllBelow-put (end + 1) st.staged bytes (AllBelow-more end st.staged may.below)
+      (omega (arith, is));
   grown = λ n ge lt. elim (cases_eq (own_number bytes) n) [
     | inl same ↦ has_page-put st.staged bytes n same
-    | inr other ↦ has_page-put_other st.staged bytes n other ∙ may.grown n ge (omega (arith, lt, is, other))
+    | inr other ↦ has_page-put_other st.staged bytes n other
+        ∙ may.grown n ge (omega (arith, lt, is, other))
   ];
 }
   where
     AllBelow-more : (end : ℕ) (pages : Pages) → AllBelow end pages → AllBelow (end + 1) pages
     AllBelow-more end [] below = tt
-    AllBelow-more end (page ∷ pages) below = (omega (arith, below.0), AllBelow-more end pages below.1)
+    AllBelow-more end (page ∷ pages) below =
+        (omega (arith, below.0), AllBelow-more end pages below.1)
 
 -- at most one more page is staged
-pub length-put : (pages : Pages) (new : List ℕ) → are_in_order 1 (2 ^ 32) pages ≡ true → length (put_page pages new) ≤ length pages + 1
-length-put pages new order = elim (has_page pages (own_number new)) as (λ b. has_page pages (own_number new) ≡ b → length (put_page pages new) ≤ length pages + 1) [
-  | true ↦ λ has. omega (arith, length-put_again 1 (2 ^ 32) pages new order has)
-  | false ↦ λ none. omega (arith, length-put_new pages new none)
-] refl
+pub length-put : (pages : Pages) (new : List ℕ) → are_in_order 1 (2 ^ 32) pages ≡ true
+    → length (put_page pages new) ≤ length pages + 1
+length-put pages new order = elim (has_page pages (own_number new)) as
+    (λ b. has_page pages (own_number new) ≡ b → length (put_page pages new) ≤ length pages + 1) [
+      | true ↦ λ has. omega (arith, length-put_again 1 (2 ^ 32) pages new order has)
+      | false ↦ λ none. omega (arith, length-put_new pages new none)
+    ] refl

@@ -10,15 +10,18 @@ pub record HasDeviceCause {T : Type 0} (before now : ℕ) (result : Result T Pag
   pub later : before ≤ now
   pub fault : IsErrOf result Device → MoreFaults before now
 
-pub record IsReadAnswer {T : Type 0} (state : StoreState) (n : ℕ) (result : Result T PageFault) : Type 0 where
+pub record IsReadAnswer {T : Type 0} (state : StoreState) (n : ℕ)
+    (result : Result T PageFault) : Type 0 where
   pub broken : IsErrOf result Broken ↔ (state.usable ≡ false)
   pub damaged : IsErrOf result Damaged ↔ ((state.usable ≡ true) × (IsKnown state n → ⊥))
   pub only : IfErr result (λ e. (e ≡ Broken) ⊎ ((e ≡ Damaged) ⊎ (e ≡ Device)))
 
 -- `reserved` pages can be staged with no memory taken
-pub record IsStageAnswer {T : Type 0} (reserved : ℕ) (state : StoreState) (n : ℕ) (result : Result T PageFault) : Type 0 where
+pub record IsStageAnswer {T : Type 0} (reserved : ℕ) (state : StoreState) (n : ℕ)
+    (result : Result T PageFault) : Type 0 where
   pub broken : IsErrOf result Broken ↔ (state.usable ≡ false)
-  pub memory : IsErrOf result Memory → (has_page state.staged n ≡ false) × (reserved ≤ length state.staged)
+  pub memory : IsErrOf result Memory
+      → (has_page state.staged n ≡ false) × (reserved ≤ length state.staged)
   pub only : IfErr result (λ e. (e ≡ Broken) ⊎ (e ≡ Memory))
 
 -- the staged pages do not fit behind the old end and the new
@@ -30,8 +33,10 @@ abbrev pub IsRefusal : PageFault → Type 0
 IsRefusal e = (e ≡ Broken) ⊎ ((e ≡ ReadOnly) ⊎ (e ≡ NoRoom))
 
 -- Broken comes before ReadOnly, and that before NoRoom
-pub record IsCommitAnswer {T : Type 0} (state : StoreState) (new_end : ℕ) (result : Result T PageFault) : Type 0 where
+pub record IsCommitAnswer {T : Type 0} (state : StoreState) (new_end : ℕ)
+    (result : Result T PageFault) : Type 0 where
   pub broken : IsErrOf result Broken ↔ (state.usable ≡ false)
   pub read_only : IsErrOf result ReadOnly ↔ ((state.usable ≡ true) × (state.writable ≡ false))
-  pub no_room : IsErrOf result NoRoom ↔ ((state.usable ≡ true) × (state.writable ≡ true) × LacksPages state new_end)
+  pub no_room : IsErrOf result NoRoom
+      ↔ ((state.usable ≡ true) × (state.writable ≡ true) × LacksPages state new_end)
   pub only : IfErr result (λ e. IsRefusal e ⊎ (e ≡ Device))

@@ -8,10 +8,12 @@ use Rattle.page_io.specs.declared.store.PageFault.TheVariants.{Memory, Device, N
 
 -- the pages of a file with another byte at a place of page n
 abbrev pub with_byte : Pages → ℕ → ℕ → ℕ → Pages
-with_byte pages n at byte = committed_with pages (overwrite (page_of pages n) at (byte ∷ []) ∷ []) (length pages + 1)
+with_byte pages n at byte = committed_with pages (overwrite (page_of pages n) at (byte ∷ []) ∷ [])
+    (length pages + 1)
 
 -- why a byte was not replaced in a usable writable store with nothing staged
-pub record IsReplaceAnswer {T : Type 0} (reserved : ℕ) (state : StoreState) (before now : ℕ) (result : Result T PageFault) : Type 0 where
+pub record IsReplaceAnswer {T : Type 0} (reserved : ℕ) (state : StoreState) (before now : ℕ)
+    (result : Result T PageFault) : Type 0 where
   pub memory : IsErrOf result Memory → reserved ≡ 0
   pub no_room : IsErrOf result NoRoom → state.end ≡ state.capacity
   pub device : IsErrOf result Device → MoreFaults before now

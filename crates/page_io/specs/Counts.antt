@@ -3,7 +3,8 @@ use Rattle.std.specs.Prelude.{◌≡◌, ◌+◌, ◌-◌, ◌≤◌, ℕ, zero,
 use Rattle.std.proofs.Common.{refl, ap, arith}
 use Rattle.page_io.specs.Store.{pages_from, file_pages}
 
-pub length-pages_from : (page : ℕ → List ℕ) (at count : ℕ) → length (pages_from page at count) ≡ count
+pub length-pages_from : (page : ℕ → List ℕ) (at count : ℕ)
+    → length (pages_from page at count) ≡ count
 length-pages_from page at zero = refl
 length-pages_from page at (suc count) = ap suc (length-pages_from page (at + 1) count)
 

@@ -4,6 +4,8 @@ use Rattle.sect_dev.specs.Device.{LeavesOnly}
 use Rattle.page_io.specs.Store.{Pages, Settled}
 
 -- the committed pages stay, and at every moment a stop leaves what one could leave before
-pub record KeepsPages {S : Type 0} (pages : S → Pages) (moment : S → ℕ) (settled_since : S → ℕ → Settled → Type 0) (settles_to : S → Settled → Type 0) (old new : S) : Type 0 where
+pub record KeepsPages {S : Type 0} (pages : S → Pages) (moment : S → ℕ)
+    (settled_since : S → ℕ → Settled → Type 0) (settles_to : S → Settled → Type 0)
+    (old new : S) : Type 0 where
   pub committed : pages new ≡ pages old
   pub any_moment : LeavesOnly moment settled_since old new (settles_to old)

@@ -10,7 +10,8 @@ use Rattle.page_io.specs.Store.{Pages, Settled, blank, file_of, nothing, page_of
 abbrev pub FileStandsFor : Pages → Contents → ℕ → Type 0
 FileStandsFor pages map limit = PagesStandFor (page_of pages) (length pages + 1) map limit
 
--- An image stands for the map and the limit of the file that it settles to. A blank one stands for no database, others for nothing.
+-- An image stands for the map and the limit of the file that it settles to. A blank one stands for
+-- no database, others for nothing.
 abbrev pub ImageStandsFor : Settled → Contents → ℕ → Type 0
 ImageStandsFor blank map limit = ⊥
 ImageStandsFor (file_of pages) map limit = FileStandsFor pages map limit
@@ -22,8 +23,11 @@ Spell pages staged p = IsSpelled (said_by (overlaid staged (page_of pages))) p
 
 -- an image stands for one map and one limit at most
 abbrev pub ImagesHaveOneMeaning : Type 0
-ImagesHaveOneMeaning = (settled : Settled) (m n : Contents) (limit other : ℕ) → ImageStandsFor settled m limit → ImageStandsFor settled n other → (m ≡ n) × (limit ≡ other)
+ImagesHaveOneMeaning = (settled : Settled) (m n : Contents) (limit other : ℕ)
+    → ImageStandsFor settled m limit → ImageStandsFor settled n other → (m ≡ n) × (limit ≡ other)
 
--- where a store's pages spell a good placement, the pages that a commit at its end leaves stand for its map and limit
+-- where a store's pages spell a good placement, the pages that a commit at its end leaves stand for
+-- its map and limit
 abbrev pub CommitsStand : Type 0
-CommitsStand = (pages staged : Pages) (p : Placement) → IsGood p → Spell pages staged p → FileStandsFor (committed_with pages staged p.space.end) (contents p) p.limit
+CommitsStand = (pages staged : Pages) (p : Placement) → IsGood p → Spell pages staged p
+    → FileStandsFor (committed_with pages staged p.space.end) (contents p) p.limit

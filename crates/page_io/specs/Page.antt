@@ -29,4 +29,6 @@ KeepsWhere candidate Kept image = (m : ℕ) → Kept m → candidate m (image m)
 
 -- each sector of page n has a content that it could have, or its part of the new page
 abbrev pub IsPartlyWritten : Candidates → ℕ → List ℕ → Image → Type 0
-IsPartlyWritten candidate n page image = (k : ℕ) → k < 4 → candidate (4 * n + k) (image (4 * n + k)) ⊎ (image (4 * n + k) ≡ part 512 page k)
+IsPartlyWritten candidate n page image =
+    (k : ℕ) → k < 4 → candidate (4 * n + k) (image (4 * n + k))
+    ⊎ (image (4 * n + k) ≡ part 512 page k)

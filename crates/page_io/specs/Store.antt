@@ -36,13 +36,16 @@ overlaid (page ∷ pages) home = overlaid pages (with_page home page)
 -- their own numbers rise from `least` on, and are below `end`
 abbrev pub are_in_order : ℕ → ℕ → Pages → Bool
 are_in_order least end [] = true
-are_in_order least end (page ∷ pages) = nat_le least (own_number page) && nat_lt (own_number page) end && are_in_order (own_number page + 1) end pages
+are_in_order least end (page ∷ pages) =
+    nat_le least (own_number page) && nat_lt (own_number page) end && are_in_order
+    (own_number page + 1) end pages
 
 -- the page among those that are in order, in the place of one of its number
 abbrev pub put_page : Pages → List ℕ → Pages
 put_page [] new = new ∷ []
 put_page (page ∷ pages) new =
-    if nat_lt (own_number new) (own_number page) then new ∷ page ∷ pages else (if own_number new == own_number page then new ∷ pages else page ∷ put_page pages new)
+    if nat_lt (own_number new) (own_number page) then new ∷ page ∷ pages
+    else (if own_number new == own_number page then new ∷ pages else page ∷ put_page pages new)
 
 -- is a page of that number among them
 abbrev pub has_page : Pages → ℕ → Bool

@@ -15,7 +15,8 @@ visible_page s store = overlaid (s.state store).staged (page_of (s.committed sto
 abbrev pub body_at : {S : Type 0} → Ghosts S → S → ℕ → Body
 body_at s store n = body_of n (visible_page s store n)
 
--- Pages may have been staged; nothing else has changed, neither the committed pages nor what a stop may leave.
+-- Pages may have been staged; nothing else has changed, neither the committed pages nor what a stop
+-- may leave.
 pub record StagesOnly {S : Type 0} (s : Ghosts S) (old new : S) : Type 0 where
   pub state : s.state new ≡ record (s.state old) { staged = (s.state new).staged }
   pub honesty : s.honest new ↔ s.honest old
@@ -28,7 +29,8 @@ pub record ReadsOnly {S : Type 0} (s : Ghosts S) (old new : S) : Type 0 where
   pub same : s.state new ≡ s.state old
   pub stages_only : StagesOnly s old new
 
--- A commit may end the file before page `end`: all staged pages are below it, and those behind the old end are staged.
+-- A commit may end the file before page `end`: all staged pages are below it, and those behind the
+-- old end are staged.
 pub record MayEnd (state : StoreState) (end : ℕ) : Type 0 where
   pub least : state.end ≤ end
   pub below : AllBelow end state.staged
@@ -36,4 +38,5 @@ pub record MayEnd (state : StoreState) (end : ℕ) : Type 0 where
 
 -- it may end there once page n is staged too
 abbrev pub MayEndWith : StoreState → ℕ → ℕ → Type 0
-MayEndWith state n end = (bytes : List ℕ) → own_number bytes ≡ n → MayEnd (record state { staged = put_page state.staged bytes }) end
+MayEndWith state n end = (bytes : List ℕ) → own_number bytes ≡ n
+    → MayEnd (record state { staged = put_page state.staged bytes }) end

@@ -9,8 +9,8 @@ ghost use Rattle.page_io.specs.declared.store.PageFault.TheVariants.{Device, Dam
 use crate::{Page, PageFault, PageStore};
 
 /// Replaces a byte behind the header of a committed page, in a commit of its own. A page with
-/// another number than its place is Damaged. At an `Err` other than Device nothing is committed, and
-/// the page may be staged.
+/// another number than its place is Damaged. At an `Err` other than Device nothing is committed,
+/// and the page may be staged.
 pub fn replace_byte<S: PageStore>(
     store: &mut S,
     page: &mut Page,
@@ -25,15 +25,22 @@ pub fn replace_byte<S: PageStore>(
     requires place { (16 ≤ at) × (at < 2048) }
 
     // Every image of every moment settles to the pages without the change or with it.
-    ensures any_moment { S.honest store.old → LeavesOnly S.moment S.settled_since store.old store.new
+    ensures any_moment { S.honest store.old
+        → LeavesOnly S.moment S.settled_since store.old store.new
         (IsEither (S.committed store.old) (with_byte (S.committed store.old) n at byte)) }
-    ensures committed { S.honest store.old → OnOk result (S.committed store.new ≡ with_byte (S.committed store.old) n at byte) }
+    ensures committed { S.honest store.old
+        → OnOk result (S.committed store.new ≡ with_byte (S.committed store.old) n at byte) }
 
     // After `Ok` a stop leaves the pages with the change alone.
-    ensures settled { S.honest store.old → OnOk result ((y : Settled) → S.settles_to store.new y → y ≡ file_of (with_byte (S.committed store.old) n at byte)) }
-    ensures unchanged { S.honest store.old → IfErr result (λ e. e ≢ Device → S.committed store.new ≡ S.committed store.old) }
-    ensures damaged { S.honest store.old → IsErrOf result Damaged → own_number (page_of (S.committed store.old) n) ≢ n }
-    ensures answer { IsReplaceAnswer S.reserved (S.state store.old) (S.faults store.old) (S.faults store.new) result }
+    ensures settled { S.honest store.old
+        → OnOk result ((y : Settled) → S.settles_to store.new y
+        → y ≡ file_of (with_byte (S.committed store.old) n at byte)) }
+    ensures unchanged { S.honest store.old
+        → IfErr result (λ e. e ≢ Device → S.committed store.new ≡ S.committed store.old) }
+    ensures damaged { S.honest store.old → IsErrOf result Damaged
+        → own_number (page_of (S.committed store.old) n) ≢ n }
+    ensures answer { IsReplaceAnswer S.reserved (S.state store.old) (S.faults store.old)
+        (S.faults store.new) result }
 {
     let end = store.end();
     store.read(n, page)?;

@@ -8,8 +8,12 @@ use std::alloc::{AllocError, Global};
 
 // Puts each page at its own number.
 fn lay(pages: &mut Vec<Page>, staged: &[Page])
-    requires { (k : ℕ) → k < length staged.now → (1 ≤ own_number (slice_index_or (bytes_of staged.now) k [])) × (own_number (slice_index_or (bytes_of staged.now) k []) ≤ length pages.old.items) }
-    ensures laid { (n : ℕ) → 1 ≤ n → n ≤ length pages.old.items → page_of (bytes_of pages.new.items) n ≡ overlaid (bytes_of staged.now) (page_of (bytes_of pages.old.items)) n }
+    requires { (k : ℕ) → k < length staged.now
+        → (1 ≤ own_number (slice_index_or (bytes_of staged.now) k []))
+        × (own_number (slice_index_or (bytes_of staged.now) k []) ≤ length pages.old.items) }
+    ensures laid { (n : ℕ) → 1 ≤ n → n ≤ length pages.old.items
+        → page_of (bytes_of pages.new.items) n
+        ≡ overlaid (bytes_of staged.now) (page_of (bytes_of pages.old.items)) n }
     ensures size { length pages.new.items ≡ length pages.old.items }
 {
     for one in staged {
@@ -32,13 +36,21 @@ pub struct MemPages {
 }
 
 impl MemPages {
-    /// A store of these pages with nothing staged, with room for `capacity` pages, page 0 among them.
+    /// A store of these pages with nothing staged, with room for `capacity` pages, page 0 among
+    /// them.
     pub fn new(alloc: Global, pages: &[Page], capacity: u32) -> Result<MemPages, AllocError>
         requires least { 3 ≤ length pages.now }
         requires fits { length pages.now < capacity }
         ensures state { IfOk result (λ store. ⟦<MemPages as PageStore>⟧.state store
-            ≡ record { staged = []; end = length pages.now + 1; capacity = capacity; usable = true; writable = true }) }
-        ensures committed { IfOk result (λ store. ⟦<MemPages as PageStore>⟧.committed store ≡ bytes_of pages.now) }
+            ≡ record {
+              staged = [];
+              end = length pages.now + 1;
+              capacity = capacity;
+              usable = true;
+              writable = true;
+            }) }
+        ensures committed { IfOk result
+            (λ store. ⟦<MemPages as PageStore>⟧.committed store ≡ bytes_of pages.now) }
         ensures honest { IfOk result (λ store. ⟦<MemPages as PageStore>⟧.honest store) }
     {
         let mut all = Vec::from_slice(alloc, pages)?;
@@ -57,7 +69,14 @@ impl PageStore for MemPages {
     ghost use Rattle.page_io.specs.Counts.{counts_end};
     ghost use Rattle.page_io.specs.MemPages.{OnlySettled};
 
-    ghost state = { λ p. record { staged = bytes_of p.staged.items; end = p.end; capacity = length p.pages.items + 1; usable = true; writable = true } };
+    ghost state = { λ p. record {
+      staged = bytes_of p.staged.items;
+      end = p.end;
+      capacity =
+          length p.pages.items + 1;
+      usable = true;
+      writable = true;
+    } };
 
     ghost committed = { λ p. file_pages (page_of (bytes_of p.pages.items)) p.end };
 
@@ -69,7 +88,8 @@ impl PageStore for MemPages {
 
     ghost moment = { λ _. 0 };
 
-    ghost settled_since = { λ p _. OnlySettled (file_pages (page_of (bytes_of p.pages.items)) p.end) };
+    ghost settled_since = { λ p _.
+        OnlySettled (file_pages (page_of (bytes_of p.pages.items)) p.end) };
 
     ghost reserved = { 0 };
 

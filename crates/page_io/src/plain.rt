@@ -27,7 +27,8 @@ impl Page {
         page
     }
 
-    /// Whether the header is one of a page without slots, with this own number and kind, and any next page.
+    /// Whether the header is one of a page without slots, with this own number and kind, and any
+    /// next page.
     pub fn is_plain(&self, own: u32, kind: u8) -> bool
         ensures plain { IsTrue result ↔ HasPlainHeader self.now.bytes own kind }
         ensures bytes { (k : ℕ) → slice_index self.now.bytes k < 256 }

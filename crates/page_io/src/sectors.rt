@@ -6,19 +6,26 @@ ghost use Rattle.page_io.specs.Page.{page_at, IsOutsidePage, IsPartlyWritten, Ke
 use crate::{Page, SECTORS_PER_PAGE};
 use sect_dev::{DevFault, SectorDev};
 
-/// Writes page n: its four sectors, in order. The first failed write ends it, and the page's sectors
-/// may then have their old content or the new.
+/// Writes page n: its four sectors, in order. The first failed write ends it, and the page's
+/// sectors may then have their old content or the new.
 pub fn write_page<D: SectorDev>(dev: &mut D, n: u32, page: &Page) -> Result<(), DevFault>
     requires { 4 * n + 4 ≤ D.sectors dev.old }
     ensures written { D.honest dev.old → OnOk result (page_at (D.seen dev.new) n ≡ page.now.bytes) }
-    ensures others { D.honest dev.old → (m : ℕ) → IsOutsidePage n m → D.seen dev.new m ≡ D.seen dev.old m }
+    ensures others { D.honest dev.old → (m : ℕ) → IsOutsidePage n m
+        → D.seen dev.new m ≡ D.seen dev.old m }
 
-    // Whenever a stop falls, it leaves each sector outside the page a content that it could have before.
-    ensures any_moment { D.honest dev.old → LeavesOnly D.moment D.left_since dev.old dev.new (KeepsWhere (D.candidate dev.old) (IsOutsidePage n)) }
+    // Whenever a stop falls, it leaves each sector outside the page a content that it could have
+    // before.
+    ensures any_moment { D.honest dev.old
+        → LeavesOnly D.moment D.left_since dev.old dev.new
+        (KeepsWhere (D.candidate dev.old) (IsOutsidePage n)) }
 
     // And each of the page's own a content that it could have before, or its part of the new page.
-    ensures mid_write { D.honest dev.old → LeavesOnly D.moment D.left_since dev.old dev.new (IsPartlyWritten (D.candidate dev.old) n page.now.bytes) }
-    ensures candidates { D.honest dev.old → (m : ℕ) (c : List ℕ) → IsOutsidePage n m → D.candidate dev.new m c → D.candidate dev.old m c }
+    ensures mid_write { D.honest dev.old
+        → LeavesOnly D.moment D.left_since dev.old dev.new
+        (IsPartlyWritten (D.candidate dev.old) n page.now.bytes) }
+    ensures candidates { D.honest dev.old → (m : ℕ) (c : List ℕ) → IsOutsidePage n m
+        → D.candidate dev.new m c → D.candidate dev.old m c }
     ensures honesty { D.honest dev.new ↔ D.honest dev.old }
     ensures cause { HasCause (D.faults dev.old) (D.faults dev.new) result }
     ensures size { D.sectors dev.new ≡ D.sectors dev.old }
@@ -29,15 +36,17 @@ pub fn write_page<D: SectorDev>(dev: &mut D, n: u32, page: &Page) -> Result<(), 
     Ok(())
 }
 
-/// Reads page n: its four sectors, in order. It changes nothing on the device. At `Err` the bytes of
-/// `page` are unspecified.
+/// Reads page n: its four sectors, in order. It changes nothing on the device. At `Err` the bytes
+/// of `page` are unspecified.
 pub fn read_page<D: SectorDev>(dev: &mut D, n: u32, page: &mut Page) -> Result<(), DevFault>
     requires { 4 * n + 4 ≤ D.sectors dev.old }
     ensures read { D.honest dev.old → OnOk result (page.new.bytes ≡ page_at (D.seen dev.old) n) }
     ensures seen { D.honest dev.old → D.seen dev.new ≡ D.seen dev.old }
-    ensures candidates { D.honest dev.old → NoNewCandidate (D.candidate dev.old) (D.candidate dev.new) }
+    ensures candidates { D.honest dev.old
+        → NoNewCandidate (D.candidate dev.old) (D.candidate dev.new) }
     ensures keeps { D.honest dev.old → NoNewCandidate (D.candidate dev.new) (D.candidate dev.old) }
-    ensures any_moment { D.honest dev.old → LeavesOnly D.moment D.left_since dev.old dev.new (IsImageOf (D.candidate dev.old)) }
+    ensures any_moment { D.honest dev.old
+        → LeavesOnly D.moment D.left_since dev.old dev.new (IsImageOf (D.candidate dev.old)) }
     ensures honesty { D.honest dev.new ↔ D.honest dev.old }
     ensures cause { HasCause (D.faults dev.old) (D.faults dev.new) result }
     ensures size { D.sectors dev.new ≡ D.sectors dev.old }

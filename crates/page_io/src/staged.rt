@@ -36,8 +36,10 @@ pub fn find_staged(staged: &[Page], n: u32, page: &mut Page) -> bool
 // The place of the first page whose number isn't below this page's.
 fn place_of(staged: &[Page], page: &Page) -> usize
     ensures within { result ≤ length staged.now }
-    ensures before { (k : ℕ) → k < result → own_number (slice_index_or (bytes_of staged.now) k []) < own_number page.now.bytes }
-    ensures after { result < length staged.now → own_number page.now.bytes ≤ own_number (slice_index_or (bytes_of staged.now) result []) }
+    ensures before { (k : ℕ) → k < result
+        → own_number (slice_index_or (bytes_of staged.now) k []) < own_number page.now.bytes }
+    ensures after { result < length staged.now
+        → own_number page.now.bytes ≤ own_number (slice_index_or (bytes_of staged.now) result []) }
 {
     let own = page.own();
     for (i, one) in staged.iter().enumerate() {
@@ -50,8 +52,10 @@ fn place_of(staged: &[Page], page: &Page) -> usize
 
 // Whether the page at this place has this page's number.
 fn is_at(staged: &[Page], at: usize, page: &Page) -> bool
-    ensures yes { IsTrue result → (at < length staged.now) × (own_number (slice_index_or (bytes_of staged.now) at []) ≡ own_number page.now.bytes) }
-    ensures no { IsFalse result → at < length staged.now → own_number (slice_index_or (bytes_of staged.now) at []) ≢ own_number page.now.bytes }
+    ensures yes { IsTrue result → (at < length staged.now)
+        × (own_number (slice_index_or (bytes_of staged.now) at []) ≡ own_number page.now.bytes) }
+    ensures no { IsFalse result → at < length staged.now
+        → own_number (slice_index_or (bytes_of staged.now) at []) ≢ own_number page.now.bytes }
 {
     at < staged.len() && staged[at].own() == page.own()
 }
@@ -60,12 +64,14 @@ fn is_at(staged: &[Page], at: usize, page: &Page) -> bool
 pub fn put_staged(staged: &mut Vec<Page>, page: &Page) -> Result<(), AllocError>
     requires order { are_in_order 1 (2 ^ 32) (bytes_of staged.old.items) ≡ true }
     requires number { (1 ≤ own_number page.now.bytes) × (own_number page.now.bytes < 2 ^ 32) }
-    ensures ok { OnOk result (bytes_of staged.new.items ≡ put_page (bytes_of staged.old.items) page.now.bytes) }
+    ensures ok { OnOk result (bytes_of staged.new.items
+        ≡ put_page (bytes_of staged.old.items) page.now.bytes) }
     ensures err { OnErr result (staged.new.items ≡ staged.old.items) }
     ensures order { are_in_order 1 (2 ^ 32) (bytes_of staged.new.items) ≡ true }
 
     // A page in the place of another takes no memory.
-    ensures grown { OnErr result (has_page (bytes_of staged.old.items) (own_number page.now.bytes) ≡ false) }
+    ensures grown { OnErr result (has_page (bytes_of staged.old.items)
+        (own_number page.now.bytes) ≡ false) }
 {
     let pages = staged.as_slice();
     let at = place_of(pages, page);

@@ -58,10 +58,13 @@ pub trait PageStore {
     /// Gives the staged page n, else the committed one. It takes no memory. At `Err` the bytes of
     /// `page` are unspecified.
     fn read(&mut self, n: u32, page: &mut Page) -> Result<(), PageFault>
-        ensures found { honest self.old → OnOk result (page.new.bytes ≡ overlaid (state self.old).staged (page_of (committed self.old)) n) }
+        ensures found { honest self.old
+            → OnOk result (page.new.bytes
+            ≡ overlaid (state self.old).staged (page_of (committed self.old)) n) }
         ensures answer { IsReadAnswer (state self.old) n result }
         ensures state { state self.new ≡ state self.old }
-        ensures kept { honest self.old → KeepsPages committed moment settled_since settles_to self.old self.new }
+        ensures kept { honest self.old
+            → KeepsPages committed moment settled_since settles_to self.old self.new }
         ensures honesty { honest self.new ↔ honest self.old }
         ensures cause { HasDeviceCause (faults self.old) (faults self.new) result };
 
@@ -69,17 +72,23 @@ pub trait PageStore {
     fn stage(&mut self, n: u32, page: &Page) -> Result<(), PageFault>
         requires number { own_number page.now.bytes ≡ n }
         requires some { 1 ≤ n }
-        ensures ok { OnOk result (state self.new ≡ record (state self.old) { staged = put_page (state self.old).staged page.now.bytes }) }
+        ensures ok { OnOk result (state self.new
+            ≡ record (state self.old) {
+              staged =
+                  put_page (state self.old).staged page.now.bytes;
+            }) }
         ensures err { OnErr result (state self.new ≡ state self.old) }
         ensures answer { IsStageAnswer reserved (state self.old) n result }
-        ensures kept { honest self.old → KeepsPages committed moment settled_since settles_to self.old self.new }
+        ensures kept { honest self.old
+            → KeepsPages committed moment settled_since settles_to self.old self.new }
         ensures honesty { honest self.new ↔ honest self.old }
         ensures faults { faults self.new ≡ faults self.old };
 
     /// Forgets all staged pages.
     fn unstage(&mut self)
         ensures state { state self.new ≡ record (state self.old) { staged = [] } }
-        ensures kept { honest self.old → KeepsPages committed moment settled_since settles_to self.old self.new }
+        ensures kept { honest self.old
+            → KeepsPages committed moment settled_since settles_to self.old self.new }
         ensures honesty { honest self.new ↔ honest self.old }
         ensures faults { faults self.new ≡ faults self.old };
 
@@ -89,16 +98,24 @@ pub trait PageStore {
         requires some { 0 < length (state self.old).staged }
         requires least { 4 ≤ new_end }
         requires below { AllBelow new_end (state self.old).staged }
-        requires grown { (n : ℕ) → (state self.old).end ≤ n → n < new_end → has_page (state self.old).staged n ≡ true }
+        requires grown { (n : ℕ) → (state self.old).end ≤ n → n < new_end
+            → has_page (state self.old).staged n ≡ true }
 
-        // Every image of every moment since the call's start settles to the old pages or to the new.
-        ensures any_moment { honest self.old → (state self.old).usable ≡ true → (state self.old).writable ≡ true → LeavesOnly moment settled_since self.old self.new
+        // Every image of every moment since the call's start settles to the old pages or to the
+        // new.
+        ensures any_moment { honest self.old → (state self.old).usable ≡ true
+            → (state self.old).writable ≡ true → LeavesOnly moment settled_since self.old self.new
             (IsEither (committed self.old) (committed_with (committed self.old) (state self.old).staged new_end)) }
-        ensures committed { honest self.old → OnOk result (committed self.new ≡ committed_with (committed self.old) (state self.old).staged new_end) }
-        ensures ok { OnOk result (state self.new ≡ record (state self.old) { staged = []; end = new_end }) }
+        ensures committed { honest self.old
+            → OnOk result (committed self.new
+            ≡ committed_with (committed self.old) (state self.old).staged new_end) }
+        ensures ok { OnOk result (state self.new
+            ≡ record (state self.old) { staged = []; end = new_end }) }
         ensures refused { IfErr result (λ e. IsRefusal e → (state self.new ≡ state self.old)
-            × (honest self.old → KeepsPages committed moment settled_since settles_to self.old self.new)) }
-        ensures breaks { IsErrOf result Device → state self.new ≡ record (state self.old) { usable = false } }
+            × (honest self.old → KeepsPages committed moment settled_since settles_to
+            self.old self.new)) }
+        ensures breaks { IsErrOf result Device
+            → state self.new ≡ record (state self.old) { usable = false } }
         ensures answer { IsCommitAnswer (state self.old) new_end result }
         ensures honesty { honest self.new ↔ honest self.old }
         ensures cause { HasDeviceCause (faults self.old) (faults self.new) result };
@@ -120,22 +137,29 @@ pub trait PageStore {
         ensures { IsTrue result ↔ ((state self.now).usable ≡ false) };
 
     /// The committed pages are what a stop may leave.
-    ghost committed_may_stay: { (store : Self) → honest store → (state store).usable ≡ true → settles_to store (file_of (committed store)) };
+    ghost committed_may_stay: { (store : Self) → honest store → (state store).usable ≡ true
+        → settles_to store (file_of (committed store)) };
 
     /// In a usable store that was opened for writing a stop leaves them and nothing else.
-    ghost only_committed: { (store : Self) (settled : Settled) → honest store → (state store).usable ≡ true → (state store).writable ≡ true → settles_to store settled → settled ≡ file_of (committed store) };
+    ghost only_committed: { (store : Self) (settled : Settled) → honest store
+        → (state store).usable ≡ true → (state store).writable ≡ true → settles_to store settled
+        → settled ≡ file_of (committed store) };
 
     /// Since this moment there is no other.
-    ghost only_now: { (store : Self) (settled : Settled) → honest store → settled_since store (moment store) settled → settles_to store settled };
+    ghost only_now: { (store : Self) (settled : Settled) → honest store
+        → settled_since store (moment store) settled → settles_to store settled };
 
     /// This moment is one of those since an earlier one.
-    ghost counts_now: { (store : Self) (t : ℕ) (settled : Settled) → honest store → t ≤ moment store → settles_to store settled → settled_since store t settled };
+    ghost counts_now: { (store : Self) (t : ℕ) (settled : Settled) → honest store → t ≤ moment store
+        → settles_to store settled → settled_since store t settled };
 
     /// The committed pages are those before the end.
     ghost ends: { (store : Self) → length (committed store) + 1 ≡ (state store).end };
 
     /// A file has three pages at least, and fits its device.
-    ghost in_range: { (store : Self) → (4 ≤ (state store).end) × ((state store).end ≤ (state store).capacity) × ((state store).capacity < 2 ^ 32) };
+    ghost in_range: { (store : Self)
+        → (4 ≤ (state store).end) × ((state store).end ≤ (state store).capacity)
+        × ((state store).capacity < 2 ^ 32) };
 
     /// The staged pages stand in rising order of their own numbers.
     ghost in_order: { (store : Self) → are_in_order 1 (2 ^ 32) (state store).staged ≡ true };

@@ -39,17 +39,24 @@ next_again n next lt = four_is next lt
 said_again : (n : ℕ) (b : Body) → MaySay n b → body_by_kind (spelling_of n b) ≡ b
 said_again n (MetaPage m) h =
     let bytes = meta_spelling n m in
-    ap (λ (k : ℕ). read_as k bytes) (kind_of_meta n m) ∙ ap MetaPage (fields_again bytes m h.1 (ap (λ (k : ℕ). meta_spelling k m) h.0))
+    ap (λ (k : ℕ). read_as k bytes) (kind_of_meta n m)
+    ∙ ap MetaPage (fields_again bytes m h.1 (ap (λ (k : ℕ). meta_spelling k m) h.0))
 said_again n (SegmentPage heads) h =
     let bytes = segment_spelling n heads in
-    ap (λ (k : ℕ). read_as k bytes) (kind_of_segment n heads) ∙ ap SegmentPage (heads_again bytes heads n h.1 h.2 h.3 refl)
+    ap (λ (k : ℕ). read_as k bytes) (kind_of_segment n heads)
+    ∙ ap SegmentPage (heads_again bytes heads n h.1 h.2 h.3 refl)
 said_again n (HeadPage next pairs) h =
     let b = bucket n 3 next pairs in
-    ap (λ (k : ℕ). read_as k (bucket_spelling b)) (kind_of_bucket b) ∙ ap (λ (x : Bucket). HeadPage x.next x.pairs) (bucket_again (bucket_spelling b) b h refl)
+    ap (λ (k : ℕ). read_as k (bucket_spelling b)) (kind_of_bucket b)
+    ∙ ap (λ (x : Bucket). HeadPage x.next x.pairs) (bucket_again (bucket_spelling b) b h refl)
 said_again n (OverflowPage next pairs) h =
     let b = bucket n 4 next pairs in
-    ap (λ (k : ℕ). read_as k (bucket_spelling b)) (kind_of_bucket b) ∙ ap (λ (x : Bucket). OverflowPage x.next x.pairs) (bucket_again (bucket_spelling b) b h refl)
-said_again n (FreePage next) h = ap (λ (k : ℕ). read_as k (free_spelling n next)) (kind_of_free n next) ∙ ap FreePage (next_again n next h.1)
+    ap (λ (k : ℕ). read_as k (bucket_spelling b)) (kind_of_bucket b)
+    ∙ ap (λ (x : Bucket). OverflowPage x.next x.pairs)
+    (bucket_again (bucket_spelling b) b h refl)
+said_again n (FreePage next) h =
+    ap (λ (k : ℕ). read_as k (free_spelling n next)) (kind_of_free n next)
+    ∙ ap FreePage (next_again n next h.1)
 said_again n Other h = absurd h
 
 -- reading a spelling gives what was spelled
@@ -58,18 +65,23 @@ unfolding body_of
 body_again n b h =
     let bytes = spelling_of n b in
     let same = said_again n b h in
-    let test : bytes_eq bytes (spelling_of n (body_by_kind bytes)) ≡ true = (bytes_eq-Decides bytes (spelling_of n (body_by_kind bytes))).1 (ap (spelling_of n) (sym same)) in
+    let test : bytes_eq bytes (spelling_of n (body_by_kind bytes)) ≡ true =
+    (bytes_eq-Decides bytes (spelling_of n (body_by_kind bytes))).1
+    (ap (spelling_of n) (sym same)) in
     ap (λ (t : Bool). cond t (body_by_kind bytes) Other) test ∙ same
 
 -- the test of a body, both ways
-chosen : (n : ℕ) (bytes : List ℕ) (t : Bool) (b : Body) → Decides t (bytes ≡ spelling_of n b) → cond t b Other ≢ Other → bytes ≡ spelling_of n (cond t b Other)
+chosen : (n : ℕ) (bytes : List ℕ) (t : Bool) (b : Body) → Decides t (bytes ≡ spelling_of n b)
+    → cond t b Other ≢ Other → bytes ≡ spelling_of n (cond t b Other)
 chosen n bytes true b h ne = h.0 refl
 chosen n bytes false b h ne = absurd (ne refl)
 
 -- what isn't `Other` is spelled so
-pub body_spelled : (n : ℕ) (bytes : List ℕ) → body_of n bytes ≢ Other → bytes ≡ spelling_of n (body_of n bytes)
+pub body_spelled : (n : ℕ) (bytes : List ℕ) → body_of n bytes ≢ Other
+    → bytes ≡ spelling_of n (body_of n bytes)
 unfolding body_of
-body_spelled n bytes ne = chosen n bytes (bytes_eq bytes (spelling_of n (body_by_kind bytes))) (body_by_kind bytes) (bytes_eq-Decides bytes (spelling_of n (body_by_kind bytes))) ne
+body_spelled n bytes ne = chosen n bytes (bytes_eq bytes (spelling_of n (body_by_kind bytes)))
+    (body_by_kind bytes) (bytes_eq-Decides bytes (spelling_of n (body_by_kind bytes))) ne
 
 -- `Other` may not be said
 may_say : (n : ℕ) (b : Body) → MaySay n b → b ≢ Other
@@ -81,7 +93,8 @@ may_say n (FreePage next) h e = absurd cc
 may_say n Other h e = h
 
 -- what may be said is read exactly where it is spelled
-pub body_is : (n : ℕ) (bytes : List ℕ) (b : Body) → MaySay n b → (bytes ≡ spelling_of n b) ↔ (body_of n bytes ≡ b)
+pub body_is : (n : ℕ) (bytes : List ℕ) (b : Body) → MaySay n b
+    → (bytes ≡ spelling_of n b) ↔ (body_of n bytes ≡ b)
 body_is n bytes b h = (
   λ e. ap (body_of n) e ∙ body_again n b h,
   λ e. body_spelled n bytes (λ other. may_say n b h (sym e ∙ other)) ∙ ap (spelling_of n) e,
@@ -92,13 +105,25 @@ length-meta : (n : ℕ) (m : Meta) → IsMeta m → length (meta_spelling n m) �
 unfolding meta_spelling
 length-meta n m h =
     let zeros : List ℕ = replicate (1984 - 4 * length m.segments) 0 in
-    omega (arith, few_segments m h, length-append (numbers_bytes m.segments) zeros, length-numbers_bytes m.segments, length-replicate {A = ℕ} (1984 - 4 * length m.segments) 0)
+    omega (
+      arith,
+      few_segments m h,
+      length-append (numbers_bytes m.segments) zeros,
+      length-numbers_bytes m.segments,
+      length-replicate {A = ℕ} (1984 - 4 * length m.segments) 0,
+    )
 
-length-segment : (n : ℕ) (heads : List ℕ) → length heads ≤ 508 → length (segment_spelling n heads) ≡ 2048
+length-segment : (n : ℕ) (heads : List ℕ) → length heads ≤ 508
+    → length (segment_spelling n heads) ≡ 2048
 unfolding segment_spelling
 length-segment n heads le =
     let zeros : List ℕ = replicate (2032 - 4 * length heads) 0 in
-    omega (arith, length-append (numbers_bytes heads) zeros, length-numbers_bytes heads, length-replicate {A = ℕ} (2032 - 4 * length heads) 0)
+    omega (
+      arith,
+      length-append (numbers_bytes heads) zeros,
+      length-numbers_bytes heads,
+      length-replicate {A = ℕ} (2032 - 4 * length heads) 0,
+    )
 
 length-free : (n next : ℕ) → length (free_spelling n next) ≡ 2048
 unfolding free_spelling

@@ -11,7 +11,8 @@ use Rattle.page_model.specs.Valid.{IsBucket}
 use Rattle.page_model.proofs.Texts.{at_front, skip, clear_again}
 
 -- two bytes that stand at place k of a text
-two_again : (bytes t : List ℕ) (a k at x : ℕ) → drop a bytes ≡ t → a + k ≡ at → x < 2 ^ 16 → get_or t k 0 ≡ x / 256 % 256 → get_or t (k + 1) 0 ≡ x % 256 → u16_at bytes at ≡ x
+two_again : (bytes t : List ℕ) (a k at x : ℕ) → drop a bytes ≡ t → a + k ≡ at → x < 2 ^ 16
+    → get_or t k 0 ≡ x / 256 % 256 → get_or t (k + 1) 0 ≡ x % 256 → u16_at bytes at ≡ x
 two_again bytes t a k at x h e lt high lower =
     let first = at_front bytes t a k at h e in
     let second = at_front bytes t a (k + 1) (at + 1) h (omega arith) in
@@ -30,40 +31,60 @@ length-slots_bytes (s ∷ ss) = omega (arith, length-slots_bytes ss)
 -- the bytes of the records
 pub length-records : (ps : List Pair) → length (records ps) ≡ total_size ps
 length-records [] = refl
-length-records (p ∷ ps) = omega (arith, length-append (records ps) (p.0 ++ p.1), length-append p.0 p.1, length-records ps)
+length-records (p ∷ ps) = omega
+    (arith, length-append (records ps) (p.0 ++ p.1), length-append p.0 p.1, length-records ps)
 
 -- a slot that is spelled at its place is read there
-slot_again : (bytes rest : List ℕ) (s : Slot) (i : ℕ) → s.offset < 2 ^ 16 → s.key_len < 2 ^ 16 → s.content_len < 2 ^ 16 → drop (16 + 6 * i) bytes ≡ slot_bytes s ++ rest → slot_of bytes i ≡ s
+slot_again : (bytes rest : List ℕ) (s : Slot) (i : ℕ) → s.offset < 2 ^ 16 → s.key_len < 2 ^ 16
+    → s.content_len < 2 ^ 16 → drop (16 + 6 * i) bytes ≡ slot_bytes s ++ rest → slot_of bytes i ≡ s
 slot_again bytes rest s i f g k h =
-    let offset = two_again bytes (slot_bytes s ++ rest) (16 + 6 * i) 0 (16 + 6 * i) s.offset h (omega arith) f refl refl in
-    let key_len = two_again bytes (slot_bytes s ++ rest) (16 + 6 * i) 2 (16 + 6 * i + 2) s.key_len h (omega arith) g refl refl in
-    let content_len = two_again bytes (slot_bytes s ++ rest) (16 + 6 * i) 4 (16 + 6 * i + 4) s.content_len h (omega arith) k refl refl in
+    let offset = two_again bytes (slot_bytes s ++ rest) (16 + 6 * i) 0 (16 + 6 * i) s.offset h
+    (omega arith) f refl refl in
+    let key_len = two_again bytes (slot_bytes s ++ rest) (16 + 6 * i) 2 (16 + 6 * i + 2) s.key_len h
+    (omega arith) g refl refl in
+    let content_len = two_again bytes (slot_bytes s ++ rest) (16 + 6 * i) 4 (16 + 6 * i + 4)
+    s.content_len h (omega arith) k refl refl in
     rw (offset, key_len, content_len) refl
 
 -- slots that are spelled from slot i on are read there
-slots_again : (bytes rest : List ℕ) (ps : List Pair) (i end : ℕ) → total_size ps ≤ end → end ≤ 2048 → drop (16 + 6 * i) bytes ≡ slots_bytes (slots_ending end ps) ++ rest → slots_from bytes i (length ps) ≡ slots_ending end ps
+slots_again : (bytes rest : List ℕ) (ps : List Pair) (i end : ℕ) → total_size ps ≤ end → end ≤ 2048
+    → drop (16 + 6 * i) bytes ≡ slots_bytes (slots_ending end ps) ++ rest
+    → slots_from bytes i (length ps) ≡ slots_ending end ps
 slots_again bytes rest [] i end le most h = refl
 slots_again bytes rest (p ∷ ps) i end le most h =
     let s = slot_ending end p in
-    let h' : drop (16 + 6 * i) bytes ≡ slot_bytes s ++ (slots_bytes (slots_ending (end - size p) ps) ++ rest) = h in
-    let first = slot_again bytes (slots_bytes (slots_ending (end - size p) ps) ++ rest) s i (omega arith) (omega arith) (omega arith) h' in
-    let after = skip bytes (slot_bytes s) (slots_bytes (slots_ending (end - size p) ps) ++ rest) (16 + 6 * i) (16 + 6 * (i + 1)) h' (omega arith) in
-    let others = slots_again bytes rest ps (i + 1) (end - size p) (omega arith) (omega arith) after in
-    ap (λ (t : Slot). t ∷ slots_from bytes (i + 1) (length ps)) first ∙ ap (λ (ts : List Slot). s ∷ ts) others
+    let h' : drop (16 + 6 * i) bytes ≡ slot_bytes s
+    ++ (slots_bytes (slots_ending (end - size p) ps) ++ rest) = h in
+    let first = slot_again bytes (slots_bytes (slots_ending (end - size p) ps) ++ rest) s i
+    (omega arith) (omega arith) (omega arith) h' in
+    let after = skip bytes (slot_bytes s) (slots_bytes (slots_ending (end - size p) ps) ++ rest)
+    (16 + 6 * i) (16 + 6 * (i + 1)) h' (omega arith) in
+    let others = slots_again bytes rest ps (i + 1) (end - size p) (omega arith)
+    (omega arith) after in
+    ap (λ (t : Slot). t ∷ slots_from bytes (i + 1) (length ps)) first
+    ∙ ap (λ (ts : List Slot). s ∷ ts) others
 
 -- records that are spelled from `lo` on are read as the pairs
-records_again : (bytes rest : List ℕ) (ps : List Pair) (end lo : ℕ) → lo + total_size ps ≡ end → drop lo bytes ≡ records ps ++ rest → map (slot_pair bytes) (slots_ending end ps) ≡ ps
+records_again : (bytes rest : List ℕ) (ps : List Pair) (end lo : ℕ) → lo + total_size ps ≡ end
+    → drop lo bytes ≡ records ps ++ rest → map (slot_pair bytes) (slots_ending end ps) ≡ ps
 records_again bytes rest [] end lo e h = refl
 records_again bytes rest (p ∷ ps) end lo e h =
     let offset = end - size p in
-    let h' : drop lo bytes ≡ records ps ++ ((p.0 ++ p.1) ++ rest) = h ∙ append_assoc (records ps) (p.0 ++ p.1) rest in
-    let here : drop offset bytes ≡ p.0 ++ (p.1 ++ rest) = skip bytes (records ps) ((p.0 ++ p.1) ++ rest) lo offset h' (omega (arith, length-records ps)) ∙ append_assoc p.0 p.1 rest in
-    let after : drop (offset + length p.0) bytes ≡ p.1 ++ rest = skip bytes p.0 (p.1 ++ rest) offset (offset + length p.0) here refl in
-    let key : take (length p.0) (drop offset bytes) ≡ p.0 = ap (take (length p.0)) here ∙ take_at p.0 (p.1 ++ rest) (length p.0) refl in
-    let content : take (length p.1) (drop (offset + length p.0) bytes) ≡ p.1 = ap (take (length p.1)) after ∙ take_at p.1 rest (length p.1) refl in
+    let h' : drop lo bytes ≡ records ps ++ ((p.0 ++ p.1) ++ rest) =
+    h ∙ append_assoc (records ps) (p.0 ++ p.1) rest in
+    let here : drop offset bytes ≡ p.0 ++ (p.1 ++ rest) =
+    skip bytes (records ps) ((p.0 ++ p.1) ++ rest) lo offset h'
+    (omega (arith, length-records ps)) ∙ append_assoc p.0 p.1 rest in
+    let after : drop (offset + length p.0) bytes ≡ p.1 ++ rest =
+    skip bytes p.0 (p.1 ++ rest) offset (offset + length p.0) here refl in
+    let key : take (length p.0) (drop offset bytes) ≡ p.0 =
+    ap (take (length p.0)) here ∙ take_at p.0 (p.1 ++ rest) (length p.0) refl in
+    let content : take (length p.1) (drop (offset + length p.0) bytes) ≡ p.1 =
+    ap (take (length p.1)) after ∙ take_at p.1 rest (length p.1) refl in
     let first : slot_pair bytes (slot_ending end p) ≡ p = rw (key, content) refl in
     let others = records_again bytes ((p.0 ++ p.1) ++ rest) ps offset lo (omega arith) h' in
-    ap (λ (q : Pair). q ∷ map (slot_pair bytes) (slots_ending offset ps)) first ∙ ap (λ (qs : List Pair). p ∷ qs) others
+    ap (λ (q : Pair). q ∷ map (slot_pair bytes) (slots_ending offset ps)) first
+    ∙ ap (λ (qs : List Pair). p ∷ qs) others
 
 -- a spelled page of pairs is a whole page
 pub length-bucket_spelling : (b : Bucket) → IsBucket b → length (bucket_spelling b) ≡ 2048
@@ -72,7 +93,16 @@ length-bucket_spelling b is =
     let ps = b.pairs in
     let slots = slots_bytes (slots_ending 2048 ps) in
     let zeros : List ℕ = replicate (room_of ps) 0 in
-    omega (arith, is.fits, length-append slots (zeros ++ records ps), length-append zeros (records ps), length-slots_bytes (slots_ending 2048 ps), length-slots_ending 2048 ps, length-replicate {A = ℕ} (room_of ps) 0, length-records ps)
+    omega (
+      arith,
+      is.fits,
+      length-append slots (zeros ++ records ps),
+      length-append zeros (records ps),
+      length-slots_bytes (slots_ending 2048 ps),
+      length-slots_ending 2048 ps,
+      length-replicate {A = ℕ} (room_of ps) 0,
+      length-records ps,
+    )
 
 -- the header's fields
 pub record Says (bytes : List ℕ) (o k c n l : ℕ) : Type 0 where
@@ -86,7 +116,8 @@ pub record Says (bytes : List ℕ) (o k c n l : ℕ) : Type 0 where
   pub zero15 : get_or bytes 15 0 ≡ 0
 
 -- a number that four bytes hold, put together of these
-pub four_is : (n : ℕ) → n < 2 ^ 32 → (n / 16777216 % 256 * 256 + n / 65536 % 256) * 65536 + (n / 256 % 256 * 256 + n % 256) ≡ n
+pub four_is : (n : ℕ) → n < 2 ^ 32
+    → (n / 16777216 % 256 * 256 + n / 65536 % 256) * 65536 + (n / 256 % 256 * 256 + n % 256) ≡ n
 four_is n lt = omega arith
 
 -- a number that two bytes hold, put together of these
@@ -94,7 +125,9 @@ two_is : (n : ℕ) → n < 2 ^ 16 → n / 256 % 256 * 256 + n % 256 ≡ n
 two_is n lt = omega arith
 
 -- a header that is spelled is read
-pub header_again : (bytes rest : List ℕ) (own kind count next low : ℕ) → own < 2 ^ 32 → count < 2 ^ 16 → next < 2 ^ 32 → low < 2 ^ 16 → bytes ≡ header own kind count next low ++ rest → Says bytes own kind count next low
+pub header_again : (bytes rest : List ℕ) (own kind count next low : ℕ) → own < 2 ^ 32
+    → count < 2 ^ 16 → next < 2 ^ 32 → low < 2 ^ 16 → bytes ≡ header own kind count next low ++ rest
+    → Says bytes own kind count next low
 header_again bytes rest own kind count next low a b c d e = record {
   own = ap (λ (x : List ℕ). u32_at x 0) e ∙ four_is own a;
   kind = ap (λ (x : List ℕ). get_or x 4 0) e;
@@ -123,22 +156,30 @@ stands bytes b is e =
     let text = slots_bytes (slots_ending 2048 ps) in
     let zeros : List ℕ = replicate (room_of ps) 0 in
     let fits = is.fits in
-    let long : 16 + length text ≡ 16 + 6 * n = omega (arith, length-slots_bytes (slots_ending 2048 ps), length-slots_ending 2048 ps) in
+    let long : 16 + length text ≡ 16 + 6 * n =
+    omega (arith, length-slots_bytes (slots_ending 2048 ps), length-slots_ending 2048 ps) in
     let d16 : drop 16 bytes ≡ text ++ (zeros ++ records ps) = ap (drop 16) e in
-    let dn : drop (16 + 6 * n) bytes ≡ zeros ++ records ps = skip bytes text (zeros ++ records ps) 16 (16 + 6 * n) d16 long in
-    let dlow : drop lo bytes ≡ records ps = skip bytes zeros (records ps) (16 + 6 * n) lo dn (omega (arith, length-replicate {A = ℕ} (2032 - taken ps) 0)) in
+    let dn : drop (16 + 6 * n) bytes ≡ zeros ++ records ps =
+    skip bytes text (zeros ++ records ps) 16 (16 + 6 * n) d16 long in
+    let dlow : drop lo bytes ≡ records ps =
+    skip bytes zeros (records ps) (16 + 6 * n) lo dn
+    (omega (arith, length-replicate {A = ℕ} (2032 - taken ps) 0)) in
     record {
-      says = header_again bytes (text ++ (zeros ++ records ps)) b.own b.kind n b.next lo is.own (omega arith) is.next (omega arith) e;
+      says = header_again bytes (text ++ (zeros ++ records ps)) b.own b.kind n b.next lo is.own
+          (omega arith) is.next (omega arith) e;
       slots = slots_again bytes (zeros ++ records ps) ps 0 2048 (omega arith) (omega arith) d16;
-      pairs = records_again bytes [] ps 2048 lo (omega arith) (dlow ∙ sym (append-nil (records ps)));
+      pairs = records_again bytes [] ps 2048 lo (omega arith)
+          (dlow ∙ sym (append-nil (records ps)));
       clear = clear_again bytes (records ps) (16 + 6 * n) (2032 - taken ps) lo dn (omega arith);
     }
 
 -- what a spelled page says
-pub bucket_again : (bytes : List ℕ) (b : Bucket) → IsBucket b → bytes ≡ bucket_spelling b → bucket_of bytes ≡ b
+pub bucket_again : (bytes : List ℕ) (b : Bucket) → IsBucket b → bytes ≡ bucket_spelling b
+    → bucket_of bytes ≡ b
 unfolding bucket_of
 bucket_again bytes b is e =
     let s = stands bytes b is e in
-    let pairs : pairs_from bytes 0 (slot_count bytes) ≡ b.pairs = ap (pairs_from bytes 0) s.says.count ∙ ap (map (slot_pair bytes)) s.slots ∙ s.pairs in
+    let pairs : pairs_from bytes 0 (slot_count bytes) ≡ b.pairs =
+    ap (pairs_from bytes 0) s.says.count ∙ ap (map (slot_pair bytes)) s.slots ∙ s.pairs in
     let own = s.says.own in let kind = s.says.kind in let next = s.says.next in
     rw (own, kind, next, pairs) refl

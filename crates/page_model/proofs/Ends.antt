@@ -12,18 +12,21 @@ use Rattle.page_model.proofs.Bounds.{length-put}
 
 pub end_taken : (s : Space) → (after_take s).end ≤ s.end + 1
 end_taken s = by_free s.free s.end where
-  by_free : (free : List ℕ) (end : ℕ) → (after_take (record { free = free; end = end })).end ≤ end + 1
+  by_free : (free : List ℕ) (end : ℕ)
+      → (after_take (record { free = free; end = end })).end ≤ end + 1
   by_free [] end = omega arith
   by_free (n ∷ rest) end = omega arith
 
 pub end_put : (p : Placement) (pair : Pair) → (put p pair).space.end ≤ p.space.end + 1
 end_put p pair =
-    elim (has_room pair (chain_at p (key_bucket p.shape pair.0))) as (λ b. (cond {A = Space} b p.space (after_take p.space)).end ≤ p.space.end + 1) [
+    elim (has_room pair (chain_at p (key_bucket p.shape pair.0))) as
+    (λ b. (cond {A = Space} b p.space (after_take p.space)).end ≤ p.space.end + 1) [
       | true ↦ omega arith
       | false ↦ end_taken p.space
     ]
 
-pub end_fold : (pairs : List Pair) (p : Placement) → (fold put p pairs).space.end ≤ p.space.end + length pairs
+pub end_fold : (pairs : List Pair) (p : Placement)
+    → (fold put p pairs).space.end ≤ p.space.end + length pairs
 end_fold [] p = omega arith
 end_fold (x ∷ pairs) p = let a = end_put p x in let b = end_fold pairs (put p x) in omega arith
 
@@ -32,7 +35,8 @@ end_opened p =
     let given = give (drop 1 (numbers (chain_at p p.shape.split))) p.space in
     let headed = after_take given in
     let a = end_taken given in
-    elim (opens_segment p) as (λ b. (cond {A = Space} b (after_take headed) headed).end ≤ p.space.end + 2) [
+    elim (opens_segment p) as (λ b.
+    (cond {A = Space} b (after_take headed) headed).end ≤ p.space.end + 2) [
       | true ↦ (let b = end_taken headed in omega arith)
       | false ↦ omega arith
     ]
@@ -43,12 +47,16 @@ store_takes_few p pair h small =
     let k = replace_sound p h pair small in
     let a = end_put (delete p pair.0) pair in
     let b = length-put (delete p pair.0) (delete_sound p h pair.0) pair in
-    let c = sum_by-delete p h pair.0 (λ _. 1) in let d = length-sum_by (pairs_of (delete p pair.0)) in let e = length-sum_by (pairs_of p) in
-    elim (ltb (8 * length p.chains) (length (pairs_of q))) as (λ t. (cond {A = Placement} t (split q) q).space.end ≤ p.space.end + length (pairs_of p) + 4) [
+    let c = sum_by-delete p h pair.0 (λ _. 1) in let d =
+    length-sum_by (pairs_of (delete p pair.0)) in let e = length-sum_by (pairs_of p) in
+    elim (ltb (8 * length p.chains) (length (pairs_of q))) as
+    (λ t. (cond {A = Placement} t (split q) q).space.end ≤ p.space.end
+    + length (pairs_of p) + 4) [
       | true ↦
           let old = pairs_in (chain_at q q.shape.split) in
           let f = end_fold old (opened q) in let g = end_opened q in
-          let i = sum_by-opened q k (λ _. 1) in let j = length-sum_by old in let l = length-sum_by (pairs_of q) in
+          let i = sum_by-opened q k (λ _. 1) in let j = length-sum_by old in let l =
+          length-sum_by (pairs_of q) in
           omega arith
       | false ↦ omega arith
     ]

@@ -27,24 +27,34 @@ unfoldable pub minus : ℕ → List ℕ → List ℕ
 minus n [] = []
 minus n (m ∷ ms) = cond (m == n) ms (m ∷ minus n ms)
 
-sum_by-minus : (f : ℕ → ℕ) (n : ℕ) (ms : List ℕ) → 1 ≤ times_of n ms → sum_by f (minus n ms) + f n ≡ sum_by f ms
+sum_by-minus : (f : ℕ → ℕ) (n : ℕ) (ms : List ℕ) → 1 ≤ times_of n ms
+    → sum_by f (minus n ms) + f n ≡ sum_by f ms
 unfolding minus
 sum_by-minus f n [] h = absurd (omega arith)
 sum_by-minus f n (m ∷ ms) h =
     let all = sum_by-cons f m ms in
     let count = sum_by-cons (λ k. cond (k == n) 1 0) m ms in
-    elim (m == n) as (λ b. (m == n) ≡ b → times_of n (m ∷ ms) ≡ cond b 1 0 + times_of n ms → sum_by f (cond b ms (m ∷ minus n ms)) + f n ≡ sum_by f (m ∷ ms)) [
+    elim (m == n) as (λ b. (m == n) ≡ b → times_of n (m ∷ ms) ≡ cond b 1 0 + times_of n ms
+    → sum_by f (cond b ms (m ∷ minus n ms)) + f n ≡ sum_by f (m ∷ ms)) [
       | true ↦ λ t c. let e = ap f (eqb-true m n t) in omega arith
-      | false ↦ λ t c. let rest = sum_by-minus f n ms (omega arith) in let a = sum_by-cons f m (minus n ms) in omega arith
+      | false ↦ λ t c. let rest = sum_by-minus f n ms (omega arith) in let a =
+          sum_by-cons f m (minus n ms) in omega arith
     ] refl count
 
-pub same_sums : (xs ys : List ℕ) → ((n : ℕ) → times_of n xs ≡ times_of n ys) → (f : ℕ → ℕ) → sum_by f xs ≡ sum_by f ys
+pub same_sums : (xs ys : List ℕ) → ((n : ℕ) → times_of n xs ≡ times_of n ys) → (f : ℕ → ℕ)
+    → sum_by f xs ≡ sum_by f ys
 same_sums [] [] h f = refl
-same_sums [] (y ∷ ys) h f = absurd (let a = h y in let b = sum_by-cons (λ k. cond (k == y) 1 0) y ys in let c : cond {A = ℕ} (y == y) 1 0 ≡ 1 = ap (λ t. cond {A = ℕ} t 1 0) (eq-eqb y y refl) in omega arith)
+same_sums [] (y ∷ ys) h f = absurd
+    (let a = h y in let b = sum_by-cons (λ k. cond (k == y) 1 0) y ys in
+    let c : cond {A = ℕ} (y == y) 1 0 ≡ 1 =
+    ap (λ t. cond {A = ℕ} t 1 0) (eq-eqb y y refl) in omega arith)
 same_sums (x ∷ xs) ys h f =
     let own : cond {A = ℕ} (x == x) 1 0 ≡ 1 = ap (λ t. cond {A = ℕ} t 1 0) (eq-eqb x x refl) in
-    let there : 1 ≤ times_of x ys = (let a = h x in let b = sum_by-cons (λ k. cond (k == x) 1 0) x xs in omega arith) in
-    let rest = same_sums xs (minus x ys) (λ n. let a = h n in let b = sum_by-cons (λ k. cond (k == n) 1 0) x xs in let c = sum_by-minus (λ k. cond (k == n) 1 0) x ys there in omega arith) f in
+    let there : 1 ≤ times_of x ys =
+    (let a = h x in let b = sum_by-cons (λ k. cond (k == x) 1 0) x xs in omega arith) in
+    let rest = same_sums xs (minus x ys)
+    (λ n. let a = h n in let b = sum_by-cons (λ k. cond (k == n) 1 0) x xs in let c =
+    sum_by-minus (λ k. cond (k == n) 1 0) x ys there in omega arith) f in
     let a = sum_by-minus f x ys there in
     let b = sum_by-cons f x xs in
     omega arith
@@ -66,65 +76,91 @@ like_below : (q : Key) (v : List ℕ) (xs : List Pair) → pairs_like q v xs ≤
 unfolding is_pair
 like_below q v [] = omega arith
 like_below q v (x ∷ xs) =
-    let a = sum_by-cons (λ pair. cond (is_pair q v pair) 1 0) x xs in let b = sum_by-cons (λ pair. cond (has_key q pair) 1 0) x xs in
-    let c = one_of (has_key q x) (eq_by_cmp key_cmp v x.1) in let d = like_below q v xs in omega arith
+    let a = sum_by-cons (λ pair. cond (is_pair q v pair) 1 0) x xs in let b =
+    sum_by-cons (λ pair. cond (has_key q pair) 1 0) x xs in
+    let c = one_of (has_key q x) (eq_by_cmp key_cmp v x.1) in let d =
+    like_below q v xs in omega arith
 
-pub found_counts : (q : Key) (v : List ℕ) (xs : List Pair) → value_in q xs ≡ Some v → 1 ≤ pairs_like q v xs
+pub found_counts : (q : Key) (v : List ℕ) (xs : List Pair) → value_in q xs ≡ Some v
+    → 1 ≤ pairs_like q v xs
 unfolding is_pair
 found_counts q v [] e = cc
 found_counts q v (x ∷ xs) e =
     subst (λ n. 1 ≤ n) (sym (sum_by-cons (λ pair. cond (is_pair q v pair) 1 0) x xs))
-    (elim (has_key q x) as (λ b. cond b (Some x.1) (value_in q xs) ≡ Some v → 1 ≤ cond (b && eq_by_cmp key_cmp v x.1) 1 0 + pairs_like q v xs) [
+    (elim (has_key q x) as (λ b. cond b (Some x.1) (value_in q xs) ≡ Some v
+    → 1 ≤ cond (b && eq_by_cmp key_cmp v x.1) 1 0 + pairs_like q v xs) [
       | true ↦ λ e.
-          let same : eq_by_cmp key_cmp v x.1 ≡ true = ap (λ o. eq_by_cmp key_cmp v (unwrap_or o v)) e ∙ ap is_eq (tied_itself nat_list_cmp_total v) in
+          let same : eq_by_cmp key_cmp v x.1 ≡ true =
+          ap (λ o. eq_by_cmp key_cmp v (unwrap_or o v)) e
+          ∙ ap is_eq (tied_itself nat_list_cmp_total v) in
           let one : cond (eq_by_cmp key_cmp v x.1) 1 0 ≡ 1 = ap (λ t. cond {A = ℕ} t 1 0) same in
           omega arith
       | false ↦ λ e. let rest = found_counts q v xs e in omega arith
     ] e)
 
-counts_found : (q : Key) (v : List ℕ) (xs : List Pair) → 1 ≤ pairs_like q v xs → times q xs ≤ 1 → value_in q xs ≡ Some v
+counts_found : (q : Key) (v : List ℕ) (xs : List Pair) → 1 ≤ pairs_like q v xs → times q xs ≤ 1
+    → value_in q xs ≡ Some v
 unfolding is_pair
 counts_found q v [] l h = absurd (omega arith)
 counts_found q v (x ∷ xs) l h =
-    let a = sum_by-cons (λ pair. cond (is_pair q v pair) 1 0) x xs in let b = sum_by-cons (λ pair. cond (has_key q pair) 1 0) x xs in
-    elim (has_key q x) as (λ t. 1 ≤ cond (t && eq_by_cmp key_cmp v x.1) 1 0 + pairs_like q v xs → cond t 1 0 + times q xs ≤ 1 → cond t (Some x.1) (value_in q xs) ≡ Some v) [
-      | true ↦ λ l h. elim (eq_by_cmp key_cmp v x.1) as (λ u. eq_by_cmp key_cmp v x.1 ≡ u → 1 ≤ cond u 1 0 + pairs_like q v xs → Some x.1 ≡ Some v) [
-        | true ↦ λ u l. ap Some (sym (keys_exact v x.1 (is_equal _ u)))
-        | false ↦ λ u l. absurd (let c = like_below q v xs in omega arith)
-      ] refl l
+    let a = sum_by-cons (λ pair. cond (is_pair q v pair) 1 0) x xs in let b =
+    sum_by-cons (λ pair. cond (has_key q pair) 1 0) x xs in
+    elim (has_key q x) as (λ t. 1 ≤ cond (t && eq_by_cmp key_cmp v x.1) 1 0 + pairs_like q v xs
+    → cond t 1 0 + times q xs ≤ 1 → cond t (Some x.1) (value_in q xs) ≡ Some v) [
+      | true ↦ λ l h. elim (eq_by_cmp key_cmp v x.1) as
+          (λ u. eq_by_cmp key_cmp v x.1 ≡ u → 1 ≤ cond u 1 0 + pairs_like q v xs
+          → Some x.1 ≡ Some v) [
+            | true ↦ λ u l. ap Some (sym (keys_exact v x.1 (is_equal _ u)))
+            | false ↦ λ u l. absurd (let c = like_below q v xs in omega arith)
+          ] refl l
       | false ↦ λ l h. counts_found q v xs (omega arith) (omega arith)
     ] (subst (λ n. 1 ≤ n) a l) (subst (λ n. n ≤ 1) b h)
 
-pub value_in-same : (xs ys : List Pair) → ((f : Pair → ℕ) → sum_by f xs ≡ sum_by f ys) → (q : Key) → times q ys ≤ 1 → value_in q xs ≡ value_in q ys
+pub value_in-same : (xs ys : List Pair) → ((f : Pair → ℕ) → sum_by f xs ≡ sum_by f ys) → (q : Key)
+    → times q ys ≤ 1 → value_in q xs ≡ value_in q ys
 value_in-same xs ys same q once =
     elim (value_in q xs) as (λ o. value_in q xs ≡ o → o ≡ value_in q ys) [
-      | None ↦ λ e. sym (times_some q ys (let a = times_none q xs e in let b = same (λ pair. cond (has_key q pair) 1 0) in omega arith))
-      | Some v ↦ λ e. sym (counts_found q v ys (let a = found_counts q v xs e in let b = same (λ pair. cond (is_pair q v pair) 1 0) in omega arith) once)
+      | None ↦ λ e. sym (times_some q ys
+          (let a = times_none q xs e in let b =
+          same (λ pair. cond (has_key q pair) 1 0) in omega arith))
+      | Some v ↦ λ e. sym (counts_found q v ys
+          (let a = found_counts q v xs e in let b =
+          same (λ pair. cond (is_pair q v pair) 1 0) in omega arith) once)
     ] refl
 
 -- ---- the pages with what they say
 
-pub numbers-chain_bodies : (chain : Chain) → map (λ numbered. numbered.number) (chain_bodies chain) ≡ numbers chain
+pub numbers-chain_bodies : (chain : Chain)
+    → map (λ numbered. numbered.number) (chain_bodies chain) ≡ numbers chain
 numbers-chain_bodies [] = refl
 numbers-chain_bodies (head ∷ rest) = ap (λ ns. head.number ∷ ns) (over rest) where
   over : (rest : Chain) → map (λ numbered. numbered.number) (overflow_bodies rest) ≡ numbers rest
   over [] = refl
   over (leaf ∷ rest) = ap (λ ns. leaf.number ∷ ns) (over rest)
 
-pairs-chain_bodies : (chain : Chain) → flat_map (λ numbered. pairs_on numbered.body) (chain_bodies chain) ≡ pairs_in chain
+pairs-chain_bodies : (chain : Chain)
+    → flat_map (λ numbered. pairs_on numbered.body) (chain_bodies chain) ≡ pairs_in chain
 pairs-chain_bodies [] = refl
 pairs-chain_bodies (head ∷ rest) = ap (λ xs. head.pairs ++ xs) (over rest) where
-  over : (rest : Chain) → flat_map (λ numbered. pairs_on numbered.body) (overflow_bodies rest) ≡ pairs_in rest
+  over : (rest : Chain) → flat_map (λ numbered. pairs_on numbered.body) (overflow_bodies rest)
+      ≡ pairs_in rest
   over [] = refl
   over (leaf ∷ rest) = ap (λ xs. leaf.pairs ++ xs) (over rest)
 
-pub numbers-chains : (chains : List Chain) → map (λ numbered. numbered.number) (flat_map chain_bodies chains) ≡ flat_map numbers chains
+pub numbers-chains : (chains : List Chain)
+    → map (λ numbered. numbered.number) (flat_map chain_bodies chains) ≡ flat_map numbers chains
 numbers-chains [] = refl
-numbers-chains (chain ∷ rest) = map-append (λ numbered. numbered.number) (chain_bodies chain) (flat_map chain_bodies rest) ∙ (λ i. numbers-chain_bodies chain i ++ numbers-chains rest i)
+numbers-chains (chain ∷ rest) =
+    map-append (λ numbered. numbered.number) (chain_bodies chain) (flat_map chain_bodies rest)
+    ∙ (λ i. numbers-chain_bodies chain i ++ numbers-chains rest i)
 
-pairs-chains : (chains : List Chain) → flat_map (λ numbered. pairs_on numbered.body) (flat_map chain_bodies chains) ≡ flat_map pairs_in chains
+pairs-chains : (chains : List Chain)
+    → flat_map (λ numbered. pairs_on numbered.body) (flat_map chain_bodies chains)
+    ≡ flat_map pairs_in chains
 pairs-chains [] = refl
-pairs-chains (chain ∷ rest) = flat_map-append (λ numbered. pairs_on numbered.body) (chain_bodies chain) (flat_map chain_bodies rest) ∙ (λ i. pairs-chain_bodies chain i ++ pairs-chains rest i)
+pairs-chains (chain ∷ rest) =
+    flat_map-append (λ numbered. pairs_on numbered.body) (chain_bodies chain)
+    (flat_map chain_bodies rest) ∙ (λ i. pairs-chain_bodies chain i ++ pairs-chains rest i)
 
 pub numbers-free : (free : List ℕ) → map (λ numbered. numbered.number) (free_bodies free) ≡ free
 numbers-free [] = refl
@@ -134,41 +170,59 @@ pairs-free : (free : List ℕ) → flat_map (λ numbered. pairs_on numbered.body
 pairs-free [] = refl
 pairs-free (n ∷ rest) = pairs-free rest
 
-pub numbers-segments : (segments heads : List ℕ) → map (λ numbered. numbered.number) (segment_bodies segments heads) ≡ segments
+pub numbers-segments : (segments heads : List ℕ)
+    → map (λ numbered. numbered.number) (segment_bodies segments heads) ≡ segments
 numbers-segments [] heads = refl
 numbers-segments (n ∷ rest) heads = ap (λ ns. n ∷ ns) (numbers-segments rest (drop 508 heads))
 
-pairs-segments : (segments heads : List ℕ) → flat_map (λ numbered. pairs_on numbered.body) (segment_bodies segments heads) ≡ []
+pairs-segments : (segments heads : List ℕ)
+    → flat_map (λ numbered. pairs_on numbered.body) (segment_bodies segments heads) ≡ []
 pairs-segments [] heads = refl
 pairs-segments (n ∷ rest) heads = pairs-segments rest (drop 508 heads)
 
 -- each page has what it says
-pub numbers-page_bodies : (p : Placement) → map (λ numbered. numbered.number) (page_bodies p) ≡ in_use p ++ p.space.free
+pub numbers-page_bodies : (p : Placement)
+    → map (λ numbered. numbered.number) (page_bodies p) ≡ in_use p ++ p.space.free
 numbers-page_bodies p =
     let s = segment_bodies p.segments (heads_of p.chains) in
-    ap (λ ns. 1 ∷ ns) (map-append (λ numbered. numbered.number) (s ++ flat_map chain_bodies p.chains) (free_bodies p.space.free)
-    ∙ ap (λ ns. ns ++ map (λ numbered. numbered.number) (free_bodies p.space.free)) (map-append (λ numbered. numbered.number) s (flat_map chain_bodies p.chains))
-    ∙ (λ i. numbers-segments p.segments (heads_of p.chains) i ++ numbers-chains p.chains i ++ numbers-free p.space.free i))
+    ap (λ ns. 1 ∷ ns) (map-append (λ numbered. numbered.number)
+    (s ++ flat_map chain_bodies p.chains) (free_bodies p.space.free)
+    ∙ ap (λ ns. ns ++ map (λ numbered. numbered.number) (free_bodies p.space.free))
+    (map-append (λ numbered. numbered.number) s (flat_map chain_bodies p.chains))
+    ∙ (λ i. numbers-segments p.segments (heads_of p.chains) i ++ numbers-chains p.chains i
+    ++ numbers-free p.space.free i))
 
-pub pairs-page_bodies : (p : Placement) → flat_map (λ numbered. pairs_on numbered.body) (page_bodies p) ≡ pairs_of p
+pub pairs-page_bodies : (p : Placement)
+    → flat_map (λ numbered. pairs_on numbered.body) (page_bodies p) ≡ pairs_of p
 pairs-page_bodies p =
     let s = segment_bodies p.segments (heads_of p.chains) in
-    flat_map-append (λ numbered. pairs_on numbered.body) (s ++ flat_map chain_bodies p.chains) (free_bodies p.space.free)
-    ∙ ap (λ xs. xs ++ flat_map (λ numbered. pairs_on numbered.body) (free_bodies p.space.free)) (flat_map-append (λ numbered. pairs_on numbered.body) s (flat_map chain_bodies p.chains))
-    ∙ (λ i. pairs-segments p.segments (heads_of p.chains) i ++ pairs-chains p.chains i ++ pairs-free p.space.free i)
+    flat_map-append (λ numbered. pairs_on numbered.body) (s ++ flat_map chain_bodies p.chains)
+    (free_bodies p.space.free)
+    ∙ ap (λ xs. xs ++ flat_map (λ numbered. pairs_on numbered.body) (free_bodies p.space.free))
+    (flat_map-append (λ numbered. pairs_on numbered.body) s (flat_map chain_bodies p.chains))
+    ∙ (λ i. pairs-segments p.segments (heads_of p.chains) i ++ pairs-chains p.chains i
+    ++ pairs-free p.space.free i)
     ∙ append-nil (flat_map pairs_in p.chains)
 
-pub times-range_with_len : (n start count : ℕ) → times_of n (range_with_len start count) ≡ cond (leb start n && ltb n (start + count)) 1 0
+pub times-range_with_len : (n start count : ℕ)
+    → times_of n (range_with_len start count) ≡ cond (leb start n && ltb n (start + count)) 1 0
 times-range_with_len n start zero = grind (arith, nat_tests)
-times-range_with_len n start (suc count) = sum_by-cons (λ m. cond (m == n) 1 0) start (range_with_len (start + 1) count) ∙ step n start count (times_of n (range_with_len (start + 1) count)) (times-range_with_len n (start + 1) count) where
-  step : (n start count k : ℕ) → k ≡ cond (leb (start + 1) n && ltb n (start + 1 + count)) 1 0 → cond (start == n) 1 0 + k ≡ cond (leb start n && ltb n (start + suc count)) 1 0
-  step n start count k e = grind (arith, nat_tests)
+times-range_with_len n start (suc count) =
+    sum_by-cons (λ m. cond (m == n) 1 0) start (range_with_len (start + 1) count)
+    ∙ step n start count (times_of n (range_with_len (start + 1) count))
+    (times-range_with_len n (start + 1) count) where
+      step : (n start count k : ℕ) → k ≡ cond (leb (start + 1) n && ltb n (start + 1 + count)) 1 0
+          → cond (start == n) 1 0 + k ≡ cond (leb start n && ltb n (start + suc count)) 1 0
+      step n start count k e = grind (arith, nat_tests)
 
-read_sums : (at : ℕ → Body) (f : Pair → ℕ) (xs : List NumberedBody) → AllByRecursion (λ numbered. at numbered.number ≡ numbered.body) xs →
-    sum_by (λ n. sum_by f (pairs_on (at n))) (map (λ numbered. numbered.number) xs) ≡ sum_by f (flat_map (λ numbered. pairs_on numbered.body) xs)
+read_sums : (at : ℕ → Body) (f : Pair → ℕ) (xs : List NumberedBody)
+    → AllByRecursion (λ numbered. at numbered.number ≡ numbered.body) xs →
+    sum_by (λ n. sum_by f (pairs_on (at n))) (map (λ numbered. numbered.number) xs)
+    ≡ sum_by f (flat_map (λ numbered. pairs_on numbered.body) xs)
 read_sums at f [] h = refl
 read_sums at f (x ∷ xs) h =
-    let a = sum_by-cons (λ n. sum_by f (pairs_on (at n))) x.number (map (λ numbered. numbered.number) xs) in
+    let a = sum_by-cons (λ n. sum_by f (pairs_on (at n))) x.number
+    (map (λ numbered. numbered.number) xs) in
     let b = sum_by-append f (pairs_on x.body) (flat_map (λ numbered. pairs_on numbered.body) xs) in
     let c = ap (λ body. sum_by f (pairs_on body)) h.0 in
     let d = read_sums at f xs h.1 in
@@ -178,7 +232,9 @@ pub flat_is_contents : FlatIsContents
 flat_is_contents p at h spelled =
     let range = range_with_len 1 (p.space.end - 1) in
     let each : (n : ℕ) → times_of n range ≡ times_of n (in_use p ++ p.space.free)
-    = λ (n : ℕ). (let a = h.pages.once n in let b = times-range_with_len n 1 (p.space.end - 1) in let c = sum_by-append (λ m. cond (m == n) 1 0) (in_use p) p.space.free in let d = h.pages.as_many in let e : 1 + (p.space.end - 1) ≡ p.space.end = omega arith in
+    = λ (n : ℕ). (let a = h.pages.once n in let b = times-range_with_len n 1 (p.space.end - 1) in
+    let c = sum_by-append (λ m. cond (m == n) 1 0) (in_use p) p.space.free in let d =
+    h.pages.as_many in let e : 1 + (p.space.end - 1) ≡ p.space.end = omega arith in
     b ∙ ap (λ k. cond (leb 1 n && ltb n k) 1 0) e ∙ sym a ∙ sym c) in
     let sums : (f : Pair → ℕ) → sum_by f (flat_pairs at p.space.end) ≡ sum_by f (pairs_of p)
     = λ (f : Pair → ℕ). sum_by-flat_map f (λ n. pairs_on (at n)) range

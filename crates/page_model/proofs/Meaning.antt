@@ -18,14 +18,16 @@ limit_on other (OverflowPage next pairs) = other
 limit_on other (FreePage next) = other
 limit_on other Other = other
 
-limit_read : (at : ℕ → Body) (p : Placement) → at 1 ≡ MetaPage (meta_of p) → limit_on 0 (at 1) ≡ p.limit
+limit_read : (at : ℕ → Body) (p : Placement) → at 1 ≡ MetaPage (meta_of p)
+    → limit_on 0 (at 1) ≡ p.limit
 unfolding limit_on
 limit_read at p e = ap (limit_on 0) e
 
 pub one_meaning : OneMeaning
 one_meaning at end m n limit other s t = (
   sym s.holds ∙ t.holds,
-  sym s.limited ∙ sym (limit_read at s.placement s.spelled.0) ∙ limit_read at t.placement t.spelled.0 ∙ t.limited,
+  sym s.limited ∙ sym (limit_read at s.placement s.spelled.0)
+      ∙ limit_read at t.placement t.spelled.0 ∙ t.limited,
 )
 
 pub stored_stands : StoredStands

@@ -27,28 +27,39 @@ same_pair x y e =
 -- each pair is like itself
 own_pair : (x : Pair) → is_pair x.0 x.1 x ≡ true
 unfolding is_pair
-own_pair x = (λ i. is_eq (tied_itself nat_list_cmp_total x.0 i) && is_eq (tied_itself nat_list_cmp_total x.1 i))
+own_pair x = (λ i. is_eq (tied_itself nat_list_cmp_total x.0 i) && is_eq
+    (tied_itself nat_list_cmp_total x.1 i))
 
-counted : (x y : Pair) (ys : List Pair) → pairs_like x.0 x.1 (y ∷ ys) ≡ cond (is_pair x.0 x.1 y) 1 0 + pairs_like x.0 x.1 ys
+counted : (x y : Pair) (ys : List Pair)
+    → pairs_like x.0 x.1 (y ∷ ys) ≡ cond (is_pair x.0 x.1 y) 1 0 + pairs_like x.0 x.1 ys
 counted x y ys = sum_by-cons (λ pair. cond (is_pair x.0 x.1 pair) 1 0) y ys
 
-holds_of : (P : Pair → Type 0) (xs : List Pair) → AllByRecursion P xs → (x : Pair) → 1 ≤ pairs_like x.0 x.1 xs → P x
+holds_of : (P : Pair → Type 0) (xs : List Pair) → AllByRecursion P xs → (x : Pair)
+    → 1 ≤ pairs_like x.0 x.1 xs → P x
 holds_of P [] h x l = absurd (omega arith)
 holds_of P (y ∷ xs) h x l =
-    elim (is_pair x.0 x.1 y) as (λ b. is_pair x.0 x.1 y ≡ b → 1 ≤ cond b 1 0 + pairs_like x.0 x.1 xs → P x) [
+    elim (is_pair x.0 x.1 y) as (λ b.
+    is_pair x.0 x.1 y ≡ b → 1 ≤ cond b 1 0 + pairs_like x.0 x.1 xs → P x) [
       | true ↦ λ t l. subst P (sym (same_pair x y t)) h.0
       | false ↦ λ t l. holds_of P xs h.1 x (omega arith)
     ] refl (subst (λ n. 1 ≤ n) (counted x y xs) l)
 
-holds_of_all : (P : Pair → Type 0) (ys : List Pair) → ((x : Pair) → 1 ≤ pairs_like x.0 x.1 ys → P x) → AllByRecursion P ys
+holds_of_all : (P : Pair → Type 0) (ys : List Pair) → ((x : Pair) → 1 ≤ pairs_like x.0 x.1 ys → P x)
+    → AllByRecursion P ys
 holds_of_all P [] h = tt
 holds_of_all P (y ∷ ys) h = (
   h y (let a = counted y y ys in let b = ap (λ t. cond {A = ℕ} t 1 0) (own_pair y) in omega arith),
   holds_of_all P ys (λ x l. h x (let a = counted x y ys in omega arith)),
 )
 
-pub AllByRecursion-fewer : (P : Pair → Type 0) (xs ys : List Pair) → ((f : Pair → ℕ) → sum_by f ys ≤ sum_by f xs) → AllByRecursion P xs → AllByRecursion P ys
-AllByRecursion-fewer P xs ys fewer h = holds_of_all P ys (λ x l. holds_of P xs h x (let a = fewer (λ pair. cond (is_pair x.0 x.1 pair) 1 0) in omega arith))
+pub AllByRecursion-fewer : (P : Pair → Type 0) (xs ys : List Pair)
+    → ((f : Pair → ℕ) → sum_by f ys ≤ sum_by f xs) → AllByRecursion P xs → AllByRecursion P ys
+AllByRecursion-fewer P xs ys fewer h =
+    holds_of_all P ys (λ x l. holds_of P xs h x
+    (let a = fewer (λ pair. cond (is_pair x.0 x.1 pair) 1 0) in omega arith))
 
 pub map_holds_bytes : MapHoldsBytes
-map_holds_bytes p key content g e = holds_of HasBytes (pairs_of p) g.bytes (key, content) (found_counts key content (pairs_of p) (sym (get-from_entries nat_list_cmp_total (pairs_of p) key) ∙ e))
+map_holds_bytes p key content g e =
+    holds_of HasBytes (pairs_of p) g.bytes (key, content)
+    (found_counts key content (pairs_of p)
+    (sym (get-from_entries nat_list_cmp_total (pairs_of p) key) ∙ e))

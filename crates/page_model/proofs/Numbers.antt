@@ -20,19 +20,26 @@ length-numbers_at bytes at zero = refl
 length-numbers_at bytes at (suc count) = ap suc (length-numbers_at bytes (at + 4) count)
 
 -- the bytes of two lists
-pub numbers_bytes-append : (xs ys : List ℕ) → numbers_bytes (xs ++ ys) ≡ numbers_bytes xs ++ numbers_bytes ys
+pub numbers_bytes-append : (xs ys : List ℕ)
+    → numbers_bytes (xs ++ ys) ≡ numbers_bytes xs ++ numbers_bytes ys
 numbers_bytes-append [] ys = refl
-numbers_bytes-append (x ∷ xs) ys = ap (λ (t : List ℕ). u32_bytes x ++ t) (numbers_bytes-append xs ys) ∙ sym (append_assoc (u32_bytes x) (numbers_bytes xs) (numbers_bytes ys))
+numbers_bytes-append (x ∷ xs) ys =
+    ap (λ (t : List ℕ). u32_bytes x ++ t) (numbers_bytes-append xs ys)
+    ∙ sym (append_assoc (u32_bytes x) (numbers_bytes xs) (numbers_bytes ys))
 
 -- what is there is the bytes of the numbers that are read there
-pub numbers_text : (bytes : List ℕ) → IsBytes bytes → (count at to : ℕ) → at + 4 * count ≡ to → to ≤ length bytes → IsText bytes at (numbers_bytes (numbers_at bytes at count)) to
+pub numbers_text : (bytes : List ℕ) → IsBytes bytes → (count at to : ℕ) → at + 4 * count ≡ to
+    → to ≤ length bytes → IsText bytes at (numbers_bytes (numbers_at bytes at count)) to
 numbers_text bytes fits zero at to e le = ap (λ (k : ℕ). drop k bytes) (omega arith)
 numbers_text bytes fits (suc count) at to e le =
-    text_then bytes at (u32_bytes (u32_at bytes at)) (at + 4) (numbers_bytes (numbers_at bytes (at + 4) count)) to
-    (four_text bytes at (at + 4) fits (omega arith) refl) (numbers_text bytes fits count (at + 4) to (omega arith) le)
+    text_then bytes at (u32_bytes (u32_at bytes at)) (at + 4)
+    (numbers_bytes (numbers_at bytes (at + 4) count)) to
+    (four_text bytes at (at + 4) fits (omega arith) refl)
+    (numbers_text bytes fits count (at + 4) to (omega arith) le)
 
 -- a number that stands in front of a text
-pub word_again : (bytes rest : List ℕ) (at n : ℕ) → IsNumber n → drop at bytes ≡ u32_bytes n ++ rest → u32_at bytes at ≡ n
+pub word_again : (bytes rest : List ℕ) (at n : ℕ) → IsNumber n → drop at bytes ≡ u32_bytes n ++ rest
+    → u32_at bytes at ≡ n
 word_again bytes rest at n lt h =
     let b0 = at_front bytes (u32_bytes n ++ rest) at 0 at h (omega arith) in
     let b1 = at_front bytes (u32_bytes n ++ rest) at 1 (at + 1) h refl in
@@ -41,25 +48,35 @@ word_again bytes rest at n lt h =
     rw (b0, b1, b2, b3) (four_is n lt)
 
 -- numbers that are spelled somewhere are read there
-pub numbers_again : (bytes rest ns : List ℕ) (at : ℕ) → AllByRecursion IsNumber ns → drop at bytes ≡ numbers_bytes ns ++ rest → numbers_at bytes at (length ns) ≡ ns
+pub numbers_again : (bytes rest ns : List ℕ) (at : ℕ) → AllByRecursion IsNumber ns
+    → drop at bytes ≡ numbers_bytes ns ++ rest → numbers_at bytes at (length ns) ≡ ns
 numbers_again bytes rest [] at all h = refl
 numbers_again bytes rest (n ∷ ns) at all h =
     let h' : drop at bytes ≡ u32_bytes n ++ (numbers_bytes ns ++ rest) = h in
     let first = word_again bytes (numbers_bytes ns ++ rest) at n all.0 h' in
-    let others = numbers_again bytes rest ns (at + 4) all.1 (skip bytes (u32_bytes n) (numbers_bytes ns ++ rest) at (at + 4) h' refl) in
-    ap (λ (x : ℕ). x ∷ numbers_at bytes (at + 4) (length ns)) first ∙ ap (λ (xs : List ℕ). n ∷ xs) others
+    let others = numbers_again bytes rest ns (at + 4) all.1
+    (skip bytes (u32_bytes n) (numbers_bytes ns ++ rest) at (at + 4) h' refl) in
+    ap (λ (x : ℕ). x ∷ numbers_at bytes (at + 4) (length ns)) first
+    ∙ ap (λ (xs : List ℕ). n ∷ xs) others
 
 -- what is read is numbers of four bytes
-pub numbers_small : (bytes : List ℕ) → IsBytes bytes → (count at : ℕ) → AllByRecursion IsNumber (numbers_at bytes at count)
+pub numbers_small : (bytes : List ℕ) → IsBytes bytes → (count at : ℕ)
+    → AllByRecursion IsNumber (numbers_at bytes at count)
 numbers_small bytes fits zero at = tt
-numbers_small bytes fits (suc count) at = (omega (arith, u16_below bytes at fits, u16_below bytes (at + 2) fits), numbers_small bytes fits count (at + 4))
+numbers_small bytes fits (suc count) at = (
+  omega (arith, u16_below bytes at fits, u16_below bytes (at + 2) fits),
+  numbers_small bytes fits count (at + 4),
+)
 
 -- zeros behind numbers
 
 -- numbers that are 0 are zeros
 pub numbers_bytes-zeros : (k : ℕ) → numbers_bytes (replicate k 0) ≡ replicate (4 * k) 0
 numbers_bytes-zeros zero = refl
-numbers_bytes-zeros (suc k) = ap (λ (t : List ℕ). 0 ∷ 0 ∷ 0 ∷ 0 ∷ t) (numbers_bytes-zeros k) ∙ replicate-append-replicate 4 (4 * k) 0 ∙ ap (λ (n : ℕ). replicate n 0) (let e : 4 + 4 * k ≡ 4 * suc k = omega arith in e)
+numbers_bytes-zeros (suc k) =
+    ap (λ (t : List ℕ). 0 ∷ 0 ∷ 0 ∷ 0 ∷ t) (numbers_bytes-zeros k)
+    ∙ replicate-append-replicate 4 (4 * k) 0
+    ∙ ap (λ (n : ℕ). replicate n 0) (let e : 4 + 4 * k ≡ 4 * suc k = omega arith in e)
 
 -- zeros are numbers of four bytes
 zeros_are_numbers : (k : ℕ) → AllByRecursion IsNumber (replicate k 0)
@@ -67,7 +84,8 @@ zeros_are_numbers zero = tt
 zeros_are_numbers (suc k) = (omega arith, zeros_are_numbers k)
 
 -- zeros behind numbers
-pub with_zeros : (ns : List ℕ) (k : ℕ) → AllByRecursion IsNumber ns → AllByRecursion IsNumber (ns ++ replicate k 0)
+pub with_zeros : (ns : List ℕ) (k : ℕ) → AllByRecursion IsNumber ns
+    → AllByRecursion IsNumber (ns ++ replicate k 0)
 with_zeros [] k h = zeros_are_numbers k
 with_zeros (n ∷ ns) k h = (h.0, with_zeros ns k h.1)
 

@@ -20,18 +20,24 @@ use Rattle.page_model.proofs.Frames.{kept, kept_chains, at_most_one}
 -- ---- segment pages
 
 -- the first pages, and the others with the heads that are left
-pub segments_split : (k : ℕ) (segments heads : List ℕ) → segment_bodies segments heads ≡ segment_bodies (take k segments) heads ++ segment_bodies (drop k segments) (drop (508 * k) heads)
+pub segments_split : (k : ℕ) (segments heads : List ℕ)
+    → segment_bodies segments heads ≡ segment_bodies (take k segments) heads
+    ++ segment_bodies (drop k segments) (drop (508 * k) heads)
 segments_split zero segments heads = refl
 segments_split (suc k) [] heads = refl
 segments_split (suc k) (n ∷ rest) heads =
     let more : 508 + 508 * k ≡ 508 * suc k = omega arith in
     let later = segments_split k rest (drop 508 heads) in
-    let at : drop (508 * k) (drop 508 heads) ≡ drop (508 * suc k) heads = drop-drop (508 * k) 508 heads ∙ ap (λ i. drop i heads) more in
+    let at : drop (508 * k) (drop 508 heads) ≡ drop (508 * suc k) heads =
+    drop-drop (508 * k) 508 heads ∙ ap (λ i. drop i heads) more in
     let first = segment_bodies (n ∷ []) heads in
-    ap (λ xs. first ++ xs) later ∙ ap (λ hs. first ++ (segment_bodies (take k rest) (drop 508 heads) ++ segment_bodies (drop k rest) hs)) at
+    ap (λ xs. first ++ xs) later ∙ ap
+    (λ hs. first ++ (segment_bodies (take k rest) (drop 508 heads)
+    ++ segment_bodies (drop k rest) hs)) at
 
 -- the first pages are full, and further heads go to later ones
-segments_same : (k : ℕ) (segments heads more : List ℕ) → 508 * k ≤ length heads → segment_bodies (take k segments) (heads ++ more) ≡ segment_bodies (take k segments) heads
+segments_same : (k : ℕ) (segments heads more : List ℕ) → 508 * k ≤ length heads
+    → segment_bodies (take k segments) (heads ++ more) ≡ segment_bodies (take k segments) heads
 segments_same zero segments heads more l = refl
 segments_same (suc k) [] heads more l = refl
 segments_same (suc k) (n ∷ rest) heads more l =
@@ -48,8 +54,10 @@ first_of_bared (head ∷ rest) = refl
 -- ---- the change
 
 -- of the pages of a list, those before a place and the others
-pub taken_dropped : (n k : ℕ) (ns : List ℕ) → times_of n ns ≡ times_of n (take k ns) + times_of n (drop k ns)
-taken_dropped n k ns = ap (times_of n) (sym (take-append-drop k ns)) ∙ sum_by-append (λ m. cond (m == n) 1 0) (take k ns) (drop k ns)
+pub taken_dropped : (n k : ℕ) (ns : List ℕ)
+    → times_of n ns ≡ times_of n (take k ns) + times_of n (drop k ns)
+taken_dropped n k ns = ap (times_of n) (sym (take-append-drop k ns))
+    ∙ sum_by-append (λ m. cond (m == n) 1 0) (take k ns) (drop k ns)
 
 module _ (p : Placement) (h : IsSound p) (at at' : ℕ → Body) where
   below : p.shape.split < length p.chains
@@ -57,7 +65,10 @@ module _ (p : Placement) (h : IsSound p) (at at' : ℕ → Body) where
 
   -- the numbers of the pages that are rewritten
   pub touched : (n : ℕ) → times_of n (map (λ numbered. numbered.number) (opened_bodies p))
-      ≡ times_of n (numbers (bared (chain_at p p.shape.split))) + times_of n ((new_head p).number ∷ []) + times_of n (drop (length (opened p).segments - 1) (opened p).segments) + times_of n (opened p).space.free
+      ≡ times_of n (numbers (bared (chain_at p p.shape.split)))
+      + times_of n ((new_head p).number ∷ [])
+      + times_of n (drop (length (opened p).segments - 1) (opened p).segments)
+      + times_of n (opened p).space.free
   touched n =
       let f : ℕ → ℕ = λ m. cond (m == n) 1 0 in
       let k = length (opened p).segments - 1 in
@@ -66,19 +77,25 @@ module _ (p : Placement) (h : IsSound p) (at at' : ℕ → Body) where
       let b = chain_bodies (new_head p ∷ []) in
       let c = last_segment (opened p) in
       let d = free_bodies (opened p).space.free in
-      let e = map-append number (a ++ b ++ c) d ∙ ap (λ ns. ns ++ map number d) (map-append number (a ++ b) c ∙ ap (λ ns. ns ++ map number c) (map-append number a b)) in
+      let e = map-append number (a ++ b ++ c) d
+      ∙ ap (λ ns. ns ++ map number d)
+      (map-append number (a ++ b) c ∙ ap (λ ns. ns ++ map number c) (map-append number a b)) in
       let i = ap (λ ns. times_of n ns) e in
       let j = sum_by-append f (map number a ++ map number b ++ map number c) (map number d) in
       let l = sum_by-append f (map number a ++ map number b) (map number c) in
       let m = sum_by-append f (map number a) (map number b) in
       let na = ap (λ ns. times_of n ns) (numbers-chain_bodies (bared (chain_at p p.shape.split))) in
-      let nc = ap (λ ns. times_of n ns) (numbers-segments (drop k (opened p).segments) (drop (508 * k) (heads_of (opened p).chains))) in
+      let nc = ap (λ ns. times_of n ns)
+      (numbers-segments (drop k (opened p).segments)
+      (drop (508 * k) (heads_of (opened p).chains))) in
       let nd = ap (λ ns. times_of n ns) (numbers-free (opened p).space.free) in
       omega arith
 
   -- how often a page comes afterwards, by its places
-  pub places : (n : ℕ) → times_of n (opened p).segments + times_of n (flat_map numbers (set p.chains p.shape.split []))
-      + (times_of n (numbers (bared (chain_at p p.shape.split))) + times_of n ((new_head p).number ∷ []) + times_of n (opened p).space.free) ≤ 1
+  pub places : (n : ℕ) → times_of n (opened p).segments
+      + times_of n (flat_map numbers (set p.chains p.shape.split []))
+      + (times_of n (numbers (bared (chain_at p p.shape.split)))
+      + times_of n ((new_head p).number ∷ []) + times_of n (opened p).space.free) ≤ 1
   places n =
       let f : ℕ → ℕ = λ m. cond (m == n) 1 0 in
       let q = opened p in
@@ -89,7 +106,8 @@ module _ (p : Placement) (h : IsSound p) (at at' : ℕ → Body) where
       let c = sum_by-cons f 1 q.segments in
       let d = sum_by-flat_map-set f numbers p.chains p.shape.split (bared chain) [] below in
       let e = sum_by-flat_map-set f numbers p.chains p.shape.split [] [] below in
-      let g = ap (sum_by f) (flat_map-append numbers cs ((new_head p ∷ []) ∷ [])) ∙ sum_by-append f (flat_map numbers cs) ((new_head p).number ∷ []) in
+      let g = ap (sum_by f) (flat_map-append numbers cs ((new_head p ∷ []) ∷ []))
+      ∙ sum_by-append f (flat_map numbers cs) ((new_head p).number ∷ []) in
       let i = at_most_one (is_page n q.space.end) in
       omega arith
 
@@ -101,8 +119,10 @@ module _ (p : Placement) (h : IsSound p) (at at' : ℕ → Body) where
       let cs = set p.chains p.shape.split (bared chain) in
       map-append head cs ((new_head p ∷ []) ∷ [])
       ∙ ap (λ ns. ns ++ (new_head p).number ∷ [])
-      (map-set head p.chains p.shape.split (bared chain) ∙ ap (set (map head p.chains) p.shape.split) (first_of_bared chain)
-      ∙ sym (map-set head p.chains p.shape.split chain) ∙ ap (map head) (set-get_or p.chains p.shape.split []))
+      (map-set head p.chains p.shape.split (bared chain)
+      ∙ ap (set (map head p.chains) p.shape.split) (first_of_bared chain)
+      ∙ sym (map-set head p.chains p.shape.split chain)
+      ∙ ap (map head) (set-get_or p.chains p.shape.split []))
 
   module _ (r : AreRewritten at at' (opened_bodies p)) (read : AreRead at (lower_bodies p)) where
     chains_read : AreRead at' (flat_map chain_bodies (opened p).chains)
@@ -112,13 +132,21 @@ module _ (p : Placement) (h : IsSound p) (at at' : ℕ → Body) where
         let P : NumberedBody → Type 0 = λ numbered. at numbered.number ≡ numbered.body in
         let Q : NumberedBody → Type 0 = λ numbered. at' numbered.number ≡ numbered.body in
         let s = segment_bodies p.segments (heads_of p.chains) in
-        let was = AllByRecursion-right P s (flat_map chain_bodies p.chains) (AllByRecursion-left P (s ++ flat_map chain_bodies p.chains) (free_bodies p.space.free) read) in
+        let was = AllByRecursion-right P s (flat_map chain_bodies p.chains)
+        (AllByRecursion-left P (s ++ flat_map chain_bodies p.chains)
+        (free_bodies p.space.free) read) in
         let a = chain_bodies (bared chain) in
         let b = chain_bodies (new_head p ∷ []) in
-        let two = AllByRecursion-left Q (a ++ b) (last_segment (opened p)) (AllByRecursion-left Q (a ++ b ++ last_segment (opened p)) (free_bodies (opened p).space.free) r.are_read) in
-        let stay = kept_chains at at' p.chains p.shape.split (bared chain) below (λ n l. r.others n (let x = places n in let y = touched n in let z = taken_dropped n (length (opened p).segments - 1) (opened p).segments in omega arith)) (AllByRecursion-left Q a b two) was in
+        let two = AllByRecursion-left Q (a ++ b) (last_segment (opened p))
+        (AllByRecursion-left Q (a ++ b ++ last_segment (opened p))
+        (free_bodies (opened p).space.free) r.are_read) in
+        let stay = kept_chains at at' p.chains p.shape.split (bared chain) below
+        (λ n l. r.others n (let x = places n in let y = touched n in let z =
+        taken_dropped n (length (opened p).segments - 1) (opened p).segments in
+        omega arith)) (AllByRecursion-left Q a b two) was in
         subst (AllByRecursion Q) (sym (flat_map-append chain_bodies cs ((new_head p ∷ []) ∷ [])))
-        (AllByRecursion-append Q (flat_map chain_bodies cs) (chain_bodies (new_head p ∷ [])) stay (AllByRecursion-right Q a b two))
+        (AllByRecursion-append Q (flat_map chain_bodies cs) (chain_bodies (new_head p ∷ [])) stay
+        (AllByRecursion-right Q a b two))
 
     segments_read : AreRead at' (segment_bodies (opened p).segments (heads_of (opened p).chains))
     segments_read =
@@ -129,24 +157,39 @@ module _ (p : Placement) (h : IsSound p) (at at' : ℕ → Body) where
         let P : NumberedBody → Type 0 = λ numbered. at numbered.number ≡ numbered.body in
         let Q : NumberedBody → Type 0 = λ numbered. at' numbered.number ≡ numbered.body in
         let s = segment_bodies p.segments heads in
-        let many : length q.chains ≡ length p.chains + 1 = length-append (set p.chains p.shape.split (bared chain)) _ ∙ ap (λ n. n + 1) (length-set p.chains p.shape.split (bared chain)) in
+        let many : length q.chains ≡ length p.chains + 1 =
+        length-append (set p.chains p.shape.split (bared chain)) _
+        ∙ ap (λ n. n + 1) (length-set p.chains p.shape.split (bared chain)) in
         let segments = h.all_segments in
         let after = (opened_sound p h).all_segments in
-        let wide : length heads ≡ length p.chains = length-map p.chains (λ c. first_of (numbers c)) in
-        let same : take k q.segments ≡ take k p.segments = take-append-le k p.segments _ (omega arith) in
-        let was = AllByRecursion-left P s (flat_map chain_bodies p.chains) (AllByRecursion-left P (s ++ flat_map chain_bodies p.chains) (free_bodies p.space.free) read) in
+        let wide : length heads ≡ length p.chains =
+        length-map p.chains (λ c. first_of (numbers c)) in
+        let same : take k q.segments ≡ take k p.segments =
+        take-append-le k p.segments _ (omega arith) in
+        let was = AllByRecursion-left P s (flat_map chain_bodies p.chains)
+        (AllByRecursion-left P (s ++ flat_map chain_bodies p.chains)
+        (free_bodies p.space.free) read) in
         let full = segment_bodies (take k p.segments) heads in
-        let full_was = AllByRecursion-left P full (segment_bodies (drop k p.segments) (drop (508 * k) heads)) (subst (AllByRecursion P) (segments_split k p.segments heads) was) in
+        let full_was = AllByRecursion-left P full
+        (segment_bodies (drop k p.segments) (drop (508 * k) heads))
+        (subst (AllByRecursion P) (segments_split k p.segments heads) was) in
         let stay : AllByRecursion Q full = kept at at' full (λ n l. r.others n (
-        let x = places n in let y = touched n in let z = taken_dropped n k q.segments in let e = ap (times_of n) same in
-        let b = subst (λ ns. 1 ≤ times_of n ns) (numbers-segments (take k p.segments) heads) l in omega arith)) full_was in
+        let x = places n in let y = touched n in let z = taken_dropped n k q.segments in let e =
+        ap (times_of n) same in
+        let b = subst (λ ns. 1 ≤ times_of n ns) (numbers-segments (take k p.segments) heads) l in
+        omega arith)) full_was in
         let e : segment_bodies (take k q.segments) (heads_of q.chains) ≡ full
-        = ap (segment_bodies (take k q.segments)) heads_opened ∙ segments_same k q.segments heads ((new_head p).number ∷ []) (omega arith) ∙ ap (λ ns. segment_bodies ns heads) same in
+        = ap (segment_bodies (take k q.segments)) heads_opened
+        ∙ segments_same k q.segments heads ((new_head p).number ∷ []) (omega arith)
+        ∙ ap (λ ns. segment_bodies ns heads) same in
         let a = chain_bodies (bared chain) in
         let b = chain_bodies (new_head p ∷ []) in
-        let last = AllByRecursion-right Q (a ++ b) (last_segment q) (AllByRecursion-left Q (a ++ b ++ last_segment q) (free_bodies q.space.free) r.are_read) in
+        let last = AllByRecursion-right Q (a ++ b) (last_segment q)
+        (AllByRecursion-left Q (a ++ b ++ last_segment q)
+        (free_bodies q.space.free) r.are_read) in
         subst (AllByRecursion Q) (sym (segments_split k q.segments (heads_of q.chains)))
-        (AllByRecursion-append Q (segment_bodies (take k q.segments) (heads_of q.chains)) (last_segment q) (subst (AllByRecursion Q) (sym e) stay) last)
+        (AllByRecursion-append Q (segment_bodies (take k q.segments) (heads_of q.chains))
+        (last_segment q) (subst (AllByRecursion Q) (sym e) stay) last)
 
     pub all_read : AreRead at' (lower_bodies (opened p))
     all_read =
@@ -155,7 +198,9 @@ module _ (p : Placement) (h : IsSound p) (at at' : ℕ → Body) where
         let s = segment_bodies q.segments (heads_of q.chains) in
         AllByRecursion-append Q (s ++ flat_map chain_bodies q.chains) (free_bodies q.space.free)
         (AllByRecursion-append Q s (flat_map chain_bodies q.chains) segments_read chains_read)
-        (AllByRecursion-right Q (chain_bodies (bared (chain_at p p.shape.split)) ++ chain_bodies (new_head p ∷ []) ++ last_segment q) (free_bodies q.space.free) r.are_read)
+        (AllByRecursion-right Q (chain_bodies (bared (chain_at p p.shape.split))
+        ++ chain_bodies (new_head p ∷ []) ++ last_segment q)
+        (free_bodies q.space.free) r.are_read)
 
 pub open_rewrites : OpenRewrites
 open_rewrites p at at' h read r = all_read p h at at' r read

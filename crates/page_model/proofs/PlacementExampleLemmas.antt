@@ -25,4 +25,9 @@ thick_pairs = refl
 
 pub full_pages : FullPages
 unfolding hash_of
-full_pages = record { stored = refl; replaced_keeps = refl; renewed_keeps = refl; deleted_frees = refl }
+full_pages = record {
+  stored = refl;
+  replaced_keeps = refl;
+  renewed_keeps = refl;
+  deleted_frees = refl;
+}

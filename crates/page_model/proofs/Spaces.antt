@@ -8,41 +8,61 @@ use Rattle.page_model.proofs.PairLists.{length-sum_by}
 
 -- a number in front of a list
 pub times_head : (n : ℕ) (ns : List ℕ) → times_of n (n ∷ ns) ≡ 1 + times_of n ns
-times_head n ns = sum_by-cons (λ m. cond (m == n) 1 0) n ns ∙ ap (λ b. cond b 1 0 + times_of n ns) (eq-eqb n n refl)
+times_head n ns = sum_by-cons (λ m. cond (m == n) 1 0) n ns
+    ∙ ap (λ b. cond b 1 0 + times_of n ns) (eq-eqb n n refl)
 
 pub times_tail : (n m : ℕ) (ns : List ℕ) → times_of n ns ≤ times_of n (m ∷ ns)
 times_tail n m ns = omega (arith, sum_by-cons (λ k. cond (k == n) 1 0) m ns)
 
 -- a further page at the end
-one_page_more : (n end : ℕ) → 1 ≤ end → cond (is_page n (end + 1)) 1 0 ≡ cond (is_page n end) 1 0 + cond (end == n) 1 0
+one_page_more : (n end : ℕ) → 1 ≤ end
+    → cond (is_page n (end + 1)) 1 0 ≡ cond (is_page n end) 1 0 + cond (end == n) 1 0
 one_page_more n end h = grind (arith, nat_tests)
 
 -- ys is what was in use, and the page that is taken
-pub IsExact-take : (xs ys : List ℕ) (s : Space) → ((f : ℕ → ℕ) → sum_by f ys ≡ sum_by f xs + f (next_page s)) → IsExact xs s → IsExact ys (after_take s)
+pub IsExact-take : (xs ys : List ℕ) (s : Space)
+    → ((f : ℕ → ℕ) → sum_by f ys ≡ sum_by f xs + f (next_page s)) → IsExact xs s
+    → IsExact ys (after_take s)
 IsExact-take xs ys s same h = by_free s.free s.end (h.once) (h.as_many) same where
-  by_free : (free : List ℕ) (end : ℕ) → ((n : ℕ) → times_of n xs + times_of n free ≡ cond (is_page n end) 1 0) → length xs + length free + 1 ≡ end →
-      ((f : ℕ → ℕ) → sum_by f ys ≡ sum_by f xs + f (next_page (record { free = free; end = end }))) → IsExact ys (after_take (record { free = free; end = end }))
+  by_free : (free : List ℕ) (end : ℕ)
+      → ((n : ℕ) → times_of n xs + times_of n free ≡ cond (is_page n end) 1 0)
+      → length xs + length free + 1 ≡ end →
+      ((f : ℕ → ℕ) → sum_by f ys ≡ sum_by f xs + f (next_page (record { free = free; end = end })))
+      → IsExact ys (after_take (record { free = free; end = end }))
   by_free [] end once many same = record {
-    once = λ n. let a = once n in let b = same (λ m. cond (m == n) 1 0) in let c = one_page_more n end (omega arith) in omega arith;
-    as_many = let a = same (λ _. 1) in let b = length-sum_by xs in let c = length-sum_by ys in omega arith;
+    once = λ n. let a = once n in let b = same (λ m. cond (m == n) 1 0) in let c =
+        one_page_more n end (omega arith) in omega arith;
+    as_many = let a = same (λ _. 1) in let b = length-sum_by xs in let c =
+        length-sum_by ys in omega arith;
   }
   by_free (m ∷ rest) end once many same = record {
-    once = λ n. let a = once n in let b = same (λ m. cond (m == n) 1 0) in let c = sum_by-cons (λ m. cond (m == n) 1 0) m rest in omega arith;
-    as_many = let a = same (λ _. 1) in let b = length-sum_by xs in let c = length-sum_by ys in omega arith;
+    once = λ n. let a = once n in let b = same (λ m. cond (m == n) 1 0) in let c =
+        sum_by-cons (λ m. cond (m == n) 1 0) m rest in omega arith;
+    as_many = let a = same (λ _. 1) in let b = length-sum_by xs in let c =
+        length-sum_by ys in omega arith;
   }
 
 -- ys is what stays in use where the pages are given
-pub IsExact-give : (xs ys pages : List ℕ) (s : Space) → ((f : ℕ → ℕ) → sum_by f ys + sum_by f pages ≡ sum_by f xs) → IsExact xs s → IsExact ys (give pages s)
+pub IsExact-give : (xs ys pages : List ℕ) (s : Space)
+    → ((f : ℕ → ℕ) → sum_by f ys + sum_by f pages ≡ sum_by f xs) → IsExact xs s
+    → IsExact ys (give pages s)
 IsExact-give xs ys pages s same h =
     let all : (f : ℕ → ℕ) → sum_by f (reverse pages ++ s.free) ≡ sum_by f pages + sum_by f s.free
-    = λ (f : ℕ → ℕ). sum_by-append f (reverse pages) s.free ∙ ap (λ n. n + sum_by f s.free) (sum_by-IsPermutation f pages (reverse pages) (IsPermutation-reverse pages)) in
+    = λ (f : ℕ → ℕ). sum_by-append f (reverse pages) s.free
+    ∙ ap (λ n. n + sum_by f s.free)
+    (sum_by-IsPermutation f pages (reverse pages) (IsPermutation-reverse pages)) in
     record {
-      once = λ n. let f : ℕ → ℕ = λ m. cond (m == n) 1 0 in let a = h.once n in let b = same f in let c = all f in omega arith;
-      as_many = let f : ℕ → ℕ = λ m. 1 in let a = h.as_many in let b = same f in let c = all f in let d = length-sum_by (reverse pages ++ s.free) in let e = length-sum_by ys in let g = length-sum_by xs in let i = length-sum_by s.free in omega arith;
+      once = λ n. let f : ℕ → ℕ = λ m. cond (m == n) 1 0 in let a = h.once n in let b = same f in
+          let c = all f in omega arith;
+      as_many = let f : ℕ → ℕ = λ m. 1 in let a = h.as_many in let b = same f in let c = all f in
+          let d = length-sum_by (reverse pages ++ s.free) in let e = length-sum_by ys in let g =
+          length-sum_by xs in let i = length-sum_by s.free in omega arith;
     }
 
-pub IsExact-same : (xs ys : List ℕ) (s : Space) → ((f : ℕ → ℕ) → sum_by f ys ≡ sum_by f xs) → IsExact xs s → IsExact ys s
+pub IsExact-same : (xs ys : List ℕ) (s : Space) → ((f : ℕ → ℕ) → sum_by f ys ≡ sum_by f xs)
+    → IsExact xs s → IsExact ys s
 IsExact-same xs ys s same h = record {
   once = λ n. let a = h.once n in let b = same (λ m. cond (m == n) 1 0) in omega arith;
-  as_many = let a = h.as_many in let b = same (λ _. 1) in let c = length-sum_by xs in let d = length-sum_by ys in omega arith;
+  as_many = let a = h.as_many in let b = same (λ _. 1) in let c = length-sum_by xs in let d =
+      length-sum_by ys in omega arith;
 }

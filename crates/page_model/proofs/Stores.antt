@@ -24,17 +24,25 @@ use Rattle.page_model.proofs.Bounds.{in_use_below, end_after_put, length-put, en
 len_flat : (xs : List Pair) → ((key : Key) → times key xs ≤ 1) → len (contents_of xs) ≡ length xs
 len_flat [] h = len-empty key_cmp (List ℕ)
 len_flat (x ∷ xs) h =
-    let count : (key : Key) → times key (x ∷ xs) ≡ cond (has_key key x) 1 0 + times key xs = λ (key : Key). sum_by-cons (λ pair. cond (has_key key pair) 1 0) x xs in
-    let here : times x.0 (x ∷ xs) ≡ 1 + times x.0 xs = count x.0 ∙ ap (λ b. cond b 1 0 + times x.0 xs) (ap is_eq (tied_itself nat_list_cmp_total x.0)) in
-    let none : get (contents_of xs) x.0 ≡ None = get-from_entries nat_list_cmp_total xs x.0 ∙ times_some x.0 xs (let once = h x.0 in omega arith) in
+    let count : (key : Key) → times key (x ∷ xs) ≡ cond (has_key key x) 1 0 + times key xs =
+    λ (key : Key). sum_by-cons (λ pair. cond (has_key key pair) 1 0) x xs in
+    let here : times x.0 (x ∷ xs) ≡ 1 + times x.0 xs =
+    count x.0 ∙ ap (λ b. cond b 1 0 + times x.0 xs)
+    (ap is_eq (tied_itself nat_list_cmp_total x.0)) in
+    let none : get (contents_of xs) x.0 ≡ None =
+    get-from_entries nat_list_cmp_total xs x.0
+    ∙ times_some x.0 xs (let once = h x.0 in omega arith) in
     let rest = len_flat xs (λ key. let a = count key in let b = h key in omega arith) in
-    len-insert nat_list_cmp_total (contents_of xs) x.0 x.1 ∙ ap (λ (o : Option (List ℕ)). cond (is_some o) (len (contents_of xs)) (len (contents_of xs) + 1)) none ∙ omega arith
+    len-insert nat_list_cmp_total (contents_of xs) x.0 x.1
+    ∙ ap (λ (o : Option (List ℕ)).
+    cond (is_some o) (len (contents_of xs)) (len (contents_of xs) + 1)) none ∙ omega arith
 
 pub counts_keys : CountsKeys
 counts_keys p h = len_flat (pairs_of p) h.no_key_twice
 
 pub looks_in_one_chain : LooksInOneChain
-looks_in_one_chain p key h = get-from_entries nat_list_cmp_total (pairs_of p) key ∙ value_at p.shape p.chains key h.split_in h.all_buckets h.in_place
+looks_in_one_chain p key h = get-from_entries nat_list_cmp_total (pairs_of p) key
+    ∙ value_at p.shape p.chains key h.split_in h.all_buckets h.in_place
 
 length-split : (p : Placement) → IsSound p → length (pairs_of (split p)) ≡ length (pairs_of p)
 length-split p h =
@@ -42,21 +50,27 @@ length-split p h =
     let c = length-sum_by (pairs_of (split p)) in let d = length-sum_by (pairs_of p) in omega arith
 
 chains-split : (p : Placement) → IsSound p → length (split p).chains ≡ length p.chains + 1
-chains-split p h = (split_filled p h).chains ∙ length-append (set p.chains p.shape.split _) _ ∙ ap (λ n. n + 1) (length-set p.chains p.shape.split _)
+chains-split p h = (split_filled p h).chains ∙ length-append (set p.chains p.shape.split _) _
+    ∙ ap (λ n. n + 1) (length-set p.chains p.shape.split _)
 
 pub split_keeps : SplitKeeps
 split_keeps p h = ((split_filled p h).sound, contents-split p h, length-split p h, chains-split p h)
 
-length-delete : (p : Placement) → IsSound p → (key : Key) → length (pairs_of (delete p key)) + times key (pairs_in (chain_at p (key_bucket p.shape key))) ≡ length (pairs_of p)
+length-delete : (p : Placement) → IsSound p → (key : Key)
+    → length (pairs_of (delete p key)) + times key (pairs_in (chain_at p (key_bucket p.shape key)))
+    ≡ length (pairs_of p)
 length-delete p h key =
     let chain = pairs_in (chain_at p (key_bucket p.shape key)) in
     let a = sum_by-delete p h key (λ _. 1) in
-    let b = length-sum_by (pairs_of (delete p key)) in let c = length-sum_by (pairs_of p) in let d = length-sum_by (filter (has_key key) chain) in
+    let b = length-sum_by (pairs_of (delete p key)) in let c = length-sum_by (pairs_of p) in let d =
+    length-sum_by (filter (has_key key) chain) in
     let e = length-filter (has_key key) chain in
     omega arith
 
 -- a replaced pair does not count twice
-few_replaced : (p : Placement) → IsGood p → (pair : Pair) → MayStore p pair → (length (pairs_of (replace p pair)) ≤ p.limit) × (length (pairs_of (replace p pair)) ≤ 8 * length p.chains + 1)
+few_replaced : (p : Placement) → IsGood p → (pair : Pair) → MayStore p pair
+    → (length (pairs_of (replace p pair)) ≤ p.limit)
+    × (length (pairs_of (replace p pair)) ≤ 8 * length p.chains + 1)
 few_replaced p g pair may =
     let h = g.sound in
     let chain = pairs_in (chain_at p (key_bucket p.shape pair.0)) in
@@ -66,8 +80,11 @@ few_replaced p g pair may =
     let d = g.light in
     let e = counts_keys p h in (
       ⊎_elim
-          (λ (z : times pair.0 chain ≡ 0). let new = may.room (looks_in_one_chain p pair.0 h ∙ times_some pair.0 chain z) in let all : length (pairs_of (replace p pair)) ≤ p.limit = omega arith in all)
-          (λ (n : times pair.0 chain ≡ 0 → ⊥). let all : length (pairs_of (replace p pair)) ≤ p.limit = omega arith in all)
+          (λ (z : times pair.0 chain ≡ 0). let new =
+          may.room (looks_in_one_chain p pair.0 h ∙ times_some pair.0 chain z) in
+          let all : length (pairs_of (replace p pair)) ≤ p.limit = omega arith in all)
+          (λ (n : times pair.0 chain ≡ 0 → ⊥).
+          let all : length (pairs_of (replace p pair)) ≤ p.limit = omega arith in all)
           (cases_eq (times pair.0 chain) 0),
       omega arith,
     )
@@ -75,29 +92,35 @@ few_replaced p g pair may =
 chains-replace : (p : Placement) (pair : Pair) → length (replace p pair).chains ≡ length p.chains
 chains-replace p pair = length-set (delete p pair.0).chains _ _ ∙ length-set p.chains _ _
 
-end_replaced : (p : Placement) → IsGood p → (pair : Pair) → IsAllowed pair → length (pairs_of (replace p pair)) ≤ p.limit → (replace p pair).space.end ≤ home p.limit
+end_replaced : (p : Placement) → IsGood p → (pair : Pair) → IsAllowed pair
+    → length (pairs_of (replace p pair)) ≤ p.limit → (replace p pair).space.end ≤ home p.limit
 end_replaced p g pair small few =
     let sound = replace_sound p g.sound pair small in
     let same = chains-replace p pair in
     let b = g.few_buckets in
-    end_after_put (delete p pair.0) pair (home p.limit) sound g.bounded (in_use_below (replace p pair) sound p.limit (omega arith) few)
+    end_after_put (delete p pair.0) pair (home p.limit) sound g.bounded
+    (in_use_below (replace p pair) sound p.limit (omega arith) few)
 
 -- a store adds one pair at most
-sum_by-store : (p : Placement) → IsSound p → (pair : Pair) → IsAllowed pair → (f : Pair → ℕ) → sum_by f (pairs_of (store p pair)) ≤ sum_by f (pair ∷ pairs_of p)
+sum_by-store : (p : Placement) → IsSound p → (pair : Pair) → IsAllowed pair → (f : Pair → ℕ)
+    → sum_by f (pairs_of (store p pair)) ≤ sum_by f (pair ∷ pairs_of p)
 sum_by-store p h pair small f =
     let q = replace p pair in
     let k = replace_sound p h pair small in
     let a = sum_by-put (delete p pair.0) (delete_sound p h pair.0) pair f in
     let b = sum_by-delete p h pair.0 f in
     let c = sum_by-cons f pair (pairs_of p) in
-    elim (ltb (8 * length p.chains) (length (pairs_of q))) as (λ t. sum_by f (pairs_of (cond t (split q) q)) ≤ sum_by f (pair ∷ pairs_of p)) [
+    elim (ltb (8 * length p.chains) (length (pairs_of q))) as
+    (λ t. sum_by f (pairs_of (cond t (split q) q)) ≤ sum_by f (pair ∷ pairs_of p)) [
       | true ↦ (let d = (split_filled q k).sums f in let e = sum_by-opened q k f in omega arith)
       | false ↦ omega arith
     ]
 
-limit-store : (p : Placement) → IsSound p → (pair : Pair) → IsAllowed pair → (store p pair).limit ≡ p.limit
+limit-store : (p : Placement) → IsSound p → (pair : Pair) → IsAllowed pair
+    → (store p pair).limit ≡ p.limit
 limit-store p h pair small =
-    elim (ltb (8 * length p.chains) (length (pairs_of (replace p pair)))) as (λ t. (cond {A = Placement} t (split (replace p pair)) (replace p pair)).limit ≡ p.limit) [
+    elim (ltb (8 * length p.chains) (length (pairs_of (replace p pair)))) as
+    (λ t. (cond {A = Placement} t (split (replace p pair)) (replace p pair)).limit ≡ p.limit) [
       | true ↦ (split_filled (replace p pair) (replace_sound p h pair small)).limit
       | false ↦ refl
     ]
@@ -105,7 +128,8 @@ limit-store p h pair small =
 pub store_stays_good : StoreStaysGood
 store_stays_good p pair g may =
     let small = may.allowed in
-    let all = AllByRecursion-fewer HasBytes (pair ∷ pairs_of p) (pairs_of (store p pair)) (sum_by-store p g.sound pair small) (may.bytes, g.bytes) in
+    let all = AllByRecursion-fewer HasBytes (pair ∷ pairs_of p) (pairs_of (store p pair))
+    (sum_by-store p g.sound pair small) (may.bytes, g.bytes) in
     let kept = limit-store p g.sound pair small in
     let q = replace p pair in
     let h = replace_sound p g.sound pair small in
@@ -114,19 +138,28 @@ store_stays_good p pair g may =
     let end = end_replaced p g pair small few.0 in
     let map = contents-replace p g.sound pair small in
     let b = g.few_buckets in
-    elim (ltb (8 * length p.chains) (length (pairs_of q))) as (λ t. ltb (8 * length p.chains) (length (pairs_of q)) ≡ t → AllByRecursion HasBytes (pairs_of (cond t (split q) q)) → (cond {A = Placement} t (split q) q).limit ≡ p.limit →
-    IsGood (cond t (split q) q) × (contents (cond t (split q) q) ≡ insert (contents p) pair.0 pair.1) × ((cond {A = Placement} t (split q) q).limit ≡ p.limit)) [
+    elim (ltb (8 * length p.chains) (length (pairs_of q))) as
+    (λ t. ltb (8 * length p.chains) (length (pairs_of q)) ≡ t
+    → AllByRecursion HasBytes (pairs_of (cond t (split q) q))
+    → (cond {A = Placement} t (split q) q).limit ≡ p.limit →
+    IsGood (cond t (split q) q) × (contents (cond t (split q) q)
+    ≡ insert (contents p) pair.0 pair.1)
+    × ((cond {A = Placement} t (split q) q).limit ≡ p.limit)) [
       | true ↦ λ t bytes limit.
           let many = ltb-true _ _ t in
           let s = split_keeps q h in
-          let room' : length q.chains + 1 ≤ buckets_for p.limit = (let f = few.0 in omega arith) in (
+          let room' : length q.chains + 1 ≤ buckets_for p.limit =
+          (let f = few.0 in omega arith) in (
             record {
               sound = s.0;
               limited = subst (λ l. (1 ≤ l) × (l ≤ 1000000)) (sym limit) g.limited;
-              few_buckets = subst (λ l. length (split q).chains ≤ buckets_for l) (sym limit) (let c = s.3 in omega arith);
-              few_pairs = subst (λ l. length (pairs_of (split q)) ≤ l) (sym limit) (let c = s.2 in let f = few.0 in omega arith);
+              few_buckets = subst (λ l. length (split q).chains ≤ buckets_for l) (sym limit)
+                  (let c = s.3 in omega arith);
+              few_pairs = subst (λ l. length (pairs_of (split q)) ≤ l) (sym limit)
+                  (let c = s.2 in let f = few.0 in omega arith);
               light = (let c = s.3 in let d = s.2 in let f = few.1 in omega arith);
-              bounded = subst (λ l. (split q).space.end ≤ home l) (sym limit) (end_split q h p.limit room' few.0 end);
+              bounded = subst (λ l. (split q).space.end ≤ home l) (sym limit)
+                  (end_split q h p.limit room' few.0 end);
               bytes = bytes;
             },
             s.1 ∙ map,
@@ -158,7 +191,8 @@ delete_stays_good p key g =
         few_pairs = (let b = g.few_pairs in omega arith);
         light = (let b = g.light in omega arith);
         bounded = g.bounded;
-        bytes = AllByRecursion-fewer HasBytes (pairs_of p) (pairs_of (delete p key)) (λ f. let b = sum_by-delete p g.sound key f in omega arith) g.bytes;
+        bytes = AllByRecursion-fewer HasBytes (pairs_of p) (pairs_of (delete p key))
+            (λ f. let b = sum_by-delete p g.sound key f in omega arith) g.bytes;
       },
       contents-delete p g.sound key,
       refl,
@@ -167,7 +201,8 @@ delete_stays_good p key g =
 fresh_pages : (limit : ℕ) → IsExact (in_use (fresh_placement limit)) (fresh_placement limit).space
 fresh_pages limit = record { once = λ n. grind (arith, nat_tests); as_many = refl }
 
-fresh_in_place : (limit : ℕ) → IsInPlace (fresh_placement limit).shape (fresh_placement limit).chains
+fresh_in_place : (limit : ℕ) → IsInPlace (fresh_placement limit).shape
+    (fresh_placement limit).chains
 fresh_in_place limit zero below = ((omega arith, tt, tt), tt)
 fresh_in_place limit (suc bucket) below = absurd (omega arith)
 

@@ -1,4 +1,5 @@
--- Laws of the pages of a placement: what they say, what they stand for, and what a change of one chain leaves.
+-- Laws of the pages of a placement: what they say, what they stand for, and what a change of one
+-- chain leaves.
 use Rattle.std.specs.Prelude.{◌≡◌, ◌↔◌, ℕ, List, [], ◌∷◌, if◌then◌else◌}
 use Rattle.std.specs.List.{AllByRecursion}
 use Rattle.std.specs.FinMap.{insert}
@@ -19,54 +20,71 @@ BodiesAreValid = (p : Placement) → IsGood p → AllByRecursion IsValidBody (pa
 
 -- pages of bytes are those of a good placement exactly where they are read as it
 abbrev pub PagesReadExactly : Type 0
-PagesReadExactly = (page : ℕ → List ℕ) (p : Placement) → IsGood p → ArePages page p ↔ IsSpelled (said_by page) p
+PagesReadExactly = (page : ℕ → List ℕ) (p : Placement) → IsGood p
+    → ArePages page p ↔ IsSpelled (said_by page) p
 
 -- the map is that of the flat contents of the pages that spell the placement
 abbrev pub FlatIsContents : Type 0
-FlatIsContents = (p : Placement) (at : ℕ → Body) → IsSound p → IsSpelled at p → contents_of (flat_pairs at p.space.end) ≡ contents p
+FlatIsContents = (p : Placement) (at : ℕ → Body) → IsSound p → IsSpelled at p
+    → contents_of (flat_pairs at p.space.end) ≡ contents p
 
 -- pages spell one map
 abbrev pub OneMap : Type 0
-OneMap = (p q : Placement) (at : ℕ → Body) → IsSound p → IsSound q → IsSpelled at p → IsSpelled at q → p.space.end ≡ q.space.end → contents p ≡ contents q
+OneMap = (p q : Placement) (at : ℕ → Body) → IsSound p → IsSound q → IsSpelled at p → IsSpelled at q
+    → p.space.end ≡ q.space.end → contents p ≡ contents q
 
 -- pages stand for one map and one limit at most
 abbrev pub OneMeaning : Type 0
-OneMeaning = (at : ℕ → Body) (end : ℕ) (m n : Contents) (limit other : ℕ) → StandsFor at end m limit → StandsFor at end n other → (m ≡ n) × (limit ≡ other)
+OneMeaning = (at : ℕ → Body) (end : ℕ) (m n : Contents) (limit other : ℕ) → StandsFor at end m limit
+    → StandsFor at end n other → (m ≡ n) × (limit ≡ other)
 
 -- pages of bytes stand for one map and one limit at most
 abbrev pub PagesHaveOneMeaning : Type 0
-PagesHaveOneMeaning = (page : ℕ → List ℕ) (end : ℕ) (m n : Contents) (limit other : ℕ) → PagesStandFor page end m limit → PagesStandFor page end n other → (m ≡ n) × (limit ≡ other)
+PagesHaveOneMeaning = (page : ℕ → List ℕ) (end : ℕ) (m n : Contents) (limit other : ℕ)
+    → PagesStandFor page end m limit → PagesStandFor page end n other → (m ≡ n) × (limit ≡ other)
 
 -- the pages of a good placement stand for its map and its limit
 abbrev pub GoodPagesStand : Type 0
-GoodPagesStand = (page : ℕ → List ℕ) (p : Placement) → IsGood p → ArePages page p → PagesStandFor page p.space.end (contents p) p.limit
+GoodPagesStand = (page : ℕ → List ℕ) (p : Placement) → IsGood p → ArePages page p
+    → PagesStandFor page p.space.end (contents p) p.limit
 
--- what is read of pages that came to spell the placement after a store stands for the map with the pair
+-- what is read of pages that came to spell the placement after a store stands for the map with the
+-- pair
 abbrev pub StoredStands : Type 0
-StoredStands = (p : Placement) (at : ℕ → Body) (pair : Pair) → IsGood p → MayStore p pair → IsSpelled at (store p pair) → StandsFor at (store p pair).space.end (insert (contents p) pair.0 pair.1) p.limit
+StoredStands = (p : Placement) (at : ℕ → Body) (pair : Pair) → IsGood p → MayStore p pair
+    → IsSpelled at (store p pair)
+    → StandsFor at (store p pair).space.end (insert (contents p) pair.0 pair.1) p.limit
 
 -- and after a delete for the map without the key
 abbrev pub DeletedStands : Type 0
-DeletedStands = (p : Placement) (at : ℕ → Body) (key : Key) → IsGood p → IsSpelled at (delete p key) → StandsFor at (delete p key).space.end (fin.remove (contents p) key) p.limit
+DeletedStands = (p : Placement) (at : ℕ → Body) (key : Key) → IsGood p → IsSpelled at (delete p key)
+    → StandsFor at (delete p key).space.end (fin.remove (contents p) key) p.limit
 
--- where a pair is put and one chain and the free list are rewritten so, all pages but meta say the placement with the pair
+-- where a pair is put and one chain and the free list are rewritten so, all pages but meta say the
+-- placement with the pair
 abbrev pub PutRewrites : Type 0
-PutRewrites = (p : Placement) (at at' : ℕ → Body) (pair : Pair) → IsSound p → IsSound (put p pair) → AreRead at (lower_bodies p) →
+PutRewrites = (p : Placement) (at at' : ℕ → Body) (pair : Pair) → IsSound p → IsSound (put p pair)
+    → AreRead at (lower_bodies p) →
     (let chain = chain_at p (key_bucket p.shape pair.0) in
-    IsRewritten at at' (add pair (next_page p.space) chain) (if has_room pair chain then p.space else after_take p.space)) →
+    IsRewritten at at' (add pair (next_page p.space) chain)
+    (if has_room pair chain then p.space else after_take p.space)) →
     AreRead at' (lower_bodies (put p pair))
 
 -- the same of a delete
 abbrev pub DeleteRewrites : Type 0
-DeleteRewrites = (p : Placement) (at at' : ℕ → Body) (key : Key) → IsSound p → IsSound (delete p key) → AreRead at (lower_bodies p) →
+DeleteRewrites = (p : Placement) (at at' : ℕ → Body) (key : Key) → IsSound p
+    → IsSound (delete p key) → AreRead at (lower_bodies p) →
     (let chain = chain_at p (key_bucket p.shape key) in
     IsRewritten at at' (remove key chain) (give (emptied key chain) p.space)) →
     AreRead at' (lower_bodies (delete p key))
 
--- where a bucket is opened and its pages are rewritten so, all pages but meta say the placement with one bucket more
+-- where a bucket is opened and its pages are rewritten so, all pages but meta say the placement
+-- with one bucket more
 abbrev pub OpenRewrites : Type 0
-OpenRewrites = (p : Placement) (at at' : ℕ → Body) → IsSound p → AreRead at (lower_bodies p) → AreRewritten at at' (opened_bodies p) → AreRead at' (lower_bodies (opened p))
+OpenRewrites = (p : Placement) (at at' : ℕ → Body) → IsSound p → AreRead at (lower_bodies p)
+    → AreRewritten at at' (opened_bodies p) → AreRead at' (lower_bodies (opened p))
 
 -- where the meta page is rewritten last, all pages say the placement
 abbrev pub MetaRewrites : Type 0
-MetaRewrites = (p : Placement) (at at' : ℕ → Body) → IsSound p → AreRead at (lower_bodies p) → AreRewritten at at' (meta_body p ∷ []) → IsSpelled at' p
+MetaRewrites = (p : Placement) (at at' : ℕ → Body) → IsSound p → AreRead at (lower_bodies p)
+    → AreRewritten at at' (meta_body p ∷ []) → IsSpelled at' p

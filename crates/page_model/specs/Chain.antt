@@ -1,4 +1,5 @@
--- A chain: a list of pages, each a list of pairs. The first page is the bucket's head, the others are its overflow pages.
+-- A chain: a list of pages, each a list of pairs. The first page is the bucket's head, the others
+-- are its overflow pages.
 use Rattle.std.specs.Prelude.{ℕ, ◌+◌, ◌≤◌, ◌<◌, ◌==◌, Bool, List, [], ◌∷◌, ◌++◌, length, map, filter, flat_map, not, nat_le, if◌then◌else◌}
 use Rattle.std.specs.List.{AllByRecursion, list_any}
 use Rattle.dbm_model.specs.Pairs.{Key, Pair}
@@ -39,10 +40,12 @@ push pair leaf = record leaf { pairs = leaf.pairs ++ pair ∷ [] }
 abbrev pub has_room : Pair → Chain → Bool
 has_room pair chain = list_any (fits pair) chain
 
--- the pair goes to the first page that it fits, else to a page of its own at the end, whose number is `new`
+-- the pair goes to the first page that it fits, else to a page of its own at the end, whose number
+-- is `new`
 abbrev pub add : Pair → ℕ → Chain → Chain
 add pair new [] = record { number = new; pairs = pair ∷ [] } ∷ []
-add pair new (leaf ∷ rest) = if fits pair leaf then push pair leaf ∷ rest else leaf ∷ add pair new rest
+add pair new (leaf ∷ rest) = if fits pair leaf then push pair leaf ∷ rest
+    else leaf ∷ add pair new rest
 
 abbrev pub take_out : Key → Leaf → Leaf
 take_out key leaf = record leaf { pairs = without key leaf.pairs }
@@ -53,7 +56,8 @@ is_bare leaf = length leaf.pairs == 0
 -- the key is taken out of its page, and an overflow page that becomes empty out of the chain
 abbrev pub remove : Key → Chain → Chain
 remove key [] = []
-remove key (head ∷ overflow) = take_out key head ∷ filter (λ leaf. not (is_bare leaf)) (map (take_out key) overflow)
+remove key (head ∷ overflow) =
+    take_out key head ∷ filter (λ leaf. not (is_bare leaf)) (map (take_out key) overflow)
 
 -- the pages that leave the chain then
 abbrev pub emptied : Key → Chain → List ℕ
@@ -63,4 +67,5 @@ emptied key (head ∷ overflow) = numbers (filter is_bare (map (take_out key) ov
 -- each page fits, and each overflow page has a pair
 abbrev pub IsChain : Chain → Type 0
 IsChain [] = ⊥
-IsChain (head ∷ overflow) = (used head ≤ 2032) × AllByRecursion (λ leaf. used leaf ≤ 2032) overflow × AllByRecursion (λ leaf. 0 < length leaf.pairs) overflow
+IsChain (head ∷ overflow) = (used head ≤ 2032) × AllByRecursion (λ leaf. used leaf ≤ 2032) overflow
+    × AllByRecursion (λ leaf. 0 < length leaf.pairs) overflow

@@ -17,11 +17,13 @@ pairs_on (OverflowPage next pairs) = pairs
 pairs_on (FreePage next) = []
 pairs_on Other = []
 
--- all pairs of all pages, page by page in ascending number, with no look at a bucket, a chain or a segment
+-- all pairs of all pages, page by page in ascending number, with no look at a bucket, a chain or a
+-- segment
 abbrev pub flat_pairs : (ℕ → Body) → ℕ → List Pair
 flat_pairs at end = flat_map (λ n. pairs_on (at n)) (range_with_len 1 (end - 1))
 
--- pages 1 to end - 1 stand for a map and a limit: they spell a good placement, and the map is that of their flat contents
+-- pages 1 to end - 1 stand for a map and a limit: they spell a good placement, and the map is that
+-- of their flat contents
 pub record StandsFor (at : ℕ → Body) (end : ℕ) (map : Contents) (limit : ℕ) : Type 0 where
   pub placement : Placement
   pub good : IsGood placement

@@ -13,11 +13,17 @@ first_of (n ∷ rest) = n
 -- each page names the one after it
 abbrev pub overflow_bodies : Chain → List NumberedBody
 overflow_bodies [] = []
-overflow_bodies (leaf ∷ rest) = record { number = leaf.number; body = OverflowPage (first_of (numbers rest)) leaf.pairs } ∷ overflow_bodies rest
+overflow_bodies (leaf ∷ rest) =
+    record { number = leaf.number; body = OverflowPage (first_of (numbers rest)) leaf.pairs }
+    ∷ overflow_bodies rest
 
 abbrev pub chain_bodies : Chain → List NumberedBody
 chain_bodies [] = []
-chain_bodies (head ∷ rest) = record { number = head.number; body = HeadPage (first_of (numbers rest)) head.pairs } ∷ overflow_bodies rest
+chain_bodies (head ∷ rest) = record {
+  number = head.number;
+  body =
+      HeadPage (first_of (numbers rest)) head.pairs;
+} ∷ overflow_bodies rest
 
 abbrev pub free_bodies : List ℕ → List NumberedBody
 free_bodies [] = []
@@ -48,7 +54,8 @@ meta_body p = record { number = 1; body = MetaPage (meta_of p) }
 
 -- all pages but meta
 abbrev pub lower_bodies : Placement → List NumberedBody
-lower_bodies p = segment_bodies p.segments (heads_of p.chains) ++ flat_map chain_bodies p.chains ++ free_bodies p.space.free
+lower_bodies p = segment_bodies p.segments (heads_of p.chains) ++ flat_map chain_bodies p.chains
+    ++ free_bodies p.space.free
 
 -- all pages
 abbrev pub page_bodies : Placement → List NumberedBody

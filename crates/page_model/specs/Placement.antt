@@ -73,7 +73,8 @@ bared (head ∷ overflow) = bare head.number ∷ []
 abbrev pub opens_segment : Placement → Bool
 opens_segment p = length p.chains % 508 == 0
 
--- bucket `split` is emptied and its overflow pages are free; a page is taken for the head of a new bucket, and then one for its segment where that is new
+-- bucket `split` is emptied and its overflow pages are free; a page is taken for the head of a new
+-- bucket, and then one for its segment where that is new
 abbrev pub opened : Placement → Placement
 opened p =
     let chain = chain_at p p.shape.split in
@@ -97,7 +98,10 @@ store p pair = if nat_lt (8 * length p.chains) (length (pairs_of (replace p pair
 
 -- each pair is in the chain of its bucket, and each chain is one
 abbrev pub IsInPlace : Shape → List Chain → Type 0
-IsInPlace shape chains = (bucket : ℕ) → bucket < length chains → IsChain (slice_index_or chains bucket []) × AllByRecursion (λ pair. key_bucket shape pair.0 ≡ bucket) (pairs_in (slice_index_or chains bucket []))
+IsInPlace shape chains = (bucket : ℕ) → bucket < length chains
+    → IsChain (slice_index_or chains bucket [])
+    × AllByRecursion (λ pair. key_bucket shape pair.0 ≡ bucket)
+    (pairs_in (slice_index_or chains bucket []))
 
 -- all but the bounds on numbers of pairs, of buckets and of pages
 pub record IsSound (p : Placement) : Type 0 where

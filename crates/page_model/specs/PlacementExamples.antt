@@ -33,7 +33,11 @@ SeventeenPairs = fold store (fresh_placement 100) (counted (range_with_len 0x61 
   shape = record { level = 1; split = 1 };
   segments = 2 ∷ [];
   chains = (record { number = 3; pairs = counted (0x61 ∷ 0x65 ∷ 0x69 ∷ 0x6d ∷ 0x71 ∷ []) } ∷ [])
-      ∷ (record { number = 4; pairs = counted (0x62 ∷ 0x64 ∷ 0x66 ∷ 0x68 ∷ 0x6a ∷ 0x6c ∷ 0x6e ∷ 0x70 ∷ []) } ∷ [])
+      ∷ (record {
+        number = 4;
+        pairs =
+            counted (0x62 ∷ 0x64 ∷ 0x66 ∷ 0x68 ∷ 0x6a ∷ 0x6c ∷ 0x6e ∷ 0x70 ∷ []);
+      } ∷ [])
       ∷ (record { number = 5; pairs = counted (0x63 ∷ 0x67 ∷ 0x6b ∷ 0x6f ∷ []) } ∷ []) ∷ [];
   space = record { free = []; end = 6 };
 }
@@ -49,20 +53,25 @@ two_long = store (store (fresh_placement 100) (long 1499 0x61)) (long 1499 0x62)
 pub record LongPairs : Type 0 where
   pub stored : two_long.space ≡ record { free = []; end = 5 }
   pub deleted : (delete two_long (0x62 ∷ [])).space ≡ record { free = 4 ∷ []; end = 5 }
-  pub again : (store (delete two_long (0x62 ∷ [])) (long 1499 0x62)).space ≡ record { free = []; end = 5 }
+  pub again : (store (delete two_long (0x62 ∷ [])) (long 1499 0x62)).space
+      ≡ record { free = []; end = 5 }
 
 -- two of these fill a page
 abbrev thick : List ℕ → List Pair
 thick keys = map (long 1000) keys
 
--- a split gives overflow pages 4, 5, 6 and 7 in this order, and takes 7 for the new head, then 6, 5 and 4 as the pairs come
+-- a split gives overflow pages 4, 5, 6 and 7 in this order, and takes 7 for the new head, then 6, 5
+-- and 4 as the pairs come
 abbrev pub ThickPairs : Type 0
 ThickPairs = fold store (fresh_placement 100) (thick (range_with_len 0x61 9)) ≡ record {
   limit = 100;
   shape = record { level = 1; split = 0 };
   segments = 2 ∷ [];
-  chains = (record { number = 3; pairs = thick (0x61 ∷ 0x63 ∷ []) } ∷ record { number = 6; pairs = thick (0x65 ∷ 0x67 ∷ []) } ∷ record { number = 4; pairs = thick (0x69 ∷ []) } ∷ [])
-      ∷ (record { number = 7; pairs = thick (0x62 ∷ 0x64 ∷ []) } ∷ record { number = 5; pairs = thick (0x66 ∷ 0x68 ∷ []) } ∷ []) ∷ [];
+  chains = (record { number = 3; pairs = thick (0x61 ∷ 0x63 ∷ []) }
+      ∷ record { number = 6; pairs = thick (0x65 ∷ 0x67 ∷ []) }
+      ∷ record { number = 4; pairs = thick (0x69 ∷ []) } ∷ [])
+      ∷ (record { number = 7; pairs = thick (0x62 ∷ 0x64 ∷ []) }
+      ∷ record { number = 5; pairs = thick (0x66 ∷ 0x68 ∷ []) } ∷ []) ∷ [];
   space = record { free = []; end = 8 };
 }
 
@@ -76,7 +85,8 @@ replaced = store full (long 2025 0x62)
 abbrev renewed : Placement
 renewed = store (delete replaced (0x61 ∷ [])) (long 2025 0x61)
 
--- the page of a pair is taken again where the pair is replaced, and a head stays where it is emptied
+-- the page of a pair is taken again where the pair is replaced, and a head stays where it is
+-- emptied
 pub record FullPages : Type 0 where
   pub stored : full.space ≡ record { free = []; end = 5 }
   pub replaced_keeps : replaced.space ≡ record { free = []; end = 5 }

@@ -11,10 +11,12 @@ use Rattle.page_model.specs.Chain.{pairs_in}
 use Rattle.page_model.specs.Space.{Space, IsExact}
 use Rattle.page_model.specs.Placement.{Placement, pairs_of, contents, key_bucket, chain_at, delete, replace, split, store, fresh_placement, IsSound, IsGood, MayStore}
 
--- growing moves exactly the hashes of bucket `split` whose bit `level` is set, to bucket split + 2 ^ level
+-- growing moves exactly the hashes of bucket `split` whose bit `level` is set, to bucket split + 2
+-- ^ level
 abbrev pub GrowingMovesOneBucket : Type 0
 GrowingMovesOneBucket = (s : Shape) (hash : ℕ) → s.split < 2 ^ s.level →
-    address (grown s) hash ≡ (if address s hash == s.split && bit_at hash s.level == 1 then s.split + 2 ^ s.level else address s hash)
+    address (grown s) hash ≡ (if address s hash == s.split && bit_at hash s.level == 1
+    then s.split + 2 ^ s.level else address s hash)
 
 -- a hash has one of the buckets
 abbrev pub AddressesAreBelow : Type 0
@@ -22,23 +24,30 @@ AddressesAreBelow = (s : Shape) (hash : ℕ) → s.split < 2 ^ s.level → addre
 
 -- a sound placement in which a pair replaces its key's is sound, and its map has the pair
 abbrev pub ReplaceInserts : Type 0
-ReplaceInserts = (p : Placement) (pair : Pair) → IsSound p → IsAllowed pair → IsSound (replace p pair) × (contents (replace p pair) ≡ insert (contents p) pair.0 pair.1)
+ReplaceInserts = (p : Placement) (pair : Pair) → IsSound p → IsAllowed pair
+    → IsSound (replace p pair) × (contents (replace p pair) ≡ insert (contents p) pair.0 pair.1)
 
 -- a sound placement without a key is sound, and its map is without the key
 abbrev pub DeleteRemoves : Type 0
-DeleteRemoves = (p : Placement) (key : Key) → IsSound p → IsSound (delete p key) × (contents (delete p key) ≡ fin.remove (contents p) key)
+DeleteRemoves = (p : Placement) (key : Key) → IsSound p
+    → IsSound (delete p key) × (contents (delete p key) ≡ fin.remove (contents p) key)
 
 -- a key that is not there leaves the placement as it is
 abbrev pub AbsentDeleteKeeps : Type 0
-AbsentDeleteKeeps = (p : Placement) (key : Key) → IsSound p → get (contents p) key ≡ None → delete p key ≡ p
+AbsentDeleteKeeps = (p : Placement) (key : Key) → IsSound p → get (contents p) key ≡ None
+    → delete p key ≡ p
 
 -- a split changes no pair of the map
 abbrev pub SplitKeeps : Type 0
-SplitKeeps = (p : Placement) → IsSound p → IsSound (split p) × (contents (split p) ≡ contents p) × (length (pairs_of (split p)) ≡ length (pairs_of p)) × (length (split p).chains ≡ length p.chains + 1)
+SplitKeeps = (p : Placement) → IsSound p
+    → IsSound (split p) × (contents (split p) ≡ contents p)
+    × (length (pairs_of (split p)) ≡ length (pairs_of p))
+    × (length (split p).chains ≡ length p.chains + 1)
 
 -- what a key has in the map is what its chain has at the key
 abbrev pub LooksInOneChain : Type 0
-LooksInOneChain = (p : Placement) (key : Key) → IsSound p → get (contents p) key ≡ find key_cmp key (pairs_in (chain_at p (key_bucket p.shape key)))
+LooksInOneChain = (p : Placement) (key : Key) → IsSound p
+    → get (contents p) key ≡ find key_cmp key (pairs_in (chain_at p (key_bucket p.shape key)))
 
 -- the map has as many keys as there are pairs
 abbrev pub CountsKeys : Type 0
@@ -50,19 +59,25 @@ PairsAreAllowed = (p : Placement) → IsSound p → AllByRecursion IsAllowed (pa
 
 -- a store of what may be stored
 abbrev pub StoreStaysGood : Type 0
-StoreStaysGood = (p : Placement) (pair : Pair) → IsGood p → MayStore p pair → IsGood (store p pair) × (contents (store p pair) ≡ insert (contents p) pair.0 pair.1) × ((store p pair).limit ≡ p.limit)
+StoreStaysGood = (p : Placement) (pair : Pair) → IsGood p → MayStore p pair
+    → IsGood (store p pair) × (contents (store p pair) ≡ insert (contents p) pair.0 pair.1)
+    × ((store p pair).limit ≡ p.limit)
 
 -- a delete of any key
 abbrev pub DeleteStaysGood : Type 0
-DeleteStaysGood = (p : Placement) (key : Key) → IsGood p → IsGood (delete p key) × (contents (delete p key) ≡ fin.remove (contents p) key) × ((delete p key).limit ≡ p.limit)
+DeleteStaysGood = (p : Placement) (key : Key) → IsGood p
+    → IsGood (delete p key) × (contents (delete p key) ≡ fin.remove (contents p) key)
+    × ((delete p key).limit ≡ p.limit)
 
 -- a new database of an allowed limit
 abbrev pub FreshIsGood : Type 0
-FreshIsGood = (limit : ℕ) → 1 ≤ limit → limit ≤ 1000000 → IsGood (fresh_placement limit) × (contents (fresh_placement limit) ≡ empty)
+FreshIsGood = (limit : ℕ) → 1 ≤ limit → limit ≤ 1000000
+    → IsGood (fresh_placement limit) × (contents (fresh_placement limit) ≡ empty)
 
 -- keys and contents of a good placement are bytes
 abbrev pub MapHoldsBytes : Type 0
-MapHoldsBytes = (p : Placement) (key : Key) (content : List ℕ) → IsGood p → get (contents p) key ≡ Some content → HasBytes (key, content)
+MapHoldsBytes = (p : Placement) (key : Key) (content : List ℕ) → IsGood p
+    → get (contents p) key ≡ Some content → HasBytes (key, content)
 
 -- the level of a good placement
 abbrev pub LevelIsLow : Type 0
@@ -70,8 +85,11 @@ LevelIsLow = (p : Placement) → IsGood p → p.shape.level ≤ 16
 
 -- a store takes few pages
 abbrev pub StoreTakesFew : Type 0
-StoreTakesFew = (p : Placement) (pair : Pair) → IsSound p → IsAllowed pair → (store p pair).space.end ≤ p.space.end + length (pairs_of p) + 4
+StoreTakesFew = (p : Placement) (pair : Pair) → IsSound p → IsAllowed pair
+    → (store p pair).space.end ≤ p.space.end + length (pairs_of p) + 4
 
--- in exactly one place: the pages in use and the free ones are the numbers from 1 to end - 1, in some order
+-- in exactly one place: the pages in use and the free ones are the numbers from 1 to end - 1, in
+-- some order
 abbrev pub OnceIsPermutation : Type 0
-OnceIsPermutation = (in_use : List ℕ) (s : Space) → 1 ≤ s.end → IsExact in_use s ↔ IsPermutation (range_with_len 1 (s.end - 1)) (in_use ++ s.free)
+OnceIsPermutation = (in_use : List ℕ) (s : Space) → 1 ≤ s.end
+    → IsExact in_use s ↔ IsPermutation (range_with_len 1 (s.end - 1)) (in_use ++ s.free)

@@ -26,7 +26,12 @@ low bytes = u16_at bytes 12
 
 -- slot i
 abbrev pub slot_of : List ℕ → ℕ → Slot
-slot_of bytes i = record { offset = u16_at bytes (16 + 6 * i); key_len = u16_at bytes (16 + 6 * i + 2); content_len = u16_at bytes (16 + 6 * i + 4) }
+slot_of bytes i = record {
+  offset = u16_at bytes (16 + 6 * i);
+  key_len =
+      u16_at bytes (16 + 6 * i + 2);
+  content_len = u16_at bytes (16 + 6 * i + 4);
+}
 
 -- n slots from slot i on
 abbrev pub slots_from : List ℕ → ℕ → ℕ → List Slot
@@ -47,7 +52,12 @@ pairs_from bytes i n = map (slot_pair bytes) (slots_from bytes i n)
 
 -- as a page of pairs
 unfoldable pub bucket_of : List ℕ → Bucket
-bucket_of bytes = record { own = own_number bytes; kind = kind_of bytes; next = next_of bytes; pairs = pairs_from bytes 0 (slot_count bytes) }
+bucket_of bytes = record {
+  own = own_number bytes;
+  kind = kind_of bytes;
+  next = next_of bytes;
+  pairs = pairs_from bytes 0 (slot_count bytes);
+}
 
 -- as the meta page
 unfoldable pub fields_of : List ℕ → Meta
@@ -90,7 +100,8 @@ body_by_kind bytes = read_as (kind_of bytes) bytes
 
 -- what page n says: what its bytes would say, where they are the spelling of that
 unfoldable pub body_of : ℕ → List ℕ → Body
-body_of n bytes = if bytes_eq bytes (spelling_of n (body_by_kind bytes)) then body_by_kind bytes else Other
+body_of n bytes = if bytes_eq bytes (spelling_of n (body_by_kind bytes))
+    then body_by_kind bytes else Other
 
 -- the bytes from `from` up to `to` are zero
 abbrev pub IsClear : List ℕ → ℕ → ℕ → Type 0

@@ -8,7 +8,8 @@ use Rattle.page_model.specs.PageBodies.{chain_bodies, free_bodies, segment_bodie
 
 -- no page outside this chain and the free list is changed
 abbrev pub OthersStay : (ℕ → Body) → (ℕ → Body) → Chain → Space → Type 0
-OthersStay at at' chain space = (n : ℕ) → times_of n (numbers chain) + times_of n space.free ≡ 0 → at' n ≡ at n
+OthersStay at at' chain space =
+    (n : ℕ) → times_of n (numbers chain) + times_of n space.free ≡ 0 → at' n ≡ at n
 
 -- one chain and the free list were changed, and nothing else
 pub record IsRewritten (at at' : ℕ → Body) (chain : Chain) (space : Space) : Type 0 where
@@ -23,12 +24,14 @@ pub record AreRewritten (at at' : ℕ → Body) (xs : List NumberedBody) : Type 
 
 -- the last segment page
 abbrev pub last_segment : Placement → List NumberedBody
-last_segment p = let before = length p.segments - 1 in segment_bodies (drop before p.segments) (drop (508 * before) (heads_of p.chains))
+last_segment p = let before = length p.segments - 1 in
+    segment_bodies (drop before p.segments) (drop (508 * before) (heads_of p.chains))
 
 -- the head of the new bucket
 abbrev pub new_head : Placement → Leaf
 new_head p = bare (next_page (give (drop 1 (numbers (chain_at p p.shape.split))) p.space))
 
--- what is rewritten where a bucket is opened: the emptied head, the new head, the last segment page and the free list
+-- what is rewritten where a bucket is opened: the emptied head, the new head, the last segment page
+-- and the free list
 abbrev pub opened_bodies : Placement → List NumberedBody
 opened_bodies p = chain_bodies (bared (chain_at p p.shape.split)) ++ chain_bodies (new_head p ∷ []) ++ last_segment (opened p) ++ free_bodies (opened p).space.free

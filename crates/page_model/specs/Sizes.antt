@@ -13,7 +13,8 @@ buckets_for limit = (limit + 7) / 8
 abbrev pub segments_for : ℕ → ℕ
 segments_for buckets = (buckets + 507) / 508
 
--- the page of the commit sector, the meta page, the segments, a page for each bucket and one for each pair
+-- the page of the commit sector, the meta page, the segments, a page for each bucket and one for
+-- each pair
 abbrev pub home : ℕ → ℕ
 home limit = 2 + segments_for (buckets_for limit) + buckets_for limit + limit
 

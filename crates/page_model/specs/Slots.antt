@@ -29,7 +29,8 @@ room_of ps = 2032 - taken ps
 abbrev pub slot_ending : ℕ → Pair → Slot
 slot_ending end p = record { offset = end - size p; key_len = length p.0; content_len = length p.1 }
 
--- the slots of pairs: the first record ends at `end`, each further one where the one before it begins
+-- the slots of pairs: the first record ends at `end`, each further one where the one before it
+-- begins
 abbrev pub slots_ending : ℕ → List Pair → List Slot
 slots_ending end [] = []
 slots_ending end (p ∷ ps) = slot_ending end p ∷ slots_ending (end - size p) ps

@@ -7,25 +7,32 @@ use Rattle.page_model.specs.Slots.{total_size, room_of, slots_ending, slots_byte
 
 -- own number, kind, slot count, next page, low
 abbrev pub header : ℕ → ℕ → ℕ → ℕ → ℕ → List ℕ
-header own kind count next low = u32_bytes own ++ kind ∷ 0 ∷ [] ++ u16_bytes count ++ u32_bytes next ++ u16_bytes low ++ 0 ∷ 0 ∷ []
+header own kind count next low =
+    u32_bytes own ++ kind ∷ 0 ∷ [] ++ u16_bytes count ++ u32_bytes next
+    ++ u16_bytes low ++ 0 ∷ 0 ∷ []
 
 -- the version, 1, and the numbers before the segments
 abbrev pub counts : Meta → List ℕ
 counts m = 1 ∷ m.limit ∷ m.pairs ∷ m.level ∷ m.split ∷ m.free_head ∷ m.free_count ∷ length m.segments ∷ []
 
 unfoldable pub meta_spelling : ℕ → Meta → List ℕ
-meta_spelling own m = header own 1 0 0 0 ++ (numbers_bytes (counts m) ++ (replicate 16 0 ++ (numbers_bytes m.segments ++ replicate (1984 - 4 * length m.segments) 0)))
+meta_spelling own m = header own 1 0 0 0
+    ++ (numbers_bytes (counts m) ++ (replicate 16 0
+    ++ (numbers_bytes m.segments ++ replicate (1984 - 4 * length m.segments) 0)))
 
 -- the heads of a segment's buckets; the entries behind them are 0
 unfoldable pub segment_spelling : ℕ → List ℕ → List ℕ
-segment_spelling own heads = header own 2 0 0 0 ++ (numbers_bytes heads ++ replicate (2032 - 4 * length heads) 0)
+segment_spelling own heads = header own 2 0 0 0
+    ++ (numbers_bytes heads ++ replicate (2032 - 4 * length heads) 0)
 
 abbrev pub bucket_header : Bucket → List ℕ
 bucket_header b = header b.own b.kind (length b.pairs) b.next (2048 - total_size b.pairs)
 
 -- slots, zeros, records
 unfoldable pub bucket_spelling : Bucket → List ℕ
-bucket_spelling b = bucket_header b ++ (slots_bytes (slots_ending 2048 b.pairs) ++ (replicate (room_of b.pairs) 0 ++ records b.pairs))
+bucket_spelling b = bucket_header b
+    ++ (slots_bytes (slots_ending 2048 b.pairs)
+    ++ (replicate (room_of b.pairs) 0 ++ records b.pairs))
 
 unfoldable pub free_spelling : ℕ → ℕ → List ℕ
 free_spelling own next = header own 5 0 next 0 ++ replicate 2032 0

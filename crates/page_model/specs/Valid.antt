@@ -30,7 +30,8 @@ pub record IsMeta (m : Meta) : Type 0 where
 -- what page n may say; the heads of a segment are listed up to the last that isn't 0
 abbrev pub MaySay : ℕ → Body → Type 0
 MaySay n (MetaPage m) = (n ≡ 1) × IsMeta m
-MaySay n (SegmentPage heads) = IsNumber n × (length heads ≤ 508) × All IsNumber heads × (trimmed heads ≡ heads)
+MaySay n (SegmentPage heads) =
+    IsNumber n × (length heads ≤ 508) × All IsNumber heads × (trimmed heads ≡ heads)
 MaySay n (HeadPage next pairs) = IsBucket (bucket n 3 next pairs)
 MaySay n (OverflowPage next pairs) = IsBucket (bucket n 4 next pairs)
 MaySay n (FreePage next) = IsNumber n × IsNumber next

@@ -1,5 +1,6 @@
-//! What each page of a file says, and which page is where: pages with their bytes, and placements with no bytes, with their
-//! laws. There is no code here: a function of this crate has an empty body, and its clause is the law.
+//! What each page of a file says, and which page is where: pages with their bytes, and placements
+//! with no bytes, with their laws. There is no code here: a function of this crate has an empty
+//! body, and its clause is the law.
 #![tactic(auto)]
 
 mod body_laws;

@@ -12,12 +12,14 @@ pub fn reads_back()
 
 /// What is read, unless it is `Other`, is spelled so.
 pub fn is_spelled()
-    ensures { (n : ℕ) (bytes : List ℕ) → body_of n bytes ≢ Other → bytes ≡ spell (record { number = n; body = body_of n bytes }) }
+    ensures { (n : ℕ) (bytes : List ℕ) → body_of n bytes ≢ Other
+        → bytes ≡ spell (record { number = n; body = body_of n bytes }) }
 {}
 
 /// Bytes are the spelling of a page exactly where they are read as it.
 pub fn reads_exactly()
-    ensures { (s : NumberedBody) (bytes : List ℕ) → IsValidBody s → (bytes ≡ spell s) ↔ (body_of s.number bytes ≡ s.body) }
+    ensures { (s : NumberedBody) (bytes : List ℕ) → IsValidBody s
+        → (bytes ≡ spell s) ↔ (body_of s.number bytes ≡ s.body) }
 {}
 
 /// A spelled page is 2,048 bytes.

@@ -1,4 +1,5 @@
-// Laws of placements. What each says stands in `specs/PlacementLaws.antt` and `specs/PlacementExamples.antt`.
+// Laws of placements. What each says stands in `specs/PlacementLaws.antt` and
+// `specs/PlacementExamples.antt`.
 ghost use Rattle.page_model.specs.PlacementLaws.{GrowingMovesOneBucket, AddressesAreBelow, ReplaceInserts, DeleteRemoves, AbsentDeleteKeeps, SplitKeeps, LooksInOneChain, CountsKeys, PairsAreAllowed, StoreStaysGood, DeleteStaysGood, FreshIsGood, MapHoldsBytes, LevelIsLow, StoreTakesFew, OnceIsPermutation};
 ghost use Rattle.page_model.specs.PlacementExamples.{HashExamples, NinePairs, SeventeenPairs, LongPairs, ThickPairs, FullPages};
 ghost use Rattle.page_model.specs.Sizes.{SizeExamples};

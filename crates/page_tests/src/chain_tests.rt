@@ -8,7 +8,8 @@ use slot_page::{add, decode, empty, fits, set_next};
 use std::alloc::{AllocError, Global};
 use std::test::Fail;
 
-/// Adds pairs of one byte each to a page, and sets its next one. What isn't a page of pairs stays as it is.
+/// Adds pairs of one byte each to a page, and sets its next one. What isn't a page of pairs stays
+/// as it is.
 fn with_pairs(page: &Page, next: u32, pairs: &[[u8; 2]]) -> Page {
     let mut page = *page;
     for [key, content] in pairs {
@@ -143,7 +144,8 @@ fn is_file_of(store: &mut MemPages, three: &Page, four: &Page) -> Result<bool, P
     Ok(same && !third && !fourth)
 }
 
-/// What is wrong with each file that has no chain. The step behind the first pair sees all but the first.
+/// What is wrong with each file that has no chain. The step behind the first pair sees all but the
+/// first.
 const WRONG: [&str; 6] = [
     "a circle",
     "an overflow page with no pair",

@@ -108,7 +108,8 @@ fn an_absent_key_changes_nothing(rt: HostRuntime) -> Result<(), Fail> {
     Ok(())
 }
 
-/// Whether removing a key is Damaged in a chain whose second page names `last`, and leaves the free pages and the chain.
+/// Whether removing a key is Damaged in a chain whose second page names `last`, and leaves the free
+/// pages and the chain.
 fn is_damaged(alloc: Global, last: u32, key: u8, before: FreeState) -> Result<bool, Fail> {
     let mut store = two_pages(alloc, last)?;
     let mut space = before;

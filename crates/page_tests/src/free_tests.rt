@@ -102,7 +102,8 @@ fn take_is_refused(store: &mut MemPages, left: FreeState, fault: PageFault) -> b
     take(store, &mut space) == Err(fault) && space == left
 }
 
-/// The first page, the count and the end of free lists that are damaged, where the list is page 5 and page 4.
+/// The first page, the count and the end of free lists that are damaged, where the list is page 5
+/// and page 4.
 const DAMAGED: [[u32; 3]; 7] = [
     // a first page of another kind
     [2, 1, 6],
@@ -120,7 +121,8 @@ const DAMAGED: [[u32; 3]; 7] = [
     [0, 0, 0],
 ];
 
-/// Whether giving page 4 is refused where there are as many free pages as the file has, and leaves them.
+/// Whether giving page 4 is refused where there are as many free pages as the file has, and leaves
+/// them.
 fn give_is_refused(store: &mut MemPages) -> bool {
     let mut full = space_of(5, 6, 6);
     give(store, &mut full, 4) == Err(PageFault::Damaged) && full == space_of(5, 6, 6)

@@ -1,4 +1,5 @@
-//! Tests of what stands in pages: pairs, chains, free pages and segments, and of the addresses that lead there.
+//! Tests of what stands in pages: pairs, chains, free pages and segments, and of the addresses that
+//! lead there.
 #![tactic(auto)]
 
 #[cfg(test)]

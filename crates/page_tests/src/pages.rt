@@ -1,4 +1,5 @@
-//! Pages, files and stores that the tests share. None of these functions has a clause, so that no clause of a call in them is in a goal of a test.
+//! Pages, files and stores that the tests share. None of these functions has a clause, so that no
+//! clause of a call in them is in a goal of a test.
 
 use bucket_chain::{Pair, put};
 use free_pages::FreeState;

@@ -81,7 +81,8 @@ fn the_header_comes_before_the_version(rt: HostRuntime) {
     assert!(rt; fault(&page) == Some(MetaFault::Damaged));
 }
 
-/// Meta pages that are damaged: the places and numbers that make them so, of which a row with fewer than three repeats one.
+/// Meta pages that are damaged: the places and numbers that make them so, of which a row with fewer
+/// than three repeats one.
 const DAMAGED: [[[u32; 2]; 3]; 15] = [
     // another own number
     [[0, 2], [0, 2], [0, 2]],
@@ -207,7 +208,8 @@ fn sets_bucket_1(store: &mut MemPages, meta: &mut Meta) -> Result<bool, PageFaul
     Ok(alone && space.file_end == 4 && page_at(store, 2)?.bytes == bytes)
 }
 
-/// Whether the head of bucket 1 is read once the shape has grown, and no head from what is no segment.
+/// Whether the head of bucket 1 is read once the shape has grown, and no head from what is no
+/// segment.
 fn reads_bucket_1(store: &mut MemPages, meta: &mut Meta) -> Result<bool, PageFault> {
     let early = head(store, meta, 1);
     meta.shape = Shape::new(1, 0).unwrap_or(meta.shape);

@@ -187,8 +187,8 @@ fn is_zero(at: usize) -> bool {
     page_three().bytes.get(at) == Some(&0)
 }
 
-/// With byte `at` of page 3 set to 0 it is still a bucket page exactly where it was 0, and in the own number and the
-/// records, whose keys stay different.
+/// With byte `at` of page 3 set to 0 it is still a bucket page exactly where it was 0, and in the
+/// own number and the records, whose keys stay different.
 #[test]
 fn each_byte_set_to_zero(rt: HostRuntime) {
     for at in 0..2048 {
@@ -196,7 +196,8 @@ fn each_byte_set_to_zero(rt: HostRuntime) {
     }
 }
 
-/// With byte `at` of page 3 set to 255 it is still a bucket page exactly in the own number, the next page and the records.
+/// With byte `at` of page 3 set to 255 it is still a bucket page exactly in the own number, the
+/// next page and the records.
 #[test]
 fn each_byte_set_to_255(rt: HostRuntime) {
     for at in 0..2048 {

@@ -15,30 +15,40 @@ use Rattle.page_io.proofs.StagedPages.{replaced}
 use Rattle.redo_area.proofs.ReadRuns.{none_yet}
 
 -- a page that was looked for in a list, and not found
-pub not_found : {pages items : List Page} {b : Bool} (n : ℕ) → pages ≡ items → b ≡ has_page (bytes_of pages) n → b ≡ false → has_page (bytes_of items) n ≡ false
-not_found n same is fails = ap (λ (ps : List Page). has_page (bytes_of ps) n) (sym same) ∙ sym is ∙ fails
+pub not_found : {pages items : List Page} {b : Bool} (n : ℕ) → pages ≡ items
+    → b ≡ has_page (bytes_of pages) n → b ≡ false → has_page (bytes_of items) n ≡ false
+not_found n same is fails = ap (λ (ps : List Page). has_page (bytes_of ps) n) (sym same)
+    ∙ sym is ∙ fails
 
 -- what a read gives where the page is not staged
-pub not_staged : (staged : Pages) (home : ℕ → List ℕ) (end n : ℕ) → 1 ≤ n → n < end → has_page staged n ≡ false → overlaid staged (page_of (file_pages home end)) n ≡ home n
-not_staged staged home end n ge lt none = overlaid-none staged (page_of (file_pages home end)) n none ∙ page_of-file home end n ge lt
+pub not_staged : (staged : Pages) (home : ℕ → List ℕ) (end n : ℕ) → 1 ≤ n → n < end
+    → has_page staged n ≡ false → overlaid staged (page_of (file_pages home end)) n ≡ home n
+not_staged staged home end n ge lt none =
+    overlaid-none staged (page_of (file_pages home end)) n none ∙ page_of-file home end n ge lt
 
 module _ (redo : Pages) (home : ℕ → List ℕ) (none : redo ≡ []) where
   pub none_over : home ≡ overlaid redo home
   none_over = ap (λ (ps : Pages). overlaid ps home) (sym none)
 
   -- what is committed afterwards
-  pub new_pages : (old_end new_end : ℕ) (pages staged : Pages) → pages ≡ staged → ((n : ℕ) → old_end ≤ n → n < new_end → has_page staged n ≡ true)
-      → file_pages (overlaid pages home) new_end ≡ committed_with (file_pages (overlaid redo home) old_end) staged new_end
+  pub new_pages : (old_end new_end : ℕ) (pages staged : Pages) → pages ≡ staged
+      → ((n : ℕ) → old_end ≤ n → n < new_end → has_page staged n ≡ true)
+      → file_pages (overlaid pages home) new_end
+      ≡ committed_with (file_pages (overlaid redo home) old_end) staged new_end
   new_pages old_end new_end pages staged same grown =
-      ap (λ (ps : Pages). file_pages (overlaid ps home) new_end) same ∙ replaced home old_end new_end staged grown
+      ap (λ (ps : Pages). file_pages (overlaid ps home) new_end) same
+      ∙ replaced home old_end new_end staged grown
       ∙ ap (λ (f : ℕ → List ℕ). committed_with (file_pages f old_end) staged new_end) none_over
 
   -- what a stop in between leaves
-  pub either : (old_end new_end : ℕ) (pages staged : Pages) (y : Settled) → pages ≡ staged → ((n : ℕ) → old_end ≤ n → n < new_end → has_page staged n ≡ true)
+  pub either : (old_end new_end : ℕ) (pages staged : Pages) (y : Settled) → pages ≡ staged
+      → ((n : ℕ) → old_end ≤ n → n < new_end → has_page staged n ≡ true)
       → IsEither (file_pages home old_end) (file_pages (overlaid pages home) new_end) y
-      → IsEither (file_pages (overlaid redo home) old_end) (committed_with (file_pages (overlaid redo home) old_end) staged new_end) y
+      → IsEither (file_pages (overlaid redo home) old_end)
+      (committed_with (file_pages (overlaid redo home) old_end) staged new_end) y
   either old_end new_end pages staged y same grown is =
-      ⊎_elim (λ old. inl (old ∙ ap (λ (f : ℕ → List ℕ). file_of (file_pages f old_end)) none_over)) (λ new. inr (new ∙ ap file_of (new_pages old_end new_end pages staged same grown))) is
+      ⊎_elim (λ old. inl (old ∙ ap (λ (f : ℕ → List ℕ). file_of (file_pages f old_end)) none_over))
+      (λ new. inr (new ∙ ap file_of (new_pages old_end new_end pages staged same grown))) is
 
 -- the pages that a pager reads
 abbrev pages_of : {D : Type 0} (dev : Ghosts D) → Pager D dev → Pages
@@ -48,41 +58,60 @@ pages_of dev p = file_pages (overlaid (bytes_of p.redo.items) (page_at (dev.seen
 pub read_leaves : {D : Type 0} (dev : Ghosts D) (old new : Pager D dev)
     → dev.sectors new.dev ≡ dev.sectors old.dev
     → LeavesOnly dev.moment dev.left_since old.dev new.dev (IsImageOf (dev.candidate old.dev))
-    → LeavesOnly (λ (p : Pager D dev). dev.moment p.dev) (λ (p : Pager D dev). IsOutcome dev.left_since (settled (dev.sectors p.dev / 4)) p.dev) old new
+    → LeavesOnly (λ (p : Pager D dev). dev.moment p.dev)
+    (λ (p : Pager D dev). IsOutcome dev.left_since (settled (dev.sectors p.dev / 4)) p.dev) old
+    new
     (SettlesTo (dev.sectors old.dev / 4) (dev.candidate old.dev))
 read_leaves {D} dev old new size run =
     let cap : ℕ = dev.sectors old.dev / 4 in
     let P = SettlesTo cap (dev.candidate old.dev) in
-    lifted dev.moment dev.left_since (λ (p : Pager D dev). p.dev) (λ (p : Pager D dev). settled (dev.sectors p.dev / 4)) old new P (ap (λ (s : ℕ). settled (s / 4)) size)
+    lifted dev.moment dev.left_since (λ (p : Pager D dev). p.dev)
+    (λ (p : Pager D dev). settled (dev.sectors p.dev / 4)) old new P
+    (ap (λ (s : ℕ). settled (s / 4)) size)
     (weaker dev.moment dev.left_since old.dev new.dev (λ image. P (settled cap image))
     (IsImageOf (dev.candidate old.dev)) run
     (λ image is. record { image = image; is_image = is; reads = refl }))
 
 -- what a call that asks the device for nothing keeps
-pub unasked : {D : Type 0} (dev : Ghosts D) (old new : Pager D dev) → new.dev ≡ old.dev → pages_of dev new ≡ pages_of dev old
-    → ((image : Image) → dev.left_since old.dev (dev.moment old.dev) image → IsImageOf (dev.candidate old.dev) image)
-    → KeepsPages (pages_of dev) (λ (p : Pager D dev). dev.moment p.dev) (λ (p : Pager D dev). IsOutcome dev.left_since (settled (dev.sectors p.dev / 4)) p.dev)
+pub unasked : {D : Type 0} (dev : Ghosts D) (old new : Pager D dev) → new.dev ≡ old.dev
+    → pages_of dev new ≡ pages_of dev old
+    → ((image : Image) → dev.left_since old.dev (dev.moment old.dev) image
+    → IsImageOf (dev.candidate old.dev) image)
+    → KeepsPages (pages_of dev) (λ (p : Pager D dev). dev.moment p.dev)
+    (λ (p : Pager D dev). IsOutcome dev.left_since (settled (dev.sectors p.dev / 4)) p.dev)
     (λ (p : Pager D dev). SettlesTo (dev.sectors p.dev / 4) (dev.candidate p.dev)) old new
 unasked {D} dev old new same pages only_now = record {
   committed = pages;
   any_moment = read_leaves dev old new (ap dev.sectors same)
-      (subst (λ (d : D). LeavesOnly dev.moment dev.left_since old.dev d (IsImageOf (dev.candidate old.dev))) (sym same)
+      (subst (λ (d : D). LeavesOnly dev.moment dev.left_since old.dev d
+      (IsImageOf (dev.candidate old.dev))) (sym same)
       (none_yet dev old.dev only_now).any_moment);
 }
 
 -- what a stop during a commit leaves, as the store reads it
-pub commit_leaves : {D : Type 0} (dev : Ghosts D) (old new : Pager D dev) (new_end : ℕ) (pages : List Page) → old.writable ≡ true → dev.sectors new.dev ≡ dev.sectors old.dev → pages ≡ old.staged.items
+pub commit_leaves : {D : Type 0} (dev : Ghosts D) (old new : Pager D dev) (new_end : ℕ)
+    (pages : List Page) → old.writable ≡ true → dev.sectors new.dev ≡ dev.sectors old.dev
+    → pages ≡ old.staged.items
     → ((n : ℕ) → old.end ≤ n → n < new_end → has_page (bytes_of old.staged.items) n ≡ true)
     → LeavesOnly dev.moment dev.left_since old.dev new.dev
-    (λ image. IsEither (file_pages (page_at (dev.seen old.dev)) old.end) (file_pages (overlaid (bytes_of pages) (page_at (dev.seen old.dev))) new_end) (settled (dev.sectors old.dev / 4) image))
-    → LeavesOnly (λ (p : Pager D dev). dev.moment p.dev) (λ (p : Pager D dev). IsOutcome dev.left_since (settled (dev.sectors p.dev / 4)) p.dev) old new
+    (λ image. IsEither (file_pages (page_at (dev.seen old.dev)) old.end)
+    (file_pages (overlaid (bytes_of pages) (page_at (dev.seen old.dev))) new_end)
+    (settled (dev.sectors old.dev / 4) image))
+    → LeavesOnly (λ (p : Pager D dev). dev.moment p.dev)
+    (λ (p : Pager D dev). IsOutcome dev.left_since (settled (dev.sectors p.dev / 4)) p.dev) old
+    new
     (IsEither (file_pages (overlaid (bytes_of old.redo.items) (page_at (dev.seen old.dev))) old.end)
-    (committed_with (file_pages (overlaid (bytes_of old.redo.items) (page_at (dev.seen old.dev))) old.end) (bytes_of old.staged.items) new_end))
+    (committed_with (file_pages (overlaid (bytes_of old.redo.items) (page_at (dev.seen old.dev)))
+    old.end) (bytes_of old.staged.items) new_end))
 commit_leaves {D} dev old new new_end pages writable size same grown run =
     let cap : ℕ = dev.sectors old.dev / 4 in
     let home = page_at (dev.seen old.dev) in
     let before = file_pages (overlaid (bytes_of old.redo.items) home) old.end in
     let P = IsEither before (committed_with before (bytes_of old.staged.items) new_end) in
-    lifted dev.moment dev.left_since (λ (p : Pager D dev). p.dev) (λ (p : Pager D dev). settled (dev.sectors p.dev / 4)) old new P (ap (λ (s : ℕ). settled (s / 4)) size)
+    lifted dev.moment dev.left_since (λ (p : Pager D dev). p.dev)
+    (λ (p : Pager D dev). settled (dev.sectors p.dev / 4)) old new P
+    (ap (λ (s : ℕ). settled (s / 4)) size)
     (weaker dev.moment dev.left_since old.dev new.dev (λ image. P (settled cap image)) _ run
-    (λ image is. either (bytes_of old.redo.items) home (old.none writable) old.end new_end (bytes_of pages) (bytes_of old.staged.items) (settled cap image) (ap bytes_of same) grown is))
+    (λ image is. either (bytes_of old.redo.items) home (old.none writable) old.end new_end
+    (bytes_of pages) (bytes_of old.staged.items) (settled cap image)
+    (ap bytes_of same) grown is))

@@ -19,9 +19,12 @@ pub below_room : (end start count capacity : ℕ) → end ≤ start → start + 
 below_room end start count capacity above room = omega (arith, above, room)
 
 -- the sector as it was read, on a device whose capacity was found
-module _ {sectors found : ℕ} (seen : Image) {content : List ℕ} (same : found ≡ sectors) (read : content ≡ seen 0) where
-  pub as_read : (h : Header) → h ≡ header_of (found / 4) content → header_of (sectors / 4) (seen 0) ≡ h
-  as_read h said = ap (header_of (sectors / 4)) (sym read) ∙ ap (λ (k : ℕ). header_of (k / 4) content) (sym same) ∙ sym said
+module _ {sectors found : ℕ} (seen : Image) {content : List ℕ} (same : found ≡ sectors)
+    (read : content ≡ seen 0) where
+  pub as_read : (h : Header) → h ≡ header_of (found / 4) content
+      → header_of (sectors / 4) (seen 0) ≡ h
+  as_read h said = ap (header_of (sectors / 4)) (sym read)
+      ∙ ap (λ (k : ℕ). header_of (k / 4) content) (sym same) ∙ sym said
 
   -- the header with its fields
   pub says_armed : (end start count : ℕ) → Armed end start count ≡ header_of (found / 4) content
@@ -29,39 +32,58 @@ module _ {sectors found : ℕ} (seen : Image) {content : List ℕ} (same : found
   says_armed end start count said = record
       { end = end; start = start; count = count; header = as_read (Armed end start count) said }
 
-  pub refused-blank : Blank ≡ header_of (found / 4) content → refusal_of (sectors / 4) seen ≡ Some BlankFault
-  refused-blank said = ap (λ (s : Settled). refusal_by s (has_magic (seen 0))) (settled-blank (sectors / 4) seen (as_read Blank said))
+  pub refused-blank : Blank ≡ header_of (found / 4) content
+      → refusal_of (sectors / 4) seen ≡ Some BlankFault
+  refused-blank said = ap (λ (s : Settled). refusal_by s (has_magic (seen 0)))
+      (settled-blank (sectors / 4) seen (as_read Blank said))
 
-  refused-nothing : (ours : Bool) → settled (sectors / 4) seen ≡ nothing → has_magic content ≡ ours → refusal_of (sectors / 4) seen ≡ cond ours (Some DamagedFault) (Some NotOursFault)
+  refused-nothing : (ours : Bool) → settled (sectors / 4) seen ≡ nothing → has_magic content ≡ ours
+      → refusal_of (sectors / 4) seen ≡ cond ours (Some DamagedFault) (Some NotOursFault)
   refused-nothing ours none is =
       ap (λ (s : Settled). refusal_by s (has_magic (seen 0))) none
-      ∙ ap (λ (b : Bool). cond b (Some DamagedFault) (Some NotOursFault)) (ap has_magic (sym read) ∙ is)
+      ∙ ap (λ (b : Bool). cond b (Some DamagedFault) (Some NotOursFault))
+      (ap has_magic (sym read) ∙ is)
 
-  pub refused-not_ours : NotOurs ≡ header_of (found / 4) content → has_magic content ≡ false → refusal_of (sectors / 4) seen ≡ Some NotOursFault
-  refused-not_ours said other = refused-nothing false (settled-not_ours (sectors / 4) seen (as_read NotOurs said)) other
+  pub refused-not_ours : NotOurs ≡ header_of (found / 4) content → has_magic content ≡ false
+      → refusal_of (sectors / 4) seen ≡ Some NotOursFault
+  refused-not_ours said other =
+      refused-nothing false (settled-not_ours (sectors / 4) seen (as_read NotOurs said)) other
 
-  pub refused-damaged : Damaged ≡ header_of (found / 4) content → has_magic content ≡ true → refusal_of (sectors / 4) seen ≡ Some DamagedFault
-  refused-damaged said ours = refused-nothing true (settled-damaged (sectors / 4) seen (as_read Damaged said)) ours
+  pub refused-damaged : Damaged ≡ header_of (found / 4) content → has_magic content ≡ true
+      → refusal_of (sectors / 4) seen ≡ Some DamagedFault
+  refused-damaged said ours = refused-nothing true
+      (settled-damaged (sectors / 4) seen (as_read Damaged said)) ours
 
-  pub refused-images : settled (sectors / 4) seen ≡ nothing → has_magic content ≡ true → refusal_of (sectors / 4) seen ≡ Some DamagedFault
+  pub refused-images : settled (sectors / 4) seen ≡ nothing → has_magic content ≡ true
+      → refusal_of (sectors / 4) seen ≡ Some DamagedFault
   refused-images none ours = refused-nothing true none ours
 
   -- the file, with redo images in memory
-  pub found-clear : (end : ℕ) (redo : Pages) → Clear end ≡ header_of (found / 4) content → redo ≡ [] → settled (sectors / 4) seen ≡ file_of (file_pages (overlaid redo (page_at seen)) end)
+  pub found-clear : (end : ℕ) (redo : Pages) → Clear end ≡ header_of (found / 4) content → redo ≡ []
+      → settled (sectors / 4) seen ≡ file_of (file_pages (overlaid redo (page_at seen)) end)
   found-clear end redo said none =
-      settled-clear (sectors / 4) seen end (as_read (Clear end) said) ∙ ap (λ (ps : Pages). file_of (file_pages (overlaid ps (page_at seen)) end)) (sym none)
+      settled-clear (sectors / 4) seen end (as_read (Clear end) said)
+      ∙ ap (λ (ps : Pages). file_of (file_pages (overlaid ps (page_at seen)) end)) (sym none)
 
-  pub found-armed : (end start count : ℕ) (redo : Pages) → Armed end start count ≡ header_of (found / 4) content → redo ≡ redo_images seen start count → are_in_order 1 end (redo_images seen start count) ≡ true
+  pub found-armed : (end start count : ℕ) (redo : Pages)
+      → Armed end start count ≡ header_of (found / 4) content → redo ≡ redo_images seen start count
+      → are_in_order 1 end (redo_images seen start count) ≡ true
       → settled (sectors / 4) seen ≡ file_of (file_pages (overlaid redo (page_at seen)) end)
   found-armed end start count redo said images order =
       let long = length-pages_from (page_at seen) start count in
-      settled-armed (sectors / 4) seen end start (redo_images seen start count) (as_read (Armed end start count) said ∙ ap (Armed end start) (sym long)) (ap (pages_from (page_at seen) start) long) order
+      settled-armed (sectors / 4) seen end start (redo_images seen start count)
+      (as_read (Armed end start count) said ∙ ap (Armed end start) (sym long))
+      (ap (pages_from (page_at seen) start) long) order
       ∙ ap (λ (ps : Pages). file_of (file_pages (overlaid ps (page_at seen)) end)) (sym images)
 
   -- the fault of reading redo images
-  pub refused-armed : (fault : OpenFault) (end start count : ℕ) → Armed end start count ≡ header_of (found / 4) content → has_magic content ≡ true
-      → (fault ≡ Device) ⊎ ((fault ≡ Memory) ⊎ (fault ≡ DamagedFault)) → (fault ≡ DamagedFault → are_in_order 1 end (redo_images seen start count) ≡ false)
+  pub refused-armed : (fault : OpenFault) (end start count : ℕ)
+      → Armed end start count ≡ header_of (found / 4) content → has_magic content ≡ true
+      → (fault ≡ Device) ⊎ ((fault ≡ Memory) ⊎ (fault ≡ DamagedFault))
+      → (fault ≡ DamagedFault → are_in_order 1 end (redo_images seen start count) ≡ false)
       → fault ≢ Device → fault ≢ Memory → refusal_of (sectors / 4) seen ≡ Some fault
   refused-armed fault end start count said ours only damaged device memory =
       ⊎_elim (λ is. absurd (device is)) (λ rest. ⊎_elim (λ is. absurd (memory is))
-      (λ is. refused-images (settled-disordered (sectors / 4) seen end start count (as_read (Armed end start count) said) (damaged is)) ours ∙ ap Some (sym is)) rest) only
+      (λ is. refused-images (settled-disordered (sectors / 4) seen end start count
+      (as_read (Armed end start count) said) (damaged is)) ours ∙ ap Some (sym is))
+      rest) only

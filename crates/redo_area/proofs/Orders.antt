@@ -4,17 +4,27 @@ use Rattle.std.proofs.lemmas.Bool.{and_from, and_left, and_right, le-leb, lt-leb
 use Rattle.page_io.specs.Page.{own_number}
 use Rattle.page_io.specs.Store.{Pages, pages_from, are_in_order}
 
-next_in_order : (least end : ℕ) (page : List ℕ) (pages : Pages) → least ≤ own_number page → own_number page < end → are_in_order least end (page ∷ pages) ≡ are_in_order (own_number page + 1) end pages
+next_in_order : (least end : ℕ) (page : List ℕ) (pages : Pages) → least ≤ own_number page
+    → own_number page < end → are_in_order least end (page ∷ pages)
+    ≡ are_in_order (own_number page + 1) end pages
 next_in_order least end page pages low high =
-    ap (λ (b : Bool). b && are_in_order (own_number page + 1) end pages) (and_from (leb least (own_number page)) (ltb (own_number page) end) (le-leb least (own_number page) low) (lt-ltb (own_number page) end high))
+    ap (λ (b : Bool). b && are_in_order (own_number page + 1) end pages)
+    (and_from (leb least (own_number page)) (ltb (own_number page) end)
+    (le-leb least (own_number page) low) (lt-ltb (own_number page) end high))
 
-too_low : (least end : ℕ) (page : List ℕ) (pages : Pages) → own_number page < least → are_in_order least end (page ∷ pages) ≡ false
+too_low : (least end : ℕ) (page : List ℕ) (pages : Pages) → own_number page < least
+    → are_in_order least end (page ∷ pages) ≡ false
 too_low least end page pages lt =
-    ap (λ (b : Bool). b && are_in_order (own_number page + 1) end pages) (and_left (leb least (own_number page)) (ltb (own_number page) end) (lt-leb least (own_number page) lt))
+    ap (λ (b : Bool). b && are_in_order (own_number page + 1) end pages)
+    (and_left (leb least (own_number page)) (ltb (own_number page) end)
+    (lt-leb least (own_number page) lt))
 
-too_high : (least end : ℕ) (page : List ℕ) (pages : Pages) → end ≤ own_number page → are_in_order least end (page ∷ pages) ≡ false
+too_high : (least end : ℕ) (page : List ℕ) (pages : Pages) → end ≤ own_number page
+    → are_in_order least end (page ∷ pages) ≡ false
 too_high least end page pages le =
-    ap (λ (b : Bool). b && are_in_order (own_number page + 1) end pages) (and_right (leb least (own_number page)) (ltb (own_number page) end) (le-ltb (own_number page) end le))
+    ap (λ (b : Bool). b && are_in_order (own_number page + 1) end pages)
+    (and_right (leb least (own_number page)) (ltb (own_number page) end)
+    (le-ltb (own_number page) end le))
 
 -- all images were read
 pub all_read : (count i : ℕ) → count ≤ i → i ≤ count → i ≡ count
@@ -24,25 +34,33 @@ pub none_left : (count i : ℕ) → count ≤ i → count - i ≡ 0
 none_left count i le = omega (arith, le)
 
 -- the images that are left begin with this one
-split : (at : ℕ → List ℕ) (start count i : ℕ) → i < count → pages_from at (start + i) (count - i) ≡ at (start + i) ∷ pages_from at (start + i + 1) (count - (i + 1))
-split at start count i lt = let left : count - i ≡ suc (count - (i + 1)) = omega arith in ap (pages_from at (start + i)) left
+split : (at : ℕ → List ℕ) (start count i : ℕ) → i < count
+    → pages_from at (start + i) (count - i) ≡ at (start + i)
+    ∷ pages_from at (start + i + 1) (count - (i + 1))
+split at start count i lt = let left : count - i ≡ suc (count - (i + 1)) = omega arith in
+    ap (pages_from at (start + i)) left
 
 -- the image at an index, and its number
-module _ (at : ℕ → List ℕ) (start count end i least own : ℕ) (lt : i < count) (number : own ≡ own_number (at (start + i))) where
+module _ (at : ℕ → List ℕ) (start count end i least own : ℕ) (lt : i < count)
+    (number : own ≡ own_number (at (start + i))) where
   -- out of range
-  pub not_in_order : (own < least) ⊎ (end ≤ own) → are_in_order least end (pages_from at (start + i) (count - i)) ≡ false
+  pub not_in_order : (own < least) ⊎ (end ≤ own)
+      → are_in_order least end (pages_from at (start + i) (count - i)) ≡ false
   not_in_order out =
       let rest = pages_from at (start + i + 1) (count - (i + 1)) in
       ap (are_in_order least end) (split at start count i lt)
-      ∙ ⊎_elim (λ low. too_low least end (at (start + i)) rest (omega (arith, number, low))) (λ high. too_high least end (at (start + i)) rest (omega (arith, number, high))) out
+      ∙ ⊎_elim (λ low. too_low least end (at (start + i)) rest (omega (arith, number, low)))
+      (λ high. too_high least end (at (start + i)) rest (omega (arith, number, high))) out
 
   -- in range: the numbers behind it are to be above it
   pub one_in_order : least ≤ own → own < end
-      → are_in_order least end (pages_from at (start + i) (count - i)) ≡ are_in_order (own + 1) end (pages_from at (start + (i + 1)) (count - (i + 1)))
+      → are_in_order least end (pages_from at (start + i) (count - i))
+      ≡ are_in_order (own + 1) end (pages_from at (start + (i + 1)) (count - (i + 1)))
   one_in_order low high =
       let rest = pages_from at (start + i + 1) (count - (i + 1)) in
       let more : start + i + 1 ≡ start + (i + 1) = omega arith in
       ap (are_in_order least end) (split at start count i lt)
-      ∙ next_in_order least end (at (start + i)) rest (omega (arith, number, low)) (omega (arith, number, high))
+      ∙ next_in_order least end (at (start + i)) rest (omega (arith, number, low))
+      (omega (arith, number, high))
       ∙ ap (λ (k : ℕ). are_in_order (k + 1) end rest) (sym number)
       ∙ ap (λ (k : ℕ). are_in_order (own + 1) end (pages_from at k (count - (i + 1)))) more

@@ -13,15 +13,21 @@ use Rattle.redo_commit.proofs.Images.{settled-armed}
 use Rattle.redo_commit.proofs.CommitRuns.{under_images, homes_leave, clear_leaves}
 
 -- calls that add no candidate
-pub as_before : {D : Type 0} (dev : Ghosts D) (first new : D) → LeavesOnly dev.moment dev.left_since first new (IsImageOf (dev.candidate first))
-    → LeavesOnly dev.moment dev.left_since first new (SettlesAsBefore (dev.sectors first / 4) (dev.candidate first))
+pub as_before : {D : Type 0} (dev : Ghosts D) (first new : D)
+    → LeavesOnly dev.moment dev.left_since first new (IsImageOf (dev.candidate first))
+    → LeavesOnly dev.moment dev.left_since first new
+    (SettlesAsBefore (dev.sectors first / 4) (dev.candidate first))
 as_before dev first new run =
-    weaker dev.moment dev.left_since first new (SettlesAsBefore (dev.sectors first / 4) (dev.candidate first)) (IsImageOf (dev.candidate first)) run (λ image is. (image, is, refl))
+    weaker dev.moment dev.left_since first new
+    (SettlesAsBefore (dev.sectors first / 4) (dev.candidate first))
+    (IsImageOf (dev.candidate first)) run (λ image is. (image, is, refl))
 
 -- a sync
 module _ {D : Type 0} (dev : Ghosts D) (first mid : D)
-    (only_now : (image : Image) → dev.left_since first (dev.moment first) image → IsImageOf (dev.candidate first) image)
-    (time : Elapses (dev.moment first) (dev.moment mid) (dev.left_since first) (dev.left_since mid) (IsImageOf (dev.candidate mid)))
+    (only_now : (image : Image) → dev.left_since first (dev.moment first) image
+    → IsImageOf (dev.candidate first) image)
+    (time : Elapses (dev.moment first) (dev.moment mid) (dev.left_since first) (dev.left_since mid)
+    (IsImageOf (dev.candidate mid)))
     (fewer : NoNewCandidate (dev.candidate first) (dev.candidate mid)) where
   pub sync_alone : LeavesOnly dev.moment dev.left_since first mid (IsImageOf (dev.candidate first))
   sync_alone =
@@ -31,7 +37,8 @@ module _ {D : Type 0} (dev : Ghosts D) (first mid : D)
 
   -- and a read behind it
   module _ (new : D) (fewer' : NoNewCandidate (dev.candidate mid) (dev.candidate new)) where
-    pub sync_and_read : Elapses (dev.moment mid) (dev.moment new) (dev.left_since mid) (dev.left_since new) (IsImageOf (dev.candidate new))
+    pub sync_and_read : Elapses (dev.moment mid) (dev.moment new) (dev.left_since mid)
+        (dev.left_since new) (IsImageOf (dev.candidate new))
         → LeavesOnly dev.moment dev.left_since first new (IsImageOf (dev.candidate first))
     sync_and_read time' =
         goes_on dev.moment dev.left_since first mid new (IsImageOf (dev.candidate first))
@@ -43,45 +50,86 @@ module _ {D : Type 0} (dev : Ghosts D) (first mid : D)
     still_at_start seen m = fewer m (dev.seen new m) (fewer' m (dev.seen new m) (seen m))
 
 -- images are copied home and synced, on an armed device
-module _ {D : Type 0} (dev : Ghosts D) (first mid synced : D) {end start : ℕ} {redo : Pages} (is_armed : IsArmed (dev.sectors first / 4) end start redo (dev.candidate first) (dev.seen first)) (above : end ≤ start)
-    (put : LeavesOnly dev.moment dev.left_since first mid (KeepsWhere (dev.candidate first) (IsOutsideAll redo)))
-    (candidates : (m : ℕ) (c : List ℕ) → IsOutsideAll redo m → dev.candidate mid m c → dev.candidate first m c)
-    (time : Elapses (dev.moment mid) (dev.moment synced) (dev.left_since mid) (dev.left_since synced) (IsImageOf (dev.candidate synced)))
+module _ {D : Type 0} (dev : Ghosts D) (first mid synced : D) {end start : ℕ} {redo : Pages}
+    (is_armed : IsArmed (dev.sectors first / 4) end start redo (dev.candidate first)
+    (dev.seen first)) (above : end ≤ start)
+    (put : LeavesOnly dev.moment dev.left_since first mid
+    (KeepsWhere (dev.candidate first) (IsOutsideAll redo)))
+    (candidates : (m : ℕ) (c : List ℕ) → IsOutsideAll redo m → dev.candidate mid m c
+    → dev.candidate first m c)
+    (time : Elapses (dev.moment mid) (dev.moment synced) (dev.left_since mid)
+    (dev.left_since synced) (IsImageOf (dev.candidate synced)))
     (fewer : NoNewCandidate (dev.candidate mid) (dev.candidate synced)) where
-  pub sync_leaves : LeavesOnly dev.moment dev.left_since first synced (λ image. settled (dev.sectors first / 4) image ≡ file_of (file_pages (overlaid redo (page_at (dev.seen first))) end))
+  pub sync_leaves : LeavesOnly dev.moment dev.left_since first synced
+      (λ image. settled (dev.sectors first / 4) image
+      ≡ file_of (file_pages (overlaid redo (page_at (dev.seen first))) end))
   sync_leaves =
-      goes_on dev.moment dev.left_since first mid synced (λ image. settled (dev.sectors first / 4) image ≡ file_of (file_pages (overlaid redo (page_at (dev.seen first))) end)) (IsImageOf (dev.candidate synced))
+      goes_on dev.moment dev.left_since first mid synced
+      (λ image. settled (dev.sectors first / 4) image
+      ≡ file_of (file_pages (overlaid redo (page_at (dev.seen first))) end))
+      (IsImageOf (dev.candidate synced))
       (homes_leave dev first is_armed above mid put) time
-      (λ image is. under_images dev first is_armed above image (λ m out. candidates m (image m) out (fewer m (image m) (is m))))
+      (λ image is. under_images dev first is_armed above image
+      (λ m out. candidates m (image m) out (fewer m (image m) (is m))))
 
   -- and the commit sector is cleared
-  pub replay_leaves : (new : D) (content : List ℕ) → dev.seen synced ≡ dev.seen mid → IsStable (dev.candidate synced) (dev.seen synced) → ((m : ℕ) → IsOutsideAll redo m → dev.seen mid m ≡ dev.seen first m)
-      → ((n : ℕ) → page_at (dev.seen mid) n ≡ overlaid redo (page_at (dev.seen first)) n) → dev.sectors first < 2 ^ 32 → 4 ≤ end → end ≤ dev.sectors first / 4 → content ≡ spelled 0 end 0 0
-      → LeavesOnly dev.moment dev.left_since synced new (IsImageOf (with_candidate (dev.candidate synced) 0 content))
-      → LeavesOnly dev.moment dev.left_since first new (λ image. settled (dev.sectors first / 4) image ≡ file_of (file_pages (overlaid redo (page_at (dev.seen first))) end))
+  pub replay_leaves : (new : D) (content : List ℕ) → dev.seen synced ≡ dev.seen mid
+      → IsStable (dev.candidate synced) (dev.seen synced)
+      → ((m : ℕ) → IsOutsideAll redo m → dev.seen mid m ≡ dev.seen first m)
+      → ((n : ℕ) → page_at (dev.seen mid) n ≡ overlaid redo (page_at (dev.seen first)) n)
+      → dev.sectors first < 2 ^ 32 → 4 ≤ end → end ≤ dev.sectors first / 4
+      → content ≡ spelled 0 end 0 0
+      → LeavesOnly dev.moment dev.left_since synced new
+      (IsImageOf (with_candidate (dev.candidate synced) 0 content))
+      → LeavesOnly dev.moment dev.left_since first new
+      (λ image. settled (dev.sectors first / 4) image
+      ≡ file_of (file_pages (overlaid redo (page_at (dev.seen first))) end))
   replay_leaves new content same stable others written fits least room spells cleared =
-      clear_leaves dev first is_armed above synced new content sync_leaves stable (λ m out. ap (λ (s : Image). s m) same ∙ others m out) (λ n. ap (λ (s : Image). page_at s n) same ∙ written n)
+      clear_leaves dev first is_armed above synced new content sync_leaves stable
+      (λ m out. ap (λ (s : Image). s m) same ∙ others m out)
+      (λ n. ap (λ (s : Image). page_at s n) same ∙ written n)
       fits least room spells cleared
 
 -- a device whose commit sector is armed
-module _ {D : Type 0} (dev : Ghosts D) (first mid : D) (stable : IsStable (dev.candidate first) (dev.seen first)) where
+module _ {D : Type 0} (dev : Ghosts D) (first mid : D)
+    (stable : IsStable (dev.candidate first) (dev.seen first)) where
   -- its images are only read
-  pub check_leaves : LeavesOnly dev.moment dev.left_since first mid (IsImageOf (dev.candidate first))
-      → LeavesOnly dev.moment dev.left_since first mid (λ image. settled (dev.sectors first / 4) image ≡ settled (dev.sectors first / 4) (dev.seen first))
+  pub check_leaves : LeavesOnly dev.moment dev.left_since first mid
+      (IsImageOf (dev.candidate first))
+      → LeavesOnly dev.moment dev.left_since first mid
+      (λ image. settled (dev.sectors first / 4) image
+      ≡ settled (dev.sectors first / 4) (dev.seen first))
   check_leaves run =
-      weaker dev.moment dev.left_since first mid (λ image. settled (dev.sectors first / 4) image ≡ settled (dev.sectors first / 4) (dev.seen first)) (IsImageOf (dev.candidate first)) run
-      (λ image is. ap (settled (dev.sectors first / 4)) (only_image (dev.candidate first) (dev.seen first) image stable is))
+      weaker dev.moment dev.left_since first mid
+      (λ image. settled (dev.sectors first / 4) image
+      ≡ settled (dev.sectors first / 4) (dev.seen first))
+      (IsImageOf (dev.candidate first)) run
+      (λ image is. ap (settled (dev.sectors first / 4))
+      (only_image (dev.candidate first) (dev.seen first) image stable is))
 
   -- they are sound
-  module _ (end start count : ℕ) (header : header_of (dev.sectors first / 4) (dev.seen first 0) ≡ Armed end start count) (order : are_in_order 1 end (redo_images (dev.seen first) start count) ≡ true)
+  module _ (end start count : ℕ)
+      (header : header_of (dev.sectors first / 4) (dev.seen first 0) ≡ Armed end start count)
+      (order : are_in_order 1 end (redo_images (dev.seen first) start count) ≡ true)
       (size : dev.sectors mid ≡ dev.sectors first) (same : dev.seen mid ≡ dev.seen first) where
     -- and copied
-    pub copy_leaves : (new : D) → LeavesOnly dev.moment dev.left_since first mid (IsImageOf (dev.candidate first))
-        → LeavesOnly dev.moment dev.left_since mid new (λ image. settled (dev.sectors mid / 4) image ≡ file_of (file_pages (overlaid (redo_images (dev.seen mid) start count) (page_at (dev.seen mid))) end))
-        → LeavesOnly dev.moment dev.left_since first new (λ image. settled (dev.sectors first / 4) image ≡ settled (dev.sectors first / 4) (dev.seen first))
+    pub copy_leaves : (new : D) → LeavesOnly dev.moment dev.left_since first mid
+        (IsImageOf (dev.candidate first))
+        → LeavesOnly dev.moment dev.left_since mid new
+        (λ image. settled (dev.sectors mid / 4) image
+        ≡ file_of (file_pages (overlaid (redo_images (dev.seen mid) start count)
+        (page_at (dev.seen mid))) end))
+        → LeavesOnly dev.moment dev.left_since first new
+        (λ image. settled (dev.sectors first / 4) image
+        ≡ settled (dev.sectors first / 4) (dev.seen first))
     copy_leaves new run copied =
         let cap : ℕ = dev.sectors first / 4 in
         let long = length-pages_from (page_at (dev.seen first)) start count in
-        let whole = settled-armed cap (dev.seen first) end start (redo_images (dev.seen first) start count) (header ∙ ap (Armed end start) (sym long)) (ap (pages_from (page_at (dev.seen first)) start) long) order in
-        followed_by dev.moment dev.left_since first mid new (λ image. settled cap image ≡ settled cap (dev.seen first)) _ (check_leaves run) copied
-        (λ image is. ap (λ (s : ℕ). settled (s / 4) image) (sym size) ∙ is ∙ ap (λ (s : Image). file_of (file_pages (overlaid (redo_images s start count) (page_at s)) end)) same ∙ sym whole)
+        let whole = settled-armed cap (dev.seen first) end start
+        (redo_images (dev.seen first) start count) (header ∙ ap (Armed end start) (sym long))
+        (ap (pages_from (page_at (dev.seen first)) start) long) order in
+        followed_by dev.moment dev.left_since first mid new
+        (λ image. settled cap image ≡ settled cap (dev.seen first)) _ (check_leaves run) copied
+        (λ image is. ap (λ (s : ℕ). settled (s / 4) image) (sym size) ∙ is
+        ∙ ap (λ (s : Image). file_of (file_pages
+        (overlaid (redo_images s start count) (page_at s)) end)) same ∙ sym whole)

@@ -12,7 +12,8 @@ from_ok (Ok x) ok p = p
 from_ok (Err e) ok p = cc
 
 -- where a test for `Err` answered no
-pub from_test : {T E P : Type 0} (r : Result T E) {b : Bool} → b ≡ is_err r → b ≡ false → OnOk r P → P
+pub from_test : {T E P : Type 0} (r : Result T E) {b : Bool} → b ≡ is_err r
+    → b ≡ false → OnOk r P → P
 from_test r is fails p = from_ok r (sym is ∙ fails) p
 
 from_err : {T E P : Type 0} (r : Result T E) → is_err r ≡ true → OnErr r P → P

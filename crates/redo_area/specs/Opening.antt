@@ -25,7 +25,8 @@ pub record SaysArmed (capacity : ℕ) (image : Image) : Type 0 where
   pub header : header_of capacity (image 0) ≡ Armed end start count
 
 -- the one image that is left is one that the device had at the start, and does not open
-pub record IsRefused (capacity : ℕ) (start now : Candidates) (seen : Image) (answer : OpenFault) : Type 0 where
+pub record IsRefused (capacity : ℕ) (start now : Candidates) (seen : Image)
+    (answer : OpenFault) : Type 0 where
   pub stable : IsStable now seen
   pub at_start : IsImageOf start seen
   pub fault : refusal_of capacity seen ≡ Some answer
@@ -38,7 +39,8 @@ pub record IsFresh (pages : ℕ) (for_writing : Bool) (state : StoreState) : Typ
   pub writable : state.writable ≡ for_writing
 
 -- Device comes only with a fault of the device, and only opening for reading takes memory
-pub record HasOpenCause {T D : Type 0} (writable : Bool) (before now : ℕ) (result : Result T (D × OpenFault)) : Type 0 where
+pub record HasOpenCause {T D : Type 0} (writable : Bool) (before now : ℕ)
+    (result : Result T (D × OpenFault)) : Type 0 where
   pub later : before ≤ now
   pub fault : IfErr result (λ e. e.1 ≡ Device → MoreFaults before now)
   pub no_memory : writable ≡ true → IfErr result (λ e. e.1 ≢ Memory)

@@ -9,6 +9,7 @@ abbrev pub device_of : {D : Type 0} {bound : Ghosts D} → Pager D bound → D
 device_of pager = pager.dev
 
 -- the device that opening was given, whatever it answers
-abbrev pub device_after : {D : Type 0} {bound : Ghosts D} → Result (Pager D bound) (D × OpenFault) → D
+abbrev pub device_after : {D : Type 0} {bound : Ghosts D}
+    → Result (Pager D bound) (D × OpenFault) → D
 device_after (Ok pager) = pager.dev
 device_after (Err e) = e.0

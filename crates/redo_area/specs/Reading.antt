@@ -3,7 +3,8 @@ use Rattle.std.specs.Prelude.{◌≡◌}
 use Rattle.sect_dev.specs.Device.{IsImageOf, NoNewCandidate, LeavesOnly}
 use Rattle.sect_dev.specs.declared.device.SectorDev.{Ghosts}
 
--- Nothing was written and nothing was synced: a read gives what it gave before, and a stop leaves what it could leave before, no more and no less.
+-- Nothing was written and nothing was synced: a read gives what it gave before, and a stop leaves
+-- what it could leave before, no more and no less.
 pub record OnlyReads {D : Type 0} (dev : Ghosts D) (old new : D) : Type 0 where
   pub seen : dev.seen new ≡ dev.seen old
   pub no_new : NoNewCandidate (dev.candidate old) (dev.candidate new)

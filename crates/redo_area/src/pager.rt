@@ -12,8 +12,8 @@ use page_io::{Page, PageFault, PageStore, find_staged, is_among, put_staged, rea
 use redo_commit::commit_pages;
 use sect_dev::SectorDev;
 
-/// A store of pages over a device. A commit that a stop cuts short is whole or absent when the device
-/// is opened again. One that was opened for reading alone never writes and never syncs.
+/// A store of pages over a device. A commit that a stop cuts short is whole or absent when the
+/// device is opened again. One that was opened for reading alone never writes and never syncs.
 #[derive(Drop)]
 pub struct Pager<D: SectorDev> {
     dev: D,
@@ -27,7 +27,8 @@ pub struct Pager<D: SectorDev> {
     ghost fits: { end ≤ D.sectors dev / 4 },
     ghost order: { are_in_order 1 (2 ^ 32) (bytes_of staged.items) ≡ true },
     ghost none: { writable ≡ true → bytes_of redo.items ≡ [] },
-    ghost rests: { SettlesIfUsable (D.honest dev) usable writable (D.sectors dev / 4) end (bytes_of redo.items) (D.candidate dev) (D.seen dev) },
+    ghost rests: { SettlesIfUsable (D.honest dev) usable writable (D.sectors dev / 4) end
+        (bytes_of redo.items) (D.candidate dev) (D.seen dev) },
 }
 
 impl<D: SectorDev> PageStore for Pager<D> {
@@ -42,9 +43,17 @@ impl<D: SectorDev> PageStore for Pager<D> {
     ghost use Rattle.redo_area.specs.Reading.{OnlyReads};
     ghost use Rattle.redo_area.specs.Settling.{only_seen, quarter_fits};
 
-    ghost state = { λ p. record { staged = bytes_of p.staged.items; end = p.end; capacity = D.sectors p.dev / 4; usable = p.usable; writable = p.writable } };
+    ghost state = { λ p. record {
+      staged = bytes_of p.staged.items;
+      end = p.end;
+      capacity =
+          D.sectors p.dev / 4;
+      usable = p.usable;
+      writable = p.writable;
+    } };
 
-    ghost committed = { λ p. file_pages (overlaid (bytes_of p.redo.items) (page_at (D.seen p.dev))) p.end };
+    ghost committed = { λ p. file_pages
+        (overlaid (bytes_of p.redo.items) (page_at (D.seen p.dev))) p.end };
 
     ghost honest = { λ p. D.honest p.dev };
 
@@ -58,15 +67,34 @@ impl<D: SectorDev> PageStore for Pager<D> {
 
     ghost reserved = { 0 };
 
-    ghost committed_may_stay = { λ p h usable. record { image = D.seen p.dev; is_image = D.seen_may_stay p.dev h; reads = (p.rests h usable).settles } };
+    ghost committed_may_stay = { λ p h usable.
+        record {
+          image = D.seen p.dev;
+          is_image = D.seen_may_stay p.dev h;
+          reads =
+              (p.rests h usable).settles;
+        } };
 
-    ghost only_committed = { λ p y h usable w s. only_seen (D.sectors p.dev / 4) (D.candidate p.dev) (D.seen p.dev) y _ ((p.rests h usable).at_rest w).stable (p.rests h usable).settles s };
+    ghost only_committed = { λ p y h usable w s.
+        only_seen (D.sectors p.dev / 4) (D.candidate p.dev) (D.seen p.dev) y _
+        ((p.rests h usable).at_rest w).stable (p.rests h usable).settles s };
 
-    ghost only_now = { λ p y h s. record { image = s.left; is_image = D.only_now p.dev s.left h s.is_left; reads = s.reads } };
+    ghost only_now = { λ p y h s.
+        record {
+          image = s.left;
+          is_image = D.only_now p.dev s.left h s.is_left;
+          reads = s.reads;
+        } };
 
-    ghost counts_now = { λ p t y h le s. record { left = s.image; is_left = D.counts_now p.dev t s.image h le s.is_image; reads = s.reads } };
+    ghost counts_now = { λ p t y h le s.
+        record {
+          left = s.image;
+          is_left = D.counts_now p.dev t s.image h le s.is_image;
+          reads = s.reads;
+        } };
 
-    ghost ends = { λ p. counts_end (overlaid (bytes_of p.redo.items) (page_at (D.seen p.dev))) p.end p.least };
+    ghost ends = { λ p. counts_end (overlaid (bytes_of p.redo.items) (page_at (D.seen p.dev)))
+        p.end p.least };
 
     ghost in_range = { λ p. (p.least, p.fits, quarter_fits (D.sectors p.dev) (D.fits p.dev)) };
 
@@ -74,15 +102,25 @@ impl<D: SectorDev> PageStore for Pager<D> {
 
     /// As the trait says, and the device below is only read.
     fn read(&mut self, n: u32, page: &mut Page) -> Result<(), PageFault>
-        ensures found { ⟦<Pager<D> as PageStore>⟧.honest self.old → OnOk result (page.new.bytes ≡ overlaid (⟦<Pager<D> as PageStore>⟧.state self.old).staged (page_of (⟦<Pager<D> as PageStore>⟧.committed self.old)) n) }
+        ensures found { ⟦<Pager<D> as PageStore>⟧.honest self.old
+            → OnOk result (page.new.bytes
+            ≡ overlaid (⟦<Pager<D> as PageStore>⟧.state self.old).staged
+            (page_of (⟦<Pager<D> as PageStore>⟧.committed self.old)) n) }
         ensures answer { IsReadAnswer (⟦<Pager<D> as PageStore>⟧.state self.old) n result }
-        ensures state { ⟦<Pager<D> as PageStore>⟧.state self.new ≡ ⟦<Pager<D> as PageStore>⟧.state self.old }
-        ensures kept { ⟦<Pager<D> as PageStore>⟧.honest self.old → KeepsPages ⟦<Pager<D> as PageStore>⟧.committed ⟦<Pager<D> as PageStore>⟧.moment ⟦<Pager<D> as PageStore>⟧.settled_since ⟦<Pager<D> as PageStore>⟧.settles_to self.old self.new }
-        ensures honesty { ⟦<Pager<D> as PageStore>⟧.honest self.new ↔ ⟦<Pager<D> as PageStore>⟧.honest self.old }
-        ensures cause { HasDeviceCause (⟦<Pager<D> as PageStore>⟧.faults self.old) (⟦<Pager<D> as PageStore>⟧.faults self.new) result }
+        ensures state { ⟦<Pager<D> as PageStore>⟧.state self.new
+            ≡ ⟦<Pager<D> as PageStore>⟧.state self.old }
+        ensures kept { ⟦<Pager<D> as PageStore>⟧.honest self.old
+            → KeepsPages ⟦<Pager<D> as PageStore>⟧.committed ⟦<Pager<D> as PageStore>⟧.moment
+            ⟦<Pager<D> as PageStore>⟧.settled_since ⟦<Pager<D> as PageStore>⟧.settles_to
+            self.old self.new }
+        ensures honesty { ⟦<Pager<D> as PageStore>⟧.honest self.new
+            ↔ ⟦<Pager<D> as PageStore>⟧.honest self.old }
+        ensures cause { HasDeviceCause (⟦<Pager<D> as PageStore>⟧.faults self.old)
+            (⟦<Pager<D> as PageStore>⟧.faults self.new) result }
 
         // The device was neither written nor synced.
-        ensures only_reads { D.honest (device_of self.old) → OnlyReads D.SectorDev (device_of self.old) (device_of self.new) }
+        ensures only_reads { D.honest (device_of self.old)
+            → OnlyReads D.SectorDev (device_of self.old) (device_of self.new) }
         ensures size { D.sectors (device_of self.new) ≡ D.sectors (device_of self.old) }
     {
         if !self.usable {
@@ -122,22 +160,40 @@ impl<D: SectorDev> PageStore for Pager<D> {
         requires some { 0 < length (⟦<Pager<D> as PageStore>⟧.state self.old).staged }
         requires least { 4 ≤ new_end }
         requires below { AllBelow new_end (⟦<Pager<D> as PageStore>⟧.state self.old).staged }
-        requires grown { (n : ℕ) → (⟦<Pager<D> as PageStore>⟧.state self.old).end ≤ n → n < new_end → has_page (⟦<Pager<D> as PageStore>⟧.state self.old).staged n ≡ true }
-        ensures any_moment { ⟦<Pager<D> as PageStore>⟧.honest self.old → (⟦<Pager<D> as PageStore>⟧.state self.old).usable ≡ true → (⟦<Pager<D> as PageStore>⟧.state self.old).writable ≡ true
-            → LeavesOnly ⟦<Pager<D> as PageStore>⟧.moment ⟦<Pager<D> as PageStore>⟧.settled_since self.old self.new
+        requires grown { (n : ℕ) → (⟦<Pager<D> as PageStore>⟧.state self.old).end ≤ n → n < new_end
+            → has_page (⟦<Pager<D> as PageStore>⟧.state self.old).staged n ≡ true }
+        ensures any_moment { ⟦<Pager<D> as PageStore>⟧.honest self.old
+            → (⟦<Pager<D> as PageStore>⟧.state self.old).usable ≡ true
+            → (⟦<Pager<D> as PageStore>⟧.state self.old).writable ≡ true
+            → LeavesOnly ⟦<Pager<D> as PageStore>⟧.moment ⟦<Pager<D> as PageStore>⟧.settled_since
+            self.old self.new
             (IsEither (⟦<Pager<D> as PageStore>⟧.committed self.old) (committed_with (⟦<Pager<D> as PageStore>⟧.committed self.old) (⟦<Pager<D> as PageStore>⟧.state self.old).staged new_end)) }
-        ensures committed { ⟦<Pager<D> as PageStore>⟧.honest self.old → OnOk result (⟦<Pager<D> as PageStore>⟧.committed self.new
-            ≡ committed_with (⟦<Pager<D> as PageStore>⟧.committed self.old) (⟦<Pager<D> as PageStore>⟧.state self.old).staged new_end) }
-        ensures ok { OnOk result (⟦<Pager<D> as PageStore>⟧.state self.new ≡ record (⟦<Pager<D> as PageStore>⟧.state self.old) { staged = []; end = new_end }) }
-        ensures refused { IfErr result (λ e. IsRefusal e → (⟦<Pager<D> as PageStore>⟧.state self.new ≡ ⟦<Pager<D> as PageStore>⟧.state self.old)
-            × (⟦<Pager<D> as PageStore>⟧.honest self.old → KeepsPages ⟦<Pager<D> as PageStore>⟧.committed ⟦<Pager<D> as PageStore>⟧.moment ⟦<Pager<D> as PageStore>⟧.settled_since ⟦<Pager<D> as PageStore>⟧.settles_to self.old self.new)) }
-        ensures breaks { IsErrOf result Device → ⟦<Pager<D> as PageStore>⟧.state self.new ≡ record (⟦<Pager<D> as PageStore>⟧.state self.old) { usable = false } }
+        ensures committed { ⟦<Pager<D> as PageStore>⟧.honest self.old
+            → OnOk result (⟦<Pager<D> as PageStore>⟧.committed self.new
+            ≡ committed_with (⟦<Pager<D> as PageStore>⟧.committed self.old)
+            (⟦<Pager<D> as PageStore>⟧.state self.old).staged new_end) }
+        ensures ok { OnOk result (⟦<Pager<D> as PageStore>⟧.state self.new
+            ≡ record (⟦<Pager<D> as PageStore>⟧.state self.old) {
+              staged = [];
+              end = new_end;
+            }) }
+        ensures refused { IfErr result
+            (λ e. IsRefusal e → (⟦<Pager<D> as PageStore>⟧.state self.new
+            ≡ ⟦<Pager<D> as PageStore>⟧.state self.old)
+            × (⟦<Pager<D> as PageStore>⟧.honest self.old
+            → KeepsPages ⟦<Pager<D> as PageStore>⟧.committed ⟦<Pager<D> as PageStore>⟧.moment ⟦<Pager<D> as PageStore>⟧.settled_since ⟦<Pager<D> as PageStore>⟧.settles_to self.old self.new)) }
+        ensures breaks { IsErrOf result Device
+            → ⟦<Pager<D> as PageStore>⟧.state self.new
+            ≡ record (⟦<Pager<D> as PageStore>⟧.state self.old) { usable = false } }
         ensures answer { IsCommitAnswer (⟦<Pager<D> as PageStore>⟧.state self.old) new_end result }
-        ensures honesty { ⟦<Pager<D> as PageStore>⟧.honest self.new ↔ ⟦<Pager<D> as PageStore>⟧.honest self.old }
-        ensures cause { HasDeviceCause (⟦<Pager<D> as PageStore>⟧.faults self.old) (⟦<Pager<D> as PageStore>⟧.faults self.new) result }
+        ensures honesty { ⟦<Pager<D> as PageStore>⟧.honest self.new
+            ↔ ⟦<Pager<D> as PageStore>⟧.honest self.old }
+        ensures cause { HasDeviceCause (⟦<Pager<D> as PageStore>⟧.faults self.old)
+            (⟦<Pager<D> as PageStore>⟧.faults self.new) result }
 
         // The device is as it was.
-        ensures untouched { IfErr result (λ e. IsRefusal e → device_of self.new ≡ device_of self.old) }
+        ensures untouched { IfErr result
+            (λ e. IsRefusal e → device_of self.new ≡ device_of self.old) }
     {
         if !self.usable {
             return Err(PageFault::Broken);

@@ -13,14 +13,16 @@ use redo_commit::{Header, read_header};
 use sect_dev::SectorDev;
 use std::alloc::Global;
 
-/// A file whose pages are 1 to `end` - 1 of the device, with the redo images in the place of those that they name.
+/// A file whose pages are 1 to `end` - 1 of the device, with the redo images in the place of those
+/// that they name.
 #[derive(Drop)]
 pub struct SeenFile {
     pub end: u32,
     pub redo: Vec<Page>,
 }
 
-/// Reads the redo images into memory. Damaged is the answer where their numbers do not rise from 1 on and below the end.
+/// Reads the redo images into memory. Damaged is the answer where their numbers do not rise from 1
+/// on and below the end.
 fn read_images<D: SectorDev>(
     alloc: Global,
     dev: &mut D,
@@ -29,13 +31,19 @@ fn read_images<D: SectorDev>(
     end: u32,
 ) -> Result<Vec<Page>, OpenFault>
     requires { 4 * (start + count) ≤ D.sectors dev.old }
-    ensures images { D.honest dev.old → IfOk result (λ images. bytes_of images.items ≡ redo_images (D.seen dev.old) start count) }
-    ensures in_order { D.honest dev.old → IfOk result (λ images. are_in_order 1 end (redo_images (D.seen dev.old) start count) ≡ true) }
-    ensures damaged { D.honest dev.old → IsErrOf result OpenFault.Damaged → are_in_order 1 end (redo_images (D.seen dev.old) start count) ≡ false }
-    ensures only { IfErr result (λ e. (e ≡ OpenFault.Device) ⊎ ((e ≡ OpenFault.Memory) ⊎ (e ≡ OpenFault.Damaged))) }
+    ensures images { D.honest dev.old
+        → IfOk result (λ images. bytes_of images.items ≡ redo_images (D.seen dev.old) start count) }
+    ensures in_order { D.honest dev.old
+        → IfOk result (λ images. are_in_order 1 end
+        (redo_images (D.seen dev.old) start count) ≡ true) }
+    ensures damaged { D.honest dev.old → IsErrOf result OpenFault.Damaged
+        → are_in_order 1 end (redo_images (D.seen dev.old) start count) ≡ false }
+    ensures only { IfErr result (λ e.
+        (e ≡ OpenFault.Device) ⊎ ((e ≡ OpenFault.Memory) ⊎ (e ≡ OpenFault.Damaged))) }
     ensures only_reads { D.honest dev.old → OnlyReads D.SectorDev dev.old dev.new }
     ensures later { D.faults dev.old ≤ D.faults dev.new }
-    ensures cause { IsErrOf result OpenFault.Device → MoreFaults (D.faults dev.old) (D.faults dev.new) }
+    ensures cause { IsErrOf result OpenFault.Device
+        → MoreFaults (D.faults dev.old) (D.faults dev.new) }
     ensures honesty { D.honest dev.new ↔ D.honest dev.old }
     ensures size { D.sectors dev.new ≡ D.sectors dev.old }
 {
@@ -63,13 +71,20 @@ pub fn read_file<D: SectorDev>(alloc: Global, dev: &mut D) -> Result<SeenFile, O
     requires { 16 ≤ D.sectors dev.old }
 
     // The file is the one that the device settles to, as a read gives it.
-    ensures found { D.honest dev.old → IfOk result (λ file. settled (D.sectors dev.old / 4) (D.seen dev.old) ≡ file_of (file_pages (overlaid (bytes_of file.redo.items) (page_at (D.seen dev.old))) file.end)) }
+    ensures found { D.honest dev.old
+        → IfOk result (λ file. settled (D.sectors dev.old / 4) (D.seen dev.old)
+        ≡ file_of (file_pages (overlaid (bytes_of file.redo.items) (page_at (D.seen dev.old)))
+        file.end)) }
     ensures end { IfOk result (λ file. (4 ≤ file.end) × (file.end ≤ D.sectors dev.old / 4)) }
-    ensures refused { D.honest dev.old → IfErr result (λ e. e ≢ OpenFault.Device → e ≢ OpenFault.Memory → refusal_of (D.sectors dev.old / 4) (D.seen dev.old) ≡ Some e) }
-    ensures memory { D.honest dev.old → IsErrOf result OpenFault.Memory → SaysArmed (D.sectors dev.old / 4) (D.seen dev.old) }
+    ensures refused { D.honest dev.old
+        → IfErr result (λ e. e ≢ OpenFault.Device → e ≢ OpenFault.Memory
+        → refusal_of (D.sectors dev.old / 4) (D.seen dev.old) ≡ Some e) }
+    ensures memory { D.honest dev.old → IsErrOf result OpenFault.Memory
+        → SaysArmed (D.sectors dev.old / 4) (D.seen dev.old) }
     ensures only_reads { D.honest dev.old → OnlyReads D.SectorDev dev.old dev.new }
     ensures later { D.faults dev.old ≤ D.faults dev.new }
-    ensures cause { IsErrOf result OpenFault.Device → MoreFaults (D.faults dev.old) (D.faults dev.new) }
+    ensures cause { IsErrOf result OpenFault.Device
+        → MoreFaults (D.faults dev.old) (D.faults dev.new) }
     ensures honesty { D.honest dev.new ↔ D.honest dev.old }
     ensures size { D.sectors dev.new ≡ D.sectors dev.old }
 {

@@ -23,12 +23,23 @@ fn copy_images<D: SectorDev>(
 ) -> Result<bool, DevFault>
     requires room { 4 * (start + count) ≤ D.sectors dev.old }
     requires above { end ≤ start }
-    requires in_order { D.honest dev.old → are_in_order 1 end (redo_images (D.seen dev.old) start count) ≡ true }
-    ensures any_moment { D.honest dev.old → LeavesOnly D.moment D.left_since dev.old dev.new (KeepsWhere (D.candidate dev.old) (IsOutsideAll (redo_images (D.seen dev.old) start count))) }
-    ensures candidates { D.honest dev.old → (m : ℕ) (c : List ℕ) → IsOutsideAll (redo_images (D.seen dev.old) start count) m → D.candidate dev.new m c → D.candidate dev.old m c }
+    requires in_order { D.honest dev.old
+        → are_in_order 1 end (redo_images (D.seen dev.old) start count) ≡ true }
+    ensures any_moment { D.honest dev.old
+        → LeavesOnly D.moment D.left_since dev.old dev.new
+        (KeepsWhere (D.candidate dev.old)
+        (IsOutsideAll (redo_images (D.seen dev.old) start count))) }
+    ensures candidates { D.honest dev.old → (m : ℕ) (c : List ℕ)
+        → IsOutsideAll (redo_images (D.seen dev.old) start count) m → D.candidate dev.new m c
+        → D.candidate dev.old m c }
     ensures good { D.honest dev.old → IfOk result (λ good. good ≡ true) }
-    ensures others { D.honest dev.old → IfOk result (λ good. (m : ℕ) → IsOutsideAll (redo_images (D.seen dev.old) start count) m → D.seen dev.new m ≡ D.seen dev.old m) }
-    ensures written { D.honest dev.old → IfOk result (λ good. (n : ℕ) → page_at (D.seen dev.new) n ≡ overlaid (redo_images (D.seen dev.old) start count) (page_at (D.seen dev.old)) n) }
+    ensures others { D.honest dev.old
+        → IfOk result (λ good. (m : ℕ) → IsOutsideAll (redo_images (D.seen dev.old) start count) m
+        → D.seen dev.new m ≡ D.seen dev.old m) }
+    ensures written { D.honest dev.old
+        → IfOk result (λ good. (n : ℕ)
+        → page_at (D.seen dev.new) n ≡ overlaid (redo_images (D.seen dev.old) start count)
+        (page_at (D.seen dev.old)) n) }
     ensures honesty { D.honest dev.new ↔ D.honest dev.old }
     ensures cause { HasCause (D.faults dev.old) (D.faults dev.new) result }
     ensures size { D.sectors dev.new ≡ D.sectors dev.old }
@@ -45,19 +56,29 @@ fn copy_images<D: SectorDev>(
     Ok(true)
 }
 
-/// Copies the redo images home, and clears the commit sector. It answers false as `copy_images` does.
+/// Copies the redo images home, and clears the commit sector. It answers false as `copy_images`
+/// does.
 fn replay<D: SectorDev>(dev: &mut D, start: u32, count: u32, end: u32) -> Result<bool, DevFault>
-    requires armed { D.honest dev.old → IsArmed (D.sectors dev.old / 4) end start (redo_images (D.seen dev.old) start count) (D.candidate dev.old) (D.seen dev.old) }
+    requires armed { D.honest dev.old
+        → IsArmed (D.sectors dev.old / 4) end start (redo_images (D.seen dev.old) start count)
+        (D.candidate dev.old) (D.seen dev.old) }
     requires least { 4 ≤ end }
     requires above { end ≤ start }
     requires room { start + count ≤ D.sectors dev.old / 4 }
 
     // Every image of every moment since the start settles to the pages with the images in place.
     ensures any_moment { D.honest dev.old → LeavesOnly D.moment D.left_since dev.old dev.new
-        (λ image. settled (D.sectors dev.old / 4) image ≡ file_of (file_pages (overlaid (redo_images (D.seen dev.old) start count) (page_at (D.seen dev.old))) end)) }
+        (λ image. settled (D.sectors dev.old / 4) image
+        ≡ file_of (file_pages (overlaid (redo_images (D.seen dev.old) start count)
+        (page_at (D.seen dev.old))) end)) }
     ensures good { D.honest dev.old → IfOk result (λ good. good ≡ true) }
-    ensures rest { D.honest dev.old → IfOk result (λ good. IsAtRest (D.sectors dev.old / 4) end (D.candidate dev.new) (D.seen dev.new)) }
-    ensures pages { D.honest dev.old → IfOk result (λ good. file_pages (page_at (D.seen dev.new)) end ≡ file_pages (overlaid (redo_images (D.seen dev.old) start count) (page_at (D.seen dev.old))) end) }
+    ensures rest { D.honest dev.old
+        → IfOk result (λ good. IsAtRest (D.sectors dev.old / 4) end (D.candidate dev.new)
+        (D.seen dev.new)) }
+    ensures pages { D.honest dev.old
+        → IfOk result (λ good. file_pages (page_at (D.seen dev.new)) end
+        ≡ file_pages (overlaid (redo_images (D.seen dev.old) start count)
+        (page_at (D.seen dev.old))) end) }
     ensures honesty { D.honest dev.new ↔ D.honest dev.old }
     ensures cause { HasCause (D.faults dev.old) (D.faults dev.new) result }
     ensures size { D.sectors dev.new ≡ D.sectors dev.old }
@@ -79,10 +100,14 @@ fn check_images<D: SectorDev>(
     end: u32,
 ) -> Result<bool, DevFault>
     requires { 4 * (start + count) ≤ D.sectors dev.old }
-    ensures checked { D.honest dev.old → IfOk result (λ good. good ≡ are_in_order 1 end (redo_images (D.seen dev.old) start count)) }
+    ensures checked { D.honest dev.old
+        → IfOk result (λ good. good ≡ are_in_order 1 end
+        (redo_images (D.seen dev.old) start count)) }
     ensures seen { D.honest dev.old → D.seen dev.new ≡ D.seen dev.old }
-    ensures candidates { D.honest dev.old → NoNewCandidate (D.candidate dev.old) (D.candidate dev.new) }
-    ensures any_moment { D.honest dev.old → LeavesOnly D.moment D.left_since dev.old dev.new (IsImageOf (D.candidate dev.old)) }
+    ensures candidates { D.honest dev.old
+        → NoNewCandidate (D.candidate dev.old) (D.candidate dev.new) }
+    ensures any_moment { D.honest dev.old
+        → LeavesOnly D.moment D.left_since dev.old dev.new (IsImageOf (D.candidate dev.old)) }
     ensures honesty { D.honest dev.new ↔ D.honest dev.old }
     ensures cause { HasCause (D.faults dev.old) (D.faults dev.new) result }
     ensures size { D.sectors dev.new ≡ D.sectors dev.old }
@@ -103,9 +128,11 @@ fn check_images<D: SectorDev>(
 /// Syncs, and reads the commit sector.
 fn look<D: SectorDev>(dev: &mut D) -> Result<[u8; 512], DevFault>
     requires { 0 < D.sectors dev.old }
-    ensures any_moment { D.honest dev.old → LeavesOnly D.moment D.left_since dev.old dev.new (IsImageOf (D.candidate dev.old)) }
+    ensures any_moment { D.honest dev.old
+        → LeavesOnly D.moment D.left_since dev.old dev.new (IsImageOf (D.candidate dev.old)) }
     ensures start { D.honest dev.old → IsImageOf (D.candidate dev.old) (D.seen dev.new) }
-    ensures stable { D.honest dev.old → OnOk result (IsStable (D.candidate dev.new) (D.seen dev.new)) }
+    ensures stable { D.honest dev.old
+        → OnOk result (IsStable (D.candidate dev.new) (D.seen dev.new)) }
     ensures read { D.honest dev.old → IfOk result (λ content. content ≡ D.seen dev.new 0) }
     ensures honesty { D.honest dev.new ↔ D.honest dev.old }
     ensures cause { HasCause (D.faults dev.old) (D.faults dev.new) result }
@@ -125,19 +152,25 @@ fn finish_armed<D: SectorDev>(
     count: u32,
 ) -> Result<bool, DevFault>
     requires stable { D.honest dev.old → IsStable (D.candidate dev.old) (D.seen dev.old) }
-    requires header { D.honest dev.old → header_of (D.sectors dev.old / 4) (D.seen dev.old 0) ≡ Armed end start count }
+    requires header { D.honest dev.old
+        → header_of (D.sectors dev.old / 4) (D.seen dev.old 0) ≡ Armed end start count }
     requires least { 4 ≤ end }
     requires above { end ≤ start }
     requires room { start + count ≤ D.sectors dev.old / 4 }
 
     // Every image of every moment settles as the device does at the start.
     ensures any_moment { D.honest dev.old → LeavesOnly D.moment D.left_since dev.old dev.new
-        (λ image. settled (D.sectors dev.old / 4) image ≡ settled (D.sectors dev.old / 4) (D.seen dev.old)) }
-    ensures rest { D.honest dev.old → IfOk result (λ good. good ≡ true → IsAtRest (D.sectors dev.old / 4) end (D.candidate dev.new) (D.seen dev.new)) }
+        (λ image. settled (D.sectors dev.old / 4) image
+        ≡ settled (D.sectors dev.old / 4) (D.seen dev.old)) }
+    ensures rest { D.honest dev.old
+        → IfOk result (λ good. good ≡ true
+        → IsAtRest (D.sectors dev.old / 4) end (D.candidate dev.new) (D.seen dev.new)) }
 
     // At false nothing was changed, and the images are damaged.
-    ensures refused { D.honest dev.old → IfOk result (λ good. good ≡ false → IsStable (D.candidate dev.new) (D.seen dev.new)
-        × (D.seen dev.new ≡ D.seen dev.old) × (settled (D.sectors dev.old / 4) (D.seen dev.old) ≡ nothing)) }
+    ensures refused { D.honest dev.old
+        → IfOk result (λ good. good ≡ false → IsStable (D.candidate dev.new) (D.seen dev.new)
+        × (D.seen dev.new ≡ D.seen dev.old)
+        × (settled (D.sectors dev.old / 4) (D.seen dev.old) ≡ nothing)) }
     ensures honesty { D.honest dev.new ↔ D.honest dev.old }
     ensures cause { HasCause (D.faults dev.old) (D.faults dev.new) result }
     ensures size { D.sectors dev.new ≡ D.sectors dev.old }
@@ -155,12 +188,20 @@ pub fn recover<D: SectorDev>(dev: &mut D) -> Result<u32, OpenFault>
     requires { 16 ≤ D.sectors dev.old }
 
     // Every image of every moment settles as one does that the device had at the start.
-    ensures any_moment { D.honest dev.old → LeavesOnly D.moment D.left_since dev.old dev.new (SettlesAsBefore (D.sectors dev.old / 4) (D.candidate dev.old)) }
-    ensures rest { D.honest dev.old → IfOk result (λ end. IsAtRest (D.sectors dev.old / 4) end (D.candidate dev.new) (D.seen dev.new)) }
+    ensures any_moment { D.honest dev.old
+        → LeavesOnly D.moment D.left_since dev.old dev.new
+        (SettlesAsBefore (D.sectors dev.old / 4) (D.candidate dev.old)) }
+    ensures rest { D.honest dev.old
+        → IfOk result (λ end. IsAtRest (D.sectors dev.old / 4) end (D.candidate dev.new)
+        (D.seen dev.new)) }
     ensures end { IfOk result (λ end. (4 ≤ end) × (end ≤ D.sectors dev.old / 4)) }
-    ensures refused { D.honest dev.old → IfErr result (λ e. e ≢ OpenFault.Device → IsRefused (D.sectors dev.old / 4) (D.candidate dev.old) (D.candidate dev.new) (D.seen dev.new) e) }
+    ensures refused { D.honest dev.old
+        → IfErr result (λ e. e ≢ OpenFault.Device
+        → IsRefused (D.sectors dev.old / 4) (D.candidate dev.old) (D.candidate dev.new)
+        (D.seen dev.new) e) }
     ensures later { D.faults dev.old ≤ D.faults dev.new }
-    ensures cause { IsErrOf result OpenFault.Device → MoreFaults (D.faults dev.old) (D.faults dev.new) }
+    ensures cause { IsErrOf result OpenFault.Device
+        → MoreFaults (D.faults dev.old) (D.faults dev.new) }
     ensures no_memory { IfErr result (λ e. e ≢ OpenFault.Memory) }
     ensures honesty { D.honest dev.new ↔ D.honest dev.old }
     ensures size { D.sectors dev.new ≡ D.sectors dev.old }

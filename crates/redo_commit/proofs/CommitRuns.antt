@@ -14,70 +14,134 @@ use Rattle.redo_commit.proofs.Headers.{says_clear, says_armed}
 use Rattle.redo_commit.proofs.Images.{staging, armed_over, now_armed, going_home, now_clear, same_new, settled-clear}
 
 -- a run, and then the commit sector
-pub then_header : {D : Type 0} (dev : Ghosts D) (P : Image → Type 0) (first mid new : D) (content : List ℕ) → LeavesOnly dev.moment dev.left_since first mid P
-    → IsStable (dev.candidate mid) (dev.seen mid) → LeavesOnly dev.moment dev.left_since mid new (IsImageOf (with_candidate (dev.candidate mid) 0 content))
-    → P (dev.seen mid) → P (with_sector (dev.seen mid) 0 content) → LeavesOnly dev.moment dev.left_since first new P
+pub then_header : {D : Type 0} (dev : Ghosts D) (P : Image → Type 0) (first mid new : D)
+    (content : List ℕ) → LeavesOnly dev.moment dev.left_since first mid P
+    → IsStable (dev.candidate mid) (dev.seen mid)
+    → LeavesOnly dev.moment dev.left_since mid new
+    (IsImageOf (with_candidate (dev.candidate mid) 0 content))
+    → P (dev.seen mid) → P (with_sector (dev.seen mid) 0 content)
+    → LeavesOnly dev.moment dev.left_since first new P
 then_header dev P first mid new content run stable put without with_it =
-    followed_by dev.moment dev.left_since first mid new P (IsImageOf (with_candidate (dev.candidate mid) 0 content)) run put
-    (λ image is. ⊎_elim (λ same. subst P (sym same) without) (λ same. subst P (sym same) with_it) (two_images (dev.candidate mid) (dev.seen mid) 0 content image stable is))
+    followed_by dev.moment dev.left_since first mid new P
+    (IsImageOf (with_candidate (dev.candidate mid) 0 content)) run put
+    (λ image is. ⊎_elim (λ same. subst P (sym same) without) (λ same. subst P (sym same) with_it)
+    (two_images (dev.candidate mid) (dev.seen mid) 0 content image stable is))
 
 -- steps 1 and 2, from a device at rest
-module _ {D : Type 0} (dev : Ghosts D) (first mid : D) {old_end : ℕ} (rest : IsAtRest (dev.sectors first / 4) old_end (dev.candidate first) (dev.seen first))
-    (start : ℕ) (old : old_end ≤ start) (some : 1 ≤ start) (put : LeavesOnly dev.moment dev.left_since first mid (KeepsWhere (dev.candidate first) (λ m. m < 4 * start))) where
+module _ {D : Type 0} (dev : Ghosts D) (first mid : D) {old_end : ℕ}
+    (rest : IsAtRest (dev.sectors first / 4) old_end (dev.candidate first) (dev.seen first))
+    (start : ℕ) (old : old_end ≤ start) (some : 1 ≤ start)
+    (put : LeavesOnly dev.moment dev.left_since first mid
+    (KeepsWhere (dev.candidate first) (λ m. m < 4 * start))) where
   -- the images are written
-  pub images_leave : (new : Pages) → LeavesOnly dev.moment dev.left_since first mid (λ image. IsEither (file_pages (page_at (dev.seen first)) old_end) new (settled (dev.sectors first / 4) image))
+  pub images_leave : (new : Pages)
+      → LeavesOnly dev.moment dev.left_since first mid
+      (λ image. IsEither (file_pages (page_at (dev.seen first)) old_end) new
+      (settled (dev.sectors first / 4) image))
   images_leave new =
-      weaker dev.moment dev.left_since first mid (λ image. IsEither (file_pages (page_at (dev.seen first)) old_end) new (settled (dev.sectors first / 4) image)) _ put
-      (λ image is. inl (staging (dev.sectors first / 4) (dev.seen first) image old_end start rest.header old some (λ m lt. rest.stable m (image m) (is m lt))))
+      weaker dev.moment dev.left_since first mid
+      (λ image. IsEither (file_pages (page_at (dev.seen first)) old_end) new
+      (settled (dev.sectors first / 4) image)) _ put
+      (λ image is. inl (staging (dev.sectors first / 4) (dev.seen first) image old_end start
+      rest.header old some (λ m lt. rest.stable m (image m) (is m lt))))
 
   -- the commit sector is armed over them
-  pub armed_leaves : (after : D) (content : List ℕ) (new_end : ℕ) (pages : List Page) → dev.sectors first < 2 ^ 32 → 4 ≤ new_end → 0 < length pages → start + length pages ≤ dev.sectors first / 4 → content ≡ spelled 1 new_end start (length pages)
-      → new_end ≤ start → are_in_order 1 new_end (bytes_of pages) ≡ true → IsStable (dev.candidate mid) (dev.seen mid) → ((m : ℕ) → m < 4 * start → dev.seen mid m ≡ dev.seen first m)
-      → pages_from (page_at (dev.seen mid)) start (length pages) ≡ bytes_of pages → LeavesOnly dev.moment dev.left_since mid after (IsImageOf (with_candidate (dev.candidate mid) 0 content))
+  pub armed_leaves : (after : D) (content : List ℕ) (new_end : ℕ) (pages : List Page)
+      → dev.sectors first < 2 ^ 32 → 4 ≤ new_end → 0 < length pages
+      → start + length pages ≤ dev.sectors first / 4
+      → content ≡ spelled 1 new_end start (length pages)
+      → new_end ≤ start → are_in_order 1 new_end (bytes_of pages) ≡ true
+      → IsStable (dev.candidate mid) (dev.seen mid)
+      → ((m : ℕ) → m < 4 * start → dev.seen mid m ≡ dev.seen first m)
+      → pages_from (page_at (dev.seen mid)) start (length pages) ≡ bytes_of pages
+      → LeavesOnly dev.moment dev.left_since mid after
+      (IsImageOf (with_candidate (dev.candidate mid) 0 content))
       → LeavesOnly dev.moment dev.left_since first after
-      (λ image. IsEither (file_pages (page_at (dev.seen first)) old_end) (file_pages (overlaid (bytes_of pages) (page_at (dev.seen first))) new_end) (settled (dev.sectors first / 4) image))
-  armed_leaves after content new_end pages fits least count room spells above in_order stable others written armed =
+      (λ image. IsEither (file_pages (page_at (dev.seen first)) old_end)
+      (file_pages (overlaid (bytes_of pages) (page_at (dev.seen first))) new_end)
+      (settled (dev.sectors first / 4) image))
+  armed_leaves after content new_end pages fits least count room spells above in_order stable others
+      written armed =
       let cap : ℕ = dev.sectors first / 4 in
       let new = file_pages (overlaid (bytes_of pages) (page_at (dev.seen first))) new_end in
-      let header = says_armed (dev.sectors first) new_end start (length pages) content fits least above count room spells in
-      let both = now_armed cap (dev.seen mid) content new_end start (length pages) (bytes_of pages) (length-map pages (λ (p : Page). p.bytes)) header written some in
-      then_header dev (λ image. IsEither (file_pages (page_at (dev.seen first)) old_end) new (settled cap image)) first mid after content (images_leave new) stable armed
+      let header = says_armed (dev.sectors first) new_end start (length pages) content fits least
+      above count room spells in
+      let both = now_armed cap (dev.seen mid) content new_end start (length pages) (bytes_of pages)
+      (length-map pages (λ (p : Page). p.bytes)) header written some in
+      then_header dev (λ image. IsEither (file_pages (page_at (dev.seen first)) old_end) new
+      (settled cap image)) first mid after content (images_leave new) stable armed
       (inl (staging cap (dev.seen first) (dev.seen mid) old_end start rest.header old some others))
-      (inr (armed_over cap (dev.seen first) (with_sector (dev.seen mid) 0 content) new_end start (bytes_of pages) both.0 both.1 in_order above
+      (inr (armed_over cap (dev.seen first) (with_sector (dev.seen mid) 0 content) new_end start
+      (bytes_of pages) both.0 both.1 in_order above
       (λ m pos lt. at_other (dev.seen mid) 0 content m (omega (arith, pos)) ∙ others m lt)))
 
 -- steps 3 and 4, from an armed device
-module _ {D : Type 0} (dev : Ghosts D) (first : D) {end start : ℕ} {redo : Pages} (is_armed : IsArmed (dev.sectors first / 4) end start redo (dev.candidate first) (dev.seen first)) (above : end ≤ start) where
+module _ {D : Type 0} (dev : Ghosts D) (first : D) {end start : ℕ} {redo : Pages}
+    (is_armed : IsArmed (dev.sectors first / 4) end start redo (dev.candidate first)
+    (dev.seen first)) (above : end ≤ start) where
   -- only pages that have a redo image are changed
-  pub under_images : (image : Image) → ((m : ℕ) → IsOutsideAll redo m → dev.candidate first m (image m))
-      → settled (dev.sectors first / 4) image ≡ file_of (file_pages (overlaid redo (page_at (dev.seen first))) end)
-  under_images image is = going_home (dev.sectors first / 4) (dev.candidate first) (dev.seen first) image end start redo is_armed above (λ m out. is_armed.stable m (image m) (is m out))
+  pub under_images : (image : Image)
+      → ((m : ℕ) → IsOutsideAll redo m → dev.candidate first m (image m))
+      → settled (dev.sectors first / 4) image
+      ≡ file_of (file_pages (overlaid redo (page_at (dev.seen first))) end)
+  under_images image is = going_home (dev.sectors first / 4) (dev.candidate first) (dev.seen first)
+      image end start redo is_armed above (λ m out. is_armed.stable m (image m) (is m out))
 
   -- the pages are written at their own numbers
-  pub homes_leave : (mid : D) → LeavesOnly dev.moment dev.left_since first mid (KeepsWhere (dev.candidate first) (IsOutsideAll redo))
-      → LeavesOnly dev.moment dev.left_since first mid (λ image. settled (dev.sectors first / 4) image ≡ file_of (file_pages (overlaid redo (page_at (dev.seen first))) end))
+  pub homes_leave : (mid : D) → LeavesOnly dev.moment dev.left_since first mid
+      (KeepsWhere (dev.candidate first) (IsOutsideAll redo))
+      → LeavesOnly dev.moment dev.left_since first mid
+      (λ image. settled (dev.sectors first / 4) image
+      ≡ file_of (file_pages (overlaid redo (page_at (dev.seen first))) end))
   homes_leave mid put =
-      weaker dev.moment dev.left_since first mid (λ image. settled (dev.sectors first / 4) image ≡ file_of (file_pages (overlaid redo (page_at (dev.seen first))) end)) _ put under_images
+      weaker dev.moment dev.left_since first mid
+      (λ image. settled (dev.sectors first / 4) image
+      ≡ file_of (file_pages (overlaid redo (page_at (dev.seen first))) end)) _
+      put under_images
 
   -- the commit sector is cleared
-  pub clear_leaves : (mid new : D) (content : List ℕ) → LeavesOnly dev.moment dev.left_since first mid (λ image. settled (dev.sectors first / 4) image ≡ file_of (file_pages (overlaid redo (page_at (dev.seen first))) end))
-      → IsStable (dev.candidate mid) (dev.seen mid) → ((m : ℕ) → IsOutsideAll redo m → dev.seen mid m ≡ dev.seen first m)
-      → ((n : ℕ) → page_at (dev.seen mid) n ≡ overlaid redo (page_at (dev.seen first)) n) → dev.sectors first < 2 ^ 32 → 4 ≤ end → end ≤ dev.sectors first / 4 → content ≡ spelled 0 end 0 0
-      → LeavesOnly dev.moment dev.left_since mid new (IsImageOf (with_candidate (dev.candidate mid) 0 content))
-      → LeavesOnly dev.moment dev.left_since first new (λ image. settled (dev.sectors first / 4) image ≡ file_of (file_pages (overlaid redo (page_at (dev.seen first))) end))
+  pub clear_leaves : (mid new : D) (content : List ℕ)
+      → LeavesOnly dev.moment dev.left_since first mid
+      (λ image. settled (dev.sectors first / 4) image
+      ≡ file_of (file_pages (overlaid redo (page_at (dev.seen first))) end))
+      → IsStable (dev.candidate mid) (dev.seen mid)
+      → ((m : ℕ) → IsOutsideAll redo m → dev.seen mid m ≡ dev.seen first m)
+      → ((n : ℕ) → page_at (dev.seen mid) n ≡ overlaid redo (page_at (dev.seen first)) n)
+      → dev.sectors first < 2 ^ 32 → 4 ≤ end → end ≤ dev.sectors first / 4
+      → content ≡ spelled 0 end 0 0
+      → LeavesOnly dev.moment dev.left_since mid new
+      (IsImageOf (with_candidate (dev.candidate mid) 0 content))
+      → LeavesOnly dev.moment dev.left_since first new
+      (λ image. settled (dev.sectors first / 4) image
+      ≡ file_of (file_pages (overlaid redo (page_at (dev.seen first))) end))
   clear_leaves mid new content run stable others written fits least room spells put =
       let cap : ℕ = dev.sectors first / 4 in
-      then_header dev (λ image. settled cap image ≡ file_of (file_pages (overlaid redo (page_at (dev.seen first))) end)) first mid new content run stable put
-      (going_home cap (dev.candidate first) (dev.seen first) (dev.seen mid) end start redo is_armed above others)
-      (settled-clear cap (with_sector (dev.seen mid) 0 content) end (ap (header_of cap) (at_same (dev.seen mid) 0 content 0 refl) ∙ says_clear (dev.sectors first) end content fits least room spells)
+      then_header dev (λ image. settled cap image
+      ≡ file_of (file_pages (overlaid redo (page_at (dev.seen first))) end)) first mid new
+      content run stable put
+      (going_home cap (dev.candidate first) (dev.seen first) (dev.seen mid) end start redo
+      is_armed above others)
+      (settled-clear cap (with_sector (dev.seen mid) 0 content) end
+      (ap (header_of cap) (at_same (dev.seen mid) 0 content 0 refl)
+      ∙ says_clear (dev.sectors first) end content fits least room spells)
       ∙ ap file_of (now_clear cap (dev.seen first) (dev.seen mid) content end redo written))
 
 -- all four steps
-pub finish_leaves : {D : Type 0} (dev : Ghosts D) (first mid new : D) (old staged : Pages) (end start : ℕ) → end ≤ start → dev.sectors mid ≡ dev.sectors first
+pub finish_leaves : {D : Type 0} (dev : Ghosts D) (first mid new : D) (old staged : Pages)
+    (end start : ℕ) → end ≤ start → dev.sectors mid ≡ dev.sectors first
     → ((m : ℕ) → 0 < m → m < 4 * start → dev.seen mid m ≡ dev.seen first m)
-    → LeavesOnly dev.moment dev.left_since first mid (λ image. IsEither old (file_pages (overlaid staged (page_at (dev.seen first))) end) (settled (dev.sectors first / 4) image))
-    → LeavesOnly dev.moment dev.left_since mid new (λ image. settled (dev.sectors mid / 4) image ≡ file_of (file_pages (overlaid staged (page_at (dev.seen mid))) end))
-    → LeavesOnly dev.moment dev.left_since first new (λ image. IsEither old (file_pages (overlaid staged (page_at (dev.seen first))) end) (settled (dev.sectors first / 4) image))
+    → LeavesOnly dev.moment dev.left_since first mid
+    (λ image. IsEither old (file_pages (overlaid staged (page_at (dev.seen first))) end)
+    (settled (dev.sectors first / 4) image))
+    → LeavesOnly dev.moment dev.left_since mid new
+    (λ image. settled (dev.sectors mid / 4) image
+    ≡ file_of (file_pages (overlaid staged (page_at (dev.seen mid))) end))
+    → LeavesOnly dev.moment dev.left_since first new
+    (λ image. IsEither old (file_pages (overlaid staged (page_at (dev.seen first))) end)
+    (settled (dev.sectors first / 4) image))
 finish_leaves dev first mid new old staged end start le size same armed finished =
-    followed_by dev.moment dev.left_since first mid new (λ image. IsEither old (file_pages (overlaid staged (page_at (dev.seen first))) end) (settled (dev.sectors first / 4) image)) _ armed finished
-    (λ image is. inr (ap (λ (s : ℕ). settled (s / 4) image) (sym size) ∙ is ∙ ap file_of (same_new (dev.seen first) (dev.seen mid) staged end start le same)))
+    followed_by dev.moment dev.left_since first mid new
+    (λ image. IsEither old (file_pages (overlaid staged (page_at (dev.seen first))) end)
+    (settled (dev.sectors first / 4) image)) _ armed finished
+    (λ image is. inr (ap (λ (s : ℕ). settled (s / 4) image) (sym size) ∙ is
+    ∙ ap file_of (same_new (dev.seen first) (dev.seen mid) staged end start le same)))

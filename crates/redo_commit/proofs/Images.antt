@@ -16,28 +16,36 @@ record Parts (least end own : ℕ) (rest : Bool) : Type 0 where
   high : own < end
   later : rest ≡ true
 
-parts : (least end : ℕ) (page : List ℕ) (pages : Pages) → are_in_order least end (page ∷ pages) ≡ true → Parts least end (own_number page) (are_in_order (own_number page + 1) end pages)
+parts : (least end : ℕ) (page : List ℕ) (pages : Pages)
+    → are_in_order least end (page ∷ pages) ≡ true
+    → Parts least end (own_number page) (are_in_order (own_number page + 1) end pages)
 parts least end page pages is =
-    let both = and_parts (leb least (own_number page) && ltb (own_number page) end) (are_in_order (own_number page + 1) end pages) is in
+    let both = and_parts (leb least (own_number page) && ltb (own_number page) end)
+    (are_in_order (own_number page + 1) end pages) is in
     let ends = and_parts (leb least (own_number page)) (ltb (own_number page) end) both.0 in
     record { low = leb-true _ _ ends.0; high = ltb-true _ _ ends.1; later = both.1 }
 
 -- a sector below the least page
-pub outside-below : (least end : ℕ) (pages : Pages) (m : ℕ) → are_in_order least end pages ≡ true → m < 4 * least → IsOutsideAll pages m
+pub outside-below : (least end : ℕ) (pages : Pages) (m : ℕ) → are_in_order least end pages ≡ true
+    → m < 4 * least → IsOutsideAll pages m
 outside-below least end [] m order lt = tt
 outside-below least end (page ∷ pages) m order lt =
-    let p = parts least end page pages order in
-    (inl (omega (arith, lt, p.low)), outside-below (own_number page + 1) end pages m p.later (omega (arith, lt, p.low)))
+    let p = parts least end page pages order in (
+      inl (omega (arith, lt, p.low)),
+      outside-below (own_number page + 1) end pages m p.later (omega (arith, lt, p.low)),
+    )
 
 -- a sector from the end on
-pub outside-above : (least end : ℕ) (pages : Pages) (m : ℕ) → are_in_order least end pages ≡ true → 4 * end ≤ m → IsOutsideAll pages m
+pub outside-above : (least end : ℕ) (pages : Pages) (m : ℕ) → are_in_order least end pages ≡ true
+    → 4 * end ≤ m → IsOutsideAll pages m
 outside-above least end [] m order le = tt
 outside-above least end (page ∷ pages) m order le =
     let p = parts least end page pages order in
     (inr (omega (arith, le, p.high)), outside-above (own_number page + 1) end pages m p.later le)
 
 -- a sector of a page that has none of their numbers
-pub outside-apart : (pages : Pages) (n m : ℕ) → IsApart pages n → 4 * n ≤ m → m < 4 * n + 4 → IsOutsideAll pages m
+pub outside-apart : (pages : Pages) (n m : ℕ) → IsApart pages n → 4 * n ≤ m → m < 4 * n + 4
+    → IsOutsideAll pages m
 outside-apart [] n m apart ge lt = tt
 outside-apart (page ∷ pages) n m apart ge lt =
     let other = apart.0 in (
@@ -49,102 +57,145 @@ outside-apart (page ∷ pages) n m apart ge lt =
     )
 
 -- one of the pages
-pub outside_at : (pages : Pages) (m k : ℕ) → IsOutsideAll pages m → k < length pages → IsOutsidePage (own_number (get_or pages k [])) m
+pub outside_at : (pages : Pages) (m k : ℕ) → IsOutsideAll pages m → k < length pages
+    → IsOutsidePage (own_number (get_or pages k [])) m
 outside_at [] m k out lt = absurd (omega (arith, lt))
 outside_at (page ∷ pages) m zero out lt = out.0
 outside_at (page ∷ pages) m (suc k) out lt = outside_at pages m k out.1 (omega (arith, lt))
 
-pub below_end : (least end : ℕ) (pages : Pages) (k : ℕ) → are_in_order least end pages ≡ true → k < length pages → own_number (get_or pages k []) < end
+pub below_end : (least end : ℕ) (pages : Pages) (k : ℕ) → are_in_order least end pages ≡ true
+    → k < length pages → own_number (get_or pages k []) < end
 below_end least end [] k order lt = absurd (omega (arith, lt))
 below_end least end (page ∷ pages) zero order lt = (parts least end page pages order).high
-below_end least end (page ∷ pages) (suc k) order lt = below_end (own_number page + 1) end pages k (parts least end page pages order).later (omega (arith, lt))
+below_end least end (page ∷ pages) (suc k) order lt =
+    below_end (own_number page + 1) end pages k (parts least end page pages order).later
+    (omega (arith, lt))
 
 -- pages behind sector 0 are as they were
-pub same_new : (first mid : Image) (redo : Pages) (end start : ℕ) → end ≤ start → ((m : ℕ) → 0 < m → m < 4 * start → mid m ≡ first m)
+pub same_new : (first mid : Image) (redo : Pages) (end start : ℕ) → end ≤ start
+    → ((m : ℕ) → 0 < m → m < 4 * start → mid m ≡ first m)
     → file_pages (overlaid redo (page_at mid)) end ≡ file_pages (overlaid redo (page_at first)) end
 same_new first mid redo end start le same =
     same_file (overlaid redo (page_at mid)) (overlaid redo (page_at first)) end
-    (λ n ge lt. overlaid-over redo (page_at first) (page_at mid) n (λ apart. same_page mid first n (λ m ge4 lt4. same m (omega (arith, ge, ge4)) (omega (arith, lt, le, lt4)))))
+    (λ n ge lt. overlaid-over redo (page_at first) (page_at mid) n
+    (λ apart. same_page mid first n
+    (λ m ge4 lt4. same m (omega (arith, ge, ge4)) (omega (arith, lt, le, lt4)))))
 
 module _ (capacity : ℕ) where
-  pub settled-clear : (image : Image) (end : ℕ) → header_of capacity (image 0) ≡ Clear end → settled capacity image ≡ file_of (file_pages (page_at image) end)
+  pub settled-clear : (image : Image) (end : ℕ) → header_of capacity (image 0) ≡ Clear end
+      → settled capacity image ≡ file_of (file_pages (page_at image) end)
   unfolding settled
   settled-clear image end is = ap (λ (h : Header). settled_by h image) is
 
-  pub settled-armed : (image : Image) (end start : ℕ) (redo : Pages) → header_of capacity (image 0) ≡ Armed end start (length redo)
-      → redo_images image start (length redo) ≡ redo → are_in_order 1 end redo ≡ true → settled capacity image ≡ file_of (file_pages (overlaid redo (page_at image)) end)
+  pub settled-armed : (image : Image) (end start : ℕ) (redo : Pages)
+      → header_of capacity (image 0) ≡ Armed end start (length redo)
+      → redo_images image start (length redo) ≡ redo → are_in_order 1 end redo ≡ true
+      → settled capacity image ≡ file_of (file_pages (overlaid redo (page_at image)) end)
   unfolding settled
   settled-armed image end start redo is images order =
-      ap (λ (h : Header). settled_by h image) is ∙ ap (λ (r : Pages). settled_over r image end) images
-      ∙ ap (λ (b : Bool). cond b (file_of (file_pages (overlaid redo (page_at image)) end)) nothing) order
+      ap (λ (h : Header). settled_by h image) is
+      ∙ ap (λ (r : Pages). settled_over r image end) images
+      ∙ ap (λ (b : Bool). cond b (file_of (file_pages (overlaid redo (page_at image)) end)) nothing)
+      order
 
-  pub settled-blank : (image : Image) → header_of capacity (image 0) ≡ Blank → settled capacity image ≡ blank
+  pub settled-blank : (image : Image) → header_of capacity (image 0) ≡ Blank
+      → settled capacity image ≡ blank
   unfolding settled
   settled-blank image is = ap (λ (h : Header). settled_by h image) is
 
-  pub settled-not_ours : (image : Image) → header_of capacity (image 0) ≡ NotOurs → settled capacity image ≡ nothing
+  pub settled-not_ours : (image : Image) → header_of capacity (image 0) ≡ NotOurs
+      → settled capacity image ≡ nothing
   unfolding settled
   settled-not_ours image is = ap (λ (h : Header). settled_by h image) is
 
-  pub settled-damaged : (image : Image) → header_of capacity (image 0) ≡ Damaged → settled capacity image ≡ nothing
+  pub settled-damaged : (image : Image) → header_of capacity (image 0) ≡ Damaged
+      → settled capacity image ≡ nothing
   unfolding settled
   settled-damaged image is = ap (λ (h : Header). settled_by h image) is
 
-  pub settled-disordered : (image : Image) (end start count : ℕ) → header_of capacity (image 0) ≡ Armed end start count → are_in_order 1 end (redo_images image start count) ≡ false
+  pub settled-disordered : (image : Image) (end start count : ℕ)
+      → header_of capacity (image 0) ≡ Armed end start count
+      → are_in_order 1 end (redo_images image start count) ≡ false
       → settled capacity image ≡ nothing
   unfolding settled
   settled-disordered image end start count is order =
       let redo = redo_images image start count in
-      ap (λ (h : Header). settled_by h image) is ∙ ap (λ (b : Bool). cond b (file_of (file_pages (overlaid redo (page_at image)) end)) nothing) order
+      ap (λ (h : Header). settled_by h image) is
+      ∙ ap (λ (b : Bool). cond b (file_of (file_pages (overlaid redo (page_at image)) end))
+      nothing) order
 
   -- step 1: what is written stands behind the file
-  pub staging : (seen image : Image) (end start : ℕ) → header_of capacity (seen 0) ≡ Clear end → end ≤ start → 1 ≤ start
-      → ((m : ℕ) → m < 4 * start → image m ≡ seen m) → settled capacity image ≡ file_of (file_pages (page_at seen) end)
+  pub staging : (seen image : Image) (end start : ℕ) → header_of capacity (seen 0) ≡ Clear end
+      → end ≤ start → 1 ≤ start
+      → ((m : ℕ) → m < 4 * start → image m ≡ seen m)
+      → settled capacity image ≡ file_of (file_pages (page_at seen) end)
   staging seen image end start header le some same =
       settled-clear image end (ap (header_of capacity) (same 0 (omega (arith, some))) ∙ header)
-      ∙ ap file_of (same_file (page_at image) (page_at seen) end (λ n ge lt. same_page image seen n (λ m ge4 lt4. same m (omega (arith, lt, le, lt4)))))
+      ∙ ap file_of (same_file (page_at image) (page_at seen) end
+      (λ n ge lt. same_page image seen n
+      (λ m ge4 lt4. same m (omega (arith, lt, le, lt4)))))
 
   -- step 2: the images are armed
-  pub armed_over : (seen image : Image) (end start : ℕ) (redo : Pages) → header_of capacity (image 0) ≡ Armed end start (length redo)
+  pub armed_over : (seen image : Image) (end start : ℕ) (redo : Pages)
+      → header_of capacity (image 0) ≡ Armed end start (length redo)
       → redo_images image start (length redo) ≡ redo → are_in_order 1 end redo ≡ true → end ≤ start
-      → ((m : ℕ) → 0 < m → m < 4 * start → image m ≡ seen m) → settled capacity image ≡ file_of (file_pages (overlaid redo (page_at seen)) end)
+      → ((m : ℕ) → 0 < m → m < 4 * start → image m ≡ seen m)
+      → settled capacity image ≡ file_of (file_pages (overlaid redo (page_at seen)) end)
   armed_over seen image end start redo header images order le same =
       settled-armed image end start redo header images order
       ∙ ap file_of (same_new seen image redo end start le same)
 
   -- step 3: home pages are written under the images
-  pub going_home : (candidate : Candidates) (seen image : Image) (end start : ℕ) (redo : Pages) → IsArmed capacity end start redo candidate seen → end ≤ start
-      → ((m : ℕ) → IsOutsideAll redo m → image m ≡ seen m) → settled capacity image ≡ file_of (file_pages (overlaid redo (page_at seen)) end)
+  pub going_home : (candidate : Candidates) (seen image : Image) (end start : ℕ) (redo : Pages)
+      → IsArmed capacity end start redo candidate seen → end ≤ start
+      → ((m : ℕ) → IsOutsideAll redo m → image m ≡ seen m)
+      → settled capacity image ≡ file_of (file_pages (overlaid redo (page_at seen)) end)
   going_home candidate seen image end start redo is le same =
       settled-armed image end start redo
-      (ap (header_of capacity) (same 0 (outside-below 1 end redo 0 is.in_order (omega arith))) ∙ is.header)
-      (same_pages (page_at image) (page_at seen) start (length redo) (λ n ge lt. same_page image seen n (λ m ge4 lt4. same m (outside-above 1 end redo m is.in_order (omega (arith, ge, le, ge4))))) ∙ is.images)
+      (ap (header_of capacity) (same 0 (outside-below 1 end redo 0 is.in_order (omega arith)))
+      ∙ is.header)
+      (same_pages (page_at image) (page_at seen) start (length redo)
+      (λ n ge lt. same_page image seen n
+      (λ m ge4 lt4. same m (outside-above 1 end redo m is.in_order
+      (omega (arith, ge, le, ge4))))) ∙ is.images)
       is.in_order
       ∙ ap file_of (same_file (overlaid redo (page_at image)) (overlaid redo (page_at seen)) end
-      (λ n ge lt. overlaid-over redo (page_at seen) (page_at image) n (λ apart. same_page image seen n (λ m ge4 lt4. same m (outside-apart redo n m apart ge4 lt4)))))
+      (λ n ge lt. overlaid-over redo (page_at seen) (page_at image) n
+      (λ apart. same_page image seen n
+      (λ m ge4 lt4. same m (outside-apart redo n m apart ge4 lt4)))))
 
   -- after step 2
-  pub now_armed : (mid : Image) (content : List ℕ) (end start count : ℕ) (redo : Pages) → length redo ≡ count → header_of capacity content ≡ Armed end start count
+  pub now_armed : (mid : Image) (content : List ℕ) (end start count : ℕ) (redo : Pages)
+      → length redo ≡ count → header_of capacity content ≡ Armed end start count
       → pages_from (page_at mid) start count ≡ redo → 1 ≤ start
-      → (header_of capacity (with_sector mid 0 content 0) ≡ Armed end start (length redo)) × (redo_images (with_sector mid 0 content) start (length redo) ≡ redo)
+      → (header_of capacity (with_sector mid 0 content 0) ≡ Armed end start (length redo))
+      × (redo_images (with_sector mid 0 content) start (length redo) ≡ redo)
   now_armed mid content end start count redo long header images some = (
-    ap (header_of capacity) (at_same mid 0 content 0 refl) ∙ header ∙ ap (Armed end start) (sym long),
+    ap (header_of capacity) (at_same mid 0 content 0 refl) ∙ header
+        ∙ ap (Armed end start) (sym long),
     ap (pages_from (page_at (with_sector mid 0 content)) start) long
         ∙ same_pages (page_at (with_sector mid 0 content)) (page_at mid) start count
-        (λ n ge lt. same_page (with_sector mid 0 content) mid n (λ m ge4 lt4. at_other mid 0 content m (omega (arith, some, ge, ge4)))) ∙ images,
+        (λ n ge lt. same_page (with_sector mid 0 content) mid n
+        (λ m ge4 lt4. at_other mid 0 content m (omega (arith, some, ge, ge4)))) ∙ images,
   )
 
   -- after step 4
-  pub now_clear : (first mid : Image) (content : List ℕ) (end : ℕ) (redo : Pages) → ((n : ℕ) → page_at mid n ≡ overlaid redo (page_at first) n)
-      → file_pages (page_at (with_sector mid 0 content)) end ≡ file_pages (overlaid redo (page_at first)) end
+  pub now_clear : (first mid : Image) (content : List ℕ) (end : ℕ) (redo : Pages)
+      → ((n : ℕ) → page_at mid n ≡ overlaid redo (page_at first) n)
+      → file_pages (page_at (with_sector mid 0 content)) end
+      ≡ file_pages (overlaid redo (page_at first)) end
   now_clear first mid content end redo written =
       same_file (page_at (with_sector mid 0 content)) (overlaid redo (page_at first)) end
-      (λ n ge lt. same_page (with_sector mid 0 content) mid n (λ m ge4 lt4. at_other mid 0 content m (omega (arith, ge, ge4))) ∙ written n)
+      (λ n ge lt. same_page (with_sector mid 0 content) mid n
+      (λ m ge4 lt4. at_other mid 0 content m (omega (arith, ge, ge4))) ∙ written n)
 
   -- the commit sector is put, and is clear
-  pub rest_after : (candidate : Candidates) (mid seen : Image) (content : List ℕ) (end : ℕ) → IsStable candidate seen → seen ≡ with_sector mid 0 content → header_of capacity content ≡ Clear end
+  pub rest_after : (candidate : Candidates) (mid seen : Image) (content : List ℕ) (end : ℕ)
+      → IsStable candidate seen → seen ≡ with_sector mid 0 content
+      → header_of capacity content ≡ Clear end
       → IsAtRest capacity end candidate seen
   rest_after candidate mid seen content end stable is header = record {
     stable = stable;
-    header = ap (λ (s : Image). header_of capacity (s 0)) is ∙ ap (header_of capacity) (at_same mid 0 content 0 refl) ∙ header;
+    header = ap (λ (s : Image). header_of capacity (s 0)) is
+        ∙ ap (header_of capacity) (at_same mid 0 content 0 refl) ∙ header;
   }

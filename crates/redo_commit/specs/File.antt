@@ -13,7 +13,9 @@ redo_images image start count = pages_from (page_at image) start count
 
 -- the home pages under these
 abbrev pub settled_over : Pages → Image → ℕ → Settled
-settled_over redo image end = if are_in_order 1 end redo then file_of (file_pages (overlaid redo (page_at image)) end) else nothing
+settled_over redo image end =
+    if are_in_order 1 end redo then file_of
+    (file_pages (overlaid redo (page_at image)) end) else nothing
 
 abbrev pub settled_by : Header → Image → Settled
 settled_by Blank image = blank
@@ -37,7 +39,8 @@ pub record IsAtRest (capacity end : ℕ) (candidate : Candidates) (seen : Image)
   pub header : header_of capacity (seen 0) ≡ Clear end
 
 -- all is on the disk, and the commit sector is armed over these redo images
-pub record IsArmed (capacity end start : ℕ) (redo : Pages) (candidate : Candidates) (seen : Image) : Type 0 where
+pub record IsArmed (capacity end start : ℕ) (redo : Pages) (candidate : Candidates)
+    (seen : Image) : Type 0 where
   pub stable : IsStable candidate seen
   pub header : header_of capacity (seen 0) ≡ Armed end start (length redo)
   pub images : redo_images seen start (length redo) ≡ redo
@@ -45,7 +48,8 @@ pub record IsArmed (capacity end start : ℕ) (redo : Pages) (candidate : Candid
 
 -- it settles as an image does that the device had at the start
 abbrev pub SettlesAsBefore : ℕ → Candidates → Image → Type 0
-SettlesAsBefore capacity candidate image = (start : Image) × IsImageOf candidate start × (settled capacity image ≡ settled capacity start)
+SettlesAsBefore capacity candidate image =
+    (start : Image) × IsImageOf candidate start × (settled capacity image ≡ settled capacity start)
 
 -- a blank device, or a file of these pages
 abbrev pub IsBlankOr : Pages → Settled → Type 0

@@ -12,7 +12,8 @@ magic = 68 ∷ 66 ∷ 77 ∷ 82 ∷ 69 ∷ 68 ∷ 79 ∷ 49 ∷ []
 
 -- the fields of a commit sector
 unfoldable pub fields : ℕ → ℕ → ℕ → ℕ → List ℕ
-fields state end start count = (((magic ++ u32_bytes state) ++ u32_bytes end) ++ u32_bytes start) ++ u32_bytes count
+fields state end start count =
+    (((magic ++ u32_bytes state) ++ u32_bytes end) ++ u32_bytes start) ++ u32_bytes count
 
 -- the bytes of a commit sector
 unfoldable pub spelled : ℕ → ℕ → ℕ → ℕ → List ℕ
@@ -26,7 +27,8 @@ abbrev pub header_by : ℕ → ℕ → ℕ → ℕ → ℕ → Header
 header_by capacity state end start count =
     if nat_le 4 end && nat_le end capacity then
     (if state == 0 && start == 0 && count == 0 then Clear end else
-    (if state == 1 && nat_le 1 count && nat_le end start && nat_le (start + count) capacity then Armed end start count else Damaged))
+    (if state == 1 && nat_le 1 count && nat_le end start && nat_le (start + count) capacity
+    then Armed end start count else Damaged))
     else Damaged
 
 -- what a commit sector says
@@ -34,7 +36,9 @@ unfoldable pub header_of : ℕ → List ℕ → Header
 header_of capacity sector =
     if pointwise nat_eq sector zeros then Blank else
     (if has_magic sector then
-    (if pointwise nat_eq (replicate 488 0) (drop 24 sector) then header_by capacity (u32_at sector 8) (u32_at sector 12) (u32_at sector 16) (u32_at sector 20) else Damaged)
+    (if pointwise nat_eq (replicate 488 0) (drop 24 sector)
+    then header_by capacity (u32_at sector 8) (u32_at sector 12) (u32_at sector 16)
+    (u32_at sector 20) else Damaged)
     else NotOurs)
 
 -- the file of a clear or an armed sector fits the device

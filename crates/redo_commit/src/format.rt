@@ -16,11 +16,17 @@ pub fn format_pages<D: SectorDev>(dev: &mut D, pages: &[Page]) -> Result<(), Dev
     requires least { 3 ≤ length pages.now }
     requires room { 1 + length pages.now ≤ D.sectors dev.old / 4 }
 
-    // Where the first sector was blank at the start, every image of every moment since is blank or the whole file.
-    ensures any_moment { D.honest dev.old → ((c : List ℕ) → D.candidate dev.old 0 c → c ≡ zeros) → LeavesOnly D.moment D.left_since dev.old dev.new
+    // Where the first sector was blank at the start, every image of every moment since is blank or
+    // the whole file.
+    ensures any_moment { D.honest dev.old → ((c : List ℕ) → D.candidate dev.old 0 c → c ≡ zeros)
+        → LeavesOnly D.moment D.left_since dev.old dev.new
         (λ image. IsBlankOr (bytes_of pages.now) (settled (D.sectors dev.old / 4) image)) }
-    ensures rest { D.honest dev.old → OnOk result (IsAtRest (D.sectors dev.old / 4) (1 + length pages.now) (D.candidate dev.new) (D.seen dev.new)) }
-    ensures pages { D.honest dev.old → OnOk result (file_pages (page_at (D.seen dev.new)) (1 + length pages.now) ≡ bytes_of pages.now) }
+    ensures rest { D.honest dev.old
+        → OnOk result (IsAtRest (D.sectors dev.old / 4) (1 + length pages.now) (D.candidate dev.new)
+        (D.seen dev.new)) }
+    ensures pages { D.honest dev.old
+        → OnOk result (file_pages (page_at (D.seen dev.new)) (1 + length pages.now)
+        ≡ bytes_of pages.now) }
     ensures honesty { D.honest dev.new ↔ D.honest dev.old }
     ensures cause { HasCause (D.faults dev.old) (D.faults dev.new) result }
     ensures size { D.sectors dev.new ≡ D.sectors dev.old }

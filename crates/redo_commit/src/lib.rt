@@ -1,4 +1,5 @@
-//! The steps of a commit over a device: the commit sector, redo images, home writes, and the making of a new file.
+//! The steps of a commit over a device: the commit sector, redo images, home writes, and the making
+//! of a new file.
 #![tactic(auto)]
 
 mod format;

@@ -12,10 +12,16 @@ use sect_dev::{DevFault, SectorDev};
 /// Writes pages in a row.
 fn write_images<D: SectorDev>(dev: &mut D, start: u32, pages: &[Page]) -> Result<(), DevFault>
     requires { 4 * (start + length pages.now) ≤ D.sectors dev.old }
-    ensures any_moment { D.honest dev.old → LeavesOnly D.moment D.left_since dev.old dev.new (KeepsWhere (D.candidate dev.old) (λ m. m < 4 * start)) }
-    ensures candidates { D.honest dev.old → (m : ℕ) (c : List ℕ) → m < 4 * start → D.candidate dev.new m c → D.candidate dev.old m c }
-    ensures others { D.honest dev.old → OnOk result ((m : ℕ) → m < 4 * start → D.seen dev.new m ≡ D.seen dev.old m) }
-    ensures written { D.honest dev.old → OnOk result (pages_from (page_at (D.seen dev.new)) start (length pages.now) ≡ bytes_of pages.now) }
+    ensures any_moment { D.honest dev.old
+        → LeavesOnly D.moment D.left_since dev.old dev.new
+        (KeepsWhere (D.candidate dev.old) (λ m. m < 4 * start)) }
+    ensures candidates { D.honest dev.old → (m : ℕ) (c : List ℕ) → m < 4 * start
+        → D.candidate dev.new m c → D.candidate dev.old m c }
+    ensures others { D.honest dev.old
+        → OnOk result ((m : ℕ) → m < 4 * start → D.seen dev.new m ≡ D.seen dev.old m) }
+    ensures written { D.honest dev.old
+        → OnOk result (pages_from (page_at (D.seen dev.new)) start (length pages.now)
+        ≡ bytes_of pages.now) }
     ensures honesty { D.honest dev.new ↔ D.honest dev.old }
     ensures cause { HasCause (D.faults dev.old) (D.faults dev.new) result }
     ensures size { D.sectors dev.new ≡ D.sectors dev.old }
@@ -30,11 +36,19 @@ fn write_images<D: SectorDev>(dev: &mut D, start: u32, pages: &[Page]) -> Result
 
 /// Writes each page at its own number.
 fn write_homes<D: SectorDev>(dev: &mut D, pages: &[Page]) -> Result<(), DevFault>
-    requires { (k : ℕ) → k < length pages.now → 4 * own_number (slice_index_or (bytes_of pages.now) k []) + 4 ≤ D.sectors dev.old }
-    ensures any_moment { D.honest dev.old → LeavesOnly D.moment D.left_since dev.old dev.new (KeepsWhere (D.candidate dev.old) (IsOutsideAll (bytes_of pages.now))) }
-    ensures candidates { D.honest dev.old → (m : ℕ) (c : List ℕ) → IsOutsideAll (bytes_of pages.now) m → D.candidate dev.new m c → D.candidate dev.old m c }
-    ensures others { D.honest dev.old → OnOk result ((m : ℕ) → IsOutsideAll (bytes_of pages.now) m → D.seen dev.new m ≡ D.seen dev.old m) }
-    ensures written { D.honest dev.old → OnOk result ((n : ℕ) → page_at (D.seen dev.new) n ≡ overlaid (bytes_of pages.now) (page_at (D.seen dev.old)) n) }
+    requires { (k : ℕ) → k < length pages.now
+        → 4 * own_number (slice_index_or (bytes_of pages.now) k []) + 4 ≤ D.sectors dev.old }
+    ensures any_moment { D.honest dev.old
+        → LeavesOnly D.moment D.left_since dev.old dev.new
+        (KeepsWhere (D.candidate dev.old) (IsOutsideAll (bytes_of pages.now))) }
+    ensures candidates { D.honest dev.old → (m : ℕ) (c : List ℕ)
+        → IsOutsideAll (bytes_of pages.now) m → D.candidate dev.new m c → D.candidate dev.old m c }
+    ensures others { D.honest dev.old
+        → OnOk result ((m : ℕ) → IsOutsideAll (bytes_of pages.now) m
+        → D.seen dev.new m ≡ D.seen dev.old m) }
+    ensures written { D.honest dev.old
+        → OnOk result ((n : ℕ) → page_at (D.seen dev.new) n
+        ≡ overlaid (bytes_of pages.now) (page_at (D.seen dev.old)) n) }
     ensures honesty { D.honest dev.new ↔ D.honest dev.old }
     ensures cause { HasCause (D.faults dev.old) (D.faults dev.new) result }
     ensures size { D.sectors dev.new ≡ D.sectors dev.old }
@@ -50,8 +64,10 @@ pub fn put_header<D: SectorDev>(dev: &mut D, content: &[u8; 512]) -> Result<(), 
     requires { 0 < D.sectors dev.old }
     ensures any_moment { D.honest dev.old → LeavesOnly D.moment D.left_since dev.old dev.new
         (IsImageOf (with_candidate (D.candidate dev.old) 0 content.now)) }
-    ensures seen { D.honest dev.old → OnOk result (D.seen dev.new ≡ with_sector (D.seen dev.old) 0 content.now) }
-    ensures stable { D.honest dev.old → OnOk result (IsStable (D.candidate dev.new) (D.seen dev.new)) }
+    ensures seen { D.honest dev.old
+        → OnOk result (D.seen dev.new ≡ with_sector (D.seen dev.old) 0 content.now) }
+    ensures stable { D.honest dev.old
+        → OnOk result (IsStable (D.candidate dev.new) (D.seen dev.new)) }
     ensures honesty { D.honest dev.new ↔ D.honest dev.old }
     ensures cause { HasCause (D.faults dev.old) (D.faults dev.new) result }
     ensures size { D.sectors dev.new ≡ D.sectors dev.old }
@@ -63,10 +79,16 @@ pub fn put_header<D: SectorDev>(dev: &mut D, content: &[u8; 512]) -> Result<(), 
 /// Step 1: the pages are on the disk in a row.
 pub fn put_images<D: SectorDev>(dev: &mut D, start: u32, pages: &[Page]) -> Result<(), DevFault>
     requires { 4 * (start + length pages.now) ≤ D.sectors dev.old }
-    ensures any_moment { D.honest dev.old → LeavesOnly D.moment D.left_since dev.old dev.new (KeepsWhere (D.candidate dev.old) (λ m. m < 4 * start)) }
-    ensures others { D.honest dev.old → OnOk result ((m : ℕ) → m < 4 * start → D.seen dev.new m ≡ D.seen dev.old m) }
-    ensures written { D.honest dev.old → OnOk result (pages_from (page_at (D.seen dev.new)) start (length pages.now) ≡ bytes_of pages.now) }
-    ensures stable { D.honest dev.old → OnOk result (IsStable (D.candidate dev.new) (D.seen dev.new)) }
+    ensures any_moment { D.honest dev.old
+        → LeavesOnly D.moment D.left_since dev.old dev.new
+        (KeepsWhere (D.candidate dev.old) (λ m. m < 4 * start)) }
+    ensures others { D.honest dev.old
+        → OnOk result ((m : ℕ) → m < 4 * start → D.seen dev.new m ≡ D.seen dev.old m) }
+    ensures written { D.honest dev.old
+        → OnOk result (pages_from (page_at (D.seen dev.new)) start (length pages.now)
+        ≡ bytes_of pages.now) }
+    ensures stable { D.honest dev.old
+        → OnOk result (IsStable (D.candidate dev.new) (D.seen dev.new)) }
     ensures honesty { D.honest dev.new ↔ D.honest dev.old }
     ensures cause { HasCause (D.faults dev.old) (D.faults dev.new) result }
     ensures size { D.sectors dev.new ≡ D.sectors dev.old }
@@ -77,11 +99,19 @@ pub fn put_images<D: SectorDev>(dev: &mut D, start: u32, pages: &[Page]) -> Resu
 
 /// Step 3: the pages are on the disk at their own numbers.
 fn put_homes<D: SectorDev>(dev: &mut D, pages: &[Page]) -> Result<(), DevFault>
-    requires { (k : ℕ) → k < length pages.now → 4 * own_number (slice_index_or (bytes_of pages.now) k []) + 4 ≤ D.sectors dev.old }
-    ensures any_moment { D.honest dev.old → LeavesOnly D.moment D.left_since dev.old dev.new (KeepsWhere (D.candidate dev.old) (IsOutsideAll (bytes_of pages.now))) }
-    ensures others { D.honest dev.old → OnOk result ((m : ℕ) → IsOutsideAll (bytes_of pages.now) m → D.seen dev.new m ≡ D.seen dev.old m) }
-    ensures written { D.honest dev.old → OnOk result ((n : ℕ) → page_at (D.seen dev.new) n ≡ overlaid (bytes_of pages.now) (page_at (D.seen dev.old)) n) }
-    ensures stable { D.honest dev.old → OnOk result (IsStable (D.candidate dev.new) (D.seen dev.new)) }
+    requires { (k : ℕ) → k < length pages.now
+        → 4 * own_number (slice_index_or (bytes_of pages.now) k []) + 4 ≤ D.sectors dev.old }
+    ensures any_moment { D.honest dev.old
+        → LeavesOnly D.moment D.left_since dev.old dev.new
+        (KeepsWhere (D.candidate dev.old) (IsOutsideAll (bytes_of pages.now))) }
+    ensures others { D.honest dev.old
+        → OnOk result ((m : ℕ) → IsOutsideAll (bytes_of pages.now) m
+        → D.seen dev.new m ≡ D.seen dev.old m) }
+    ensures written { D.honest dev.old
+        → OnOk result ((n : ℕ) → page_at (D.seen dev.new) n
+        ≡ overlaid (bytes_of pages.now) (page_at (D.seen dev.old)) n) }
+    ensures stable { D.honest dev.old
+        → OnOk result (IsStable (D.candidate dev.new) (D.seen dev.new)) }
     ensures honesty { D.honest dev.new ↔ D.honest dev.old }
     ensures cause { HasCause (D.faults dev.old) (D.faults dev.new) result }
     ensures size { D.sectors dev.new ≡ D.sectors dev.old }
@@ -90,7 +120,8 @@ fn put_homes<D: SectorDev>(dev: &mut D, pages: &[Page]) -> Result<(), DevFault>
     dev.sync()
 }
 
-/// Steps 1 and 2: the pages are on the disk as redo images, and the commit sector is armed over them.
+/// Steps 1 and 2: the pages are on the disk as redo images, and the commit sector is armed over
+/// them.
 fn arm<D: SectorDev>(
     dev: &mut D,
     start: u32,
@@ -98,7 +129,8 @@ fn arm<D: SectorDev>(
     new_end: u32,
     pages: &[Page],
 ) -> Result<(), DevFault>
-    requires rest { D.honest dev.old → IsAtRest (D.sectors dev.old / 4) old_end (D.candidate dev.old) (D.seen dev.old) }
+    requires rest { D.honest dev.old
+        → IsAtRest (D.sectors dev.old / 4) old_end (D.candidate dev.old) (D.seen dev.old) }
     requires some { 0 < length pages.now }
     requires old { old_end ≤ start }
     requires new { new_end ≤ start }
@@ -108,9 +140,14 @@ fn arm<D: SectorDev>(
 
     // Every image of every moment since the start settles to the old pages or to the new.
     ensures any_moment { D.honest dev.old → LeavesOnly D.moment D.left_since dev.old dev.new
-        (λ image. IsEither (file_pages (page_at (D.seen dev.old)) old_end) (file_pages (overlaid (bytes_of pages.now) (page_at (D.seen dev.old))) new_end) (settled (D.sectors dev.old / 4) image)) }
-    ensures armed { D.honest dev.old → OnOk result (IsArmed (D.sectors dev.old / 4) new_end start (bytes_of pages.now) (D.candidate dev.new) (D.seen dev.new)) }
-    ensures pages { D.honest dev.old → OnOk result ((m : ℕ) → 0 < m → m < 4 * start → D.seen dev.new m ≡ D.seen dev.old m) }
+        (λ image. IsEither (file_pages (page_at (D.seen dev.old)) old_end)
+        (file_pages (overlaid (bytes_of pages.now) (page_at (D.seen dev.old))) new_end)
+        (settled (D.sectors dev.old / 4) image)) }
+    ensures armed { D.honest dev.old
+        → OnOk result (IsArmed (D.sectors dev.old / 4) new_end start (bytes_of pages.now)
+        (D.candidate dev.new) (D.seen dev.new)) }
+    ensures pages { D.honest dev.old
+        → OnOk result ((m : ℕ) → 0 < m → m < 4 * start → D.seen dev.new m ≡ D.seen dev.old m) }
     ensures honesty { D.honest dev.new ↔ D.honest dev.old }
     ensures cause { HasCause (D.faults dev.old) (D.faults dev.new) result }
     ensures size { D.sectors dev.new ≡ D.sectors dev.old }
@@ -123,7 +160,9 @@ fn arm<D: SectorDev>(
 
 /// Steps 3 and 4: the pages are on the disk at their own numbers, and the commit sector is clear.
 fn finish<D: SectorDev>(dev: &mut D, start: u32, end: u32, pages: &[Page]) -> Result<(), DevFault>
-    requires armed { D.honest dev.old → IsArmed (D.sectors dev.old / 4) end start (bytes_of pages.now) (D.candidate dev.old) (D.seen dev.old) }
+    requires armed { D.honest dev.old
+        → IsArmed (D.sectors dev.old / 4) end start (bytes_of pages.now) (D.candidate dev.old)
+        (D.seen dev.old) }
     requires least { 4 ≤ end }
     requires start { end ≤ start }
     requires room { start ≤ D.sectors dev.old / 4 }
@@ -131,9 +170,15 @@ fn finish<D: SectorDev>(dev: &mut D, start: u32, end: u32, pages: &[Page]) -> Re
 
     // Every image of every moment since the start settles to the same pages.
     ensures any_moment { D.honest dev.old → LeavesOnly D.moment D.left_since dev.old dev.new
-        (λ image. settled (D.sectors dev.old / 4) image ≡ file_of (file_pages (overlaid (bytes_of pages.now) (page_at (D.seen dev.old))) end)) }
-    ensures rest { D.honest dev.old → OnOk result (IsAtRest (D.sectors dev.old / 4) end (D.candidate dev.new) (D.seen dev.new)) }
-    ensures pages { D.honest dev.old → OnOk result (file_pages (page_at (D.seen dev.new)) end ≡ file_pages (overlaid (bytes_of pages.now) (page_at (D.seen dev.old))) end) }
+        (λ image. settled (D.sectors dev.old / 4) image
+        ≡ file_of (file_pages (overlaid (bytes_of pages.now) (page_at (D.seen dev.old)))
+        end)) }
+    ensures rest { D.honest dev.old
+        → OnOk result (IsAtRest (D.sectors dev.old / 4) end (D.candidate dev.new)
+        (D.seen dev.new)) }
+    ensures pages { D.honest dev.old
+        → OnOk result (file_pages (page_at (D.seen dev.new)) end
+        ≡ file_pages (overlaid (bytes_of pages.now) (page_at (D.seen dev.old))) end) }
     ensures honesty { D.honest dev.new ↔ D.honest dev.old }
     ensures cause { HasCause (D.faults dev.old) (D.faults dev.new) result }
     ensures size { D.sectors dev.new ≡ D.sectors dev.old }
@@ -150,7 +195,8 @@ pub fn commit_pages<D: SectorDev>(
     new_end: u32,
     pages: &[Page],
 ) -> Result<(), DevFault>
-    requires rest { D.honest dev.old → IsAtRest (D.sectors dev.old / 4) old_end (D.candidate dev.old) (D.seen dev.old) }
+    requires rest { D.honest dev.old
+        → IsAtRest (D.sectors dev.old / 4) old_end (D.candidate dev.old) (D.seen dev.old) }
     requires some { 0 < length pages.now }
     requires least { 4 ≤ new_end }
     requires room { max old_end new_end + length pages.now ≤ D.sectors dev.old / 4 }
@@ -158,11 +204,17 @@ pub fn commit_pages<D: SectorDev>(
 
     // Every image of every moment since the start settles to the old pages or to the new.
     ensures any_moment { D.honest dev.old → LeavesOnly D.moment D.left_since dev.old dev.new
-        (λ image. IsEither (file_pages (page_at (D.seen dev.old)) old_end) (file_pages (overlaid (bytes_of pages.now) (page_at (D.seen dev.old))) new_end) (settled (D.sectors dev.old / 4) image)) }
+        (λ image. IsEither (file_pages (page_at (D.seen dev.old)) old_end)
+        (file_pages (overlaid (bytes_of pages.now) (page_at (D.seen dev.old))) new_end)
+        (settled (D.sectors dev.old / 4) image)) }
 
     // At `Ok` all is on the disk, and what a read gives are the new pages.
-    ensures rest { D.honest dev.old → OnOk result (IsAtRest (D.sectors dev.old / 4) new_end (D.candidate dev.new) (D.seen dev.new)) }
-    ensures pages { D.honest dev.old → OnOk result (file_pages (page_at (D.seen dev.new)) new_end ≡ file_pages (overlaid (bytes_of pages.now) (page_at (D.seen dev.old))) new_end) }
+    ensures rest { D.honest dev.old
+        → OnOk result (IsAtRest (D.sectors dev.old / 4) new_end (D.candidate dev.new)
+        (D.seen dev.new)) }
+    ensures pages { D.honest dev.old
+        → OnOk result (file_pages (page_at (D.seen dev.new)) new_end
+        ≡ file_pages (overlaid (bytes_of pages.now) (page_at (D.seen dev.old))) new_end) }
     ensures honesty { D.honest dev.new ↔ D.honest dev.old }
     ensures cause { HasCause (D.faults dev.old) (D.faults dev.new) result }
     ensures size { D.sectors dev.new ≡ D.sectors dev.old }

@@ -15,20 +15,29 @@ next_write dev at from bytes ok answer place is next recorded =
 
 -- a change, and then a look at its answer
 module _ (old mid new : FileDev) (ok answer : Bool) (is : ok ≡ answer) (same : IsSame mid new) where
-  pub asked_to_write : (at from : ℕ) (bytes : List ℕ) → at ≡ from → IsChanged old mid (Writes at bytes answer)
+  pub asked_to_write : (at from : ℕ) (bytes : List ℕ) → at ≡ from
+      → IsChanged old mid (Writes at bytes answer)
       → AsksSystem old new (Writes from bytes ok) ok
   asked_to_write at from bytes place done = record {
     file = same.file ∙ done.file;
-    answered = inl (same.changes ∙ done.changes, next_write old at from bytes ok answer place is done.next);
+    answered = inl (
+      same.changes ∙ done.changes,
+      next_write old at from bytes ok answer place is done.next,
+    );
   }
 
   pub asked_to_sync : IsChanged old mid (Syncs answer) → AsksSystem old new (Syncs ok) ok
   asked_to_sync done = record {
     file = same.file ∙ done.file;
-    answered = inl (same.changes ∙ done.changes, λ recorded. done.next recorded ∙ ap Syncs (sym is));
+    answered = inl (
+      same.changes ∙ done.changes,
+      λ recorded.
+          done.next recorded ∙ ap Syncs (sym is),
+    );
   }
 
 -- where no fault was counted before
-pub cause_since : {T E : Type 0} (result : Result T E) (before mid now : ℕ) → mid ≡ before → HasCause mid now result
+pub cause_since : {T E : Type 0} (result : Result T E) (before mid now : ℕ) → mid ≡ before
+    → HasCause mid now result
     → HasCause before now result
 cause_since result before mid now same cause = subst (λ (k : ℕ). HasCause k now result) same cause

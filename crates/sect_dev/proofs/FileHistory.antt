@@ -9,12 +9,14 @@ use Rattle.sect_dev.proofs.Results.{on_ok, on_err, not_ok}
 
 -- one moment more, of which the images of now may be left, or none
 elapses : (candidate : ℕ → Candidates) (before now : ℕ) → (now ≡ before + 1) ⊎ (now ≡ before)
-    → Elapses before now (LeftFrom candidate before) (LeftFrom candidate now) (IsImageOf (candidate now))
+    → Elapses before now (LeftFrom candidate before) (LeftFrom candidate now)
+    (IsImageOf (candidate now))
 elapses candidate before now (inl one) = record {
   later = omega (arith, one);
   nothing_else = λ t image le left. elim (cases_lt before left.0) [
     | inr past ↦ inl (left.0, left.1, past, left.3)
-    | inl last ↦ inr (subst (λ k. IsImageOf (candidate k) image) (omega (arith, left.2, last, one)) left.3)
+    | inl last ↦ inr (subst (λ k. IsImageOf (candidate k) image)
+        (omega (arith, left.2, last, one)) left.3)
   ];
   keeps = λ t image le past. (past.0, past.1, omega (arith, past.2, one), past.3);
 }
@@ -26,58 +28,86 @@ elapses candidate before now (inr none) = record {
 
 -- the same file, now and at the moment before
 module _ (file now_file : File) (before now : ℕ) (same : now_file ≡ file) where
-  of_file : (P : Image → Candidates → Type 0) → P ((history_of file).seen now) ((history_of file).candidate now) → P ((history_of now_file).seen now) ((history_of now_file).candidate now)
+  of_file : (P : Image → Candidates → Type 0)
+      → P ((history_of file).seen now) ((history_of file).candidate now)
+      → P ((history_of now_file).seen now) ((history_of now_file).candidate now)
   of_file P = subst (λ f. P ((history_of f).seen now) ((history_of f).candidate now)) (sym same)
 
   pub honesty : IsHonest now_file ↔ IsHonest file
   honesty = (subst IsHonest same, subst IsHonest (sym same))
 
   pub time : (now ≡ before + 1) ⊎ (now ≡ before)
-      → Elapses before now (LeftFrom (history_of file).candidate before) (LeftFrom (history_of now_file).candidate now) (IsImageOf ((history_of now_file).candidate now))
-  time later = subst (λ f. Elapses before now (LeftFrom (history_of file).candidate before) (LeftFrom (history_of f).candidate now) (IsImageOf ((history_of f).candidate now)))
+      → Elapses before now (LeftFrom (history_of file).candidate before)
+      (LeftFrom (history_of now_file).candidate now)
+      (IsImageOf ((history_of now_file).candidate now))
+  time later = subst (λ f. Elapses before now (LeftFrom (history_of file).candidate before)
+      (LeftFrom (history_of f).candidate now) (IsImageOf ((history_of f).candidate now)))
       (sym same) (elapses (history_of file).candidate before now later)
 
   -- no change
   module _ (unchanged : now ≡ before) where
-    as_before : (P : Image → Candidates → Type 0) → P ((history_of file).seen before) ((history_of file).candidate before) → P ((history_of now_file).seen now) ((history_of now_file).candidate now)
-    as_before P is = of_file P (subst (λ t. P ((history_of file).seen t) ((history_of file).candidate t)) (sym unchanged) is)
+    as_before : (P : Image → Candidates → Type 0)
+        → P ((history_of file).seen before) ((history_of file).candidate before)
+        → P ((history_of now_file).seen now) ((history_of now_file).candidate now)
+    as_before P is = of_file P (subst
+        (λ t. P ((history_of file).seen t) ((history_of file).candidate t)) (sym unchanged) is)
 
     pub same_seen : (history_of now_file).seen now ≡ (history_of file).seen before
     same_seen = as_before (λ image candidate. image ≡ (history_of file).seen before) refl
 
-    pub none_added : NoNewCandidate ((history_of file).candidate before) ((history_of now_file).candidate now)
-    none_added = as_before (λ image candidate. NoNewCandidate ((history_of file).candidate before) candidate) (λ m c is. is)
+    pub none_added : NoNewCandidate ((history_of file).candidate before)
+        ((history_of now_file).candidate now)
+    none_added = as_before (λ image candidate.
+        NoNewCandidate ((history_of file).candidate before) candidate) (λ m c is. is)
 
-    pub none_removed : NoNewCandidate ((history_of now_file).candidate now) ((history_of file).candidate before)
-    none_removed = as_before (λ image candidate. NoNewCandidate candidate ((history_of file).candidate before)) (λ m c is. is)
+    pub none_removed : NoNewCandidate ((history_of now_file).candidate now)
+        ((history_of file).candidate before)
+    none_removed = as_before (λ image candidate.
+        NoNewCandidate candidate ((history_of file).candidate before)) (λ m c is. is)
 
 -- a change that the system was asked for, or was not, and then the call failed
-module _ {T E F : Type 0} (r : Result T E) (file now_file : File) (before now : ℕ) (change : Change) (same : now_file ≡ file)
-    (answered : ((now ≡ before + 1) × (RecordsCalls file → (history_of file).change before ≡ change)) ⊎ ((now ≡ before) × (is_ok r ≡ false) × F)) where
+module _ {T E F : Type 0} (r : Result T E) (file now_file : File) (before now : ℕ) (change : Change)
+    (same : now_file ≡ file)
+    (answered : ((now ≡ before + 1)
+    × (RecordsCalls file → (history_of file).change before ≡ change))
+    ⊎ ((now ≡ before) × (is_ok r ≡ false) × F)) where
   abbrev old : Image
   old = (history_of file).seen before
 
   abbrev candidates : Candidates
   candidates = (history_of file).candidate before
 
-  pub change_time : Elapses before now (LeftFrom (history_of file).candidate before) (LeftFrom (history_of now_file).candidate now) (IsImageOf ((history_of now_file).candidate now))
-  change_time = time file now_file before now same (⊎_elim (λ asked. inl asked.0) (λ refused. inr refused.0) answered)
+  pub change_time : Elapses before now (LeftFrom (history_of file).candidate before)
+      (LeftFrom (history_of now_file).candidate now)
+      (IsImageOf ((history_of now_file).candidate now))
+  change_time = time file now_file before now same
+      (⊎_elim (λ asked. inl asked.0) (λ refused. inr refused.0) answered)
 
   by_change : (P : Image → Candidates → Type 0) → IsHonest file
-      → ((image : Image) (candidate : Candidates) → KeepsChange change old image candidates candidate → P image candidate)
-      → (is_ok r ≡ false → P old candidates) → P ((history_of now_file).seen now) ((history_of now_file).candidate now)
+      → ((image : Image) (candidate : Candidates)
+      → KeepsChange change old image candidates candidate → P image candidate)
+      → (is_ok r ≡ false → P old candidates)
+      → P ((history_of now_file).seen now) ((history_of now_file).candidate now)
   by_change P honest kept failed =
       of_file file now_file before now same P
       (elim answered [
-        | inl asked ↦ subst (λ t. P ((history_of file).seen t) ((history_of file).candidate t)) (sym asked.0)
+        | inl asked ↦ subst (λ t. P ((history_of file).seen t) ((history_of file).candidate t))
+            (sym asked.0)
             (kept ((history_of file).seen (before + 1)) ((history_of file).candidate (before + 1))
-            (subst (λ c. KeepsChange c old ((history_of file).seen (before + 1)) candidates ((history_of file).candidate (before + 1))) (asked.1 honest.recorded) (honest.kept.keeps before)))
-        | inr refused ↦ subst (λ t. P ((history_of file).seen t) ((history_of file).candidate t)) (sym refused.0) (failed refused.1)
+            (subst (λ c. KeepsChange c old ((history_of file).seen (before + 1)) candidates
+            ((history_of file).candidate (before + 1))) (asked.1 honest.recorded)
+            (honest.kept.keeps before)))
+        | inr refused ↦ subst (λ t. P ((history_of file).seen t) ((history_of file).candidate t))
+            (sym refused.0) (failed refused.1)
       ])
 
 -- the clauses of a write
-module _ {T E F : Type 0} (r : Result T E) (file now_file : File) (before now n : ℕ) (from : List ℕ) (whole : length from ≡ 512) (same : now_file ≡ file)
-    (answered : ((now ≡ before + 1) × (RecordsCalls file → (history_of file).change before ≡ Writes (n * 512) from (is_ok r))) ⊎ ((now ≡ before) × (is_ok r ≡ false) × F)) (honest : IsHonest file) where
+module _ {T E F : Type 0} (r : Result T E) (file now_file : File) (before now n : ℕ) (from : List ℕ)
+    (whole : length from ≡ 512) (same : now_file ≡ file)
+    (answered : ((now ≡ before + 1)
+    × (RecordsCalls file → (history_of file).change before
+    ≡ Writes (n * 512) from (is_ok r))) ⊎ ((now ≡ before) × (is_ok r ≡ false) × F))
+    (honest : IsHonest file) where
   abbrev seen : Image
   seen = (history_of file).seen before
 
@@ -85,27 +115,40 @@ module _ {T E F : Type 0} (r : Result T E) (file now_file : File) (before now n 
   left = (history_of file).candidate before
 
   by_write : (P : Image → Candidates → Type 0)
-      → ((image : Image) (candidate : Candidates) → KeepsWrite n from (is_ok r) seen image left candidate → P image candidate)
-      → (is_ok r ≡ false → P seen left) → P ((history_of now_file).seen now) ((history_of now_file).candidate now)
-  by_write P kept = by_change r file now_file before now (Writes (n * 512) from (is_ok r)) same answered P honest (λ image candidate keeps. kept image candidate (keeps n refl whole))
+      → ((image : Image) (candidate : Candidates)
+      → KeepsWrite n from (is_ok r) seen image left candidate → P image candidate)
+      → (is_ok r ≡ false → P seen left)
+      → P ((history_of now_file).seen now) ((history_of now_file).candidate now)
+  by_write P kept = by_change r file now_file before now (Writes (n * 512) from (is_ok r)) same
+      answered P honest (λ image candidate keeps. kept image candidate (keeps n refl whole))
 
   pub write_seen : OnOk r ((history_of now_file).seen now ≡ with_sector seen n from)
-  write_seen = by_write (λ image candidate. OnOk r (image ≡ with_sector seen n from)) (λ image candidate keeps. on_ok r (image ≡ with_sector seen n from) keeps.written)
+  write_seen = by_write (λ image candidate. OnOk r (image ≡ with_sector seen n from))
+      (λ image candidate keeps. on_ok r (image ≡ with_sector seen n from) keeps.written)
       (not_ok r (seen ≡ with_sector seen n from))
 
   pub write_failed : OnErr r (IsWrittenOrNot seen n from ((history_of now_file).seen now))
-  write_failed = by_write (λ image candidate. OnErr r (IsWrittenOrNot seen n from image)) (λ image candidate keeps. on_err r (IsWrittenOrNot seen n from image) (λ failed. keeps.failed))
+  write_failed = by_write (λ image candidate. OnErr r (IsWrittenOrNot seen n from image))
+      (λ image candidate keeps. on_err r (IsWrittenOrNot seen n from image)
+      (λ failed. keeps.failed))
       (λ failed. on_err r (IsWrittenOrNot seen n from seen) (λ failed. inl refl))
 
-  pub write_adds_one : NoNewCandidate (with_candidate left n from) ((history_of now_file).candidate now)
-  write_adds_one = by_write (λ image candidate. NoNewCandidate (with_candidate left n from) candidate) (λ image candidate keeps. keeps.candidates) (λ failed m c is. inl is)
+  pub write_adds_one : NoNewCandidate (with_candidate left n from)
+      ((history_of now_file).candidate now)
+  write_adds_one = by_write (λ image candidate.
+      NoNewCandidate (with_candidate left n from) candidate)
+      (λ image candidate keeps. keeps.candidates) (λ failed m c is. inl is)
 
   pub write_removes_none : NoNewCandidate ((history_of now_file).candidate now) left
-  write_removes_none = by_write (λ image candidate. NoNewCandidate candidate left) (λ image candidate keeps. keeps.keeps) (λ failed m c is. is)
+  write_removes_none = by_write (λ image candidate. NoNewCandidate candidate left)
+      (λ image candidate keeps. keeps.keeps) (λ failed m c is. is)
 
 -- the clauses of a sync
-module _ {T E F : Type 0} (r : Result T E) (file now_file : File) (before now : ℕ) (same : now_file ≡ file)
-    (answered : ((now ≡ before + 1) × (RecordsCalls file → (history_of file).change before ≡ Syncs (is_ok r))) ⊎ ((now ≡ before) × (is_ok r ≡ false) × F)) (honest : IsHonest file) where
+module _ {T E F : Type 0} (r : Result T E) (file now_file : File) (before now : ℕ)
+    (same : now_file ≡ file)
+    (answered : ((now ≡ before + 1)
+    × (RecordsCalls file → (history_of file).change before ≡ Syncs (is_ok r)))
+    ⊎ ((now ≡ before) × (is_ok r ≡ false) × F)) (honest : IsHonest file) where
   abbrev shown : Image
   shown = (history_of file).seen before
 
@@ -113,19 +156,28 @@ module _ {T E F : Type 0} (r : Result T E) (file now_file : File) (before now : 
   may_stay = (history_of file).candidate before
 
   by_sync : (P : Image → Candidates → Type 0)
-      → ((image : Image) (candidate : Candidates) → KeepsSync (is_ok r) shown image may_stay candidate → P image candidate)
-      → (is_ok r ≡ false → P shown may_stay) → P ((history_of now_file).seen now) ((history_of now_file).candidate now)
-  by_sync P kept = by_change r file now_file before now (Syncs (is_ok r)) same answered P honest kept
+      → ((image : Image) (candidate : Candidates)
+      → KeepsSync (is_ok r) shown image may_stay candidate → P image candidate)
+      → (is_ok r ≡ false → P shown may_stay)
+      → P ((history_of now_file).seen now) ((history_of now_file).candidate now)
+  by_sync P kept = by_change r file now_file before now (Syncs (is_ok r)) same
+      answered P honest kept
 
-  pub sync_settles : OnOk r (IsStable ((history_of now_file).candidate now) ((history_of now_file).seen now))
-  sync_settles = by_sync (λ image candidate. OnOk r (IsStable candidate image)) (λ image candidate keeps. on_ok r (IsStable candidate image) keeps.stable) (not_ok r (IsStable may_stay shown))
+  pub sync_settles : OnOk r (IsStable ((history_of now_file).candidate now)
+      ((history_of now_file).seen now))
+  sync_settles = by_sync (λ image candidate. OnOk r (IsStable candidate image))
+      (λ image candidate keeps. on_ok r (IsStable candidate image) keeps.stable)
+      (not_ok r (IsStable may_stay shown))
 
   pub sync_seen : OnOk r ((history_of now_file).seen now ≡ shown)
-  sync_seen = by_sync (λ image candidate. OnOk r (image ≡ shown)) (λ image candidate keeps. on_ok r (image ≡ shown) keeps.seen) (not_ok r (shown ≡ shown))
+  sync_seen = by_sync (λ image candidate. OnOk r (image ≡ shown))
+      (λ image candidate keeps. on_ok r (image ≡ shown) keeps.seen) (not_ok r (shown ≡ shown))
 
   pub sync_adds_none : NoNewCandidate may_stay ((history_of now_file).candidate now)
-  sync_adds_none = by_sync (λ image candidate. NoNewCandidate may_stay candidate) (λ image candidate keeps. keeps.candidates) (λ failed m c is. is)
+  sync_adds_none = by_sync (λ image candidate. NoNewCandidate may_stay candidate)
+      (λ image candidate keeps. keeps.candidates) (λ failed m c is. is)
 
   pub sync_failed : OnErr r (NoNewCandidate ((history_of now_file).candidate now) may_stay)
-  sync_failed = by_sync (λ image candidate. OnErr r (NoNewCandidate candidate may_stay)) (λ image candidate keeps. on_err r (NoNewCandidate candidate may_stay) keeps.keeps)
+  sync_failed = by_sync (λ image candidate. OnErr r (NoNewCandidate candidate may_stay))
+      (λ image candidate keeps. on_err r (NoNewCandidate candidate may_stay) keeps.keeps)
       (λ failed. on_err r (NoNewCandidate may_stay may_stay) (λ failed m c is. is))

@@ -13,72 +13,99 @@ pending_bound (Wrote n bytes ∷ earlier) = omega (arith, pending_bound earlier)
 pending_bound (Synced ∷ earlier) = omega arith
 
 -- where all of these are unsettled writes, so are all of the older ones
-all_pending : (newer mid settled : List Event) → pending_of (newer ++ mid ++ settled) ≡ length (newer ++ mid) → pending_of (mid ++ settled) ≡ length mid
+all_pending : (newer mid settled : List Event)
+    → pending_of (newer ++ mid ++ settled) ≡ length (newer ++ mid)
+    → pending_of (mid ++ settled) ≡ length mid
 all_pending [] mid settled all = all
-all_pending (Wrote n bytes ∷ newer) mid settled all = all_pending newer mid settled (omega (arith, all))
+all_pending (Wrote n bytes ∷ newer) mid settled all =
+    all_pending newer mid settled (omega (arith, all))
 all_pending (Synced ∷ newer) mid settled all = absurd (omega (arith, all))
 
 -- with none pending, all is kept
-pub none_pending : (events : List Event) (marks : List Bool) → pending_of events ≡ 0 → content_after events ≡ kept events marks
+pub none_pending : (events : List Event) (marks : List Bool) → pending_of events ≡ 0
+    → content_after events ≡ kept events marks
 none_pending [] marks none = refl
 none_pending (Wrote n bytes ∷ earlier) marks none = absurd (omega (arith, none))
 none_pending (Synced ∷ earlier) marks none = refl
 
 -- one write more
-one_more : (event : Event) (earlier : List Event) (marks : List Bool) (mark : Bool) (i : ℕ) (all : List Event)
-    → pending_of (event ∷ earlier) ≡ suc i → pending_of earlier ≡ i → slice_index_or marks i false ≡ mark → content_after all ≡ kept earlier marks
+one_more : (event : Event) (earlier : List Event) (marks : List Bool) (mark : Bool) (i : ℕ)
+    (all : List Event)
+    → pending_of (event ∷ earlier) ≡ suc i → pending_of earlier ≡ i
+    → slice_index_or marks i false ≡ mark → content_after all ≡ kept earlier marks
     → content_after (cond mark (event ∷ all) all) ≡ kept (event ∷ earlier) marks
 one_more Synced earlier marks mark i all some few is so_far = absurd (omega (arith, some))
 one_more (Wrote n bytes) earlier marks mark i all some few is so_far =
-    by_mark n bytes all (kept earlier marks) so_far mark ∙ ap (λ b. cond b (with_sector (kept earlier marks) n bytes) (kept earlier marks)) (sym is ∙ ap (λ (k : ℕ). slice_index_or marks k false) (sym few))
+    by_mark n bytes all (kept earlier marks) so_far mark
+    ∙ ap (λ b. cond b (with_sector (kept earlier marks) n bytes) (kept earlier marks))
+    (sym is ∙ ap (λ (k : ℕ). slice_index_or marks k false) (sym few))
   where
-    by_mark : (n : ℕ) (bytes : List ℕ) (all : List Event) (image : Image) → content_after all ≡ image → (mark : Bool) → content_after (cond mark (Wrote n bytes ∷ all) all) ≡ cond mark (with_sector image n bytes) image
+    by_mark : (n : ℕ) (bytes : List ℕ) (all : List Event) (image : Image)
+        → content_after all ≡ image → (mark : Bool)
+        → content_after (cond mark (Wrote n bytes ∷ all) all)
+        ≡ cond mark (with_sector image n bytes) image
     by_mark n bytes all image is true = ap (λ (before : Image). with_sector before n bytes) is
     by_mark n bytes all image is false = is
 
 -- writes, the oldest first, all of them after the last sync
-module _ (writes base : List Event) (all : pending_of (reverse writes ++ base) ≡ length writes) where
+module _ (writes base : List Event)
+    (all : pending_of (reverse writes ++ base) ≡ length writes) where
   pub pending_at : (i : ℕ) → i ≤ length writes → pending_of (reverse (take i writes) ++ base) ≡ i
   pending_at i within =
       let parts : reverse writes ≡ reverse (drop i writes) ++ reverse (take i writes) =
-      ap reverse (sym (take-append-drop i writes)) ∙ reverse-append (take i writes) (drop i writes) in
-      let whole : pending_of (reverse (drop i writes) ++ reverse (take i writes) ++ base) ≡ length writes = ap (λ (l : List Event). pending_of (l ++ base)) (sym parts) ∙ all in
-      let size : length (reverse (drop i writes) ++ reverse (take i writes)) ≡ length writes = ap length (sym parts) ∙ length-reverse writes in
-      all_pending (reverse (drop i writes)) (reverse (take i writes)) base (whole ∙ sym size) ∙ length-reverse (take i writes) ∙ length-take-le i writes within
+      ap reverse (sym (take-append-drop i writes))
+      ∙ reverse-append (take i writes) (drop i writes) in
+      let whole : pending_of (reverse (drop i writes) ++ reverse (take i writes) ++ base)
+      ≡ length writes = ap (λ (l : List Event). pending_of (l ++ base)) (sym parts) ∙ all in
+      let size : length (reverse (drop i writes) ++ reverse (take i writes)) ≡ length writes =
+      ap length (sym parts) ∙ length-reverse writes in
+      all_pending (reverse (drop i writes)) (reverse (take i writes)) base (whole ∙ sym size)
+      ∙ length-reverse (take i writes) ∙ length-take-le i writes within
 
   -- before the first
   pub first : (marks : List Bool) → content_after base ≡ kept base marks
   first marks = none_pending base marks (pending_at 0 (omega arith))
 
   -- one more, added if it has a mark
-  pub next : (old new : List Event) (marks : List Bool) (i : ℕ) (event : Event) → i < length writes → take (i + 1) writes ≡ take i writes ++ event ∷ []
+  pub next : (old new : List Event) (marks : List Bool) (i : ℕ) (event : Event) → i < length writes
+      → take (i + 1) writes ≡ take i writes ++ event ∷ []
       → new ≡ cond (slice_index_or marks i false) (event ∷ old) old
       → content_after old ≡ kept (reverse (take i writes) ++ base) marks
       → content_after new ≡ kept (reverse (take (i + 1) writes) ++ base) marks
   next old new marks i event within taken added so_far =
       let earlier = reverse (take i writes) ++ base in
       let grown : reverse (take (i + 1) writes) ++ base ≡ event ∷ earlier =
-      ap (λ (l : List Event). reverse l ++ base) taken ∙ ap (λ (l : List Event). l ++ base) (reverse-append (take i writes) (event ∷ [])) in
-      let some : pending_of (event ∷ earlier) ≡ suc i = ap pending_of (sym grown) ∙ pending_at (i + 1) (omega (arith, within)) ∙ omega arith in
+      ap (λ (l : List Event). reverse l ++ base) taken
+      ∙ ap (λ (l : List Event). l ++ base) (reverse-append (take i writes) (event ∷ [])) in
+      let some : pending_of (event ∷ earlier) ≡ suc i =
+      ap pending_of (sym grown) ∙ pending_at (i + 1) (omega (arith, within)) ∙ omega arith in
       ap content_after added
-      ∙ one_more event earlier marks (slice_index_or marks i false) i old some (pending_at i (omega (arith, within))) refl so_far
+      ∙ one_more event earlier marks (slice_index_or marks i false) i old some
+      (pending_at i (omega (arith, within))) refl so_far
       ∙ ap (λ (l : List Event). kept l marks) (sym grown)
 
 -- a record of which the first events are settled, and the others are not
-module _ (events : List Event) (settled : ℕ) (counted : settled + pending_of (reverse events) ≡ length events)
-    (front back base : List Event) (is_front : front ≡ take settled events) (is_back : back ≡ drop settled events) (is_base : base ≡ reverse front ++ []) where
+module _ (events : List Event) (settled : ℕ)
+    (counted : settled + pending_of (reverse events) ≡ length events)
+    (front back base : List Event) (is_front : front ≡ take settled events)
+    (is_back : back ≡ drop settled events) (is_base : base ≡ reverse front ++ []) where
   pub in_two : reverse back ++ base ≡ reverse events
   in_two =
-      ap (λ (l : List Event). reverse back ++ l) (is_base ∙ append-nil (reverse front)) ∙ sym (reverse-append front back)
-      ∙ ap (λ (l : List Event). reverse (l ++ back)) is_front ∙ ap (λ (l : List Event). reverse (take settled events ++ l)) is_back
+      ap (λ (l : List Event). reverse back ++ l) (is_base ∙ append-nil (reverse front))
+      ∙ sym (reverse-append front back)
+      ∙ ap (λ (l : List Event). reverse (l ++ back)) is_front
+      ∙ ap (λ (l : List Event). reverse (take settled events ++ l)) is_back
       ∙ ap reverse (take-append-drop settled events)
 
   pub back_pending : pending_of (reverse back ++ base) ≡ length back
   back_pending =
-      let count : length back ≡ length events - settled = ap length is_back ∙ length-drop settled events in
+      let count : length back ≡ length events - settled =
+      ap length is_back ∙ length-drop settled events in
       ap pending_of in_two ∙ omega (arith, counted, count)
 
   -- with the marked ones added, and a sync
-  pub crash_seen : (marked synced : List Event) (marks : List Bool) → content_after marked ≡ kept (reverse back ++ base) marks → synced ≡ Synced ∷ marked
+  pub crash_seen : (marked synced : List Event) (marks : List Bool)
+      → content_after marked ≡ kept (reverse back ++ base) marks → synced ≡ Synced ∷ marked
       → content_after synced ≡ kept (reverse events) marks
-  crash_seen marked synced marks is after = ap content_after after ∙ is ∙ ap (λ (l : List Event). kept l marks) in_two
+  crash_seen marked synced marks is after =
+      ap content_after after ∙ is ∙ ap (λ (l : List Event). kept l marks) in_two

@@ -34,9 +34,10 @@ IsStable candidate image = (m : ℕ) (c : List ℕ) → candidate m c → c ≡ 
 abbrev pub IsWrittenOrNot : Image → ℕ → List ℕ → Image → Type 0
 IsWrittenOrNot old n content new = (new ≡ old) ⊎ (new ≡ with_sector old n content)
 
--- Time goes on: a stop since t may have left what it may have left before, or what it may leave now.
--- X is what is left: an image, or what the layers above read in one.
-pub record Elapses {X : Type 0} (before now : ℕ) (past since : ℕ → X → Type 0) (may_leave : X → Type 0) : Type 0 where
+-- Time goes on: a stop since t may have left what it may have left before, or what it may leave
+-- now. X is what is left: an image, or what the layers above read in one.
+pub record Elapses {X : Type 0} (before now : ℕ) (past since : ℕ → X → Type 0)
+    (may_leave : X → Type 0) : Type 0 where
   pub later : before ≤ now
   pub nothing_else : (t : ℕ) (x : X) → t ≤ before → since t x → past t x ⊎ may_leave x
   pub keeps : (t : ℕ) (x : X) → t ≤ before → past t x → since t x
@@ -47,7 +48,8 @@ pub record HasCause {T E : Type 0} (before now : ℕ) (result : Result T E) : Ty
   pub fault : OnErr result (MoreFaults before now)
 
 -- Whatever a stop at some moment since old may leave has P.
-pub record LeavesOnly {D X : Type 0} (moment : D → ℕ) (left_since : D → ℕ → X → Type 0) (old new : D) (P : X → Type 0) : Type 0 where
+pub record LeavesOnly {D X : Type 0} (moment : D → ℕ) (left_since : D → ℕ → X → Type 0)
+    (old new : D) (P : X → Type 0) : Type 0 where
   pub later : moment old ≤ moment new
   pub each : (x : X) → left_since new (moment old) x → P x
   -- for a run that began earlier

@@ -19,10 +19,13 @@ own_faults f = f.refused
 abbrev pub all_faults : {D P : Type 0} → (D → ℕ) → Failing D P → ℕ
 all_faults faults f = faults f.inner + f.refused
 
--- A call that is to fail does, and is counted. Any other fails only where the device inside counted a fault.
--- Then the plan goes on with the next call.
-pub record FollowsPlan {D P T E : Type 0} (fails : P → ℕ → Bool) (faults : D → ℕ) (old new : Failing D P) (result : Result T E) : Type 0 where
+-- A call that is to fail does, and is counted. Any other fails only where the device inside counted
+-- a fault. Then the plan goes on with the next call.
+pub record FollowsPlan {D P T E : Type 0} (fails : P → ℕ → Bool) (faults : D → ℕ)
+    (old new : Failing D P) (result : Result T E) : Type 0 where
   pub refused : IsTrue (fails (plan_of old) 0) → IsErr result
-  pub passed : fails (plan_of old) 0 ≡ false → HasCause (faults (inner_of old)) (faults (inner_of new)) result
-  pub counted : own_faults new ≡ (if fails (plan_of old) 0 then min (own_faults old + 1) (2 ^ 64 - 1) else own_faults old)
+  pub passed : fails (plan_of old) 0 ≡ false
+      → HasCause (faults (inner_of old)) (faults (inner_of new)) result
+  pub counted : own_faults new ≡ (if fails (plan_of old) 0
+      then min (own_faults old + 1) (2 ^ 64 - 1) else own_faults old)
   pub goes_on : (i : ℕ) → fails (plan_of new) i ≡ fails (plan_of old) (i + 1)

@@ -28,7 +28,9 @@ pub record IsChanged (old new : FileDev) (change : Change) : Type 0 where
   pub faults : new.faults ≡ old.faults
   pub next : IsNextChange old change
 
--- the system was asked for this change and answered so, or no more changes can be counted, and the call failed
+-- the system was asked for this change and answered so, or no more changes can be counted, and the
+-- call failed
 pub record AsksSystem (old new : FileDev) (change : Change) (ok : Bool) : Type 0 where
   pub file : new.file ≡ old.file
-  pub answered : ((new.changes ≡ old.changes + 1) × IsNextChange old change) ⊎ ((new.changes ≡ old.changes) × (ok ≡ false) × (old.changes ≡ 2 ^ 64 - 1))
+  pub answered : ((new.changes ≡ old.changes + 1) × IsNextChange old change)
+      ⊎ ((new.changes ≡ old.changes) × (ok ≡ false) × (old.changes ≡ 2 ^ 64 - 1))

@@ -8,7 +8,8 @@ use Rattle.sect_dev.specs.FileHistory.Change.{Writes, Syncs}
 
 -- the record after a change. A change that failed did not happen
 abbrev pub noted : Change → List Event → List Event
-noted (Writes at bytes true) events = if length bytes == 512 then Wrote (at / 512) bytes ∷ events else events
+noted (Writes at bytes true) events =
+    if length bytes == 512 then Wrote (at / 512) bytes ∷ events else events
 noted (Writes at bytes false) events = events
 noted (Syncs true) events = Synced ∷ events
 noted (Syncs false) events = events
@@ -23,7 +24,8 @@ memory_course changes = record {
   change = changes;
   seen = λ t. content_after (record_of changes t);
   candidate = λ t. IsCandidate (record_of changes t);
-  gave = λ t at bytes. (n i : ℕ) → at ≡ n * 512 + i → i < 512 → StandsAt (content_after (record_of changes t) n) i bytes;
+  gave = λ t at bytes. (n i : ℕ) → at ≡ n * 512 + i → i < 512
+      → StandsAt (content_after (record_of changes t) n) i bytes;
 }
 
 abbrev pub PremiseCanBeMet : Type 0

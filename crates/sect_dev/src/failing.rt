@@ -97,18 +97,29 @@ impl<D: SectorDev, P: Plan> SectorDev for Failing<D, P> {
 
     fn read(&mut self, n: u32, out: &mut [u8; 512]) -> Result<(), DevFault>
         requires { n < D.sectors (inner_of self.old) }
-        ensures read { D.honest (inner_of self.old) → OnOk result (out.new ≡ D.seen (inner_of self.old) n) }
-        ensures seen { D.honest (inner_of self.old) → D.seen (inner_of self.new) ≡ D.seen (inner_of self.old) }
-        ensures candidates { D.honest (inner_of self.old) → NoNewCandidate (D.candidate (inner_of self.old)) (D.candidate (inner_of self.new)) }
-        ensures keeps { D.honest (inner_of self.old) → NoNewCandidate (D.candidate (inner_of self.new)) (D.candidate (inner_of self.old)) }
-        ensures time { D.honest (inner_of self.old) → Elapses (D.moment (inner_of self.old)) (D.moment (inner_of self.new)) (D.left_since (inner_of self.old)) (D.left_since (inner_of self.new)) (IsImageOf (D.candidate (inner_of self.new))) }
+        ensures read { D.honest (inner_of self.old)
+            → OnOk result (out.new ≡ D.seen (inner_of self.old) n) }
+        ensures seen { D.honest (inner_of self.old)
+            → D.seen (inner_of self.new) ≡ D.seen (inner_of self.old) }
+        ensures candidates { D.honest (inner_of self.old)
+            → NoNewCandidate (D.candidate (inner_of self.old)) (D.candidate (inner_of self.new)) }
+        ensures keeps { D.honest (inner_of self.old)
+            → NoNewCandidate (D.candidate (inner_of self.new)) (D.candidate (inner_of self.old)) }
+        ensures time { D.honest (inner_of self.old)
+            → Elapses (D.moment (inner_of self.old)) (D.moment (inner_of self.new))
+            (D.left_since (inner_of self.old)) (D.left_since (inner_of self.new))
+            (IsImageOf (D.candidate (inner_of self.new))) }
         ensures honesty { D.honest (inner_of self.new) ↔ D.honest (inner_of self.old) }
-        ensures cause { HasCause (all_faults D.faults self.old) (all_faults D.faults self.new) result }
+        ensures cause { HasCause (all_faults D.faults self.old)
+            (all_faults D.faults self.new) result }
         ensures size { D.sectors (inner_of self.new) ≡ D.sectors (inner_of self.old) }
 
         ensures plan { FollowsPlan P.fails D.faults self.old self.new result }
-        ensures kept { IsTrue (P.fails (plan_of self.old) 0) → P.LATE ≡ false → inner_of self.new ≡ inner_of self.old }
-        ensures passed_on { D.honest (inner_of self.old) → IsTrue (P.fails (plan_of self.old) 0) → P.LATE ≡ true → (out.new ≡ D.seen (inner_of self.old) n) ⊎ MoreFaults (D.faults (inner_of self.old)) (D.faults (inner_of self.new)) }
+        ensures kept { IsTrue (P.fails (plan_of self.old) 0) → P.LATE ≡ false
+            → inner_of self.new ≡ inner_of self.old }
+        ensures passed_on { D.honest (inner_of self.old) → IsTrue (P.fails (plan_of self.old) 0)
+            → P.LATE ≡ true → (out.new ≡ D.seen (inner_of self.old) n)
+            ⊎ MoreFaults (D.faults (inner_of self.old)) (D.faults (inner_of self.new)) }
     {
         let fails = self.plan.count();
         if fails && !P::LATE {
@@ -123,18 +134,33 @@ impl<D: SectorDev, P: Plan> SectorDev for Failing<D, P> {
 
     fn write(&mut self, n: u32, from: &[u8; 512]) -> Result<(), DevFault>
         requires { n < D.sectors (inner_of self.old) }
-        ensures written { D.honest (inner_of self.old) → OnOk result (D.seen (inner_of self.new) ≡ with_sector (D.seen (inner_of self.old)) n from.now) }
-        ensures failed { D.honest (inner_of self.old) → OnErr result (IsWrittenOrNot (D.seen (inner_of self.old)) n from.now (D.seen (inner_of self.new))) }
-        ensures candidates { D.honest (inner_of self.old) → NoNewCandidate (with_candidate (D.candidate (inner_of self.old)) n from.now) (D.candidate (inner_of self.new)) }
-        ensures keeps { D.honest (inner_of self.old) → NoNewCandidate (D.candidate (inner_of self.new)) (D.candidate (inner_of self.old)) }
-        ensures time { D.honest (inner_of self.old) → Elapses (D.moment (inner_of self.old)) (D.moment (inner_of self.new)) (D.left_since (inner_of self.old)) (D.left_since (inner_of self.new)) (IsImageOf (D.candidate (inner_of self.new))) }
+        ensures written { D.honest (inner_of self.old)
+            → OnOk result (D.seen (inner_of self.new)
+            ≡ with_sector (D.seen (inner_of self.old)) n from.now) }
+        ensures failed { D.honest (inner_of self.old)
+            → OnErr result (IsWrittenOrNot (D.seen (inner_of self.old)) n from.now
+            (D.seen (inner_of self.new))) }
+        ensures candidates { D.honest (inner_of self.old)
+            → NoNewCandidate (with_candidate (D.candidate (inner_of self.old)) n from.now)
+            (D.candidate (inner_of self.new)) }
+        ensures keeps { D.honest (inner_of self.old)
+            → NoNewCandidate (D.candidate (inner_of self.new)) (D.candidate (inner_of self.old)) }
+        ensures time { D.honest (inner_of self.old)
+            → Elapses (D.moment (inner_of self.old)) (D.moment (inner_of self.new))
+            (D.left_since (inner_of self.old)) (D.left_since (inner_of self.new))
+            (IsImageOf (D.candidate (inner_of self.new))) }
         ensures honesty { D.honest (inner_of self.new) ↔ D.honest (inner_of self.old) }
-        ensures cause { HasCause (all_faults D.faults self.old) (all_faults D.faults self.new) result }
+        ensures cause { HasCause (all_faults D.faults self.old)
+            (all_faults D.faults self.new) result }
         ensures size { D.sectors (inner_of self.new) ≡ D.sectors (inner_of self.old) }
 
         ensures plan { FollowsPlan P.fails D.faults self.old self.new result }
-        ensures kept { IsTrue (P.fails (plan_of self.old) 0) → P.LATE ≡ false → inner_of self.new ≡ inner_of self.old }
-        ensures passed_on { D.honest (inner_of self.old) → IsTrue (P.fails (plan_of self.old) 0) → P.LATE ≡ true → (D.seen (inner_of self.new) ≡ with_sector (D.seen (inner_of self.old)) n from.now) ⊎ MoreFaults (D.faults (inner_of self.old)) (D.faults (inner_of self.new)) }
+        ensures kept { IsTrue (P.fails (plan_of self.old) 0) → P.LATE ≡ false
+            → inner_of self.new ≡ inner_of self.old }
+        ensures passed_on { D.honest (inner_of self.old) → IsTrue (P.fails (plan_of self.old) 0)
+            → P.LATE ≡ true → (D.seen (inner_of self.new)
+            ≡ with_sector (D.seen (inner_of self.old)) n from.now)
+            ⊎ MoreFaults (D.faults (inner_of self.old)) (D.faults (inner_of self.new)) }
     {
         let fails = self.plan.count();
         if fails && !P::LATE {
@@ -148,17 +174,28 @@ impl<D: SectorDev, P: Plan> SectorDev for Failing<D, P> {
     }
 
     fn sync(&mut self) -> Result<(), DevFault>
-        ensures stable { D.honest (inner_of self.old) → OnOk result (IsStable (D.candidate (inner_of self.new)) (D.seen (inner_of self.new))) }
-        ensures seen { D.honest (inner_of self.old) → OnOk result (D.seen (inner_of self.new) ≡ D.seen (inner_of self.old)) }
-        ensures candidates { D.honest (inner_of self.old) → NoNewCandidate (D.candidate (inner_of self.old)) (D.candidate (inner_of self.new)) }
-        ensures keeps { D.honest (inner_of self.old) → OnErr result (NoNewCandidate (D.candidate (inner_of self.new)) (D.candidate (inner_of self.old))) }
-        ensures time { D.honest (inner_of self.old) → Elapses (D.moment (inner_of self.old)) (D.moment (inner_of self.new)) (D.left_since (inner_of self.old)) (D.left_since (inner_of self.new)) (IsImageOf (D.candidate (inner_of self.new))) }
+        ensures stable { D.honest (inner_of self.old)
+            → OnOk result (IsStable (D.candidate (inner_of self.new))
+            (D.seen (inner_of self.new))) }
+        ensures seen { D.honest (inner_of self.old)
+            → OnOk result (D.seen (inner_of self.new) ≡ D.seen (inner_of self.old)) }
+        ensures candidates { D.honest (inner_of self.old)
+            → NoNewCandidate (D.candidate (inner_of self.old)) (D.candidate (inner_of self.new)) }
+        ensures keeps { D.honest (inner_of self.old)
+            → OnErr result (NoNewCandidate (D.candidate (inner_of self.new))
+            (D.candidate (inner_of self.old))) }
+        ensures time { D.honest (inner_of self.old)
+            → Elapses (D.moment (inner_of self.old)) (D.moment (inner_of self.new))
+            (D.left_since (inner_of self.old)) (D.left_since (inner_of self.new))
+            (IsImageOf (D.candidate (inner_of self.new))) }
         ensures honesty { D.honest (inner_of self.new) ↔ D.honest (inner_of self.old) }
-        ensures cause { HasCause (all_faults D.faults self.old) (all_faults D.faults self.new) result }
+        ensures cause { HasCause (all_faults D.faults self.old)
+            (all_faults D.faults self.new) result }
         ensures size { D.sectors (inner_of self.new) ≡ D.sectors (inner_of self.old) }
 
         ensures plan { FollowsPlan P.fails D.faults self.old self.new result }
-        ensures kept { IsTrue (P.fails (plan_of self.old) 0) → inner_of self.new ≡ inner_of self.old }
+        ensures kept { IsTrue (P.fails (plan_of self.old) 0)
+            → inner_of self.new ≡ inner_of self.old }
     {
         if self.plan.count() {
             return refuse(&mut self.refused);

@@ -27,9 +27,9 @@ pub enum FileFault {
     Device,
 }
 
-/// A device over a file. Sector n is the 512 bytes from byte 512 n on, and what lies past the file's end reads as
-/// zeros. Each read and each write is one positioned call of the system (more where that was cut short), a sync is
-/// one, and nothing is buffered.
+/// A device over a file. Sector n is the 512 bytes from byte 512 n on, and what lies past the
+/// file's end reads as zeros. Each read and each write is one positioned call of the system (more
+/// where that was cut short), a sync is one, and nothing is buffered.
 ///
 /// That it is honest is claimed nowhere. The crate's README says what that premise is.
 #[derive(Drop)]
@@ -105,8 +105,8 @@ fn find<R: Files<File = File>>(
     Ok(Some(file))
 }
 
-// Takes the system's advisory lock on a file, alone for writing and shared for reading, and waits for none. It ends
-// with the last handle of the file.
+// Takes the system's advisory lock on a file, alone for writing and shared for reading, and waits
+// for none. It ends with the last handle of the file.
 fn lock(file: &File, write: bool) -> io::Result<()> {
     if write {
         file.try_lock()?;
@@ -119,14 +119,15 @@ fn lock(file: &File, write: bool) -> io::Result<()> {
 impl FileDev {
     ghost use Rattle.sect_dev.specs.File.{file_history, IsChanged, Gave, IsSame};
 
-    /// Opens a file as a device of so many sectors, whatever its length: for reading and writing with `write`, else
-    /// for reading alone, and then each write fails. With `write` and `create` a file that isn't there is made, and
-    /// its folder is synced. The file is locked (flock) till the device is dropped: no other opening has it beside
-    /// one with `write`.
+    /// Opens a file as a device of so many sectors, whatever its length: for reading and writing
+    /// with `write`, else for reading alone, and then each write fails. With `write` and `create` a
+    /// file that isn't there is made, and its folder is synced. The file is locked (flock) till the
+    /// device is dropped: no other opening has it beside one with `write`.
     ///
-    /// `Missing` where the file isn't there and `write` and `create` aren't both set, `Memory` where the system has
-    /// no memory for it, and `Device` where the system refuses it, the sync of its folder, or the lock, for another
-    /// cause; also where another opening holds the lock, before a byte is read or written.
+    /// `Missing` where the file isn't there and `write` and `create` aren't both set, `Memory`
+    /// where the system has no memory for it, and `Device` where the system refuses it, the sync of
+    /// its folder, or the lock, for another cause; also where another opening holds the lock,
+    /// before a byte is read or written.
     pub fn open<R: Files<File = File>>(
         rt: &R,
         path: &str,
@@ -137,7 +138,8 @@ impl FileDev {
         ensures size { IfOk result (λ dev. ⟦<FileDev as SectorDev>⟧.sectors dev ≡ capacity) }
         ensures faults { IfOk result (λ dev. ⟦<FileDev as SectorDev>⟧.faults dev ≡ 0) }
         ensures begins { IfOk result (λ dev. ⟦<FileDev as SectorDev>⟧.moment dev ≡ 0) }
-        ensures missing { IfErr result (λ fault. fault ≡ FileFault.Missing → (write && create) ≡ false) }
+        ensures missing { IfErr result
+            (λ fault. fault ≡ FileFault.Missing → (write && create) ≡ false) }
     {
         match find(rt, path, write, create) {
             Ok(Some(file)) => Ok(FileDev {
@@ -180,7 +182,8 @@ impl FileDev {
 
     // Reads a sector, with zeros past the file's end.
     fn fill(&self, n: u32, out: &mut [u8; 512]) -> io::Result<()>
-        ensures { IsHonest self.now.file → OnOk result (out.new ≡ (file_history self.now).seen self.now.changes n) }
+        ensures { IsHonest self.now.file
+            → OnOk result (out.new ≡ (file_history self.now).seen self.now.changes n) }
     {
         let mut filled = 0;
         for _ in 0..u64::MAX {
@@ -245,9 +248,11 @@ impl SectorDev for FileDev {
 
     ghost seen_may_stay = { λ d h. h.kept.may_stay d.changes };
 
-    ghost counts_now = { λ d t image h le now. now_is_left (history_of d.file).candidate d.changes t image le now };
+    ghost counts_now = { λ d t image h le now.
+        now_is_left (history_of d.file).candidate d.changes t image le now };
 
-    ghost only_now = { λ d image h left. only_left_now (history_of d.file).candidate d.changes image left };
+    ghost only_now = { λ d image h left.
+        only_left_now (history_of d.file).candidate d.changes image left };
 
     fn capacity(&self) -> u32 {
         self.capacity
@@ -255,9 +260,11 @@ impl SectorDev for FileDev {
 
     fn read(&mut self, n: u32, out: &mut [u8; 512]) -> Result<(), DevFault>
         requires { n < ⟦<FileDev as SectorDev>⟧.sectors self.old }
-        ensures content { IsHonest self.old.file → OnOk result (out.new ≡ ⟦<FileDev as SectorDev>⟧.seen self.old n) }
+        ensures content { IsHonest self.old.file
+            → OnOk result (out.new ≡ ⟦<FileDev as SectorDev>⟧.seen self.old n) }
         ensures same { IsSame self.old self.new }
-        ensures cause { HasCause (⟦<FileDev as SectorDev>⟧.faults self.old) (⟦<FileDev as SectorDev>⟧.faults self.new) result }
+        ensures cause { HasCause (⟦<FileDev as SectorDev>⟧.faults self.old)
+            (⟦<FileDev as SectorDev>⟧.faults self.new) result }
     {
         if self.fill(n, out).is_err() {
             return self.fail();
@@ -267,10 +274,13 @@ impl SectorDev for FileDev {
 
     fn write(&mut self, n: u32, from: &[u8; 512]) -> Result<(), DevFault>
         requires { n < ⟦<FileDev as SectorDev>⟧.sectors self.old }
-        ensures goes { AsksSystem self.old self.new (Writes (n * 512) from.now (is_ok result)) (is_ok result) }
+        ensures goes { AsksSystem self.old self.new (Writes (n * 512) from.now (is_ok result))
+            (is_ok result) }
         ensures whole { length from.now ≡ 512 }
-        ensures cause { HasCause (⟦<FileDev as SectorDev>⟧.faults self.old) (⟦<FileDev as SectorDev>⟧.faults self.new) result }
-        ensures size { ⟦<FileDev as SectorDev>⟧.sectors self.new ≡ ⟦<FileDev as SectorDev>⟧.sectors self.old }
+        ensures cause { HasCause (⟦<FileDev as SectorDev>⟧.faults self.old)
+            (⟦<FileDev as SectorDev>⟧.faults self.new) result }
+        ensures size { ⟦<FileDev as SectorDev>⟧.sectors self.new
+            ≡ ⟦<FileDev as SectorDev>⟧.sectors self.old }
     {
         if self.changes == u64::MAX {
             return self.fail();
@@ -281,8 +291,10 @@ impl SectorDev for FileDev {
 
     fn sync(&mut self) -> Result<(), DevFault>
         ensures goes { AsksSystem self.old self.new (Syncs (is_ok result)) (is_ok result) }
-        ensures cause { HasCause (⟦<FileDev as SectorDev>⟧.faults self.old) (⟦<FileDev as SectorDev>⟧.faults self.new) result }
-        ensures size { ⟦<FileDev as SectorDev>⟧.sectors self.new ≡ ⟦<FileDev as SectorDev>⟧.sectors self.old }
+        ensures cause { HasCause (⟦<FileDev as SectorDev>⟧.faults self.old)
+            (⟦<FileDev as SectorDev>⟧.faults self.new) result }
+        ensures size { ⟦<FileDev as SectorDev>⟧.sectors self.new
+            ≡ ⟦<FileDev as SectorDev>⟧.sectors self.old }
     {
         if self.changes == u64::MAX {
             return self.fail();

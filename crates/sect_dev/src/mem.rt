@@ -14,8 +14,8 @@ enum Event {
     Synced,
 }
 
-/// A device in memory, which is always honest. It keeps every write and sync since it was made, and so
-/// uses 512 bytes for each write, and as much for each sector that was ever written.
+/// A device in memory, which is always honest. It keeps every write and sync since it was made, and
+/// so uses 512 bytes for each write, and as much for each sector that was ever written.
 #[derive(Drop)]
 pub struct MemDev {
     capacity: u32,
@@ -75,11 +75,17 @@ impl MemDev {
     /// The image in which the unsynced writes that are marked happened, in order, as a device with
     /// nothing pending. Mark 0 is the oldest write's, and a missing mark counts as false.
     pub fn crashed(&self, alloc: Global, keep: &[bool]) -> Result<MemDev, AllocError>
-        ensures seen { IfOk result (λ after. ⟦<MemDev as SectorDev>⟧.seen after ≡ kept (history self.now) keep.now) }
-        ensures image { IfOk result (λ after. IsImageOf (⟦<MemDev as SectorDev>⟧.candidate self.now) (⟦<MemDev as SectorDev>⟧.seen after)) }
-        ensures stable { IfOk result (λ after. IsStable (⟦<MemDev as SectorDev>⟧.candidate after) (⟦<MemDev as SectorDev>⟧.seen after)) }
+        ensures seen { IfOk result (λ after.
+            ⟦<MemDev as SectorDev>⟧.seen after ≡ kept (history self.now) keep.now) }
+        ensures image { IfOk result (λ after.
+            IsImageOf (⟦<MemDev as SectorDev>⟧.candidate self.now)
+            (⟦<MemDev as SectorDev>⟧.seen after)) }
+        ensures stable { IfOk result (λ after.
+            IsStable (⟦<MemDev as SectorDev>⟧.candidate after)
+            (⟦<MemDev as SectorDev>⟧.seen after)) }
         ensures honest { IfOk result (λ after. ⟦<MemDev as SectorDev>⟧.honest after) }
-        ensures size { IfOk result (λ after. ⟦<MemDev as SectorDev>⟧.sectors after ≡ ⟦<MemDev as SectorDev>⟧.sectors self.now) }
+        ensures size { IfOk result (λ after.
+            ⟦<MemDev as SectorDev>⟧.sectors after ≡ ⟦<MemDev as SectorDev>⟧.sectors self.now) }
         ensures faults { IfOk result (λ after. ⟦<MemDev as SectorDev>⟧.faults after ≡ 0) }
         ensures pending { IfOk result (λ after. pending_of (history after) ≡ 0) }
     {
@@ -122,7 +128,8 @@ impl MemDev {
     // Adds those of these writes that are marked, where all before is settled.
     fn add_marked(&mut self, writes: &[Event], keep: &[bool]) -> Result<(), AllocError>
         requires { pending_of (reverse writes.now ++ history self.old) ≡ length writes.now }
-        ensures ok { OnOk result (content_after (history self.new) ≡ kept (reverse writes.now ++ history self.old) keep.now) }
+        ensures ok { OnOk result (content_after (history self.new)
+            ≡ kept (reverse writes.now ++ history self.old) keep.now) }
         ensures rest { IsSameButRecord self.old self.new }
     {
         for (i, write) in writes.iter().enumerate() {
@@ -196,8 +203,10 @@ impl SectorDev for MemDev {
         requires { n < ⟦<MemDev as SectorDev>⟧.sectors self.old }
         ensures ok { OnOk result (AddsWrite self.old self.new n from.now) }
         ensures err { OnErr result (IsSameRecord self.old self.new) }
-        ensures cause { HasCause (⟦<MemDev as SectorDev>⟧.faults self.old) (⟦<MemDev as SectorDev>⟧.faults self.new) result }
-        ensures size { ⟦<MemDev as SectorDev>⟧.sectors self.new ≡ ⟦<MemDev as SectorDev>⟧.sectors self.old }
+        ensures cause { HasCause (⟦<MemDev as SectorDev>⟧.faults self.old)
+            (⟦<MemDev as SectorDev>⟧.faults self.new) result }
+        ensures size { ⟦<MemDev as SectorDev>⟧.sectors self.new
+            ≡ ⟦<MemDev as SectorDev>⟧.sectors self.old }
     {
         self.note(Event::Wrote(n, *from))
     }
@@ -205,10 +214,13 @@ impl SectorDev for MemDev {
     #[tactic(auto, using(crate::proofs::Events::synced_adds_none))]
     fn sync(&mut self) -> Result<(), DevFault>
         ensures ok { OnOk result (AddsSync self.old self.new) }
-        ensures candidates { NoNewCandidate (⟦<MemDev as SectorDev>⟧.candidate self.old) (⟦<MemDev as SectorDev>⟧.candidate self.new) }
+        ensures candidates { NoNewCandidate (⟦<MemDev as SectorDev>⟧.candidate self.old)
+            (⟦<MemDev as SectorDev>⟧.candidate self.new) }
         ensures err { OnErr result (IsSameRecord self.old self.new) }
-        ensures cause { HasCause (⟦<MemDev as SectorDev>⟧.faults self.old) (⟦<MemDev as SectorDev>⟧.faults self.new) result }
-        ensures size { ⟦<MemDev as SectorDev>⟧.sectors self.new ≡ ⟦<MemDev as SectorDev>⟧.sectors self.old }
+        ensures cause { HasCause (⟦<MemDev as SectorDev>⟧.faults self.old)
+            (⟦<MemDev as SectorDev>⟧.faults self.new) result }
+        ensures size { ⟦<MemDev as SectorDev>⟧.sectors self.new
+            ≡ ⟦<MemDev as SectorDev>⟧.sectors self.old }
     {
         self.note(Event::Synced)
     }

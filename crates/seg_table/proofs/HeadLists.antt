@@ -20,12 +20,16 @@ set-put (n ∷ ns) (suc i) head lt = ap (λ (xs : List ℕ). n ∷ xs) (set-put 
 pub append-put : (ns : List ℕ) (i head : ℕ) → i ≡ length ns → ns ++ head ∷ [] ≡ put ns i head
 append-put [] i head e = refl
 append-put (n ∷ ns) zero head e = absurd (omega arith)
-append-put (n ∷ ns) (suc i) head e = ap (λ (xs : List ℕ). n ∷ xs) (append-put ns i head (omega arith))
+append-put (n ∷ ns) (suc i) head e =
+    ap (λ (xs : List ℕ). n ∷ xs) (append-put ns i head (omega arith))
 
 pub with_head-put : (ns : List ℕ) (i head : ℕ) → i ≤ length ns → with_head ns i head ≡ put ns i head
 with_head-put ns i head le = elim (cases_lt i (length ns)) [
-  | inl lt ↦ let test : nat_lt i (length ns) ≡ true = grind (arith, nat_tests) in ap (λ (t : Bool). cond t (set ns i head) (ns ++ head ∷ [])) test ∙ set-put ns i head lt
-  | inr ge ↦ let test : nat_lt i (length ns) ≡ false = grind (arith, nat_tests) in ap (λ (t : Bool). cond t (set ns i head) (ns ++ head ∷ [])) test ∙ append-put ns i head (omega arith)
+  | inl lt ↦ let test : nat_lt i (length ns) ≡ true = grind (arith, nat_tests) in
+      ap (λ (t : Bool). cond t (set ns i head) (ns ++ head ∷ [])) test ∙ set-put ns i head lt
+  | inr ge ↦ let test : nat_lt i (length ns) ≡ false = grind (arith, nat_tests) in
+      ap (λ (t : Bool). cond t (set ns i head) (ns ++ head ∷ [])) test
+      ∙ append-put ns i head (omega arith)
 ]
 
 -- the head is among the first w, or behind them
@@ -38,37 +42,47 @@ drop_none : (w : ℕ) → drop {A = ℕ} w [] ≡ []
 drop_none zero = refl
 drop_none (suc w) = refl
 
-pub take-put : (w : ℕ) (ns : List ℕ) (i head : ℕ) → i < w → i ≤ length ns → take w (put ns i head) ≡ put (take w ns) i head
+pub take-put : (w : ℕ) (ns : List ℕ) (i head : ℕ) → i < w → i ≤ length ns
+    → take w (put ns i head) ≡ put (take w ns) i head
 take-put zero ns i head lt le = absurd (omega arith)
 take-put (suc w) [] i head lt le = ap (λ (xs : List ℕ). head ∷ xs) (take_none w)
 take-put (suc w) (n ∷ ns) zero head lt le = refl
-take-put (suc w) (n ∷ ns) (suc i) head lt le = ap (λ (xs : List ℕ). n ∷ xs) (take-put w ns i head (omega arith) (omega arith))
+take-put (suc w) (n ∷ ns) (suc i) head lt le =
+    ap (λ (xs : List ℕ). n ∷ xs) (take-put w ns i head (omega arith) (omega arith))
 
-pub drop-put : (w : ℕ) (ns : List ℕ) (i head : ℕ) → i < w → i ≤ length ns → drop w (put ns i head) ≡ drop w ns
+pub drop-put : (w : ℕ) (ns : List ℕ) (i head : ℕ) → i < w → i ≤ length ns
+    → drop w (put ns i head) ≡ drop w ns
 drop-put zero ns i head lt le = absurd (omega arith)
 drop-put (suc w) [] i head lt le = drop_none w
 drop-put (suc w) (n ∷ ns) zero head lt le = refl
 drop-put (suc w) (n ∷ ns) (suc i) head lt le = drop-put w ns i head (omega arith) (omega arith)
 
-pub take-put_behind : (w : ℕ) (ns : List ℕ) (k head : ℕ) → w ≤ k → k ≤ length ns → take w (put ns k head) ≡ take w ns
+pub take-put_behind : (w : ℕ) (ns : List ℕ) (k head : ℕ) → w ≤ k → k ≤ length ns
+    → take w (put ns k head) ≡ take w ns
 take-put_behind zero ns k head ge le = refl
 take-put_behind (suc w) [] k head ge le = absurd (omega arith)
 take-put_behind (suc w) (n ∷ ns) zero head ge le = absurd (omega arith)
-take-put_behind (suc w) (n ∷ ns) (suc k) head ge le = ap (λ (xs : List ℕ). n ∷ xs) (take-put_behind w ns k head (omega arith) (omega arith))
+take-put_behind (suc w) (n ∷ ns) (suc k) head ge le =
+    ap (λ (xs : List ℕ). n ∷ xs) (take-put_behind w ns k head (omega arith) (omega arith))
 
-pub drop-put_behind : (w : ℕ) (ns : List ℕ) (k i head : ℕ) → w + i ≡ k → k ≤ length ns → drop w (put ns k head) ≡ put (drop w ns) i head
-drop-put_behind zero ns k i head e le = ap (λ (j : ℕ). put ns j head) (let same : k ≡ i = omega arith in same)
+pub drop-put_behind : (w : ℕ) (ns : List ℕ) (k i head : ℕ) → w + i ≡ k → k ≤ length ns
+    → drop w (put ns k head) ≡ put (drop w ns) i head
+drop-put_behind zero ns k i head e le =
+    ap (λ (j : ℕ). put ns j head) (let same : k ≡ i = omega arith in same)
 drop-put_behind (suc w) [] k i head e le = absurd (omega arith)
 drop-put_behind (suc w) (n ∷ ns) zero i head e le = absurd (omega arith)
-drop-put_behind (suc w) (n ∷ ns) (suc k) i head e le = drop-put_behind w ns k i head (omega arith) (omega arith)
+drop-put_behind (suc w) (n ∷ ns) (suc k) i head e le =
+    drop-put_behind w ns k i head (omega arith) (omega arith)
 
 pub length-put : (ns : List ℕ) (i head w : ℕ) → i < w → length ns ≤ w → length (put ns i head) ≤ w
 length-put [] i head w lt le = omega arith
 length-put (n ∷ ns) zero head w lt le = le
 length-put (n ∷ ns) (suc i) head zero lt le = absurd (omega arith)
-length-put (n ∷ ns) (suc i) head (suc w) lt le = omega (arith, length-put ns i head w (omega arith) (omega arith))
+length-put (n ∷ ns) (suc i) head (suc w) lt le =
+    omega (arith, length-put ns i head w (omega arith) (omega arith))
 
-pub AllByRecursion-put : (P : ℕ → Type 0) (ns : List ℕ) (i head : ℕ) → AllByRecursion P ns → P head → AllByRecursion P (put ns i head)
+pub AllByRecursion-put : (P : ℕ → Type 0) (ns : List ℕ) (i head : ℕ) → AllByRecursion P ns → P head
+    → AllByRecursion P (put ns i head)
 AllByRecursion-put P [] i head all h = (h, tt)
 AllByRecursion-put P (n ∷ ns) zero head all h = (h, all.1)
 AllByRecursion-put P (n ∷ ns) (suc i) head all h = (all.0, AllByRecursion-put P ns i head all.1 h)
@@ -98,10 +112,14 @@ in_front-put n (m ∷ ms) zero head = refl
 in_front-put n (m ∷ ms) (suc i) head = refl
 
 -- with a head that isn't 0, a trimmed list is trimmed again
-pub trimmed-put : (ns : List ℕ) (i head : ℕ) → 0 < head → trimmed ns ≡ ns → trimmed (put ns i head) ≡ put ns i head
+pub trimmed-put : (ns : List ℕ) (i head : ℕ) → 0 < head → trimmed ns ≡ ns
+    → trimmed (put ns i head) ≡ put ns i head
 trimmed-put [] i head lt e = in_front-some head [] lt
-trimmed-put (n ∷ ns) zero head lt e = ap (in_front head) (in_front-tail n (trimmed ns) ns e) ∙ in_front-some head ns lt
-trimmed-put (n ∷ ns) (suc i) head lt e = ap (in_front n) (trimmed-put ns i head lt (in_front-tail n (trimmed ns) ns e)) ∙ in_front-put n ns i head
+trimmed-put (n ∷ ns) zero head lt e =
+    ap (in_front head) (in_front-tail n (trimmed ns) ns e) ∙ in_front-some head ns lt
+trimmed-put (n ∷ ns) (suc i) head lt e =
+    ap (in_front n) (trimmed-put ns i head lt (in_front-tail n (trimmed ns) ns e))
+    ∙ in_front-put n ns i head
 
 in_front-again : (n : ℕ) (ns : List ℕ) → trimmed ns ≡ ns → trimmed (in_front n ns) ≡ in_front n ns
 in_front-again n [] e = by_test (eqb n 0) refl
@@ -127,7 +145,8 @@ pub length-trimmed : (ns : List ℕ) → length (trimmed ns) ≤ length ns
 length-trimmed [] = omega arith
 length-trimmed (n ∷ ns) = omega (arith, length-in_front n (trimmed ns), length-trimmed ns)
 
-pub AllByRecursion-trimmed : (P : ℕ → Type 0) (ns : List ℕ) → AllByRecursion P ns → AllByRecursion P (trimmed ns)
+pub AllByRecursion-trimmed : (P : ℕ → Type 0) (ns : List ℕ) → AllByRecursion P ns
+    → AllByRecursion P (trimmed ns)
 AllByRecursion-trimmed P [] all = tt
 AllByRecursion-trimmed P (n ∷ ns) all = in_both (trimmed ns) (AllByRecursion-trimmed P ns all.1)
   where
@@ -144,12 +163,14 @@ pub get_or-trimmed : (ns : List ℕ) (i : ℕ) → get_or (trimmed ns) i 0 ≡ g
 get_or-trimmed [] i = refl
 get_or-trimmed (n ∷ ns) i = in_place (trimmed ns) i (λ k. get_or-trimmed ns k)
   where
-    by_test : (t : Bool) → eqb n 0 ≡ t → (i : ℕ) → get_or (cond t [] (n ∷ [])) i 0 ≡ get_or (n ∷ []) i 0
+    by_test : (t : Bool) → eqb n 0 ≡ t → (i : ℕ)
+        → get_or (cond t [] (n ∷ [])) i 0 ≡ get_or (n ∷ []) i 0
     by_test true is zero = grind (arith, nat_tests)
     by_test true is (suc i) = refl
     by_test false is i = refl
 
-    in_place : (xs : List ℕ) (i : ℕ) → ((k : ℕ) → get_or xs k 0 ≡ get_or ns k 0) → get_or (in_front n xs) i 0 ≡ get_or (n ∷ ns) i 0
+    in_place : (xs : List ℕ) (i : ℕ) → ((k : ℕ) → get_or xs k 0 ≡ get_or ns k 0)
+        → get_or (in_front n xs) i 0 ≡ get_or (n ∷ ns) i 0
     in_place [] zero same = by_test (eqb n 0) refl zero
     in_place [] (suc i) same = by_test (eqb n 0) refl (suc i) ∙ same i
     in_place (x ∷ xs) zero same = refl

@@ -59,52 +59,79 @@ stage_has_room : (e : PageFault) → OfStage e → e ≡ NoRoom → ⊥
 stage_has_room e (inl is) none = subst IsNotNoRoom (sym is ∙ none) tt
 stage_has_room e (inr is) none = subst IsNotNoRoom (sym is ∙ none) tt
 
-is_fault : {T : Type 0} (result : Result T PageFault) (e : PageFault) → result ≡ Err e → (fault : PageFault) → IsErrOf result fault → e ≡ fault
+is_fault : {T : Type 0} (result : Result T PageFault) (e : PageFault) → result ≡ Err e
+    → (fault : PageFault) → IsErrOf result fault → e ≡ fault
 is_fault result e exit fault is = let both = sym exit ∙ is in cc
 
 -- the exit of a `?`, in a state that is the one at the start
-module _ {T U : Type 0} (old mid : StoreState) (same : mid ≡ old) (result : Result T PageFault) (e : PageFault) (exit : result ≡ Err e) where
-  is_broken : (IsErrOf {T = U} (Err e) Broken → mid.usable ≡ false) → IsErrOf result Broken → old.usable ≡ false
-  is_broken broken is = ap (λ (s : StoreState). s.usable) (sym same) ∙ broken (came {U = U} result e exit Broken is)
+module _ {T U : Type 0} (old mid : StoreState) (same : mid ≡ old) (result : Result T PageFault)
+    (e : PageFault) (exit : result ≡ Err e) where
+  is_broken : (IsErrOf {T = U} (Err e) Broken → mid.usable ≡ false) → IsErrOf result Broken
+      → old.usable ≡ false
+  is_broken broken is = ap (λ (s : StoreState). s.usable) (sym same)
+      ∙ broken (came {U = U} result e exit Broken is)
 
   pub read_heads : (n : ℕ) → IsReadAnswer {T = U} mid n (Err e) → IsHeadAnswer old result
-  read_heads n answer = record { broken = is_broken answer.broken.0; only = if_exit OfHead result e exit answer.only }
+  read_heads n answer = record {
+    broken = is_broken answer.broken.0;
+    only =
+        if_exit OfHead result e exit answer.only;
+  }
 
   pub head_heads : IsHeadAnswer {T = U} mid (Err e) → IsHeadAnswer old result
-  head_heads answer = record { broken = is_broken answer.broken; only = if_exit OfHead result e exit answer.only }
+  head_heads answer = record {
+    broken = is_broken answer.broken;
+    only =
+        if_exit OfHead result e exit answer.only;
+  }
 
-  pub take_sets : (reserved : ℕ) (space : FreeState) → IsTakeAnswer {T = U} mid space (Err e) → IsSetAnswer reserved old space result
+  pub take_sets : (reserved : ℕ) (space : FreeState) → IsTakeAnswer {T = U} mid space (Err e)
+      → IsSetAnswer reserved old space result
   take_sets reserved space answer = record {
     broken = is_broken answer.broken;
     memory = λ is. absurd (no_memory e answer.only (is_fault result e exit Memory is));
-    no_room = λ is. let full = answer.no_room.0 (came {U = U} result e exit NoRoom is) in (full.0, omega (arith, full.3, ap (λ (s : StoreState). s.capacity) same));
+    no_room = λ is. let full = answer.no_room.0 (came {U = U} result e exit NoRoom is) in
+        (full.0, omega (arith, full.3, ap (λ (s : StoreState). s.capacity) same));
     only = if_exit OfSet result e exit (take_set e answer.only);
   }
 
-  pub head_sets : (reserved : ℕ) (space : FreeState) → IsHeadAnswer {T = U} mid (Err e) → IsSetAnswer reserved old space result
+  pub head_sets : (reserved : ℕ) (space : FreeState) → IsHeadAnswer {T = U} mid (Err e)
+      → IsSetAnswer reserved old space result
   head_sets reserved space answer = record {
     broken = is_broken answer.broken;
-    memory = λ is. absurd (no_memory e (head_take e answer.only) (is_fault result e exit Memory is));
+    memory = λ is. absurd (no_memory e (head_take e answer.only)
+        (is_fault result e exit Memory is));
     no_room = λ is. absurd (head_has_room e answer.only (is_fault result e exit NoRoom is));
     only = if_exit OfSet result e exit (take_set e (head_take e answer.only));
   }
 
-  pub stage_sets : (reserved n : ℕ) (space : FreeState) → IsStageAnswer {T = U} reserved mid n (Err e) → IsSetAnswer reserved old space result
+  pub stage_sets : (reserved n : ℕ) (space : FreeState)
+      → IsStageAnswer {T = U} reserved mid n (Err e) → IsSetAnswer reserved old space result
   stage_sets reserved n space answer = record {
     broken = is_broken answer.broken.0;
-    memory = λ is. omega (arith, (answer.memory (came {U = U} result e exit Memory is)).1, ap (λ (s : StoreState). length s.staged) same);
+    memory = λ is. omega (
+      arith,
+      (answer.memory (came {U = U} result e exit Memory is)).1,
+      ap (λ (s : StoreState). length s.staged) same,
+    );
     no_room = λ is. absurd (stage_has_room e answer.only (is_fault result e exit NoRoom is));
     only = if_exit OfSet result e exit (stage_set e answer.only);
   }
 
 -- the answer of the last stage is the answer
-pub stage_sets_last : {T : Type 0} (reserved n : ℕ) (old mid : StoreState) (space : FreeState) (result : Result T PageFault) → mid ≡ old → IsStageAnswer reserved mid n result → IsSetAnswer reserved old space result
-stage_sets_last reserved n old mid space (Ok x) same answer = record { broken = λ is. cc; memory = λ is. cc; no_room = λ is. cc; only = tt }
-stage_sets_last {T} reserved n old mid space (Err e) same answer = stage_sets {U = T} old mid same (Err e) e (λ i. Err e) reserved n space answer
+pub stage_sets_last : {T : Type 0} (reserved n : ℕ) (old mid : StoreState) (space : FreeState)
+    (result : Result T PageFault) → mid ≡ old → IsStageAnswer reserved mid n result
+    → IsSetAnswer reserved old space result
+stage_sets_last reserved n old mid space (Ok x) same answer =
+    record { broken = λ is. cc; memory = λ is. cc; no_room = λ is. cc; only = tt }
+stage_sets_last {T} reserved n old mid space (Err e) same answer =
+    stage_sets {U = T} old mid same (Err e) e (λ i. Err e) reserved n space answer
 
 -- all calls went well
-pub no_set_refusal : {T : Type 0} (reserved : ℕ) (old : StoreState) (space : FreeState) (x : T) → IsSetAnswer {T = T} reserved old space (Ok x)
-no_set_refusal reserved old space x = record { broken = λ is. cc; memory = λ is. cc; no_room = λ is. cc; only = tt }
+pub no_set_refusal : {T : Type 0} (reserved : ℕ) (old : StoreState) (space : FreeState) (x : T)
+    → IsSetAnswer {T = T} reserved old space (Ok x)
+no_set_refusal reserved old space x =
+    record { broken = λ is. cc; memory = λ is. cc; no_room = λ is. cc; only = tt }
 
 pub no_head_refusal : {T : Type 0} (old : StoreState) (x : T) → IsHeadAnswer {T = T} old (Ok x)
 no_head_refusal old x = record { broken = λ is. cc; only = tt }
@@ -113,9 +140,11 @@ no_head_refusal old x = record { broken = λ is. cc; only = tt }
 pub damaged_heads : {T : Type 0} (old : StoreState) → IsHeadAnswer {T = T} old (Err Damaged)
 damaged_heads old = record { broken = λ is. cc; only = inr (inl (λ i. Damaged)) }
 
-pub cause_damaged : {T : Type 0} (before now : ℕ) → before ≤ now → HasDeviceCause {T = T} before now (Err Damaged)
+pub cause_damaged : {T : Type 0} (before now : ℕ) → before ≤ now
+    → HasDeviceCause {T = T} before now (Err Damaged)
 cause_damaged before now le = record { later = le; fault = λ is. cc }
 
 -- as many pages are staged
-pub few_same : (old new : StoreState) (more : ℕ) → new ≡ old → length new.staged ≤ length old.staged + more
+pub few_same : (old new : StoreState) (more : ℕ) → new ≡ old
+    → length new.staged ≤ length old.staged + more
 few_same old new more same = omega (arith, ap (λ (s : StoreState). length s.staged) same)

@@ -23,7 +23,8 @@ pub record HasEntry (body : Body) (i head : ℕ) : Type 0 where
 
 -- bucket b has this head: a bucket that there is, or the next one
 abbrev pub with_head : List ℕ → ℕ → ℕ → List ℕ
-with_head heads b head = if nat_lt b (length heads) then slice_set heads b head else heads ++ head ∷ []
+with_head heads b head = if nat_lt b (length heads) then slice_set heads b head
+    else heads ++ head ∷ []
 
 -- the bucket is the first of a segment that isn't there yet
 abbrev pub needs_segment : model.Meta → ℕ → Bool
@@ -37,7 +38,8 @@ abbrev pub space_with : model.Meta → ℕ → Space → Space
 space_with m b s = if needs_segment m b then after_take s else s
 
 -- where a head may be set: of a bucket that there is, or of the next one
-pub record CanSet (at : ℕ → Body) (m : model.Meta) (free : FreeState) (heads : List ℕ) (b head : ℕ) (s : Space) : Type 0 where
+pub record CanSet (at : ℕ → Body) (m : model.Meta) (free : FreeState) (heads : List ℕ) (b head : ℕ)
+    (s : Space) : Type 0 where
   pub heads_are : AreHeads at m heads
   pub free_is : IsFreeList at free s
   pub apart : IsApart m.segments s
@@ -47,7 +49,8 @@ pub record CanSet (at : ℕ → Body) (m : model.Meta) (free : FreeState) (heads
   pub some : 0 < head
 
 -- the head was set, and one segment page was changed for it
-pub record IsHeadSet (old new : ℕ → Body) (m n : model.Meta) (free : FreeState) (heads : List ℕ) (b head : ℕ) (s : Space) : Type 0 where
+pub record IsHeadSet (old new : ℕ → Body) (m n : model.Meta) (free : FreeState) (heads : List ℕ)
+    (b head : ℕ) (s : Space) : Type 0 where
   pub segments_are : n ≡ record m { segments = segments_with m b s }
   pub free_is : free ≡ state_of (space_with m b s)
   pub are_read : AreRead new (segment_bodies n.segments (with_head heads b head))

@@ -24,7 +24,8 @@ pub record HasMetaHeader (bytes : List ℕ) : Type 0 where
   pub header : HasPlainHeader bytes 1 1
   pub no_next : next_of bytes ≡ 0
 
--- behind the version: a shape, no more segments than there is room for, and zeros where nothing else stands
+-- behind the version: a shape, no more segments than there is room for, and zeros where nothing
+-- else stands
 pub record IsMetaLayout (bytes : List ℕ) : Type 0 where
   pub shape : CanBe (u32_at bytes 28) (u32_at bytes 32)
   pub few : u32_at bytes 44 ≤ 496

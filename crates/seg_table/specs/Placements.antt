@@ -10,8 +10,11 @@ use Rattle.seg_table.specs.Heads.{AreHeads}
 pub record HasHeads (at : ℕ → Body) (p : Placement) : Type 0 where
   pub heads_are : AreHeads at (meta_of p) (heads_of p.chains)
   pub room : length (heads_of p.chains) ≤ 508 * length p.segments
-  pub each : (bucket : ℕ) → bucket < length p.chains → slice_index (heads_of p.chains) bucket ≡ first_of (numbers (chain_at p bucket))
+  pub each : (bucket : ℕ) → bucket < length p.chains
+      → slice_index (heads_of p.chains) bucket ≡ first_of (numbers (chain_at p bucket))
 
--- where the pages but the meta page say a sound placement, whose pages are numbers of four bytes, they have its heads
+-- where the pages but the meta page say a sound placement, whose pages are numbers of four bytes,
+-- they have its heads
 abbrev pub PlacementsHaveHeads : Type 0
-PlacementsHaveHeads = (at : ℕ → Body) (p : Placement) → IsSound p → p.space.end ≤ 2 ^ 32 → AreRead at (lower_bodies p) → HasHeads at p
+PlacementsHaveHeads = (at : ℕ → Body) (p : Placement) → IsSound p → p.space.end ≤ 2 ^ 32
+    → AreRead at (lower_bodies p) → HasHeads at p

@@ -53,9 +53,18 @@ pub struct Meta {
 }
 
 impl Meta {
-    /// The meta page of a new database of this limit: one empty bucket, in the segment of page `segment`.
+    /// The meta page of a new database of this limit: one empty bucket, in the segment of page
+    /// `segment`.
     pub fn of_empty(limit: u32, segment: u32) -> Meta
-        ensures { model_meta result ≡ record { limit = limit; pairs = 0; level = 0; split = 0; free_head = 0; free_count = 0; segments = segment ∷ [] } }
+        ensures { model_meta result ≡ record {
+          limit = limit;
+          pairs = 0;
+          level = 0;
+          split = 0;
+          free_head = 0;
+          free_count = 0;
+          segments = segment ∷ [];
+        } }
     {
         let mut segments = ArrayVec::new();
         segments.push(segment);
@@ -136,8 +145,8 @@ fn segments_of(page: &Page, count: usize) -> ArrayVec<u32, 496>
     segments
 }
 
-/// The fields, if they are a shape and no more segments than there is room for, and all other bytes behind the version
-/// are zero.
+/// The fields, if they are a shape and no more segments than there is room for, and all other bytes
+/// behind the version are zero.
 fn meta_of(page: &Page) -> Option<Meta>
     ensures found { IfSome result (λ m. model_meta m ≡ fields_of page.now.bytes) }
     ensures only { IsSome result ↔ IsMetaLayout page.now.bytes }
@@ -162,10 +171,14 @@ fn meta_of(page: &Page) -> Option<Meta>
 
 /// What page 1 says. The version is looked at once the header is good, and before all else.
 pub fn read_meta(page: &Page) -> Result<Meta, MetaFault>
-    ensures found { IfOk result (λ m. IsMeta (model_meta m) × (page.now.bytes ≡ meta_spelling 1 (model_meta m))) }
-    ensures only { (m : model.Meta) → IsMeta m → page.now.bytes ≡ meta_spelling 1 m → IsOkAnd result (λ r. model_meta r ≡ m) }
-    ensures body { (m : model.Meta) → IsMeta m → IsOkAnd result (λ r. model_meta r ≡ m) ↔ (body_of 1 page.now.bytes ≡ MetaPage m) }
-    ensures version { (result ≡ Err Version) ↔ (HasMetaHeader page.now.bytes × (u32_at page.now.bytes 16 ≢ 1)) }
+    ensures found { IfOk result (λ m.
+        IsMeta (model_meta m) × (page.now.bytes ≡ meta_spelling 1 (model_meta m))) }
+    ensures only { (m : model.Meta) → IsMeta m → page.now.bytes ≡ meta_spelling 1 m
+        → IsOkAnd result (λ r. model_meta r ≡ m) }
+    ensures body { (m : model.Meta) → IsMeta m
+        → IsOkAnd result (λ r. model_meta r ≡ m) ↔ (body_of 1 page.now.bytes ≡ MetaPage m) }
+    ensures version { (result ≡ Err Version)
+        ↔ (HasMetaHeader page.now.bytes × (u32_at page.now.bytes 16 ≢ 1)) }
 {
     if !page.is_plain(1, META) || page.next() != 0 {
         return Err(MetaFault::Damaged);

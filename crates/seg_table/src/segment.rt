@@ -39,11 +39,12 @@ fn heads_of(meta: &Meta, s: usize) -> usize
         .min(PER_SEGMENT)
 }
 
-/// Whether a page is segment `s` of the meta page: spelled as a segment page of its number with the heads of the buckets
-/// that exist, which may be any numbers.
+/// Whether a page is segment `s` of the meta page: spelled as a segment page of its number with the
+/// heads of the buckets that exist, which may be any numbers.
 pub fn segment_ok(page: &Page, meta: &Meta, s: usize) -> bool
     requires { s < length meta.now.segments.items }
-    ensures { IsTrue result ↔ IsSegment page.now.bytes (slice_index meta.now.segments.items s) (heads_in (model_meta meta.now) s) }
+    ensures { IsTrue result ↔ IsSegment page.now.bytes (slice_index meta.now.segments.items s)
+        (heads_in (model_meta meta.now) s) }
 {
     page.is_plain(meta.segments[s], SEGMENT)
         && page.next() == 0

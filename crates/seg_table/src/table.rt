@@ -28,10 +28,16 @@ fn read_segment<S: PageStore>(
     ensures reads { ReadsOnly S.PageStore store.old store.new }
     ensures cause { HasDeviceCause (S.faults store.old) (S.faults store.new) result }
     ensures answer { IsHeadAnswer (S.state store.old) result }
-    ensures known { OnOk result (IsKnown (S.state store.old) (slice_index meta.now.segments.items s)) }
-    ensures segment { OnOk result (IsSpelledSegment page.new.bytes (slice_index meta.now.segments.items s)) }
-    ensures found { S.honest store.old → OnOk result (page.new.bytes ≡ visible_page S.PageStore store.old (slice_index meta.now.segments.items s)) }
-    ensures whole { S.honest store.old → (heads : List ℕ) → AreHeads (body_at S.PageStore store.old) (model_meta meta.now) heads → IsErrOf result Damaged → ⊥ }
+    ensures known { OnOk result (IsKnown (S.state store.old)
+        (slice_index meta.now.segments.items s)) }
+    ensures segment { OnOk result
+        (IsSpelledSegment page.new.bytes (slice_index meta.now.segments.items s)) }
+    ensures found { S.honest store.old
+        → OnOk result (page.new.bytes
+        ≡ visible_page S.PageStore store.old (slice_index meta.now.segments.items s)) }
+    ensures whole { S.honest store.old → (heads : List ℕ)
+        → AreHeads (body_at S.PageStore store.old) (model_meta meta.now) heads
+        → IsErrOf result Damaged → ⊥ }
 {
     store.read(meta.segments[s], page)?;
     if segment_ok(page, meta, s) {
@@ -47,22 +53,30 @@ pub fn head_of<S: PageStore>(store: &mut S, meta: &Meta, bucket: u32) -> Result<
     ensures reads { ReadsOnly S.PageStore store.old store.new }
     ensures cause { HasDeviceCause (S.faults store.old) (S.faults store.new) result }
     ensures answer { IsHeadAnswer (S.state store.old) result }
-    ensures entry { S.honest store.old → IfOk result (λ head. HasEntry (body_at S.PageStore store.old (slice_index meta.now.segments.items (bucket / 508))) (bucket % 508) head) }
+    ensures entry { S.honest store.old
+        → IfOk result (λ head. HasEntry
+        (body_at S.PageStore store.old (slice_index meta.now.segments.items (bucket / 508)))
+        (bucket % 508) head) }
 
     // Where the segment pages say the heads, it is the bucket's, and never Damaged.
-    ensures exact { S.honest store.old → (heads : List ℕ) → AreHeads (body_at S.PageStore store.old) (model_meta meta.now) heads → bucket < length heads → IfOk result (λ head. head ≡ slice_index heads bucket) }
-    ensures whole { S.honest store.old → (heads : List ℕ) → AreHeads (body_at S.PageStore store.old) (model_meta meta.now) heads → IsErrOf result Damaged → ⊥ }
+    ensures exact { S.honest store.old → (heads : List ℕ)
+        → AreHeads (body_at S.PageStore store.old) (model_meta meta.now) heads
+        → bucket < length heads → IfOk result (λ head. head ≡ slice_index heads bucket) }
+    ensures whole { S.honest store.old → (heads : List ℕ)
+        → AreHeads (body_at S.PageStore store.old) (model_meta meta.now) heads
+        → IsErrOf result Damaged → ⊥ }
 {
     let mut page = Page::blank();
     read_segment(store, meta, bucket as usize / PER_SEGMENT, &mut page)?;
     Ok(page.u32_at(HEADS_AT + 4 * (bucket as usize % PER_SEGMENT)))
 }
 
-/// Sets the head page of a bucket that there is, or of the next one, which can be read once the shape has grown. Where that
-/// is the first of a segment, a page is taken for the segment. One page is staged.
+/// Sets the head page of a bucket that there is, or of the next one, which can be read once the
+/// shape has grown. Where that is the first of a segment, a page is taken for the segment. One page
+/// is staged.
 ///
-/// NoRoom is answered where no page can be taken, Damaged where the bucket's segment page is none or `take` says so. At
-/// `Err` a page may have been taken from `space` that no segment has.
+/// NoRoom is answered where no page can be taken, Damaged where the bucket's segment page is none
+/// or `take` says so. At `Err` a page may have been taken from `space` that no segment has.
 pub fn set_head<S: PageStore>(
     store: &mut S,
     meta: &mut Meta,
@@ -80,12 +94,18 @@ pub fn set_head<S: PageStore>(
     ensures err_state { OnErr result (S.state store.new ≡ S.state store.old) }
     ensures ok { OnOk result (AddsSegment (model_meta meta.old) (model_meta meta.new) bucket) }
     ensures ends { HasEnds space.old → HasEnds space.new }
-    ensures may_end { MayEnd (S.state store.old) space.old.file_end → OnOk result (MayEnd (S.state store.new) space.new.file_end) }
+    ensures may_end { MayEnd (S.state store.old) space.old.file_end
+        → OnOk result (MayEnd (S.state store.new) space.new.file_end) }
 
-    // Where the segment pages say the heads, they then say them with this one, and it is never Damaged.
-    ensures exact { S.honest store.old → (heads : List ℕ) (s : Space) → CanSet (body_at S.PageStore store.old) (model_meta meta.old) space.old heads bucket head s →
+    // Where the segment pages say the heads, they then say them with this one, and it is never
+    // Damaged.
+    ensures exact { S.honest store.old → (heads : List ℕ) (s : Space)
+        → CanSet (body_at S.PageStore store.old) (model_meta meta.old) space.old heads
+        bucket head s →
         OnOk result (IsHeadSet (body_at S.PageStore store.old) (body_at S.PageStore store.new) (model_meta meta.old) (model_meta meta.new) space.new heads bucket head s) }
-    ensures whole { S.honest store.old → (heads : List ℕ) (s : Space) → CanSet (body_at S.PageStore store.old) (model_meta meta.old) space.old heads bucket head s → IsErrOf result Damaged → ⊥ }
+    ensures whole { S.honest store.old → (heads : List ℕ) (s : Space)
+        → CanSet (body_at S.PageStore store.old) (model_meta meta.old) space.old heads bucket head s
+        → IsErrOf result Damaged → ⊥ }
 {
     let s = bucket as usize / PER_SEGMENT;
     let at = HEADS_AT + 4 * (bucket as usize % PER_SEGMENT);

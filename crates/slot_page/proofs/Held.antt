@@ -14,34 +14,45 @@ abbrev pub SpelledDistinct : List ℕ → List Spelled → Type 0
 SpelledDistinct bytes slots = AllPairs (λ s t. key_of bytes s ≢ key_of bytes t) slots
 
 -- place by place
-slots_at : (bytes places : List ℕ) → map as_spelled (map (slot_at bytes) places) ≡ map (slot_of bytes) places
+slots_at : (bytes places : List ℕ)
+    → map as_spelled (map (slot_at bytes) places) ≡ map (slot_of bytes) places
 slots_at bytes [] = refl
-slots_at bytes (i ∷ places) = ap (λ (ss : List Spelled). slot_of bytes i ∷ ss) (slots_at bytes places)
+slots_at bytes (i ∷ places) =
+    ap (λ (ss : List Spelled). slot_of bytes i ∷ ss) (slots_at bytes places)
 
 -- the first n slots
-pub first_are : (bytes : List ℕ) (n : ℕ) → map as_spelled (first_slots bytes n) ≡ slots_from bytes 0 n
+pub first_are : (bytes : List ℕ) (n : ℕ)
+    → map as_spelled (first_slots bytes n) ≡ slots_from bytes 0 n
 first_are bytes n = slots_at bytes (range_with_len 0 n)
 
 -- distinct keys of the slots of the code are such of the slots that are spelled
-to_spelled : (bytes : List ℕ) (ss : List Slot) → SlotsHaveDistinctKeys bytes ss → SpelledDistinct bytes (map as_spelled ss)
+to_spelled : (bytes : List ℕ) (ss : List Slot) → SlotsHaveDistinctKeys bytes ss
+    → SpelledDistinct bytes (map as_spelled ss)
 to_spelled bytes ss h i j d less lt =
     let blank : Slot = record { offset = 0; key_len = 0; content_len = 0 } in
     let inside : j < length ss = omega (arith, length-map ss as_spelled) in
     let first = get_or-map as_spelled ss i blank d (omega arith) in
     let second = get_or-map as_spelled ss j blank d inside in
-    λ same. h i j blank less inside (ap (key_of bytes) (sym first) ∙ same ∙ ap (key_of bytes) second)
+    λ same. h i j blank less inside
+    (ap (key_of bytes) (sym first) ∙ same ∙ ap (key_of bytes) second)
 
 -- and back
-to_held : (bytes : List ℕ) (ss : List Slot) → SpelledDistinct bytes (map as_spelled ss) → SlotsHaveDistinctKeys bytes ss
+to_held : (bytes : List ℕ) (ss : List Slot) → SpelledDistinct bytes (map as_spelled ss)
+    → SlotsHaveDistinctKeys bytes ss
 to_held bytes ss h i j d less lt =
     let first = get_or-map as_spelled ss i d (as_spelled d) (omega arith) in
     let second = get_or-map as_spelled ss j d (as_spelled d) lt in
-    λ same. h i j (as_spelled d) less (omega (arith, length-map ss as_spelled)) (ap (key_of bytes) first ∙ same ∙ ap (key_of bytes) (sym second))
+    λ same. h i j (as_spelled d) less (omega (arith, length-map ss as_spelled))
+    (ap (key_of bytes) first ∙ same ∙ ap (key_of bytes) (sym second))
 
 -- the same of the first n slots
-pub distinct_spelled : (bytes : List ℕ) (n : ℕ) → SlotsHaveDistinctKeys bytes (first_slots bytes n) → SpelledDistinct bytes (slots_from bytes 0 n)
-distinct_spelled bytes n h = subst (SpelledDistinct bytes) (first_are bytes n) (to_spelled bytes (first_slots bytes n) h)
+pub distinct_spelled : (bytes : List ℕ) (n : ℕ) → SlotsHaveDistinctKeys bytes (first_slots bytes n)
+    → SpelledDistinct bytes (slots_from bytes 0 n)
+distinct_spelled bytes n h = subst (SpelledDistinct bytes) (first_are bytes n)
+    (to_spelled bytes (first_slots bytes n) h)
 
 -- and back
-pub distinct_held : (bytes : List ℕ) (n : ℕ) → SpelledDistinct bytes (slots_from bytes 0 n) → SlotsHaveDistinctKeys bytes (first_slots bytes n)
-distinct_held bytes n h = to_held bytes (first_slots bytes n) (subst (SpelledDistinct bytes) (sym (first_are bytes n)) h)
+pub distinct_held : (bytes : List ℕ) (n : ℕ) → SpelledDistinct bytes (slots_from bytes 0 n)
+    → SlotsHaveDistinctKeys bytes (first_slots bytes n)
+distinct_held bytes n h = to_held bytes (first_slots bytes n)
+    (subst (SpelledDistinct bytes) (sym (first_are bytes n)) h)

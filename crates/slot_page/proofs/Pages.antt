@@ -25,15 +25,18 @@ pub laid_out : (bytes : List ℕ) → IsBucketPage bytes → IsLaidOut bytes
 laid_out bytes h = laid_out_if_spelled bytes (bucket_of bytes) h.sound h.spelled
 
 -- what passes each test is a bucket page
-pub is_page : (bytes : List ℕ) → length bytes ≡ 2048 → IsBytes bytes → IsLaidOut bytes → IsBucketPage bytes
-is_page bytes len fits h = let both = spelled_if_laid_out bytes len fits h in record { sound = both.0; spelled = both.1 }
+pub is_page : (bytes : List ℕ) → length bytes ≡ 2048 → IsBytes bytes → IsLaidOut bytes
+    → IsBucketPage bytes
+is_page bytes len fits h = let both = spelled_if_laid_out bytes len fits h in
+    record { sound = both.0; spelled = both.1 }
 
 -- what the fields of a bucket page say of its pairs
 pub record Counted (bytes : List ℕ) : Type 0 where
   pub count_is : slot_count bytes ≡ length (page_pairs bytes)
   pub low_is : low bytes + total_size (page_pairs bytes) ≡ 2048
   pub room_is : 16 + 6 * slot_count bytes ≤ low bytes
-  pub inside : (i : ℕ) → i < slot_count bytes → (slot_of bytes i).offset + (slot_of bytes i).key_len + (slot_of bytes i).content_len ≤ 2048
+  pub inside : (i : ℕ) → i < slot_count bytes
+      → (slot_of bytes i).offset + (slot_of bytes i).key_len + (slot_of bytes i).content_len ≤ 2048
 
 -- a bucket page is a whole page
 pub length-page : (bytes : List ℕ) → IsBucketPage bytes → length bytes ≡ 2048
@@ -47,49 +50,71 @@ counted bytes h =
     let l = laid_out bytes h in
     let n = slot_count bytes in
     let total = total_is bytes n len l.in_place n 0 n (omega arith) (omega arith) in
-    record { count_is = sym (length-pairs_from bytes n); low_is = omega (arith, total, l.low_is); room_is = l.room; inside = ends_inside bytes n l.in_place }
+    record {
+      count_is = sym (length-pairs_from bytes n);
+      low_is = omega (arith, total, l.low_is);
+      room_is = l.room;
+      inside = ends_inside bytes n l.in_place;
+    }
 
 -- pair i is that of slot i
-pub pair_is : (bytes : List ℕ) (i : ℕ) → i < slot_count bytes → HoldsAt (λ p. p ≡ slot_pair bytes (slot_of bytes i)) (page_pairs bytes) i
+pub pair_is : (bytes : List ℕ) (i : ℕ) → i < slot_count bytes
+    → HoldsAt (λ p. p ≡ slot_pair bytes (slot_of bytes i)) (page_pairs bytes) i
 unfolding bucket_of
 pair_is bytes i lt d =
     let n = slot_count bytes in
     let blank : Slot = record { offset = 0; key_len = 0; content_len = 0 } in
-    get_or-map (slot_pair bytes) (slots_from bytes 0 n) i blank d (omega (arith, length-map-range_with_len (slot_of bytes) 0 n))
-    ∙ ap (slot_pair bytes) (get_or-map-range_with_len (slot_of bytes) 0 n i i blank lt (omega arith))
+    get_or-map (slot_pair bytes) (slots_from bytes 0 n) i blank d
+    (omega (arith, length-map-range_with_len (slot_of bytes) 0 n))
+    ∙ ap (slot_pair bytes) (get_or-map-range_with_len (slot_of bytes) 0 n i i blank
+    lt (omega arith))
 
 -- the slots that are read are those of the pairs
-pub table_of : (bytes : List ℕ) → length bytes ≡ 2048 → IsLaidOut bytes → slots_ending 2048 (page_pairs bytes) ≡ slots_from bytes 0 (slot_count bytes)
+pub table_of : (bytes : List ℕ) → length bytes ≡ 2048 → IsLaidOut bytes
+    → slots_ending 2048 (page_pairs bytes) ≡ slots_from bytes 0 (slot_count bytes)
 unfolding bucket_of
-table_of bytes len h = table_is bytes (slot_count bytes) len h.in_place (slot_count bytes) 0 (omega arith)
+table_of bytes len h = table_is bytes (slot_count bytes) len h.in_place (slot_count bytes)
+    0 (omega arith)
 
 -- the record of slot i lies in the page
-pub pair_inside : (bytes : List ℕ) (i : ℕ) (s : Slot) → Counted bytes → i < length (page_pairs bytes) → s ≡ slot_of bytes i → s.offset + s.key_len + s.content_len ≤ 2048
-pair_inside bytes i s c lt e = subst (λ (t : Slot). t.offset + t.key_len + t.content_len ≤ 2048) (sym e) (c.inside i (omega (arith, c.count_is)))
+pub pair_inside : (bytes : List ℕ) (i : ℕ) (s : Slot) → Counted bytes
+    → i < length (page_pairs bytes) → s ≡ slot_of bytes i
+    → s.offset + s.key_len + s.content_len ≤ 2048
+pair_inside bytes i s c lt e =
+    subst (λ (t : Slot). t.offset + t.key_len + t.content_len ≤ 2048) (sym e)
+    (c.inside i (omega (arith, c.count_is)))
 
 -- key and content that are read by a slot are the pair
-pub pair_read : (bytes : List ℕ) (i : ℕ) (s : Slot) (k t : List ℕ) → Counted bytes → i < length (page_pairs bytes) → s ≡ slot_of bytes i → k ≡ key_of bytes s → t ≡ content_of bytes s → HoldsAt (λ p. p ≡ (k, t)) (page_pairs bytes) i
+pub pair_read : (bytes : List ℕ) (i : ℕ) (s : Slot) (k t : List ℕ) → Counted bytes
+    → i < length (page_pairs bytes) → s ≡ slot_of bytes i → k ≡ key_of bytes s
+    → t ≡ content_of bytes s → HoldsAt (λ p. p ≡ (k, t)) (page_pairs bytes) i
 pair_read bytes i s k t c lt e f g d =
     pair_is bytes i (omega (arith, c.count_is)) d ∙ ap (slot_pair bytes) (sym e) ∙ rw (f, g) refl
 
 -- a place with this key
-pub found_at : (bytes key got rest : List ℕ) (i : ℕ) → i < length (page_pairs bytes) → HoldsAt (λ p. p ≡ (got, rest)) (page_pairs bytes) i → got ≡ key → HasKeyAt key (page_pairs bytes) i
+pub found_at : (bytes key got rest : List ℕ) (i : ℕ) → i < length (page_pairs bytes)
+    → HoldsAt (λ p. p ≡ (got, rest)) (page_pairs bytes) i → got ≡ key
+    → HasKeyAt key (page_pairs bytes) i
 found_at bytes key got rest i lt h e = (lt, λ d. ap (λ (p : Pair). p.0) (h d) ∙ e)
 
 -- one more pair has another key
-pub differs_here : (ps : List Pair) (key got rest : List ℕ) (i : ℕ) (r : Bool) → HoldsAt (λ p. p ≡ (got, rest)) ps i → Decides r (got ≡ key) → r ≡ false
-    → ((k : ℕ) (d : Pair) → k < i → (get_or ps k d).0 ≢ key) → (k : ℕ) (d : Pair) → k < i + 1 → (get_or ps k d).0 ≢ key
+pub differs_here : (ps : List Pair) (key got rest : List ℕ) (i : ℕ) (r : Bool)
+    → HoldsAt (λ p. p ≡ (got, rest)) ps i → Decides r (got ≡ key) → r ≡ false
+    → ((k : ℕ) (d : Pair) → k < i → (get_or ps k d).0 ≢ key) → (k : ℕ) (d : Pair) → k < i + 1
+    → (get_or ps k d).0 ≢ key
 differs_here ps key got rest i r h says was_false before k d lt =
     elim (cases_lt k i) [
       | inl less ↦ before k d less
       | inr ge ↦ λ same.
           let at : k ≡ i = omega arith in
-          let was_true = says.1 (sym (ap (λ (p : Pair). p.0) (h d)) ∙ ap (λ (j : ℕ). (get_or ps j d).0) (sym at) ∙ same) in
+          let was_true = says.1 (sym (ap (λ (p : Pair). p.0) (h d))
+          ∙ ap (λ (j : ℕ). (get_or ps j d).0) (sym at) ∙ same) in
           absurd cc
     ]
 
 -- no two pairs have one key
-pub only_one : (bytes key : List ℕ) (i k : ℕ) → IsBucketPage bytes → HasKeyAt key (page_pairs bytes) i → HasKeyAt key (page_pairs bytes) k → k ≡ i
+pub only_one : (bytes key : List ℕ) (i k : ℕ) → IsBucketPage bytes
+    → HasKeyAt key (page_pairs bytes) i → HasKeyAt key (page_pairs bytes) k → k ≡ i
 only_one bytes key i k h a b =
     let blank : Pair = ([], []) in
     elim (cases_lt k i) [
@@ -101,46 +126,67 @@ only_one bytes key i k h a b =
     ]
 
 -- two pages that say the same have the same bytes
-pub same_bytes : (x y : List ℕ) → IsBucketPage x → IsBucketPage y → own_number x ≡ own_number y → kind_of x ≡ kind_of y → next_of x ≡ next_of y → page_pairs x ≡ page_pairs y → x ≡ y
+pub same_bytes : (x y : List ℕ) → IsBucketPage x → IsBucketPage y → own_number x ≡ own_number y
+    → kind_of x ≡ kind_of y → next_of x ≡ next_of y → page_pairs x ≡ page_pairs y → x ≡ y
 unfolding bucket_of
 same_bytes x y h g own kind next pairs =
-    let same : bucket_of x ≡ bucket_of y = ap (λ (n : ℕ). bucket n (kind_of x) (next_of x) (page_pairs x)) own ∙ ap (λ (n : ℕ). bucket (own_number y) n (next_of x) (page_pairs x)) kind
-    ∙ ap (λ (n : ℕ). bucket (own_number y) (kind_of y) n (page_pairs x)) next ∙ ap (bucket (own_number y) (kind_of y) (next_of y)) pairs in
+    let same : bucket_of x ≡ bucket_of y =
+    ap (λ (n : ℕ). bucket n (kind_of x) (next_of x) (page_pairs x)) own
+    ∙ ap (λ (n : ℕ). bucket (own_number y) n (next_of x) (page_pairs x)) kind
+    ∙ ap (λ (n : ℕ). bucket (own_number y) (kind_of y) n (page_pairs x)) next
+    ∙ ap (bucket (own_number y) (kind_of y) (next_of y)) pairs in
     h.spelled ∙ ap bucket_spelling same ∙ sym g.spelled
 
 -- a page of pairs that is spelled anew with others
-pub kept : (old new : List ℕ) (ps : List Pair) → IsBucketPage old → taken ps ≤ 2032 → new ≡ bucket_spelling (with_pairs (bucket_of old) ps) → KeepsHeader old new
+pub kept : (old new : List ℕ) (ps : List Pair) → IsBucketPage old → taken ps ≤ 2032
+    → new ≡ bucket_spelling (with_pairs (bucket_of old) ps) → KeepsHeader old new
 unfolding bucket_of bucket_spelling
 kept old new ps h le e =
     let b = bucket_of old in
-    let s = header_again new (slots_bytes (slots_ending 2048 ps) ++ (replicate (room_of ps) 0 ++ records ps)) b.own b.kind (length ps) b.next (2048 - total_size ps) h.sound.own (omega arith) h.sound.next (omega arith) e in
+    let s = header_again new (slots_bytes (slots_ending 2048 ps)
+    ++ (replicate (room_of ps) 0 ++ records ps)) b.own b.kind (length ps) b.next
+    (2048 - total_size ps) h.sound.own (omega arith) h.sound.next (omega arith) e in
     record { own = s.own; kind = s.kind; next = s.next }
 
 -- a page that holds other pairs keeps its header
 pub kept_by : (old new : List ℕ) (ps : List Pair) → HasPairs old new ps → KeepsHeader old new
 unfolding bucket_of
-kept_by old new ps h = record { own = ap (λ (b : Bucket). b.own) h.says; kind = ap (λ (b : Bucket). b.kind) h.says; next = ap (λ (b : Bucket). b.next) h.says }
+kept_by old new ps h = record {
+  own = ap (λ (b : Bucket). b.own) h.says;
+  kind =
+      ap (λ (b : Bucket). b.kind) h.says;
+  next = ap (λ (b : Bucket). b.next) h.says;
+}
 
 -- another next page keeps the own number
-pub own_kept : (old new : List ℕ) (n : ℕ) → bucket_of new ≡ with_next (bucket_of old) n → own_number new ≡ own_number old
+pub own_kept : (old new : List ℕ) (n : ℕ) → bucket_of new ≡ with_next (bucket_of old) n
+    → own_number new ≡ own_number old
 unfolding bucket_of
 own_kept old new n e = ap (λ (b : Bucket). b.own) e
 
 -- a page that has a bucket's spelling
-pub is_page_of : (bytes : List ℕ) (b : Bucket) → IsBucket b → bytes ≡ bucket_spelling b → IsBucketPage bytes × (bucket_of bytes ≡ b)
+pub is_page_of : (bytes : List ℕ) (b : Bucket) → IsBucket b → bytes ≡ bucket_spelling b
+    → IsBucketPage bytes × (bucket_of bytes ≡ b)
 is_page_of bytes b is e =
-    let says = bucket_again bytes b is e in
-    (record { sound = subst IsBucket (sym says) is; spelled = e ∙ ap bucket_spelling (sym says) }, says)
+    let says = bucket_again bytes b is e in (
+      record { sound = subst IsBucket (sym says) is; spelled = e ∙ ap bucket_spelling (sym says) },
+      says,
+    )
 
 -- read as a head page
-pub is_head : (n next : ℕ) (pairs : List Pair) (bytes : List ℕ) → IsBucket (bucket n 3 next pairs) → (body_of n bytes ≡ HeadPage next pairs) ↔ (IsBucketPage bytes × (bucket_of bytes ≡ bucket n 3 next pairs))
+pub is_head : (n next : ℕ) (pairs : List Pair) (bytes : List ℕ) → IsBucket (bucket n 3 next pairs)
+    → (body_of n bytes ≡ HeadPage next pairs)
+    ↔ (IsBucketPage bytes × (bucket_of bytes ≡ bucket n 3 next pairs))
 is_head n next pairs bytes is =
     let b = bucket n 3 next pairs in
     let exact = body_is n bytes (HeadPage next pairs) is in
     (λ e. is_page_of bytes b is (exact.1 e), λ h. exact.0 (h.0.spelled ∙ ap bucket_spelling h.1))
 
 -- read as an overflow page
-pub is_overflow : (n next : ℕ) (pairs : List Pair) (bytes : List ℕ) → IsBucket (bucket n 4 next pairs) → (body_of n bytes ≡ OverflowPage next pairs) ↔ (IsBucketPage bytes × (bucket_of bytes ≡ bucket n 4 next pairs))
+pub is_overflow : (n next : ℕ) (pairs : List Pair) (bytes : List ℕ)
+    → IsBucket (bucket n 4 next pairs)
+    → (body_of n bytes ≡ OverflowPage next pairs)
+    ↔ (IsBucketPage bytes × (bucket_of bytes ≡ bucket n 4 next pairs))
 is_overflow n next pairs bytes is =
     let b = bucket n 4 next pairs in
     let exact = body_is n bytes (OverflowPage next pairs) is in

@@ -17,7 +17,9 @@ use Rattle.slot_page.specs.Contents.{IsBucketPage, page_pairs, with_pairs, IsAbs
 use Rattle.page_model.proofs.Buckets.{bucket_again}
 
 -- the four writes of an empty page
-blank_set : (own kind next : ℕ) (body : List ℕ) → overwrite (overwrite (set (overwrite (replicate 16 0 ++ body) 0 (u32_bytes own)) 4 kind) 8 (u32_bytes next)) 12 (u16_bytes 2048) ≡ header own kind 0 next 2048 ++ body
+blank_set : (own kind next : ℕ) (body : List ℕ)
+    → overwrite (overwrite (set (overwrite (replicate 16 0 ++ body) 0 (u32_bytes own)) 4 kind) 8
+    (u32_bytes next)) 12 (u16_bytes 2048) ≡ header own kind 0 next 2048 ++ body
 blank_set own kind next body = refl
 
 -- a page with no pair
@@ -25,19 +27,38 @@ abbrev pub blank : ℕ → ℕ → ℕ → Bucket
 blank own kind next = record { own = own; kind = kind; next = next; pairs = [] }
 
 -- what the code writes is the spelling of no pair
-pub empty_is : (own kind next : ℕ) (zeros new : List ℕ) → own < 2 ^ 32 → (kind ≡ 3) ⊎ (kind ≡ 4) → next < 2 ^ 32 → zeros ≡ replicate 2048 0
-    → new ≡ overwrite (overwrite (set (overwrite zeros 0 (u32_bytes own)) 4 kind) 8 (u32_bytes next)) 12 (u16_bytes 2048)
+pub empty_is : (own kind next : ℕ) (zeros new : List ℕ) → own < 2 ^ 32 → (kind ≡ 3) ⊎ (kind ≡ 4)
+    → next < 2 ^ 32 → zeros ≡ replicate 2048 0
+    → new ≡ overwrite (overwrite (set (overwrite zeros 0 (u32_bytes own)) 4 kind) 8
+    (u32_bytes next)) 12 (u16_bytes 2048)
     → IsBucketPage new × (bucket_of new ≡ blank own kind next)
 unfolding bucket_spelling
 empty_is own kind next zeros new a k b z e =
     let body : List ℕ = replicate 2032 0 in
-    let is : IsBucket (blank own kind next) = record { own = a; kind = k; next = b; fits = omega arith; distinct = λ i j d lt le. absurd (omega arith) } in
+    let is : IsBucket (blank own kind next) =
+    record {
+      own = a;
+      kind = k;
+      next = b;
+      fits = omega arith;
+      distinct = λ i j d lt le.
+          absurd (omega arith);
+    } in
     let parts : zeros ≡ replicate 16 0 ++ body = z ∙ sym (replicate-append-replicate 16 2032 0) in
     let spelled : new ≡ bucket_spelling (blank own kind next) =
-    e ∙ ap (λ (x : List ℕ). overwrite (overwrite (set (overwrite x 0 (u32_bytes own)) 4 kind) 8 (u32_bytes next)) 12 (u16_bytes 2048)) parts
-    ∙ blank_set own kind next body ∙ ap (λ (x : List ℕ). header own kind 0 next 2048 ++ x) (sym (append-nil body)) in
-    let says = bucket_again new (blank own kind next) is spelled in
-    (record { sound = subst IsBucket (sym says) is; spelled = spelled ∙ ap bucket_spelling (sym says) }, says)
+    e ∙ ap (λ (x : List ℕ). overwrite
+    (overwrite (set (overwrite x 0 (u32_bytes own)) 4 kind) 8 (u32_bytes next)) 12
+    (u16_bytes 2048)) parts
+    ∙ blank_set own kind next body
+    ∙ ap (λ (x : List ℕ). header own kind 0 next 2048 ++ x) (sym (append-nil body)) in
+    let says = bucket_again new (blank own kind next) is spelled in (
+      record {
+        sound = subst IsBucket (sym says) is;
+        spelled =
+            spelled ∙ ap bucket_spelling (sym says);
+      },
+      says,
+    )
 
 -- ---- parts of a list of pairs
 
@@ -80,23 +101,31 @@ pub record IsNext (qs : List Pair) (j : ℕ) (p : Pair) : Type 0 where
   pub absent : IsAbsent p.0 (take j qs)
 
 -- the next pair fits and is a new one
-is_next : (qs : List Pair) (j : ℕ) (p : Pair) → taken qs ≤ 2032 → AllPairs (λ p q. p.0 ≢ q.0) qs → j < length qs → get_or qs j p ≡ p → IsNext qs j p
+is_next : (qs : List Pair) (j : ℕ) (p : Pair) → taken qs ≤ 2032 → AllPairs (λ p q. p.0 ≢ q.0) qs
+    → j < length qs → get_or qs j p ≡ p → IsNext qs j p
 is_next qs j p fits distinct lt e =
-    let more : take (j + 1) qs ≡ take j qs ++ p ∷ [] = take_more qs j p lt ∙ ap (λ (q : Pair). take j qs ++ q ∷ []) e in
-    let sized : taken (take j qs) + (6 + size p) ≡ taken (take (j + 1) qs) = sym (taken-push (take j qs) p) ∙ ap taken (sym more) in
+    let more : take (j + 1) qs ≡ take j qs ++ p ∷ [] =
+    take_more qs j p lt ∙ ap (λ (q : Pair). take j qs ++ q ∷ []) e in
+    let sized : taken (take j qs) + (6 + size p) ≡ taken (take (j + 1) qs) =
+    sym (taken-push (take j qs) p) ∙ ap taken (sym more) in
     let most = taken-take_le (j + 1) qs in
     record {
       more = more;
       fits = omega arith;
       absent = λ k d inside same.
           let less : k < j = omega (arith, length-take j qs) in
-          let here : get_or (take j qs) k d ≡ get_or qs k p = get_or-take j qs k d less ∙ get_or_default qs k d p (omega arith) in
-          distinct k j p less lt (ap (λ (q : Pair). q.0) (sym here) ∙ same ∙ ap (λ (q : Pair). q.0) (sym e));
+          let here : get_or (take j qs) k d ≡ get_or qs k p =
+          get_or-take j qs k d less ∙ get_or_default qs k d p (omega arith) in
+          distinct k j p less lt (ap (λ (q : Pair). q.0) (sym here) ∙ same
+          ∙ ap (λ (q : Pair). q.0) (sym e));
     }
 
 -- the pair that the code reads is the next one
-pub next_kept : (bytes : List ℕ) (i j source : ℕ) (k c : List ℕ) → IsBucketPage bytes → i < length (page_pairs bytes) → j + 1 < length (page_pairs bytes) → (j < i → source ≡ j) → (i ≤ j → source ≡ j + 1)
-    → HoldsAt (λ p. p ≡ (k, c)) (page_pairs bytes) source → IsNext (remove (page_pairs bytes) i) j (k, c)
+pub next_kept : (bytes : List ℕ) (i j source : ℕ) (k c : List ℕ) → IsBucketPage bytes
+    → i < length (page_pairs bytes) → j + 1 < length (page_pairs bytes) → (j < i → source ≡ j)
+    → (i ≤ j → source ≡ j + 1)
+    → HoldsAt (λ p. p ≡ (k, c)) (page_pairs bytes) source
+    → IsNext (remove (page_pairs bytes) i) j (k, c)
 next_kept bytes i j source k c h within inside below above read =
     let ps = page_pairs bytes in
     let p : Pair = (k, c) in
@@ -105,36 +134,56 @@ next_kept bytes i j source k c h within inside below above read =
     let long = length-remove ps i within in
     let here : get_or (remove ps i) j p ≡ p =
     elim (cases_lt j i) [
-      | inl lt ↦ get_or-remove_below ps i p j lt within ∙ ap (λ (n : ℕ). get_or ps n p) (sym (below lt)) ∙ read p
-      | inr ge ↦ get_or-remove_above ps i p j ge within ∙ ap (λ (n : ℕ). get_or ps n p) (sym (above ge)) ∙ read p
+      | inl lt ↦ get_or-remove_below ps i p j lt within
+          ∙ ap (λ (n : ℕ). get_or ps n p) (sym (below lt)) ∙ read p
+      | inr ge ↦ get_or-remove_above ps i p j ge within
+          ∙ ap (λ (n : ℕ). get_or ps n p) (sym (above ge)) ∙ read p
     ] in
-    is_next (remove ps i) j p (omega arith) (all_pairs_remove (λ (q r : Pair). q.0 ≢ r.0) ps i within h.sound.distinct) (omega arith) here
+    is_next (remove ps i) j p (omega arith)
+    (all_pairs_remove (λ (q r : Pair). q.0 ≢ r.0) ps i within h.sound.distinct)
+    (omega arith) here
 
 -- one more pair in the page that is written anew
-pub goes_on : (old page new : List ℕ) (qs : List Pair) (j : ℕ) (p : Pair) → IsNext qs j p → HasPairs old page (take j qs) → (IsAbsent p.0 (page_pairs page) → HasPairs page new (page_pairs page ++ p ∷ [])) → HasPairs old new (take (j + 1) qs)
+pub goes_on : (old page new : List ℕ) (qs : List Pair) (j : ℕ) (p : Pair) → IsNext qs j p
+    → HasPairs old page (take j qs)
+    → (IsAbsent p.0 (page_pairs page) → HasPairs page new (page_pairs page ++ p ∷ []))
+    → HasPairs old new (take (j + 1) qs)
 goes_on old page new qs j p next before adds =
     let now : page_pairs page ≡ take j qs = ap (λ (b : Bucket). b.pairs) before.says in
     let after = adds (subst (IsAbsent p.0) (sym now) next.absent) in
-    let grown : page_pairs page ++ p ∷ [] ≡ take (j + 1) qs = ap (λ (xs : List Pair). xs ++ p ∷ []) now ∙ sym next.more in
+    let grown : page_pairs page ++ p ∷ [] ≡ take (j + 1) qs =
+    ap (λ (xs : List Pair). xs ++ p ∷ []) now ∙ sym next.more in
     record {
       page = after.page;
-      says = after.says ∙ ap (λ (b : Bucket). with_pairs b (page_pairs page ++ p ∷ [])) before.says ∙ ap (with_pairs (bucket_of old)) grown;
+      says = after.says ∙ ap (λ (b : Bucket). with_pairs b (page_pairs page ++ p ∷ [])) before.says
+          ∙ ap (with_pairs (bucket_of old)) grown;
     }
 
 -- it fits
-pub fits_next : (old page : List ℕ) (qs : List Pair) (j : ℕ) (p : Pair) → IsNext qs j p → HasPairs old page (take j qs) → size p + 6 ≤ room_of (page_pairs page)
-fits_next old page qs j p next before = subst (λ (xs : List Pair). size p + 6 ≤ room_of xs) (sym (ap (λ (b : Bucket). b.pairs) before.says)) next.fits
+pub fits_next : (old page : List ℕ) (qs : List Pair) (j : ℕ) (p : Pair) → IsNext qs j p
+    → HasPairs old page (take j qs) → size p + 6 ≤ room_of (page_pairs page)
+fits_next old page qs j p next before =
+    subst (λ (xs : List Pair). size p + 6 ≤ room_of xs)
+    (sym (ap (λ (b : Bucket). b.pairs) before.says)) next.fits
 
 -- the empty page holds no pair yet
-pub begins : (old new : List ℕ) (own next : ℕ) → own ≡ u32_at old 0 → next ≡ u32_at old 8 → IsBucketPage new → bucket_of new ≡ blank own (get_or old 4 0) next → HasPairs old new []
+pub begins : (old new : List ℕ) (own next : ℕ) → own ≡ u32_at old 0 → next ≡ u32_at old 8
+    → IsBucketPage new → bucket_of new ≡ blank own (get_or old 4 0) next → HasPairs old new []
 unfolding bucket_of
-begins old new own next a b h e = record { page = h; says = e ∙ ap (λ (o : ℕ). blank o (get_or old 4 0) next) a ∙ ap (blank (u32_at old 0) (get_or old 4 0)) b }
+begins old new own next a b h e =
+    record {
+      page = h;
+      says = e ∙ ap (λ (o : ℕ). blank o (get_or old 4 0) next) a
+          ∙ ap (blank (u32_at old 0) (get_or old 4 0)) b;
+    }
 
 -- all are there
-pub ends : (old new : List ℕ) (qs : List Pair) (n : ℕ) → length qs ≤ n → HasPairs old new (take n qs) → HasPairs old new qs
+pub ends : (old new : List ℕ) (qs : List Pair) (n : ℕ) → length qs ≤ n
+    → HasPairs old new (take n qs) → HasPairs old new qs
 ends old new qs n le h = subst (HasPairs old new) (take_all n qs le) h
 
 -- the kind of a bucket page
-pub kind_is : (bytes : List ℕ) → IsBucketPage bytes → (get_or bytes 4 0 ≡ 3) ⊎ (get_or bytes 4 0 ≡ 4)
+pub kind_is : (bytes : List ℕ) → IsBucketPage bytes
+    → (get_or bytes 4 0 ≡ 3) ⊎ (get_or bytes 4 0 ≡ 4)
 unfolding bucket_of
 kind_is bytes h = h.sound.kind

@@ -17,11 +17,14 @@ pub record HasGoodHeader (bytes : List ℕ) : Type 0 where
 
 -- each of the first n records ends where it should
 abbrev pub AreInPlace : List ℕ → ℕ → Type 0
-AreInPlace bytes n = (i : ℕ) → i < n → (slot_of bytes i).offset + (slot_of bytes i).key_len + (slot_of bytes i).content_len ≡ end_of bytes i
+AreInPlace bytes n = (i : ℕ) → i < n
+    → (slot_of bytes i).offset + (slot_of bytes i).key_len + (slot_of bytes i).content_len
+    ≡ end_of bytes i
 
 -- no two of the slots have one key
 abbrev pub SlotsHaveDistinctKeys : List ℕ → List Slot → Type 0
-SlotsHaveDistinctKeys bytes slots = AllPairs (λ s t. key_of bytes (as_spelled s) ≢ key_of bytes (as_spelled t)) slots
+SlotsHaveDistinctKeys bytes slots =
+    AllPairs (λ s t. key_of bytes (as_spelled s) ≢ key_of bytes (as_spelled t)) slots
 
 pub record IsLaidOut (bytes : List ℕ) : Type 0 where
   pub header : HasGoodHeader bytes

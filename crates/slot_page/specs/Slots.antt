@@ -11,7 +11,12 @@ as_spelled s = record { offset = s.offset; key_len = s.key_len; content_len = s.
 
 -- slot i of a page
 abbrev pub slot_at : List ℕ → ℕ → Slot
-slot_at bytes i = record { offset = u16_at bytes (16 + 6 * i); key_len = u16_at bytes (16 + 6 * i + 2); content_len = u16_at bytes (16 + 6 * i + 4) }
+slot_at bytes i = record {
+  offset = u16_at bytes (16 + 6 * i);
+  key_len =
+      u16_at bytes (16 + 6 * i + 2);
+  content_len = u16_at bytes (16 + 6 * i + 4);
+}
 
 -- the first n slots
 abbrev pub first_slots : List ℕ → ℕ → List Slot

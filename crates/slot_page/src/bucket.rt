@@ -19,9 +19,11 @@ use page_io::{PAGE_LEN, Page};
 /// The slots of a page, if it is spelled as a head page or an overflow page, under any own number.
 pub fn decode(page: &Page) -> Option<Slots>
     ensures exact { IsSome result ↔ IsBucketPage page.now.bytes }
-    ensures every { (b : Bucket) → IsBucket b → page.now.bytes ≡ bucket_spelling b → IsSome result × (bucket_of page.now.bytes ≡ b) }
+    ensures every { (b : Bucket) → IsBucket b → page.now.bytes ≡ bucket_spelling b
+        → IsSome result × (bucket_of page.now.bytes ≡ b) }
     ensures count { IfSome result (λ s. length s.items ≡ length (page_pairs page.now.bytes)) }
-    ensures slots { IfSome result (λ s. map as_spelled s.items ≡ slots_ending 2048 (page_pairs page.now.bytes)) }
+    ensures slots { IfSome result
+        (λ s. map as_spelled s.items ≡ slots_ending 2048 (page_pairs page.now.bytes)) }
 {
     are_bytes(&page.bytes);
     read_slots(page)
@@ -49,7 +51,8 @@ pub fn room(page: &Page) -> usize
 /// Whether there is room for one more pair.
 pub fn fits(page: &Page, key: &[u8], content: &[u8]) -> bool
     requires { IsBucketPage page.now.bytes }
-    ensures { IsTrue result ↔ (length key.now + length content.now + 6 ≤ room_of (page_pairs page.now.bytes)) }
+    ensures { IsTrue result ↔ (length key.now + length content.now + 6
+        ≤ room_of (page_pairs page.now.bytes)) }
 {
     let room = room(page);
     room >= SLOT_LEN && key.len() <= room - SLOT_LEN && content.len() <= room - SLOT_LEN - key.len()
@@ -70,7 +73,8 @@ pub fn find(page: &Page, key: &[u8]) -> Option<usize>
     requires { IsBucketPage page.now.bytes }
     ensures none { IfNone result (IsAbsent key.now (page_pairs page.now.bytes)) }
     ensures found { IfSome result (λ i. HasKeyAt key.now (page_pairs page.now.bytes) i) }
-    ensures only { IfSome result (λ i. (k : ℕ) → HasKeyAt key.now (page_pairs page.now.bytes) k → k ≡ i) }
+    ensures only { IfSome result (λ i.
+        (k : ℕ) → HasKeyAt key.now (page_pairs page.now.bytes) k → k ≡ i) }
 {
     let (count, _) = counts(page);
     for i in 0..count {
@@ -95,7 +99,8 @@ fn put_record(page: &mut Page, at: usize, key: &[u8], content: &[u8])
 /// Writes slot `i`.
 fn set_slot_at(page: &mut Page, i: usize, slot: Slot)
     requires { 16 + 6 * i + 6 ≤ 2048 }
-    ensures { page.new.bytes ≡ overwrite page.old.bytes (16 + 6 * i) (slot_bytes (as_spelled slot)) }
+    ensures { page.new.bytes ≡ overwrite page.old.bytes (16 + 6 * i)
+        (slot_bytes (as_spelled slot)) }
 {
     are_bytes(&page.bytes);
     let at = HEADER_LEN + SLOT_LEN * i;
@@ -104,13 +109,17 @@ fn set_slot_at(page: &mut Page, i: usize, slot: Slot)
     page.set_u16_at(at + 4, slot.content_len);
 }
 
-/// Adds a pair, which fits, behind the others. If a pair has this key already, the page has it twice and is no longer a
-/// bucket page.
+/// Adds a pair, which fits, behind the others. If a pair has this key already, the page has it
+/// twice and is no longer a bucket page.
 pub fn add(page: &mut Page, key: &[u8], content: &[u8])
     requires page { IsBucketPage page.old.bytes }
     requires fits { length key.now + length content.now + 6 ≤ room_of (page_pairs page.old.bytes) }
-    ensures holds { IsAbsent key.now (page_pairs page.old.bytes) → HasPairs page.old.bytes page.new.bytes (page_pairs page.old.bytes ++ (key.now, content.now) ∷ []) }
-    ensures spelled { page.new.bytes ≡ bucket_spelling (with_pairs (bucket_of page.old.bytes) (page_pairs page.old.bytes ++ (key.now, content.now) ∷ [])) }
+    ensures holds { IsAbsent key.now (page_pairs page.old.bytes)
+        → HasPairs page.old.bytes page.new.bytes
+        (page_pairs page.old.bytes ++ (key.now, content.now) ∷ []) }
+    ensures spelled { page.new.bytes
+        ≡ bucket_spelling (with_pairs (bucket_of page.old.bytes)
+        (page_pairs page.old.bytes ++ (key.now, content.now) ∷ [])) }
     ensures header { KeepsHeader page.old.bytes page.new.bytes }
 {
     let (count, low) = counts(page);
@@ -126,8 +135,8 @@ pub fn add(page: &mut Page, key: &[u8], content: &[u8])
     page.set_u16_at(LOW_AT, slot.offset);
 }
 
-/// A page with no pair: of kind 3 a bucket's head page, of kind 4 an overflow page. `next` is the chain's next page, 0 for
-/// none.
+/// A page with no pair: of kind 3 a bucket's head page, of kind 4 an overflow page. `next` is the
+/// chain's next page, 0 for none.
 pub fn empty(own: u32, kind: u8, next: u32) -> Page
     requires { (kind ≡ 3) ⊎ (kind ≡ 4) }
     ensures page { IsBucketPage result.bytes }

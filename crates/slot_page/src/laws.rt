@@ -8,22 +8,29 @@ ghost use Rattle.page_model.specs.Reading.{own_number, kind_of, next_of, bucket_
 ghost use Rattle.page_model.specs.Valid.{IsBucket};
 ghost use Rattle.slot_page.specs.Contents.{IsBucketPage, page_pairs};
 
-/// Under an own number, a kind and a next page a list of pairs has one spelling: two pages that say these have the same
-/// bytes.
+/// Under an own number, a kind and a next page a list of pairs has one spelling: two pages that say
+/// these have the same bytes.
 pub fn one_spelling()
-    ensures { (x y : List ℕ) → IsBucketPage x → IsBucketPage y → own_number x ≡ own_number y → kind_of x ≡ kind_of y → next_of x ≡ next_of y → page_pairs x ≡ page_pairs y
+    ensures { (x y : List ℕ) → IsBucketPage x → IsBucketPage y → own_number x ≡ own_number y
+        → kind_of x ≡ kind_of y → next_of x ≡ next_of y → page_pairs x ≡ page_pairs y
         → x ≡ y }
 {}
 
 /// Two lists have two spellings, also under other own numbers, kinds and next pages.
 pub fn one_list()
-    ensures { (b c : Bucket) → IsBucket b → IsBucket c → bucket_spelling b ≡ bucket_spelling c → b ≡ c }
+    ensures { (b c : Bucket) → IsBucket b → IsBucket c
+        → bucket_spelling b ≡ bucket_spelling c → b ≡ c }
 {}
 
-/// A page reads as a head page or an overflow page exactly where it is a bucket page that says the same.
+/// A page reads as a head page or an overflow page exactly where it is a bucket page that says the
+/// same.
 pub fn reads_as_bucket()
-    ensures head { (n next : ℕ) (pairs : List Pair) (bytes : List ℕ) → IsBucket (bucket n 3 next pairs)
-        → (body_of n bytes ≡ HeadPage next pairs) ↔ (IsBucketPage bytes × (bucket_of bytes ≡ bucket n 3 next pairs)) }
-    ensures overflow { (n next : ℕ) (pairs : List Pair) (bytes : List ℕ) → IsBucket (bucket n 4 next pairs)
-        → (body_of n bytes ≡ OverflowPage next pairs) ↔ (IsBucketPage bytes × (bucket_of bytes ≡ bucket n 4 next pairs)) }
+    ensures head { (n next : ℕ) (pairs : List Pair) (bytes : List ℕ)
+        → IsBucket (bucket n 3 next pairs)
+        → (body_of n bytes ≡ HeadPage next pairs)
+        ↔ (IsBucketPage bytes × (bucket_of bytes ≡ bucket n 3 next pairs)) }
+    ensures overflow { (n next : ℕ) (pairs : List Pair) (bytes : List ℕ)
+        → IsBucket (bucket n 4 next pairs)
+        → (body_of n bytes ≡ OverflowPage next pairs)
+        ↔ (IsBucketPage bytes × (bucket_of bytes ≡ bucket n 4 next pairs)) }
 {}

@@ -105,7 +105,8 @@ fn have_distinct_keys(page: &Page, slots: &[Slot]) -> bool
 /// The slots, where every byte of the page is as a bucket page has it.
 pub fn read_slots(page: &Page) -> Option<Slots>
     ensures variant { IsSome result ↔ IsLaidOut page.now.bytes }
-    ensures slots { IfSome result (λ s. s.items ≡ first_slots page.now.bytes (slot_count page.now.bytes)) }
+    ensures slots { IfSome result
+        (λ s. s.items ≡ first_slots page.now.bytes (slot_count page.now.bytes)) }
 {
     let count = page.u16_at(COUNT_AT) as usize;
     let low = page.u16_at(LOW_AT) as usize;

@@ -1,8 +1,9 @@
-//! Tables of calls, each with the answer that it has to get. A table is a text, since one of Rust's values takes half a second a row to check,
-//! and an assertion for each call takes longer.
+//! Tables of calls, each with the answer that it has to get. A table is a text, since one of Rust's
+//! values takes half a second a row to check, and an assertion for each call takes longer.
 //!
-//! A line is a call, an arrow and its answer, as `put a #01 -> stored`. A word of a call is its letters; `.` is no bytes, and `#` stands before
-//! hexadecimal digits in pairs, which `*` repeats, as in `#07*1499`.
+//! A line is a call, an arrow and its answer, as `put a #01 -> stored`. A word of a call is its
+//! letters; `.` is no bytes, and `#` stands before hexadecimal digits in pairs, which `*` repeats,
+//! as in `#07*1499`.
 
 use dbm_file::{Call, Database, DeleteReply, Fault, Octets, Stat, StoreMode, StoreReply};
 use page_io::PageStore;
@@ -135,7 +136,8 @@ pub fn is_fault(alloc: Global, fault: Option<Fault>, name: &str) -> Result<bool,
     }
 }
 
-/// What a line of a table has in front of its arrow and behind it. A line without a word is none of the table.
+/// What a line of a table has in front of its arrow and behind it. A line without a word is none of
+/// the table.
 pub fn row_of(line: &str) -> Option<(&str, &str)> {
     if line.trim().is_empty() {
         return None;
@@ -189,8 +191,8 @@ fn is_answered<S: PageStore>(
     is_so(alloc, answer_to(db, &call), kind, word)
 }
 
-/// Makes the calls of a table one after another, up to the first that isn't answered so, whose line it gives. A line `stat` asks for the
-/// numbers of the database.
+/// Makes the calls of a table one after another, up to the first that isn't answered so, whose line
+/// it gives. A line `stat` asks for the numbers of the database.
 pub fn first_wrong<'a, S: PageStore>(
     alloc: Global,
     db: &mut Database<S>,

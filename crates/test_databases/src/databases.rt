@@ -50,7 +50,8 @@ pub fn put<S: PageStore>(
     db.store(key, content, StoreMode::Replace)
 }
 
-/// Nine pairs: bucket 1 of two gets those whose key is even, since the hash of one byte is odd where the byte is even.
+/// Nine pairs: bucket 1 of two gets those whose key is even, since the hash of one byte is odd
+/// where the byte is even.
 pub const PAIRS: [(u8, u8); 9] = [
     (0x61, 1),
     (0x62, 2),

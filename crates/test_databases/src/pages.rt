@@ -77,7 +77,8 @@ pub fn bucket_page(header: &[u8; 16], pairs: usize, last: &[u8]) -> Page {
     page
 }
 
-/// A new file of limit 100: page 0, the meta page, the segment of one bucket, and its head page, which is empty.
+/// A new file of limit 100: page 0, the meta page, the segment of one bucket, and its head page,
+/// which is empty.
 pub fn new_file() -> [Page; 4] {
     [
         clear_page(4),

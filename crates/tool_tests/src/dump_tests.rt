@@ -157,7 +157,8 @@ fn key_of(alloc: Global, n: u16) -> Result<Vec<u8>, Fail> {
     Ok(key)
 }
 
-/// The keys with their numbers, in the order of keys. Each is stored with its number as the content.
+/// The keys with their numbers, in the order of keys. Each is stored with its number as the
+/// content.
 fn stored_sorted(alloc: Global, db: &mut Db<MemDev>) -> Result<Vec<(Vec<u8>, u16)>, Fail> {
     let mut sorted: Vec<(Vec<u8>, u16)> = Vec::new(alloc);
     for n in 0..MANY {
@@ -198,8 +199,8 @@ fn dumps_300_pairs_sorted_and_whole(rt: HostRuntime) -> Result<(), Fail> {
     Ok(())
 }
 
-/// A database of two pages of one bucket, of which the second names itself as the next one. Each pair leaves no room for a
-/// second one in its page.
+/// A database of two pages of one bucket, of which the second names itself as the next one. Each
+/// pair leaves no room for a second one in its page.
 fn with_a_circle(alloc: Global) -> Result<Db<MemDev>, Fail> {
     let table = "insert a #07*1400 -> stored\n insert b #07*1400 -> stored";
     let mut dev = closed(with_calls(alloc, table)?)?;

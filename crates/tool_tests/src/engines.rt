@@ -1,4 +1,5 @@
-//! The engines without their contracts, which no test needs and which would stand in each of its goals.
+//! The engines without their contracts, which no test needs and which would stand in each of its
+//! goals.
 
 use dbm_file::{Db, Fault};
 use dbm_tool::{EngineFault, dump_engine, list_engine, load_engine, script_engine, tool};

@@ -24,8 +24,8 @@ fn is_so(alloc: Global, done: Result<(), EngineFault>, wanted: &str) -> Result<b
     Ok(format!(in alloc; "{done:?}")?.as_str() == wanted)
 }
 
-/// Whether a row ends so. It has a limit, a text that is loaded into a new database of that limit, the answer, and what the keys `a`
-/// and `b` then have.
+/// Whether a row ends so. It has a limit, a text that is loaded into a new database of that limit,
+/// the answer, and what the keys `a` and `b` then have.
 fn ends_so(alloc: Global, line: &str) -> Result<bool, Fail> {
     let (limit, texts) = row_of(line)?;
     let (text, behind) = first_text(texts);

@@ -1,4 +1,5 @@
-//! Rows of a table: texts in brackets, in which `/` stands for the end of a line, with a word before them or behind.
+//! Rows of a table: texts in brackets, in which `/` stands for the end of a line, with a word
+//! before them or behind.
 
 use std::alloc::{AllocError, Global};
 use std::test::Fail;

@@ -102,7 +102,8 @@ fn has_keys(db: &mut Db<MemDev>, a: bool, b: bool) -> Result<bool, Fault> {
     Ok(db.fetch(b"a")?.is_some() == a && db.fetch(b"b")?.is_some() == b)
 }
 
-/// How many bytes answer the lines that end in the first so many bytes of the script, which are its first two at most.
+/// How many bytes answer the lines that end in the first so many bytes of the script, which are its
+/// first two at most.
 fn bytes_answered(good: usize) -> usize {
     let mut bytes = 0;
     for byte in TEXT.iter().take(good) {
@@ -113,7 +114,8 @@ fn bytes_answered(good: usize) -> usize {
     bytes
 }
 
-/// Whether a read that fails after so many bytes is told, the calls of the whole lines stand, and they alone are answered.
+/// Whether a read that fails after so many bytes is told, the calls of the whole lines stand, and
+/// they alone are answered.
 fn is_read_until(alloc: Global, good: usize) -> Result<bool, Fail> {
     let mut db = new_db(alloc, 100)?;
     let mut input = BufReader::new(alloc, FailingReader { rest: TEXT, good })?;
@@ -135,7 +137,8 @@ fn tells_a_failed_read(rt: HostRuntime) -> Result<(), Fail> {
     Ok(())
 }
 
-/// Whether a write that fails after so many bytes is told, and the call whose reply was cut short stands too.
+/// Whether a write that fails after so many bytes is told, and the call whose reply was cut short
+/// stands too.
 fn is_written_until(alloc: Global, room: usize) -> Result<bool, Fail> {
     let mut db = new_db(alloc, 100)?;
     let mut reader = TEXT;

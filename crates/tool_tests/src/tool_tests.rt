@@ -1,4 +1,5 @@
-//! The program over its words on real files, in the folder that the tests run in: what it prints, and its status.
+//! The program over its words on real files, in the folder that the tests run in: what it prints,
+//! and its status.
 
 use crate::engines::ran;
 use crate::rows::{first_text, lines_of, row_of};
@@ -7,8 +8,8 @@ use std::fs::{self, File};
 use std::rt::Files;
 use std::test::Fail;
 
-/// Whether the program ends as a row says. The row has the command line, then in brackets the input, the output, the faults and the
-/// status.
+/// Whether the program ends as a row says. The row has the command line, then in brackets the
+/// input, the output, the faults and the status.
 fn is_right<T: Files<File = File>>(rt: &T, alloc: Global, line: &str) -> Result<bool, Fail> {
     let (words, texts) = row_of(line)?;
     let (input, behind) = first_text(texts);
@@ -22,7 +23,8 @@ fn is_right<T: Files<File = File>>(rt: &T, alloc: Global, line: &str) -> Result<
     )
 }
 
-/// Makes the runs of a table one after another, up to the first that prints something else, whose row it gives.
+/// Makes the runs of a table one after another, up to the first that prints something else, whose
+/// row it gives.
 fn first_wrong<'a, T: Files<File = File>>(
     rt: &T,
     alloc: Global,

@@ -36,7 +36,8 @@ fn words_of(alloc: Global, line: &str) -> Result<Vec<&str>, AllocError> {
     Ok(words)
 }
 
-/// Whether the words in front of a row's arrow tell what stands behind it. A mistake tells more than the word that it names.
+/// Whether the words in front of a row's arrow tell what stands behind it. A mistake tells more
+/// than the word that it names.
 fn tells_so(alloc: Global, row: &str) -> Result<bool, Fail> {
     let (line, wanted) = row.split_once("->").ok_or("an arrow")?;
     let text = told(alloc, &words_of(alloc, line)?)?;

@@ -17,18 +17,30 @@ use sect_dev::SectorDev;
 use std::alloc::Global;
 
 impl<D: SectorDev> Pager<D> {
-    /// Makes a file of these pages, from page 1 on, and opens it for writing. The only fault is Device; what a
-    /// failed call leaves of a blank device is blank or the whole file.
+    /// Makes a file of these pages, from page 1 on, and opens it for writing. The only fault is
+    /// Device; what a failed call leaves of a blank device is blank or the whole file.
     pub fn format(alloc: Global, dev: D, pages: &[Page]) -> Result<Pager<D>, (D, OpenFault)>
         requires least { 3 ≤ length pages.now }
         requires room { length pages.now < D.sectors dev / 4 }
 
-        // Where every image was blank at the start, every image of every moment since is blank or the whole file.
-        ensures any_moment { D.honest dev → ((image : Image) → IsImageOf (D.candidate dev) image → settled (D.sectors dev / 4) image ≡ blank) → LeavesOnly D.moment D.left_since dev (device_after result)
+        // Where every image was blank at the start, every image of every moment since is blank or
+        // the whole file.
+        ensures any_moment { D.honest dev
+            → ((image : Image) → IsImageOf (D.candidate dev) image
+            → settled (D.sectors dev / 4) image ≡ blank)
+            → LeavesOnly D.moment D.left_since dev (device_after result)
             (λ image. IsBlankOr (bytes_of pages.now) (settled (D.sectors dev / 4) image)) }
         ensures state { IfOk result (λ pager. ⟦<Pager<D> as PageStore>⟧.state pager
-            ≡ record { staged = []; end = length pages.now + 1; capacity = D.sectors dev / 4; usable = true; writable = true }) }
-        ensures committed { D.honest dev → IfOk result (λ pager. ⟦<Pager<D> as PageStore>⟧.committed pager ≡ bytes_of pages.now) }
+            ≡ record {
+              staged = [];
+              end = length pages.now + 1;
+              capacity = D.sectors dev / 4;
+              usable = true;
+              writable = true;
+            }) }
+        ensures committed { D.honest dev
+            → IfOk result (λ pager. ⟦<Pager<D> as PageStore>⟧.committed pager
+            ≡ bytes_of pages.now) }
         ensures honesty { D.honest (device_after result) ↔ D.honest dev }
         ensures cause { HasOpenCause true (D.faults dev) (D.faults (device_after result)) result }
         ensures only { IfErr result (λ e. e.1 ≡ OpenFault.Device) }
@@ -48,31 +60,49 @@ impl<D: SectorDev> Pager<D> {
         })
     }
 
-    /// Opens a device that a stop may have left. For writing, an armed commit is ended first, and no memory is
-    /// taken. For reading alone, nothing is written and nothing is synced: the redo images of an armed commit are
-    /// read into memory, and stand in the place of the pages that they name.
+    /// Opens a device that a stop may have left. For writing, an armed commit is ended first, and
+    /// no memory is taken. For reading alone, nothing is written and nothing is synced: the redo
+    /// images of an armed commit are read into memory, and stand in the place of the pages that
+    /// they name.
     pub fn open(alloc: Global, dev: D, writable: bool) -> Result<Pager<D>, (D, OpenFault)>
         requires { 16 ≤ D.sectors dev }
 
         // Every image of every moment settles as one does that the device had at the start.
-        ensures any_moment { D.honest dev → LeavesOnly D.moment D.left_since dev (device_after result) (SettlesAsBefore (D.sectors dev / 4) (D.candidate dev)) }
+        ensures any_moment { D.honest dev
+            → LeavesOnly D.moment D.left_since dev (device_after result)
+            (SettlesAsBefore (D.sectors dev / 4) (D.candidate dev)) }
 
         // The committed pages are those that an image settled to at the start.
-        ensures committed { D.honest dev → IfOk result (λ pager. SettlesTo (D.sectors dev / 4) (D.candidate dev) (file_of (⟦<Pager<D> as PageStore>⟧.committed pager))) }
-        ensures state { IfOk result (λ pager. IsFresh (D.sectors dev / 4) writable (⟦<Pager<D> as PageStore>⟧.state pager)) }
+        ensures committed { D.honest dev
+            → IfOk result (λ pager. SettlesTo (D.sectors dev / 4) (D.candidate dev)
+            (file_of (⟦<Pager<D> as PageStore>⟧.committed pager))) }
+        ensures state { IfOk result (λ pager.
+            IsFresh (D.sectors dev / 4) writable (⟦<Pager<D> as PageStore>⟧.state pager)) }
 
         // For writing, every fault but Device is that of the one image that is left.
-        ensures refused { writable ≡ true → D.honest dev → IfErr result (λ e. e.1 ≢ OpenFault.Device → IsRefused (D.sectors dev / 4) (D.candidate dev) (D.candidate e.0) (D.seen e.0) e.1) }
+        ensures refused { writable ≡ true → D.honest dev
+            → IfErr result (λ e. e.1 ≢ OpenFault.Device
+            → IsRefused (D.sectors dev / 4) (D.candidate dev) (D.candidate e.0)
+            (D.seen e.0) e.1) }
 
-        // For reading alone, the device is left as it is, and the answer is that of what a read gives.
-        ensures only_reads { writable ≡ false → D.honest dev → OnlyReads D.SectorDev dev (device_after result) }
-        ensures committed_as_seen { writable ≡ false → D.honest dev → IfOk result (λ pager. settled (D.sectors dev / 4) (D.seen dev) ≡ file_of (⟦<Pager<D> as PageStore>⟧.committed pager)) }
-        ensures refused_as_seen { writable ≡ false → D.honest dev → IfErr result (λ e. e.1 ≢ OpenFault.Device → e.1 ≢ OpenFault.Memory → refusal_of (D.sectors dev / 4) (D.seen dev) ≡ Some e.1) }
+        // For reading alone, the device is left as it is, and the answer is that of what a read
+        // gives.
+        ensures only_reads { writable ≡ false → D.honest dev
+            → OnlyReads D.SectorDev dev (device_after result) }
+        ensures committed_as_seen { writable ≡ false → D.honest dev
+            → IfOk result (λ pager. settled (D.sectors dev / 4) (D.seen dev)
+            ≡ file_of (⟦<Pager<D> as PageStore>⟧.committed pager)) }
+        ensures refused_as_seen { writable ≡ false → D.honest dev
+            → IfErr result (λ e. e.1 ≢ OpenFault.Device → e.1 ≢ OpenFault.Memory
+            → refusal_of (D.sectors dev / 4) (D.seen dev) ≡ Some e.1) }
 
         // Memory is taken for redo images alone, and never for writing.
-        ensures memory { D.honest dev → IfErr result (λ e. e.1 ≡ OpenFault.Memory → SaysArmed (D.sectors dev / 4) (D.seen dev)) }
+        ensures memory { D.honest dev
+            → IfErr result (λ e. e.1 ≡ OpenFault.Memory
+            → SaysArmed (D.sectors dev / 4) (D.seen dev)) }
         ensures honesty { D.honest (device_after result) ↔ D.honest dev }
-        ensures cause { HasOpenCause writable (D.faults dev) (D.faults (device_after result)) result }
+        ensures cause { HasOpenCause writable (D.faults dev)
+            (D.faults (device_after result)) result }
         ensures size { D.sectors (device_after result) ≡ D.sectors dev }
     {
         let mut dev = dev;

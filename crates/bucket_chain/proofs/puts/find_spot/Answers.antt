@@ -31,7 +31,9 @@ returns-in_err-next g c =
           let walk = c.loop-step.invariant.walked honest in
           let here = walk_is_here _ _ _ _ _ _ _ chain is walk in
           let some = some_page _ _ _ _ _ _ _ chain is walk in
-          c.in_err-next.ensures.whole (still_honest g.S.PageStore _ _ reads honest) _ _ some (link_after g.S.PageStore _ _ reads honest _ _ _ _ here.link) (came _ _ exit Damaged damaged);
+          c.in_err-next.ensures.whole (still_honest g.S.PageStore _ _ reads honest) _ _ some
+          (link_after g.S.PageStore _ _ reads honest _ _ _ _ here.link)
+          (came _ _ exit Damaged damaged);
     }
 
 -- the page fits it, or is the last
@@ -69,11 +71,16 @@ returns-then-has_room g c =
 pub loop-step-preserved : goal.loop-step-preserved
 loop-step-preserved g c = record {
   kinds = inr refl;
-  reads = reads_then g.S.PageStore _ _ _ (g.met.S.PageStore.counts_now c.loop-step.store) c.loop-step.invariant.reads c.in_ok-next.ensures.reads;
+  reads = reads_then g.S.PageStore _ _ _ (g.met.S.PageStore.counts_now c.loop-step.store)
+      c.loop-step.invariant.reads c.in_ok-next.ensures.reads;
   walked = λ honest.
-      let link = link_before g.S.PageStore _ _ c.loop-step.invariant.reads honest _ _ _ _ c.in_ok-next.ensures.says in
-      walk_goes_on _ _ _ _ _ _ (c.loop-step.invariant.walked honest) _ _ link c.in_ok-next.ensures.known.0 c.if-next-eq0.false
-      (is_full (c.args.key.now, c.args.content.now) c.loop-step.at c.read_link.new.page.bytes c.fits-has_room.result c.in_ok-next.ensures.link.page.sound.fits c.fits-has_room.ensures c.if-has_room.false);
+      let link = link_before g.S.PageStore _ _ c.loop-step.invariant.reads honest _ _ _ _
+      c.in_ok-next.ensures.says in
+      walk_goes_on _ _ _ _ _ _ (c.loop-step.invariant.walked honest) _ _ link
+      c.in_ok-next.ensures.known.0 c.if-next-eq0.false
+      (is_full (c.args.key.now, c.args.content.now) c.loop-step.at c.read_link.new.page.bytes
+      c.fits-has_room.result c.in_ok-next.ensures.link.page.sound.fits
+      c.fits-has_room.ensures c.if-has_room.false);
 }
 
 -- more pages than there may be

@@ -30,18 +30,38 @@ pub stage_page-requires : goal.stage_page-requires
 stage_page-requires g c =
     let page = c.in_ok-spot.ensures.page in
     let own = (header_of _ _ _ _ _ page.link).own in
-    omega (arith, own_same c.add.new.page.bytes, c.add.ensures.header.own, own, c.in_ok-spot.ensures.known.0)
+    omega (
+      arith,
+      own_same c.add.new.page.bytes,
+      c.add.ensures.header.own,
+      own,
+      c.in_ok-spot.ensures.known.0,
+    )
 
 pub stage_page-requires-2 : goal.stage_page-requires-2
 stage_page-requires-2 g c =
-    let own : (bucket_of c.empty-last.result.bytes).own ≡ c.in_ok-taken.taken = ap (λ (b : Bucket). b.own) c.empty-last.ensures.says in
-    omega (arith, own_same c.add-2.new.page.bytes, c.add-2.ensures.header.own, own_is c.empty-last.result.bytes, own, c.in_ok-taken.ensures.number)
+    let own : (bucket_of c.empty-last.result.bytes).own ≡ c.in_ok-taken.taken =
+    ap (λ (b : Bucket). b.own) c.empty-last.ensures.says in
+    omega (
+      arith,
+      own_same c.add-2.new.page.bytes,
+      c.add-2.ensures.header.own,
+      own_is c.empty-last.result.bytes,
+      own,
+      c.in_ok-taken.ensures.number,
+    )
 
 pub stage_page-requires-3 : goal.stage_page-requires-3
 stage_page-requires-3 g c =
     let page = c.in_ok-spot.ensures.page in
     let own = (header_of _ _ _ _ _ page.link).own in
-    omega (arith, own_same c.set_next.new.page.bytes, c.set_next.ensures.own, own, c.in_ok-spot.ensures.known.0)
+    omega (
+      arith,
+      own_same c.set_next.new.page.bytes,
+      c.set_next.ensures.own,
+      own,
+      c.in_ok-spot.ensures.known.0,
+    )
 
 -- no page is told
 pub returns-in_err-spot : goal.returns-in_err-spot
@@ -61,23 +81,35 @@ returns-in_err-spot g c =
       may_end = λ may. IfOk-from_err _ _ result.ensures.0;
       exact = λ honest chain s placed none. IfOk-from_err _ _ result.ensures.0;
       whole = λ honest chain s placed none damaged.
-          told.whole honest chain (subst (λ (n : ℕ). IsChainAt (body_at st c.args.store.now) n c.args.head chain) (sym (ap (λ (f : FreeState). f.file_end) placed.free_is.kept)) placed.chain_is) (came _ _ exit Damaged damaged);
-      room = λ honest chain s placed fits none. absurd (walk_has_room _ _ told.answer (came _ _ exit NoRoom none));
+          told.whole honest chain (subst
+          (λ (n : ℕ). IsChainAt (body_at st c.args.store.now) n c.args.head chain)
+          (sym (ap (λ (f : FreeState). f.file_end) placed.free_is.kept)) placed.chain_is)
+          (came _ _ exit Damaged damaged);
+      room = λ honest chain s placed fits none.
+          absurd (walk_has_room _ _ told.answer (came _ _ exit NoRoom none));
     }
 
 -- the page that the pair fits says it too
-here_says : (g : Over) (c : goal.After-stage_page g) (honest : g.S.PageStore.honest c.args.store.now) (found : IsSpot (body_at g.S.PageStore c.args.store.now) c.args.head (c.args.key.now, c.args.content.now) c.find_spot.new.page.bytes c.in_ok-spot.spot)
-    → OnOk c.stage_page.result (IsRewrittenAlone (body_at g.S.PageStore c.args.store.now) (body_at g.S.PageStore c.stage_page.new.store) c.in_ok-spot.spot.page
-    (link_body (kind_behind found.before) found.next (page_pairs c.find_spot.new.page.bytes ++ (c.args.key.now, c.args.content.now) ∷ [])))
+here_says : (g : Over) (c : goal.After-stage_page g)
+    (honest : g.S.PageStore.honest c.args.store.now)
+    (found : IsSpot (body_at g.S.PageStore c.args.store.now) c.args.head
+    (c.args.key.now, c.args.content.now) c.find_spot.new.page.bytes c.in_ok-spot.spot)
+    → OnOk c.stage_page.result (IsRewrittenAlone (body_at g.S.PageStore c.args.store.now)
+    (body_at g.S.PageStore c.stage_page.new.store) c.in_ok-spot.spot.page
+    (link_body (kind_behind found.before) found.next
+    (page_pairs c.find_spot.new.page.bytes ++ (c.args.key.now, c.args.content.now) ∷ [])))
 here_says g c honest found =
     let bytes = c.add.new.page.bytes in
     let page = c.in_ok-spot.spot.page in
     let reads = c.find_spot.ensures.reads in
     let h1 = reads.stages_only.honesty.1 honest in
     let number = own_same bytes ∙ c.add.ensures.header.own ∙ (header_of _ _ _ _ _ found.link).own in
-    let body = added_body c.find_spot.new.page.bytes bytes page _ _ (c.args.key.now, c.args.content.now) found.link (c.in_ok-spot.ensures.page.room c.if-spot.true) c.add.ensures.spelled in
+    let body = added_body c.find_spot.new.page.bytes bytes page _ _
+    (c.args.key.now, c.args.content.now) found.link
+    (c.in_ok-spot.ensures.page.room c.if-spot.true) c.add.ensures.spelled in
     on_ok c.stage_page.result (c.stage_page.ensures.says h1) (λ says.
-    rewritten_alone g.S.PageStore c.args.store.now c.find_spot.new.store c.stage_page.new.store reads honest page bytes _ number body says (c.stage_page.ensures.others h1))
+    rewritten_alone g.S.PageStore c.args.store.now c.find_spot.new.store c.stage_page.new.store
+    reads honest page bytes _ number body says (c.stage_page.ensures.others h1))
 
 -- the pair fits a page
 pub returns-then-spot : goal.returns-then-spot
@@ -86,26 +118,42 @@ returns-then-spot g c =
     let one = c.in_ok-spot.ensures.reads in
     let told = c.stage_page.ensures in
     record {
-      stages = stages_then st _ _ _ (g.met.S.PageStore.counts_now c.find_spot.new.store) one.stages_only told.stages;
+      stages = stages_then st _ _ _ (g.met.S.PageStore.counts_now c.find_spot.new.store)
+          one.stages_only told.stages;
       few = few_more _ _ (few_then _ _ _ 1 one.same told.few);
       cause = cause_stage_last _ _ _ _ _ _ _ one.stages_only.later told.faults told.answer;
-      answer = stage_puts_last _ _ _ _ (ap (λ (s : StoreState). s.usable) one.same) _ _ (few_same _ _ 1 one.same) told.answer;
-      walked = λ honest. on_ok c.stage_page.result (c.stage_page.ensures.says (c.find_spot.ensures.reads.stages_only.honesty.1 honest)) (λ _. room_walk _ _ _ _ _ (c.in_ok-spot.ensures.found honest));
+      answer = stage_puts_last _ _ _ _ (ap (λ (s : StoreState). s.usable) one.same) _ _
+          (few_same _ _ 1 one.same) told.answer;
+      walked = λ honest. on_ok c.stage_page.result
+          (c.stage_page.ensures.says (c.find_spot.ensures.reads.stages_only.honesty.1 honest))
+          (λ _. room_walk _ _ _ _ _ (c.in_ok-spot.ensures.found honest));
       added = λ honest.
           let found = c.in_ok-spot.ensures.found honest in
           on_ok c.stage_page.result (here_says g c honest found) (λ said.
-          added_to _ _ (MayEnd (st.state c.args.store.now) c.args.space.now.file_end) c.args.space.now c.args.space.now c.args.head (c.args.key.now, c.args.content.now) _ _ found c.if-spot.true refl said);
+          added_to _ _ (MayEnd (st.state c.args.store.now) c.args.space.now.file_end)
+          c.args.space.now c.args.space.now c.args.head (c.args.key.now, c.args.content.now) _ _
+          found c.if-spot.true refl said);
       ends = λ e. e;
       may_end = λ may.
           let own = (header_of _ _ _ _ _ c.in_ok-spot.ensures.page.link).own in
           let below = known_below _ _ _ may c.in_ok-spot.ensures.known.1 in
-          let still = subst (λ (st : StoreState). MayEnd st c.args.space.now.file_end) (sym c.find_spot.ensures.reads.same) may in
-          if_ok c.stage_page.result (c.stage_page.ensures.may_end c.args.space.now.file_end (omega (arith, own_same c.add.new.page.bytes, c.add.ensures.header.own, own, below)) still);
+          let still = subst (λ (st : StoreState). MayEnd st c.args.space.now.file_end)
+          (sym c.find_spot.ensures.reads.same) may in
+          if_ok c.stage_page.result (c.stage_page.ensures.may_end c.args.space.now.file_end
+          (omega (
+            arith,
+            own_same c.add.new.page.bytes,
+            c.add.ensures.header.own,
+            own,
+            below,
+          )) still);
       exact = λ honest chain s placed none.
           let found = c.in_ok-spot.ensures.found honest in
           on_ok c.stage_page.result (here_says g c honest found) (λ said.
-          put_here _ c.args.space.now c.args.head (c.args.key.now, c.args.content.now) chain s _ _ placed found _ c.if-spot.true said.says said.others);
-      whole = λ honest chain s placed none damaged. absurd (last_not_damaged _ _ _ _ told.answer damaged);
+          put_here _ c.args.space.now c.args.head (c.args.key.now, c.args.content.now) chain s _ _
+          placed found _ c.if-spot.true said.says said.others);
+      whole = λ honest chain s placed none damaged.
+          absurd (last_not_damaged _ _ _ _ told.answer damaged);
       room = λ honest chain s placed fits none. absurd (last_has_room _ _ _ _ told.answer none);
     }
 
@@ -118,10 +166,12 @@ returns-in_err-taken g c =
     let exit = exit_is result.result c.in_err-taken.field-0.0 result.ensures.1 in
     let one = c.in_ok-spot.ensures.reads in
     record {
-      stages = stages_then st _ _ _ (g.met.S.PageStore.counts_now c.find_spot.new.store) one.stages_only told.reads.stages_only;
+      stages = stages_then st _ _ _ (g.met.S.PageStore.counts_now c.find_spot.new.store)
+          one.stages_only told.reads.stages_only;
       few = few_then _ _ _ 2 one.same (few_same _ _ 2 told.reads.same);
       cause = cause_then _ _ exit _ _ _ one.stages_only.later told.cause;
-      answer = take_puts _ _ (ap (λ (s : StoreState). s.usable) one.same) _ _ exit _ _ (ap (λ (s : StoreState). s.capacity) one.same) told.answer;
+      answer = take_puts _ _ (ap (λ (s : StoreState). s.usable) one.same) _ _ exit _ _
+          (ap (λ (s : StoreState). s.capacity) one.same) told.answer;
       walked = λ honest. IfOk-from_err _ _ result.ensures.0;
       added = λ honest. IfOk-from_err _ _ result.ensures.0;
       ends = told.ends;
@@ -129,10 +179,14 @@ returns-in_err-taken g c =
       exact = λ honest chain s placed none. IfOk-from_err _ _ result.ensures.0;
       whole = λ honest chain s placed none damaged.
           let same = same_said g.S.PageStore _ _ c.find_spot.ensures.reads honest in
-          c.in_err-taken.ensures.whole (c.find_spot.ensures.reads.stages_only.honesty.1 honest) s (subst (λ (at : ℕ → Body). IsFreeList at c.args.space.now s) (sym same) placed.free_is) (apart_alone (numbers chain) s placed.apart) (came _ _ exit Damaged damaged);
+          c.in_err-taken.ensures.whole (c.find_spot.ensures.reads.stages_only.honesty.1 honest) s
+          (subst (λ (at : ℕ → Body). IsFreeList at c.args.space.now s) (sym same)
+          placed.free_is) (apart_alone (numbers chain) s placed.apart)
+          (came _ _ exit Damaged damaged);
       room = λ honest chain s placed fits none.
           let p : Pair = (c.args.key.now, c.args.content.now) in
-          let full = no_room (body_at g.S.PageStore c.args.store.now) c.args.space.now c.args.head p chain s _ _ placed (c.in_ok-spot.ensures.found honest) c.if-spot.false in
+          let full = no_room (body_at g.S.PageStore c.args.store.now) c.args.space.now c.args.head p
+          chain s _ _ placed (c.in_ok-spot.ensures.found honest) c.if-spot.false in
           absurd (let e = sym fits ∙ full in cc);
     }
 
@@ -148,40 +202,61 @@ returns-in_err-stage_page g c =
     let both = reads_then st _ _ _ (g.met.S.PageStore.counts_now c.find_spot.new.store) one two in
     let done = c.stage_page-2.ensures in
     record {
-      stages = stages_then st _ _ _ (g.met.S.PageStore.counts_now c.take.new.store) both.stages_only told.stages;
+      stages = stages_then st _ _ _ (g.met.S.PageStore.counts_now c.take.new.store)
+          both.stages_only told.stages;
       few = few_more _ _ (few_then _ _ _ 1 both.same told.few);
       cause = cause_stage _ _ exit _ _ _ _ _ _ both.stages_only.later told.faults told.answer;
-      answer = stage_puts _ _ (ap (λ (s : StoreState). s.usable) both.same) _ _ exit _ _ _ (few_same _ _ 1 both.same) told.answer;
+      answer = stage_puts _ _ (ap (λ (s : StoreState). s.usable) both.same) _ _ exit _ _ _
+          (few_same _ _ 1 both.same) told.answer;
       walked = λ honest. IfOk-from_err _ _ result.ensures.0;
       added = λ honest. IfOk-from_err _ _ result.ensures.0;
       ends = c.in_ok-taken.ensures.ends;
       may_end = λ may. IfOk-from_err _ _ result.ensures.0;
       exact = λ honest chain s placed none. IfOk-from_err _ _ result.ensures.0;
-      whole = λ honest chain s placed none damaged. absurd (stage_not_damaged _ _ _ _ told.answer (came _ _ exit Damaged damaged));
-      room = λ honest chain s placed fits none. absurd (stage_has_room _ _ _ _ told.answer (came _ _ exit NoRoom none));
+      whole = λ honest chain s placed none damaged.
+          absurd (stage_not_damaged _ _ _ _ told.answer (came _ _ exit Damaged damaged));
+      room = λ honest chain s placed fits none.
+          absurd (stage_has_room _ _ _ _ told.answer (came _ _ exit NoRoom none));
     }
 
 -- a page that is taken says the pair alone, and the last one names it
-both_say : (g : Over) (c : goal.After-stage_page-3 g) (honest : g.S.PageStore.honest c.args.store.now) (found : IsSpot (body_at g.S.PageStore c.args.store.now) c.args.head (c.args.key.now, c.args.content.now) c.find_spot.new.page.bytes c.in_ok-spot.spot)
-    → OnOk c.stage_page-3.result (AreRewritten (body_at g.S.PageStore c.args.store.now) (body_at g.S.PageStore c.stage_page-3.new.store) c.in_ok-taken.taken (OverflowPage 0 ((c.args.key.now, c.args.content.now) ∷ []))
-    c.in_ok-spot.spot.page (link_body (kind_behind found.before) c.in_ok-taken.taken (page_pairs c.find_spot.new.page.bytes)))
+both_say : (g : Over) (c : goal.After-stage_page-3 g)
+    (honest : g.S.PageStore.honest c.args.store.now)
+    (found : IsSpot (body_at g.S.PageStore c.args.store.now) c.args.head
+    (c.args.key.now, c.args.content.now) c.find_spot.new.page.bytes c.in_ok-spot.spot)
+    → OnOk c.stage_page-3.result (AreRewritten (body_at g.S.PageStore c.args.store.now)
+    (body_at g.S.PageStore c.stage_page-3.new.store) c.in_ok-taken.taken
+    (OverflowPage 0 ((c.args.key.now, c.args.content.now) ∷ []))
+    c.in_ok-spot.spot.page (link_body (kind_behind found.before) c.in_ok-taken.taken
+    (page_pairs c.find_spot.new.page.bytes)))
 both_say g c honest found =
     let st = g.S.PageStore in
     let new = c.in_ok-taken.taken in
     let page = c.in_ok-spot.spot.page in
     let last = c.add-2.new.page.bytes in
     let linked = c.set_next.new.page.bytes in
-    let reads = reads_then st _ _ _ (g.met.S.PageStore.counts_now c.find_spot.new.store) c.in_ok-spot.ensures.reads c.in_ok-taken.ensures.reads in
+    let reads = reads_then st _ _ _ (g.met.S.PageStore.counts_now c.find_spot.new.store)
+    c.in_ok-spot.ensures.reads c.in_ok-taken.ensures.reads in
     let h2 = reads.stages_only.honesty.1 honest in
     let h3 = c.stage_page-2.ensures.stages.honesty.1 h2 in
-    let new_own : model.own_number last ≡ new = own_same last ∙ c.add-2.ensures.header.own ∙ sym (own_is c.empty-last.result.bytes) ∙ ap (λ (b : Bucket). b.own) c.empty-last.ensures.says in
-    let page_own : model.own_number linked ≡ page = own_same linked ∙ c.set_next.ensures.own ∙ (header_of _ _ _ _ _ found.link).own in
-    let absent = c.add-2.ensures.holds (absent_none c.args.key.now c.empty-last.result.bytes new c.empty-last.ensures.says) in
-    let fresh = fresh_body c.empty-last.result.bytes last new (c.args.key.now, c.args.content.now) c.empty-last.ensures.says absent in
-    let named = linked_body c.find_spot.new.page.bytes linked page _ new found.before found.link c.set_next.ensures.page c.set_next.ensures.says in
-    let one = rewritten_alone st c.args.store.now c.take.new.store c.stage_page-2.new.store reads honest new last _ new_own fresh (c.in_ok-stage_page.ensures.says h2) (c.stage_page-2.ensures.others h2) in
+    let new_own : model.own_number last ≡ new =
+    own_same last ∙ c.add-2.ensures.header.own ∙ sym (own_is c.empty-last.result.bytes)
+    ∙ ap (λ (b : Bucket). b.own) c.empty-last.ensures.says in
+    let page_own : model.own_number linked ≡ page =
+    own_same linked ∙ c.set_next.ensures.own ∙ (header_of _ _ _ _ _ found.link).own in
+    let absent = c.add-2.ensures.holds
+    (absent_none c.args.key.now c.empty-last.result.bytes new c.empty-last.ensures.says) in
+    let fresh = fresh_body c.empty-last.result.bytes last new (c.args.key.now, c.args.content.now)
+    c.empty-last.ensures.says absent in
+    let named = linked_body c.find_spot.new.page.bytes linked page _ new found.before found.link
+    c.set_next.ensures.page c.set_next.ensures.says in
+    let one = rewritten_alone st c.args.store.now c.take.new.store c.stage_page-2.new.store reads
+    honest new last _ new_own fresh (c.in_ok-stage_page.ensures.says h2)
+    (c.stage_page-2.ensures.others h2) in
     on_ok c.stage_page-3.result (c.stage_page-3.ensures.says h3) (λ says.
-    both_rewritten _ (body_at st c.stage_page-2.new.store) _ new page _ _ one (rewritten_next st c.stage_page-2.new.store c.stage_page-3.new.store page linked _ page_own named says (c.stage_page-3.ensures.others h3)))
+    both_rewritten _ (body_at st c.stage_page-2.new.store) _ new page _ _ one
+    (rewritten_next st c.stage_page-2.new.store c.stage_page-3.new.store page linked _ page_own
+    named says (c.stage_page-3.ensures.others h3)))
 
 -- a page is taken, and the last one names it
 pub returns : goal.returns
@@ -192,39 +267,70 @@ returns g c =
     let both = reads_then st _ _ _ (g.met.S.PageStore.counts_now c.find_spot.new.store) one two in
     let staged = c.in_ok-stage_page.ensures in
     let told = c.stage_page-3.ensures in
-    let so_far = stages_then st _ _ _ (g.met.S.PageStore.counts_now c.take.new.store) both.stages_only staged.stages in
+    let so_far = stages_then st _ _ _ (g.met.S.PageStore.counts_now c.take.new.store)
+    both.stages_only staged.stages in
     record {
-      stages = stages_then st _ _ _ (g.met.S.PageStore.counts_now c.stage_page-2.new.store) so_far told.stages;
+      stages = stages_then st _ _ _ (g.met.S.PageStore.counts_now c.stage_page-2.new.store)
+          so_far told.stages;
       few = few_both _ _ _ (few_then _ _ _ 1 both.same staged.few) told.few;
       cause = cause_stage_last _ _ _ _ _ _ _ so_far.later told.faults told.answer;
-      answer = stage_puts_last _ _ _ _ (ap (λ (s : StoreState). s.usable) so_far.state) _ _ (few_then _ _ _ 1 both.same staged.few) told.answer;
-      walked = λ honest. if_ok c.stage_page-3.result (room_walk _ _ _ _ _ (c.in_ok-spot.ensures.found honest));
+      answer = stage_puts_last _ _ _ _ (ap (λ (s : StoreState). s.usable) so_far.state) _ _
+          (few_then _ _ _ 1 both.same staged.few) told.answer;
+      walked = λ honest. if_ok c.stage_page-3.result
+          (room_walk _ _ _ _ _ (c.in_ok-spot.ensures.found honest));
       added = λ honest.
           let found = c.in_ok-spot.ensures.found honest in
           let same = same_said st _ _ one honest in
-          let is_taken = subst (λ (f : ℕ → Body). IsTaken f c.args.space.now c.in_ok-taken.taken c.take.new.space) same (c.in_ok-taken.ensures.taken (one.stages_only.honesty.1 honest)) in
+          let is_taken = subst (λ (f : ℕ → Body).
+          IsTaken f c.args.space.now c.in_ok-taken.taken c.take.new.space) same
+          (c.in_ok-taken.ensures.taken (one.stages_only.honesty.1 honest)) in
           on_ok c.stage_page-3.result (both_say g c honest found) (λ said.
-          added_behind _ _ (MayEnd (st.state c.args.store.now) c.args.space.now.file_end) c.args.space.now c.take.new.space c.args.head (c.args.key.now, c.args.content.now) _ _ found c.if-spot.false _ is_taken
-          (says_nothing st c.args.store.now c.args.space.now.file_end (g.met.S.PageStore.ends c.args.store.now) (g.met.S.PageStore.in_range c.args.store.now).0) said);
+          added_behind _ _ (MayEnd (st.state c.args.store.now) c.args.space.now.file_end)
+          c.args.space.now c.take.new.space c.args.head (c.args.key.now, c.args.content.now) _ _
+          found c.if-spot.false _ is_taken
+          (says_nothing st c.args.store.now c.args.space.now.file_end
+          (g.met.S.PageStore.ends c.args.store.now)
+          (g.met.S.PageStore.in_range c.args.store.now).0) said);
       ends = c.in_ok-taken.ensures.ends;
       may_end = λ may.
           let own = (header_of _ _ _ _ _ c.in_ok-spot.ensures.page.link).own in
-          let new_own : own_number c.add-2.new.page.bytes ≡ c.in_ok-taken.taken = c.add-2.ensures.header.own ∙ sym (own_is c.empty-last.result.bytes) ∙ ap (λ (b : Bucket). b.own) c.empty-last.ensures.says in
-          let found = subst (λ (st : StoreState). MayEnd st c.args.space.now.file_end) (sym c.find_spot.ensures.reads.same) may in
+          let new_own : own_number c.add-2.new.page.bytes ≡ c.in_ok-taken.taken =
+          c.add-2.ensures.header.own ∙ sym (own_is c.empty-last.result.bytes)
+          ∙ ap (λ (b : Bucket). b.own) c.empty-last.ensures.says in
+          let found = subst (λ (st : StoreState). MayEnd st c.args.space.now.file_end)
+          (sym c.find_spot.ensures.reads.same) may in
           let with_new = c.in_ok-taken.ensures.may_end found in
           let end = c.take.new.space.file_end in
-          let staged = c.in_ok-stage_page.ensures.may_end_with end (with_own _ _ _ _ _ c.take.ensures.reads.same (sym (own_same c.add-2.new.page.bytes ∙ new_own)) with_new) in
-          let known = c.stage_page-2.ensures.known c.in_ok-spot.spot.page (known_same _ _ _ (c.take.ensures.reads.same ∙ c.find_spot.ensures.reads.same) c.in_ok-spot.ensures.known.1) in
-          if_ok c.stage_page-3.result (c.stage_page-3.ensures.may_end end (omega (arith, own_same c.set_next.new.page.bytes, c.set_next.ensures.own, own, known_below _ _ _ staged known)) staged);
+          let staged = c.in_ok-stage_page.ensures.may_end_with end
+          (with_own _ _ _ _ _ c.take.ensures.reads.same
+          (sym (own_same c.add-2.new.page.bytes ∙ new_own)) with_new) in
+          let known = c.stage_page-2.ensures.known c.in_ok-spot.spot.page
+          (known_same _ _ _ (c.take.ensures.reads.same ∙ c.find_spot.ensures.reads.same)
+          c.in_ok-spot.ensures.known.1) in
+          if_ok c.stage_page-3.result (c.stage_page-3.ensures.may_end end
+          (omega (
+            arith,
+            own_same c.set_next.new.page.bytes,
+            c.set_next.ensures.own,
+            own,
+            known_below _ _ _ staged known,
+          )) staged);
       exact = λ honest chain s placed none.
           let p : Pair = (c.args.key.now, c.args.content.now) in
           let at = body_at st c.args.store.now in
           let found = c.in_ok-spot.ensures.found honest in
           let same = same_said st _ _ one honest in
-          let taken = c.in_ok-taken.ensures.exact (one.stages_only.honesty.1 honest) s (subst (λ (f : ℕ → Body). IsFreeList f c.args.space.now s) (sym same) placed.free_is) (apart_alone (numbers chain) s placed.apart) in
-          let apart : c.in_ok-spot.spot.page ≡ c.in_ok-taken.taken → ⊥ = λ e. new_apart at c.args.space.now c.args.head p chain s _ _ placed found (sym (e ∙ taken.0)) in
+          let taken = c.in_ok-taken.ensures.exact (one.stages_only.honesty.1 honest) s
+          (subst (λ (f : ℕ → Body). IsFreeList f c.args.space.now s) (sym same) placed.free_is)
+          (apart_alone (numbers chain) s placed.apart) in
+          let apart : c.in_ok-spot.spot.page ≡ c.in_ok-taken.taken → ⊥ = λ e.
+          new_apart at c.args.space.now c.args.head p chain s _ _ placed found
+          (sym (e ∙ taken.0)) in
           on_ok c.stage_page-3.result (both_say g c honest found) (λ said.
-          put_last at c.args.space.now c.args.head p chain s _ c.in_ok-spot.spot placed found _ c.in_ok-taken.taken c.take.new.space c.if-spot.false taken said.second (said.first apart) said.others);
-      whole = λ honest chain s placed none damaged. absurd (last_not_damaged _ _ _ _ told.answer damaged);
+          put_last at c.args.space.now c.args.head p chain s _ c.in_ok-spot.spot placed found _
+          c.in_ok-taken.taken c.take.new.space c.if-spot.false taken said.second
+          (said.first apart) said.others);
+      whole = λ honest chain s placed none damaged.
+          absurd (last_not_damaged _ _ _ _ told.answer damaged);
       room = λ honest chain s placed fits none. absurd (last_has_room _ _ _ _ told.answer none);
     }

@@ -44,7 +44,9 @@ returns-in_err-next g c =
           let walk = (c.loop-step.invariant.walked honest).walk in
           let here = walk_is_here _ _ _ _ _ _ _ chain is walk in
           let some = some_page _ _ _ _ _ _ _ chain is walk in
-          c.in_err-next.ensures.whole (still_honest g.S.PageStore _ _ reads honest) _ _ some (link_after g.S.PageStore _ _ reads honest _ _ _ _ here.link) (came _ _ exit Damaged damaged);
+          c.in_err-next.ensures.whole (still_honest g.S.PageStore _ _ reads honest) _ _ some
+          (link_after g.S.PageStore _ _ reads honest _ _ _ _ here.link)
+          (came _ _ exit Damaged damaged);
     }
 
 -- the page has the key
@@ -104,10 +106,14 @@ pub loop-step-preserved : goal.loop-step-preserved
 loop-step-preserved g c = record {
   kinds = inr refl;
   prior_kinds = c.loop-step.invariant.kinds;
-  reads = reads_then g.S.PageStore _ _ _ (g.met.S.PageStore.counts_now c.loop-step.store) c.loop-step.invariant.reads c.in_ok-next.ensures.reads;
+  reads = reads_then g.S.PageStore _ _ _ (g.met.S.PageStore.counts_now c.loop-step.store)
+      c.loop-step.invariant.reads c.in_ok-next.ensures.reads;
   walked = λ honest.
-      let link = link_before g.S.PageStore _ _ c.loop-step.invariant.reads honest _ _ _ _ c.in_ok-next.ensures.says in
-      track_goes_on _ _ _ _ _ _ _ _ (c.loop-step.invariant.walked honest) _ _ link c.in_ok-next.ensures.known.0 c.if-next-eq0.false (absent_times _ _ c.in_default.ensures.none);
+      let link = link_before g.S.PageStore _ _ c.loop-step.invariant.reads honest _ _ _ _
+      c.in_ok-next.ensures.says in
+      track_goes_on _ _ _ _ _ _ _ _ (c.loop-step.invariant.walked honest) _ _ link
+      c.in_ok-next.ensures.known.0 c.if-next-eq0.false
+      (absent_times _ _ c.in_default.ensures.none);
 }
 
 -- more pages than there may be

@@ -8,5 +8,7 @@ invariant-loop-step g l = record {
   kinds : IsLinkKind l.kind;
   prior_kinds : IsLinkKind l.prior_kind;
   reads : ReadsOnly g.S.PageStore l.fn.store l.store;
-  walked : g.S.PageStore.honest l.fn.store → IsTracked (body_at g.S.PageStore l.fn.store) l.fn.head l.key l.prior l.prior_kind l.at l.kind l._step;
+  walked : g.S.PageStore.honest l.fn.store
+      → IsTracked (body_at g.S.PageStore l.fn.store) l.fn.head l.key l.prior l.prior_kind l.at
+      l.kind l._step;
 }

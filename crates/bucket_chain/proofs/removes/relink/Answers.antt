@@ -23,11 +23,18 @@ use Rattle.bucket_chain.proofs.removes.relink.Given.{Over}
 use Rattle.bucket_chain.proofs.removes.relink.Goals as goal
 
 pub stage_page-requires : goal.stage_page-requires
-stage_page-requires g c = omega (arith, own_same c.set_next.new.page.bytes, c.set_next.ensures.own, (header_of _ _ _ _ _ c.in_ok-read_link.ensures.link).own, c.in_ok-read_link.ensures.known.0)
+stage_page-requires g c = omega (
+  arith,
+  own_same c.set_next.new.page.bytes,
+  c.set_next.ensures.own,
+  (header_of _ _ _ _ _ c.in_ok-read_link.ensures.link).own,
+  c.in_ok-read_link.ensures.known.0,
+)
 
 -- the page that is staged is page n
 number : (g : Over) (c : goal.After-stage_page g) → own_number c.set_next.new.page.bytes ≡ c.args.n
-number g c = own_same c.set_next.new.page.bytes ∙ c.set_next.ensures.own ∙ (header_of _ _ _ _ _ c.in_ok-read_link.ensures.link).own
+number g c = own_same c.set_next.new.page.bytes ∙ c.set_next.ensures.own
+    ∙ (header_of _ _ _ _ _ c.in_ok-read_link.ensures.link).own
 
 -- the page is not read
 pub returns-in_err-read_link : goal.returns-in_err-read_link
@@ -80,11 +87,13 @@ returns g c =
           subst (λ (ps : List Pair). SaysLink at' c.args.n c.args.kind c.args.next ps) same
           (says_link at' bytes c.args.n c.args.kind c.args.next _ (here says) c.requires linked));
       relinked = λ honest.
-          on_ok c.stage_page.result (told.says (still_honest st _ _ read.reads honest)) (λ says. record {
+          on_ok c.stage_page.result (told.says (still_honest st _ _ read.reads honest))
+          (λ says. record {
             old_next = c.in_ok-read_link.field-0;
             pairs = page_pairs c.read_link.new.page.bytes;
             was = read.says honest;
-            says = says_link at' bytes c.args.n c.args.kind c.args.next _ (here says) c.requires linked;
+            says = says_link at' bytes c.args.n c.args.kind c.args.next _ (here says)
+                c.requires linked;
           });
       others = λ honest m other.
           told.others (still_honest st _ _ read.reads honest) m (λ e. other (e ∙ number g c))

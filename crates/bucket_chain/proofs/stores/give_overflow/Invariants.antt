@@ -9,6 +9,9 @@ invariant-loop-step g l = record {
   stages : StagesOnly g.S.PageStore l.fn.store l.store;
   ends : HasEnds l.fn.space → HasEnds l.space;
   end : l.space.file_end ≡ l.fn.space.file_end;
-  may_end : MayEnd (g.S.PageStore.state l.fn.store) l.fn.space.file_end → MayEnd (g.S.PageStore.state l.store) l.space.file_end;
-  given : g.S.PageStore.honest l.fn.store → AreGivenIn (body_at g.S.PageStore l.fn.store) (body_at g.S.PageStore l.store) l.fn.space l.space l.fn.first l.at l._step;
+  may_end : MayEnd (g.S.PageStore.state l.fn.store) l.fn.space.file_end
+      → MayEnd (g.S.PageStore.state l.store) l.space.file_end;
+  given : g.S.PageStore.honest l.fn.store
+      → AreGivenIn (body_at g.S.PageStore l.fn.store) (body_at g.S.PageStore l.store) l.fn.space
+      l.space l.fn.first l.at l._step;
 }

@@ -29,7 +29,8 @@ returns-in_err-clear g c =
       ends = told.ends;
       may_end = λ may. IfOk-from_err _ _ result.ensures.0;
       exact = λ honest chain s placed distinct. IfOk-from_err _ _ result.ensures.0;
-      whole = λ honest chain s placed distinct damaged. told.whole honest chain s placed (came _ _ exit Damaged damaged);
+      whole = λ honest chain s placed distinct damaged.
+          told.whole honest chain s placed (came _ _ exit Damaged damaged);
     }
 
 -- the pairs are put

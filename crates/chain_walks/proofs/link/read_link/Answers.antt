@@ -16,7 +16,8 @@ returns-in_err-read-clause-whole g c honest next pairs some link damaged =
     let p = err_from_is_err_and c.from_residual.result c.from_residual.ensures.1 in
     let fault : c.in_err-read.field-0.0 ≡ Damaged = let is = rw (p.1, p.2) at damaged in cc in
     let unknown = c.in_err-read.ensures.answer.damaged.0 (ap Err fault) in
-    let other = unknown_said g.S.PageStore c.args.store.now c.args.n (g.met.S.PageStore.ends c.args.store.now) some unknown.1 in
+    let other = unknown_said g.S.PageStore c.args.store.now c.args.n
+    (g.met.S.PageStore.ends c.args.store.now) some unknown.1 in
     not_other c.args.kind next pairs (sym link.says ∙ other)
 
 pub returns-clause-known : goal.returns-clause-known
@@ -24,22 +25,29 @@ returns-clause-known g c =
     let state = g.S.PageStore.state c.args.store.now in
     let known = read_known state c.args.n c.in_ok-read.field-0 c.in_ok-read.ensures.answer in
     let some = known_some _ state c.args.n (g.met.S.PageStore.in_order c.args.store.now) known in
-    if_some _ (λ (next : ℕ). (1 ≤ c.args.n) × IsKnown state c.args.n) c.link_of.result c.ok_or.result Damaged c.ok_or.ensures.value c.link_of.ensures.sound (λ next link. (some, known))
+    if_some _ (λ (next : ℕ). (1 ≤ c.args.n) × IsKnown state c.args.n) c.link_of.result
+    c.ok_or.result Damaged c.ok_or.ensures.value c.link_of.ensures.sound
+    (λ next link. (some, known))
 
 pub returns-clause-says : goal.returns-clause-says
 returns-clause-says g c honest =
     let bytes = c.read.new.page.bytes in
     let at = body_at g.S.PageStore c.args.store.now in
     let read = ap (body_of c.args.n) (sym (c.in_ok-read.ensures.found honest)) in
-    if_some _ (λ (next : ℕ). SaysLink at c.args.n c.args.kind next (page_pairs bytes)) c.link_of.result c.ok_or.result Damaged c.ok_or.ensures.value
-    c.link_of.ensures.sound (λ next link. says_link at bytes c.args.n c.args.kind next (page_pairs bytes) read c.requires link)
+    if_some _ (λ (next : ℕ). SaysLink at c.args.n c.args.kind next (page_pairs bytes))
+    c.link_of.result c.ok_or.result Damaged c.ok_or.ensures.value
+    c.link_of.ensures.sound (λ next link.
+    says_link at bytes c.args.n c.args.kind next (page_pairs bytes) read c.requires link)
 
 pub returns-clause-whole : goal.returns-clause-whole
 returns-clause-whole g c honest next pairs some link damaged =
     let bytes = c.read.new.page.bytes in
     let at = body_at g.S.PageStore c.args.store.now in
     let read = ap (body_of c.args.n) (sym (c.in_ok-read.ensures.found honest)) in
-    let is : c.link_of.result ≡ Some next = c.link_of.ensures.every next pairs (is_link at bytes c.args.n c.args.kind next pairs read c.requires (omega arith) (omega arith) link) in
+    let is : c.link_of.result ≡ Some next =
+    c.link_of.ensures.every next pairs
+    (is_link at bytes c.args.n c.args.kind next pairs read c.requires (omega arith)
+    (omega arith) link) in
     let value = c.ok_or.ensures.value in
     let same = rw is at value in
     cc

@@ -11,5 +11,7 @@ invariant-loop-step g l = record {
   kinds : (l.kind ≡ 3) ⊎ (l.kind ≡ 4);
   small : AllByRecursion IsAllowed (map pair_of l.pairs.items);
   reads : ReadsOnly g.S.PageStore l.fn.store l.store;
-  loaded : g.S.PageStore.honest l.fn.store → AreLoaded (body_at g.S.PageStore l.fn.store) l.fn.head l.at l.kind l._step (map pair_of l.pairs.items);
+  loaded : g.S.PageStore.honest l.fn.store
+      → AreLoaded (body_at g.S.PageStore l.fn.store) l.fn.head l.at l.kind l._step
+      (map pair_of l.pairs.items);
 }

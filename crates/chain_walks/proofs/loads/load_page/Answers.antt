@@ -8,14 +8,27 @@ use Rattle.chain_walks.proofs.LoadedPairs.{copied_more}
 use Rattle.chain_walks.proofs.loads.load_page.Goals as goal
 
 pub load_pair-requires-clause-within : goal.load_pair-requires-clause-within
-load_pair-requires-clause-within c = omega (arith, (counted c.args.page.now.bytes c.requires).count_is, c.slots-slot-end.ensures)
+load_pair-requires-clause-within c =
+    omega (arith, (counted c.args.page.now.bytes c.requires).count_is, c.slots-slot-end.ensures)
 
 pub loop-slot-preserved : goal.loop-slot-preserved
 loop-slot-preserved c =
-    let within : c.loop-slot.slot < length (page_pairs c.args.page.now.bytes) = omega (arith, (counted c.args.page.now.bytes c.requires).count_is, c.slots-slot-end.ensures) in
-    copied_more (page_pairs c.args.page.now.bytes) _ _ _ c.loop-slot.slot c.in_ok-pair.pair c.loop-slot.invariant within c.in_ok-pair.ensures c.in_ok-push.ensures.items
+    let within : c.loop-slot.slot < length (page_pairs c.args.page.now.bytes) =
+    omega (
+      arith,
+      (counted c.args.page.now.bytes c.requires).count_is,
+      c.slots-slot-end.ensures,
+    ) in
+    copied_more (page_pairs c.args.page.now.bytes) _ _ _ c.loop-slot.slot c.in_ok-pair.pair
+    c.loop-slot.invariant within c.in_ok-pair.ensures c.in_ok-push.ensures.items
 
 pub returns : goal.returns
 returns c =
-    let all : length (page_pairs c.args.page.now.bytes) ≤ c.loop-slot.slot = omega (arith, (counted c.args.page.now.bytes c.requires).count_is, c.slots-slot-end.ensures) in
-    c.loop-slot.invariant ∙ ap (λ (xs : List Pair). map pair_of c.args.pairs.now.items ++ xs) (take_all c.loop-slot.slot (page_pairs c.args.page.now.bytes) all)
+    let all : length (page_pairs c.args.page.now.bytes) ≤ c.loop-slot.slot =
+    omega (
+      arith,
+      (counted c.args.page.now.bytes c.requires).count_is,
+      c.slots-slot-end.ensures,
+    ) in
+    c.loop-slot.invariant ∙ ap (λ (xs : List Pair). map pair_of c.args.pairs.now.items ++ xs)
+    (take_all c.loop-slot.slot (page_pairs c.args.page.now.bytes) all)

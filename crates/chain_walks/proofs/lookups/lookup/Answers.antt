@@ -18,39 +18,60 @@ returns-in_err-next-clause-whole g c honest chain is damaged =
     let some = some_page _ _ _ _ _ _ _ chain is walk in
     let p = err_from_is_err_and c.from_residual.result c.from_residual.ensures.1 in
     let fault : c.in_err-next.field-0.0 ≡ Damaged = let e = rw (p.1, p.2) at damaged in cc in
-    c.in_err-next.ensures.whole (still_honest g.S.PageStore _ _ reads honest) _ _ some (link_after g.S.PageStore _ _ reads honest _ _ _ _ here.link) (ap Err fault)
+    c.in_err-next.ensures.whole (still_honest g.S.PageStore _ _ reads honest) _ _ some
+    (link_after g.S.PageStore _ _ reads honest _ _ _ _ here.link) (ap Err fault)
 
 pub returns-in-Some-clause-walked : goal.returns-in-Some-clause-walked
 returns-in-Some-clause-walked g c honest =
     let bytes = c.read_link.new.page.bytes in
-    let link = link_before g.S.PageStore _ _ c.loop-step.invariant.reads honest _ _ _ _ c.in_ok-next.ensures.says in
-    walk_ends _ _ _ _ _ _ (c.loop-step.invariant.walked honest) (IsPairAt c.args.key.now bytes (place c.loop-step.at c.in-Some.slot)) _ _ link
-    record { number = refl; page = c.in_ok-next.ensures.link.page; pairs = refl; has = c.in-Some.ensures.found }
+    let link = link_before g.S.PageStore _ _ c.loop-step.invariant.reads honest _ _ _ _
+    c.in_ok-next.ensures.says in
+    walk_ends _ _ _ _ _ _ (c.loop-step.invariant.walked honest)
+    (IsPairAt c.args.key.now bytes (place c.loop-step.at c.in-Some.slot)) _ _ link
+    record {
+      number = refl;
+      page = c.in_ok-next.ensures.link.page;
+      pairs = refl;
+      has =
+          c.in-Some.ensures.found;
+    }
 
 pub returns-in-Some-clause-exact : goal.returns-in-Some-clause-exact
 returns-in-Some-clause-exact g c honest chain is =
     let bytes = c.read_link.new.page.bytes in
-    let link = link_before g.S.PageStore _ _ c.loop-step.invariant.reads honest _ _ _ _ c.in_ok-next.ensures.says in
-    looked_up _ _ _ chain c.args.key.now _ _ _ _ (page_pairs bytes) is (c.loop-step.invariant.walked honest) link c.in_ok-next.ensures.known.0 bytes c.in-Some.slot c.in_ok-next.ensures.link.page refl c.in-Some.ensures.found c.in-Some.ensures.only
+    let link = link_before g.S.PageStore _ _ c.loop-step.invariant.reads honest _ _ _ _
+    c.in_ok-next.ensures.says in
+    looked_up _ _ _ chain c.args.key.now _ _ _ _ (page_pairs bytes) is
+    (c.loop-step.invariant.walked honest) link c.in_ok-next.ensures.known.0 bytes c.in-Some.slot
+    c.in_ok-next.ensures.link.page refl c.in-Some.ensures.found c.in-Some.ensures.only
 
 pub returns-then-next-eq0-clause-walked : goal.returns-then-next-eq0-clause-walked
 returns-then-next-eq0-clause-walked g c honest =
-    let link = link_before g.S.PageStore _ _ c.loop-step.invariant.reads honest _ _ _ _ c.in_ok-next.ensures.says in
-    walk_ends _ _ _ _ _ _ (c.loop-step.invariant.walked honest) (EndsWithout c.args.key.now) _ _ link (c.if-next-eq0.true, absent_times _ _ c.in_default.ensures.none)
+    let link = link_before g.S.PageStore _ _ c.loop-step.invariant.reads honest _ _ _ _
+    c.in_ok-next.ensures.says in
+    walk_ends _ _ _ _ _ _ (c.loop-step.invariant.walked honest) (EndsWithout c.args.key.now) _ _
+    link (c.if-next-eq0.true, absent_times _ _ c.in_default.ensures.none)
 
 pub returns-then-next-eq0-clause-exact : goal.returns-then-next-eq0-clause-exact
 returns-then-next-eq0-clause-exact g c honest chain is =
-    let link = link_before g.S.PageStore _ _ c.loop-step.invariant.reads honest _ _ _ _ c.in_ok-next.ensures.says in
-    not_there _ _ _ chain c.args.key.now _ _ _ _ _ is (c.loop-step.invariant.walked honest) link c.in_ok-next.ensures.known.0 c.if-next-eq0.true (absent_times _ _ c.in_default.ensures.none)
+    let link = link_before g.S.PageStore _ _ c.loop-step.invariant.reads honest _ _ _ _
+    c.in_ok-next.ensures.says in
+    not_there _ _ _ chain c.args.key.now _ _ _ _ _ is (c.loop-step.invariant.walked honest) link
+    c.in_ok-next.ensures.known.0 c.if-next-eq0.true (absent_times _ _ c.in_default.ensures.none)
 
 pub loop-step-preserved : goal.loop-step-preserved
 loop-step-preserved g c = record {
   kinds = inr refl;
-  reads = reads_then g.S.PageStore _ _ _ (g.met.S.PageStore.counts_now c.loop-step.store) c.loop-step.invariant.reads c.in_ok-next.ensures.reads;
+  reads = reads_then g.S.PageStore _ _ _ (g.met.S.PageStore.counts_now c.loop-step.store)
+      c.loop-step.invariant.reads c.in_ok-next.ensures.reads;
   walked = λ honest.
-      let link = link_before g.S.PageStore _ _ c.loop-step.invariant.reads honest _ _ _ _ c.in_ok-next.ensures.says in
-      walk_goes_on _ _ _ _ _ _ (c.loop-step.invariant.walked honest) _ _ link c.in_ok-next.ensures.known.0 c.if-next-eq0.false (absent_times _ _ c.in_default.ensures.none);
+      let link = link_before g.S.PageStore _ _ c.loop-step.invariant.reads honest _ _ _ _
+      c.in_ok-next.ensures.says in
+      walk_goes_on _ _ _ _ _ _ (c.loop-step.invariant.walked honest) _ _ link
+      c.in_ok-next.ensures.known.0 c.if-next-eq0.false
+      (absent_times _ _ c.in_default.ensures.none);
 }
 
 pub returns-clause-whole : goal.returns-clause-whole
-returns-clause-whole g c honest chain is damaged = not_too_long _ _ _ _ _ _ _ chain is (c.loop-step.invariant.walked honest) (omega arith)
+returns-clause-whole g c honest chain is damaged =
+    not_too_long _ _ _ _ _ _ _ chain is (c.loop-step.invariant.walked honest) (omega arith)

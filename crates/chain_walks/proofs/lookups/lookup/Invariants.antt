@@ -8,5 +8,7 @@ abbrev pub invariant-loop-step : goal.invariant-loop-step
 invariant-loop-step g l = record {
   kinds : (l.kind ≡ 3) ⊎ (l.kind ≡ 4);
   reads : ReadsOnly g.S.PageStore l.fn.store l.store;
-  walked : g.S.PageStore.honest l.fn.store → IsUnderWay (body_at g.S.PageStore l.fn.store) l.fn.head (LacksKey l.key) l.at l.kind l._step;
+  walked : g.S.PageStore.honest l.fn.store
+      → IsUnderWay (body_at g.S.PageStore l.fn.store) l.fn.head (LacksKey l.key) l.at
+      l.kind l._step;
 }

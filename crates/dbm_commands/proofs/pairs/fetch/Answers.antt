@@ -11,6 +11,8 @@ returns-clause-call g c =
     record {
       reply = told_of_bytes NoRecord c.fetch.result;
       told = c.print_fetched.ensures.told;
-      step = λ honest h at. same_step refl (bytes_are_told NoRecord c.fetch.result _ refl) (ended.step honest h at);
-      answered = fetch_answered c.fetch.result _ _ _ refl refl c.fetch.ensures.searched c.fetch.ensures.only ended.keeps;
+      step = λ honest h at. same_step refl (bytes_are_told NoRecord c.fetch.result _ refl)
+          (ended.step honest h at);
+      answered = fetch_answered c.fetch.result _ _ _ refl refl c.fetch.ensures.searched
+          c.fetch.ensures.only ended.keeps;
     }

@@ -8,6 +8,8 @@ pub returns : goal.returns
 returns g c = record {
   reply = told_of_store c.store.result;
   told = c.store_told.ensures;
-  step = λ honest h at. same_step refl (sym (store_is_told c.store.result _ refl)) (c.store.ensures.step honest h at);
-  answered = store_answered c.store.result _ _ _ _ _ refl refl c.store.ensures.kept c.store.ensures.only c.store.ensures.keeps;
+  step = λ honest h at. same_step refl (sym (store_is_told c.store.result _ refl))
+      (c.store.ensures.step honest h at);
+  answered = store_answered c.store.result _ _ _ _ _ refl refl c.store.ensures.kept
+      c.store.ensures.only c.store.ensures.keeps;
 }

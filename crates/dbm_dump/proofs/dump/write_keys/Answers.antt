@@ -9,14 +9,18 @@ use Rattle.dbm_text.specs.Lines.{with_line_feed}
 use Rattle.dbm_text.specs.Words.{word_of}
 use Rattle.dbm_dump.proofs.dump.write_keys.Goals as goal
 
-seen : (keys : List (Bor (Vec ℕ))) → map (λ (key : Bor (Vec ℕ)). key.now.items) keys ≡ map (λ (key : Vec ℕ). key.items) (map deref keys)
+seen : (keys : List (Bor (Vec ℕ)))
+    → map (λ (key : Bor (Vec ℕ)). key.now.items) keys
+    ≡ map (λ (key : Vec ℕ). key.items) (map deref keys)
 seen [] = refl
 seen (key ∷ keys) = ap (λ (rest : List (List ℕ)). key.now.items ∷ rest) (seen keys)
 
 pub returns : goal.returns
 returns g c =
     let all : map deref c.loop-key.yielded ≡ c.args.keys.now.keys = search (rules, iter_end) in
-    subst (λ (keys : List (List ℕ)). Appends (g.W.Write.contents c.args.writer.now) (g.W.Write.contents c.loop-key.writer) (flat_map (λ key. with_line_feed (word_of key)) keys))
+    subst (λ (keys : List (List ℕ)).
+    Appends (g.W.Write.contents c.args.writer.now) (g.W.Write.contents c.loop-key.writer)
+    (flat_map (λ key. with_line_feed (word_of key)) keys))
     (seen c.loop-key.yielded ∙ ap (map (λ (key : Vec ℕ). key.items)) all) c.loop-key.invariant
 
 pub returns-in_err-write_bytes : goal.returns-in_err-write_bytes

@@ -4,4 +4,5 @@ use Rattle.dbm_text.specs.Dumps.{dump_line}
 use Rattle.dbm_dump.proofs.dump.write_pairs.Given as goal
 
 abbrev pub invariant-loop-key : goal.invariant-loop-key
-invariant-loop-key g l = Appends (g.W.Write.contents l.fn.writer) (g.W.Write.contents l.writer) (flat_map dump_line (take l.key-index l.pairs))
+invariant-loop-key g l = Appends (g.W.Write.contents l.fn.writer) (g.W.Write.contents l.writer)
+    (flat_map dump_line (take l.key-index l.pairs))

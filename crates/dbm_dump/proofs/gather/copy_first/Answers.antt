@@ -4,4 +4,5 @@ use Rattle.dbm_dump.proofs.Dumping.{reads_first, reads_by}
 use Rattle.dbm_dump.proofs.gather.copy_first.Goals as goal
 
 pub returns-clause-reads : goal.returns-clause-reads
-returns-clause-reads g c = reads_by g.S.PageStore First (lent_reply End) _ _ c.firstkey.result _ reads_first c.firstkey.follows.holds-at-none c.copied.ensures
+returns-clause-reads g c = reads_by g.S.PageStore First (lent_reply End) _ _ c.firstkey.result _
+    reads_first c.firstkey.follows.holds-at-none c.copied.ensures

@@ -11,6 +11,8 @@ invariant-loop-key g l = record {
   reads : Reads {T = Unit {0}} l.fn.db l.db (Ok (tt {0}));
   short : All (λ pair. IsShort pair.0 × IsShort pair.1) l.pairs.items;
   left : All (λ key. IsShort key.items) l.key-iterator;
-  parts : map (λ pair. pair.0) l.pairs.items ++ map (λ key. key.items) l.key-iterator ≡ bytes_of_keys l.fn.keys;
-  fetching : g.S.PageStore.honest (store_of l.fn.db) → (h : Handle) → IsAt l.fn.db h → h.state.usable ≡ true → IsFetching l.db h.state.map l.pairs.items;
+  parts : map (λ pair. pair.0) l.pairs.items ++ map (λ key. key.items) l.key-iterator
+      ≡ bytes_of_keys l.fn.keys;
+  fetching : g.S.PageStore.honest (store_of l.fn.db) → (h : Handle) → IsAt l.fn.db h
+      → h.state.usable ≡ true → IsFetching l.db h.state.map l.pairs.items;
 }

@@ -23,52 +23,74 @@ none_yet keys n none = rw none (omega arith)
 none_short : (keys : List (Vec ℕ)) → keys ≡ [] → All (λ key. IsShort key.items) keys
 none_short keys none = search (rules, none)
 
-no_memory : (g : Over) (c : goal.After-drop-keys-in_err-map_err g) → c.from_residual-in_err-map_err.result ≡ Err Memory
+no_memory : (g : Over) (c : goal.After-drop-keys-in_err-map_err g)
+    → c.from_residual-in_err-map_err.result ≡ Err Memory
 no_memory g c = search rules
 
 pub loop-step-init : goal.loop-step-init
 loop-step-init g c =
     let none : c.new-keys.result.keys ≡ [] = c.new-keys.ensures.empty in
     record {
-      reads = reads_well g.S.PageStore _ _ c.copy_first.result c.in_ok-given.given c.in_ok-given.was c.copy_first.ensures.reads;
+      reads = reads_well g.S.PageStore _ _ c.copy_first.result c.in_ok-given.given c.in_ok-given.was
+          c.copy_first.ensures.reads;
       many = none_yet _ _ none;
       short = none_short _ none;
       next = c.in_ok-given.ensures.short;
-      passing = λ honest h at usable. pass_begins _ _ h c.copy_first.result c.in_ok-given.given _ usable (c.copy_first.ensures.step honest h at) c.in_ok-given.was (ap (map (λ key. key.items)) none);
+      passing = λ honest h at usable.
+          pass_begins _ _ h c.copy_first.result c.in_ok-given.given _ usable
+          (c.copy_first.ensures.step honest h at) c.in_ok-given.was
+          (ap (map (λ key. key.items)) none);
     }
 
 pub returns-in_err-given-2-clause-keys : goal.returns-in_err-given-2-clause-keys
 returns-in_err-given-2-clause-keys g c honest h at usable =
-    let told = exit_is c.from_residual-in_err-given-2.result _ c.from_residual-in_err-given-2.ensures.1 in
+    let told = exit_is c.from_residual-in_err-given-2.result _
+    c.from_residual-in_err-given-2.ensures.1 in
     let so_far = c.loop-step.invariant.passing honest h at usable in
-    let chance = pass_goes_on_not _ _ _ _ _ c.in-Some.key _ c.copy_next.result so_far c.in-Some.is (c.copy_next.ensures.step (c.loop-step.invariant.reads.goes.honesty.1 honest) so_far.now so_far.is_at) c.in_err-given-2.field-0.0 c.in_err-given-2.was in
+    let chance = pass_goes_on_not _ _ _ _ _ c.in-Some.key _ c.copy_next.result so_far c.in-Some.is
+    (c.copy_next.ensures.step (c.loop-step.invariant.reads.goes.honesty.1 honest) so_far.now
+    so_far.is_at) c.in_err-given-2.field-0.0 c.in_err-given-2.was in
     chance_told _ _ _ told chance
 
 pub returns-in_err-given-2-clause-reads : goal.returns-in_err-given-2-clause-reads
 returns-in_err-given-2-clause-reads g c =
-    let told = exit_is c.from_residual-in_err-given-2.result _ c.from_residual-in_err-given-2.ensures.1 in
-    reads_refused g.S.PageStore _ _ c.copy_next.result _ c.in_err-given-2.field-0.0 c.in_err-given-2.was told (reads_on g.S.PageStore _ _ _ _ c.loop-step.invariant.reads _ c.copy_next.ensures.reads)
+    let told = exit_is c.from_residual-in_err-given-2.result _
+    c.from_residual-in_err-given-2.ensures.1 in
+    reads_refused g.S.PageStore _ _ c.copy_next.result _ c.in_err-given-2.field-0.0
+    c.in_err-given-2.was told (reads_on g.S.PageStore _ _ _ _ c.loop-step.invariant.reads _
+    c.copy_next.ensures.reads)
 
 pub loop-step-preserved : goal.loop-step-preserved
 loop-step-preserved g c =
-    let put : c.insert.new.self.keys ≡ insert_key (λ x y. slice_cmp nat_cmp x.items y.items) c.loop-step.keys.keys c.in-Some.key = search rules in
+    let put : c.insert.new.self.keys
+    ≡ insert_key (λ x y. slice_cmp nat_cmp x.items y.items) c.loop-step.keys.keys
+    c.in-Some.key = search rules in
     let invariant = c.loop-step.invariant in
-    let short : IsShort c.in-Some.key.items = subst (λ given. IfSome given (λ key. IsShort key.items)) c.in-Some.is invariant.next in
+    let short : IsShort c.in-Some.key.items =
+    subst (λ given. IfSome given (λ key. IsShort key.items)) c.in-Some.is invariant.next in
     record {
-      reads = reads_well g.S.PageStore _ _ c.copy_next.result c.in_ok-given-2.given c.in_ok-given-2.was (reads_on g.S.PageStore _ _ _ _ invariant.reads _ c.copy_next.ensures.reads);
+      reads = reads_well g.S.PageStore _ _ c.copy_next.result c.in_ok-given-2.given
+          c.in_ok-given-2.was (reads_on g.S.PageStore _ _ _ _ invariant.reads _
+          c.copy_next.ensures.reads);
       many = one_more_at_most c.loop-step.keys.keys _ c.in-Some.key _ put invariant.many;
-      short = rw put (All-insert_key _ c.in-Some.key (λ key. IsShort key.items) c.loop-step.keys.keys invariant.short short);
+      short = rw put (All-insert_key _ c.in-Some.key (λ key. IsShort key.items)
+          c.loop-step.keys.keys invariant.short short);
       next = c.in_ok-given-2.ensures.short;
       passing = λ honest h at usable.
           let so_far = invariant.passing honest h at usable in
-          pass_goes_on _ _ _ _ _ c.in-Some.key _ c.copy_next.result so_far c.in-Some.is (c.copy_next.ensures.step (invariant.reads.goes.honesty.1 honest) so_far.now so_far.is_at) c.in_ok-given-2.given _ c.in_ok-given-2.was (bytes_put c.loop-step.keys.keys _ c.in-Some.key put);
+          pass_goes_on _ _ _ _ _ c.in-Some.key _ c.copy_next.result so_far c.in-Some.is
+          (c.copy_next.ensures.step (invariant.reads.goes.honesty.1 honest) so_far.now
+          so_far.is_at) c.in_ok-given-2.given _ c.in_ok-given-2.was
+          (bytes_put c.loop-step.keys.keys _ c.in-Some.key put);
     }
 
 -- ---- the pass is not begun
 
 pub returns-in_err-given-clause-keys : goal.returns-in_err-given-clause-keys
 returns-in_err-given-clause-keys g c honest h at usable =
-    chance_told _ c.in_err-given.field-0.0 _ (exit_is _ _ c.from_residual.ensures.1) (pass_begins_not _ _ h c.copy_first.result _ usable (c.copy_first.ensures.step honest h at) c.in_err-given.was)
+    chance_told _ c.in_err-given.field-0.0 _ (exit_is _ _ c.from_residual.ensures.1)
+    (pass_begins_not _ _ h c.copy_first.result _ usable (c.copy_first.ensures.step honest h at)
+    c.in_err-given.was)
 
 pub returns-in_err-given-clause-bound : goal.returns-in_err-given-clause-bound
 returns-in_err-given-clause-bound g c = IfOk-from_err _ _ c.from_residual.ensures.0
@@ -78,38 +100,52 @@ returns-in_err-given-clause-short g c = IfOk-from_err _ _ c.from_residual.ensure
 
 pub returns-in_err-given-clause-reads : goal.returns-in_err-given-clause-reads
 returns-in_err-given-clause-reads g c =
-    reads_refused g.S.PageStore _ _ c.copy_first.result _ c.in_err-given.field-0.0 c.in_err-given.was (exit_is _ _ c.from_residual.ensures.1) c.copy_first.ensures.reads
+    reads_refused g.S.PageStore _ _ c.copy_first.result _ c.in_err-given.field-0.0
+    c.in_err-given.was (exit_is _ _ c.from_residual.ensures.1) c.copy_first.ensures.reads
 
 pub returns-in_err-given-clause-broken : goal.returns-in_err-given-clause-broken
-returns-in_err-given-clause-broken g c broken = same_exit _ c.in_err-given.field-0.0 (Db Broken) (exit_is _ _ c.from_residual.ensures.1) (c.in_err-given.ensures.broken broken)
+returns-in_err-given-clause-broken g c broken =
+    same_exit _ c.in_err-given.field-0.0 (Db Broken) (exit_is _ _ c.from_residual.ensures.1)
+    (c.in_err-given.ensures.broken broken)
 
 pub returns-in_err-given-clause-only : goal.returns-in_err-given-clause-only
-returns-in_err-given-clause-only g c = if_exit _ _ c.in_err-given.field-0.0 (exit_is _ _ c.from_residual.ensures.1) (of_beginning _ c.in_err-given.ensures.only)
+returns-in_err-given-clause-only g c =
+    if_exit _ _ c.in_err-given.field-0.0 (exit_is _ _ c.from_residual.ensures.1)
+    (of_beginning _ c.in_err-given.ensures.only)
 
 -- ---- all keys are there
 
 pub returns-in_default-clause-keys : goal.returns-in_default-clause-keys
-returns-in_default-clause-keys g c honest h at usable = pass_ends _ _ _ c.loop-step.given _ (c.loop-step.invariant.passing honest h at usable) c.in_default.is
+returns-in_default-clause-keys g c honest h at usable =
+    pass_ends _ _ _ c.loop-step.given _ (c.loop-step.invariant.passing honest h at usable)
+    c.in_default.is
 
 pub returns-in_default-clause-bound : goal.returns-in_default-clause-bound
-returns-in_default-clause-bound g c = within _ _ c.stat-most.result.pairs _ c.loop-step.invariant.many c.loop-step.auto._step-end (ap (λ (stat : Stat). stat.pairs) c.stat-most.ensures.shown)
+returns-in_default-clause-bound g c =
+    within _ _ c.stat-most.result.pairs _ c.loop-step.invariant.many c.loop-step.auto._step-end
+    (ap (λ (stat : Stat). stat.pairs) c.stat-most.ensures.shown)
 
 pub returns-in_default-clause-short : goal.returns-in_default-clause-short
 returns-in_default-clause-short g c = c.loop-step.invariant.short
 
 pub returns-in_default-clause-reads : goal.returns-in_default-clause-reads
-returns-in_default-clause-reads g c = reads_gave g.S.PageStore _ _ c.loop-step.keys c.loop-step.invariant.reads
+returns-in_default-clause-reads g c =
+    reads_gave g.S.PageStore _ _ c.loop-step.keys c.loop-step.invariant.reads
 
 pub returns-in_default-clause-broken : goal.returns-in_default-clause-broken
-returns-in_default-clause-broken g c broken = no_err c.in_ok-given.given (Db Broken) (c.in_ok-given.ensures.broken broken)
+returns-in_default-clause-broken g c broken =
+    no_err c.in_ok-given.given (Db Broken) (c.in_ok-given.ensures.broken broken)
 
 pub returns-clause-keys : goal.returns-clause-keys
 returns-clause-keys g c honest h at usable =
-    pass_ends _ _ _ c.loop-step.given _ (c.loop-step.invariant.passing honest h at usable) (none_left c.loop-step.given (sym c.is_some.ensures ∙ c.if-is_some.false))
+    pass_ends _ _ _ c.loop-step.given _ (c.loop-step.invariant.passing honest h at usable)
+    (none_left c.loop-step.given (sym c.is_some.ensures ∙ c.if-is_some.false))
 
--- that the loop ends at the counted number is searched, so that an edit of its end leaves this goal open
+-- that the loop ends at the counted number is searched, so that an edit of its end leaves this goal
+-- open
 pub returns-clause-bound : goal.returns-clause-bound
-returns-clause-bound g c = within _ _ _ _ c.loop-step.invariant.many c.loop-step.auto._step-end (search rules)
+returns-clause-bound g c = within _ _ _ _ c.loop-step.invariant.many
+    c.loop-step.auto._step-end (search rules)
 
 pub returns-clause-short : goal.returns-clause-short
 returns-clause-short g c = c.loop-step.invariant.short
@@ -118,12 +154,14 @@ pub returns-clause-reads : goal.returns-clause-reads
 returns-clause-reads g c = reads_gave g.S.PageStore _ _ c.loop-step.keys c.loop-step.invariant.reads
 
 pub returns-clause-broken : goal.returns-clause-broken
-returns-clause-broken g c broken = no_err c.in_ok-given.given (Db Broken) (c.in_ok-given.ensures.broken broken)
+returns-clause-broken g c broken =
+    no_err c.in_ok-given.given (Db Broken) (c.in_ok-given.ensures.broken broken)
 
 -- ---- want of memory
 
 pub returns-in_err-map_err-clause-keys : goal.returns-in_err-map_err-clause-keys
-returns-in_err-map_err-clause-keys g c honest h at usable = chance_told _ Memory _ (no_memory g c) (inl refl)
+returns-in_err-map_err-clause-keys g c honest h at usable =
+    chance_told _ Memory _ (no_memory g c) (inl refl)
 
 pub returns-in_err-map_err-clause-bound : goal.returns-in_err-map_err-clause-bound
 returns-in_err-map_err-clause-bound g c = IfOk-from_err _ _ c.from_residual-in_err-map_err.ensures.0
@@ -133,10 +171,12 @@ returns-in_err-map_err-clause-short g c = IfOk-from_err _ _ c.from_residual-in_e
 
 pub returns-in_err-map_err-clause-reads : goal.returns-in_err-map_err-clause-reads
 returns-in_err-map_err-clause-reads g c =
-    reads_no_memory g.S.PageStore _ _ c.from_residual-in_err-map_err.result (no_memory g c) c.loop-step.invariant.reads
+    reads_no_memory g.S.PageStore _ _ c.from_residual-in_err-map_err.result (no_memory g c)
+    c.loop-step.invariant.reads
 
 pub returns-in_err-map_err-clause-broken : goal.returns-in_err-map_err-clause-broken
-returns-in_err-map_err-clause-broken g c broken = no_err c.in_ok-given.given (Db Broken) (c.in_ok-given.ensures.broken broken)
+returns-in_err-map_err-clause-broken g c broken =
+    no_err c.in_ok-given.given (Db Broken) (c.in_ok-given.ensures.broken broken)
 
 pub returns-in_err-map_err-clause-only : goal.returns-in_err-map_err-clause-only
 returns-in_err-map_err-clause-only g c = if_exit _ _ Memory (no_memory g c) (inl refl)
@@ -150,20 +190,26 @@ pub returns-in_err-given-2-clause-short : goal.returns-in_err-given-2-clause-sho
 returns-in_err-given-2-clause-short g c = IfOk-from_err _ _ c.from_residual-in_err-given-2.ensures.0
 
 pub returns-in_err-given-2-clause-broken : goal.returns-in_err-given-2-clause-broken
-returns-in_err-given-2-clause-broken g c broken = no_err c.in_ok-given.given (Db Broken) (c.in_ok-given.ensures.broken broken)
+returns-in_err-given-2-clause-broken g c broken =
+    no_err c.in_ok-given.given (Db Broken) (c.in_ok-given.ensures.broken broken)
 
 pub returns-in_err-given-2-clause-only : goal.returns-in_err-given-2-clause-only
-returns-in_err-given-2-clause-only g c = if_exit _ _ c.in_err-given-2.field-0.0 (exit_is _ _ c.from_residual-in_err-given-2.ensures.1) c.in_err-given-2.ensures.only
+returns-in_err-given-2-clause-only g c =
+    if_exit _ _ c.in_err-given-2.field-0.0 (exit_is _ _ c.from_residual-in_err-given-2.ensures.1)
+    c.in_err-given-2.ensures.only
 
 -- ---- more keys than are counted
 
 pub returns-then-is_some-clause-keys : goal.returns-then-is_some-clause-keys
 returns-then-is_some-clause-keys g c honest h at usable =
     let counts = c.stat-most.ensures.counts h at usable in
-    pass_too_long _ _ _ _ c.loop-step.given c.loop-step._step c.stat-most.result.pairs (c.loop-step.invariant.passing honest h at usable) (sym c.is_some.ensures ∙ c.if-is_some.true) counts.0 c.loop-step-test.false
+    pass_too_long _ _ _ _ c.loop-step.given c.loop-step._step c.stat-most.result.pairs
+    (c.loop-step.invariant.passing honest h at usable)
+    (sym c.is_some.ensures ∙ c.if-is_some.true) counts.0 c.loop-step-test.false
 
 pub returns-then-is_some-clause-reads : goal.returns-then-is_some-clause-reads
 returns-then-is_some-clause-reads g c = reads_damaged g.S.PageStore _ _ c.loop-step.invariant.reads
 
 pub returns-then-is_some-clause-broken : goal.returns-then-is_some-clause-broken
-returns-then-is_some-clause-broken g c broken = no_err c.in_ok-given.given (Db Broken) (c.in_ok-given.ensures.broken broken)
+returns-then-is_some-clause-broken g c broken =
+    no_err c.in_ok-given.given (Db Broken) (c.in_ok-given.ensures.broken broken)

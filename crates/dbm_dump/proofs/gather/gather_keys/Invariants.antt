@@ -12,5 +12,6 @@ invariant-loop-step g l = record {
   many : length l.keys.keys ≤ l._step;
   short : All (λ key. IsShort key.items) l.keys.keys;
   next : IfSome l.given (λ key. IsShort key.items);
-  passing : g.S.PageStore.honest (store_of l.fn.db) → (h : Handle) → IsAt l.fn.db h → h.state.usable ≡ true → IsPassing l.db h.state.map (bytes_of_keys l.keys) l.given l._step;
+  passing : g.S.PageStore.honest (store_of l.fn.db) → (h : Handle) → IsAt l.fn.db h
+      → h.state.usable ≡ true → IsPassing l.db h.state.map (bytes_of_keys l.keys) l.given l._step;
 }

@@ -15,10 +15,12 @@ returns-in-Ok-open-2-clause-opens g c = record {
 
 pub returns-in-Err-Missing-clause-missing : goal.returns-in-Err-Missing-clause-missing
 returns-in-Err-Missing-clause-missing g c _ =
-    ap (λ (writes_so : Bool). writes_so && c.args.how.create) (sym c.is_writable-writable.ensures) ∙ c.in-Err-Missing.ensures.missing c.in-Err-Missing.field-0-is
+    ap (λ (writes_so : Bool). writes_so && c.args.how.create) (sym c.is_writable-writable.ensures)
+    ∙ c.in-Err-Missing.ensures.missing c.in-Err-Missing.field-0-is
 
 pub returns-in-Ok-open-clause-refused : goal.returns-in-Ok-open-clause-refused
 returns-in-Ok-open-clause-refused g c memory missing other =
     let told = c.in-Err.ensures in
-    refuses_file _ FileDevGhosts c.args.how c.in-Ok-open.dev c.in-Err.field-0-0 c.in-Err.fault c.in-Ok-open.ensures.begins c.in-Ok-open.ensures.size told.early
+    refuses_file _ FileDevGhosts c.args.how c.in-Ok-open.dev c.in-Err.field-0-0 c.in-Err.fault
+    c.in-Ok-open.ensures.begins c.in-Ok-open.ensures.size told.early
     (λ honest none. told.refused honest none other)

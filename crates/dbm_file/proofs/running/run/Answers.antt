@@ -14,16 +14,19 @@ use Rattle.dbm_file.proofs.Runs.{all_taken, no_run, goes_on_with, taken_next, se
 use Rattle.dbm_file.proofs.running.run.Goals as goal
 
 -- the rooms of a call and those of the later ones
-first_room : (call : Call) (calls : List Call) → rooms_in (call ∷ calls) ≡ rooms_in (call ∷ []) + rooms_in calls
+first_room : (call : Call) (calls : List Call)
+    → rooms_in (call ∷ calls) ≡ rooms_in (call ∷ []) + rooms_in calls
 first_room call calls = sum_by-append (λ (x : Call). cond (gives_bytes x) 1 0) (call ∷ []) calls
 
 pub loop-call-init : goal.loop-call-init
 loop-call-init g c = record {
   ran = λ honest h at.
       let db = c.args.db.now in
-      subst (λ (replies : List model.Reply). IsRun db db h [] replies) (sym (ap (map reply_of) c.in-Ok.ensures.items))
+      subst (λ (replies : List model.Reply). IsRun db db h [] replies)
+      (sym (ap (map reply_of) c.in-Ok.ensures.items))
       (no_run g.S.PageStore db h at (λ x left. g.met.S.PageStore.only_now db.store x honest left));
-  answered = subst (λ (replies : List Reply). AreAnswered c.args.db.now c.args.db.now [] replies) (sym c.in-Ok.ensures.items) refl;
+  answered = subst (λ (replies : List Reply). AreAnswered c.args.db.now c.args.db.now [] replies)
+      (sym c.in-Ok.ensures.items) refl;
   goes = goes_nowhere c.args.db.now;
   many = c.in-Ok.ensures.len;
   fits = c.in-Ok.ensures.capacity;
@@ -36,32 +39,64 @@ loop-call-preserved g c =
     let i = c.loop-call.call-index in
     let call = c.call-item.result in
     let so_far = c.loop-call.invariant in
-    let left : drop i calls ≡ call ∷ drop (i + 1) calls = drop_more calls i call c.loop-call-test.true ∙ ap (λ (x : Call). x ∷ drop (i + 1) calls) (sym c.call-item.is) in
+    let left : drop i calls ≡ call ∷ drop (i + 1) calls =
+    drop_more calls i call c.loop-call-test.true
+    ∙ ap (λ (x : Call). x ∷ drop (i + 1) calls) (sym c.call-item.is) in
     let items : c.push.new.self.items ≡ c.loop-call.replies.items ++ c.answer-reply.result ∷ [] =
-    c.push.ensures.items ∙ ap (λ r. cond (is_ok r) (c.loop-call.replies.items ++ c.answer-reply.result ∷ []) c.loop-call.replies.items) c.unwrap.ensures in
+    c.push.ensures.items ∙ ap (λ r.
+    cond (is_ok r) (c.loop-call.replies.items ++ c.answer-reply.result ∷ [])
+    c.loop-call.replies.items) c.unwrap.ensures in
     record {
       ran = λ honest h at.
           let run = so_far.ran honest h at in
-          goes_on_with g.S.PageStore c.args.db.now c.loop-call.db c.answer-reply.new.db h _ _ (call_of call) (reply_of c.answer-reply.result) so_far.goes.limit c.answer-reply.ensures.goes run
+          goes_on_with g.S.PageStore c.args.db.now c.loop-call.db c.answer-reply.new.db h _ _
+          (call_of call) (reply_of c.answer-reply.result) so_far.goes.limit
+          c.answer-reply.ensures.goes run
           (c.answer-reply.ensures.step (so_far.goes.honesty.1 honest) run.after run.is_at)
-          (λ t x le left. g.met.S.PageStore.counts_now (store_of c.answer-reply.new.db) t x (c.answer-reply.ensures.goes.honesty.1 (so_far.goes.honesty.1 honest)) le left) _ _
-          (seen_next call_of calls i call c.loop-call-test.true c.call-item.is) (seen_last reply_of c.loop-call.replies.items c.push.new.self.items c.answer-reply.result items);
+          (λ t x le left. g.met.S.PageStore.counts_now (store_of c.answer-reply.new.db) t x
+          (c.answer-reply.ensures.goes.honesty.1 (so_far.goes.honesty.1 honest)) le left) _
+          _
+          (seen_next call_of calls i call c.loop-call-test.true c.call-item.is)
+          (seen_last reply_of c.loop-call.replies.items c.push.new.self.items
+          c.answer-reply.result items);
       answered =
-          subst (λ (cs : List Call). AreAnswered c.args.db.now c.answer-reply.new.db cs c.push.new.self.items) (sym (taken_next calls i call c.loop-call-test.true c.call-item.is))
-          (subst (λ (rs : List Reply). AreAnswered c.args.db.now c.answer-reply.new.db (take i calls ++ call ∷ []) rs) (sym items)
-          (answered_next c.args.db.now c.loop-call.db c.answer-reply.new.db (take i calls) c.loop-call.replies.items call c.answer-reply.result so_far.answered c.answer-reply.ensures.answered));
-      goes = still_goes c.args.db.now c.loop-call.db c.answer-reply.new.db so_far.goes c.answer-reply.ensures.goes;
-      many = c.push.ensures.len ∙ ap (λ r. cond (is_ok r) (vec_len c.loop-call.replies + 1) (vec_len c.loop-call.replies)) c.unwrap.ensures ∙ ap (λ (n : ℕ). n + 1) so_far.many;
+          subst (λ (cs : List Call). AreAnswered c.args.db.now c.answer-reply.new.db cs
+          c.push.new.self.items) (sym (taken_next calls i call c.loop-call-test.true
+          c.call-item.is))
+          (subst (λ (rs : List Reply). AreAnswered c.args.db.now c.answer-reply.new.db
+          (take i calls ++ call ∷ []) rs) (sym items)
+          (answered_next c.args.db.now c.loop-call.db c.answer-reply.new.db (take i calls)
+          c.loop-call.replies.items call c.answer-reply.result so_far.answered
+          c.answer-reply.ensures.answered));
+      goes = still_goes c.args.db.now c.loop-call.db c.answer-reply.new.db so_far.goes
+          c.answer-reply.ensures.goes;
+      many = c.push.ensures.len ∙ ap
+          (λ r. cond (is_ok r) (vec_len c.loop-call.replies + 1) (vec_len c.loop-call.replies))
+          c.unwrap.ensures ∙ ap (λ (n : ℕ). n + 1) so_far.many;
       fits = omega (arith, c.push.ensures.capacity);
-      rooms = record { many = omega (arith, c.answer-reply.ensures.taken, so_far.rooms.many, ap rooms_in left, first_room call (drop (i + 1) calls)); each = c.answer-reply.ensures.rooms.each };
+      rooms = record {
+        many = omega (
+          arith,
+          c.answer-reply.ensures.taken,
+          so_far.rooms.many,
+          ap rooms_in left,
+          first_room call (drop (i + 1) calls),
+        );
+        each = c.answer-reply.ensures.rooms.each;
+      };
     }
 
 pub returns-clause-run : goal.returns-clause-run
 returns-clause-run g c honest h at =
-    subst (λ (calls : List Call). IsRun c.args.db.now c.loop-call.db h (map call_of calls) (map reply_of c.loop-call.replies.items))
-    (all_taken c.args.calls.now c.loop-call.call-index (omega (arith, c.loop-call-test.false))) (c.loop-call.invariant.ran honest h at)
+    subst (λ (calls : List Call).
+    IsRun c.args.db.now c.loop-call.db h (map call_of calls)
+    (map reply_of c.loop-call.replies.items))
+    (all_taken c.args.calls.now c.loop-call.call-index (omega (arith, c.loop-call-test.false)))
+    (c.loop-call.invariant.ran honest h at)
 
 pub returns-clause-answers : goal.returns-clause-answers
 returns-clause-answers g c =
-    subst (λ (calls : List Call). AreAnswered c.args.db.now c.loop-call.db calls c.loop-call.replies.items)
-    (all_taken c.args.calls.now c.loop-call.call-index (omega (arith, c.loop-call-test.false))) c.loop-call.invariant.answered
+    subst (λ (calls : List Call).
+    AreAnswered c.args.db.now c.loop-call.db calls c.loop-call.replies.items)
+    (all_taken c.args.calls.now c.loop-call.call-index (omega (arith, c.loop-call-test.false)))
+    c.loop-call.invariant.answered

@@ -10,7 +10,9 @@ use Rattle.dbm_file.proofs.running.run.Given as goal
 
 abbrev pub invariant-loop-call : goal.invariant-loop-call
 invariant-loop-call g l = record {
-  ran : g.S.PageStore.honest (store_of l.initial.db) → (h : Handle) → IsAt l.initial.db h → IsRun l.initial.db l.db h (map call_of (take l.call-index l.calls)) (map reply_of l.replies.items);
+  ran : g.S.PageStore.honest (store_of l.initial.db) → (h : Handle) → IsAt l.initial.db h
+      → IsRun l.initial.db l.db h (map call_of (take l.call-index l.calls))
+      (map reply_of l.replies.items);
   answered : AreAnswered l.initial.db l.db (take l.call-index l.calls) l.replies.items;
   goes : IsSameDatabase l.initial.db l.db;
   many : vec_len l.replies ≡ l.call-index;

@@ -4,4 +4,5 @@ use Rattle.dbm_lines.proofs.Requests.{no_name}
 use Rattle.dbm_lines.proofs.parsing.request_with_words.Goals as goal
 
 pub returns-in-None : goal.returns-in-None
-returns-in-None c bare = no_name c.in-Some.name.now c.in-Some.rest.now c.in-None.ensures ∙ sym (ap call_of_words c.in-Some.ensures.split)
+returns-in-None c bare = no_name c.in-Some.name.now c.in-Some.rest.now c.in-None.ensures
+    ∙ sym (ap call_of_words c.in-Some.ensures.split)

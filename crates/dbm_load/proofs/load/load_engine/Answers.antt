@@ -5,7 +5,9 @@ use Rattle.dbm_load.proofs.load.load_engine.Goals as goal
 pub returns-in_default-clause-loads : goal.returns-in_default-clause-loads
 returns-in_default-clause-loads g c =
     let db = c.args.db.now in
-    not_begun db _ (λ start honest at. no_run g.S.PageStore db start at (λ x left. g.met.S.PageStore.only_now db.store x honest left))
+    not_begun db _ (λ start honest at.
+    no_run g.S.PageStore db start at
+    (λ x left. g.met.S.PageStore.only_now db.store x honest left))
 
 pub returns-clause-dump : goal.returns-clause-dump
 returns-clause-dump g c = dump_back c.load_lines.result _ _ _ c.load_lines.ensures.loads

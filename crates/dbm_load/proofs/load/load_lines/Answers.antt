@@ -11,7 +11,9 @@ pub loop-number-init : goal.loop-number-init
 loop-number-init g c = record {
   loading =
       let db = c.args.db.now in
-      at_start db _ (λ start honest at. no_run g.S.PageStore db start at (λ x left. g.met.S.PageStore.only_now db.store x honest left));
+      at_start db _ (λ start honest at.
+      no_run g.S.PageStore db start at
+      (λ x left. g.met.S.PageStore.only_now db.store x honest left));
   goes = goes_nowhere c.args.db.now;
   counted = counted_first (g.R.Read.remaining c.args.reader.now) 4294967295;
 }
@@ -23,18 +25,30 @@ returns-in_err-map_err-clause-loads g c =
 
 pub returns-in_err-load_line-clause-loads : goal.returns-in_err-load_line-clause-loads
 returns-in_err-load_line-clause-loads g c =
-    let read : IfSome (g.R.Read.remaining c.loop-number.reader) (λ text. ReadsLine 8193 text true c.read_line-read.new.line.items (g.R.Read.remaining c.read_line-read.new.reader)) = search rules in
-    let same : c.from_residual-in_err-load_line.result ≡ Err c.in_err-load_line.field-0.0 = search rules in
+    let read : IfSome (g.R.Read.remaining c.loop-number.reader)
+    (λ text. ReadsLine 8193 text true c.read_line-read.new.line.items
+    (g.R.Read.remaining c.read_line-read.new.reader)) = search rules in
+    let same : c.from_residual-in_err-load_line.result ≡ Err c.in_err-load_line.field-0.0 =
+    search rules in
     let h = c.loop-number.invariant in
-    rw same (stopped g.S.PageStore _ _ _ _ _ _ _ _ h.goes.limit h.goes.honesty.1 c.load_line.ensures.goes (λ honest t x le left. g.met.S.PageStore.counts_now (store_of c.load_line.new.db) t x honest le left) h.loading read _ c.in_err-load_line.ensures.line)
+    rw same (stopped g.S.PageStore _ _ _ _ _ _ _ _ h.goes.limit h.goes.honesty.1
+    c.load_line.ensures.goes (λ honest t x le left.
+    g.met.S.PageStore.counts_now (store_of c.load_line.new.db) t x honest le left)
+    h.loading read _ c.in_err-load_line.ensures.line)
 
 pub loop-number-preserved : goal.loop-number-preserved
 loop-number-preserved g c =
-    let read : IfSome (g.R.Read.remaining c.loop-number.reader) (λ text. ReadsLine 8193 text true c.read_line-read.new.line.items (g.R.Read.remaining c.read_line-read.new.reader)) = search rules in
-    let count : IsCounted (g.R.Read.remaining c.loop-number.reader) c.loop-number.left (g.R.Read.remaining c.read_line-read.new.reader) c.read_line-read.new.left = search rules in
+    let read : IfSome (g.R.Read.remaining c.loop-number.reader)
+    (λ text. ReadsLine 8193 text true c.read_line-read.new.line.items
+    (g.R.Read.remaining c.read_line-read.new.reader)) = search rules in
+    let count : IsCounted (g.R.Read.remaining c.loop-number.reader) c.loop-number.left
+    (g.R.Read.remaining c.read_line-read.new.reader) c.read_line-read.new.left = search rules in
     let h = c.loop-number.invariant in
     record {
-      loading = go_on g.S.PageStore _ _ _ _ _ _ _ _ h.goes.limit h.goes.honesty.1 c.load_line.ensures.goes (λ honest t x le left. g.met.S.PageStore.counts_now (store_of c.load_line.new.db) t x honest le left) h.loading read c.in_ok-load_line.ensures.line;
+      loading = go_on g.S.PageStore _ _ _ _ _ _ _ _ h.goes.limit h.goes.honesty.1
+          c.load_line.ensures.goes (λ honest t x le left.
+          g.met.S.PageStore.counts_now (store_of c.load_line.new.db) t x honest le left)
+          h.loading read c.in_ok-load_line.ensures.line;
       goes = still_goes _ _ _ h.goes c.load_line.ensures.goes;
       counted = counted_on _ _ _ _ _ _ h.counted count;
     }

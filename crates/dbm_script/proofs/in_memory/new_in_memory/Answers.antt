@@ -8,15 +8,36 @@ use Rattle.dbm_script.proofs.in_memory.new_in_memory.Goals as goal
 
 pub returns-in-Ok-clause-fresh : goal.returns-in-Ok-clause-fresh
 returns-in-Ok-clause-fresh c =
-    let how : OpenHow = record { access = ReadWrite; create = true; exclusive = false; truncate = false; limit = c.args.limit } in
-    let found = c.in-Ok.ensures.stands tt (λ reads. absurd (cc)) (λ image is. inl (blank_there _ _ c.new.ensures.stable image is)) in
+    let how : OpenHow = record {
+      access = ReadWrite;
+      create = true;
+      exclusive = false;
+      truncate =
+          false;
+      limit = c.args.limit;
+    } in
+    let found = c.in-Ok.ensures.stands tt (λ reads. absurd (cc))
+    (λ image is. inl (blank_there _ _ c.new.ensures.stable image is)) in
     let new = opened_new how _ _ found.0 found.1 (blank_there _ _ c.new.ensures.stable) found.3 in
-    subst (λ map. IsOpenedAt true c.in-Ok.db map c.args.limit) new.0 (subst (IsOpenedAt true c.in-Ok.db found.0) new.1 found.2)
+    subst (λ map. IsOpenedAt true c.in-Ok.db map c.args.limit) new.0
+    (subst (IsOpenedAt true c.in-Ok.db found.0) new.1 found.2)
 
 pub returns-clause-only : goal.returns-clause-only
 returns-clause-only c allowed =
-    let how : OpenHow = record { access = ReadWrite; create = true; exclusive = false; truncate = false; limit = c.args.limit } in
+    let how : OpenHow = record {
+      access = ReadWrite;
+      create = true;
+      exclusive = false;
+      truncate =
+          false;
+      limit = c.args.limit;
+    } in
     let blank = blank_there _ _ c.new.ensures.stable in
     let room = makes_room how c.in-Some.sectors _ refl refl c.in-Some.ensures c.new.ensures.size in
-    only_device (c.in-Err.ensures.opens tt (large_enough _ (omega (arith, enough c.args.limit c.in-Some.sectors c.in-Some.ensures, c.new.ensures.size))) (λ image is. inl (blank image is))
+    only_device (c.in-Err.ensures.opens tt
+    (large_enough _ (omega (
+      arith,
+      enough c.args.limit c.in-Some.sectors c.in-Some.ensures,
+      c.new.ensures.size,
+    ))) (λ image is. inl (blank image is))
     (λ image is. subst (Allows how _) (sym (blank image is)) room))

@@ -3,4 +3,8 @@ use Rattle.dbm_file.specs.Calls.{lent_reply}
 use Rattle.dbm_script.proofs.script.answer_fetch.Goals as goal
 
 pub returns-clause-line : goal.returns-clause-line
-returns-clause-line g c honest h at = (lent_reply model.NoRecord c.fetch.result, c.fetch.follows.holds-at-none.step honest h at, c.write_fetched.ensures)
+returns-clause-line g c honest h at = (
+  lent_reply model.NoRecord c.fetch.result,
+  c.fetch.follows.holds-at-none.step honest h at,
+  c.write_fetched.ensures,
+)

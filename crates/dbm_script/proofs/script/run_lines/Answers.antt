@@ -9,17 +9,20 @@ pub loop-init : goal.loop-init
 loop-init g c = record {
   answered = λ honest start at.
       let db = c.args.db.now in
-      at_start db start _ _ (no_run g.S.PageStore db start at (λ x left. g.met.S.PageStore.only_now db.store x honest left));
+      at_start db start _ _ (no_run g.S.PageStore db start at
+      (λ x left. g.met.S.PageStore.only_now db.store x honest left));
   goes = goes_nowhere c.args.db.now;
   counted = counted_first (g.R.Read.remaining c.args.reader.now) 4294967295;
 }
 
 -- a line was cut short
 pub returns-in_err-read-clause-stands : goal.returns-in_err-read-clause-stands
-returns-in_err-read-clause-stands g c honest start at = stand _ _ start _ _ _ _ (c.loop.invariant.answered honest start at)
+returns-in_err-read-clause-stands g c honest start at =
+    stand _ _ start _ _ _ _ (c.loop.invariant.answered honest start at)
 
 pub returns-in_err-read-clause-cut : goal.returns-in_err-read-clause-cut
-returns-in_err-read-clause-cut g c honest start at is = answered_first _ _ start _ _ _ _ (c.loop.invariant.answered honest start at)
+returns-in_err-read-clause-cut g c honest start at is =
+    answered_first _ _ start _ _ _ _ (c.loop.invariant.answered honest start at)
 
 -- a reply was not written
 pub returns-in_err-map_err-clause-stands : goal.returns-in_err-map_err-clause-stands
@@ -27,21 +30,26 @@ returns-in_err-map_err-clause-stands g c honest start at =
     let so_far = c.loop.invariant in
     let h = so_far.answered honest start at in
     let mid = so_far.goes.honesty.1 honest in
-    stand_with g.S.PageStore _ _ _ start _ _ _ _ _ c.next_line.new.buffers.line.items _ so_far.goes.limit c.answer_and_flush.ensures.goes
-    (λ t x le left. g.met.S.PageStore.counts_now (store_of c.answer_and_flush.new.db) t x (c.answer_and_flush.ensures.goes.honesty.1 mid) le left) h
+    stand_with g.S.PageStore _ _ _ start _ _ _ _ _ c.next_line.new.buffers.line.items _
+    so_far.goes.limit c.answer_and_flush.ensures.goes
+    (λ t x le left. g.met.S.PageStore.counts_now (store_of c.answer_and_flush.new.db) t x
+    (c.answer_and_flush.ensures.goes.honesty.1 mid) le left) h
     (was_read _ _ _ _ (sym c.is_line.ensures ∙ c.if-not-is_line.false) c.in_ok-read.ensures.line)
     (c.answer_and_flush.ensures.line mid h.answered.run.after h.answered.run.is_at)
 
 -- at the end of the text
 pub returns-then-not-is_line-clause-stands : goal.returns-then-not-is_line-clause-stands
-returns-then-not-is_line-clause-stands g c honest start at = stand _ _ start _ _ _ _ (c.loop.invariant.answered honest start at)
+returns-then-not-is_line-clause-stands g c honest start at =
+    stand _ _ start _ _ _ _ (c.loop.invariant.answered honest start at)
 
 -- after as many lines as can be counted
 pub returns-clause-stands : goal.returns-clause-stands
-returns-clause-stands g c honest start at = stand _ _ start _ _ _ _ (c.loop.invariant.answered honest start at)
+returns-clause-stands g c honest start at =
+    stand _ _ start _ _ _ _ (c.loop.invariant.answered honest start at)
 
 pub returns-clause-cut : goal.returns-clause-cut
-returns-clause-cut g c honest start at is = answered_first _ _ start _ _ _ _ (c.loop.invariant.answered honest start at)
+returns-clause-cut g c honest start at is =
+    answered_first _ _ start _ _ _ _ (c.loop.invariant.answered honest start at)
 
 pub loop-preserved : goal.loop-preserved
 loop-preserved g c =
@@ -51,10 +59,14 @@ loop-preserved g c =
       answered = λ honest start at.
           let h = so_far.answered honest start at in
           let mid = so_far.goes.honesty.1 honest in
-          go_on g.S.PageStore _ _ _ start _ _ _ _ _ _ c.next_line.new.buffers.line.items so_far.goes.limit c.answer_and_flush.ensures.goes
-          (λ t x le left. g.met.S.PageStore.counts_now (store_of c.answer_and_flush.new.db) t x (c.answer_and_flush.ensures.goes.honesty.1 mid) le left) h
-          (was_read _ _ _ _ (sym c.is_line.ensures ∙ c.if-not-is_line.false) c.in_ok-read.ensures.line)
-          (said c.answer_and_flush.result _ _ _ h.answered.run.after _ wrote (c.answer_and_flush.ensures.line mid h.answered.run.after h.answered.run.is_at));
+          go_on g.S.PageStore _ _ _ start _ _ _ _ _ _ c.next_line.new.buffers.line.items
+          so_far.goes.limit c.answer_and_flush.ensures.goes
+          (λ t x le left. g.met.S.PageStore.counts_now (store_of c.answer_and_flush.new.db) t x
+          (c.answer_and_flush.ensures.goes.honesty.1 mid) le left) h
+          (was_read _ _ _ _ (sym c.is_line.ensures ∙ c.if-not-is_line.false)
+          c.in_ok-read.ensures.line)
+          (said c.answer_and_flush.result _ _ _ h.answered.run.after _ wrote
+          (c.answer_and_flush.ensures.line mid h.answered.run.after h.answered.run.is_at));
       goes = still_goes _ _ _ so_far.goes c.answer_and_flush.ensures.goes;
       counted = counted_on _ _ _ _ _ _ so_far.counted c.in_ok-read.ensures.counted;
     }

@@ -7,7 +7,11 @@ use Rattle.dbm_script.proofs.script.run_lines.Given as goal
 
 abbrev pub invariant-loop : goal.invariant-loop
 invariant-loop g l = record {
-  answered : g.S.PageStore.honest (store_of l.initial.db) → (h : Handle) → IsAt l.initial.db h → IsAnswered l.initial.db l.db h (g.R.Read.remaining l.initial.reader) (g.R.Read.remaining l.reader) (g.W.Write.contents l.initial.writer) (g.W.Write.contents l.writer);
+  answered : g.S.PageStore.honest (store_of l.initial.db) → (h : Handle) → IsAt l.initial.db h
+      → IsAnswered l.initial.db l.db h (g.R.Read.remaining l.initial.reader)
+      (g.R.Read.remaining l.reader) (g.W.Write.contents l.initial.writer)
+      (g.W.Write.contents l.writer);
   goes : IsSameDatabase l.initial.db l.db;
-  counted : IsCounted (g.R.Read.remaining l.initial.reader) 4294967295 (g.R.Read.remaining l.reader) l.left;
+  counted : IsCounted (g.R.Read.remaining l.initial.reader) 4294967295
+      (g.R.Read.remaining l.reader) l.left;
 }

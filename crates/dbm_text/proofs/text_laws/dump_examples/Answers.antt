@@ -13,5 +13,7 @@ unfolding hex_on_literals
 returns c = record {
   nothing = ap (flat_map dump_line) no_entries;
   dump = ap (flat_map dump_line) two_entries;
-  listing = ap (λ (pairs : List Pair). flat_map (λ (key : List ℕ). with_line_feed (word_of key)) (map (λ (pair : Pair). pair.0) pairs)) two_entries;
+  listing = ap (λ (pairs : List Pair).
+      flat_map (λ (key : List ℕ). with_line_feed (word_of key))
+      (map (λ (pair : Pair). pair.0) pairs)) two_entries;
 }

@@ -6,9 +6,17 @@ use Rattle.dbm_words.proofs.commands.command.Goals as goal
 pub returns : goal.returns
 unfolding command_line
 returns c =
-    eleven_lines_added program_line create_line (pair_line (codes "store")) (pair_line (codes "insert")) (key_line (codes "fetch")) (key_line (codes "delete")) (file_line (codes "list")) (file_line (codes "dump")) (file_line (codes "load")) (file_line (codes "stat")) script_line faults_line
-    c.program.result c.added-command.result c.added-command-2.result c.added-command-3.result c.added-command-4.result c.added-command-5.result c.added-command-6.result c.added-command-7.result c.added-command-8.result c.added-command-9.result c.added-command-10.result
-    c.create_command.result c.store_command.result c.insert_command.result c.fetch_command.result c.delete_command.result c.list_command.result c.dump_command.result c.load_command.result c.stat_command.result c.script_command.result (Ok c.faults_command.result) c.added.result
+    eleven_lines_added program_line create_line (pair_line (codes "store"))
+    (pair_line (codes "insert")) (key_line (codes "fetch")) (key_line (codes "delete"))
+    (file_line (codes "list")) (file_line (codes "dump")) (file_line (codes "load"))
+    (file_line (codes "stat")) script_line faults_line
+    c.program.result c.added-command.result c.added-command-2.result c.added-command-3.result
+    c.added-command-4.result c.added-command-5.result c.added-command-6.result
+    c.added-command-7.result c.added-command-8.result c.added-command-9.result
+    c.added-command-10.result
+    c.create_command.result c.store_command.result c.insert_command.result c.fetch_command.result
+    c.delete_command.result c.list_command.result c.dump_command.result c.load_command.result
+    c.stat_command.result c.script_command.result (Ok c.faults_command.result) c.added.result
     c.program.ensures
     c.create_command.ensures c.added-command.ensures
     c.store_command.ensures c.added-command-2.ensures

@@ -7,5 +7,7 @@ use Rattle.dbm_words.proofs.commands.faults_command.Goals as goal
 pub returns : goal.returns
 returns c =
     let bare : App = new_app (codes "faults") in
-    let about : IsApp c.about.result bare = with_about c.new.result c.about.result bare c.about.ensures (record { shape = c.new.ensures.app; local = c.new.ensures.local }) in
+    let about : IsApp c.about.result bare =
+    with_about c.new.result c.about.result bare c.about.ensures
+    (record { shape = c.new.ensures.app; local = c.new.ensures.local }) in
     with_after_help c.about.result c.after_help.result bare c.after_help.ensures about

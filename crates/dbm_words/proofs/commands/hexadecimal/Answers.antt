@@ -9,6 +9,9 @@ use Rattle.dbm_words.proofs.commands.hexadecimal.Goals as goal
 pub returns : goal.returns
 returns c =
     let named : Rule = record (new_rule (codes "hexadecimal")) { short = Some 120 } in
-    let short : IsRule c.short.result named = with_short 120 c.new.result c.short.result (new_rule (codes "hexadecimal")) c.short.ensures (record { shape = c.new.ensures.rule; local = c.new.ensures.optional.1 }) in
-    let flag : IsRule c.action.result hexadecimal_rule = with_action_of SetTrue c.short.result c.action.result named c.action.ensures short in
+    let short : IsRule c.short.result named =
+    with_short 120 c.new.result c.short.result (new_rule (codes "hexadecimal")) c.short.ensures
+    (record { shape = c.new.ensures.rule; local = c.new.ensures.optional.1 }) in
+    let flag : IsRule c.action.result hexadecimal_rule =
+    with_action_of SetTrue c.short.result c.action.result named c.action.ensures short in
     with_help c.action.result c.help.result hexadecimal_rule c.help.ensures flag

@@ -7,5 +7,9 @@ use Rattle.dbm_words.proofs.commands.key_command.Goals as goal
 
 pub returns : goal.returns
 returns c =
-    let with_key = with_option c.in_ok-file_command.field-0 c.in_ok-arg.field-0 c.word.result (alone (file_line c.args.name.now)) (word_rule (codes "key")) c.in_ok-file_command.ensures c.word.ensures c.in_ok-arg.ensures in
-    option_added c.in_ok-arg.field-0 c.hexadecimal.result c.arg-2.result (with_rule (alone (file_line c.args.name.now)) (word_rule (codes "key"))) hexadecimal_rule with_key c.hexadecimal.ensures c.arg-2.ensures
+    let with_key = with_option c.in_ok-file_command.field-0 c.in_ok-arg.field-0 c.word.result
+    (alone (file_line c.args.name.now)) (word_rule (codes "key")) c.in_ok-file_command.ensures
+    c.word.ensures c.in_ok-arg.ensures in
+    option_added c.in_ok-arg.field-0 c.hexadecimal.result c.arg-2.result
+    (with_rule (alone (file_line c.args.name.now)) (word_rule (codes "key"))) hexadecimal_rule
+    with_key c.hexadecimal.ensures c.arg-2.ensures

@@ -6,7 +6,9 @@ use Rattle.dbm_words.proofs.Building.{with_usage}
 use Rattle.dbm_words.proofs.commands.list_command.Goals as goal
 
 pub returns-in_err-command : goal.returns-in_err-command
-returns-in_err-command c = IfOk-from_err c.from_residual.result (λ made. IsApp made (alone (file_line (codes "list")))) c.from_residual.ensures.0
+returns-in_err-command c = IfOk-from_err c.from_residual.result
+    (λ made. IsApp made (alone (file_line (codes "list")))) c.from_residual.ensures.0
 
 pub returns : goal.returns
-returns c = with_usage c.in_ok-command.command c.override_usage.result (alone (file_line (codes "list"))) c.override_usage.ensures c.in_ok-command.ensures
+returns c = with_usage c.in_ok-command.command c.override_usage.result
+    (alone (file_line (codes "list"))) c.override_usage.ensures c.in_ok-command.ensures

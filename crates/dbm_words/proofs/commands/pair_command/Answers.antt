@@ -5,5 +5,6 @@ use Rattle.dbm_words.proofs.Building.{option_added}
 use Rattle.dbm_words.proofs.commands.pair_command.Goals as goal
 
 pub returns : goal.returns
-returns c = option_added c.in_ok-key_command.field-0 c.word.result c.arg.result (alone (key_line c.args.name.now)) (word_rule (codes "content"))
+returns c = option_added c.in_ok-key_command.field-0 c.word.result c.arg.result
+    (alone (key_line c.args.name.now)) (word_rule (codes "content"))
     c.in_ok-key_command.ensures c.word.ensures c.arg.ensures

@@ -15,29 +15,50 @@ pub returns-in_default-clause-others : goal.returns-in_default-clause-others
 returns-in_default-clause-others c = inl refl
 
 pub returns-in_err-source-clause-plan : goal.returns-in_err-source-clause-plan
-returns-in_err-source-clause-plan c = IfOk-from_err c.from_residual.result (Names (subcommand_rows_of c.args.matches.now)) c.from_residual.ensures.0
+returns-in_err-source-clause-plan c =
+    IfOk-from_err c.from_residual.result (Names (subcommand_rows_of c.args.matches.now))
+    c.from_residual.ensures.0
 
 pub returns-in_err-source-clause-source : goal.returns-in_err-source-clause-source
 returns-in_err-source-clause-source c =
-    if_exit (λ e. e ≡ ScriptSource → NamesNoSource (subcommand_rows_of c.args.matches.now)) c.from_residual.result c.in_err-source.field-0.0 (exit_is c.from_residual.result c.in_err-source.field-0.0 c.from_residual.ensures.1)
-    (λ is. names_no_source c.args.matches.now c.in-Some.name.now (rows_of (found_of c.in-Some.options.now)) c.in-Some.ensures.name c.in-Some.ensures.rows (is_name c.in-Some.name.now (codes "script") c.eq.result c.eq.ensures c.if-eq.true) (c.in_err-source.ensures.lacks is))
+    if_exit (λ e. e ≡ ScriptSource → NamesNoSource (subcommand_rows_of c.args.matches.now))
+    c.from_residual.result c.in_err-source.field-0.0
+    (exit_is c.from_residual.result c.in_err-source.field-0.0 c.from_residual.ensures.1)
+    (λ is. names_no_source c.args.matches.now c.in-Some.name.now
+    (rows_of (found_of c.in-Some.options.now)) c.in-Some.ensures.name c.in-Some.ensures.rows
+    (is_name c.in-Some.name.now (codes "script") c.eq.result c.eq.ensures c.if-eq.true)
+    (c.in_err-source.ensures.lacks is))
 
 pub returns-in_err-source-clause-others : goal.returns-in_err-source-clause-others
 returns-in_err-source-clause-others c =
-    if_exit (λ e. (e ≡ NoPlan) ⊎ (e ≡ ScriptSource)) c.from_residual.result c.in_err-source.field-0.0 (exit_is c.from_residual.result c.in_err-source.field-0.0 c.from_residual.ensures.1) c.in_err-source.ensures.others
+    if_exit (λ e. (e ≡ NoPlan) ⊎ (e ≡ ScriptSource)) c.from_residual.result
+    c.in_err-source.field-0.0 (exit_is c.from_residual.result c.in_err-source.field-0.0
+    c.from_residual.ensures.1) c.in_err-source.ensures.others
 
 pub returns-then-eq-clause-plan : goal.returns-then-eq-clause-plan
-returns-then-eq-clause-plan c = names_plan c.args.matches.now c.in-Some.name.now (rows_of (found_of c.in-Some.options.now)) c.in-Some.ensures.name c.in-Some.ensures.rows (Script c.in_ok-source.field-0) (is_name c.in-Some.name.now (codes "script") c.eq.result c.eq.ensures c.if-eq.true, c.in_ok-source.ensures.source)
+returns-then-eq-clause-plan c =
+    names_plan c.args.matches.now c.in-Some.name.now (rows_of (found_of c.in-Some.options.now))
+    c.in-Some.ensures.name c.in-Some.ensures.rows (Script c.in_ok-source.field-0) (
+      is_name c.in-Some.name.now (codes "script") c.eq.result c.eq.ensures c.if-eq.true,
+      c.in_ok-source.ensures.source,
+    )
 
 pub returns-then-eq-2-clause-plan : goal.returns-then-eq-2-clause-plan
-returns-then-eq-2-clause-plan c = names_plan c.args.matches.now c.in-Some.name.now (rows_of (found_of c.in-Some.options.now)) c.in-Some.ensures.name c.in-Some.ensures.rows Faults (is_name c.in-Some.name.now (codes "faults") c.eq-2.result c.eq-2.ensures c.if-eq-2.true)
+returns-then-eq-2-clause-plan c =
+    names_plan c.args.matches.now c.in-Some.name.now (rows_of (found_of c.in-Some.options.now))
+    c.in-Some.ensures.name c.in-Some.ensures.rows Faults
+    (is_name c.in-Some.name.now (codes "faults") c.eq-2.result c.eq-2.ensures c.if-eq-2.true)
 
 pub returns-clause-plan : goal.returns-clause-plan
-returns-clause-plan c = names_found c.args.matches.now c.in-Some.name.now (rows_of (found_of c.in-Some.options.now)) c.in-Some.ensures.name c.in-Some.ensures.rows c.of_file.result c.ok_or.result c.ok_or.ensures.value c.of_file.ensures
+returns-clause-plan c = names_found c.args.matches.now c.in-Some.name.now
+    (rows_of (found_of c.in-Some.options.now)) c.in-Some.ensures.name c.in-Some.ensures.rows
+    c.of_file.result c.ok_or.result c.ok_or.ensures.value c.of_file.ensures
 
 pub returns-clause-source : goal.returns-clause-source
 returns-clause-source c =
-    no_plan_or (λ e. e ≡ ScriptSource → NamesNoSource (subcommand_rows_of c.args.matches.now)) c.of_file.result c.ok_or.result c.ok_or.ensures.value (λ is. absurd (no_plan_is_other is))
+    no_plan_or (λ e. e ≡ ScriptSource → NamesNoSource (subcommand_rows_of c.args.matches.now))
+    c.of_file.result c.ok_or.result c.ok_or.ensures.value (λ is. absurd (no_plan_is_other is))
 
 pub returns-clause-others : goal.returns-clause-others
-returns-clause-others c = no_plan_or (λ e. (e ≡ NoPlan) ⊎ (e ≡ ScriptSource)) c.of_file.result c.ok_or.result c.ok_or.ensures.value (inl refl)
+returns-clause-others c = no_plan_or (λ e. (e ≡ NoPlan) ⊎ (e ≡ ScriptSource)) c.of_file.result
+    c.ok_or.result c.ok_or.ensures.value (inl refl)

@@ -4,13 +4,18 @@ use Rattle.dbm_words.proofs.Naming.{if_none}
 use Rattle.dbm_words.proofs.options.of_file.Goals as goal
 
 pub returns-in_err-file : goal.returns-in_err-file
-returns-in_err-file c = if_none c.from_residual.result (Asks c.args.name.now (rows_of (found_of c.args.options.now))) c.from_residual.ensures
+returns-in_err-file c = if_none c.from_residual.result
+    (Asks c.args.name.now (rows_of (found_of c.args.options.now))) c.from_residual.ensures
 
 pub returns-in_err-number-in-create : goal.returns-in_err-number-in-create
-returns-in_err-number-in-create c = if_none c.from_residual-in_err-number-in-create.result (Asks c.args.name.now (rows_of (found_of c.args.options.now))) c.from_residual-in_err-number-in-create.ensures
+returns-in_err-number-in-create c =
+    if_none c.from_residual-in_err-number-in-create.result
+    (Asks c.args.name.now (rows_of (found_of c.args.options.now)))
+    c.from_residual-in_err-number-in-create.ensures
 
 pub returns-in_ok-number-in-create : goal.returns-in_ok-number-in-create
-returns-in_ok-number-in-create c = (c.in-create.is, c.in_ok-file.ensures, c.in_ok-number-in-create.ensures)
+returns-in_ok-number-in-create c =
+    (c.in-create.is, c.in_ok-file.ensures, c.in_ok-number-in-create.ensures)
 
 pub returns-in-list : goal.returns-in-list
 returns-in-list c = (c.in-list.is, c.in_ok-file.ensures)

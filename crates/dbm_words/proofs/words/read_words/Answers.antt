@@ -7,18 +7,26 @@ use Rattle.dbm_words.proofs.Refusing.{choice_is_sorted, choice_passes, memory_is
 use Rattle.dbm_words.proofs.words.read_words.Goals as goal
 
 pub returns-in-Ok-try_get_matches_from-clause-plan : goal.returns-in-Ok-try_get_matches_from-clause-plan
-returns-in-Ok-try_get_matches_from-clause-plan c = of_words c.in-Ok-try_get_matches_from.matches (app_of c.in-Ok.command) (map (λ word. word.now) c.args.words.now) (λ entered. IfOk c.chosen.result (Names entered))
+returns-in-Ok-try_get_matches_from-clause-plan c =
+    of_words c.in-Ok-try_get_matches_from.matches (app_of c.in-Ok.command)
+    (map (λ word. word.now) c.args.words.now) (λ entered. IfOk c.chosen.result (Names entered))
     c.in-Ok.ensures.shape c.in-Ok-try_get_matches_from.ensures.matches c.chosen.ensures.plan
 
 pub returns-in-Ok-try_get_matches_from-clause-source : goal.returns-in-Ok-try_get_matches_from-clause-source
-returns-in-Ok-try_get_matches_from-clause-source c = of_words c.in-Ok-try_get_matches_from.matches (app_of c.in-Ok.command) (map (λ word. word.now) c.args.words.now) (λ entered. IfErr c.chosen.result (λ e. e ≡ ScriptSource → NamesNoSource entered))
+returns-in-Ok-try_get_matches_from-clause-source c =
+    of_words c.in-Ok-try_get_matches_from.matches (app_of c.in-Ok.command)
+    (map (λ word. word.now) c.args.words.now)
+    (λ entered. IfErr c.chosen.result (λ e. e ≡ ScriptSource → NamesNoSource entered))
     c.in-Ok.ensures.shape c.in-Ok-try_get_matches_from.ensures.matches c.chosen.ensures.source
 
 pub returns-in-Err-clause-source : goal.returns-in-Err-clause-source
 returns-in-Err-clause-source c = λ is. absurd (c.sorted.ensures.source is)
 
 pub returns-in-Err-clause-passes : goal.returns-in-Err-clause-passes
-returns-in-Err-clause-passes c = λ taken. inl (c.sorted.ensures.memory (c.in-Err.ensures.passes (ap (λ a. takes a (map (λ word. word.now) c.args.words.now)) c.in-Ok.ensures.shape ∙ taken)))
+returns-in-Err-clause-passes c = λ taken.
+    inl (c.sorted.ensures.memory (c.in-Err.ensures.passes
+    (ap (λ a. takes a (map (λ word. word.now) c.args.words.now))
+    c.in-Ok.ensures.shape ∙ taken)))
 
 pub returns-in_default-clause-source : goal.returns-in_default-clause-source
 returns-in_default-clause-source c = λ is. absurd (memory_is_other is)
@@ -27,10 +35,12 @@ pub returns-in_default-clause-passes : goal.returns-in_default-clause-passes
 returns-in_default-clause-passes c = λ _. inl refl
 
 pub returns-in-Ok-try_get_matches_from-clause-sorted : goal.returns-in-Ok-try_get_matches_from-clause-sorted
-returns-in-Ok-try_get_matches_from-clause-sorted c = choice_is_sorted c.chosen.result c.chosen.ensures.others
+returns-in-Ok-try_get_matches_from-clause-sorted c =
+    choice_is_sorted c.chosen.result c.chosen.ensures.others
 
 pub returns-in-Ok-try_get_matches_from-clause-passes : goal.returns-in-Ok-try_get_matches_from-clause-passes
-returns-in-Ok-try_get_matches_from-clause-passes c = λ _. choice_passes c.chosen.result c.chosen.ensures.others
+returns-in-Ok-try_get_matches_from-clause-passes c = λ _.
+    choice_passes c.chosen.result c.chosen.ensures.others
 
 pub returns-in-Err-clause-sorted : goal.returns-in-Err-clause-sorted
 returns-in-Err-clause-sorted c = c.sorted.ensures.sorted

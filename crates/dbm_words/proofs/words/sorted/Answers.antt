@@ -19,13 +19,16 @@ pub returns-then-use_stderr-clause-source : goal.returns-then-use_stderr-clause-
 returns-then-use_stderr-clause-source c = usage_is_other c.args.refusal
 
 pub returns-then-use_stderr-clause-memory : goal.returns-then-use_stderr-clause-memory
-returns-then-use_stderr-clause-memory c = λ is. absurd (false≢true (c.if-eq.ensures ∙ rw (c.kind.ensures ∙ is)))
+returns-then-use_stderr-clause-memory c = λ is.
+    absurd (false≢true (c.if-eq.ensures ∙ rw (c.kind.ensures ∙ is)))
 
 pub returns-else-use_stderr-clause-sorted : goal.returns-else-use_stderr-clause-sorted
-returns-else-use_stderr-clause-sorted c = was_asked_for (kind_of c.args.refusal) c.if-use_stderr.ensures.1
+returns-else-use_stderr-clause-sorted c =
+    was_asked_for (kind_of c.args.refusal) c.if-use_stderr.ensures.1
 
 pub returns-else-use_stderr-clause-source : goal.returns-else-use_stderr-clause-source
 returns-else-use_stderr-clause-source c = help_is_other c.args.refusal
 
 pub returns-else-use_stderr-clause-memory : goal.returns-else-use_stderr-clause-memory
-returns-else-use_stderr-clause-memory c = λ is. absurd (false≢true (c.if-eq.ensures ∙ rw (c.kind.ensures ∙ is)))
+returns-else-use_stderr-clause-memory c = λ is.
+    absurd (false≢true (c.if-eq.ensures ∙ rw (c.kind.ensures ∙ is)))

@@ -27,9 +27,17 @@ returns-in-Some-clause-any_moment g c honest =
     let dev = g.D.SectorDev in
     let store = c.args.store in
     let rest = store.rests honest c.requires.fresh.usable in
-    subst (λ d. LeavesOnly dev.moment (IsOutcome dev.left_since (settled (dev.sectors store.dev / 4))) store.dev d (OldOrEmpty (file_pages (overlaid (bytes_of store.redo.items) (page_at (dev.seen store.dev))) store.end) (emptying_fault c.args.limit (dev.sectors store.dev) store.end ≡ None) c.args.limit)) (sym c.into_dev.ensures)
-    (settles_still dev.moment dev.left_since dev.candidate store.dev (dev.sectors store.dev / 4) _ (λ image left. g.met.D.SectorDev.only_now store.dev image honest left)
-    (λ y is. inl (only_seen (dev.sectors store.dev / 4) (dev.candidate store.dev) (dev.seen store.dev) y _ (rest.at_rest c.requires.fresh.writable).stable rest.settles is)))
+    subst (λ d. LeavesOnly dev.moment
+    (IsOutcome dev.left_since (settled (dev.sectors store.dev / 4))) store.dev d
+    (OldOrEmpty (file_pages (overlaid (bytes_of store.redo.items)
+    (page_at (dev.seen store.dev))) store.end)
+    (emptying_fault c.args.limit (dev.sectors store.dev) store.end ≡ None)
+    c.args.limit)) (sym c.into_dev.ensures)
+    (settles_still dev.moment dev.left_since dev.candidate store.dev (dev.sectors store.dev / 4) _
+    (λ image left. g.met.D.SectorDev.only_now store.dev image honest left)
+    (λ y is. inl (only_seen (dev.sectors store.dev / 4) (dev.candidate store.dev)
+    (dev.seen store.dev) y _ (rest.at_rest c.requires.fresh.writable).stable
+    rest.settles is)))
 
 pub returns-in-Ok-clause-stands : goal.returns-in-Ok-clause-stands
 returns-in-Ok-clause-stands g c honest =
@@ -38,9 +46,12 @@ returns-in-Ok-clause-stands g c honest =
     let m = c.of_empty-meta.result in
     let holds = c.in-Ok.ensures.holds honest in
     let rest = new.rests (c.commit_empty.ensures.honesty.1 honest) in
-    let writable = ap (λ (st : StoreState). st.writable) c.in-Ok.ensures.ok ∙ c.requires.fresh.writable in record {
+    let writable = ap (λ (st : StoreState). st.writable) c.in-Ok.ensures.ok
+    ∙ c.requires.fresh.writable in record {
       holds = λ usable. holds;
-      rests = λ usable y left. subst (λ (z : Settled). ImageStandsFor z empty m.limit) (sym (only_seen (dev.sectors new.dev / 4) (dev.candidate new.dev) (dev.seen new.dev) y _ ((rest usable).at_rest writable).stable (rest usable).settles left)) holds.stands;
+      rests = λ usable y left. subst (λ (z : Settled). ImageStandsFor z empty m.limit)
+          (sym (only_seen (dev.sectors new.dev / 4) (dev.candidate new.dev) (dev.seen new.dev) y _
+          ((rest usable).at_rest writable).stable (rest usable).settles left)) holds.stands;
       limit_is = ap (λ (n : Meta). n.limit) c.of_empty-meta.ensures;
     }
 
@@ -50,21 +61,32 @@ returns-in-Err-clause-left g c honest other after left =
     let old = c.args.store in
     let new = c.commit_empty.new.store in
     let all = c.in-Err.ensures in
-    let usable = still_good (state_of old) (state_of new) c.in-Err.fault c.from.result all.err c.from.ensures other ∙ c.requires.fresh.usable in
+    let usable = still_good (state_of old) (state_of new) c.in-Err.fault c.from.result all.err
+    c.from.ensures other ∙ c.requires.fresh.usable in
     let run = all.unchanged honest usable in
-    left_as_before dev.left_since dev.candidate new.dev (dev.moment old.dev) (dev.sectors old.dev / 4) (dev.sectors new.dev / 4) _ (still_capacity (state_of old) (state_of new) c.in-Err.fault all.err) run.each
-    (λ image is. g.met.D.SectorDev.counts_now new.dev (dev.moment old.dev) image (c.commit_empty.ensures.honesty.1 honest) run.later is) after (subst (λ d. IsImageOf (dev.candidate d) after) c.into_dev-in-Err.ensures left)
+    left_as_before dev.left_since dev.candidate new.dev (dev.moment old.dev)
+    (dev.sectors old.dev / 4) (dev.sectors new.dev / 4) _
+    (still_capacity (state_of old) (state_of new) c.in-Err.fault all.err) run.each
+    (λ image is. g.met.D.SectorDev.counts_now new.dev (dev.moment old.dev) image
+    (c.commit_empty.ensures.honesty.1 honest) run.later is) after
+    (subst (λ d. IsImageOf (dev.candidate d) after) c.into_dev-in-Err.ensures left)
 
 -- ---- there is no room for it
 
-room_is : (g : Over) (c : goal.After-into_dev g) → room_fault (sectors_for c.args.limit) (g.D.SectorDev.sectors c.args.store.dev) ≡ Some c.in-Some.fault
-room_is g c = ap (room_fault (sectors_for c.args.limit)) (sym c.requires.sectors) ∙ sym c.room_refusal.ensures ∙ c.in-Some.is
+room_is : (g : Over) (c : goal.After-into_dev g)
+    → room_fault (sectors_for c.args.limit) (g.D.SectorDev.sectors c.args.store.dev)
+    ≡ Some c.in-Some.fault
+room_is g c = ap (room_fault (sectors_for c.args.limit)) (sym c.requires.sectors)
+    ∙ sym c.room_refusal.ensures ∙ c.in-Some.is
 
 pub returns-in-Some-clause-fresh : goal.returns-in-Some-clause-fresh
 returns-in-Some-clause-fresh g c = tt
 
 pub returns-in-Some-clause-refused : goal.returns-in-Some-clause-refused
-returns-in-Some-clause-refused g c other = inl (ap (λ (o : Option Fault). option_or o (commit_fault (g.D.SectorDev.sectors c.args.store.dev) c.args.store.end)) (room_is g c))
+returns-in-Some-clause-refused g c other =
+    inl (ap (λ (o : Option Fault).
+    option_or o (commit_fault (g.D.SectorDev.sectors c.args.store.dev) c.args.store.end))
+    (room_is g c))
 
 pub returns-in-Some-clause-left : goal.returns-in-Some-clause-left
 returns-in-Some-clause-left g c honest other =
@@ -72,19 +94,29 @@ returns-in-Some-clause-left g c honest other =
     let store = c.args.store in
     let d = store.dev in
     let rest = store.rests honest c.requires.fresh.usable in
-    reads_leave dev (dev.sectors d / 4) d c.into_dev.result _ (subst (OnlyReads dev d) (sym c.into_dev.ensures) (reads_nothing dev d (λ image left. g.met.D.SectorDev.only_now d image honest left))) (rest.at_rest c.requires.fresh.writable).stable rest.settles
+    reads_leave dev (dev.sectors d / 4) d c.into_dev.result _
+    (subst (OnlyReads dev d) (sym c.into_dev.ensures)
+    (reads_nothing dev d (λ image left. g.met.D.SectorDev.only_now d image honest left)))
+    (rest.at_rest c.requires.fresh.writable).stable rest.settles
 
 pub returns-in-Some-clause-device : goal.returns-in-Some-clause-device
-returns-in-Some-clause-device g c is = of_room_apart (sectors_for c.args.limit) (g.D.SectorDev.sectors c.args.store.dev) c.in-Some.fault (room_is g c) is
+returns-in-Some-clause-device g c is =
+    of_room_apart (sectors_for c.args.limit) (g.D.SectorDev.sectors c.args.store.dev)
+    c.in-Some.fault (room_is g c) is
 
 pub returns-in-Some-clause-only : goal.returns-in-Some-clause-only
-returns-in-Some-clause-only g c = ⊎_elim (λ limit. inl limit) (λ small. inr (inl small)) (of_room (sectors_for c.args.limit) (g.D.SectorDev.sectors c.args.store.dev) c.in-Some.fault (room_is g c))
+returns-in-Some-clause-only g c =
+    ⊎_elim (λ limit. inl limit) (λ small. inr (inl small))
+    (of_room (sectors_for c.args.limit) (g.D.SectorDev.sectors c.args.store.dev)
+    c.in-Some.fault (room_is g c))
 
 pub returns-in-Some-clause-honesty : goal.returns-in-Some-clause-honesty
-returns-in-Some-clause-honesty g c = same_honest g.D.SectorDev c.args.store.dev c.into_dev.result c.into_dev.ensures
+returns-in-Some-clause-honesty g c =
+    same_honest g.D.SectorDev c.args.store.dev c.into_dev.result c.into_dev.ensures
 
 pub returns-in-Some-clause-later : goal.returns-in-Some-clause-later
-returns-in-Some-clause-later g c = same_faults g.D.SectorDev c.args.store.dev c.into_dev.result c.into_dev.ensures
+returns-in-Some-clause-later g c =
+    same_faults g.D.SectorDev c.args.store.dev c.into_dev.result c.into_dev.ensures
 
 pub returns-in-Some-clause-size : goal.returns-in-Some-clause-size
 returns-in-Some-clause-size g c = ap (λ d. g.D.SectorDev.sectors d / 4) c.into_dev.ensures
@@ -102,7 +134,8 @@ commit_empty-requires-clause-writable g c = c.requires.fresh.writable
 
 pub commit_empty-requires-clause-limited : goal.commit_empty-requires-clause-limited
 commit_empty-requires-clause-limited g c =
-    subst (λ n. (1 ≤ n) × (n ≤ 1000000)) (sym (ap (λ (n : Meta). n.limit) c.of_empty-meta.ensures)) (limit_of_room c.args.limit _ (sym c.room_refusal.ensures ∙ c.in_default.is))
+    subst (λ n. (1 ≤ n) × (n ≤ 1000000)) (sym (ap (λ (n : Meta). n.limit) c.of_empty-meta.ensures))
+    (limit_of_room c.args.limit _ (sym c.room_refusal.ensures ∙ c.in_default.is))
 
 pub commit_empty-requires-clause-fresh : goal.commit_empty-requires-clause-fresh
 commit_empty-requires-clause-fresh g c = fresh_meta c.args.limit _ c.of_empty-meta.ensures
@@ -111,7 +144,9 @@ pub invariant_of-result : goal.invariant_of-result
 invariant_of-result g c = record {
   idle = ap (λ (st : StoreState). st.staged) c.in-Ok.ensures.ok ∙ c.requires.fresh.staged;
   told = ap (λ (st : StoreState). st.writable) c.in-Ok.ensures.ok ∙ c.requires.fresh.writable;
-  valid = fresh_valid c.args.limit _ (limit_of_room c.args.limit _ (sym c.room_refusal.ensures ∙ c.in_default.is)) c.of_empty-meta.ensures;
+  valid = fresh_valid c.args.limit _
+      (limit_of_room c.args.limit _ (sym c.room_refusal.ensures ∙ c.in_default.is))
+      c.of_empty-meta.ensures;
 }
 
 pub returns-in-Ok-clause-fresh : goal.returns-in-Ok-clause-fresh
@@ -127,12 +162,19 @@ returns-in-Ok-clause-any_moment g c honest =
     let dev = g.D.SectorDev in
     let old = c.args.store in
     let new = c.commit_empty.new.store in
-    run_below dev old new _ c.args.limit c.of_empty-meta.result.limit (ap (λ (n : Meta). n.limit) c.of_empty-meta.ensures) (allows_emptying c.args.limit (dev.sectors old.dev) old.end (has_room c.args.limit (dev.sectors old.dev) c.args.sectors c.room_refusal.result c.requires.sectors c.room_refusal.ensures c.in_default.is)) (ap (λ (st : StoreState). st.capacity) c.in-Ok.ensures.ok) (c.commit_empty.ensures.any_moment honest)
+    run_below dev old new _ c.args.limit c.of_empty-meta.result.limit
+    (ap (λ (n : Meta). n.limit) c.of_empty-meta.ensures)
+    (allows_emptying c.args.limit (dev.sectors old.dev) old.end
+    (has_room c.args.limit (dev.sectors old.dev) c.args.sectors c.room_refusal.result
+    c.requires.sectors c.room_refusal.ensures c.in_default.is))
+    (ap (λ (st : StoreState). st.capacity) c.in-Ok.ensures.ok)
+    (c.commit_empty.ensures.any_moment honest)
 
 pub returns-in-Ok-clause-room : goal.returns-in-Ok-clause-room
 returns-in-Ok-clause-room g c =
     let sectors = g.D.SectorDev.sectors c.args.store.dev in
-    let room = has_room c.args.limit sectors c.args.sectors c.room_refusal.result c.requires.sectors c.room_refusal.ensures c.in_default.is in
+    let room = has_room c.args.limit sectors c.args.sectors c.room_refusal.result c.requires.sectors
+    c.room_refusal.ensures c.in_default.is in
     allows_emptying c.args.limit sectors c.args.store.end room c.in-Ok.ensures.room
 
 pub returns-in-Ok-clause-honesty : goal.returns-in-Ok-clause-honesty
@@ -154,31 +196,55 @@ returns-in-Err-clause-any_moment g c honest =
     let dev = g.D.SectorDev in
     let old = c.args.store in
     let new = c.commit_empty.new.store in
-    subst (λ d. LeavesOnly dev.moment (IsOutcome dev.left_since (settled (dev.sectors old.dev / 4))) old.dev d (OldOrEmpty (file_pages (overlaid (bytes_of old.redo.items) (page_at (dev.seen old.dev))) old.end) (emptying_fault c.args.limit (dev.sectors old.dev) old.end ≡ None) c.args.limit)) (sym c.into_dev-in-Err.ensures)
-    (run_below dev old new _ c.args.limit c.of_empty-meta.result.limit (ap (λ (n : Meta). n.limit) c.of_empty-meta.ensures) (allows_emptying c.args.limit (dev.sectors old.dev) old.end (has_room c.args.limit (dev.sectors old.dev) c.args.sectors c.room_refusal.result c.requires.sectors c.room_refusal.ensures c.in_default.is)) (still_capacity (state_of old) (state_of new) c.in-Err.fault c.in-Err.ensures.err) (c.commit_empty.ensures.any_moment honest))
+    subst (λ d. LeavesOnly dev.moment (IsOutcome dev.left_since (settled (dev.sectors old.dev / 4)))
+    old.dev d (OldOrEmpty (file_pages
+    (overlaid (bytes_of old.redo.items) (page_at (dev.seen old.dev))) old.end)
+    (emptying_fault c.args.limit (dev.sectors old.dev) old.end ≡ None) c.args.limit))
+    (sym c.into_dev-in-Err.ensures)
+    (run_below dev old new _ c.args.limit c.of_empty-meta.result.limit
+    (ap (λ (n : Meta). n.limit) c.of_empty-meta.ensures)
+    (allows_emptying c.args.limit (dev.sectors old.dev) old.end
+    (has_room c.args.limit (dev.sectors old.dev) c.args.sectors c.room_refusal.result
+    c.requires.sectors c.room_refusal.ensures c.in_default.is))
+    (still_capacity (state_of old) (state_of new) c.in-Err.fault c.in-Err.ensures.err)
+    (c.commit_empty.ensures.any_moment honest))
 
 pub returns-in-Err-clause-refused : goal.returns-in-Err-clause-refused
 returns-in-Err-clause-refused g c other =
     let all = c.in-Err.ensures in
-    let room = has_room c.args.limit (g.D.SectorDev.sectors c.args.store.dev) c.args.sectors c.room_refusal.result c.requires.sectors c.room_refusal.ensures c.in_default.is in
-    subst (λ f. (emptying_fault c.args.limit (g.D.SectorDev.sectors c.args.store.dev) c.args.store.end ≡ Some f) ⊎ (f ≡ Memory)) (sym c.from.ensures)
-    (refuses_commit c.in-Err.fault all.only c.args.limit (g.D.SectorDev.sectors c.args.store.dev) c.args.store.end room (λ is. all.no_room (ap Err is)) (λ device. other (c.from.ensures ∙ ap fault_from device)))
+    let room = has_room c.args.limit (g.D.SectorDev.sectors c.args.store.dev) c.args.sectors
+    c.room_refusal.result c.requires.sectors c.room_refusal.ensures c.in_default.is in
+    subst (λ f. (emptying_fault c.args.limit (g.D.SectorDev.sectors c.args.store.dev)
+    c.args.store.end ≡ Some f) ⊎ (f ≡ Memory)) (sym c.from.ensures)
+    (refuses_commit c.in-Err.fault all.only c.args.limit (g.D.SectorDev.sectors c.args.store.dev)
+    c.args.store.end room (λ is. all.no_room (ap Err is))
+    (λ device. other (c.from.ensures ∙ ap fault_from device)))
 
 pub returns-in-Err-clause-device : goal.returns-in-Err-clause-device
 returns-in-Err-clause-device g c is =
     let dev = g.D.SectorDev in
-    subst (λ d. MoreFaults (dev.faults c.args.store.dev) (dev.faults d)) (sym c.into_dev-in-Err.ensures)
-    (c.in-Err.ensures.cause.fault (ap Err (came_from c.in-Err.fault c.in-Err.ensures.only (sym c.from.ensures ∙ is))))
+    subst (λ d. MoreFaults (dev.faults c.args.store.dev) (dev.faults d))
+    (sym c.into_dev-in-Err.ensures)
+    (c.in-Err.ensures.cause.fault
+    (ap Err (came_from c.in-Err.fault c.in-Err.ensures.only (sym c.from.ensures ∙ is))))
 
 pub returns-in-Err-clause-only : goal.returns-in-Err-clause-only
-returns-in-Err-clause-only g c = subst EmptyingOnly (sym c.from.ensures) (of_commit c.in-Err.fault c.in-Err.ensures.only)
+returns-in-Err-clause-only g c =
+    subst EmptyingOnly (sym c.from.ensures) (of_commit c.in-Err.fault c.in-Err.ensures.only)
 
 pub returns-in-Err-clause-honesty : goal.returns-in-Err-clause-honesty
-returns-in-Err-clause-honesty g c = both_ways (same_honest g.D.SectorDev c.commit_empty.new.store.dev c.into_dev-in-Err.result c.into_dev-in-Err.ensures) c.commit_empty.ensures.honesty
+returns-in-Err-clause-honesty g c =
+    both_ways (same_honest g.D.SectorDev c.commit_empty.new.store.dev c.into_dev-in-Err.result
+    c.into_dev-in-Err.ensures) c.commit_empty.ensures.honesty
 
 pub returns-in-Err-clause-later : goal.returns-in-Err-clause-later
-returns-in-Err-clause-later g c = later_then _ _ _ c.commit_empty.ensures.cause.later (same_faults g.D.SectorDev c.commit_empty.new.store.dev c.into_dev-in-Err.result c.into_dev-in-Err.ensures)
+returns-in-Err-clause-later g c =
+    later_then _ _ _ c.commit_empty.ensures.cause.later
+    (same_faults g.D.SectorDev c.commit_empty.new.store.dev c.into_dev-in-Err.result
+    c.into_dev-in-Err.ensures)
 
 pub returns-in-Err-clause-size : goal.returns-in-Err-clause-size
 returns-in-Err-clause-size g c =
-    ap (λ d. g.D.SectorDev.sectors d / 4) c.into_dev-in-Err.ensures ∙ still_capacity (state_of c.args.store) (state_of c.commit_empty.new.store) c.in-Err.fault c.in-Err.ensures.err
+    ap (λ d. g.D.SectorDev.sectors d / 4) c.into_dev-in-Err.ensures
+    ∙ still_capacity (state_of c.args.store) (state_of c.commit_empty.new.store) c.in-Err.fault
+    c.in-Err.ensures.err

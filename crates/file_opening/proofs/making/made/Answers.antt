@@ -17,16 +17,20 @@ pub returns-in-Ok-clause-stands : goal.returns-in-Ok-clause-stands
 returns-in-Ok-clause-stands g c honest =
     let m = c.of_empty-meta.result in
     let same = sym (c.in-Ok.ensures.committed honest) in
-    let stands = subst (λ (ps : Pages). FileStandsFor ps empty m.limit) same c.pages_of_empty.ensures.stands in
+    let stands = subst (λ (ps : Pages). FileStandsFor ps empty m.limit) same
+    c.pages_of_empty.ensures.stands in
     let dev = g.D.SectorDev in
     let new = c.in-Ok.store in
     let rest = new.rests (c.in-Ok.ensures.honesty.1 honest) in
     let writable = ap (λ (st : StoreState). st.writable) c.in-Ok.ensures.state in record {
       holds = λ usable. record {
         stands = stands;
-        meta_is = subst (λ (ps : Pages). said_by (page_of ps) 1 ≡ MetaPage (model_meta m)) same c.pages_of_empty.ensures.meta;
+        meta_is = subst (λ (ps : Pages). said_by (page_of ps) 1 ≡ MetaPage (model_meta m)) same
+            c.pages_of_empty.ensures.meta;
       };
-      rests = λ usable y left. subst (λ (z : Settled). ImageStandsFor z empty m.limit) (sym (only_seen (dev.sectors new.dev / 4) (dev.candidate new.dev) (dev.seen new.dev) y _ ((rest usable).at_rest writable).stable (rest usable).settles left)) stands;
+      rests = λ usable y left. subst (λ (z : Settled). ImageStandsFor z empty m.limit)
+          (sym (only_seen (dev.sectors new.dev / 4) (dev.candidate new.dev) (dev.seen new.dev) y _
+          ((rest usable).at_rest writable).stable (rest usable).settles left)) stands;
       limit_is = ap (λ (n : Meta). n.limit) c.of_empty-meta.ensures;
     }
 
@@ -38,9 +42,13 @@ returns-in-Ok-clause-any_moment g c honest none =
     let how = c.args.how in
     let pages = bytes_of c.pages_of_empty.result in
     let fault = making_fault how (dev.sectors old) in
-    let none_is : fault ≡ None = sym (ap (making_fault how) c.capacity.ensures) ∙ sym c.making_refusal.ensures ∙ c.in_default.is in
-    let stands = subst (FileStandsFor pages empty) (ap (λ (m : Meta). m.limit) c.of_empty-meta.ensures) c.pages_of_empty.ensures.stands in
-    weaker dev.moment dev.left_since old (device_of c.in-Ok.store) (λ image. BlankOrNew fault how.limit (settled cap image)) (λ image. IsBlankOr pages (settled cap image)) (c.in-Ok.ensures.any_moment honest none)
+    let none_is : fault ≡ None = sym (ap (making_fault how) c.capacity.ensures)
+    ∙ sym c.making_refusal.ensures ∙ c.in_default.is in
+    let stands = subst (FileStandsFor pages empty)
+    (ap (λ (m : Meta). m.limit) c.of_empty-meta.ensures) c.pages_of_empty.ensures.stands in
+    weaker dev.moment dev.left_since old (device_of c.in-Ok.store)
+    (λ image. BlankOrNew fault how.limit (settled cap image))
+    (λ image. IsBlankOr pages (settled cap image)) (c.in-Ok.ensures.any_moment honest none)
     (λ image or. blank_or_new pages how.limit fault stands none_is (settled cap image) or)
 
 pub returns-in-Err-clause-any_moment : goal.returns-in-Err-clause-any_moment
@@ -51,7 +59,11 @@ returns-in-Err-clause-any_moment g c honest none =
     let how = c.args.how in
     let pages = bytes_of c.pages_of_empty.result in
     let fault = making_fault how (dev.sectors old) in
-    let none_is : fault ≡ None = sym (ap (making_fault how) c.capacity.ensures) ∙ sym c.making_refusal.ensures ∙ c.in_default.is in
-    let stands = subst (FileStandsFor pages empty) (ap (λ (m : Meta). m.limit) c.of_empty-meta.ensures) c.pages_of_empty.ensures.stands in
-    weaker dev.moment dev.left_since old c.in-Err.dev (λ image. BlankOrNew fault how.limit (settled cap image)) (λ image. IsBlankOr pages (settled cap image)) (c.in-Err.ensures.any_moment honest none)
+    let none_is : fault ≡ None = sym (ap (making_fault how) c.capacity.ensures)
+    ∙ sym c.making_refusal.ensures ∙ c.in_default.is in
+    let stands = subst (FileStandsFor pages empty)
+    (ap (λ (m : Meta). m.limit) c.of_empty-meta.ensures) c.pages_of_empty.ensures.stands in
+    weaker dev.moment dev.left_since old c.in-Err.dev
+    (λ image. BlankOrNew fault how.limit (settled cap image))
+    (λ image. IsBlankOr pages (settled cap image)) (c.in-Err.ensures.any_moment honest none)
     (λ image or. blank_or_new pages how.limit fault stands none_is (settled cap image) or)

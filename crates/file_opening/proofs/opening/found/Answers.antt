@@ -26,21 +26,28 @@ returns-in-Ok-clause-stands g c honest only map limit stands =
     let dev = g.D.SectorDev in
     let store = c.args.store in
     let new = c.read.new.self in
-    let file = file_pages (overlaid (bytes_of store.redo.items) (page_at (dev.seen store.dev))) store.end in
+    let file = file_pages (overlaid (bytes_of store.redo.items) (page_at (dev.seen store.dev)))
+    store.end in
     let m = c.in-Ok.meta in
     let meta = meta_of stands.placement in
     let all = c.in_default.ensures in
-    let read = all.found honest ∙ ap (λ (s : Pages). overlaid s (page_of file) 1) c.requires.fresh.staged in
-    let is : model_meta m ≡ meta = (c.in-Ok.ensures.body meta (bodies_valid stands.placement stands.good).0.1).1 (ap (body_of 1) read ∙ stands.spelled.0) in
+    let read = all.found honest ∙ ap (λ (s : Pages). overlaid s (page_of file) 1)
+    c.requires.fresh.staged in
+    let is : model_meta m ≡ meta =
+    (c.in-Ok.ensures.body meta (bodies_valid stands.placement stands.good).0.1).1
+    (ap (body_of 1) read ∙ stands.spelled.0) in
     let lim : m.limit ≡ limit = ap (λ (x : Meta). x.limit) is ∙ stands.limited in
     let same = sym (all.kept honest).committed in
     let stands_so = subst (λ (l : ℕ). FileStandsFor file map l) (sym lim) stands in record {
       holds = λ usable. record {
         stands = subst (λ (ps : Pages). FileStandsFor ps map m.limit) same stands_so;
-        meta_is = subst (λ (ps : Pages). said_by (page_of ps) 1 ≡ MetaPage (model_meta m)) same (stands.spelled.0 ∙ ap MetaPage (sym is));
+        meta_is = subst (λ (ps : Pages). said_by (page_of ps) 1 ≡ MetaPage (model_meta m)) same
+            (stands.spelled.0 ∙ ap MetaPage (sym is));
       };
       rests = λ usable y left.
-          let before = settles_before (dev.sectors store.dev / 4) (dev.sectors new.dev / 4) (dev.candidate store.dev) (dev.candidate new.dev) y (ap (λ (n : ℕ). n / 4) all.size) (all.only_reads honest).no_new left in
+          let before = settles_before (dev.sectors store.dev / 4) (dev.sectors new.dev / 4)
+          (dev.candidate store.dev) (dev.candidate new.dev) y (ap (λ (n : ℕ). n / 4) all.size)
+          (all.only_reads honest).no_new left in
           subst (λ (z : Settled). ImageStandsFor z map m.limit) (sym (only y before)) stands_so;
       limit_is = lim;
     }
@@ -51,10 +58,14 @@ pub returns-in-Err-clause-fresh : goal.returns-in-Err-clause-fresh
 returns-in-Err-clause-fresh g c = tt
 
 pub returns-in-Err-clause-only_reads : goal.returns-in-Err-clause-only_reads
-returns-in-Err-clause-only_reads g c honest = subst (OnlyReads g.D.SectorDev c.args.store.dev) (sym c.into_dev.ensures) (c.in-Err.ensures.only_reads honest)
+returns-in-Err-clause-only_reads g c honest =
+    subst (OnlyReads g.D.SectorDev c.args.store.dev) (sym c.into_dev.ensures)
+    (c.in-Err.ensures.only_reads honest)
 
 told : (g : Over) (c : goal.After-from g) → c.from.result ≡ Device
-told g c = c.from.ensures ∙ ap fault_from (only_device (state_of c.args.store) c.in-Err.fault c.requires.fresh.usable c.args.store.least c.in-Err.ensures.answer)
+told g c = c.from.ensures ∙ ap fault_from
+    (only_device (state_of c.args.store) c.in-Err.fault c.requires.fresh.usable c.args.store.least
+    c.in-Err.ensures.answer)
 
 pub returns-in-Err-clause-refused : goal.returns-in-Err-clause-refused
 returns-in-Err-clause-refused g c honest other = absurd (other (told g c))
@@ -63,16 +74,22 @@ pub returns-in-Err-clause-device : goal.returns-in-Err-clause-device
 returns-in-Err-clause-device g c is =
     let dev = g.D.SectorDev in
     subst (λ d. MoreFaults (dev.faults c.args.store.dev) (dev.faults d)) (sym c.into_dev.ensures)
-    (c.in-Err.ensures.cause.fault (ap Err (only_device (state_of c.args.store) c.in-Err.fault c.requires.fresh.usable c.args.store.least c.in-Err.ensures.answer)))
+    (c.in-Err.ensures.cause.fault
+    (ap Err (only_device (state_of c.args.store) c.in-Err.fault c.requires.fresh.usable
+    c.args.store.least c.in-Err.ensures.answer)))
 
 pub returns-in-Err-clause-only : goal.returns-in-Err-clause-only
 returns-in-Err-clause-only g c = inl (told g c)
 
 pub returns-in-Err-clause-honesty : goal.returns-in-Err-clause-honesty
-returns-in-Err-clause-honesty g c = both_ways (same_honest g.D.SectorDev c.read.new.self.dev c.into_dev.result c.into_dev.ensures) c.in-Err.ensures.honesty
+returns-in-Err-clause-honesty g c =
+    both_ways (same_honest g.D.SectorDev c.read.new.self.dev c.into_dev.result c.into_dev.ensures)
+    c.in-Err.ensures.honesty
 
 pub returns-in-Err-clause-later : goal.returns-in-Err-clause-later
-returns-in-Err-clause-later g c = later_then _ _ _ c.in-Err.ensures.cause.later (same_faults g.D.SectorDev c.read.new.self.dev c.into_dev.result c.into_dev.ensures)
+returns-in-Err-clause-later g c =
+    later_then _ _ _ c.in-Err.ensures.cause.later
+    (same_faults g.D.SectorDev c.read.new.self.dev c.into_dev.result c.into_dev.ensures)
 
 pub returns-in-Err-clause-size : goal.returns-in-Err-clause-size
 returns-in-Err-clause-size g c = ap g.D.SectorDev.sectors c.into_dev.ensures ∙ c.in-Err.ensures.size
@@ -82,7 +99,8 @@ returns-in-Err-clause-size g c = ap g.D.SectorDev.sectors c.into_dev.ensures ∙
 pub invariant_of-result : goal.invariant_of-result
 invariant_of-result g c = record {
   idle = ap (λ (st : StoreState). st.staged) c.in_default.ensures.state ∙ c.requires.fresh.staged;
-  told = ap (λ (st : StoreState). st.writable) c.in_default.ensures.state ∙ c.requires.fresh.writable;
+  told = ap (λ (st : StoreState). st.writable) c.in_default.ensures.state
+      ∙ c.requires.fresh.writable;
   valid = c.in-Ok.ensures.found.0;
 }
 
@@ -103,10 +121,15 @@ returns-in-Ok-clause-kept g c honest = (c.in_default.ensures.kept honest).commit
 pub returns-in-Ok-clause-says : goal.returns-in-Ok-clause-says
 returns-in-Ok-clause-says g c honest =
     let store = c.args.store in
-    let file = file_pages (overlaid (bytes_of store.redo.items) (page_at (g.D.SectorDev.seen store.dev))) store.end in
-    let read = c.in_default.ensures.found honest ∙ ap (λ (s : Pages). overlaid s (page_of file) 1) c.requires.fresh.staged in
-    let valid = c.in-Ok.ensures.found.0 in
-    (valid, ap (body_of 1) (sym read) ∙ (c.in-Ok.ensures.body (model_meta c.in-Ok.meta) valid).0 refl)
+    let file = file_pages (overlaid (bytes_of store.redo.items)
+    (page_at (g.D.SectorDev.seen store.dev))) store.end in
+    let read = c.in_default.ensures.found honest
+    ∙ ap (λ (s : Pages). overlaid s (page_of file) 1) c.requires.fresh.staged in
+    let valid = c.in-Ok.ensures.found.0 in (
+      valid,
+      ap (body_of 1) (sym read)
+          ∙ (c.in-Ok.ensures.body (model_meta c.in-Ok.meta) valid).0 refl,
+    )
 
 pub returns-in-Ok-clause-honesty : goal.returns-in-Ok-clause-honesty
 returns-in-Ok-clause-honesty g c = c.in_default.ensures.honesty
@@ -123,14 +146,20 @@ pub returns-in-Err-Version-clause-fresh : goal.returns-in-Err-Version-clause-fre
 returns-in-Err-Version-clause-fresh g c = tt
 
 pub returns-in-Err-Version-clause-only_reads : goal.returns-in-Err-Version-clause-only_reads
-returns-in-Err-Version-clause-only_reads g c honest = subst (OnlyReads g.D.SectorDev c.args.store.dev) (sym c.into_dev-in-Err-Version.ensures) (c.in_default.ensures.only_reads honest)
+returns-in-Err-Version-clause-only_reads g c honest =
+    subst (OnlyReads g.D.SectorDev c.args.store.dev) (sym c.into_dev-in-Err-Version.ensures)
+    (c.in_default.ensures.only_reads honest)
 
 pub returns-in-Err-Version-clause-refused : goal.returns-in-Err-Version-clause-refused
 returns-in-Err-Version-clause-refused g c honest other =
     let store = c.args.store in
-    let file = file_pages (overlaid (bytes_of store.redo.items) (page_at (g.D.SectorDev.seen store.dev))) store.end in
-    let read = c.in_default.ensures.found honest ∙ ap (λ (s : Pages). overlaid s (page_of file) 1) c.requires.fresh.staged in
-    refused_version (page_of file 1) c.read.new.page.bytes c.read_meta.result c.in-Err-Version.field-0 c.in-Err-Version.is read c.read_meta.ensures.body c.read_meta.ensures.version c.in-Err-Version.field-0-is
+    let file = file_pages (overlaid (bytes_of store.redo.items)
+    (page_at (g.D.SectorDev.seen store.dev))) store.end in
+    let read = c.in_default.ensures.found honest
+    ∙ ap (λ (s : Pages). overlaid s (page_of file) 1) c.requires.fresh.staged in
+    refused_version (page_of file 1) c.read.new.page.bytes c.read_meta.result
+    c.in-Err-Version.field-0 c.in-Err-Version.is read c.read_meta.ensures.body
+    c.read_meta.ensures.version c.in-Err-Version.field-0-is
 
 pub returns-in-Err-Version-clause-device : goal.returns-in-Err-Version-clause-device
 returns-in-Err-Version-clause-device g c is = absurd (same_false the_type Version Device refl is)
@@ -139,13 +168,19 @@ pub returns-in-Err-Version-clause-only : goal.returns-in-Err-Version-clause-only
 returns-in-Err-Version-clause-only g c = inr (inl refl)
 
 pub returns-in-Err-Version-clause-honesty : goal.returns-in-Err-Version-clause-honesty
-returns-in-Err-Version-clause-honesty g c = both_ways (same_honest g.D.SectorDev c.read.new.self.dev c.into_dev-in-Err-Version.result c.into_dev-in-Err-Version.ensures) c.in_default.ensures.honesty
+returns-in-Err-Version-clause-honesty g c =
+    both_ways (same_honest g.D.SectorDev c.read.new.self.dev c.into_dev-in-Err-Version.result
+    c.into_dev-in-Err-Version.ensures) c.in_default.ensures.honesty
 
 pub returns-in-Err-Version-clause-later : goal.returns-in-Err-Version-clause-later
-returns-in-Err-Version-clause-later g c = later_then _ _ _ c.in_default.ensures.cause.later (same_faults g.D.SectorDev c.read.new.self.dev c.into_dev-in-Err-Version.result c.into_dev-in-Err-Version.ensures)
+returns-in-Err-Version-clause-later g c =
+    later_then _ _ _ c.in_default.ensures.cause.later
+    (same_faults g.D.SectorDev c.read.new.self.dev c.into_dev-in-Err-Version.result
+    c.into_dev-in-Err-Version.ensures)
 
 pub returns-in-Err-Version-clause-size : goal.returns-in-Err-Version-clause-size
-returns-in-Err-Version-clause-size g c = ap g.D.SectorDev.sectors c.into_dev-in-Err-Version.ensures ∙ c.in_default.ensures.size
+returns-in-Err-Version-clause-size g c =
+    ap g.D.SectorDev.sectors c.into_dev-in-Err-Version.ensures ∙ c.in_default.ensures.size
 
 -- ---- a bad meta page
 
@@ -153,14 +188,20 @@ pub returns-in-Err-Damaged-clause-fresh : goal.returns-in-Err-Damaged-clause-fre
 returns-in-Err-Damaged-clause-fresh g c = tt
 
 pub returns-in-Err-Damaged-clause-only_reads : goal.returns-in-Err-Damaged-clause-only_reads
-returns-in-Err-Damaged-clause-only_reads g c honest = subst (OnlyReads g.D.SectorDev c.args.store.dev) (sym c.into_dev-in-Err-Damaged.ensures) (c.in_default.ensures.only_reads honest)
+returns-in-Err-Damaged-clause-only_reads g c honest =
+    subst (OnlyReads g.D.SectorDev c.args.store.dev) (sym c.into_dev-in-Err-Damaged.ensures)
+    (c.in_default.ensures.only_reads honest)
 
 pub returns-in-Err-Damaged-clause-refused : goal.returns-in-Err-Damaged-clause-refused
 returns-in-Err-Damaged-clause-refused g c honest other =
     let store = c.args.store in
-    let file = file_pages (overlaid (bytes_of store.redo.items) (page_at (g.D.SectorDev.seen store.dev))) store.end in
-    let read = c.in_default.ensures.found honest ∙ ap (λ (s : Pages). overlaid s (page_of file) 1) c.requires.fresh.staged in
-    refused_meta (page_of file 1) c.read.new.page.bytes c.read_meta.result c.in-Err-Damaged.field-0 c.in-Err-Damaged.is read c.read_meta.ensures.body c.read_meta.ensures.version c.in-Err-Damaged.field-0-is
+    let file = file_pages (overlaid (bytes_of store.redo.items)
+    (page_at (g.D.SectorDev.seen store.dev))) store.end in
+    let read = c.in_default.ensures.found honest
+    ∙ ap (λ (s : Pages). overlaid s (page_of file) 1) c.requires.fresh.staged in
+    refused_meta (page_of file 1) c.read.new.page.bytes c.read_meta.result c.in-Err-Damaged.field-0
+    c.in-Err-Damaged.is read c.read_meta.ensures.body c.read_meta.ensures.version
+    c.in-Err-Damaged.field-0-is
 
 pub returns-in-Err-Damaged-clause-device : goal.returns-in-Err-Damaged-clause-device
 returns-in-Err-Damaged-clause-device g c is = absurd (same_false the_type Damaged Device refl is)
@@ -169,10 +210,16 @@ pub returns-in-Err-Damaged-clause-only : goal.returns-in-Err-Damaged-clause-only
 returns-in-Err-Damaged-clause-only g c = inr (inr refl)
 
 pub returns-in-Err-Damaged-clause-honesty : goal.returns-in-Err-Damaged-clause-honesty
-returns-in-Err-Damaged-clause-honesty g c = both_ways (same_honest g.D.SectorDev c.read.new.self.dev c.into_dev-in-Err-Damaged.result c.into_dev-in-Err-Damaged.ensures) c.in_default.ensures.honesty
+returns-in-Err-Damaged-clause-honesty g c =
+    both_ways (same_honest g.D.SectorDev c.read.new.self.dev c.into_dev-in-Err-Damaged.result
+    c.into_dev-in-Err-Damaged.ensures) c.in_default.ensures.honesty
 
 pub returns-in-Err-Damaged-clause-later : goal.returns-in-Err-Damaged-clause-later
-returns-in-Err-Damaged-clause-later g c = later_then _ _ _ c.in_default.ensures.cause.later (same_faults g.D.SectorDev c.read.new.self.dev c.into_dev-in-Err-Damaged.result c.into_dev-in-Err-Damaged.ensures)
+returns-in-Err-Damaged-clause-later g c =
+    later_then _ _ _ c.in_default.ensures.cause.later
+    (same_faults g.D.SectorDev c.read.new.self.dev c.into_dev-in-Err-Damaged.result
+    c.into_dev-in-Err-Damaged.ensures)
 
 pub returns-in-Err-Damaged-clause-size : goal.returns-in-Err-Damaged-clause-size
-returns-in-Err-Damaged-clause-size g c = ap g.D.SectorDev.sectors c.into_dev-in-Err-Damaged.ensures ∙ c.in_default.ensures.size
+returns-in-Err-Damaged-clause-size g c =
+    ap g.D.SectorDev.sectors c.into_dev-in-Err-Damaged.ensures ∙ c.in_default.ensures.size

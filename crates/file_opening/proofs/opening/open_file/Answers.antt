@@ -38,14 +38,26 @@ returns-in-Ok-clause-any_moment g c honest =
     let run = all.any_moment honest in
     let h1 = all.honesty.1 honest in
     let P : Settled → Type 0 = MayRemain how (dev.sectors old) (dev.candidate old) in
-    let file = file_pages (overlaid (bytes_of store.redo.items) (page_at (dev.seen mid))) store.end in
+    let file = file_pages (overlaid (bytes_of store.redo.items) (page_at (dev.seen mid)))
+    store.end in
     let size = ap (λ (n : ℕ). n / 4) all.size in
-    settles_on dev.moment dev.left_since old mid (device_left c.opened.result) cap (dev.sectors mid / 4) P _ size
+    settles_on dev.moment dev.left_since old mid (device_left c.opened.result) cap
+    (dev.sectors mid / 4) P _ size
     (before_settle dev cap old mid _ run)
     (c.opened.ensures.any_moment h1)
     (λ y. ⊎_elim
-    (λ was. inl (settles_from cap (dev.sectors mid / 4) (dev.candidate old) (dev.candidate mid) y size (λ image is. run.each image (g.met.D.SectorDev.counts_now mid (dev.moment old) image h1 run.later is)) was))
-    (λ new. inr (inr (record { file = file; at_start = all.committed honest; empties = subst (λ (n : ℕ). EmptiesFile how n file) all.size new.0 }), new.1)))
+    (λ was. inl (settles_from cap (dev.sectors mid / 4) (dev.candidate old) (dev.candidate mid) y
+    size (λ image is. run.each image
+    (g.met.D.SectorDev.counts_now mid (dev.moment old) image h1 run.later is)) was))
+    (λ new. inr (
+      inr (record {
+        file = file;
+        at_start = all.committed honest;
+        empties =
+            subst (λ (n : ℕ). EmptiesFile how n file) all.size new.0;
+      }),
+      new.1,
+    )))
 
 pub returns-in-Ok-clause-stands : goal.returns-in-Ok-clause-stands
 returns-in-Ok-clause-stands g c honest one stand =
@@ -57,37 +69,58 @@ returns-in-Ok-clause-stands g c honest one stand =
     let mid = store.dev in
     let all = c.in-Ok.ensures in
     let h1 = all.honesty.1 honest in
-    let file = file_pages (overlaid (bytes_of store.redo.items) (page_at (dev.seen mid))) store.end in
+    let file = file_pages (overlaid (bytes_of store.redo.items) (page_at (dev.seen mid)))
+    store.end in
     let what = what_stood cap (dev.candidate old) file (all.committed honest) stand in
     let rest = store.rests h1 all.state.usable in
-    let stable = by_access c.is_writable.result (λ on. (rest.at_rest (all.state.writable ∙ on)).stable) (λ off. stable_still dev old mid (all.only_reads off honest) (one (sym c.is_writable.ensures ∙ off))) in
-    let written = may_empty how (dev.sectors old) (sym (ap (early_fault how) c.capacity-sectors.ensures) ∙ sym c.early_refusal.ensures ∙ c.in_default.is) in
-    both_ok c.opened.result (c.opened.ensures.stands h1 (λ now was. only_seen (dev.sectors mid / 4) (dev.candidate mid) (dev.seen mid) now _ stable rest.settles was) what.map what.limit what.stands)
+    let stable = by_access c.is_writable.result
+    (λ on. (rest.at_rest (all.state.writable ∙ on)).stable)
+    (λ off. stable_still dev old mid (all.only_reads off honest)
+    (one (sym c.is_writable.ensures ∙ off))) in
+    let written = may_empty how (dev.sectors old)
+    (sym (ap (early_fault how) c.capacity-sectors.ensures) ∙ sym c.early_refusal.ensures
+    ∙ c.in_default.is) in
+    both_ok c.opened.result (c.opened.ensures.stands h1
+    (λ now was. only_seen (dev.sectors mid / 4) (dev.candidate mid) (dev.seen mid) now _
+    stable rest.settles was) what.map what.limit what.stands)
     (c.opened.ensures.emptied h1)
-    (λ new opens due. opened_as_asked how (dev.sectors old) (dev.candidate old) file what new (all.committed honest) opens.0 opens.1 written
-    (λ asked. ap (λ (n : ℕ). emptying_fault how.limit n (length file + 1)) (sym all.size) ∙ due asked))
+    (λ new opens due. opened_as_asked how (dev.sectors old) (dev.candidate old) file what new
+    (all.committed honest) opens.0 opens.1 written
+    (λ asked. ap (λ (n : ℕ). emptying_fault how.limit n (length file + 1))
+    (sym all.size) ∙ due asked))
 
 pub returns-in-Ok-clause-opened : goal.returns-in-Ok-clause-opened
 returns-in-Ok-clause-opened g c honest =
     let all = c.in-Ok.ensures in
     let store = c.in-Ok.store in
-    let file = file_pages (overlaid (bytes_of store.redo.items) (page_at (g.D.SectorDev.seen store.dev))) store.end in
+    let file = file_pages (overlaid (bytes_of store.redo.items)
+    (page_at (g.D.SectorDev.seen store.dev))) store.end in
     from_ok c.opened.result (c.opened.ensures.opened (all.honesty.1 honest)) (λ new keeps.
-    inl (file, all.committed honest, subst (λ (n : ℕ). KeepsMetaOf c.args.how n file (model_meta new.meta)) all.size keeps))
+    inl (
+      file,
+      all.committed honest,
+      subst (λ (n : ℕ). KeepsMetaOf c.args.how n file (model_meta new.meta)) all.size keeps,
+    ))
 
 -- what refuses a file that was found
-file_refused : (g : Over) (c : goal.After-opened g) → g.D.SectorDev.honest c.args.dev → IfErr c.opened.result (λ e. (e.1 ≡ Device → ⊥) → IsRefusedOpening c.args.how (g.D.SectorDev.sectors c.args.dev) (g.D.SectorDev.candidate c.args.dev) (g.D.SectorDev.candidate e.0) e.1)
+file_refused : (g : Over) (c : goal.After-opened g) → g.D.SectorDev.honest c.args.dev
+    → IfErr c.opened.result (λ e.
+    (e.1 ≡ Device → ⊥) → IsRefusedOpening c.args.how (g.D.SectorDev.sectors c.args.dev)
+    (g.D.SectorDev.candidate c.args.dev) (g.D.SectorDev.candidate e.0) e.1)
 file_refused g c honest =
     let dev = g.D.SectorDev in
     let old = c.args.dev in
     let how = c.args.how in
     let store = c.in-Ok.store in
     let all = c.in-Ok.ensures in
-    let file = file_pages (overlaid (bytes_of store.redo.items) (page_at (dev.seen store.dev))) store.end in
+    let file = file_pages (overlaid (bytes_of store.redo.items) (page_at (dev.seen store.dev)))
+    store.end in
     each_err c.opened.result (c.opened.ensures.refused (all.honesty.1 honest)) (λ e is why other.
     let both = why other in
-    refused_file how (dev.sectors old) (dev.candidate old) (dev.candidate e.0) file e.1 (all.committed honest) (subst (λ (n : ℕ). RefusesOpened how n file e.1) all.size both.0)
-    (λ writing after left. ap (λ (n : ℕ). settled (n / 4) after) (sym all.size) ∙ both.1 writing after left))
+    refused_file how (dev.sectors old) (dev.candidate old) (dev.candidate e.0) file e.1
+    (all.committed honest) (subst (λ (n : ℕ). RefusesOpened how n file e.1) all.size both.0)
+    (λ writing after left. ap (λ (n : ℕ). settled (n / 4) after) (sym all.size)
+    ∙ both.1 writing after left))
 
 pub returns-in-Ok-clause-refused : goal.returns-in-Ok-clause-refused
 returns-in-Ok-clause-refused g c honest none = file_refused g c honest
@@ -95,33 +128,47 @@ returns-in-Ok-clause-refused g c honest none = file_refused g c honest
 pub returns-in-Ok-clause-opens : goal.returns-in-Ok-clause-opens
 returns-in-Ok-clause-opens g c honest none stand allow =
     let dev = g.D.SectorDev in
-    each_err c.opened.result (file_refused g c honest) (λ e is why. only_memory c.args.how (dev.sectors c.args.dev) (dev.candidate c.args.dev) (dev.candidate e.0) e.1 stand allow why)
+    each_err c.opened.result (file_refused g c honest)
+    (λ e is why. only_memory c.args.how (dev.sectors c.args.dev) (dev.candidate c.args.dev)
+    (dev.candidate e.0) e.1 stand allow why)
 
 pub opened-requires-clause-sectors : goal.opened-requires-clause-sectors
 opened-requires-clause-sectors g c = c.capacity-sectors.ensures ∙ sym c.in-Ok.ensures.size
 
 pub opened-requires-clause-fresh : goal.opened-requires-clause-fresh
 opened-requires-clause-fresh g c =
-    fresh_there _ _ _ _ c.in-Ok.ensures.state (ap (λ (n : ℕ). n / 4) c.in-Ok.ensures.size) (search rules)
+    fresh_there _ _ _ _ c.in-Ok.ensures.state
+    (ap (λ (n : ℕ). n / 4) c.in-Ok.ensures.size) (search rules)
 
 pub opened-requires-clause-written : goal.opened-requires-clause-written
-opened-requires-clause-written g c = may_empty c.args.how (g.D.SectorDev.sectors c.args.dev) (sym (ap (early_fault c.args.how) c.capacity-sectors.ensures) ∙ sym c.early_refusal.ensures ∙ c.in_default.is)
+opened-requires-clause-written g c =
+    may_empty c.args.how (g.D.SectorDev.sectors c.args.dev)
+    (sym (ap (early_fault c.args.how) c.capacity-sectors.ensures) ∙ sym c.early_refusal.ensures
+    ∙ c.in_default.is)
 
 pub returns-in-Ok-clause-early : goal.returns-in-Ok-clause-early
-returns-in-Ok-clause-early g c = if_none _ _ (sym (ap (early_fault c.args.how) c.capacity-sectors.ensures) ∙ sym c.early_refusal.ensures ∙ c.in_default.is)
+returns-in-Ok-clause-early g c =
+    if_none _ _ (sym (ap (early_fault c.args.how) c.capacity-sectors.ensures)
+    ∙ sym c.early_refusal.ensures ∙ c.in_default.is)
 
 pub returns-in-Ok-clause-fresh : goal.returns-in-Ok-clause-fresh
-returns-in-Ok-clause-fresh g c = just_opened c.opened.result _ _ _ _ refl (ap (λ (n : ℕ). n / 4) c.in-Ok.ensures.size) c.opened.ensures.fresh
+returns-in-Ok-clause-fresh g c =
+    just_opened c.opened.result _ _ _ _ refl (ap (λ (n : ℕ). n / 4) c.in-Ok.ensures.size)
+    c.opened.ensures.fresh
 
 pub returns-in-Ok-clause-only_reads : goal.returns-in-Ok-clause-only_reads
 returns-in-Ok-clause-only_reads g c reading honest =
     let all = c.in-Ok.ensures in
-    more_reads g.D.SectorDev c.args.dev c.in-Ok.store.dev (device_left c.opened.result) (all.only_reads (c.is_writable.ensures ∙ reading) honest) (c.opened.ensures.only_reads reading (all.honesty.1 honest))
+    more_reads g.D.SectorDev c.args.dev c.in-Ok.store.dev (device_left c.opened.result)
+    (all.only_reads (c.is_writable.ensures ∙ reading) honest)
+    (c.opened.ensures.only_reads reading (all.honesty.1 honest))
 
 pub returns-in-Ok-clause-device : goal.returns-in-Ok-clause-device
 returns-in-Ok-clause-device g c =
     let dev = g.D.SectorDev in
-    each_err c.opened.result c.opened.ensures.device (λ e same more is. more_later (dev.faults c.args.dev) (dev.faults c.in-Ok.store.dev) (dev.faults e.0) c.in-Ok.ensures.cause.later (more is))
+    each_err c.opened.result c.opened.ensures.device
+    (λ e same more is. more_later (dev.faults c.args.dev) (dev.faults c.in-Ok.store.dev)
+    (dev.faults e.0) c.in-Ok.ensures.cause.later (more is))
 
 pub returns-in-Ok-clause-only : goal.returns-in-Ok-clause-only
 returns-in-Ok-clause-only g c = c.opened.ensures.only
@@ -140,13 +187,18 @@ returns-in-Ok-clause-size g c =
 
 -- ---- a blank device
 
-blank_told : (g : Over) (c : goal.After-made g) → g.D.SectorDev.honest c.args.dev → Tells c.args.how (g.D.SectorDev.sectors c.args.dev) (g.D.SectorDev.candidate c.args.dev) (g.D.SectorDev.candidate c.in-Err-default-Blank.dev) redo.Blank
+blank_told : (g : Over) (c : goal.After-made g) → g.D.SectorDev.honest c.args.dev
+    → Tells c.args.how (g.D.SectorDev.sectors c.args.dev) (g.D.SectorDev.candidate c.args.dev)
+    (g.D.SectorDev.candidate c.in-Err-default-Blank.dev) redo.Blank
 blank_told g c honest =
     let dev = g.D.SectorDev in
     let all = c.in-Err-default-Blank.ensures in
     let new = c.in-Err-default-Blank.dev in
-    tells c.args.how (dev.sectors c.args.dev) (dev.candidate c.args.dev) (dev.candidate new) c.is_writable.result (dev.seen c.args.dev) (dev.seen new) c.in-Err-default-Blank.field-0-1 redo.Blank c.is_writable.ensures c.in-Err-default-Blank.field-0-1-is
-    blank_tells.0 blank_tells.1 (g.met.D.SectorDev.seen_may_stay c.args.dev honest) (λ on. all.refused on honest) (λ off. all.refused_as_seen off honest)
+    tells c.args.how (dev.sectors c.args.dev) (dev.candidate c.args.dev) (dev.candidate new)
+    c.is_writable.result (dev.seen c.args.dev) (dev.seen new) c.in-Err-default-Blank.field-0-1
+    redo.Blank c.is_writable.ensures c.in-Err-default-Blank.field-0-1-is
+    blank_tells.0 blank_tells.1 (g.met.D.SectorDev.seen_may_stay c.args.dev honest)
+    (λ on. all.refused on honest) (λ off. all.refused_as_seen off honest)
 
 pub returns-in-Err-default-Blank-clause-any_moment : goal.returns-in-Err-default-Blank-clause-any_moment
 returns-in-Err-default-Blank-clause-any_moment g c honest =
@@ -161,17 +213,32 @@ returns-in-Err-default-Blank-clause-any_moment g c honest =
     let size = ap (λ (n : ℕ). n / 4) all.size in
     let told = blank_told g c honest in
     let there = has_blank how (dev.sectors old) (dev.candidate old) (dev.candidate new) told in
-    let first : LeavesOnly dev.moment (IsOutcome dev.left_since (settled cap)) old new P = before_settle dev cap old new _ (all.any_moment honest) in
+    let first : LeavesOnly dev.moment (IsOutcome dev.left_since (settled cap)) old new P =
+    before_settle dev cap old new _ (all.any_moment honest) in
     let fault = making_fault how (dev.sectors new) in
     by_access (writes how.access)
     (λ on.
-    settles_on dev.moment dev.left_since old new (device_left c.made.result) cap (dev.sectors new / 4) P (BlankOrNew fault how.limit) size first
-    (settles_run dev.moment dev.left_since new (device_left c.made.result) (dev.sectors new / 4) (BlankOrNew fault how.limit)
-    (c.made.ensures.any_moment h1 (λ image is. ap (λ (n : ℕ). settled n image) size ∙ all_blank how (dev.sectors old) (dev.candidate old) (dev.candidate new) told on image is)))
+    settles_on dev.moment dev.left_since old new (device_left c.made.result) cap
+    (dev.sectors new / 4) P (BlankOrNew fault how.limit) size first
+    (settles_run dev.moment dev.left_since new (device_left c.made.result) (dev.sectors new / 4)
+    (BlankOrNew fault how.limit)
+    (c.made.ensures.any_moment h1
+    (λ image is. ap (λ (n : ℕ). settled n image) size
+    ∙ all_blank how (dev.sectors old) (dev.candidate old) (dev.candidate new)
+    told on image is)))
     (λ y. ⊎_elim
     (λ none. inl (subst (λ (z : Settled). SettlesTo cap (dev.candidate old) z) (sym none) there))
-    (λ made. inr (inl (record { due = ap (making_fault how) (sym all.size) ∙ made.0; on_blank = there }), made.1))))
-    (λ off. subst (λ d. LeavesOnly dev.moment (IsOutcome dev.left_since (settled cap)) old d P) (sym (device_untouched fault new c.made.result (none_for_reading how (dev.sectors new) off) c.made.ensures.untouched)) first)
+    (λ made. inr (
+      inl (record {
+        due = ap (making_fault how) (sym all.size) ∙ made.0;
+        on_blank =
+            there;
+      }),
+      made.1,
+    ))))
+    (λ off. subst (λ d. LeavesOnly dev.moment (IsOutcome dev.left_since (settled cap)) old d P)
+    (sym (device_untouched fault new c.made.result
+    (none_for_reading how (dev.sectors new) off) c.made.ensures.untouched)) first)
 
 pub returns-in-Err-default-Blank-clause-stands : goal.returns-in-Err-default-Blank-clause-stands
 returns-in-Err-default-Blank-clause-stands g c honest one stand =
@@ -179,8 +246,11 @@ returns-in-Err-default-Blank-clause-stands g c honest one stand =
     let old = c.args.dev in
     let how = c.args.how in
     let new = c.in-Err-default-Blank.dev in
-    let there = has_blank how (dev.sectors old) (dev.candidate old) (dev.candidate new) (blank_told g c honest) in
-    both_ok c.made.result c.made.ensures.asked (c.made.ensures.stands (c.in-Err-default-Blank.ensures.honesty.1 honest)) (λ file none stands.
+    let there = has_blank how (dev.sectors old) (dev.candidate old) (dev.candidate new)
+    (blank_told g c honest) in
+    both_ok c.made.result c.made.ensures.asked
+    (c.made.ensures.stands (c.in-Err-default-Blank.ensures.honesty.1 honest))
+    (λ file none stands.
     let due = ap (making_fault how) (sym c.in-Err-default-Blank.ensures.size) ∙ none in
     (empty, how.limit, stands, inr (inl (record { due = due; on_blank = there }), refl, refl)))
 
@@ -190,11 +260,15 @@ returns-in-Err-default-Blank-clause-opened g c honest =
     let old = c.args.dev in
     let how = c.args.how in
     let all = c.in-Err-default-Blank.ensures in
-    let there = has_blank how (dev.sectors old) (dev.candidate old) (dev.candidate c.in-Err-default-Blank.dev) (blank_told g c honest) in
+    let there = has_blank how (dev.sectors old) (dev.candidate old)
+    (dev.candidate c.in-Err-default-Blank.dev) (blank_told g c honest) in
     both_ok c.made.result c.made.ensures.asked c.made.ensures.meta (λ file none fresh.
     inr (record { due = ap (making_fault how) (sym all.size) ∙ none; on_blank = there }, fresh))
 
-blank_refused : (g : Over) (c : goal.After-made g) → g.D.SectorDev.honest c.args.dev → IfErr c.made.result (λ e. (e.1 ≡ Device → ⊥) → IsRefusedOpening c.args.how (g.D.SectorDev.sectors c.args.dev) (g.D.SectorDev.candidate c.args.dev) (g.D.SectorDev.candidate e.0) e.1)
+blank_refused : (g : Over) (c : goal.After-made g) → g.D.SectorDev.honest c.args.dev
+    → IfErr c.made.result (λ e. (e.1 ≡ Device → ⊥)
+    → IsRefusedOpening c.args.how (g.D.SectorDev.sectors c.args.dev)
+    (g.D.SectorDev.candidate c.args.dev) (g.D.SectorDev.candidate e.0) e.1)
 blank_refused g c honest =
     let dev = g.D.SectorDev in
     let old = c.args.dev in
@@ -202,8 +276,11 @@ blank_refused g c honest =
     let new = c.in-Err-default-Blank.dev in
     each_err c.made.result c.made.ensures.refused (λ e is why other.
     let made = why other in
-    subst (λ d. IsRefusedOpening how (dev.sectors old) (dev.candidate old) (dev.candidate d) e.1) (sym made.1)
-    (refused_blank how (dev.sectors old) (dev.candidate old) (dev.candidate new) (blank_told g c honest) e.1 (ap (making_fault how) (sym c.in-Err-default-Blank.ensures.size) ∙ made.0)))
+    subst (λ d. IsRefusedOpening how (dev.sectors old) (dev.candidate old) (dev.candidate d) e.1)
+    (sym made.1)
+    (refused_blank how (dev.sectors old) (dev.candidate old) (dev.candidate new)
+    (blank_told g c honest) e.1 (ap (making_fault how)
+    (sym c.in-Err-default-Blank.ensures.size) ∙ made.0)))
 
 pub returns-in-Err-default-Blank-clause-refused : goal.returns-in-Err-default-Blank-clause-refused
 returns-in-Err-default-Blank-clause-refused g c honest none = blank_refused g c honest
@@ -211,34 +288,49 @@ returns-in-Err-default-Blank-clause-refused g c honest none = blank_refused g c 
 pub returns-in-Err-default-Blank-clause-opens : goal.returns-in-Err-default-Blank-clause-opens
 returns-in-Err-default-Blank-clause-opens g c honest none stand allow =
     let dev = g.D.SectorDev in
-    each_err c.made.result (blank_refused g c honest) (λ e is why. only_memory c.args.how (dev.sectors c.args.dev) (dev.candidate c.args.dev) (dev.candidate e.0) e.1 stand allow why)
+    each_err c.made.result (blank_refused g c honest)
+    (λ e is why. only_memory c.args.how (dev.sectors c.args.dev) (dev.candidate c.args.dev)
+    (dev.candidate e.0) e.1 stand allow why)
 
 pub returns-in-Err-default-Blank-clause-early : goal.returns-in-Err-default-Blank-clause-early
-returns-in-Err-default-Blank-clause-early g c = if_none _ _ (sym (ap (early_fault c.args.how) c.capacity-sectors.ensures) ∙ sym c.early_refusal.ensures ∙ c.in_default.is)
+returns-in-Err-default-Blank-clause-early g c =
+    if_none _ _ (sym (ap (early_fault c.args.how) c.capacity-sectors.ensures)
+    ∙ sym c.early_refusal.ensures ∙ c.in_default.is)
 
 pub returns-in-Err-default-Blank-clause-fresh : goal.returns-in-Err-default-Blank-clause-fresh
-returns-in-Err-default-Blank-clause-fresh g c = made_opened c.made.result _ _ _ c.made.ensures.asked c.made.ensures.fresh (λ none. sym (was_asked c.args.how _ none).1) (ap (λ (n : ℕ). n / 4) c.in-Err-default-Blank.ensures.size)
+returns-in-Err-default-Blank-clause-fresh g c =
+    made_opened c.made.result _ _ _ c.made.ensures.asked c.made.ensures.fresh
+    (λ none. sym (was_asked c.args.how _ none).1)
+    (ap (λ (n : ℕ). n / 4) c.in-Err-default-Blank.ensures.size)
 
 pub returns-in-Err-default-Blank-clause-only_reads : goal.returns-in-Err-default-Blank-clause-only_reads
 returns-in-Err-default-Blank-clause-only_reads g c reading honest =
     let dev = g.D.SectorDev in
     let new = c.in-Err-default-Blank.dev in
-    subst (OnlyReads dev c.args.dev) (sym (device_untouched (making_fault c.args.how (dev.sectors new)) new c.made.result (none_for_reading c.args.how (dev.sectors new) reading) c.made.ensures.untouched))
+    subst (OnlyReads dev c.args.dev)
+    (sym (device_untouched (making_fault c.args.how (dev.sectors new)) new c.made.result
+    (none_for_reading c.args.how (dev.sectors new) reading) c.made.ensures.untouched))
     (c.in-Err-default-Blank.ensures.only_reads (c.is_writable.ensures ∙ reading) honest)
 
 pub returns-in-Err-default-Blank-clause-device : goal.returns-in-Err-default-Blank-clause-device
 returns-in-Err-default-Blank-clause-device g c =
     let dev = g.D.SectorDev in
-    each_err c.made.result c.made.ensures.device (λ e same more is. more_later (dev.faults c.args.dev) (dev.faults c.in-Err-default-Blank.dev) (dev.faults e.0) c.in-Err-default-Blank.ensures.cause.later (more is))
+    each_err c.made.result c.made.ensures.device
+    (λ e same more is. more_later (dev.faults c.args.dev)
+    (dev.faults c.in-Err-default-Blank.dev) (dev.faults e.0)
+    c.in-Err-default-Blank.ensures.cause.later (more is))
 
 pub returns-in-Err-default-Blank-clause-only : goal.returns-in-Err-default-Blank-clause-only
-returns-in-Err-default-Blank-clause-only g c = each_err c.made.result c.made.ensures.only (λ e is among. of_made e.1 among)
+returns-in-Err-default-Blank-clause-only g c =
+    each_err c.made.result c.made.ensures.only (λ e is among. of_made e.1 among)
 
 pub returns-in-Err-default-Blank-clause-honesty : goal.returns-in-Err-default-Blank-clause-honesty
-returns-in-Err-default-Blank-clause-honesty g c = both_ways c.made.ensures.honesty c.in-Err-default-Blank.ensures.honesty
+returns-in-Err-default-Blank-clause-honesty g c =
+    both_ways c.made.ensures.honesty c.in-Err-default-Blank.ensures.honesty
 
 pub returns-in-Err-default-Blank-clause-later : goal.returns-in-Err-default-Blank-clause-later
-returns-in-Err-default-Blank-clause-later g c = later_then _ _ _ c.in-Err-default-Blank.ensures.cause.later c.made.ensures.later
+returns-in-Err-default-Blank-clause-later g c =
+    later_then _ _ _ c.in-Err-default-Blank.ensures.cause.later c.made.ensures.later
 
 pub returns-in-Err-default-Blank-clause-size : goal.returns-in-Err-default-Blank-clause-size
 returns-in-Err-default-Blank-clause-size g c =
@@ -247,117 +339,176 @@ returns-in-Err-default-Blank-clause-size g c =
 
 -- ---- a device that is no good file
 
-not_ours_refused : (g : Over) (c : goal.After-or_exists g) → g.D.SectorDev.honest c.args.dev → IsRefusedOpening c.args.how (g.D.SectorDev.sectors c.args.dev) (g.D.SectorDev.candidate c.args.dev) (g.D.SectorDev.candidate c.in-Err-default-NotOurs.dev) c.or_exists.result
+not_ours_refused : (g : Over) (c : goal.After-or_exists g) → g.D.SectorDev.honest c.args.dev
+    → IsRefusedOpening c.args.how (g.D.SectorDev.sectors c.args.dev)
+    (g.D.SectorDev.candidate c.args.dev) (g.D.SectorDev.candidate c.in-Err-default-NotOurs.dev)
+    c.or_exists.result
 not_ours_refused g c honest =
     let dev = g.D.SectorDev in
     let all = c.in-Err-default-NotOurs.ensures in
     let old = c.args.dev in
     let new = c.in-Err-default-NotOurs.dev in
-    refused_not_ours c.args.how (dev.sectors old) (dev.candidate old) (dev.candidate new) c.or_exists.result
-    (tells c.args.how (dev.sectors old) (dev.candidate old) (dev.candidate new) c.is_writable.result (dev.seen old) (dev.seen new) c.in-Err-default-NotOurs.field-0-1 redo.NotOurs c.is_writable.ensures c.in-Err-default-NotOurs.field-0-1-is
-    not_ours_tells.0 not_ours_tells.1 (g.met.D.SectorDev.seen_may_stay old honest) (λ on. all.refused on honest) (λ off. all.refused_as_seen off honest))
+    refused_not_ours c.args.how (dev.sectors old) (dev.candidate old) (dev.candidate new)
+    c.or_exists.result
+    (tells c.args.how (dev.sectors old) (dev.candidate old) (dev.candidate new) c.is_writable.result
+    (dev.seen old) (dev.seen new) c.in-Err-default-NotOurs.field-0-1 redo.NotOurs
+    c.is_writable.ensures c.in-Err-default-NotOurs.field-0-1-is
+    not_ours_tells.0 not_ours_tells.1 (g.met.D.SectorDev.seen_may_stay old honest)
+    (λ on. all.refused on honest) (λ off. all.refused_as_seen off honest))
     c.or_exists.ensures
 
-damaged_refused : (g : Over) (c : goal.After-or_exists-in-Err-default-Damaged g) → g.D.SectorDev.honest c.args.dev
-    → IsRefusedOpening c.args.how (g.D.SectorDev.sectors c.args.dev) (g.D.SectorDev.candidate c.args.dev) (g.D.SectorDev.candidate c.in-Err-default-Damaged.dev) c.or_exists-in-Err-default-Damaged.result
+damaged_refused : (g : Over) (c : goal.After-or_exists-in-Err-default-Damaged g)
+    → g.D.SectorDev.honest c.args.dev
+    → IsRefusedOpening c.args.how (g.D.SectorDev.sectors c.args.dev)
+    (g.D.SectorDev.candidate c.args.dev) (g.D.SectorDev.candidate c.in-Err-default-Damaged.dev)
+    c.or_exists-in-Err-default-Damaged.result
 damaged_refused g c honest =
     let dev = g.D.SectorDev in
     let all = c.in-Err-default-Damaged.ensures in
     let old = c.args.dev in
     let new = c.in-Err-default-Damaged.dev in
-    refused_damaged c.args.how (dev.sectors old) (dev.candidate old) (dev.candidate new) c.or_exists-in-Err-default-Damaged.result
-    (tells c.args.how (dev.sectors old) (dev.candidate old) (dev.candidate new) c.is_writable.result (dev.seen old) (dev.seen new) c.in-Err-default-Damaged.field-0-1 redo.Damaged c.is_writable.ensures c.in-Err-default-Damaged.field-0-1-is
-    damaged_tells.0 damaged_tells.1 (g.met.D.SectorDev.seen_may_stay old honest) (λ on. all.refused on honest) (λ off. all.refused_as_seen off honest))
+    refused_damaged c.args.how (dev.sectors old) (dev.candidate old) (dev.candidate new)
+    c.or_exists-in-Err-default-Damaged.result
+    (tells c.args.how (dev.sectors old) (dev.candidate old) (dev.candidate new) c.is_writable.result
+    (dev.seen old) (dev.seen new) c.in-Err-default-Damaged.field-0-1 redo.Damaged
+    c.is_writable.ensures c.in-Err-default-Damaged.field-0-1-is
+    damaged_tells.0 damaged_tells.1 (g.met.D.SectorDev.seen_may_stay old honest)
+    (λ on. all.refused on honest) (λ off. all.refused_as_seen off honest))
     c.or_exists-in-Err-default-Damaged.ensures
 
 pub returns-in-Err-default-NotOurs : goal.returns-in-Err-default-NotOurs
 returns-in-Err-default-NotOurs g c = record {
-  early = if_none _ _ (sym (ap (early_fault c.args.how) c.capacity-sectors.ensures) ∙ sym c.early_refusal.ensures ∙ c.in_default.is);
+  early = if_none _ _ (sym (ap (early_fault c.args.how) c.capacity-sectors.ensures)
+      ∙ sym c.early_refusal.ensures ∙ c.in_default.is);
   fresh = tt;
   any_moment = λ honest.
       let dev = g.D.SectorDev in
-      before_settle dev (dev.sectors c.args.dev / 4) c.args.dev c.in-Err-default-NotOurs.dev _ (c.in-Err-default-NotOurs.ensures.any_moment honest);
+      before_settle dev (dev.sectors c.args.dev / 4) c.args.dev c.in-Err-default-NotOurs.dev _
+      (c.in-Err-default-NotOurs.ensures.any_moment honest);
   stands = λ honest one stand. tt;
   opened = λ honest. tt;
-  only_reads = λ reading honest. c.in-Err-default-NotOurs.ensures.only_reads (c.is_writable.ensures ∙ reading) honest;
-  opens = λ honest none stand allow. only_memory c.args.how (g.D.SectorDev.sectors c.args.dev) (g.D.SectorDev.candidate c.args.dev) (g.D.SectorDev.candidate c.in-Err-default-NotOurs.dev) c.or_exists.result stand allow (λ other. not_ours_refused g c honest);
+  only_reads = λ reading honest.
+      c.in-Err-default-NotOurs.ensures.only_reads (c.is_writable.ensures ∙ reading) honest;
+  opens = λ honest none stand allow.
+      only_memory c.args.how (g.D.SectorDev.sectors c.args.dev) (g.D.SectorDev.candidate c.args.dev)
+      (g.D.SectorDev.candidate c.in-Err-default-NotOurs.dev) c.or_exists.result stand allow
+      (λ other. not_ours_refused g c honest);
   refused = λ honest none other. not_ours_refused g c honest;
-  device = λ is. absurd ((of_no_file (is_exclusive c.args.how) c.or_exists.result c.or_exists.ensures).1 is);
+  device = λ is. absurd ((of_no_file (is_exclusive c.args.how) c.or_exists.result
+      c.or_exists.ensures).1 is);
   only = (of_no_file (is_exclusive c.args.how) c.or_exists.result c.or_exists.ensures).0;
   honesty = c.in-Err-default-NotOurs.ensures.honesty;
   later = c.in-Err-default-NotOurs.ensures.cause.later;
-  size = (ap (λ (n : ℕ). n / 4) c.in-Err-default-NotOurs.ensures.size, λ kept. c.in-Err-default-NotOurs.ensures.size);
+  size = (
+    ap (λ (n : ℕ). n / 4) c.in-Err-default-NotOurs.ensures.size,
+    λ kept.
+        c.in-Err-default-NotOurs.ensures.size,
+  );
 }
 
 pub returns-in-Err-default-Damaged : goal.returns-in-Err-default-Damaged
 returns-in-Err-default-Damaged g c = record {
-  early = if_none _ _ (sym (ap (early_fault c.args.how) c.capacity-sectors.ensures) ∙ sym c.early_refusal.ensures ∙ c.in_default.is);
+  early = if_none _ _ (sym (ap (early_fault c.args.how) c.capacity-sectors.ensures)
+      ∙ sym c.early_refusal.ensures ∙ c.in_default.is);
   fresh = tt;
   any_moment = λ honest.
       let dev = g.D.SectorDev in
-      before_settle dev (dev.sectors c.args.dev / 4) c.args.dev c.in-Err-default-Damaged.dev _ (c.in-Err-default-Damaged.ensures.any_moment honest);
+      before_settle dev (dev.sectors c.args.dev / 4) c.args.dev c.in-Err-default-Damaged.dev _
+      (c.in-Err-default-Damaged.ensures.any_moment honest);
   stands = λ honest one stand. tt;
   opened = λ honest. tt;
-  only_reads = λ reading honest. c.in-Err-default-Damaged.ensures.only_reads (c.is_writable.ensures ∙ reading) honest;
-  opens = λ honest none stand allow. only_memory c.args.how (g.D.SectorDev.sectors c.args.dev) (g.D.SectorDev.candidate c.args.dev) (g.D.SectorDev.candidate c.in-Err-default-Damaged.dev) c.or_exists-in-Err-default-Damaged.result stand allow (λ other. damaged_refused g c honest);
+  only_reads = λ reading honest.
+      c.in-Err-default-Damaged.ensures.only_reads (c.is_writable.ensures ∙ reading) honest;
+  opens = λ honest none stand allow.
+      only_memory c.args.how (g.D.SectorDev.sectors c.args.dev) (g.D.SectorDev.candidate c.args.dev)
+      (g.D.SectorDev.candidate c.in-Err-default-Damaged.dev)
+      c.or_exists-in-Err-default-Damaged.result stand allow (λ other. damaged_refused g c honest);
   refused = λ honest none other. damaged_refused g c honest;
-  device = λ is. absurd ((of_damaged (is_exclusive c.args.how) c.or_exists-in-Err-default-Damaged.result c.or_exists-in-Err-default-Damaged.ensures).1 is);
-  only = (of_damaged (is_exclusive c.args.how) c.or_exists-in-Err-default-Damaged.result c.or_exists-in-Err-default-Damaged.ensures).0;
+  device = λ is. absurd ((of_damaged (is_exclusive c.args.how)
+      c.or_exists-in-Err-default-Damaged.result
+      c.or_exists-in-Err-default-Damaged.ensures).1 is);
+  only = (of_damaged (is_exclusive c.args.how) c.or_exists-in-Err-default-Damaged.result
+      c.or_exists-in-Err-default-Damaged.ensures).0;
   honesty = c.in-Err-default-Damaged.ensures.honesty;
   later = c.in-Err-default-Damaged.ensures.cause.later;
-  size = (ap (λ (n : ℕ). n / 4) c.in-Err-default-Damaged.ensures.size, λ kept. c.in-Err-default-Damaged.ensures.size);
+  size = (
+    ap (λ (n : ℕ). n / 4) c.in-Err-default-Damaged.ensures.size,
+    λ kept.
+        c.in-Err-default-Damaged.ensures.size,
+  );
 }
 
 -- ---- want of memory, or a fault of the device
 
 not_writing : (g : Over) (c : goal.In-Err-default-Memory g) → c.is_writable.result ≡ true → ⊥
-not_writing g c writing = c.in-Err-default-Memory.ensures.cause.no_memory writing c.in-Err-default-Memory.field-0-1-is
+not_writing g c writing = c.in-Err-default-Memory.ensures.cause.no_memory writing
+    c.in-Err-default-Memory.field-0-1-is
 
 pub returns-in-Err-default-Memory : goal.returns-in-Err-default-Memory
 returns-in-Err-default-Memory g c = record {
-  early = if_none _ _ (sym (ap (early_fault c.args.how) c.capacity-sectors.ensures) ∙ sym c.early_refusal.ensures ∙ c.in_default.is);
+  early = if_none _ _ (sym (ap (early_fault c.args.how) c.capacity-sectors.ensures)
+      ∙ sym c.early_refusal.ensures ∙ c.in_default.is);
   fresh = tt;
   any_moment = λ honest.
       let dev = g.D.SectorDev in
-      before_settle dev (dev.sectors c.args.dev / 4) c.args.dev c.in-Err-default-Memory.dev _ (c.in-Err-default-Memory.ensures.any_moment honest);
+      before_settle dev (dev.sectors c.args.dev / 4) c.args.dev c.in-Err-default-Memory.dev _
+      (c.in-Err-default-Memory.ensures.any_moment honest);
   stands = λ honest one stand. tt;
   opened = λ honest. tt;
-  only_reads = λ reading honest. c.in-Err-default-Memory.ensures.only_reads (c.is_writable.ensures ∙ reading) honest;
-  opens = λ honest none stand allow. inr (refl, inr (sym c.is_writable.ensures ∙ not_on c.is_writable.result (not_writing g c)));
+  only_reads = λ reading honest.
+      c.in-Err-default-Memory.ensures.only_reads (c.is_writable.ensures ∙ reading) honest;
+  opens = λ honest none stand allow.
+      inr (refl, inr (sym c.is_writable.ensures ∙ not_on c.is_writable.result (not_writing g c)));
   refused = λ honest none other.
       let dev = g.D.SectorDev in
-      lacks_memory c.args.how (dev.sectors c.args.dev) (dev.candidate c.args.dev) (dev.candidate c.in-Err-default-Memory.dev) c.is_writable.result (dev.seen c.args.dev) c.is_writable.ensures (not_writing g c)
-      (g.met.D.SectorDev.seen_may_stay c.args.dev honest) (c.in-Err-default-Memory.ensures.memory honest c.in-Err-default-Memory.field-0-1-is);
+      lacks_memory c.args.how (dev.sectors c.args.dev) (dev.candidate c.args.dev)
+      (dev.candidate c.in-Err-default-Memory.dev) c.is_writable.result (dev.seen c.args.dev)
+      c.is_writable.ensures (not_writing g c)
+      (g.met.D.SectorDev.seen_may_stay c.args.dev honest)
+      (c.in-Err-default-Memory.ensures.memory honest c.in-Err-default-Memory.field-0-1-is);
   device = λ is. absurd (same_false the_type Memory Device refl is);
   only = memory_opens;
   honesty = c.in-Err-default-Memory.ensures.honesty;
   later = c.in-Err-default-Memory.ensures.cause.later;
-  size = (ap (λ (n : ℕ). n / 4) c.in-Err-default-Memory.ensures.size, λ kept. c.in-Err-default-Memory.ensures.size);
+  size = (
+    ap (λ (n : ℕ). n / 4) c.in-Err-default-Memory.ensures.size,
+    λ kept.
+        c.in-Err-default-Memory.ensures.size,
+  );
 }
 
 pub returns-in-Err-default-Device : goal.returns-in-Err-default-Device
 returns-in-Err-default-Device g c = record {
-  early = if_none _ _ (sym (ap (early_fault c.args.how) c.capacity-sectors.ensures) ∙ sym c.early_refusal.ensures ∙ c.in_default.is);
+  early = if_none _ _ (sym (ap (early_fault c.args.how) c.capacity-sectors.ensures)
+      ∙ sym c.early_refusal.ensures ∙ c.in_default.is);
   fresh = tt;
   any_moment = λ honest.
       let dev = g.D.SectorDev in
-      before_settle dev (dev.sectors c.args.dev / 4) c.args.dev c.in-Err-default-Device.dev _ (c.in-Err-default-Device.ensures.any_moment honest);
+      before_settle dev (dev.sectors c.args.dev / 4) c.args.dev c.in-Err-default-Device.dev _
+      (c.in-Err-default-Device.ensures.any_moment honest);
   stands = λ honest one stand. tt;
   opened = λ honest. tt;
-  only_reads = λ reading honest. c.in-Err-default-Device.ensures.only_reads (c.is_writable.ensures ∙ reading) honest;
+  only_reads = λ reading honest.
+      c.in-Err-default-Device.ensures.only_reads (c.is_writable.ensures ∙ reading) honest;
   opens = λ honest none stand allow. inl refl;
   refused = λ honest none other. absurd (other refl);
   device = λ is. c.in-Err-default-Device.ensures.cause.fault c.in-Err-default-Device.field-0-1-is;
   only = device_opens;
   honesty = c.in-Err-default-Device.ensures.honesty;
   later = c.in-Err-default-Device.ensures.cause.later;
-  size = (ap (λ (n : ℕ). n / 4) c.in-Err-default-Device.ensures.size, λ kept. c.in-Err-default-Device.ensures.size);
+  size = (
+    ap (λ (n : ℕ). n / 4) c.in-Err-default-Device.ensures.size,
+    λ kept.
+        c.in-Err-default-Device.ensures.size,
+  );
 }
 
 -- ---- it is refused before the device is called
 
-early_is : (g : Over) (c : goal.In-Some g) → early_fault c.args.how (g.D.SectorDev.sectors c.args.dev) ≡ Some c.in-Some.fault
-early_is g c = sym (ap (early_fault c.args.how) c.capacity-sectors.ensures) ∙ sym c.early_refusal.ensures ∙ c.in-Some.is
+early_is : (g : Over) (c : goal.In-Some g)
+    → early_fault c.args.how (g.D.SectorDev.sectors c.args.dev) ≡ Some c.in-Some.fault
+early_is g c = sym (ap (early_fault c.args.how) c.capacity-sectors.ensures)
+    ∙ sym c.early_refusal.ensures ∙ c.in-Some.is
 
 pub returns-in-Some : goal.returns-in-Some
 returns-in-Some g c = record {
@@ -366,10 +517,13 @@ returns-in-Some g c = record {
   any_moment = λ honest.
       let dev = g.D.SectorDev in
       let d = c.args.dev in
-      reads_settle dev (dev.sectors d / 4) d d _ (reads_nothing dev d (λ image left. g.met.D.SectorDev.only_now d image honest left));
+      reads_settle dev (dev.sectors d / 4) d d _
+      (reads_nothing dev d (λ image left. g.met.D.SectorDev.only_now d image honest left));
   stands = λ honest one stand. tt;
   opened = λ honest. tt;
-  only_reads = λ reading honest. reads_nothing g.D.SectorDev c.args.dev (λ image left. g.met.D.SectorDev.only_now c.args.dev image honest left);
+  only_reads = λ reading honest.
+      reads_nothing g.D.SectorDev c.args.dev
+      (λ image left. g.met.D.SectorDev.only_now c.args.dev image honest left);
   opens = λ honest none. not_none _ c.in-Some.fault (early_is g c) none;
   refused = λ honest none. not_none _ c.in-Some.fault (early_is g c) none;
   device = λ is. absurd ((of_early c.args.how _ c.in-Some.fault (early_is g c)).1 is);

@@ -25,26 +25,33 @@ use Rattle.file_opening.proofs.opening.opened.Goals as goal
 
 pub returns-then-not-how-clause-stands : goal.returns-then-not-how-clause-stands
 returns-then-not-how-clause-stands g c honest only map limit stands =
-    opens_kept c.args.how map limit c.found-found.result (is_off c.args.how.truncate c.if-not-how.true) (sym c.is_exclusive.ensures ∙ c.if-is_exclusive.false) (c.found-found.ensures.stands honest only map limit stands)
+    opens_kept c.args.how map limit c.found-found.result
+    (is_off c.args.how.truncate c.if-not-how.true)
+    (sym c.is_exclusive.ensures ∙ c.if-is_exclusive.false)
+    (c.found-found.ensures.stands honest only map limit stands)
 
 -- what is due of the file that was found is due of the pages at the start
 due_here : (g : Over) (c : goal.After-emptied g) → g.D.SectorDev.honest c.args.store.dev →
     emptying_fault c.args.how.limit (g.D.SectorDev.sectors c.args.store.dev)
-    (length (file_pages (overlaid (bytes_of c.args.store.redo.items) (page_at (g.D.SectorDev.seen c.args.store.dev))) c.args.store.end) + 1)
-    ≡ emptying_fault c.args.how.limit (g.D.SectorDev.sectors c.in-Ok.file.store.dev) c.in-Ok.file.store.end
+    (length (file_pages (overlaid (bytes_of c.args.store.redo.items)
+    (page_at (g.D.SectorDev.seen c.args.store.dev))) c.args.store.end) + 1)
+    ≡ emptying_fault c.args.how.limit (g.D.SectorDev.sectors c.in-Ok.file.store.dev)
+    c.in-Ok.file.store.end
 due_here g c honest =
     let dev = g.D.SectorDev in
     let mid = c.in-Ok.file.store in
     let how = c.args.how in
     let all = c.in-Ok.ensures in
     let end_is = ap (λ (ps : Pages). length ps + 1) (sym (all.kept honest))
-    ∙ counts_end (overlaid (bytes_of mid.redo.items) (page_at (dev.seen mid.dev))) mid.end mid.least in
+    ∙ counts_end (overlaid (bytes_of mid.redo.items) (page_at (dev.seen mid.dev)))
+    mid.end mid.least in
     ap (λ (n : ℕ). emptying_fault how.limit (dev.sectors c.args.store.dev) n) end_is
     ∙ ap (λ (n : ℕ). emptying_fault how.limit n mid.end) (sym all.size)
 
 -- its meta page is a good one
 says_here : (g : Over) (c : goal.After-emptied g) → g.D.SectorDev.honest c.args.store.dev → SaysMeta
-    (page_of (file_pages (overlaid (bytes_of c.args.store.redo.items) (page_at (g.D.SectorDev.seen c.args.store.dev))) c.args.store.end) 1)
+    (page_of (file_pages (overlaid (bytes_of c.args.store.redo.items)
+    (page_at (g.D.SectorDev.seen c.args.store.dev))) c.args.store.end) 1)
 says_here g c honest =
     let says = c.in-Ok.ensures.says honest in
     record { meta = model_meta c.in-Ok.file.meta; valid = says.0; says = says.1 }
@@ -54,7 +61,14 @@ returns-in-Ok-clause-opened g c honest =
     let may = sym c.is_exclusive.ensures ∙ c.if-is_exclusive.false in
     let asked = is_on c.args.how.truncate c.if-not-how.false in
     both_ok c.emptied.result c.emptied.ensures.room c.emptied.ensures.meta (λ file due fresh. inr (
-      record { asked = asked; written = c.requires.written asked; allowed = may; opens = says_here g c honest; due = due_here g c honest ∙ due },
+      record {
+        asked = asked;
+        written = c.requires.written asked;
+        allowed = may;
+        opens =
+            says_here g c honest;
+        due = due_here g c honest ∙ due;
+      },
       fresh,
     ))
 
@@ -70,7 +84,8 @@ returns-in-Ok-clause-emptied g c honest =
 
 pub returns-then-not-how-clause-emptied : goal.returns-then-not-how-clause-emptied
 returns-then-not-how-clause-emptied g c honest =
-    from_ok c.found-found.result c.found-found.ensures.fresh (λ file fresh asked. not_both _ asked (is_off c.args.how.truncate c.if-not-how.true))
+    from_ok c.found-found.result c.found-found.ensures.fresh
+    (λ file fresh asked. not_both _ asked (is_off c.args.how.truncate c.if-not-how.true))
 
 pub returns-in-Ok-clause-any_moment : goal.returns-in-Ok-clause-any_moment
 returns-in-Ok-clause-any_moment g c honest =
@@ -79,20 +94,46 @@ returns-in-Ok-clause-any_moment g c honest =
     let mid = c.in-Ok.file.store in
     let how = c.args.how in
     let cap : ℕ = dev.sectors store.dev / 4 in
-    let file = file_pages (overlaid (bytes_of store.redo.items) (page_at (dev.seen store.dev))) store.end in
+    let file = file_pages (overlaid (bytes_of store.redo.items) (page_at (dev.seen store.dev)))
+    store.end in
     let all = c.in-Ok.ensures in
-    let P : Settled → Type 0 = λ now. SettlesTo cap (dev.candidate store.dev) now ⊎ (EmptiesFile how (dev.sectors store.dev) file × ImageStandsFor now empty how.limit) in
+    let P : Settled → Type 0 = λ now.
+    SettlesTo cap (dev.candidate store.dev) now
+    ⊎ (EmptiesFile how (dev.sectors store.dev) file × ImageStandsFor now empty how.limit) in
     let may = sym c.is_exclusive.ensures ∙ c.if-is_exclusive.false in
     let asked = is_on how.truncate c.if-not-how.false in
-    let there : SettlesTo cap (dev.candidate store.dev) (file_of file) = record { image = dev.seen store.dev; is_image = g.met.D.SectorDev.seen_may_stay store.dev honest; reads = (store.rests honest c.requires.fresh.usable).settles } in
-    settles_on dev.moment dev.left_since store.dev mid.dev (device_left c.emptied.result) cap (dev.sectors mid.dev / 4) P (OldOrEmpty (file_pages (overlaid (bytes_of mid.redo.items) (page_at (dev.seen mid.dev))) mid.end) (emptying_fault how.limit (dev.sectors mid.dev) mid.end ≡ None) how.limit)
+    let there : SettlesTo cap (dev.candidate store.dev) (file_of file) =
+    record {
+      image = dev.seen store.dev;
+      is_image =
+          g.met.D.SectorDev.seen_may_stay store.dev honest;
+      reads =
+          (store.rests honest c.requires.fresh.usable).settles;
+    } in
+    settles_on dev.moment dev.left_since store.dev mid.dev (device_left c.emptied.result) cap
+    (dev.sectors mid.dev / 4) P (OldOrEmpty
+    (file_pages (overlaid (bytes_of mid.redo.items) (page_at (dev.seen mid.dev))) mid.end)
+    (emptying_fault how.limit (dev.sectors mid.dev) mid.end ≡ None) how.limit)
     (ap (λ (n : ℕ). n / 4) all.size)
     (settles_run dev.moment dev.left_since store.dev mid.dev cap P
-    (weaker dev.moment dev.left_since store.dev mid.dev (λ image. P (settled cap image)) _ (all.only_reads honest).any_moment (λ image is. inl (record { image = image; is_image = is; reads = refl }))))
+    (weaker dev.moment dev.left_since store.dev mid.dev (λ image. P (settled cap image)) _
+    (all.only_reads honest).any_moment
+    (λ image is. inl (record { image = image; is_image = is; reads = refl }))))
     (c.emptied.ensures.any_moment (all.honesty.1 honest))
     (λ y. ⊎_elim
-    (λ is. inl (subst (λ (z : Settled). SettlesTo cap (dev.candidate store.dev) z) (sym (is ∙ ap file_of (all.kept honest))) there))
-    (λ new. inr (record { asked = asked; written = c.requires.written asked; allowed = may; opens = says_here g c honest; due = due_here g c honest ∙ new.0 }, new.1)))
+    (λ is. inl (subst (λ (z : Settled). SettlesTo cap (dev.candidate store.dev) z)
+    (sym (is ∙ ap file_of (all.kept honest))) there))
+    (λ new. inr (
+      record {
+        asked = asked;
+        written = c.requires.written asked;
+        allowed = may;
+        opens =
+            says_here g c honest;
+        due = due_here g c honest ∙ new.0;
+      },
+      new.1,
+    )))
 
 pub returns-in-Ok-clause-refused : goal.returns-in-Ok-clause-refused
 returns-in-Ok-clause-refused g c honest =
@@ -103,12 +144,14 @@ returns-in-Ok-clause-refused g c honest =
     let all = c.in-Ok.ensures in
     let may = sym c.is_exclusive.ensures ∙ c.if-is_exclusive.false in
     let asked = is_on how.truncate c.if-not-how.false in
-    both_err c.emptied.result c.emptied.ensures.refused (c.emptied.ensures.left (all.honesty.1 honest)) (λ e why left other. (
+    both_err c.emptied.result c.emptied.ensures.refused
+    (c.emptied.ensures.left (all.honesty.1 honest)) (λ e why left other. (
       ⊎_elim
           (λ is. inl (inr (may, inr (says_here g c honest, asked, due_here g c honest ∙ is))))
           (λ memory. inr (memory, asked))
           (why other),
-      λ writing after is. ap (λ (n : ℕ). settled (n / 4) after) (sym all.size) ∙ left other after is ∙ ap file_of (all.kept honest),
+      λ writing after is. ap (λ (n : ℕ). settled (n / 4) after) (sym all.size) ∙ left other after is
+          ∙ ap file_of (all.kept honest),
     ))
 
 -- ---- a database may not be there
@@ -120,7 +163,9 @@ pub returns-then-is_exclusive-clause-any_moment : goal.returns-then-is_exclusive
 returns-then-is_exclusive-clause-any_moment g c honest =
     let dev = g.D.SectorDev in
     let d = c.args.store.dev in
-    reads_settle dev (dev.sectors d / 4) d c.into_dev.result _ (subst (OnlyReads dev d) (sym c.into_dev.ensures) (reads_nothing dev d (λ image left. g.met.D.SectorDev.only_now d image honest left)))
+    reads_settle dev (dev.sectors d / 4) d c.into_dev.result _
+    (subst (OnlyReads dev d) (sym c.into_dev.ensures)
+    (reads_nothing dev d (λ image left. g.met.D.SectorDev.only_now d image honest left)))
 
 pub returns-then-is_exclusive-clause-stands : goal.returns-then-is_exclusive-clause-stands
 returns-then-is_exclusive-clause-stands g c honest only map limit stands = tt
@@ -129,7 +174,8 @@ pub returns-then-is_exclusive-clause-only_reads : goal.returns-then-is_exclusive
 returns-then-is_exclusive-clause-only_reads g c reading honest =
     let dev = g.D.SectorDev in
     let d = c.args.store.dev in
-    subst (OnlyReads dev d) (sym c.into_dev.ensures) (reads_nothing dev d (λ image left. g.met.D.SectorDev.only_now d image honest left))
+    subst (OnlyReads dev d) (sym c.into_dev.ensures)
+    (reads_nothing dev d (λ image left. g.met.D.SectorDev.only_now d image honest left))
 
 pub returns-then-is_exclusive-clause-refused : goal.returns-then-is_exclusive-clause-refused
 returns-then-is_exclusive-clause-refused g c honest other =
@@ -137,9 +183,11 @@ returns-then-is_exclusive-clause-refused g c honest other =
     let store = c.args.store in
     let d = store.dev in
     let rest = store.rests honest c.requires.fresh.usable in
-    let reads = subst (OnlyReads dev d) (sym c.into_dev.ensures) (reads_nothing dev d (λ image left. g.met.D.SectorDev.only_now d image honest left)) in (
+    let reads = subst (OnlyReads dev d) (sym c.into_dev.ensures)
+    (reads_nothing dev d (λ image left. g.met.D.SectorDev.only_now d image honest left)) in (
       inl (inl (sym c.is_exclusive.ensures ∙ c.if-is_exclusive.true, refl)),
-      λ writing. reads_leave dev (dev.sectors d / 4) d c.into_dev.result _ reads (rest.at_rest (c.requires.fresh.writable ∙ writing)).stable rest.settles,
+      λ writing. reads_leave dev (dev.sectors d / 4) d c.into_dev.result _ reads
+          (rest.at_rest (c.requires.fresh.writable ∙ writing)).stable rest.settles,
     )
 
 pub returns-then-is_exclusive-clause-device : goal.returns-then-is_exclusive-clause-device
@@ -149,10 +197,12 @@ pub returns-then-is_exclusive-clause-only : goal.returns-then-is_exclusive-claus
 returns-then-is_exclusive-clause-only g c = exists_opens
 
 pub returns-then-is_exclusive-clause-honesty : goal.returns-then-is_exclusive-clause-honesty
-returns-then-is_exclusive-clause-honesty g c = same_honest g.D.SectorDev c.args.store.dev c.into_dev.result c.into_dev.ensures
+returns-then-is_exclusive-clause-honesty g c =
+    same_honest g.D.SectorDev c.args.store.dev c.into_dev.result c.into_dev.ensures
 
 pub returns-then-is_exclusive-clause-later : goal.returns-then-is_exclusive-clause-later
-returns-then-is_exclusive-clause-later g c = same_faults g.D.SectorDev c.args.store.dev c.into_dev.result c.into_dev.ensures
+returns-then-is_exclusive-clause-later g c =
+    same_faults g.D.SectorDev c.args.store.dev c.into_dev.result c.into_dev.ensures
 
 pub returns-then-is_exclusive-clause-size : goal.returns-then-is_exclusive-clause-size
 returns-then-is_exclusive-clause-size g c =
@@ -162,16 +212,22 @@ returns-then-is_exclusive-clause-size g c =
 -- ---- it is not to be emptied
 
 pub found-found-requires : goal.found-found-requires
-found-found-requires g c = record { fresh = subst (λ b. IsFreshStore (g.D.SectorDev.sectors c.args.store.dev / 4) b (state_of c.args.store)) (sym c.is_writable.ensures) c.requires.fresh }
+found-found-requires g c = record {
+  fresh =
+      subst (λ b. IsFreshStore (g.D.SectorDev.sectors c.args.store.dev / 4) b
+      (state_of c.args.store)) (sym c.is_writable.ensures) c.requires.fresh;
+}
 
 pub returns-then-not-how-clause-fresh : goal.returns-then-not-how-clause-fresh
-returns-then-not-how-clause-fresh g c = just_opened c.found-found.result _ _ _ _ c.is_writable.ensures refl c.found-found.ensures.fresh
+returns-then-not-how-clause-fresh g c =
+    just_opened c.found-found.result _ _ _ _ c.is_writable.ensures refl c.found-found.ensures.fresh
 
 pub returns-then-not-how-clause-any_moment : goal.returns-then-not-how-clause-any_moment
 returns-then-not-how-clause-any_moment g c honest =
     let dev = g.D.SectorDev in
     let d = c.args.store.dev in
-    reads_settle dev (dev.sectors d / 4) d (device_left c.found-found.result) _ (c.found-found.ensures.only_reads honest)
+    reads_settle dev (dev.sectors d / 4) d (device_left c.found-found.result) _
+    (c.found-found.ensures.only_reads honest)
 
 pub returns-then-not-how-clause-only_reads : goal.returns-then-not-how-clause-only_reads
 returns-then-not-how-clause-only_reads g c reading honest = c.found-found.ensures.only_reads honest
@@ -185,14 +241,17 @@ returns-then-not-how-clause-refused g c honest =
     let all = c.found-found.ensures in
     each_err c.found-found.result (all.refused honest) (λ e is why other. (
       inl (inr (sym c.is_exclusive.ensures ∙ c.if-is_exclusive.false, inl (why other))),
-      λ writing. reads_leave dev (dev.sectors d / 4) d e.0 _ (subst (OnlyReads dev d) (ap device_left is) (all.only_reads honest)) (rest.at_rest (c.requires.fresh.writable ∙ writing)).stable rest.settles,
+      λ writing. reads_leave dev (dev.sectors d / 4) d e.0 _
+          (subst (OnlyReads dev d) (ap device_left is) (all.only_reads honest))
+          (rest.at_rest (c.requires.fresh.writable ∙ writing)).stable rest.settles,
     ))
 
 pub returns-then-not-how-clause-device : goal.returns-then-not-how-clause-device
 returns-then-not-how-clause-device g c = c.found-found.ensures.device
 
 pub returns-then-not-how-clause-only : goal.returns-then-not-how-clause-only
-returns-then-not-how-clause-only g c = each_err c.found-found.result c.found-found.ensures.only (λ e is among. of_found e.1 among)
+returns-then-not-how-clause-only g c =
+    each_err c.found-found.result c.found-found.ensures.only (λ e is among. of_found e.1 among)
 
 pub returns-then-not-how-clause-honesty : goal.returns-then-not-how-clause-honesty
 returns-then-not-how-clause-honesty g c = c.found-found.ensures.honesty
@@ -201,7 +260,8 @@ pub returns-then-not-how-clause-later : goal.returns-then-not-how-clause-later
 returns-then-not-how-clause-later g c = c.found-found.ensures.later
 
 pub returns-then-not-how-clause-size : goal.returns-then-not-how-clause-size
-returns-then-not-how-clause-size g c = (ap (λ (n : ℕ). n / 4) c.found-found.ensures.size, λ kept. c.found-found.ensures.size)
+returns-then-not-how-clause-size g c =
+    (ap (λ (n : ℕ). n / 4) c.found-found.ensures.size, λ kept. c.found-found.ensures.size)
 
 -- ---- it is emptied
 
@@ -213,27 +273,37 @@ emptied-requires-clause-fresh g c = record {
   staged = c.in-Ok.file.idle;
   capacity = refl;
   usable = c.in-Ok.ensures.fresh.usable;
-  writable = c.in-Ok.ensures.fresh.writable ∙ c.is_writable.ensures ∙ c.requires.written (is_on c.args.how.truncate c.if-not-how.false);
+  writable = c.in-Ok.ensures.fresh.writable ∙ c.is_writable.ensures
+      ∙ c.requires.written (is_on c.args.how.truncate c.if-not-how.false);
 }
 
 pub returns-in-Ok-clause-fresh : goal.returns-in-Ok-clause-fresh
 returns-in-Ok-clause-fresh g c =
-    just_opened c.emptied.result _ _ _ _ (sym (c.requires.written (is_on c.args.how.truncate c.if-not-how.false))) (ap (λ (n : ℕ). n / 4) c.in-Ok.ensures.size) c.emptied.ensures.fresh
+    just_opened c.emptied.result _ _ _ _
+    (sym (c.requires.written (is_on c.args.how.truncate c.if-not-how.false)))
+    (ap (λ (n : ℕ). n / 4) c.in-Ok.ensures.size) c.emptied.ensures.fresh
 
 pub returns-in-Ok-clause-stands : goal.returns-in-Ok-clause-stands
 returns-in-Ok-clause-stands g c honest only map limit stands =
-    opens_emptied c.args.how map limit c.emptied.result (is_on c.args.how.truncate c.if-not-how.false) (sym c.is_exclusive.ensures ∙ c.if-is_exclusive.false) (c.emptied.ensures.stands (c.in-Ok.ensures.honesty.1 honest))
+    opens_emptied c.args.how map limit c.emptied.result
+    (is_on c.args.how.truncate c.if-not-how.false)
+    (sym c.is_exclusive.ensures ∙ c.if-is_exclusive.false)
+    (c.emptied.ensures.stands (c.in-Ok.ensures.honesty.1 honest))
 
 pub returns-in-Ok-clause-only_reads : goal.returns-in-Ok-clause-only_reads
-returns-in-Ok-clause-only_reads g c reading honest = not_both _ (c.requires.written (is_on c.args.how.truncate c.if-not-how.false)) reading
+returns-in-Ok-clause-only_reads g c reading honest =
+    not_both _ (c.requires.written (is_on c.args.how.truncate c.if-not-how.false)) reading
 
 pub returns-in-Ok-clause-device : goal.returns-in-Ok-clause-device
 returns-in-Ok-clause-device g c =
     let dev = g.D.SectorDev in
-    each_err c.emptied.result c.emptied.ensures.device (λ e same more is. more_later (dev.faults c.args.store.dev) (dev.faults c.in-Ok.file.store.dev) (dev.faults e.0) c.in-Ok.ensures.later (more is))
+    each_err c.emptied.result c.emptied.ensures.device
+    (λ e same more is. more_later (dev.faults c.args.store.dev)
+    (dev.faults c.in-Ok.file.store.dev) (dev.faults e.0) c.in-Ok.ensures.later (more is))
 
 pub returns-in-Ok-clause-only : goal.returns-in-Ok-clause-only
-returns-in-Ok-clause-only g c = each_err c.emptied.result c.emptied.ensures.only (λ e is among. of_emptied e.1 among)
+returns-in-Ok-clause-only g c =
+    each_err c.emptied.result c.emptied.ensures.only (λ e is among. of_emptied e.1 among)
 
 pub returns-in-Ok-clause-honesty : goal.returns-in-Ok-clause-honesty
 returns-in-Ok-clause-honesty g c = both_ways c.emptied.ensures.honesty c.in-Ok.ensures.honesty
@@ -242,8 +312,11 @@ pub returns-in-Ok-clause-later : goal.returns-in-Ok-clause-later
 returns-in-Ok-clause-later g c = later_then _ _ _ c.in-Ok.ensures.later c.emptied.ensures.later
 
 pub returns-in-Ok-clause-size : goal.returns-in-Ok-clause-size
-returns-in-Ok-clause-size g c =
-    (c.emptied.ensures.size ∙ ap (λ (n : ℕ). n / 4) c.in-Ok.ensures.size, λ kept. not_both _ (is_on c.args.how.truncate c.if-not-how.false) kept)
+returns-in-Ok-clause-size g c = (
+  c.emptied.ensures.size ∙ ap (λ (n : ℕ). n / 4) c.in-Ok.ensures.size,
+  λ kept.
+      not_both _ (is_on c.args.how.truncate c.if-not-how.false) kept,
+)
 
 -- ---- what was to be emptied is refused
 
@@ -268,8 +341,13 @@ returns-in-Err-clause-refused g c honest other =
     let store = c.args.store in
     let d = store.dev in
     let rest = store.rests honest c.requires.fresh.usable in (
-      inl (inr (sym c.is_exclusive.ensures ∙ c.if-is_exclusive.false, inl (c.in-Err.ensures.refused honest other))),
-      λ writing. reads_leave dev (dev.sectors d / 4) d c.in-Err.refused.0 _ (c.in-Err.ensures.only_reads honest) (rest.at_rest (c.requires.fresh.writable ∙ writing)).stable rest.settles,
+      inl (inr (
+        sym c.is_exclusive.ensures ∙ c.if-is_exclusive.false,
+        inl (c.in-Err.ensures.refused honest other),
+      )),
+      λ writing. reads_leave dev (dev.sectors d / 4) d c.in-Err.refused.0 _
+          (c.in-Err.ensures.only_reads honest)
+          (rest.at_rest (c.requires.fresh.writable ∙ writing)).stable rest.settles,
     )
 
 pub returns-in-Err-clause-device : goal.returns-in-Err-clause-device
@@ -285,4 +363,5 @@ pub returns-in-Err-clause-later : goal.returns-in-Err-clause-later
 returns-in-Err-clause-later g c = c.in-Err.ensures.later
 
 pub returns-in-Err-clause-size : goal.returns-in-Err-clause-size
-returns-in-Err-clause-size g c = (ap (λ (n : ℕ). n / 4) c.in-Err.ensures.size, λ kept. c.in-Err.ensures.size)
+returns-in-Err-clause-size g c =
+    (ap (λ (n : ℕ). n / 4) c.in-Err.ensures.size, λ kept. c.in-Err.ensures.size)

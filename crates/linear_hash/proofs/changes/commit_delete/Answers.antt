@@ -22,31 +22,49 @@ use Rattle.linear_hash.proofs.changes.commit_delete.Goals.{After-finish}
 use Rattle.linear_hash.proofs.changes.commit_delete.Goals as goal
 
 -- the plan of the change: the placement that the pages say, and that without the key
-module _ (g : Over) (c : After-finish g) (map : Contents) (holds : Holds g.S.PageStore c.args.store.now (model_meta c.args.meta.now) map) where
+module _ (g : Over) (c : After-finish g) (map : Contents)
+    (holds : Holds g.S.PageStore c.args.store.now (model_meta c.args.meta.now) map) where
   abbrev plan : Placement
   plan = now g.S.PageStore c.args.store.now (model_meta c.args.meta.now) map holds
 
-  table : IsTable (body_at g.S.PageStore c.args.store.now) (model_meta c.args.meta.now) (g.S.PageStore.state c.args.store.now).end plan
-  table = is_table g.S.PageStore c.args.store.now (model_meta c.args.meta.now) map holds (g.met.S.PageStore.ends c.args.store.now) c.requires.idle
+  table : IsTable (body_at g.S.PageStore c.args.store.now) (model_meta c.args.meta.now)
+      (g.S.PageStore.state c.args.store.now).end plan
+  table = is_table g.S.PageStore c.args.store.now (model_meta c.args.meta.now) map holds
+      (g.met.S.PageStore.ends c.args.store.now) c.requires.idle
 
   module _ (was : is_some (get map c.args.key.now) ≡ true) where
     there : is_some (get (contents plan) c.args.key.now) ≡ true
-    there = sym (was_placed g.S.PageStore c.args.store.now (model_meta c.args.meta.now) map holds c.args.key.now true (sym was))
+    there = sym (was_placed g.S.PageStore c.args.store.now (model_meta c.args.meta.now) map holds
+        c.args.key.now true (sym was))
 
-    moments : g.S.PageStore.honest c.args.store.now → (g.S.PageStore.state c.args.store.now).usable ≡ true
-        → LeavesOnly g.S.PageStore.moment g.S.PageStore.settled_since c.args.store.now c.finish.new.store (StandsForEither map (remove map c.args.key.now) c.args.meta.now.limit)
+    moments : g.S.PageStore.honest c.args.store.now
+        → (g.S.PageStore.state c.args.store.now).usable ≡ true
+        → LeavesOnly g.S.PageStore.moment g.S.PageStore.settled_since c.args.store.now
+        c.finish.new.store (StandsForEither map (remove map c.args.key.now)
+        c.args.meta.now.limit)
     moments honest usable =
         let staged = c.stage_delete-staged.ensures in
-        let then = staged_stands g.S.PageStore c.stage_delete-staged.new.store (model_meta c.stage_delete-staged.new.meta) (delete plan c.args.key.now) (remove map c.args.key.now) c.args.meta.now.limit c.stage_delete-staged.result
-        (deleted_good g.S.PageStore c.args.store.now (model_meta c.args.meta.now) map holds c.args.key.now) (deleted_map g.S.PageStore c.args.store.now (model_meta c.args.meta.now) map holds c.args.key.now)
+        let then = staged_stands g.S.PageStore c.stage_delete-staged.new.store
+        (model_meta c.stage_delete-staged.new.meta) (delete plan c.args.key.now)
+        (remove map c.args.key.now) c.args.meta.now.limit c.stage_delete-staged.result
+        (deleted_good g.S.PageStore c.args.store.now (model_meta c.args.meta.now) map holds
+        c.args.key.now) (deleted_map g.S.PageStore c.args.store.now
+        (model_meta c.args.meta.now) map holds c.args.key.now)
         (staged.exact honest plan table there) staged.limit in
-        leaves_either g.S.PageStore c.args.store.now c.stage_delete-staged.new.store c.finish.new.store c.stage_delete-staged.result c.finish.result staged.stages honest map (remove map c.args.key.now) c.args.meta.now.limit holds.stands
-        (λ y is. g.met.S.PageStore.only_committed c.args.store.now y honest usable c.requires.writable is) then
-        (c.finish.ensures.any_moment (staged.stages.honesty.1 honest) (ap (λ (st : StoreState). st.usable) staged.stages.state ∙ usable) (ap (λ (st : StoreState). st.writable) staged.stages.state ∙ c.requires.writable))
+        leaves_either g.S.PageStore c.args.store.now c.stage_delete-staged.new.store
+        c.finish.new.store c.stage_delete-staged.result c.finish.result staged.stages honest map
+        (remove map c.args.key.now) c.args.meta.now.limit holds.stands
+        (λ y is. g.met.S.PageStore.only_committed c.args.store.now y honest usable
+        c.requires.writable is) then
+        (c.finish.ensures.any_moment (staged.stages.honesty.1 honest)
+        (ap (λ (st : StoreState). st.usable) staged.stages.state ∙ usable)
+        (ap (λ (st : StoreState). st.writable) staged.stages.state ∙ c.requires.writable))
 
 pub returns-clause-answer : goal.returns-clause-answer
 returns-clause-answer g c =
-    change_answer g.S.PageStore _ _ c.finish.new.store c.stage_delete-staged.result c.finish.result c.stage_delete-staged.ensures.stages _ c.requires.writable c.stage_delete-staged.ensures.answer c.finish.ensures.answer c.finish.ensures.refused
+    change_answer g.S.PageStore _ _ c.finish.new.store c.stage_delete-staged.result c.finish.result
+    c.stage_delete-staged.ensures.stages _ c.requires.writable
+    c.stage_delete-staged.ensures.answer c.finish.ensures.answer c.finish.ensures.refused
 
 pub returns-clause-turns : goal.returns-clause-turns
 returns-clause-turns g c honest usable map holds was =
@@ -54,34 +72,71 @@ returns-clause-turns g c honest usable map holds was =
     record {
       done =
           let q = delete (plan g c map holds) c.args.key.now in
-          let good = deleted_good g.S.PageStore c.args.store.now (model_meta c.args.meta.now) map holds c.args.key.now in
-          let is = deleted_map g.S.PageStore c.args.store.now (model_meta c.args.meta.now) map holds c.args.key.now in
-          subst (λ (changed : Contents). OnOk c.finish.result (Holds g.S.PageStore c.finish.new.store (model_meta c.stage_delete-staged.new.meta) changed)) is
-          (commit_ok _ c.stage_delete-staged.result c.finish.result c.finish.ensures.refused (staged.exact honest (plan g c map holds) (table g c map holds) (there g c map holds was))
-          (c.finish.ensures.committed (staged.stages.honesty.1 honest)) (λ end body_at committed. commit_holds g.S.PageStore c.stage_delete-staged.new.store _ end q good body_at c.finish.new.store committed));
-      kept = on_err_weaker c.finish.result (λ same usable_now. same usable_now ∙ (staged.stages.kept honest).committed) (c.finish.ensures.kept (staged.stages.honesty.1 honest));
+          let good = deleted_good g.S.PageStore c.args.store.now (model_meta c.args.meta.now) map
+          holds c.args.key.now in
+          let is = deleted_map g.S.PageStore c.args.store.now (model_meta c.args.meta.now) map holds
+          c.args.key.now in
+          subst (λ (changed : Contents).
+          OnOk c.finish.result (Holds g.S.PageStore c.finish.new.store
+          (model_meta c.stage_delete-staged.new.meta) changed)) is
+          (commit_ok _ c.stage_delete-staged.result c.finish.result c.finish.ensures.refused
+          (staged.exact honest (plan g c map holds) (table g c map holds)
+          (there g c map holds was))
+          (c.finish.ensures.committed (staged.stages.honesty.1 honest))
+          (λ end body_at committed. commit_holds g.S.PageStore c.stage_delete-staged.new.store _
+          end q good body_at c.finish.new.store committed));
+      kept = on_err_weaker c.finish.result
+          (λ same usable_now. same usable_now ∙ (staged.stages.kept honest).committed)
+          (c.finish.ensures.kept (staged.stages.honesty.1 honest));
       any_moment = moments g c map holds was honest usable;
       unchanged =
           on_err_weaker c.finish.result
-          (λ run usable_now. leaves_old g.S.PageStore c.args.store.now c.stage_delete-staged.new.store c.finish.new.store c.stage_delete-staged.result c.finish.result staged.stages honest map map c.args.meta.now.limit holds.stands
-          (λ y is. g.met.S.PageStore.only_committed c.args.store.now y honest usable c.requires.writable is) (run usable_now))
-          (c.finish.ensures.unchanged (staged.stages.honesty.1 honest) (ap (λ (st : StoreState). st.usable) staged.stages.state ∙ usable) (ap (λ (st : StoreState). st.writable) staged.stages.state ∙ c.requires.writable));
+          (λ run usable_now. leaves_old g.S.PageStore c.args.store.now
+          c.stage_delete-staged.new.store c.finish.new.store c.stage_delete-staged.result
+          c.finish.result staged.stages honest map map c.args.meta.now.limit holds.stands
+          (λ y is. g.met.S.PageStore.only_committed c.args.store.now y honest usable
+          c.requires.writable is) (run usable_now))
+          (c.finish.ensures.unchanged (staged.stages.honesty.1 honest)
+          (ap (λ (st : StoreState). st.usable) staged.stages.state ∙ usable)
+          (ap (λ (st : StoreState). st.writable) staged.stages.state
+          ∙ c.requires.writable));
       whole = λ damaged.
-          let early = told_by g.S.PageStore _ _ c.finish.new.store c.stage_delete-staged.result c.finish.result c.stage_delete-staged.ensures.stages _ Damaged never_damaged c.finish.ensures.answer c.finish.ensures.refused damaged in
-          c.stage_delete-staged.ensures.whole honest (plan g c map holds) (table g c map holds) early;
+          let early = told_by g.S.PageStore _ _ c.finish.new.store c.stage_delete-staged.result
+          c.finish.result c.stage_delete-staged.ensures.stages _ Damaged never_damaged
+          c.finish.ensures.answer c.finish.ensures.refused damaged in
+          c.stage_delete-staged.ensures.whole honest (plan g c map holds)
+          (table g c map holds) early;
       grows =
           let p = plan g c map holds in
           let in_table = table g c map holds in
-          grows_to _ _ (delete p c.args.key.now) (g.S.PageStore.state c.args.store.now) (g.S.PageStore.state c.stage_delete-staged.new.store) (g.S.PageStore.state c.finish.new.store) 0 _ c.stage_delete-staged.result c.finish.result c.finish.ensures.refused c.finish.ensures.ok staged.grows
+          grows_to _ _ (delete p c.args.key.now) (g.S.PageStore.state c.args.store.now)
+          (g.S.PageStore.state c.stage_delete-staged.new.store)
+          (g.S.PageStore.state c.finish.new.store) 0 _ c.stage_delete-staged.result
+          c.finish.result c.finish.ensures.refused c.finish.ensures.ok staged.grows
           (staged.exact honest p in_table (there g c map holds was)) (omega (arith, in_table.ends));
       no_room = λ room.
           let in_table = table g c map holds in
-          let by = no_room_by g.S.PageStore _ _ c.finish.new.store c.stage_delete-staged.result c.finish.result staged.stages _ c.finish.ensures.answer c.finish.ensures.refused room in
+          let by = no_room_by g.S.PageStore _ _ c.finish.new.store c.stage_delete-staged.result
+          c.finish.result staged.stages _ c.finish.ensures.answer
+          c.finish.ensures.refused room in
           ⊎_elim (λ early. absurd (staged.no_room early))
           (λ late.
-          let is = subst (λ (q : Result ℕ PageFault). IfOk q (λ end. IsStaged (body_at g.S.PageStore c.stage_delete-staged.new.store) (model_meta c.stage_delete-staged.new.meta) end (delete (plan g c map holds) c.args.key.now))) late.1 (staged.exact honest (plan g c map holds) in_table (there g c map holds was)) in
-          let can = subst (λ (q : Result ℕ PageFault). IfOk q (MayCommit (g.S.PageStore.state c.stage_delete-staged.new.store))) late.1 staged.may_commit in
-          let grow = subst (λ (q : Result ℕ PageFault). IfOk q (λ end. (g.S.PageStore.state c.args.store.now).end ≤ end)) late.1 staged.grows in
-          let few = few_staged 1 late.0 _ (g.met.S.PageStore.in_order c.stage_delete-staged.new.store) can.below (omega (arith, can.least)) in
-          lacks_few (g.S.PageStore.state c.stage_delete-staged.new.store) late.0 _ _ _ late.2 (omega (arith, grow, ap (λ (st : StoreState). st.end) staged.stages.state)) few (omega (arith, is.ends, in_table.ends)) (ap (λ (st : StoreState). st.capacity) staged.stages.state)) by;
+          let is = subst (λ (q : Result ℕ PageFault).
+          IfOk q (λ end. IsStaged (body_at g.S.PageStore c.stage_delete-staged.new.store)
+          (model_meta c.stage_delete-staged.new.meta) end
+          (delete (plan g c map holds) c.args.key.now))) late.1
+          (staged.exact honest (plan g c map holds) in_table (there g c map holds was)) in
+          let can = subst (λ (q : Result ℕ PageFault).
+          IfOk q (MayCommit (g.S.PageStore.state c.stage_delete-staged.new.store))) late.1
+          staged.may_commit in
+          let grow = subst (λ (q : Result ℕ PageFault).
+          IfOk q (λ end. (g.S.PageStore.state c.args.store.now).end ≤ end)) late.1
+          staged.grows in
+          let few = few_staged 1 late.0 _
+          (g.met.S.PageStore.in_order c.stage_delete-staged.new.store) can.below
+          (omega (arith, can.least)) in
+          lacks_few (g.S.PageStore.state c.stage_delete-staged.new.store) late.0 _ _ _ late.2
+          (omega (arith, grow, ap (λ (st : StoreState). st.end) staged.stages.state)) few
+          (omega (arith, is.ends, in_table.ends))
+          (ap (λ (st : StoreState). st.capacity) staged.stages.state)) by;
     }

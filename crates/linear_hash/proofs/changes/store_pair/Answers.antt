@@ -17,12 +17,15 @@ returns-in_err-commit_store g c =
     let exit = exit_is result.result c.in_err-commit_store.field-0.0 result.ensures.1 in
     let before = model_meta c.args.meta.now in
     record {
-      ends = refused_ends g.S.PageStore _ _ before _ _ exit c.requires.valid told.err told.cause told.honesty told.answer;
+      ends = refused_ends g.S.PageStore _ _ before _ _ exit c.requires.valid told.err told.cause
+          told.honesty told.answer;
       pairs = IfOk-from_err _ _ result.ensures.0;
       shape = IfOk-from_err _ _ result.ensures.0;
       turns = λ honest usable map holds was.
           refused_turn g.S.PageStore _ _ before _ _ exit _ _ _ _
-          (turned g.S.PageStore _ _ before _ (model_meta c.commit_store.new.meta) map (insert map c.args.key.now c.args.content.now) (λ (m : Meta). m.pairs + 4) _ c.copied-changed.ensures
+          (turned g.S.PageStore _ _ before _ (model_meta c.commit_store.new.meta) map
+          (insert map c.args.key.now c.args.content.now) (λ (m : Meta). m.pairs + 4) _
+          c.copied-changed.ensures
           (λ there. told.turns honest usable map there was) holds);
     }
 
@@ -41,9 +44,12 @@ returns g c =
         honesty = told.honesty;
         answer = told.answer;
       };
-      pairs = told.pairs ∙ ap (λ (m : Meta). if c.args.was_there then m.pairs else m.pairs + 1) same;
-      shape = told.shape ∙ ap (λ (m : Meta). shape_for c.commit_store.new.meta.pairs (shape_in m)) same;
+      pairs = told.pairs ∙ ap (λ (m : Meta). if c.args.was_there then m.pairs else m.pairs + 1)
+          same;
+      shape = told.shape ∙ ap (λ (m : Meta). shape_for c.commit_store.new.meta.pairs (shape_in m))
+          same;
       turns = λ honest usable map holds was.
-          turned g.S.PageStore _ _ (model_meta c.args.meta.now) _ _ map (insert map c.args.key.now c.args.content.now) (λ (m : Meta). m.pairs + 4) _ same
+          turned g.S.PageStore _ _ (model_meta c.args.meta.now) _ _ map
+          (insert map c.args.key.now c.args.content.now) (λ (m : Meta). m.pairs + 4) _ same
           (λ there. told.turns honest usable map there was) holds;
     }

@@ -32,45 +32,68 @@ returns-in_err-head g c =
       held = IfOk-from_err _ _ result.ensures.0;
       searched = λ honest. IfOk-from_err _ _ result.ensures.0;
       exact = λ honest p table. IfOk-from_err _ _ result.ensures.0;
-      whole = λ honest p table damaged. told.whole honest (heads_of p.chains) (table_heads _ _ _ p table) (came _ _ exit Damaged damaged);
+      whole = λ honest p table damaged.
+          told.whole honest (heads_of p.chains) (table_heads _ _ _ p table)
+          (came _ _ exit Damaged damaged);
     }
 
 -- the bucket that was looked for
-bucket_is : (g : Over) (c : goal.After-lookup g) → c.bucket.result ≡ address (shape_in (model_meta c.args.meta.now)) (hash_of c.args.key.now)
-bucket_is g c = c.bucket.ensures.address ∙ ap (address (shape_in (model_meta c.args.meta.now))) c.hash.ensures
+bucket_is : (g : Over) (c : goal.After-lookup g)
+    → c.bucket.result ≡ address (shape_in (model_meta c.args.meta.now)) (hash_of c.args.key.now)
+bucket_is g c = c.bucket.ensures.address
+    ∙ ap (address (shape_in (model_meta c.args.meta.now))) c.hash.ensures
 
 -- the chain of the key's bucket, as it is read after the head was looked up
-chain_there : (g : Over) (c : goal.After-lookup g) → g.S.PageStore.honest c.args.store.now → (p : Placement)
-    → IsTable (body_at g.S.PageStore c.args.store.now) (model_meta c.args.meta.now) (g.S.PageStore.state c.args.store.now).end p
-    → IsChainAt (body_at g.S.PageStore c.head_of.new.store) (g.S.PageStore.state c.head_of.new.store).end c.in_ok-head.head (chain_at p (key_bucket p.shape c.args.key.now))
+chain_there : (g : Over) (c : goal.After-lookup g) → g.S.PageStore.honest c.args.store.now
+    → (p : Placement)
+    → IsTable (body_at g.S.PageStore c.args.store.now) (model_meta c.args.meta.now)
+    (g.S.PageStore.state c.args.store.now).end p
+    → IsChainAt (body_at g.S.PageStore c.head_of.new.store)
+    (g.S.PageStore.state c.head_of.new.store).end c.in_ok-head.head
+    (chain_at p (key_bucket p.shape c.args.key.now))
 chain_there g c honest p table =
     let chain = chain_at p (key_bucket p.shape c.args.key.now) in
     let reads = c.in_ok-head.ensures.reads in
     let bucket = bucket_is g c in
-    let head = c.in_ok-head.ensures.exact honest (heads_of p.chains) (table_heads _ _ _ p table) (table_below _ _ _ p table c.args.key.now c.bucket.result bucket) in
-    let there = table_chain _ _ _ p table c.args.key.now c.bucket.result bucket c.in_ok-head.head head in
-    subst (λ (st : StoreState). IsChainAt (body_at g.S.PageStore c.head_of.new.store) st.end c.in_ok-head.head chain) (sym reads.same)
-    (subst (λ (at : ℕ → Body). IsChainAt at (g.S.PageStore.state c.args.store.now).end c.in_ok-head.head chain) (sym (same_said g.S.PageStore _ _ reads honest)) there)
+    let head = c.in_ok-head.ensures.exact honest (heads_of p.chains) (table_heads _ _ _ p table)
+    (table_below _ _ _ p table c.args.key.now c.bucket.result bucket) in
+    let there = table_chain _ _ _ p table c.args.key.now c.bucket.result bucket
+    c.in_ok-head.head head in
+    subst (λ (st : StoreState). IsChainAt (body_at g.S.PageStore c.head_of.new.store) st.end
+    c.in_ok-head.head chain) (sym reads.same)
+    (subst (λ (at : ℕ → Body). IsChainAt at (g.S.PageStore.state c.args.store.now).end
+    c.in_ok-head.head chain) (sym (same_said g.S.PageStore _ _ reads honest)) there)
 
 pub returns-clause-reads : goal.returns-clause-reads
-returns-clause-reads g c = reads_then g.S.PageStore _ _ _ (g.met.S.PageStore.counts_now c.head_of.new.store) c.in_ok-head.ensures.reads c.lookup.ensures.reads
+returns-clause-reads g c = reads_then g.S.PageStore _ _ _
+    (g.met.S.PageStore.counts_now c.head_of.new.store) c.in_ok-head.ensures.reads
+    c.lookup.ensures.reads
 
 pub returns-clause-cause : goal.returns-clause-cause
-returns-clause-cause g c = cause_last _ _ _ _ c.in_ok-head.ensures.cause.later c.lookup.ensures.cause
+returns-clause-cause g c = cause_last _ _ _ _ c.in_ok-head.ensures.cause.later
+    c.lookup.ensures.cause
 
 pub returns-clause-answer : goal.returns-clause-answer
-returns-clause-answer g c = subst (λ (s : StoreState). IsWalkAnswer s c.lookup.result) c.in_ok-head.ensures.reads.same c.lookup.ensures.answer
+returns-clause-answer g c = subst (λ (s : StoreState). IsWalkAnswer s c.lookup.result)
+    c.in_ok-head.ensures.reads.same c.lookup.ensures.answer
 
 pub returns-clause-searched : goal.returns-clause-searched
 returns-clause-searched g c honest =
     let reads = c.in_ok-head.ensures.reads in
-    searched_from _ _ (model_meta c.args.meta.now) c.args.key.now c.bucket.result c.in_ok-head.head c.lookup.new.page.bytes c.lookup.result (bucket_is g c) (c.in_ok-head.ensures.entry honest)
-    (same_said g.S.PageStore _ _ reads honest) (c.lookup.ensures.walked (reads.stages_only.honesty.1 honest))
+    searched_from _ _ (model_meta c.args.meta.now) c.args.key.now c.bucket.result c.in_ok-head.head
+    c.lookup.new.page.bytes c.lookup.result (bucket_is g c) (c.in_ok-head.ensures.entry honest)
+    (same_said g.S.PageStore _ _ reads honest)
+    (c.lookup.ensures.walked (reads.stages_only.honesty.1 honest))
 
 pub returns-clause-exact : goal.returns-clause-exact
 returns-clause-exact g c honest p table =
-    IfOk-weaker c.lookup.result _ _ (λ place looked. found_in p c.args.key.now c.lookup.new.page.bytes place table.good.sound looked)
-    (c.lookup.ensures.exact (c.in_ok-head.ensures.reads.stages_only.honesty.1 honest) _ (chain_there g c honest p table))
+    IfOk-weaker c.lookup.result _ _
+    (λ place looked. found_in p c.args.key.now c.lookup.new.page.bytes place
+    table.good.sound looked)
+    (c.lookup.ensures.exact (c.in_ok-head.ensures.reads.stages_only.honesty.1 honest) _
+    (chain_there g c honest p table))
 
 pub returns-clause-whole : goal.returns-clause-whole
-returns-clause-whole g c honest p table = c.lookup.ensures.whole (c.in_ok-head.ensures.reads.stages_only.honesty.1 honest) _ (chain_there g c honest p table)
+returns-clause-whole g c honest p table =
+    c.lookup.ensures.whole (c.in_ok-head.ensures.reads.stages_only.honesty.1 honest) _
+    (chain_there g c honest p table)

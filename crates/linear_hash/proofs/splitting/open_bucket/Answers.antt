@@ -20,7 +20,8 @@ use Rattle.linear_hash.proofs.splitting.open_bucket.Goals as goal
 pub returns-in_err-store_all : goal.returns-in_err-store_all
 returns-in_err-store_all g c =
     let told = c.in_err-store_all.ensures in
-    let exit = exit_is c.from_residual.result c.in_err-store_all.field-0.0 c.from_residual.ensures.1 in
+    let exit = exit_is c.from_residual.result c.in_err-store_all.field-0.0
+    c.from_residual.ensures.1 in
     record {
       stages = told.stages;
       cause = cause_first _ _ exit _ _ told.cause;
@@ -29,7 +30,9 @@ returns-in_err-store_all g c =
       ends = told.ends;
       may_end = λ may. IfOk-from_err _ _ c.from_residual.ensures.0;
       exact = λ honest p midway from. IfOk-from_err _ _ c.from_residual.ensures.0;
-      whole = λ honest p midway from damaged. told.whole honest _ _ (split_placed _ _ _ p _ midway from) no_keys (came _ _ exit Damaged damaged);
+      whole = λ honest p midway from damaged.
+          told.whole honest _ _ (split_placed _ _ _ p _ midway from) no_keys
+          (came _ _ exit Damaged damaged);
       room = λ honest p midway from none. absurd (told.room refl (came _ _ exit NoRoom none));
     }
 
@@ -41,20 +44,29 @@ returns-in_err-new_head g c =
     let result = c.from_residual-in_err-new_head in
     let exit = exit_is result.result c.in_err-new_head.field-0.0 result.ensures.1 in
     record {
-      stages = stages_then g.S.PageStore _ _ _ (g.met.S.PageStore.counts_now c.store_all.new.store) ok1.stages told.reads.stages_only;
+      stages = stages_then g.S.PageStore _ _ _ (g.met.S.PageStore.counts_now c.store_all.new.store)
+          ok1.stages told.reads.stages_only;
       cause = cause_then _ _ exit _ _ _ ok1.cause.later told.cause;
-      answer = take_refused _ _ (ap (λ (s : StoreState). s.usable) ok1.stages.state) _ _ exit _ told.answer;
+      answer = take_refused _ _ (ap (λ (s : StoreState). s.usable) ok1.stages.state) _ _
+          exit _ told.answer;
       added = IfOk-from_err _ _ result.ensures.0;
       ends = λ e. told.ends (ok1.ends e);
       may_end = λ may. IfOk-from_err _ _ result.ensures.0;
       exact = λ honest p midway from. IfOk-from_err _ _ result.ensures.0;
       whole = λ honest p midway from damaged.
           let placed = split_placed _ _ _ p _ midway from in
-          told.whole (ok1.stages.honesty.1 honest) (given_space p) (given_free p _ _ _ (ok1.exact honest _ _ placed no_keys) placed.free_is.some) (given_apart p midway.sound _ _ _ placed) (came _ _ exit Damaged damaged);
+          told.whole (ok1.stages.honesty.1 honest) (given_space p)
+          (given_free p _ _ _ (ok1.exact honest _ _ placed no_keys) placed.free_is.some)
+          (given_apart p midway.sound _ _ _ placed) (came _ _ exit Damaged damaged);
       room = λ honest p midway from none.
           let emptied = ok1.exact honest _ _ (split_placed _ _ _ p _ midway from) no_keys in
           let full = told.answer.no_room.0 (came _ _ exit NoRoom none) in
-          omega (arith, full, ap (λ (s : FreeState). s.file_end) emptied.kept, ap (λ (s : StoreState). s.capacity) ok1.stages.state);
+          omega (
+            arith,
+            full,
+            ap (λ (s : FreeState). s.file_end) emptied.kept,
+            ap (λ (s : StoreState). s.capacity) ok1.stages.state,
+          );
     }
 
 pub stage-requires-clause-number : goal.stage-requires-clause-number
@@ -70,18 +82,25 @@ returns-in_err-stage g c =
     let done = c.stage.ensures in
     let result = c.from_residual-in_err-stage in
     let exit = exit_is result.result c.in_err-stage.field-0.0 result.ensures.1 in
-    let stages = after_stage st c.take.new.store c.stage.new.self c.empty.result.bytes c.stage.result (g.met.S.PageStore.counts_now c.stage.new.self) done.ok done.err done.honesty done.faults done.kept in
+    let stages = after_stage st c.take.new.store c.stage.new.self c.empty.result.bytes
+    c.stage.result (g.met.S.PageStore.counts_now c.stage.new.self) done.ok done.err done.honesty
+    done.faults done.kept in
     record {
       stages = stages_then st _ _ _ (g.met.S.PageStore.counts_now c.take.new.store)
-          (stages_then st _ _ _ (g.met.S.PageStore.counts_now c.store_all.new.store) ok1.stages ok2.reads.stages_only) stages;
-      cause = cause_stage _ _ exit _ _ _ _ _ _ (later_then _ _ _ ok1.cause.later ok2.cause.later) done.faults told.answer;
-      answer = stage_refused _ _ (ap (λ (s : StoreState). s.usable) (ok2.reads.same ∙ ok1.stages.state)) _ _ exit _ _ told.answer;
+          (stages_then st _ _ _ (g.met.S.PageStore.counts_now c.store_all.new.store) ok1.stages
+          ok2.reads.stages_only) stages;
+      cause = cause_stage _ _ exit _ _ _ _ _ _ (later_then _ _ _ ok1.cause.later ok2.cause.later)
+          done.faults told.answer;
+      answer = stage_refused _ _ (ap (λ (s : StoreState). s.usable)
+          (ok2.reads.same ∙ ok1.stages.state)) _ _ exit _ _ told.answer;
       added = IfOk-from_err _ _ result.ensures.0;
       ends = λ e. ok2.ends (ok1.ends e);
       may_end = λ may. IfOk-from_err _ _ result.ensures.0;
       exact = λ honest p midway from. IfOk-from_err _ _ result.ensures.0;
-      whole = λ honest p midway from damaged. absurd (stage_not_damaged _ _ _ _ told.answer (came _ _ exit Damaged damaged));
-      room = λ honest p midway from none. absurd (stage_has_room _ _ _ _ told.answer (came _ _ exit NoRoom none));
+      whole = λ honest p midway from damaged.
+          absurd (stage_not_damaged _ _ _ _ told.answer (came _ _ exit Damaged damaged));
+      room = λ honest p midway from none.
+          absurd (stage_has_room _ _ _ _ told.answer (came _ _ exit NoRoom none));
     }
 
 -- the new head is not set
@@ -94,13 +113,18 @@ returns-in_err-set_head g c =
     let done = c.stage.ensures in
     let result = c.from_residual-in_err-set_head in
     let exit = exit_is result.result c.in_err-set_head.field-0.0 result.ensures.1 in
-    let staged = after_stage st c.take.new.store c.stage.new.self c.empty.result.bytes c.stage.result (g.met.S.PageStore.counts_now c.stage.new.self) done.ok done.err done.honesty done.faults done.kept in
+    let staged = after_stage st c.take.new.store c.stage.new.self c.empty.result.bytes
+    c.stage.result (g.met.S.PageStore.counts_now c.stage.new.self) done.ok done.err done.honesty
+    done.faults done.kept in
     let so_far = stages_then st _ _ _ (g.met.S.PageStore.counts_now c.take.new.store)
-    (stages_then st _ _ _ (g.met.S.PageStore.counts_now c.store_all.new.store) ok1.stages ok2.reads.stages_only) staged in
+    (stages_then st _ _ _ (g.met.S.PageStore.counts_now c.store_all.new.store) ok1.stages
+    ok2.reads.stages_only) staged in
     record {
-      stages = stages_then st _ _ _ (g.met.S.PageStore.counts_now c.stage.new.self) so_far told.stages;
+      stages = stages_then st _ _ _ (g.met.S.PageStore.counts_now c.stage.new.self)
+          so_far told.stages;
       cause = cause_then _ _ exit _ _ _ so_far.later told.cause;
-      answer = set_refused _ _ (ap (λ (s : StoreState). s.usable) so_far.state) _ _ exit _ _ told.answer;
+      answer = set_refused _ _ (ap (λ (s : StoreState). s.usable) so_far.state) _ _ exit
+          _ _ told.answer;
       added = IfOk-from_err _ _ result.ensures.0;
       ends = λ e. told.ends (ok2.ends (ok1.ends e));
       may_end = λ may. IfOk-from_err _ _ result.ensures.0;
@@ -115,25 +139,47 @@ returns-in_err-set_head g c =
           let h1 = c.in_ok-store_all.ensures.stages.honesty.1 honest in
           let h2 = c.in_ok-new_head.ensures.reads.stages_only.honesty.1 h1 in
           let h3 = c.in_ok-stage.ensures.honesty.1 h2 in
-          let taken = c.in_ok-new_head.ensures.exact h1 (given_space p) (given_free p _ _ _ emptied placed.free_is.some) (given_apart p midway.sound _ _ _ placed) in
+          let taken = c.in_ok-new_head.ensures.exact h1 (given_space p)
+          (given_free p _ _ _ emptied placed.free_is.some)
+          (given_apart p midway.sound _ _ _ placed) in
           let reads = c.in_ok-new_head.ensures.reads in
           let order = g.met.S.PageStore.in_order c.store_all.new.store in
           let done = c.stage.ensures in
           let own = own_of_head c.empty.result.bytes n c.empty.ensures.says in
-          let stages = after_stage st c.take.new.store c.stage.new.self c.empty.result.bytes c.stage.result (g.met.S.PageStore.counts_now c.stage.new.self) done.ok done.err done.honesty done.faults done.kept in
-          let here = says_head at2 c.empty.result.bytes n (then_said st c.store_all.new.store c.take.new.store c.stage.new.self n c.empty.result.bytes reads stages h1 order c.in_ok-stage.ensures.ok own) c.empty.ensures.page c.empty.ensures.says in
-          let others = others_stay st c.store_all.new.store c.take.new.store c.stage.new.self n c.empty.result.bytes reads stages h1 order c.in_ok-stage.ensures.ok own in
+          let stages = after_stage st c.take.new.store c.stage.new.self c.empty.result.bytes
+          c.stage.result (g.met.S.PageStore.counts_now c.stage.new.self) done.ok done.err
+          done.honesty done.faults done.kept in
+          let here = says_head at2 c.empty.result.bytes n
+          (then_said st c.store_all.new.store c.take.new.store c.stage.new.self n
+          c.empty.result.bytes reads stages h1 order c.in_ok-stage.ensures.ok own)
+          c.empty.ensures.page c.empty.ensures.says in
+          let others = others_stay st c.store_all.new.store c.take.new.store c.stage.new.self n
+          c.empty.result.bytes reads stages h1 order c.in_ok-stage.ensures.ok own in
           let b = c.buckets-bucket.ensures ∙ next_bucket at0 _ _ p midway in
-          let can = can_set p midway.sound at0 at1 at2 c.args.space.now c.store_all.new.space c.take.new.space n midway.below emptied placed.free_is.some taken here others (model_meta c.args.meta.now) _ b midway.shape_is midway.segments_are c.in_ok-new_head.ensures.number (midway_heads at0 _ _ p midway c.requires.small) in
-          c.in_err-set_head.ensures.whole h3 (heads_of p.chains) (headed_space p) can (came _ _ exit Damaged damaged);
+          let can = can_set p midway.sound at0 at1 at2 c.args.space.now c.store_all.new.space
+          c.take.new.space n midway.below emptied placed.free_is.some taken here others
+          (model_meta c.args.meta.now) _ b midway.shape_is midway.segments_are
+          c.in_ok-new_head.ensures.number (midway_heads at0 _ _ p midway c.requires.small) in
+          c.in_err-set_head.ensures.whole h3 (heads_of p.chains) (headed_space p) can
+          (came _ _ exit Damaged damaged);
       room = λ honest p midway from none.
           let placed = split_placed _ _ _ p _ midway from in
           let emptied = c.in_ok-store_all.ensures.exact honest _ _ placed no_keys in
           let h1 = c.in_ok-store_all.ensures.stages.honesty.1 honest in
-          let taken = c.in_ok-new_head.ensures.exact h1 (given_space p) (given_free p _ _ _ emptied placed.free_is.some) (given_apart p midway.sound _ _ _ placed) in
+          let taken = c.in_ok-new_head.ensures.exact h1 (given_space p)
+          (given_free p _ _ _ emptied placed.free_is.some)
+          (given_apart p midway.sound _ _ _ placed) in
           let full = c.in_err-set_head.ensures.answer.no_room (came _ _ exit NoRoom none) in
-          let room = ap (λ (s : StoreState). s.capacity) c.in_ok-stage.ensures.ok ∙ ap (λ (s : StoreState). s.capacity) c.in_ok-new_head.ensures.reads.same ∙ ap (λ (s : StoreState). s.capacity) c.in_ok-store_all.ensures.stages.state in
-          omega (arith, full.1, ap (λ (s : FreeState). s.file_end) taken.1, room, end_taken (given_space p));
+          let room = ap (λ (s : StoreState). s.capacity) c.in_ok-stage.ensures.ok
+          ∙ ap (λ (s : StoreState). s.capacity) c.in_ok-new_head.ensures.reads.same
+          ∙ ap (λ (s : StoreState). s.capacity) c.in_ok-store_all.ensures.stages.state in
+          omega (
+            arith,
+            full.1,
+            ap (λ (s : FreeState). s.file_end) taken.1,
+            room,
+            end_taken (given_space p),
+          );
     }
 
 -- the bucket is opened
@@ -144,21 +190,33 @@ returns g c =
     let ok2 = c.in_ok-new_head.ensures in
     let ok3 = c.in_ok-set_head.ensures in
     let done = c.stage.ensures in
-    let staged = after_stage st c.take.new.store c.stage.new.self c.empty.result.bytes c.stage.result (g.met.S.PageStore.counts_now c.stage.new.self) done.ok done.err done.honesty done.faults done.kept in
+    let staged = after_stage st c.take.new.store c.stage.new.self c.empty.result.bytes
+    c.stage.result (g.met.S.PageStore.counts_now c.stage.new.self) done.ok done.err done.honesty
+    done.faults done.kept in
     let so_far = stages_then st _ _ _ (g.met.S.PageStore.counts_now c.take.new.store)
-    (stages_then st _ _ _ (g.met.S.PageStore.counts_now c.store_all.new.store) ok1.stages ok2.reads.stages_only) staged in
-    let all = stages_then st _ _ _ (g.met.S.PageStore.counts_now c.stage.new.self) so_far ok3.stages in
+    (stages_then st _ _ _ (g.met.S.PageStore.counts_now c.store_all.new.store) ok1.stages
+    ok2.reads.stages_only) staged in
+    let all = stages_then st _ _ _ (g.met.S.PageStore.counts_now c.stage.new.self)
+    so_far ok3.stages in
     record {
       stages = all;
       cause = cause_ok _ _ _ all.later;
       answer = no_refusal _ _;
-      added = subst (AddsSegment (model_meta c.args.meta.now) (model_meta c.set_head.new.meta)) c.buckets-bucket.ensures ok3.ok;
+      added = subst (AddsSegment (model_meta c.args.meta.now) (model_meta c.set_head.new.meta))
+          c.buckets-bucket.ensures ok3.ok;
       ends = λ e. ok3.ends (ok2.ends (ok1.ends e));
       may_end = λ may.
           let emptied = c.in_ok-store_all.ensures.may_end may in
-          let put = c.in_ok-stage.ensures.ok ∙ ap (λ (s : StoreState). record s { staged = put_page s.staged c.empty.result.bytes }) c.in_ok-new_head.ensures.reads.same in
-          let staged = c.in_ok-new_head.ensures.may_end emptied c.empty.result.bytes (own_of_head c.empty.result.bytes _ c.empty.ensures.says) in
-          c.in_ok-set_head.ensures.may_end (subst (λ (s : StoreState). MayEnd s c.take.new.space.file_end) (sym put) staged);
+          let put = c.in_ok-stage.ensures.ok
+          ∙ ap (λ (s : StoreState). record s {
+            staged =
+                put_page s.staged c.empty.result.bytes;
+          })
+          c.in_ok-new_head.ensures.reads.same in
+          let staged = c.in_ok-new_head.ensures.may_end emptied c.empty.result.bytes
+          (own_of_head c.empty.result.bytes _ c.empty.ensures.says) in
+          c.in_ok-set_head.ensures.may_end
+          (subst (λ (s : StoreState). MayEnd s c.take.new.space.file_end) (sym put) staged);
       exact = λ honest p midway from.
           let at0 = body_at st c.args.store.now in
           let at1 = body_at st c.store_all.new.store in
@@ -169,17 +227,31 @@ returns g c =
           let h1 = c.in_ok-store_all.ensures.stages.honesty.1 honest in
           let h2 = c.in_ok-new_head.ensures.reads.stages_only.honesty.1 h1 in
           let h3 = c.in_ok-stage.ensures.honesty.1 h2 in
-          let taken = c.in_ok-new_head.ensures.exact h1 (given_space p) (given_free p _ _ _ emptied placed.free_is.some) (given_apart p midway.sound _ _ _ placed) in
+          let taken = c.in_ok-new_head.ensures.exact h1 (given_space p)
+          (given_free p _ _ _ emptied placed.free_is.some)
+          (given_apart p midway.sound _ _ _ placed) in
           let reads = c.in_ok-new_head.ensures.reads in
           let order = g.met.S.PageStore.in_order c.store_all.new.store in
           let done = c.stage.ensures in
           let own = own_of_head c.empty.result.bytes n c.empty.ensures.says in
-          let stages = after_stage st c.take.new.store c.stage.new.self c.empty.result.bytes c.stage.result (g.met.S.PageStore.counts_now c.stage.new.self) done.ok done.err done.honesty done.faults done.kept in
-          let here = says_head at2 c.empty.result.bytes n (then_said st c.store_all.new.store c.take.new.store c.stage.new.self n c.empty.result.bytes reads stages h1 order c.in_ok-stage.ensures.ok own) c.empty.ensures.page c.empty.ensures.says in
-          let others = others_stay st c.store_all.new.store c.take.new.store c.stage.new.self n c.empty.result.bytes reads stages h1 order c.in_ok-stage.ensures.ok own in
+          let stages = after_stage st c.take.new.store c.stage.new.self c.empty.result.bytes
+          c.stage.result (g.met.S.PageStore.counts_now c.stage.new.self) done.ok done.err
+          done.honesty done.faults done.kept in
+          let here = says_head at2 c.empty.result.bytes n
+          (then_said st c.store_all.new.store c.take.new.store c.stage.new.self n
+          c.empty.result.bytes reads stages h1 order c.in_ok-stage.ensures.ok own)
+          c.empty.ensures.page c.empty.ensures.says in
+          let others = others_stay st c.store_all.new.store c.take.new.store c.stage.new.self n
+          c.empty.result.bytes reads stages h1 order c.in_ok-stage.ensures.ok own in
           let b = c.buckets-bucket.ensures ∙ next_bucket at0 _ _ p midway in
-          let can = can_set p midway.sound at0 at1 at2 c.args.space.now c.store_all.new.space c.take.new.space n midway.below emptied placed.free_is.some taken here others (model_meta c.args.meta.now) _ b midway.shape_is midway.segments_are c.in_ok-new_head.ensures.number (midway_heads at0 _ _ p midway c.requires.small) in
-          opened_now p midway.sound at0 at1 at2 c.args.space.now c.store_all.new.space c.take.new.space n midway.below emptied placed.free_is.some taken here others (body_at st c.set_head.new.store) c.set_head.new.space (model_meta c.args.meta.now) (model_meta c.set_head.new.meta) _ b midway.segments_are
+          let can = can_set p midway.sound at0 at1 at2 c.args.space.now c.store_all.new.space
+          c.take.new.space n midway.below emptied placed.free_is.some taken here others
+          (model_meta c.args.meta.now) _ b midway.shape_is midway.segments_are
+          c.in_ok-new_head.ensures.number (midway_heads at0 _ _ p midway c.requires.small) in
+          opened_now p midway.sound at0 at1 at2 c.args.space.now c.store_all.new.space
+          c.take.new.space n midway.below emptied placed.free_is.some taken here others
+          (body_at st c.set_head.new.store) c.set_head.new.space (model_meta c.args.meta.now)
+          (model_meta c.set_head.new.meta) _ b midway.segments_are
           (c.in_ok-set_head.ensures.exact h3 (heads_of p.chains) (headed_space p) can);
       whole = λ honest p midway from damaged. cc;
       room = λ honest p midway from none. absurd cc;

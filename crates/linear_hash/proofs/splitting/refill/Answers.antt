@@ -27,9 +27,11 @@ returns-in_err-put g c =
     let result = c.from_residual in
     let exit = exit_is result.result c.in_err-put.field-0.0 result.ensures.1 in
     record {
-      stages = stages_then g.S.PageStore _ _ _ (g.met.S.PageStore.counts_now c.loop-pair.store) so_far.stages told.stages;
+      stages = stages_then g.S.PageStore _ _ _ (g.met.S.PageStore.counts_now c.loop-pair.store)
+          so_far.stages told.stages;
       cause = cause_then _ _ exit _ _ _ so_far.stages.later told.cause;
-      answer = put_refused _ _ (ap (λ (s : StoreState). s.usable) so_far.stages.state) _ _ exit _ _ told.answer;
+      answer = put_refused _ _ (ap (λ (s : StoreState). s.usable) so_far.stages.state) _ _ exit
+          _ _ told.answer;
       ends = λ e. told.ends (so_far.ends e);
       may_end = λ may. IfOk-from_err _ _ result.ensures.0;
       exact = λ honest p from. IfOk-from_err _ _ result.ensures.0;
@@ -45,21 +47,33 @@ returns-in_err-put g c =
             | then-goes_up w ↦ w.to-is ∙ sym (ap (λ b. cond b n head) w.if-goes_up.true)
             | else-goes_up w ↦ w.to-is ∙ sym (ap (λ b. cond b n head) w.if-goes_up.false)
           ] in
-          let placed = refill_placed _ _ _ head n _ p from i item c.loop-pair-test.true here _ _ so_far up c.hash.result c.if-goes_up.to c.split_goes_up-goes_up.ensures.place (c.hash.ensures ∙ ap hash_of c.deref.ensures.value) goes in
-          let absent = refill_absent _ _ _ head n _ p from i item c.loop-pair-test.true here _ _ so_far c.deref-in-loop-pair.result.now c.deref-in-loop-pair.ensures.value in
-          c.in_err-put.ensures.whole (c.loop-pair.invariant.stages.honesty.1 honest) _ _ placed absent (came _ _ exit Damaged damaged);
+          let placed = refill_placed _ _ _ head n _ p from i item c.loop-pair-test.true here _ _
+          so_far up c.hash.result c.if-goes_up.to c.split_goes_up-goes_up.ensures.place
+          (c.hash.ensures ∙ ap hash_of c.deref.ensures.value) goes in
+          let absent = refill_absent _ _ _ head n _ p from i item c.loop-pair-test.true here _ _
+          so_far c.deref-in-loop-pair.result.now c.deref-in-loop-pair.ensures.value in
+          c.in_err-put.ensures.whole (c.loop-pair.invariant.stages.honesty.1 honest) _ _ placed
+          absent (came _ _ exit Damaged damaged);
       room = λ honest p from none.
           let so_far = c.loop-pair.invariant.filling honest p from in
           let many = refill_length _ _ _ _ _ _ p from in
           let full = c.in_err-put.ensures.answer.no_room (came _ _ exit NoRoom none) in
-          let room = filling_room _ _ p c.loop-pair.pair-index (omega (arith, c.loop-pair-test.true, many)) so_far in
-          omega (arith, full.1, room, c.loop-pair-test.true, ap (λ (s : StoreState). s.capacity) c.loop-pair.invariant.stages.state);
+          let room = filling_room _ _ p c.loop-pair.pair-index
+          (omega (arith, c.loop-pair-test.true, many)) so_far in
+          omega (
+            arith,
+            full.1,
+            room,
+            c.loop-pair-test.true,
+            ap (λ (s : StoreState). s.capacity) c.loop-pair.invariant.stages.state,
+          );
     }
 
 pub loop-pair-preserved : goal.loop-pair-preserved
 loop-pair-preserved g c =
     let st = g.S.PageStore in record {
-      stages = stages_then st _ _ _ (g.met.S.PageStore.counts_now c.loop-pair.store) c.loop-pair.invariant.stages c.in_ok-put.ensures.stages;
+      stages = stages_then st _ _ _ (g.met.S.PageStore.counts_now c.loop-pair.store)
+          c.loop-pair.invariant.stages c.in_ok-put.ensures.stages;
       ends = λ e. c.in_ok-put.ensures.ends (c.loop-pair.invariant.ends e);
       may_end = λ may. c.in_ok-put.ensures.may_end (c.loop-pair.invariant.may_end may);
       filling = λ honest p from.
@@ -74,14 +88,22 @@ loop-pair-preserved g c =
             | then-goes_up w ↦ w.to-is ∙ sym (ap (λ b. cond b n head) w.if-goes_up.true)
             | else-goes_up w ↦ w.to-is ∙ sym (ap (λ b. cond b n head) w.if-goes_up.false)
           ] in
-          let placed = refill_placed _ _ _ head n _ p from i item c.loop-pair-test.true here _ _ so_far up c.hash.result c.if-goes_up.to c.split_goes_up-goes_up.ensures.place (c.hash.ensures ∙ ap hash_of c.deref.ensures.value) goes in
-          let absent = refill_absent _ _ _ head n _ p from i item c.loop-pair-test.true here _ _ so_far c.deref-in-loop-pair.result.now c.deref-in-loop-pair.ensures.value in
-          let becomes = c.in_ok-put.ensures.exact (c.loop-pair.invariant.stages.honesty.1 honest) _ _ placed absent in
-          refill_goes_on _ _ _ head n _ p from i item c.loop-pair-test.true here _ _ so_far (body_at st c.put.new.store) c.put.new.space
-          (c.deref-in-loop-pair.result.now, c.deref-in-loop-pair-2.result.now) (λ j. (c.deref-in-loop-pair.ensures.value j, c.deref-in-loop-pair-2.ensures.value j)) becomes;
+          let placed = refill_placed _ _ _ head n _ p from i item c.loop-pair-test.true here _ _
+          so_far up c.hash.result c.if-goes_up.to c.split_goes_up-goes_up.ensures.place
+          (c.hash.ensures ∙ ap hash_of c.deref.ensures.value) goes in
+          let absent = refill_absent _ _ _ head n _ p from i item c.loop-pair-test.true here _ _
+          so_far c.deref-in-loop-pair.result.now c.deref-in-loop-pair.ensures.value in
+          let becomes = c.in_ok-put.ensures.exact (c.loop-pair.invariant.stages.honesty.1 honest) _
+          _ placed absent in
+          refill_goes_on _ _ _ head n _ p from i item c.loop-pair-test.true here _ _ so_far
+          (body_at st c.put.new.store) c.put.new.space
+          (c.deref-in-loop-pair.result.now, c.deref-in-loop-pair-2.result.now)
+          (λ j. (c.deref-in-loop-pair.ensures.value j, c.deref-in-loop-pair-2.ensures.value j))
+          becomes;
     }
 
 pub returns-clause-exact : goal.returns-clause-exact
 returns-clause-exact g c honest p from =
     let many = refill_length _ _ _ _ _ _ p from in
-    filling_ends _ _ p c.loop-pair.pair-index (omega (arith, c.loop-pair-test.false, many)) (c.loop-pair.invariant.filling honest p from)
+    filling_ends _ _ p c.loop-pair.pair-index (omega (arith, c.loop-pair-test.false, many))
+    (c.loop-pair.invariant.filling honest p from)

@@ -12,7 +12,10 @@ abbrev pub invariant-loop-pair : goal.invariant-loop-pair
 invariant-loop-pair g l = record {
   stages : StagesOnly g.S.PageStore l.fn.store l.store;
   ends : HasEnds l.fn.space → HasEnds l.space;
-  may_end : MayEnd (g.S.PageStore.state l.fn.store) l.fn.space.file_end → MayEnd (g.S.PageStore.state l.store) l.space.file_end;
-  filling : g.S.PageStore.honest l.fn.store → (p : Placement) → IsRefilled (body_at g.S.PageStore l.fn.store) l.fn.space (shape_of l.fn.shape) l.fn.head l.fn.new_head (map pair_of l.fn.pairs) p
+  may_end : MayEnd (g.S.PageStore.state l.fn.store) l.fn.space.file_end
+      → MayEnd (g.S.PageStore.state l.store) l.space.file_end;
+  filling : g.S.PageStore.honest l.fn.store → (p : Placement)
+      → IsRefilled (body_at g.S.PageStore l.fn.store) l.fn.space (shape_of l.fn.shape) l.fn.head
+      l.fn.new_head (map pair_of l.fn.pairs) p
       → IsFilling (body_at g.S.PageStore l.store) l.space p l.pair-index;
 }

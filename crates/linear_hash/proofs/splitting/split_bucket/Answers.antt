@@ -30,8 +30,10 @@ returns-in_err-head g c =
       may_end = λ may. IfOk-from_err _ _ result.ensures.0;
       exact = λ honest p midway near. IfOk-from_err _ _ result.ensures.0;
       whole = λ honest p midway near damaged.
-          c.in_err-head.ensures.whole honest (heads_of p.chains) (heads_read _ _ _ p midway small) (came _ _ exit Damaged damaged);
-      room = λ honest p midway near none. absurd (head_has_room _ _ told.answer (came _ _ exit NoRoom none));
+          c.in_err-head.ensures.whole honest (heads_of p.chains) (heads_read _ _ _ p midway small)
+          (came _ _ exit Damaged damaged);
+      room = λ honest p midway near none.
+          absurd (head_has_room _ _ told.answer (came _ _ exit NoRoom none));
     }
 
 -- its pairs are not read
@@ -44,7 +46,8 @@ returns-in_err-pairs g c =
     let one = c.in_ok-head.ensures.reads in
     let small : c.args.space.now.file_end < 2 ^ 32 = omega (arith, c.if-prove.false) in
     record {
-      stages = stages_then st _ _ _ (g.met.S.PageStore.counts_now c.head_of.new.store) one.stages_only told.reads.stages_only;
+      stages = stages_then st _ _ _ (g.met.S.PageStore.counts_now c.head_of.new.store)
+          one.stages_only told.reads.stages_only;
       cause = cause_then _ _ exit _ _ _ one.stages_only.later told.cause;
       answer = load_refused _ _ (ap (λ (s : StoreState). s.usable) one.same) _ _ exit told.answer;
       grown = IfOk-from_err _ _ result.ensures.0;
@@ -52,9 +55,13 @@ returns-in_err-pairs g c =
       may_end = λ may. IfOk-from_err _ _ result.ensures.0;
       exact = λ honest p midway near. IfOk-from_err _ _ result.ensures.0;
       whole = λ honest p midway near damaged.
-          let from = split_head _ _ _ p midway small _ (c.in_ok-head.ensures.exact honest (heads_of p.chains)) in
-          c.in_err-pairs.ensures.whole (one.stages_only.honesty.1 honest) _ (chain_then g.S.PageStore _ _ _ _ p _ from one honest midway near) (came _ _ exit Damaged damaged);
-      room = λ honest p midway near none. absurd (load_has_room _ _ told.answer (came _ _ exit NoRoom none));
+          let from = split_head _ _ _ p midway small _
+          (c.in_ok-head.ensures.exact honest (heads_of p.chains)) in
+          c.in_err-pairs.ensures.whole (one.stages_only.honesty.1 honest) _
+          (chain_then g.S.PageStore _ _ _ _ p _ from one honest midway near)
+          (came _ _ exit Damaged damaged);
+      room = λ honest p midway near none.
+          absurd (load_has_room _ _ told.answer (came _ _ exit NoRoom none));
     }
 
 -- no bucket is opened
@@ -66,22 +73,32 @@ returns-in_err-new_head g c =
     let exit = exit_is result.result c.in_err-new_head.field-0.0 result.ensures.1 in
     let one = c.in_ok-head.ensures.reads in
     let two = c.in_ok-pairs.ensures.reads in
-    let read = stages_then st _ _ _ (g.met.S.PageStore.counts_now c.head_of.new.store) one.stages_only two.stages_only in
+    let read = stages_then st _ _ _ (g.met.S.PageStore.counts_now c.head_of.new.store)
+    one.stages_only two.stages_only in
     let small : c.args.space.now.file_end < 2 ^ 32 = omega (arith, c.if-prove.false) in
     record {
-      stages = stages_then st _ _ _ (g.met.S.PageStore.counts_now c.load_all.new.store) read told.stages;
+      stages = stages_then st _ _ _ (g.met.S.PageStore.counts_now c.load_all.new.store)
+          read told.stages;
       cause = cause_then _ _ exit _ _ _ read.later told.cause;
-      answer = change_refused _ _ (ap (λ (s : StoreState). s.usable) read.state) _ _ exit told.answer;
+      answer = change_refused _ _ (ap (λ (s : StoreState). s.usable) read.state) _ _
+          exit told.answer;
       grown = IfOk-from_err _ _ result.ensures.0;
       ends = told.ends;
       may_end = λ may. IfOk-from_err _ _ result.ensures.0;
       exact = λ honest p midway near. IfOk-from_err _ _ result.ensures.0;
       whole = λ honest p midway near damaged.
-          let from = split_head _ _ _ p midway small _ (c.in_ok-head.ensures.exact honest (heads_of p.chains)) in
-          c.in_err-new_head.ensures.whole (honest_later st _ _ _ _ p _ from one honest midway _ two) p (midway_later st _ _ _ _ p _ from one honest midway _ two) from (came _ _ exit Damaged damaged);
+          let from = split_head _ _ _ p midway small _
+          (c.in_ok-head.ensures.exact honest (heads_of p.chains)) in
+          c.in_err-new_head.ensures.whole (honest_later st _ _ _ _ p _ from one honest midway _ two)
+          p (midway_later st _ _ _ _ p _ from one honest midway _ two) from
+          (came _ _ exit Damaged damaged);
       room = λ honest p midway near none.
-          let from = split_head _ _ _ p midway small _ (c.in_ok-head.ensures.exact honest (heads_of p.chains)) in
-          let full = c.in_err-new_head.ensures.room (honest_later st _ _ _ _ p _ from one honest midway _ two) p (midway_later st _ _ _ _ p _ from one honest midway _ two) from (came _ _ exit NoRoom none) in
+          let from = split_head _ _ _ p midway small _
+          (c.in_ok-head.ensures.exact honest (heads_of p.chains)) in
+          let full = c.in_err-new_head.ensures.room
+          (honest_later st _ _ _ _ p _ from one honest midway _ two) p
+          (midway_later st _ _ _ _ p _ from one honest midway _ two) from
+          (came _ _ exit NoRoom none) in
           omega (arith, full, ap (λ (s : StoreState). s.capacity) (two.same ∙ one.same));
     }
 
@@ -94,29 +111,53 @@ returns-in_err-refill g c =
     let exit = exit_is result.result c.in_err-refill.field-0.0 result.ensures.1 in
     let one = c.in_ok-head.ensures.reads in
     let two = c.in_ok-pairs.ensures.reads in
-    let read = stages_then st _ _ _ (g.met.S.PageStore.counts_now c.head_of.new.store) one.stages_only two.stages_only in
+    let read = stages_then st _ _ _ (g.met.S.PageStore.counts_now c.head_of.new.store)
+    one.stages_only two.stages_only in
     let three = c.in_ok-new_head.ensures.stages in
-    let so_far = stages_then st _ _ _ (g.met.S.PageStore.counts_now c.load_all.new.store) read three in
+    let so_far = stages_then st _ _ _
+    (g.met.S.PageStore.counts_now c.load_all.new.store) read three in
     let small : c.args.space.now.file_end < 2 ^ 32 = omega (arith, c.if-prove.false) in
     record {
-      stages = stages_then st _ _ _ (g.met.S.PageStore.counts_now c.open_bucket.new.store) so_far told.stages;
+      stages = stages_then st _ _ _ (g.met.S.PageStore.counts_now c.open_bucket.new.store)
+          so_far told.stages;
       cause = cause_then _ _ exit _ _ _ so_far.later told.cause;
-      answer = change_refused _ _ (ap (λ (s : StoreState). s.usable) so_far.state) _ _ exit told.answer;
+      answer = change_refused _ _ (ap (λ (s : StoreState). s.usable) so_far.state) _ _
+          exit told.answer;
       grown = IfOk-from_err _ _ result.ensures.0;
       ends = λ e. told.ends (c.in_ok-new_head.ensures.ends e);
       may_end = λ may. IfOk-from_err _ _ result.ensures.0;
       exact = λ honest p midway near. IfOk-from_err _ _ result.ensures.0;
       whole = λ honest p midway near damaged.
-          let from = split_head _ _ _ p midway small _ (c.in_ok-head.ensures.exact honest (heads_of p.chains)) in
-          let again = refilled_later st _ _ _ _ p _ from one honest midway _ two _ _ _ _ _ _ _ near c.in_ok-pairs.ensures.exact c.in_ok-new_head.ensures.exact c.in_ok-new_head.ensures.added (ap (map pair_of) c.as_slice.ensures.value) in
-          c.in_err-refill.ensures.whole (c.in_ok-new_head.ensures.stages.honesty.1 (honest_later st _ _ _ _ p _ from one honest midway _ two)) p again (came _ _ exit Damaged damaged);
+          let from = split_head _ _ _ p midway small _
+          (c.in_ok-head.ensures.exact honest (heads_of p.chains)) in
+          let again = refilled_later st _ _ _ _ p _ from one honest midway _ two _ _ _ _ _ _ _ near
+          c.in_ok-pairs.ensures.exact c.in_ok-new_head.ensures.exact
+          c.in_ok-new_head.ensures.added (ap (map pair_of) c.as_slice.ensures.value) in
+          c.in_err-refill.ensures.whole
+          (c.in_ok-new_head.ensures.stages.honesty.1
+          (honest_later st _ _ _ _ p _ from one honest midway _ two)) p again
+          (came _ _ exit Damaged damaged);
       room = λ honest p midway near none.
-          let from = split_head _ _ _ p midway small _ (c.in_ok-head.ensures.exact honest (heads_of p.chains)) in
-          let again = refilled_later st _ _ _ _ p _ from one honest midway _ two _ _ _ _ _ _ _ near c.in_ok-pairs.ensures.exact c.in_ok-new_head.ensures.exact c.in_ok-new_head.ensures.added (ap (map pair_of) c.as_slice.ensures.value) in
-          let full = c.in_err-refill.ensures.room (c.in_ok-new_head.ensures.stages.honesty.1 (honest_later st _ _ _ _ p _ from one honest midway _ two)) p again (came _ _ exit NoRoom none) in
-          let room = ap (λ (s : StoreState). s.capacity) (c.in_ok-new_head.ensures.stages.state) ∙ ap (λ (s : StoreState). s.capacity) (two.same ∙ one.same) in
+          let from = split_head _ _ _ p midway small _
+          (c.in_ok-head.ensures.exact honest (heads_of p.chains)) in
+          let again = refilled_later st _ _ _ _ p _ from one honest midway _ two _ _ _ _ _ _ _ near
+          c.in_ok-pairs.ensures.exact c.in_ok-new_head.ensures.exact
+          c.in_ok-new_head.ensures.added (ap (map pair_of) c.as_slice.ensures.value) in
+          let full = c.in_err-refill.ensures.room
+          (c.in_ok-new_head.ensures.stages.honesty.1
+          (honest_later st _ _ _ _ p _ from one honest midway _ two)) p again
+          (came _ _ exit NoRoom none) in
+          let room = ap (λ (s : StoreState). s.capacity) (c.in_ok-new_head.ensures.stages.state)
+          ∙ ap (λ (s : StoreState). s.capacity) (two.same ∙ one.same) in
           let many = ap (λ (ps : List Pair). length ps) again.pairs_are in
-          omega (arith, full, room, many, length-map c.as_slice.result.now pair_of, end_refilled p midway.sound);
+          omega (
+            arith,
+            full,
+            room,
+            many,
+            length-map c.as_slice.result.now pair_of,
+            end_refilled p midway.sound,
+          );
     }
 
 -- the bucket is split
@@ -125,11 +166,14 @@ returns g c =
     let st = g.S.PageStore in
     let one = c.in_ok-head.ensures.reads in
     let two = c.in_ok-pairs.ensures.reads in
-    let read = stages_then st _ _ _ (g.met.S.PageStore.counts_now c.head_of.new.store) one.stages_only two.stages_only in
+    let read = stages_then st _ _ _ (g.met.S.PageStore.counts_now c.head_of.new.store)
+    one.stages_only two.stages_only in
     let three = c.in_ok-new_head.ensures.stages in
-    let so_far = stages_then st _ _ _ (g.met.S.PageStore.counts_now c.load_all.new.store) read three in
+    let so_far = stages_then st _ _ _
+    (g.met.S.PageStore.counts_now c.load_all.new.store) read three in
     let four = c.in_ok-refill.ensures in
-    let all = stages_then st _ _ _ (g.met.S.PageStore.counts_now c.open_bucket.new.store) so_far four.stages in
+    let all = stages_then st _ _ _ (g.met.S.PageStore.counts_now c.open_bucket.new.store)
+    so_far four.stages in
     let small : c.args.space.now.file_end < 2 ^ 32 = omega (arith, c.if-prove.false) in
     record {
       stages = all;
@@ -137,14 +181,23 @@ returns g c =
       answer = no_refusal _ _;
       grown = is_grown _ _ _ c.in_ok-new_head.ensures.added c.grown-meta.ensures.grown refl refl;
       ends = λ e. four.ends (c.in_ok-new_head.ensures.ends e);
-      may_end = λ may. four.may_end (c.in_ok-new_head.ensures.may_end (subst (λ (s : StoreState). MayEnd s c.args.space.now.file_end) (sym (two.same ∙ one.same)) may));
+      may_end = λ may. four.may_end
+          (c.in_ok-new_head.ensures.may_end
+          (subst (λ (s : StoreState). MayEnd s c.args.space.now.file_end)
+          (sym (two.same ∙ one.same)) may));
       exact = λ honest p midway near.
-          let from = split_head _ _ _ p midway small _ (c.in_ok-head.ensures.exact honest (heads_of p.chains)) in
-          let again = refilled_later st _ _ _ _ p _ from one honest midway _ two _ _ _ _ _ _ _ near c.in_ok-pairs.ensures.exact c.in_ok-new_head.ensures.exact c.in_ok-new_head.ensures.added (ap (map pair_of) c.as_slice.ensures.value) in
+          let from = split_head _ _ _ p midway small _
+          (c.in_ok-head.ensures.exact honest (heads_of p.chains)) in
+          let again = refilled_later st _ _ _ _ p _ from one honest midway _ two _ _ _ _ _ _ _ near
+          c.in_ok-pairs.ensures.exact c.in_ok-new_head.ensures.exact
+          c.in_ok-new_head.ensures.added (ap (map pair_of) c.as_slice.ensures.value) in
           let honest2 = honest_later st _ _ _ _ p _ from one honest midway _ two in
-          let now = c.in_ok-new_head.ensures.exact honest2 p (midway_later st _ _ _ _ p _ from one honest midway _ two) from in
-          let below = c.in_ok-refill.ensures.exact (c.in_ok-new_head.ensures.stages.honesty.1 honest2) p again in
-          midway_split _ _ _ _ _ _ _ _ _ p _ _ midway c.in_ok-new_head.ensures.added now below c.grown-meta.ensures.grown refl refl;
+          let now = c.in_ok-new_head.ensures.exact honest2 p
+          (midway_later st _ _ _ _ p _ from one honest midway _ two) from in
+          let below = c.in_ok-refill.ensures.exact
+          (c.in_ok-new_head.ensures.stages.honesty.1 honest2) p again in
+          midway_split _ _ _ _ _ _ _ _ _ p _ _ midway c.in_ok-new_head.ensures.added now below
+          c.grown-meta.ensures.grown refl refl;
       whole = λ honest p midway near damaged. cc;
       room = λ honest p midway near none. absurd cc;
     }

@@ -32,19 +32,29 @@ returns-in_err-head g c =
       ends = λ e. e;
       may_end = λ may. IfOk-from_err _ _ result.ensures.0;
       exact = λ honest p mid. IfOk-from_err _ _ result.ensures.0;
-      whole = λ honest p mid damaged. told.whole honest (heads_of p.chains) (midway_heads _ _ _ p mid c.requires.used) (came _ _ exit Damaged damaged);
+      whole = λ honest p mid damaged.
+          told.whole honest (heads_of p.chains) (midway_heads _ _ _ p mid c.requires.used)
+          (came _ _ exit Damaged damaged);
     }
 
 -- the chain of the key's bucket, once its head page was looked up
-module _ (g : Over) (c : After-remove g) (honest : g.S.PageStore.honest c.args.store.now) (p : Placement) (mid : IsMidway (body_at g.S.PageStore c.args.store.now) (model_meta c.args.meta.now) c.args.space.now p) where
-  here : IsMidway (body_at g.S.PageStore c.head_of.new.store) (model_meta c.args.meta.now) c.args.space.now p
+module _ (g : Over) (c : After-remove g) (honest : g.S.PageStore.honest c.args.store.now)
+    (p : Placement) (mid : IsMidway (body_at g.S.PageStore c.args.store.now)
+    (model_meta c.args.meta.now) c.args.space.now p) where
+  here : IsMidway (body_at g.S.PageStore c.head_of.new.store) (model_meta c.args.meta.now)
+      c.args.space.now p
   here = midway_read g.S.PageStore _ _ _ _ p c.in_ok-head.ensures.reads honest mid
 
-  chain_is : IsPlaced (body_at g.S.PageStore c.head_of.new.store) c.args.space.now c.in_ok-head.head (chain_at p (key_bucket p.shape c.args.key.now)) p.space
+  chain_is : IsPlaced (body_at g.S.PageStore c.head_of.new.store) c.args.space.now c.in_ok-head.head
+      (chain_at p (key_bucket p.shape c.args.key.now)) p.space
   chain_is =
-      let bucket = bucket_of c.args.meta.now c.args.key.now c.bucket.result c.hash.result c.bucket.ensures.address c.hash.ensures in
-      let head = c.in_ok-head.ensures.exact honest (heads_of p.chains) (midway_heads _ _ _ p mid c.requires.used) (midway_below _ _ _ p mid c.requires.used c.args.key.now c.bucket.result bucket) in
-      midway_chain _ _ _ p here c.requires.used c.args.key.now c.bucket.result bucket c.in_ok-head.head head
+      let bucket = bucket_of c.args.meta.now c.args.key.now c.bucket.result c.hash.result
+      c.bucket.ensures.address c.hash.ensures in
+      let head = c.in_ok-head.ensures.exact honest (heads_of p.chains)
+      (midway_heads _ _ _ p mid c.requires.used)
+      (midway_below _ _ _ p mid c.requires.used c.args.key.now c.bucket.result bucket) in
+      midway_chain _ _ _ p here c.requires.used c.args.key.now c.bucket.result bucket
+      c.in_ok-head.head head
 
 -- the key is taken out, or is not
 pub returns : goal.returns
@@ -54,13 +64,18 @@ returns g c =
     let h1 = one.stages_only.honesty.1 in
     let used = c.requires.used in
     record {
-      stages = stages_then g.S.PageStore _ _ _ (g.met.S.PageStore.counts_now c.head_of.new.store) one.stages_only told.stages;
+      stages = stages_then g.S.PageStore _ _ _ (g.met.S.PageStore.counts_now c.head_of.new.store)
+          one.stages_only told.stages;
       cause = cause_last _ _ _ _ one.stages_only.later told.cause;
-      answer = subst (λ (s : StoreState). IsRemoveAnswer g.S.PageStore.reserved s c.remove.result) one.same told.answer;
+      answer = subst (λ (s : StoreState). IsRemoveAnswer g.S.PageStore.reserved s c.remove.result)
+          one.same told.answer;
       ends = told.ends;
       may_end = λ may. told.may_end (may_end_read g.S.PageStore _ _ _ one may);
       exact = λ honest p mid.
-          removed_ok c.remove.result (λ was gone. midway_deleted _ _ _ p (here g c honest p mid) used _ _ c.args.key.now gone.left)
-          (told.exact (h1 honest) _ _ (chain_is g c honest p mid) (midway_once _ _ _ p (here g c honest p mid) used c.args.key.now));
-      whole = λ honest p mid. told.whole (h1 honest) _ _ (chain_is g c honest p mid) (midway_once _ _ _ p (here g c honest p mid) used c.args.key.now);
+          removed_ok c.remove.result (λ was gone.
+          midway_deleted _ _ _ p (here g c honest p mid) used _ _ c.args.key.now gone.left)
+          (told.exact (h1 honest) _ _ (chain_is g c honest p mid)
+          (midway_once _ _ _ p (here g c honest p mid) used c.args.key.now));
+      whole = λ honest p mid. told.whole (h1 honest) _ _ (chain_is g c honest p mid)
+          (midway_once _ _ _ p (here g c honest p mid) used c.args.key.now);
     }

@@ -39,7 +39,9 @@ returns-in_err-head g c =
       may_end = λ may. IfOk-from_err _ _ result.ensures.0;
       room = λ none. absurd (head_has_room _ _ told.answer (came _ _ exit NoRoom none));
       exact = λ honest p mid was. IfOk-from_err _ _ result.ensures.0;
-      whole = λ honest p mid was damaged. told.whole honest (heads_of p.chains) (midway_heads _ _ _ p mid c.requires.valid.used) (came _ _ exit Damaged damaged);
+      whole = λ honest p mid was damaged.
+          told.whole honest (heads_of p.chains) (midway_heads _ _ _ p mid c.requires.valid.used)
+          (came _ _ exit Damaged damaged);
     }
 
 -- the key is not taken out
@@ -50,19 +52,27 @@ returns-in_err-remove g c =
     let result = c.from_residual-in_err-remove in
     let exit = exit_is result.result c.in_err-remove.field-0.0 result.ensures.1 in
     record {
-      stages = stages_then g.S.PageStore _ _ _ (g.met.S.PageStore.counts_now c.head_of.new.store) one.stages_only told.stages;
+      stages = stages_then g.S.PageStore _ _ _ (g.met.S.PageStore.counts_now c.head_of.new.store)
+          one.stages_only told.stages;
       cause = cause_then _ _ exit _ _ _ one.stages_only.later told.cause;
-      answer = remove_refused _ _ (ap (λ (s : StoreState). s.usable) one.same) _ _ exit _ told.answer;
+      answer = remove_refused _ _ (ap (λ (s : StoreState). s.usable) one.same) _ _
+          exit _ told.answer;
       ends = told.ends;
       may_end = λ may. IfOk-from_err _ _ result.ensures.0;
       room = λ none. absurd (remove_has_room _ _ _ told.answer (came _ _ exit NoRoom none));
       exact = λ honest p mid was. IfOk-from_err _ _ result.ensures.0;
       whole = λ honest p mid was damaged.
           let used = c.requires.valid.used in
-          let bucket = bucket_of c.args.meta.now c.args.key.now c.bucket.result c.hash.result c.bucket.ensures.address c.hash.ensures in
-          let head = c.in_ok-head.ensures.exact honest (heads_of p.chains) (midway_heads _ _ _ p mid used) (midway_below _ _ _ p mid used c.args.key.now c.bucket.result bucket) in
+          let bucket = bucket_of c.args.meta.now c.args.key.now c.bucket.result c.hash.result
+          c.bucket.ensures.address c.hash.ensures in
+          let head = c.in_ok-head.ensures.exact honest (heads_of p.chains)
+          (midway_heads _ _ _ p mid used)
+          (midway_below _ _ _ p mid used c.args.key.now c.bucket.result bucket) in
           let here = midway_read g.S.PageStore _ _ _ _ p one honest mid in
-          told.whole (one.stages_only.honesty.1 honest) _ _ (midway_chain _ _ _ p here used c.args.key.now c.bucket.result bucket c.in_ok-head.head head) (midway_once _ _ _ p here used c.args.key.now) (came _ _ exit Damaged damaged);
+          told.whole (one.stages_only.honesty.1 honest) _ _
+          (midway_chain _ _ _ p here used c.args.key.now c.bucket.result bucket
+          c.in_ok-head.head head) (midway_once _ _ _ p here used c.args.key.now)
+          (came _ _ exit Damaged damaged);
     }
 
 module _ (g : Over) (c : After-put g) where
@@ -71,9 +81,12 @@ module _ (g : Over) (c : After-put g) where
   stages_so_far =
       let reads = c.in_ok-head.ensures.reads.stages_only in
       elim c.if-was_there.branch [
-        | then-was_there+in_ok-remove w ↦ subst (StagesOnly g.S.PageStore c.args.store.now) (sym w.store-is)
-            (stages_then g.S.PageStore _ _ _ (g.met.S.PageStore.counts_now c.head_of.new.store) reads w.in_ok-remove.ensures.stages)
-        | else-was_there w ↦ subst (StagesOnly g.S.PageStore c.args.store.now) (sym w.store-is) reads
+        | then-was_there+in_ok-remove w ↦
+            subst (StagesOnly g.S.PageStore c.args.store.now) (sym w.store-is)
+            (stages_then g.S.PageStore _ _ _ (g.met.S.PageStore.counts_now c.head_of.new.store)
+            reads w.in_ok-remove.ensures.stages)
+        | else-was_there w ↦ subst (StagesOnly g.S.PageStore c.args.store.now)
+            (sym w.store-is) reads
       ]
 
   ends_so_far : HasEnds c.args.space.now → HasEnds c.if-was_there.space
@@ -82,52 +95,76 @@ module _ (g : Over) (c : After-put g) where
     | else-was_there w ↦ subst HasEnds (sym w.space-is) e
   ]
 
-  may_end_so_far : MayEnd (g.S.PageStore.state c.args.store.now) c.args.space.now.file_end → MayEnd (g.S.PageStore.state c.if-was_there.store) c.if-was_there.space.file_end
+  may_end_so_far : MayEnd (g.S.PageStore.state c.args.store.now) c.args.space.now.file_end
+      → MayEnd (g.S.PageStore.state c.if-was_there.store) c.if-was_there.space.file_end
   may_end_so_far may =
       let read = may_end_read g.S.PageStore _ _ _ c.in_ok-head.ensures.reads may in
       elim c.if-was_there.branch [
-        | then-was_there+in_ok-remove w ↦ may_end_same g.S.PageStore _ _ _ _ w.store-is w.space-is (w.in_ok-remove.ensures.may_end read)
+        | then-was_there+in_ok-remove w ↦
+            may_end_same g.S.PageStore _ _ _ _ w.store-is w.space-is
+            (w.in_ok-remove.ensures.may_end read)
         | else-was_there w ↦ may_end_same g.S.PageStore _ _ _ _ w.store-is w.space-is read
       ]
 
   end_so_far : c.if-was_there.space.file_end ≡ c.args.space.now.file_end
   end_so_far = elim c.if-was_there.branch [
-    | then-was_there+in_ok-remove w ↦ ap (λ (f : FreeState). f.file_end) w.space-is ∙ w.in_ok-remove.ensures.end
+    | then-was_there+in_ok-remove w ↦
+        ap (λ (f : FreeState). f.file_end) w.space-is ∙ w.in_ok-remove.ensures.end
     | else-was_there w ↦ ap (λ (f : FreeState). f.file_end) w.space-is
   ]
 
-  bucket : c.bucket.result ≡ address (shape_in (model_meta c.args.meta.now)) (hash_of c.args.key.now)
-  bucket = bucket_of c.args.meta.now c.args.key.now c.bucket.result c.hash.result c.bucket.ensures.address c.hash.ensures
+  bucket : c.bucket.result ≡ address (shape_in (model_meta c.args.meta.now))
+      (hash_of c.args.key.now)
+  bucket = bucket_of c.args.meta.now c.args.key.now c.bucket.result c.hash.result
+      c.bucket.ensures.address c.hash.ensures
 
-  module _ (honest : g.S.PageStore.honest c.args.store.now) (p : Placement) (mid : IsMidway (body_at g.S.PageStore c.args.store.now) (model_meta c.args.meta.now) c.args.space.now p)
+  module _ (honest : g.S.PageStore.honest c.args.store.now) (p : Placement)
+      (mid : IsMidway (body_at g.S.PageStore c.args.store.now) (model_meta c.args.meta.now)
+      c.args.space.now p)
       (was : c.args.was_there ≡ is_some (get (contents p) c.args.key.now)) where
     head_is : c.in_ok-head.head ≡ get_or (heads_of p.chains) c.bucket.result 0
-    head_is = c.in_ok-head.ensures.exact honest (heads_of p.chains) (midway_heads _ _ _ p mid c.requires.valid.used) (midway_below _ _ _ p mid c.requires.valid.used c.args.key.now c.bucket.result bucket)
+    head_is = c.in_ok-head.ensures.exact honest (heads_of p.chains)
+        (midway_heads _ _ _ p mid c.requires.valid.used)
+        (midway_below _ _ _ p mid c.requires.valid.used c.args.key.now c.bucket.result bucket)
 
     -- once the key was taken out, or was not there
-    removed : IsMidway (body_at g.S.PageStore c.if-was_there.store) (model_meta c.args.meta.now) c.if-was_there.space (delete p c.args.key.now)
+    removed : IsMidway (body_at g.S.PageStore c.if-was_there.store) (model_meta c.args.meta.now)
+        c.if-was_there.space (delete p c.args.key.now)
     removed =
         let used = c.requires.valid.used in
         let h1 = c.in_ok-head.ensures.reads.stages_only.honesty.1 honest in
         let here = midway_read g.S.PageStore _ _ _ _ p c.in_ok-head.ensures.reads honest mid in
         elim c.if-was_there.branch [
           | then-was_there+in_ok-remove w ↦
-              let placed = midway_chain _ _ _ p here used c.args.key.now c.bucket.result bucket c.in_ok-head.head head_is in
-              let gone = w.in_ok-remove.ensures.exact h1 _ _ placed (midway_once _ _ _ p here used c.args.key.now) in
-              midway_same g.S.PageStore _ _ _ _ _ _ w.store-is w.space-is (midway_deleted _ _ _ p here used _ _ c.args.key.now gone.left)
+              let placed = midway_chain _ _ _ p here used c.args.key.now c.bucket.result bucket
+              c.in_ok-head.head head_is in
+              let gone = w.in_ok-remove.ensures.exact h1 _ _ placed
+              (midway_once _ _ _ p here used c.args.key.now) in
+              midway_same g.S.PageStore _ _ _ _ _ _ w.store-is w.space-is
+              (midway_deleted _ _ _ p here used _ _ c.args.key.now gone.left)
           | else-was_there w ↦
               let none = delete_none p c.args.key.now mid.sound (sym was ∙ w.if-was_there.false) in
-              midway_same g.S.PageStore _ _ _ _ _ _ w.store-is w.space-is (subst (IsMidway (body_at g.S.PageStore c.head_of.new.store) (model_meta c.args.meta.now) c.args.space.now) (sym none) here)
+              midway_same g.S.PageStore _ _ _ _ _ _ w.store-is w.space-is
+              (subst (IsMidway (body_at g.S.PageStore c.head_of.new.store)
+              (model_meta c.args.meta.now) c.args.space.now) (sym none) here)
         ]
 
     -- where the pair is put
-    chain_is : IsPlaced (body_at g.S.PageStore c.if-was_there.store) c.if-was_there.space c.in_ok-head.head (chain_at (delete p c.args.key.now) (key_bucket p.shape c.args.key.now)) (delete p c.args.key.now).space
+    chain_is : IsPlaced (body_at g.S.PageStore c.if-was_there.store) c.if-was_there.space
+        c.in_ok-head.head (chain_at (delete p c.args.key.now) (key_bucket p.shape c.args.key.now))
+        (delete p c.args.key.now).space
     chain_is =
-        let same = bucket_is _ (model_meta c.args.meta.now) p mid.sound c.requires.valid.used mid.below.are_read mid.shape_is mid.segments_are c.args.key.now c.bucket.result bucket in
-        midway_chain _ _ _ (delete p c.args.key.now) removed c.requires.valid.used c.args.key.now c.bucket.result bucket c.in_ok-head.head (head_still p c.args.key.now c.bucket.result c.in_ok-head.head mid.sound same head_is)
+        let same = bucket_is _ (model_meta c.args.meta.now) p mid.sound c.requires.valid.used
+        mid.below.are_read mid.shape_is mid.segments_are c.args.key.now
+        c.bucket.result bucket in
+        midway_chain _ _ _ (delete p c.args.key.now) removed c.requires.valid.used c.args.key.now
+        c.bucket.result bucket c.in_ok-head.head
+        (head_still p c.args.key.now c.bucket.result c.in_ok-head.head mid.sound same head_is)
 
-    lacks : times c.args.key.now (pairs_in (chain_at (delete p c.args.key.now) (key_bucket p.shape c.args.key.now))) ≡ 0
-    lacks = not_in_chain (delete p c.args.key.now) c.args.key.now removed.sound (deleted_finds_none p mid.sound c.args.key.now)
+    lacks : times c.args.key.now (pairs_in
+        (chain_at (delete p c.args.key.now) (key_bucket p.shape c.args.key.now))) ≡ 0
+    lacks = not_in_chain (delete p c.args.key.now) c.args.key.now removed.sound
+        (deleted_finds_none p mid.sound c.args.key.now)
 
 -- the pair is put, or is not
 pub returns : goal.returns
@@ -136,14 +173,24 @@ returns g c =
     let told = c.put.ensures in
     let h1 = so_far.honesty.1 in
     record {
-      stages = stages_then g.S.PageStore _ _ _ (g.met.S.PageStore.counts_now c.if-was_there.store) so_far told.stages;
+      stages = stages_then g.S.PageStore _ _ _ (g.met.S.PageStore.counts_now c.if-was_there.store)
+          so_far told.stages;
       cause = cause_last _ _ _ _ so_far.later told.cause;
       answer = put_answers _ _ _ _ _ (ap (λ (s : StoreState). s.usable) so_far.state) told.answer;
       ends = λ e. told.ends (ends_so_far g c e);
       may_end = λ may. told.may_end (may_end_so_far g c may);
-      room = λ none. omega (arith, (told.answer.no_room none).1, end_so_far g c, ap (λ (s : StoreState). s.capacity) so_far.state);
+      room = λ none. omega (
+        arith,
+        (told.answer.no_room none).1,
+        end_so_far g c,
+        ap (λ (s : StoreState). s.capacity) so_far.state,
+      );
       exact = λ honest p mid was.
-          on_ok_weaker c.put.result (λ becomes. midway_put _ _ _ (delete p c.args.key.now) (removed g c honest p mid was) c.requires.valid.used _ _ (c.args.key.now, c.args.content.now) c.requires.allowed (deleted_finds_none p mid.sound c.args.key.now) becomes)
+          on_ok_weaker c.put.result (λ becomes.
+          midway_put _ _ _ (delete p c.args.key.now) (removed g c honest p mid was)
+          c.requires.valid.used _ _ (c.args.key.now, c.args.content.now) c.requires.allowed
+          (deleted_finds_none p mid.sound c.args.key.now) becomes)
           (told.exact (h1 honest) _ _ (chain_is g c honest p mid was) (lacks g c honest p mid was));
-      whole = λ honest p mid was. told.whole (h1 honest) _ _ (chain_is g c honest p mid was) (lacks g c honest p mid was);
+      whole = λ honest p mid was. told.whole (h1 honest) _ _ (chain_is g c honest p mid was)
+          (lacks g c honest p mid was);
     }

@@ -15,8 +15,13 @@ use Rattle.linear_hash.proofs.staging.split_if_full.Goals as goal
 -- the bucket can be split
 pub split_bucket-requires : goal.split_bucket-requires
 split_bucket-requires g c =
-    let full = subst (λ (b : ℕ). 8 * b < c.args.meta.now.pairs) c.buckets.ensures c.if-meta-buckets.true in
-    record { segments = c.requires.valid.all_segments; few = few_where_full (model_meta c.args.meta.now) c.requires.valid c.requires.few.0 full }
+    let full = subst (λ (b : ℕ). 8 * b < c.args.meta.now.pairs) c.buckets.ensures
+    c.if-meta-buckets.true in
+    record {
+      segments = c.requires.valid.all_segments;
+      few =
+          few_where_full (model_meta c.args.meta.now) c.requires.valid c.requires.few.0 full;
+    }
 
 -- the bucket is not split
 pub returns-in_err-split_bucket : goal.returns-in_err-split_bucket
@@ -34,7 +39,8 @@ returns-in_err-split_bucket g c =
       ends = told.ends;
       may_end = λ may. IfOk-from_err _ _ result.ensures.0;
       exact = λ honest p mid near counted. IfOk-from_err _ _ result.ensures.0;
-      whole = λ honest p mid near damaged. told.whole honest p mid near (came _ _ exit Damaged damaged);
+      whole = λ honest p mid near damaged.
+          told.whole honest p mid near (came _ _ exit Damaged damaged);
       room = λ honest p mid near none. told.room honest p mid near (came _ _ exit NoRoom none);
     }
 
@@ -43,7 +49,8 @@ pub returns-in_ok-split_bucket-clause-stages : goal.returns-in_ok-split_bucket-c
 returns-in_ok-split_bucket-clause-stages g c = c.in_ok-split_bucket.ensures.stages
 
 pub returns-in_ok-split_bucket-clause-cause : goal.returns-in_ok-split_bucket-clause-cause
-returns-in_ok-split_bucket-clause-cause g c = cause_ok _ _ _ c.in_ok-split_bucket.ensures.cause.later
+returns-in_ok-split_bucket-clause-cause g c =
+    cause_ok _ _ _ c.in_ok-split_bucket.ensures.cause.later
 
 pub returns-in_ok-split_bucket-clause-answer : goal.returns-in_ok-split_bucket-clause-answer
 returns-in_ok-split_bucket-clause-answer g c = no_refusal _ _
@@ -67,26 +74,40 @@ returns-in_ok-split_bucket-clause-room g c honest p mid near none = absurd cc
 
 pub returns-in_ok-split_bucket-clause-valid : goal.returns-in_ok-split_bucket-clause-valid
 returns-in_ok-split_bucket-clause-valid g c =
-    let full = subst (λ (b : ℕ). 8 * b < c.args.meta.now.pairs) c.buckets.ensures c.if-meta-buckets.true in
-    grown_valid (model_meta c.args.meta.now) c.requires.valid c.requires.few.0 full (model_meta c.split_bucket.new.meta) c.requires.few.1 c.in_ok-split_bucket.ensures.grown
+    let full = subst (λ (b : ℕ). 8 * b < c.args.meta.now.pairs) c.buckets.ensures
+    c.if-meta-buckets.true in
+    grown_valid (model_meta c.args.meta.now) c.requires.valid c.requires.few.0 full
+    (model_meta c.split_bucket.new.meta) c.requires.few.1 c.in_ok-split_bucket.ensures.grown
 
 pub returns-in_ok-split_bucket-clause-shape : goal.returns-in_ok-split_bucket-clause-shape
 returns-in_ok-split_bucket-clause-shape g c =
-    let full = subst (λ (b : ℕ). 8 * b < c.args.meta.now.pairs) c.buckets.ensures c.if-meta-buckets.true in
+    let full = subst (λ (b : ℕ). 8 * b < c.args.meta.now.pairs) c.buckets.ensures
+    c.if-meta-buckets.true in
     let grows = c.in_ok-split_bucket.ensures.grown in
-    subst (λ (n : ℕ). shape_in (model_meta c.split_bucket.new.meta) ≡ shape_for n (shape_in (model_meta c.args.meta.now))) (sym (ap (λ (m : Meta). m.pairs) grows.rest)) (grown_shape c.args.meta.now.pairs _ _ full grows.shape)
+    subst (λ (n : ℕ). shape_in (model_meta c.split_bucket.new.meta)
+    ≡ shape_for n (shape_in (model_meta c.args.meta.now)))
+    (sym (ap (λ (m : Meta). m.pairs) grows.rest))
+    (grown_shape c.args.meta.now.pairs _ _ full grows.shape)
 
 pub returns-in_ok-split_bucket-clause-exact : goal.returns-in_ok-split_bucket-clause-exact
 returns-in_ok-split_bucket-clause-exact g c honest p mid near counted =
-    let full = subst (λ (b : ℕ). 8 * b < c.args.meta.now.pairs) c.buckets.ensures c.if-meta-buckets.true in
-    subst (IsMidway (body_at g.S.PageStore c.split_bucket.new.store) (model_meta c.split_bucket.new.meta) c.split_bucket.new.space) (sym (full_is_split _ _ _ p mid counted full)) (c.in_ok-split_bucket.ensures.exact honest p mid near)
+    let full = subst (λ (b : ℕ). 8 * b < c.args.meta.now.pairs) c.buckets.ensures
+    c.if-meta-buckets.true in
+    subst (IsMidway (body_at g.S.PageStore c.split_bucket.new.store)
+    (model_meta c.split_bucket.new.meta) c.split_bucket.new.space)
+    (sym (full_is_split _ _ _ p mid counted full))
+    (c.in_ok-split_bucket.ensures.exact honest p mid near)
 
 -- there are few pairs
 pub returns-else-meta-buckets-clause-stages : goal.returns-else-meta-buckets-clause-stages
-returns-else-meta-buckets-clause-stages g c = (reads_none g.S.PageStore c.args.store.now (g.met.S.PageStore.only_now c.args.store.now)).stages_only
+returns-else-meta-buckets-clause-stages g c =
+    (reads_none g.S.PageStore c.args.store.now
+    (g.met.S.PageStore.only_now c.args.store.now)).stages_only
 
 pub returns-else-meta-buckets-clause-cause : goal.returns-else-meta-buckets-clause-cause
-returns-else-meta-buckets-clause-cause g c = cause_ok _ _ _ (reads_none g.S.PageStore c.args.store.now (g.met.S.PageStore.only_now c.args.store.now)).stages_only.later
+returns-else-meta-buckets-clause-cause g c =
+    cause_ok _ _ _ (reads_none g.S.PageStore c.args.store.now
+    (g.met.S.PageStore.only_now c.args.store.now)).stages_only.later
 
 pub returns-else-meta-buckets-clause-answer : goal.returns-else-meta-buckets-clause-answer
 returns-else-meta-buckets-clause-answer g c = no_refusal _ _
@@ -108,15 +129,19 @@ returns-else-meta-buckets-clause-room g c honest p mid near none = absurd cc
 
 pub returns-else-meta-buckets-clause-valid : goal.returns-else-meta-buckets-clause-valid
 returns-else-meta-buckets-clause-valid g c =
-    let few = subst (λ (b : ℕ). c.args.meta.now.pairs ≤ 8 * b) c.buckets.ensures c.if-meta-buckets.false in
+    let few = subst (λ (b : ℕ). c.args.meta.now.pairs ≤ 8 * b) c.buckets.ensures
+    c.if-meta-buckets.false in
     counted_valid (model_meta c.args.meta.now) c.requires.valid c.requires.few.0 few
 
 pub returns-else-meta-buckets-clause-shape : goal.returns-else-meta-buckets-clause-shape
 returns-else-meta-buckets-clause-shape g c =
-    let few = subst (λ (b : ℕ). c.args.meta.now.pairs ≤ 8 * b) c.buckets.ensures c.if-meta-buckets.false in
+    let few = subst (λ (b : ℕ). c.args.meta.now.pairs ≤ 8 * b) c.buckets.ensures
+    c.if-meta-buckets.false in
     same_shape c.args.meta.now.pairs (shape_in (model_meta c.args.meta.now)) few
 
 pub returns-else-meta-buckets-clause-exact : goal.returns-else-meta-buckets-clause-exact
 returns-else-meta-buckets-clause-exact g c honest p mid near counted =
-    let few = subst (λ (b : ℕ). c.args.meta.now.pairs ≤ 8 * b) c.buckets.ensures c.if-meta-buckets.false in
-    subst (IsMidway (body_at g.S.PageStore c.args.store.now) (model_meta c.args.meta.now) c.args.space.now) (sym (few_is_same _ _ _ p mid counted few)) mid
+    let few = subst (λ (b : ℕ). c.args.meta.now.pairs ≤ 8 * b) c.buckets.ensures
+    c.if-meta-buckets.false in
+    subst (IsMidway (body_at g.S.PageStore c.args.store.now) (model_meta c.args.meta.now)
+    c.args.space.now) (sym (few_is_same _ _ _ p mid counted few)) mid

@@ -34,32 +34,46 @@ returns-in_err-remove_key g c =
       grows = IfOk-from_err _ _ result.ensures.0;
       exact = λ honest p table was. IfOk-from_err _ _ result.ensures.0;
       whole = λ honest p table damaged.
-          let start = midway_same g.S.PageStore _ _ _ _ c.space_of-space.result p refl (c.space_of-space.ensures ∙ ap (space_in (model_meta c.args.meta.now)) c.end.ensures) (table_midway _ _ _ p table) in
+          let start = midway_same g.S.PageStore _ _ _ _ c.space_of-space.result p refl
+          (c.space_of-space.ensures ∙ ap (space_in (model_meta c.args.meta.now)) c.end.ensures)
+          (table_midway _ _ _ p table) in
           told.whole honest p start (came _ _ exit Damaged damaged);
     }
 
 -- the meta page is staged last
 pub returns-clause-stages : goal.returns-clause-stages
-returns-clause-stages g c = stages_then g.S.PageStore _ _ _ (g.met.S.PageStore.counts_now c.remove_key.new.store) c.in_ok-remove_key.ensures.stages c.stage_meta.ensures.stages
+returns-clause-stages g c = stages_then g.S.PageStore _ _ _
+    (g.met.S.PageStore.counts_now c.remove_key.new.store) c.in_ok-remove_key.ensures.stages
+    c.stage_meta.ensures.stages
 
 pub returns-clause-cause : goal.returns-clause-cause
-returns-clause-cause g c = cause_last _ _ _ _ c.in_ok-remove_key.ensures.cause.later c.stage_meta.ensures.cause
+returns-clause-cause g c = cause_last _ _ _ _ c.in_ok-remove_key.ensures.cause.later
+    c.stage_meta.ensures.cause
 
 pub returns-clause-answer : goal.returns-clause-answer
-returns-clause-answer g c = stage_answers _ _ _ _ _ (ap (λ (s : StoreState). s.usable) c.in_ok-remove_key.ensures.stages.state) c.stage_meta.ensures.answer
+returns-clause-answer g c = stage_answers _ _ _ _ _
+    (ap (λ (s : StoreState). s.usable) c.in_ok-remove_key.ensures.stages.state)
+    c.stage_meta.ensures.answer
 
 pub returns-clause-no_room : goal.returns-clause-no_room
 returns-clause-no_room g c none = last_has_room _ _ _ _ c.stage_meta.ensures.answer none
 
 pub returns-clause-whole : goal.returns-clause-whole
-returns-clause-whole g c honest p table damaged = last_not_damaged _ _ _ _ c.stage_meta.ensures.answer damaged
+returns-clause-whole g c honest p table damaged =
+    last_not_damaged _ _ _ _ c.stage_meta.ensures.answer damaged
 
 pub returns-clause-exact : goal.returns-clause-exact
 returns-clause-exact g c honest p table was =
-    let start = midway_same g.S.PageStore _ _ _ _ c.space_of-space.result p refl (c.space_of-space.ensures ∙ ap (space_in (model_meta c.args.meta.now)) c.end.ensures) (table_midway _ _ _ p table) in
+    let start = midway_same g.S.PageStore _ _ _ _ c.space_of-space.result p refl
+    (c.space_of-space.ensures ∙ ap (space_in (model_meta c.args.meta.now)) c.end.ensures)
+    (table_midway _ _ _ p table) in
     let q = delete p c.args.key.now in
     let pairs = c.args.meta.now.pairs - 1 in
     let mid = midway_pairs _ _ _ q pairs (c.in_ok-remove_key.ensures.exact honest p start) in
-    let counted = ap (λ (m : Meta). m.pairs - 1) table.meta_is ∙ sym (deleted_count p c.args.key.now table.good.sound was) in
+    let counted = ap (λ (m : Meta). m.pairs - 1) table.meta_is
+    ∙ sym (deleted_count p c.args.key.now table.good.sound was) in
     let h1 = c.in_ok-remove_key.ensures.stages.honesty.1 honest in
-    staged_ok c.stage_meta.result (λ page end last. staged_at_last _ _ _ q mid counted _ _ end c.stage_meta.ensures.meta last page (c.stage_meta.ensures.others h1)) (c.stage_meta.ensures.page h1) c.stage_meta.ensures.end
+    staged_ok c.stage_meta.result
+    (λ page end last. staged_at_last _ _ _ q mid counted _ _ end c.stage_meta.ensures.meta last
+    page (c.stage_meta.ensures.others h1)) (c.stage_meta.ensures.page h1)
+    c.stage_meta.ensures.end

@@ -5,5 +5,7 @@ use Rattle.page_io.proofs.mem_pages.lay.Given as goal
 abbrev pub invariant-loop-one : goal.invariant-loop-one
 invariant-loop-one l = record {
   size : length l.pages.items ≡ length l.fn.pages.items;
-  laid : (n : ℕ) → 1 ≤ n → n ≤ length l.fn.pages.items → page_of (bytes_of l.pages.items) n ≡ overlaid (bytes_of (take l.one-index l.staged)) (page_of (bytes_of l.fn.pages.items)) n;
+  laid : (n : ℕ) → 1 ≤ n → n ≤ length l.fn.pages.items
+      → page_of (bytes_of l.pages.items) n
+      ≡ overlaid (bytes_of (take l.one-index l.staged)) (page_of (bytes_of l.fn.pages.items)) n;
 }

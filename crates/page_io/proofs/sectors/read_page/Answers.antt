@@ -19,7 +19,8 @@ loop-k-init g c =
       seen = λ h. refl;
       candidates = λ h m x may. may;
       keeps = λ h m x may. may;
-      moments = λ h. started dev.moment dev.left_since first _ (λ image left. g.met.D.SectorDev.only_now first image h left);
+      moments = λ h. started dev.moment dev.left_since first _
+          (λ image left. g.met.D.SectorDev.only_now first image h left);
       read = λ h. refl;
     }
 
@@ -37,20 +38,29 @@ loop-k-preserved g c =
     let still = inv.honesty.1 in
     let content = c.read.new.out in
     let page = c.loop-k.page in
-    let fewer = λ (h : dev.honest first) (m : ℕ) (x : List ℕ) (may : dev.candidate after m x). inv.candidates h m x (c.read.ensures.candidates (still h) m x may) in
+    let fewer = λ (h : dev.honest first) (m : ℕ) (x : List ℕ) (may : dev.candidate after m x).
+    inv.candidates h m x (c.read.ensures.candidates (still h) m x may) in
     record {
       size = c.read.ensures.size ∙ inv.size;
       honesty = both_ways c.read.ensures.honesty inv.honesty;
-      faults = later_then (dev.faults first) (dev.faults before) (dev.faults after) inv.faults c.read.ensures.cause.later;
+      faults = later_then (dev.faults first) (dev.faults before) (dev.faults after) inv.faults
+          c.read.ensures.cause.later;
       seen = λ h. c.read.ensures.seen (still h) ∙ inv.seen h;
       candidates = fewer;
       keeps = λ h m x may. c.read.ensures.keeps (still h) m x (inv.keeps h m x may);
-      moments = λ h. goes_on dev.moment dev.left_since first before after (IsImageOf (dev.candidate first)) _ (inv.moments h) (c.read.ensures.time (still h)) (λ image is m. fewer h m (image m) (is m));
+      moments = λ h. goes_on dev.moment dev.left_since first before after
+          (IsImageOf (dev.candidate first)) _ (inv.moments h) (c.read.ensures.time (still h))
+          (λ image is m. fewer h m (image m) (is m));
       read = λ h.
-          let here : content ≡ dev.seen first (4 * n + k) = c.in_ok-read.ensures.read (still h) ∙ ap (λ (s : Image). s (4 * n + k)) (inv.seen h) in
+          let here : content ≡ dev.seen first (4 * n + k) =
+          c.in_ok-read.ensures.read (still h)
+          ∙ ap (λ (s : Image). s (4 * n + k)) (inv.seen h) in
           ap (take (512 * (k + 1))) c.set_sector.ensures.bytes
-          ∙ take_over page.bytes content (512 * k) (512 * (k + 1)) (place_fits page.bytes k page.whole c.loop-k-test.true) (part_ends content k c.set_sector.ensures.size)
-          ∙ ap (λ (xs : List ℕ). xs ++ content) (inv.read h) ∙ ap (λ (xs : List ℕ). joined (dev.seen first) (4 * n) k ++ xs) here
+          ∙ take_over page.bytes content (512 * k) (512 * (k + 1))
+          (place_fits page.bytes k page.whole c.loop-k-test.true)
+          (part_ends content k c.set_sector.ensures.size)
+          ∙ ap (λ (xs : List ℕ). xs ++ content) (inv.read h)
+          ∙ ap (λ (xs : List ℕ). joined (dev.seen first) (4 * n) k ++ xs) here
           ∙ sym (joined-more (dev.seen first) (4 * n) k);
     }
 
@@ -60,13 +70,17 @@ pub returns-in_err-read-clause-read : goal.returns-in_err-read-clause-read
 returns-in_err-read-clause-read g c h = IfOk-from_err _ _ c.from_residual.ensures.0
 
 pub returns-in_err-read-clause-seen : goal.returns-in_err-read-clause-seen
-returns-in_err-read-clause-seen g c h = c.read.ensures.seen (c.loop-k.invariant.honesty.1 h) ∙ c.loop-k.invariant.seen h
+returns-in_err-read-clause-seen g c h =
+    c.read.ensures.seen (c.loop-k.invariant.honesty.1 h) ∙ c.loop-k.invariant.seen h
 
 pub returns-in_err-read-clause-candidates : goal.returns-in_err-read-clause-candidates
-returns-in_err-read-clause-candidates g c h m x may = c.loop-k.invariant.candidates h m x (c.read.ensures.candidates (c.loop-k.invariant.honesty.1 h) m x may)
+returns-in_err-read-clause-candidates g c h m x may =
+    c.loop-k.invariant.candidates h m x
+    (c.read.ensures.candidates (c.loop-k.invariant.honesty.1 h) m x may)
 
 pub returns-in_err-read-clause-keeps : goal.returns-in_err-read-clause-keeps
-returns-in_err-read-clause-keeps g c h m x may = c.read.ensures.keeps (c.loop-k.invariant.honesty.1 h) m x (c.loop-k.invariant.keeps h m x may)
+returns-in_err-read-clause-keeps g c h m x may =
+    c.read.ensures.keeps (c.loop-k.invariant.honesty.1 h) m x (c.loop-k.invariant.keeps h m x may)
 
 pub returns-in_err-read-clause-any_moment : goal.returns-in_err-read-clause-any_moment
 returns-in_err-read-clause-any_moment g c h =
@@ -74,8 +88,10 @@ returns-in_err-read-clause-any_moment g c h =
     let first = c.args.dev.now in
     let inv = c.loop-k.invariant in
     let still = inv.honesty.1 h in
-    goes_on dev.moment dev.left_since first c.loop-k.dev c.read.new.self (IsImageOf (dev.candidate first)) _ (inv.moments h) (c.read.ensures.time still)
-    (λ image is m. inv.candidates h m (image m) (c.read.ensures.candidates still m (image m) (is m)))
+    goes_on dev.moment dev.left_since first c.loop-k.dev c.read.new.self
+    (IsImageOf (dev.candidate first)) _ (inv.moments h) (c.read.ensures.time still)
+    (λ image is m. inv.candidates h m (image m)
+    (c.read.ensures.candidates still m (image m) (is m)))
 
 pub returns-in_err-read-clause-honesty : goal.returns-in_err-read-clause-honesty
 returns-in_err-read-clause-honesty g c =
@@ -88,8 +104,11 @@ returns-in_err-read-clause-cause g c =
     let inv = c.loop-k.invariant in
     let cause = c.in_err-read.ensures.cause in
     record {
-      later = later_then (faults c.args.dev.now) (faults c.loop-k.dev) (faults c.read.new.self) inv.faults cause.later;
-      fault = at_error c.from_residual.result _ (more_later (faults c.args.dev.now) (faults c.loop-k.dev) (faults c.read.new.self) inv.faults cause.fault);
+      later = later_then (faults c.args.dev.now) (faults c.loop-k.dev) (faults c.read.new.self)
+          inv.faults cause.later;
+      fault = at_error c.from_residual.result _
+          (more_later (faults c.args.dev.now) (faults c.loop-k.dev) (faults c.read.new.self)
+          inv.faults cause.fault);
     }
 
 pub returns-in_err-read-clause-size : goal.returns-in_err-read-clause-size
@@ -103,7 +122,9 @@ returns-clause-read g c h =
     let first = c.args.dev.now in
     let page = c.loop-k.page in
     let last : c.loop-k.k ≡ 4 = all_parts c.loop-k.k c.loop-k.auto.k-end c.loop-k-test.false in
-    sym (take_all (512 * c.loop-k.k) page.bytes (whole_page page.bytes c.loop-k.k page.whole last)) ∙ c.loop-k.invariant.read h ∙ ap (joined (dev.seen first) (4 * c.args.n)) last ∙ page_at-joined (dev.seen first) c.args.n
+    sym (take_all (512 * c.loop-k.k) page.bytes (whole_page page.bytes c.loop-k.k page.whole last))
+    ∙ c.loop-k.invariant.read h ∙ ap (joined (dev.seen first) (4 * c.args.n)) last
+    ∙ page_at-joined (dev.seen first) c.args.n
 
 pub returns-clause-seen : goal.returns-clause-seen
 returns-clause-seen g c = c.loop-k.invariant.seen

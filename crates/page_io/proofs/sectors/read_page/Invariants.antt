@@ -14,6 +14,8 @@ invariant-loop-k g l =
       seen : dev.honest first → dev.seen l.dev ≡ dev.seen first;
       candidates : dev.honest first → NoNewCandidate (dev.candidate first) (dev.candidate l.dev);
       keeps : dev.honest first → NoNewCandidate (dev.candidate l.dev) (dev.candidate first);
-      moments : dev.honest first → LeavesOnly dev.moment dev.left_since first l.dev (IsImageOf (dev.candidate first));
-      read : dev.honest first → take (512 * l.k) l.page.bytes ≡ joined (dev.seen first) (4 * l.n) l.k;
+      moments : dev.honest first → LeavesOnly dev.moment dev.left_since first l.dev
+          (IsImageOf (dev.candidate first));
+      read : dev.honest first → take (512 * l.k) l.page.bytes
+          ≡ joined (dev.seen first) (4 * l.n) l.k;
     }

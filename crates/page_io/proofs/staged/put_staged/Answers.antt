@@ -14,13 +14,16 @@ returns-then-is_at-clause-ok c =
     let at = c.place_of-at.result in
     let page = c.args.page.now in
     let here = c.is_at.ensures.yes c.if-is_at.true in
-    subst (λ (ps : List Page). bytes_of (set ps at page) ≡ put_page (bytes_of ps) page.bytes) c.as_slice-pages.ensures.value
+    subst (λ (ps : List Page). bytes_of (set ps at page) ≡ put_page (bytes_of ps) page.bytes)
+    c.as_slice-pages.ensures.value
     (replaced_at c.as_slice-pages.result.now at page place.within place.before here.0 here.1)
 
 pub returns-then-is_at-clause-order : goal.returns-then-is_at-clause-order
 returns-then-is_at-clause-order c =
-    subst (λ (ps : Pages). are_in_order 1 4294967296 ps ≡ true) (sym (returns-then-is_at-clause-ok c))
-    (order_put 1 4294967296 (bytes_of c.args.staged.now.items) c.args.page.now.bytes c.requires.order c.requires.number.0 c.requires.number.1)
+    subst (λ (ps : Pages). are_in_order 1 4294967296 ps ≡ true)
+    (sym (returns-then-is_at-clause-ok c))
+    (order_put 1 4294967296 (bytes_of c.args.staged.now.items) c.args.page.now.bytes
+    c.requires.order c.requires.number.0 c.requires.number.1)
 
 pub returns-clause-ok : goal.returns-clause-ok
 returns-clause-ok c =
@@ -29,19 +32,25 @@ returns-clause-ok c =
     let page = c.args.page.now in
     let other : IsFalse c.is_at.result = cc in
     ap bytes_of c.in_ok-insert.ensures.items
-    ∙ subst (λ (ps : List Page). bytes_of (take at ps ++ page ∷ drop at ps) ≡ put_page (bytes_of ps) page.bytes) c.as_slice-pages.ensures.value
-    (inserted_at c.as_slice-pages.result.now at page place.within place.before place.after (c.is_at.ensures.no other))
+    ∙ subst (λ (ps : List Page). bytes_of (take at ps ++ page ∷ drop at ps)
+    ≡ put_page (bytes_of ps) page.bytes) c.as_slice-pages.ensures.value
+    (inserted_at c.as_slice-pages.result.now at page place.within place.before place.after
+    (c.is_at.ensures.no other))
 
 pub returns-clause-order : goal.returns-clause-order
 returns-clause-order c =
     subst (λ (ps : Pages). are_in_order 1 4294967296 ps ≡ true) (sym (returns-clause-ok c))
-    (order_put 1 4294967296 (bytes_of c.args.staged.now.items) c.args.page.now.bytes c.requires.order c.requires.number.0 c.requires.number.1)
+    (order_put 1 4294967296 (bytes_of c.args.staged.now.items) c.args.page.now.bytes
+    c.requires.order c.requires.number.0 c.requires.number.1)
 
 pub returns-in_err-insert-clause-grown : goal.returns-in_err-insert-clause-grown
 returns-in_err-insert-clause-grown c =
     let place = c.place_of-at.ensures in
     let page = c.args.page.now in
     let absent = λ (order : are_in_order 1 4294967296 (bytes_of c.as_slice-pages.result.now) ≡ true).
-    absent_at c.as_slice-pages.result.now c.place_of-at.result page place.within place.before place.after (c.is_at.ensures.no c.if-is_at.false) 1 4294967296 order in
+    absent_at c.as_slice-pages.result.now c.place_of-at.result page place.within place.before
+    place.after (c.is_at.ensures.no c.if-is_at.false) 1 4294967296 order in
     at_error c.from_residual.result _
-    (subst (λ (ps : List Page). are_in_order 1 4294967296 (bytes_of ps) ≡ true → has_page (bytes_of ps) (own_number page.bytes) ≡ false) c.as_slice-pages.ensures.value absent c.requires.order)
+    (subst (λ (ps : List Page). are_in_order 1 4294967296 (bytes_of ps) ≡ true
+    → has_page (bytes_of ps) (own_number page.bytes) ≡ false)
+    c.as_slice-pages.ensures.value absent c.requires.order)

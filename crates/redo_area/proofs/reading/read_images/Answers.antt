@@ -22,12 +22,14 @@ loop-i-init g c =
       small = omega arith;
       honesty = (λ h. h, λ h. h);
       faults = omega arith;
-      only_reads = λ h. none_yet g.D.SectorDev first (λ image left. g.met.D.SectorDev.only_now first image h left);
+      only_reads = λ h. none_yet g.D.SectorDev first
+          (λ image left. g.met.D.SectorDev.only_now first image h left);
       checked = λ h.
           let at = page_at (g.D.SectorDev.seen first) in
           let here : c.args.start ≡ c.args.start + 0 = omega arith in
           let all : c.args.count ≡ c.args.count - 0 = omega arith in
-          ap (λ (k : ℕ). are_in_order 1 c.args.end (pages_from at k c.args.count)) here ∙ ap (λ (k : ℕ). are_in_order 1 c.args.end (pages_from at (c.args.start + 0) k)) all;
+          ap (λ (k : ℕ). are_in_order 1 c.args.end (pages_from at k c.args.count)) here
+          ∙ ap (λ (k : ℕ). are_in_order 1 c.args.end (pages_from at (c.args.start + 0) k)) all;
       images = λ h. ap bytes_of none;
     }
 
@@ -129,10 +131,12 @@ returns g c =
       size = inv.size;
     }
 
-pushed : (ok : Bool) (now items : List Page) (page : Page) (old : Pages) (new : List ℕ) → now ≡ cond ok (items ++ page ∷ []) items → ok ≡ true → bytes_of items ≡ old → page.bytes ≡ new
+pushed : (ok : Bool) (now items : List Page) (page : Page) (old : Pages) (new : List ℕ)
+    → now ≡ cond ok (items ++ page ∷ []) items → ok ≡ true → bytes_of items ≡ old → page.bytes ≡ new
     → bytes_of now ≡ old ++ new ∷ []
 pushed ok now items page old new is taken before bytes =
-    ap bytes_of (is ∙ ap (λ (b : Bool). cond b (items ++ page ∷ []) items) taken) ∙ map-append (λ (p : Page). p.bytes) items (page ∷ [])
+    ap bytes_of (is ∙ ap (λ (b : Bool). cond b (items ++ page ∷ []) items) taken)
+    ∙ map-append (λ (p : Page). p.bytes) items (page ∷ [])
     ∙ ap (λ (ps : Pages). ps ++ page.bytes ∷ []) before ∙ ap (λ (b : List ℕ). old ++ b ∷ []) bytes
 
 pub loop-i-preserved : goal.loop-i-preserved
@@ -145,16 +149,24 @@ loop-i-preserved g c =
     let inv = c.loop-i.invariant in
     let page = c.read_page.ensures in
     let h1 = inv.honesty.1 in
-    let bytes = λ (h : dev.honest first). from_test c.read_page.result c.is_err.ensures.value c.if-is_err.false (page.read (h1 h)) ∙ ap (λ (s : Image). page_at s place) (inv.only_reads h).seen in
+    let bytes = λ (h : dev.honest first).
+    from_test c.read_page.result c.is_err.ensures.value c.if-is_err.false (page.read (h1 h))
+    ∙ ap (λ (s : Image). page_at s place) (inv.only_reads h).seen in
     record {
       size = page.size ∙ inv.size;
       small = omega arith;
       honesty = both_ways page.honesty inv.honesty;
       faults = omega (arith, page.cause.later, inv.faults);
-      only_reads = λ h. one_more dev first c.loop-i.dev c.read_page.new.dev (inv.only_reads h) (page.seen (h1 h)) (page.candidates (h1 h)) (page.keeps (h1 h)) (page.any_moment (h1 h));
-      checked = λ h. inv.checked h ∙ one_in_order at c.args.start c.args.count c.args.end c.loop-i.i c.loop-i.least c.from-own.result c.loop-i-test.true (c.from-own.ensures ∙ c.own.ensures.number ∙ ap own_number (bytes h)) (omega (arith, c.if-own-least.false))
+      only_reads = λ h. one_more dev first c.loop-i.dev c.read_page.new.dev (inv.only_reads h)
+          (page.seen (h1 h)) (page.candidates (h1 h)) (page.keeps (h1 h)) (page.any_moment (h1 h));
+      checked = λ h. inv.checked h ∙ one_in_order at c.args.start c.args.count c.args.end c.loop-i.i
+          c.loop-i.least c.from-own.result c.loop-i-test.true
+          (c.from-own.ensures ∙ c.own.ensures.number ∙ ap own_number (bytes h))
+          (omega (arith, c.if-own-least.false))
           (omega (arith, c.if-from-own.false, c.from.ensures));
       images = λ h.
-          pushed (is_ok c.push.result) c.push.new.self.items c.loop-i.images.items c.read_page.new.page (pages_from at c.args.start i) (at place) c.push.ensures.items c.if-is_err-2.ensures.negation (inv.images h) (bytes h)
+          pushed (is_ok c.push.result) c.push.new.self.items c.loop-i.images.items
+          c.read_page.new.page (pages_from at c.args.start i) (at place) c.push.ensures.items
+          c.if-is_err-2.ensures.negation (inv.images h) (bytes h)
           ∙ sym (pages_more at c.args.start i);
     }

@@ -15,6 +15,7 @@ invariant-loop-i g l =
       honesty : dev.honest l.dev ↔ dev.honest first;
       faults : dev.faults first ≤ dev.faults l.dev;
       only_reads : dev.honest first → OnlyReads dev first l.dev;
-      checked : dev.honest first → are_in_order 1 l.end (pages_from at l.start l.count) ≡ are_in_order l.least l.end (pages_from at (l.start + l.i) (l.count - l.i));
+      checked : dev.honest first → are_in_order 1 l.end (pages_from at l.start l.count)
+          ≡ are_in_order l.least l.end (pages_from at (l.start + l.i) (l.count - l.i));
       images : dev.honest first → bytes_of l.images.items ≡ pages_from at l.start l.i;
     }

@@ -102,11 +102,18 @@ loop-i-preserved g c =
       honesty = both_ways c.read_page.ensures.honesty inv.honesty;
       faults = omega (arith, c.read_page.ensures.cause.later, inv.faults);
       seen = λ h. c.read_page.ensures.seen (h1 h) ∙ inv.seen h;
-      candidates = λ h m x may. inv.candidates h m x (c.read_page.ensures.candidates (h1 h) m x may);
-      moments = λ h. followed_by dev.moment dev.left_since first before after (IsImageOf (dev.candidate first)) (IsImageOf (dev.candidate before)) (inv.moments h) (c.read_page.ensures.any_moment (h1 h))
+      candidates = λ h m x may. inv.candidates h m x
+          (c.read_page.ensures.candidates (h1 h) m x may);
+      moments = λ h. followed_by dev.moment dev.left_since first before after
+          (IsImageOf (dev.candidate first)) (IsImageOf (dev.candidate before)) (inv.moments h)
+          (c.read_page.ensures.any_moment (h1 h))
           (λ image is m. inv.candidates h m (image m) (is m));
       checked = λ h.
-          let bytes = c.in_ok-read_page.ensures.read (h1 h) ∙ ap (λ (s : Image). page_at s (c.args.start + c.loop-i.i)) (inv.seen h) in
-          inv.checked h ∙ one_in_order at c.args.start c.args.count c.args.end c.loop-i.i c.loop-i.least c.from-own.result c.loop-i-test.true (c.from-own.ensures ∙ c.own.ensures.number ∙ ap own_number bytes) (omega (arith, c.if-own-least.false))
+          let bytes = c.in_ok-read_page.ensures.read (h1 h)
+          ∙ ap (λ (s : Image). page_at s (c.args.start + c.loop-i.i)) (inv.seen h) in
+          inv.checked h ∙ one_in_order at c.args.start c.args.count c.args.end c.loop-i.i
+          c.loop-i.least c.from-own.result c.loop-i-test.true
+          (c.from-own.ensures ∙ c.own.ensures.number ∙ ap own_number bytes)
+          (omega (arith, c.if-own-least.false))
           (omega (arith, c.if-from-own.false, c.from.ensures));
     }

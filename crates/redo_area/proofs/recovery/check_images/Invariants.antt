@@ -16,6 +16,8 @@ invariant-loop-i g l =
       faults : dev.faults first ≤ dev.faults l.dev;
       seen : dev.honest first → dev.seen l.dev ≡ dev.seen first;
       candidates : dev.honest first → NoNewCandidate (dev.candidate first) (dev.candidate l.dev);
-      moments : dev.honest first → LeavesOnly dev.moment dev.left_since first l.dev (IsImageOf (dev.candidate first));
-      checked : dev.honest first → are_in_order 1 l.end (pages_from at l.start l.count) ≡ are_in_order l.least l.end (pages_from at (l.start + l.i) (l.count - l.i));
+      moments : dev.honest first → LeavesOnly dev.moment dev.left_since first l.dev
+          (IsImageOf (dev.candidate first));
+      checked : dev.honest first → are_in_order 1 l.end (pages_from at l.start l.count)
+          ≡ are_in_order l.least l.end (pages_from at (l.start + l.i) (l.count - l.i));
     }

@@ -11,5 +11,7 @@ invariant-loop-i g l =
     let first = l.fn.dev in
     record {
       keeps : Keeps dev (IsOutsideAll (redo_images (dev.seen first) l.start l.count)) first l.dev;
-      written : dev.honest first → (n : ℕ) → page_at (dev.seen l.dev) n ≡ overlaid (pages_from (page_at (dev.seen first)) l.start l.i) (page_at (dev.seen first)) n;
+      written : dev.honest first → (n : ℕ)
+          → page_at (dev.seen l.dev) n ≡ overlaid
+          (pages_from (page_at (dev.seen first)) l.start l.i) (page_at (dev.seen first)) n;
     }

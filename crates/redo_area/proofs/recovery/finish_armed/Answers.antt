@@ -13,23 +13,31 @@ use Rattle.redo_area.proofs.recovery.finish_armed.Goals as goal
 
 pub returns-in_err-sound-clause-any_moment : goal.returns-in_err-sound-clause-any_moment
 returns-in_err-sound-clause-any_moment g c honest =
-    check_leaves g.D.SectorDev c.args.dev.now c.check_images.new.dev (c.requires.stable honest) (c.check_images.ensures.any_moment honest)
+    check_leaves g.D.SectorDev c.args.dev.now c.check_images.new.dev (c.requires.stable honest)
+    (c.check_images.ensures.any_moment honest)
 
 pub returns-then-not-sound-clause-any_moment : goal.returns-then-not-sound-clause-any_moment
 returns-then-not-sound-clause-any_moment g c honest =
-    check_leaves g.D.SectorDev c.args.dev.now c.check_images.new.dev (c.requires.stable honest) (c.check_images.ensures.any_moment honest)
+    check_leaves g.D.SectorDev c.args.dev.now c.check_images.new.dev (c.requires.stable honest)
+    (c.check_images.ensures.any_moment honest)
 
 pub returns-in_err-good-clause-any_moment : goal.returns-in_err-good-clause-any_moment
 returns-in_err-good-clause-any_moment g c honest =
     let checked = c.check_images.ensures in
-    copy_leaves g.D.SectorDev c.args.dev.now c.check_images.new.dev (c.requires.stable honest) c.args.end c.args.start c.args.count (c.requires.header honest)
-    (sym (c.in_ok-sound.ensures.checked honest) ∙ c.if-not-sound.false) checked.size (checked.seen honest) c.replay.new.dev (checked.any_moment honest) (c.replay.ensures.any_moment (checked.honesty.1 honest))
+    copy_leaves g.D.SectorDev c.args.dev.now c.check_images.new.dev (c.requires.stable honest)
+    c.args.end c.args.start c.args.count (c.requires.header honest)
+    (sym (c.in_ok-sound.ensures.checked honest) ∙ c.if-not-sound.false) checked.size
+    (checked.seen honest) c.replay.new.dev (checked.any_moment honest)
+    (c.replay.ensures.any_moment (checked.honesty.1 honest))
 
 pub returns-clause-any_moment : goal.returns-clause-any_moment
 returns-clause-any_moment g c honest =
     let checked = c.check_images.ensures in
-    copy_leaves g.D.SectorDev c.args.dev.now c.check_images.new.dev (c.requires.stable honest) c.args.end c.args.start c.args.count (c.requires.header honest)
-    (sym (c.in_ok-sound.ensures.checked honest) ∙ c.if-not-sound.false) checked.size (checked.seen honest) c.replay.new.dev (checked.any_moment honest) (c.replay.ensures.any_moment (checked.honesty.1 honest))
+    copy_leaves g.D.SectorDev c.args.dev.now c.check_images.new.dev (c.requires.stable honest)
+    c.args.end c.args.start c.args.count (c.requires.header honest)
+    (sym (c.in_ok-sound.ensures.checked honest) ∙ c.if-not-sound.false) checked.size
+    (checked.seen honest) c.replay.new.dev (checked.any_moment honest)
+    (c.replay.ensures.any_moment (checked.honesty.1 honest))
 
 pub replay-requires-clause-armed : goal.replay-requires-clause-armed
 replay-requires-clause-armed g c still =
@@ -41,14 +49,20 @@ replay-requires-clause-armed g c still =
     let count = c.args.count in
     let end = c.args.end in
     let seen_same = c.check_images.ensures.seen honest in
-    let same_cap : dev.sectors mid / 4 ≡ dev.sectors first / 4 = ap (λ (s : ℕ). s / 4) c.check_images.ensures.size in
+    let same_cap : dev.sectors mid / 4 ≡ dev.sectors first / 4 =
+    ap (λ (s : ℕ). s / 4) c.check_images.ensures.size in
     let long = length-pages_from (page_at (dev.seen mid)) start count in
     let order = sym (c.in_ok-sound.ensures.checked honest) ∙ c.if-not-sound.false in
     record {
-      stable = λ m x may. c.requires.stable honest m x (c.check_images.ensures.candidates honest m x may) ∙ sym (ap (λ (s : Image). s m) seen_same);
-      header = ap (λ (s : Image). header_of (dev.sectors mid / 4) (s 0)) seen_same ∙ ap (λ (k : ℕ). header_of k (dev.seen first 0)) same_cap ∙ c.requires.header honest ∙ ap (Armed end start) (sym long);
+      stable = λ m x may. c.requires.stable honest m x
+          (c.check_images.ensures.candidates honest m x may)
+          ∙ sym (ap (λ (s : Image). s m) seen_same);
+      header = ap (λ (s : Image). header_of (dev.sectors mid / 4) (s 0)) seen_same
+          ∙ ap (λ (k : ℕ). header_of k (dev.seen first 0)) same_cap ∙ c.requires.header honest
+          ∙ ap (Armed end start) (sym long);
       images = ap (pages_from (page_at (dev.seen mid)) start) long;
-      in_order = ap (λ (s : Image). are_in_order 1 end (redo_images s start count)) seen_same ∙ order;
+      in_order = ap (λ (s : Image). are_in_order 1 end (redo_images s start count))
+          seen_same ∙ order;
     }
 
 pub returns-then-not-sound-clause-refused : goal.returns-then-not-sound-clause-refused
@@ -57,10 +71,14 @@ returns-then-not-sound-clause-refused g c honest is =
     let first = c.args.dev.now in
     let seen_same = c.check_images.ensures.seen honest in
     let order = sym (c.in_ok-sound.ensures.checked honest) ∙ c.if-not-sound.true in (
-      λ m x may. c.requires.stable honest m x (c.check_images.ensures.candidates honest m x may) ∙ sym (ap (λ (s : Image). s m) seen_same),
+      λ m x may. c.requires.stable honest m x (c.check_images.ensures.candidates honest m x may)
+          ∙ sym (ap (λ (s : Image). s m) seen_same),
       seen_same,
-      settled-disordered (dev.sectors first / 4) (dev.seen first) c.args.end c.args.start c.args.count (c.requires.header honest) order,
+      settled-disordered (dev.sectors first / 4) (dev.seen first) c.args.end c.args.start
+          c.args.count (c.requires.header honest) order,
     )
 
 pub returns-clause-refused : goal.returns-clause-refused
-returns-clause-refused g c honest is = absurd (false≢true (sym is ∙ c.in_ok-good.ensures.good (c.check_images.ensures.honesty.1 honest)))
+returns-clause-refused g c honest is =
+    absurd (false≢true (sym is ∙ c.in_ok-good.ensures.good
+    (c.check_images.ensures.honesty.1 honest)))

@@ -16,7 +16,8 @@ returns-in_err-sync g c =
     let result = c.from_residual in
     record {
       any_moment = λ h. sync_alone dev first mid
-          (λ image left. g.met.D.SectorDev.only_now first image h left) (synced.time h) (synced.candidates h);
+          (λ image left. g.met.D.SectorDev.only_now first image h left) (synced.time h)
+          (synced.candidates h);
       start = λ h m.
           let stays = g.met.D.SectorDev.seen_may_stay mid (synced.honesty.1 h) m in
           synced.candidates h m (dev.seen mid m) stays;
@@ -42,7 +43,8 @@ returns-in_err-read g c =
     let result = c.from_residual-in_err-read in
     let failed = c.in_err-read in
     record {
-      any_moment = λ h. sync_and_read dev first mid (only_now h) (synced.time h) (synced.candidates h)
+      any_moment = λ h. sync_and_read dev first mid (only_now h) (synced.time h)
+          (synced.candidates h)
           new (told.candidates (synced.honesty.1 h)) (told.time (synced.honesty.1 h));
       start = λ h. still_at_start dev first mid (only_now h) (synced.time h) (synced.candidates h)
           new (told.candidates (synced.honesty.1 h)) (stays (told.honesty.1 (synced.honesty.1 h)));
@@ -66,13 +68,15 @@ returns g c =
     g.met.D.SectorDev.only_now first image h left in
     let stays = g.met.D.SectorDev.seen_may_stay new in
     record {
-      any_moment = λ h. sync_and_read dev first mid (only_now h) (synced.time h) (synced.candidates h)
+      any_moment = λ h. sync_and_read dev first mid (only_now h) (synced.time h)
+          (synced.candidates h)
           new (told.candidates (synced.honesty.1 h)) (told.time (synced.honesty.1 h));
       start = λ h. still_at_start dev first mid (only_now h) (synced.time h) (synced.candidates h)
           new (told.candidates (synced.honesty.1 h)) (stays (told.honesty.1 (synced.honesty.1 h)));
       stable = λ h m x may.
           let h1 = synced.honesty.1 h in
-          c.in_ok-sync.ensures.stable h m x (told.candidates h1 m x may) ∙ sym (ap (λ (s : Image). s m) (told.seen h1));
+          c.in_ok-sync.ensures.stable h m x (told.candidates h1 m x may)
+          ∙ sym (ap (λ (s : Image). s m) (told.seen h1));
       read = λ h.
           let h1 = synced.honesty.1 h in
           c.in_ok-read.ensures.read h1 ∙ sym (ap (λ (s : Image). s 0) (told.seen h1));

@@ -3,31 +3,51 @@ use Rattle.redo_area.proofs.Recoveries.{as_before}
 use Rattle.redo_area.proofs.recovery.recover.Goals as goal
 
 pub returns-in-Err-clause-any_moment : goal.returns-in-Err-clause-any_moment
-returns-in-Err-clause-any_moment g c honest = as_before g.D.SectorDev c.args.dev.now c.look.new.dev (c.look.ensures.any_moment honest)
+returns-in-Err-clause-any_moment g c honest =
+    as_before g.D.SectorDev c.args.dev.now c.look.new.dev (c.look.ensures.any_moment honest)
 
 pub returns-in-Blank-clause-any_moment : goal.returns-in-Blank-clause-any_moment
-returns-in-Blank-clause-any_moment g c honest = as_before g.D.SectorDev c.args.dev.now c.look.new.dev (c.look.ensures.any_moment honest)
+returns-in-Blank-clause-any_moment g c honest =
+    as_before g.D.SectorDev c.args.dev.now c.look.new.dev (c.look.ensures.any_moment honest)
 
 pub returns-in-Clear-clause-any_moment : goal.returns-in-Clear-clause-any_moment
-returns-in-Clear-clause-any_moment g c honest = as_before g.D.SectorDev c.args.dev.now c.look.new.dev (c.look.ensures.any_moment honest)
+returns-in-Clear-clause-any_moment g c honest =
+    as_before g.D.SectorDev c.args.dev.now c.look.new.dev (c.look.ensures.any_moment honest)
 
 pub returns-in-NotOurs-clause-any_moment : goal.returns-in-NotOurs-clause-any_moment
-returns-in-NotOurs-clause-any_moment g c honest = as_before g.D.SectorDev c.args.dev.now c.look.new.dev (c.look.ensures.any_moment honest)
+returns-in-NotOurs-clause-any_moment g c honest =
+    as_before g.D.SectorDev c.args.dev.now c.look.new.dev (c.look.ensures.any_moment honest)
 
 pub returns-in-Damaged-clause-any_moment : goal.returns-in-Damaged-clause-any_moment
-returns-in-Damaged-clause-any_moment g c honest = as_before g.D.SectorDev c.args.dev.now c.look.new.dev (c.look.ensures.any_moment honest)
+returns-in-Damaged-clause-any_moment g c honest =
+    as_before g.D.SectorDev c.args.dev.now c.look.new.dev (c.look.ensures.any_moment honest)
 
 pub returns-in-Blank-clause-refused : goal.returns-in-Blank-clause-refused
 returns-in-Blank-clause-refused g c honest other =
-    let fault = refused-blank (g.D.SectorDev.seen c.look.new.dev) c.capacity-capacity.ensures (c.in-Ok.ensures.read honest) c.in-Blank.ensures.said in
-    record { stable = c.in-Ok.ensures.stable honest; at_start = c.look.ensures.start honest; fault = fault }
+    let fault = refused-blank (g.D.SectorDev.seen c.look.new.dev) c.capacity-capacity.ensures
+    (c.in-Ok.ensures.read honest) c.in-Blank.ensures.said in
+    record {
+      stable = c.in-Ok.ensures.stable honest;
+      at_start = c.look.ensures.start honest;
+      fault = fault;
+    }
 
 pub returns-in-NotOurs-clause-refused : goal.returns-in-NotOurs-clause-refused
 returns-in-NotOurs-clause-refused g c honest other =
-    let fault = refused-not_ours (g.D.SectorDev.seen c.look.new.dev) c.capacity-capacity.ensures (c.in-Ok.ensures.read honest) c.in-NotOurs.ensures.said c.in-NotOurs.ensures.ours in
-    record { stable = c.in-Ok.ensures.stable honest; at_start = c.look.ensures.start honest; fault = fault }
+    let fault = refused-not_ours (g.D.SectorDev.seen c.look.new.dev) c.capacity-capacity.ensures
+    (c.in-Ok.ensures.read honest) c.in-NotOurs.ensures.said c.in-NotOurs.ensures.ours in
+    record {
+      stable = c.in-Ok.ensures.stable honest;
+      at_start = c.look.ensures.start honest;
+      fault = fault;
+    }
 
 pub returns-in-Damaged-clause-refused : goal.returns-in-Damaged-clause-refused
 returns-in-Damaged-clause-refused g c honest other =
-    let fault = refused-damaged (g.D.SectorDev.seen c.look.new.dev) c.capacity-capacity.ensures (c.in-Ok.ensures.read honest) c.in-Damaged.ensures.said c.in-Damaged.ensures.ours in
-    record { stable = c.in-Ok.ensures.stable honest; at_start = c.look.ensures.start honest; fault = fault }
+    let fault = refused-damaged (g.D.SectorDev.seen c.look.new.dev) c.capacity-capacity.ensures
+    (c.in-Ok.ensures.read honest) c.in-Damaged.ensures.said c.in-Damaged.ensures.ours in
+    record {
+      stable = c.in-Ok.ensures.stable honest;
+      at_start = c.look.ensures.start honest;
+      fault = fault;
+    }

@@ -11,41 +11,58 @@ use Rattle.redo_area.proofs.recovery.replay.Goals as goal
 
 pub returns-in_err-good-clause-any_moment : goal.returns-in_err-good-clause-any_moment
 returns-in_err-good-clause-any_moment g c honest =
-    homes_leave g.D.SectorDev c.args.dev.now (c.requires.armed honest) c.requires.above c.copy_images.new.dev (c.copy_images.ensures.any_moment honest)
+    homes_leave g.D.SectorDev c.args.dev.now (c.requires.armed honest) c.requires.above
+    c.copy_images.new.dev (c.copy_images.ensures.any_moment honest)
 
 pub returns-then-not-good-clause-any_moment : goal.returns-then-not-good-clause-any_moment
 returns-then-not-good-clause-any_moment g c honest =
-    homes_leave g.D.SectorDev c.args.dev.now (c.requires.armed honest) c.requires.above c.copy_images.new.dev (c.copy_images.ensures.any_moment honest)
+    homes_leave g.D.SectorDev c.args.dev.now (c.requires.armed honest) c.requires.above
+    c.copy_images.new.dev (c.copy_images.ensures.any_moment honest)
 
 pub returns-in_err-sync-clause-any_moment : goal.returns-in_err-sync-clause-any_moment
 returns-in_err-sync-clause-any_moment g c honest =
     let copied = c.copy_images.ensures in
     let h1 = copied.honesty.1 honest in
-    sync_leaves g.D.SectorDev c.args.dev.now c.copy_images.new.dev c.sync.new.self (c.requires.armed honest) c.requires.above (copied.any_moment honest) (copied.candidates honest)
+    sync_leaves g.D.SectorDev c.args.dev.now c.copy_images.new.dev c.sync.new.self
+    (c.requires.armed honest) c.requires.above (copied.any_moment honest)
+    (copied.candidates honest)
     (c.sync.ensures.time h1) (c.sync.ensures.candidates h1)
 
 pub returns-in_err-put_header-clause-any_moment : goal.returns-in_err-put_header-clause-any_moment
 returns-in_err-put_header-clause-any_moment g c honest =
     let h1 = c.copy_images.ensures.honesty.1 honest in
-    replay_leaves g.D.SectorDev c.args.dev.now c.copy_images.new.dev c.sync.new.self (c.requires.armed honest) c.requires.above (c.copy_images.ensures.any_moment honest)
-    (c.copy_images.ensures.candidates honest) (c.sync.ensures.time h1) (c.sync.ensures.candidates h1) c.put_header.new.dev c.clear_sector.result (c.in_ok-sync.ensures.seen h1) (c.in_ok-sync.ensures.stable h1)
-    (c.in_ok-good.ensures.others honest) (c.in_ok-good.ensures.written honest) (g.met.D.SectorDev.fits c.args.dev.now) c.requires.least (omega (arith, c.requires.above, c.requires.room))
+    replay_leaves g.D.SectorDev c.args.dev.now c.copy_images.new.dev c.sync.new.self
+    (c.requires.armed honest) c.requires.above (c.copy_images.ensures.any_moment honest)
+    (c.copy_images.ensures.candidates honest) (c.sync.ensures.time h1)
+    (c.sync.ensures.candidates h1) c.put_header.new.dev c.clear_sector.result
+    (c.in_ok-sync.ensures.seen h1) (c.in_ok-sync.ensures.stable h1)
+    (c.in_ok-good.ensures.others honest) (c.in_ok-good.ensures.written honest)
+    (g.met.D.SectorDev.fits c.args.dev.now) c.requires.least
+    (omega (arith, c.requires.above, c.requires.room))
     c.clear_sector.ensures (c.put_header.ensures.any_moment (c.sync.ensures.honesty.1 h1))
 
 pub returns-clause-any_moment : goal.returns-clause-any_moment
 returns-clause-any_moment g c honest =
     let h1 = c.copy_images.ensures.honesty.1 honest in
-    replay_leaves g.D.SectorDev c.args.dev.now c.copy_images.new.dev c.sync.new.self (c.requires.armed honest) c.requires.above (c.copy_images.ensures.any_moment honest)
-    (c.copy_images.ensures.candidates honest) (c.sync.ensures.time h1) (c.sync.ensures.candidates h1) c.put_header.new.dev c.clear_sector.result (c.in_ok-sync.ensures.seen h1) (c.in_ok-sync.ensures.stable h1)
-    (c.in_ok-good.ensures.others honest) (c.in_ok-good.ensures.written honest) (g.met.D.SectorDev.fits c.args.dev.now) c.requires.least (omega (arith, c.requires.above, c.requires.room))
+    replay_leaves g.D.SectorDev c.args.dev.now c.copy_images.new.dev c.sync.new.self
+    (c.requires.armed honest) c.requires.above (c.copy_images.ensures.any_moment honest)
+    (c.copy_images.ensures.candidates honest) (c.sync.ensures.time h1)
+    (c.sync.ensures.candidates h1) c.put_header.new.dev c.clear_sector.result
+    (c.in_ok-sync.ensures.seen h1) (c.in_ok-sync.ensures.stable h1)
+    (c.in_ok-good.ensures.others honest) (c.in_ok-good.ensures.written honest)
+    (g.met.D.SectorDev.fits c.args.dev.now) c.requires.least
+    (omega (arith, c.requires.above, c.requires.room))
     c.clear_sector.ensures (c.put_header.ensures.any_moment (c.sync.ensures.honesty.1 h1))
 
 pub returns-clause-rest : goal.returns-clause-rest
 returns-clause-rest g c honest =
     let dev = g.D.SectorDev in
     let h2 = c.sync.ensures.honesty.1 (c.copy_images.ensures.honesty.1 honest) in
-    let header = says_clear (dev.sectors c.args.dev.now) c.args.end c.clear_sector.result (g.met.D.SectorDev.fits c.args.dev.now) c.requires.least (omega (arith, c.requires.above, c.requires.room)) c.clear_sector.ensures in
-    rest_after (dev.sectors c.args.dev.now / 4) (dev.candidate c.put_header.new.dev) (dev.seen c.sync.new.self) (dev.seen c.put_header.new.dev) c.clear_sector.result c.args.end
+    let header = says_clear (dev.sectors c.args.dev.now) c.args.end c.clear_sector.result
+    (g.met.D.SectorDev.fits c.args.dev.now) c.requires.least
+    (omega (arith, c.requires.above, c.requires.room)) c.clear_sector.ensures in
+    rest_after (dev.sectors c.args.dev.now / 4) (dev.candidate c.put_header.new.dev)
+    (dev.seen c.sync.new.self) (dev.seen c.put_header.new.dev) c.clear_sector.result c.args.end
     (c.in_ok-put_header.ensures.stable h2) (c.in_ok-put_header.ensures.seen h2) header
 
 pub returns-clause-pages : goal.returns-clause-pages
@@ -53,6 +70,9 @@ returns-clause-pages g c honest =
     let dev = g.D.SectorDev in
     let first = dev.seen c.args.dev.now in
     let h1 = c.copy_images.ensures.honesty.1 honest in
-    ap (λ (s : Image). file_pages (page_at s) c.args.end) (c.in_ok-put_header.ensures.seen (c.sync.ensures.honesty.1 h1))
-    ∙ now_clear (dev.sectors c.args.dev.now / 4) first (dev.seen c.sync.new.self) c.clear_sector.result c.args.end (redo_images first c.args.start c.args.count)
-    (λ n. ap (λ (s : Image). page_at s n) (c.in_ok-sync.ensures.seen h1) ∙ c.in_ok-good.ensures.written honest n)
+    ap (λ (s : Image). file_pages (page_at s) c.args.end)
+    (c.in_ok-put_header.ensures.seen (c.sync.ensures.honesty.1 h1))
+    ∙ now_clear (dev.sectors c.args.dev.now / 4) first (dev.seen c.sync.new.self)
+    c.clear_sector.result c.args.end (redo_images first c.args.start c.args.count)
+    (λ n. ap (λ (s : Image). page_at s n) (c.in_ok-sync.ensures.seen h1)
+    ∙ c.in_ok-good.ensures.written honest n)

@@ -14,5 +14,6 @@ returns c =
     c.put_u32-4.ensures
     ∙ ap (λ (x : List ℕ). overwrite x 20 n) (c.put_u32-3.ensures
     ∙ ap (λ (x : List ℕ). overwrite x 16 a) (c.put_u32-2.ensures
-    ∙ ap (λ (x : List ℕ). overwrite x 12 e) (c.put_u32.ensures ∙ ap (λ (x : List ℕ). overwrite x 8 s) c.put_magic.ensures)))
+    ∙ ap (λ (x : List ℕ). overwrite x 12 e)
+    (c.put_u32.ensures ∙ ap (λ (x : List ℕ). overwrite x 8 s) c.put_magic.ensures)))
     ∙ five_fields (replicate 512 0) magic s e a n (replicate 488 0) refl refl refl refl refl refl

@@ -14,5 +14,7 @@ returns-clause-any_moment g c honest =
     (λ image left m. inl (g.met.D.SectorDev.only_now old image honest left m))
     (c.write.ensures.time honest)
     (λ image. fewer_images may _ image (c.write.ensures.candidates honest)) in
-    goes_on dev.moment dev.left_since old mid c.sync.new.self (IsImageOf may) _ written (c.sync.ensures.time still)
-    (λ image is. fewer_images may _ image (c.write.ensures.candidates honest) (fewer_images _ _ image (c.sync.ensures.candidates still) is))
+    goes_on dev.moment dev.left_since old mid c.sync.new.self (IsImageOf may) _ written
+    (c.sync.ensures.time still)
+    (λ image is. fewer_images may _ image (c.write.ensures.candidates honest)
+    (fewer_images _ _ image (c.sync.ensures.candidates still) is))

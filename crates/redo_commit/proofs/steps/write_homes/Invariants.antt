@@ -11,5 +11,7 @@ invariant-loop-page g l =
     let first = l.fn.dev in
     record {
       keeps : Keeps dev (IsOutsideAll (bytes_of l.pages)) first l.dev;
-      written : dev.honest first → (n : ℕ) → page_at (dev.seen l.dev) n ≡ overlaid (bytes_of (take l.page-index l.pages)) (page_at (dev.seen first)) n;
+      written : dev.honest first → (n : ℕ)
+          → page_at (dev.seen l.dev) n ≡ overlaid (bytes_of (take l.page-index l.pages))
+          (page_at (dev.seen first)) n;
     }

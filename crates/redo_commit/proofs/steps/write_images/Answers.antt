@@ -10,19 +10,43 @@ use Rattle.redo_commit.proofs.steps.write_images.Goals as goal
 pub loop-page-init : goal.loop-page-init
 loop-page-init g c =
     let first = c.args.dev.now in
-    record { place = omega arith; keeps = none_written g.D.SectorDev (λ m. m < 4 * c.args.start) first (g.met.D.SectorDev.only_now first); written = λ h. refl }
+    record {
+      place = omega arith;
+      keeps =
+          none_written g.D.SectorDev (λ m. m < 4 * c.args.start) first
+          (g.met.D.SectorDev.only_now first);
+      written = λ h. refl;
+    }
 
 pub returns-in_err-write_page-clause-any_moment : goal.returns-in_err-write_page-clause-any_moment
 returns-in_err-write_page-clause-any_moment g c =
     let w = c.write_page.ensures in
-    (keeps_on g.D.SectorDev (λ m. m < 4 * c.args.start) (IsOutsidePage c.loop-page.n) c.args.dev.now c.loop-page.dev c.write_page.new.dev c.loop-page.invariant.keeps
-    (record { size = w.size; honesty = w.honesty; faults = w.cause.later; any_moment = w.any_moment; candidates = w.candidates; others = w.others }) (λ h m lt. inl (omega (arith, lt, c.loop-page.invariant.place)))).any_moment
+    (keeps_on g.D.SectorDev (λ m. m < 4 * c.args.start) (IsOutsidePage c.loop-page.n) c.args.dev.now
+    c.loop-page.dev c.write_page.new.dev c.loop-page.invariant.keeps
+    (record {
+      size = w.size;
+      honesty = w.honesty;
+      faults = w.cause.later;
+      any_moment = w.any_moment;
+      candidates = w.candidates;
+      others = w.others;
+    })
+    (λ h m lt. inl (omega (arith, lt, c.loop-page.invariant.place)))).any_moment
 
 pub returns-in_err-write_page-clause-candidates : goal.returns-in_err-write_page-clause-candidates
 returns-in_err-write_page-clause-candidates g c =
     let w = c.write_page.ensures in
-    (keeps_on g.D.SectorDev (λ m. m < 4 * c.args.start) (IsOutsidePage c.loop-page.n) c.args.dev.now c.loop-page.dev c.write_page.new.dev c.loop-page.invariant.keeps
-    (record { size = w.size; honesty = w.honesty; faults = w.cause.later; any_moment = w.any_moment; candidates = w.candidates; others = w.others }) (λ h m lt. inl (omega (arith, lt, c.loop-page.invariant.place)))).candidates
+    (keeps_on g.D.SectorDev (λ m. m < 4 * c.args.start) (IsOutsidePage c.loop-page.n) c.args.dev.now
+    c.loop-page.dev c.write_page.new.dev c.loop-page.invariant.keeps
+    (record {
+      size = w.size;
+      honesty = w.honesty;
+      faults = w.cause.later;
+      any_moment = w.any_moment;
+      candidates = w.candidates;
+      others = w.others;
+    })
+    (λ h m lt. inl (omega (arith, lt, c.loop-page.invariant.place)))).candidates
 
 pub loop-page-preserved : goal.loop-page-preserved
 loop-page-preserved g c =
@@ -35,15 +59,29 @@ loop-page-preserved g c =
     let w = c.write_page.ensures in
     record {
       place = omega arith;
-      keeps = keeps_on g.D.SectorDev (λ m. m < 4 * c.args.start) (IsOutsidePage c.loop-page.n) c.args.dev.now c.loop-page.dev c.write_page.new.dev c.loop-page.invariant.keeps
-          (record { size = w.size; honesty = w.honesty; faults = w.cause.later; any_moment = w.any_moment; candidates = w.candidates; others = w.others }) (λ h m lt. inl (omega (arith, lt, c.loop-page.invariant.place)));
+      keeps = keeps_on g.D.SectorDev (λ m. m < 4 * c.args.start) (IsOutsidePage c.loop-page.n)
+          c.args.dev.now c.loop-page.dev c.write_page.new.dev c.loop-page.invariant.keeps
+          (record {
+            size = w.size;
+            honesty = w.honesty;
+            faults = w.cause.later;
+            any_moment =
+                w.any_moment;
+            candidates = w.candidates;
+            others = w.others;
+          })
+          (λ h m lt. inl (omega (arith, lt, c.loop-page.invariant.place)));
       written = λ h.
           let now = page_at after in
           let h1 = inv.keeps.honesty.1 h in
-          let here : now (start + idx) ≡ c.page-item.result.bytes = ap now (sym inv.place) ∙ c.in_ok-write_page.ensures.written h1 in
+          let here : now (start + idx) ≡ c.page-item.result.bytes =
+          ap now (sym inv.place) ∙ c.in_ok-write_page.ensures.written h1 in
           pages_more now start idx
           ∙ ap (λ (ps : Pages). ps ++ now (start + idx) ∷ [])
-          (same_pages now (page_at before) start idx (λ k ge lt. same_page after before k (λ m ge4 lt4. w.others h1 m (inl (omega (arith, lt, lt4, inv.place))))) ∙ inv.written h)
+          (same_pages now (page_at before) start idx
+          (λ k ge lt. same_page after before k
+          (λ m ge4 lt4. w.others h1 m (inl (omega (arith, lt, lt4, inv.place)))))
+          ∙ inv.written h)
           ∙ ap (λ (x : List ℕ). bytes_of (take idx pages) ++ x ∷ []) here
           ∙ sym (bytes_more pages idx c.page-item.result c.loop-page-test.true c.page-item.is);
     }

@@ -11,5 +11,6 @@ invariant-loop-page g l =
     record {
       place : l.n ≡ l.start + l.page-index;
       keeps : Keeps dev (λ m. m < 4 * l.start) first l.dev;
-      written : dev.honest first → pages_from (page_at (dev.seen l.dev)) l.start l.page-index ≡ bytes_of (take l.page-index l.pages);
+      written : dev.honest first → pages_from (page_at (dev.seen l.dev)) l.start l.page-index
+          ≡ bytes_of (take l.page-index l.pages);
     }

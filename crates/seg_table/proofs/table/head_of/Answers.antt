@@ -21,7 +21,8 @@ returns-in_err-read_segment g c =
       answer = head_heads _ _ refl _ _ exit told.answer;
       entry = λ honest. IfOk-from_err _ _ result.ensures.0;
       exact = λ honest heads are lt. IfOk-from_err _ _ result.ensures.0;
-      whole = λ honest heads are damaged. told.whole honest heads are (came _ _ exit Damaged damaged);
+      whole = λ honest heads are damaged.
+          told.whole honest heads are (came _ _ exit Damaged damaged);
     }
 
 -- the head stands in it
@@ -43,8 +44,10 @@ returns-clause-entry g c honest =
     let n = get_or c.args.meta.now.segments.items (c.args.bucket / 508) 0 in
     record {
       heads = heads_on bytes;
-      segment = ap (body_of n) (sym (c.in_ok-read_segment.ensures.found honest)) ∙ heads_said bytes n c.in_ok-read_segment.ensures.segment;
-      entry = c.u32_at.ensures ∙ entry_is bytes (c.args.bucket % 508) c.read_segment.new.page.whole (omega arith);
+      segment = ap (body_of n) (sym (c.in_ok-read_segment.ensures.found honest))
+          ∙ heads_said bytes n c.in_ok-read_segment.ensures.segment;
+      entry = c.u32_at.ensures ∙ entry_is bytes (c.args.bucket % 508)
+          c.read_segment.new.page.whole (omega arith);
     }
 
 pub returns-clause-exact : goal.returns-clause-exact
@@ -52,6 +55,10 @@ returns-clause-exact g c honest heads are lt =
     let bytes = c.read_segment.new.page.bytes in
     let s = c.args.bucket / 508 in
     let n = get_or c.args.meta.now.segments.items s 0 in
-    let page = ap (body_of n) (c.in_ok-read_segment.ensures.found honest) ∙ part_read (body_at g.S.PageStore c.args.store.now) c.args.meta.now.segments.items heads s are.are_read c.requires in
-    c.u32_at.ensures ∙ entry_is bytes (c.args.bucket % 508) c.read_segment.new.page.whole (omega arith)
-    ∙ ap (λ (xs : List ℕ). get_or xs (c.args.bucket % 508) 0) (sym (heads_of_said bytes n (part heads s) page)) ∙ get_or-part heads c.args.bucket
+    let page = ap (body_of n) (c.in_ok-read_segment.ensures.found honest)
+    ∙ part_read (body_at g.S.PageStore c.args.store.now) c.args.meta.now.segments.items heads s
+    are.are_read c.requires in
+    c.u32_at.ensures ∙ entry_is bytes (c.args.bucket % 508)
+    c.read_segment.new.page.whole (omega arith)
+    ∙ ap (λ (xs : List ℕ). get_or xs (c.args.bucket % 508) 0)
+    (sym (heads_of_said bytes n (part heads s) page)) ∙ get_or-part heads c.args.bucket

@@ -20,7 +20,8 @@ returns-in_err-read g c =
     let told = c.in_err-read.ensures in
     let result = c.from_residual in
     let exit = exit_is result.result c.in_err-read.field-0.0 result.ensures.1 in
-    let reads = after_read g.S.PageStore _ _ (g.met.S.PageStore.counts_now c.read.new.self) told.state told.honesty told.cause.later told.kept in
+    let reads = after_read g.S.PageStore _ _ (g.met.S.PageStore.counts_now c.read.new.self)
+    told.state told.honesty told.cause.later told.kept in
     record {
       reads = reads;
       cause = cause_first _ _ exit _ _ told.cause;
@@ -31,15 +32,25 @@ returns-in_err-read g c =
       whole = λ honest heads are damaged.
           let old = c.args.store.now in
           let ns = c.args.meta.now.segments.items in
-          let own : get_or c.deref.result.now c.args.s 0 ≡ get_or ns c.args.s 0 = ap (λ (xs : List ℕ). get_or xs c.args.s 0) c.deref.ensures.0 in
-          let unknown = subst (λ (n : ℕ). IsKnown (g.S.PageStore.state old) n → ⊥) own (c.in_err-read.ensures.answer.damaged.0 (came _ _ exit Damaged damaged)).1 in
-          let other = unknown_said g.S.PageStore old (get_or ns c.args.s 0) (g.met.S.PageStore.ends old) (are.used c.args.s 0 c.requires).0 unknown in
-          absurd (cc (other, part_read (body_at g.S.PageStore old) ns heads c.args.s are.are_read c.requires));
+          let own : get_or c.deref.result.now c.args.s 0 ≡ get_or ns c.args.s 0 =
+          ap (λ (xs : List ℕ). get_or xs c.args.s 0) c.deref.ensures.0 in
+          let unknown = subst (λ (n : ℕ). IsKnown (g.S.PageStore.state old) n → ⊥) own
+          (c.in_err-read.ensures.answer.damaged.0 (came _ _ exit Damaged damaged)).1 in
+          let other = unknown_said g.S.PageStore old (get_or ns c.args.s 0)
+          (g.met.S.PageStore.ends old) (are.used c.args.s 0 c.requires).0 unknown in
+          absurd (cc (
+            other,
+            part_read (body_at g.S.PageStore old) ns heads c.args.s
+                are.are_read c.requires,
+          ));
     }
 
 -- the page is a segment
 pub returns-then-segment_ok-clause-reads : goal.returns-then-segment_ok-clause-reads
-returns-then-segment_ok-clause-reads g c = after_read g.S.PageStore _ _ (g.met.S.PageStore.counts_now c.read.new.self) c.in_ok-read.ensures.state c.in_ok-read.ensures.honesty c.in_ok-read.ensures.cause.later c.in_ok-read.ensures.kept
+returns-then-segment_ok-clause-reads g c =
+    after_read g.S.PageStore _ _ (g.met.S.PageStore.counts_now c.read.new.self)
+    c.in_ok-read.ensures.state c.in_ok-read.ensures.honesty c.in_ok-read.ensures.cause.later
+    c.in_ok-read.ensures.kept
 
 pub returns-then-segment_ok-clause-cause : goal.returns-then-segment_ok-clause-cause
 returns-then-segment_ok-clause-cause g c = cause_ok _ _ _ c.in_ok-read.ensures.cause.later
@@ -52,13 +63,20 @@ returns-then-segment_ok-clause-whole g c honest heads are damaged = cc
 
 pub returns-then-segment_ok-clause-segment : goal.returns-then-segment_ok-clause-segment
 returns-then-segment_ok-clause-segment g c =
-    let own : get_or c.deref.result.now c.args.s 0 ≡ get_or c.args.meta.now.segments.items c.args.s 0 = ap (λ (xs : List ℕ). get_or xs c.args.s 0) c.deref.ensures.0 in
+    let own : get_or c.deref.result.now c.args.s 0
+    ≡ get_or c.args.meta.now.segments.items c.args.s 0 =
+    ap (λ (xs : List ℕ). get_or xs c.args.s 0) c.deref.ensures.0 in
     let small : IsNumber (get_or c.deref.result.now c.args.s 0) = search rules in
-    heads_spelled c.read.new.page.bytes (get_or c.args.meta.now.segments.items c.args.s 0) (heads_in (model_meta c.args.meta.now) c.args.s) (subst IsNumber own small) (omega arith) (c.segment_ok.ensures.0 (cc))
+    heads_spelled c.read.new.page.bytes (get_or c.args.meta.now.segments.items c.args.s 0)
+    (heads_in (model_meta c.args.meta.now) c.args.s) (subst IsNumber own small) (omega arith)
+    (c.segment_ok.ensures.0 (cc))
 
 -- it is none
 pub returns-else-segment_ok-clause-reads : goal.returns-else-segment_ok-clause-reads
-returns-else-segment_ok-clause-reads g c = after_read g.S.PageStore _ _ (g.met.S.PageStore.counts_now c.read.new.self) c.in_ok-read.ensures.state c.in_ok-read.ensures.honesty c.in_ok-read.ensures.cause.later c.in_ok-read.ensures.kept
+returns-else-segment_ok-clause-reads g c =
+    after_read g.S.PageStore _ _ (g.met.S.PageStore.counts_now c.read.new.self)
+    c.in_ok-read.ensures.state c.in_ok-read.ensures.honesty c.in_ok-read.ensures.cause.later
+    c.in_ok-read.ensures.kept
 
 pub returns-else-segment_ok-clause-cause : goal.returns-else-segment_ok-clause-cause
 returns-else-segment_ok-clause-cause g c = cause_damaged _ _ c.in_ok-read.ensures.cause.later
@@ -80,10 +98,16 @@ returns-else-segment_ok-clause-whole g c honest heads are damaged =
     let old = c.args.store.now in
     let ns = c.args.meta.now.segments.items in
     let n = get_or ns c.args.s 0 in
-    let own : get_or c.deref.result.now c.args.s 0 ≡ n = ap (λ (xs : List ℕ). get_or xs c.args.s 0) c.deref.ensures.0 in
+    let own : get_or c.deref.result.now c.args.s 0 ≡ n =
+    ap (λ (xs : List ℕ). get_or xs c.args.s 0) c.deref.ensures.0 in
     let bytes = c.read.new.page.bytes in
     let found = c.in_ok-read.ensures.found honest in
-    let says_part = part_read (body_at g.S.PageStore old) ns heads c.args.s are.are_read c.requires in
-    let count : length (part heads c.args.s) ≡ heads_in (model_meta c.args.meta.now) c.args.s = omega (arith, length-part heads c.args.s, are.many) in
-    let yes = c.segment_ok.ensures.1 (said_segment bytes n (heads_in (model_meta c.args.meta.now) c.args.s) (part heads c.args.s) c.read.new.page.whole count (ap (body_of n) (found ∙ ap (visible_page g.S.PageStore old) own) ∙ says_part)) in
+    let says_part = part_read (body_at g.S.PageStore old) ns heads c.args.s
+    are.are_read c.requires in
+    let count : length (part heads c.args.s) ≡ heads_in (model_meta c.args.meta.now) c.args.s =
+    omega (arith, length-part heads c.args.s, are.many) in
+    let yes = c.segment_ok.ensures.1
+    (said_segment bytes n (heads_in (model_meta c.args.meta.now) c.args.s) (part heads c.args.s)
+    c.read.new.page.whole count (ap (body_of n)
+    (found ∙ ap (visible_page g.S.PageStore old) own) ∙ says_part)) in
     absurd (cc)

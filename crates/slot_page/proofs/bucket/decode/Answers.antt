@@ -16,22 +16,37 @@ use Rattle.slot_page.proofs.bucket.decode.Goals as goal
 
 pub returns-clause-exact : goal.returns-clause-exact
 returns-clause-exact c =
-    let bytes = c.args.page.now.bytes in
-    (λ some. is_page bytes (omega arith) c.are_bytes.ensures (c.read_slots.ensures.variant.0 some), λ h. c.read_slots.ensures.variant.1 (laid_out bytes h))
+    let bytes = c.args.page.now.bytes in (
+      λ some. is_page bytes (omega arith) c.are_bytes.ensures (c.read_slots.ensures.variant.0 some),
+      λ h. c.read_slots.ensures.variant.1 (laid_out bytes h),
+    )
 
 pub returns-clause-every : goal.returns-clause-every
-returns-clause-every c = λ b is e. (c.read_slots.ensures.variant.1 (laid_out_if_spelled c.args.page.now.bytes b is e), bucket_again c.args.page.now.bytes b is e)
+returns-clause-every c = λ b is e. (
+  c.read_slots.ensures.variant.1 (laid_out_if_spelled c.args.page.now.bytes b is e),
+  bucket_again c.args.page.now.bytes b is e,
+)
 
-tables : (bytes : List ℕ) (r : Option (ArrayVec Slot)) → length bytes ≡ 2048 → (IsSome r → IsLaidOut bytes) → IfSome r (λ s. s.items ≡ first_slots bytes (slot_count bytes)) → IfSome r (λ s. map as_spelled s.items ≡ slots_ending 2048 (page_pairs bytes))
-tables bytes (Some s) len laid e = ap (map as_spelled) e ∙ first_are bytes (slot_count bytes) ∙ sym (table_of bytes len (laid refl))
+tables : (bytes : List ℕ) (r : Option (ArrayVec Slot)) → length bytes ≡ 2048
+    → (IsSome r → IsLaidOut bytes) → IfSome r (λ s. s.items ≡ first_slots bytes (slot_count bytes))
+    → IfSome r (λ s. map as_spelled s.items ≡ slots_ending 2048 (page_pairs bytes))
+tables bytes (Some s) len laid e =
+    ap (map as_spelled) e ∙ first_are bytes (slot_count bytes)
+    ∙ sym (table_of bytes len (laid refl))
 tables bytes None len laid e = tt
 
 pub returns-clause-slots : goal.returns-clause-slots
-returns-clause-slots c = tables c.args.page.now.bytes c.read_slots.result (omega arith) c.read_slots.ensures.variant.0 c.read_slots.ensures.slots
+returns-clause-slots c = tables c.args.page.now.bytes c.read_slots.result (omega arith)
+    c.read_slots.ensures.variant.0 c.read_slots.ensures.slots
 
-as_many : (bytes : List ℕ) (r : Option (ArrayVec Slot)) → IfSome r (λ s. map as_spelled s.items ≡ slots_ending 2048 (page_pairs bytes)) → IfSome r (λ s. length s.items ≡ length (page_pairs bytes))
-as_many bytes (Some s) e = sym (length-map s.items as_spelled) ∙ ap length e ∙ length-slots_ending 2048 (page_pairs bytes)
+as_many : (bytes : List ℕ) (r : Option (ArrayVec Slot))
+    → IfSome r (λ s. map as_spelled s.items ≡ slots_ending 2048 (page_pairs bytes))
+    → IfSome r (λ s. length s.items ≡ length (page_pairs bytes))
+as_many bytes (Some s) e = sym (length-map s.items as_spelled) ∙ ap length e
+    ∙ length-slots_ending 2048 (page_pairs bytes)
 as_many bytes None e = tt
 
 pub returns-clause-count : goal.returns-clause-count
-returns-clause-count c = as_many c.args.page.now.bytes c.read_slots.result (tables c.args.page.now.bytes c.read_slots.result (omega arith) c.read_slots.ensures.variant.0 c.read_slots.ensures.slots)
+returns-clause-count c = as_many c.args.page.now.bytes c.read_slots.result
+    (tables c.args.page.now.bytes c.read_slots.result (omega arith) c.read_slots.ensures.variant.0
+    c.read_slots.ensures.slots)

@@ -10,26 +10,40 @@ pub empty-rebuilt-requires : goal.empty-rebuilt-requires
 empty-rebuilt-requires c = kind_is c.args.page.now.bytes c.requires.page
 
 pub loop-j-init : goal.loop-j-init
-loop-j-init c = begins c.args.page.now.bytes c.empty-rebuilt.result.bytes c.u32_at.result c.u32_at-2.result c.u32_at.ensures c.u32_at-2.ensures c.empty-rebuilt.ensures.page c.empty-rebuilt.ensures.says
+loop-j-init c = begins c.args.page.now.bytes c.empty-rebuilt.result.bytes c.u32_at.result
+    c.u32_at-2.result c.u32_at.ensures c.u32_at-2.ensures c.empty-rebuilt.ensures.page
+    c.empty-rebuilt.ensures.says
 
 pub add-requires-clause-fits : goal.add-requires-clause-fits
 add-requires-clause-fits c =
     let bytes = c.args.page.now.bytes in
     let j = c.loop-j.j in
     let inside : j + 1 < length (page_pairs bytes) = omega arith in
-    let next = next_kept bytes c.args.i j c.skipping.result c.pair_at.result.0.now c.pair_at.result.1.now c.requires.page c.requires.within inside c.skipping.ensures.below c.skipping.ensures.above c.pair_at.ensures in
-    fits_next bytes c.loop-j.rebuilt.bytes (remove (page_pairs bytes) c.args.i) j (c.pair_at.result.0.now, c.pair_at.result.1.now) next c.loop-j.invariant
+    let next = next_kept bytes c.args.i j c.skipping.result c.pair_at.result.0.now
+    c.pair_at.result.1.now c.requires.page c.requires.within inside c.skipping.ensures.below
+    c.skipping.ensures.above c.pair_at.ensures in
+    fits_next bytes c.loop-j.rebuilt.bytes (remove (page_pairs bytes) c.args.i) j
+    (c.pair_at.result.0.now, c.pair_at.result.1.now) next c.loop-j.invariant
 
 pub loop-j-preserved : goal.loop-j-preserved
 loop-j-preserved c =
     let bytes = c.args.page.now.bytes in
     let j = c.loop-j.j in
     let inside : j + 1 < length (page_pairs bytes) = omega arith in
-    let next = next_kept bytes c.args.i j c.skipping.result c.pair_at.result.0.now c.pair_at.result.1.now c.requires.page c.requires.within inside c.skipping.ensures.below c.skipping.ensures.above c.pair_at.ensures in
-    goes_on bytes c.loop-j.rebuilt.bytes c.add.new.page.bytes (remove (page_pairs bytes) c.args.i) j (c.pair_at.result.0.now, c.pair_at.result.1.now) next c.loop-j.invariant c.add.ensures.holds
+    let next = next_kept bytes c.args.i j c.skipping.result c.pair_at.result.0.now
+    c.pair_at.result.1.now c.requires.page c.requires.within inside c.skipping.ensures.below
+    c.skipping.ensures.above c.pair_at.ensures in
+    goes_on bytes c.loop-j.rebuilt.bytes c.add.new.page.bytes (remove (page_pairs bytes) c.args.i) j
+    (c.pair_at.result.0.now, c.pair_at.result.1.now) next c.loop-j.invariant c.add.ensures.holds
 
 pub returns : goal.returns
 returns c =
     let bytes = c.args.page.now.bytes in
-    let h = ends bytes c.loop-j.rebuilt.bytes (remove (page_pairs bytes) c.args.i) c.loop-j.j (omega (arith, length-remove (page_pairs bytes) c.args.i c.requires.within)) c.loop-j.invariant in
-    record { holds = h; header = kept_by bytes c.loop-j.rebuilt.bytes (remove (page_pairs bytes) c.args.i) h }
+    let h = ends bytes c.loop-j.rebuilt.bytes (remove (page_pairs bytes) c.args.i) c.loop-j.j
+    (omega (arith, length-remove (page_pairs bytes) c.args.i c.requires.within))
+    c.loop-j.invariant in
+    record {
+      holds = h;
+      header = kept_by bytes c.loop-j.rebuilt.bytes
+          (remove (page_pairs bytes) c.args.i) h;
+    }

@@ -10,5 +10,7 @@ returns c =
     let a = u16_bytes c.args.slot.offset in
     let b = u16_bytes c.args.slot.key_len in
     let d = u16_bytes c.args.slot.content_len in
-    c.set_u16_at-3.ensures ∙ ap (λ (xs : List ℕ). overwrite xs (at + 4) d) (c.set_u16_at-2.ensures ∙ ap (λ (xs : List ℕ). overwrite xs (at + 2) b) c.set_u16_at.ensures ∙ overwrite_then bytes a b at (at + 2) (omega arith) refl)
+    c.set_u16_at-3.ensures ∙ ap (λ (xs : List ℕ). overwrite xs (at + 4) d)
+    (c.set_u16_at-2.ensures ∙ ap (λ (xs : List ℕ). overwrite xs (at + 2) b) c.set_u16_at.ensures
+    ∙ overwrite_then bytes a b at (at + 2) (omega arith) refl)
     ∙ overwrite_then bytes (a ++ b) d at (at + 4) (omega arith) refl

@@ -4,4 +4,5 @@ use Rattle.dbm_file.proofs.database.Database.clearerr.Goals as goal
 pub returns-clause-step : goal.returns-clause-step
 returns-clause-step g c honest h at =
     let db = c.args.self.now in
-    cleared_step g.S.PageStore db h at (λ x left. g.met.S.PageStore.only_now db.store x honest left) _ _ _
+    cleared_step g.S.PageStore db h at
+    (λ x left. g.met.S.PageStore.only_now db.store x honest left) _ _ _

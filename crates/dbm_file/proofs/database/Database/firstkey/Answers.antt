@@ -12,8 +12,22 @@ use Rattle.dbm_file.proofs.database.Database.firstkey.Goals as goal
 pub returns-then-is_broken : goal.returns-then-is_broken
 returns-then-is_broken g c =
     let answer = c.refuse.ensures.answer in (
-      (refl, (λ _. tt), lends_broken g.S.PageStore c.args.self.now First End _ _ _ c.refuse.new.error _ c.refuse.ensures.flag c.refuse.result answer refl (c.is_broken.ensures.0 c.if-is_broken.true) (λ h broken. broken_first h.state broken)),
-      record { after = tt; short = lends_nothing c.refuse.result _ answer; passed = nothing_searched _ c.refuse.result _ answer; only = refused_by _ c.refuse.result _ answer (inl refl) },
+      (
+        refl,
+        (λ _. tt),
+        lends_broken g.S.PageStore c.args.self.now First End _ _ _
+            c.refuse.new.error _ c.refuse.ensures.flag c.refuse.result answer refl
+            (c.is_broken.ensures.0 c.if-is_broken.true)
+            (λ h broken. broken_first h.state broken),
+      ),
+      record {
+        after = tt;
+        short = lends_nothing c.refuse.result _ answer;
+        passed =
+            nothing_searched _ c.refuse.result _ answer;
+        only =
+            refused_by _ c.refuse.result _ answer (inl refl);
+      },
     )
 
 pub returns-in-Ok-Some : goal.returns-in-Ok-Some
@@ -23,14 +37,29 @@ returns-in-Ok-Some g c =
     let usable = not_broken _ _ c.is_broken.ensures c.if-is_broken.false in
     let all = c.in-Ok-Some.ensures in
     let bytes = c.advance.new.self.page.bytes in
-    let held = subst (λ (o : Option ℕ). IfSome o (λ slot. IsBucketPage bytes × (slot < length (page_pairs bytes)))) c.in-Ok-Some.field-0-is all.held in (
+    let held = subst (λ (o : Option ℕ).
+    IfSome o (λ slot. IsBucketPage bytes × (slot < length (page_pairs bytes))))
+    c.in-Ok-Some.field-0-is all.held in (
       (
         refl,
         (λ _. tt),
-        passed_lends s db c.advance.new.self First bytes (Ok c.in-Ok-Some.field-0) (Ok (Some c.pair_at.result.0)) (λ honest h at. first_step s db c.advance.new.self _ usable (g.met.S.PageStore.ends db.store) db.idle h at (all.step honest h at))
-            (ap (λ (o : Option ℕ). slot_reply bytes (Ok o)) c.in-Ok-Some.field-0-is ∙ lent_key bytes c.in-Ok-Some.slot c.pair_at.result c.pair_at.ensures) (keeps_as c.in-Ok-Some.field-0 (Some c.pair_at.result.0) all.keeps),
+        passed_lends s db c.advance.new.self First bytes (Ok c.in-Ok-Some.field-0)
+            (Ok (Some c.pair_at.result.0))
+            (λ honest h at. first_step s db c.advance.new.self _ usable
+            (g.met.S.PageStore.ends db.store) db.idle h at (all.step honest h at))
+            (ap (λ (o : Option ℕ). slot_reply bytes (Ok o)) c.in-Ok-Some.field-0-is
+            ∙ lent_key bytes c.in-Ok-Some.slot c.pair_at.result c.pair_at.ensures)
+            (keeps_as c.in-Ok-Some.field-0 (Some c.pair_at.result.0) all.keeps),
       ),
-      record { after = tt; short = short_key bytes c.pair_at.result.0.now c.pair_at.result.1.now c.in-Ok-Some.slot held.0 held.1 c.pair_at.ensures; passed = (λ honest. given_key _ _ _ bytes _ c.in-Ok-Some.slot c.pair_at.result c.in-Ok-Some.field-0-is c.pair_at.ensures (all.passed honest)); only = tt },
+      record {
+        after = tt;
+        short = short_key bytes c.pair_at.result.0.now c.pair_at.result.1.now
+            c.in-Ok-Some.slot held.0 held.1 c.pair_at.ensures;
+        passed =
+            (λ honest. given_key _ _ _ bytes _ c.in-Ok-Some.slot c.pair_at.result
+            c.in-Ok-Some.field-0-is c.pair_at.ensures (all.passed honest));
+        only = tt;
+      },
     )
 
 pub returns-in-Ok-None : goal.returns-in-Ok-None
@@ -43,10 +72,19 @@ returns-in-Ok-None g c =
       (
         refl,
         (λ _. tt),
-        passed_lends s db c.advance.new.self First bytes (Ok c.in-Ok-None.field-0) (Ok None) (λ honest h at. first_step s db c.advance.new.self _ usable (g.met.S.PageStore.ends db.store) db.idle h at (all.step honest h at))
-            (ap (λ (o : Option ℕ). slot_reply bytes (Ok o)) c.in-Ok-None.field-0-is) (keeps_as c.in-Ok-None.field-0 None all.keeps),
+        passed_lends s db c.advance.new.self First bytes (Ok c.in-Ok-None.field-0) (Ok None)
+            (λ honest h at. first_step s db c.advance.new.self _ usable
+            (g.met.S.PageStore.ends db.store) db.idle h at (all.step honest h at))
+            (ap (λ (o : Option ℕ). slot_reply bytes (Ok o)) c.in-Ok-None.field-0-is)
+            (keeps_as c.in-Ok-None.field-0 None all.keeps),
       ),
-      record { after = tt; short = tt; passed = (λ honest. given_none _ _ _ bytes _ c.in-Ok-None.field-0-is (all.passed honest)); only = tt },
+      record {
+        after = tt;
+        short = tt;
+        passed =
+            (λ honest. given_none _ _ _ bytes _ c.in-Ok-None.field-0-is (all.passed honest));
+        only = tt;
+      },
     )
 
 pub returns-in-Err : goal.returns-in-Err
@@ -58,7 +96,11 @@ returns-in-Err g c =
       (
         refl,
         (λ _. tt),
-        passed_lends s db c.advance.new.self First c.advance.new.self.page.bytes (Err c.in-Err.fault) (Err c.in-Err.fault) (λ honest h at. first_step s db c.advance.new.self _ usable (g.met.S.PageStore.ends db.store) db.idle h at (all.step honest h at)) refl (keeps_err c.in-Err.fault all.keeps),
+        passed_lends s db c.advance.new.self First c.advance.new.self.page.bytes
+            (Err c.in-Err.fault) (Err c.in-Err.fault)
+            (λ honest h at. first_step s db c.advance.new.self _ usable
+            (g.met.S.PageStore.ends db.store) db.idle h at (all.step honest h at)) refl
+            (keeps_err c.in-Err.fault all.keeps),
       ),
       record { after = tt; short = tt; passed = tt; only = inr all.only },
     )

@@ -25,7 +25,9 @@ returns-in_err-place g c =
       answer = walk_passed _ _ refl ended e exit all.answer;
       searched = IfOk-from_err _ _ c.from_residual.ensures.0;
       exact = λ honest map h. IfOk-from_err _ _ c.from_residual.ensures.0;
-      whole = λ honest map h is. all.whole honest (placed s store _ map h) (is_table s store _ map h (g.met.S.PageStore.ends store) c.args.self.now.idle) (came ended e exit Damaged is);
+      whole = λ honest map h is. all.whole honest (placed s store _ map h)
+          (is_table s store _ map h (g.met.S.PageStore.ends store) c.args.self.now.idle)
+          (came ended e exit Damaged is);
     }
 
 pub returns : goal.returns
@@ -37,10 +39,13 @@ returns g c =
       reads = record { reads = all.reads; meta_is = refl; error_is = refl; pass_is = refl };
       cause = cause_ok _ _ c.is_some.result all.cause.later;
       answer = walk_was c.is_some.result;
-      searched = λ honest. searched_for _ _ c.args.key.now _ c.in_ok-place.place c.is_some.result c.is_some.ensures (all.searched honest);
+      searched = λ honest. searched_for _ _ c.args.key.now _ c.in_ok-place.place c.is_some.result
+          c.is_some.ensures (all.searched honest);
       exact = λ honest map h.
-          let table = is_table s store _ map h (g.met.S.PageStore.ends store) c.args.self.now.idle in
+          let table = is_table s store _ map h (g.met.S.PageStore.ends store)
+          c.args.self.now.idle in
           let found = all.exact honest (placed s store _ map h) table in
-          c.is_some.ensures ∙ found_some c.args.key.now _ _ _ found ∙ ap (λ (m : Contents). is_some (get m c.args.key.now)) (map_placed s store _ map h);
+          c.is_some.ensures ∙ found_some c.args.key.now _ _ _ found
+          ∙ ap (λ (m : Contents). is_some (get m c.args.key.now)) (map_placed s store _ map h);
       whole = λ honest map h is. never_damaged c.is_some.result is;
     }

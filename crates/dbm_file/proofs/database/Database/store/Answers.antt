@@ -6,16 +6,20 @@ pub returns-in-Err : goal.returns-in-Err
 returns-in-Err g c =
     let all = c.in-Err.ensures in
     let mid = c.try_store.new.self in
-    let end = flagged_store c.args.self.now mid mid.idle mid.told mid.valid c.refuse.new.error c.in-Err.fault c.refuse.ensures.flag c.args.key.now c.args.content.now c.args.mode c.refuse.result c.refuse.ensures.answer
+    let end = flagged_store c.args.self.now mid mid.idle mid.told mid.valid c.refuse.new.error
+    c.in-Err.fault c.refuse.ensures.flag c.args.key.now c.args.content.now c.args.mode
+    c.refuse.result c.refuse.ensures.answer
     all.ends in
     record {
       step = λ honest h at.
-          store_flagged g.S.PageStore _ mid h _ _ _ _ c.refuse.new.error c.in-Err.fault c.refuse.ensures.flag c.refuse.result c.refuse.ensures.answer (all.step honest h at);
+          store_flagged g.S.PageStore _ mid h _ _ _ _ c.refuse.new.error c.in-Err.fault
+          c.refuse.ensures.flag c.refuse.result c.refuse.ensures.answer (all.step honest h at);
       shape = end.shape;
       read_only = end.read_only;
       kept = end.kept;
       too_long = end.too_long;
-      keeps = flagged_ended c.args.self.now mid _ _ _ c.refuse.new.error c.in-Err.fault c.refuse.ensures.flag c.refuse.result c.refuse.ensures.answer all.ends.keeps;
+      keeps = flagged_ended c.args.self.now mid _ _ _ c.refuse.new.error c.in-Err.fault
+          c.refuse.ensures.flag c.refuse.result c.refuse.ensures.answer all.ends.keeps;
       only = end.only;
     }
 

@@ -28,8 +28,11 @@ returns-then-is_broken g c =
           let pass = h.state.pass in
           let db = c.args.self.now in
           let broken = c.is_broken.ensures.0 c.if-is_broken.true in
-          from_own at (broken_step g.S.PageStore db map pass _ broken (broken_store (handle_of db map pass).state c.args.key.now c.args.content.now (mode_of c.args.mode) broken));
-      ends = unusable_store c.args.self.now c.args.key.now (c.is_broken.ensures.0 c.if-is_broken.true) c.args.content.now c.args.mode;
+          from_own at (broken_step g.S.PageStore db map pass _ broken
+          (broken_store (handle_of db map pass).state c.args.key.now c.args.content.now
+          (mode_of c.args.mode) broken));
+      ends = unusable_store c.args.self.now c.args.key.now
+          (c.is_broken.ensures.0 c.if-is_broken.true) c.args.content.now c.args.mode;
     }
 
 pub returns-then-not-self : goal.returns-then-not-self
@@ -44,9 +47,14 @@ returns-then-not-self g c =
       step = λ honest h at.
           let map = h.state.map in
           let pass = h.state.pass in
-          let falls = store_read_only (handle_of db map pass).state key content (mode_of mode) usable (db.told ∙ c.if-not-self.true) in
-          from_own at (rejected_step s db db map pass _ (no_read s db (λ y h left. g.met.S.PageStore.only_now db.store y h left)) honest (at.map usable) (at.pass usable) (at.rests usable) ReadOnly falls);
-      ends = unwritable_store db key usable (db.told ∙ c.if-not-self.true) (no_read s db (λ y honest left. g.met.S.PageStore.only_now db.store y honest left)) content mode;
+          let falls = store_read_only (handle_of db map pass).state key content (mode_of mode)
+          usable (db.told ∙ c.if-not-self.true) in
+          from_own at (rejected_step s db db map pass _
+          (no_read s db (λ y h left. g.met.S.PageStore.only_now db.store y h left)) honest
+          (at.map usable) (at.pass usable) (at.rests usable) ReadOnly falls);
+      ends = unwritable_store db key usable (db.told ∙ c.if-not-self.true)
+          (no_read s db (λ y honest left. g.met.S.PageStore.only_now db.store y honest left))
+          content mode;
     }
 
 pub returns-then-key-content-gt-MAX_PAIR : goal.returns-then-key-content-gt-MAX_PAIR
@@ -62,9 +70,14 @@ returns-then-key-content-gt-MAX_PAIR g c =
       step = λ honest h at.
           let map = h.state.map in
           let pass = h.state.pass in
-          let falls = too_long_rule (handle_of db map pass).state key content (mode_of mode) usable writable c.if-key-content-gt-MAX_PAIR.true in
-          from_own at (rejected_step s db db map pass _ (no_read s db (λ y h left. g.met.S.PageStore.only_now db.store y h left)) honest (at.map usable) (at.pass usable) (at.rests usable) TooLong falls);
-      ends = long_store db key usable writable content mode (no_read s db (λ y honest left. g.met.S.PageStore.only_now db.store y honest left)) c.if-key-content-gt-MAX_PAIR.true;
+          let falls = too_long_rule (handle_of db map pass).state key content (mode_of mode) usable
+          writable c.if-key-content-gt-MAX_PAIR.true in
+          from_own at (rejected_step s db db map pass _
+          (no_read s db (λ y h left. g.met.S.PageStore.only_now db.store y h left)) honest
+          (at.map usable) (at.pass usable) (at.rests usable) TooLong falls);
+      ends = long_store db key usable writable content mode
+          (no_read s db (λ y honest left. g.met.S.PageStore.only_now db.store y honest left))
+          c.if-key-content-gt-MAX_PAIR.true;
     }
 
 pub returns-in_err-was_there : goal.returns-in_err-was_there
@@ -79,7 +92,8 @@ returns-in_err-was_there g c =
     let short = c.if-key-content-gt-MAX_PAIR.false in
     let all = c.in_err-was_there.ensures in
     let told = c.from_residual.ensures.1 in
-    let keeps = walk_told db c.has.new.self c.in_err-was_there.field-0.0 c.from_residual.result all.reads usable all.answer all.cause told in
+    let keeps = walk_told db c.has.new.self c.in_err-was_there.field-0.0 c.from_residual.result
+    all.reads usable all.answer all.cause told in
     record {
       step = λ honest h at.
           let map = h.state.map in
@@ -88,11 +102,18 @@ returns-in_err-was_there g c =
           let state = (handle_of db map pass).state in
           let falls = store_rule state key content (mode_of mode) usable writable short in
           from_own at (store_told c.has.new.self c.in_err-was_there.field-0.0
-          (walk_failed_step s db c.has.new.self map pass _ c.in_err-was_there.ensures.reads honest held (at.pass usable) (at.rests usable)
-          _ c.in_err-was_there.field-0.0 usable c.in_err-was_there.ensures.answer c.in_err-was_there.ensures.cause (c.in_err-was_there.ensures.whole honest map held)
-          (λ reply after fails. subst (λ (rule : Case). Suffers (handle_of db map pass) rule reply after) (sym falls) (store_fails (handle_of db map pass) reply after fails key content (mode_of mode) (get map key))))
+          (walk_failed_step s db c.has.new.self map pass _ c.in_err-was_there.ensures.reads honest
+          held (at.pass usable) (at.rests usable)
+          _ c.in_err-was_there.field-0.0 usable c.in_err-was_there.ensures.answer
+          c.in_err-was_there.ensures.cause (c.in_err-was_there.ensures.whole honest map held)
+          (λ reply after fails. subst (λ (rule : Case).
+          Suffers (handle_of db map pass) rule reply after) (sym falls)
+          (store_fails (handle_of db map pass) reply after fails key content (mode_of mode)
+          (get map key))))
           c.from_residual.result c.from_residual.ensures.1);
-      ends = told_store db key usable writable c.has.new.self content mode short c.from_residual.result c.in_err-was_there.field-0.0 told (as_change _ all.answer.only) (still_meta s db c.has.new.self all.reads) keeps;
+      ends = told_store db key usable writable c.has.new.self content mode short
+          c.from_residual.result c.in_err-was_there.field-0.0 told (as_change _ all.answer.only)
+          (still_meta s db c.has.new.self all.reads) keeps;
     }
 
 pub returns-then-eq : goal.returns-then-eq
@@ -116,8 +137,10 @@ returns-then-eq g c =
           let state = (handle_of db map pass).state in
           let falls = store_rule state key content (mode_of mode) usable writable short
           ∙ kept state key content (get map key) (mode_of mode) there (ap mode_of inserts) in
-          from_own at (found_step s db c.has.new.self map pass _ c.in_ok-was_there.ensures.reads honest held (at.pass usable) (at.rests usable) model.Kept falls);
-      ends = kept_store db key usable writable c.has.new.self content mode short all.reads inserts (λ honest. was_found _ _ key _ c.if-was_there.true (all.searched honest));
+          from_own at (found_step s db c.has.new.self map pass _ c.in_ok-was_there.ensures.reads
+          honest held (at.pass usable) (at.rests usable) model.Kept falls);
+      ends = kept_store db key usable writable c.has.new.self content mode short all.reads inserts
+          (λ honest. was_found _ _ key _ c.if-was_there.true (all.searched honest));
     }
 
 pub returns-then-self : goal.returns-then-self
@@ -139,11 +162,20 @@ returns-then-self g c =
           let absent = sym (c.in_ok-was_there.ensures.exact honest map held) ∙ told_absent in
           let state = (handle_of db map pass).state in
           let read = c.in_ok-was_there.ensures.reads in
-          let many : db.meta.limit ≤ len map = omega (arith, c.if-self.true, counted s db.store _ map held, ap (λ m. m.limit) read.meta_is, ap (λ m. m.pairs) read.meta_is) in
+          let many : db.meta.limit ≤ len map =
+          omega (
+            arith,
+            c.if-self.true,
+            counted s db.store _ map held,
+            ap (λ m. m.limit) read.meta_is,
+            ap (λ m. m.pairs) read.meta_is,
+          ) in
           let falls = store_rule state key content (mode_of mode) usable writable short
           ∙ full state key content (get map key) (mode_of mode) absent many in
-          from_own at (declined_step s db c.has.new.self map pass _ read honest held (at.pass usable) (at.rests usable) Full falls);
-      ends = full_store db key usable writable c.has.new.self content mode short c.in_ok-was_there.ensures.reads;
+          from_own at (declined_step s db c.has.new.self map pass _ read honest held
+          (at.pass usable) (at.rests usable) Full falls);
+      ends = full_store db key usable writable c.has.new.self content mode short
+          c.in_ok-was_there.ensures.reads;
     }
 
 pub returns-in_err-store_pair : goal.returns-in_err-store_pair
@@ -160,29 +192,37 @@ returns-in_err-store_pair g c =
     let all = c.in_err-store_pair.ensures in
     let told = c.from_residual-in_err-store_pair.ensures.1 in
     let r = c.from_residual-in_err-store_pair.result in
-    let keeps = told_keeps s db c.has.new.self _ read usable c.in_err-store_pair.field-0.0 record { ends = all.ends; error_is = refl; pass_ends = tt; pass_stays = refl } r told in
+    let keeps = told_keeps s db c.has.new.self _ read usable c.in_err-store_pair.field-0.0
+    record { ends = all.ends; error_is = refl; pass_ends = tt; pass_stays = refl } r told in
     record {
       step = λ honest h at.
           let map = h.state.map in
           let pass = h.state.pass in
           let there = c.in_ok-was_there.ensures.exact honest map (at.map usable) in
-          let replaces : c.in_ok-was_there.was_there ≡ true → mode ≡ Replace = elim c.else-was_there.branch [
+          let replaces : c.in_ok-was_there.was_there ≡ true → mode ≡ Replace =
+          elim c.else-was_there.branch [
             | else-was_there-via-then-was_there+else-eq w ↦ λ is. replaces_so mode w.if-eq.ensures
             | else-was_there-via-else-was_there w ↦ λ is. not_both _ is w.if-was_there.false
           ] in
-          let few : c.in_ok-was_there.was_there ≡ false → c.has.new.self.meta.pairs < c.has.new.self.meta.limit = elim c.else-not-was_there.branch [
+          let few : c.in_ok-was_there.was_there ≡ false
+          → c.has.new.self.meta.pairs < c.has.new.self.meta.limit =
+          elim c.else-not-was_there.branch [
             | else-not-was_there-via-then-not-was_there+else-self w ↦ λ is. w.if-self.false
-            | else-not-was_there-via-else-not-was_there w ↦ λ is. not_both _ w.if-not-was_there.false is
+            | else-not-was_there-via-else-not-was_there w ↦ λ is.
+                not_both _ w.if-not-was_there.false is
           ] in
-          let asked = store_asked s db c.has.new.self map pass key c.in_ok-was_there.ensures.reads usable writable honest (at.map usable) (at.pass usable) (at.rests usable)
+          let asked = store_asked s db c.has.new.self map pass key c.in_ok-was_there.ensures.reads
+          usable writable honest (at.map usable) (at.pass usable) (at.rests usable)
           content mode c.in_ok-was_there.was_there short there replaces few in
           from_own at (store_told _ c.in_err-store_pair.field-0.0
           (refused_step s asked _ c.in_err-store_pair.field-0.0
           record { ends = all.ends; error_is = refl; pass_ends = tt; pass_stays = refl }
           (all.turns (mid_honest s asked) (mid_usable s asked) map (mid_holds s asked) there)
-          (λ t x le left. g.met.S.PageStore.counts_now c.store_pair.new.store t x (all.ends.honesty.1 (mid_honest s asked)) le left))
+          (λ t x le left. g.met.S.PageStore.counts_now c.store_pair.new.store t x
+          (all.ends.honesty.1 (mid_honest s asked)) le left))
           c.from_residual-in_err-store_pair.result c.from_residual-in_err-store_pair.ensures.1);
-      ends = told_store db key usable writable _ content mode short r c.in_err-store_pair.field-0.0 told all.ends.answer.only (all.ends.err.1 ∙ still_meta s db c.has.new.self read) keeps;
+      ends = told_store db key usable writable _ content mode short r c.in_err-store_pair.field-0.0
+          told all.ends.answer.only (all.ends.err.1 ∙ still_meta s db c.has.new.self read) keeps;
     }
 
 pub returns : goal.returns
@@ -197,26 +237,40 @@ returns g c =
     let short = c.if-key-content-gt-MAX_PAIR.false in
     let read = c.in_ok-was_there.ensures.reads in
     let all = c.in_ok-store_pair.ensures in
-    let keeps = done_keeps db c.has.new.self _ stored.Stored read usable record { ends = all.ends; error_is = refl; pass_ends = refl; pass_stays = tt } in
+    let keeps = done_keeps db c.has.new.self _ stored.Stored read usable
+    record { ends = all.ends; error_is = refl; pass_ends = refl; pass_stays = tt } in
     record {
       step = λ honest h at.
           let map = h.state.map in
           let pass = h.state.pass in
           let there = c.in_ok-was_there.ensures.exact honest map (at.map usable) in
-          let replaces : c.in_ok-was_there.was_there ≡ true → mode ≡ Replace = elim c.else-was_there.branch [
+          let replaces : c.in_ok-was_there.was_there ≡ true → mode ≡ Replace =
+          elim c.else-was_there.branch [
             | else-was_there-via-then-was_there+else-eq w ↦ λ is. replaces_so mode w.if-eq.ensures
             | else-was_there-via-else-was_there w ↦ λ is. not_both _ is w.if-was_there.false
           ] in
-          let few : c.in_ok-was_there.was_there ≡ false → c.has.new.self.meta.pairs < c.has.new.self.meta.limit = elim c.else-not-was_there.branch [
+          let few : c.in_ok-was_there.was_there ≡ false
+          → c.has.new.self.meta.pairs < c.has.new.self.meta.limit =
+          elim c.else-not-was_there.branch [
             | else-not-was_there-via-then-not-was_there+else-self w ↦ λ is. w.if-self.false
-            | else-not-was_there-via-else-not-was_there w ↦ λ is. not_both _ w.if-not-was_there.false is
+            | else-not-was_there-via-else-not-was_there w ↦ λ is.
+                not_both _ w.if-not-was_there.false is
           ] in
-          let asked = store_asked s db c.has.new.self map pass key c.in_ok-was_there.ensures.reads usable writable honest (at.map usable) (at.pass usable) (at.rests usable)
+          let asked = store_asked s db c.has.new.self map pass key c.in_ok-was_there.ensures.reads
+          usable writable honest (at.map usable) (at.pass usable) (at.rests usable)
           content mode c.in_ok-was_there.was_there short there replaces few in
           from_own at (changed_step s asked _
           record { ends = all.ends; error_is = refl; pass_ends = refl; pass_stays = tt }
           (store_growth s asked refl)
           (all.turns (mid_honest s asked) (mid_usable s asked) map (mid_holds s asked) there)
-          (λ x left. g.met.S.PageStore.only_committed c.store_pair.new.store x (all.ends.honesty.1 (mid_honest s asked)) (ap (λ (st : StoreState). st.usable) all.ends.ok ∙ mid_usable s asked) (ap (λ (st : StoreState). st.writable) all.ends.ok ∙ still_writable s db c.has.new.self c.in_ok-was_there.ensures.reads ∙ writable) left));
-      ends = done_store db key usable writable _ content mode short (changed_shape (meta_kept db) (meta_kept c.has.new.self) (model_meta c.store_pair.new.meta) (still_meta s db c.has.new.self read) all.shape) keeps;
+          (λ x left. g.met.S.PageStore.only_committed c.store_pair.new.store x
+          (all.ends.honesty.1 (mid_honest s asked))
+          (ap (λ (st : StoreState). st.usable) all.ends.ok ∙ mid_usable s asked)
+          (ap (λ (st : StoreState). st.writable) all.ends.ok
+          ∙ still_writable s db c.has.new.self c.in_ok-was_there.ensures.reads
+          ∙ writable) left));
+      ends = done_store db key usable writable _ content mode short
+          (changed_shape (meta_kept db) (meta_kept c.has.new.self)
+          (model_meta c.store_pair.new.meta) (still_meta s db c.has.new.self read) all.shape)
+          keeps;
     }

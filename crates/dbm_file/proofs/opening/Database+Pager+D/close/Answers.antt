@@ -11,4 +11,6 @@ returns-clause-stands g c honest h at usable image is =
     let old = c.args.self.store.dev in
     let same = c.into_dev-dev.ensures in
     let there = subst (λ d. IsImageOf (dev.candidate d) image) same is in
-    subst (λ d. ImageStandsFor (settled (dev.sectors d / 4) image) h.state.map h.state.limit) (sym same) (stands_for _ c.args.self h (settled (dev.sectors old / 4) image) at usable (record { image = image; is_image = there; reads = refl }))
+    subst (λ d. ImageStandsFor (settled (dev.sectors d / 4) image) h.state.map h.state.limit)
+    (sym same) (stands_for _ c.args.self h (settled (dev.sectors old / 4) image) at usable
+    (record { image = image; is_image = there; reads = refl }))

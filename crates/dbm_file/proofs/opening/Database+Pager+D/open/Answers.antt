@@ -9,7 +9,15 @@ returns-in-Ok-clause-stands g c honest one stand =
     let found = all.stands honest one stand in (
       found.0,
       found.1,
-      opened_at (writes c.args.how.access) _ _ found.0 found.1 found.2.holds found.2.rests found.2.limit_is
-          (record { usable = all.fresh.usable; writable = all.fresh.writable; capacity = all.fresh.capacity; no_error = refl; no_pass = refl }),
+      opened_at (writes c.args.how.access) _ _ found.0 found.1 found.2.holds found.2.rests
+          found.2.limit_is
+          (record {
+            usable = all.fresh.usable;
+            writable = all.fresh.writable;
+            capacity =
+                all.fresh.capacity;
+            no_error = refl;
+            no_pass = refl;
+          }),
       found.3,
     )

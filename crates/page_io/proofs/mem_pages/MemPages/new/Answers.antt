@@ -7,7 +7,8 @@ use Rattle.page_io.proofs.mem_pages.MemPages.new.Goals as goal
 pub invariant_of-result : goal.invariant_of-result
 invariant_of-result c =
     let all = c.in_ok-extend_from_slice.ensures.items in
-    let filled = fills _ _ c.args.pages.now _ _ c.args.capacity all c.in_ok-all.ensures.items c.as_slice.ensures.len c.in_ok-room.ensures.len c.requires.fits in
+    let filled = fills _ _ c.args.pages.now _ _ c.args.capacity all c.in_ok-all.ensures.items
+    c.as_slice.ensures.len c.in_ok-room.ensures.len c.requires.fits in
     record {
       least = least_end (length c.args.pages.now) c.requires.least;
       room = end_fits (length c.args.pages.now) _ c.args.capacity c.requires.fits filled;
@@ -18,8 +19,12 @@ invariant_of-result c =
 pub returns-clause-state : goal.returns-clause-state
 returns-clause-state c =
     let all = c.in_ok-extend_from_slice.ensures.items in
-    let filled = fills _ _ c.args.pages.now _ _ c.args.capacity all c.in_ok-all.ensures.items c.as_slice.ensures.len c.in_ok-room.ensures.len c.requires.fits in
-    state_is (bytes_of c.new.result.items) (length c.args.pages.now + 1) _ c.args.capacity (ap bytes_of c.new.ensures.items) filled
+    let filled = fills _ _ c.args.pages.now _ _ c.args.capacity all c.in_ok-all.ensures.items
+    c.as_slice.ensures.len c.in_ok-room.ensures.len c.requires.fits in
+    state_is (bytes_of c.new.result.items) (length c.args.pages.now + 1) _ c.args.capacity
+    (ap bytes_of c.new.ensures.items) filled
 
 pub returns-clause-committed : goal.returns-clause-committed
-returns-clause-committed c = first_pages _ c.args.pages.now c.as_slice.result.now (c.in_ok-extend_from_slice.ensures.items ∙ ap (λ (ps : List Page). ps ++ c.as_slice.result.now) c.in_ok-all.ensures.items)
+returns-clause-committed c = first_pages _ c.args.pages.now c.as_slice.result.now
+    (c.in_ok-extend_from_slice.ensures.items
+    ∙ ap (λ (ps : List Page). ps ++ c.as_slice.result.now) c.in_ok-all.ensures.items)

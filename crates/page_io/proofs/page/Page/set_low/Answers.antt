@@ -9,4 +9,6 @@ returns-clause-bytes c = c.set_u16_at.ensures
 
 pub returns-clause-number : goal.returns-clause-number
 returns-clause-number c =
-    ap own_number c.set_u16_at.ensures ∙ own_of_overwrite c.args.self.now.bytes (u16_bytes c.args.low) 12 (omega arith) (omega (arith, c.args.self.now.whole))
+    ap own_number c.set_u16_at.ensures
+    ∙ own_of_overwrite c.args.self.now.bytes (u16_bytes c.args.low) 12 (omega arith)
+    (omega (arith, c.args.self.now.whole))

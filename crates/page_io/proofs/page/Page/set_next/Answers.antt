@@ -9,4 +9,6 @@ returns-clause-bytes c = cc
 
 pub returns-clause-number : goal.returns-clause-number
 returns-clause-number c =
-    ap own_number c.set_u32_at.ensures ∙ own_of_overwrite c.args.self.now.bytes (u32_bytes c.args.next) 8 (omega arith) (omega (arith, c.args.self.now.whole))
+    ap own_number c.set_u32_at.ensures
+    ∙ own_of_overwrite c.args.self.now.bytes (u32_bytes c.args.next) 8 (omega arith)
+    (omega (arith, c.args.self.now.whole))

@@ -8,4 +8,6 @@ returns-clause-bytes c = c.set_u32_at.ensures
 
 pub returns-clause-number : goal.returns-clause-number
 returns-clause-number c =
-    ap own_number c.set_u32_at.ensures ∙ own_of_new c.args.self.now.bytes c.args.own (omega (arith, c.args.self.now.whole)) c.ranges.own.fits
+    ap own_number c.set_u32_at.ensures
+    ∙ own_of_new c.args.self.now.bytes c.args.own (omega (arith, c.args.self.now.whole))
+    c.ranges.own.fits

@@ -10,7 +10,9 @@ pub returns-then-is_err-clause-any_moment : goal.returns-then-is_err-clause-any_
 returns-then-is_err-clause-any_moment g c honest none =
     let dev = g.D.SectorDev in
     let first = c.args.dev in
-    c.format_pages.ensures.any_moment honest (blank_candidates (dev.sectors first / 4) (dev.candidate first) (dev.seen first) (g.met.D.SectorDev.seen_may_stay first honest) none)
+    c.format_pages.ensures.any_moment honest
+    (blank_candidates (dev.sectors first / 4) (dev.candidate first) (dev.seen first)
+    (g.met.D.SectorDev.seen_may_stay first honest) none)
 
 pub invariant_of-result-clause-rests : goal.invariant_of-result-clause-rests
 invariant_of-result-clause-rests g c still usable =
@@ -21,14 +23,20 @@ invariant_of-result-clause-rests g c still usable =
     let honest = c.format_pages.ensures.honesty.0 still in
     let count = length c.args.pages.now in
     let at_rest = λ (cap end : ℕ). IsAtRest cap end (dev.candidate new) (dev.seen new) in
-    let same : dev.sectors c.args.dev / 4 ≡ dev.sectors new / 4 = ap (λ (s : ℕ). s / 4) (sym c.format_pages.ensures.size) in
+    let same : dev.sectors c.args.dev / 4 ≡ dev.sectors new / 4 =
+    ap (λ (s : ℕ). s / 4) (sym c.format_pages.ensures.size) in
     let ends : 1 + count ≡ count + 1 = omega arith in
-    let rest = from_test c.format_pages.result c.is_err.ensures.value c.if-is_err.false (c.format_pages.ensures.rest honest) in
-    rests_at true (dev.sectors new / 4) (count + 1) (bytes_of kept) (dev.candidate new) (dev.seen new) (ap bytes_of none)
-    (subst (λ (end : ℕ). at_rest (dev.sectors new / 4) end) ends (subst (λ (cap : ℕ). at_rest cap (1 + count)) same rest))
+    let rest = from_test c.format_pages.result c.is_err.ensures.value c.if-is_err.false
+    (c.format_pages.ensures.rest honest) in
+    rests_at true (dev.sectors new / 4) (count + 1) (bytes_of kept) (dev.candidate new)
+    (dev.seen new) (ap bytes_of none)
+    (subst (λ (end : ℕ). at_rest (dev.sectors new / 4) end) ends
+    (subst (λ (cap : ℕ). at_rest cap (1 + count)) same rest))
 
 pub returns-clause-any_moment : goal.returns-clause-any_moment
 returns-clause-any_moment g c honest none =
     let dev = g.D.SectorDev in
     let first = c.args.dev in
-    c.format_pages.ensures.any_moment honest (blank_candidates (dev.sectors first / 4) (dev.candidate first) (dev.seen first) (g.met.D.SectorDev.seen_may_stay first honest) none)
+    c.format_pages.ensures.any_moment honest
+    (blank_candidates (dev.sectors first / 4) (dev.candidate first) (dev.seen first)
+    (g.met.D.SectorDev.seen_may_stay first honest) none)

@@ -12,8 +12,11 @@ invariant_of-result-clause-rests g c still usable =
     let kept = c.new-in-Ok.result.items in
     let none : kept ≡ [] = c.new-in-Ok.ensures.items in
     let at_rest = λ (cap : ℕ). IsAtRest cap c.in-Ok.end (dev.candidate new) (dev.seen new) in
-    let same : dev.sectors c.args.dev / 4 ≡ dev.sectors new / 4 = ap (λ (s : ℕ). s / 4) (sym c.recover.ensures.size) in
-    rests_at true (dev.sectors new / 4) c.in-Ok.end (bytes_of kept) (dev.candidate new) (dev.seen new) (ap bytes_of none) (subst at_rest same (c.in-Ok.ensures.rest (c.recover.ensures.honesty.0 still)))
+    let same : dev.sectors c.args.dev / 4 ≡ dev.sectors new / 4 =
+    ap (λ (s : ℕ). s / 4) (sym c.recover.ensures.size) in
+    rests_at true (dev.sectors new / 4) c.in-Ok.end (bytes_of kept) (dev.candidate new)
+    (dev.seen new) (ap bytes_of none)
+    (subst at_rest same (c.in-Ok.ensures.rest (c.recover.ensures.honesty.0 still)))
 
 pub returns-in-Ok-clause-committed : goal.returns-in-Ok-clause-committed
 returns-in-Ok-clause-committed g c honest =
@@ -26,12 +29,19 @@ returns-in-Ok-clause-committed g c honest =
     let none : kept ≡ [] = c.new-in-Ok.ensures.items in
     let h1 = c.recover.ensures.honesty.1 honest in
     let run = c.recover.ensures.any_moment honest in
-    let now = run.each (dev.seen new) (met.counts_now new (dev.moment first) (dev.seen new) h1 run.later (met.seen_may_stay new h1)) in
-    let rests = rests_at true cap c.in-Ok.end (bytes_of kept) (dev.candidate new) (dev.seen new) (ap bytes_of none) (c.in-Ok.ensures.rest honest) in
+    let now = run.each (dev.seen new)
+    (met.counts_now new (dev.moment first) (dev.seen new) h1 run.later
+    (met.seen_may_stay new h1)) in
+    let rests = rests_at true cap c.in-Ok.end (bytes_of kept) (dev.candidate new) (dev.seen new)
+    (ap bytes_of none) (c.in-Ok.ensures.rest honest) in
     record { image = now.0; is_image = now.1; reads = sym now.2 ∙ rests.settles }
 
 pub returns-in-Ok-read_file-clause-any_moment : goal.returns-in-Ok-read_file-clause-any_moment
-returns-in-Ok-read_file-clause-any_moment g c honest = as_before g.D.SectorDev c.args.dev c.read_file.new.dev (c.read_file.ensures.only_reads honest).any_moment
+returns-in-Ok-read_file-clause-any_moment g c honest =
+    as_before g.D.SectorDev c.args.dev c.read_file.new.dev
+    (c.read_file.ensures.only_reads honest).any_moment
 
 pub returns-in-Err-read_file-clause-any_moment : goal.returns-in-Err-read_file-clause-any_moment
-returns-in-Err-read_file-clause-any_moment g c honest = as_before g.D.SectorDev c.args.dev c.read_file.new.dev (c.read_file.ensures.only_reads honest).any_moment
+returns-in-Err-read_file-clause-any_moment g c honest =
+    as_before g.D.SectorDev c.args.dev c.read_file.new.dev
+    (c.read_file.ensures.only_reads honest).any_moment

@@ -8,5 +8,7 @@ abbrev pub invariant-loop : goal.invariant-loop
 invariant-loop l = record {
   long : length l.out ≡ 512;
   within : l.filled ≤ 512;
-  same : IsHonest l.fn.self.file → (j : ℕ) → j < l.filled → slice_index l.out j ≡ slice_index ((file_history l.fn.self).seen l.fn.self.changes l.fn.n) j;
+  same : IsHonest l.fn.self.file → (j : ℕ) → j < l.filled
+      → slice_index l.out j ≡ slice_index
+      ((file_history l.fn.self).seen l.fn.self.changes l.fn.n) j;
 }

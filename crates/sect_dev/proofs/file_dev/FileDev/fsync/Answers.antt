@@ -9,5 +9,6 @@ returns c = record {
   changes = refl;
   capacity = refl;
   faults = refl;
-  next = recorded_change c.args.self.now.file c.args.self.now.changes (Syncs (is_ok c.sync_all.result));
+  next = recorded_change c.args.self.now.file c.args.self.now.changes
+      (Syncs (is_ok c.sync_all.result));
 }

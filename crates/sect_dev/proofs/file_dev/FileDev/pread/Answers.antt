@@ -7,4 +7,5 @@ use Rattle.sect_dev.proofs.file_dev.FileDev.pread.Goals as goal
 pub returns-clause-gave : goal.returns-clause-gave
 returns-clause-gave c =
     if_ok_all c.read_at.result (λ k. Gave c.args.self.now c.args.at (take k c.read_at.new.buf))
-    (λ k. recorded_read c.args.self.now.file c.args.self.now.changes c.args.at (take k c.read_at.new.buf))
+    (λ k. recorded_read c.args.self.now.file c.args.self.now.changes c.args.at
+    (take k c.read_at.new.buf))

@@ -9,7 +9,9 @@ returns c =
     let done = c.fsync-answer.ensures in
     let told = c.note.ensures in
     record {
-      goes = asked_to_sync old mid c.note.new.self (is_ok c.note.result) (is_ok c.fsync-answer.result) told.answer told.same done;
-      cause = cause_since c.note.result old.faults mid.faults c.note.new.self.faults done.faults told.cause;
+      goes = asked_to_sync old mid c.note.new.self (is_ok c.note.result)
+          (is_ok c.fsync-answer.result) told.answer told.same done;
+      cause = cause_since c.note.result old.faults mid.faults c.note.new.self.faults
+          done.faults told.cause;
       size = told.same.capacity ∙ done.capacity;
     }

@@ -9,9 +9,11 @@ returns c =
     let done = c.pwrite-answer.ensures in
     let told = c.note.ensures in
     record {
-      goes = asked_to_write old mid c.note.new.self (is_ok c.note.result) (is_ok c.pwrite-answer.result) told.answer told.same
+      goes = asked_to_write old mid c.note.new.self (is_ok c.note.result)
+          (is_ok c.pwrite-answer.result) told.answer told.same
           c.offset_of.result (c.args.n * 512) c.args.from.now c.offset_of.ensures done;
       whole = c.told-from;
-      cause = cause_since c.note.result old.faults mid.faults c.note.new.self.faults done.faults told.cause;
+      cause = cause_since c.note.result old.faults mid.faults c.note.new.self.faults
+          done.faults told.cause;
       size = told.same.capacity ∙ done.capacity;
     }

@@ -6,6 +6,7 @@ use Rattle.sect_dev.proofs.mem.MemDev.add_marked.Given as goal
 -- what is there is what is kept of the writes so far
 abbrev pub invariant-loop-i : goal.invariant-loop-i
 invariant-loop-i l = record {
-  kept_so_far : content_after (history l.self) ≡ kept (reverse (take l.i l.writes) ++ history l.fn.self) l.keep;
+  kept_so_far : content_after (history l.self)
+      ≡ kept (reverse (take l.i l.writes) ++ history l.fn.self) l.keep;
   rest : IsSameButRecord l.fn.self l.self;
 }
