@@ -1,4 +1,4 @@
-//! Tests of the engines of scripts, loads, dumps and lists, and of the program over its words.
+//! Tests of the engines of scripts, loads, dumps and lists.
 #![tactic(auto)]
 
 #[cfg(test)]
@@ -8,10 +8,6 @@ mod engines;
 #[cfg(test)]
 mod load_tests;
 #[cfg(test)]
-mod rows;
-#[cfg(test)]
 mod script_tests;
 #[cfg(test)]
 mod streams;
-#[cfg(test)]
-mod tool_tests;

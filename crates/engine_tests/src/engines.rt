@@ -1,0 +1,54 @@
+//! The engines without their contracts, which no test needs and which would stand in each of its
+//! goals.
+
+use dbm_dump::{dump_engine, list_engine};
+use dbm_fault::EngineFault;
+use dbm_file::{Db, Fault};
+use dbm_load::load_engine;
+use dbm_script::script_engine;
+use sect_dev::MemDev;
+use std::alloc::Global;
+use std::io::{BufRead, Write};
+use test_databases::databases::opened;
+
+/// A new database in memory.
+pub fn new_db(alloc: Global, limit: u32) -> Result<Db<MemDev>, Fault> {
+    opened(alloc, MemDev::new(alloc, 8000), true, limit)
+}
+
+/// Answers a script.
+pub fn script<R: BufRead, W: Write>(
+    alloc: Global,
+    db: &mut Db<MemDev>,
+    reader: &mut R,
+    writer: &mut W,
+) -> Result<(), EngineFault> {
+    script_engine(alloc, db, reader, writer)
+}
+
+/// Loads the pairs of a text.
+pub fn load<R: BufRead>(
+    alloc: Global,
+    db: &mut Db<MemDev>,
+    reader: &mut R,
+) -> Result<(), EngineFault> {
+    load_engine(alloc, db, reader)
+}
+
+/// Writes the pairs of a database.
+pub fn dump<W: Write>(
+    alloc: Global,
+    db: &mut Db<MemDev>,
+    writer: &mut W,
+) -> Result<(), EngineFault> {
+    dump_engine(alloc, db, writer)
+}
+
+/// Writes the keys of a database.
+pub fn list<W: Write>(
+    alloc: Global,
+    db: &mut Db<MemDev>,
+    writer: &mut W,
+) -> Result<(), EngineFault> {
+    list_engine(alloc, db, writer)
+}

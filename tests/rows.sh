@@ -1,0 +1,218 @@
+#!/usr/bin/env bash
+# Scripts, loads, dumps, lists and whole commands on real files, worked out by hand, in tables: in a text, `/` stands for the end of a line.
+set -u
+top=$(cd "$(dirname "$0")/.." && pwd)
+program=$top/crates/dbmtool/out/dbmtool
+work=$(mktemp -d)
+trap 'rm -rf "$work"' EXIT
+cd "$work" || exit 1
+bad=0
+rows=0
+wrong() { echo "$1"; bad=1; }
+
+# runs WORD..: over the input in the file `in`; what it prints is in the files out and err, its status in $status
+runs() { "$program" "$@" < in > out 2> err; status=$?; }
+
+# lines TEXT: its bytes
+lines() { printf '%s' "$1" | tr '/' '\n'; }
+
+# says FILE TEXT: whether the file holds exactly this
+says() { lines "$2" | cmp -s - "$1"; }
+
+# told ROW: a row of a table that isn't so
+told() { wrong "row $1: status $status"; head -c 300 out err; }
+
+# fields ROW: its words in front of the first bracket in $before, the texts in brackets in $texts, what stands behind in $behind
+fields() {
+  local rest=$1
+  before=${rest%%[*} texts=()
+  rest=${rest#"$before"}
+  while [ "${rest:0:1}" = '[' ]; do
+    texts+=("$(sed -E 's/^\[([^]]*)\].*/\1/' <<< "$rest")")
+    rest=$(sed -E 's/^\[[^]]*\] ?//' <<< "$rest")
+  done
+  read -ra before <<< "$before"
+  behind=$rest
+  rows=$((rows + 1))
+}
+
+# LIMIT [script] [answer]
+while IFS= read -r row; do
+  fields "$row"
+  lines "${texts[0]}" > in
+  runs script --memory "${before[0]}"
+  [ "$status" = 0 ] && says out "${texts[1]}" && [ ! -s err ] || told "$row"
+done <<'ROWS'
+100 [S 6b 76/F 6b/] [0/76/]
+100 [S . ./F ./F 00/] [0/./none/]
+1 [S 61 01/S 62 01/S 61 02/F 61/] [0/-1 fault 6/0/02/]
+100 [Q/S 6/F 6b 6b//F 6B/] [-1 line/-1 line/-1 line/-1 line/none/]
+100 [S 6B fF/F 6b] [0/ff/]
+100 [I 61 01/I 61 02/F 61/D 61/D 61/F 61/] [0/1/01/0/-1 absent/none/]
+100 [N/1/N/E/] [-1 fault 7/end/end/7/]
+100 [S 61 01/1/F 61/I 61 02/N/N/] [0/61/01/1/end/end/]
+100 [S 61 01/1/S 61 02/N/1/] [0/61/0/-1 fault 7/61/]
+1 [S 61 01/S 62 01/N/E/C/E/] [0/-1 fault 6/-1 fault 7/6/0/0/]
+100 [S . 01/1/D ./E/] [0/./0/0/]
+100 [1 /N 61/e/C/I 61/D 61 62/ 1/] [-1 line/-1 line/-1 line/0/-1 line/-1 line/-1 line/]
+100 [F  61/F 61 /S 61 01 /s 61 01/F 6g/] [-1 line/-1 line/-1 line/-1 line/-1 line/]
+100 [] []
+ROWS
+
+# LIMIT [lines to load] [faults] [dump] STATUS
+while IFS= read -r row; do
+  fields "$row"
+  rm -f t.db; "$program" create t --limit "${before[0]}" || wrong "no file was made"
+  lines "${texts[0]}" > in
+  runs load t
+  [ "$status" = "$behind" ] && [ ! -s out ] && says err "${texts[1]}" || told "$row"
+  runs dump t
+  says out "${texts[2]}" || told "$row"
+done <<'ROWS'
+100 [61 FF/62 ./zz/] [dbmtool: line 3/] [61 ff/62 ./] 2
+100 [] [] [] 0
+100 [62 02/61 01] [] [61 01/62 02/] 0
+100 [zz/61 01/] [dbmtool: line 1/] [] 2
+1 [61 01/62 02/61 03/] [dbmtool: fault 6/] [61 01/] 2
+1 [61 01/61 aBcD/] [] [61 abcd/] 0
+100 [61 01//62 02/] [dbmtool: line 2/] [61 01/] 2
+100 [61] [dbmtool: line 1/] [] 2
+100 [61 ] [dbmtool: line 1/] [] 2
+100 [ 61 01] [dbmtool: line 1/] [] 2
+100 [61 01 ] [dbmtool: line 1/] [] 2
+100 [61  01] [dbmtool: line 1/] [] 2
+100 [61 01 02] [dbmtool: line 1/] [] 2
+100 [6 01] [dbmtool: line 1/] [] 2
+100 [61 0g] [dbmtool: line 1/] [] 2
+100 [61	01] [dbmtool: line 1/] [] 2
+ROWS
+printf '61 01\r\n' > in
+runs load t; [ "$status" = 2 ] && says err 'dbmtool: line 1/' || wrong "a line that ends as on Windows is loaded"
+
+# Lines at the greatest length and above it: so many bytes of zero behind these words.
+zeros=$(printf '%08194d' 0)
+long() { printf '%s%s\n' "$1" "${zeros:0:$((2 * $2))}"; }
+answers_long() {
+  { long "$1" "$2"; echo 'F 61'; } > in
+  runs script --memory 100
+  [ "$status" = 0 ] && says out "$3" || wrong "a script's line of '$1' and $2 bytes"
+}
+answers_long 'S 6b ' 2025 '0/none/'
+answers_long 'S 6b ' 2026 '-1 fault 5/none/'
+answers_long 'S . ' 4094 '-1 fault 5/none/'
+answers_long 'S 6b ' 4094 '-1 line/none/'
+loads_long() {
+  rm -f t.db; "$program" create t --limit 100
+  long "$1" "$2" > in
+  runs load t
+  says err "$3" || wrong "a line to load of '$1' and $2 bytes"
+}
+loads_long '6b ' 2025 ''
+loads_long '6b ' 2026 'dbmtool: fault 5/'
+loads_long '. ' 4095 'dbmtool: fault 5/'
+loads_long '6b ' 4095 'dbmtool: line 1/'
+
+# command line [input] [output] [faults] STATUS, one after another
+while IFS= read -r row; do
+  fields "$row"
+  lines "${texts[0]}" > in
+  runs "${before[@]}"
+  [ "$status" = "$behind" ] && says out "${texts[1]}" && says err "${texts[2]}" || told "$row"
+done <<'ROWS'
+create tool --limit 100 [] [] [] 0
+list tool [] [] [] 0
+dump tool [] [] [] 0
+store tool k v [] [] [] 0
+fetch tool k [] [v/] [] 0
+insert tool k w [] [] [] 1
+fetch tool 6B -x [] [76/] [] 0
+fetch -x tool 6b [] [76/] [] 0
+insert tool -x 61 02 [] [] [] 0
+store -x tool 61 03 [] [] [] 0
+fetch tool 61 -x [] [03/] [] 0
+delete -x tool 61 [] [] [] 0
+fetch tool a [] [] [] 1
+list tool [] [6b/] [] 0
+dump tool [] [6b 76/] [] 0
+delete tool k [] [] [] 0
+delete tool k [] [] [] 1
+fetch tool 6 -x [] [] [dbmtool: not hex/] 3
+create tool [] [] [dbmtool: fault 15/] 2
+script [] [] [dbmtool: script needs FILE or --memory/] 3
+script tool --memory 5 [] [] [dbmtool: script needs FILE or --memory/] 3
+script tool [S 6b 76/F 6b/I 6b 77/Q/D 6b/E/] [0/76/1/-1 line/0/0/] [] 0
+insert tool 00 00 -x [] [] [] 0
+script tool [I . ./] [0/] [] 0
+dump tool [] [. ./00 00/] [] 0
+list tool [] [./00/] [] 0
+create nine --limit 0 [] [] [dbmtool: fault 13/] 2
+create nine --limit=100 [] [] [] 0
+load nine [61 01/62 02/63 03/64 04/65 05/66 06/67 07/68 08/69 09/] [] [] 0
+stat nine [] [pairs 9/limit 100/buckets 2/level 1/split 0/pages 5/free 0/] [] 0
+load nine [61 FF/62 ./zz/63 00/] [] [dbmtool: line 3/] 2
+dump nine [] [61 ff/62 ./63 03/64 04/65 05/66 06/67 07/68 08/69 09/] [] 0
+create t2 --limit 4294967295 [] [] [dbmtool: fault 13/] 2
+create seven --limit 7 [] [] [] 0
+stat seven [] [pairs 0/limit 7/buckets 1/level 0/split 0/pages 4/free 0/] [] 0
+create --limit=1 one [] [] [] 0
+stat one [] [pairs 0/limit 1/buckets 1/level 0/split 0/pages 4/free 0/] [] 0
+create most [] [] [] 0
+stat most [] [pairs 0/limit 1000000/buckets 1/level 0/split 0/pages 4/free 0/] [] 0
+fetch absent x [] [] [dbmtool: fault 14/] 2
+load absent [] [] [dbmtool: fault 14/] 2
+ROWS
+
+# a content of no bytes
+: > in
+runs store tool k ''; [ "$status" = 0 ] || wrong "a content of no bytes isn't stored"
+runs fetch tool k; [ "$status" = 0 ] && says out '/' || wrong "a content of no bytes isn't there"
+
+printf hello > text.db
+runs fetch text a; [ "$status" = 2 ] && says err 'dbmtool: fault 10/' || wrong "a file of something else is read"
+runs create text; [ "$status" = 2 ] && says err 'dbmtool: fault 15/' || wrong "a file of something else is made anew"
+[ "$(cat text.db)" = hello ] || wrong "a file of something else is changed"
+
+# command line | what the line that tells of it names: each is usage
+while IFS='|' read -r words named; do
+  rows=$((rows + 1))
+  # shellcheck disable=SC2086
+  runs $words
+  [ "$status" = 3 ] && [ ! -s out ] && grep -qF -- "$named" err || { wrong "dbmtool $words: status $status"; cat err; }
+done <<'ROWS'
+|dbmtool
+verify t|'verify'
+create|<FILE>
+create t --limit 4294967296|'4294967296'
+create t --limit many|'many'
+create t --limit|--limit
+store t k|<CONTENT>
+store t k v w|'w'
+insert t -k v|'-k'
+fetch t|<KEY>
+fetch t k -x -x|-x
+list|<FILE>
+dump t --memory 5|'--memory'
+script --memory -1|-1
+ROWS
+
+# help, and each command's own, with an example that names it
+for words in --help -h help; do
+  runs "$words"
+  [ "$status" = 0 ] && [ ! -s err ] && grep -A1 '^Example:' out | grep -q '^  dbmtool create' || wrong "dbmtool $words"
+done
+commands='create store insert fetch delete list dump load stat script'
+for command in $commands; do
+  grep -qE "^  $command " out || wrong "the help doesn't name $command"
+done
+for command in $commands; do
+  runs "$command" --help
+  [ "$status" = 0 ] && grep -q "Usage: dbmtool $command " out && sed '1,/^Example:/d' out | grep -q "dbmtool $command " ||
+    wrong "the help of $command"
+done
+for line in 'S KEY CONTENT' 'I KEY CONTENT' 'F KEY' 'D KEY' 1 N E C; do
+  grep -q "^  $line " out || wrong "the help of scripts lacks $line"
+done
+
+echo "$rows rows"
+[ "$rows" = 85 ] || wrong "not each row was read"
+exit $bad
