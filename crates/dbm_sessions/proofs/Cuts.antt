@@ -1,0 +1,197 @@
+-- What a call leaves that a stop or a fault of the device cut short.
+use Rattle.std.proofs.Common.{◌≡◌, ◌⊎◌, inl, inr, ⊎_elim, ℕ, Bool, true, false, ◌&&◌, ◌||◌, not, cond, List, [], ◌∷◌, ◌++◌, refl, sym, ◌∙◌, ap, ap₂, subst, append_assoc, Contains}
+use Rattle.dbm_model.specs.Calls.{Call, Store, Fetch, Delete, First, Next, Error, Clear, Reply, Stored, Deleted, Refused, Fault, Device}
+use Rattle.dbm_model.specs.Changes.{map_asked}
+use Rattle.dbm_model.specs.Pairs.{Contents}
+use Rattle.dbm_model.specs.States.{State, Handle}
+use Rattle.dbm_model.specs.Steps.{Case, Tells, Refuses, Declines, Finds, Passes, Changes, case_of, Answers, Suffers, Step, Run}
+use Rattle.dbm_model.proofs.CaseLemmas.{Suits, suits}
+use Rattle.dbm_model.proofs.RuleLemmas.{ByCase}
+use Rattle.dbm_sessions.specs.Members.{Member, Holding, Members, held}
+use Rattle.dbm_sessions.specs.Sessions.{left_by}
+use Rattle.dbm_sessions.specs.Changes.{Marked, of_answer, of_cut, of_calls, of_stopped, is_device, has_device, of_broken, LeftBy, OnlyLastInDoubt}
+use Rattle.dbm_sessions.proofs.Lists.{in_one, in_two, is_first, is_later}
+use Rattle.dbm_sessions.proofs.Leaving.{one_behind, none_in_doubt}
+use Rattle.dbm_sessions.proofs.Calls.{answer_all}
+
+-- ---- the call itself
+
+not_made : (call : Call) (m : Member) → LeftBy (of_cut call) m m
+not_made (Store key content mode) m = inr refl
+not_made (Delete key) m = inr refl
+not_made call m = refl
+
+-- it was made, or not
+made_whole : (call : Call) (map : Contents) (limit : ℕ)
+    → LeftBy (of_cut call) (Holding map limit) (Holding (map_asked map call) limit)
+made_whole (Store key content mode) map limit = inl refl
+made_whole (Delete key) map limit = inl refl
+made_whole call map limit = refl
+
+same : (call : Call) (a b : Member) → b ≡ a → LeftBy (of_cut call) a b
+same call a b is = subst (LeftBy (of_cut call) a) (sym is) (not_made call a)
+
+by_rule : (s : State) (call : Call) (c : Case) → Suits s call c → (member : Member)
+    → Contains (left_by s c) member → LeftBy (of_cut call) (held s) member
+by_rule s call (Tells said told) fits member is = same call (held s) member (in_one (held s) member is)
+by_rule s call (Refuses fault) fits member is = same call (held s) member (in_one (held s) member is)
+by_rule s call (Declines fault) fits member is = same call (held s) member (in_one (held s) member is)
+by_rule s call (Finds found) fits member is = same call (held s) member (in_one (held s) member is)
+by_rule s call (Passes left) fits member is = same call (held s) member (in_one (held s) member is)
+by_rule s call (Changes said map) fits member is =
+    ⊎_elim (λ e. same call (held s) member e)
+    (λ e. subst (LeftBy (of_cut call) (held s))
+    (sym (e ∙ ap (λ (m : Contents). Holding m s.limit) fits.1))
+    (made_whole call s.map s.limit))
+    (in_two (held s) (Holding map s.limit) member is)
+
+pub cut_left : (s : State) (call : Call) (member : Member)
+    → Contains (left_by s (case_of s call)) member → LeftBy (of_cut call) (held s) member
+cut_left s call member is = by_rule s call (case_of s call) (suits s call) member is
+
+-- a call that was cut short leaves what there was, or what it asks for
+way : (call : Call) (map : Contents) (limit : ℕ) (member : Member)
+    → LeftBy (of_cut call) (Holding map limit) member
+    → (member ≡ Holding map limit) ⊎ (member ≡ Holding (map_asked map call) limit)
+way (Store key content mode) map limit member (inl done) = inr done
+way (Store key content mode) map limit member (inr not_done) = inl not_done
+way (Delete key) map limit member (inl done) = inr done
+way (Delete key) map limit member (inr not_done) = inl not_done
+way (Fetch key) map limit member left = inl left
+way First map limit member left = inl left
+way Next map limit member left = inl left
+way Error map limit member left = inl left
+way Clear map limit member left = inl left
+
+-- a handle breaks only where the rule is a change
+abbrev pub BreaksBy : State → Call → Case → Type 0
+BreaksBy s call c = (said : Reply) × (c ≡ Changes said (map_asked s.map call))
+
+still : (s after : State) (call : Call) (c : Case) → after.usable ≡ s.usable → s.usable ≡ true
+    → after.usable ≡ false → BreaksBy s call c
+still s after call c is was now = absurd (let x = is in cc)
+
+breaks_by : (before after : Handle) (call : Call) (c : Case) (reply : Reply)
+    → Suits before.state call c → ByCase before c reply after → before.state.usable ≡ true
+    → after.state.usable ≡ false → BreaksBy before.state call c
+breaks_by before after call (Tells said told) reply fits (inl is) was now =
+    still before.state after.state call (Tells said told)
+    (ap (λ (t : State). t.usable) is.1 ∙ fits.1) was now
+breaks_by before after call (Tells said told) reply fits (inr is) was now = absurd is
+breaks_by before after call (Refuses fault) reply fits (inl is) was now =
+    still before.state after.state call (Refuses fault) (ap (λ (t : State). t.usable) is.1) was now
+breaks_by before after call (Refuses fault) reply fits (inr is) was now = absurd is
+breaks_by before after call (Declines fault) reply fits (inl is) was now =
+    still before.state after.state call (Declines fault) (ap (λ (t : State). t.usable) is.1) was now
+breaks_by before after call (Declines fault) reply fits (inr is) was now =
+    still before.state after.state call (Declines fault) (ap (λ (t : State). t.usable) is.2) was now
+breaks_by before after call (Finds found) reply fits (inl is) was now =
+    still before.state after.state call (Finds found) (ap (λ (t : State). t.usable) is.1) was now
+breaks_by before after call (Finds found) reply fits (inr is) was now =
+    still before.state after.state call (Finds found) (ap (λ (t : State). t.usable) is.2) was now
+breaks_by before after call (Passes left) reply fits (inl (inl end)) was now =
+    still before.state after.state call (Passes left) (ap (λ (t : State). t.usable) end.2) was now
+breaks_by before after call (Passes left) reply fits (inl (inr given)) was now =
+    still before.state after.state call (Passes left) (ap (λ (t : State). t.usable) given.3) was now
+breaks_by before after call (Passes left) reply fits (inr is) was now =
+    still before.state after.state call (Passes left) (ap (λ (t : State). t.usable) is.2) was now
+breaks_by before after call (Changes said map) reply fits is was now =
+    (said, ap (Changes said) fits.1)
+
+-- what a stop leaves of the call that broke the handle: the map before it, and the one it asks for
+pub broken_leaves : (before after : Handle) (call : Call) (reply : Reply)
+    → Step before call reply after → before.state.usable ≡ true → after.state.usable ≡ false
+    → left_by before.state (case_of before.state call) ≡ held before.state
+    ∷ Holding (map_asked before.state.map call) before.state.limit ∷ []
+broken_leaves before after call reply step was now = ap (left_by before.state)
+    (breaks_by before after call (case_of before.state call) reply (suits before.state call)
+    step.answers was now).1
+
+pub both_left : (s : State) (call : Call) (member : Member) → LeftBy (of_cut call) (held s) member
+    → Contains (held s ∷ Holding (map_asked s.map call) s.limit ∷ []) member
+both_left s call member left =
+    let asked = Holding (map_asked s.map call) s.limit in
+    ⊎_elim (λ e. is_first (held s) (asked ∷ []) member e)
+    (λ e. is_later (held s) (asked ∷ []) member (is_first asked [] member e))
+    (way call s.map s.limit member left)
+
+-- ---- in a list of calls
+
+pub stopped_changes : (first last : Handle) (made : List Call) (replies : List Reply) (call : Call)
+    (rest : List Call) → Run first made replies last
+    → of_stopped (made ++ call ∷ rest) replies ≡ of_calls made replies ++ of_cut call
+stopped_changes first last [] [] call rest run = refl
+stopped_changes first last [] (reply ∷ replies) call rest run = absurd run
+stopped_changes first last (one ∷ made) [] call rest run = absurd run
+stopped_changes first last (one ∷ made) (reply ∷ replies) call rest run =
+    ap (λ (changes : List Marked). of_answer one reply ++ changes)
+    (stopped_changes run.0 last made replies call rest run.2)
+    ∙ sym (append_assoc (of_answer one reply) (of_calls made replies) (of_cut call))
+
+pub rested_changes : (first last : Handle) (made : List Call) (replies : List Reply)
+    (later : List Call) → Run first made replies last
+    → of_calls (made ++ later) replies ≡ of_calls made replies
+rested_changes first last [] [] [] run = refl
+rested_changes first last [] [] (call ∷ later) run = refl
+rested_changes first last [] (reply ∷ replies) later run = absurd run
+rested_changes first last (one ∷ made) [] later run = absurd run
+rested_changes first last (one ∷ made) (reply ∷ replies) later run =
+    ap (λ (changes : List Marked). of_answer one reply ++ changes)
+    (rested_changes run.0 last made replies later run.2)
+
+has_one : (answered refused : List Reply)
+    → has_device (answered ++ Refused Device ∷ refused) ≡ true
+has_one [] refused = refl
+has_one (reply ∷ answered) refused = elim (is_device reply) as
+    (λ b. (b || has_device (answered ++ Refused Device ∷ refused)) ≡ true) [
+      | true ↦ refl
+      | false ↦ has_one answered refused
+    ]
+
+never : (a b : Bool) → b ≡ true → (a && not b) ≡ false
+never true b is = ap not is
+never false b is = refl
+
+pub broken_changes : (first last : Handle) (made : List Call) (answered refused : List Reply)
+    (call : Call) (rest : List Call) → Run first made answered last → has_device refused ≡ false
+    → of_broken (made ++ call ∷ rest) (answered ++ Refused Device ∷ refused)
+    ≡ of_calls made answered ++ of_cut call
+broken_changes first last [] [] refused call rest run others =
+    ap (λ b. cond (not b) (of_cut call) (of_answer call (Refused Device) ++ of_broken rest refused))
+    others
+broken_changes first last [] (reply ∷ answered) refused call rest run others = absurd run
+broken_changes first last (one ∷ made) [] refused call rest run others = absurd run
+broken_changes first last (one ∷ made) (reply ∷ answered) refused call rest run others =
+    let later = answered ++ Refused Device ∷ refused in
+    ap (λ b. cond b (of_cut one) (of_answer one reply ++ of_broken (made ++ call ∷ rest) later))
+    (never (is_device reply) (has_device later) (has_one answered refused))
+    ∙ ap (λ (changes : List Marked). of_answer one reply ++ changes)
+    (broken_changes run.0 last made answered refused call rest run.2 others)
+    ∙ sym (append_assoc (of_answer one reply) (of_calls made answered) (of_cut call))
+
+-- ---- one in doubt at most
+
+cut_one : (call : Call) → OnlyLastInDoubt (of_cut call)
+cut_one (Store key content mode) = refl
+cut_one (Delete key) = refl
+cut_one call = tt
+
+pub stopped_one : (calls : List Call) (replies : List Reply)
+    → OnlyLastInDoubt (of_stopped calls replies)
+stopped_one [] replies = tt
+stopped_one (call ∷ calls) [] = cut_one call
+stopped_one (call ∷ calls) (reply ∷ replies) =
+    one_behind (of_answer call reply) (of_stopped calls replies) (answer_all call reply)
+    (stopped_one calls replies)
+
+pub broken_one : (calls : List Call) (replies : List Reply)
+    → OnlyLastInDoubt (of_broken calls replies)
+broken_one [] replies = tt
+broken_one (call ∷ calls) [] = tt
+broken_one (call ∷ calls) (reply ∷ replies) = elim (is_device reply && not (has_device replies)) as
+    (λ b. OnlyLastInDoubt (cond b (of_cut call) (of_answer call reply ++ of_broken calls replies)))
+    [
+      | true ↦ cut_one call
+      | false ↦ one_behind (of_answer call reply) (of_broken calls replies)
+          (answer_all call reply) (broken_one calls replies)
+    ]

@@ -1,0 +1,231 @@
+-- What sessions leave, by their changes.
+use Rattle.std.proofs.Common.{◌≡◌, ◌⊎◌, inl, inr, ⊎_elim, Bool, true, false, List, [], ◌∷◌, ◌++◌, map, refl, sym, ◌∙◌, ap, ap₂, subst, Contains}
+use Rattle.std.proofs.lemmas.List.Elements.{Contains-append_left, Contains-append_right, Contains-append_cases}
+use Rattle.dbm_model.specs.Calls.{Call, Reply, Refused, Device}
+use Rattle.dbm_model.specs.States.{Handle}
+use Rattle.dbm_model.specs.Steps.{case_of}
+use Rattle.dbm_sessions.specs.Members.{Member, Holding, Members, held, Opening, opened}
+use Rattle.dbm_sessions.specs.Sessions.{Plan, Ending, NotOpened, StoppedOpening, Rested, StoppedCall, Broke, Begins, Goes, Rests, left_by, CutShort, Breaks, SessionStep, Sessions}
+use Rattle.dbm_sessions.specs.Changes.{Marked, Acknowledged, InDoubt, of_opening, of_cut, of_calls, of_stopped, of_broken, changes_in, changes_of, LeftBy, OnlyLastInDoubt, OneInDoubt, AcknowledgedChangesStay, PrefixIsLeft, is_opened, OpeningEndsDoubt, RefusalTakesNothing, BreakLeavesBoth}
+use Rattle.dbm_sessions.proofs.Lists.{in_none, in_one, in_map, map_has}
+use Rattle.dbm_sessions.proofs.Leaving.{left_append, left_rest, opening_made, opening_in_doubt, opening_all, opening_one, prefix_left, one_behind, none_in_doubt}
+use Rattle.dbm_sessions.proofs.Calls.{none_by_device, calls_left, calls_all}
+use Rattle.dbm_sessions.proofs.Cuts.{cut_left, broken_leaves, both_left, stopped_changes, rested_changes, broken_changes, stopped_one, broken_one}
+
+-- ---- the calls of a session
+
+rests_left : (first : Handle) (calls : List Call) (replies : List Reply) (after : Members)
+    → Rests first calls replies after → (member : Member) → Contains after member
+    → LeftBy (of_calls calls replies) (held first.state) member
+rests_left first calls replies after r member is =
+    let last = r.goes.last in
+    let made = r.goes.made in
+    let e = in_one (held last.state) member
+    (subst (λ (ms : Members). Contains ms member) r.left is) in
+    let changes = ap (λ (cs : List Call). of_calls cs replies) r.goes.calls_are
+    ∙ rested_changes first last made replies r.goes.later r.goes.run in
+    subst (λ (xs : List Marked). LeftBy xs (held first.state) member) (sym changes)
+    (subst (LeftBy (of_calls made replies) (held first.state)) (sym e)
+    (calls_left first last made replies r.goes.run r.goes.usable))
+
+cut_way : (first : Handle) (calls : List Call) (replies : List Reply) (after : Members)
+    (cut : CutShort first calls replies after) (member : Member) → Contains after member
+    → LeftBy (of_calls cut.goes.made replies ++ of_cut cut.call) (held first.state) member
+cut_way first calls replies after cut member is =
+    let last = cut.goes.last in
+    left_append (of_calls cut.goes.made replies) (of_cut cut.call) (held first.state)
+    (held last.state) member
+    (calls_left first last cut.goes.made replies cut.goes.run cut.goes.usable)
+    (cut_left last.state cut.call member
+    (subst (λ (ms : Members). Contains ms member) cut.left is))
+
+cut_calls : (first : Handle) (calls : List Call) (replies : List Reply) (after : Members)
+    (cut : CutShort first calls replies after) → calls ≡ cut.goes.made ++ cut.call ∷ cut.rest
+cut_calls first calls replies after cut =
+    cut.goes.calls_are ∙ ap (λ (later : List Call). cut.goes.made ++ later) cut.next
+
+stopped_left : (first : Handle) (calls : List Call) (replies : List Reply) (after : Members)
+    → CutShort first calls replies after → (member : Member) → Contains after member
+    → LeftBy (of_stopped calls replies) (held first.state) member
+stopped_left first calls replies after cut member is =
+    let changes = ap (λ (cs : List Call). of_stopped cs replies)
+    (cut_calls first calls replies after cut)
+    ∙ stopped_changes first cut.goes.last cut.goes.made replies cut.call cut.rest cut.goes.run in
+    subst (λ (xs : List Marked). LeftBy xs (held first.state) member) (sym changes)
+    (cut_way first calls replies after cut member is)
+
+breaks_changes : (first : Handle) (calls : List Call) (replies : List Reply) (after : Members)
+    (b : Breaks first calls replies after) → of_broken calls replies
+    ≡ of_calls b.cut.goes.made b.answered ++ of_cut b.cut.call
+breaks_changes first calls replies after b =
+    ap₂ of_broken (cut_calls first calls b.answered after b.cut) b.replies_are
+    ∙ broken_changes first b.cut.goes.last b.cut.goes.made b.answered b.refused b.cut.call
+    b.cut.rest b.cut.goes.run (none_by_device b.broken b.last b.then_made b.refused b.run b.breaks)
+
+breaks_left : (first : Handle) (calls : List Call) (replies : List Reply) (after : Members)
+    → Breaks first calls replies after → (member : Member) → Contains after member
+    → LeftBy (of_broken calls replies) (held first.state) member
+breaks_left first calls replies after b member is =
+    subst (λ (xs : List Marked). LeftBy xs (held first.state) member)
+    (sym (breaks_changes first calls replies after b))
+    (cut_way first calls b.answered after b.cut member is)
+
+-- ---- a session
+
+begins_made : (before : Members) (how : Opening) (first : Handle) (b : Begins before how first)
+    → LeftBy (of_opening Acknowledged how) b.member (held first.state)
+begins_made before how first b =
+    subst (LeftBy (of_opening Acknowledged how) b.member) b.begins (opening_made how b.member)
+
+after_opening : (before : Members) (how : Opening) (first : Handle) (b : Begins before how first)
+    (changes : List Marked) (member : Member) → LeftBy changes (held first.state) member
+    → LeftBy (of_opening Acknowledged how ++ changes) b.member member
+after_opening before how first b changes member left =
+    left_append (of_opening Acknowledged how) changes b.member (held first.state) member
+    (begins_made before how first b) left
+
+refused_cases : (before : Members) (how : Opening) (after : Members)
+    → after ≡ before ++ map (opened how) before → (member : Member) → Contains after member
+    → (start : Member) × Contains before start
+    × ((member ≡ start) ⊎ (member ≡ opened how start))
+refused_cases before how after left member is =
+    ⊎_elim (λ old. (member, old, inl refl))
+    (λ new. let from = in_map (opened how) before member new in (from.0, from.1, inr from.2))
+    (Contains-append_cases before (map (opened how) before) member
+    (subst (λ (ms : Members). Contains ms member) left is))
+
+refused_left : (before : Members) (how : Opening) (after : Members)
+    → after ≡ before ++ map (opened how) before → (member : Member) → Contains after member
+    → (start : Member) × Contains before start × LeftBy (of_opening InDoubt how) start member
+refused_left before how after left member is =
+    let c = refused_cases before how after left member is in
+    (c.0, c.1, opening_in_doubt how c.0 member c.2)
+
+pub ends_doubt : OpeningEndsDoubt
+ends_doubt before after plan (NotOpened fault) step is = absurd (let x = is in cc)
+ends_doubt before after plan StoppedOpening step is = absurd (let x = is in cc)
+ends_doubt before after plan (Rested replies) step is = (
+  step.1.member,
+  step.1.among,
+  λ member among. after_opening before plan.how step.0 step.1 (of_calls plan.calls replies) member
+      (rests_left step.0 plan.calls replies after step.2 member among),
+)
+ends_doubt before after plan (StoppedCall replies) step is = (
+  step.1.member,
+  step.1.among,
+  λ member among. after_opening before plan.how step.0 step.1 (of_stopped plan.calls replies)
+      member (stopped_left step.0 plan.calls replies after step.2 member among),
+)
+ends_doubt before after plan (Broke replies) step is = (
+  step.1.member,
+  step.1.among,
+  λ member among. after_opening before plan.how step.0 step.1 (of_broken plan.calls replies)
+      member (breaks_left step.0 plan.calls replies after step.2 member among),
+)
+
+by_opened : (before after : Members) (plan : Plan) (ending : Ending)
+    → SessionStep before plan ending after → is_opened ending ≡ true → (member : Member)
+    → Contains after member
+    → (start : Member) × Contains before start × LeftBy (changes_in plan ending) start member
+by_opened before after plan ending step is member among =
+    let one = ends_doubt before after plan ending step is in
+    (one.0, one.1, one.2 member among)
+
+session_left : (before after : Members) (plan : Plan) (ending : Ending)
+    → SessionStep before plan ending after → (member : Member) → Contains after member
+    → (start : Member) × Contains before start × LeftBy (changes_in plan ending) start member
+session_left before after plan (NotOpened fault) step member among =
+    refused_left before plan.how after step member among
+session_left before after plan StoppedOpening step member among =
+    refused_left before plan.how after step member among
+session_left before after plan (Rested replies) step member among =
+    by_opened before after plan (Rested replies) step refl member among
+session_left before after plan (StoppedCall replies) step member among =
+    by_opened before after plan (StoppedCall replies) step refl member among
+session_left before after plan (Broke replies) step member among =
+    by_opened before after plan (Broke replies) step refl member among
+
+pub one_in_doubt : OneInDoubt
+one_in_doubt plan (NotOpened fault) = opening_one plan.how
+one_in_doubt plan StoppedOpening = opening_one plan.how
+one_in_doubt plan (Rested replies) =
+    one_behind (of_opening Acknowledged plan.how) (of_calls plan.calls replies)
+    (opening_all plan.how)
+    (none_in_doubt (of_calls plan.calls replies) (calls_all plan.calls replies))
+one_in_doubt plan (StoppedCall replies) =
+    one_behind (of_opening Acknowledged plan.how) (of_stopped plan.calls replies)
+    (opening_all plan.how) (stopped_one plan.calls replies)
+one_in_doubt plan (Broke replies) =
+    one_behind (of_opening Acknowledged plan.how) (of_broken plan.calls replies)
+    (opening_all plan.how) (broken_one plan.calls replies)
+
+pub prefix_is_left : PrefixIsLeft
+prefix_is_left before after plan ending step member among =
+    let one = session_left before after plan ending step member among in (
+      one.0,
+      one.1,
+      prefix_left (changes_in plan ending) one.0 member (one_in_doubt plan ending) one.2,
+    )
+
+kept_and_opened : (before : Members) (how : Opening) (after : Members)
+    → after ≡ before ++ map (opened how) before → (member : Member) → Contains before member
+    → Contains after member × Contains after (opened how member)
+kept_and_opened before how after left member among = (
+  subst (λ (ms : Members). Contains ms member) (sym left)
+      (Contains-append_left before (map (opened how) before) member among),
+  subst (λ (ms : Members). Contains ms (opened how member)) (sym left)
+      (Contains-append_right before (map (opened how) before) (opened how member)
+      (map_has (opened how) before member among)),
+)
+
+pub takes_nothing : RefusalTakesNothing
+takes_nothing before after plan (NotOpened fault) step is member among =
+    kept_and_opened before plan.how after step member among
+takes_nothing before after plan StoppedOpening step is member among =
+    kept_and_opened before plan.how after step member among
+takes_nothing before after plan (Rested replies) step is member among = absurd (let x = is in cc)
+takes_nothing before after plan (StoppedCall replies) step is member among =
+    absurd (let x = is in cc)
+takes_nothing before after plan (Broke replies) step is member among = absurd (let x = is in cc)
+
+broken_has : (first : Handle) (calls : List Call) (replies : List Reply) (after : Members)
+    → Breaks first calls replies after → (member : Member)
+    → LeftBy (of_broken calls replies) (held first.state) member → Contains after member
+broken_has first calls replies after b member left =
+    let last = b.cut.goes.last in
+    let made = b.cut.goes.made in
+    let both = subst (λ (xs : List Marked). LeftBy xs (held first.state) member)
+    (breaks_changes first calls replies after b) left in
+    let of_last = left_rest (of_calls made b.answered) (of_cut b.cut.call) (held first.state)
+    (held last.state) member (calls_all made b.answered)
+    (calls_left first last made b.answered b.cut.goes.run b.cut.goes.usable) both in
+    subst (λ (ms : Members). Contains ms member)
+    (sym (b.cut.left ∙ broken_leaves last b.broken b.cut.call (Refused Device) b.step
+    b.cut.goes.usable b.breaks))
+    (both_left last.state b.cut.call member of_last)
+
+pub leaves_both : BreakLeavesBoth
+leaves_both before after plan replies step = (
+  step.1.member,
+  step.1.among,
+  λ member left. broken_has step.0 plan.calls replies after step.2 member
+      (left_rest (of_opening Acknowledged plan.how) (of_broken plan.calls replies) step.1.member
+      (held step.0.state) member (opening_all plan.how)
+      (begins_made before plan.how step.0 step.1) left),
+)
+
+-- ---- all sessions
+
+pub changes_stay : AcknowledgedChangesStay
+changes_stay before after [] [] all member among =
+    (member, subst (λ (ms : Members). Contains ms member) all among, refl)
+changes_stay before after [] (ending ∷ endings) all member among = absurd all
+changes_stay before after (plan ∷ plans) [] all member among = absurd all
+changes_stay before after (plan ∷ plans) (ending ∷ endings) all member among =
+    let later = changes_stay all.0 after plans endings all.2 member among in
+    let one = session_left before all.0 plan ending all.1 later.0 later.1 in (
+      one.0,
+      one.1,
+      left_append (changes_in plan ending) (changes_of plans endings) one.0 later.0 member one.2
+          later.2,
+    )

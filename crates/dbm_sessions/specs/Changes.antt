@@ -1,0 +1,166 @@
+-- The changes that sessions ask for, told from their plans and endings, and what is left by them.
+use Rattle.std.specs.Prelude.{◌≡◌, ◌⊎◌, ◌↔◌, ◌≤◌, ◌+◌, ℕ, Bool, true, false, ◌&&◌, ◌||◌, not, if◌then◌else◌, List, [], ◌∷◌, ◌++◌, take, drop, map, Contains}
+use Rattle.std.specs.FinMap.{insert, remove}
+use Rattle.dbm_model.specs.Calls.{Call, Store, Delete, Reply, Stored, Deleted, Refused, Fault, Device}
+use Rattle.dbm_model.specs.Pairs.{Key}
+use Rattle.dbm_sessions.specs.Members.{Member, NoDatabase, Holding, Members, Opening, opened}
+use Rattle.dbm_sessions.specs.Sessions.{Plan, Ending, NotOpened, StoppedOpening, Rested, StoppedCall, Broke, SessionStep, Sessions}
+
+-- a change, as a plain operation on the map
+pub data Change : Type 0 where
+  Puts : Key → List ℕ → Change
+  Removes : Key → Change
+  -- an opening that creates or empties
+  Opens : Opening → Change
+
+abbrev pub applied : Change → Member → Member
+applied (Opens how) member = opened how member
+applied (Puts key content) (Holding map limit) = Holding (insert map key content) limit
+applied (Removes key) (Holding map limit) = Holding (remove map key) limit
+applied (Puts key content) NoDatabase = NoDatabase
+applied (Removes key) NoDatabase = NoDatabase
+
+pub data Marked : Type 0 where
+  -- it was answered by Stored, Deleted or a handle
+  Acknowledged : Change → Marked
+  -- a stop or a fault of the device cut it short
+  InDoubt : Change → Marked
+
+-- ---- the changes of a session
+
+abbrev pub of_opening : (Change → Marked) → Opening → List Marked
+of_opening mark how = if how.create || how.truncate then mark (Opens how) ∷ [] else []
+
+abbrev pub of_answer : Call → Reply → List Marked
+of_answer (Store key content mode) Stored = Acknowledged (Puts key content) ∷ []
+of_answer (Delete key) Deleted = Acknowledged (Removes key) ∷ []
+of_answer call reply = []
+
+abbrev pub of_cut : Call → List Marked
+of_cut (Store key content mode) = InDoubt (Puts key content) ∷ []
+of_cut (Delete key) = InDoubt (Removes key) ∷ []
+of_cut call = []
+
+-- of the calls that were answered
+abbrev pub of_calls : List Call → List Reply → List Marked
+of_calls (call ∷ calls) (reply ∷ replies) = of_answer call reply ++ of_calls calls replies
+of_calls calls replies = []
+
+-- of those, and of the next one, which was stopped
+abbrev pub of_stopped : List Call → List Reply → List Marked
+of_stopped (call ∷ calls) (reply ∷ replies) = of_answer call reply ++ of_stopped calls replies
+of_stopped (call ∷ calls) [] = of_cut call
+of_stopped [] replies = []
+
+abbrev pub is_device : Reply → Bool
+is_device (Refused Device) = true
+is_device reply = false
+
+abbrev pub has_device : List Reply → Bool
+has_device [] = false
+has_device (reply ∷ replies) = is_device reply || has_device replies
+
+-- of the calls of a handle that broke: the last one that was refused by Device broke it
+abbrev pub of_broken : List Call → List Reply → List Marked
+of_broken (call ∷ calls) (reply ∷ replies) =
+    if is_device reply && not (has_device replies) then of_cut call
+    else of_answer call reply ++ of_broken calls replies
+of_broken calls replies = []
+
+abbrev pub changes_in : Plan → Ending → List Marked
+changes_in plan (NotOpened fault) = of_opening InDoubt plan.how
+changes_in plan StoppedOpening = of_opening InDoubt plan.how
+changes_in plan (Rested replies) =
+    of_opening Acknowledged plan.how ++ of_calls plan.calls replies
+changes_in plan (StoppedCall replies) =
+    of_opening Acknowledged plan.how ++ of_stopped plan.calls replies
+changes_in plan (Broke replies) =
+    of_opening Acknowledged plan.how ++ of_broken plan.calls replies
+
+abbrev pub changes_of : List Plan → List Ending → List Marked
+changes_of (plan ∷ plans) (ending ∷ endings) = changes_in plan ending ++ changes_of plans endings
+changes_of plans endings = []
+
+-- ---- what they leave
+
+-- the changes in order, each that was acknowledged made, and each in doubt made or not
+abbrev pub LeftBy : List Marked → Member → Member → Type 0
+LeftBy [] before after = after ≡ before
+LeftBy (Acknowledged change ∷ changes) before after = LeftBy changes (applied change before) after
+LeftBy (InDoubt change ∷ changes) before after =
+    LeftBy changes (applied change before) after ⊎ LeftBy changes before after
+
+-- After any list of sessions, each stopped anywhere, whatever the file may stand for is left by
+-- their changes, with every acknowledged one among those that were made.
+abbrev pub AcknowledgedChangesStay : Type 0
+AcknowledgedChangesStay = (before after : Members) (plans : List Plan) (endings : List Ending)
+    → Sessions before plans endings after → (member : Member) → Contains after member
+    → (start : Member) × Contains before start × LeftBy (changes_of plans endings) start member
+
+-- none is in doubt but the last one
+abbrev pub OnlyLastInDoubt : List Marked → Type 0
+OnlyLastInDoubt [] = Unit {0}
+OnlyLastInDoubt (Acknowledged change ∷ changes) = OnlyLastInDoubt changes
+OnlyLastInDoubt (InDoubt change ∷ changes) = changes ≡ []
+
+-- a session leaves one change in doubt at most, its last
+abbrev pub OneInDoubt : Type 0
+OneInDoubt = (plan : Plan) (ending : Ending) → OnlyLastInDoubt (changes_in plan ending)
+
+-- ---- one session
+
+abbrev pub change_of : Marked → Change
+change_of (Acknowledged change) = change
+change_of (InDoubt change) = change
+
+-- all of the changes made, in order
+abbrev pub made : List Change → Member → Member
+made [] member = member
+made (change ∷ changes) member = made changes (applied change member)
+
+abbrev pub AllInDoubt : List Marked → Type 0
+AllInDoubt [] = Unit {0}
+AllInDoubt (Acknowledged change ∷ changes) = ⊥
+AllInDoubt (InDoubt change ∷ changes) = AllInDoubt changes
+
+-- the first of the changes leave it, and no acknowledged one is behind them
+pub record IsLeftByPrefix (changes : List Marked) (before after : Member) : Type 0 where
+  pub count : ℕ
+  pub left : after ≡ made (take count (map change_of changes)) before
+  pub missing : AllInDoubt (drop count changes)
+
+-- what a session leaves is left by a prefix of its changes that contains every acknowledged one
+abbrev pub PrefixIsLeft : Type 0
+PrefixIsLeft = (before after : Members) (plan : Plan) (ending : Ending)
+    → SessionStep before plan ending after → (member : Member) → Contains after member
+    → (start : Member) × Contains before start
+    × IsLeftByPrefix (changes_in plan ending) start member
+
+-- ---- what becomes of doubt
+
+abbrev pub is_opened : Ending → Bool
+is_opened (NotOpened fault) = false
+is_opened StoppedOpening = false
+is_opened (Rested replies) = true
+is_opened (StoppedCall replies) = true
+is_opened (Broke replies) = true
+
+-- A session that was opened ends all earlier doubt: what it leaves is left from one member alone.
+abbrev pub OpeningEndsDoubt : Type 0
+OpeningEndsDoubt = (before after : Members) (plan : Plan) (ending : Ending)
+    → SessionStep before plan ending after → is_opened ending ≡ true → (start : Member)
+    × Contains before start
+    × ((member : Member) → Contains after member → LeftBy (changes_in plan ending) start member)
+
+-- An opening that answered no handle adds what it makes of each member, and takes none away.
+abbrev pub RefusalTakesNothing : Type 0
+RefusalTakesNothing = (before after : Members) (plan : Plan) (ending : Ending)
+    → SessionStep before plan ending after → is_opened ending ≡ false → (member : Member)
+    → Contains before member → Contains after member × Contains after (opened plan.how member)
+
+-- A broken handle leaves the call that broke it in doubt: with it and without it.
+abbrev pub BreakLeavesBoth : Type 0
+BreakLeavesBoth = (before after : Members) (plan : Plan) (replies : List Reply)
+    → SessionStep before plan (Broke replies) after → (start : Member) × Contains before start
+    × ((member : Member) → LeftBy (changes_in plan (Broke replies)) start member
+    → Contains after member)

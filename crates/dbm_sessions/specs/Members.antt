@@ -1,0 +1,31 @@
+-- What the file of a database may stand for, and what an opening makes of it.
+use Rattle.std.specs.Prelude.{ℕ, Bool, if◌then◌else◌, List}
+use Rattle.std.specs.FinMap.{empty}
+use Rattle.dbm_model.specs.Pairs.{Contents}
+use Rattle.dbm_model.specs.States.{State}
+
+pub data Member : Type 0 where
+  NoDatabase : Member
+  -- a map, and how many pairs there may be
+  Holding : Contents → ℕ → Member
+
+-- what the file may stand for where a stop may have left one or another: a set, written as a list
+abbrev pub Members : Type 0
+Members = List Member
+
+-- what the file of an open database stands for
+abbrev pub held : State → Member
+held s = Holding s.map s.limit
+
+-- how a session is opened, always for writing (POSIX: O_RDWR, with O_CREAT, O_TRUNC or both)
+pub record Opening : Type 0 where
+  pub create : Bool
+  pub truncate : Bool
+  -- how many pairs there may be in a database that it creates or empties
+  pub limit : ℕ
+
+-- what it makes of what it finds: it creates a database only where there is none, and empties only
+-- one that is there
+abbrev pub opened : Opening → Member → Member
+opened how NoDatabase = if how.create then Holding empty how.limit else NoDatabase
+opened how (Holding map limit) = if how.truncate then Holding empty how.limit else Holding map limit

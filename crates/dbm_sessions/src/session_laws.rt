@@ -1,0 +1,19 @@
+// Laws of sessions. What each says stands in `specs/Changes.antt` and `specs/Examples.antt`.
+ghost use Rattle.dbm_sessions.specs.Changes.{AcknowledgedChangesStay, OneInDoubt, PrefixIsLeft, OpeningEndsDoubt, RefusalTakesNothing, BreakLeavesBoth};
+
+/// After any list of sessions, each stopped anywhere, what the file may stand for is left by their
+/// changes, every acknowledged one among them. What may be missing is in doubt, one at most of each
+/// session.
+pub fn acknowledged_changes_stay()
+    ensures stay { AcknowledgedChangesStay }
+    ensures one { OneInDoubt }
+    ensures prefix { PrefixIsLeft }
+{}
+
+/// A session that was opened ends all earlier doubt, and leaves no more in doubt than its last
+/// change; one that wasn't opened takes nothing away.
+pub fn doubt_is_settled()
+    ensures ends { OpeningEndsDoubt }
+    ensures stays { RefusalTakesNothing }
+    ensures both { BreakLeavesBoth }
+{}
