@@ -1,18 +1,15 @@
 -- What calls leave: the map of the changes that were acknowledged.
-use Rattle.std.proofs.Common.{◌≡◌, ◌⊎◌, inl, inr, ⊎_elim, ℕ, Bool, true, false, ◌&&◌, ◌||◌, not, cond, List, [], ◌∷◌, ◌++◌, None, refl, sym, ◌∙◌, ap, ap₂, subst, append_assoc, Contains}
-use Rattle.std.specs.FinMap.{insert, remove}
-use Rattle.dbm_model.specs.Calls.{Call, Store, Fetch, Delete, First, Next, Error, Clear, Reply, Stored, Kept, Deleted, Absent, Bytes, NoRecord, End, Number, Refused, Fault, Device, Broken}
-use Rattle.dbm_model.specs.Changes.{map_after, map_asked}
+use Rattle.std.proofs.Common.{◌≡◌, inl, inr, ℕ, true, false, ◌||◌, List, [], ◌∷◌, None, refl, sym, ◌∙◌, ap, ap₂, subst}
+use Rattle.dbm_model.specs.Calls.{Call, Store, Fetch, Delete, First, Next, Error, Clear, Reply, Stored, Deleted, Number, Broken}
+use Rattle.dbm_model.specs.Changes.{map_after}
 use Rattle.dbm_model.specs.Pairs.{Contents}
 use Rattle.dbm_model.specs.States.{State, Handle, error_number}
-use Rattle.dbm_model.specs.Steps.{Case, Tells, Refuses, Declines, Finds, Passes, Changes, usable_case, case_of, Step, Run}
-use Rattle.dbm_model.proofs.CaseLemmas.{Suits, suits, map_of_usable}
+use Rattle.dbm_model.specs.Steps.{Tells, Refuses, usable_case, Step, Run}
+use Rattle.dbm_model.proofs.CaseLemmas.{map_of_usable}
 use Rattle.dbm_model.proofs.RuleLemmas.{ByCase, falls, if_broken}
 use Rattle.dbm_model.proofs.StayLemmas.{settings_stay}
-use Rattle.dbm_sessions.specs.Members.{Member, Holding, Members, held}
-use Rattle.dbm_sessions.specs.Sessions.{left_by}
-use Rattle.dbm_sessions.specs.Changes.{Marked, of_answer, of_cut, of_calls, of_stopped, is_device, has_device, of_broken, LeftBy}
-use Rattle.dbm_sessions.proofs.Lists.{in_one, in_two}
+use Rattle.dbm_sessions.specs.Members.{Holding, held}
+use Rattle.dbm_sessions.specs.Changes.{of_answer, of_calls, is_device, has_device, LeftBy}
 use Rattle.dbm_sessions.proofs.Leaving.{left_append, AllMade, all_append}
 
 -- ---- a broken handle

@@ -1,17 +1,17 @@
 -- What a call leaves that a stop or a fault of the device cut short.
-use Rattle.std.proofs.Common.{◌≡◌, ◌⊎◌, inl, inr, ⊎_elim, ℕ, Bool, true, false, ◌&&◌, ◌||◌, not, cond, List, [], ◌∷◌, ◌++◌, refl, sym, ◌∙◌, ap, ap₂, subst, append_assoc, Contains}
-use Rattle.dbm_model.specs.Calls.{Call, Store, Fetch, Delete, First, Next, Error, Clear, Reply, Stored, Deleted, Refused, Fault, Device}
+use Rattle.std.proofs.Common.{◌≡◌, ◌⊎◌, inl, inr, ⊎_elim, ℕ, Bool, true, false, ◌&&◌, ◌||◌, not, cond, List, [], ◌∷◌, ◌++◌, refl, sym, ◌∙◌, ap, subst, append_assoc, Contains}
+use Rattle.dbm_model.specs.Calls.{Call, Store, Fetch, Delete, First, Next, Error, Clear, Reply, Refused, Device}
 use Rattle.dbm_model.specs.Changes.{map_asked}
 use Rattle.dbm_model.specs.Pairs.{Contents}
 use Rattle.dbm_model.specs.States.{State, Handle}
-use Rattle.dbm_model.specs.Steps.{Case, Tells, Refuses, Declines, Finds, Passes, Changes, case_of, Answers, Suffers, Step, Run}
+use Rattle.dbm_model.specs.Steps.{Case, Tells, Refuses, Declines, Finds, Passes, Changes, case_of, Step, Run}
 use Rattle.dbm_model.proofs.CaseLemmas.{Suits, suits}
 use Rattle.dbm_model.proofs.RuleLemmas.{ByCase}
-use Rattle.dbm_sessions.specs.Members.{Member, Holding, Members, held}
+use Rattle.dbm_sessions.specs.Members.{Member, Holding, held}
 use Rattle.dbm_sessions.specs.Sessions.{left_by}
 use Rattle.dbm_sessions.specs.Changes.{Marked, of_answer, of_cut, of_calls, of_stopped, is_device, has_device, of_broken, LeftBy, OnlyLastInDoubt}
 use Rattle.dbm_sessions.proofs.Lists.{in_one, in_two, is_first, is_later}
-use Rattle.dbm_sessions.proofs.Leaving.{one_behind, none_in_doubt}
+use Rattle.dbm_sessions.proofs.Leaving.{one_behind}
 use Rattle.dbm_sessions.proofs.Calls.{answer_all}
 
 -- ---- the call itself
@@ -31,13 +31,17 @@ made_whole call map limit = refl
 same : (call : Call) (a b : Member) → b ≡ a → LeftBy (of_cut call) a b
 same call a b is = subst (LeftBy (of_cut call) a) (sym is) (not_made call a)
 
+stays : (s : State) (call : Call) (member : Member) → Contains (held s ∷ []) member
+    → LeftBy (of_cut call) (held s) member
+stays s call member is = same call (held s) member (in_one (held s) member is)
+
 by_rule : (s : State) (call : Call) (c : Case) → Suits s call c → (member : Member)
     → Contains (left_by s c) member → LeftBy (of_cut call) (held s) member
-by_rule s call (Tells said told) fits member is = same call (held s) member (in_one (held s) member is)
-by_rule s call (Refuses fault) fits member is = same call (held s) member (in_one (held s) member is)
-by_rule s call (Declines fault) fits member is = same call (held s) member (in_one (held s) member is)
-by_rule s call (Finds found) fits member is = same call (held s) member (in_one (held s) member is)
-by_rule s call (Passes left) fits member is = same call (held s) member (in_one (held s) member is)
+by_rule s call (Tells said told) fits member is = stays s call member is
+by_rule s call (Refuses fault) fits member is = stays s call member is
+by_rule s call (Declines fault) fits member is = stays s call member is
+by_rule s call (Finds found) fits member is = stays s call member is
+by_rule s call (Passes left) fits member is = stays s call member is
 by_rule s call (Changes said map) fits member is =
     ⊎_elim (λ e. same call (held s) member e)
     (λ e. subst (LeftBy (of_cut call) (held s))
@@ -189,8 +193,7 @@ pub broken_one : (calls : List Call) (replies : List Reply)
 broken_one [] replies = tt
 broken_one (call ∷ calls) [] = tt
 broken_one (call ∷ calls) (reply ∷ replies) = elim (is_device reply && not (has_device replies)) as
-    (λ b. OnlyLastInDoubt (cond b (of_cut call) (of_answer call reply ++ of_broken calls replies)))
-    [
+    (λ b. OnlyLastInDoubt (cond b (of_cut call) (of_answer call reply ++ of_broken calls replies))) [
       | true ↦ cut_one call
       | false ↦ one_behind (of_answer call reply) (of_broken calls replies)
           (answer_all call reply) (broken_one calls replies)

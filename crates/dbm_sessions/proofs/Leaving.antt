@@ -1,7 +1,7 @@
 -- What is left by lists of changes.
-use Rattle.std.proofs.Common.{◌≡◌, ◌⊎◌, inl, inr, ⊎_elim, ℕ, zero, suc, Bool, true, false, ◌||◌, cond, List, [], ◌∷◌, ◌++◌, take, drop, map, refl, sym, ◌∙◌, ap, subst}
+use Rattle.std.proofs.Common.{◌≡◌, ◌⊎◌, inl, inr, ⊎_elim, ℕ, suc, Bool, true, false, ◌||◌, cond, List, [], ◌∷◌, ◌++◌, map, refl, sym, ◌∙◌, subst}
 use Rattle.dbm_sessions.specs.Members.{Member, NoDatabase, Holding, Opening, opened}
-use Rattle.dbm_sessions.specs.Changes.{Change, Opens, applied, Marked, Acknowledged, InDoubt, of_opening, LeftBy, OnlyLastInDoubt, change_of, made, AllInDoubt, IsLeftByPrefix}
+use Rattle.dbm_sessions.specs.Changes.{Opens, applied, Marked, Acknowledged, InDoubt, of_opening, LeftBy, OnlyLastInDoubt, IsLeftByPrefix}
 
 -- one list behind another
 pub left_append : (xs ys : List Marked) (a b c : Member) → LeftBy xs a b → LeftBy ys b c

@@ -1,5 +1,7 @@
 pub mod Calls
 pub mod Cuts
+pub mod Examples
 pub mod Leaving
 pub mod Lists
+pub mod Sample
 pub mod Ways

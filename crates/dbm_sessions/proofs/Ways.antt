@@ -1,20 +1,19 @@
 -- What sessions leave, by their changes.
-use Rattle.std.proofs.Common.{◌≡◌, ◌⊎◌, inl, inr, ⊎_elim, Bool, true, false, List, [], ◌∷◌, ◌++◌, map, refl, sym, ◌∙◌, ap, ap₂, subst, Contains}
+use Rattle.std.proofs.Common.{◌≡◌, ◌⊎◌, inl, inr, ⊎_elim, true, List, [], ◌∷◌, ◌++◌, map, refl, sym, ◌∙◌, ap, ap₂, subst, Contains}
 use Rattle.std.proofs.lemmas.List.Elements.{Contains-append_left, Contains-append_right, Contains-append_cases}
 use Rattle.dbm_model.specs.Calls.{Call, Reply, Refused, Device}
 use Rattle.dbm_model.specs.States.{Handle}
-use Rattle.dbm_model.specs.Steps.{case_of}
-use Rattle.dbm_sessions.specs.Members.{Member, Holding, Members, held, Opening, opened}
-use Rattle.dbm_sessions.specs.Sessions.{Plan, Ending, NotOpened, StoppedOpening, Rested, StoppedCall, Broke, Begins, Goes, Rests, left_by, CutShort, Breaks, SessionStep, Sessions}
-use Rattle.dbm_sessions.specs.Changes.{Marked, Acknowledged, InDoubt, of_opening, of_cut, of_calls, of_stopped, of_broken, changes_in, changes_of, LeftBy, OnlyLastInDoubt, OneInDoubt, AcknowledgedChangesStay, PrefixIsLeft, is_opened, OpeningEndsDoubt, RefusalTakesNothing, BreakLeavesBoth}
-use Rattle.dbm_sessions.proofs.Lists.{in_none, in_one, in_map, map_has}
+use Rattle.dbm_sessions.specs.Members.{Member, Members, held, Opening, opened}
+use Rattle.dbm_sessions.specs.Sessions.{Plan, Ending, NotOpened, StoppedOpening, Rested, StoppedCall, Broke, Begins, Rests, CutShort, Breaks, SessionStep}
+use Rattle.dbm_sessions.specs.Changes.{Marked, Acknowledged, InDoubt, of_opening, of_cut, of_calls, of_stopped, of_broken, changes_in, changes_of, LeftBy, OneInDoubt, AcknowledgedChangesStay, PrefixIsLeft, is_opened, OpeningEndsDoubt, RefusalTakesNothing, BreakLeavesBoth}
+use Rattle.dbm_sessions.proofs.Lists.{in_one, in_map, map_has}
 use Rattle.dbm_sessions.proofs.Leaving.{left_append, left_rest, opening_made, opening_in_doubt, opening_all, opening_one, prefix_left, one_behind, none_in_doubt}
 use Rattle.dbm_sessions.proofs.Calls.{none_by_device, calls_left, calls_all}
 use Rattle.dbm_sessions.proofs.Cuts.{cut_left, broken_leaves, both_left, stopped_changes, rested_changes, broken_changes, stopped_one, broken_one}
 
 -- ---- the calls of a session
 
-rests_left : (first : Handle) (calls : List Call) (replies : List Reply) (after : Members)
+pub rests_left : (first : Handle) (calls : List Call) (replies : List Reply) (after : Members)
     → Rests first calls replies after → (member : Member) → Contains after member
     → LeftBy (of_calls calls replies) (held first.state) member
 rests_left first calls replies after r member is =

@@ -1,7 +1,7 @@
 -- The changes that sessions ask for, told from their plans and endings, and what is left by them.
-use Rattle.std.specs.Prelude.{◌≡◌, ◌⊎◌, ◌↔◌, ◌≤◌, ◌+◌, ℕ, Bool, true, false, ◌&&◌, ◌||◌, not, if◌then◌else◌, List, [], ◌∷◌, ◌++◌, take, drop, map, Contains}
+use Rattle.std.specs.Prelude.{◌≡◌, ◌⊎◌, ℕ, Bool, true, false, ◌&&◌, ◌||◌, not, if◌then◌else◌, List, [], ◌∷◌, ◌++◌, take, drop, map, Contains}
 use Rattle.std.specs.FinMap.{insert, remove}
-use Rattle.dbm_model.specs.Calls.{Call, Store, Delete, Reply, Stored, Deleted, Refused, Fault, Device}
+use Rattle.dbm_model.specs.Calls.{Call, Store, Delete, Reply, Stored, Deleted, Refused, Device}
 use Rattle.dbm_model.specs.Pairs.{Key}
 use Rattle.dbm_sessions.specs.Members.{Member, NoDatabase, Holding, Members, Opening, opened}
 use Rattle.dbm_sessions.specs.Sessions.{Plan, Ending, NotOpened, StoppedOpening, Rested, StoppedCall, Broke, SessionStep, Sessions}

@@ -3,7 +3,7 @@ use Rattle.std.specs.Prelude.{◌≡◌, true, false, List, [], ◌∷◌, ◌++
 use Rattle.dbm_model.specs.Calls.{Call, Reply, Refused, Fault, Device}
 use Rattle.dbm_model.specs.States.{State, Handle, fresh}
 use Rattle.dbm_model.specs.Steps.{Case, Changes, case_of, Step, Run}
-use Rattle.dbm_sessions.specs.Members.{Member, Holding, Members, held, Opening, opened}
+use Rattle.dbm_sessions.specs.Members.{Member, Members, held, Opening, opened}
 
 -- what a session is to do
 pub record Plan : Type 0 where

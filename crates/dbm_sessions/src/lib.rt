@@ -5,4 +5,4 @@
 
 mod session_laws;
 
-pub use session_laws::{acknowledged_changes_stay, doubt_is_settled};
+pub use session_laws::{acknowledged_changes_stay, doubt_is_settled, session_examples};

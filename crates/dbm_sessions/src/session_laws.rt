@@ -1,5 +1,6 @@
 // Laws of sessions. What each says stands in `specs/Changes.antt` and `specs/Examples.antt`.
 ghost use Rattle.dbm_sessions.specs.Changes.{AcknowledgedChangesStay, OneInDoubt, PrefixIsLeft, OpeningEndsDoubt, RefusalTakesNothing, BreakLeavesBoth};
+ghost use Rattle.dbm_sessions.specs.Examples.{StoreAcknowledged, StoreInDoubt, CreationInDoubt, EmptyingInDoubt, WrongSessions};
 
 /// After any list of sessions, each stopped anywhere, what the file may stand for is left by their
 /// changes, every acknowledged one among them. What may be missing is in doubt, one at most of each
@@ -16,4 +17,13 @@ pub fn doubt_is_settled()
     ensures ends { OpeningEndsDoubt }
     ensures stays { RefusalTakesNothing }
     ensures both { BreakLeavesBoth }
+{}
+
+/// Sessions that are worked out by hand, and some that never end so.
+pub fn session_examples()
+    ensures acknowledged { StoreAcknowledged }
+    ensures store { StoreInDoubt }
+    ensures creation { CreationInDoubt }
+    ensures emptying { EmptyingInDoubt }
+    ensures never { WrongSessions }
 {}

@@ -1,0 +1,211 @@
+-- Lists of sessions that are worked out by hand.
+use Rattle.std.proofs.Common.{◌≡◌, ◌⊎◌, inl, inr, ⊎_elim, ℕ, true, List, [], ◌∷◌, Some, None, refl, sym, ◌∙◌, ap, subst, Contains}
+use Rattle.std.specs.FinMap.{empty, get-empty}
+use Rattle.dbm_model.specs.Calls.{Reply, Stored, Bytes, NoRecord, Refused, Device}
+use Rattle.dbm_model.specs.Examples.{one}
+use Rattle.dbm_model.specs.Pairs.{Contents, key_cmp}
+use Rattle.dbm_model.specs.States.{State, fresh}
+use Rattle.dbm_model.specs.Steps.{fetched}
+use Rattle.dbm_sessions.specs.Members.{Member, NoDatabase, Holding, Members, held, opened}
+use Rattle.dbm_sessions.specs.Sessions.{Plan, Ending, NotOpened, StoppedOpening, Rested, StoppedCall, SessionStep}
+use Rattle.dbm_sessions.specs.Changes.{changes_of, LeftBy}
+use Rattle.dbm_sessions.specs.Examples.{creates, empties, reopens, store, fetch, nothing, pair, MayLeave, StoreAcknowledged, StoreInDoubt, CreationInDoubt, EmptyingInDoubt, WrongSessions}
+use Rattle.dbm_sessions.proofs.Lists.{in_one, is_first, is_later}
+use Rattle.dbm_sessions.proofs.Ways.{rests_left, changes_stay}
+use Rattle.dbm_sessions.proofs.Sample.{at, start, only, is_stored, has_pair, begins, all_answered, doubt, pair_in_doubt, nothing_in_doubt, stopped_store, fetches, broken_session, told_by}
+
+-- what the sessions leave, by their changes from one member
+left_of : (before : Member) (plans : List Plan) (endings : List Ending) (member : Member)
+    → MayLeave (before ∷ []) plans endings member
+    → LeftBy (changes_of plans endings) before member
+left_of before plans endings member m =
+    let left = changes_stay (before ∷ []) m.after plans endings m.sessions member m.among in
+    subst (λ (s : Member). LeftBy (changes_of plans endings) s member)
+    (in_one before left.0 left.1) left.2
+
+pub acknowledged : StoreAcknowledged
+acknowledged = record {
+  may = record {
+    after = pair 9 ∷ [];
+    sessions = (
+      pair 9 ∷ [],
+      (
+        start empty,
+        begins (NoDatabase ∷ []) (creates 9 []).how NoDatabase empty 9
+            (is_first NoDatabase [] NoDatabase refl) refl,
+        record {
+          goes = record {
+            made = store ∷ [];
+            later = fetch ∷ [];
+            calls_are = refl;
+            last = start only;
+            run = (start only, is_stored, refl);
+            usable = refl;
+          };
+          left = refl;
+        },
+      ),
+      refl,
+    );
+    among = is_first (pair 9) [] (pair 9) refl;
+  };
+  stays = λ member m. left_of NoDatabase
+      (creates 9 (store ∷ fetch ∷ []) ∷ reopens [] ∷ reopens [] ∷ [])
+      (StoppedCall (Stored ∷ []) ∷ NotOpened Device ∷ StoppedOpening ∷ []) member m;
+}
+
+none_told : NoRecord ≡ Bytes (one 0x01) → ⊥
+none_told is = absurd (let x = is in cc)
+
+not_refused : (reply : Reply) → (reply ≡ NoRecord) ⊎ (reply ≡ Bytes (one 0x01))
+    → reply ≡ Refused Device → ⊥
+not_refused reply (inl is) fault = absurd (let x = sym is ∙ fault in cc)
+not_refused reply (inr is) fault = absurd (let x = sym is ∙ fault in cc)
+
+-- a later session told that it hadn't happened
+settled : (mid after : Members) (member : Member)
+    → SessionStep (nothing 9 ∷ []) (reopens (store ∷ [])) (StoppedCall []) mid
+    → SessionStep mid (reopens (fetch ∷ [])) (Rested (NoRecord ∷ [])) after
+    → Contains after member → member ≡ nothing 9
+settled mid after member first second among =
+    let left = left_of (nothing 9) (reopens (store ∷ []) ∷ []) (StoppedCall [] ∷ [])
+    second.1.member
+    (record { after = mid; sessions = (mid, first, refl); among = second.1.among }) in
+    ⊎_elim
+    (λ done. absurd (⊎_elim none_told (not_refused NoRecord (inl refl))
+    (told_by mid after only NoRecord (Bytes (one 0x01)) (Some (one 0x01)) second done has_pair
+    refl)))
+    (λ not_done. rests_left second.0 (fetch ∷ []) (NoRecord ∷ []) after second.2 member among
+    ∙ sym second.1.begins ∙ ap (opened (reopens []).how) not_done)
+    left
+
+pub store_in_doubt : StoreInDoubt
+store_in_doubt = record {
+  happened = record {
+    after = pair 9 ∷ [];
+    sessions = (
+      doubt,
+      stopped_store,
+      (
+        pair 9 ∷ [],
+        fetches only (Bytes (one 0x01)) pair_in_doubt (ap fetched has_pair),
+        refl,
+      ),
+    );
+    among = is_first (pair 9) [] (pair 9) refl;
+  };
+  not_happened = record {
+    after = nothing 9 ∷ [];
+    sessions = (
+      doubt,
+      stopped_store,
+      (
+        nothing 9 ∷ [],
+        fetches empty NoRecord nothing_in_doubt (ap fetched (get-empty key_cmp (one 0x61))),
+        refl,
+      ),
+    );
+    among = is_first (nothing 9) [] (nothing 9) refl;
+  };
+  broken = record {
+    after = doubt;
+    sessions = (doubt, broken_session, refl);
+    among = pair_in_doubt;
+  };
+  settled = λ member m. settled m.sessions.0 m.sessions.2.0 member m.sessions.1 m.sessions.2.1
+      (subst (λ (ms : Members). Contains ms member) m.sessions.2.2 m.among);
+}
+
+-- what a creation leaves that was cut short, and what the next one begins with
+abbrev created : Members
+created = NoDatabase ∷ nothing 9 ∷ []
+
+creates_next : (map : Contents) (limit : ℕ) (member : Member) → Contains created member
+    → opened (creates 5 []).how member ≡ Holding map limit
+    → SessionStep created (creates 5 []) (Rested []) (Holding map limit ∷ [])
+creates_next map limit member among is = (
+  at (fresh map limit true),
+  begins created (creates 5 []).how member map limit among is,
+  all_answered (at (fresh map limit true)) (at (fresh map limit true)) [] [] refl refl refl,
+)
+
+pub creation_in_doubt : CreationInDoubt
+creation_in_doubt = record {
+  none = record {
+    after = created;
+    sessions = (created, refl, refl);
+    among = is_first NoDatabase (nothing 9 ∷ []) NoDatabase refl;
+  };
+  first = record {
+    after = nothing 9 ∷ [];
+    sessions = (
+      created,
+      refl,
+      (
+        nothing 9 ∷ [],
+        creates_next empty 9 (nothing 9)
+            (is_later NoDatabase (nothing 9 ∷ []) (nothing 9)
+            (is_first (nothing 9) [] (nothing 9) refl)) refl,
+        refl,
+      ),
+    );
+    among = is_first (nothing 9) [] (nothing 9) refl;
+  };
+  second = record {
+    after = nothing 5 ∷ [];
+    sessions = (
+      created,
+      refl,
+      (
+        nothing 5 ∷ [],
+        creates_next empty 5 NoDatabase
+            (is_first NoDatabase (nothing 9 ∷ []) NoDatabase refl) refl,
+        refl,
+      ),
+    );
+    among = is_first (nothing 5) [] (nothing 5) refl;
+  };
+  only = λ member m. left_of NoDatabase (creates 9 [] ∷ creates 5 [] ∷ [])
+      (StoppedOpening ∷ Rested [] ∷ []) member m;
+}
+
+abbrev emptied : Members
+emptied = pair 9 ∷ nothing 5 ∷ []
+
+pub emptying_in_doubt : EmptyingInDoubt
+emptying_in_doubt = record {
+  kept = record {
+    after = emptied;
+    sessions = (emptied, refl, refl);
+    among = is_first (pair 9) (nothing 5 ∷ []) (pair 9) refl;
+  };
+  emptied = record {
+    after = emptied;
+    sessions = (emptied, refl, refl);
+    among = is_later (pair 9) (nothing 5 ∷ []) (nothing 5)
+        (is_first (nothing 5) [] (nothing 5) refl);
+  };
+  only = λ member m. ⊎_elim (λ e. inr e) (λ e. inl e)
+      (left_of (pair 9) (empties 5 [] ∷ []) (NotOpened Device ∷ []) member m);
+}
+
+never_there : (s : State) → NoDatabase ≡ held s → ⊥
+never_there s is = absurd (let x = is in cc)
+
+absent : (after : Members) → SessionStep (NoDatabase ∷ []) (reopens []) (Rested []) after → ⊥
+absent after session = never_there session.0.state
+    (sym (ap (opened (reopens []).how) (in_one NoDatabase session.1.member session.1.among))
+    ∙ session.1.begins)
+
+invented : (after : Members) → SessionStep (nothing 9 ∷ []) (reopens (fetch ∷ []))
+    (Rested (Bytes (one 0x01) ∷ [])) after → ⊥
+invented after session = ⊎_elim (λ e. none_told (sym e))
+    (not_refused (Bytes (one 0x01)) (inr refl))
+    (told_by (nothing 9 ∷ []) after empty (Bytes (one 0x01)) NoRecord None session
+    (in_one (nothing 9) session.1.member session.1.among) (get-empty key_cmp (one 0x61)) refl)
+
+pub wrong_sessions : WrongSessions
+wrong_sessions = record {
+  absent = λ member m. absent m.sessions.0 m.sessions.1;
+  invented = λ member m. invented m.sessions.0 m.sessions.1;
+}

@@ -1,0 +1,232 @@
+-- Small sessions: handles, a store that was stored, stopped or broken, and what a fetch tells.
+use Rattle.std.proofs.Common.{◌≡◌, ◌⊎◌, inl, inr, ℕ, true, false, List, [], ◌∷◌, ◌++◌, Option, Some, None, refl, sym, ◌∙◌, ap, subst, arith, Contains}
+use Rattle.std.specs.FinMap.{empty, get, insert, get-empty, get-insert}
+use Rattle.std.specs.Cmp.Lexicographic.{nat_list_cmp_total}
+use Rattle.dbm_model.specs.Calls.{Call, Reply, Stored, Refused, Device}
+use Rattle.dbm_model.specs.Examples.{one}
+use Rattle.dbm_model.specs.Pairs.{Contents, key_cmp}
+use Rattle.dbm_model.specs.States.{State, Handle, fresh, flagged}
+use Rattle.dbm_model.specs.Steps.{Case, Finds, Changes, fetched, case_of, Answers, Suffers, Step, Run}
+use Rattle.dbm_model.proofs.RunLemmas.{adds, none_yet}
+use Rattle.dbm_model.proofs.RuleLemmas.{ByCase, falls}
+use Rattle.dbm_sessions.specs.Members.{Member, NoDatabase, Holding, Members, held, Opening, opened}
+use Rattle.dbm_sessions.specs.Sessions.{Rested, StoppedCall, Broke, Begins, Rests, left_by, CutShort, SessionStep}
+use Rattle.dbm_sessions.specs.Examples.{reopens, store, fetch, nothing, pair}
+use Rattle.dbm_sessions.proofs.Lists.{is_first, is_later}
+
+-- ---- handles
+
+abbrev pub at : State → Handle
+at s = record { state = s; faults = 0; pages = 4; capacity = 8 }
+
+abbrev pub start : Contents → Handle
+start map = at (fresh map 9 true)
+
+abbrev pub only : Contents
+only = insert empty (one 0x61) (one 0x01)
+
+step : (s after : State) (call : Call) (c : Case) (reply : Reply) → case_of s call ≡ c
+    → Answers s c reply after → Step (at s) call reply (at after)
+step s after call c reply rule answers = record {
+  counts = omega arith;
+  capacity = refl;
+  pages = (omega arith, omega arith);
+  answers = inl (subst (λ (d : Case). Answers s d reply after) (sym rule) answers);
+}
+
+store_rule : case_of (fresh empty 9 true) store ≡ Changes Stored only
+store_rule = adds 9 empty None None (one 0x61) (one 0x01) refl (get-empty key_cmp (one 0x61))
+    (none_yet 9 (omega arith))
+
+pub is_stored : Step (start empty) store Stored (start only)
+is_stored = step (fresh empty 9 true) (fresh only 9 true) store (Changes Stored only) Stored
+    store_rule (refl, refl)
+
+pub has_pair : get only (one 0x61) ≡ Some (one 0x01)
+has_pair = get-insert nat_list_cmp_total empty (one 0x61) (one 0x01) (one 0x61)
+
+-- ---- sessions
+
+pub begins : (before : Members) (how : Opening) (member : Member) (map : Contents) (limit : ℕ)
+    → Contains before member → opened how member ≡ Holding map limit
+    → Begins before how (at (fresh map limit true))
+begins before how member map limit among is = record {
+  member = member;
+  among = among;
+  begins = is;
+  is_fresh = refl;
+}
+
+-- one whose calls were all answered
+pub all_answered : (first last : Handle) (calls : List Call) (replies : List Reply)
+    → calls ≡ calls ++ [] → Run first calls replies last → last.state.usable ≡ true
+    → Rests first calls replies (held last.state ∷ [])
+all_answered first last calls replies whole run usable = record {
+  goes = record {
+    made = calls;
+    later = [];
+    calls_are = whole;
+    last = last;
+    run = run;
+    usable = usable;
+  };
+  left = refl;
+}
+
+-- one that was stopped within its first call
+first_stopped : (first : Handle) (call : Call) → first.state.usable ≡ true
+    → CutShort first (call ∷ []) [] (left_by first.state (case_of first.state call))
+first_stopped first call usable = record {
+  goes = record {
+    made = [];
+    later = call ∷ [];
+    calls_are = refl;
+    last = first;
+    run = refl;
+    usable = usable;
+  };
+  call = call;
+  rest = [];
+  next = refl;
+  left = refl;
+}
+
+-- what the stop within the store leaves
+abbrev pub doubt : Members
+doubt = left_by (fresh empty 9 true) (case_of (fresh empty 9 true) store)
+
+doubt_is : doubt ≡ nothing 9 ∷ pair 9 ∷ []
+doubt_is = ap (left_by (fresh empty 9 true)) store_rule
+
+in_doubt : (member : Member) → Contains (nothing 9 ∷ pair 9 ∷ []) member → Contains doubt member
+in_doubt member is = subst (λ (ms : Members). Contains ms member) (sym doubt_is) is
+
+pub pair_in_doubt : Contains doubt (pair 9)
+pair_in_doubt = in_doubt (pair 9) (is_later (nothing 9) (pair 9 ∷ []) (pair 9)
+    (is_first (pair 9) [] (pair 9) refl))
+
+pub nothing_in_doubt : Contains doubt (nothing 9)
+nothing_in_doubt = in_doubt (nothing 9) (is_first (nothing 9) (pair 9 ∷ []) (nothing 9) refl)
+
+pub stopped_store : SessionStep (nothing 9 ∷ []) (reopens (store ∷ [])) (StoppedCall []) doubt
+stopped_store = (
+  start empty,
+  begins (nothing 9 ∷ []) (reopens []).how (nothing 9) empty 9
+      (is_first (nothing 9) [] (nothing 9) refl) refl,
+  first_stopped (start empty) store refl,
+)
+
+pub fetches : (map : Contents) (reply : Reply) → Contains doubt (Holding map 9)
+    → case_of (fresh map 9 true) fetch ≡ Finds reply
+    → SessionStep doubt (reopens (fetch ∷ [])) (Rested (reply ∷ [])) (Holding map 9 ∷ [])
+fetches map reply among rule = (
+  start map,
+  begins doubt (reopens []).how (Holding map 9) map 9 among refl,
+  all_answered (start map) (start map) (fetch ∷ []) (reply ∷ []) refl (
+    start map,
+    step (fresh map 9 true) (fresh map 9 true) fetch (Finds reply) reply rule
+        (refl, refl),
+    refl,
+  ) refl,
+)
+
+-- the device fails in the store
+broken_store : Handle
+broken_store = record {
+  state = record (flagged Device (fresh empty 9 true)) { map = empty; usable = false };
+  faults = 1;
+  pages = 4;
+  capacity = 8;
+}
+
+breaks_store : Step (start empty) store (Refused Device) broken_store
+unfolding broken_store
+breaks_store = record {
+  counts = omega arith;
+  capacity = refl;
+  pages = (omega arith, omega arith);
+  answers = inr (subst
+      (λ (d : Case). Suffers (start empty) d (Refused Device) broken_store) (sym store_rule)
+      (inr (inl (refl, omega arith, empty, inl refl, refl))));
+}
+
+pub broken_session : SessionStep (nothing 9 ∷ []) (reopens (store ∷ [])) (Broke (Refused Device ∷ []))
+    doubt
+unfolding broken_store first_stopped
+broken_session = (
+  start empty,
+  begins (nothing 9 ∷ []) (reopens []).how (nothing 9) empty 9
+      (is_first (nothing 9) [] (nothing 9) refl) refl,
+  record {
+    answered = [];
+    refused = [];
+    replies_are = refl;
+    cut = first_stopped (start empty) store refl;
+    broken = broken_store;
+    step = breaks_store;
+    breaks = refl;
+    then_made = [];
+    never_made = [];
+    rest_is = refl;
+    last = broken_store;
+    run = refl;
+  },
+)
+
+-- ---- what must be
+
+abbrev limit_of : Member → ℕ
+limit_of NoDatabase = 0
+limit_of (Holding map limit) = limit
+
+abbrev map_of : Member → Contents
+map_of NoDatabase = empty
+map_of (Holding map limit) = map
+
+-- a handle that begins with this map
+began : (map : Contents) (limit : ℕ) (s : State) → Holding map limit ≡ held s
+    → s ≡ fresh s.map s.limit true → s ≡ fresh map limit true
+began map limit s is new = new ∙ ap (λ (m : Contents). fresh m s.limit true) (sym (ap map_of is))
+    ∙ ap (λ (n : ℕ). fresh map n true) (sym (ap limit_of is))
+
+found_or_failed : (h after : Handle) (reply found : Reply) → ByCase h (Finds found) reply after
+    → (reply ≡ found) ⊎ (reply ≡ Refused Device)
+found_or_failed h after reply found (inl is) = inl is.0
+found_or_failed h after reply found (inr is) = inr is.0
+
+-- a fetch of this map, by what the key has there
+fetch_told : (h after : Handle) (map : Contents) (reply found : Reply) (old : Option (List ℕ))
+    → h.state ≡ fresh map 9 true → get map (one 0x61) ≡ old → fetched old ≡ Finds found
+    → Step h fetch reply after → (reply ≡ found) ⊎ (reply ≡ Refused Device)
+fetch_told h after map reply found old is has rule told =
+    found_or_failed h after reply found (falls h after fetch reply (Finds found)
+    (ap (λ (s : State). case_of s fetch) is ∙ ap fetched has ∙ rule) told)
+
+-- the step of a session of one call
+record FirstStep (first : Handle) (reply : Reply) : Type 0 where
+  pub after : Handle
+  pub told : Step first fetch reply after
+
+abbrev first_call : List Call → Call
+first_call [] = fetch
+first_call (call ∷ calls) = call
+
+first_step : (first last : Handle) (made later : List Call) (reply : Reply)
+    → fetch ∷ [] ≡ made ++ later → Run first made (reply ∷ []) last → FirstStep first reply
+first_step first last [] later reply is run = absurd run
+first_step first last (call ∷ made) later reply is run = record {
+  after = run.0;
+  told = subst (λ (c : Call). Step first c reply run.0) (sym (ap first_call is)) run.1;
+}
+
+-- a session that fetches tells what the member has that it began with
+pub told_by : (before after : Members) (map : Contents) (reply found : Reply) (old : Option (List ℕ))
+    (session : SessionStep before (reopens (fetch ∷ [])) (Rested (reply ∷ [])) after)
+    → session.1.member ≡ Holding map 9 → get map (one 0x61) ≡ old → fetched old ≡ Finds found
+    → (reply ≡ found) ⊎ (reply ≡ Refused Device)
+told_by before after map reply found old session is has rule =
+    let goes = session.2.goes in
+    let first = first_step session.0 goes.last goes.made goes.later reply goes.calls_are goes.run in
+    fetch_told session.0 first.after map reply found old (began map 9 session.0.state
+    (sym (ap (opened (reopens []).how) is) ∙ session.1.begins)
+    session.1.is_fresh) has rule first.told

@@ -1,0 +1,97 @@
+-- Small lists of sessions, worked out by hand.
+use Rattle.std.specs.Prelude.{◌≡◌, ◌⊎◌, ℕ, true, false, List, [], ◌∷◌, Contains}
+use Rattle.std.specs.FinMap.{empty, insert}
+use Rattle.dbm_model.specs.Calls.{Replace, Call, Store, Fetch, Stored, Bytes, NoRecord, Refused, Device}
+use Rattle.dbm_model.specs.Examples.{one}
+use Rattle.dbm_sessions.specs.Members.{Member, NoDatabase, Holding, Members}
+use Rattle.dbm_sessions.specs.Sessions.{Plan, Ending, NotOpened, StoppedOpening, Rested, StoppedCall, Broke, Sessions}
+
+abbrev pub creates : ℕ → List Call → Plan
+creates limit calls = record {
+  how = record { create = true; truncate = false; limit = limit };
+  calls = calls;
+}
+
+abbrev pub empties : ℕ → List Call → Plan
+empties limit calls = record {
+  how = record { create = false; truncate = true; limit = limit };
+  calls = calls;
+}
+
+abbrev pub reopens : List Call → Plan
+reopens calls = record {
+  how = record { create = false; truncate = false; limit = 0 };
+  calls = calls;
+}
+
+-- a, with the content 1
+abbrev pub store : Call
+store = Store (one 0x61) (one 0x01) Replace
+
+abbrev pub fetch : Call
+fetch = Fetch (one 0x61)
+
+-- a database with no pair, and one with this pair alone
+abbrev pub nothing : ℕ → Member
+nothing limit = Holding empty limit
+
+abbrev pub pair : ℕ → Member
+pair limit = Holding (insert empty (one 0x61) (one 0x01)) limit
+
+-- these sessions may end so, and the file may then stand for this member
+pub record MayLeave (before : Members) (plans : List Plan) (endings : List Ending) (member : Member)
+    : Type 0 where
+  pub after : Members
+  pub sessions : Sessions before plans endings after
+  pub among : Contains after member
+
+-- where these sessions end so, the file stands for this member and no other
+abbrev pub LeavesOnly : Members → List Plan → List Ending → (Member → Type 0) → Type 0
+LeavesOnly before plans endings Left =
+    (member : Member) → MayLeave before plans endings member → Left member
+
+-- a store was acknowledged and then came a stop: the pair is there, also after a reopening that was
+-- refused and one that was stopped
+pub record StoreAcknowledged : Type 0 where
+  pub may : MayLeave (NoDatabase ∷ []) (creates 9 (store ∷ fetch ∷ []) ∷ [])
+      (Rested (Stored ∷ []) ∷ []) (pair 9)
+  pub stays : LeavesOnly (NoDatabase ∷ [])
+      (creates 9 (store ∷ fetch ∷ []) ∷ reopens [] ∷ reopens [] ∷ [])
+      (StoppedCall (Stored ∷ []) ∷ NotOpened Device ∷ StoppedOpening ∷ [])
+      (λ member. member ≡ pair 9)
+
+-- a store was in doubt: it has happened, or it hasn't, and what a later session has told stays so
+pub record StoreInDoubt : Type 0 where
+  pub happened : MayLeave (nothing 9 ∷ []) (reopens (store ∷ []) ∷ reopens (fetch ∷ []) ∷ [])
+      (StoppedCall [] ∷ Rested (Bytes (one 0x01) ∷ []) ∷ []) (pair 9)
+  pub not_happened : MayLeave (nothing 9 ∷ []) (reopens (store ∷ []) ∷ reopens (fetch ∷ []) ∷ [])
+      (StoppedCall [] ∷ Rested (NoRecord ∷ []) ∷ []) (nothing 9)
+  pub broken : MayLeave (nothing 9 ∷ []) (reopens (store ∷ []) ∷ [])
+      (Broke (Refused Device ∷ []) ∷ []) (pair 9)
+  pub settled : LeavesOnly (nothing 9 ∷ []) (reopens (store ∷ []) ∷ reopens (fetch ∷ []) ∷ [])
+      (StoppedCall [] ∷ Rested (NoRecord ∷ []) ∷ []) (λ member. member ≡ nothing 9)
+
+-- a creation was cut short, and then one with another limit wasn't: the database has either limit
+pub record CreationInDoubt : Type 0 where
+  pub none : MayLeave (NoDatabase ∷ []) (creates 9 [] ∷ []) (StoppedOpening ∷ []) NoDatabase
+  pub first : MayLeave (NoDatabase ∷ []) (creates 9 [] ∷ creates 5 [] ∷ [])
+      (StoppedOpening ∷ Rested [] ∷ []) (nothing 9)
+  pub second : MayLeave (NoDatabase ∷ []) (creates 9 [] ∷ creates 5 [] ∷ [])
+      (StoppedOpening ∷ Rested [] ∷ []) (nothing 5)
+  pub only : LeavesOnly (NoDatabase ∷ []) (creates 9 [] ∷ creates 5 [] ∷ [])
+      (StoppedOpening ∷ Rested [] ∷ []) (λ member. (member ≡ nothing 9) ⊎ (member ≡ nothing 5))
+
+-- an emptying was cut short: what there was, or nothing with the limit that was asked for
+pub record EmptyingInDoubt : Type 0 where
+  pub kept : MayLeave (pair 9 ∷ []) (empties 5 [] ∷ []) (NotOpened Device ∷ []) (pair 9)
+  pub emptied : MayLeave (pair 9 ∷ []) (empties 5 [] ∷ []) (NotOpened Device ∷ []) (nothing 5)
+  pub only : LeavesOnly (pair 9 ∷ []) (empties 5 [] ∷ []) (NotOpened Device ∷ [])
+      (λ member. (member ≡ pair 9) ⊎ (member ≡ nothing 5))
+
+-- sessions that never end so: a database is opened that is not there, one begins with what no file
+-- stood for, a pair is found that was never stored
+pub record WrongSessions : Type 0 where
+  pub absent : (member : Member)
+      → MayLeave (NoDatabase ∷ []) (reopens [] ∷ []) (Rested [] ∷ []) member → ⊥
+  pub invented : (member : Member) → MayLeave (nothing 9 ∷ []) (reopens (fetch ∷ []) ∷ [])
+      (Rested (Bytes (one 0x01) ∷ []) ∷ []) member → ⊥
