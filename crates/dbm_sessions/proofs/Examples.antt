@@ -1,18 +1,19 @@
 -- Lists of sessions that are worked out by hand.
 use Rattle.std.proofs.Common.{◌≡◌, ◌⊎◌, inl, inr, ⊎_elim, ℕ, true, List, [], ◌∷◌, Some, None, refl, sym, ◌∙◌, ap, subst, Contains}
 use Rattle.std.specs.FinMap.{empty, get-empty}
-use Rattle.dbm_model.specs.Calls.{Reply, Stored, Bytes, NoRecord, Refused, Device}
+use Rattle.dbm_model.specs.Calls.{Next, Reply, Stored, Bytes, NoRecord, Refused, Device, NoPass}
 use Rattle.dbm_model.specs.Examples.{one}
 use Rattle.dbm_model.specs.Pairs.{Contents, key_cmp}
-use Rattle.dbm_model.specs.States.{State, fresh}
-use Rattle.dbm_model.specs.Steps.{fetched}
+use Rattle.dbm_model.specs.States.{State, Handle, fresh}
+use Rattle.dbm_model.specs.Steps.{Refuses, fetched}
 use Rattle.dbm_sessions.specs.Members.{Member, NoDatabase, Holding, Members, held, opened}
 use Rattle.dbm_sessions.specs.Sessions.{Plan, Ending, NotOpened, StoppedOpening, Rested, StoppedCall, SessionStep}
 use Rattle.dbm_sessions.specs.Changes.{changes_of, LeftBy}
 use Rattle.dbm_sessions.specs.Examples.{creates, empties, reopens, store, fetch, nothing, pair, MayLeave, StoreAcknowledged, StoreInDoubt, CreationInDoubt, EmptyingInDoubt, WrongSessions}
 use Rattle.dbm_sessions.proofs.Lists.{in_one, is_first, is_later}
 use Rattle.dbm_sessions.proofs.Ways.{rests_left, changes_stay}
-use Rattle.dbm_sessions.proofs.Sample.{at, start, only, is_stored, has_pair, begins, all_answered, doubt, pair_in_doubt, nothing_in_doubt, stopped_store, fetches, broken_session, told_by}
+use Rattle.dbm_model.proofs.RuleLemmas.{ByCase}
+use Rattle.dbm_sessions.proofs.Sample.{told_at, at, start, only, is_stored, has_pair, begins, all_answered, doubt, pair_in_doubt, nothing_in_doubt, stopped_store, fetches, broken_session, told_by}
 
 -- what the sessions leave, by their changes from one member
 left_of : (before : Member) (plans : List Plan) (endings : List Ending) (member : Member)
@@ -204,8 +205,20 @@ invented after session = ⊎_elim (λ e. none_told (sym e))
     (told_by (nothing 9 ∷ []) after empty (Bytes (one 0x01)) NoRecord None session
     (in_one (nothing 9) session.1.member session.1.among) (get-empty key_cmp (one 0x61)) refl)
 
+no_pass : (h after : Handle) → ByCase h (Refuses NoPass) (Bytes (one 0x61)) after → ⊥
+no_pass h after (inl is) = absurd (let x = is.0 in cc)
+no_pass h after (inr is) = absurd is
+
+passes : (after : Members) → SessionStep (pair 9 ∷ []) (reopens (Next ∷ []))
+    (Rested (Bytes (one 0x61) ∷ [])) after → ⊥
+passes after session =
+    let next = told_at (pair 9 ∷ []) after only (Refuses NoPass) Next (Bytes (one 0x61)) session
+    (in_one (pair 9) session.1.member session.1.among) refl in
+    no_pass next.first next.after next.told
+
 pub wrong_sessions : WrongSessions
 wrong_sessions = record {
   absent = λ member m. absent m.sessions.0 m.sessions.1;
   invented = λ member m. invented m.sessions.0 m.sessions.1;
+  passes = λ member m. passes m.sessions.0 m.sessions.1;
 }

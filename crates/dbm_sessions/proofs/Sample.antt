@@ -194,39 +194,43 @@ found_or_failed : (h after : Handle) (reply found : Reply) → ByCase h (Finds f
 found_or_failed h after reply found (inl is) = inl is.0
 found_or_failed h after reply found (inr is) = inr is.0
 
--- a fetch of this map, by what the key has there
-fetch_told : (h after : Handle) (map : Contents) (reply found : Reply) (old : Option (List ℕ))
-    → h.state ≡ fresh map 9 true → get map (one 0x61) ≡ old → fetched old ≡ Finds found
-    → Step h fetch reply after → (reply ≡ found) ⊎ (reply ≡ Refused Device)
-fetch_told h after map reply found old is has rule told =
-    found_or_failed h after reply found (falls h after fetch reply (Finds found)
-    (ap (λ (s : State). case_of s fetch) is ∙ ap fetched has ∙ rule) told)
-
--- the step of a session of one call
-record FirstStep (first : Handle) (reply : Reply) : Type 0 where
+-- the one call of a session, by the rule that it falls under
+pub record OneCall (c : Case) (reply : Reply) : Type 0 where
+  pub first : Handle
   pub after : Handle
-  pub told : Step first fetch reply after
+  pub told : ByCase first c reply after
 
-abbrev first_call : List Call → Call
-first_call [] = fetch
-first_call (call ∷ calls) = call
+abbrev first_call : Call → List Call → Call
+first_call other [] = other
+first_call other (call ∷ calls) = call
 
-first_step : (first last : Handle) (made later : List Call) (reply : Reply)
-    → fetch ∷ [] ≡ made ++ later → Run first made (reply ∷ []) last → FirstStep first reply
-first_step first last [] later reply is run = absurd run
-first_step first last (call ∷ made) later reply is run = record {
+one_call : (s : State) (c : Case) (call : Call) (first last : Handle) (made later : List Call)
+    (reply : Reply) → first.state ≡ s → case_of s call ≡ c → call ∷ [] ≡ made ++ later
+    → Run first made (reply ∷ []) last → OneCall c reply
+one_call s c call first last [] later reply at_first rule is run = absurd run
+one_call s c call first last (other ∷ made) later reply at_first rule is run = record {
+  first = first;
   after = run.0;
-  told = subst (λ (c : Call). Step first c reply run.0) (sym (ap first_call is)) run.1;
+  told = falls first run.0 call reply c (ap (λ (t : State). case_of t call) at_first ∙ rule)
+      (subst (λ (d : Call). Step first d reply run.0) (sym (ap (first_call call) is)) run.1);
 }
 
--- a session that fetches tells what the member has that it began with
+-- a session of one call, which begins with this map
+pub told_at : (before after : Members) (map : Contents) (c : Case) (call : Call) (reply : Reply)
+    (session : SessionStep before (reopens (call ∷ [])) (Rested (reply ∷ [])) after)
+    → session.1.member ≡ Holding map 9 → case_of (fresh map 9 true) call ≡ c → OneCall c reply
+told_at before after map c call reply session is rule =
+    let goes = session.2.goes in
+    one_call (fresh map 9 true) c call session.0 goes.last goes.made goes.later reply
+    (began map 9 session.0.state (sym (ap (opened (reopens []).how) is) ∙ session.1.begins)
+    session.1.is_fresh) rule goes.calls_are goes.run
+
+-- one that fetches tells what the member has that it began with
 pub told_by : (before after : Members) (map : Contents) (reply found : Reply) (old : Option (List ℕ))
     (session : SessionStep before (reopens (fetch ∷ [])) (Rested (reply ∷ [])) after)
     → session.1.member ≡ Holding map 9 → get map (one 0x61) ≡ old → fetched old ≡ Finds found
     → (reply ≡ found) ⊎ (reply ≡ Refused Device)
 told_by before after map reply found old session is has rule =
-    let goes = session.2.goes in
-    let first = first_step session.0 goes.last goes.made goes.later reply goes.calls_are goes.run in
-    fetch_told session.0 first.after map reply found old (began map 9 session.0.state
-    (sym (ap (opened (reopens []).how) is) ∙ session.1.begins)
-    session.1.is_fresh) has rule first.told
+    let one = told_at before after map (Finds found) fetch reply session is
+    (ap fetched has ∙ rule) in
+    found_or_failed one.first one.after reply found one.told

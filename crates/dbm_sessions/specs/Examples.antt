@@ -1,7 +1,7 @@
 -- Small lists of sessions, worked out by hand.
 use Rattle.std.specs.Prelude.{◌≡◌, ◌⊎◌, ℕ, true, false, List, [], ◌∷◌, Contains}
 use Rattle.std.specs.FinMap.{empty, insert}
-use Rattle.dbm_model.specs.Calls.{Replace, Call, Store, Fetch, Stored, Bytes, NoRecord, Refused, Device}
+use Rattle.dbm_model.specs.Calls.{Replace, Call, Store, Fetch, Next, Stored, Bytes, NoRecord, Refused, Device}
 use Rattle.dbm_model.specs.Examples.{one}
 use Rattle.dbm_sessions.specs.Members.{Member, NoDatabase, Holding, Members}
 use Rattle.dbm_sessions.specs.Sessions.{Plan, Ending, NotOpened, StoppedOpening, Rested, StoppedCall, Broke, Sessions}
@@ -88,10 +88,12 @@ pub record EmptyingInDoubt : Type 0 where
   pub only : LeavesOnly (pair 9 ∷ []) (empties 5 [] ∷ []) (NotOpened Device ∷ [])
       (λ member. (member ≡ pair 9) ⊎ (member ≡ nothing 5))
 
--- sessions that never end so: a database is opened that is not there, one begins with what no file
--- stood for, a pair is found that was never stored
+-- sessions that never end so: a database is opened that is not there, a pair is found that was
+-- never stored, a pass is on at the start
 pub record WrongSessions : Type 0 where
   pub absent : (member : Member)
       → MayLeave (NoDatabase ∷ []) (reopens [] ∷ []) (Rested [] ∷ []) member → ⊥
   pub invented : (member : Member) → MayLeave (nothing 9 ∷ []) (reopens (fetch ∷ []) ∷ [])
       (Rested (Bytes (one 0x01) ∷ []) ∷ []) member → ⊥
+  pub passes : (member : Member) → MayLeave (pair 9 ∷ []) (reopens (Next ∷ []) ∷ [])
+      (Rested (Bytes (one 0x61) ∷ []) ∷ []) member → ⊥
