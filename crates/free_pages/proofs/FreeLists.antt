@@ -1,6 +1,7 @@
 -- A free list, and what a page that comes in front leaves of it.
-use Rattle.std.proofs.Common.{◌≡◌, ◌↔◌, ℕ, ◌+◌, ◌<◌, ◌≤◌, cond, List, [], ◌∷◌, length, refl, sym, ap, ◌∙◌, subst, arith}
+use Rattle.std.proofs.Common.{◌≡◌, ◌↔◌, ℕ, ◌+◌, ◌-◌, ◌<◌, ◌≤◌, Bool, true, false, not, eqb, cond, Some, None, List, [], ◌∷◌, length, refl, sym, ap, ◌∙◌, subst, arith}
 use Rattle.std.proofs.lemmas.Bool.Decides.{nat_tests}
+use mathlib.Core.Bool.{beq}
 use Rattle.page_model.specs.Pages.{Body, FreePage}
 use Rattle.page_model.specs.PageBodies.{first_of, free_bodies, AreRead}
 use Rattle.page_model.specs.Space.{Space, after_take, give, is_page, times_of}
@@ -88,3 +89,26 @@ first_free at state s list apart =
       ends = free_ends rest (λ m stands. each m (omega (arith, stands, times_tail m n rest)));
       end = refl;
     }
+
+-- the code's test, whether just one of two numbers is as it is named here
+abbrev pub differ : ℕ → ℕ → ℕ → Bool
+differ head count least = not (beq (eqb head 0) (eqb count least))
+
+-- what is left of a free list has a first page exactly where there is one more page
+pub rest_ends : (next count : ℕ) → 0 < count → differ next count 1 ≡ false
+    → (next ≡ 0) ↔ (count - 1 ≡ 0)
+rest_ends next count some same = grind (arith, nat_tests)
+
+pub rest_is_well : (next count : ℕ) (rest : FreeState) → next ≡ rest.head → HasEnds rest
+    → rest.count + 1 ≡ count → differ next count 1 ≡ true → ⊥
+rest_is_well next count rest first ends one other = grind (arith, nat_tests)
+
+pub list_is_well : (state : FreeState) → HasEnds state
+    → differ state.head state.count 0 ≡ true → ⊥
+list_is_well state ends other = grind (arith, nat_tests)
+
+pub one_next : (next other : ℕ) → Some next ≡ Some other → next ≡ other
+one_next next other same = cc
+
+pub none_read : (next : ℕ) → Some next ≡ None → ⊥
+none_read next same = absurd (cc)

@@ -63,16 +63,16 @@ fn a_file_keeps_its_pairs(rt: HostRuntime) -> Result<(), Fail> {
     let alloc = rt.alloc();
     let _ = fs::remove_file(&rt, "kept.db");
     make_nine(&rt, alloc, "kept")?;
+    for how in ["100", "reading 100"] {
+        assert!(rt; opens_with_nine(&rt, alloc, "kept", how)?, "{how}");
+    }
     assert_eq!(rt; fs::metadata(&rt, "kept.db")?.len() % 512, 0);
-    assert!(rt; opens_with_nine(&rt, alloc, "kept", "100")?);
-    assert!(rt; opens_with_nine(&rt, alloc, "kept", "reading 100")?);
     fs::remove_file(&rt, "kept.db")?;
     Ok(())
 }
 
 #[test]
-fn a_missing_file_is_made_only_for_writing(rt: HostRuntime) -> Result<(), Fail> {
-    let alloc = rt.alloc();
+fn a_missing_file_stays_missing(rt: HostRuntime) -> Result<(), Fail> {
     let _ = fs::remove_file(&rt, "missing.db");
     let table = "
         100 -> Missing
@@ -80,16 +80,22 @@ fn a_missing_file_is_made_only_for_writing(rt: HostRuntime) -> Result<(), Fail> 
         reading create 100 -> Missing
         reading truncate 100 -> Missing
     ";
-    assert_eq!(rt; first_not_refused(&rt, alloc, "missing", table)?, None);
+    let wrong = first_not_refused(&rt, rt.alloc(), "missing", table)?;
+    assert_eq!(rt; wrong, None);
     assert!(rt; !fs::exists(&rt, "missing.db")?);
-    let fault = fault_of(&rt, alloc, "missing", "create exclusive 0")?;
-    assert_eq!(rt; fault, Some(Fault::BadLimit));
-    assert!(rt; fs::exists(&rt, "missing.db")?);
-    let fault = fault_of(&rt, alloc, "missing", "create exclusive 100")?;
-    assert_eq!(rt; fault, None);
-    let fault = fault_of(&rt, alloc, "missing", "create exclusive 100")?;
-    assert_eq!(rt; fault, Some(Fault::Exists));
-    fs::remove_file(&rt, "missing.db")?;
+    Ok(())
+}
+
+#[test]
+fn a_file_is_made_once(rt: HostRuntime) -> Result<(), Fail> {
+    let _ = fs::remove_file(&rt, "made.db");
+    let fault = fault_of(&rt, rt.alloc(), "made", "create exclusive 0")?;
+    assert!(rt; fault == Some(Fault::BadLimit) && fs::exists(&rt, "made.db")?);
+    for wanted in [None, Some(Fault::Exists)] {
+        let fault = fault_of(&rt, rt.alloc(), "made", "create exclusive 100")?;
+        assert_eq!(rt; fault, wanted);
+    }
+    fs::remove_file(&rt, "made.db")?;
     Ok(())
 }
 
@@ -101,7 +107,8 @@ fn a_file_of_something_else_is_no_database(rt: HostRuntime) -> Result<(), Fail> 
         100 -> NotADatabase
         create exclusive 100 -> Exists
     ";
-    assert_eq!(rt; first_not_refused(&rt, rt.alloc(), "other", table)?, None);
+    let wrong = first_not_refused(&rt, rt.alloc(), "other", table)?;
+    assert_eq!(rt; wrong, None);
     assert_eq!(rt; fs::read(&rt, "other.db")?.as_slice(), b"hello".as_slice());
     fs::remove_file(&rt, "other.db")?;
     Ok(())
@@ -116,17 +123,25 @@ fn make_cut<R: Files<File = File> + Alloc>(rt: &R, alloc: Global) -> Result<(), 
     Ok(())
 }
 
+/// The first line that a database of a file that was cut answers otherwise.
+fn first_wrong_when_cut<'a, R: Files<File = File> + Alloc>(
+    rt: &R,
+    alloc: Global,
+    table: &'a str,
+) -> Result<Option<&'a str>, Fail> {
+    make_cut(rt, alloc)?;
+    let mut db = dbm_open(rt, alloc, "cut", how_of("reading 100")?)?;
+    first_wrong(alloc, &mut db, table)
+}
+
 #[test]
 fn a_file_that_was_cut_opens_and_is_damaged(rt: HostRuntime) -> Result<(), Fail> {
-    let alloc = rt.alloc();
     let _ = fs::remove_file(&rt, "cut.db");
-    make_cut(&rt, alloc)?;
-    let mut db = dbm_open(&rt, alloc, "cut", how_of("reading 100")?)?;
     let table = "
         stat -> 0 pairs of 100, 1 buckets (0 0), 4 pages, 0 free
         fetch k -> refused Damaged
     ";
-    assert_eq!(rt; first_wrong(alloc, &mut db, table)?, None);
+    assert_eq!(rt; first_wrong_when_cut(&rt, rt.alloc(), table)?, None);
     fs::remove_file(&rt, "cut.db")?;
     Ok(())
 }

@@ -116,12 +116,14 @@ fn fault_with_no_call(alloc: Global, sectors: u32, how: &str) -> Result<Option<F
 }
 
 #[test]
-fn emptying_for_reading_is_refused_with_no_device_call(rt: HostRuntime) -> Result<(), Fail> {
-    let alloc = rt.alloc();
-    let fault = fault_with_no_call(alloc, 8, "reading truncate")?;
-    assert_eq!(rt; fault, Some(Fault::ReadOnly));
-    let fault = fault_with_no_call(alloc, 15, "truncate 5")?;
-    assert_eq!(rt; fault, Some(Fault::TooSmall));
+fn an_emptying_is_refused_with_no_device_call(rt: HostRuntime) -> Result<(), Fail> {
+    for (sectors, how, wanted) in [
+        (8, "reading truncate", Fault::ReadOnly),
+        (15, "truncate 5", Fault::TooSmall),
+    ] {
+        let fault = fault_with_no_call(rt.alloc(), sectors, how)?;
+        assert_eq!(rt; fault, Some(wanted), "{how}");
+    }
     Ok(())
 }
 
@@ -130,16 +132,30 @@ fn nine_opened(alloc: Global, how: &str) -> Result<Db<MemDev>, Fail> {
     Ok(open_so(alloc, nine_pairs(alloc, 928)?, how_of(how)?)?)
 }
 
+/// The first line that is answered otherwise once the nine pairs are emptied to a limit of 5, or
+/// when what that leaves is opened again.
+fn first_wrong_when_emptied(alloc: Global) -> Result<Option<&'static str>, Fail> {
+    let emptied = "
+        stat -> 0 pairs of 5, 1 buckets (0 0), 4 pages, 0 free
+        first -> nothing
+        put a #01 -> stored
+    ";
+    let mut db = nine_opened(alloc, "truncate 5")?;
+    if let Some(line) = first_wrong(alloc, &mut db, emptied)? {
+        return Ok(Some(line));
+    }
+    let reopened = "
+        stat -> 1 pairs of 5, 1 buckets (0 0), 4 pages, 0 free
+        first -> bytes a
+        next -> nothing
+        fetch a -> bytes #01
+    ";
+    first_wrong(alloc, &mut opened(alloc, closed(db)?, false, 0)?, reopened)
+}
+
 #[test]
 fn an_emptied_database_has_the_new_limit(rt: HostRuntime) -> Result<(), Fail> {
-    let alloc = rt.alloc();
-    let mut db = nine_opened(alloc, "truncate 5")?;
-    assert!(rt; db.stat() == EMPTY && has_first(&mut db, 0)?);
-    assert_eq!(rt; first_wrong(alloc, &mut db, "put a #01 -> stored")?, None);
-    let mut again = opened(alloc, closed(db)?, false, 0)?;
-    let one = "stat -> 1 pairs of 5, 1 buckets (0 0), 4 pages, 0 free";
-    assert_eq!(rt; first_wrong(alloc, &mut again, one)?, None);
-    assert!(rt; has_first(&mut again, 1)?);
+    assert_eq!(rt; first_wrong_when_emptied(rt.alloc())?, None);
     Ok(())
 }
 
@@ -232,9 +248,17 @@ fn an_armed_file_is_read_with_its_images(rt: HostRuntime) -> Result<(), Fail> {
     Ok(())
 }
 
+/// The first line that a database for reading answers otherwise. It is none only where the nine
+/// pairs stay, too.
+fn first_wrong_for_reading<'a>(alloc: Global, table: &'a str) -> Result<Option<&'a str>, Fail> {
+    let mut db = nine_opened(alloc, "reading")?;
+    let wrong = first_wrong(alloc, &mut db, table)?;
+    let stays = has_first(&mut db, 9)? && first_other(&mut closed(db)?, &nine_file())?.is_none();
+    Ok(if stays { wrong } else { Some("the nine pairs stay") })
+}
+
 #[test]
 fn a_database_for_reading_refuses_changes(rt: HostRuntime) -> Result<(), Fail> {
-    let mut db = nine_opened(rt.alloc(), "reading")?;
     let table = "
         put a #07 -> refused ReadOnly
         insert a #07 -> refused ReadOnly
@@ -245,21 +269,27 @@ fn a_database_for_reading_refuses_changes(rt: HostRuntime) -> Result<(), Fail> {
         fetch a -> bytes #01
         error -> number 4
     ";
-    assert_eq!(rt; first_wrong(rt.alloc(), &mut db, table)?, None);
-    assert!(rt; has_first(&mut db, 9)?);
-    assert_eq!(rt; first_other(&mut closed(db)?, &nine_file())?, None);
+    assert_eq!(rt; first_wrong_for_reading(rt.alloc(), table)?, None);
     Ok(())
+}
+
+/// The first line that the nine pairs, opened as these words say, answer otherwise.
+fn first_wrong_opened<'a>(
+    alloc: Global,
+    how: &str,
+    table: &'a str,
+) -> Result<Option<&'a str>, Fail> {
+    first_wrong(alloc, &mut nine_opened(alloc, how)?, table)
 }
 
 #[test]
 fn one_for_writing_only_reads_too(rt: HostRuntime) -> Result<(), Fail> {
-    let mut db = nine_opened(rt.alloc(), "writing")?;
     let table = "
         put a #07 -> stored
         fetch a -> bytes #07
         delete a -> deleted
     ";
-    assert_eq!(rt; first_wrong(rt.alloc(), &mut db, table)?, None);
+    assert_eq!(rt; first_wrong_opened(rt.alloc(), "writing", table)?, None);
     Ok(())
 }
 
@@ -274,6 +304,12 @@ fn first_other_when_made(alloc: Global) -> Result<Option<u32>, Fail> {
 }
 
 #[test]
+fn a_database_is_made_as_its_format_says(rt: HostRuntime) -> Result<(), Fail> {
+    assert_eq!(rt; first_other_when_made(rt.alloc())?, None);
+    Ok(())
+}
+
+#[test]
 fn a_blank_device_is_no_database_yet(rt: HostRuntime) -> Result<(), Fail> {
     let table = "
         plain -> NotADatabase
@@ -284,31 +320,32 @@ fn a_blank_device_is_no_database_yet(rt: HostRuntime) -> Result<(), Fail> {
         create exclusive 101 -> TooSmall
     ";
     assert_eq!(rt; first_not_refused(rt.alloc(), Held::Nothing, table)?, None);
-    assert_eq!(rt; first_other_when_made(rt.alloc())?, None);
     Ok(())
 }
 
 #[test]
-fn what_is_there_is_looked_at_before_it_is_emptied(rt: HostRuntime) -> Result<(), Fail> {
-    let other = "
+fn a_file_of_something_else_is_not_emptied(rt: HostRuntime) -> Result<(), Fail> {
+    let table = "
         plain -> NotADatabase
         reading -> NotADatabase
         truncate 5 -> NotADatabase
         truncate 0 -> NotADatabase
         create exclusive 100 -> Exists
     ";
-    assert_eq!(rt;
-        first_not_refused(rt.alloc(), Held::OtherSector, other)?,
-        None
-    );
-    let meta = "
+    assert_eq!(rt; first_not_refused(rt.alloc(), Held::OtherSector, table)?, None);
+    Ok(())
+}
+
+#[test]
+fn a_damaged_file_is_not_emptied(rt: HostRuntime) -> Result<(), Fail> {
+    let table = "
         plain -> Damaged
         reading -> Damaged
         truncate 5 -> Damaged
         truncate 0 -> Damaged
         create exclusive 100 -> Exists
     ";
-    assert_eq!(rt; first_not_refused(rt.alloc(), Held::OtherMeta, meta)?, None);
+    assert_eq!(rt; first_not_refused(rt.alloc(), Held::OtherMeta, table)?, None);
     Ok(())
 }
 
@@ -327,16 +364,16 @@ fn nearly_full(alloc: Global) -> Result<MemDev, Fail> {
     Ok(dev)
 }
 
-/// The pages of a file that nearly fills its device, as it is opened.
-fn pages_when_nearly_full(alloc: Global) -> Result<u32, Fail> {
-    Ok(opened(alloc, nearly_full(alloc)?, false, 0)?.stat().pages)
+/// The pages of a file that nearly fills its device, as it is opened, and the fault of emptying it.
+fn emptied_when_nearly_full(alloc: Global) -> Result<(u32, Option<Fault>), Fail> {
+    let pages = opened(alloc, nearly_full(alloc)?, false, 0)?.stat().pages;
+    let fault = open_so(alloc, nearly_full(alloc)?, how_of("truncate 1")?).err();
+    Ok((pages, fault))
 }
 
 #[test]
 fn an_emptying_lacks_room_where_the_file_fills_its_device(rt: HostRuntime) -> Result<(), Fail> {
-    let alloc = rt.alloc();
-    assert_eq!(rt; pages_when_nearly_full(alloc)?, 8);
-    let fault = open_so(alloc, nearly_full(alloc)?, how_of("truncate 1")?).err();
-    assert_eq!(rt; fault, Some(Fault::NoRoom));
+    let (pages, fault) = emptied_when_nearly_full(rt.alloc())?;
+    assert!(rt; pages == 8 && fault == Some(Fault::NoRoom), "{pages} pages, {fault:?}");
     Ok(())
 }

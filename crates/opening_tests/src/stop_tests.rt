@@ -212,22 +212,40 @@ fn opens_again(alloc: Global, left: &MemDev, calls: u64) -> Result<bool, Fail> {
     Ok(true)
 }
 
+/// Whether what a store of the ninth pair leaves after so many calls may be opened again and again.
+fn opens_again_after(alloc: Global, eight: &MemDev, calls: u64) -> Result<bool, Fail> {
+    let stopped = store_stopped(alloc, eight.crashed(alloc, &[])?, calls);
+    opens_again(alloc, &stopped.dev, calls)
+}
+
 #[test]
 fn a_stopped_opening_may_be_made_again(rt: HostRuntime) -> Result<(), Fail> {
     let alloc = rt.alloc();
     let eight = eight_pairs(alloc)?;
     for calls in COMMIT..STORED + 1 {
-        let stopped = store_stopped(alloc, eight.crashed(alloc, &[])?, calls);
-        let right = opens_again(alloc, &stopped.dev, calls)?;
+        let right = opens_again_after(alloc, &eight, calls)?;
         assert!(rt; right, "after {calls} calls");
     }
     Ok(())
 }
 
+/// Whether closing what was left in doubt says Broken, and there are nine pairs then.
+fn is_left_in_doubt(alloc: Global, db: Db<FailOnce<MemDev>>) -> Result<bool, Fail> {
+    let (dev, answer) = db.close();
+    let left = dev.into_inner();
+    Ok(answer == Err(Fault::Broken) && is_nine(&mut opened(alloc, left, false, 0)?)?)
+}
+
+/// The first line that eight pairs answer otherwise where the sync behind a commit's armed sector
+/// fails, and whether the change is left in doubt then.
+fn answers_in_doubt<'a>(alloc: Global, table: &'a str) -> Result<(Option<&'a str>, bool), Fail> {
+    let mut db = opened(alloc, FailOnce::new(eight_pairs(alloc)?, ARMING), false, 0)?;
+    let wrong = first_wrong(alloc, &mut db, table)?;
+    Ok((wrong, is_left_in_doubt(alloc, db)?))
+}
+
 #[test]
 fn a_failed_sync_leaves_a_change_in_doubt(rt: HostRuntime) -> Result<(), Fail> {
-    let alloc = rt.alloc();
-    let mut db = opened(alloc, FailOnce::new(eight_pairs(alloc)?, ARMING), false, 0)?;
     let table = "
         stat -> 8 pairs of 100, 1 buckets (0 0), 4 pages, 0 free
         put i #09 -> refused Device
@@ -243,21 +261,23 @@ fn a_failed_sync_leaves_a_change_in_doubt(rt: HostRuntime) -> Result<(), Fail> {
         error -> number 0
         fetch a -> refused Broken
     ";
-    assert_eq!(rt; first_wrong(alloc, &mut db, table)?, None);
-    let (dev, answer) = db.close();
-    assert_eq!(rt; answer, Err(Fault::Broken));
-    assert!(rt; is_nine(&mut opened(alloc, dev.into_inner(), false, 0)?)?);
+    assert_eq!(rt; answers_in_doubt(rt.alloc(), table)?, (None, true));
     Ok(())
 }
 
-/// Whether a store of the ninth pair is refused where this call of the device fails, and leaves the
-/// pairs, and is done then.
+/// Whether the store of a ninth pair is refused by a failed call, which leaves the pairs, and is
+/// done then.
+fn stores_at_last(alloc: Global, db: &mut Db<FailOnce<MemDev>>) -> Result<bool, Fail> {
+    let refused = first_wrong(alloc, db, "put i #09 -> refused Device")?.is_none();
+    let kept = refused && has_first(db, 8)?;
+    let stored = kept && first_wrong(alloc, db, "put i #09 -> stored")?.is_none();
+    Ok(stored && is_nine(db)?)
+}
+
+/// Whether it is so where this call of the device fails.
 fn outlives_failure(alloc: Global, call: u64) -> Result<bool, Fail> {
-    let mut db = opened(alloc, FailOnce::new(eight_pairs(alloc)?, call), false, 0)?;
-    let refused = first_wrong(alloc, &mut db, "put i #09 -> refused Device")?.is_none();
-    let kept = refused && has_first(&mut db, 8)?;
-    let stored = kept && first_wrong(alloc, &mut db, "put i #09 -> stored")?.is_none();
-    Ok(stored && is_nine(&mut db)?)
+    let dev = FailOnce::new(eight_pairs(alloc)?, call);
+    stores_at_last(alloc, &mut opened(alloc, dev, false, 0)?)
 }
 
 #[test]
@@ -300,14 +320,20 @@ fn leaves_blank_or_new(alloc: Global, left: &MemDev, calls: u64) -> Result<bool,
     Ok(true)
 }
 
+/// Whether a making that is stopped after so many calls ends as it has to.
+fn is_made_so(alloc: Global, calls: u64) -> Result<bool, Fail> {
+    let stopped = open_stopped(alloc, MemDev::new(alloc, 928), calls, true);
+    Ok(
+        stopped.done == (calls == MAKING)
+            && leaves_blank_or_new(alloc, &stopped.dev, calls)?,
+    )
+}
+
 #[test]
 fn a_stopped_making_leaves_nothing_or_a_new_database(rt: HostRuntime) -> Result<(), Fail> {
     let alloc = rt.alloc();
     for calls in 0..MAKING + 1 {
-        let stopped = open_stopped(alloc, MemDev::new(alloc, 928), calls, true);
-        assert_eq!(rt; stopped.done, calls == MAKING, "after {calls} calls");
-        let right = leaves_blank_or_new(alloc, &stopped.dev, calls)?;
-        assert!(rt; right, "after {calls} calls");
+        assert!(rt; is_made_so(alloc, calls)?, "after {calls} calls");
     }
     Ok(())
 }

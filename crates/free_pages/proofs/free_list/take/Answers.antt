@@ -1,12 +1,11 @@
 use Rattle.std.proofs.Common.{◌≡◌, Err, ap, arith}
 use Rattle.std.proofs.lemmas.Result.{err_from_is_err_and}
-use Rattle.std.proofs.lemmas.Bool.Decides.{nat_tests}
 use Rattle.page_model.specs.Space.{after_take}
 use Rattle.page_io.specs.Views.{body_at}
 use Rattle.page_io.specs.declared.store.PageFault.TheVariants.{Damaged}
 use Rattle.page_io.proofs.Views.{known_below, end_stays, end_grows}
 use Rattle.free_pages.specs.FreeList.{state_of}
-use Rattle.free_pages.proofs.FreeLists.{first_free, list_ends}
+use Rattle.free_pages.proofs.FreeLists.{first_free, list_ends, list_is_well}
 use Rattle.free_pages.proofs.free_list.take.Goals as goal
 
 pub returns-in_err-rest-clause-whole : goal.returns-in_err-rest-clause-whole
@@ -28,7 +27,7 @@ returns-then-space-ne0-clause-may_end g c may bytes own =
 pub returns-then-space-clause-whole : goal.returns-then-space-clause-whole
 returns-then-space-clause-whole g c honest s list apart damaged =
     let ends = list_ends (body_at g.S.PageStore c.args.store.now) c.args.space.now s list apart in
-    absurd (grind (arith, nat_tests))
+    list_is_well c.args.space.now ends c.if-space.true
 
 pub returns-clause-may_end : goal.returns-clause-may_end
 returns-clause-may_end g c may bytes own =

@@ -1,10 +1,9 @@
-use Rattle.std.proofs.Common.{◌≡◌, refl, sym, ap, ◌∙◌, arith, Err}
+use Rattle.std.proofs.Common.{◌≡◌, refl, sym, ap, ◌∙◌, arith, Some, Err}
 use Rattle.std.proofs.lemmas.Result.{err_from_is_err_and}
-use Rattle.std.proofs.lemmas.Bool.Decides.{nat_tests}
-use Rattle.std.proofs.lemmas.Grind.{common_steps}
 use Rattle.page_model.specs.Reading.{body_of}
 use Rattle.page_io.specs.declared.store.PageFault.TheVariants.{Damaged}
 use Rattle.page_io.proofs.Views.{unknown_said}
+use Rattle.free_pages.proofs.FreeLists.{rest_ends, rest_is_well, one_next, none_read}
 use Rattle.free_pages.proofs.free_list.take_first.Goals as goal
 
 pub returns-in_err-read-clause-whole : goal.returns-in_err-read-clause-whole
@@ -19,16 +18,16 @@ returns-in_err-read-clause-whole g c honest rest first damaged =
 
 pub returns-in_err-next-clause-whole : goal.returns-in_err-next-clause-whole
 returns-in_err-next-clause-whole g c honest rest first damaged =
-    let found = (c.read_free.ensures.says rest.head).1
+    let found : c.read_free.result ≡ Some rest.head = (c.read_free.ensures.says rest.head).1
     (ap (body_of c.args.space.now.head) (c.in_ok-read.ensures.found honest) ∙ first.free) in
-    absurd (cc (found, c.in_err-next.ensures.ok_part))
+    none_read rest.head (sym found ∙ c.in_err-next.ensures.ok_part)
 
 pub returns-then-next-space-clause-whole : goal.returns-then-next-space-clause-whole
 returns-then-next-space-clause-whole g c honest rest first damaged =
-    let found = (c.read_free.ensures.says rest.head).1
+    let found : c.read_free.result ≡ Some rest.head = (c.read_free.ensures.says rest.head).1
     (ap (body_of c.args.space.now.head) (c.in_ok-read.ensures.found honest) ∙ first.free) in
-    let next : c.in_ok-next.next ≡ rest.head = cc (found, c.in_ok-next.ensures.ok_part) in
-    absurd (grind (arith, nat_tests))
+    absurd (rest_is_well c.in_ok-next.next c.args.space.now.count rest
+    (one_next c.in_ok-next.next rest.head (sym c.in_ok-next.ensures.ok_part ∙ found)) first.ends first.one_less c.if-next-space.true)
 
 pub returns-clause-taken : goal.returns-clause-taken
 returns-clause-taken g c honest = record {
@@ -37,6 +36,6 @@ returns-clause-taken g c honest = record {
   free = ap (body_of c.args.space.now.head) (sym (c.in_ok-read.ensures.found honest))
       ∙ (c.read_free.ensures.says c.in_ok-next.next).0 c.in_ok-next.ensures.ok_part;
   one_less = omega arith;
-  ends = grind (arith, common_steps);
+  ends = rest_ends c.in_ok-next.next c.args.space.now.count c.requires.1 c.if-next-space.false;
   end = refl;
 }
