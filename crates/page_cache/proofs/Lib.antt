@@ -1,0 +1,2 @@
+mod Cleanness
+mod Lookups

@@ -1,0 +1,158 @@
+// A store that keeps copies of clean pages.
+ghost use Rattle.std.specs.Prelude.{◌≡◌};
+ghost use Rattle.page_cache.specs.Clean.{AreClean};
+ghost use Rattle.page_cache.specs.Copies.{copies_of};
+
+use crate::clean_pages::CleanPages;
+use page_io::{Page, PageFault, PageStore};
+use std::alloc::Global;
+
+/// A store of pages over another one. It keeps copies of up to 256 committed pages that were read,
+/// and reads them there.
+#[derive(Drop)]
+pub struct CachedPages<S: PageStore> {
+    store: S,
+    clean: CleanPages,
+    ghost are_clean: { AreClean S.PageStore store (copies_of clean) },
+}
+
+impl<S: PageStore> CachedPages<S> {
+    ghost use Rattle.std.specs.Prelude.{◌↔◌, IsTrue};
+    ghost use Rattle.page_io.specs.Store.{page_of, overlaid};
+    ghost use Rattle.page_cache.specs.Clean.{IsReadable};
+    ghost use Rattle.page_cache.specs.Stores.{store_of, HasCopy};
+
+    /// A store over this one, with no copies. Where the room for copies is refused it keeps none.
+    pub fn new(alloc: Global, store: S) -> CachedPages<S>
+        ensures { store_of result ≡ store }
+    {
+        CachedPages {
+            store,
+            clean: CleanPages::new(alloc),
+        }
+    }
+
+    /// The store below as it is.
+    pub fn into_inner(self) -> S
+        ensures { result ≡ store_of self }
+    {
+        self.store
+    }
+
+    // Gives the copy of page n, if it has one that a read may answer.
+    fn find(&mut self, n: u32, page: &mut Page) -> bool
+        ensures hit { IsTrue result
+            ↔ (IsReadable (S.state (store_of self.old)) n × HasCopy self.old n) }
+        ensures found { S.honest (store_of self.old) → IsTrue result
+            → page.new.bytes ≡ overlaid (S.state (store_of self.old)).staged
+            (page_of (S.committed (store_of self.old))) n }
+        ensures store { store_of self.new ≡ store_of self.old }
+    {
+        if self.store.is_broken() || n < 1 || self.store.end() <= n {
+            return false;
+        }
+        self.clean.find(n, page)
+    }
+}
+
+impl<S: PageStore> PageStore for CachedPages<S> {
+    ghost use Rattle.std.specs.Prelude.{◌↔◌, OnOk, IsOk};
+    ghost use Rattle.page_io.specs.Answers.{HasDeviceCause, IsReadAnswer};
+    ghost use Rattle.page_io.specs.Kept.{KeepsPages};
+    ghost use Rattle.page_io.specs.Store.{page_of, overlaid};
+    ghost use Rattle.page_cache.specs.Clean.{IsReadable};
+    ghost use Rattle.page_cache.specs.Stores.{store_of, HasCopy};
+
+    ghost state = { λ c. S.state c.store };
+
+    ghost committed = { λ c. S.committed c.store };
+
+    ghost honest = { λ c. S.honest c.store };
+
+    ghost faults = { λ c. S.faults c.store };
+
+    ghost settles_to = { λ c. S.settles_to c.store };
+
+    ghost moment = { λ c. S.moment c.store };
+
+    ghost settled_since = { λ c. S.settled_since c.store };
+
+    ghost reserved = { S.reserved };
+
+    ghost committed_may_stay = { λ c. S.committed_may_stay c.store };
+
+    ghost only_committed = { λ c. S.only_committed c.store };
+
+    ghost only_now = { λ c. S.only_now c.store };
+
+    ghost counts_now = { λ c. S.counts_now c.store };
+
+    ghost ends = { λ c. S.ends c.store };
+
+    ghost in_range = { λ c. S.in_range c.store };
+
+    ghost in_order = { λ c. S.in_order c.store };
+
+    /// As the trait says, and a page that has a copy is answered from it.
+    fn read(&mut self, n: u32, page: &mut Page) -> Result<(), PageFault>
+        ensures found { ⟦<CachedPages<S> as PageStore>⟧.honest self.old
+            → OnOk result (page.new.bytes
+            ≡ overlaid (⟦<CachedPages<S> as PageStore>⟧.state self.old).staged
+            (page_of (⟦<CachedPages<S> as PageStore>⟧.committed self.old)) n) }
+        ensures answer { IsReadAnswer (⟦<CachedPages<S> as PageStore>⟧.state self.old) n result }
+        ensures state { ⟦<CachedPages<S> as PageStore>⟧.state self.new
+            ≡ ⟦<CachedPages<S> as PageStore>⟧.state self.old }
+        ensures kept { ⟦<CachedPages<S> as PageStore>⟧.honest self.old
+            → KeepsPages ⟦<CachedPages<S> as PageStore>⟧.committed
+            ⟦<CachedPages<S> as PageStore>⟧.moment
+            ⟦<CachedPages<S> as PageStore>⟧.settled_since
+            ⟦<CachedPages<S> as PageStore>⟧.settles_to self.old self.new }
+        ensures honesty { ⟦<CachedPages<S> as PageStore>⟧.honest self.new
+            ↔ ⟦<CachedPages<S> as PageStore>⟧.honest self.old }
+        ensures cause { HasDeviceCause (⟦<CachedPages<S> as PageStore>⟧.faults self.old)
+            (⟦<CachedPages<S> as PageStore>⟧.faults self.new) result }
+
+        // No call goes below.
+        ensures hit { IsReadable (⟦<CachedPages<S> as PageStore>⟧.state self.old) n
+            → HasCopy self.old n → IsOk result × (store_of self.new ≡ store_of self.old) }
+    {
+        if self.find(n, page) {
+            return Ok(());
+        }
+        self.store.read(n, page)?;
+        if !self.store.is_staged(n) {
+            self.clean.keep(n, page);
+        }
+        Ok(())
+    }
+
+    fn stage(&mut self, n: u32, page: &Page) -> Result<(), PageFault> {
+        self.clean.forget(n);
+        self.store.stage(n, page)
+    }
+
+    fn unstage(&mut self) {
+        self.store.unstage();
+    }
+
+    // A page that it changes was staged, and so has no copy.
+    fn commit(&mut self, new_end: u32) -> Result<(), PageFault> {
+        self.store.commit(new_end)
+    }
+
+    fn end(&self) -> u32 {
+        self.store.end()
+    }
+
+    fn capacity(&self) -> u32 {
+        self.store.capacity()
+    }
+
+    fn is_staged(&self, n: u32) -> bool {
+        self.store.is_staged(n)
+    }
+
+    fn is_broken(&self) -> bool {
+        self.store.is_broken()
+    }
+}

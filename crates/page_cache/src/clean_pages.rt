@@ -1,0 +1,73 @@
+// Pages in memory by their numbers, of which the least recently used one goes.
+ghost use Rattle.std.specs.Prelude.{◌≡◌, ◌⊎◌, ℕ, [], Contains, IsTrue, nat_eq};
+ghost use Rattle.std.specs.Map.{remove_entry};
+ghost use Rattle.lru.specs.LruCache.{promoted};
+ghost use Rattle.page_cache.specs.Copies.{copies_of, has_copy, HasNone};
+ghost use Rattle.page_io.specs.declared.page.Page.{Page as OnePage};
+
+use lru::LruCache;
+use page_io::Page;
+use std::alloc::Global;
+use std::num::NonZeroUsize;
+
+// How many pages are kept.
+const MOST: usize = 256;
+
+// Copies of pages. Where the room for them was refused there are none.
+#[derive(Drop)]
+pub struct CleanPages {
+    pages: Option<LruCache<u32, Page>>,
+}
+
+impl CleanPages {
+    pub fn new(alloc: Global) -> CleanPages
+        ensures { copies_of result ≡ [] }
+    {
+        let Some(most) = NonZeroUsize::new(MOST) else {
+            return CleanPages { pages: None };
+        };
+        CleanPages {
+            pages: LruCache::new(alloc, most).ok(),
+        }
+    }
+
+    // Gives the copy of page n.
+    pub fn find(&mut self, n: u32, page: &mut Page) -> bool
+        ensures found { result ≡ has_copy (copies_of self.old) n }
+        ensures page { IsTrue result → Contains (copies_of self.old) (n, page.new) }
+        ensures copies { copies_of self.new ≡ promoted (nat_eq n) (copies_of self.old) }
+    {
+        let Some(pages) = &mut self.pages else {
+            return false;
+        };
+        match pages.get(&n) {
+            Some(found) => {
+                *page = *found;
+                true
+            }
+            None => false,
+        }
+    }
+
+    // Keeps a copy of page n where its room isn't refused.
+    pub fn keep(&mut self, n: u32, page: &Page)
+        ensures { (k : ℕ) (one : OnePage) → Contains (copies_of self.new) (k, one)
+            → Contains (copies_of self.old) (k, one) ⊎ ((k ≡ n) × (one ≡ page.now)) }
+    {
+        if let Some(pages) = &mut self.pages {
+            let _ = pages.put(n, *page);
+        }
+    }
+
+    // Takes the copy of page n out.
+    pub fn forget(&mut self, n: u32)
+        ensures none { HasNone (copies_of self.new) n }
+        ensures copies { copies_of self.new ≡ remove_entry (nat_eq n) (copies_of self.old) }
+    {
+        if let Some(pages) = &mut self.pages
+            && pages.len() > 0
+        {
+            let _ = pages.pop(&n);
+        }
+    }
+}
