@@ -5,8 +5,8 @@ use Rattle.page_cache.specs.Copies.{copies_of, has_copy}
 use Rattle.page_cache.specs.declared.cached_pages.CachedPages.{CachedPages}
 
 -- the store below
-abbrev pub store_of : {S : Type 0} {bound : Ghosts S} → CachedPages S bound → S
-store_of cached = cached.store
+abbrev pub store_below : {S : Type 0} {bound : Ghosts S} → CachedPages S bound → S
+store_below cached = cached.store
 
 -- it has a copy of page n
 abbrev pub HasCopy : {S : Type 0} {bound : Ghosts S} → CachedPages S bound → ℕ → Type 0

@@ -20,11 +20,11 @@ impl<S: PageStore> CachedPages<S> {
     ghost use Rattle.std.specs.Prelude.{◌↔◌, IsTrue};
     ghost use Rattle.page_io.specs.Store.{page_of, overlaid};
     ghost use Rattle.page_cache.specs.Clean.{IsReadable};
-    ghost use Rattle.page_cache.specs.Stores.{store_of, HasCopy};
+    ghost use Rattle.page_cache.specs.Stores.{store_below, HasCopy};
 
     /// A store over this one, with no copies. Where the room for copies is refused it keeps none.
     pub fn new(alloc: Global, store: S) -> CachedPages<S>
-        ensures { store_of result ≡ store }
+        ensures { store_below result ≡ store }
     {
         CachedPages {
             store,
@@ -34,7 +34,7 @@ impl<S: PageStore> CachedPages<S> {
 
     /// The store below as it is.
     pub fn into_inner(self) -> S
-        ensures { result ≡ store_of self }
+        ensures { result ≡ store_below self }
     {
         self.store
     }
@@ -42,11 +42,11 @@ impl<S: PageStore> CachedPages<S> {
     // Gives the copy of page n, if it has one that a read may answer.
     fn find(&mut self, n: u32, page: &mut Page) -> bool
         ensures hit { IsTrue result
-            ↔ (IsReadable (S.state (store_of self.old)) n × HasCopy self.old n) }
-        ensures found { S.honest (store_of self.old) → IsTrue result
-            → page.new.bytes ≡ overlaid (S.state (store_of self.old)).staged
-            (page_of (S.committed (store_of self.old))) n }
-        ensures store { store_of self.new ≡ store_of self.old }
+            ↔ (IsReadable (S.state (store_below self.old)) n × HasCopy self.old n) }
+        ensures found { S.honest (store_below self.old) → IsTrue result
+            → page.new.bytes ≡ overlaid (S.state (store_below self.old)).staged
+            (page_of (S.committed (store_below self.old))) n }
+        ensures store { store_below self.new ≡ store_below self.old }
     {
         if self.store.is_broken() || n < 1 || self.store.end() <= n {
             return false;
@@ -61,7 +61,7 @@ impl<S: PageStore> PageStore for CachedPages<S> {
     ghost use Rattle.page_io.specs.Kept.{KeepsPages};
     ghost use Rattle.page_io.specs.Store.{page_of, overlaid};
     ghost use Rattle.page_cache.specs.Clean.{IsReadable};
-    ghost use Rattle.page_cache.specs.Stores.{store_of, HasCopy};
+    ghost use Rattle.page_cache.specs.Stores.{store_below, HasCopy};
 
     ghost state = { λ c. S.state c.store };
 
@@ -114,7 +114,7 @@ impl<S: PageStore> PageStore for CachedPages<S> {
 
         // No call goes below.
         ensures hit { IsReadable (⟦<CachedPages<S> as PageStore>⟧.state self.old) n
-            → HasCopy self.old n → IsOk result × (store_of self.new ≡ store_of self.old) }
+            → HasCopy self.old n → IsOk result × (store_below self.new ≡ store_below self.old) }
     {
         if self.find(n, page) {
             return Ok(());
