@@ -1,3 +1,4 @@
 pub mod Clean
 pub mod Copies
+pub mod Room
 pub mod Stores

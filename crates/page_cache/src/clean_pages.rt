@@ -2,7 +2,7 @@
 ghost use Rattle.std.specs.Prelude.{◌≡◌, ◌⊎◌, ℕ, [], Contains, IsTrue, nat_eq};
 ghost use Rattle.std.specs.Map.{remove_entry};
 ghost use Rattle.lru.specs.LruCache.{promoted};
-ghost use Rattle.page_cache.specs.Copies.{copies_of, has_copy, HasNone};
+ghost use Rattle.page_cache.specs.Room.{HasRoomFor};
 ghost use Rattle.page_io.specs.declared.page.Page.{Page as OnePage};
 
 use lru::LruCache;
@@ -17,9 +17,12 @@ const MOST: usize = 256;
 #[derive(Drop)]
 pub struct CleanPages {
     pages: Option<LruCache<u32, Page>>,
+    ghost room: { HasRoomFor 256 pages },
 }
 
 impl CleanPages {
+    ghost use Rattle.page_cache.specs.Copies.{copies_of, has_copy, HasNone};
+
     pub fn new(alloc: Global) -> CleanPages
         ensures { copies_of result ≡ [] }
     {
