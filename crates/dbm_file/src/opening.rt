@@ -109,6 +109,12 @@ impl<D: SectorDev> Database<Pager<D>> {
         ensures answer { result.1 ≡ (if (⟦<Pager<D> as PageStore>⟧.state (store_of self)).usable
             then Ok tt else Err Fault.Broken) }
 
+        // Each image that is now left, of a broken database too, settles to something that the
+        // store of the database may be left with.
+        ensures settles { (image : Image) → IsImageOf (D.candidate result.0) image
+            → ⟦<Pager<D> as PageStore>⟧.settles_to (store_of self)
+            (settled (D.sectors result.0 / 4) image) }
+
         // Every image that is now left stands for the map of the database that was closed.
         ensures stands { D.honest result.0 → (h : Handle) → IsAt self h → h.state.usable ≡ true
             → (image : Image) → IsImageOf (D.candidate result.0) image
