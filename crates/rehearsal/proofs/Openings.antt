@@ -1,0 +1,187 @@
+-- What an opening leaves of the members that the images stood for, and with which it begins.
+use Rattle.std.proofs.Common.{◌≡◌, ◌⊎◌, inl, inr, ⊎_elim, ℕ, ◌/◌, Bool, true, false, cond, not, List, ◌++◌, map, None, Some, Option, refl, sym, ◌∙◌, ap, subst, Contains}
+use Rattle.std.specs.FinMap.{empty}
+use Rattle.std.proofs.lemmas.List.Elements.{Contains-append_left, Contains-append_right}
+use Rattle.sect_dev.specs.Device.{Candidates}
+use Rattle.dbm_model.specs.Pairs.{Contents}
+use Rattle.dbm_model.specs.States.{State, Handle, fresh}
+use Rattle.page_io.specs.Store.{Pages, Settled, blank, file_of}
+use Rattle.page_io.specs.Meaning.{ImageStandsFor}
+use Rattle.page_io.proofs.Meanings.{one_meaning}
+use Rattle.redo_commit.specs.File.{settled}
+use Rattle.redo_area.specs.Settling.{SettlesTo}
+use Rattle.dbm_sessions.specs.Members.{Member, NoDatabase, Holding, Members, held, opened}
+use Rattle.dbm_sessions.specs.Sessions.{Begins}
+use Rattle.dbm_sessions.proofs.Lists.{map_has}
+use Rattle.file_opening.specs.Opening.{writes, making_fault, room_fault, BeginsEmpty, MayRemain, StoodFor, AllStand, IsOpened}
+use Rattle.dbm_fault.specs.declared.fault.Fault.TheVariants.{NotADatabase}
+use Rattle.page_model.specs.Sizes.{sectors_for}
+use Rattle.page_io.specs.declared.store.PageStore.{Ghosts}
+use Rattle.file_opening.specs.declared.open_how.OpenHow.{OpenHow}
+use Rattle.dbm_file.specs.Database.{IsAt}
+use Rattle.dbm_file.specs.Opened.{IsOpenedAt}
+use Rattle.dbm_file.specs.declared.database.Database.{Database}
+use Rattle.rehearsal.specs.Members.{StandsFor, StandsForOne, AllStandFor}
+use Rattle.rehearsal.specs.Sessions.{opening_of, for_writing}
+use Rattle.rehearsal.specs.declared.sessions.Opening.{Opening}
+
+-- ---- one image
+
+-- a blank image stands for no map
+none_in_blank : (y : Settled) (contents : Contents) (limit : ℕ) → y ≡ blank
+    → ImageStandsFor y contents limit → ⊥
+none_in_blank y contents limit is stands =
+    subst (λ (z : Settled). ImageStandsFor z contents limit) is stands
+
+blank_stands : (member : Member) (y : Settled) → StandsFor y member → y ≡ blank
+    → member ≡ NoDatabase
+blank_stands NoDatabase y stands is = refl
+blank_stands (Holding contents limit) y stands is =
+    absurd (none_in_blank y contents limit is stands)
+
+-- and one that stands for a map for that alone
+map_stands : (member : Member) (y : Settled) (contents : Contents) (limit : ℕ) → StandsFor y member
+    → ImageStandsFor y contents limit → member ≡ Holding contents limit
+map_stands NoDatabase y contents limit stands has =
+    absurd (none_in_blank y contents limit stands has)
+map_stands (Holding other bound) y contents limit stands has =
+    let same = one_meaning y other contents bound limit stands has in
+    ap (λ (m : Contents). Holding m bound) same.0 ∙ ap (Holding contents) same.1
+
+-- a file stands for a map
+abbrev HoldsSome : Member → Type 0
+HoldsSome member = (contents : Contents) × (limit : ℕ) × (member ≡ Holding contents limit)
+
+file_stands : (member : Member) (y : Settled) (pages : Pages) → StandsFor y member
+    → y ≡ file_of pages → HoldsSome member
+file_stands NoDatabase y pages stands is = absurd (let both = sym stands ∙ is in cc)
+file_stands (Holding contents limit) y pages stands is = (contents, limit, refl)
+
+-- blank, or of a map
+stands_so : (member : Member) (y : Settled) → StandsFor y member → (y ≡ blank)
+    ⊎ ((contents : Contents) × (limit : ℕ) × ImageStandsFor y contents limit)
+stands_so NoDatabase y stands = inl stands
+stands_so (Holding contents limit) y stands = inr (contents, limit, stands)
+
+-- ---- all of them
+
+pub all_stand : (before : Members) (pages : ℕ) (start : Candidates)
+    → AllStandFor before pages start → AllStand pages start
+all_stand before pages start stand image is =
+    let one = stand image is in stands_so one.0 (settled pages image) one.2
+
+created : (how : Opening) (sectors : ℕ) → making_fault (for_writing how) sectors ≡ None
+    → how.create ≡ true
+created how sectors due = by_create how.create due
+  where
+    by_create : (b : Bool) → cond (not b) (Some NotADatabase)
+        (room_fault (sectors_for how.limit) sectors) ≡ None → b ≡ true
+    by_create true is = refl
+    by_create false is = absurd (let x = is in cc)
+
+module _ (before : Members) (how : Opening) (sectors : ℕ) (start : Candidates)
+    (stand : AllStandFor before (sectors / 4) start) where
+  -- a member that the opening makes, or empties
+  abbrev BeginsAt : Contents → ℕ → Type 0
+  BeginsAt contents limit = (member : Member) × Contains before member
+      × (opened (opening_of how) member ≡ Holding contents limit)
+
+  at_start : (y : Settled) → SettlesTo (sectors / 4) start y → StandsForOne before y
+  at_start y there = subst (StandsForOne before) there.reads (stand there.image there.is_image)
+
+  begins_empty : BeginsEmpty (for_writing how) sectors start → BeginsAt empty how.limit
+  begins_empty (inl makes) =
+      let one = at_start blank makes.on_blank in (
+        NoDatabase,
+        subst (Contains before) (blank_stands one.0 blank one.2 refl) one.1,
+        ap (λ b. cond b (Holding empty how.limit) NoDatabase) (created how sectors makes.due),
+      )
+  begins_empty (inr empties) =
+      let one = at_start (file_of empties.file) empties.at_start in
+      let some = file_stands one.0 (file_of empties.file) empties.file one.2 refl in (
+        Holding some.0 some.1,
+        subst (Contains before) some.2 one.1,
+        ap (λ b. cond b (Holding empty how.limit) (Holding some.0 some.1)) empties.empties.asked,
+      )
+
+  -- what may remain of the device stands for what there was, or for what the opening makes of that
+  pub remains : (y : Settled) → MayRemain (for_writing how) sectors start y
+      → StandsForOne (before ++ map (opened (opening_of how)) before) y
+  remains y (inl there) =
+      let one = at_start y there in (
+        one.0,
+        Contains-append_left before (map (opened (opening_of how)) before) one.0 one.1,
+        one.2,
+      )
+  remains y (inr (begins, stands)) =
+      let one = begins_empty begins in (
+        opened (opening_of how) one.0,
+        Contains-append_right before (map (opened (opening_of how)) before)
+            (opened (opening_of how) one.0) (map_has (opened (opening_of how)) before one.0 one.1),
+        subst (StandsFor y) (sym one.2) stands,
+      )
+
+  begins_at : (contents : Contents) (limit : ℕ)
+      → IsOpened (for_writing how) sectors start contents limit → BeginsAt contents limit
+  begins_at contents limit (inl (stood, kept, others)) =
+      let one = stand stood.image stood.at_start in (
+        Holding contents limit,
+        subst (Contains before)
+            (map_stands one.0 (settled (sectors / 4) stood.image) contents limit one.2 stood.stands)
+            one.1,
+        ap (λ b. cond b (Holding empty how.limit) (Holding contents limit)) kept,
+      )
+  begins_at contents limit (inr (begins, is_empty, limit_is)) =
+      let one = begins_empty begins in (
+        one.0,
+        one.1,
+        one.2 ∙ ap (λ (n : ℕ). Holding empty n) (sym limit_is)
+            ∙ ap (λ (m : Contents). Holding m limit) (sym is_empty),
+      )
+
+  -- a database that was just opened begins with one of the members
+  pub begins : (contents : Contents) (limit : ℕ) (first : Handle)
+      → first.state ≡ fresh contents limit true
+      → IsOpened (for_writing how) sectors start contents limit
+      → Begins before (opening_of how) first
+  begins contents limit first is opens =
+      let one = begins_at contents limit opens in
+      record {
+        member = one.0;
+        among = one.1;
+        begins = one.2 ∙ ap held (sym is);
+        is_fresh = is
+            ∙ ap (λ (m : Contents). fresh m limit true) (sym (ap (λ (s : State). s.map) is))
+            ∙ ap (λ (n : ℕ). fresh first.state.map n true) (sym (ap (λ (s : State). s.limit) is));
+      }
+
+-- ---- a database that was opened so
+
+-- it is at a handle with which a session begins
+pub record IsBegun {S : Type 0} {s : Ghosts S} (db : Database S s) (before : Members)
+    (how : Opening) : Type 0 where
+  pub handle : Handle
+  pub is_at : IsAt db handle
+  pub usable : handle.state.usable ≡ true
+  pub begins : Begins before (opening_of how) handle
+
+pub never_reads : (how : Opening) (asked : OpenHow) → asked ≡ for_writing how
+    → writes asked.access ≡ false → ⊥
+never_reads how asked is reads =
+    absurd (let x = sym (ap (λ (h : OpenHow). writes h.access) is) ∙ reads in cc)
+
+pub begun : {S : Type 0} {s : Ghosts S} (db : Database S s) (before : Members) (how : Opening)
+    (asked : OpenHow) (sectors : ℕ) (start : Candidates) → asked ≡ for_writing how
+    → AllStandFor before (sectors / 4) start
+    → (contents : Contents) × (limit : ℕ) × IsOpenedAt (writes asked.access) db contents limit
+    × IsOpened asked sectors start contents limit → IsBegun db before how
+begun db before how asked sectors start is stand (contents, limit, opens, holds) =
+    let fresh_so = opens.is_fresh
+    ∙ ap (λ (h : OpenHow). fresh contents limit (writes h.access)) is in
+    record {
+      handle = opens.handle;
+      is_at = opens.is_at;
+      usable = ap (λ (s : State). s.usable) fresh_so;
+      begins = begins before how sectors start stand contents limit opens.handle fresh_so
+          (subst (λ (h : OpenHow). IsOpened h sectors start contents limit) is holds);
+    }

@@ -1,0 +1,119 @@
+-- A session of the code as one of the definitions.
+use Rattle.std.specs.Prelude.{◌≡◌, ◌⊎◌, ℕ, false, List, [], ◌++◌, map, length, vec_len}
+use Rattle.sect_dev.specs.Device.{Candidates}
+use Rattle.page_io.specs.Store.{Settled}
+use Rattle.dbm_model.specs.Calls as calls
+use Rattle.dbm_model.specs.States.{Handle}
+use Rattle.dbm_sessions.specs.Members as members
+use Rattle.dbm_sessions.specs.Members.{Members}
+use Rattle.dbm_sessions.specs.Sessions as model
+use Rattle.dbm_sessions.specs.Sessions.{Plan, StoppedOpening, StoppedCall, Rests, CutShort, Breaks, SessionStep}
+use Rattle.dbm_fault.specs.Faults.{fault_of}
+use Rattle.dbm_fault.specs.declared.fault.Fault.{Fault}
+use Rattle.file_opening.specs.declared.open_how.Access.TheVariants.{ReadWrite}
+use Rattle.file_opening.specs.declared.open_how.OpenHow.{OpenHow}
+use Rattle.dbm_file.specs.Calls.{call_of, reply_of}
+use Rattle.dbm_file.specs.declared.calls.Call.{Call}
+use Rattle.rehearsal.specs.Members.{StandsForOne, AllStandFor}
+use Rattle.rehearsal.specs.declared.sessions.Opening.{Opening}
+use Rattle.rehearsal.specs.declared.sessions.Ending.{Ending}
+use Rattle.rehearsal.specs.declared.sessions.Ending.TheVariants.{NotOpened, NoMemory, Rested, Broke}
+
+-- ---- what it is asked to do, and how it ended
+
+abbrev pub opening_of : Opening → members.Opening
+opening_of how = record { create = how.create; truncate = how.truncate; limit = how.limit }
+
+abbrev pub plan_of : Opening → List Call → Plan
+plan_of how calls = record { how = opening_of how; calls = map call_of calls }
+
+-- how the database is opened: for writing, and also where one is there
+abbrev pub for_writing : Opening → OpenHow
+for_writing how = record {
+  access = ReadWrite;
+  create = how.create;
+  exclusive = false;
+  truncate = how.truncate;
+  limit = how.limit;
+}
+
+abbrev pub ending_of : Ending → model.Ending
+ending_of (NotOpened fault) = model.NotOpened (fault_of fault)
+ending_of NoMemory = model.Rested []
+ending_of (Rested replies) = model.Rested (map reply_of replies.items)
+ending_of (Broke replies) = model.Broke (map reply_of replies.items)
+
+-- there is one reply a call, where calls were made
+abbrev pub IsOneEach : List Call → Ending → Type 0
+IsOneEach calls (NotOpened fault) = Unit {0}
+IsOneEach calls NoMemory = Unit {0}
+IsOneEach calls (Rested replies) = vec_len replies ≡ length calls
+IsOneEach calls (Broke replies) = vec_len replies ≡ length calls
+
+abbrev pub IfNotOpened : Ending → (Fault → Type 0) → Type 0
+IfNotOpened (NotOpened fault) P = P fault
+IfNotOpened ending P = Unit {0}
+
+-- ---- what it leaves
+
+-- The session may end so, and each image of the device that may then be left stands for a member
+-- of what it leaves.
+pub record Leaves (before : Members) (plan : Plan) (ending : model.Ending) (pages : ℕ)
+    (candidate : Candidates) : Type 0 where
+  pub after : Members
+  pub step : SessionStep before plan ending after
+  pub stand : AllStandFor after pages candidate
+
+-- ---- what a stop within it leaves
+
+abbrev pub replies_in : model.Ending → List calls.Reply
+replies_in (model.NotOpened fault) = []
+replies_in StoppedOpening = []
+replies_in (model.Rested replies) = replies
+replies_in (StoppedCall replies) = replies
+replies_in (model.Broke replies) = replies
+
+-- these are the first of those replies
+abbrev pub AreFirst : List calls.Reply → List calls.Reply → Type 0
+AreFirst first all = (later : List calls.Reply) × (all ≡ first ++ later)
+
+-- a session that ended so ends that way where it is stopped: within its opening, or where some of
+-- its calls have been answered, as they were
+abbrev pub IsStopOf : model.Ending → model.Ending → Type 0
+IsStopOf ending StoppedOpening = Unit {0}
+IsStopOf ending (model.Rested replies) = AreFirst replies (replies_in ending)
+IsStopOf ending (StoppedCall replies) = AreFirst replies (replies_in ending)
+IsStopOf ending (model.NotOpened fault) = ⊥
+IsStopOf ending (model.Broke replies) = ⊥
+
+-- what an image settles to stands for a member of what such a stop leaves
+pub record IsLeftByStop (before : Members) (plan : Plan) (ending : model.Ending)
+    (settled : Settled) : Type 0 where
+  pub stop : model.Ending
+  pub is_stop : IsStopOf ending stop
+  pub after : Members
+  pub step : SessionStep before plan stop after
+  pub stands : StandsForOne after settled
+
+-- ---- the same of the calls alone, from an open database on
+
+abbrev pub GoesOn : Handle → List calls.Call → model.Ending → Members → Type 0
+GoesOn first calls (model.NotOpened fault) after = ⊥
+GoesOn first calls StoppedOpening after = ⊥
+GoesOn first calls (model.Rested replies) after = Rests first calls replies after
+GoesOn first calls (StoppedCall replies) after = CutShort first calls replies after
+GoesOn first calls (model.Broke replies) after = Breaks first calls replies after
+
+pub record CallsLeave (first : Handle) (calls : List calls.Call) (ending : model.Ending)
+    (pages : ℕ) (candidate : Candidates) : Type 0 where
+  pub after : Members
+  pub goes : GoesOn first calls ending after
+  pub stand : AllStandFor after pages candidate
+
+pub record IsLeftByCalls (first : Handle) (calls : List calls.Call) (ending : model.Ending)
+    (settled : Settled) : Type 0 where
+  pub stop : model.Ending
+  pub is_stop : IsStopOf ending stop
+  pub after : Members
+  pub goes : GoesOn first calls stop after
+  pub stands : StandsForOne after settled

@@ -1,0 +1,95 @@
+// A session on a device, from its opening to its end.
+ghost use Rattle.std.specs.Prelude.{◌≡◌, ◌≢◌, ◌⊎◌, ◌↔◌, ◌≤◌, ◌/◌, ℕ, None, true, map};
+ghost use Rattle.sect_dev.specs.Device.{Image, IsImageOf, LeavesOnly, MoreFaults};
+ghost use Rattle.sect_dev.specs.Moments.{IsOutcome};
+ghost use Rattle.redo_commit.specs.File.{settled};
+ghost use Rattle.redo_area.specs.Pagers.{device_of};
+ghost use Rattle.dbm_model.specs.States.{Handle};
+ghost use Rattle.dbm_sessions.specs.Members.{Members};
+ghost use Rattle.file_opening.specs.Opening.{early_fault, AllAllow};
+ghost use Rattle.dbm_file.specs.Calls.{call_of};
+ghost use Rattle.dbm_file.specs.Database.{store_of, IsAt};
+ghost use Rattle.rehearsal.specs.Members.{AllStandFor};
+ghost use Rattle.rehearsal.specs.Sessions.{plan_of, for_writing, ending_of, IsOneEach, IfNotOpened, Leaves, IsLeftByStop, CallsLeave, IsLeftByCalls};
+
+use dbm_file::{Access, Call, Db, Fault, OpenHow, Reply, run};
+use sect_dev::SectorDev;
+use std::alloc::Global;
+
+/// How a session opens its database, always for writing (POSIX: O_RDWR, with O_CREAT, O_TRUNC or
+/// both).
+#[derive(Clone, Copy, Debug, PartialEq, Eq)]
+pub struct Opening {
+    /// Make the database where the device is blank.
+    pub create: bool,
+    /// Make a database that is there empty.
+    pub truncate: bool,
+    /// How many pairs a database that is made or emptied may have.
+    pub limit: u32,
+}
+
+impl Opening {
+    // The same as the database is asked it.
+    fn for_writing(self) -> OpenHow
+        ensures { result ≡ for_writing self }
+    {
+        OpenHow {
+            access: Access::ReadWrite,
+            create: self.create,
+            exclusive: false,
+            truncate: self.truncate,
+            limit: self.limit,
+        }
+    }
+}
+
+/// How a session ended.
+#[derive(Debug, Drop)]
+pub enum Ending {
+    /// The opening was refused, and no call was made.
+    NotOpened(Fault),
+    /// There was no memory for the replies. No call was made, and the database was closed.
+    NoMemory,
+    /// Each call was given its reply, and the database was closed.
+    Rested(Vec<Reply>),
+    /// The same, and a fault of the device broke the database in one of the calls.
+    Broke(Vec<Reply>),
+}
+
+/// Opens the device for writing, makes the calls in order, and closes it again.
+pub fn session<D: SectorDev>(alloc: Global, dev: D, how: Opening, calls: &[Call]) -> (D, Ending)
+    // Whatever each image at the start stands for, it is a session of the definitions, and each
+    // image that may be left at its end stands for a member of what that leaves.
+    ensures leaves { D.honest dev → (before : Members)
+        → AllStandFor before (D.sectors dev / 4) (D.candidate dev)
+        → Leaves before (plan_of how calls.now) (ending_of result.1) (D.sectors result.0 / 4)
+        (D.candidate result.0) }
+    ensures one_each { IsOneEach calls.now result.1 }
+    ensures honesty { D.honest result.0 ↔ D.honest dev }
+    ensures size { D.sectors result.0 / 4 ≡ D.sectors dev / 4 }
+{
+    match Db::open(alloc, dev, how.for_writing()) {
+        Ok(db) => make_calls(alloc, db, calls),
+        Err((dev, fault)) => (dev, Ending::NotOpened(fault)),
+    }
+}
+
+// The rest of a session, from an open database on.
+fn make_calls<D: SectorDev>(alloc: Global, db: Db<D>, calls: &[Call]) -> (D, Ending)
+    ensures leaves { D.honest (device_of (store_of db)) → (h : Handle) → IsAt db h
+        → h.state.usable ≡ true
+        → CallsLeave h (map call_of calls.now) (ending_of result.1) (D.sectors result.0 / 4)
+        (D.candidate result.0) }
+    ensures one_each { IsOneEach calls.now result.1 }
+    ensures honesty { D.honest result.0 ↔ D.honest (device_of (store_of db)) }
+    ensures size { D.sectors result.0 / 4 ≡ D.sectors (device_of (store_of db)) / 4 }
+{
+    let mut db = db;
+    let Ok(replies) = run(alloc, &mut db, calls) else {
+        return (db.close().0, Ending::NoMemory);
+    };
+    match db.close() {
+        (dev, Ok(())) => (dev, Ending::Rested(replies)),
+        (dev, Err(_)) => (dev, Ending::Broke(replies)),
+    }
+}
