@@ -1,12 +1,12 @@
 -- How the calls of a session ended, as the definitions say it.
-use Rattle.std.proofs.Common.{◌≡◌, ◌⊎◌, inl, inr, ⊎_elim, ℕ, Bool, true, false, cond, Result, Ok, Err, List, [], ◌∷◌, ◌++◌, refl, sym, ◌∙◌, ap, subst, Contains}
+use Rattle.std.proofs.Common.{◌≡◌, inl, inr, ℕ, Bool, true, false, cond, Result, Ok, Err, List, [], ◌∷◌, refl, sym, ◌∙◌, ap, subst, Contains}
 use Rattle.std.proofs.lemmas.List.{append-nil}
 use Rattle.sect_dev.specs.Device.{Image, Candidates, IsImageOf}
 use Rattle.dbm_model.specs.Calls.{Call, Reply}
 use Rattle.dbm_model.specs.Changes.{map_asked}
 use Rattle.dbm_model.specs.Pairs.{Contents}
 use Rattle.dbm_model.specs.States.{Handle}
-use Rattle.dbm_model.specs.Steps.{Case, case_of, Run}
+use Rattle.dbm_model.specs.Steps.{case_of, Run}
 use Rattle.page_io.specs.Store.{Settled}
 use Rattle.page_io.specs.Meaning.{ImageStandsFor}
 use Rattle.page_io.specs.declared.store.PageStore.{Ghosts}
@@ -22,7 +22,9 @@ use Rattle.dbm_file.specs.Database.{store_of, meta_kept, page_state, IsAt}
 use Rattle.dbm_file.specs.Runs.{IsInDoubt, IsBreak, IsRun}
 use Rattle.dbm_file.specs.declared.database.Database.{Database}
 use Rattle.rehearsal.specs.Members.{StandsForOne}
-use Rattle.rehearsal.specs.Sessions.{GoesOn, CallsLeave}
+use Rattle.rehearsal.specs.Sessions.{IfNotOpened, GoesOn, CallsLeave}
+use Rattle.rehearsal.specs.declared.sessions.Ending.{Ending}
+use Rattle.rehearsal.specs.declared.sessions.Ending.TheVariants.{NotOpened, NoMemory, Rested, Broke}
 use Rattle.rehearsal.proofs.Stops.{limit_stays}
 
 -- a session that an opening began
@@ -179,3 +181,13 @@ module _ {S : Type 0} {s : Ghosts S} (old new : Database S s) (h : Handle) (call
             stands_in_doubt new h run.after calls replies b (settled pages image) same
             (settles image is);
       }
+
+-- ---- the ending of the code
+
+-- it was opened, so nothing is owed of a refusal
+pub none_refused : (ending : Ending) (P : Fault → Type 0) → IfNotOpened ending (λ fault. ⊥)
+    → IfNotOpened ending P
+none_refused (NotOpened fault) P is = absurd is
+none_refused NoMemory P is = tt
+none_refused (Rested replies) P is = tt
+none_refused (Broke replies) P is = tt

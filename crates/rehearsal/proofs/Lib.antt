@@ -1,3 +1,4 @@
+pub mod Endings
+pub mod Moments
 pub mod Openings
 pub mod Stops
-pub mod Endings

@@ -1,5 +1,5 @@
 -- What an opening leaves of the members that the images stood for, and with which it begins.
-use Rattle.std.proofs.Common.{◌≡◌, ◌⊎◌, inl, inr, ⊎_elim, ℕ, ◌/◌, Bool, true, false, cond, not, List, ◌++◌, map, None, Some, Option, refl, sym, ◌∙◌, ap, subst, Contains}
+use Rattle.std.proofs.Common.{◌≡◌, ◌⊎◌, inl, inr, ℕ, ◌/◌, Bool, true, false, cond, not, ◌++◌, map, None, Some, refl, sym, ◌∙◌, ap, subst, Contains}
 use Rattle.std.specs.FinMap.{empty}
 use Rattle.std.proofs.lemmas.List.Elements.{Contains-append_left, Contains-append_right}
 use Rattle.sect_dev.specs.Device.{Candidates}
@@ -13,7 +13,7 @@ use Rattle.redo_area.specs.Settling.{SettlesTo}
 use Rattle.dbm_sessions.specs.Members.{Member, NoDatabase, Holding, Members, held, opened}
 use Rattle.dbm_sessions.specs.Sessions.{Begins}
 use Rattle.dbm_sessions.proofs.Lists.{map_has}
-use Rattle.file_opening.specs.Opening.{writes, making_fault, room_fault, BeginsEmpty, MayRemain, StoodFor, AllStand, IsOpened}
+use Rattle.file_opening.specs.Opening.{writes, making_fault, room_fault, BeginsEmpty, MayRemain, AllStand, IsOpened}
 use Rattle.dbm_fault.specs.declared.fault.Fault.TheVariants.{NotADatabase}
 use Rattle.page_model.specs.Sizes.{sectors_for}
 use Rattle.page_io.specs.declared.store.PageStore.{Ghosts}

@@ -1,8 +1,7 @@
 -- What a stop within a list of calls leaves.
-use Rattle.std.proofs.Common.{◌≡◌, ◌⊎◌, inl, inr, ⊎_elim, ℕ, Bool, true, false, cond, List, [], ◌∷◌, ◌++◌, refl, sym, ◌∙◌, ap, subst, append_assoc, Contains}
+use Rattle.std.proofs.Common.{◌≡◌, inl, inr, ⊎_elim, ℕ, true, false, List, [], ◌∷◌, ◌++◌, refl, sym, ◌∙◌, ap, subst, append_assoc, Contains}
 use Rattle.std.proofs.lemmas.Bool.{cases_Bool}
-use Rattle.std.proofs.lemmas.List.{append-nil}
-use Rattle.dbm_model.specs.Calls.{Call, Store, Fetch, Delete, First, Next, Error, Clear, Reply, Refused, Fault, Broken}
+use Rattle.dbm_model.specs.Calls.{Call, Store, Fetch, Delete, First, Next, Error, Clear, Reply, Fault, Broken}
 use Rattle.dbm_model.specs.Pairs.{Contents}
 use Rattle.dbm_model.specs.States.{State, Handle}
 use Rattle.dbm_model.specs.Steps.{Case, Tells, Refuses, Declines, Finds, Passes, Changes, broken_case, case_of, Step, Run}
@@ -16,7 +15,7 @@ use Rattle.dbm_sessions.specs.Sessions.{StoppedCall, Goes, CutShort, left_by}
 use Rattle.dbm_sessions.proofs.Lists.{is_first, is_later}
 use Rattle.dbm_file.specs.Answers.{MayBeLeft}
 use Rattle.dbm_file.specs.Runs.{MayBeLeftWithin}
-use Rattle.rehearsal.specs.Sessions.{AreFirst, IsStopOf, GoesOn}
+use Rattle.rehearsal.specs.Sessions.{IsStopOf, GoesOn}
 
 -- ---- one call of a usable handle
 

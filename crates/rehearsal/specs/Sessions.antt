@@ -1,6 +1,7 @@
 -- A session of the code as one of the definitions.
-use Rattle.std.specs.Prelude.{◌≡◌, ◌⊎◌, ℕ, false, List, [], ◌++◌, map, length, vec_len}
-use Rattle.sect_dev.specs.Device.{Candidates}
+use Rattle.std.specs.Prelude.{◌≡◌, ◌≢◌, ℕ, false, List, [], ◌++◌, map, length, vec_len, None, IfSome}
+use Rattle.sect_dev.specs.Device.{Candidates, MoreFaults}
+use Rattle.sect_dev.specs.declared.device.SectorDev.{Ghosts}
 use Rattle.page_io.specs.Store.{Settled}
 use Rattle.dbm_model.specs.Calls as calls
 use Rattle.dbm_model.specs.States.{Handle}
@@ -10,6 +11,8 @@ use Rattle.dbm_sessions.specs.Sessions as model
 use Rattle.dbm_sessions.specs.Sessions.{Plan, StoppedOpening, StoppedCall, Rests, CutShort, Breaks, SessionStep}
 use Rattle.dbm_fault.specs.Faults.{fault_of}
 use Rattle.dbm_fault.specs.declared.fault.Fault.{Fault}
+use Rattle.dbm_fault.specs.declared.fault.Fault.TheVariants.{Device}
+use Rattle.file_opening.specs.Opening.{early_fault, IsRefusedOpening}
 use Rattle.file_opening.specs.declared.open_how.Access.TheVariants.{ReadWrite}
 use Rattle.file_opening.specs.declared.open_how.OpenHow.{OpenHow}
 use Rattle.dbm_file.specs.Calls.{call_of, reply_of}
@@ -53,6 +56,15 @@ IsOneEach calls (Broke replies) = vec_len replies ≡ length calls
 abbrev pub IfNotOpened : Ending → (Fault → Type 0) → Type 0
 IfNotOpened (NotOpened fault) P = P fault
 IfNotOpened ending P = Unit {0}
+
+-- why an honest device was not opened: what is asked can't be had of a device of its size; a call
+-- of it failed; or an image that it had at the start is refused so
+pub record WhyNotOpened {D : Type 0} (bound : Ghosts D) (how : OpenHow) (old new : D)
+    (fault : Fault) : Type 0 where
+  pub early : IfSome (early_fault how (bound.sectors old)) (λ due. (fault ≡ due) × (new ≡ old))
+  pub device : fault ≡ Device → MoreFaults (bound.faults old) (bound.faults new)
+  pub refused : early_fault how (bound.sectors old) ≡ None → fault ≢ Device
+      → IsRefusedOpening how (bound.sectors old) (bound.candidate old) (bound.candidate new) fault
 
 -- ---- what it leaves
 

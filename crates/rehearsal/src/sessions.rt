@@ -6,11 +6,11 @@ ghost use Rattle.redo_commit.specs.File.{settled};
 ghost use Rattle.redo_area.specs.Pagers.{device_of};
 ghost use Rattle.dbm_model.specs.States.{Handle};
 ghost use Rattle.dbm_sessions.specs.Members.{Members};
-ghost use Rattle.file_opening.specs.Opening.{early_fault, AllAllow};
+ghost use Rattle.file_opening.specs.Opening.{early_fault, AllStand, AllAllow};
 ghost use Rattle.dbm_file.specs.Calls.{call_of};
 ghost use Rattle.dbm_file.specs.Database.{store_of, IsAt};
 ghost use Rattle.rehearsal.specs.Members.{AllStandFor};
-ghost use Rattle.rehearsal.specs.Sessions.{plan_of, for_writing, ending_of, IsOneEach, IfNotOpened, Leaves, IsLeftByStop, CallsLeave, IsLeftByCalls};
+ghost use Rattle.rehearsal.specs.Sessions.{plan_of, for_writing, ending_of, IsOneEach, IfNotOpened, WhyNotOpened, Leaves, IsLeftByStop, CallsLeave, IsLeftByCalls};
 
 use dbm_file::{Access, Call, Db, Fault, OpenHow, Reply, run};
 use sect_dev::SectorDev;
@@ -64,7 +64,26 @@ pub fn session<D: SectorDev>(alloc: Global, dev: D, how: Opening, calls: &[Call]
         → AllStandFor before (D.sectors dev / 4) (D.candidate dev)
         → Leaves before (plan_of how calls.now) (ending_of result.1) (D.sectors result.0 / 4)
         (D.candidate result.0) }
+
+    // Each image of each moment stands for a member of what a session leaves that is stopped there.
+    ensures any_moment { D.honest dev → (before : Members)
+        → AllStandFor before (D.sectors dev / 4) (D.candidate dev)
+        → LeavesOnly D.moment (IsOutcome D.left_since (settled (D.sectors dev / 4))) dev result.0
+        (IsLeftByStop before (plan_of how calls.now) (ending_of result.1)) }
     ensures one_each { IsOneEach calls.now result.1 }
+
+    // The opening is refused where what is asked, or what the device holds, is a reason, and by a
+    // fault of the device.
+    ensures refused { D.honest dev → IfNotOpened result.1
+        (WhyNotOpened D.SectorDev (for_writing how) dev result.0) }
+
+    // Where each image at the start is blank or stands for a map, and allows what is asked, nothing
+    // but the device and want of memory refuses it.
+    ensures opens { D.honest dev → early_fault (for_writing how) (D.sectors dev) ≡ None
+        → AllStand (D.sectors dev / 4) (D.candidate dev)
+        → AllAllow (for_writing how) (D.sectors dev) (D.candidate dev)
+        → IfNotOpened result.1 (λ fault. (fault ≡ Fault.Device)
+        ⊎ ((fault ≡ Fault.Memory) × (how.truncate ≡ true))) }
     ensures honesty { D.honest result.0 ↔ D.honest dev }
     ensures size { D.sectors result.0 / 4 ≡ D.sectors dev / 4 }
 {
@@ -80,6 +99,13 @@ fn make_calls<D: SectorDev>(alloc: Global, db: Db<D>, calls: &[Call]) -> (D, End
         → h.state.usable ≡ true
         → CallsLeave h (map call_of calls.now) (ending_of result.1) (D.sectors result.0 / 4)
         (D.candidate result.0) }
+    ensures any_moment { D.honest (device_of (store_of db)) → (h : Handle) → IsAt db h
+        → h.state.usable ≡ true
+        → LeavesOnly D.moment
+        (IsOutcome D.left_since (settled (D.sectors (device_of (store_of db)) / 4)))
+        (device_of (store_of db)) result.0
+        (IsLeftByCalls h (map call_of calls.now) (ending_of result.1)) }
+    ensures opened { IfNotOpened result.1 (λ fault. ⊥) }
     ensures one_each { IsOneEach calls.now result.1 }
     ensures honesty { D.honest result.0 ↔ D.honest (device_of (store_of db)) }
     ensures size { D.sectors result.0 / 4 ≡ D.sectors (device_of (store_of db)) / 4 }

@@ -1,11 +1,17 @@
-use Rattle.std.proofs.Common.{◌≡◌, ℕ, ◌/◌, true, false, List, [], ◌∷◌, map, refl, sym, ◌∙◌, ap, subst}
+use Rattle.std.proofs.Common.{◌/◌, [], ◌∷◌, map, refl, sym, ◌∙◌, ap, subst}
+use Rattle.sect_dev.specs.Device.{LeavesOnly}
+use Rattle.sect_dev.specs.Moments.{IsOutcome, started}
 use Rattle.dbm_model.specs.States.{Handle}
+use Rattle.dbm_sessions.specs.Sessions.{Rested, Broke}
 use Rattle.dbm_sessions.specs.Members.{held}
 use Rattle.dbm_sessions.proofs.Lists.{is_first}
 use Rattle.redo_commit.specs.File.{settled}
 use Rattle.redo_area.specs.Pagers.{device_of}
 use Rattle.dbm_file.specs.Calls.{call_of, reply_of}
-use Rattle.dbm_file.specs.Database.{store_of, page_state, IsAt}
+use Rattle.dbm_file.specs.Database.{store_of, meta_kept, page_state, IsAt}
+use Rattle.dbm_file.proofs.OpenedFiles.{stands_for}
+use Rattle.rehearsal.specs.Sessions.{IsLeftByCalls}
+use Rattle.rehearsal.proofs.Moments.{lower, left_within, left_unmade}
 use Rattle.rehearsal.proofs.Endings.{none_made, was_usable, was_broken, rested, broke}
 use Rattle.rehearsal.proofs.sessions.make_calls.Goals as goal
 
@@ -47,3 +53,58 @@ returns-in_default-Err-clause-leaves g c honest h at usable =
     (c.in-Ok.ensures.run honest h at) c.in-Ok.ensures.goes.limit
     (was_broken (page_state new).usable tt c.in_default-Err.field-0-1 c.close-2.result.1
     closed.answer c.in_default-Err.is-1) closed.settles
+
+pub returns-in_default-clause-any_moment : goal.returns-in_default-clause-any_moment
+returns-in_default-clause-any_moment g c honest h at usable =
+    let dev = g.D.SectorDev in
+    let old = c.args.db.store.dev in
+    let cap = dev.sectors old / 4 in
+    let calls = map call_of c.args.calls.now in
+    subst (λ d. LeavesOnly dev.moment (IsOutcome dev.left_since (settled cap)) old d
+    (IsLeftByCalls h calls (Rested [])))
+    (sym (c.close.ensures.device
+    ∙ ap (λ db. device_of (store_of db)) c.in_default.ensures.memory.1))
+    (started dev.moment (IsOutcome dev.left_since (settled cap)) old
+    (IsLeftByCalls h calls (Rested []))
+    (λ y left. left_unmade h calls usable y (stands_for _ c.args.db h y at usable (record {
+      image = left.left;
+      is_image = g.met.D.SectorDev.only_now old left.left honest left.is_left;
+      reads = left.reads;
+    }))))
+
+-- what is left within the calls, where they ended so
+pub returns-in_default-Ok-clause-any_moment : goal.returns-in_default-Ok-clause-any_moment
+returns-in_default-Ok-clause-any_moment g c honest h at usable =
+    let dev = g.D.SectorDev in
+    let old = c.args.db in
+    let new = c.run.new.db in
+    let calls = map call_of c.args.calls.now in
+    let replies = map reply_of c.in-Ok.replies.items in
+    let run = c.in-Ok.ensures.run honest h at in
+    let shows = at.shows in
+    subst (λ d. LeavesOnly dev.moment
+    (IsOutcome dev.left_since (settled (dev.sectors old.store.dev / 4))) old.store.dev d
+    (IsLeftByCalls h calls (Rested replies))) (sym c.close-2.ensures.device)
+    (lower dev device_of old.store new.store _ (IsLeftByCalls h calls (Rested replies))
+    c.in-Ok.ensures.goes.capacity
+    (run.survives (sym (ap (λ (x : Handle). x.state.usable) shows) ∙ usable))
+    (left_within h run.after calls replies (meta_kept old).limit (Rested replies) refl usable
+    (ap (λ (x : Handle). x.state.limit) shows)))
+
+pub returns-in_default-Err-clause-any_moment : goal.returns-in_default-Err-clause-any_moment
+returns-in_default-Err-clause-any_moment g c honest h at usable =
+    let dev = g.D.SectorDev in
+    let old = c.args.db in
+    let new = c.run.new.db in
+    let calls = map call_of c.args.calls.now in
+    let replies = map reply_of c.in-Ok.replies.items in
+    let run = c.in-Ok.ensures.run honest h at in
+    let shows = at.shows in
+    subst (λ d. LeavesOnly dev.moment
+    (IsOutcome dev.left_since (settled (dev.sectors old.store.dev / 4))) old.store.dev d
+    (IsLeftByCalls h calls (Broke replies))) (sym c.close-2.ensures.device)
+    (lower dev device_of old.store new.store _ (IsLeftByCalls h calls (Broke replies))
+    c.in-Ok.ensures.goes.capacity
+    (run.survives (sym (ap (λ (x : Handle). x.state.usable) shows) ∙ usable))
+    (left_within h run.after calls replies (meta_kept old).limit (Broke replies) refl usable
+    (ap (λ (x : Handle). x.state.limit) shows)))

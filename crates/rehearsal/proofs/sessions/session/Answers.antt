@@ -1,16 +1,19 @@
-use Rattle.std.proofs.Common.{◌≡◌, ℕ, ◌/◌, true, false, List, [], ◌∷◌, ◌++◌, map, refl, sym, ◌∙◌, ap, subst}
-use Rattle.sect_dev.specs.Device.{IsImageOf}
-use Rattle.dbm_model.specs.States.{State}
+use Rattle.std.proofs.Common.{ℕ, ◌/◌, ◌++◌, map, refl, sym, subst}
+use Rattle.sect_dev.specs.Device.{LeavesOnly}
+use Rattle.sect_dev.specs.Moments.{IsOutcome, weaker, followed_by}
 use Rattle.dbm_sessions.specs.Members.{opened}
-use Rattle.page_io.specs.Store.{Settled}
+use Rattle.dbm_sessions.specs.Sessions.{NotOpened}
+use Rattle.redo_area.specs.Pagers.{device_of}
+use Rattle.dbm_fault.specs.Faults.{fault_of}
+use Rattle.dbm_file.specs.Database.{store_of}
 use Rattle.redo_commit.specs.File.{settled}
-use Rattle.file_opening.specs.Opening.{writes, MayRemain, IsOpened}
+use Rattle.file_opening.specs.Opening.{MayRemain}
 use Rattle.file_opening.specs.declared.open_how.OpenHow.{OpenHow}
-use Rattle.dbm_file.specs.Opened.{IsOpenedAt}
 use Rattle.rehearsal.specs.Members.{StandsForOne}
-use Rattle.rehearsal.specs.Sessions.{plan_of, opening_of, for_writing, ending_of}
+use Rattle.rehearsal.specs.Sessions.{plan_of, opening_of, ending_of, IsLeftByStop, IsLeftByCalls}
+use Rattle.rehearsal.proofs.Moments.{left_in_opening, left_in_calls}
 use Rattle.rehearsal.proofs.Openings.{all_stand, remains, never_reads, begun}
-use Rattle.rehearsal.proofs.Endings.{step_of}
+use Rattle.rehearsal.proofs.Endings.{step_of, none_refused}
 use Rattle.rehearsal.proofs.sessions.session.Goals as goal
 
 pub returns-in-Err-clause-leaves : goal.returns-in-Err-clause-leaves
@@ -57,3 +60,50 @@ returns-in-Ok-clause-leaves g c honest before stand =
           rest.after start.handle start.begins rest.goes;
       stand = rest.stand;
     }
+
+pub returns-in-Err-clause-any_moment : goal.returns-in-Err-clause-any_moment
+returns-in-Err-clause-any_moment g c honest before stand =
+    let dev = g.D.SectorDev in
+    let old = c.args.dev in
+    let how = c.args.how in
+    let plan = plan_of how c.args.calls.now in
+    let told = NotOpened (fault_of c.in-Err.fault) in
+    weaker dev.moment (IsOutcome dev.left_since (settled (dev.sectors old / 4))) old c.in-Err.dev
+    (IsLeftByStop before plan told) _ (c.in-Err.ensures.any_moment honest)
+    (left_in_opening before how c.for_writing.result plan.calls (dev.sectors old)
+    (dev.candidate old) told c.for_writing.ensures stand)
+
+pub returns-in-Ok-clause-any_moment : goal.returns-in-Ok-clause-any_moment
+returns-in-Ok-clause-any_moment g c honest before stand =
+    let dev = g.D.SectorDev in
+    let old = c.args.dev in
+    let how = c.args.how in
+    let plan = plan_of how c.args.calls.now in
+    let told = ending_of c.make_calls.result.1 in
+    let is_asked = c.for_writing.ensures in
+    let mid = device_of (store_of c.in-Ok.db) in
+    let start = begun c.in-Ok.db before how c.for_writing.result (dev.sectors old)
+    (dev.candidate old) is_asked stand (c.in-Ok.ensures.stands honest
+    (λ reads. absurd (never_reads how c.for_writing.result is_asked reads))
+    (all_stand before (dev.sectors old / 4) (dev.candidate old) stand)) in
+    let later = c.make_calls.ensures.any_moment (c.in-Ok.ensures.honesty.1 honest) start.handle
+    start.is_at start.usable in
+    followed_by dev.moment (IsOutcome dev.left_since (settled (dev.sectors old / 4))) old mid
+    c.make_calls.result.0 (IsLeftByStop before plan told)
+    (IsLeftByCalls start.handle plan.calls told)
+    (weaker dev.moment (IsOutcome dev.left_since (settled (dev.sectors old / 4))) old mid
+    (IsLeftByStop before plan told) _ (c.in-Ok.ensures.any_moment honest)
+    (left_in_opening before how c.for_writing.result plan.calls (dev.sectors old)
+    (dev.candidate old) told is_asked stand))
+    (subst (λ (n : ℕ). LeavesOnly dev.moment (IsOutcome dev.left_since (settled n)) mid
+    c.make_calls.result.0 (IsLeftByCalls start.handle plan.calls told))
+    c.in-Ok.ensures.size.0 later)
+    (left_in_calls before plan start.handle told start.begins)
+
+pub returns-in-Ok-clause-refused : goal.returns-in-Ok-clause-refused
+returns-in-Ok-clause-refused g c honest =
+    none_refused c.make_calls.result.1 _ c.make_calls.ensures.opened
+
+pub returns-in-Ok-clause-opens : goal.returns-in-Ok-clause-opens
+returns-in-Ok-clause-opens g c honest none stand allow =
+    none_refused c.make_calls.result.1 _ c.make_calls.ensures.opened

@@ -1,0 +1,114 @@
+-- What a stop within a session leaves.
+use Rattle.std.proofs.Common.{◌≡◌, inl, inr, ⊎_elim, ℕ, ◌/◌, true, List, [], ◌∷◌, ◌++◌, map, refl, sym, ◌∙◌, subst}
+use Rattle.sect_dev.specs.Device.{Candidates, LeavesOnly}
+use Rattle.sect_dev.specs.Moments.{IsOutcome}
+use Rattle.sect_dev.specs.declared.device.SectorDev as device
+use Rattle.dbm_model.specs.Calls.{Call, Reply}
+use Rattle.dbm_model.specs.States.{Handle}
+use Rattle.page_io.specs.Store.{Settled}
+use Rattle.page_io.specs.Meaning.{ImageStandsFor}
+use Rattle.redo_commit.specs.File.{settled}
+use Rattle.file_opening.specs.Opening.{MayRemain}
+use Rattle.file_opening.specs.declared.open_how.OpenHow.{OpenHow}
+use Rattle.dbm_sessions.specs.Members.{Holding, Members, held, opened}
+use Rattle.dbm_sessions.specs.Sessions as model
+use Rattle.dbm_sessions.specs.Sessions.{Plan, StoppedOpening, StoppedCall, Begins}
+use Rattle.dbm_sessions.proofs.Lists.{is_first}
+use Rattle.dbm_file.specs.Answers.{StandsForSome}
+use Rattle.dbm_file.specs.Runs.{MayBeLeftWithin}
+use Rattle.rehearsal.specs.Members.{AllStandFor}
+use Rattle.rehearsal.specs.Sessions.{opening_of, for_writing, replies_in, IsStopOf, IsLeftByStop, IsLeftByCalls}
+use Rattle.rehearsal.specs.declared.sessions.Opening.{Opening}
+use Rattle.rehearsal.proofs.Openings.{remains}
+use Rattle.rehearsal.proofs.Endings.{step_of, none_made}
+use Rattle.rehearsal.proofs.Stops.{within}
+
+-- ---- the moments of a device
+
+-- those of a layer above it
+pub lower : {S D : Type 0} (dev : device.Ghosts D) (below : S → D) (old new : S)
+    (P Q : Settled → Type 0) → dev.sectors (below new) / 4 ≡ dev.sectors (below old) / 4
+    → LeavesOnly (λ p. dev.moment (below p))
+    (λ p. IsOutcome dev.left_since (settled (dev.sectors (below p) / 4)) (below p)) old new P
+    → ((y : Settled) → P y → Q y)
+    → LeavesOnly dev.moment
+    (IsOutcome dev.left_since (settled (dev.sectors (below old) / 4))) (below old) (below new) Q
+lower dev below old new P Q same run weaker =
+    let at_own : (t : ℕ) (y : Settled)
+    → IsOutcome dev.left_since (settled (dev.sectors (below old) / 4)) (below new) t y
+    → IsOutcome dev.left_since (settled (dev.sectors (below new) / 4)) (below new) t y =
+    λ t y is. subst (λ (n : ℕ). IsOutcome dev.left_since (settled n) (below new) t y) (sym same) is in
+    record {
+      later = run.later;
+      each = λ y is. weaker y (run.each y (at_own (dev.moment (below old)) y is));
+      before = λ t y le is. ⊎_elim (λ past. inl past) (λ p. inr (weaker y p))
+          (run.before t y le (at_own t y is));
+    }
+
+-- ---- the calls
+
+-- a stop of a session with these replies
+stops_so : (ending : model.Ending) (replies : List Reply) (stop : model.Ending)
+    → replies_in ending ≡ replies → IsStopOf (model.Rested replies) stop → IsStopOf ending stop
+stops_so ending replies (model.NotOpened fault) same is = absurd is
+stops_so ending replies StoppedOpening same is = tt
+stops_so ending replies (model.Rested first) same is = (is.0, same ∙ is.1)
+stops_so ending replies (StoppedCall first) same is = (is.0, same ∙ is.1)
+stops_so ending replies (model.Broke first) same is = absurd is
+
+-- what a stop within them leaves
+pub left_within : (h after : Handle) (calls : List Call) (replies : List Reply) (limit : ℕ)
+    (ending : model.Ending) → replies_in ending ≡ replies → h.state.usable ≡ true
+    → h.state.limit ≡ limit → (y : Settled)
+    → StandsForSome (MayBeLeftWithin h calls replies after) limit y
+    → IsLeftByCalls h calls ending y
+left_within h after calls replies limit ending same usable limit_is y (contents, left, stands) =
+    let found = within h after calls replies contents usable left in
+    record {
+      stop = found.stop;
+      is_stop = stops_so ending replies found.stop same found.is_stop;
+      after = found.after;
+      goes = found.goes;
+      stands = (
+        Holding contents h.state.limit,
+        found.among,
+        subst (λ (n : ℕ). ImageStandsFor y contents n) (sym limit_is) stands,
+      );
+    }
+
+-- none was made
+pub left_unmade : (h : Handle) (calls : List Call) → h.state.usable ≡ true → (y : Settled)
+    → ImageStandsFor y h.state.map h.state.limit → IsLeftByCalls h calls (model.Rested []) y
+left_unmade h calls usable y stands = record {
+  stop = model.Rested [];
+  is_stop = ([], refl);
+  after = held h.state ∷ [];
+  goes = none_made h calls usable;
+  stands = (held h.state, is_first (held h.state) [] (held h.state) refl, stands);
+}
+
+-- ---- a session
+
+pub left_in_opening : (before : Members) (how : Opening) (asked : OpenHow) (calls : List Call)
+    (sectors : ℕ) (start : Candidates) (ending : model.Ending) → asked ≡ for_writing how
+    → AllStandFor before (sectors / 4) start → (y : Settled) → MayRemain asked sectors start y
+    → IsLeftByStop before (record { how = opening_of how; calls = calls }) ending y
+left_in_opening before how asked calls sectors start ending is stand y remained = record {
+  stop = StoppedOpening;
+  is_stop = tt;
+  after = before ++ map (opened (opening_of how)) before;
+  step = refl;
+  stands = remains before how sectors start stand y
+      (subst (λ (h : OpenHow). MayRemain h sectors start y) is remained);
+}
+
+pub left_in_calls : (before : Members) (plan : Plan) (first : Handle) (ending : model.Ending)
+    → Begins before plan.how first → (y : Settled) → IsLeftByCalls first plan.calls ending y
+    → IsLeftByStop before plan ending y
+left_in_calls before plan first ending begins y left = record {
+  stop = left.stop;
+  is_stop = left.is_stop;
+  after = left.after;
+  step = step_of before plan left.stop left.after first begins left.goes;
+  stands = left.stands;
+}
