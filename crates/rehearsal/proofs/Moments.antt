@@ -37,7 +37,8 @@ lower dev below old new P Q same run weaker =
     let at_own : (t : ℕ) (y : Settled)
     → IsOutcome dev.left_since (settled (dev.sectors (below old) / 4)) (below new) t y
     → IsOutcome dev.left_since (settled (dev.sectors (below new) / 4)) (below new) t y =
-    λ t y is. subst (λ (n : ℕ). IsOutcome dev.left_since (settled n) (below new) t y) (sym same) is in
+    λ t y is.
+    subst (λ (n : ℕ). IsOutcome dev.left_since (settled n) (below new) t y) (sym same) is in
     record {
       later = run.later;
       each = λ y is. weaker y (run.each y (at_own (dev.moment (below old)) y is));

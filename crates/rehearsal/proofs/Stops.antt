@@ -245,7 +245,8 @@ within_from first now after made (call ∷ calls) answered (reply ∷ replies) c
 within_from first now after made (call ∷ calls) answered (reply ∷ replies) contents limit run usable
     same (mid, step, inr later) = ⊎_elim
     (λ on.
-    subst (λ (cs : List Call). Found first cs (answered ++ reply ∷ replies) (Holding contents limit))
+    subst (λ (cs : List Call).
+    Found first cs (answered ++ reply ∷ replies) (Holding contents limit))
     (append_assoc made (call ∷ []) calls)
     (subst (λ (rs : List Reply). Found first ((made ++ call ∷ []) ++ calls) rs
     (Holding contents limit)) (append_assoc answered (reply ∷ []) replies)

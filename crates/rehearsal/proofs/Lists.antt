@@ -1,0 +1,74 @@
+-- Sessions one after another.
+use Rattle.std.proofs.Common.{◌≡◌, ℕ, List, [], ◌∷◌, ◌++◌, map, refl, sym, subst}
+use Rattle.std.proofs.lemmas.List.{map-append}
+use Rattle.sect_dev.specs.Device.{Image, Candidates, IsImageOf, IsStable}
+use Rattle.sect_dev.specs.Moments.{only_image}
+use Rattle.redo_commit.specs.File.{settled}
+use Rattle.dbm_sessions.specs.Members.{Members}
+use Rattle.dbm_sessions.specs.Sessions as model
+use Rattle.dbm_sessions.specs.Sessions.{Plan, SessionStep, Sessions}
+use Rattle.dbm_sessions.proofs.Ways.{changes_stay}
+use Rattle.rehearsal.specs.Members.{StandsForOne, AllStandFor}
+use Rattle.rehearsal.specs.Sessions.{ending_of, Leaves}
+use Rattle.rehearsal.specs.Rehearsals.{SessionsLeave, AreAllLeft}
+use Rattle.rehearsal.specs.declared.sessions.Ending.{Ending}
+
+-- one session more
+sessions-push : (before mid after : Members) (plans : List Plan) (endings : List model.Ending)
+    (plan : Plan) (ending : model.Ending) → Sessions before plans endings mid
+    → SessionStep mid plan ending after
+    → Sessions before (plans ++ plan ∷ []) (endings ++ ending ∷ []) after
+sessions-push before mid after [] [] plan ending all step =
+    (after, subst (λ (ms : Members). SessionStep ms plan ending after) all step, refl)
+sessions-push before mid after [] (one ∷ endings) plan ending all step = absurd all
+sessions-push before mid after (one ∷ plans) [] plan ending all step = absurd all
+sessions-push before mid after (one ∷ plans) (told ∷ endings) plan ending all step =
+    (all.0, all.1, sessions-push all.0 mid after plans endings plan ending all.2 step)
+
+pub none_yet : (before : Members) (pages : ℕ) (candidate : Candidates)
+    → AllStandFor before pages candidate → SessionsLeave before [] [] pages candidate
+none_yet before pages candidate stand = record { after = before; sessions = refl; stand = stand }
+
+pub one_more : (before : Members) (plans : List Plan) (endings : List Ending) (plan : Plan)
+    (ending : Ending) (pages next : ℕ) (candidate now : Candidates)
+    (so_far : SessionsLeave before plans endings pages candidate)
+    → Leaves so_far.after plan (ending_of ending) next now
+    → SessionsLeave before (plans ++ plan ∷ []) (endings ++ ending ∷ []) next now
+one_more before plans endings plan ending pages next candidate now so_far one = record {
+  after = one.after;
+  sessions = subst (λ (told : List model.Ending).
+      Sessions before (plans ++ plan ∷ []) told one.after)
+      (sym (map-append ending_of endings (ending ∷ [])))
+      (sessions-push before so_far.after one.after plans (map ending_of endings) plan
+      (ending_of ending) so_far.sessions one.step);
+  stand = one.stand;
+}
+
+-- of the images that might have been left, the stop left this one
+pub after_stop : (members : Members) (pages : ℕ) (before after : Candidates) (image : Image)
+    → AllStandFor members pages before → IsImageOf before image → IsStable after image
+    → AllStandFor members pages after
+after_stop members pages before after image stand is stable other there =
+    subst (λ (i : Image). StandsForOne members (settled pages i))
+    (sym (only_image after image other stable there)) (stand image is)
+
+pub all_left : (before : Members) (plans : List Plan) (endings : List Ending) (pages : ℕ)
+    (candidate : Candidates) → SessionsLeave before plans endings pages candidate
+    → AreAllLeft before plans endings pages candidate
+all_left before plans endings pages candidate all image is =
+    let one = all.stand image is in
+    let way = changes_stay before all.after plans (map ending_of endings) all.sessions one.0
+    one.1 in
+    record { member = one.0; stands = one.2; start = way.0; among = way.1; left = way.2 }
+
+-- the device that a stop left is as the session left it, or some of it
+pub stop_leaves : (before : Members) (plan : Plan) (ending : model.Ending) (pages next : ℕ)
+    (candidate now : Candidates) (image : Image) → Leaves before plan ending pages candidate
+    → IsImageOf candidate image → IsStable now image → next ≡ pages
+    → Leaves before plan ending next now
+stop_leaves before plan ending pages next candidate now image one is stable same = record {
+  after = one.after;
+  step = one.step;
+  stand = subst (λ (n : ℕ). AllStandFor one.after n now) (sym same)
+      (after_stop one.after pages candidate now image one.stand is stable);
+}

@@ -1,0 +1,55 @@
+use Rattle.std.proofs.Common.{◌/◌, List, [], ◌∷◌, ◌++◌, map, take, sym, subst, arith}
+use Rattle.sect_dev.specs.contracts.mem.MemDevSectorDev.TheImpl.{ghosts as MemDevGhosts}
+use Rattle.dbm_sessions.specs.Sessions.{Plan}
+use Rattle.dbm_file.proofs.Runs.{all_taken, seen_next}
+use Rattle.rehearsal.specs.Rehearsals.{planned, SessionsLeave}
+use Rattle.rehearsal.specs.declared.sessions.Ending.{Ending}
+use Rattle.rehearsal.specs.declared.rehearsing.Stage.{Stage}
+use Rattle.rehearsal.proofs.Lists.{none_yet, one_more, all_left}
+use Rattle.rehearsal.proofs.rehearsing.rehearse.Goals as goal
+
+pub loop-stage-init : goal.loop-stage-init
+loop-stage-init c = record {
+  left = λ before stand.
+      let pages = MemDevGhosts.sectors c.args.dev / 4 in
+      let candidate = MemDevGhosts.candidate c.args.dev in
+      subst (λ (es : List Ending). SessionsLeave before [] es pages candidate)
+      (sym c.new-endings.ensures.items) (none_yet before pages candidate stand);
+}
+
+pub loop-stage-preserved : goal.loop-stage-preserved
+loop-stage-preserved c = record {
+  left = λ before stand.
+      let so_far = c.loop-stage.invariant.left before stand in
+      let stages = c.args.stages.now in
+      let i = c.loop-stage.stage-index in
+      let old = c.loop-stage.dev in
+      let new = c.in_ok-left.left in
+      let one = c.stage-item.result in
+      let pages = MemDevGhosts.sectors new / 4 in
+      let now = MemDevGhosts.candidate new in
+      subst (λ (plans : List Plan). SessionsLeave before plans c.push.new.self.items pages now)
+      (sym (seen_next planned stages i one c.loop-stage-test.true c.stage-item.is))
+      (subst (λ (es : List Ending).
+      SessionsLeave before (map planned (take i stages) ++ planned one ∷ []) es pages now)
+      (sym c.in_ok-push.ensures.items)
+      (one_more before (map planned (take i stages)) c.loop-stage.endings.items (planned one)
+      c.in_ok-left.ending (MemDevGhosts.sectors old / 4) pages (MemDevGhosts.candidate old) now
+      so_far (c.in_ok-left.ensures so_far.after so_far.stand)));
+}
+
+pub returns-clause-leaves : goal.returns-clause-leaves
+returns-clause-leaves c before stand =
+    let left = c.loop-stage.dev in
+    subst (λ (stages : List Stage). SessionsLeave before (map planned stages)
+    c.loop-stage.endings.items (MemDevGhosts.sectors left / 4) (MemDevGhosts.candidate left))
+    (all_taken c.args.stages.now c.loop-stage.stage-index
+    (omega (arith, c.loop-stage-test.false)))
+    (c.loop-stage.invariant.left before stand)
+
+pub returns-clause-stays : goal.returns-clause-stays
+returns-clause-stays c before stand =
+    let left = c.loop-stage.dev in
+    all_left before (map planned c.args.stages.now) c.loop-stage.endings.items
+    (MemDevGhosts.sectors left / 4) (MemDevGhosts.candidate left)
+    (returns-clause-leaves c before stand)

@@ -1,0 +1,15 @@
+use Rattle.std.proofs.Common.{◌/◌, map, take}
+use Rattle.sect_dev.specs.contracts.mem.MemDevSectorDev.TheImpl.{ghosts as MemDevGhosts}
+use Rattle.dbm_sessions.specs.Members.{Members}
+use Rattle.rehearsal.specs.Members.{AllStandFor}
+use Rattle.rehearsal.specs.Rehearsals.{planned, SessionsLeave}
+use Rattle.rehearsal.proofs.rehearsing.rehearse.Given as goal
+
+abbrev pub invariant-loop-stage : goal.invariant-loop-stage
+invariant-loop-stage l = record {
+  left : (before : Members)
+      → AllStandFor before (MemDevGhosts.sectors l.initial.dev / 4)
+      (MemDevGhosts.candidate l.initial.dev)
+      → SessionsLeave before (map planned (take l.stage-index l.stages)) l.endings.items
+      (MemDevGhosts.sectors l.dev / 4) (MemDevGhosts.candidate l.dev);
+}
