@@ -3,7 +3,7 @@ ghost use Rattle.std.specs.Prelude.{◌≡◌, OnOk, IfOk, IfErr, IfSome, true, 
 ghost use Rattle.std.specs.FinMap.{empty};
 ghost use Rattle.page_model.specs.Sizes.{is_limit};
 ghost use Rattle.dbm_file.specs.Opened.{IsOpenedAt};
-ghost use Rattle.dbm_script.specs.Faults.{told_in_memory};
+ghost use Rattle.dbm_script.specs.Faults.{CanMeetInMemory, told_in_memory};
 ghost use Rattle.dbm_script.specs.Scripts.{AnswersInMemory};
 
 use crate::script_engine;
@@ -23,6 +23,7 @@ pub fn script_in_memory<R: BufRead, O: Write>(
     ensures answer { OnOk result (IfSome (R.remaining input.old) (λ text.
         AnswersInMemory limit text (O.contents output.old) (O.contents output.new))) }
     ensures limit { is_limit limit ≡ false → result ≡ Err (EngineFault.Db Fault.BadLimit) }
+    ensures only { IfErr result (CanMeetInMemory limit) }
 {
     let mut db = match new_in_memory(alloc, limit) {
         Ok(db) => db,
