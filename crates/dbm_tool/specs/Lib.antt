@@ -1,3 +1,5 @@
 pub use Rattle.dbm_script.specs.Scripts
+pub mod Endings
 pub mod Faults
 pub mod Plans
+pub mod Statuses

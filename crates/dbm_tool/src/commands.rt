@@ -1,6 +1,8 @@
 // What each command does.
-ghost use Rattle.std.specs.Prelude.{OnOk};
+ghost use Rattle.std.specs.Prelude.{◌≡◌, ◌⊎◌, false, Ok, Err, OnOk, IfSome};
 ghost use Rattle.std.specs.Io.KnownBytes.{Appends};
+ghost use Rattle.dbm_script.specs.Scripts.{AnswersInMemory};
+ghost use Rattle.dbm_tool.specs.Endings.{EndsAs, prints, reads};
 ghost use Rattle.dbm_tool.specs.Plans.{Does};
 
 use crate::{EngineFault, dump_engine, list_engine, load_engine, script_engine};
@@ -22,8 +24,15 @@ pub fn carry_out<T: Files<File = File>, R: BufRead, O: Write>(
     input: &mut R,
     output: &mut O,
 ) -> Result<Outcome, Failure>
-    ensures { OnOk result (Does plan.entry (R.remaining input.old) (O.contents output.old)
+    ensures does { OnOk result (Does plan.entry (R.remaining input.old) (O.contents output.old)
         (O.contents output.new)) }
+    ensures ends { EndsAs plan.entry result }
+
+    // What the plan has no use for stays, and so does the output where there is nothing to print.
+    ensures input { reads plan.entry ≡ false → input.new ≡ input.old }
+    ensures output { prints plan.entry ≡ false → output.new ≡ output.old }
+    ensures quiet { (result ≡ Ok Outcome.Nothing) ⊎ (result ≡ Err Failure.NotHex)
+        → output.new ≡ output.old }
 {
     match plan {
         Plan::Create { file, limit } => create(rt, alloc, file, limit),
@@ -32,22 +41,13 @@ pub fn carry_out<T: Files<File = File>, R: BufRead, O: Write>(
             key,
             content,
             spelling,
-        } => {
-            store(
-                rt,
-                alloc,
-                file,
-                [key, content],
-                spelling,
-                StoreMode::Replace,
-            )
-        }
+        } => store(rt, alloc, file, key, content, spelling, StoreMode::Replace),
         Plan::Insert {
             file,
             key,
             content,
             spelling,
-        } => { store(rt, alloc, file, [key, content], spelling, StoreMode::Insert) }
+        } => store(rt, alloc, file, key, content, spelling, StoreMode::Insert),
         Plan::Fetch {
             file,
             key,
@@ -63,25 +63,25 @@ pub fn carry_out<T: Files<File = File>, R: BufRead, O: Write>(
         Plan::Load { file } => load(rt, alloc, file, input),
         Plan::Stat { file } => stat(rt, alloc, file, output),
         Plan::Script(Source::File(file)) => script(rt, alloc, file, input, output),
-        Plan::Script(Source::Memory(limit)) => {
-            script_in_memory(alloc, limit, input, output)?;
-            Ok(Outcome::Done)
-        }
+        Plan::Script(Source::Memory(limit)) => new_script(alloc, limit, input, output),
         Plan::Faults => print_faults(output),
     }
 }
 
 /// Prints the exit statuses and the faults.
 fn print_faults<O: Write>(output: &mut O) -> Result<Outcome, Failure>
-    ensures { OnOk result (Appends (O.contents output.old) (O.contents output.new)
+    ensures printed { OnOk result (Appends (O.contents output.old) (O.contents output.new)
         FAULT_TABLE.now) }
+    ensures ends { EndsAs Plan.Faults result }
 {
     output.write_all(FAULT_TABLE.as_bytes()).map_err(unwritten)?;
     output.flush().map_err(unwritten)?;
     Ok(Outcome::Done)
 }
 
-fn unwritten(_: io::Error) -> Failure {
+fn unwritten(_: io::Error) -> Failure
+    ensures { result ≡ Failure.Fault EngineFault.Write }
+{
     Failure::Fault(EngineFault::Write)
 }
 
@@ -107,7 +107,9 @@ fn create<T: Files<File = File>>(
     alloc: Global,
     file: &str,
     limit: u32,
-) -> Result<Outcome, Failure> {
+) -> Result<Outcome, Failure>
+    ensures { EndsAs (Plan.Create file.entry limit) result }
+{
     let how = OpenHow {
         access: Access::ReadWrite,
         create: true,
@@ -123,10 +125,16 @@ fn store<T: Files<File = File>>(
     rt: &T,
     alloc: Global,
     file: &str,
-    [key, content]: [&str; 2],
+    key: &str,
+    content: &str,
     spelling: Spelling,
     mode: StoreMode,
-) -> Result<Outcome, Failure> {
+) -> Result<Outcome, Failure>
+    ensures replaced { mode ≡ StoreMode.Replace
+        → EndsAs (Plan.Store file.entry key.entry content.entry spelling) result }
+    ensures inserted { mode ≡ StoreMode.Insert
+        → EndsAs (Plan.Insert file.entry key.entry content.entry spelling) result }
+{
     let key = bytes_of(alloc, key, spelling)?;
     let content = bytes_of(alloc, content, spelling)?;
     let mut db = open(rt, alloc, file, Access::ReadWrite)?;
@@ -140,7 +148,9 @@ fn delete<T: Files<File = File>>(
     file: &str,
     key: &str,
     spelling: Spelling,
-) -> Result<Outcome, Failure> {
+) -> Result<Outcome, Failure>
+    ensures { EndsAs (Plan.Delete file.entry key.entry spelling) result }
+{
     let key = bytes_of(alloc, key, spelling)?;
     let mut db = open(rt, alloc, file, Access::ReadWrite)?;
     let done = dbm_commands::delete(&mut db, &key);
@@ -154,7 +164,11 @@ fn fetch<T: Files<File = File>, O: Write>(
     key: &str,
     spelling: Spelling,
     output: &mut O,
-) -> Result<Outcome, Failure> {
+) -> Result<Outcome, Failure>
+    ensures ends { EndsAs (Plan.Fetch file.entry key.entry spelling) result }
+    ensures quiet { (result ≡ Ok Outcome.Nothing) ⊎ (result ≡ Err Failure.NotHex)
+        → output.new ≡ output.old }
+{
     let key = bytes_of(alloc, key, spelling)?;
     let mut db = open(rt, alloc, file, Access::ReadOnly)?;
     let done = dbm_commands::fetch(&mut db, &key, spelling, output);
@@ -166,7 +180,9 @@ fn list<T: Files<File = File>, O: Write>(
     alloc: Global,
     file: &str,
     output: &mut O,
-) -> Result<Outcome, Failure> {
+) -> Result<Outcome, Failure>
+    ensures { EndsAs (Plan.List file.entry) result }
+{
     let mut db = open(rt, alloc, file, Access::ReadOnly)?;
     let done = list_engine(alloc, &mut db, output);
     closed(db, flushed(done, output))
@@ -177,7 +193,9 @@ fn dump<T: Files<File = File>, O: Write>(
     alloc: Global,
     file: &str,
     output: &mut O,
-) -> Result<Outcome, Failure> {
+) -> Result<Outcome, Failure>
+    ensures { EndsAs (Plan.Dump file.entry) result }
+{
     let mut db = open(rt, alloc, file, Access::ReadOnly)?;
     let done = dump_engine(alloc, &mut db, output);
     closed(db, flushed(done, output))
@@ -188,7 +206,9 @@ fn load<T: Files<File = File>, R: BufRead>(
     alloc: Global,
     file: &str,
     input: &mut R,
-) -> Result<Outcome, Failure> {
+) -> Result<Outcome, Failure>
+    ensures { EndsAs (Plan.Load file.entry) result }
+{
     let mut db = open(rt, alloc, file, Access::ReadWrite)?;
     let done = match load_engine(alloc, &mut db, input) {
         Ok(()) => Ok(Outcome::Done),
@@ -203,10 +223,27 @@ fn script<T: Files<File = File>, R: BufRead, O: Write>(
     file: &str,
     input: &mut R,
     output: &mut O,
-) -> Result<Outcome, Failure> {
+) -> Result<Outcome, Failure>
+    ensures { EndsAs (Plan.Script (Source.File file.entry)) result }
+{
     let mut db = open(rt, alloc, file, Access::ReadWrite)?;
     let done = script_engine(alloc, &mut db, input, output);
     closed(db, flushed(done, output))
+}
+
+/// Answers a script by a new database in memory.
+fn new_script<R: BufRead, O: Write>(
+    alloc: Global,
+    limit: u32,
+    input: &mut R,
+    output: &mut O,
+) -> Result<Outcome, Failure>
+    ensures answered { OnOk result (IfSome (R.remaining input.old) (λ text.
+        AnswersInMemory limit text (O.contents output.old) (O.contents output.new))) }
+    ensures ends { EndsAs (Plan.Script (Source.Memory limit)) result }
+{
+    script_in_memory(alloc, limit, input, output)?;
+    Ok(Outcome::Done)
 }
 
 fn stat<T: Files<File = File>, O: Write>(
@@ -214,7 +251,9 @@ fn stat<T: Files<File = File>, O: Write>(
     alloc: Global,
     file: &str,
     output: &mut O,
-) -> Result<Outcome, Failure> {
+) -> Result<Outcome, Failure>
+    ensures { EndsAs (Plan.Stat file.entry) result }
+{
     let db = open(rt, alloc, file, Access::ReadOnly)?;
     let done = dbm_commands::stat(&db, output);
     closed(db, done)

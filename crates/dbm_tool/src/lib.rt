@@ -8,4 +8,4 @@ pub use dbm_dump::{dump_engine, list_engine};
 pub use dbm_fault::EngineFault;
 pub use dbm_load::load_engine;
 pub use dbm_script::script_engine;
-pub use program::{not_text, out_of_memory, tool};
+pub use program::{Exit, not_text, out_of_memory, tool};

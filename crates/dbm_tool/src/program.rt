@@ -1,9 +1,11 @@
 // The program over its words.
-ghost use Rattle.std.specs.Prelude.{◌≡◌, ◌⊎◌, OnErr, OnOk, IfErr, IfOk, map};
+ghost use Rattle.std.specs.Prelude.{◌≡◌, ◌⊎◌, OnErr, OnOk, IfErr, map, true, codes};
 ghost use Rattle.std.specs.Io.KnownBytes.{Appends};
 ghost use Rattle.dbm_words.specs.CommandLine.{AreTaken};
-ghost use Rattle.dbm_tool.specs.Faults.{failure_line};
+ghost use Rattle.dbm_tool.specs.Endings.{looks_for_a_key, prints, reads};
+ghost use Rattle.dbm_tool.specs.Faults.{failure_line, fault_line};
 ghost use Rattle.dbm_tool.specs.Plans.{DoesWords};
+ghost use Rattle.dbm_tool.specs.Statuses.{AreRefused, AskFor, Tells, TellsFault, TellsMisuse, no_command_line, status_of};
 
 use crate::EngineFault;
 use crate::commands::carry_out;
@@ -26,10 +28,19 @@ const FAULT: u8 = 2;
 /// The status of words that are no plan.
 const USAGE: u8 = 3;
 
-/// The program over the words after its name. It answers the exit status: 0 where all was done, or
-/// help or the version was asked for, which goes to `output`; 1 where a fetched or deleted key
-/// isn't there or an inserted one is, with nothing printed; 2 for a fault, the first one, which
-/// alone is told in one line on `faults`; and 3 for words that are no plan, of which one text goes
+/// How the program ended.
+#[derive(Clone, Copy, Debug, PartialEq, Eq)]
+pub struct Exit {
+    /// The exit status.
+    pub status: u8,
+    /// Whether what there was to tell could be written.
+    pub told: bool,
+}
+
+/// The program over the words after its name. The exit status is 0 where all was done, or help or
+/// the version was asked for, which goes to `output`; 1 where a fetched or deleted key isn't there
+/// or an inserted one is, with nothing printed; 2 for a fault, the first one, which alone is told in
+/// one line on `faults`; and 3 for words that are no plan or no hexadecimal, of which one text goes
 /// to `faults`. Faults are looked for in the words, in the words' hexadecimal digits, in the
 /// opening, in the call or the engine with the last of its output, and in the closing, in this
 /// order.
@@ -40,62 +51,102 @@ pub fn tool<T: Files<File = File>, R: BufRead, O: Write, F: Write>(
     input: &mut R,
     output: &mut O,
     faults: &mut F,
-) -> u8
-    ensures status { (result ≡ 0) ⊎ ((result ≡ 1) ⊎ ((result ≡ 2) ⊎ (result ≡ 3))) }
-    ensures quiet { (result ≡ 0) ⊎ (result ≡ 1) → faults.new ≡ faults.old }
+) -> Exit
+    ensures status { (result.status ≡ 0)
+        ⊎ ((result.status ≡ 1) ⊎ ((result.status ≡ 2) ⊎ (result.status ≡ 3))) }
+    ensures quiet { (result.status ≡ 0) ⊎ (result.status ≡ 1) → faults.new ≡ faults.old }
 
     // The words are a plan that was carried out; where they name no command, nothing was read.
-    ensures done { result ≡ 0 → ((input.new ≡ input.old)
+    ensures done { result.status ≡ 0 → ((input.new ≡ input.old)
         × (AreTaken (map (λ word. word.now) words.now) → ⊥))
         ⊎ DoesWords (map (λ word. word.now) words.now) (R.remaining input.old)
         (O.contents output.old) (O.contents output.new) }
+    ensures nothing { result.status ≡ 1 → AskFor (map (λ word. word.now) words.now)
+        (λ plan. looks_for_a_key plan ≡ true) }
+    ensures fault { result.status ≡ 2 → TellsFault (map (λ word. word.now) words.now) result.told
+        (F.contents faults.old) (F.contents faults.new) }
+    ensures usage { result.status ≡ 3 → TellsMisuse (map (λ word. word.now) words.now) result.told
+        (F.contents faults.old) (F.contents faults.new) }
+
+    // The streams stay but for a plan that has a use for them, and for help.
+    ensures input { (input.new ≡ input.old)
+        ⊎ AskFor (map (λ word. word.now) words.now) (λ plan. reads plan ≡ true) }
+    ensures output { (output.new ≡ output.old)
+        ⊎ (AskFor (map (λ word. word.now) words.now) (λ plan. prints plan ≡ true)
+        ⊎ AreRefused (map (λ word. word.now) words.now)) }
+    ensures unprinted { (result.status ≡ 1) ⊎ (result.status ≡ 3) → output.new ≡ output.old }
 {
     match read_words(alloc, words) {
-        Ok(plan) => status_of(carry_out(rt, alloc, plan, input, output), faults),
+        Ok(plan) => ended(carry_out(rt, alloc, plan, input, output), faults),
         Err(WordsError::Memory) => out_of_memory(faults),
         Err(WordsError::Help(text)) => match show(output, WordsError::Help(text)) {
-            Ok(()) => DONE,
-            Err(_) => status_of(Err(Failure::Fault(EngineFault::Write)), faults),
+            Ok(()) => ended(Ok(Outcome::Done), faults),
+            Err(_) => ended(Err(Failure::Fault(EngineFault::Write)), faults),
         },
-        Err(error) => {
-            let _ = write!(faults, "{error}");
-            USAGE
-        }
+        Err(error) => refused(error, faults),
     }
 }
 
-/// Tells on `faults` that there is no memory, which is fault 1, and answers the status.
-pub fn out_of_memory<F: Write>(faults: &mut F) -> u8
-    ensures { result ≡ 2 }
+/// Tells on `faults` that there is no memory, which is fault 1.
+pub fn out_of_memory<F: Write>(faults: &mut F) -> Exit
+    ensures status { result.status ≡ 2 }
+    ensures line { Tells result.told (F.contents faults.old) (F.contents faults.new)
+        (fault_line EngineFault.Memory) }
 {
-    status_of(Err(Failure::Fault(EngineFault::Memory)), faults)
+    ended(Err(Failure::Fault(EngineFault::Memory)), faults)
 }
 
-/// Tells on `faults` that one of the words is not UTF-8, which `tool` can't be given, and answers
-/// the status.
-pub fn not_text<F: Write>(faults: &mut F) -> u8
-    ensures { result ≡ 3 }
+/// Tells on `faults` that one of the words is not UTF-8, which `tool` can't be given.
+pub fn not_text<F: Write>(faults: &mut F) -> Exit
+    ensures status { result.status ≡ 3 }
+    ensures line { Tells result.told (F.contents faults.old) (F.contents faults.new)
+        (failure_line Failure.NotText) }
 {
-    status_of(Err(Failure::NotText), faults)
+    ended(Err(Failure::NotText), faults)
 }
 
-/// The status, with a failure told in one line where `faults` can be written.
-fn status_of<F: Write>(done: Result<Outcome, Failure>, faults: &mut F) -> u8
-    ensures done { OnOk done (((result ≡ 0) ⊎ (result ≡ 1)) × (faults.new ≡ faults.old)) }
-    ensures failed { OnErr done ((result ≡ 2) ⊎ (result ≡ 3)) }
-    ensures fault { IfErr done (λ e. e ≡ Failure.Fault EngineFault.Memory → result ≡ 2) }
-    ensures text { IfErr done (λ e. e ≡ Failure.NotText → result ≡ 3) }
+/// The end of a plan: a failure is told in one line.
+fn ended<F: Write>(done: Result<Outcome, Failure>, faults: &mut F) -> Exit
+    ensures status { result.status ≡ status_of done }
+    ensures quiet { OnOk done (faults.new ≡ faults.old) }
+    ensures line { IfErr done (λ failure. Tells result.told (F.contents faults.old)
+        (F.contents faults.new) (failure_line failure)) }
 {
-    match done {
-        Ok(Outcome::Done) => DONE,
-        Ok(Outcome::Nothing) => NOTHING,
-        Err(failure) => {
-            let _ = write_failure(faults, failure);
-            match failure {
-                Failure::NotHex | Failure::NotText => USAGE,
-                Failure::Fault(_) => FAULT,
-            }
-        }
+    let (status, told) = match done {
+        Ok(Outcome::Done) => (DONE, true),
+        Ok(Outcome::Nothing) => (NOTHING, true),
+        Err(failure) => (
+            failure_status(failure),
+            write_failure(faults, failure).is_ok(),
+        ),
+    };
+    Exit { status, told }
+}
+
+/// The status of a failure.
+fn failure_status(failure: Failure) -> u8
+    ensures { result ≡ status_of (Err failure) }
+{
+    match failure {
+        Failure::NotHex | Failure::NotText => USAGE,
+        Failure::Fault(_) => FAULT,
+    }
+}
+
+/// The end where the words gave no plan, and `error` says why. The line of `NoPlan` is written here,
+/// since no contract says what an error displays.
+fn refused<F: Write>(error: WordsError, faults: &mut F) -> Exit
+    ensures status { result.status ≡ 3 }
+    ensures line { error ≡ WordsError.NoPlan → Tells result.told (F.contents faults.old)
+        (F.contents faults.new) no_command_line }
+{
+    let written = match error {
+        WordsError::NoPlan => writeln!(faults, "error: no such command"),
+        other => write!(faults, "{other}"),
+    };
+    Exit {
+        status: USAGE,
+        told: written.is_ok(),
     }
 }
 

@@ -1,24 +1,24 @@
 //! The program: its words and its standard streams.
 #![tactic(auto)]
 
-use dbm_tool::{not_text, out_of_memory, tool};
+use dbm_tool::{Exit, not_text, out_of_memory, tool};
 use std::env;
 use std::io::{self, BufReader, BufWriter, ErrorKind, Write};
 use std::process::ExitCode;
 
 fn main(rt: HostRuntime) -> ExitCode {
     let mut faults = rt.stderr();
-    let status = match run(&rt, &mut faults) {
-        Ok(status) => status,
+    let exit = match run(&rt, &mut faults) {
+        Ok(exit) => exit,
         Err(error) if error.kind() == ErrorKind::OutOfMemory => out_of_memory(&mut faults),
         Err(_) => not_text(&mut faults),
     };
-    ExitCode::from(status)
+    ExitCode::from(exit.status)
 }
 
-/// The exit status. The error is `OutOfMemory` where there is no memory for the words or the
+/// The program's end. The error is `OutOfMemory` where there is no memory for the words or the
 /// streams, and another where a word is not UTF-8.
-fn run<F: Write>(rt: &HostRuntime, faults: &mut F) -> io::Result<u8> {
+fn run<F: Write>(rt: &HostRuntime, faults: &mut F) -> io::Result<Exit> {
     let alloc = rt.alloc();
     let mut words: Vec<String> = Vec::new(alloc);
     for word in env::args(rt)?.skip(1) {

@@ -1,5 +1,6 @@
 use Rattle.std.proofs.Common.{inl, inr, ⊎_elim, refl}
-use Rattle.dbm_tool.proofs.Statuses.{done_if_zero}
+use Rattle.dbm_fault.specs.declared.engine_fault.EngineFault.TheVariants.{Write}
+use Rattle.dbm_tool.proofs.Statuses.{done_at_zero, prints_or_stays, tells_fault}
 use Rattle.dbm_tool.proofs.program.tool.Goals as goal
 
 pub returns-in-Ok-show-clause-done : goal.returns-in-Ok-show-clause-done
@@ -12,10 +13,39 @@ returns-in-Ok-show-clause-done g c zero =
           (c.in-Err-Help.ensures.passes taken),
     )
 
+pub returns-in-Err-show-clause-fault : goal.returns-in-Err-show-clause-fault
+returns-in-Err-show-clause-fault g c two =
+    let is = c.in-Err-Help.field-0-is in
+    record {
+      met = Write;
+      can_be_met = inr (inr (
+        refl,
+        λ taken. ⊎_elim (λ memory. absurd (cc))
+            (λ other. ⊎_elim (λ no_plan. absurd (cc)) (λ no_source. absurd (cc)) other)
+            (c.in-Err-Help.ensures.passes taken),
+      ));
+      line = c.ended-in-Err-show.ensures.line;
+    }
+
+pub returns-in-Err-show-clause-output : goal.returns-in-Err-show-clause-output
+returns-in-Err-show-clause-output g c =
+    let is = c.in-Err-Help.field-0-is in
+    inr (inr (λ taken. ⊎_elim (λ memory. absurd (cc))
+    (λ other. ⊎_elim (λ no_plan. absurd (cc)) (λ no_source. absurd (cc)) other)
+    (c.in-Err-Help.ensures.passes taken)))
+
 pub returns-in-Ok-clause-done : goal.returns-in-Ok-clause-done
 returns-in-Ok-clause-done g c zero = inr record {
   plan = c.in-Ok.plan;
   is_plan = c.in-Ok.ensures.plan;
-  does = done_if_zero c.carry_out.result c.status_of.result c.status_of.ensures.failed zero
-      c.carry_out.ensures;
+  does = done_at_zero c.carry_out.result _ c.ended.ensures.status zero c.carry_out.ensures.does;
 }
+
+pub returns-in-Ok-clause-fault : goal.returns-in-Ok-clause-fault
+returns-in-Ok-clause-fault g c two =
+    tells_fault _ c.in-Ok.plan c.carry_out.result _ _ _ _ c.in-Ok.ensures.plan
+    c.carry_out.ensures.ends c.ended.ensures.line c.ended.ensures.status two
+
+pub returns-in-Ok-clause-output : goal.returns-in-Ok-clause-output
+returns-in-Ok-clause-output g c =
+    prints_or_stays _ c.in-Ok.plan _ c.in-Ok.ensures.plan c.carry_out.ensures.output

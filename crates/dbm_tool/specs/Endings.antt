@@ -1,0 +1,81 @@
+-- How a plan may end.
+use Rattle.std.specs.Prelude.{◌≡◌, ◌⊎◌, Bool, true, false, None, Result, Ok, Err}
+use Rattle.dbm_plan.specs.declared.plan.Plan.{Plan}
+use Rattle.dbm_plan.specs.declared.plan.Plan.TheVariants.{Store, Insert, Fetch, Delete, List as ListKeys, Dump, Load, Stat, Script, Faults}
+use Rattle.dbm_plan.specs.declared.plan.Source.TheVariants.{Memory as InMemory}
+use Rattle.dbm_commands.specs.Words.{spelled}
+use Rattle.dbm_commands.specs.declared.outcomes.Outcome.{Outcome}
+use Rattle.dbm_commands.specs.declared.outcomes.Outcome.TheVariants.{Done, Nothing}
+use Rattle.dbm_commands.specs.declared.outcomes.Failure.{Failure}
+use Rattle.dbm_commands.specs.declared.outcomes.Failure.TheVariants.{NotHex, NotText, Fault}
+use Rattle.dbm_fault.specs.declared.fault.Fault.{Fault as Refusal}
+use Rattle.dbm_fault.specs.declared.fault.Fault.TheVariants.{BadLimit}
+use Rattle.dbm_fault.specs.declared.engine_fault.EngineFault.{EngineFault}
+use Rattle.dbm_fault.specs.declared.engine_fault.EngineFault.TheVariants.{Memory, Read, Write, Line, Db}
+use Rattle.page_model.specs.Sizes.{is_limit}
+
+-- it reads standard input
+abbrev pub reads : Plan → Bool
+reads (Load file) = true
+reads (Script source) = true
+reads _ = false
+
+-- it writes standard output
+abbrev pub prints : Plan → Bool
+prints (Fetch file key spelling) = true
+prints (ListKeys file) = true
+prints (Dump file) = true
+prints (Stat file) = true
+prints (Script source) = true
+prints Faults = true
+prints _ = false
+
+-- its key may be absent, or an inserted one present
+abbrev pub looks_for_a_key : Plan → Bool
+looks_for_a_key (Insert file key content spelling) = true
+looks_for_a_key (Fetch file key spelling) = true
+looks_for_a_key (Delete file key spelling) = true
+looks_for_a_key _ = false
+
+-- a line of its input may be bad
+abbrev pub has_lines : Plan → Bool
+has_lines (Load file) = true
+has_lines _ = false
+
+-- it has a database, so it takes memory
+abbrev pub has_database : Plan → Bool
+has_database Faults = false
+has_database _ = true
+
+-- its database may refuse it so: one in memory, only for the limit
+abbrev pub CanBeRefused : Plan → Refusal → Type 0
+CanBeRefused Faults refusal = ⊥
+CanBeRefused (Script (InMemory limit)) refusal =
+    (refusal ≡ BadLimit) × (is_limit limit ≡ false)
+CanBeRefused _ refusal = Unit {0}
+
+-- it may end by this fault
+abbrev pub CanMeet : Plan → EngineFault → Type 0
+CanMeet plan Memory = has_database plan ≡ true
+CanMeet plan Read = reads plan ≡ true
+CanMeet plan Write = prints plan ≡ true
+CanMeet plan (Line n) = has_lines plan ≡ true
+CanMeet plan (Db refusal) = CanBeRefused plan refusal
+
+-- one of its words is to be hexadecimal, and spells no bytes
+abbrev pub LacksDigits : Plan → Type 0
+LacksDigits (Store file key content spelling) =
+    (spelled spelling key.now ≡ None) ⊎ (spelled spelling content.now ≡ None)
+LacksDigits (Insert file key content spelling) =
+    (spelled spelling key.now ≡ None) ⊎ (spelled spelling content.now ≡ None)
+LacksDigits (Fetch file key spelling) = spelled spelling key.now ≡ None
+LacksDigits (Delete file key spelling) = spelled spelling key.now ≡ None
+LacksDigits _ = ⊥
+
+-- the plan may end so
+abbrev pub EndsAs : Plan → Result Outcome Failure → Type 0
+EndsAs plan (Ok Done) = Unit {0}
+EndsAs plan (Ok Nothing) = looks_for_a_key plan ≡ true
+EndsAs plan (Err NotHex) = LacksDigits plan
+EndsAs plan (Err NotText) = ⊥
+EndsAs plan (Err (Fault met)) = CanMeet plan met

@@ -1,0 +1,55 @@
+-- What the exit statuses tell of the words.
+use Rattle.std.specs.Prelude.{◌≡◌, ◌⊎◌, ℕ, List, Bool, true, Option, Result, Ok, Err, codes}
+use Rattle.std.specs.Io.KnownBytes.{Appends}
+use Rattle.dbm_words.specs.CommandLine.{AreTaken, IsPlan, IsWithoutSource}
+use Rattle.dbm_plan.specs.declared.plan.Plan.{Plan}
+use Rattle.dbm_commands.specs.declared.outcomes.Outcome.{Outcome}
+use Rattle.dbm_commands.specs.declared.outcomes.Outcome.TheVariants.{Done, Nothing}
+use Rattle.dbm_commands.specs.declared.outcomes.Failure.{Failure}
+use Rattle.dbm_commands.specs.declared.outcomes.Failure.TheVariants.{NotHex, NotText, Fault}
+use Rattle.dbm_fault.specs.declared.engine_fault.EngineFault.{EngineFault}
+use Rattle.dbm_fault.specs.declared.engine_fault.EngineFault.TheVariants.{Memory, Write}
+use Rattle.dbm_text.specs.Lines.{with_line_feed}
+use Rattle.dbm_tool.specs.Endings.{CanMeet, LacksDigits}
+use Rattle.dbm_tool.specs.Faults.{failure_line, fault_line}
+
+abbrev pub status_of : Result Outcome Failure → ℕ
+status_of (Ok Done) = 0
+status_of (Ok Nothing) = 1
+status_of (Err (Fault met)) = 2
+status_of (Err NotHex) = 3
+status_of (Err NotText) = 3
+
+-- where the line was told, the bytes grew by exactly it
+abbrev pub Tells : Bool → Option (List ℕ) → Option (List ℕ) → List ℕ → Type 0
+Tells told old new line = told ≡ true → Appends old new line
+
+-- the words are a plan, and it is so
+pub record AskFor (words : List (List ℕ)) (IsSo : Plan → Type 0) : Type 0 where
+  pub plan : Plan
+  pub is_plan : IsPlan words plan
+  pub is_so : IsSo plan
+
+-- the parser doesn't take them, as where help is asked for
+abbrev pub AreRefused : List (List ℕ) → Type 0
+AreRefused words = AreTaken words → ⊥
+
+-- the plan may meet the fault, or the reading of the words or the printing of help did
+abbrev pub CanMeetBy : List (List ℕ) → EngineFault → Type 0
+CanMeetBy words met = AskFor words (λ plan. CanMeet plan met)
+    ⊎ ((met ≡ Memory) ⊎ ((met ≡ Write) × AreRefused words))
+
+-- a fault that these words can meet was told
+pub record TellsFault (words : List (List ℕ)) (told : Bool) (old new : Option (List ℕ)) : Type 0 where
+  pub met : EngineFault
+  pub can_be_met : CanMeetBy words met
+  pub line : Tells told old new (fault_line met)
+
+abbrev pub no_command_line : List ℕ
+no_command_line = with_line_feed (codes "error: no such command")
+
+-- a KEY or CONTENT is not hexadecimal, or the words are no plan
+abbrev pub TellsMisuse : List (List ℕ) → Bool → Option (List ℕ) → Option (List ℕ) → Type 0
+TellsMisuse words told old new =
+    (AskFor words LacksDigits × Tells told old new (failure_line NotHex))
+    ⊎ (AreRefused words ⊎ (IsWithoutSource words ⊎ Tells told old new no_command_line))
