@@ -1,0 +1,5 @@
+//! Tests of sessions on a device in memory, each of them stopped.
+#![tactic(auto)]
+
+#[cfg(test)]
+mod stop_tests;

@@ -1,0 +1,184 @@
+//! Two sessions on a device, the first of which is stopped.
+
+use dbm_file::Reply;
+use rehearsal::{Ending, Opening, Stage, rehearse};
+use sect_dev::MemDev;
+use std::alloc::Global;
+use std::test::Fail;
+use test_databases::asking::calls_of;
+use test_databases::databases::PAIRS;
+
+/// Stores the nine pairs.
+const STORES: &str = "
+    put a #01
+    put b #02
+    put c #03
+    put d #04
+    put e #05
+    put f #06
+    put g #07
+    put h #08
+    put i #09
+";
+
+/// Fetches their contents, in the same order.
+const FETCHES: &str = "
+    fetch a
+    fetch b
+    fetch c
+    fetch d
+    fetch e
+    fetch f
+    fetch g
+    fetch h
+    fetch i
+";
+
+/// Which of the unsynced writes happened: none, all, and each second one.
+const MARKS: [[bool; 16]; 3] = [
+    [false; 16],
+    [true; 16],
+    [
+        true, false, true, false, true, false, true, false, true, false, true, false, true, false,
+        true, false,
+    ],
+];
+
+/// A session that makes a database of this limit where the device is blank.
+fn stage_of(
+    alloc: Global,
+    limit: u32,
+    text: &str,
+    device_calls: u64,
+    marks: &[bool],
+) -> Result<Stage, Fail> {
+    Ok(Stage {
+        how: Opening {
+            create: true,
+            truncate: false,
+            limit,
+        },
+        calls: calls_of(alloc, text)?,
+        device_calls,
+        keep: Vec::from_slice(alloc, marks)?,
+    })
+}
+
+/// How two sessions end on a blank device.
+fn endings_of(alloc: Global, first: Stage, second: Stage) -> Result<Vec<Ending>, Fail> {
+    let (_, endings) = rehearse(alloc, MemDev::new(alloc, 928), &[first, second])?;
+    Ok(endings)
+}
+
+fn replies_of(ending: &Ending) -> &[Reply] {
+    match ending {
+        Ending::Rested(replies) | Ending::Broke(replies) => replies.as_slice(),
+        Ending::NotOpened(_) | Ending::NoMemory => &[],
+    }
+}
+
+/// Whether the first so many stores were acknowledged, and each other one was refused.
+fn are_stored(replies: &[Reply], count: usize) -> bool {
+    for (i, reply) in replies.iter().enumerate() {
+        let right = match reply {
+            Reply::Stored => i < count,
+            Reply::Refused(_) => i >= count,
+            _ => false,
+        };
+        if !right {
+            return false;
+        }
+    }
+    count <= replies.len()
+}
+
+/// Whether the first so many of the nine pairs are found, or one more, and no other.
+fn are_found(replies: &[Reply], count: usize) -> bool {
+    for (i, (reply, (_, content))) in replies.iter().zip(PAIRS.iter()).enumerate() {
+        let right = match reply {
+            Reply::Bytes(bytes) => i <= count && bytes.as_slice() == [*content].as_slice(),
+            Reply::NoRecord => i >= count,
+            _ => false,
+        };
+        if !right {
+            return false;
+        }
+    }
+    replies.len() == PAIRS.len()
+}
+
+/// How many stores of the first session were acknowledged, where the second finds what it has to.
+fn outcome(first: &Ending, second: &Ending) -> Option<usize> {
+    let Ending::Rested(fetched) = second else {
+        return None;
+    };
+    for count in 0..10 {
+        if are_stored(replies_of(first), count) && are_found(fetched.as_slice(), count) {
+            return Some(count);
+        }
+    }
+    None
+}
+
+/// The same of stores that are stopped after so many calls of the device.
+fn stores_stopped(alloc: Global, calls: u64, marks: &[bool]) -> Result<Option<usize>, Fail> {
+    let first = stage_of(alloc, 100, STORES, calls, marks)?;
+    let second = stage_of(alloc, 100, FETCHES, u64::MAX, &[true; 16])?;
+    let endings = endings_of(alloc, first, second)?;
+    Ok(match endings.as_slice() {
+        [first, second] => outcome(first, second),
+        _ => None,
+    })
+}
+
+/// The same with each kind of marks, which the replies before the stop don't depend on.
+fn stores_kept(alloc: Global, calls: u64) -> Result<Option<usize>, Fail> {
+    let mut count = None;
+    for marks in MARKS.iter() {
+        count = stores_stopped(alloc, calls, marks)?;
+        if count.is_none() {
+            return Ok(None);
+        }
+    }
+    Ok(count)
+}
+
+/// Stops the stores after more and more calls of the device, until all are done, and gives the
+/// first number of calls after which something is wrong. They take under a thousand.
+fn first_wrong_stop(alloc: Global) -> Result<Option<u64>, Fail> {
+    for calls in 0..1000 {
+        match stores_kept(alloc, calls)? {
+            Some(9) => return Ok(None),
+            Some(_) => {}
+            None => return Ok(Some(calls)),
+        }
+    }
+    Ok(Some(1000))
+}
+
+#[test]
+fn a_stop_keeps_each_acknowledged_store(rt: HostRuntime) -> Result<(), Fail> {
+    assert_eq!(rt; first_wrong_stop(rt.alloc())?, None);
+    Ok(())
+}
+
+/// Whether a database of limit 5 is made where the making of one of limit 9 was stopped, with no
+/// unsynced write done.
+fn is_made_after_stop(alloc: Global, calls: u64) -> Result<bool, Fail> {
+    let first = stage_of(alloc, 9, "", calls, &[])?;
+    let second = stage_of(alloc, 5, STORES, u64::MAX, &[])?;
+    let endings = endings_of(alloc, first, second)?;
+    Ok(match endings.as_slice() {
+        [Ending::NotOpened(_), Ending::Rested(replies)] => are_stored(replies.as_slice(), 5),
+        _ => false,
+    })
+}
+
+#[test]
+fn a_stopped_making_may_be_made_with_another_limit(rt: HostRuntime) -> Result<(), Fail> {
+    for calls in 0..12 {
+        let right = is_made_after_stop(rt.alloc(), calls)?;
+        assert!(rt; right, "after {calls} calls");
+    }
+    Ok(())
+}
