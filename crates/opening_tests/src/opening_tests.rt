@@ -254,7 +254,11 @@ fn first_wrong_for_reading<'a>(alloc: Global, table: &'a str) -> Result<Option<&
     let mut db = nine_opened(alloc, "reading")?;
     let wrong = first_wrong(alloc, &mut db, table)?;
     let stays = has_first(&mut db, 9)? && first_other(&mut closed(db)?, &nine_file())?.is_none();
-    Ok(if stays { wrong } else { Some("the nine pairs stay") })
+    Ok(if stays {
+        wrong
+    } else {
+        Some("the nine pairs stay")
+    })
 }
 
 #[test]
@@ -332,7 +336,10 @@ fn a_file_of_something_else_is_not_emptied(rt: HostRuntime) -> Result<(), Fail> 
         truncate 0 -> NotADatabase
         create exclusive 100 -> Exists
     ";
-    assert_eq!(rt; first_not_refused(rt.alloc(), Held::OtherSector, table)?, None);
+    assert_eq!(rt;
+        first_not_refused(rt.alloc(), Held::OtherSector, table)?,
+        None
+    );
     Ok(())
 }
 
@@ -345,7 +352,10 @@ fn a_damaged_file_is_not_emptied(rt: HostRuntime) -> Result<(), Fail> {
         truncate 0 -> Damaged
         create exclusive 100 -> Exists
     ";
-    assert_eq!(rt; first_not_refused(rt.alloc(), Held::OtherMeta, table)?, None);
+    assert_eq!(rt;
+        first_not_refused(rt.alloc(), Held::OtherMeta, table)?,
+        None
+    );
     Ok(())
 }
 
@@ -374,6 +384,9 @@ fn emptied_when_nearly_full(alloc: Global) -> Result<(u32, Option<Fault>), Fail>
 #[test]
 fn an_emptying_lacks_room_where_the_file_fills_its_device(rt: HostRuntime) -> Result<(), Fail> {
     let (pages, fault) = emptied_when_nearly_full(rt.alloc())?;
-    assert!(rt; pages == 8 && fault == Some(Fault::NoRoom), "{pages} pages, {fault:?}");
+    assert!(rt;
+        pages == 8 && fault == Some(Fault::NoRoom),
+        "{pages} pages, {fault:?}"
+    );
     Ok(())
 }

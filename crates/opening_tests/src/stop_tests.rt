@@ -323,10 +323,7 @@ fn leaves_blank_or_new(alloc: Global, left: &MemDev, calls: u64) -> Result<bool,
 /// Whether a making that is stopped after so many calls ends as it has to.
 fn is_made_so(alloc: Global, calls: u64) -> Result<bool, Fail> {
     let stopped = open_stopped(alloc, MemDev::new(alloc, 928), calls, true);
-    Ok(
-        stopped.done == (calls == MAKING)
-            && leaves_blank_or_new(alloc, &stopped.dev, calls)?,
-    )
+    Ok(stopped.done == (calls == MAKING) && leaves_blank_or_new(alloc, &stopped.dev, calls)?)
 }
 
 #[test]
