@@ -2,6 +2,8 @@
 #![tactic(auto)]
 
 #[cfg(test)]
+mod cache_tests;
+#[cfg(test)]
 mod call_tests;
 #[cfg(test)]
 mod file_tests;

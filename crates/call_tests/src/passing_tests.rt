@@ -160,11 +160,14 @@ fn a_change_ends_a_pass(rt: HostRuntime) -> Result<(), Fail> {
     Ok(())
 }
 
-/// The device calls of an opening of a file that no stop cut short, and the reads of a firstkey
-/// that finds a key in bucket 0: the segment page and the head page.
+/// The device calls of an opening of a file that no stop cut short, the reads of a firstkey that
+/// finds a key in bucket 0 (the segment page and the head page), and those of a head page. Pages
+/// that were read are in memory after that.
 const OPENING: u64 = 6;
 
 const FIRST: u64 = 8;
+
+const HEAD: u64 = 4;
 
 /// The first wrong answer of the nine pairs' database where one device call fails.
 fn wrong_with_failure<'a>(
@@ -181,11 +184,15 @@ fn wrong_with_failure<'a>(
 fn a_failed_read_leaves_the_pass(rt: HostRuntime) -> Result<(), Fail> {
     let table = "
         first -> bytes a
-        first -> refused Device
         next -> bytes c
+        next -> bytes e
+        next -> bytes g
+        next -> bytes i
+        next -> refused Device
+        next -> bytes b
         error -> number 2
     ";
-    for call in OPENING + FIRST..OPENING + 2 * FIRST {
+    for call in OPENING + FIRST..OPENING + FIRST + HEAD {
         assert_eq!(rt;
             wrong_with_failure(rt.alloc(), call, table)?,
             None,

@@ -14,9 +14,9 @@ use crate::link::{HEAD, OVERFLOW, read_link};
 use page_io::{Page, PageFault, PageStore};
 use slot_page::find;
 
-/// Where the chain from page `head` on has the key; `page` is then its page. It takes no memory.
-/// Damaged is answered where a page has another number or kind than the chain says, is no bucket
-/// page, or is an empty overflow page, and where there are more pages than the file has.
+/// Where the chain from page `head` on has the key; `page` is then its page. It takes no memory
+/// of its own. Damaged is answered where a page has another number or kind than the chain says, is
+/// no bucket page, or is an empty overflow page, and where there are more pages than the file has.
 pub fn lookup<S: PageStore>(
     store: &mut S,
     head: u32,

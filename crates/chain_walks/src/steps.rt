@@ -42,7 +42,7 @@ fn kind_in(head: u32, n: u32) -> u8
 
 /// The place behind `from` in the chain from page `head` on, the first one where `from` is `None`;
 /// `page` is then its page. `None` is answered behind the last. It reads at most two pages and
-/// takes no memory. Damaged is answered as by `lookup`, of the pages read.
+/// takes no memory of its own. Damaged is answered as by `lookup`, of the pages read.
 pub fn step<S: PageStore>(
     store: &mut S,
     head: u32,

@@ -5,10 +5,15 @@ use Rattle.std.specs.FinMap.{len}
 use Rattle.sect_dev.specs.declared.device.SectorDev as device
 use Rattle.dbm_model.specs.Pairs.{Contents}
 use Rattle.dbm_model.specs.States.{Handle}
-use Rattle.page_io.specs.Store.{Settled}
-use Rattle.page_io.specs.Meaning.{ImageStandsFor}
+use Rattle.page_model.specs.Meaning.{said_by}
+use Rattle.page_model.specs.Pages.{MetaPage}
+use Rattle.page_io.specs.Store.{Settled, StoreState, page_of}
+use Rattle.page_io.specs.Meaning.{FileStandsFor, ImageStandsFor}
 use Rattle.page_io.specs.declared.store.PageStore as store
-use Rattle.dbm_file.specs.Database.{store_of, meta_kept, HoldsMap, StandsAfterStop, handle_of, IsAt}
+use Rattle.page_commit.specs.Committing.{Holds}
+use Rattle.page_cache.specs.Stores.{store_below}
+use Rattle.page_cache.specs.declared.cached_pages.CachedPages.{CachedPages}
+use Rattle.dbm_file.specs.Database.{store_of, meta_kept, error_of, cursor_of, HoldsMap, StandsAfterStop, handle_of, IsAt}
 use Rattle.dbm_file.specs.Opened.{IsNewlyOpened, IsOpenedAt}
 use Rattle.dbm_file.specs.Named.{RefusesFile}
 use Rattle.file_opening.specs.Opening.{early_fault, IsRefusedOpening}
@@ -33,6 +38,53 @@ opened_at {S} {s} writable pages db map limit held rests limit_is fresh = record
   is_fresh = same_parts map None _ _ _ _ _ _ _ _ limit_is fresh.no_error
       fresh.writable fresh.usable;
 }
+
+-- a store over this one shows its committed pages, its state and what it settles to
+pub record ShowsBelow {S : Type 0} {s : store.Ghosts S} (t : store.Ghosts (CachedPages S s))
+    (cached : CachedPages S s) : Type 0 where
+  pub committed : t.committed cached ≡ s.committed (store_below cached)
+  pub state : t.state cached ≡ s.state (store_below cached)
+  pub settles : (y : Settled) → t.settles_to cached y → s.settles_to (store_below cached) y
+
+-- one over a store that was just opened holds what its file stands for
+pub opened_over : {S : Type 0} {s : store.Ghosts S} (t : store.Ghosts (CachedPages S s))
+    (writable : Bool) (pages : ℕ) (db : Database (CachedPages S s) t) (file : S) (map : Contents)
+    (limit : ℕ) → ((cached : CachedPages S s) → ShowsBelow t cached)
+    → store_below (store_of db) ≡ file
+    → ((s.state file).usable ≡ true → Holds s file (meta_kept db) map)
+    → ((s.state file).usable ≡ true → (y : Settled) → s.settles_to file y
+    → ImageStandsFor y map (meta_kept db).limit)
+    → (meta_kept db).limit ≡ limit → (s.state file).usable ≡ true
+    → (s.state file).writable ≡ writable → (s.state file).capacity ≡ pages
+    → error_of db ≡ None → cursor_of db ≡ None → IsOpenedAt writable db map limit
+opened_over {S} {s} t writable pages db file map limit shows same held rests limit_is usable
+    writes_so capacity no_error no_pass =
+    let here = shows (store_of db) in
+    let committed = here.committed ∙ ap s.committed same in
+    let state = here.state ∙ ap s.state same in
+    opened_at writable pages db map limit
+    (λ is. record {
+      stands = subst (λ all. FileStandsFor all map (meta_kept db).limit) (sym committed)
+          (held usable).stands;
+      meta_is = ap (λ all. said_by (page_of all) 1) committed ∙ (held usable).meta_is;
+    })
+    (λ is y left. rests usable y (subst (λ below. s.settles_to below y) same
+    (here.settles y left)))
+    limit_is
+    (record {
+      usable = ap (λ (x : StoreState). x.usable) state ∙ usable;
+      writable = ap (λ (x : StoreState). x.writable) state ∙ writes_so;
+      capacity = ap (λ (x : StoreState). x.capacity) state ∙ capacity;
+      no_error = no_error;
+      no_pass = no_pass;
+    })
+
+-- where nothing refuses an opening at once, what it answers is open
+pub early_again : {A B D : Type 0} (dev : D) (due : Option Fault) (file : A) (db : B)
+    → IfSome due (λ fault. ◌≡◌ {A = Result A (D × Fault)} (Ok file) (Err (dev, fault)))
+    → IfSome due (λ fault. ◌≡◌ {A = Result B (D × Fault)} (Ok db) (Err (dev, fault)))
+early_again dev None file db told = tt
+early_again dev (Some fault) file db told = absurd (cc told)
 
 -- a usable one holds a map that its file stands for, and its meta page counts the pairs
 pub counts_pairs : {S : Type 0} (s : store.Ghosts S) (db : Database S s) (h : Handle) → IsAt db h

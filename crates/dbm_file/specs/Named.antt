@@ -6,11 +6,11 @@ use Rattle.sect_dev.specs.declared.device.SectorDev as device
 use Rattle.dbm_model.specs.Pairs.{Contents}
 use Rattle.page_io.specs.declared.store.PageStore as store
 use Rattle.redo_commit.specs.File.{settled}
-use Rattle.redo_area.specs.Pagers.{device_of}
 use Rattle.redo_area.specs.declared.pager.Pager.{Pager}
-use Rattle.dbm_file.specs.Database.{store_of, meta_kept}
+use Rattle.page_cache.specs.declared.cached_pages.CachedPages.{CachedPages}
+use Rattle.dbm_file.specs.Database.{meta_kept}
 use Rattle.file_opening.specs.Opening.{writes, early_fault, IsRefusedOpening, AllStand, KeepsMeta, IsOpened, MayRemain}
-use Rattle.dbm_file.specs.Opened.{IsOpenedAt}
+use Rattle.dbm_file.specs.Opened.{device_below, IsOpenedAt}
 use Rattle.file_opening.specs.declared.open_how.OpenHow.{OpenHow}
 use Rattle.dbm_fault.specs.declared.fault.Fault.{Fault}
 use Rattle.dbm_file.specs.declared.database.Database.{Database}
@@ -19,8 +19,9 @@ use Rattle.dbm_file.specs.declared.database.Database.{Database}
 -- one of these maps, or is new and empty; it keeps the meta page of a file that it was, or that of
 -- an empty database; and every image of every moment since settles as one did, or stands for the
 -- empty database that was asked for.
-pub record OpensFile {D : Type 0} {bound : device.Ghosts D} {s : store.Ghosts (Pager D bound)}
-    (how : OpenHow) (db : Database (Pager D bound) s) : Type 0 where
+pub record OpensFile {D : Type 0} {bound : device.Ghosts D} {p : store.Ghosts (Pager D bound)}
+    {s : store.Ghosts (CachedPages (Pager D bound) p)} (how : OpenHow)
+    (db : Database (CachedPages (Pager D bound) p) s) : Type 0 where
   pub first : D
   pub begins : bound.moment first ≡ 0
   pub size : bound.sectors first ≡ 9001992
@@ -33,7 +34,7 @@ pub record OpensFile {D : Type 0} {bound : device.Ghosts D} {s : store.Ghosts (P
       → KeepsMeta how (bound.sectors first) (bound.candidate first) (meta_kept db)
   pub any_moment : bound.honest first
       → LeavesOnly bound.moment (IsOutcome bound.left_since (settled (bound.sectors first / 4)))
-      first (device_of (store_of db)) (MayRemain how (bound.sectors first) (bound.candidate first))
+      first (device_below db) (MayRemain how (bound.sectors first) (bound.candidate first))
 
 -- As the file was at first, an opening of it is refused by this fault, and this is left of it.
 pub record RefusesFile {D : Type 0} (bound : device.Ghosts D) (how : OpenHow)

@@ -4,6 +4,8 @@ use Rattle.sect_dev.specs.declared.device.SectorDev.{Ghosts}
 use Rattle.page_io.specs.declared.store.PageStore as store
 use Rattle.redo_area.specs.Pagers.{device_of}
 use Rattle.redo_area.specs.declared.pager.Pager.{Pager}
+use Rattle.page_cache.specs.Stores.{store_below}
+use Rattle.page_cache.specs.declared.cached_pages.CachedPages.{CachedPages}
 use Rattle.dbm_model.specs.Pairs.{Contents}
 use Rattle.dbm_model.specs.States.{Handle}
 use Rattle.dbm_model.specs.States as model
@@ -11,10 +13,17 @@ use Rattle.dbm_file.specs.Database.{store_of, page_state, error_of, cursor_of, I
 use Rattle.dbm_fault.specs.declared.fault.Fault.{Fault}
 use Rattle.dbm_file.specs.declared.database.Database.{Database}
 
+-- the device below the copies of pages
+abbrev pub device_below : {D : Type 0} {bound : Ghosts D} {p : store.Ghosts (Pager D bound)}
+    {s : store.Ghosts (CachedPages (Pager D bound) p)}
+    → Database (CachedPages (Pager D bound) p) s → D
+device_below db = device_of (store_below (store_of db))
+
 -- the device that an opening was given, whatever it answers
-abbrev pub device_opened : {D : Type 0} {bound : Ghosts D} {s : store.Ghosts (Pager D bound)}
-    → Result (Database (Pager D bound) s) (D × Fault) → D
-device_opened (Ok db) = device_of (store_of db)
+abbrev pub device_opened : {D : Type 0} {bound : Ghosts D} {p : store.Ghosts (Pager D bound)}
+    {s : store.Ghosts (CachedPages (Pager D bound) p)}
+    → Result (Database (CachedPages (Pager D bound) p) s) (D × Fault) → D
+device_opened (Ok db) = device_below db
 device_opened (Err e) = e.0
 
 -- a database as an opening leaves it

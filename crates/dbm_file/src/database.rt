@@ -6,6 +6,7 @@ ghost use Rattle.seg_table.specs.MetaPages.{model_meta};
 
 use crate::{DeleteReply, Fault, Stat, StoreMode, StoreReply};
 use linear_hash::{Cursor, delete_pair, find_pair, next_pair, store_pair};
+use page_cache::CachedPages;
 use page_io::{Page, PageFault, PageStore};
 use redo_area::Pager;
 use seg_table::Meta;
@@ -15,8 +16,8 @@ use std::alloc::Global;
 /// The most bytes that a key and its content may have together.
 const MAX_PAIR: usize = 2026;
 
-/// An open database over a device of sectors.
-pub type Db<D> = Database<Pager<D>>;
+/// An open database over a device of sectors, whose clean pages are kept in memory.
+pub type Db<D> = Database<CachedPages<Pager<D>>>;
 
 /// An open database over a store of pages.
 #[derive(Drop)]
@@ -61,8 +62,8 @@ impl<S: PageStore> Database<S> {
     ghost use Rattle.page_io.specs.declared.store.PageFault.TheVariants.{Damaged};
 
     /// The content that the key has (POSIX: `dbm_fetch`). The slice lies in the database, and ends
-    /// with the next call. It takes no memory. In this order: `Broken`; then `Device` or `Damaged`
-    /// while pages are read.
+    /// with the next call. It is never refused for memory. In this order: `Broken`; then `Device`
+    /// or `Damaged` while pages are read.
     pub fn fetch(&mut self, key: &[u8]) -> Result<Option<&[u8]>, Fault>
         ensures* after { sem 𝓛 (EndsAs S.row S.PageStore self.entry
             (Lends (Fetch key.now) (lent_reply NoRecord) self.old result)) }
@@ -139,8 +140,8 @@ impl<S: PageStore> Database<S> {
 
     /// Begins a pass over all keys, in no set order, and gives the first one, or `None` where there
     /// is none (POSIX: `dbm_firstkey`). The slice lies in the database, and ends with the next
-    /// call. It takes no memory. In this order: `Broken`; then `Device` or `Damaged` while pages
-    /// are read. Where it is refused, a pass that was on stays.
+    /// call. It is never refused for memory. In this order: `Broken`; then `Device` or `Damaged`
+    /// while pages are read. Where it is refused, a pass that was on stays.
     pub fn firstkey(&mut self) -> Result<Option<&[u8]>, Fault>
         ensures* after { sem 𝓛 (EndsAs S.row S.PageStore self.entry
             (Lends First (lent_reply End) self.old result)) }
@@ -162,9 +163,9 @@ impl<S: PageStore> Database<S> {
 
     /// The next key of the pass, each once, or `None` where it has given all, then and after that
     /// (POSIX: `dbm_nextkey`). The slice lies in the database, and ends with the next call. It
-    /// takes no memory. In this order: `Broken`; `NoPass` where no pass was begun since the opening
-    /// or the last `Stored` or `Deleted`; then `Device` or `Damaged` while pages are read. A
-    /// refusal leaves the pass where it is.
+    /// is never refused for memory. In this order: `Broken`; `NoPass` where no pass was begun since
+    /// the opening or the last `Stored` or `Deleted`; then `Device` or `Damaged` while pages are
+    /// read. A refusal leaves the pass where it is.
     pub fn nextkey(&mut self) -> Result<Option<&[u8]>, Fault>
         ensures* after { sem 𝓛 (EndsAs S.row S.PageStore self.entry
             (Lends Next (lent_reply End) self.old result)) }

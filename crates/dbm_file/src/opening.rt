@@ -7,22 +7,22 @@ ghost use Rattle.sect_dev.specs.Moments.{IsOutcome};
 ghost use Rattle.dbm_model.specs.Pairs.{Contents};
 ghost use Rattle.page_io.specs.Meaning.{ImageStandsFor};
 ghost use Rattle.redo_commit.specs.File.{settled};
-ghost use Rattle.redo_area.specs.Pagers.{device_of};
 ghost use Rattle.redo_area.specs.Reading.{OnlyReads};
 ghost use Rattle.dbm_model.specs.States.{Handle};
 ghost use Rattle.dbm_file.specs.Database.{store_of, meta_kept, IsAt};
 ghost use Rattle.file_opening.specs.Opening.{writes, early_fault, IsRefusedOpening, AllAllow, MayRemain, AllStand, KeepsMeta, IsOpened};
-ghost use Rattle.dbm_file.specs.Opened.{device_opened, IsNewlyOpened, IsOpenedAt};
+ghost use Rattle.dbm_file.specs.Opened.{device_below, device_opened, IsNewlyOpened, IsOpenedAt};
 
 use crate::database::{Database, Db};
 use crate::{Fault, OpenHow};
 use file_opening::open_file;
+use page_cache::CachedPages;
 use page_io::{Page, PageStore};
 use redo_area::Pager;
 use sect_dev::SectorDev;
 use std::alloc::Global;
 
-impl<D: SectorDev> Database<Pager<D>> {
+impl<D: SectorDev> Database<CachedPages<Pager<D>>> {
     /// Opens a device that a stop may have left, or hands it back with the fault. In this order:
     ///
     /// 1. `ReadOnly` where a database is to be emptied that is opened for reading, and `TooSmall` below 16 sectors, with
@@ -91,7 +91,7 @@ impl<D: SectorDev> Database<Pager<D>> {
     {
         match open_file(alloc, dev, how) {
             Ok(file) => Ok(Database {
-                store: file.store,
+                store: CachedPages::new(alloc, file.store),
                 meta: file.meta,
                 page: Page::blank(),
                 error: None,
@@ -105,14 +105,14 @@ impl<D: SectorDev> Database<Pager<D>> {
 
     /// Gives the device back. `Broken` where a change was left in doubt. No device call is made.
     pub fn close(self) -> (D, Result<(), Fault>)
-        ensures device { result.0 ≡ device_of (store_of self) }
-        ensures answer { result.1 ≡ (if (⟦<Pager<D> as PageStore>⟧.state (store_of self)).usable
+        ensures device { result.0 ≡ device_below self }
+        ensures answer { result.1 ≡ (if (⟦<CachedPages<Pager<D>> as PageStore>⟧.state (store_of self)).usable
             then Ok tt else Err Fault.Broken) }
 
         // Each image that is now left, of a broken database too, settles to something that the
         // store of the database may be left with.
         ensures settles { (image : Image) → IsImageOf (D.candidate result.0) image
-            → ⟦<Pager<D> as PageStore>⟧.settles_to (store_of self)
+            → ⟦<CachedPages<Pager<D>> as PageStore>⟧.settles_to (store_of self)
             (settled (D.sectors result.0 / 4) image) }
 
         // Every image that is now left stands for the map of the database that was closed.
@@ -121,7 +121,7 @@ impl<D: SectorDev> Database<Pager<D>> {
             → ImageStandsFor (settled (D.sectors result.0 / 4) image) h.state.map h.state.limit }
     {
         let usable = !self.store.is_broken();
-        let dev = self.store.into_dev();
+        let dev = self.store.into_inner().into_dev();
         (dev, if usable { Ok(()) } else { Err(Fault::Broken) })
     }
 }

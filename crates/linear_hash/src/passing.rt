@@ -36,8 +36,8 @@ impl Cursor {
 
 /// The next pair of a pass: its bucket and its place; `page` is then its page. `None` is answered
 /// behind the last, also where there is no bucket of that number. It reads at most three pages for
-/// each bucket from the cursor's on, and takes no memory. Damaged is answered as by `head_of` and
-/// `step`, of the pages read.
+/// each bucket from the cursor's on, and takes no memory of its own. Damaged is answered as by
+/// `head_of` and `step`, of the pages read.
 pub fn next_pair<S: PageStore>(
     store: &mut S,
     meta: &Meta,

@@ -217,7 +217,7 @@ fn a_stopped_emptying_leaves_all_pairs_or_none(rt: HostRuntime) -> Result<(), Fa
 /// The calls of a ninth store up to the sync behind its armed sector, which has returned: an
 /// opening, the reads of the store, 16 writes of images and a sync, and the armed sector and its
 /// sync.
-const ARMED: u64 = 6 + 24 + 17 + 2;
+const ARMED: u64 = 6 + 8 + 17 + 2;
 
 /// The device after an opening and a ninth store that had so many device calls.
 fn armed(alloc: Global, calls: u64) -> Result<MemDev, Fail> {

@@ -20,8 +20,8 @@ const OPENING: u64 = 6;
 const RECOVERY: u64 = 2 + 16 + 32 + 1 + 2 + 4;
 
 /// The first call of the ninth store's commit, after the opening and the reads of the store: page 2
-/// and page 3 to look the key up, both again to put the pair, and page 2 twice to split the bucket.
-const COMMIT: u64 = OPENING + 24;
+/// and page 3 to look the key up. To put the pair and to split the bucket they are in memory.
+const COMMIT: u64 = OPENING + 8;
 
 /// The sync behind the armed sector, after the 16 writes of the images, their sync and the armed
 /// sector.

@@ -55,8 +55,8 @@ pub trait PageStore {
     /// How many pages can be staged with no memory taken.
     ghost reserved: { ℕ };
 
-    /// Gives the staged page n, else the committed one. It takes no memory. At `Err` the bytes of
-    /// `page` are unspecified.
+    /// Gives the staged page n, else the committed one. It is never refused for want of memory. At
+    /// `Err` the bytes of `page` are unspecified.
     fn read(&mut self, n: u32, page: &mut Page) -> Result<(), PageFault>
         ensures found { honest self.old
             → OnOk result (page.new.bytes

@@ -3,12 +3,12 @@ ghost use Rattle.std.specs.Prelude.{◌≡◌, ◌≢◌, ◌⊎◌, ◌↔◌, 
 ghost use Rattle.sect_dev.specs.Device.{Image, IsImageOf, LeavesOnly, MoreFaults};
 ghost use Rattle.sect_dev.specs.Moments.{IsOutcome};
 ghost use Rattle.redo_commit.specs.File.{settled};
-ghost use Rattle.redo_area.specs.Pagers.{device_of};
 ghost use Rattle.dbm_model.specs.States.{Handle};
 ghost use Rattle.dbm_sessions.specs.Members.{Members};
 ghost use Rattle.file_opening.specs.Opening.{early_fault, AllStand, AllAllow};
 ghost use Rattle.dbm_file.specs.Calls.{call_of};
-ghost use Rattle.dbm_file.specs.Database.{store_of, IsAt};
+ghost use Rattle.dbm_file.specs.Database.{IsAt};
+ghost use Rattle.dbm_file.specs.Opened.{device_below};
 ghost use Rattle.rehearsal.specs.Members.{AllStandFor};
 ghost use Rattle.rehearsal.specs.Sessions.{plan_of, for_writing, ending_of, IsOneEach, IfNotOpened, WhyNotOpened, Leaves, IsLeftByStop, CallsLeave, IsLeftByCalls};
 
@@ -95,20 +95,20 @@ pub fn session<D: SectorDev>(alloc: Global, dev: D, how: Opening, calls: &[Call]
 
 // The rest of a session, from an open database on.
 fn make_calls<D: SectorDev>(alloc: Global, db: Db<D>, calls: &[Call]) -> (D, Ending)
-    ensures leaves { D.honest (device_of (store_of db)) → (h : Handle) → IsAt db h
+    ensures leaves { D.honest (device_below db) → (h : Handle) → IsAt db h
         → h.state.usable ≡ true
         → CallsLeave h (map call_of calls.now) (ending_of result.1) (D.sectors result.0 / 4)
         (D.candidate result.0) }
-    ensures any_moment { D.honest (device_of (store_of db)) → (h : Handle) → IsAt db h
+    ensures any_moment { D.honest (device_below db) → (h : Handle) → IsAt db h
         → h.state.usable ≡ true
         → LeavesOnly D.moment
-        (IsOutcome D.left_since (settled (D.sectors (device_of (store_of db)) / 4)))
-        (device_of (store_of db)) result.0
+        (IsOutcome D.left_since (settled (D.sectors (device_below db) / 4)))
+        (device_below db) result.0
         (IsLeftByCalls h (map call_of calls.now) (ending_of result.1)) }
     ensures opened { IfNotOpened result.1 (λ fault. ⊥) }
     ensures one_each { IsOneEach calls.now result.1 }
-    ensures honesty { D.honest result.0 ↔ D.honest (device_of (store_of db)) }
-    ensures size { D.sectors result.0 / 4 ≡ D.sectors (device_of (store_of db)) / 4 }
+    ensures honesty { D.honest result.0 ↔ D.honest (device_below db) }
+    ensures size { D.sectors result.0 / 4 ≡ D.sectors (device_below db) / 4 }
 {
     let mut db = db;
     let Ok(replies) = run(alloc, &mut db, calls) else {

@@ -7,8 +7,10 @@ use Rattle.dbm_sessions.specs.Members.{held}
 use Rattle.dbm_sessions.proofs.Lists.{is_first}
 use Rattle.redo_commit.specs.File.{settled}
 use Rattle.redo_area.specs.Pagers.{device_of}
+use Rattle.page_cache.specs.Stores.{store_below}
 use Rattle.dbm_file.specs.Calls.{call_of, reply_of}
-use Rattle.dbm_file.specs.Database.{store_of, meta_kept, page_state, IsAt}
+use Rattle.dbm_file.specs.Database.{meta_kept, page_state, IsAt}
+use Rattle.dbm_file.specs.Opened.{device_below}
 use Rattle.dbm_file.proofs.OpenedFiles.{stands_for}
 use Rattle.rehearsal.specs.Sessions.{IsLeftByCalls}
 use Rattle.rehearsal.proofs.Moments.{lower, left_within, left_unmade}
@@ -20,7 +22,7 @@ returns-in_default-clause-leaves g c honest h at usable =
     let same = c.in_default.ensures.memory.1 in
     let now = subst (λ db. IsAt db h) (sym same) at in
     let still = subst g.D.SectorDev.honest (sym (c.close.ensures.device
-    ∙ ap (λ db. device_of (store_of db)) same)) honest in
+    ∙ ap (λ db. device_below db) same)) honest in
     record {
       after = held h.state ∷ [];
       goes = none_made h (map call_of c.args.calls.now) usable;
@@ -57,13 +59,13 @@ returns-in_default-Err-clause-leaves g c honest h at usable =
 pub returns-in_default-clause-any_moment : goal.returns-in_default-clause-any_moment
 returns-in_default-clause-any_moment g c honest h at usable =
     let dev = g.D.SectorDev in
-    let old = c.args.db.store.dev in
+    let old = c.args.db.store.store.dev in
     let cap = dev.sectors old / 4 in
     let calls = map call_of c.args.calls.now in
     subst (λ d. LeavesOnly dev.moment (IsOutcome dev.left_since (settled cap)) old d
     (IsLeftByCalls h calls (Rested [])))
     (sym (c.close.ensures.device
-    ∙ ap (λ db. device_of (store_of db)) c.in_default.ensures.memory.1))
+    ∙ ap (λ db. device_below db) c.in_default.ensures.memory.1))
     (started dev.moment (IsOutcome dev.left_since (settled cap)) old
     (IsLeftByCalls h calls (Rested []))
     (λ y left. left_unmade h calls usable y (stands_for _ c.args.db h y at usable (record {
@@ -83,9 +85,9 @@ returns-in_default-Ok-clause-any_moment g c honest h at usable =
     let run = c.in-Ok.ensures.run honest h at in
     let shows = at.shows in
     subst (λ d. LeavesOnly dev.moment
-    (IsOutcome dev.left_since (settled (dev.sectors old.store.dev / 4))) old.store.dev d
+    (IsOutcome dev.left_since (settled (dev.sectors old.store.store.dev / 4))) old.store.store.dev d
     (IsLeftByCalls h calls (Rested replies))) (sym c.close-2.ensures.device)
-    (lower dev device_of old.store new.store _ (IsLeftByCalls h calls (Rested replies))
+    (lower dev (λ cached. device_of (store_below cached)) old.store new.store _ (IsLeftByCalls h calls (Rested replies))
     c.in-Ok.ensures.goes.capacity
     (run.survives (sym (ap (λ (x : Handle). x.state.usable) shows) ∙ usable))
     (left_within h run.after calls replies (meta_kept old).limit (Rested replies) refl usable
@@ -101,9 +103,9 @@ returns-in_default-Err-clause-any_moment g c honest h at usable =
     let run = c.in-Ok.ensures.run honest h at in
     let shows = at.shows in
     subst (λ d. LeavesOnly dev.moment
-    (IsOutcome dev.left_since (settled (dev.sectors old.store.dev / 4))) old.store.dev d
+    (IsOutcome dev.left_since (settled (dev.sectors old.store.store.dev / 4))) old.store.store.dev d
     (IsLeftByCalls h calls (Broke replies))) (sym c.close-2.ensures.device)
-    (lower dev device_of old.store new.store _ (IsLeftByCalls h calls (Broke replies))
+    (lower dev (λ cached. device_of (store_below cached)) old.store new.store _ (IsLeftByCalls h calls (Broke replies))
     c.in-Ok.ensures.goes.capacity
     (run.survives (sym (ap (λ (x : Handle). x.state.usable) shows) ∙ usable))
     (left_within h run.after calls replies (meta_kept old).limit (Broke replies) refl usable

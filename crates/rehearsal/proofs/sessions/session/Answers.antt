@@ -3,9 +3,8 @@ use Rattle.sect_dev.specs.Device.{LeavesOnly}
 use Rattle.sect_dev.specs.Moments.{IsOutcome, weaker, followed_by}
 use Rattle.dbm_sessions.specs.Members.{opened}
 use Rattle.dbm_sessions.specs.Sessions.{NotOpened}
-use Rattle.redo_area.specs.Pagers.{device_of}
 use Rattle.dbm_fault.specs.Faults.{fault_of}
-use Rattle.dbm_file.specs.Database.{store_of}
+use Rattle.dbm_file.specs.Opened.{device_below}
 use Rattle.redo_commit.specs.File.{settled}
 use Rattle.file_opening.specs.Opening.{MayRemain}
 use Rattle.file_opening.specs.declared.open_how.OpenHow.{OpenHow}
@@ -81,7 +80,7 @@ returns-in-Ok-clause-any_moment g c honest before stand =
     let plan = plan_of how c.args.calls.now in
     let told = ending_of c.make_calls.result.1 in
     let is_asked = c.for_writing.ensures in
-    let mid = device_of (store_of c.in-Ok.db) in
+    let mid = device_below c.in-Ok.db in
     let start = begun c.in-Ok.db before how c.for_writing.result (dev.sectors old)
     (dev.candidate old) is_asked stand (c.in-Ok.ensures.stands honest
     (λ reads. absurd (never_reads how c.for_writing.result is_asked reads))
