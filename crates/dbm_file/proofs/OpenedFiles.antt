@@ -6,7 +6,6 @@ use Rattle.sect_dev.specs.declared.device.SectorDev as device
 use Rattle.dbm_model.specs.Pairs.{Contents}
 use Rattle.dbm_model.specs.States.{Handle}
 use Rattle.page_model.specs.Meaning.{said_by}
-use Rattle.page_model.specs.Pages.{MetaPage}
 use Rattle.page_io.specs.Store.{Settled, StoreState, page_of}
 use Rattle.page_io.specs.Meaning.{FileStandsFor, ImageStandsFor}
 use Rattle.page_io.specs.declared.store.PageStore as store
