@@ -137,7 +137,7 @@ fn or_exists(how: OpenHow, fault: Fault) -> Fault
     }
 }
 
-/// The file, emptied where that is asked.
+/// The file, where one may be there, emptied where that is asked.
 fn opened<D: SectorDev>(
     store: Pager<D>,
     how: OpenHow,
@@ -191,6 +191,61 @@ fn opened<D: SectorDev>(
     if how.is_exclusive() {
         return Err((store.into_dev(), Fault::Exists));
     }
+    found_or_emptied(store, how, sectors)
+}
+
+/// The file as it is, or emptied where that is asked.
+fn found_or_emptied<D: SectorDev>(
+    store: Pager<D>,
+    how: OpenHow,
+    sectors: u32,
+) -> Result<OpenFile<Pager<D>>, (D, Fault)>
+    requires allowed { is_exclusive how ≡ false }
+    requires sectors { sectors ≡ D.sectors (device_of store) }
+    requires fresh { IsFreshStore (D.sectors (device_of store) / 4) (writes how.access)
+        (⟦<Pager<D> as PageStore>⟧.state store) }
+    requires written { how.truncate ≡ true → writes how.access ≡ true }
+    ensures fresh { IfOk result (IsJustOpened (writes how.access)
+        (D.sectors (device_of store) / 4)) }
+    ensures any_moment { D.honest (device_of store)
+        → LeavesOnly D.moment (IsOutcome D.left_since (settled (D.sectors (device_of store) / 4)))
+        (device_of store) (device_left result)
+        (λ now. SettlesTo (D.sectors (device_of store) / 4) (D.candidate (device_of store)) now
+        ⊎ (EmptiesFile how (D.sectors (device_of store))
+        (⟦<Pager<D> as PageStore>⟧.committed store)
+        × ImageStandsFor now empty how.limit)) }
+    ensures stands { D.honest (device_of store)
+        → ((now : Settled) → ⟦<Pager<D> as PageStore>⟧.settles_to store now
+        → now ≡ file_of (⟦<Pager<D> as PageStore>⟧.committed store)) →
+        (map : Contents) → (limit : ℕ)
+        → FileStandsFor (⟦<Pager<D> as PageStore>⟧.committed store) map limit
+        → IfOk result (λ file. (is_exclusive how ≡ false) × OpensAs how map limit file) }
+    ensures opened { D.honest (device_of store)
+        → IfOk result (λ file. KeepsMetaOf how (D.sectors (device_of store))
+        (⟦<Pager<D> as PageStore>⟧.committed store) (model_meta file.meta)) }
+    ensures emptied { D.honest (device_of store)
+        → IfOk result (λ file. how.truncate ≡ true
+        → emptying_fault how.limit (D.sectors (device_of store))
+        (length (⟦<Pager<D> as PageStore>⟧.committed store) + 1) ≡ None) }
+    ensures only_reads { writes how.access ≡ false → D.honest (device_of store)
+        → OnlyReads D.SectorDev (device_of store) (device_left result) }
+    ensures refused { D.honest (device_of store)
+        → IfErr result (λ e. e.1 ≢ Fault.Device
+        → RefusesOpened how (D.sectors (device_of store))
+        (⟦<Pager<D> as PageStore>⟧.committed store) e.1 ×
+        (writes how.access ≡ true → (after : Image) → IsImageOf (D.candidate e.0) after
+        → settled (D.sectors (device_of store) / 4) after
+        ≡ file_of (⟦<Pager<D> as PageStore>⟧.committed store))) }
+    ensures device { IfErr result
+        (λ e. e.1 ≡ Fault.Device → MoreFaults (D.faults (device_of store)) (D.faults e.0)) }
+    ensures only { IfErr result (λ e.
+        (e.1 ≢ Fault.Broken) × (e.1 ≢ Fault.TooLong) × (e.1 ≢ Fault.Full) × (e.1 ≢ Fault.NoPass)
+        × (e.1 ≢ Fault.Missing)) }
+    ensures honesty { D.honest (device_left result) ↔ D.honest (device_of store) }
+    ensures later { D.faults (device_of store) ≤ D.faults (device_left result) }
+    ensures size { (D.sectors (device_left result) / 4 ≡ D.sectors (device_of store) / 4)
+        × (how.truncate ≡ false → D.sectors (device_left result) ≡ D.sectors (device_of store)) }
+{
     let found = found(store, how.access.is_writable());
     if !how.truncate {
         return found;

@@ -1,0 +1,309 @@
+use Rattle.std.proofs.Common.{◌≡◌, ◌⊎◌, ⊎_elim, inl, inr, ℕ, ◌+◌, ◌/◌, length, None, refl, sym, ap, ◌∙◌, subst}
+use Rattle.std.specs.FinMap.{empty}
+use Rattle.sect_dev.specs.Moments.{weaker}
+use Rattle.page_io.specs.Counts.{counts_end}
+use Rattle.page_io.specs.Meaning.{ImageStandsFor}
+use Rattle.page_io.specs.Page.{page_at}
+use Rattle.page_io.specs.Store.{Pages, Settled, bytes_of, file_of, file_pages, overlaid, page_of}
+use Rattle.redo_commit.specs.File.{settled}
+use Rattle.redo_area.specs.Opening.{IsFresh as IsFreshStore}
+use Rattle.redo_area.specs.Reading.{OnlyReads}
+use Rattle.redo_area.specs.Settling.{SettlesTo}
+use Rattle.file_opening.specs.OpenFiles.{device_left}
+use Rattle.seg_table.specs.MetaPages.{model_meta}
+use Rattle.file_opening.specs.Opening.{emptying_fault, SaysMeta, EmptiesFile}
+use Rattle.file_opening.proofs.EmptyFiles.{OldOrEmpty, settles_run, settles_on, state_of}
+use Rattle.page_io.proofs.Exits.{both_ways, later_then, more_later, not_both}
+use Rattle.file_opening.proofs.Exits.{of_found, of_emptied, reads_leave, reads_settle, opens_emptied, just_opened}
+use Rattle.file_opening.proofs.FoundFiles.{opens_kept}
+use Rattle.file_opening.proofs.Refusals.{is_on, is_off, from_ok, both_ok, both_err, each_err}
+use Rattle.file_opening.proofs.opening.found_or_emptied.Given.{Over}
+use Rattle.file_opening.proofs.opening.found_or_emptied.Goals as goal
+
+pub returns-then-not-how-clause-stands : goal.returns-then-not-how-clause-stands
+returns-then-not-how-clause-stands g c honest only map limit stands =
+    opens_kept c.args.how map limit c.found-found.result
+    (is_off c.args.how.truncate c.if-not-how.true)
+    (c.requires.allowed)
+    (c.found-found.ensures.stands honest only map limit stands)
+
+-- what is due of the file that was found is due of the pages at the start
+due_here : (g : Over) (c : goal.After-emptied g) → g.D.SectorDev.honest c.args.store.dev →
+    emptying_fault c.args.how.limit (g.D.SectorDev.sectors c.args.store.dev)
+    (length (file_pages (overlaid (bytes_of c.args.store.redo.items)
+    (page_at (g.D.SectorDev.seen c.args.store.dev))) c.args.store.end) + 1)
+    ≡ emptying_fault c.args.how.limit (g.D.SectorDev.sectors c.in-Ok.file.store.dev)
+    c.in-Ok.file.store.end
+due_here g c honest =
+    let dev = g.D.SectorDev in
+    let mid = c.in-Ok.file.store in
+    let how = c.args.how in
+    let all = c.in-Ok.ensures in
+    let end_is = ap (λ (ps : Pages). length ps + 1) (sym (all.kept honest))
+    ∙ counts_end (overlaid (bytes_of mid.redo.items) (page_at (dev.seen mid.dev)))
+    mid.end mid.least in
+    ap (λ (n : ℕ). emptying_fault how.limit (dev.sectors c.args.store.dev) n) end_is
+    ∙ ap (λ (n : ℕ). emptying_fault how.limit n mid.end) (sym all.size)
+
+-- its meta page is a good one
+says_here : (g : Over) (c : goal.After-emptied g) → g.D.SectorDev.honest c.args.store.dev → SaysMeta
+    (page_of (file_pages (overlaid (bytes_of c.args.store.redo.items)
+    (page_at (g.D.SectorDev.seen c.args.store.dev))) c.args.store.end) 1)
+says_here g c honest =
+    let says = c.in-Ok.ensures.says honest in
+    record { meta = model_meta c.in-Ok.file.meta; valid = says.0; says = says.1 }
+
+pub returns-in-Ok-clause-opened : goal.returns-in-Ok-clause-opened
+returns-in-Ok-clause-opened g c honest =
+    let may = c.requires.allowed in
+    let asked = is_on c.args.how.truncate c.if-not-how.false in
+    both_ok c.emptied.result c.emptied.ensures.room c.emptied.ensures.meta (λ file due fresh. inr (
+      record {
+        asked = asked;
+        written = c.requires.written asked;
+        allowed = may;
+        opens =
+            says_here g c honest;
+        due = due_here g c honest ∙ due;
+      },
+      fresh,
+    ))
+
+pub returns-then-not-how-clause-opened : goal.returns-then-not-how-clause-opened
+returns-then-not-how-clause-opened g c honest =
+    let may = c.requires.allowed in
+    from_ok c.found-found.result (c.found-found.ensures.says honest)
+    (λ file says. inl (is_off c.args.how.truncate c.if-not-how.true, may, says.0, says.1))
+
+pub returns-in-Ok-clause-emptied : goal.returns-in-Ok-clause-emptied
+returns-in-Ok-clause-emptied g c honest =
+    from_ok c.emptied.result c.emptied.ensures.room (λ file due asked. due_here g c honest ∙ due)
+
+pub returns-then-not-how-clause-emptied : goal.returns-then-not-how-clause-emptied
+returns-then-not-how-clause-emptied g c honest =
+    from_ok c.found-found.result c.found-found.ensures.fresh
+    (λ file fresh asked. not_both _ asked (is_off c.args.how.truncate c.if-not-how.true))
+
+pub returns-in-Ok-clause-any_moment : goal.returns-in-Ok-clause-any_moment
+returns-in-Ok-clause-any_moment g c honest =
+    let dev = g.D.SectorDev in
+    let store = c.args.store in
+    let mid = c.in-Ok.file.store in
+    let how = c.args.how in
+    let cap : ℕ = dev.sectors store.dev / 4 in
+    let file = file_pages (overlaid (bytes_of store.redo.items) (page_at (dev.seen store.dev)))
+    store.end in
+    let all = c.in-Ok.ensures in
+    let P : Settled → Type 0 = λ now.
+    SettlesTo cap (dev.candidate store.dev) now
+    ⊎ (EmptiesFile how (dev.sectors store.dev) file × ImageStandsFor now empty how.limit) in
+    let may = c.requires.allowed in
+    let asked = is_on how.truncate c.if-not-how.false in
+    let there : SettlesTo cap (dev.candidate store.dev) (file_of file) =
+    record {
+      image = dev.seen store.dev;
+      is_image =
+          g.met.D.SectorDev.seen_may_stay store.dev honest;
+      reads =
+          (store.rests honest c.requires.fresh.usable).settles;
+    } in
+    settles_on dev.moment dev.left_since store.dev mid.dev (device_left c.emptied.result) cap
+    (dev.sectors mid.dev / 4) P (OldOrEmpty
+    (file_pages (overlaid (bytes_of mid.redo.items) (page_at (dev.seen mid.dev))) mid.end)
+    (emptying_fault how.limit (dev.sectors mid.dev) mid.end ≡ None) how.limit)
+    (ap (λ (n : ℕ). n / 4) all.size)
+    (settles_run dev.moment dev.left_since store.dev mid.dev cap P
+    (weaker dev.moment dev.left_since store.dev mid.dev (λ image. P (settled cap image)) _
+    (all.only_reads honest).any_moment
+    (λ image is. inl (record { image = image; is_image = is; reads = refl }))))
+    (c.emptied.ensures.any_moment (all.honesty.1 honest))
+    (λ y. ⊎_elim
+    (λ is. inl (subst (λ (z : Settled). SettlesTo cap (dev.candidate store.dev) z)
+    (sym (is ∙ ap file_of (all.kept honest))) there))
+    (λ new. inr (
+      record {
+        asked = asked;
+        written = c.requires.written asked;
+        allowed = may;
+        opens =
+            says_here g c honest;
+        due = due_here g c honest ∙ new.0;
+      },
+      new.1,
+    )))
+
+pub returns-in-Ok-clause-refused : goal.returns-in-Ok-clause-refused
+returns-in-Ok-clause-refused g c honest =
+    let dev = g.D.SectorDev in
+    let store = c.args.store in
+    let mid = c.in-Ok.file.store in
+    let how = c.args.how in
+    let all = c.in-Ok.ensures in
+    let may = c.requires.allowed in
+    let asked = is_on how.truncate c.if-not-how.false in
+    both_err c.emptied.result c.emptied.ensures.refused
+    (c.emptied.ensures.left (all.honesty.1 honest)) (λ e why left other. (
+      ⊎_elim
+          (λ is. inl (inr (may, inr (says_here g c honest, asked, due_here g c honest ∙ is))))
+          (λ memory. inr (memory, asked))
+          (why other),
+      λ writing after is. ap (λ (n : ℕ). settled (n / 4) after) (sym all.size) ∙ left other after is
+          ∙ ap file_of (all.kept honest),
+    ))
+
+-- ---- it is not to be emptied
+
+pub found-found-requires : goal.found-found-requires
+found-found-requires g c = record {
+  fresh =
+      subst (λ b. IsFreshStore (g.D.SectorDev.sectors c.args.store.dev / 4) b
+      (state_of c.args.store)) (sym c.is_writable.ensures) c.requires.fresh;
+}
+
+pub returns-then-not-how-clause-fresh : goal.returns-then-not-how-clause-fresh
+returns-then-not-how-clause-fresh g c =
+    just_opened c.found-found.result _ _ _ _ c.is_writable.ensures refl c.found-found.ensures.fresh
+
+pub returns-then-not-how-clause-any_moment : goal.returns-then-not-how-clause-any_moment
+returns-then-not-how-clause-any_moment g c honest =
+    let dev = g.D.SectorDev in
+    let d = c.args.store.dev in
+    reads_settle dev (dev.sectors d / 4) d (device_left c.found-found.result) _
+    (c.found-found.ensures.only_reads honest)
+
+pub returns-then-not-how-clause-only_reads : goal.returns-then-not-how-clause-only_reads
+returns-then-not-how-clause-only_reads g c reading honest = c.found-found.ensures.only_reads honest
+
+pub returns-then-not-how-clause-refused : goal.returns-then-not-how-clause-refused
+returns-then-not-how-clause-refused g c honest =
+    let dev = g.D.SectorDev in
+    let store = c.args.store in
+    let d = store.dev in
+    let rest = store.rests honest c.requires.fresh.usable in
+    let all = c.found-found.ensures in
+    each_err c.found-found.result (all.refused honest) (λ e is why other. (
+      inl (inr (c.requires.allowed, inl (why other))),
+      λ writing. reads_leave dev (dev.sectors d / 4) d e.0 _
+          (subst (OnlyReads dev d) (ap device_left is) (all.only_reads honest))
+          (rest.at_rest (c.requires.fresh.writable ∙ writing)).stable rest.settles,
+    ))
+
+pub returns-then-not-how-clause-device : goal.returns-then-not-how-clause-device
+returns-then-not-how-clause-device g c = c.found-found.ensures.device
+
+pub returns-then-not-how-clause-only : goal.returns-then-not-how-clause-only
+returns-then-not-how-clause-only g c =
+    each_err c.found-found.result c.found-found.ensures.only (λ e is among. of_found e.1 among)
+
+pub returns-then-not-how-clause-honesty : goal.returns-then-not-how-clause-honesty
+returns-then-not-how-clause-honesty g c = c.found-found.ensures.honesty
+
+pub returns-then-not-how-clause-later : goal.returns-then-not-how-clause-later
+returns-then-not-how-clause-later g c = c.found-found.ensures.later
+
+pub returns-then-not-how-clause-size : goal.returns-then-not-how-clause-size
+returns-then-not-how-clause-size g c =
+    (ap (λ (n : ℕ). n / 4) c.found-found.ensures.size, λ kept. c.found-found.ensures.size)
+
+-- ---- it is emptied
+
+pub emptied-requires-clause-sectors : goal.emptied-requires-clause-sectors
+emptied-requires-clause-sectors g c = c.requires.sectors ∙ sym c.in-Ok.ensures.size
+
+pub emptied-requires-clause-fresh : goal.emptied-requires-clause-fresh
+emptied-requires-clause-fresh g c = record {
+  staged = c.in-Ok.file.idle;
+  capacity = refl;
+  usable = c.in-Ok.ensures.fresh.usable;
+  writable = c.in-Ok.ensures.fresh.writable ∙ c.is_writable.ensures
+      ∙ c.requires.written (is_on c.args.how.truncate c.if-not-how.false);
+}
+
+pub returns-in-Ok-clause-fresh : goal.returns-in-Ok-clause-fresh
+returns-in-Ok-clause-fresh g c =
+    just_opened c.emptied.result _ _ _ _
+    (sym (c.requires.written (is_on c.args.how.truncate c.if-not-how.false)))
+    (ap (λ (n : ℕ). n / 4) c.in-Ok.ensures.size) c.emptied.ensures.fresh
+
+pub returns-in-Ok-clause-stands : goal.returns-in-Ok-clause-stands
+returns-in-Ok-clause-stands g c honest only map limit stands =
+    opens_emptied c.args.how map limit c.emptied.result
+    (is_on c.args.how.truncate c.if-not-how.false)
+    (c.requires.allowed)
+    (c.emptied.ensures.stands (c.in-Ok.ensures.honesty.1 honest))
+
+pub returns-in-Ok-clause-only_reads : goal.returns-in-Ok-clause-only_reads
+returns-in-Ok-clause-only_reads g c reading honest =
+    not_both _ (c.requires.written (is_on c.args.how.truncate c.if-not-how.false)) reading
+
+pub returns-in-Ok-clause-device : goal.returns-in-Ok-clause-device
+returns-in-Ok-clause-device g c =
+    let dev = g.D.SectorDev in
+    each_err c.emptied.result c.emptied.ensures.device
+    (λ e same more is. more_later (dev.faults c.args.store.dev)
+    (dev.faults c.in-Ok.file.store.dev) (dev.faults e.0) c.in-Ok.ensures.later (more is))
+
+pub returns-in-Ok-clause-only : goal.returns-in-Ok-clause-only
+returns-in-Ok-clause-only g c =
+    each_err c.emptied.result c.emptied.ensures.only (λ e is among. of_emptied e.1 among)
+
+pub returns-in-Ok-clause-honesty : goal.returns-in-Ok-clause-honesty
+returns-in-Ok-clause-honesty g c = both_ways c.emptied.ensures.honesty c.in-Ok.ensures.honesty
+
+pub returns-in-Ok-clause-later : goal.returns-in-Ok-clause-later
+returns-in-Ok-clause-later g c = later_then _ _ _ c.in-Ok.ensures.later c.emptied.ensures.later
+
+pub returns-in-Ok-clause-size : goal.returns-in-Ok-clause-size
+returns-in-Ok-clause-size g c = (
+  c.emptied.ensures.size ∙ ap (λ (n : ℕ). n / 4) c.in-Ok.ensures.size,
+  λ kept.
+      not_both _ (is_on c.args.how.truncate c.if-not-how.false) kept,
+)
+
+-- ---- what was to be emptied is refused
+
+pub returns-in-Err-clause-fresh : goal.returns-in-Err-clause-fresh
+returns-in-Err-clause-fresh g c = tt
+
+pub returns-in-Err-clause-any_moment : goal.returns-in-Err-clause-any_moment
+returns-in-Err-clause-any_moment g c honest =
+    let dev = g.D.SectorDev in
+    let d = c.args.store.dev in
+    reads_settle dev (dev.sectors d / 4) d c.in-Err.refused.0 _ (c.in-Err.ensures.only_reads honest)
+
+pub returns-in-Err-clause-stands : goal.returns-in-Err-clause-stands
+returns-in-Err-clause-stands g c honest only map limit stands = tt
+
+pub returns-in-Err-clause-only_reads : goal.returns-in-Err-clause-only_reads
+returns-in-Err-clause-only_reads g c reading honest = c.in-Err.ensures.only_reads honest
+
+pub returns-in-Err-clause-refused : goal.returns-in-Err-clause-refused
+returns-in-Err-clause-refused g c honest other =
+    let dev = g.D.SectorDev in
+    let store = c.args.store in
+    let d = store.dev in
+    let rest = store.rests honest c.requires.fresh.usable in (
+      inl (inr (
+        c.requires.allowed,
+        inl (c.in-Err.ensures.refused honest other),
+      )),
+      λ writing. reads_leave dev (dev.sectors d / 4) d c.in-Err.refused.0 _
+          (c.in-Err.ensures.only_reads honest)
+          (rest.at_rest (c.requires.fresh.writable ∙ writing)).stable rest.settles,
+    )
+
+pub returns-in-Err-clause-device : goal.returns-in-Err-clause-device
+returns-in-Err-clause-device g c = c.in-Err.ensures.device
+
+pub returns-in-Err-clause-only : goal.returns-in-Err-clause-only
+returns-in-Err-clause-only g c = of_found c.in-Err.refused.1 c.in-Err.ensures.only
+
+pub returns-in-Err-clause-honesty : goal.returns-in-Err-clause-honesty
+returns-in-Err-clause-honesty g c = c.in-Err.ensures.honesty
+
+pub returns-in-Err-clause-later : goal.returns-in-Err-clause-later
+returns-in-Err-clause-later g c = c.in-Err.ensures.later
+
+pub returns-in-Err-clause-size : goal.returns-in-Err-clause-size
+returns-in-Err-clause-size g c =
+    (ap (λ (n : ℕ). n / 4) c.in-Err.ensures.size, λ kept. c.in-Err.ensures.size)
