@@ -95,32 +95,36 @@ fn next_octets(alloc: Global, words: &mut SplitWhitespace) -> Result<Octets, Fai
     Ok(Octets::from(bytes_of(alloc, word)?))
 }
 
+/// The key and the content of the next two words, to be stored.
+fn next_store(alloc: Global, words: &mut SplitWhitespace, mode: StoreMode) -> Result<Call, Fail> {
+    let key = next_octets(alloc, words)?;
+    let content = next_octets(alloc, words)?;
+    Ok(Call::Store { key, content, mode })
+}
+
+/// The call of the next words.
+fn next_call(alloc: Global, words: &mut SplitWhitespace) -> Result<Call, Fail> {
+    match words.next().unwrap_or_default() {
+        "insert" => next_store(alloc, words, StoreMode::Insert),
+        "put" => next_store(alloc, words, StoreMode::Replace),
+        "fetch" => Ok(Call::Fetch(next_octets(alloc, words)?)),
+        "delete" => Ok(Call::Delete(next_octets(alloc, words)?)),
+        "first" => Ok(Call::First),
+        "next" => Ok(Call::Next),
+        "error" => Ok(Call::Error),
+        "clear" => Ok(Call::Clear),
+        _ => Err("the name of a call".into()),
+    }
+}
+
 /// The call of a line.
 fn call_of(alloc: Global, text: &str) -> Result<Call, Fail> {
     let mut words = text.split_whitespace();
-    let call = match words.next().unwrap_or_default() {
-        "insert" => Call::Store {
-            key: next_octets(alloc, &mut words)?,
-            content: next_octets(alloc, &mut words)?,
-            mode: StoreMode::Insert,
-        },
-        "put" => Call::Store {
-            key: next_octets(alloc, &mut words)?,
-            content: next_octets(alloc, &mut words)?,
-            mode: StoreMode::Replace,
-        },
-        "fetch" => Call::Fetch(next_octets(alloc, &mut words)?),
-        "delete" => Call::Delete(next_octets(alloc, &mut words)?),
-        "first" => Call::First,
-        "next" => Call::Next,
-        "error" => Call::Error,
-        "clear" => Call::Clear,
-        _ => return Err("the name of a call".into()),
-    };
-    if words.next().is_some() {
-        return Err("the end of a call".into());
+    let call = next_call(alloc, &mut words)?;
+    match words.next() {
+        Some(_) => Err("the end of a call".into()),
+        None => Ok(call),
     }
-    Ok(call)
 }
 
 /// Whether a fault has this name.
@@ -146,18 +150,33 @@ pub fn row_of(line: &str) -> Option<(&str, &str)> {
     Some((before.trim(), behind.trim()))
 }
 
+/// The kind of an answer.
+fn kind_of(told: Told) -> &'static str {
+    match told {
+        Told::Stored => "stored",
+        Told::Kept => "kept",
+        Told::Deleted => "deleted",
+        Told::Absent => "absent",
+        Told::Nothing => "nothing",
+        Told::Bytes(_) => "bytes",
+        Told::Number(_) => "number",
+        Told::Refused(_) => "refused",
+    }
+}
+
+/// Whether an answer has this word behind its kind, which is empty where the kind is all.
+fn has_word(alloc: Global, told: Told, word: &str) -> Result<bool, Fail> {
+    Ok(match told {
+        Told::Bytes(bytes) => bytes == bytes_of(alloc, word)?.as_slice(),
+        Told::Number(number) => word.parse() == Ok(number),
+        Told::Refused(fault) => is_named(alloc, fault, word)?,
+        _ => word.is_empty(),
+    })
+}
+
 /// Whether an answer is of this kind, and has this word.
 fn is_so(alloc: Global, told: Told, kind: &str, word: &str) -> Result<bool, Fail> {
-    Ok(match told {
-        Told::Stored => kind == "stored" && word.is_empty(),
-        Told::Kept => kind == "kept" && word.is_empty(),
-        Told::Deleted => kind == "deleted" && word.is_empty(),
-        Told::Absent => kind == "absent" && word.is_empty(),
-        Told::Nothing => kind == "nothing" && word.is_empty(),
-        Told::Bytes(bytes) => kind == "bytes" && bytes == bytes_of(alloc, word)?.as_slice(),
-        Told::Number(number) => kind == "number" && word.parse() == Ok(number),
-        Told::Refused(fault) => kind == "refused" && is_named(alloc, fault, word)?,
-    })
+    Ok(kind_of(told) == kind && has_word(alloc, told, word)?)
 }
 
 /// The numbers of a database as a table has them.
