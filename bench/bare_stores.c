@@ -13,7 +13,7 @@ static void put(int file, long first, int count) {
 }
 
 static void settle(int file) {
-    if (fsync(file) != 0) exit(1);
+    if (fdatasync(file) != 0) exit(1);
 }
 
 int main(int count, char **words) {

@@ -24,5 +24,5 @@ awk '{ print "F", $1 }' more > fetches
 printf '100,000 fetches among 100,000 pairs: '; time "$program" script t < fetches > found
 if command -v strace > /dev/null; then
   head -n 100 pairs | sed 's/^/S /' > stores
-  strace -c -e trace=pread64,pwrite64,fsync "$program" script t < stores 2>&1 > /dev/null | awk '/pread64|pwrite64|fsync/ { printf "%s calls of %s in 100 stores\n", $4, $NF }'
+  strace -c -e trace=pread64,pwrite64,fdatasync "$program" script t < stores 2>&1 > /dev/null | awk '/pread64|pwrite64|fdatasync/ { printf "%s calls of %s in 100 stores\n", $4, $NF }'
 fi

@@ -50,6 +50,12 @@ int fsync(int file) {
     return fails() ? -1 : next(file);
 }
 
+int fdatasync(int file) {
+    static int (*next)(int);
+    if (!next) next = dlsym(RTLD_NEXT, "fdatasync");
+    return fails() ? -1 : next(file);
+}
+
 __attribute__((destructor)) static void report(void) {
     if (failing == 0) fprintf(stderr, "calls %ld\n", made);
 }

@@ -11,7 +11,7 @@ ghost use Rattle.chain_walks.specs.Links.{IsLink, SaysLink};
 ghost use Rattle.chain_walks.specs.Answers.{IsWalkAnswer};
 
 use page_io::{Page, PageFault, PageStore};
-use slot_page::decode;
+use slot_page::is_bucket_page;
 
 /// The kind of a bucket's head page.
 pub const HEAD: u8 = 3;
@@ -27,7 +27,9 @@ pub fn link_of(page: &Page, n: u32, kind: u8) -> Option<u32>
     ensures every { (next : ℕ) (pairs : List Pair) → IsLink page.now.bytes n kind next pairs
         → result ≡ Some next }
 {
-    decode(page)?;
+    if !is_bucket_page(page) {
+        return None;
+    }
     if page.own() != n || page.kind() != kind {
         return None;
     }

@@ -1,14 +1,156 @@
 -- How far a line has been read.
-use Rattle.std.proofs.Common.{◌≡◌, ◌≢◌, inl, inr, ℕ, ◌<◌, ◌≤◌, ◌==◌, Bool, true, false, List, [], ◌∷◌, ◌++◌, length, take, drop, Option, Some, None, IfSome, slice_get, refl, sym, ap, ◌∙◌, arith, append-nil, append_assoc, length-append}
-use Rattle.std.proofs.lemmas.List.{take-append-le, take_all}
+use Rattle.std.proofs.Common.{◌≡◌, ◌≢◌, inl, inr, ℕ, zero, suc, ◌+◌, ◌<◌, ◌≤◌, ◌==◌, min, Bool, true, false, List, [], ◌∷◌, ◌++◌, length, take, drop, slice_index, Option, Some, None, IfSome, Result, Ok, Err, OnOk, refl, sym, ap, subst, ◌∙◌, arith, append_assoc}
+use Rattle.std.proofs.lemmas.List.{take-append-drop, take-append-le, length-take, get_or-take, length-drop, take_min}
 use Rattle.std.proofs.lemmas.Bool.Decides.{eqb_tells}
-use Rattle.std.proofs.Math.Seq.{take-nil}
-use Rattle.dbm_lines.specs.Reading.{line_bytes, after_line, ReadsLine, TakesOne, IsCounted}
+use Rattle.std.proofs.Math.Seq.{take-append-add}
+use Rattle.std.specs.Result.{IsOk}
+use Rattle.std.specs.Io.{StartsWith}
+use Rattle.std.specs.Io.BufRead.{DropsConsumable}
+use Rattle.std.specs.Io.KnownBytes.{Keeps}
+use Rattle.dbm_lines.specs.declared.lines.Part.{Part}
+use Rattle.dbm_lines.specs.declared.lines.Part.TheVariants.{End, Whole, Begun}
+use Rattle.dbm_lines.specs.Parts.{HasNoFeed, IsPart, TakesPart}
+use Rattle.dbm_lines.specs.Reading.{line_bytes, after_line, ReadsLine, IsCounted}
 
--- what a read of one byte tells
-abbrev pub Gives : Option (List ℕ) → Option (List ℕ) → Option ℕ → Type 0
-Gives old new byte = IfSome old (λ xs. byte ≡ slice_get xs 0)
-    × IfSome old (λ xs. new ≡ Some (drop 1 xs))
+no_feed : (x : ℕ) → (x ≢ 10) → (x == 10) ≡ false
+no_feed x n = elim (eqb_tells x 10) [
+  | inl same ↦ absurd (n same.1)
+  | inr other ↦ other.0
+]
+
+line_cons : (x : ℕ) (ys : List ℕ) → (x ≢ 10) → line_bytes (x ∷ ys) ≡ x ∷ line_bytes ys
+line_cons x ys n = rw (no_feed x n) refl
+
+after_cons : (x : ℕ) (ys : List ℕ) → (x ≢ 10) → after_line (x ∷ ys) ≡ after_line ys
+after_cons x ys n = rw (no_feed x n) refl
+
+-- behind bytes that are no line feeds the line goes on
+goes_on : (text : List ℕ) (n : ℕ) → n ≤ length text → HasNoFeed text n
+    → (line_bytes text ≡ take n text ++ line_bytes (drop n text))
+    × (after_line text ≡ after_line (drop n text))
+goes_on text zero le none = (refl, refl)
+goes_on [] (suc n) le none = absurd (omega (arith, le))
+goes_on (x ∷ text) (suc n) le none =
+    let other : x ≢ 10 = none 0 (omega arith) in
+    let behind = goes_on text n (omega (arith, le)) (λ k lt. none (suc k) (omega arith)) in (
+      line_cons x text other ∙ ap (λ (l : List ℕ). x ∷ l) behind.0,
+      after_cons x text other ∙ behind.1,
+    )
+
+-- up to the first line feed it is whole
+ends : (text : List ℕ) (n : ℕ) → n < length text → slice_index text n ≡ 10 → HasNoFeed text n
+    → (line_bytes text ≡ take n text) × (after_line text ≡ drop (n + 1) text)
+ends [] n lt feed none = absurd (omega (arith, lt))
+ends (x ∷ text) zero lt feed none = rw feed (refl, refl)
+ends (x ∷ text) (suc n) lt feed none =
+    let other : x ≢ 10 = none 0 (omega arith) in
+    let behind = ends text n (omega (arith, lt)) feed (λ k lt. none (suc k) (omega arith)) in
+    let count : suc (n + 1) ≡ suc n + 1 = omega arith in (
+      line_cons x text other ∙ ap (λ (l : List ℕ). x ∷ l) behind.0,
+      after_cons x text other ∙ behind.1 ∙ ap (λ (m : ℕ). drop m (x ∷ text)) count,
+    )
+
+-- what a text begins with, byte by byte
+byte_is : (text bytes : List ℕ) (k : ℕ) → StartsWith text bytes → k < length bytes
+    → slice_index bytes k ≡ slice_index text k
+byte_is text bytes k starts lt =
+    ap (λ (l : List ℕ). slice_index l k) (sym starts) ∙ get_or-take (length bytes) text k 0 lt
+
+within : (text bytes : List ℕ) → StartsWith text bytes → length bytes ≤ length text
+within text bytes starts =
+    omega (arith, ap length starts, length-take (length bytes) text)
+
+first_of_both : (text bytes : List ℕ) (n : ℕ) → StartsWith text bytes → n ≤ length bytes
+    → take n bytes ≡ take n text
+first_of_both text bytes n starts le =
+    let cut = take-append-le n (take (length bytes) text) (drop (length bytes) text)
+    (omega (arith, le, ap length starts)) in
+    ap (take n) (sym starts) ∙ sym cut ∙ ap (take n) (take-append-drop (length bytes) text)
+
+-- a part of the reader's buffer is one of the text that it begins
+pub part_taken : (limit : ℕ) (text bytes old new : List ℕ) (part : Part) (taken : ℕ)
+    (rest : Option (List ℕ)) → StartsWith text bytes → (length bytes ≡ 0 → text ≡ [])
+    → IsPart limit bytes part taken old new → rest ≡ Some (drop taken text)
+    → TakesPart limit text part old new rest
+part_taken limit text bytes old new End taken rest starts end part left =
+    let none = end (ap length part.0) in
+    (none, part.2, left ∙ ap Some (ap (drop taken) none ∙ ap (λ (n : ℕ). drop n []) part.1))
+part_taken limit text bytes old new (Whole followed) taken rest starts end part left =
+    let n = part.0 in
+    let most = within text bytes starts in
+    let inside = part.2 in
+    let to_feed = ends text n (omega (arith, inside, most))
+    (sym (byte_is text bytes n starts inside) ∙ part.3)
+    (λ k lt same. part.4 k lt (byte_is text bytes k starts (omega arith) ∙ same)) in (
+      omega (arith, inside, most),
+      part.5 ∙ ap (λ (l : List ℕ). take limit (old ++ l))
+          (first_of_both text bytes n starts (omega (arith, inside)) ∙ sym to_feed.0),
+      left ∙ ap Some (ap (λ (m : ℕ). drop m text) part.1 ∙ sym to_feed.1),
+    )
+part_taken limit text bytes old new Begun taken rest starts end part left =
+    let most = within text bytes starts in
+    let n = length bytes in
+    let on = goes_on text n most
+    (λ k lt same. part.2 k lt (byte_is text bytes k starts lt ∙ same)) in
+    let some = part.0 in (
+      n,
+      omega (arith, some, most),
+      on.0,
+      on.1,
+      part.3 ∙ ap (λ (l : List ℕ). take limit (old ++ l)) (sym starts),
+      left ∙ ap (λ (m : ℕ). Some (drop m text)) part.1,
+    )
+
+-- no more is taken than there is
+part_within : (limit : ℕ) (bytes old new : List ℕ) (part : Part) (taken : ℕ)
+    → IsPart limit bytes part taken old new → taken ≤ length bytes
+part_within limit bytes old new End taken part = omega (arith, part.1)
+part_within limit bytes old new (Whole followed) taken part =
+    let inside = part.2 in omega (arith, inside, part.1)
+part_within limit bytes old new Begun taken part = omega (arith, part.1)
+
+consumable : (bytes : List ℕ) (most : Option ℕ) (taken : ℕ) → taken ≤ length bytes
+    → IfSome most (λ n. length bytes ≤ n) → IfSome most (λ n. taken ≤ n)
+consumable bytes None taken le shown = tt
+consumable bytes (Some n) taken le shown = omega (arith, le, shown)
+
+-- the reader's buffer is shown, and the part is consumed
+pub takes_part : (limit : ℕ) (old mid new : Option (List ℕ)) (most : Option ℕ)
+    (bytes kept line : List ℕ) (part : Part) (taken : ℕ) → IfSome old (λ xs. StartsWith xs bytes)
+    → IfSome old (λ xs. length bytes ≡ 0 → xs ≡ []) → Keeps old mid
+    → IfSome old (λ xs. IfSome most (λ n. length bytes ≤ n)) → DropsConsumable mid new most taken
+    → IsPart limit bytes part taken kept line
+    → IfSome old (λ text. TakesPart limit text part kept line new)
+takes_part limit None mid new most bytes kept line part taken starts end same shown drops is = tt
+takes_part limit (Some xs) None new most bytes kept line part taken starts end same shown drops is =
+    absurd same
+takes_part limit (Some xs) (Some ys) new most bytes kept line part taken starts end same shown
+    drops is =
+    part_taken limit xs bytes kept line part taken new starts end is
+    (drops (consumable bytes most taken (part_within limit bytes kept line part taken is) shown)
+    ∙ ap (λ (l : List ℕ). Some (drop taken l)) same)
+
+-- what there is room for is kept
+pub kept_all : (limit : ℕ) (line bytes new : List ℕ) (room left : ℕ) → left + length line ≡ limit
+    → room ≡ min left (length bytes) → new ≡ line ++ take room bytes
+    → new ≡ take limit (line ++ bytes)
+kept_all limit line bytes new room left fits is e =
+    let all : length line + left ≡ limit = omega (arith, fits) in
+    e ∙ ap (λ (n : ℕ). line ++ take n bytes) is
+    ∙ ap (λ (l : List ℕ). line ++ l) (take_min left bytes)
+    ∙ sym (take-append-add line bytes left) ∙ ap (λ (n : ℕ). take n (line ++ bytes)) all
+
+-- a result that is one has what it ensures
+pub ok_has : {A E : Type 0} (r : Result A E) (P : Type 0) → IsOk r → OnOk r P → P
+ok_has (Ok value) P is h = h
+ok_has (Err error) P is h = absurd (let e = is in cc)
+
+-- taken twice, as far as there is room
+cut_again : (limit : ℕ) (kept ys : List ℕ) → take limit (take limit kept ++ ys)
+    ≡ take limit (kept ++ ys)
+cut_again zero kept ys = refl
+cut_again (suc n) [] ys = refl
+cut_again (suc n) (x ∷ kept) ys = ap (λ (l : List ℕ). x ∷ l) (cut_again n kept ys)
 
 module _ (limit : ℕ) where
   -- of xs, the bytes ys are left, and the line so far is kept
@@ -18,137 +160,89 @@ module _ (limit : ℕ) where
   IsReading (Some xs) (Some ys) kept false = (ys ≡ xs) × (kept ≡ [])
   IsReading (Some xs) (Some ys) kept true =
       (0 < length xs) × (take limit (kept ++ line_bytes ys) ≡ take limit (line_bytes xs))
-      × (after_line ys ≡ after_line xs) × (length kept ≤ limit)
+      × (after_line ys ≡ after_line xs)
 
-  read : (xs kept : List ℕ) (rest new : Option (List ℕ)) → 0 < length xs
-      → kept ≡ take limit (line_bytes xs) → new ≡ Some (after_line xs)
-      → ReadsLine limit xs true kept new
-  read [] kept rest new h e f = absurd (omega (arith, h))
-  read (x ∷ xs) kept rest new h e f = (refl, e, f)
-
-  short : (kept : List ℕ) → length kept ≤ limit → kept ≡ take limit kept
-  short kept h = sym (take_all limit kept h)
-
-  pub at_end : (first old new : Option (List ℕ)) (kept : List ℕ) (more : Bool)
-      → IsReading first old kept more → Gives old new None
-      → IfSome first (λ xs. ReadsLine limit xs more kept new)
-  at_end None old new kept more h g = tt
-  at_end (Some xs) None new kept more h g = absurd h
-  at_end (Some xs) (Some []) new kept false h g = rw (← h.0) (refl, g.1)
-  at_end (Some xs) (Some []) new kept true h g =
-      read xs kept new new h.0 (short kept h.3 ∙ ap (take limit) (sym (append-nil kept)) ∙ h.1)
-      (g.1 ∙ ap Some h.2)
-  at_end (Some xs) (Some (y ∷ ys)) new kept more h g = let e = g.0 in cc
-
-  at_feed_on : (xs ys : List ℕ) (y : ℕ) (new : Option (List ℕ)) (kept : List ℕ) → y ≡ 10
-      → IsReading (Some xs) (Some (y ∷ ys)) kept true → new ≡ Some ys
-      → ReadsLine limit xs true kept new
-  at_feed_on xs ys y new kept e h g = read xs kept new new h.0
-      (short kept h.3 ∙ ap (take limit) (sym (append-nil kept)) ∙ (let m = h.1 in rw e at m))
-      (g ∙ ap Some (let m = h.2 in rw e at m))
-
-  feed : {x : ℕ} (y : ℕ) → Some x ≡ slice_get (y ∷ []) 0 → y ≡ x
-  feed y e = cc
-
-  at_first_feed : (xs ys : List ℕ) (y : ℕ) (new : Option (List ℕ)) (kept : List ℕ) → y ≡ 10
-      → (y ∷ ys ≡ xs) × (kept ≡ []) → new ≡ Some ys → ReadsLine limit xs true kept new
-  at_first_feed xs ys y new kept e h g = rw (← h.0, e, h.1) (refl, sym (take-nil limit), g)
-
-  pub at_feed : (first old new : Option (List ℕ)) (kept : List ℕ) (more : Bool)
-      → IsReading first old kept more → Gives old new (Some 10)
-      → IfSome first (λ xs. ReadsLine limit xs true kept new)
-  at_feed None old new kept more h g = tt
-  at_feed (Some xs) None new kept more h g = absurd h
-  at_feed (Some xs) (Some []) new kept more h g = let e = g.0 in cc
-  at_feed (Some xs) (Some (y ∷ ys)) new kept false h g =
-      at_first_feed xs ys y new kept (feed y g.0) h g.1
-  at_feed (Some xs) (Some (y ∷ ys)) new kept true h g =
-      at_feed_on xs ys y new kept (feed y g.0) h g.1
-
-  no_feed : (x : ℕ) → (x ≢ 10) → (x == 10) ≡ false
-  no_feed x n = elim (eqb_tells x 10) [
-    | inl same ↦ absurd (n same.1)
-    | inr other ↦ other.0
-  ]
-
-  line_cons : (x : ℕ) (ys : List ℕ) → (x ≢ 10) → line_bytes (x ∷ ys) ≡ x ∷ line_bytes ys
-  line_cons x ys n = rw (no_feed x n) refl
-
-  after_cons : (x : ℕ) (ys : List ℕ) → (x ≢ 10) → after_line (x ∷ ys) ≡ after_line ys
-  after_cons x ys n = rw (no_feed x n) refl
-
-  one_more : (xs ys kept : List ℕ) (x : ℕ) → (x ≢ 10) → length kept < limit → 0 < length xs
-      → take limit (kept ++ line_bytes (x ∷ ys)) ≡ take limit (line_bytes xs)
-      → after_line (x ∷ ys) ≡ after_line xs → IsReading (Some xs) (Some ys) (kept ++ x ∷ []) true
-  one_more xs ys kept x n r some m a = (
-    some,
-    ap (take limit) (append_assoc kept (x ∷ []) (line_bytes ys)
-        ∙ ap (λ l. kept ++ l) (sym (line_cons x ys n))) ∙ m,
-    sym (after_cons x ys n) ∙ a,
-    omega (arith, r, length-append kept (x ∷ [])),
+  -- either way the line is what is kept, and then what is left of it
+  so_far : (xs ys kept : List ℕ) (more : Bool) → IsReading (Some xs) (Some ys) kept more
+      → (take limit (kept ++ line_bytes ys) ≡ take limit (line_bytes xs))
+      × (after_line ys ≡ after_line xs)
+  so_far xs ys kept false h = (
+    ap (λ (l : List ℕ). take limit (l ++ line_bytes ys)) h.1
+        ∙ ap (λ (l : List ℕ). take limit (line_bytes l)) h.0,
+    ap after_line h.0,
   )
+  so_far xs ys kept true h = (h.1, h.2)
 
-  full : (xs ys kept : List ℕ) (x : ℕ) → (x ≢ 10) → limit ≤ length kept
-      → IsReading (Some xs) (Some (x ∷ ys)) kept true → IsReading (Some xs) (Some ys) kept true
-  full xs ys kept x n r h = (
-    h.0,
-    take-append-le limit kept (line_bytes ys) r
-        ∙ sym (take-append-le limit kept (line_bytes (x ∷ ys)) r) ∙ h.1,
-    sym (after_cons x ys n) ∙ h.2,
-    h.3,
-  )
+  -- a text that was begun, or goes on, has some bytes
+  has_some : (xs ys kept : List ℕ) (more : Bool) → IsReading (Some xs) (Some ys) kept more
+      → 0 < length ys → 0 < length xs
+  has_some xs ys kept false h some = omega (arith, some, ap length h.0)
+  has_some xs ys kept true h some = h.0
 
-  -- one more byte, which is no line feed, where there is room
-  pub more_room : (first old new : Option (List ℕ)) (kept : List ℕ) (more : Bool) (x : ℕ) → (x ≢ 10)
-      → length kept < limit → IsReading first old kept more → Gives old new (Some x)
-      → IsReading first new (kept ++ x ∷ []) true
-  more_room None old new kept more x n r h g = tt
-  more_room (Some xs) None new kept more x n r h g = absurd h
-  more_room (Some xs) (Some []) new kept more x n r h g = let e = g.0 in cc
-  more_room (Some xs) (Some (y ∷ ys)) new kept false x n r h g =
-      let e = feed y g.0 in let whole = h.0 in
-      rw (g.1) (one_more xs ys kept x n r (rw (← whole) (omega arith)) (rw (h.1, ← whole, e) refl)
-      (rw (← whole, e) refl))
-  more_room (Some xs) (Some (y ∷ ys)) new kept true x n r h g =
-      let e = feed y g.0 in let m = h.1 in let a = h.2 in
-      rw (g.1) (one_more xs ys kept x n r h.0 (rw e at m) (rw e at a))
+  read : (xs line : List ℕ) (new : Option (List ℕ)) → 0 < length xs
+      → line ≡ take limit (line_bytes xs) → new ≡ Some (after_line xs)
+      → ReadsLine limit xs true line new
+  read [] line new h e f = absurd (omega (arith, h))
+  read (x ∷ xs) line new h e f = (refl, e, f)
 
-  -- the same where there is none
-  pub no_room : (first old new : Option (List ℕ)) (kept : List ℕ) (more : Bool) (x : ℕ) → (x ≢ 10)
-      → limit ≤ length kept → 0 < limit → IsReading first old kept more → Gives old new (Some x)
-      → IsReading first new kept true
-  no_room None old new kept more x n r l h g = tt
-  no_room (Some xs) None new kept more x n r l h g = absurd h
-  no_room (Some xs) (Some []) new kept more x n r l h g = let e = g.0 in cc
-  no_room (Some xs) (Some (y ∷ ys)) new kept false x n r l h g =
-      absurd (omega (arith, r, l, ap length h.1))
-  no_room (Some xs) (Some (y ∷ ys)) new kept true x n r l h g =
-      rw (g.1) (full xs ys kept x n r (rw (← feed y g.0) h))
+  pub at_end : (first old new : Option (List ℕ)) (kept line : List ℕ) (more : Bool)
+      → IsReading first old kept more → IfSome old (λ text. TakesPart limit text End kept line new)
+      → IfSome first (λ xs. ReadsLine limit xs more line new)
+  at_end None old new kept line more h g = tt
+  at_end (Some xs) None new kept line more h g = absurd h
+  at_end (Some xs) (Some ys) new kept line false h g =
+      subst (λ (l : List ℕ). ReadsLine limit l false line new) (sym (sym h.0 ∙ g.0)) (refl, g.2)
+  at_end (Some xs) (Some ys) new kept line true h g =
+      read xs line new h.0
+      (g.1 ∙ ap (λ (l : List ℕ). take limit (kept ++ line_bytes l)) (sym g.0) ∙ h.1)
+      (g.2 ∙ ap (λ (l : List ℕ). Some (after_line l)) (sym g.0) ∙ ap Some h.2)
 
-pub not_full : (n m : ℕ) → false ≡ (n == m) → n ≤ m → n < m
-not_full n m e l = elim (eqb_tells n m) [
-  | inl same ↦ absurd (let t = same.0 in cc)
-  | inr other ↦ grind (arith, other.1, l)
-]
+  pub at_feed : (first old new : Option (List ℕ)) (kept line : List ℕ) (more followed : Bool)
+      → IsReading first old kept more
+      → IfSome old (λ text. TakesPart limit text (Whole followed) kept line new)
+      → IfSome first (λ xs. ReadsLine limit xs true line new)
+  at_feed None old new kept line more followed h g = tt
+  at_feed (Some xs) None new kept line more followed h g = absurd h
+  at_feed (Some xs) (Some ys) new kept line more followed h g =
+      let both = so_far xs ys kept more h in
+      read xs line new (has_some xs ys kept more h g.0) (g.1 ∙ both.0) (g.2 ∙ ap Some both.1)
 
-pub is_full : (n m : ℕ) → true ≡ (n == m) → m ≤ n
-is_full n m e = elim (eqb_tells n m) [
-  | inl same ↦ omega (arith, same.1)
-  | inr other ↦ absurd (let t = other.0 in cc)
-]
+  -- the line goes on
+  pub at_part : (first old new : Option (List ℕ)) (kept line : List ℕ) (more : Bool)
+      → IsReading first old kept more
+      → IfSome old (λ text. TakesPart limit text Begun kept line new)
+      → IsReading first new line true
+  at_part None old new kept line more h g = tt
+  at_part (Some xs) None new kept line more h g = absurd h
+  at_part (Some xs) (Some ys) new kept line more h g =
+      let both = so_far xs ys kept more h in
+      let n = g.0 in
+      let left = line_bytes (drop n ys) in
+      subst (λ (r : Option (List ℕ)). IsReading (Some xs) r line true) (sym g.5) (
+        has_some xs ys kept more h g.1,
+        ap (λ (l : List ℕ). take limit (l ++ left)) g.4 ∙ cut_again limit (kept ++ take n ys) left
+            ∙ ap (take limit) (append_assoc kept (take n ys) left
+            ∙ ap (λ (l : List ℕ). kept ++ l) (sym g.2)) ∙ both.0,
+        sym g.3 ∙ both.1,
+      )
 
 pub no_byte_yet : (first : Option (List ℕ)) (count : ℕ) → IsCounted first count first count
 no_byte_yet None count = tt
 no_byte_yet (Some text) count = refl
 
--- a count that goes down with each byte
-pub one_counted : (first old new : Option (List ℕ)) (byte : Option ℕ) (start before after : ℕ)
-    → IsCounted first start old before → Gives old new byte → TakesOne byte before after
+-- a count goes down by what is taken
+pub part_counted : (text : List ℕ) (rest : Option (List ℕ)) (taken before after : ℕ)
+    → taken ≤ length text → after + taken ≡ before → rest ≡ Some (drop taken text)
+    → IsCounted (Some text) before rest after
+part_counted text rest taken before after most down left =
+    subst (λ (r : Option (List ℕ)). IsCounted (Some text) before r after) (sym left)
+    (omega (arith, most, down, length-drop taken text))
+
+-- and by what is taken after that
+pub counted_on : (first old new : Option (List ℕ)) (start before after : ℕ)
+    → IsCounted first start old before → IsCounted old before new after
     → IsCounted first start new after
-one_counted None old new byte start before after h g t = tt
-one_counted (Some text) None new byte start before after h g t = absurd h
-one_counted (Some text) (Some []) new None start before after h g t = rw (g.1, t) h
-one_counted (Some text) (Some []) new (Some byte) start before after h g t = let e = g.0 in cc
-one_counted (Some text) (Some (x ∷ rest)) new None start before after h g t = let e = g.0 in cc
-one_counted (Some text) (Some (x ∷ rest)) new (Some byte) start before after h g t =
-    rw (g.1) (omega (arith, h, t))
+counted_on None old new start before after h g = tt
+counted_on (Some text) None new start before after h g = absurd h
+counted_on (Some text) (Some mid) None start before after h g = absurd g
+counted_on (Some text) (Some mid) (Some rest) start before after h g = omega (arith, h, g)

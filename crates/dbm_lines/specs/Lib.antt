@@ -1,3 +1,4 @@
 pub mod PairLines
+pub mod Parts
 pub mod Reading
 pub mod Requests

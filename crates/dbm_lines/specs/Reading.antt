@@ -27,11 +27,6 @@ ReadsLine limit (byte ∷ text) more line rest =
     (more ≡ true) × (line ≡ take limit (line_bytes (byte ∷ text)))
     × (rest ≡ Some (after_line (byte ∷ text)))
 
--- a count goes down by a byte for each that is read
-abbrev pub TakesOne : Option ℕ → ℕ → ℕ → Type 0
-TakesOne None before after = after ≡ before
-TakesOne (Some byte) before after = before ≡ after + 1
-
 -- the bytes that were read and those that the count went down by are as many
 abbrev pub IsCounted : Option (List ℕ) → ℕ → Option (List ℕ) → ℕ → Type 0
 IsCounted None before rest after = Unit {0}

@@ -1,5 +1,9 @@
 -- Numbers read from a part of a page's bytes, and parts written over.
-use Rattle.std.proofs.Common.{◌≡◌, ℕ, ◌+◌, ◌-◌, ◌<◌, ◌≤◌, List, [], ◌++◌, length, slice_index, take, drop, ap, ◌∙◌, arith}
+use Rattle.std.proofs.Common.{◌≡◌, ◌↔◌, inl, inr, ℕ, ◌+◌, ◌-◌, ◌<◌, ◌≤◌, List, [], ◌++◌, length, slice_index, take, drop, ap, ◌∙◌, arith}
+use Rattle.std.specs.Prelude.{bit_or}
+use Rattle.std.proofs.lemmas.Bool.{cases_lt}
+use Rattle.std.proofs.lemmas.Nat.{le_or_l, le_or_r}
+use Rattle.page_model.specs.Reading.{IsClear}
 use Rattle.std.proofs.lemmas.List.{get_or-drop, drop-drop, drop_all, append-nil, length-take, length-drop, take_all}
 use borrow.Rule.Slice.PartMut.{put_mid}
 use Rattle.byteorder.specs.Endian.{big_number}
@@ -32,6 +36,25 @@ module _ (xs : List ℕ) (at size n : ℕ) (long : length xs ≡ size) where
 -- no number is in an empty range
 pub none_between : (from k : ℕ) → from ≤ k → k < from → ⊥
 none_between from k ge lt = omega (arith, ge, lt)
+
+-- one byte more, put to those before it
+pub clear_more : (bytes : List ℕ) (from k any : ℕ) → from ≤ k
+    → (any ≡ 0) ↔ IsClear bytes from k
+    → (bit_or any (slice_index bytes k) ≡ 0) ↔ IsClear bytes from (k + 1)
+clear_more bytes from k any ge before =
+    let byte = slice_index bytes k in (
+      λ none j from_j below.
+          let any_is : any ≡ 0 = omega (arith, none, le_or_l any byte) in
+          let byte_is : byte ≡ 0 = omega (arith, none, le_or_r any byte) in
+          elim (cases_lt j k) [
+            | inl less ↦ before.0 any_is j from_j less
+            | inr not ↦ ap (slice_index bytes) (let at : j ≡ k = omega arith in at) ∙ byte_is
+          ],
+      λ clear.
+          let any_is : any ≡ 0 = before.1 (λ j from_j less. clear j from_j (omega arith)) in
+          let byte_is : byte ≡ 0 = clear k ge (omega arith) in
+          ap (λ (x : ℕ). bit_or x byte) any_is ∙ ap (bit_or 0) byte_is,
+    )
 
 -- a part that is written over
 pub put_over : (xs part new : List ℕ) (at size : ℕ) → part ≡ new → length new ≡ size

@@ -42,12 +42,12 @@ impl Page {
         requires { (from ≤ to) × (to ≤ PAGE_LEN) }
         ensures { IsTrue result ↔ IsClear self.now.bytes from to }
     {
+        // With no early end the processor looks at many bytes at once.
+        let mut any = 0;
         for k in from..to {
-            if self.bytes[k] != 0 {
-                return false;
-            }
+            any |= self.bytes[k];
         }
-        true
+        any == 0
     }
 
     /// Writes big-endian numbers of four bytes, one after the other, from `at` on.

@@ -171,13 +171,13 @@ impl FileDev {
         self.file.write_all_at(from, at)
     }
 
-    // Asks it to sync the file.
-    fn fsync(&mut self) -> io::Result<()>
+    // Asks it to sync the file: its content, and of the rest what is needed to read that back.
+    fn fdatasync(&mut self) -> io::Result<()>
         requires { self.old.changes < 2 ^ 64 - 1 }
         ensures { IsChanged self.old self.new (Syncs (is_ok result)) }
     {
         self.changes += 1;
-        self.file.sync_all()
+        self.file.sync_data()
     }
 
     // Reads a sector, with zeros past the file's end.
@@ -299,7 +299,7 @@ impl SectorDev for FileDev {
         if self.changes == u64::MAX {
             return self.fail();
         }
-        let answer = self.fsync();
+        let answer = self.fdatasync();
         self.note(answer)
     }
 }

@@ -1,13 +1,13 @@
 -- The slots of the code and the slots that are spelled.
-use Rattle.std.proofs.Common.{◌≡◌, ◌≢◌, ℕ, ◌<◌, List, [], ◌∷◌, length, map, refl, sym, ap, subst, ◌∙◌, arith}
+use Rattle.std.proofs.Common.{◌≡◌, ◌≢◌, ℕ, ◌<◌, List, [], ◌∷◌, length, map, get_or, refl, sym, ap, ◌∙◌, arith}
 use Rattle.std.specs.Prelude.{AllPairs}
 use Rattle.std.specs.List.{range_with_len}
-use Rattle.std.proofs.lemmas.List.{length-map, get_or-map}
+use Rattle.std.proofs.lemmas.List.FromFn.{length-map-range_with_len, get_or-map-range_with_len}
 use Rattle.page_model.specs.Slots.{Slot as Spelled}
 use Rattle.page_model.specs.Reading.{slot_of, slots_from, key_of}
 use Rattle.slot_page.specs.declared.slot.Slot.{Slot}
 use Rattle.slot_page.specs.Slots.{as_spelled, slot_at, first_slots}
-use Rattle.slot_page.specs.Layout.{SlotsHaveDistinctKeys}
+use Rattle.slot_page.specs.Layout.{HaveDistinctKeys}
 
 -- no two of the slots have one key
 abbrev pub SpelledDistinct : List ℕ → List Spelled → Type 0
@@ -25,34 +25,25 @@ pub first_are : (bytes : List ℕ) (n : ℕ)
     → map as_spelled (first_slots bytes n) ≡ slots_from bytes 0 n
 first_are bytes n = slots_at bytes (range_with_len 0 n)
 
--- distinct keys of the slots of the code are such of the slots that are spelled
-to_spelled : (bytes : List ℕ) (ss : List Slot) → SlotsHaveDistinctKeys bytes ss
-    → SpelledDistinct bytes (map as_spelled ss)
-to_spelled bytes ss h i j d less lt =
-    let blank : Slot = record { offset = 0; key_len = 0; content_len = 0 } in
-    let inside : j < length ss = omega (arith, length-map ss as_spelled) in
-    let first = get_or-map as_spelled ss i blank d (omega arith) in
-    let second = get_or-map as_spelled ss j blank d inside in
-    λ same. h i j blank less inside
-    (ap (key_of bytes) (sym first) ∙ same ∙ ap (key_of bytes) second)
+-- slot i of those that are spelled
+spelled_at : (bytes : List ℕ) (n i : ℕ) (d : Spelled) → i < n
+    → get_or (slots_from bytes 0 n) i d ≡ slot_of bytes i
+spelled_at bytes n i d lt = get_or-map-range_with_len (slot_of bytes) 0 n i i d lt (omega arith)
 
--- and back
-to_held : (bytes : List ℕ) (ss : List Slot) → SpelledDistinct bytes (map as_spelled ss)
-    → SlotsHaveDistinctKeys bytes ss
-to_held bytes ss h i j d less lt =
-    let first = get_or-map as_spelled ss i d (as_spelled d) (omega arith) in
-    let second = get_or-map as_spelled ss j d (as_spelled d) lt in
-    λ same. h i j (as_spelled d) less (omega (arith, length-map ss as_spelled))
-    (ap (key_of bytes) first ∙ same ∙ ap (key_of bytes) (sym second))
-
--- the same of the first n slots
-pub distinct_spelled : (bytes : List ℕ) (n : ℕ) → SlotsHaveDistinctKeys bytes (first_slots bytes n)
+-- distinct keys, slot by slot
+pub distinct_spelled : (bytes : List ℕ) (n : ℕ) → HaveDistinctKeys bytes n
     → SpelledDistinct bytes (slots_from bytes 0 n)
-distinct_spelled bytes n h = subst (SpelledDistinct bytes) (first_are bytes n)
-    (to_spelled bytes (first_slots bytes n) h)
+distinct_spelled bytes n h i j d less lt =
+    let inside : j < n = omega (arith, length-map-range_with_len (slot_of bytes) 0 n) in
+    λ same. h i j less inside
+    (ap (key_of bytes) (sym (spelled_at bytes n i d (omega arith)))
+    ∙ same ∙ ap (key_of bytes) (spelled_at bytes n j d inside))
 
 -- and back
 pub distinct_held : (bytes : List ℕ) (n : ℕ) → SpelledDistinct bytes (slots_from bytes 0 n)
-    → SlotsHaveDistinctKeys bytes (first_slots bytes n)
-distinct_held bytes n h = to_held bytes (first_slots bytes n)
-    (subst (SpelledDistinct bytes) (sym (first_are bytes n)) h)
+    → HaveDistinctKeys bytes n
+distinct_held bytes n h i j less lt =
+    let d : Spelled = slot_of bytes 0 in
+    λ same. h i j d less (omega (arith, length-map-range_with_len (slot_of bytes) 0 n))
+    (ap (key_of bytes) (spelled_at bytes n i d (omega arith))
+    ∙ same ∙ ap (key_of bytes) (sym (spelled_at bytes n j d lt)))

@@ -10,8 +10,7 @@ use Rattle.page_model.specs.Spelling.{bucket_spelling}
 use Rattle.page_model.specs.Reading.{slot_count, low, slot_of, slots_from, slot_pair}
 use Rattle.page_model.specs.Valid.{IsBucket}
 use Rattle.page_model.proofs.Buckets.{stands}
-use Rattle.slot_page.specs.Layout.{end_of, AreInPlace, SlotsHaveDistinctKeys, IsLaidOut}
-use Rattle.slot_page.specs.Slots.{first_slots}
+use Rattle.slot_page.specs.Layout.{end_of, AreInPlace, HaveDistinctKeys, IsLaidOut}
 use Rattle.slot_page.proofs.Held.{SpelledDistinct, distinct_held}
 use Rattle.slot_page.proofs.Layouts.{end_of-more}
 
@@ -88,7 +87,7 @@ laid_out_if_spelled bytes b is e =
       low_is = lo ∙ (let g : 2048 - total_size b.pairs ≡ end_of bytes n = omega (arith, ends) in g)
           ∙ ap (end_of bytes) (sym count);
       gap = λ k from to. s.clear k (omega (arith, count)) (omega (arith, lo));
-      distinct = subst (λ (m : ℕ). SlotsHaveDistinctKeys bytes (first_slots bytes m)) (sym count)
+      distinct = subst (HaveDistinctKeys bytes) (sym count)
           (distinct_held bytes n (subst (SpelledDistinct bytes) (sym s.slots)
           (distinct_again bytes (slots_ending 2048 b.pairs) b.pairs s.pairs is.distinct)));
     }

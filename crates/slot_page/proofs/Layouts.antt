@@ -7,7 +7,7 @@ use Rattle.std.proofs.lemmas.List.{get_or_default}
 use Rattle.page_model.specs.Reading.{slot_of, slot_count, low, key_of, IsClear}
 use Rattle.slot_page.specs.declared.slot.Slot.{Slot}
 use Rattle.slot_page.specs.Slots.{as_spelled, slot_at, first_slots}
-use Rattle.slot_page.specs.Layout.{end_of, AreInPlace, IsLaidOut, HasGoodHeader, SlotsHaveDistinctKeys}
+use Rattle.slot_page.specs.Layout.{end_of, AreInPlace, IsLaidOut, HasGoodHeader, HaveDistinctKeys}
 
 -- the next record ends where this one begins
 pub end_of-more : (bytes : List ℕ) (i : ℕ) → end_of bytes (i + 1) ≡ (slot_of bytes i).offset
@@ -49,46 +49,37 @@ ends_inside bytes n h i lt =
     let most = end_le bytes i (λ j less. h j (omega arith)) in
     omega (arith, here, most)
 
--- each key lies in the page
-pub slots_inside : (bytes : List ℕ) (n : ℕ) (ss : List Slot) → AreInPlace bytes n
-    → ss ≡ first_slots bytes n → All (λ s. s.offset + s.key_len ≤ 2048) ss
-slots_inside bytes n ss h e k d lt =
-    let many : length ss ≡ n = ap length e ∙ length-map-range_with_len (slot_at bytes) 0 n in
-    let is : get_or ss k d ≡ slot_at bytes k =
-    ap (λ (xs : List Slot). get_or xs k d) e
-    ∙ get_or-map-range_with_len (slot_at bytes) 0 n k k d (omega arith) (omega arith) in
-    let inside = ends_inside bytes n h k (omega arith) in
-    subst (λ (s : Slot). s.offset + s.key_len ≤ 2048) (sym is) (omega (arith, inside))
+-- the key of a slot lies in the page
+pub key_inside : (bytes : List ℕ) (n i : ℕ) (s : Slot) → AreInPlace bytes n → i < n
+    → s ≡ slot_at bytes i → s.offset + s.key_len ≤ 2048
+key_inside bytes n i s h lt e =
+    let inside = ends_inside bytes n h i lt in
+    subst (λ (t : Slot). t.offset + t.key_len ≤ 2048) (sym e) (omega (arith, inside))
 
 -- the key of one more slot is another one
-pub differs_more : (bytes key got : List ℕ) (ss : List Slot) (i : ℕ) (blank : Slot) (r : Bool)
-    → i < length ss → ((k : ℕ) (d : Slot) → k < i → key_of bytes (as_spelled (get_or ss k d)) ≢ key)
-    → got ≡ key_of bytes (as_spelled (get_or ss i blank)) → Decides r (got ≡ key) → r ≡ false
-    → (k : ℕ) (d : Slot) → k < i + 1 → key_of bytes (as_spelled (get_or ss k d)) ≢ key
-differs_more bytes key got ss i blank r inside h e says was_false k d lt =
+pub differs_more : (bytes key got : List ℕ) (i : ℕ) (r : Bool)
+    → ((k : ℕ) → k < i → key_of bytes (slot_of bytes k) ≢ key) → got ≡ key_of bytes (slot_of bytes i)
+    → Decides r (got ≡ key) → r ≡ false → (k : ℕ) → k < i + 1 → key_of bytes (slot_of bytes k) ≢ key
+differs_more bytes key got i r h e says was_false k lt =
     elim (cases_lt k i) [
-      | inl less ↦ h k d less
+      | inl less ↦ h k less
       | inr ge ↦ λ same.
           let at : i ≡ k = omega arith in
-          let read : get_or ss i blank ≡ get_or ss k d =
-          get_or_default ss i blank d inside ∙ ap (λ (n : ℕ). get_or ss n d) at in
-          let was_true = says.1 (e ∙ ap (λ (s : Slot). key_of bytes (as_spelled s)) read ∙ same) in
+          let was_true = says.1 (e ∙ ap (λ (n : ℕ). key_of bytes (slot_of bytes n)) at ∙ same) in
           absurd cc
     ]
 
 -- every test of a page
-pub tested : (bytes : List ℕ) (count from : ℕ) (ss : List Slot) → count ≡ slot_count bytes
-    → from ≡ low bytes
+pub tested : (bytes : List ℕ) (count from : ℕ) → count ≡ slot_count bytes → from ≡ low bytes
     → HasGoodHeader bytes → 16 + 6 * count ≤ from → AreInPlace bytes count
     → from ≡ end_of bytes count
-    → IsClear bytes (16 + 6 * count) from → ss ≡ first_slots bytes count
-    → SlotsHaveDistinctKeys bytes ss → IsLaidOut bytes
-tested bytes count from ss count_is low_is header room in_place ends gap slots distinct = record {
+    → IsClear bytes (16 + 6 * count) from → HaveDistinctKeys bytes count → IsLaidOut bytes
+tested bytes count from count_is low_is header room in_place ends gap distinct = record {
   header = header;
   room = omega (arith, room, count_is, low_is);
   in_place = subst (AreInPlace bytes) count_is in_place;
   low_is = sym low_is ∙ ends ∙ ap (end_of bytes) count_is;
   gap = subst (λ (n : ℕ). IsClear bytes (16 + 6 * n) (low bytes)) count_is
       (subst (IsClear bytes (16 + 6 * count)) low_is gap);
-  distinct = subst (SlotsHaveDistinctKeys bytes) (slots ∙ ap (first_slots bytes) count_is) distinct;
+  distinct = subst (HaveDistinctKeys bytes) count_is distinct;
 }

@@ -1,7 +1,7 @@
 -- What is known of a bucket page.
 use Rattle.std.specs.Bool.{Decides}
 use Rattle.std.proofs.lemmas.Bool.{cases_lt}
-use Rattle.std.proofs.Common.{◌≡◌, ◌≢◌, ◌↔◌, Bool, false, inl, inr, ℕ, ◌+◌, ◌-◌, ◌*◌, ◌≤◌, ◌<◌, List, [], ◌++◌, length, replicate, get_or, refl, sym, ap, ◌∙◌, subst, arith}
+use Rattle.std.proofs.Common.{◌≡◌, ◌≢◌, ◌↔◌, Bool, false, inl, inr, ℕ, ◌+◌, ◌-◌, ◌*◌, ◌≤◌, ◌<◌, List, [], ◌++◌, length, map, replicate, get_or, refl, sym, ap, ◌∙◌, subst, arith}
 use Rattle.std.specs.List.{HoldsAt}
 use Rattle.std.proofs.lemmas.List.{get_or-map}
 use Rattle.std.proofs.lemmas.List.FromFn.{length-map-range_with_len, get_or-map-range_with_len}
@@ -11,7 +11,10 @@ use Rattle.page_model.specs.Slots.{Slot, total_size, taken, slots_ending, slots_
 use Rattle.page_model.specs.Spelling.{bucket_spelling}
 use Rattle.page_model.specs.Valid.{IsBucket}
 use Rattle.page_model.specs.Reading.{own_number, kind_of, next_of, slot_count, low, key_of, content_of, slot_of, slots_from, slot_pair, bucket_of, body_of}
+use Rattle.slot_page.specs.declared.slot.Slot.{Slot as Held}
 use Rattle.slot_page.specs.Layout.{IsLaidOut}
+use Rattle.slot_page.specs.Slots.{as_spelled, first_slots}
+use Rattle.slot_page.proofs.Held.{first_are}
 use Rattle.slot_page.specs.Contents.{IsBucketPage, HasPairs, KeepsHeader, HasKeyAt, page_pairs, with_pairs, with_next}
 use Rattle.page_model.proofs.Buckets.{length-bucket_spelling, header_again, bucket_again}
 use Rattle.page_model.proofs.Bodies.{body_is}
@@ -75,6 +78,24 @@ pub table_of : (bytes : List ℕ) → length bytes ≡ 2048 → IsLaidOut bytes
 unfolding bucket_of
 table_of bytes len h = table_is bytes (slot_count bytes) len h.in_place (slot_count bytes)
     0 (omega arith)
+
+-- what is spelled as one is a bucket page
+pub spelled_page : (bytes : List ℕ) (b : Bucket) → IsBucket b → bytes ≡ bucket_spelling b
+    → IsBucketPage bytes
+spelled_page bytes b is e =
+    let again = bucket_again bytes b is e in record {
+      sound = subst IsBucket (sym again) is;
+      spelled = e ∙ ap bucket_spelling (sym again);
+    }
+
+-- the slots of the code are those of the pairs
+pub slots_read : (bytes : List ℕ) (n : ℕ) (slots : List Held) → IsBucketPage bytes
+    → n ≡ length (page_pairs bytes) → slots ≡ first_slots bytes n
+    → map as_spelled slots ≡ slots_ending 2048 (page_pairs bytes)
+slots_read bytes n slots h count e =
+    let many : n ≡ slot_count bytes = count ∙ sym (counted bytes h).count_is in
+    ap (map as_spelled) e ∙ first_are bytes n ∙ ap (slots_from bytes 0) many
+    ∙ sym (table_of bytes (length-page bytes h) (laid_out bytes h))
 
 -- the record of slot i lies in the page
 pub pair_inside : (bytes : List ℕ) (i : ℕ) (s : Slot) → Counted bytes

@@ -1,8 +1,6 @@
 -- The bytes of a bucket page, test by test.
-use Rattle.std.specs.Prelude.{◌≡◌, ◌≢◌, ◌⊎◌, ℕ, zero, suc, ◌+◌, ◌*◌, ◌<◌, ◌≤◌, List, AllPairs, slice_index}
+use Rattle.std.specs.Prelude.{◌≡◌, ◌≢◌, ◌⊎◌, ℕ, zero, suc, ◌+◌, ◌*◌, ◌<◌, ◌≤◌, List, slice_index}
 use Rattle.page_model.specs.Reading.{kind_of, slot_count, low, slot_of, key_of, IsClear}
-use Rattle.slot_page.specs.declared.slot.Slot.{Slot}
-use Rattle.slot_page.specs.Slots.{as_spelled, first_slots}
 
 -- where the record of slot i ends
 abbrev pub end_of : List ℕ → ℕ → ℕ
@@ -21,10 +19,10 @@ AreInPlace bytes n = (i : ℕ) → i < n
     → (slot_of bytes i).offset + (slot_of bytes i).key_len + (slot_of bytes i).content_len
     ≡ end_of bytes i
 
--- no two of the slots have one key
-abbrev pub SlotsHaveDistinctKeys : List ℕ → List Slot → Type 0
-SlotsHaveDistinctKeys bytes slots =
-    AllPairs (λ s t. key_of bytes (as_spelled s) ≢ key_of bytes (as_spelled t)) slots
+-- no two of the first n slots have one key
+abbrev pub HaveDistinctKeys : List ℕ → ℕ → Type 0
+HaveDistinctKeys bytes n = (i j : ℕ) → i < j → j < n
+    → key_of bytes (slot_of bytes i) ≢ key_of bytes (slot_of bytes j)
 
 pub record IsLaidOut (bytes : List ℕ) : Type 0 where
   pub header : HasGoodHeader bytes
@@ -32,4 +30,4 @@ pub record IsLaidOut (bytes : List ℕ) : Type 0 where
   pub in_place : AreInPlace bytes (slot_count bytes)
   pub low_is : low bytes ≡ end_of bytes (slot_count bytes)
   pub gap : IsClear bytes (16 + 6 * slot_count bytes) (low bytes)
-  pub distinct : SlotsHaveDistinctKeys bytes (first_slots bytes (slot_count bytes))
+  pub distinct : HaveDistinctKeys bytes (slot_count bytes)

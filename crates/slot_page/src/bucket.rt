@@ -12,9 +12,18 @@ ghost use Rattle.slot_page.specs.Slots.{as_spelled};
 ghost use Rattle.slot_page.specs.Contents.{IsBucketPage, HasPairs, KeepsHeader, HasKeyAt, IsAbsent, page_pairs, with_pairs, with_next};
 
 use crate::layout::{COUNT_AT, HEADER_LEN, KIND_AT, LOW_AT, NEXT_AT, OWN_AT, SLOT_LEN};
-use crate::reading::{are_bytes, content_at, key_at, read_slots, slot_at};
+use crate::reading::{are_bytes, content_at, is_laid_out, key_at, read_slots, slot_at};
 use crate::slot::{Slot, Slots};
 use page_io::{PAGE_LEN, Page};
+
+/// Whether a page is spelled as a head page or an overflow page, under any own number. It looks at
+/// every byte of the page, and takes no copy.
+pub fn is_bucket_page(page: &Page) -> bool
+    ensures exact { IsTrue result ↔ IsBucketPage page.now.bytes }
+{
+    are_bytes(&page.bytes);
+    is_laid_out(page)
+}
 
 /// The slots of a page, if it is spelled as a head page or an overflow page, under any own number.
 pub fn decode(page: &Page) -> Option<Slots>
@@ -25,8 +34,11 @@ pub fn decode(page: &Page) -> Option<Slots>
     ensures slots { IfSome result
         (λ s. map as_spelled s.items ≡ slots_ending 2048 (page_pairs page.now.bytes)) }
 {
-    are_bytes(&page.bytes);
-    read_slots(page)
+    if !is_bucket_page(page) {
+        return None;
+    }
+    let (count, _) = counts(page);
+    Some(read_slots(page, count))
 }
 
 /// How many slots a page has, and where its records begin.

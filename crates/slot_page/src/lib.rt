@@ -7,6 +7,6 @@ mod layout;
 mod reading;
 mod slot;
 
-pub use bucket::{add, decode, empty, find, fits, pair_at, remove, room, set_next};
+pub use bucket::{add, decode, empty, find, fits, is_bucket_page, pair_at, remove, room, set_next};
 pub use laws::{one_list, one_spelling, reads_as_bucket};
 pub use slot::{Slot, Slots};

@@ -1,9 +1,9 @@
 //! Whether a page is spelled as a bucket page.
 
-ghost use Rattle.std.specs.Prelude.{◌≡◌, ◌≢◌, ◌+◌, ◌*◌, ◌<◌, ◌≤◌, ◌↔◌, ℕ, slice_index, IsTrue, IsSome, IfSome, All, take, length};
-ghost use Rattle.page_model.specs.Reading.{slot_count, key_of, content_of, IsClear};
+ghost use Rattle.std.specs.Prelude.{◌≡◌, ◌+◌, ◌*◌, ◌<◌, ◌≤◌, ◌↔◌, ℕ, slice_index, IsTrue};
+ghost use Rattle.page_model.specs.Reading.{key_of, content_of};
 ghost use Rattle.slot_page.specs.Slots.{as_spelled, slot_at, first_slots};
-ghost use Rattle.slot_page.specs.Layout.{HasGoodHeader, AreInPlace, SlotsHaveDistinctKeys, IsLaidOut, end_of};
+ghost use Rattle.slot_page.specs.Layout.{HasGoodHeader, AreInPlace, HaveDistinctKeys, IsLaidOut, end_of};
 
 use crate::layout::{COUNT_AT, HEAD, HEADER_LEN, KIND_AT, LOW_AT, OVERFLOW, SLOT_LEN};
 use crate::slot::{Slot, Slots};
@@ -37,23 +37,20 @@ fn has_good_header(page: &Page) -> bool
         && page.bytes[15] == 0
 }
 
-/// The first `count` slots, where each record ends where it should.
-fn slots_in_place(page: &Page, count: usize) -> Option<Slots>
+/// Whether each of the first `count` records ends where it should.
+fn are_in_place(page: &Page, count: usize) -> bool
     requires { 16 + 6 * count ≤ 2048 }
-    ensures variant { IsSome result ↔ AreInPlace page.now.bytes count }
-    ensures slots { IfSome result (λ s. s.items ≡ first_slots page.now.bytes count) }
+    ensures { IsTrue result ↔ AreInPlace page.now.bytes count }
 {
-    let mut slots = Slots::new();
     let mut end = PAGE_LEN;
     for i in 0..count {
         let slot = slot_at(page, i);
         if slot.offset as usize + slot.key_len as usize + slot.content_len as usize != end {
-            return None;
+            return false;
         }
         end = slot.offset as usize;
-        slots.push(slot);
     }
-    Some(slots)
+    true
 }
 
 /// Where the record of slot `i` ends.
@@ -86,15 +83,16 @@ pub fn content_at(page: &Page, slot: Slot) -> &[u8]
     &page.bytes[from..from + slot.content_len as usize]
 }
 
-/// Whether no two of the slots have one key.
-fn have_distinct_keys(page: &Page, slots: &[Slot]) -> bool
-    requires { All (λ s. s.offset + s.key_len ≤ 2048) slots.now }
-    ensures { IsTrue result ↔ SlotsHaveDistinctKeys page.now.bytes slots.now }
+/// Whether no two of the first `count` slots have one key.
+fn have_distinct_keys(page: &Page, count: usize) -> bool
+    requires slots { 16 + 6 * count ≤ 2048 }
+    requires in_place { AreInPlace page.now.bytes count }
+    ensures { IsTrue result ↔ HaveDistinctKeys page.now.bytes count }
 {
-    for j in 0..slots.len() {
-        let key = key_at(page, slots[j]);
+    for j in 0..count {
+        let key = key_at(page, slot_at(page, j));
         for i in 0..j {
-            if key_at(page, slots[i]) == key {
+            if key_at(page, slot_at(page, i)) == key {
                 return false;
             }
         }
@@ -102,32 +100,41 @@ fn have_distinct_keys(page: &Page, slots: &[Slot]) -> bool
     true
 }
 
-/// The slots, where every byte of the page is as a bucket page has it.
-pub fn read_slots(page: &Page) -> Option<Slots>
-    ensures variant { IsSome result ↔ IsLaidOut page.now.bytes }
-    ensures slots { IfSome result
-        (λ s. s.items ≡ first_slots page.now.bytes (slot_count page.now.bytes)) }
+/// Whether every byte of the page is as a bucket page has it.
+pub fn is_laid_out(page: &Page) -> bool
+    ensures { IsTrue result ↔ IsLaidOut page.now.bytes }
 {
     let count = page.u16_at(COUNT_AT) as usize;
     let low = page.u16_at(LOW_AT) as usize;
     if !has_good_header(page) {
-        return None;
+        return false;
     }
     if low > PAGE_LEN {
-        return None;
+        return false;
     }
     if HEADER_LEN + SLOT_LEN * count > low {
-        return None;
+        return false;
     }
-    let slots = slots_in_place(page, count)?;
+    if !are_in_place(page, count) {
+        return false;
+    }
     if low != end_at(page, count) {
-        return None;
+        return false;
     }
     if !page.is_clear(HEADER_LEN + SLOT_LEN * count, low) {
-        return None;
+        return false;
     }
-    if !have_distinct_keys(page, &slots) {
-        return None;
+    have_distinct_keys(page, count)
+}
+
+/// The first `count` slots, whatever stands there.
+pub fn read_slots(page: &Page, count: usize) -> Slots
+    requires { 16 + 6 * count ≤ 2048 }
+    ensures { result.items ≡ first_slots page.now.bytes count }
+{
+    let mut slots = Slots::new();
+    for i in 0..count {
+        slots.push(slot_at(page, i));
     }
-    Some(slots)
+    slots
 }

@@ -1,4 +1,4 @@
-use Rattle.std.proofs.Common.{◌≡◌, ◌<◌, refl, sym, ap, ◌∙◌, arith, Some}
+use Rattle.std.proofs.Common.{◌≡◌, ◌<◌, sym, ap, ◌∙◌, arith, Some}
 use Rattle.page_model.specs.Reading.{slot_count}
 use Rattle.chain_walks.proofs.Headers.{header_of, link_is}
 use Rattle.chain_walks.proofs.link.link_of.Goals as goal
@@ -27,7 +27,8 @@ returns-clause-sound c =
       | else-kind-eq-OVERFLOW-via-else-kind-eq-OVERFLOW w ↦ λ e.
           absurd (w.if-kind-eq-OVERFLOW.false e)
     ] in
-    link_is bytes c.args.n c.args.kind c.next.result (c.in_ok-decode.ensures.exact.0 refl)
+    link_is bytes c.args.n c.args.kind c.next.result
+    (c.is_bucket_page.ensures.exact.0 c.if-not-is_bucket_page.false)
     (sym c.own.ensures.field ∙ c.if-own-n.false) (sym c.kind.ensures ∙ c.if-kind.false)
     (sym c.next.ensures) some
 

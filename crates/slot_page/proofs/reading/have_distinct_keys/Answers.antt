@@ -1,11 +1,15 @@
 use Rattle.std.proofs.Common.{arith}
 use Rattle.std.proofs.lemmas.Bool.Decides.{Decides-eqb}
 use Rattle.std.proofs.lemmas.Slice.Eq.{slice_eq-Decides}
-use Rattle.slot_page.proofs.Layouts.{differs_more}
+use Rattle.slot_page.proofs.Layouts.{differs_more, key_inside}
 use Rattle.slot_page.proofs.reading.have_distinct_keys.Goals as goal
 
-pub loop-i-preserved : goal.loop-i-preserved
-loop-i-preserved c =
-    differs_more c.args.page.now.bytes c.key_at-key.result.now c.key_at.result.now c.args.slots.now
-    c.loop-i.i _ c.eq.result (omega arith) c.loop-i.invariant c.key_at.ensures
-    (slice_eq-Decides Decides-eqb _ _ _ c.eq.ensures) c.if-eq.false
+pub key_at-key-requires : goal.key_at-key-requires
+key_at-key-requires c =
+    key_inside c.args.page.now.bytes c.args.count c.loop-j.j c.slot_at.result c.requires.in_place
+    (omega arith) c.slot_at.ensures
+
+pub key_at-requires : goal.key_at-requires
+key_at-requires c =
+    key_inside c.args.page.now.bytes c.args.count c.loop-i.i c.slot_at-in-loop-i.result
+    c.requires.in_place (omega arith) c.slot_at-in-loop-i.ensures

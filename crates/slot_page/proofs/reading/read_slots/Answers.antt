@@ -1,24 +1,17 @@
-use Rattle.std.proofs.Common.{◌∙◌, refl, arith}
-use Rattle.slot_page.proofs.Layouts.{not_laid_out, slots_inside, tested}
+use Rattle.std.proofs.Common.{◌≡◌, length, ap, ◌∙◌, arith}
+use Rattle.std.proofs.lemmas.List.FromFn.{length-map-range_with_len}
+use Rattle.slot_page.specs.Slots.{slot_at}
+use Rattle.slot_page.proofs.Layouts.{slots_more}
 use Rattle.slot_page.proofs.reading.read_slots.Goals as goal
 
-pub returns-then-low-gt-PAGE_LEN-clause-variant : goal.returns-then-low-gt-PAGE_LEN-clause-variant
-returns-then-low-gt-PAGE_LEN-clause-variant c =
-    ((λ e. absurd cc), λ h. absurd (not_laid_out c.args.page.now.bytes (omega arith) h))
+pub push-requires : goal.push-requires
+push-requires c =
+    let many : length c.loop-i.slots.items ≡ c.loop-i.i =
+    ap length c.loop-i.invariant
+    ∙ length-map-range_with_len (slot_at c.args.page.now.bytes) 0 c.loop-i.i in
+    (omega arith, omega (arith, many))
 
-pub have_distinct_keys-requires : goal.have_distinct_keys-requires
-have_distinct_keys-requires c =
-    slots_inside c.args.page.now.bytes c.u16_at-count.result c.deref.result.now
-    (c.in_ok-slots.ensures.variant.0 refl) (c.deref.ensures.0 ∙ c.in_ok-slots.ensures.slots)
-
-pub returns-clause-variant : goal.returns-clause-variant
-returns-clause-variant c =
-    let is_laid_out = tested c.args.page.now.bytes c.u16_at-count.result c.u16_at-low.result
-    c.deref.result.now
-    c.u16_at-count.ensures c.u16_at-low.ensures (c.has_good_header.ensures.0
-    c.if-not-has_good_header.false)
-    c.if-count-low.false (c.in_ok-slots.ensures.variant.0 refl) (c.if-low-end_at.false
-    ∙ c.end_at.ensures)
-    (c.is_clear.ensures.0 c.if-not-is_clear.false) (c.deref.ensures.0 ∙ c.in_ok-slots.ensures.slots)
-    (c.have_distinct_keys.ensures.0 c.if-not-have_distinct_keys.false) in
-    (λ _. is_laid_out, λ _. refl)
+pub loop-i-preserved : goal.loop-i-preserved
+loop-i-preserved c =
+    slots_more c.args.page.now.bytes c.loop-i.i c.loop-i.slots.items c.push.new.self.items
+    c.slot_at.result c.loop-i.invariant c.slot_at.ensures c.push.ensures.items

@@ -5,12 +5,12 @@ use Rattle.sect_dev.proofs.file_dev.FileDevSectorDev.sync.Goals as goal
 pub returns : goal.returns
 returns c =
     let old = c.args.self.now in
-    let mid = c.fsync-answer.new.self in
-    let done = c.fsync-answer.ensures in
+    let mid = c.fdatasync-answer.new.self in
+    let done = c.fdatasync-answer.ensures in
     let told = c.note.ensures in
     record {
       goes = asked_to_sync old mid c.note.new.self (is_ok c.note.result)
-          (is_ok c.fsync-answer.result) told.answer told.same done;
+          (is_ok c.fdatasync-answer.result) told.answer told.same done;
       cause = cause_since c.note.result old.faults mid.faults c.note.new.self.faults
           done.faults told.cause;
       size = told.same.capacity ∙ done.capacity;

@@ -1,7 +1,7 @@
 use Rattle.std.proofs.Common.{refl, is_ok}
 use Rattle.sect_dev.specs.FileHistory.{recorded_change}
 use Rattle.sect_dev.specs.FileHistory.Change.{Syncs}
-use Rattle.sect_dev.proofs.file_dev.FileDev.fsync.Goals as goal
+use Rattle.sect_dev.proofs.file_dev.FileDev.fdatasync.Goals as goal
 
 pub returns : goal.returns
 returns c = record {
@@ -10,5 +10,5 @@ returns c = record {
   capacity = refl;
   faults = refl;
   next = recorded_change c.args.self.now.file c.args.self.now.changes
-      (Syncs (is_ok c.sync_all.result));
+      (Syncs (is_ok c.sync_data.result));
 }
