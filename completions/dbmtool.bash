@@ -35,7 +35,8 @@ _dbmtool() {
     create) options='--limit -h --help' ;;
     store | insert | fetch | delete) options='-x -h --help' ;;
     script) options='--memory -h --help' ;;
-    list | dump | load | stat | faults) options='-h --help' ;;
+    dump | load) options='--text -h --help' ;;
+    list | stat | faults) options='-h --help' ;;
   esac
   places=$(_dbmtool_places)
   case $word,$places,${COMP_WORDS[1]} in

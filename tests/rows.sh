@@ -160,6 +160,15 @@ create most [] [] [] 0
 stat most [] [pairs 0/limit 1000000/buckets 1/level 0/split 0/pages 4/free 0/] [] 0
 fetch absent x [] [] [dbmtool: fault 14/] 2
 load absent [] [] [dbmtool: fault 14/] 2
+create fields --limit 10 [] [] [] 0
+load --text fields [sky	blue/a\tb	\\/\x00	/	z/] [] [] 0
+dump fields [] [. 7a/00 ./610962 5c/736b79 626c7565/] [] 0
+dump fields --text [] [	z/\x00	/a\tb	\\/sky	blue/] [] 0
+load fields --text [one/] [] [dbmtool: line 1/] 2
+load --text fields [a	b	c/] [] [dbmtool: line 1/] 2
+load --text fields [k	v/k	\q/] [] [dbmtool: line 2/] 2
+load --text fields [k	\x4/] [] [dbmtool: line 1/] 2
+fetch fields k [] [v/] [] 0
 ROWS
 
 # a content of no bytes

@@ -66,12 +66,15 @@ awk 'length($0) >= 80 { exit 1 }' faults || wrong "a line of the faults is long"
 run 3 faults t
 "$program" faults > /dev/full 2> err; [ $? = 2 ] && [ "$(cat err)" = 'dbmtool: write' ] || wrong "a full output isn't told"
 
-# what prints hexadecimal always says so
-for command in list dump; do
+# what prints hexadecimal with no -x says so
+while read -r command said; do
   for words in "$command t -x" "$command -x t"; do
     # shellcheck disable=SC2086
     run 3 $words
-    [ ! -s out ] && grep -q -- "'-x'" err && grep -q 'in hexadecimal always' err || { wrong "dbmtool $words:"; cat out err; }
+    [ ! -s out ] && grep -q -- "'-x'" err && grep -q "$said" err || { wrong "dbmtool $words:"; cat out err; }
   done
-done
+done <<'ROWS'
+list in hexadecimal always
+dump in hexadecimal but for --text
+ROWS
 exit $bad

@@ -1,5 +1,5 @@
 -- What is said where reading or writing ends.
-use Rattle.std.proofs.Common.{◌≡◌, ◌⊎◌, inl, inr, ⊎_elim, ℕ, ◌≤◌, List, [], ◌∷◌, length, map, Option, Result, Ok, Err, OnOk, IfErr, IsErrOf, refl, sym, ◌∙◌, ap, arith}
+use Rattle.std.proofs.Common.{◌≡◌, ◌⊎◌, inl, inr, ⊎_elim, ℕ, ◌≤◌, List, [], ◌∷◌, length, flat_map, map, Option, Result, Ok, Err, OnOk, IfErr, IsErrOf, refl, sym, ◌∙◌, ap, arith}
 use Rattle.std.specs.Global.{Vec}
 use Rattle.std.specs.BTreeSet.{BTreeSet}
 use Rattle.std.specs.Io.KnownBytes.{Appends}
@@ -12,7 +12,7 @@ use Rattle.dbm_fault.specs.declared.engine_fault.EngineFault.TheVariants.{Memory
 use Rattle.dbm_fault.specs.declared.fault.Fault.{Fault}
 use Rattle.dbm_fault.specs.declared.fault.Fault.TheVariants.{Device, Broken, NoPass, Damaged}
 use Rattle.page_io.proofs.Exits.{came}
-use Rattle.dbm_dump.specs.Dumping.{bytes_of_keys, pair_lines, key_lines, WritesPairs, WritesKeys}
+use Rattle.dbm_dump.specs.Dumping.{bytes_of_keys, key_lines, WritesPairs, WritesKeys}
 
 -- the fault is the one that the callee was bound to answer
 pub same_exit : {T U : Type 0} (result : Result T EngineFault) (e f : EngineFault) → result ≡ Err e
@@ -59,12 +59,12 @@ write_among (Ok x) is = tt
 write_among (Err f) is = inr (inl is)
 
 -- the lines of these pairs, and of these keys
-pub writes_pairs : {E : Type 0} (wrote : Result Unit E) (pairs : List Pair)
-    (keys : BTreeSet (Vec ℕ)) (most : ℕ) (before after : Option (List ℕ))
+pub writes_pairs : {E : Type 0} (line_of : Pair → List ℕ) (wrote : Result Unit E)
+    (pairs : List Pair) (keys : BTreeSet (Vec ℕ)) (most : ℕ) (before after : Option (List ℕ))
     → map (λ (pair : Pair). pair.0) pairs ≡ bytes_of_keys keys → length keys.keys ≤ most
-    → OnOk wrote (Appends before after (pair_lines pairs))
-    → OnOk wrote (WritesPairs most before after)
-writes_pairs (Ok x) pairs keys most before after same bound written = (
+    → OnOk wrote (Appends before after (flat_map line_of pairs))
+    → OnOk wrote (WritesPairs line_of most before after)
+writes_pairs line_of (Ok x) pairs keys most before after same bound written = (
   pairs,
   omega (
     arith,
@@ -74,7 +74,7 @@ writes_pairs (Ok x) pairs keys most before after same bound written = (
   ),
   written,
 )
-writes_pairs (Err e) pairs keys most before after same bound written = tt
+writes_pairs line_of (Err e) pairs keys most before after same bound written = tt
 
 pub writes_keys : {E : Type 0} (wrote : Result Unit E) (keys : BTreeSet (Vec ℕ)) (most : ℕ)
     (before after : Option (List ℕ)) → length keys.keys ≤ most

@@ -5,7 +5,6 @@ use Rattle.std.specs.BTreeSet.{BTreeSet}
 use Rattle.std.specs.Io.KnownBytes.{Appends}
 use Rattle.sect_dev.specs.Device.{MoreFaults}
 use Rattle.dbm_model.specs.Calls.{Call, Reply}
-use Rattle.dbm_text.specs.Dumps.{dump_line}
 use Rattle.dbm_text.specs.Lines.{with_line_feed}
 use Rattle.dbm_model.specs.Pairs.{Key, Pair}
 use Rattle.dbm_model.specs.States.{State, Handle, first_fault}
@@ -77,16 +76,13 @@ abbrev pub CopiesStep : {S : Type 0} {s : Ghosts S} → Database S s → Databas
 CopiesStep old new start call none result =
     (lent : Lent) × IsCopied lent result × IsStep old new start call (lent_reply none lent)
 
-abbrev pub pair_lines : List Pair → List ℕ
-pair_lines pairs = flat_map dump_line pairs
-
 abbrev pub key_lines : List Key → List ℕ
 key_lines keys = flat_map (λ key. with_line_feed (word_of key)) keys
 
--- the lines of some pairs were written, at most as many as the first number
-abbrev pub WritesPairs : ℕ → Option (List ℕ) → Option (List ℕ) → Type 0
-WritesPairs most before after =
-    (pairs : List Pair) × (length pairs ≤ most) × Appends before after (pair_lines pairs)
+-- the lines of some pairs were written, at most as many as the number
+abbrev pub WritesPairs : (Pair → List ℕ) → ℕ → Option (List ℕ) → Option (List ℕ) → Type 0
+WritesPairs line_of most before after =
+    (pairs : List Pair) × (length pairs ≤ most) × Appends before after (flat_map line_of pairs)
 
 -- the same of keys
 abbrev pub WritesKeys : ℕ → Option (List ℕ) → Option (List ℕ) → Type 0

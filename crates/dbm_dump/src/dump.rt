@@ -1,16 +1,17 @@
-// The engines of a dump and of a list.
-ghost use Rattle.std.specs.Prelude.{◌≡◌, ◌⊎◌, true, false, OnOk, IfErr, Err, ◌∷◌, []};
+// The engines of dumps and of a list.
+ghost use Rattle.std.specs.Prelude.{◌≡◌, ◌⊎◌, true, false, OnOk, IfErr, Err, ◌∷◌, [], flat_map};
 ghost use Rattle.dbm_fault.specs.Among.{IsErrAmong};
 ghost use Rattle.std.specs.List.{All};
 ghost use Rattle.std.specs.Io.KnownBytes.{Appends};
-ghost use Rattle.dbm_text.specs.Dumps.{dump_of, listing_of};
+ghost use Rattle.dbm_text.specs.Dumps.{dump_line, dump_of, listing_of, text_dump_of, text_line};
+ghost use Rattle.dbm_lines.specs.Forms.{line_in, dump_in};
 ghost use Rattle.dbm_file.specs.Database.{meta_kept, page_state, AtEachHandle};
-ghost use Rattle.dbm_dump.specs.Dumping.{Reads, IsChance, bytes_of_keys, IsShort, WritesPairs, WritesKeys, pair_lines, key_lines};
+ghost use Rattle.dbm_dump.specs.Dumping.{Reads, IsChance, bytes_of_keys, IsShort, WritesPairs, WritesKeys, key_lines};
 
 use crate::gather::{fetch_pairs, gather_keys};
 use dbm_fault::EngineFault;
 use dbm_file::{Database, Fault, Octets};
-use dbm_lines::{DIGITS, write_bytes, write_word};
+use dbm_lines::{DIGITS, TextForm, write_bytes, write_escaped, write_word};
 use page_io::PageStore;
 use std::alloc::Global;
 use std::collections::BTreeSet;
@@ -35,7 +36,7 @@ pub fn dump_engine<S: PageStore, W: Write>(
     ensures reads { Reads db.old db.new result }
 
     // On any device.
-    ensures lines { OnOk result (WritesPairs (meta_kept db.old).pairs (W.contents writer.old)
+    ensures lines { OnOk result (WritesPairs dump_line (meta_kept db.old).pairs (W.contents writer.old)
         (W.contents writer.new)) }
     ensures broken { (page_state db.old).usable ≡ false
         → result ≡ Err (EngineFault.Db Fault.Broken) }
@@ -45,9 +46,37 @@ pub fn dump_engine<S: PageStore, W: Write>(
         ∷ EngineFault.Db Fault.NoPass ∷ EngineFault.Db Fault.Device
         ∷ EngineFault.Db Fault.Damaged ∷ []) }
 {
-    let keys = gather_keys(alloc, db)?;
-    let pairs = fetch_pairs(alloc, db, keys)?;
-    write_pairs(writer, &pairs).map_err(|_| EngineFault::Write)
+    dump_in_form(alloc, db, writer, TextForm::Hexadecimal)
+}
+
+/// Writes each pair as two fields in a line, a tab between them, with escapes, in ascending byte
+/// order of keys. It reads, keeps in memory and fails as `dump_engine` does.
+pub fn dump_text_engine<S: PageStore, W: Write>(
+    alloc: Global,
+    db: &mut Database<S>,
+    writer: &mut W,
+) -> Result<(), EngineFault>
+    ensures dump { AtEachHandle db.old (λ h.
+        h.state.usable ≡ true → OnOk result
+        (Appends (W.contents writer.old) (W.contents writer.new) (text_dump_of h.state.map))) }
+    ensures whole { AtEachHandle db.old (λ h.
+        h.state.usable ≡ true → IfErr result (λ e. (e ≡ EngineFault.Write) ⊎ IsChance e)) }
+
+    // Whatever it answers, the map stays.
+    ensures reads { Reads db.old db.new result }
+
+    // On any device.
+    ensures lines { OnOk result (WritesPairs text_line (meta_kept db.old).pairs (W.contents writer.old)
+        (W.contents writer.new)) }
+    ensures broken { (page_state db.old).usable ≡ false
+        → result ≡ Err (EngineFault.Db Fault.Broken) }
+    ensures unwritten { IfErr result (λ e. (e ≡ EngineFault.Write) ⊎ (writer.new ≡ writer.old)) }
+    ensures only { IsErrAmong result
+        (EngineFault.Memory ∷ EngineFault.Write ∷ EngineFault.Db Fault.Broken
+        ∷ EngineFault.Db Fault.NoPass ∷ EngineFault.Db Fault.Device
+        ∷ EngineFault.Db Fault.Damaged ∷ []) }
+{
+    dump_in_form(alloc, db, writer, TextForm::Escaped)
 }
 
 /// Writes each key in a line, in ascending byte order. It reads all keys before it writes, by a
@@ -82,19 +111,106 @@ pub fn list_engine<S: PageStore, W: Write>(
     write_keys(writer, &keys).map_err(|_| EngineFault::Write)
 }
 
+/// Writes each pair in a line of this form.
+fn dump_in_form<S: PageStore, W: Write>(
+    alloc: Global,
+    db: &mut Database<S>,
+    writer: &mut W,
+    form: TextForm,
+) -> Result<(), EngineFault>
+    ensures dump { AtEachHandle db.old (λ h.
+        h.state.usable ≡ true → OnOk result
+        (Appends (W.contents writer.old) (W.contents writer.new) (dump_in form h.state.map))) }
+    ensures whole { AtEachHandle db.old (λ h.
+        h.state.usable ≡ true → IfErr result (λ e. (e ≡ EngineFault.Write) ⊎ IsChance e)) }
+
+    // Whatever it answers, the map stays.
+    ensures reads { Reads db.old db.new result }
+
+    // On any device.
+    ensures lines { OnOk result (WritesPairs (line_in form) (meta_kept db.old).pairs (W.contents writer.old)
+        (W.contents writer.new)) }
+    ensures broken { (page_state db.old).usable ≡ false
+        → result ≡ Err (EngineFault.Db Fault.Broken) }
+    ensures unwritten { IfErr result (λ e. (e ≡ EngineFault.Write) ⊎ (writer.new ≡ writer.old)) }
+    ensures only { IsErrAmong result
+        (EngineFault.Memory ∷ EngineFault.Write ∷ EngineFault.Db Fault.Broken
+        ∷ EngineFault.Db Fault.NoPass ∷ EngineFault.Db Fault.Device
+        ∷ EngineFault.Db Fault.Damaged ∷ []) }
+{
+    let keys = gather_keys(alloc, db)?;
+    let pairs = fetch_pairs(alloc, db, keys)?;
+    write_pairs(writer, &pairs, form).map_err(|_| EngineFault::Write)
+}
+
 /// Writes the line of each pair.
-fn write_pairs<W: Write>(writer: &mut W, pairs: &[(Octets, Octets)]) -> io::Result<()>
+fn write_pairs<W: Write>(
+    writer: &mut W,
+    pairs: &[(Octets, Octets)],
+    form: TextForm,
+) -> io::Result<()>
     requires { All (λ pair. IsShort pair.0 × IsShort pair.1) pairs.now }
     ensures { OnOk result (Appends (W.contents writer.old) (W.contents writer.new)
-        (pair_lines pairs.now)) }
+        (flat_map (line_in form) pairs.now)) }
 {
     let mut digits = [0; DIGITS];
     for (key, content) in pairs {
-        write_word(writer, key.as_slice(), &mut digits)?;
-        writer.write_all(b" ")?;
-        write_bytes(writer, content.as_slice(), &mut digits)?;
+        write_pair(
+            writer,
+            key.as_slice(),
+            content.as_slice(),
+            form,
+            &mut digits,
+        )?;
     }
     Ok(())
+}
+
+/// Writes the line of a pair. The digits of its words go through `digits`.
+fn write_pair<W: Write>(
+    writer: &mut W,
+    key: &[u8],
+    content: &[u8],
+    form: TextForm,
+    digits: &mut [u8; DIGITS],
+) -> io::Result<()>
+    requires key { IsShort key.now }
+    requires content { IsShort content.now }
+    ensures { OnOk result (Appends (W.contents writer.old) (W.contents writer.new)
+        (line_in form (key.now, content.now))) }
+{
+    match form {
+        TextForm::Hexadecimal => write_words(writer, key, content, digits),
+        TextForm::Escaped => write_fields(writer, key, content),
+    }
+}
+
+/// Writes the line of a pair as two words, of which the digits go through `digits`.
+fn write_words<W: Write>(
+    writer: &mut W,
+    key: &[u8],
+    content: &[u8],
+    digits: &mut [u8; DIGITS],
+) -> io::Result<()>
+    requires key { IsShort key.now }
+    requires content { IsShort content.now }
+    ensures { OnOk result (Appends (W.contents writer.old) (W.contents writer.new)
+        (dump_line (key.now, content.now))) }
+{
+    write_word(writer, key, digits)?;
+    writer.write_all(b" ")?;
+    write_bytes(writer, content, digits)
+}
+
+/// Writes the line of a pair as two fields.
+fn write_fields<W: Write>(writer: &mut W, key: &[u8], content: &[u8]) -> io::Result<()>
+    ensures { OnOk result (Appends (W.contents writer.old) (W.contents writer.new)
+        (text_line (key.now, content.now))) }
+{
+    write_escaped(writer, key)?;
+    writer.write_all(b"\t")?;
+    write_escaped(writer, content)?;
+    writer.write_all(b"\n")
 }
 
 /// Writes the line of each key.

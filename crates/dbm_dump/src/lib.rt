@@ -1,7 +1,7 @@
-//! The engines of a dump and of a list.
+//! The engines of dumps and of a list.
 #![tactic(auto)]
 
 mod dump;
 mod gather;
 
-pub use dump::{dump_engine, list_engine};
+pub use dump::{dump_engine, dump_text_engine, list_engine};

@@ -1,3 +1,4 @@
+pub mod FieldBytes
 pub mod PairLines
 pub mod Reading
 pub mod Requests

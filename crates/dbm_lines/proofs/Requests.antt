@@ -1,6 +1,6 @@
 -- Lines of too many words.
-use Rattle.std.proofs.Common.{◌≡◌, ◌==◌, ℕ, true, false, cond, List, [], ◌∷◌, Option, Some, None, IfSome, is_some, refl, sym}
-use Rattle.std.specs.List.{onto_first}
+use Rattle.std.proofs.Common.{◌≡◌, ◌==◌, ℕ, Bool, true, false, cond, List, [], ◌∷◌, Option, Some, None, IfSome, is_some, refl, sym}
+use Rattle.std.specs.List.{onto_first, slice_split}
 use Rattle.dbm_text.specs.Lines.{words_in, call_of_words, key_call, pair_call}
 use Rattle.dbm_text.specs.Words.{word_bytes}
 use Rattle.std.specs.Prelude.{option_and_then}
@@ -17,16 +17,20 @@ first_of_parts : (x : ℕ) (parts : List (List ℕ))
 first_of_parts x [] = (x ∷ [], [], refl)
 first_of_parts x (part ∷ parts) = (x ∷ part, parts, refl)
 
--- a line has a first word
+-- a line has a first part
+pub first_part : (p : ℕ → Bool) (line : List ℕ) → (part : List ℕ) × (parts : List (List ℕ))
+    × (slice_split p line ≡ part ∷ parts)
+first_part p [] = ([], [], refl)
+first_part p (x ∷ line) = elim (p x) as
+    (λ b. (part : List ℕ) × (parts : List (List ℕ))
+    × (cond b ([] ∷ slice_split p line) (onto_first x (slice_split p line)) ≡ part ∷ parts)) [
+      | true ↦ ([], slice_split p line, refl)
+      | false ↦ first_of_parts x (slice_split p line)
+    ]
+
 first_word : (line : List ℕ) → (word : List ℕ) × (words : List (List ℕ))
     × (words_in line ≡ word ∷ words)
-first_word [] = ([], [], refl)
-first_word (x ∷ line) = elim (x == 32) as
-    (λ b. (word : List ℕ) × (words : List (List ℕ))
-    × (cond b ([] ∷ words_in line) (onto_first x (words_in line)) ≡ word ∷ words)) [
-      | true ↦ ([], words_in line, refl)
-      | false ↦ first_of_parts x (words_in line)
-    ]
+first_word line = first_part (λ byte. byte == 32) line
 
 no_pair : (name : List ℕ) → ((k c : List ℕ) → pair_call name k c ≡ None)
     → (key content : Option (List ℕ))

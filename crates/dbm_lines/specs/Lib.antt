@@ -1,3 +1,4 @@
+pub mod Forms
 pub mod PairLines
 pub mod Parts
 pub mod Reading

@@ -16,5 +16,5 @@ abbrev pub pair_of_line : List ℕ → Option Pair
 pair_of_line line = if nat_lt 8192 (length line) then None else pair_of_words (words_in line)
 
 -- the lines say these pairs, one each, in order
-abbrev pub Say : List (List ℕ) → List Pair → Type 0
-Say lines pairs = map pair_of_line lines ≡ map Some pairs
+abbrev pub Say : (List ℕ → Option Pair) → List (List ℕ) → List Pair → Type 0
+Say pair_of lines pairs = map pair_of lines ≡ map Some pairs

@@ -1,6 +1,6 @@
 // What an engine that reads lines keeps between them.
 use crate::lines::KEPT;
-use crate::parsing::LONGEST_WORD;
+use crate::parsing::LONGEST_LINE;
 use crate::replies::DIGITS;
 use arrayvec::ArrayVec;
 
@@ -8,8 +8,8 @@ use arrayvec::ArrayVec;
 #[derive(Drop)]
 pub struct Buffers {
     pub line: ArrayVec<u8, KEPT>,
-    pub key: [u8; LONGEST_WORD],
-    pub content: [u8; LONGEST_WORD],
+    pub key: [u8; LONGEST_LINE],
+    pub content: [u8; LONGEST_LINE],
     pub digits: [u8; DIGITS],
 }
 
@@ -18,8 +18,8 @@ impl Buffers {
     pub fn new() -> Buffers {
         Buffers {
             line: ArrayVec::new(),
-            key: [0; LONGEST_WORD],
-            content: [0; LONGEST_WORD],
+            key: [0; LONGEST_LINE],
+            content: [0; LONGEST_LINE],
             digits: [0; DIGITS],
         }
     }

@@ -1,5 +1,5 @@
 // Lines as requests and as pairs.
-ghost use Rattle.std.specs.Prelude.{◌≡◌, ◌==◌, ◌≤◌, ◌*◌, ◌∷◌, [], IfSome, IfNone, length, position, codes, Option, None};
+ghost use Rattle.std.specs.Prelude.{◌≡◌, ◌≤◌, ◌*◌, ◌∷◌, [], IfSome, IfNone, length, codes, None};
 ghost use Rattle.std.specs.Option.{option_map};
 ghost use Rattle.dbm_text.specs.Words.{word_bytes};
 ghost use Rattle.dbm_text.specs.Lines.{words_in, call_in_line, call_of_words, bare_call};
@@ -7,11 +7,10 @@ ghost use Rattle.dbm_model.specs.Calls.{Fetch, Delete};
 ghost use Rattle.dbm_lines.specs.PairLines.{pair_of_line, pair_of_words};
 ghost use Rattle.dbm_lines.specs.Requests.{asked, IsNamed};
 
+use crate::splitting::split_at;
+
 /// The bytes that a line may have.
 pub const LONGEST_LINE: usize = 8192;
-
-/// The bytes that a word of a line may stand for.
-pub const LONGEST_WORD: usize = LONGEST_LINE / 2;
 
 /// What a line asks for.
 #[derive(Clone, Copy)]
@@ -31,8 +30,8 @@ pub enum Request<'a> {
 /// Reads a line without its line feed. The bytes of the words go to `key` and `content`.
 pub fn request_of<'a>(
     line: &[u8],
-    key: &'a mut [u8; LONGEST_WORD],
-    content: &'a mut [u8; LONGEST_WORD],
+    key: &'a mut [u8; LONGEST_LINE],
+    content: &'a mut [u8; LONGEST_LINE],
 ) -> Request<'a>
     ensures { asked result ≡ call_in_line line.now }
 {
@@ -60,8 +59,8 @@ enum Name {
 /// The request of a line that has words after a name.
 fn request_with_words<'a>(
     line: &[u8],
-    key: &'a mut [u8; LONGEST_WORD],
-    content: &'a mut [u8; LONGEST_WORD],
+    key: &'a mut [u8; LONGEST_LINE],
+    content: &'a mut [u8; LONGEST_LINE],
 ) -> Request<'a>
     requires { length line.now ≤ 8192 }
     ensures { bare_call line.now ≡ None → asked result ≡ call_of_words (words_in line.now) }
@@ -98,7 +97,7 @@ fn name_of(name: &[u8]) -> Option<Name>
 }
 
 /// The key that a fetch or a delete names, of the words after its name.
-fn key_request<'a>(words: &[u8], key: &'a mut [u8; LONGEST_WORD]) -> Option<&'a [u8]>
+fn key_request<'a>(words: &[u8], key: &'a mut [u8; LONGEST_LINE]) -> Option<&'a [u8]>
     requires { length words.now ≤ 8192 }
     ensures fetch { option_map (λ key. Fetch key.now) result ≡ call_of_words (codes "F" ∷ words_in words.now) }
     ensures delete { option_map (λ key. Delete key.now) result ≡ call_of_words (codes "D" ∷ words_in words.now) }
@@ -112,8 +111,8 @@ fn key_request<'a>(words: &[u8], key: &'a mut [u8; LONGEST_WORD]) -> Option<&'a 
 /// The request of a store, of the words after its name.
 fn store_request<'a>(
     words: &[u8],
-    key: &'a mut [u8; LONGEST_WORD],
-    content: &'a mut [u8; LONGEST_WORD],
+    key: &'a mut [u8; LONGEST_LINE],
+    content: &'a mut [u8; LONGEST_LINE],
 ) -> Request<'a>
     requires { length words.now ≤ 8192 }
     ensures { asked result ≡ call_of_words (codes "S" ∷ words_in words.now) }
@@ -127,8 +126,8 @@ fn store_request<'a>(
 /// The request of an insert, of the words after its name.
 fn insert_request<'a>(
     words: &[u8],
-    key: &'a mut [u8; LONGEST_WORD],
-    content: &'a mut [u8; LONGEST_WORD],
+    key: &'a mut [u8; LONGEST_LINE],
+    content: &'a mut [u8; LONGEST_LINE],
 ) -> Request<'a>
     requires { length words.now ≤ 8192 }
     ensures { asked result ≡ call_of_words (codes "I" ∷ words_in words.now) }
@@ -143,8 +142,8 @@ fn insert_request<'a>(
 /// go to `key` and `content`.
 pub fn pair_in_line<'a>(
     line: &[u8],
-    key: &'a mut [u8; LONGEST_WORD],
-    content: &'a mut [u8; LONGEST_WORD],
+    key: &'a mut [u8; LONGEST_LINE],
+    content: &'a mut [u8; LONGEST_LINE],
 ) -> Option<(&'a [u8], &'a [u8])>
     ensures { option_map (λ pair. (pair.0.now, pair.1.now)) result ≡ pair_of_line line.now }
 {
@@ -157,8 +156,8 @@ pub fn pair_in_line<'a>(
 /// The pair of a key and a content that are two words.
 fn pair_in_words<'a>(
     words: &[u8],
-    key: &'a mut [u8; LONGEST_WORD],
-    content: &'a mut [u8; LONGEST_WORD],
+    key: &'a mut [u8; LONGEST_LINE],
+    content: &'a mut [u8; LONGEST_LINE],
 ) -> Option<(&'a [u8], &'a [u8])>
     requires { length words.now ≤ 8192 }
     ensures { option_map (λ pair. (pair.0.now, pair.1.now)) result
@@ -182,15 +181,7 @@ fn split_word(line: &[u8]) -> Option<(&[u8], &[u8])>
         (λ parts. (length parts.0.now ≤ length line.now) × (length parts.1.now ≤ length line.now)) }
     ensures single { IfNone result (words_in line.now ≡ line.now ∷ []) }
 {
-    let end = first_space(line)?;
-    Some((&line[..end], &line[end + 1..]))
-}
-
-/// Where the first space of a line stands, if there is one.
-fn first_space(line: &[u8]) -> Option<usize>
-    ensures { result ≡ position (λ byte. byte == 32) line.now }
-{
-    line.iter().position(|byte| *byte == b' ')
+    split_at(line, b' ')
 }
 
 /// The bytes that a word stands for, put into `room`, if it is one.

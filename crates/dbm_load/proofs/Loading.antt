@@ -3,6 +3,7 @@ use Rattle.std.proofs.Common.{◌≡◌, ℕ, ◌+◌, true, List, [], ◌∷◌
 use Rattle.std.specs.FinMap.{entries}
 use Rattle.std.proofs.lemmas.List.{map-append}
 use Rattle.dbm_model.specs.Calls.{Store, Replace, Stored, Refused, Fault}
+use Rattle.dbm_text.specs.Escapes.{pair_of_fields, fields_in}
 use Rattle.dbm_text.specs.Lines.{lines_of, words_in}
 use Rattle.dbm_model.specs.Pairs.{Pair}
 use Rattle.dbm_model.specs.States.{Handle}
@@ -18,7 +19,10 @@ use Rattle.dbm_file.specs.declared.calls.StoreReply.TheVariants as stored
 use Rattle.dbm_file.specs.declared.database.Database.{Database}
 use Rattle.dbm_file.proofs.Breaks.{CountsNow}
 use Rattle.dbm_file.proofs.Runs.{goes_on_with}
-use Rattle.dbm_lines.specs.PairLines.{pair_of_words, pair_of_line, Say}
+use Rattle.dbm_lines.specs.Forms.{pair_in, dump_in}
+use Rattle.dbm_lines.specs.PairLines.{pair_of_words, Say}
+use Rattle.dbm_lines.specs.declared.forms.TextForm.{TextForm}
+use Rattle.dbm_lines.specs.declared.forms.TextForm.TheVariants.{Hexadecimal, Escaped}
 use Rattle.dbm_load.specs.Loading.{replacing, StoresAll, StoresBefore, Loads, LoadsDump, LoadsLine}
 use Rattle.dbm_lines.specs.Reading.{line_bytes, after_line, ReadsLine}
 use Rattle.dbm_fault.specs.declared.fault.Fault as db
@@ -29,8 +33,10 @@ use Rattle.dbm_load.proofs.LoadingRuns.{fills, never_kept}
 use Rattle.dbm_lines.proofs.PairLines.{lines_say}
 
 -- a byte past the limit tells as much as the whole line
-pair_of-take : (line : List ℕ) → pair_of_line (take 8193 line) ≡ pair_of_line line
-pair_of-take line = limited-take (λ line. pair_of_words (words_in line)) 8192 line
+pair_of-take : (form : TextForm) (line : List ℕ)
+    → pair_in form (take 8193 line) ≡ pair_in form line
+pair_of-take Hexadecimal line = limited-take (λ line. pair_of_words (words_in line)) 8192 line
+pair_of-take Escaped line = limited-take (λ line. pair_of_fields (fields_in line)) 8192 line
 
 -- of a text, the lines that were read, and what is left
 abbrev pub AreRead : Option (List ℕ) → Option (List ℕ) → List (List ℕ) → Type 0
@@ -39,19 +45,20 @@ AreRead (Some text) None done = ⊥
 AreRead (Some text) (Some rest) done = lines_of text ≡ done ++ lines_of rest
 
 -- how far a text has been loaded
-pub record IsLoading {S : Type 0} {s : Ghosts S} (old new : Database S s)
+pub record IsLoading {S : Type 0} {s : Ghosts S} (form : TextForm) (old new : Database S s)
     (first now : Option (List ℕ)) (number : ℕ) : Type 0 where
   pub done : List (List ℕ)
   pub stored : List Pair
   pub read : AreRead first now done
-  pub said : Say done stored
+  pub said : Say (pair_in form) done stored
   pub counted : number ≡ length done + 1
   pub stores : StoresAll old new stored
 
-pub at_start : {S : Type 0} {s : Ghosts S} (db : Database S s) (first : Option (List ℕ))
+pub at_start : {S : Type 0} {s : Ghosts S} (form : TextForm) (db : Database S s)
+    (first : Option (List ℕ))
     → ((h : Handle) → s.honest (store_of db) → IsAt db h → IsRun db db h [] [])
-    → IsLoading db db first first 1
-at_start db None none = record {
+    → IsLoading form db db first first 1
+at_start form db None none = record {
   done = [];
   stored = [];
   read = tt;
@@ -59,7 +66,7 @@ at_start db None none = record {
   counted = refl;
   stores = λ honest h at. none h honest at;
 }
-at_start db (Some text) none =
+at_start form db (Some text) none =
     record {
       done = [];
       stored = [];
@@ -71,16 +78,17 @@ at_start db (Some text) none =
     }
 
 -- the line that was read is the next one of the text, or says the same
-read_on : (first now next : Option (List ℕ)) (line : List ℕ) (done : List (List ℕ))
+read_on : (form : TextForm) (first now next : Option (List ℕ)) (line : List ℕ)
+    (done : List (List ℕ))
     → AreRead first now done → IfSome now (λ text. ReadsLine 8193 text true line next)
-    → (whole : List ℕ) × (pair_of_line whole ≡ pair_of_line line)
+    → (whole : List ℕ) × (pair_in form whole ≡ pair_in form line)
     × AreRead first next (done ++ whole ∷ [])
-read_on None now next line done h r = (line, refl, tt)
-read_on (Some text) None next line done h r = absurd h
-read_on (Some text) (Some []) next line done h r = let e = r.0 in cc
-read_on (Some text) (Some (x ∷ xs)) next line done h r = (
+read_on form None now next line done h r = (line, refl, tt)
+read_on form (Some text) None next line done h r = absurd h
+read_on form (Some text) (Some []) next line done h r = let e = r.0 in cc
+read_on form (Some text) (Some (x ∷ xs)) next line done h r = (
   line_bytes (x ∷ xs),
-  sym (pair_of-take (line_bytes (x ∷ xs))) ∙ sym (ap pair_of_line r.1),
+  sym (pair_of-take form (line_bytes (x ∷ xs))) ∙ sym (ap (pair_in form) r.1),
   rw (r.2) (h ∙ ap (λ rest. done ++ rest) (first_line x xs)
       ∙ sym (append_assoc done (line_bytes (x ∷ xs) ∷ []) (lines_of (after_line (x ∷ xs))))),
 )
@@ -152,45 +160,46 @@ refused_line {S} {s} (Some pair) key content fault number old new e step =
     subst (λ (p : Pair). s.honest (store_of old) → (h : Handle) → IsAt old h
     → IsStep old new h (replacing p) (Refused (fault_of fault))) (seen e) step
 
-module _ {S : Type 0} (s : Ghosts S) (old mid new : Database S s) (first now next : Option (List ℕ))
-    (line : List ℕ) (number : ℕ) (limit : (meta_kept mid).limit ≡ (meta_kept old).limit)
+module _ {S : Type 0} (s : Ghosts S) (form : TextForm) (old mid new : Database S s)
+    (first now next : Option (List ℕ)) (line : List ℕ) (number : ℕ)
+    (limit : (meta_kept mid).limit ≡ (meta_kept old).limit)
     (honesty : s.honest (store_of old) → s.honest (store_of mid)) (goes : IsSameDatabase mid new)
-    (counts : s.honest (store_of new) → CountsNow new) (h : IsLoading old mid first now number)
+    (counts : s.honest (store_of new) → CountsNow new) (h : IsLoading form old mid first now number)
     (r : IfSome now (λ text. ReadsLine 8193 text true line next)) where
   -- a line was read, and its pair was stored
-  pub go_on : LoadsLine (Ok tt) (pair_of_line line) number mid new
-      → IsLoading old new first next (number + 1)
+  pub go_on : LoadsLine (Ok tt) (pair_in form line) number mid new
+      → IsLoading form old new first next (number + 1)
   go_on loaded =
-      let whole = read_on first now next line h.done h.read r in
-      by_pair (pair_of_line line) whole.0 whole.1 whole.2 loaded
+      let whole = read_on form first now next line h.done h.read r in
+      by_pair (pair_in form line) whole.0 whole.1 whole.2 loaded
     where
-      by_pair : (said : Option Pair) (whole : List ℕ) → pair_of_line whole ≡ said
+      by_pair : (said : Option Pair) (whole : List ℕ) → pair_in form whole ≡ said
           → AreRead first next (h.done ++ whole ∷ []) → LoadsLine (Ok tt) said number mid new
-          → IsLoading old new first next (number + 1)
+          → IsLoading form old new first next (number + 1)
       by_pair None whole says read loaded = absurd loaded
       by_pair (Some pair) whole says read loaded = record {
         done = h.done ++ whole ∷ [];
         stored = h.stored ++ pair ∷ [];
         read = read;
-        said = map-append pair_of_line h.done (whole ∷ []) ∙ (λ i. h.said i ++ says i ∷ [])
+        said = map-append (pair_in form) h.done (whole ∷ []) ∙ (λ i. h.said i ++ says i ∷ [])
             ∙ sym (map-append Some h.stored (pair ∷ []));
         counted = omega (arith, h.counted, length-append h.done (whole ∷ []));
         stores = one_more s old mid new limit honesty goes counts h.stored pair h.stores loaded;
       }
 
   -- or the load stopped there
-  pub stopped : (fault : EngineFault) → LoadsLine (Err fault) (pair_of_line line) number mid new
-      → Loads (Err fault) first old new
+  pub stopped : (fault : EngineFault) → LoadsLine (Err fault) (pair_in form line) number mid new
+      → Loads (pair_in form) (Err fault) first old new
   stopped fault loaded =
-      let whole = read_on first now next line h.done h.read r in
+      let whole = read_on form first now next line h.done h.read r in
       let over = left_over first next (h.done ++ whole.0 ∷ []) whole.2 in
-      by_fault fault (pair_of_line line) whole.0 over.0 whole.1
+      by_fault fault (pair_in form line) whole.0 over.0 whole.1
       (left_behind first h.done whole.0 over.0 over.1) loaded
     where
       by_fault : (fault : EngineFault) (said : Option Pair) (whole : List ℕ) (rest : List (List ℕ))
-          → pair_of_line whole ≡ said → IfSome first
+          → pair_in form whole ≡ said → IfSome first
           (λ text. lines_of text ≡ h.done ++ whole ∷ rest)
-          → LoadsLine (Err fault) said number mid new → Loads (Err fault) first old new
+          → LoadsLine (Err fault) said number mid new → Loads (pair_in form) (Err fault) first old new
       by_fault (Line n) None whole rest says lines loaded = record {
         first = h.done;
         rest = whole ∷ rest;
@@ -222,10 +231,10 @@ module _ {S : Type 0} (s : Ghosts S) (old mid new : Database S s) (first now nex
       by_fault Read said whole rest says lines loaded = absurd loaded
       by_fault Write said whole rest says lines loaded = absurd loaded
 
-module _ {S : Type 0} {s : Ghosts S} (old new : Database S s) (first now : Option (List ℕ))
-    (number : ℕ) (h : IsLoading old new first now number) where
+module _ {S : Type 0} {s : Ghosts S} (form : TextForm) (old new : Database S s)
+    (first now : Option (List ℕ)) (number : ℕ) (h : IsLoading form old new first now number) where
   -- the reading failed
-  pub not_read : Loads (Err Read) first old new
+  pub not_read : Loads (pair_in form) (Err Read) first old new
   not_read =
       let over = left_over first now h.done h.read in
       record {
@@ -238,10 +247,11 @@ module _ {S : Type 0} {s : Ghosts S} (old new : Database S s) (first now : Optio
       }
 
 -- nothing was read and nothing called
-pub not_begun : {S : Type 0} {s : Ghosts S} (db : Database S s) (first : Option (List ℕ))
+pub not_begun : {S : Type 0} {s : Ghosts S} (pair_of : List ℕ → Option Pair) (db : Database S s)
+    (first : Option (List ℕ))
     → ((h : Handle) → s.honest (store_of db) → IsAt db h → IsRun db db h [] [])
-    → Loads (Err Memory) first db db
-not_begun db first none =
+    → Loads pair_of (Err Memory) first db db
+not_begun pair_of db first none =
     let over = lines_in first in
     record {
       first = [];
@@ -259,18 +269,18 @@ not_begun db first none =
     lines_in (Some text) = (lines_of text, refl)
 
 -- a dump is loaded back
-pub dump_back : {S : Type 0} {s : Ghosts S} (result : Result Unit EngineFault)
-    (old new : Database S s) (text : Option (List ℕ)) → Loads result text old new
-    → OnOk result (LoadsDump text old new)
-dump_back (Err fault) old new text loads = tt
-dump_back (Ok done) old new text loads = λ honest h at none contents fit is.
+pub dump_back : {S : Type 0} {s : Ghosts S} (form : TextForm) (result : Result Unit EngineFault)
+    (old new : Database S s) (text : Option (List ℕ)) → Loads (pair_in form) result text old new
+    → OnOk result (LoadsDump (dump_in form) text old new)
+dump_back form (Err fault) old new text loads = tt
+dump_back form (Ok done) old new text loads = λ honest h at none contents fit is.
     let run = loads.ends.1 honest h at in
     let lines = subst (λ (o : Option (List ℕ)).
     IfSome o (λ bytes. lines_of bytes ≡ loads.first ++ loads.rest)) is loads.lines in
     let whole = lines ∙ ap (λ (rest : List (List ℕ)). loads.first ++ rest) loads.ends.0
     ∙ append-nil loads.first in
     let same : loads.stored ≡ entries contents =
-    lines_say (entries contents) loads.stored fit (ap (map pair_of_line) whole ∙ loads.said) in (
+    lines_say form (entries contents) loads.stored fit (ap (map (pair_in form)) whole ∙ loads.said) in (
       run.after,
       run.is_at,
       fills contents h run.after none

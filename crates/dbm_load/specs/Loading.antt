@@ -4,7 +4,6 @@ use Rattle.std.specs.FinMap.{empty, entries}
 use Rattle.std.specs.List.{All}
 use Rattle.dbm_model.specs.Calls.{Call, Store, Replace, Stored, Refused}
 use Rattle.dbm_model.specs.Calls as model
-use Rattle.dbm_text.specs.Dumps.{dump_of}
 use Rattle.dbm_text.specs.Lines.{lines_of}
 use Rattle.page_model.specs.PairLists.{HasBytes}
 use Rattle.dbm_model.specs.Pairs.{Pair, Contents}
@@ -15,14 +14,14 @@ use Rattle.dbm_file.specs.Database.{store_of, IsAt}
 use Rattle.dbm_file.specs.Runs.{IsRun}
 use Rattle.dbm_fault.specs.Faults.{fault_of}
 use Rattle.dbm_file.specs.declared.database.Database.{Database}
-use Rattle.dbm_lines.specs.PairLines.{pair_of_line, Say}
+use Rattle.dbm_lines.specs.PairLines.{Say}
 use Rattle.dbm_fault.specs.declared.engine_fault.EngineFault.{EngineFault}
 use Rattle.dbm_fault.specs.declared.engine_fault.EngineFault.TheVariants.{Line, Db}
 
 -- there is a first line, and it says this pair, or is bad
-abbrev pub FirstSays : List (List ℕ) → Option Pair → Type 0
-FirstSays [] said = ⊥
-FirstSays (line ∷ lines) said = pair_of_line line ≡ said
+abbrev pub FirstSays : (List ℕ → Option Pair) → List (List ℕ) → Option Pair → Type 0
+FirstSays pair_of [] said = ⊥
+FirstSays pair_of (line ∷ lines) said = pair_of line ≡ said
 
 -- the call that stores a pair, also where the key is there
 abbrev pub replacing : Pair → Call
@@ -48,31 +47,35 @@ StoresBefore {S} {s} old new pairs refused fault =
     (map (λ _. Stored) pairs ++ Refused fault ∷ [])
 
 -- how a load ended that stored these pairs, of the first lines, and did not store the rest
-abbrev pub EndsBy : {S : Type 0} {s : Ghosts S} → Result Unit EngineFault → Database S s
-    → Database S s → List (List ℕ) → List (List ℕ) → List Pair → Type 0
-EndsBy (Ok done) old new first rest stored = (rest ≡ []) × StoresAll old new stored
-EndsBy (Err (Line n)) old new first rest stored =
-    (n ≡ length first + 1) × FirstSays rest None × StoresAll old new stored
-EndsBy (Err (Db fault)) old new first rest stored =
-    (pair : Pair) × FirstSays rest (Some pair) × StoresBefore old new stored pair (fault_of fault)
-EndsBy _ old new first rest stored = StoresAll old new stored
+abbrev pub EndsBy : {S : Type 0} {s : Ghosts S} → (List ℕ → Option Pair)
+    → Result Unit EngineFault → Database S s → Database S s → List (List ℕ) → List (List ℕ)
+    → List Pair → Type 0
+EndsBy pair_of (Ok done) old new first rest stored = (rest ≡ []) × StoresAll old new stored
+EndsBy pair_of (Err (Line n)) old new first rest stored =
+    (n ≡ length first + 1) × FirstSays pair_of rest None × StoresAll old new stored
+EndsBy pair_of (Err (Db fault)) old new first rest stored =
+    (pair : Pair) × FirstSays pair_of rest (Some pair)
+    × StoresBefore old new stored pair (fault_of fault)
+EndsBy pair_of _ old new first rest stored = StoresAll old new stored
 
--- What a load of a text did, whatever it answers: it stored what the first lines say.
-pub record Loads {S : Type 0} {s : Ghosts S} (result : Result Unit EngineFault)
-    (text : Option (List ℕ)) (old new : Database S s) : Type 0 where
+-- What a load did of a text whose lines say pairs in this way, whatever it answers: it stored what
+-- the first lines say.
+pub record Loads {S : Type 0} {s : Ghosts S} (pair_of : List ℕ → Option Pair)
+    (result : Result Unit EngineFault) (text : Option (List ℕ)) (old new : Database S s)
+    : Type 0 where
   pub first : List (List ℕ)
   pub rest : List (List ℕ)
   pub stored : List Pair
   pub lines : IfSome text (λ bytes. lines_of bytes ≡ first ++ rest)
-  pub said : Say first stored
-  pub ends : EndsBy result old new first rest stored
+  pub said : Say pair_of first stored
+  pub ends : EndsBy pair_of result old new first rest stored
 
 -- of the dump of a map, loaded into an empty database: it then has that map
-abbrev pub LoadsDump : {S : Type 0} {s : Ghosts S} → Option (List ℕ) → Database S s
-    → Database S s → Type 0
-LoadsDump {S} {s} text old new =
+abbrev pub LoadsDump : {S : Type 0} {s : Ghosts S} → (Contents → List ℕ) → Option (List ℕ)
+    → Database S s → Database S s → Type 0
+LoadsDump {S} {s} dumped text old new =
     s.honest (store_of old) → (h : Handle) → IsAt old h → h.state.map ≡ empty →
-    (contents : Contents) → IsOfBytes contents → text ≡ Some (dump_of contents)
+    (contents : Contents) → IsOfBytes contents → text ≡ Some (dumped contents)
     → (after : Handle) × IsAt new after × (after.state.map ≡ contents)
 
 -- what became of one line of this number that says this pair, or is bad

@@ -1,6 +1,6 @@
-//! The engine of a load: pairs are stored, one a line.
+//! The engines of loads: pairs are stored, one a line.
 #![tactic(auto)]
 
 mod load;
 
-pub use load::load_engine;
+pub use load::{load_engine, load_text_engine};

@@ -1,12 +1,15 @@
-// The engine of a load.
+// The engines of loads.
 ghost use Rattle.std.specs.Prelude.{◌≡◌, ◌≤◌, Err, OnOk, IfSome, Some, [], length};
 ghost use Rattle.dbm_file.specs.Answers.{IsSameDatabase};
+ghost use Rattle.dbm_text.specs.Dumps.{dump_of, text_dump_of};
+ghost use Rattle.dbm_text.specs.Escapes.{pair_of_text_line};
+ghost use Rattle.dbm_lines.specs.Forms.{pair_in, dump_in};
 ghost use Rattle.dbm_lines.specs.PairLines.{pair_of_line};
 ghost use Rattle.dbm_load.specs.Loading.{Loads, LoadsDump, LoadsLine};
 
 use dbm_fault::EngineFault;
 use dbm_file::{Database, StoreMode};
-use dbm_lines::{Buffers, pair_in_line, read_line};
+use dbm_lines::{Buffers, TextForm, pair_in_form, read_line};
 use page_io::PageStore;
 use std::alloc::Global;
 use std::io::BufRead;
@@ -22,14 +25,61 @@ pub fn load_engine<S: PageStore, R: BufRead>(
     db: &mut Database<S>,
     reader: &mut R,
 ) -> Result<(), EngineFault>
-    ensures loads { Loads result (R.remaining reader.old) db.old db.new }
+    ensures loads { Loads pair_of_line result (R.remaining reader.old) db.old db.new }
     ensures read { OnOk result (IfSome (R.remaining reader.old)
         (λ text. R.remaining reader.new ≡ Some [])) }
     ensures size { OnOk result (IfSome (R.remaining reader.old)
         (λ text. length text ≤ 4294967295)) }
 
     // A dump is loaded back.
-    ensures dump { OnOk result (LoadsDump (R.remaining reader.old) db.old db.new) }
+    ensures dump { OnOk result (LoadsDump dump_of (R.remaining reader.old) db.old db.new) }
+    ensures goes { IsSameDatabase db.old db.new }
+    ensures memory { result ≡ Err EngineFault.Memory
+        → (db.new ≡ db.old) × (reader.new ≡ reader.old) }
+    ensures only { result ≡ Err EngineFault.Write → ⊥ }
+{
+    load_in_form(alloc, db, reader, TextForm::Hexadecimal)
+}
+
+/// Stores the pair that each line says as two fields with a tab between them, and otherwise does
+/// and fails as `load_engine`. A byte of a field that no backslash begins stands for itself, so a
+/// text typed by hand loads.
+pub fn load_text_engine<S: PageStore, R: BufRead>(
+    alloc: Global,
+    db: &mut Database<S>,
+    reader: &mut R,
+) -> Result<(), EngineFault>
+    ensures loads { Loads pair_of_text_line result (R.remaining reader.old) db.old db.new }
+    ensures read { OnOk result (IfSome (R.remaining reader.old)
+        (λ text. R.remaining reader.new ≡ Some [])) }
+    ensures size { OnOk result (IfSome (R.remaining reader.old)
+        (λ text. length text ≤ 4294967295)) }
+
+    // A dump is loaded back.
+    ensures dump { OnOk result (LoadsDump text_dump_of (R.remaining reader.old) db.old db.new) }
+    ensures goes { IsSameDatabase db.old db.new }
+    ensures memory { result ≡ Err EngineFault.Memory
+        → (db.new ≡ db.old) × (reader.new ≡ reader.old) }
+    ensures only { result ≡ Err EngineFault.Write → ⊥ }
+{
+    load_in_form(alloc, db, reader, TextForm::Escaped)
+}
+
+/// Stores the pair that each line of this form says.
+fn load_in_form<S: PageStore, R: BufRead>(
+    alloc: Global,
+    db: &mut Database<S>,
+    reader: &mut R,
+    form: TextForm,
+) -> Result<(), EngineFault>
+    ensures loads { Loads (pair_in form) result (R.remaining reader.old) db.old db.new }
+    ensures read { OnOk result (IfSome (R.remaining reader.old)
+        (λ text. R.remaining reader.new ≡ Some [])) }
+    ensures size { OnOk result (IfSome (R.remaining reader.old)
+        (λ text. length text ≤ 4294967295)) }
+
+    // A dump is loaded back.
+    ensures dump { OnOk result (LoadsDump (dump_in form) (R.remaining reader.old) db.old db.new) }
     ensures goes { IsSameDatabase db.old db.new }
     ensures memory { result ≡ Err EngineFault.Memory
         → (db.new ≡ db.old) × (reader.new ≡ reader.old) }
@@ -38,7 +88,7 @@ pub fn load_engine<S: PageStore, R: BufRead>(
     let Ok(mut buffers) = Box::new(alloc, Buffers::new()) else {
         return Err(EngineFault::Memory);
     };
-    load_lines(db, reader, &mut buffers)
+    load_lines(db, reader, &mut buffers, form)
 }
 
 /// The engine with its buffers.
@@ -46,8 +96,9 @@ fn load_lines<S: PageStore, R: BufRead>(
     db: &mut Database<S>,
     reader: &mut R,
     buffers: &mut Buffers,
+    form: TextForm,
 ) -> Result<(), EngineFault>
-    ensures loads { Loads result (R.remaining reader.old) db.old db.new }
+    ensures loads { Loads (pair_in form) result (R.remaining reader.old) db.old db.new }
     ensures read { OnOk result (IfSome (R.remaining reader.old)
         (λ text. R.remaining reader.new ≡ Some [])) }
     ensures size { OnOk result (IfSome (R.remaining reader.old)
@@ -62,7 +113,7 @@ fn load_lines<S: PageStore, R: BufRead>(
         if !read.map_err(|_| EngineFault::Read)?.is_line() {
             return Ok(());
         }
-        load_line(db, buffers, number)?;
+        load_line(db, buffers, number, form)?;
     }
     Err(EngineFault::Read)
 }
@@ -72,12 +123,14 @@ fn load_line<S: PageStore>(
     db: &mut Database<S>,
     buffers: &mut Buffers,
     number: u64,
+    form: TextForm,
 ) -> Result<(), EngineFault>
-    ensures line { LoadsLine result (pair_of_line buffers.old.line.items) number db.old db.new }
+    ensures line { LoadsLine result (pair_in form buffers.old.line.items) number db.old db.new }
     ensures goes { IsSameDatabase db.old db.new }
 {
     let line = buffers.line.as_slice();
-    let Some((key, content)) = pair_in_line(line, &mut buffers.key, &mut buffers.content) else {
+    let pair = pair_in_form(form, line, &mut buffers.key, &mut buffers.content);
+    let Some((key, content)) = pair else {
         return Err(EngineFault::Line(number));
     };
     match db.store(key, content, StoreMode::Replace) {

@@ -40,13 +40,15 @@ pub enum Plan<'a> {
     List {
         file: &'a str,
     },
-    /// Print the pairs.
+    /// Print the pairs: as two words a line, or as text, which has two fields with escapes.
     Dump {
         file: &'a str,
+        spelling: Spelling,
     },
-    /// Store the pairs on standard input.
+    /// Store the pairs on standard input, which are spelled as a dump prints them.
     Load {
         file: &'a str,
+        spelling: Spelling,
     },
     /// Print the numbers of a database.
     Stat {

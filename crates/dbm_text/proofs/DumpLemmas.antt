@@ -2,9 +2,9 @@
 use Rattle.std.proofs.Common.{◌≡◌, ℕ, List, [], ◌∷◌, sym, ◌∙◌, ap}
 use Rattle.std.proofs.lemmas.List.{nil_from_length}
 use Rattle.std.specs.Cmp.Lexicographic.{nat_list_cmp_total}
-use Rattle.std.specs.FinMap.{empty, insert, entries, keys, entries-insert, len-entries, len-empty}
+use Rattle.std.specs.FinMap.{empty, insert, entries, entries-insert, len-entries, len-empty}
 use Rattle.std.specs.FinMap.Entries.{put}
-use Rattle.dbm_model.specs.Pairs.{Pair, Contents, key_cmp}
+use Rattle.dbm_model.specs.Pairs.{key_cmp}
 use Rattle.dbm_text.specs.Texts.{two_pairs}
 
 pub no_entries : entries (empty {X = List ℕ} {R = key_cmp}) ≡ []

@@ -1,3 +1,4 @@
 pub mod DumpLemmas
+pub mod EscapeLemmas
 pub mod LineLemmas
 pub mod WordLemmas

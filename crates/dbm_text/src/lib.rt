@@ -4,4 +4,7 @@
 
 mod text_laws;
 
-pub use text_laws::{dump_examples, line_examples, script_example, word_examples, words_read_back};
+pub use text_laws::{
+    dump_examples, escape_examples, escapes_read_back, fields_are_printable, line_examples,
+    script_example, text_line_examples, word_examples, words_read_back,
+};

@@ -16,7 +16,7 @@ use Rattle.page_model.specs.Sizes.{is_limit}
 
 -- it reads standard input
 abbrev pub reads : Plan → Bool
-reads (Load file) = true
+reads (Load file spelling) = true
 reads (Script source) = true
 reads _ = false
 
@@ -24,7 +24,7 @@ reads _ = false
 abbrev pub prints : Plan → Bool
 prints (Fetch file key spelling) = true
 prints (ListKeys file) = true
-prints (Dump file) = true
+prints (Dump file spelling) = true
 prints (Stat file) = true
 prints (Script source) = true
 prints Faults = true
@@ -39,7 +39,7 @@ looks_for_a_key _ = false
 
 -- a line of its input may be bad
 abbrev pub has_lines : Plan → Bool
-has_lines (Load file) = true
+has_lines (Load file spelling) = true
 has_lines _ = false
 
 -- it has a database, so it takes memory

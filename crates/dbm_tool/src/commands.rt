@@ -5,7 +5,10 @@ ghost use Rattle.dbm_script.specs.Scripts.{AnswersInMemory};
 ghost use Rattle.dbm_tool.specs.Endings.{EndsAs, prints, reads};
 ghost use Rattle.dbm_tool.specs.Plans.{Does};
 
-use crate::{EngineFault, dump_engine, list_engine, load_engine, script_engine};
+use crate::{
+    EngineFault, dump_engine, dump_text_engine, list_engine, load_engine, load_text_engine,
+    script_engine,
+};
 use dbm_commands::{Failure, Outcome, bytes_of, closed, flushed};
 use dbm_file::{Access, Db, Fault, OpenHow, StoreMode, dbm_open};
 use dbm_plan::{FAULT_TABLE, Plan, Source, Spelling};
@@ -59,8 +62,8 @@ pub fn carry_out<T: Files<File = File>, R: BufRead, O: Write>(
             spelling,
         } => delete(rt, alloc, file, key, spelling),
         Plan::List { file } => list(rt, alloc, file, output),
-        Plan::Dump { file } => dump(rt, alloc, file, output),
-        Plan::Load { file } => load(rt, alloc, file, input),
+        Plan::Dump { file, spelling } => dump(rt, alloc, file, spelling, output),
+        Plan::Load { file, spelling } => load(rt, alloc, file, spelling, input),
         Plan::Stat { file } => stat(rt, alloc, file, output),
         Plan::Script(Source::File(file)) => script(rt, alloc, file, input, output),
         Plan::Script(Source::Memory(limit)) => new_script(alloc, limit, input, output),
@@ -192,12 +195,16 @@ fn dump<T: Files<File = File>, O: Write>(
     rt: &T,
     alloc: Global,
     file: &str,
+    spelling: Spelling,
     output: &mut O,
 ) -> Result<Outcome, Failure>
-    ensures { EndsAs (Plan.Dump file.entry) result }
+    ensures { EndsAs (Plan.Dump file.entry spelling) result }
 {
     let mut db = open(rt, alloc, file, Access::ReadOnly)?;
-    let done = dump_engine(alloc, &mut db, output);
+    let done = match spelling {
+        Spelling::Hexadecimal => dump_engine(alloc, &mut db, output),
+        Spelling::Text => dump_text_engine(alloc, &mut db, output),
+    };
     closed(db, flushed(done, output))
 }
 
@@ -205,12 +212,17 @@ fn load<T: Files<File = File>, R: BufRead>(
     rt: &T,
     alloc: Global,
     file: &str,
+    spelling: Spelling,
     input: &mut R,
 ) -> Result<Outcome, Failure>
-    ensures { EndsAs (Plan.Load file.entry) result }
+    ensures { EndsAs (Plan.Load file.entry spelling) result }
 {
     let mut db = open(rt, alloc, file, Access::ReadWrite)?;
-    let done = match load_engine(alloc, &mut db, input) {
+    let loaded = match spelling {
+        Spelling::Hexadecimal => load_engine(alloc, &mut db, input),
+        Spelling::Text => load_text_engine(alloc, &mut db, input),
+    };
+    let done = match loaded {
         Ok(()) => Ok(Outcome::Done),
         Err(fault) => Err(Failure::from(fault)),
     };

@@ -34,12 +34,23 @@ hexadecimal_rule = record (new_rule (codes "hexadecimal")) {
   action = Some SetTrue;
 }
 
+-- `--text`
+abbrev pub text_rule : Rule
+text_rule = record (new_rule (codes "text")) {
+  long = Some (codes "text");
+  action = Some SetTrue;
+}
+
 abbrev pub line : Text → List Rule → Shape
 line name rules = record (new_app name).top { rules = rules }
 
 -- `NAME FILE`
 abbrev pub file_line : Text → Shape
 file_line name = line name (word_rule (codes "file") ∷ [])
+
+-- `NAME FILE [--text]`
+abbrev pub pairs_line : Text → Shape
+pairs_line name = line name (word_rule (codes "file") ∷ text_rule ∷ [])
 
 -- `NAME FILE KEY [-x]`
 abbrev pub key_line : Text → Shape
@@ -82,7 +93,7 @@ command_line = record {
   top = record program_line { is_leaf = false };
   subs = create_line ∷ pair_line (codes "store") ∷ pair_line (codes "insert")
       ∷ key_line (codes "fetch") ∷ key_line (codes "delete")
-      ∷ file_line (codes "list") ∷ file_line (codes "dump") ∷ file_line (codes "load")
+      ∷ file_line (codes "list") ∷ pairs_line (codes "dump") ∷ pairs_line (codes "load")
       ∷ file_line (codes "stat") ∷ script_line ∷ faults_line ∷ [];
 }
 
@@ -101,6 +112,15 @@ IsNumberText rows id number =
 abbrev pub flag_text : Spelling → Text
 flag_text spelling.Text = codes "false"
 flag_text spelling.Hexadecimal = codes "true"
+
+-- what is entered for `--text`
+abbrev pub text_flag : Spelling → Text
+text_flag spelling.Text = codes "true"
+text_flag spelling.Hexadecimal = codes "false"
+
+pub record ArePairs (rows : List Row) (name : Text) (spelled : Spelling) : Type 0 where
+  pub file : IsText rows (codes "file") name
+  pub flag : one_of (codes "text") rows ≡ Some (text_flag spelled)
 
 pub record IsKey (rows : List Row) (name word : Text) (spelled : Spelling) : Type 0 where
   pub file : IsText rows (codes "file") name
@@ -136,8 +156,8 @@ Asks name rows (Fetch file key spelled) =
 Asks name rows (Delete file key spelled) =
     (name ≡ codes "delete") × IsKey rows file.now key.now spelled
 Asks name rows (ListKeys file) = (name ≡ codes "list") × IsText rows (codes "file") file.now
-Asks name rows (Dump file) = (name ≡ codes "dump") × IsText rows (codes "file") file.now
-Asks name rows (Load file) = (name ≡ codes "load") × IsText rows (codes "file") file.now
+Asks name rows (Dump file spelled) = (name ≡ codes "dump") × ArePairs rows file.now spelled
+Asks name rows (Load file spelled) = (name ≡ codes "load") × ArePairs rows file.now spelled
 Asks name rows (Stat file) = (name ≡ codes "stat") × IsText rows (codes "file") file.now
 Asks name rows (Script source) = (name ≡ codes "script") × IsSource rows source
 Asks name rows Faults = name ≡ codes "faults"

@@ -1,7 +1,7 @@
 // The commands and their options.
 ghost use Rattle.std.specs.Prelude.{IfOk, codes};
 ghost use Rattle.dbm_words.specs.Building.{Adds, IsApp, IsRule, alone};
-ghost use Rattle.dbm_words.specs.CommandLine.{command_line, create_line, faults_line, file_line, hexadecimal_rule, key_line, number_rule, pair_line, program_line, script_line, word_rule};
+ghost use Rattle.dbm_words.specs.CommandLine.{command_line, create_line, faults_line, file_line, hexadecimal_rule, key_line, number_rule, pair_line, pairs_line, program_line, script_line, text_rule, word_rule};
 
 use clap::{Arg, ArgAction, Command, value_parser};
 use dbm_plan::fault_table;
@@ -42,6 +42,8 @@ pub const CONTENT: &str = "content";
 
 pub const HEXADECIMAL: &str = "hexadecimal";
 
+pub const TEXT: &str = "text";
+
 pub const LIMIT: &str = "limit";
 
 pub const MEMORY: &str = "memory";
@@ -53,9 +55,9 @@ const LIST_USAGE: &str = "dbmtool list <FILE>
 
 Keys are printed in hexadecimal always, so there is no -x.";
 
-const DUMP_USAGE: &str = "dbmtool dump <FILE>
+const DUMP_USAGE: &str = "dbmtool dump [--text] <FILE>
 
-Pairs are printed in hexadecimal always, so there is no -x.";
+Pairs are printed in hexadecimal but for --text, so there is no -x.";
 
 const ABOUT: &str = "Keeps pairs of a key and a content in a file, as the dbm interface does.
 
@@ -203,25 +205,25 @@ fn list_command<'a>(alloc: Global) -> Result<Command<'a>, AllocError>
 }
 
 fn dump_command<'a>(alloc: Global) -> Result<Command<'a>, AllocError>
-    ensures { IfOk result (λ c. IsApp c (alone (file_line (codes "dump")))) }
+    ensures { IfOk result (λ c. IsApp c (alone (pairs_line (codes "dump")))) }
 {
-    let command = file_command(
+    let command = pairs_command(
         alloc,
         DUMP,
-        "Prints the pairs in hexadecimal, one a line, as `load` reads them",
-        "Example:\n  dbmtool dump colors > colors.txt",
+        "Prints the pairs, one a line, as `load` reads them",
+        "Example:\n  dbmtool dump colors > colors.txt\n  dbmtool dump --text colors",
     )?;
     Ok(command.override_usage(DUMP_USAGE))
 }
 
 fn load_command<'a>(alloc: Global) -> Result<Command<'a>, AllocError>
-    ensures { IfOk result (λ c. IsApp c (alone (file_line (codes "load")))) }
+    ensures { IfOk result (λ c. IsApp c (alone (pairs_line (codes "load")))) }
 {
-    file_command(
+    pairs_command(
         alloc,
         LOAD,
         "Stores the pairs on standard input, as `dump` prints them",
-        "Example:\n  dbmtool load colors < colors.txt",
+        "Example:\n  dbmtool load colors < colors.txt\n  printf 'sky\\tblue\\n' | dbmtool load --text colors",
     )
 }
 
@@ -262,6 +264,18 @@ fn faults_command<'a>(alloc: Global) -> Command<'a>
     Command::new(alloc, FAULTS)
         .about("Prints the exit statuses and the faults, and what to do")
         .after_help("Example:\n  dbmtool faults")
+}
+
+/// A command of all pairs, which may be a text of fields.
+fn pairs_command<'a>(
+    alloc: Global,
+    name: &'a str,
+    about: &'a str,
+    after: &'a str,
+) -> Result<Command<'a>, AllocError>
+    ensures { IfOk result (λ c. IsApp c (alone (pairs_line name.now))) }
+{
+    file_command(alloc, name, about, after)?.arg(text_form(alloc))
 }
 
 /// A command of a pair, as `key_command` has a key.
@@ -339,5 +353,16 @@ fn hexadecimal<'a>(alloc: Global) -> Arg<'a>
         .action(ArgAction::SetTrue)
         .help(
             "The bytes are in hexadecimal, two digits each and `.` for none; so is what is printed",
+        )
+}
+
+fn text_form<'a>(alloc: Global) -> Arg<'a>
+    ensures { IsRule result text_rule }
+{
+    Arg::new(alloc, TEXT)
+        .long(TEXT)
+        .action(ArgAction::SetTrue)
+        .help(
+            "Lines are key and content with a tab between them, and `\\t`, `\\n`, `\\\\`, `\\xHH` for bytes; else two words in hexadecimal",
         )
 }

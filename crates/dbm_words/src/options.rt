@@ -1,12 +1,12 @@
 // The plan that a parse entered.
 ghost use Rattle.std.specs.Prelude.{◌≡◌, ◌⊎◌, IfErr, IfOk, IfSome, MatchOption, None, Some, codes};
 ghost use Rattle.clap.specs.Words.{first_of, found_of, one_of, rows_of, subcommand_rows_of};
-ghost use Rattle.dbm_words.specs.CommandLine.{Asks, IsNumberText, IsSource, IsText, LacksSource, Names, NamesNoSource, flag_text};
+ghost use Rattle.dbm_words.specs.CommandLine.{Asks, IsNumberText, IsSource, IsText, LacksSource, Names, NamesNoSource, flag_text, text_flag};
 
 use crate::WordsError;
 use crate::commands::{
     CONTENT, CREATE, DELETE, DUMP, FAULTS, FETCH, FILE, HEXADECIMAL, INSERT, KEY, LIMIT, LIST,
-    LOAD, MEMORY, SCRIPT, STAT, STORE,
+    LOAD, MEMORY, SCRIPT, STAT, STORE, TEXT,
 };
 use clap::ArgMatches;
 use dbm_plan::{Plan, Source, Spelling};
@@ -58,8 +58,14 @@ fn of_file<'a>(name: &str, options: &ArgMatches<'a>) -> Option<Plan<'a>>
             limit: number(options, LIMIT)?,
         }),
         LIST => Some(Plan::List { file }),
-        DUMP => Some(Plan::Dump { file }),
-        LOAD => Some(Plan::Load { file }),
+        DUMP => Some(Plan::Dump {
+            file,
+            spelling: form(options)?,
+        }),
+        LOAD => Some(Plan::Load {
+            file,
+            spelling: form(options)?,
+        }),
         STAT => Some(Plan::Stat { file }),
         _ => of_key(name, options),
     }
@@ -122,5 +128,17 @@ fn spelling(options: &ArgMatches<'_>) -> Option<Spelling>
         Some(Spelling::Hexadecimal)
     } else {
         Some(Spelling::Text)
+    }
+}
+
+/// How the lines of all pairs are spelled.
+fn form(options: &ArgMatches<'_>) -> Option<Spelling>
+    ensures { IfSome result (λ spelled.
+        one_of (codes "text") (rows_of (found_of options.now)) ≡ Some (text_flag spelled)) }
+{
+    if options.get_one::<bool>(TEXT)? {
+        Some(Spelling::Text)
+    } else {
+        Some(Spelling::Hexadecimal)
     }
 }

@@ -11,7 +11,7 @@ pub loop-number-init : goal.loop-number-init
 loop-number-init g c = record {
   loading =
       let db = c.args.db.now in
-      at_start db _ (λ start honest at.
+      at_start c.args.form db _ (λ start honest at.
       no_run g.S.PageStore db start at
       (λ x left. g.met.S.PageStore.only_now db.store x honest left));
   goes = goes_nowhere c.args.db.now;
@@ -21,7 +21,7 @@ loop-number-init g c = record {
 pub returns-in_err-map_err-clause-loads : goal.returns-in_err-map_err-clause-loads
 returns-in_err-map_err-clause-loads g c =
     let same : c.from_residual.result ≡ Err Read = search rules in
-    rw same (not_read _ _ _ _ _ c.loop-number.invariant.loading)
+    rw same (not_read _ _ _ _ _ _ c.loop-number.invariant.loading)
 
 pub returns-in_err-load_line-clause-loads : goal.returns-in_err-load_line-clause-loads
 returns-in_err-load_line-clause-loads g c =
@@ -31,7 +31,7 @@ returns-in_err-load_line-clause-loads g c =
     let same : c.from_residual-in_err-load_line.result ≡ Err c.in_err-load_line.field-0.0 =
     search rules in
     let h = c.loop-number.invariant in
-    rw same (stopped g.S.PageStore _ _ _ _ _ _ _ _ h.goes.limit h.goes.honesty.1
+    rw same (stopped g.S.PageStore _ _ _ _ _ _ _ _ _ h.goes.limit h.goes.honesty.1
     c.load_line.ensures.goes (λ honest t x le left.
     g.met.S.PageStore.counts_now (store_of c.load_line.new.db) t x honest le left)
     h.loading read _ c.in_err-load_line.ensures.line)
@@ -45,7 +45,7 @@ loop-number-preserved g c =
     (g.R.Read.remaining c.read_line-read.new.reader) c.read_line-read.new.left = search rules in
     let h = c.loop-number.invariant in
     record {
-      loading = go_on g.S.PageStore _ _ _ _ _ _ _ _ h.goes.limit h.goes.honesty.1
+      loading = go_on g.S.PageStore _ _ _ _ _ _ _ _ _ h.goes.limit h.goes.honesty.1
           c.load_line.ensures.goes (λ honest t x le left.
           g.met.S.PageStore.counts_now (store_of c.load_line.new.db) t x honest le left)
           h.loading read c.in_ok-load_line.ensures.line;
@@ -54,4 +54,4 @@ loop-number-preserved g c =
     }
 
 pub returns-clause-loads : goal.returns-clause-loads
-returns-clause-loads g c = not_read _ _ _ _ _ c.loop-number.invariant.loading
+returns-clause-loads g c = not_read _ _ _ _ _ _ c.loop-number.invariant.loading

@@ -5,7 +5,7 @@ use Rattle.dbm_load.proofs.load.load_lines.Given as goal
 
 abbrev pub invariant-loop-number : goal.invariant-loop-number
 invariant-loop-number g l = record {
-  loading : IsLoading l.initial.db l.db (g.R.Read.remaining l.initial.reader)
+  loading : IsLoading l.form l.initial.db l.db (g.R.Read.remaining l.initial.reader)
       (g.R.Read.remaining l.reader) l.number;
   goes : IsSameDatabase l.initial.db l.db;
   counted : IsCounted (g.R.Read.remaining l.initial.reader) 4294967295

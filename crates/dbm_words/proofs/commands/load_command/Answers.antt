@@ -1,4 +1,4 @@
 use Rattle.dbm_words.proofs.commands.load_command.Goals as goal
 
 pub returns : goal.returns
-returns c = c.file_command.ensures
+returns c = c.pairs_command.ensures

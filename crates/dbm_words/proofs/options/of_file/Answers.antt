@@ -20,11 +20,25 @@ returns-in_ok-number-in-create c =
 pub returns-in-list : goal.returns-in-list
 returns-in-list c = (c.in-list.is, c.in_ok-file.ensures)
 
-pub returns-in-dump : goal.returns-in-dump
-returns-in-dump c = (c.in-dump.is, c.in_ok-file.ensures)
+pub returns-in_err-form-in-dump : goal.returns-in_err-form-in-dump
+returns-in_err-form-in-dump c =
+    if_none c.from_residual-in_err-form-in-dump.result
+    (Asks c.args.name.now (rows_of (found_of c.args.options.now)))
+    c.from_residual-in_err-form-in-dump.ensures
 
-pub returns-in-load : goal.returns-in-load
-returns-in-load c = (c.in-load.is, c.in_ok-file.ensures)
+pub returns-in_ok-form-in-dump : goal.returns-in_ok-form-in-dump
+returns-in_ok-form-in-dump c =
+    (c.in-dump.is, record { file = c.in_ok-file.ensures; flag = c.in_ok-form-in-dump.ensures })
+
+pub returns-in_err-form-in-load : goal.returns-in_err-form-in-load
+returns-in_err-form-in-load c =
+    if_none c.from_residual-in_err-form-in-load.result
+    (Asks c.args.name.now (rows_of (found_of c.args.options.now)))
+    c.from_residual-in_err-form-in-load.ensures
+
+pub returns-in_ok-form-in-load : goal.returns-in_ok-form-in-load
+returns-in_ok-form-in-load c =
+    (c.in-load.is, record { file = c.in_ok-file.ensures; flag = c.in_ok-form-in-load.ensures })
 
 pub returns-in-stat : goal.returns-in-stat
 returns-in-stat c = (c.in-stat.is, c.in_ok-file.ensures)

@@ -1,13 +1,14 @@
 use Rattle.dbm_file.proofs.Runs.{no_run}
+use Rattle.dbm_lines.specs.Forms.{pair_in}
 use Rattle.dbm_load.proofs.Loading.{not_begun, dump_back}
-use Rattle.dbm_load.proofs.load.load_engine.Goals as goal
+use Rattle.dbm_load.proofs.load.load_in_form.Goals as goal
 
 pub returns-in_default-clause-loads : goal.returns-in_default-clause-loads
 returns-in_default-clause-loads g c =
     let db = c.args.db.now in
-    not_begun db _ (λ start honest at.
+    not_begun (pair_in c.args.form) db _ (λ start honest at.
     no_run g.S.PageStore db start at
     (λ x left. g.met.S.PageStore.only_now db.store x honest left))
 
 pub returns-clause-dump : goal.returns-clause-dump
-returns-clause-dump g c = dump_back c.load_lines.result _ _ _ c.load_lines.ensures.loads
+returns-clause-dump g c = dump_back c.args.form c.load_lines.result _ _ _ c.load_lines.ensures.loads

@@ -1,16 +1,16 @@
-use Rattle.std.proofs.Common.{◌≡◌, ◌∙◌, List, OnOk, IfErr, inr, map, refl, sym, ap, subst, rules}
+use Rattle.std.proofs.Common.{◌≡◌, ◌∙◌, List, OnOk, IfErr, inr, flat_map, map, refl, sym, ap, subst, rules}
 use Rattle.std.proofs.lemmas.Result.{IfOk-from_err}
 use Rattle.std.specs.FinMap.{entries, keys as map_keys}
 use Rattle.std.specs.Io.KnownBytes.{Appends}
 use Rattle.dbm_model.specs.Pairs.{Pair}
 use Rattle.dbm_fault.specs.declared.fault.Fault.TheVariants.{Device, Broken}
 use Rattle.dbm_fault.specs.declared.engine_fault.EngineFault.TheVariants.{Write, Db}
-use Rattle.dbm_dump.specs.Dumping.{pair_lines}
+use Rattle.dbm_lines.specs.Forms.{line_in}
 use Rattle.dbm_dump.proofs.Dumping.{reads_on, reads_well, reads_told, reads_refused}
 use Rattle.page_io.proofs.Exits.{exit_is, if_exit, no_err}
 use Rattle.dbm_dump.proofs.Exits.{same_exit, of_gathering, of_fetching, wrote_well, write_or, write_among, no_call_refused, writes_pairs}
-use Rattle.dbm_dump.proofs.dump.dump_engine.Given.{Over}
-use Rattle.dbm_dump.proofs.dump.dump_engine.Goals as goal
+use Rattle.dbm_dump.proofs.dump.dump_in_form.Given.{Over}
+use Rattle.dbm_dump.proofs.dump.dump_in_form.Goals as goal
 
 -- ---- a key is not read
 
@@ -103,7 +103,7 @@ returns-clause-dump g c honest h at usable =
     wrote_well _ c.write_pairs.result _ c.map_err.ensures.variant
     (subst (λ (pairs : List Pair).
     OnOk c.write_pairs.result (Appends (g.W.Write.contents c.args.writer.now)
-    (g.W.Write.contents c.write_pairs.new.writer) (pair_lines pairs)))
+    (g.W.Write.contents c.write_pairs.new.writer) (flat_map (line_in c.args.form) pairs)))
     (c.deref.ensures.value ∙ pairs) c.write_pairs.ensures)
 
 pub returns-clause-whole : goal.returns-clause-whole
@@ -123,7 +123,7 @@ returns-clause-reads g c =
 pub returns-clause-lines : goal.returns-clause-lines
 returns-clause-lines g c =
     wrote_well _ c.write_pairs.result _ c.map_err.ensures.variant
-    (writes_pairs c.write_pairs.result c.deref.result.now c.in_ok-keys.keys _
+    (writes_pairs (line_in c.args.form) c.write_pairs.result c.deref.result.now c.in_ok-keys.keys _
     (g.W.Write.contents c.args.writer.now) (g.W.Write.contents c.write_pairs.new.writer)
     (ap (map (λ (pair : Pair). pair.0)) c.deref.ensures.value ∙ c.in_ok-pairs.ensures.keys)
     c.in_ok-keys.ensures.bound c.write_pairs.ensures)

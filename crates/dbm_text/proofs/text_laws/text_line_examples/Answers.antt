@@ -1,0 +1,25 @@
+use Rattle.std.proofs.Common.{refl, ap}
+use Rattle.std.specs.Prelude.{flat_map}
+use Rattle.hex.proofs.OnLiterals.{hex_on_literals}
+use Rattle.dbm_text.specs.Dumps.{text_line}
+use Rattle.dbm_text.proofs.DumpLemmas.{no_entries, two_entries}
+use Rattle.dbm_text.proofs.EscapeLemmas.{long_text_lines}
+use Rattle.dbm_text.proofs.text_laws.text_line_examples.Goals as goal
+
+pub returns : goal.returns
+unfolding hex_on_literals
+returns c = record {
+  examples = record {
+    pair = refl;
+    no_content = refl;
+    no_key = refl;
+    bad_key = refl;
+    bad_content = refl;
+    one_field = refl;
+    three_fields = refl;
+    empty_line = refl;
+    no_pairs = ap (flat_map text_line) no_entries;
+    dump = ap (flat_map text_line) two_entries;
+  };
+  long = long_text_lines;
+}
