@@ -1,0 +1,15 @@
+//! The engine of a rehearsal: a script's calls on a device in memory that is stopped anywhere.
+#![tactic(auto)]
+
+mod changes;
+mod choices;
+mod counting;
+mod engine;
+mod finding;
+mod reading;
+mod report;
+mod stopping;
+
+pub use changes::{Change, Pairs, is_kept};
+pub use engine::rehearse_script;
+pub use report::Rehearsed;

@@ -1,0 +1,176 @@
+// Sessions that are stopped.
+ghost use Rattle.std.specs.Prelude.{◌≡◌, ◌<◌, IfOk, length};
+ghost use Rattle.dbm_fault.specs.Among.{IsErrAmong};
+ghost use Rattle.dbm_rehearse.specs.Counts.{stops_of, AreCounted};
+ghost use Rattle.dbm_rehearse.specs.Faults.{database_faults};
+
+use crate::changes::{Change, Pairs, acknowledged, is_kept};
+use crate::choices::{CHOICES, Choice, marks};
+use crate::counting::Counting;
+use crate::finding::{open_device, pairs_in, told};
+use crate::report::{Outcome, Rehearsed};
+use dbm_fault::EngineFault;
+use dbm_file::{Call, Reply};
+use rehearsal::{Ending, Opening, session};
+use sect_dev::{Fuse, MemDev, SectorDev};
+use std::alloc::{AllocError, Global};
+
+// The reopening is stopped after less device calls than this. One that ends a commit takes 33, and
+// 57 where a bucket is split; a store takes 26, so with a prime each place in a store meets each of
+// those in a reopening.
+const REOPENING: u64 = 61;
+
+/// A session on a device, to be stopped.
+#[derive(Drop)]
+pub struct Rehearsal<'a> {
+    pub alloc: Global,
+    pub dev: &'a MemDev,
+    /// Of the database that is made where the device is blank.
+    pub limit: Option<u32>,
+    pub calls: &'a [Call],
+    /// What is in the database before.
+    pub before: Pairs,
+    /// What the calls change in it.
+    pub changes: Vec<Change<'a>>,
+}
+
+impl<'a> Rehearsal<'a> {
+    /// Stops the session before each of its device calls, or before so many of them, evenly spread.
+    pub fn make_stops(&self, device_calls: u64, most: Option<u32>) -> Result<Rehearsed, AllocError>
+        ensures counted { IfOk result AreCounted }
+        ensures sizes { IfOk result (λ counts. (counts.calls ≡ length self.now.calls.now)
+            × (counts.device_calls ≡ device_calls)
+            × (counts.stops ≡ stops_of most device_calls)) }
+    {
+        let stops = most.map_or(device_calls, |most| device_calls.min(u64::from(most)));
+        let mut counts = Rehearsed::new(self.calls.len() as u64, device_calls);
+        for i in 0..stops {
+            let stop = spread(i, stops, device_calls);
+            counts.add(stop, self.outcome_at(stop)?);
+        }
+        Ok(counts)
+    }
+
+    // Stops the session after so many device calls, and the reopening of what is left once more,
+    // with each choice of the unsynced writes.
+    fn outcome_at(&self, stop: u64) -> Result<Outcome, AllocError> {
+        let (stopped, ending) = self.stopped_at(stop)?;
+        let acknowledged = acknowledged(replies_of(&ending)?);
+        let mut outcome = Outcome::Kept;
+        for choice in CHOICES {
+            outcome = outcome.min(self.reopened(&stopped, acknowledged, choice, stop)?);
+        }
+        Ok(outcome)
+    }
+
+    // The session, stopped.
+    fn stopped_at(&self, stop: u64) -> Result<(MemDev, Ending), AllocError> {
+        let fuse = Fuse::new(self.dev.crashed(self.alloc, &[])?, stop);
+        let (fuse, ending) = session_on(self.alloc, fuse, self.limit, self.calls);
+        Ok((fuse.into_inner(), ending))
+    }
+
+    // How it ends where these unsynced writes have happened.
+    fn reopened(
+        &self,
+        stopped: &MemDev,
+        acknowledged: usize,
+        choice: Choice,
+        stop: u64,
+    ) -> Result<Outcome, AllocError> {
+        let left = left_with(self.alloc, stopped, choice, stop)?;
+        let fuse = Fuse::new(left, stop % REOPENING);
+        let (fuse, _) = session_on(self.alloc, fuse, self.limit, &[]);
+        let left = left_with(self.alloc, &fuse.into_inner(), choice, stop)?;
+        let mut db = match open_device(self.alloc, left, self.limit) {
+            Ok(db) => db,
+            Err(EngineFault::Memory) => return Err(AllocError),
+            Err(_) => return Ok(Outcome::NotReopened),
+        };
+        match pairs_in(self.alloc, &mut db) {
+            Ok(found) => self.outcome_of(acknowledged, &found),
+            Err(EngineFault::Memory) => Err(AllocError),
+            Err(_) => Ok(Outcome::Lost),
+        }
+    }
+
+    // How it ends where these pairs are found.
+    fn outcome_of(&self, acknowledged: usize, found: &Pairs) -> Result<Outcome, AllocError> {
+        let changes = self.changes.as_slice();
+        let kept = is_kept(self.alloc, &self.before, changes, acknowledged, found)?;
+        Ok(if kept { Outcome::Kept } else { Outcome::Lost })
+    }
+}
+
+/// The replies of the session that isn't stopped, and how many device calls it makes.
+pub fn unstopped(
+    alloc: Global,
+    dev: &MemDev,
+    limit: Option<u32>,
+    calls: &[Call],
+) -> Result<(Vec<Reply>, u64), EngineFault>
+    ensures { IsErrAmong result database_faults }
+{
+    let Ok(copy) = dev.crashed(alloc, &[]) else {
+        return Err(EngineFault::Memory);
+    };
+    let (counting, ending) = session_on(alloc, Counting::new(copy), limit, calls);
+    match ending {
+        Ending::Rested(replies) => Ok((replies, counting.calls())),
+        Ending::NotOpened(fault) => Err(told(fault)),
+        Ending::NoMemory | Ending::Broke(_) => Err(EngineFault::Memory),
+    }
+}
+
+/// What is in the database before it.
+pub fn pairs_before(alloc: Global, dev: &MemDev, limit: Option<u32>) -> Result<Pairs, EngineFault>
+    ensures { IsErrAmong result database_faults }
+{
+    match dev.crashed(alloc, &[]) {
+        Ok(copy) => pairs_in(alloc, &mut open_device(alloc, copy, limit)?),
+        Err(_) => Err(EngineFault::Memory),
+    }
+}
+
+// A session that makes a database of the limit where the device is blank and there is one. It has
+// no clause, so that those of a session stand in no other goal.
+fn session_on<D: SectorDev>(
+    alloc: Global,
+    dev: D,
+    limit: Option<u32>,
+    calls: &[Call],
+) -> (D, Ending) {
+    let how = Opening {
+        create: limit.is_some(),
+        truncate: false,
+        limit: limit.unwrap_or(0),
+    };
+    session(alloc, dev, how, calls)
+}
+
+// What this choice of the unsynced writes leaves of the device.
+fn left_with(alloc: Global, dev: &MemDev, choice: Choice, seed: u64) -> Result<MemDev, AllocError> {
+    let keep = marks(alloc, choice, dev.pending(), seed)?;
+    dev.crashed(alloc, keep.as_slice())
+}
+
+// The replies that were given before the stop.
+fn replies_of(ending: &Ending) -> Result<&[Reply], AllocError> {
+    match ending {
+        Ending::Rested(replies) | Ending::Broke(replies) => Ok(replies.as_slice()),
+        Ending::NotOpened(_) => Ok(&[]),
+        Ending::NoMemory => Err(AllocError),
+    }
+}
+
+// Stop i of so many that are spread over the device calls. Where there are above 2^32 of these, the
+// last ones come too early.
+fn spread(i: u64, stops: u64, device_calls: u64) -> u64
+    requires { i < stops }
+{
+    if stops == device_calls {
+        i
+    } else {
+        i.saturating_mul(device_calls) / stops
+    }
+}
