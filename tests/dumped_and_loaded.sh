@@ -23,7 +23,10 @@ LC_ALL=C sort -k1,1 pairs > sorted
 cmp sorted dumped || { echo "the dump isn't the pairs in order"; exit 1; }
 "$program" list first > listed && cut -d' ' -f1 dumped | cmp - listed || { echo "the list isn't the keys of the dump"; exit 1; }
 "$program" create second && "$program" load second < dumped && "$program" dump second | cmp - dumped || { echo "the dump doesn't load back"; exit 1; }
-"$program" create third && "$program" dump --text first > fields && "$program" load --text third < fields && "$program" dump third | cmp - dumped ||
+# fields, of the first thousand
+head -n 1000 dumped > some
+"$program" create third && "$program" load third < some && "$program" dump --text third > fields || exit 1
+"$program" create fourth && "$program" load --text fourth < fields && "$program" dump fourth | cmp - some ||
   { echo "the dump of fields doesn't load back"; exit 1; }
 [ "$(LC_ALL=C tr -d '\t\n -~' < fields | wc -c)" = 0 ] || { echo "the dump of fields isn't printable"; exit 1; }
 echo "$(wc -l < dumped) pairs, in a file of $(stat -c %s first.db) bytes"

@@ -223,5 +223,5 @@ for line in 'S KEY CONTENT' 'I KEY CONTENT' 'F KEY' 'D KEY' 1 N E C; do
 done
 
 echo "$rows rows"
-[ "$rows" = 85 ] || wrong "not each row was read"
+[ "$rows" = 94 ] || wrong "not each row was read"
 exit $bad
