@@ -52,6 +52,7 @@ add_programs() {
   local built=${DBMTOOL:-$top/crates/dbmtool/out/dbmtool}
   # builds
   [ -n "${DBMTOOL:-}" ] || printf 'F 00\n' | "$top/dbmtool" script --memory 100 > /dev/null
+  [ -x "$built" ] || fail "there is no program $built"
   add dbmtool "$(realpath "$built")"
   add_peer gdbm gdbm-ndbm.h libgdbm-compat-dev -lgdbm_compat -lgdbm
   add_peer berkeley db.h libdb5.3-dev -ldb
@@ -111,9 +112,10 @@ cell() {
       if (number < 1000) return number
       return grouped(int(number / 1000)) sprintf(",%03d", number % 1000)
     }
+    function ratio(number) { return sprintf(number < 0.1 ? "%.2g" : "%.2f", number) }
     BEGIN {
       printf " %s", grouped(int(sprintf("%.2e", lines * 1000000 / time)))
-      if (gdbm != "") printf " (%.2f)", gdbm / time
+      if (gdbm != "") printf " (%s)", ratio(gdbm / time)
       printf " |"
     }'
 }
