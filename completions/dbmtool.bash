@@ -12,7 +12,7 @@ _dbmtool_places() {
   local at count=0
   for ((at = 2; at < COMP_CWORD; at++)); do
     case ${COMP_WORDS[at]} in
-      --limit | --memory) at=$((at + 1)); [ "${COMP_WORDS[at]}" != = ] || at=$((at + 1)) ;;
+      --limit | --memory | --stops) at=$((at + 1)); [ "${COMP_WORDS[at]}" != = ] || at=$((at + 1)) ;;
       -*) ;;
       *) count=$((count + 1)) ;;
     esac
@@ -21,7 +21,7 @@ _dbmtool_places() {
 }
 
 _dbmtool() {
-  local commands='create store insert fetch delete list dump load stat script faults help'
+  local commands='create store insert fetch delete list dump load stat script rehearse faults help'
   local word=${COMP_WORDS[COMP_CWORD]} options='' places
   COMPREPLY=()
   if [ "$COMP_CWORD" = 1 ]; then
@@ -29,12 +29,13 @@ _dbmtool() {
     return
   fi
   case ${COMP_WORDS[COMP_CWORD - 1]} in
-    --limit | --memory | =) return ;;
+    --limit | --memory | --stops | =) return ;;
   esac
   case ${COMP_WORDS[1]} in
     create) options='--limit -h --help' ;;
     store | insert | fetch | delete) options='-x -h --help' ;;
     script) options='--memory -h --help' ;;
+    rehearse) options='--memory --stops -h --help' ;;
     dump | load) options='--text -h --help' ;;
     list | stat | faults) options='-h --help' ;;
   esac

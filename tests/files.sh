@@ -36,6 +36,8 @@ run 1 '' '' fetch t k < /dev/null
 run 3 '' 'dbmtool: not hex\n' fetch t 6 -x < /dev/null
 run 3 '' 'dbmtool: script needs FILE or --memory\n' script < /dev/null
 run 3 '' 'dbmtool: script needs FILE or --memory\n' script t --memory 5 < /dev/null
+run 3 '' 'dbmtool: rehearse needs FILE or --memory\n' rehearse --stops 3 < /dev/null
+run 3 '' 'dbmtool: rehearse needs FILE or --memory\n' rehearse t --memory 5 < /dev/null
 run 0 '' '' store t . . -x < /dev/null
 run 0 '.\n' '' fetch t . -x < /dev/null
 
@@ -86,7 +88,7 @@ grep -q -- '--unknown' <("$program" --unknown 2>&1) || { echo "usage doesn't nam
 
 # help names each command, and ends with an example
 "$program" --help > out || wrong=1
-for command in create store insert fetch delete list dump load stat script faults; do
+for command in create store insert fetch delete list dump load stat script rehearse faults; do
   grep -qw "$command" out || { echo "the help has no $command"; wrong=1; }
   "$program" "$command" --help > command.out || { echo "no help of $command"; wrong=1; }
   grep -q "dbmtool $command" command.out || { echo "the help of $command has no example"; wrong=1; }

@@ -1,5 +1,5 @@
 #!/usr/bin/env bash
-# The first session of README.md, line by line: each command prints what stands below it.
+# The first session of README.md, and its rehearsal, line by line: each command prints what stands below it.
 set -u
 top=$(cd "$(dirname "$0")/.." && pwd)
 program=$top/crates/dbmtool/out/dbmtool
@@ -7,7 +7,9 @@ work=$(mktemp -d)
 trap 'rm -rf "$work"' EXIT
 cd "$work" || exit 1
 ln -s "$program" dbmtool
-sed -n '/^## A first session$/,/^## /p' "$top/README.md" | sed -n 's/^    //p' > session
+for part in 'A first session' 'See it stopped'; do
+  sed -n "/^## $part\$/,/^## /p" "$top/README.md" | sed -n 's/^    //p' >> session
+done
 commands=0
 while IFS= read -r line; do
   case $line in

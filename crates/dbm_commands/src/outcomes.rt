@@ -20,6 +20,8 @@ pub enum Failure {
     /// One of the program's words is not UTF-8.
     NotText,
     Fault(EngineFault),
+    /// A rehearsal that was stopped after so many device calls lost a change.
+    NotKept(u64),
 }
 
 impl From<EngineFault> for Failure {

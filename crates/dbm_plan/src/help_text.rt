@@ -8,6 +8,8 @@ pub const FAULT_TABLE: &str = "Exit status:
   2   a fault, told in one line on standard error:
         dbmtool: fault N     one of those below
         dbmtool: line N      line N of a load is bad; those before are stored
+        dbmtool: stop N      a rehearsal stopped after N device calls lost a
+                             change: tell whoever wrote the program
         dbmtool: read        standard input can't be read
         dbmtool: write       standard output can't be written
   3   words that make no sense: usage, or one line on standard error:

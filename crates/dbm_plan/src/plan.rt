@@ -56,6 +56,12 @@ pub enum Plan<'a> {
     },
     /// Run the script on standard input.
     Script(Source<'a>),
+    /// Run the script on standard input in memory, stopped before each of its device calls, or
+    /// before so many of them, and look at what is left.
+    Rehearse {
+        source: Source<'a>,
+        stops: Option<u32>,
+    },
     /// Print the exit statuses and the faults.
     Faults,
 }
@@ -69,7 +75,7 @@ pub enum Spelling {
     Hexadecimal,
 }
 
-/// The database that a script runs on.
+/// The database that a script runs on, or is rehearsed on.
 #[derive(Clone, Copy, Debug, PartialEq, Eq)]
 pub enum Source<'a> {
     /// The one of this name.

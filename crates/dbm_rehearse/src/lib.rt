@@ -3,6 +3,7 @@
 
 mod changes;
 mod choices;
+mod copying;
 mod counting;
 mod engine;
 mod finding;
@@ -11,5 +12,6 @@ mod report;
 mod stopping;
 
 pub use changes::{Change, Pairs, is_kept};
+pub use copying::device_with;
 pub use engine::rehearse_script;
 pub use report::Rehearsed;

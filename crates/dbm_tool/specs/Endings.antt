@@ -1,13 +1,14 @@
 -- How a plan may end.
-use Rattle.std.specs.Prelude.{◌≡◌, ◌⊎◌, Bool, true, false, None, Result, Ok, Err}
+use Rattle.std.specs.Prelude.{◌≡◌, ◌⊎◌, ℕ, Bool, true, false, Option, None, Result, Ok, Err}
 use Rattle.dbm_plan.specs.declared.plan.Plan.{Plan}
-use Rattle.dbm_plan.specs.declared.plan.Plan.TheVariants.{Store, Insert, Fetch, Delete, List as ListKeys, Dump, Load, Stat, Script, Faults}
+use Rattle.dbm_plan.specs.declared.plan.Plan.TheVariants.{Store, Insert, Fetch, Delete, List as ListKeys, Dump, Load, Stat, Script, Rehearse, Faults}
+use Rattle.dbm_plan.specs.declared.plan.Source.{Source}
 use Rattle.dbm_plan.specs.declared.plan.Source.TheVariants.{Memory as InMemory}
 use Rattle.dbm_commands.specs.Words.{spelled}
 use Rattle.dbm_commands.specs.declared.outcomes.Outcome.{Outcome}
 use Rattle.dbm_commands.specs.declared.outcomes.Outcome.TheVariants.{Done, Nothing}
 use Rattle.dbm_commands.specs.declared.outcomes.Failure.{Failure}
-use Rattle.dbm_commands.specs.declared.outcomes.Failure.TheVariants.{NotHex, NotText, Fault}
+use Rattle.dbm_commands.specs.declared.outcomes.Failure.TheVariants.{NotHex, NotText, Fault, NotKept}
 use Rattle.dbm_fault.specs.declared.fault.Fault.{Fault as Refusal}
 use Rattle.dbm_fault.specs.declared.fault.Fault.TheVariants.{BadLimit}
 use Rattle.dbm_fault.specs.declared.engine_fault.EngineFault.{EngineFault}
@@ -18,6 +19,7 @@ use Rattle.page_model.specs.Sizes.{is_limit}
 abbrev pub reads : Plan → Bool
 reads (Load file spelling) = true
 reads (Script source) = true
+reads (Rehearse source stops) = true
 reads _ = false
 
 -- it writes standard output
@@ -27,6 +29,7 @@ prints (ListKeys file) = true
 prints (Dump file spelling) = true
 prints (Stat file) = true
 prints (Script source) = true
+prints (Rehearse source stops) = true
 prints Faults = true
 prints _ = false
 
@@ -41,6 +44,11 @@ looks_for_a_key _ = false
 abbrev pub has_lines : Plan → Bool
 has_lines (Load file spelling) = true
 has_lines _ = false
+
+-- it looks at what stops leave
+abbrev pub looks_at_stops : Plan → Bool
+looks_at_stops (Rehearse source stops) = true
+looks_at_stops _ = false
 
 -- it has a database, so it takes memory
 abbrev pub has_database : Plan → Bool
@@ -79,3 +87,9 @@ EndsAs plan (Ok Nothing) = looks_for_a_key plan ≡ true
 EndsAs plan (Err NotHex) = LacksDigits plan
 EndsAs plan (Err NotText) = ⊥
 EndsAs plan (Err (Fault met)) = CanMeet plan met
+EndsAs plan (Err (NotKept stop)) = looks_at_stops plan ≡ true
+
+-- a rehearsal may end so, whatever its database
+abbrev pub MayEndRehearsal : Result Outcome Failure → Type 0
+MayEndRehearsal result =
+    (source : Source) (stops : Option ℕ) → EndsAs (Rehearse source stops) result

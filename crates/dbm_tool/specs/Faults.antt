@@ -26,3 +26,4 @@ failure_line failure.NotHex = with_line_feed (codes "dbmtool: not hex")
 failure_line failure.NotText =
     with_line_feed (codes "dbmtool: not UTF-8: such a KEY or CONTENT is given in hexadecimal, with -x")
 failure_line (failure.Fault fault) = fault_line fault
+failure_line (failure.NotKept stop) = with_line_feed (codes "dbmtool: stop " ++ decimal stop)

@@ -6,17 +6,19 @@ use Rattle.dbm_plan.specs.declared.plan.Plan.{Plan}
 use Rattle.dbm_commands.specs.declared.outcomes.Outcome.{Outcome}
 use Rattle.dbm_commands.specs.declared.outcomes.Outcome.TheVariants.{Done, Nothing}
 use Rattle.dbm_commands.specs.declared.outcomes.Failure.{Failure}
-use Rattle.dbm_commands.specs.declared.outcomes.Failure.TheVariants.{NotHex, NotText, Fault}
+use Rattle.dbm_commands.specs.declared.outcomes.Failure.TheVariants.{NotHex, NotText, Fault, NotKept}
 use Rattle.dbm_fault.specs.declared.engine_fault.EngineFault.{EngineFault}
 use Rattle.dbm_fault.specs.declared.engine_fault.EngineFault.TheVariants.{Memory, Write}
 use Rattle.dbm_text.specs.Lines.{with_line_feed}
-use Rattle.dbm_tool.specs.Endings.{CanMeet, LacksDigits}
+use Rattle.dbm_tool.specs.Endings.{CanMeet, LacksDigits, looks_at_stops}
 use Rattle.dbm_tool.specs.Faults.{failure_line, fault_line}
+use Rattle.dbm_tool.specs.Plans.{Loses}
 
 abbrev pub status_of : Result Outcome Failure → ℕ
 status_of (Ok Done) = 0
 status_of (Ok Nothing) = 1
 status_of (Err (Fault met)) = 2
+status_of (Err (NotKept stop)) = 2
 status_of (Err NotHex) = 3
 status_of (Err NotText) = 3
 
@@ -45,11 +47,26 @@ pub record TellsFault (words : List (List ℕ)) (told : Bool) (old new : Option 
   pub can_be_met : CanMeetBy words met
   pub line : Tells told old new (fault_line met)
 
+-- a rehearsal lost a change, and the stop was told
+pub record TellsLoss (words : List (List ℕ)) (input printed_old printed_new : Option (List ℕ))
+    (told : Bool) (old new : Option (List ℕ)) : Type 0 where
+  pub plan : Plan
+  pub is_plan : IsPlan words plan
+  pub rehearses : looks_at_stops plan ≡ true
+  pub stop : ℕ
+  pub loses : Loses plan (NotKept stop) input printed_old printed_new
+  pub line : Tells told old new (failure_line (NotKept stop))
+
 abbrev pub no_command_line : List ℕ
 no_command_line = with_line_feed (codes "error: no such command")
+
+-- a script or a rehearsal has no database, or two
+abbrev pub LackSource : List (List ℕ) → Type 0
+LackSource words =
+    IsWithoutSource (codes "script") words ⊎ IsWithoutSource (codes "rehearse") words
 
 -- a KEY or CONTENT is not hexadecimal, or the words are no plan
 abbrev pub TellsMisuse : List (List ℕ) → Bool → Option (List ℕ) → Option (List ℕ) → Type 0
 TellsMisuse words told old new =
     (AskFor words LacksDigits × Tells told old new (failure_line NotHex))
-    ⊎ (AreRefused words ⊎ (IsWithoutSource words ⊎ Tells told old new no_command_line))
+    ⊎ (AreRefused words ⊎ (LackSource words ⊎ Tells told old new no_command_line))

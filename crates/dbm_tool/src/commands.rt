@@ -1,10 +1,11 @@
 // What each command does.
-ghost use Rattle.std.specs.Prelude.{◌≡◌, ◌⊎◌, false, Ok, Err, OnOk, IfSome};
+ghost use Rattle.std.specs.Prelude.{◌≡◌, ◌⊎◌, false, Ok, Err, IfErr, OnOk, IfSome};
 ghost use Rattle.std.specs.Io.KnownBytes.{Appends};
 ghost use Rattle.dbm_script.specs.Scripts.{AnswersInMemory};
 ghost use Rattle.dbm_tool.specs.Endings.{EndsAs, prints, reads};
-ghost use Rattle.dbm_tool.specs.Plans.{Does};
+ghost use Rattle.dbm_tool.specs.Plans.{Does, Loses};
 
+use crate::rehearsals::{rehearse_file, rehearse_new};
 use crate::{
     EngineFault, dump_engine, dump_text_engine, list_engine, load_engine, load_text_engine,
     script_engine,
@@ -29,6 +30,8 @@ pub fn carry_out<T: Files<File = File>, R: BufRead, O: Write>(
 ) -> Result<Outcome, Failure>
     ensures does { OnOk result (Does plan.entry (R.remaining input.old) (O.contents output.old)
         (O.contents output.new)) }
+    ensures loses { IfErr result (λ failure. Loses plan.entry failure (R.remaining input.old)
+        (O.contents output.old) (O.contents output.new)) }
     ensures ends { EndsAs plan.entry result }
 
     // What the plan has no use for stays, and so does the output where there is nothing to print.
@@ -67,6 +70,14 @@ pub fn carry_out<T: Files<File = File>, R: BufRead, O: Write>(
         Plan::Stat { file } => stat(rt, alloc, file, output),
         Plan::Script(Source::File(file)) => script(rt, alloc, file, input, output),
         Plan::Script(Source::Memory(limit)) => new_script(alloc, limit, input, output),
+        Plan::Rehearse {
+            source: Source::File(file),
+            stops,
+        } => rehearse_file(rt, alloc, file, stops, input, output),
+        Plan::Rehearse {
+            source: Source::Memory(limit),
+            stops,
+        } => rehearse_new(alloc, limit, stops, input, output),
         Plan::Faults => print_faults(output),
     }
 }
@@ -82,7 +93,8 @@ fn print_faults<O: Write>(output: &mut O) -> Result<Outcome, Failure>
     Ok(Outcome::Done)
 }
 
-fn unwritten(_: io::Error) -> Failure
+/// The failure of a command whose output failed.
+pub fn unwritten(_: io::Error) -> Failure
     ensures { result ≡ Failure.Fault EngineFault.Write }
 {
     Failure::Fault(EngineFault::Write)

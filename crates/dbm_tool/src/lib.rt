@@ -3,6 +3,7 @@
 
 mod commands;
 mod program;
+mod rehearsals;
 
 pub use dbm_dump::{dump_engine, dump_text_engine, list_engine};
 pub use dbm_fault::EngineFault;

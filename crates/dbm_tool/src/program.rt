@@ -5,7 +5,7 @@ ghost use Rattle.dbm_words.specs.CommandLine.{AreTaken};
 ghost use Rattle.dbm_tool.specs.Endings.{looks_for_a_key, prints, reads};
 ghost use Rattle.dbm_tool.specs.Faults.{failure_line, fault_line};
 ghost use Rattle.dbm_tool.specs.Plans.{DoesWords};
-ghost use Rattle.dbm_tool.specs.Statuses.{AreRefused, AskFor, Tells, TellsFault, TellsMisuse, no_command_line, status_of};
+ghost use Rattle.dbm_tool.specs.Statuses.{AreRefused, AskFor, Tells, TellsFault, TellsLoss, TellsMisuse, no_command_line, status_of};
 
 use crate::EngineFault;
 use crate::commands::carry_out;
@@ -39,11 +39,11 @@ pub struct Exit {
 
 /// The program over the words after its name. The exit status is 0 where all was done, or help or
 /// the version was asked for, which goes to `output`; 1 where a fetched or deleted key isn't there
-/// or an inserted one is, with nothing printed; 2 for a fault, the first one, which alone is told in
-/// one line on `faults`; and 3 for words that are no plan or no hexadecimal, of which one text goes
-/// to `faults`. Faults are looked for in the words, in the words' hexadecimal digits, in the
-/// opening, in the call or the engine with the last of its output, and in the closing, in this
-/// order.
+/// or an inserted one is, with nothing printed; 2 for a fault, the first one, which alone is told
+/// in one line on `faults`, or for a rehearsal that lost a change, told so too; and 3 for words
+/// that are no plan or no hexadecimal, of which one text goes to `faults`. Faults are looked for in
+/// the words, in the words' hexadecimal digits, in the opening, in the call or the engine with the
+/// last of its output, and in the closing, in this order.
 pub fn tool<T: Files<File = File>, R: BufRead, O: Write, F: Write>(
     rt: &T,
     alloc: Global,
@@ -64,6 +64,9 @@ pub fn tool<T: Files<File = File>, R: BufRead, O: Write, F: Write>(
     ensures nothing { result.status ≡ 1 → AskFor (map (λ word. word.now) words.now)
         (λ plan. looks_for_a_key plan ≡ true) }
     ensures fault { result.status ≡ 2 → TellsFault (map (λ word. word.now) words.now) result.told
+        (F.contents faults.old) (F.contents faults.new)
+        ⊎ TellsLoss (map (λ word. word.now) words.now) (R.remaining input.old)
+        (O.contents output.old) (O.contents output.new) result.told
         (F.contents faults.old) (F.contents faults.new) }
     ensures usage { result.status ≡ 3 → TellsMisuse (map (λ word. word.now) words.now) result.told
         (F.contents faults.old) (F.contents faults.new) }
@@ -129,7 +132,7 @@ fn failure_status(failure: Failure) -> u8
 {
     match failure {
         Failure::NotHex | Failure::NotText => USAGE,
-        Failure::Fault(_) => FAULT,
+        Failure::Fault(_) | Failure::NotKept(_) => FAULT,
     }
 }
 
@@ -161,6 +164,7 @@ fn write_failure<F: Write>(faults: &mut F, failure: Failure) -> io::Result<()>
             faults,
             "dbmtool: not UTF-8: such a KEY or CONTENT is given in hexadecimal, with -x"
         ),
+        Failure::NotKept(stop) => writeln!(faults, "dbmtool: stop {stop}"),
         Failure::Fault(EngineFault::Memory) => writeln!(faults, "dbmtool: fault 1"),
         Failure::Fault(EngineFault::Read) => writeln!(faults, "dbmtool: read"),
         Failure::Fault(EngineFault::Write) => writeln!(faults, "dbmtool: write"),

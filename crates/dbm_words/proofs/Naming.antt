@@ -60,9 +60,9 @@ module _ (m : ArgMatches) (name : Text) (rows : List Row) (named : Some name ≡
       of_found None asks = tt
       of_found (Some plan) asks = names_plan plan asks
 
-  pub names_no_source : name ≡ codes "script" → LacksSource rows
-      → NamesNoSource (subcommand_rows_of m)
-  names_no_source is lacks = subst NamesNoSource
+  pub names_no_source : (command : Text) → name ≡ command → LacksSource rows
+      → NamesNoSource command (subcommand_rows_of m)
+  names_no_source command is lacks = subst (NamesNoSource command)
       (sym (entered_is m name rows named read)) (is, lacks)
 
 -- a text that was compared

@@ -1,28 +1,50 @@
 -- Why words gave no plan.
-use Rattle.std.proofs.Common.{◌≡◌, ◌≢◌, ◌⊎◌, inl, inr, false, Option, Some, None, Result, Ok, Err, IfErr, sym, subst, ap, arith}
+use Rattle.std.proofs.Common.{◌≡◌, ◌≢◌, ◌⊎◌, inl, inr, false, Option, Some, None, Result, Ok, Err, IfErr, sym, subst, ap, ◌∙◌, arith}
 use Rattle.std.specs.Bool.{IsTrue}
 use Rattle.std.specs.Option.{ok_or}
 use Rattle.std.specs.Result.{IsErrAnd}
 use Rattle.clap.specs.declared.error.Error.{Error}
 use Rattle.clap.specs.declared.error.kind.ErrorKind.{ErrorKind}
 use Rattle.clap.specs.declared.error.kind.ErrorKind.TheVariants.{DisplayHelp, DisplayVersion}
-use Rattle.dbm_words.specs.Sorting.{IsSorted}
+use Rattle.dbm_words.specs.Sorting.{IsOfChoice, IsSorted}
 use Rattle.dbm_words.specs.declared.words.WordsError.{WordsError}
-use Rattle.dbm_words.specs.declared.words.WordsError.TheVariants.{Memory, Help, Usage, ScriptSource, NoPlan}
+use Rattle.dbm_words.specs.declared.words.WordsError.TheVariants.{Memory, Help, Usage, ScriptSource, RehearsalSource, NoPlan}
 
--- ---- the fault of a script with no source is none of the others
+-- ---- the faults of a script and of a rehearsal with no source are none of the others
 
-pub memory_is_other : Memory ≡ ScriptSource → ⊥
-memory_is_other is = cc
+pub memory_is_other : (Memory ≢ ScriptSource) × (Memory ≢ RehearsalSource)
+memory_is_other = ((λ is. cc), (λ is. cc))
 
-pub help_is_other : (text : Error) → Help text ≡ ScriptSource → ⊥
-help_is_other text is = cc
+pub help_is_other : (text : Error) → (Help text ≢ ScriptSource) × (Help text ≢ RehearsalSource)
+help_is_other text = ((λ is. cc), (λ is. cc))
 
-pub usage_is_other : (text : Error) → Usage text ≡ ScriptSource → ⊥
-usage_is_other text is = cc
+pub usage_is_other : (text : Error) → (Usage text ≢ ScriptSource) × (Usage text ≢ RehearsalSource)
+usage_is_other text = ((λ is. cc), (λ is. cc))
 
-pub no_plan_is_other : NoPlan ≡ ScriptSource → ⊥
-no_plan_is_other is = cc
+pub no_plan_is_other : (NoPlan ≢ ScriptSource) × (NoPlan ≢ RehearsalSource)
+no_plan_is_other = ((λ is. cc), (λ is. cc))
+
+-- what the choice of a source is told by
+pub script_is_other : ScriptSource ≢ RehearsalSource
+script_is_other is = cc
+
+pub script_is_no_rehearsal : (e : WordsError) → (e ≡ NoPlan) ⊎ (e ≡ ScriptSource)
+    → e ≢ RehearsalSource
+script_is_no_rehearsal e (inl no_plan) is = no_plan_is_other.1 (sym no_plan ∙ is)
+script_is_no_rehearsal e (inr script) is = script_is_other (sym script ∙ is)
+
+pub rehearsal_is_no_script : (e : WordsError) → (e ≡ NoPlan) ⊎ (e ≡ RehearsalSource)
+    → e ≢ ScriptSource
+rehearsal_is_no_script e (inl no_plan) is = no_plan_is_other.0 (sym no_plan ∙ is)
+rehearsal_is_no_script e (inr rehearsal) is = script_is_other (sym is ∙ rehearsal)
+
+pub script_is_of_choice : (e : WordsError) → (e ≡ NoPlan) ⊎ (e ≡ ScriptSource) → IsOfChoice e
+script_is_of_choice e (inl no_plan) = inl no_plan
+script_is_of_choice e (inr script) = inr (inl script)
+
+pub rehearsal_is_of_choice : (e : WordsError) → (e ≡ NoPlan) ⊎ (e ≡ RehearsalSource) → IsOfChoice e
+rehearsal_is_of_choice e (inl no_plan) = inl no_plan
+rehearsal_is_of_choice e (inr rehearsal) = inr (inr rehearsal)
 
 -- ---- what is told of a result
 
@@ -47,16 +69,16 @@ no_plan_or {T} Q found result is q =
     of_found None = q
     of_found (Some x) = tt
 
--- neither of these is the parser's
-pub choice_is_sorted : {T : Type 0} (result : Result T WordsError)
-    → IfErr result (λ e. (e ≡ NoPlan) ⊎ (e ≡ ScriptSource)) → IfErr result IsSorted
+-- none of these is the parser's
+pub choice_is_sorted : {T : Type 0} (result : Result T WordsError) → IfErr result IsOfChoice
+    → IfErr result IsSorted
 choice_is_sorted (Ok x) is = tt
 choice_is_sorted (Err e) (inl is) = subst IsSorted (sym is) tt
-choice_is_sorted (Err e) (inr is) = subst IsSorted (sym is) tt
+choice_is_sorted (Err e) (inr (inl is)) = subst IsSorted (sym is) tt
+choice_is_sorted (Err e) (inr (inr is)) = subst IsSorted (sym is) tt
 
-pub choice_passes : {T : Type 0} (result : Result T WordsError)
-    → IfErr result (λ e. (e ≡ NoPlan) ⊎ (e ≡ ScriptSource))
-    → IfErr result (λ e. (e ≡ Memory) ⊎ ((e ≡ NoPlan) ⊎ (e ≡ ScriptSource)))
+pub choice_passes : {T : Type 0} (result : Result T WordsError) → IfErr result IsOfChoice
+    → IfErr result (λ e. (e ≡ Memory) ⊎ IsOfChoice e)
 choice_passes (Ok x) is = tt
 choice_passes (Err e) is = inr is
 

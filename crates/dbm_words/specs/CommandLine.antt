@@ -6,7 +6,7 @@ use Rattle.clap.specs.Words.{App, Row, Rule, Shape, Text, first_of, new_app, new
 use Rattle.clap.specs.declared.builder.action.ArgAction.TheVariants.{SetTrue}
 use Rattle.clap.specs.declared.builder.value_parser.ValueParser.TheVariants as parser
 use Rattle.dbm_plan.specs.declared.plan.Plan.{Plan}
-use Rattle.dbm_plan.specs.declared.plan.Plan.TheVariants.{Create, Store, Insert, Fetch, Delete, List as ListKeys, Dump, Load, Stat, Script, Faults}
+use Rattle.dbm_plan.specs.declared.plan.Plan.TheVariants.{Create, Store, Insert, Fetch, Delete, List as ListKeys, Dump, Load, Stat, Script, Rehearse, Faults}
 use Rattle.dbm_plan.specs.declared.plan.Source.{Source}
 use Rattle.dbm_plan.specs.declared.plan.Source.TheVariants.{File, Memory}
 use Rattle.dbm_plan.specs.declared.plan.Spelling.{Spelling}
@@ -75,6 +75,12 @@ abbrev pub script_line : Shape
 script_line = line (codes "script")
     (record (word_rule (codes "file")) { required = false } ∷ number_rule (codes "memory") ∷ [])
 
+-- `rehearse [FILE] [--memory N] [--stops N]`
+abbrev pub rehearse_line : Shape
+rehearse_line = line (codes "rehearse")
+    (record (word_rule (codes "file")) { required = false } ∷ number_rule (codes "memory")
+    ∷ number_rule (codes "stops") ∷ [])
+
 -- `faults`
 abbrev pub faults_line : Shape
 faults_line = line (codes "faults") []
@@ -94,7 +100,7 @@ command_line = record {
   subs = create_line ∷ pair_line (codes "store") ∷ pair_line (codes "insert")
       ∷ key_line (codes "fetch") ∷ key_line (codes "delete")
       ∷ file_line (codes "list") ∷ pairs_line (codes "dump") ∷ pairs_line (codes "load")
-      ∷ file_line (codes "stat") ∷ script_line ∷ faults_line ∷ [];
+      ∷ file_line (codes "stat") ∷ script_line ∷ rehearse_line ∷ faults_line ∷ [];
 }
 
 -- ---- the plan
@@ -108,6 +114,11 @@ abbrev pub IsNumberText : List Row → Text → ℕ → Type 0
 IsNumberText rows id number =
     (text : Text) × (one_of id rows ≡ Some text)
     × ParsesUnsigned {E = ParseIntError} 32 10 text (Ok number)
+
+-- a number under the id, or no text
+abbrev pub IsOptional : List Row → Text → Option ℕ → Type 0
+IsOptional rows id None = first_of id rows ≡ None
+IsOptional rows id (Some number) = IsNumberText rows id number
 
 abbrev pub flag_text : Spelling → Text
 flag_text spelling.Text = codes "false"
@@ -160,6 +171,8 @@ Asks name rows (Dump file spelled) = (name ≡ codes "dump") × ArePairs rows fi
 Asks name rows (Load file spelled) = (name ≡ codes "load") × ArePairs rows file.now spelled
 Asks name rows (Stat file) = (name ≡ codes "stat") × IsText rows (codes "file") file.now
 Asks name rows (Script source) = (name ≡ codes "script") × IsSource rows source
+Asks name rows (Rehearse source stops) = (name ≡ codes "rehearse") × IsSource rows source
+    × IsOptional rows (codes "stops") stops
 Asks name rows Faults = name ≡ codes "faults"
 
 abbrev pub Names : Option (Text × List Row) → Plan → Type 0
@@ -174,11 +187,11 @@ IsPlan words plan = Names (subcommand_of command_line words) plan
 abbrev pub AreTaken : List Text → Type 0
 AreTaken words = takes command_line words ≡ true
 
--- the script command was entered, and not with one source alone
-abbrev pub NamesNoSource : Option (Text × List Row) → Type 0
-NamesNoSource None = ⊥
-NamesNoSource (Some entered) = (entered.0 ≡ codes "script") × LacksSource entered.1
+-- the command of this name was entered, and not with one source alone
+abbrev pub NamesNoSource : Text → Option (Text × List Row) → Type 0
+NamesNoSource name None = ⊥
+NamesNoSource name (Some entered) = (entered.0 ≡ name) × LacksSource entered.1
 
--- what the words enter is a script with no source, or with two
-abbrev pub IsWithoutSource : List Text → Type 0
-IsWithoutSource words = NamesNoSource (subcommand_of command_line words)
+-- what the words enter is this command with no source, or with two
+abbrev pub IsWithoutSource : Text → List Text → Type 0
+IsWithoutSource name words = NamesNoSource name (subcommand_of command_line words)

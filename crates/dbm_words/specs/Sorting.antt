@@ -1,9 +1,9 @@
--- Help that was asked for, mistakes and want of memory.
+-- Help that was asked for, mistakes, want of memory, and words that name no plan.
 use Rattle.std.specs.Prelude.{◌≡◌, ◌≢◌, ◌⊎◌}
 use Rattle.clap.specs.Words.{kind_of}
 use Rattle.clap.specs.declared.error.kind.ErrorKind.TheVariants.{DisplayHelp, DisplayVersion, OutOfMemory}
 use Rattle.dbm_words.specs.declared.words.WordsError.{WordsError}
-use Rattle.dbm_words.specs.declared.words.WordsError.TheVariants.{Memory, Help, Usage, ScriptSource, NoPlan}
+use Rattle.dbm_words.specs.declared.words.WordsError.TheVariants.{Memory, Help, Usage, ScriptSource, RehearsalSource, NoPlan}
 
 -- what is told as help was asked for, and what is told as a mistake is one
 abbrev pub IsSorted : WordsError → Type 0
@@ -12,4 +12,9 @@ IsSorted (Help text) = (kind_of text ≡ DisplayHelp) ⊎ (kind_of text ≡ Disp
 IsSorted (Usage text) = (kind_of text ≢ OutOfMemory) × (kind_of text ≢ DisplayHelp)
     × (kind_of text ≢ DisplayVersion)
 IsSorted ScriptSource = Unit {0}
+IsSorted RehearsalSource = Unit {0}
 IsSorted NoPlan = Unit {0}
+
+-- the parser took the words, and they name no plan
+abbrev pub IsOfChoice : WordsError → Type 0
+IsOfChoice e = (e ≡ NoPlan) ⊎ ((e ≡ ScriptSource) ⊎ (e ≡ RehearsalSource))

@@ -1,7 +1,7 @@
 // The commands and their options.
 ghost use Rattle.std.specs.Prelude.{IfOk, codes};
 ghost use Rattle.dbm_words.specs.Building.{Adds, IsApp, IsRule, alone};
-ghost use Rattle.dbm_words.specs.CommandLine.{command_line, create_line, faults_line, file_line, hexadecimal_rule, key_line, number_rule, pair_line, pairs_line, program_line, script_line, text_rule, word_rule};
+ghost use Rattle.dbm_words.specs.CommandLine.{command_line, create_line, faults_line, file_line, hexadecimal_rule, key_line, number_rule, pair_line, pairs_line, program_line, rehearse_line, script_line, text_rule, word_rule};
 
 use clap::{Arg, ArgAction, Command, value_parser};
 use dbm_plan::fault_table;
@@ -32,6 +32,8 @@ pub const STAT: &str = "stat";
 
 pub const SCRIPT: &str = "script";
 
+pub const REHEARSE: &str = "rehearse";
+
 pub const FAULTS: &str = "faults";
 
 pub const FILE: &str = "file";
@@ -47,6 +49,8 @@ pub const TEXT: &str = "text";
 pub const LIMIT: &str = "limit";
 
 pub const MEMORY: &str = "memory";
+
+pub const STOPS: &str = "stops";
 
 const FILE_HELP: &str = "The name of the database, without `.db`";
 
@@ -84,6 +88,18 @@ A refused call is answered by `-1 fault N`, and a line that is no call by `-1 li
 Example:
   echo 'S 6b 76' | dbmtool script --memory 100";
 
+const REHEARSE_STEPS: &str =
+    "The calls are those of a script. They are made in memory, on a copy of FILE or on a
+new database, and FILE stays as it is. The calls are cut short before each of
+their reads, writes and syncs in turn. What is left, with none, all, every
+second or a draw of the unsynced writes, is opened again, which is cut short
+too, and once more; then all acknowledged changes are looked for, and no more
+than the one that was under way besides. Five counts are printed; it exits with
+0 where each stop kept the database.
+
+Example:
+  echo 'S 6b 76' | dbmtool rehearse --memory 100";
+
 /// The whole command line, of the words after the program's name.
 pub fn command<'a>(alloc: Global) -> Result<Command<'a>, AllocError>
     ensures { IfOk result (λ c. IsApp c command_line) }
@@ -98,6 +114,7 @@ pub fn command<'a>(alloc: Global) -> Result<Command<'a>, AllocError>
     let command = added(command, load_command(alloc));
     let command = added(command, stat_command(alloc));
     let command = added(command, script_command(alloc));
+    let command = added(command, rehearse_command(alloc));
     added(command, Ok(faults_command(alloc)))
 }
 
@@ -255,6 +272,31 @@ fn script_command<'a>(alloc: Global) -> Result<Command<'a>, AllocError>
 
 fn script_lines<'a>() -> &'a str {
     SCRIPT_LINES
+}
+
+fn rehearse_command<'a>(alloc: Global) -> Result<Command<'a>, AllocError>
+    ensures { IfOk result (λ c. IsApp c (alone rehearse_line)) }
+{
+    let memory = number(
+        alloc,
+        MEMORY,
+        "In place of FILE: a new database of at most N pairs (1 to 1000000)",
+    );
+    let stops = number(
+        alloc,
+        STOPS,
+        "Stop N times at most, spread evenly, and not before each read, write and sync",
+    );
+    Command::new(alloc, REHEARSE)
+        .about("Makes a script's calls in memory, stopped anywhere, and looks at what is left")
+        .after_help(rehearse_steps())
+        .arg(word(alloc, FILE, "FILE", FILE_HELP).required(false))?
+        .arg(memory)?
+        .arg(stops)
+}
+
+fn rehearse_steps<'a>() -> &'a str {
+    REHEARSE_STEPS
 }
 
 /// The command that prints the statuses and the faults.

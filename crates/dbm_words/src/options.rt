@@ -1,12 +1,13 @@
 // The plan that a parse entered.
 ghost use Rattle.std.specs.Prelude.{◌≡◌, ◌⊎◌, IfErr, IfOk, IfSome, MatchOption, None, Some, codes};
 ghost use Rattle.clap.specs.Words.{first_of, found_of, one_of, rows_of, subcommand_rows_of};
-ghost use Rattle.dbm_words.specs.CommandLine.{Asks, IsNumberText, IsSource, IsText, LacksSource, Names, NamesNoSource, flag_text, text_flag};
+ghost use Rattle.dbm_words.specs.CommandLine.{Asks, IsNumberText, IsOptional, IsSource, IsText, LacksSource, Names, NamesNoSource, flag_text, text_flag};
+ghost use Rattle.dbm_words.specs.Sorting.{IsOfChoice};
 
 use crate::WordsError;
 use crate::commands::{
     CONTENT, CREATE, DELETE, DUMP, FAULTS, FETCH, FILE, HEXADECIMAL, INSERT, KEY, LIMIT, LIST,
-    LOAD, MEMORY, SCRIPT, STAT, STORE, TEXT,
+    LOAD, MEMORY, REHEARSE, SCRIPT, STAT, STOPS, STORE, TEXT,
 };
 use clap::ArgMatches;
 use dbm_plan::{Plan, Source, Spelling};
@@ -14,9 +15,11 @@ use dbm_plan::{Plan, Source, Spelling};
 /// The plan that the words name.
 pub fn chosen<'a>(matches: &ArgMatches<'a>) -> Result<Plan<'a>, WordsError>
     ensures plan { IfOk result (Names (subcommand_rows_of matches.now)) }
-    ensures source { IfErr result
-        (λ e. e ≡ WordsError.ScriptSource → NamesNoSource (subcommand_rows_of matches.now)) }
-    ensures others { IfErr result (λ e. (e ≡ WordsError.NoPlan) ⊎ (e ≡ WordsError.ScriptSource)) }
+    ensures source { IfErr result (λ e. e ≡ WordsError.ScriptSource
+        → NamesNoSource (codes "script") (subcommand_rows_of matches.now)) }
+    ensures device { IfErr result (λ e. e ≡ WordsError.RehearsalSource
+        → NamesNoSource (codes "rehearse") (subcommand_rows_of matches.now)) }
+    ensures others { IfErr result IsOfChoice }
 {
     let Some((name, options)) = matches.subcommand() else {
         return Err(WordsError::NoPlan);
@@ -27,7 +30,35 @@ pub fn chosen<'a>(matches: &ArgMatches<'a>) -> Result<Plan<'a>, WordsError>
     if name == FAULTS {
         return Ok(Plan::Faults);
     }
+    if name == REHEARSE {
+        return rehearsal(options);
+    }
     of_file(name, options).ok_or(WordsError::NoPlan)
+}
+
+/// What is to be rehearsed.
+fn rehearsal<'a>(options: &ArgMatches<'a>) -> Result<Plan<'a>, WordsError>
+    ensures plan { IfOk result (Asks (codes "rehearse") (rows_of (found_of options.now))) }
+    ensures lacks { IfErr result (λ e.
+        e ≡ WordsError.RehearsalSource → LacksSource (rows_of (found_of options.now))) }
+    ensures others { IfErr result
+        (λ e. (e ≡ WordsError.NoPlan) ⊎ (e ≡ WordsError.RehearsalSource)) }
+{
+    match (source(options), stops(options)) {
+        (Ok(source), Some(stops)) => Ok(Plan::Rehearse { source, stops }),
+        (Err(WordsError::ScriptSource), _) => Err(WordsError::RehearsalSource),
+        _ => Err(WordsError::NoPlan),
+    }
+}
+
+/// How many stops there are to be, if that was given. None where it is no number.
+fn stops(options: &ArgMatches<'_>) -> Option<Option<u32>>
+    ensures { IfSome result (IsOptional (rows_of (found_of options.now)) (codes "stops")) }
+{
+    if text(options, STOPS).is_none() {
+        return Some(None);
+    }
+    Some(Some(number(options, STOPS)?))
 }
 
 /// The database that a script is to run on.

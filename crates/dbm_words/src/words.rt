@@ -1,8 +1,8 @@
 // The words after the program's name.
-ghost use Rattle.std.specs.Prelude.{◌≡◌, ◌≢◌, ◌⊎◌, IfErr, IfOk, map};
+ghost use Rattle.std.specs.Prelude.{◌≡◌, ◌≢◌, ◌⊎◌, IfErr, IfOk, map, codes};
 ghost use Rattle.clap.specs.Words.{kind_of};
 ghost use Rattle.dbm_words.specs.CommandLine.{AreTaken, IsPlan, IsWithoutSource};
-ghost use Rattle.dbm_words.specs.Sorting.{IsSorted};
+ghost use Rattle.dbm_words.specs.Sorting.{IsOfChoice, IsSorted};
 
 use crate::commands::command;
 use crate::options::chosen;
@@ -27,6 +27,9 @@ pub enum WordsError {
     /// The parser took the words, but the script has no database, or two.
     #[error("dbmtool: script needs FILE or --memory\n")]
     ScriptSource,
+    /// The parser took the words, but the rehearsal has no database, or two.
+    #[error("dbmtool: rehearse needs FILE or --memory\n")]
+    RehearsalSource,
     /// The words passed the parser and name no plan.
     #[error("error: no such command\n")]
     NoPlan,
@@ -35,15 +38,16 @@ pub enum WordsError {
 /// Reads the words after the program's name. `Help` where they ask for help or the version, and
 /// `Usage` where they are no plan: no command, an unknown one, an option too many or too few, or a
 /// number that is no `u32`. `ScriptSource` where the parser takes the words, and a script has both
-/// of FILE and `--memory` or neither.
+/// of FILE and `--memory` or neither; `RehearsalSource` where a rehearsal does.
 pub fn read_words<'a>(alloc: Global, words: &'a [&'a str]) -> Result<Plan<'a>, WordsError>
     ensures plan { IfOk result (IsPlan (map (λ word. word.now) words.now)) }
     ensures sorted { IfErr result IsSorted }
-    ensures source { IfErr result
-        (λ e. e ≡ WordsError.ScriptSource → IsWithoutSource (map (λ word. word.now) words.now)) }
+    ensures source { IfErr result (λ e. e ≡ WordsError.ScriptSource
+        → IsWithoutSource (codes "script") (map (λ word. word.now) words.now)) }
+    ensures device { IfErr result (λ e. e ≡ WordsError.RehearsalSource
+        → IsWithoutSource (codes "rehearse") (map (λ word. word.now) words.now)) }
     ensures passes { AreTaken (map (λ word. word.now) words.now)
-        → IfErr result (λ e. (e ≡ WordsError.Memory)
-        ⊎ ((e ≡ WordsError.NoPlan) ⊎ (e ≡ WordsError.ScriptSource))) }
+        → IfErr result (λ e. (e ≡ WordsError.Memory) ⊎ IsOfChoice e) }
 {
     let Ok(command) = command(alloc) else {
         return Err(WordsError::Memory);
@@ -57,7 +61,7 @@ pub fn read_words<'a>(alloc: Global, words: &'a [&'a str]) -> Result<Plan<'a>, W
 /// Tells help and want of memory from a mistake.
 fn sorted(refusal: Refusal) -> WordsError
     ensures sorted { IsSorted result }
-    ensures source { result ≢ WordsError.ScriptSource }
+    ensures source { (result ≢ WordsError.ScriptSource) × (result ≢ WordsError.RehearsalSource) }
     ensures memory { kind_of refusal ≡ ErrorKind.OutOfMemory → result ≡ WordsError.Memory }
 {
     if refusal.kind() == ErrorKind::OutOfMemory {

@@ -1,6 +1,6 @@
 use Rattle.std.proofs.Common.{inl, inr, ⊎_elim, refl}
 use Rattle.dbm_fault.specs.declared.engine_fault.EngineFault.TheVariants.{Write}
-use Rattle.dbm_tool.proofs.Statuses.{done_at_zero, prints_or_stays, tells_fault}
+use Rattle.dbm_tool.proofs.Statuses.{done_at_zero, prints_or_stays, reads_or_stays, tells_fault}
 use Rattle.dbm_tool.proofs.program.tool.Goals as goal
 
 pub returns-in-Ok-show-clause-done : goal.returns-in-Ok-show-clause-done
@@ -9,19 +9,23 @@ returns-in-Ok-show-clause-done g c zero =
     inl (
       refl,
       λ taken. ⊎_elim (λ memory. absurd (cc))
-          (λ other. ⊎_elim (λ no_plan. absurd (cc)) (λ no_source. absurd (cc)) other)
+          (λ other. ⊎_elim (λ no_plan. absurd (cc))
+          (λ no_source. ⊎_elim (λ of_script. absurd (cc)) (λ of_rehearsal. absurd (cc)) no_source)
+          other)
           (c.in-Err-Help.ensures.passes taken),
     )
 
 pub returns-in-Err-show-clause-fault : goal.returns-in-Err-show-clause-fault
 returns-in-Err-show-clause-fault g c two =
     let is = c.in-Err-Help.field-0-is in
-    record {
+    inl record {
       met = Write;
       can_be_met = inr (inr (
         refl,
         λ taken. ⊎_elim (λ memory. absurd (cc))
-            (λ other. ⊎_elim (λ no_plan. absurd (cc)) (λ no_source. absurd (cc)) other)
+            (λ other. ⊎_elim (λ no_plan. absurd (cc))
+            (λ no_source. ⊎_elim (λ of_script. absurd (cc)) (λ of_rehearsal. absurd (cc)) no_source)
+            other)
             (c.in-Err-Help.ensures.passes taken),
       ));
       line = c.ended-in-Err-show.ensures.line;
@@ -31,7 +35,9 @@ pub returns-in-Err-show-clause-output : goal.returns-in-Err-show-clause-output
 returns-in-Err-show-clause-output g c =
     let is = c.in-Err-Help.field-0-is in
     inr (inr (λ taken. ⊎_elim (λ memory. absurd (cc))
-    (λ other. ⊎_elim (λ no_plan. absurd (cc)) (λ no_source. absurd (cc)) other)
+    (λ other. ⊎_elim (λ no_plan. absurd (cc))
+    (λ no_source. ⊎_elim (λ of_script. absurd (cc)) (λ of_rehearsal. absurd (cc)) no_source)
+    other)
     (c.in-Err-Help.ensures.passes taken)))
 
 pub returns-in-Ok-clause-done : goal.returns-in-Ok-clause-done
@@ -43,9 +49,14 @@ returns-in-Ok-clause-done g c zero = inr record {
 
 pub returns-in-Ok-clause-fault : goal.returns-in-Ok-clause-fault
 returns-in-Ok-clause-fault g c two =
-    tells_fault _ c.in-Ok.plan c.carry_out.result _ _ _ _ c.in-Ok.ensures.plan
-    c.carry_out.ensures.ends c.ended.ensures.line c.ended.ensures.status two
+    tells_fault _ c.in-Ok.plan c.carry_out.result _ _ _ _ _ _ _ c.in-Ok.ensures.plan
+    c.carry_out.ensures.ends c.carry_out.ensures.loses c.ended.ensures.line c.ended.ensures.status
+    two
 
 pub returns-in-Ok-clause-output : goal.returns-in-Ok-clause-output
 returns-in-Ok-clause-output g c =
     prints_or_stays _ c.in-Ok.plan _ c.in-Ok.ensures.plan c.carry_out.ensures.output
+
+pub returns-in-Ok-clause-input : goal.returns-in-Ok-clause-input
+returns-in-Ok-clause-input g c =
+    reads_or_stays _ c.in-Ok.plan _ c.in-Ok.ensures.plan c.carry_out.ensures.input

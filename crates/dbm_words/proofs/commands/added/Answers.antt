@@ -1,5 +1,5 @@
-use Rattle.std.proofs.Common.{IfOk, Ok, subst}
-use Rattle.std.proofs.lemmas.Result.{IfOk-weaker, IfOk-from_err}
+use Rattle.std.proofs.Common.{IfOk, subst}
+use Rattle.std.proofs.lemmas.Result.{IfOk-weaker}
 use Rattle.dbm_words.specs.Building.{IsApp, alone}
 use Rattle.dbm_words.proofs.Building.{with_line}
 use Rattle.dbm_words.proofs.commands.added.Goals as goal

@@ -9,7 +9,7 @@ pub returns-in-Some-clause-source : goal.returns-in-Some-clause-source
 returns-in-Some-clause-source c = (c.in-None-Some.ensures, c.in-Some.ensures)
 
 pub returns-in-None-clause-lacks : goal.returns-in-None-clause-lacks
-returns-in-None-clause-lacks c = λ is. absurd (no_plan_is_other is)
+returns-in-None-clause-lacks c = λ is. absurd (no_plan_is_other.0 is)
 
 pub returns-in-None-clause-others : goal.returns-in-None-clause-others
 returns-in-None-clause-others c = inl refl

@@ -1,7 +1,7 @@
-use Rattle.std.proofs.Common.{◌≡◌, ◌∙◌, IfErr, IfOk, inl, map, ap, refl}
+use Rattle.std.proofs.Common.{◌≡◌, ◌∙◌, IfErr, IfOk, inl, map, ap, refl, codes}
 use Rattle.clap.specs.Words.{app_of, takes}
 use Rattle.dbm_words.specs.CommandLine.{Names, NamesNoSource}
-use Rattle.dbm_words.specs.declared.words.WordsError.TheVariants.{ScriptSource}
+use Rattle.dbm_words.specs.declared.words.WordsError.TheVariants.{RehearsalSource, ScriptSource}
 use Rattle.dbm_words.proofs.Reading.{of_words}
 use Rattle.dbm_words.proofs.Refusing.{choice_is_sorted, choice_passes, memory_is_other}
 use Rattle.dbm_words.proofs.words.read_words.Goals as goal
@@ -16,11 +16,23 @@ pub returns-in-Ok-try_get_matches_from-clause-source : goal.returns-in-Ok-try_ge
 returns-in-Ok-try_get_matches_from-clause-source c =
     of_words c.in-Ok-try_get_matches_from.matches (app_of c.in-Ok.command)
     (map (λ word. word.now) c.args.words.now)
-    (λ entered. IfErr c.chosen.result (λ e. e ≡ ScriptSource → NamesNoSource entered))
+    (λ entered. IfErr c.chosen.result
+    (λ e. e ≡ ScriptSource → NamesNoSource (codes "script") entered))
     c.in-Ok.ensures.shape c.in-Ok-try_get_matches_from.ensures.matches c.chosen.ensures.source
 
+pub returns-in-Ok-try_get_matches_from-clause-device : goal.returns-in-Ok-try_get_matches_from-clause-device
+returns-in-Ok-try_get_matches_from-clause-device c =
+    of_words c.in-Ok-try_get_matches_from.matches (app_of c.in-Ok.command)
+    (map (λ word. word.now) c.args.words.now)
+    (λ entered. IfErr c.chosen.result
+    (λ e. e ≡ RehearsalSource → NamesNoSource (codes "rehearse") entered))
+    c.in-Ok.ensures.shape c.in-Ok-try_get_matches_from.ensures.matches c.chosen.ensures.device
+
 pub returns-in-Err-clause-source : goal.returns-in-Err-clause-source
-returns-in-Err-clause-source c = λ is. absurd (c.sorted.ensures.source is)
+returns-in-Err-clause-source c = λ is. absurd (c.sorted.ensures.source.0 is)
+
+pub returns-in-Err-clause-device : goal.returns-in-Err-clause-device
+returns-in-Err-clause-device c = λ is. absurd (c.sorted.ensures.source.1 is)
 
 pub returns-in-Err-clause-passes : goal.returns-in-Err-clause-passes
 returns-in-Err-clause-passes c = λ taken.
@@ -29,7 +41,10 @@ returns-in-Err-clause-passes c = λ taken.
     c.in-Ok.ensures.shape ∙ taken)))
 
 pub returns-in_default-clause-source : goal.returns-in_default-clause-source
-returns-in_default-clause-source c = λ is. absurd (memory_is_other is)
+returns-in_default-clause-source c = λ is. absurd (memory_is_other.0 is)
+
+pub returns-in_default-clause-device : goal.returns-in_default-clause-device
+returns-in_default-clause-device c = λ is. absurd (memory_is_other.1 is)
 
 pub returns-in_default-clause-passes : goal.returns-in_default-clause-passes
 returns-in_default-clause-passes c = λ _. inl refl

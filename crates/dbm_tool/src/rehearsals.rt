@@ -1,0 +1,123 @@
+// Rehearsals of a script, on a new database or on a copy of a file.
+ghost use Rattle.std.specs.Prelude.{◌≡◌, OnOk, IfErr, IfOk, IfSome, MatchOption, None, Ok, Err};
+ghost use Rattle.dbm_tool.specs.Endings.{EndsAs, MayEndRehearsal};
+ghost use Rattle.dbm_tool.specs.Plans.{Loses, Rehearses};
+
+use crate::commands::unwritten;
+use dbm_commands::{Failure, Outcome};
+use dbm_file::{Fault, needed_sectors};
+use dbm_plan::{Plan, Source};
+use dbm_rehearse::{Rehearsed, device_with, rehearse_script};
+use sect_dev::MemDev;
+use std::alloc::Global;
+use std::fs::File;
+use std::io::{self, BufRead, ErrorKind, Read, Write};
+use std::rt::Files;
+
+/// As many sectors as a file has room for.
+const FILE_SECTORS: u32 = 9_001_992;
+
+/// Rehearses the script on a copy in memory of a database's file, which is locked (flock) while it
+/// is read, and shared with others that read it.
+pub fn rehearse_file<T: Files<File = File>, R: BufRead, O: Write>(
+    rt: &T,
+    alloc: Global,
+    file: &str,
+    stops: Option<u32>,
+    input: &mut R,
+    output: &mut O,
+) -> Result<Outcome, Failure>
+    ensures does { OnOk result (IfSome (R.remaining input.old) (λ text.
+        Rehearses stops None text (O.contents output.old) (O.contents output.new))) }
+    ensures loses { IfErr result (λ failure. Loses (Plan.Rehearse (Source.File file.entry) stops)
+        failure (R.remaining input.old) (O.contents output.old) (O.contents output.new)) }
+    ensures ends { EndsAs (Plan.Rehearse (Source.File file.entry) stops) result }
+{
+    let dev = copy_of(rt, alloc, file)?;
+    rehearse(alloc, &dev, None, stops, input, output)
+}
+
+/// Rehearses the script on a new database in memory.
+pub fn rehearse_new<R: BufRead, O: Write>(
+    alloc: Global,
+    limit: u32,
+    stops: Option<u32>,
+    input: &mut R,
+    output: &mut O,
+) -> Result<Outcome, Failure>
+    ensures does { OnOk result (IfSome (R.remaining input.old) (λ text.
+        Rehearses stops None text (O.contents output.old) (O.contents output.new))) }
+    ensures loses { IfErr result (λ failure. Loses (Plan.Rehearse (Source.Memory limit) stops)
+        failure (R.remaining input.old) (O.contents output.old) (O.contents output.new)) }
+    ensures ends { EndsAs (Plan.Rehearse (Source.Memory limit) stops) result }
+{
+    let Some(sectors) = needed_sectors(limit) else {
+        return Err(Failure::from(Fault::BadLimit));
+    };
+    rehearse(
+        alloc,
+        &MemDev::new(alloc, sectors),
+        Some(limit),
+        stops,
+        input,
+        output,
+    )
+}
+
+// Rehearses the script on what is on a device.
+fn rehearse<R: BufRead, O: Write>(
+    alloc: Global,
+    dev: &MemDev,
+    limit: Option<u32>,
+    stops: Option<u32>,
+    input: &mut R,
+    output: &mut O,
+) -> Result<Outcome, Failure>
+    ensures does { OnOk result (IfSome (R.remaining input.old) (λ text.
+        Rehearses stops None text (O.contents output.old) (O.contents output.new))) }
+    ensures loses { (source : Source) → IfErr result (λ failure. Loses (Plan.Rehearse source stops)
+        failure (R.remaining input.old) (O.contents output.old) (O.contents output.new)) }
+    ensures ends { MayEndRehearsal result }
+{
+    let done = rehearse_script(alloc, dev, limit, stops, input, output);
+    let flushed = output.flush();
+    let counts = done?;
+    flushed.map_err(unwritten)?;
+    verdict(&counts)
+}
+
+// Whether each stop kept the database.
+fn verdict(counts: &Rehearsed) -> Result<Outcome, Failure>
+    ensures { MatchOption counts.now.first_lost (result ≡ Ok Outcome.Done)
+        (λ stop. result ≡ Err (Failure.NotKept stop)) }
+{
+    match counts.first_lost {
+        Some(stop) => Err(Failure::NotKept(stop)),
+        None => Ok(Outcome::Done),
+    }
+}
+
+// A copy of a database's file.
+fn copy_of<T: Files<File = File>>(rt: &T, alloc: Global, name: &str) -> Result<MemDev, Fault> {
+    let bytes = content_of(rt, alloc, name).map_err(refusal)?;
+    device_with(alloc, FILE_SECTORS, bytes.as_slice()).map_err(|_| Fault::Memory)
+}
+
+// The bytes of a database's file.
+fn content_of<T: Files<File = File>>(rt: &T, alloc: Global, name: &str) -> io::Result<Vec<u8>> {
+    let path = format!(in alloc; "{name}.db")?;
+    let mut file = File::open(rt, path.as_str())?;
+    file.try_lock_shared()?;
+    let mut bytes = Vec::new(alloc);
+    file.read_to_end(&mut bytes)?;
+    Ok(bytes)
+}
+
+// The fault of a file that can't be read.
+fn refusal(error: io::Error) -> Fault {
+    match error.kind() {
+        ErrorKind::NotFound => Fault::Missing,
+        ErrorKind::OutOfMemory => Fault::Memory,
+        _ => Fault::Device,
+    }
+}

@@ -1,0 +1,80 @@
+#!/usr/bin/env bash
+# Rehearsals, on new databases and on copies of files: each stop is kept, the counts agree, and the file stays as it is.
+set -u
+top=$(cd "$(dirname "$0")/.." && pwd)
+program=$top/crates/dbmtool/out/dbmtool
+work=$(mktemp -d)
+trap 'rm -rf "$work"' EXIT
+cd "$work" || exit 1
+bad=0
+wrong() { echo "$1"; cat out err; bad=1; }
+
+# count NAME: what was printed behind this name
+count() { sed -n "s/^$1 //p" out; }
+
+# is_kept CALLS WORD..: a rehearsal of the lines in the file `in` makes so many calls, and keeps each of its stops
+is_kept() {
+  local calls=$1; shift
+  "$program" rehearse "$@" < in > out 2> err || { wrong "rehearse $*: status $?"; return; }
+  [ ! -s err ] && [ "$(count calls)" = "$calls" ] && [ "$(tail -n 5 out | sed 's/ [0-9]*$//' | xargs)" = 'calls device calls stops reopened kept' ] ||
+    wrong "rehearse $*: another output"
+  [ "$(count stops)" = "$(count reopened)" ] && [ "$(count stops)" = "$(count kept)" ] || wrong "rehearse $*: a stop isn't kept"
+}
+
+# stops_everywhere: there was a stop before each device call
+stops_everywhere() { [ "$(count stops)" = "$(count 'device calls')" ] && [ "$(count stops)" -gt 0 ] || wrong "some stops are missing"; }
+
+# a new database: nine stores split its bucket, and pairs are changed and deleted
+printf 'S 6%s 0%s\n' 1 1 2 2 3 3 4 4 5 5 6 6 7 7 8 8 9 9 > in
+printf 'I 61 ff\nS 62 ff\nD 63\nD 63\nF 64\n' >> in
+is_kept 14 --memory 100
+stops_everywhere
+"$program" rehearse --memory 100 < in > again && cmp -s out again || wrong "the same rehearsal ends otherwise"
+calls=$(count 'device calls')
+is_kept 14 --memory 100 --stops 7
+[ "$(count stops)" = 7 ] && [ "$(count 'device calls')" = "$calls" ] || wrong "there aren't seven stops"
+is_kept 14 --memory 100 --stops "$((calls + 1))"
+stops_everywhere
+
+# a limit that is reached, and bad lines
+printf 'S 61 01\nQ\nS 62 02\nD 61\nS 6\nS 62 02\n' > in
+is_kept 4 --memory 1
+stops_everywhere
+[ "$(head -n 2 out)" = $'-1 line\n-1 line' ] && [ "$(wc -l < out)" = 7 ] || wrong "bad lines are told otherwise"
+: > in
+is_kept 0 --memory 1
+
+# a file, whose pairs are in the way of the calls; it stays as it is, and others may read it meanwhile
+"$program" create t --limit 100 && printf '6%s 0%s\n' 1 1 2 2 3 3 4 4 5 5 6 6 7 7 8 8 | "$program" load t || wrong "no file was made"
+cp t.db before
+printf 'S 69 09\nD 61\nS 62 ff\nI 62 00\n' > in
+is_kept 4 t
+stops_everywhere
+cmp -s t.db before || wrong "a rehearsal changed the file"
+[ "$("$program" stat t | head -n 1)" = 'pairs 8' ] || wrong "the file has other pairs"
+
+# one of which a commit was cut short, so that its first sector is another
+cc -shared -fPIC -O1 -o fail.so "$top/tests/fail.c" -ldl || exit 1
+FAIL_CALL=0 LD_PRELOAD=./fail.so "$program" store t 69 09 -x 2> err || wrong "a store failed with no failed call"
+armed=
+for n in $(seq 1 "$(sed -n 's/^calls //p' err)"); do
+  cp before t.db
+  FAIL_CALL=$n LD_PRELOAD=./fail.so "$program" store t 69 09 -x > out 2> err && wrong "call $n failed, and the store didn't"
+  cmp -s <(head -c 512 t.db) <(head -c 512 before) || { armed=$n; break; }
+done
+[ -n "$armed" ] || wrong "no commit was cut short"
+cp t.db cut
+is_kept 4 t
+stops_everywhere
+cmp -s t.db cut || wrong "a rehearsal settled the file"
+
+# what is no database, or isn't there
+printf hello > text.db
+for row in 'text 10' 'absent 14'; do
+  "$program" rehearse "${row% *}" < in > out 2> err
+  [ $? = 2 ] && [ ! -s out ] && [ "$(cat err)" = "dbmtool: fault ${row#* }" ] || wrong "rehearse ${row% *} isn't refused by fault ${row#* }"
+done
+mkdir folder.db
+"$program" rehearse folder < in > out 2> err; [ $? = 2 ] && [ "$(cat err)" = 'dbmtool: fault 2' ] || wrong "a folder is rehearsed"
+"$program" rehearse --memory 0 < in > out 2> err; [ $? = 2 ] && [ "$(cat err)" = 'dbmtool: fault 13' ] || wrong "a limit of 0 is taken"
+exit $bad
