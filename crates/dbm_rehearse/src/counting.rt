@@ -21,6 +21,11 @@ impl<D: SectorDev> Counting<D> {
         self.calls
     }
 
+    /// The device, without the count.
+    pub fn into_inner(self) -> D {
+        self.inner
+    }
+
     fn count(&mut self)
         ensures { self.new.inner ≡ self.old.inner }
     {

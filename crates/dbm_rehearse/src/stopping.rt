@@ -12,7 +12,7 @@ use crate::report::{Outcome, Rehearsed};
 use dbm_fault::EngineFault;
 use dbm_file::{Call, Reply};
 use rehearsal::{Ending, Opening, session};
-use sect_dev::{Fuse, MemDev, SectorDev};
+use sect_dev::{Fuse, MemDev};
 use std::alloc::{AllocError, Global};
 
 // The reopening is stopped after less device calls than this. One that ends a commit takes 33, and
@@ -65,9 +65,9 @@ impl<'a> Rehearsal<'a> {
 
     // The session, stopped.
     fn stopped_at(&self, stop: u64) -> Result<(MemDev, Ending), AllocError> {
-        let fuse = Fuse::new(self.dev.crashed(self.alloc, &[])?, stop);
-        let (fuse, ending) = session_on(self.alloc, fuse, self.limit, self.calls);
-        Ok((fuse.into_inner(), ending))
+        let copy = self.dev.crashed(self.alloc, &[])?;
+        let (left, ending, _) = cut_session(self.alloc, copy, stop, self.limit, self.calls);
+        Ok((left, ending))
     }
 
     // How it ends where these unsynced writes have happened.
@@ -79,9 +79,8 @@ impl<'a> Rehearsal<'a> {
         stop: u64,
     ) -> Result<Outcome, AllocError> {
         let left = left_with(self.alloc, stopped, choice, stop)?;
-        let fuse = Fuse::new(left, stop % REOPENING);
-        let (fuse, _) = session_on(self.alloc, fuse, self.limit, &[]);
-        let left = left_with(self.alloc, &fuse.into_inner(), choice, stop)?;
+        let (cut, _, _) = cut_session(self.alloc, left, stop % REOPENING, self.limit, &[]);
+        let left = left_with(self.alloc, &cut, choice, stop)?;
         let mut db = match open_device(self.alloc, left, self.limit) {
             Ok(db) => db,
             Err(EngineFault::Memory) => return Err(AllocError),
@@ -114,9 +113,9 @@ pub fn unstopped(
     let Ok(copy) = dev.crashed(alloc, &[]) else {
         return Err(EngineFault::Memory);
     };
-    let (counting, ending) = session_on(alloc, Counting::new(copy), limit, calls);
+    let (_, ending, made) = cut_session(alloc, copy, u64::MAX, limit, calls);
     match ending {
-        Ending::Rested(replies) => Ok((replies, counting.calls())),
+        Ending::Rested(replies) => Ok((replies, made)),
         Ending::NotOpened(fault) => Err(told(fault)),
         Ending::NoMemory | Ending::Broke(_) => Err(EngineFault::Memory),
     }
@@ -132,20 +131,25 @@ pub fn pairs_before(alloc: Global, dev: &MemDev, limit: Option<u32>) -> Result<P
     }
 }
 
-// A session that makes a database of the limit where the device is blank and there is one. It has
-// no clause, so that those of a session stand in no other goal.
-fn session_on<D: SectorDev>(
+// A session that makes a database of the limit where the device is blank and there is one, cut after
+// so many device calls. It gives what is left, and how many device calls were asked for. Each session
+// is on this one type of device, since the program has the code of a database once for each type; and
+// it has no clause, so that those of a session stand in no other goal.
+fn cut_session(
     alloc: Global,
-    dev: D,
+    dev: MemDev,
+    stop: u64,
     limit: Option<u32>,
     calls: &[Call],
-) -> (D, Ending) {
+) -> (MemDev, Ending, u64) {
     let how = Opening {
         create: limit.is_some(),
         truncate: false,
         limit: limit.unwrap_or(0),
     };
-    session(alloc, dev, how, calls)
+    let (dev, ending) = session(alloc, Counting::new(Fuse::new(dev, stop)), how, calls);
+    let made = dev.calls();
+    (dev.into_inner().into_inner(), ending, made)
 }
 
 // What this choice of the unsynced writes leaves of the device.
