@@ -1,7 +1,7 @@
 -- What a sync leaves.
 use Rattle.std.proofs.Common.{ℕ, List, ◌∷◌, sym, subst}
-use Rattle.sect_dev.specs.declared.mem.Event.{Event}
-use Rattle.sect_dev.specs.declared.mem.Event.TheVariants.{Synced}
+use Rattle.sect_dev.specs.declared.past.Event.{Event}
+use Rattle.sect_dev.specs.declared.past.Event.TheVariants.{Synced}
 use Rattle.sect_dev.specs.History.{IsCandidate, content_is_candidate}
 
 -- what a read gives was a candidate before the sync

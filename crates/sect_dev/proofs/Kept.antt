@@ -3,8 +3,8 @@ use Rattle.std.proofs.Common.{◌≡◌, ◌+◌, ◌/◌, ℕ, zero, suc, Bool,
 use Rattle.std.proofs.lemmas.List.{length-replicate}
 use Rattle.std.proofs.lemmas.Bool.{true≢false, eqb-true}
 use Rattle.std.proofs.Math.Nat.{mul-div_cancel}
-use Rattle.sect_dev.specs.declared.mem.Event.{Event}
-use Rattle.sect_dev.specs.declared.mem.Event.TheVariants.{Wrote}
+use Rattle.sect_dev.specs.declared.past.Event.{Event}
+use Rattle.sect_dev.specs.declared.past.Event.TheVariants.{Wrote}
 use Rattle.sect_dev.specs.Sector.{zeros}
 use Rattle.sect_dev.specs.History.{content_after, IsCandidate, content_is_candidate}
 use Rattle.sect_dev.specs.FileHistory.{Change, KeepsChange, KeepsWrite}

@@ -1,16 +1,11 @@
 -- The writes since the last sync, and what is kept of them.
-use Rattle.std.proofs.Common.{◌≡◌, ◌<◌, ◌≤◌, ℕ, suc, ◌+◌, ◌-◌, List, [], ◌∷◌, ◌++◌, length, take, drop, reverse, Bool, true, false, cond, refl, sym, ◌∙◌, ap, arith}
-use Rattle.std.proofs.lemmas.List.{take-append-drop, reverse-append, length-reverse, length-drop, length-take-le, append-nil}
+use Rattle.std.proofs.Common.{◌≡◌, ◌<◌, ◌≤◌, ℕ, suc, ◌+◌, List, [], ◌∷◌, ◌++◌, length, take, drop, reverse, Bool, true, false, cond, refl, sym, ◌∙◌, ap, arith}
+use Rattle.std.proofs.lemmas.List.{take-append-drop, reverse-append, length-reverse, length-take-le}
 use Rattle.std.specs.Prelude.{slice_index_or}
-use Rattle.sect_dev.specs.declared.mem.Event.{Event}
-use Rattle.sect_dev.specs.declared.mem.Event.TheVariants.{Wrote, Synced}
+use Rattle.sect_dev.specs.declared.past.Event.{Event}
+use Rattle.sect_dev.specs.declared.past.Event.TheVariants.{Wrote, Synced}
 use Rattle.sect_dev.specs.Device.{Image, with_sector}
 use Rattle.sect_dev.specs.History.{content_after, pending_of, kept}
-
-pub pending_bound : (events : List Event) → pending_of events ≤ length events
-pending_bound [] = omega arith
-pending_bound (Wrote n bytes ∷ earlier) = omega (arith, pending_bound earlier)
-pending_bound (Synced ∷ earlier) = omega arith
 
 -- where all of these are unsettled writes, so are all of the older ones
 all_pending : (newer mid settled : List Event)
@@ -83,29 +78,3 @@ module _ (writes base : List Event)
       ∙ one_more event earlier marks (slice_index_or marks i false) i old some
       (pending_at i (omega (arith, within))) refl so_far
       ∙ ap (λ (l : List Event). kept l marks) (sym grown)
-
--- a record of which the first events are settled, and the others are not
-module _ (events : List Event) (settled : ℕ)
-    (counted : settled + pending_of (reverse events) ≡ length events)
-    (front back base : List Event) (is_front : front ≡ take settled events)
-    (is_back : back ≡ drop settled events) (is_base : base ≡ reverse front ++ []) where
-  pub in_two : reverse back ++ base ≡ reverse events
-  in_two =
-      ap (λ (l : List Event). reverse back ++ l) (is_base ∙ append-nil (reverse front))
-      ∙ sym (reverse-append front back)
-      ∙ ap (λ (l : List Event). reverse (l ++ back)) is_front
-      ∙ ap (λ (l : List Event). reverse (take settled events ++ l)) is_back
-      ∙ ap reverse (take-append-drop settled events)
-
-  pub back_pending : pending_of (reverse back ++ base) ≡ length back
-  back_pending =
-      let count : length back ≡ length events - settled =
-      ap length is_back ∙ length-drop settled events in
-      ap pending_of in_two ∙ omega (arith, counted, count)
-
-  -- with the marked ones added, and a sync
-  pub crash_seen : (marked synced : List Event) (marks : List Bool)
-      → content_after marked ≡ kept (reverse back ++ base) marks → synced ≡ Synced ∷ marked
-      → content_after synced ≡ kept (reverse events) marks
-  crash_seen marked synced marks is after =
-      ap content_after after ∙ is ∙ ap (λ (l : List Event). kept l marks) in_two

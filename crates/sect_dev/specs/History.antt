@@ -5,8 +5,8 @@ use mathlib.Core.Logic.{inl, inr}
 use Rattle.std.proofs.Common.{refl, subst, arith, rules}
 use Rattle.std.proofs.lemmas.Bool.{cases_eq}
 use Rattle.std.proofs.lemmas.Bool.Decides.{nat_tests}
-use Rattle.sect_dev.specs.declared.mem.Event.{Event}
-use Rattle.sect_dev.specs.declared.mem.Event.TheVariants.{Wrote, Synced}
+use Rattle.sect_dev.specs.declared.past.Event.{Event}
+use Rattle.sect_dev.specs.declared.past.Event.TheVariants.{Wrote, Synced}
 use Rattle.sect_dev.specs.Device.{Image, with_sector, IsImageOf}
 use Rattle.sect_dev.specs.Sector.{zeros}
 
@@ -27,6 +27,12 @@ abbrev pub LeftSince : List Event → ℕ → Image → Type 0
 LeftSince [] t image = IsImageOf (IsCandidate []) image
 LeftSince (e ∷ earlier) t image =
     IsImageOf (IsCandidate (e ∷ earlier)) image ⊎ ((t ≤ length earlier) × LeftSince earlier t image)
+
+-- the record as it was at the last sync
+abbrev pub at_last_sync : List Event → List Event
+at_last_sync [] = []
+at_last_sync (Wrote n bytes ∷ earlier) = at_last_sync earlier
+at_last_sync (Synced ∷ earlier) = Synced ∷ earlier
 
 -- how many writes since the last sync
 abbrev pub pending_of : List Event → ℕ

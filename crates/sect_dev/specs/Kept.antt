@@ -1,7 +1,7 @@
 -- A file_history that is kept, for any changes: what a device in memory would have.
 use Rattle.std.specs.Prelude.{◌≡◌, ◌+◌, ◌*◌, ◌/◌, ◌<◌, ◌==◌, if◌then◌else◌, ℕ, zero, suc, true, false, List, [], ◌∷◌, length}
-use Rattle.sect_dev.specs.declared.mem.Event.{Event}
-use Rattle.sect_dev.specs.declared.mem.Event.TheVariants.{Wrote, Synced}
+use Rattle.sect_dev.specs.declared.past.Event.{Event}
+use Rattle.sect_dev.specs.declared.past.Event.TheVariants.{Wrote, Synced}
 use Rattle.sect_dev.specs.History.{content_after, IsCandidate}
 use Rattle.sect_dev.specs.FileHistory.{Change, FileHistory, StandsAt, IsKept}
 use Rattle.sect_dev.specs.FileHistory.Change.{Writes, Syncs}

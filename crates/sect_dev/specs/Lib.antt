@@ -8,3 +8,4 @@ pub mod Mem
 pub mod Moments
 pub mod Plan
 pub mod Sector
+pub mod Unsynced

@@ -1,12 +1,12 @@
 -- What a device in memory shows.
-use Rattle.std.specs.Prelude.{◌≡◌, ℕ, List, ◌∷◌, reverse}
-use Rattle.sect_dev.specs.declared.mem.Event.{Event}
-use Rattle.sect_dev.specs.declared.mem.Event.TheVariants.{Wrote, Synced}
+use Rattle.std.specs.Prelude.{◌≡◌, ℕ, List, ◌∷◌}
+use Rattle.sect_dev.specs.declared.past.Event.{Event}
+use Rattle.sect_dev.specs.declared.past.Event.TheVariants.{Wrote, Synced}
 use Rattle.sect_dev.specs.declared.mem.MemDev.{MemDev}
 
 -- its writes and syncs, the newest first
 abbrev pub history : MemDev → List Event
-history dev = reverse dev.events.items
+history dev = dev.past.events
 
 abbrev pub IsSameRecord : MemDev → MemDev → Type 0
 IsSameRecord old new = history new ≡ history old

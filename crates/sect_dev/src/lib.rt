@@ -8,6 +8,7 @@ mod file_dev;
 mod fuse;
 mod laws;
 mod mem;
+mod past;
 
 pub use device::{DevFault, SectorDev};
 pub use fail_one::{FailLate, FailOnce};

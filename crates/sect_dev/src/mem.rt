@@ -1,33 +1,41 @@
 //! A device in memory.
-ghost use Rattle.std.specs.Prelude.{◌≡◌, ◌+◌, ◌^◌, ◌<◌, [], ◌∷◌, ◌++◌, ℕ, reverse, length, OnOk, OnErr, IfOk, slice_index_or, false};
+ghost use Rattle.std.specs.Prelude.{◌≡◌, ◌+◌, ◌^◌, ◌<◌, [], ◌∷◌, ◌++◌, ℕ, reverse, map, length, OnOk, OnErr, IfOk, slice_index_or, false};
 ghost use Rattle.sect_dev.specs.Sector.{zeros};
 ghost use Rattle.sect_dev.specs.Device.{HasCause, IsImageOf, IsStable, NoNewCandidate};
-ghost use Rattle.sect_dev.specs.History.{content_after, pending_of, kept, content_in};
+ghost use Rattle.sect_dev.specs.History.{content_after, pending_of, kept, content_in, at_last_sync};
+ghost use Rattle.sect_dev.specs.Unsynced.{event_of, before_of, unsynced_of, overwritten};
 
+use crate::past::{Event, Past};
 use crate::{DevFault, SectorDev};
 use std::alloc::{AllocError, Global};
 use std::collections::HashMap;
 
+// A write that was not synced.
 #[derive(Clone, Copy)]
-enum Event {
-    Wrote(u32, [u8; 512]),
-    Synced,
+struct Write {
+    sector: u32,
+    bytes: [u8; 512],
+    // What the sector had before.
+    before: [u8; 512],
 }
 
-/// A device in memory, which is always honest. It keeps every write and sync since it was made, and
-/// so uses 512 bytes for each write, and as much for each sector that was ever written.
+/// A device in memory, which is always honest. It uses 512 bytes for each sector that was ever
+/// written, and 1,024 for each write since the last sync, or for as many as there once were between
+/// two syncs.
 #[derive(Drop)]
 pub struct MemDev {
     capacity: u32,
-    events: Vec<Event>,
-    // How many of the events a stop leaves as they are: those up to the last sync.
-    settled: usize,
     // What was last written to each sector.
     newest: HashMap<u32, [u8; 512]>,
+    // The writes since the last sync, the oldest first.
+    unsynced: Vec<Write>,
+    // Every write and sync, for clauses alone.
+    past: Past,
     faults: u64,
     ghost fits: { capacity < 2 ^ 32 },
-    ghost counted: { settled + pending_of (reverse events.items) ≡ length events.items },
-    ghost indexed: { (n : ℕ) → content_in newest n ≡ content_after (reverse events.items) n },
+    ghost unsynced_are: { reverse (map event_of unsynced.items) ≡ unsynced_of past.events },
+    ghost before_are: { reverse (map before_of unsynced.items) ≡ overwritten past.events },
+    ghost indexed: { (n : ℕ) → content_in newest n ≡ content_after past.events n },
 }
 
 // A sector that was never written.
@@ -46,6 +54,7 @@ fn is_marked(keep: &[bool], i: usize) -> bool
 
 impl MemDev {
     ghost use Rattle.sect_dev.specs.Mem.{history, IsSameButRecord};
+    ghost use Rattle.sect_dev.specs.declared.past.Event.TheVariants.{Wrote, Synced};
 
     /// A device of zeros, all of them on the disk.
     pub fn new(alloc: Global, capacity: u32) -> MemDev
@@ -58,9 +67,9 @@ impl MemDev {
     {
         MemDev {
             capacity,
-            events: Vec::new(alloc),
-            settled: 0,
             newest: HashMap::new(alloc),
+            unsynced: Vec::new(alloc),
+            past: Past::none(),
             faults: 0,
         }
     }
@@ -69,7 +78,7 @@ impl MemDev {
     pub fn pending(&self) -> usize
         ensures { result ≡ pending_of (history self.now) }
     {
-        self.events.len() - self.settled
+        self.unsynced.len()
     }
 
     /// The image in which the unsynced writes that are marked happened, in order, as a device with
@@ -89,67 +98,79 @@ impl MemDev {
         ensures faults { IfOk result (λ after. ⟦<MemDev as SectorDev>⟧.faults after ≡ 0) }
         ensures pending { IfOk result (λ after. pending_of (history after) ≡ 0) }
     {
-        let (settled, unsettled) = self.events.split_at(self.settled);
-        let mut after = MemDev::new(alloc, self.capacity);
-        after.add_all(settled)?;
-        after.add_marked(unsettled, keep)?;
-        after.add(Event::Synced)?;
+        let mut after = self.at_last_sync(alloc)?;
+        after.add_marked(self.unsynced.as_slice(), keep)?;
+        after.settle();
         Ok(after)
     }
 
-    // Adds an event to the record and the index, or to neither.
-    fn add(&mut self, event: Event) -> Result<(), AllocError>
-        ensures ok { OnOk result (history self.new ≡ event ∷ history self.old) }
+    // The device as it was at its last sync.
+    fn at_last_sync(&self, alloc: Global) -> Result<MemDev, AllocError>
+        ensures record { IfOk result (λ dev. history dev ≡ at_last_sync (history self.now)) }
+        ensures size { IfOk result (λ dev. dev.capacity ≡ self.now.capacity) }
+        ensures faults { IfOk result (λ dev. dev.faults ≡ 0) }
+    {
+        Ok(MemDev {
+            capacity: self.capacity,
+            newest: self.undone()?,
+            unsynced: Vec::new(alloc),
+            past: self.past.synced(),
+            faults: 0,
+        })
+    }
+
+    // The content of each sector with the unsynced writes undone, from the newest to the oldest.
+    fn undone(&self) -> Result<HashMap<u32, [u8; 512]>, AllocError>
+        ensures { IfOk result (λ contents. (n : ℕ) → content_in contents n
+            ≡ content_after (at_last_sync (history self.now)) n) }
+    {
+        let mut contents = self.newest.clone()?;
+        for i in (0..self.unsynced.len()).rev() {
+            let write = &self.unsynced[i];
+            contents.insert(write.sector, write.before)?;
+        }
+        Ok(contents)
+    }
+
+    // Writes a sector, or leaves all as it was.
+    fn add(&mut self, sector: u32, bytes: &[u8; 512]) -> Result<(), AllocError>
+        ensures ok { OnOk result (history self.new ≡ Wrote sector bytes.now ∷ history self.old) }
         ensures err { OnErr result (history self.new ≡ history self.old) }
         ensures rest { IsSameButRecord self.old self.new }
     {
-        self.events.try_reserve(1)?;
-        match event {
-            Event::Wrote(n, bytes) => {
-                self.newest.insert(n, bytes)?;
-            }
-            Event::Synced => self.settled = self.events.len() + 1,
-        }
+        self.unsynced.try_reserve(1)?;
+        let before = self.newest.insert(sector, *bytes)?.unwrap_or(blank());
         // There is room for it.
-        let _ = self.events.push(event);
+        let _ = self.unsynced.push(Write {
+            sector,
+            bytes: *bytes,
+            before,
+        });
+        self.past = self.past.then(&Event::Wrote(sector, *bytes));
         Ok(())
     }
 
-    fn add_all(&mut self, events: &[Event]) -> Result<(), AllocError>
-        ensures ok { OnOk result (history self.new ≡ reverse events.now ++ history self.old) }
+    // Syncs all writes.
+    fn settle(&mut self)
+        ensures record { history self.new ≡ Synced ∷ history self.old }
         ensures rest { IsSameButRecord self.old self.new }
     {
-        for event in events {
-            self.add(*event)?;
-        }
-        Ok(())
+        self.unsynced.clear();
+        self.past = self.past.then(&Event::Synced);
     }
 
-    // Adds those of these writes that are marked, where all before is settled.
-    fn add_marked(&mut self, writes: &[Event], keep: &[bool]) -> Result<(), AllocError>
-        requires { pending_of (reverse writes.now ++ history self.old) ≡ length writes.now }
+    // Makes those of these writes again that are marked, where all before is synced.
+    fn add_marked(&mut self, writes: &[Write], keep: &[bool]) -> Result<(), AllocError>
+        requires { pending_of (reverse (map event_of writes.now) ++ history self.old)
+            ≡ length writes.now }
         ensures ok { OnOk result (content_after (history self.new)
-            ≡ kept (reverse writes.now ++ history self.old) keep.now) }
+            ≡ kept (reverse (map event_of writes.now) ++ history self.old) keep.now) }
         ensures rest { IsSameButRecord self.old self.new }
     {
         for (i, write) in writes.iter().enumerate() {
             if is_marked(keep, i) {
-                self.add(*write)?;
+                self.add(write.sector, &write.bytes)?;
             }
-        }
-        Ok(())
-    }
-
-    // Adds an event, or counts a fault.
-    fn note(&mut self, event: Event) -> Result<(), DevFault>
-        ensures ok { OnOk result (history self.new ≡ event ∷ history self.old) }
-        ensures err { OnErr result (history self.new ≡ history self.old) }
-        ensures cause { HasCause self.old.faults self.new.faults result }
-        ensures size { self.new.capacity ≡ self.old.capacity }
-    {
-        if self.add(event).is_err() {
-            self.faults = self.faults.saturating_add(1);
-            return Err(DevFault);
         }
         Ok(())
     }
@@ -208,20 +229,25 @@ impl SectorDev for MemDev {
         ensures size { ⟦<MemDev as SectorDev>⟧.sectors self.new
             ≡ ⟦<MemDev as SectorDev>⟧.sectors self.old }
     {
-        self.note(Event::Wrote(n, *from))
+        if self.add(n, from).is_err() {
+            self.faults = self.faults.saturating_add(1);
+            return Err(DevFault);
+        }
+        Ok(())
     }
 
     #[tactic(auto, using(crate::proofs::Events::synced_adds_none))]
     fn sync(&mut self) -> Result<(), DevFault>
-        ensures ok { OnOk result (AddsSync self.old self.new) }
+        ensures succeeds { IsOk result }
+        ensures adds { AddsSync self.old self.new }
         ensures candidates { NoNewCandidate (⟦<MemDev as SectorDev>⟧.candidate self.old)
             (⟦<MemDev as SectorDev>⟧.candidate self.new) }
-        ensures err { OnErr result (IsSameRecord self.old self.new) }
         ensures cause { HasCause (⟦<MemDev as SectorDev>⟧.faults self.old)
             (⟦<MemDev as SectorDev>⟧.faults self.new) result }
         ensures size { ⟦<MemDev as SectorDev>⟧.sectors self.new
             ≡ ⟦<MemDev as SectorDev>⟧.sectors self.old }
     {
-        self.note(Event::Synced)
+        self.settle();
+        Ok(())
     }
 }

@@ -1,7 +1,7 @@
 use Rattle.std.proofs.Common.{◌≡◌, ◌∙◌, ◌∷◌, ap, arith, rules}
 use Rattle.sect_dev.specs.History.{content_after}
 use Rattle.sect_dev.specs.Mem.{history}
-use Rattle.sect_dev.specs.declared.mem.Event.TheVariants.{Synced}
+use Rattle.sect_dev.specs.declared.past.Event.TheVariants.{Synced}
 use Rattle.dbm_rehearse.proofs.Copies.{all_copied}
 use Rattle.dbm_rehearse.proofs.copying.device_with.Goals as goal
 

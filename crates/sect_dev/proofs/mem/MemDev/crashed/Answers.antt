@@ -1,32 +1,27 @@
-use Rattle.std.proofs.Common.{sym, ◌∙◌, ap, subst, List, ◌++◌, take, drop, reverse}
-use Rattle.sect_dev.specs.declared.mem.Event.{Event}
+use Rattle.std.proofs.Common.{◌∙◌, sym, ap, subst, List, length}
+use Rattle.sect_dev.specs.declared.mem.Write.{Write}
+use Rattle.sect_dev.specs.declared.past.Event.{Event}
 use Rattle.sect_dev.specs.Device.{Image, IsImageOf}
-use Rattle.sect_dev.specs.History.{kept_is_image, IsCandidate}
+use Rattle.sect_dev.specs.History.{kept_is_image, IsCandidate, pending_of, kept, content_after}
 use Rattle.sect_dev.specs.Mem.{history}
-use Rattle.sect_dev.proofs.Pending.{back_pending, crash_seen}
+use Rattle.sect_dev.proofs.Unsynced.{all_counted, joined}
 use Rattle.sect_dev.proofs.mem.MemDev.crashed.Goals as goal
 
 pub add_marked-requires : goal.add_marked-requires
 add_marked-requires c =
     let dev = c.args.self.now in
-    back_pending dev.events.items dev.settled dev.counted c.split_at.result.0.now
-    c.split_at.result.1.now (history c.add_all.new.self)
-    (c.split_at.ensures.front ∙ ap (take dev.settled) c.deref.ensures.value)
-    (c.split_at.ensures.back ∙ ap (drop dev.settled) c.deref.ensures.value)
-    (c.in_ok-add_all.ensures.ok ∙ ap (λ (l : List Event). reverse c.split_at.result.0.now ++ l)
-    c.new-after.ensures.record)
+    ap pending_of (joined dev.unsynced.items (history dev) dev.unsynced_are c.as_slice.result.now
+    (history c.in_ok-after.after) c.as_slice.ensures.value c.in_ok-after.ensures.record)
+    ∙ sym (all_counted dev.unsynced.items (history dev) dev.unsynced_are)
+    ∙ sym (ap (λ (l : List Write). length l) c.as_slice.ensures.value)
 
 pub returns-clause-seen : goal.returns-clause-seen
 returns-clause-seen c =
     let dev = c.args.self.now in
-    crash_seen dev.events.items dev.settled dev.counted c.split_at.result.0.now
-    c.split_at.result.1.now (history c.add_all.new.self)
-    (c.split_at.ensures.front ∙ ap (take dev.settled) c.deref.ensures.value)
-    (c.split_at.ensures.back ∙ ap (drop dev.settled) c.deref.ensures.value)
-    (c.in_ok-add_all.ensures.ok ∙ ap (λ (l : List Event). reverse c.split_at.result.0.now ++ l)
-    c.new-after.ensures.record)
-    (history c.add_marked.new.self) (history c.add.new.self) c.args.keep.now
-    c.in_ok-add_marked.ensures.ok c.in_ok-add.ensures.ok
+    ap content_after c.settle.ensures.record ∙ c.in_ok-add_marked.ensures.ok
+    ∙ ap (λ (l : List Event). kept l c.args.keep.now)
+    (joined dev.unsynced.items (history dev) dev.unsynced_are c.as_slice.result.now
+    (history c.in_ok-after.after) c.as_slice.ensures.value c.in_ok-after.ensures.record)
 
 pub returns-clause-image : goal.returns-clause-image
 returns-clause-image c =
