@@ -24,8 +24,13 @@ _dbmtool() {
   local commands='create store insert fetch delete list dump load stat script rehearse faults help'
   local word=${COMP_WORDS[COMP_CWORD]} options='' places
   COMPREPLY=()
+  # The program's own option stands before the command.
+  if [ "${COMP_WORDS[1]}" = --verbose ] && [ "$COMP_CWORD" -gt 1 ]; then
+    COMP_WORDS=("${COMP_WORDS[0]}" "${COMP_WORDS[@]:2}")
+    COMP_CWORD=$((COMP_CWORD - 1))
+  fi
   if [ "$COMP_CWORD" = 1 ]; then
-    mapfile -t COMPREPLY < <(compgen -W "$commands -h --help -V --version" -- "$word")
+    mapfile -t COMPREPLY < <(compgen -W "$commands --verbose -h --help -V --version" -- "$word")
     return
   fi
   case ${COMP_WORDS[COMP_CWORD - 1]} in

@@ -48,7 +48,7 @@ agrees "bash's commands" "$(offered dbmtool '' | tr ' ' '\n' | grep -v '^-')" "$
 agrees "bash's commands behind help" "$(offered dbmtool help '')" "$commands"
 agrees "bash's options" "$(offered dbmtool -)" "$options"
 agrees "zsh's commands" "$(sed -n "s/^    '\([a-z]*\):.*/\1/p" "$zsh")" "$commands"
-agrees "zsh's options" "$(grep "^    '(- \*)'" "$zsh" | options_in)" "$options"
+agrees "zsh's options" "$(grep -E "^    '(\(- \*\)'|--)" "$zsh" | options_in)" "$options"
 
 # each command; help is the parser's own, and has no options
 every=$options
@@ -73,6 +73,7 @@ mkdir tables && touch mail.db other.text
 agrees "bash's names" "$(offered dbmtool fetch '')" 'mail tables'
 agrees "bash's names behind an option" "$(offered dbmtool create --limit 7 m)" mail
 agrees "bash's names for a number" "$(offered dbmtool create --limit '')" ''
+agrees "bash's names behind --verbose" "$(offered dbmtool --verbose fetch '')" 'mail tables'
 agrees "bash's names for a key" "$(offered dbmtool fetch mail '')" ''
 
 # the page says of the statuses and the faults what the program says

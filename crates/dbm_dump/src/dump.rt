@@ -12,6 +12,7 @@ use crate::gather::{fetch_pairs, gather_keys};
 use dbm_fault::EngineFault;
 use dbm_file::{Database, Fault, Octets};
 use dbm_lines::{DIGITS, TextForm, write_bytes, write_escaped, write_word};
+use dbm_progress::{Progress, Work};
 use page_io::PageStore;
 use std::alloc::Global;
 use std::collections::BTreeSet;
@@ -21,10 +22,13 @@ use std::io::{self, Write};
 /// everything before it writes, by a pass and a fetch of each key, and keeps the keys and the
 /// contents in memory until it ends. `Db(Damaged)` comes where the pass gives more keys than the
 /// file counts pairs, or a key that fetch doesn't find. After `Write` some of the text may be out.
-pub fn dump_engine<S: PageStore, W: Write>(
+/// Each key and content that was read, and each pair that was written, is a step of `progress`,
+/// which is cleared before the first one is written.
+pub fn dump_engine<S: PageStore, W: Write, P: Progress>(
     alloc: Global,
     db: &mut Database<S>,
     writer: &mut W,
+    progress: &mut P,
 ) -> Result<(), EngineFault>
     ensures dump { AtEachHandle db.old (λ h.
         h.state.usable ≡ true → OnOk result
@@ -46,15 +50,16 @@ pub fn dump_engine<S: PageStore, W: Write>(
         ∷ EngineFault.Db Fault.NoPass ∷ EngineFault.Db Fault.Device
         ∷ EngineFault.Db Fault.Damaged ∷ []) }
 {
-    dump_in_form(alloc, db, writer, TextForm::Hexadecimal)
+    dump_in_form(alloc, db, writer, TextForm::Hexadecimal, progress)
 }
 
 /// Writes each pair as two fields in a line, a tab between them, with escapes, in ascending byte
-/// order of keys. It reads, keeps in memory and fails as `dump_engine` does.
-pub fn dump_text_engine<S: PageStore, W: Write>(
+/// order of keys. It reads, keeps in memory, tells its progress and fails as `dump_engine` does.
+pub fn dump_text_engine<S: PageStore, W: Write, P: Progress>(
     alloc: Global,
     db: &mut Database<S>,
     writer: &mut W,
+    progress: &mut P,
 ) -> Result<(), EngineFault>
     ensures dump { AtEachHandle db.old (λ h.
         h.state.usable ≡ true → OnOk result
@@ -76,16 +81,18 @@ pub fn dump_text_engine<S: PageStore, W: Write>(
         ∷ EngineFault.Db Fault.NoPass ∷ EngineFault.Db Fault.Device
         ∷ EngineFault.Db Fault.Damaged ∷ []) }
 {
-    dump_in_form(alloc, db, writer, TextForm::Escaped)
+    dump_in_form(alloc, db, writer, TextForm::Escaped, progress)
 }
 
 /// Writes each key in a line, in ascending byte order. It reads all keys before it writes, by a
 /// pass, and keeps them in memory until it ends. `Db(Damaged)` comes where the pass gives more keys
-/// than the file counts pairs. After `Write` some of the text may be out.
-pub fn list_engine<S: PageStore, W: Write>(
+/// than the file counts pairs. After `Write` some of the text may be out. Each key that was read or
+/// written is a step of `progress`, which is cleared before the first one is written.
+pub fn list_engine<S: PageStore, W: Write, P: Progress>(
     alloc: Global,
     db: &mut Database<S>,
     writer: &mut W,
+    progress: &mut P,
 ) -> Result<(), EngineFault>
     ensures list { AtEachHandle db.old (λ h.
         h.state.usable ≡ true → OnOk result
@@ -107,16 +114,18 @@ pub fn list_engine<S: PageStore, W: Write>(
         ∷ EngineFault.Db Fault.NoPass ∷ EngineFault.Db Fault.Device
         ∷ EngineFault.Db Fault.Damaged ∷ []) }
 {
-    let keys = gather_keys(alloc, db)?;
-    write_keys(writer, &keys).map_err(|_| EngineFault::Write)
+    let keys = gather_keys(alloc, db, progress)?;
+    progress.clear();
+    write_keys(writer, &keys, progress).map_err(|_| EngineFault::Write)
 }
 
 /// Writes each pair in a line of this form.
-fn dump_in_form<S: PageStore, W: Write>(
+fn dump_in_form<S: PageStore, W: Write, P: Progress>(
     alloc: Global,
     db: &mut Database<S>,
     writer: &mut W,
     form: TextForm,
+    progress: &mut P,
 ) -> Result<(), EngineFault>
     ensures dump { AtEachHandle db.old (λ h.
         h.state.usable ≡ true → OnOk result
@@ -138,16 +147,18 @@ fn dump_in_form<S: PageStore, W: Write>(
         ∷ EngineFault.Db Fault.NoPass ∷ EngineFault.Db Fault.Device
         ∷ EngineFault.Db Fault.Damaged ∷ []) }
 {
-    let keys = gather_keys(alloc, db)?;
-    let pairs = fetch_pairs(alloc, db, keys)?;
-    write_pairs(writer, &pairs, form).map_err(|_| EngineFault::Write)
+    let keys = gather_keys(alloc, db, progress)?;
+    let pairs = fetch_pairs(alloc, db, keys, progress)?;
+    progress.clear();
+    write_pairs(writer, &pairs, form, progress).map_err(|_| EngineFault::Write)
 }
 
 /// Writes the line of each pair.
-fn write_pairs<W: Write>(
+fn write_pairs<W: Write, P: Progress>(
     writer: &mut W,
     pairs: &[(Octets, Octets)],
     form: TextForm,
+    progress: &mut P,
 ) -> io::Result<()>
     requires { All (λ pair. IsShort pair.0 × IsShort pair.1) pairs.now }
     ensures { OnOk result (Appends (W.contents writer.old) (W.contents writer.new)
@@ -162,6 +173,7 @@ fn write_pairs<W: Write>(
             form,
             &mut digits,
         )?;
+        progress.step(Work::PairsWritten);
     }
     Ok(())
 }
@@ -214,7 +226,11 @@ fn write_fields<W: Write>(writer: &mut W, key: &[u8], content: &[u8]) -> io::Res
 }
 
 /// Writes the line of each key.
-fn write_keys<W: Write>(writer: &mut W, keys: &BTreeSet<Vec<u8>>) -> io::Result<()>
+fn write_keys<W: Write, P: Progress>(
+    writer: &mut W,
+    keys: &BTreeSet<Vec<u8>>,
+    progress: &mut P,
+) -> io::Result<()>
     requires { All (λ key. IsShort key.items) keys.now.keys }
     ensures { OnOk result (Appends (W.contents writer.old) (W.contents writer.new)
         (key_lines (bytes_of_keys keys.now))) }
@@ -222,6 +238,7 @@ fn write_keys<W: Write>(writer: &mut W, keys: &BTreeSet<Vec<u8>>) -> io::Result<
     let mut digits = [0; DIGITS];
     for key in keys {
         write_bytes(writer, key, &mut digits)?;
+        progress.step(Work::KeysWritten);
     }
     Ok(())
 }

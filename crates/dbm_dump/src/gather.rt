@@ -10,15 +10,17 @@ ghost use Rattle.dbm_dump.specs.Dumping.{Reads, IsChance, bytes_of_keys, IsShort
 
 use dbm_fault::EngineFault;
 use dbm_file::{Database, Fault, Octets};
+use dbm_progress::{Progress, Work};
 use page_io::PageStore;
 use std::alloc::Global;
 use std::collections::BTreeSet;
 
 /// The keys of the database, by a pass. `Damaged` where the pass gives more keys than the file
 /// counts pairs.
-pub fn gather_keys<S: PageStore>(
+pub fn gather_keys<S: PageStore, P: Progress>(
     alloc: Global,
     db: &mut Database<S>,
+    progress: &mut P,
 ) -> Result<BTreeSet<Vec<u8>>, EngineFault>
     ensures keys { AtEachHandle db.old (λ h.
         h.state.usable ≡ true → MatchResult result
@@ -40,6 +42,7 @@ pub fn gather_keys<S: PageStore>(
             return Ok(keys);
         };
         keys.insert(key).map_err(|_| EngineFault::Memory)?;
+        progress.step(Work::KeysRead);
         given = copy_next(alloc, db)?;
     }
     if given.is_some() {
@@ -49,10 +52,11 @@ pub fn gather_keys<S: PageStore>(
 }
 
 /// The keys with their contents, in the order of the keys. `Damaged` where a key has none.
-pub fn fetch_pairs<S: PageStore>(
+pub fn fetch_pairs<S: PageStore, P: Progress>(
     alloc: Global,
     db: &mut Database<S>,
     keys: BTreeSet<Vec<u8>>,
+    progress: &mut P,
 ) -> Result<Vec<(Octets, Octets)>, EngineFault>
     requires { All (λ key. IsShort key.items) keys.keys }
     ensures pairs { AtEachHandle db.old (λ h.
@@ -73,6 +77,7 @@ pub fn fetch_pairs<S: PageStore>(
         };
         let pair = (Octets::from(key), Octets::from(content));
         pairs.push(pair).map_err(|_| EngineFault::Memory)?;
+        progress.step(Work::ContentsRead);
     }
     Ok(pairs)
 }

@@ -5,6 +5,7 @@ use Rattle.dbm_fault.specs.declared.fault.Fault.{Fault}
 use Rattle.page_io.specs.declared.store.PageStore.{Ghosts}
 use Rattle.chain_walks.specs.Walks.{EndsWithout}
 use Rattle.dbm_file.specs.Answers.{IsSameDatabase, IsCallEnded}
+use Rattle.dbm_file.specs.Changing.{WasDeleted, WasStored}
 use Rattle.dbm_file.specs.Calls.{reply_of, store_reply, delete_reply, Lent, lent_reply, seen}
 use Rattle.dbm_file.specs.Database.{store_of, meta_kept}
 use Rattle.dbm_file.specs.Replies.{IsCallAnswered, IsAnswered, AreAnswered, store_faults, delete_faults, read_faults, next_faults, told_of_store, told_of_delete, told_of_bytes}
@@ -65,82 +66,104 @@ bytes_are_told none (Err fault) reply is = ap reply_of (sym is)
 module _ {S : Type 0} {s : Ghosts S} {old new : Database S s} where
   stored_well : (ended : Result StoreReply Fault) (key content : List ℕ) (mode : StoreMode)
       → (ended ≡ Ok stored.Kept → (mode ≡ Insert) × Searched old key (EndsWith key))
+      → (ended ≡ Ok stored.Stored → WasStored old new (key, content))
       → IsErrAmong ended store_faults → IsCallEnded old new ended
       → IsCallAnswered old new (Store key content mode) (told_of_store ended)
-  stored_well (Ok stored.Stored) key content mode kept only keeps =
-      record { replied = tt; read = tt; keeps = keeps_as stored.Stored tt keeps }
-  stored_well (Ok stored.Kept) key content mode kept only keeps =
+  stored_well (Ok stored.Stored) key content mode kept put only keeps =
+      record {
+        replied = tt;
+        read = tt;
+        done = put refl;
+        keeps = keeps_as stored.Stored tt keeps;
+      }
+  stored_well (Ok stored.Kept) key content mode kept put only keeps =
       record {
         replied = (kept refl).0;
         read = (kept refl).1;
-        keeps =
-            keeps_as stored.Kept tt keeps;
+        done = tt;
+        keeps = keeps_as stored.Kept tt keeps;
       }
-  stored_well (Err fault) key content mode kept only keeps =
-      record { replied = only; read = tt; keeps = keeps_err fault keeps }
+  stored_well (Err fault) key content mode kept put only keeps =
+      record { replied = only; read = tt; done = tt; keeps = keeps_err fault keeps }
 
   deleted_well : (ended : Result DeleteReply Fault) (key : List ℕ)
       → (ended ≡ Ok deleted.Absent → Searched old key (EndsWithout key))
+      → (ended ≡ Ok deleted.Deleted → WasDeleted old new key)
       → IsErrAmong ended delete_faults → IsCallEnded old new ended
       → IsCallAnswered old new (Delete key) (told_of_delete ended)
-  deleted_well (Ok deleted.Deleted) key absent only keeps =
-      record { replied = tt; read = tt; keeps = keeps_as deleted.Deleted tt keeps }
-  deleted_well (Ok deleted.Absent) key absent only keeps =
-      record { replied = tt; read = absent refl; keeps = keeps_as deleted.Absent tt keeps }
-  deleted_well (Err fault) key absent only keeps =
-      record { replied = only; read = tt; keeps = keeps_err fault keeps }
+  deleted_well (Ok deleted.Deleted) key absent gone only keeps =
+      record {
+        replied = tt;
+        read = tt;
+        done = gone refl;
+        keeps = keeps_as deleted.Deleted tt keeps;
+      }
+  deleted_well (Ok deleted.Absent) key absent gone only keeps =
+      record {
+        replied = tt;
+        read = absent refl;
+        done = tt;
+        keeps = keeps_as deleted.Absent tt keeps;
+      }
+  deleted_well (Err fault) key absent gone only keeps =
+      record { replied = only; read = tt; done = tt; keeps = keeps_err fault keeps }
 
   fetched_well : (found : Lent) (key : List ℕ)
       → IfOk found (λ content. Searched old key (EndsAtContent key (seen content)))
       → IsErrAmong found read_faults → IsCallEnded old new found
       → IsCallAnswered old new (Fetch key) (told_of_bytes NoRecord found)
   fetched_well (Ok None) key searched only keeps =
-      record { replied = refl; read = searched; keeps = keeps_as None tt keeps }
+      record { replied = refl; read = searched; done = tt; keeps = keeps_as None tt keeps }
   fetched_well (Ok (Some content)) key searched only keeps =
-      record { replied = tt; read = searched; keeps = keeps_as (Some content) tt keeps }
+      record { replied = tt; read = searched; done = tt; keeps = keeps_as (Some content) tt keeps }
   fetched_well (Err fault) key searched only keeps =
-      record { replied = only; read = tt; keeps = keeps_err fault keeps }
+      record { replied = only; read = tt; done = tt; keeps = keeps_err fault keeps }
 
   begun_well : (found : Lent) → IfOk found (λ key. Passed old pass_start (seen key))
       → IsErrAmong found read_faults → IsCallEnded old new found
       → IsCallAnswered old new First (told_of_bytes End found)
   begun_well (Ok None) passed only keeps =
-      record { replied = refl; read = passed; keeps = keeps_as None tt keeps }
+      record { replied = refl; read = passed; done = tt; keeps = keeps_as None tt keeps }
   begun_well (Ok (Some key)) passed only keeps =
-      record { replied = tt; read = passed; keeps = keeps_as (Some key) tt keeps }
+      record { replied = tt; read = passed; done = tt; keeps = keeps_as (Some key) tt keeps }
   begun_well (Err fault) passed only keeps =
-      record { replied = only; read = tt; keeps = keeps_err fault keeps }
+      record { replied = only; read = tt; done = tt; keeps = keeps_err fault keeps }
 
   passed_well : (found : Lent) → IfOk found (λ key. WentOn old (seen key))
       → IsErrAmong found next_faults → IsCallEnded old new found
       → IsCallAnswered old new Next (told_of_bytes End found)
   passed_well (Ok None) passed only keeps =
-      record { replied = refl; read = passed; keeps = keeps_as None tt keeps }
+      record { replied = refl; read = passed; done = tt; keeps = keeps_as None tt keeps }
   passed_well (Ok (Some key)) passed only keeps =
-      record { replied = tt; read = passed; keeps = keeps_as (Some key) tt keeps }
+      record { replied = tt; read = passed; done = tt; keeps = keeps_as (Some key) tt keeps }
   passed_well (Err fault) passed only keeps =
-      record { replied = only; read = tt; keeps = keeps_err fault keeps }
+      record { replied = only; read = tt; done = tt; keeps = keeps_err fault keeps }
 
   -- under the reply that was given, and the key that stands in the call
   pub store_answered : (ended : Result StoreReply Fault) (reply : Reply)
-      (given key content : List ℕ) (mode : StoreMode) → reply ≡ told_of_store ended → given ≡ key
+      (given key value content : List ℕ) (mode : StoreMode) → reply ≡ told_of_store ended
+      → given ≡ key → value ≡ content
       → (ended ≡ Ok stored.Kept → (mode ≡ Insert) × Searched old given (EndsWith given))
+      → (ended ≡ Ok stored.Stored → WasStored old new (given, value))
       → IsErrAmong ended store_faults → IsCallEnded old new ended
       → IsCallAnswered old new (Store key content mode) reply
-  store_answered ended reply given key content mode is same kept only keeps =
+  store_answered ended reply given key value content mode is same alike kept put only keeps =
       subst (λ (r : Reply). IsCallAnswered old new (Store key content mode) r) (sym is)
-      (subst (λ (k : List ℕ). IsCallAnswered old new (Store k content mode) (told_of_store ended))
-      same (stored_well ended given content mode kept only keeps))
+      (subst (λ (v : List ℕ). IsCallAnswered old new (Store key v mode) (told_of_store ended))
+      alike
+      (subst (λ (k : List ℕ). IsCallAnswered old new (Store k value mode) (told_of_store ended))
+      same (stored_well ended given value mode kept put only keeps)))
 
   pub delete_answered : (ended : Result DeleteReply Fault) (reply : Reply) (given key : List ℕ)
       → reply ≡ told_of_delete ended → given ≡ key
       → (ended ≡ Ok deleted.Absent → Searched old given (EndsWithout given))
+      → (ended ≡ Ok deleted.Deleted → WasDeleted old new given)
       → IsErrAmong ended delete_faults → IsCallEnded old new ended
       → IsCallAnswered old new (Delete key) reply
-  delete_answered ended reply given key is same absent only keeps =
+  delete_answered ended reply given key is same absent gone only keeps =
       subst (λ (r : Reply). IsCallAnswered old new (Delete key) r) (sym is)
       (subst (λ (k : List ℕ). IsCallAnswered old new (Delete k) (told_of_delete ended)) same
-      (deleted_well ended given absent only keeps))
+      (deleted_well ended given absent gone only keeps))
 
   pub fetch_answered : (found : Lent) (reply : Reply) (given key : List ℕ)
       → reply ≡ told_of_bytes NoRecord found → given ≡ key

@@ -6,10 +6,11 @@ use Rattle.std.specs.Option.{option_map}
 use Rattle.sect_dev.specs.Device.{LeavesOnly}
 use Rattle.sect_dev.specs.Moments.{followed_by}
 use Rattle.dbm_model.specs.Calls as model
+use Rattle.page_model.specs.Valid.{meta_buckets}
 use Rattle.page_model.specs.Pages.{Meta, MetaPage}
 use Rattle.dbm_model.specs.Pairs.{Contents}
 use Rattle.dbm_model.specs.States.{Keys, Handle, first_fault, flagged}
-use Rattle.dbm_model.specs.Steps.{Case, Changes, case_of, Answers, Suffers, IsShort, growth}
+use Rattle.dbm_model.specs.Steps.{Case, Changes, case_of, Answers, Suffers, IsShort, OpensBucket, growth, buckets_opened}
 use Rattle.page_model.specs.Meaning.{said_by}
 use Rattle.page_io.specs.Store.{Settled, Pages, file_of, page_of}
 use Rattle.page_io.specs.Store as store
@@ -29,7 +30,7 @@ use Rattle.dbm_fault.specs.declared.fault.Fault.{Fault}
 use Rattle.dbm_fault.specs.declared.fault.Fault.TheVariants.{Device, Broken}
 use Rattle.linear_hash.specs.declared.passing.Cursor.{Cursor}
 use Rattle.dbm_file.specs.declared.database.Database.{Database}
-use Rattle.dbm_file.proofs.ReadSteps.{kept_first, same_parts, at_own, same_pass, no_more_pages, still_meta, still_limit, still_writable, still_usable, still_capacity, still_end, still_holds, still_passes, still_survives, flagged_is}
+use Rattle.dbm_file.proofs.ReadSteps.{kept_first, same_parts, at_own, same_pass, no_more_pages, no_more_buckets, still_buckets, still_meta, still_limit, still_writable, still_usable, still_capacity, still_end, still_holds, still_passes, still_survives, flagged_is}
 use Rattle.linear_hash.proofs.Tables.{counted}
 
 -- how a change of the file ended, with what it leaves of the error and of the pass
@@ -86,7 +87,10 @@ module _ {S : Type 0} (s : Ghosts S) {old mid : Database S s} {map changed : Con
   mid_end : (page_state mid).end ≡ (page_state old).end
   mid_end = still_end s old mid asked.read
 
-  mid_pairs : (meta_kept mid).pairs ≡ len map
+  pub mid_buckets : meta_buckets (meta_kept mid) ≡ meta_buckets (meta_kept old)
+  mid_buckets = still_buckets s old mid asked.read
+
+  pub mid_pairs : (meta_kept mid).pairs ≡ len map
   mid_pairs = ap (λ (m : Meta). m.pairs) (still_meta s old mid asked.read)
       ∙ sym (counted s (store_of old) (meta_kept old) map asked.holds)
 
@@ -121,10 +125,11 @@ module _ {S : Type 0} (s : Ghosts S) {old mid : Database S s} {map changed : Con
 
     -- `only` is the store's law `only_committed`
     pub changed_step : IsDone s mid new (Ok tt) → {most : ℕ} → most ≤ growth before said
-        → ChangesMap s (store_of mid) (store_of new) (meta_kept mid) (meta_kept new) map changed
+        → meta_buckets (meta_kept new)
+        ≡ meta_buckets (meta_kept mid) + buckets_opened before said (len changed) → ChangesMap s (store_of mid) (store_of new) (meta_kept mid) (meta_kept new) map changed
         most (Ok tt) → ((x : Settled) → s.settles_to (store_of new) x
         → x ≡ file_of (s.committed (store_of new))) → IsStep old new before call said
-    changed_step ended few turns only =
+    changed_step ended few grown turns only =
         let usable_is = ap (λ (st : store.StoreState). st.usable) ended.ends.ok
         ∙ still_usable s old mid asked.read in
         let writable_is = ap (λ (st : store.StoreState). st.writable) ended.ends.ok
@@ -138,6 +143,8 @@ module _ {S : Type 0} (s : Ghosts S) {old mid : Database S s} {map changed : Con
               omega (arith, turns.grows.0, mid_end),
               omega (arith, turns.grows.1, mid_end, few),
             );
+            buckets = grown ∙ ap (λ (n : ℕ). n + buckets_opened before said (len changed))
+                mid_buckets;
             answers = inl (subst (λ (c : Case).
                 Answers before.state c said (handle_of new changed None).state)
                 (sym asked.falls) (
@@ -182,8 +189,12 @@ module _ {S : Type 0} (s : Ghosts S) {old mid : Database S s} {map changed : Con
           let kept = forgotten_room (page_state mid) (page_state new) e ended.ends.err.0 in
           (kept.0 ∙ mid_capacity, kept.1 ∙ mid_end)
 
+      after_buckets : meta_buckets (meta_kept new) ≡ meta_buckets (meta_kept old)
+      after_buckets = ap meta_buckets ended.ends.err.1 ∙ mid_buckets
+
       -- the store is as usable as before
-      module _ (same : (page_state new).usable ≡ (page_state old).usable) where
+      module _ (same : (page_state new).usable ≡ (page_state old).usable)
+          (opens : e ≡ page.Memory → (said ≡ model.Stored) × OpensBucket before changed) where
         state_is : after.state ≡ flagged (fault_of (fault_from e)) before.state
         state_is = flagged_is s old new map pass (fault_from e)
             (ended.ends.limit ∙ still_limit s old mid asked.read)
@@ -204,6 +215,8 @@ module _ {S : Type 0} (s : Ghosts S) {old mid : Database S s} {map changed : Con
               ap (λ (f : PageFault). model.Refused (fault_of (fault_from f))) is,
               state_is ∙ ap (λ (f : PageFault).
                   flagged (fault_of (fault_from f)) before.state) is,
+              (opens is).0,
+              (opens is).1,
             )))
         suffers (inr (inr (inl is))) =
             inr (inr (inr (
@@ -250,6 +263,7 @@ module _ {S : Type 0} (s : Ghosts S) {old mid : Database S s} {map changed : Con
             counts = omega (arith, asked.read.reads.stages_only.later, ended.ends.cause.later);
             capacity = room_is.0;
             pages = no_more_pages before after reply room_is.1;
+            buckets = no_more_buckets before after reply (len map) after_buckets refl;
             answers = inr (subst (λ (c : Case). Suffers before c reply after) (sym asked.falls)
                 (suffers ended.ends.answer.only));
           };
@@ -276,6 +290,7 @@ module _ {S : Type 0} (s : Ghosts S) {old mid : Database S s} {map changed : Con
           counts = omega (arith, asked.read.reads.stages_only.later, ended.ends.cause.later);
           capacity = room_is.0;
           pages = no_more_pages before after reply room_is.1;
+          buckets = no_more_buckets before after reply (len map) after_buckets refl;
           answers = inr (subst (λ (c : Case). Suffers before c reply after)
               (sym asked.falls) (inr (inl (
                 ap (λ (f : PageFault). model.Refused (fault_of (fault_from f))) is,
@@ -297,10 +312,11 @@ module _ {S : Type 0} (s : Ghosts S) {old mid : Database S s} {map changed : Con
             (inr (inr (broken, (said, asked.falls)))) turns.any_moment;
       }
 
-      pub refused_step : IsStep old (with_fault new (fault_from e)) before call reply
-      refused_step = ⊎_elim (λ same.
+      pub refused_step : (e ≡ page.Memory → (said ≡ model.Stored) × OpensBucket before changed)
+          → IsStep old (with_fault new (fault_from e)) before call reply
+      refused_step opens = ⊎_elim (λ same.
           unchanged_step (ap (λ (st : store.StoreState). st.usable) same
-          ∙ still_usable s old mid asked.read))
+          ∙ still_usable s old mid asked.read) opens)
           (λ broke. broken_step broke.0 (ap (λ (st : store.StoreState). st.usable) broke.1))
           ended.ends.err.0
 

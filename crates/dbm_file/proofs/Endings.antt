@@ -1,6 +1,6 @@
 -- What holds at each exit of a store and of a delete, on any device.
-use Rattle.std.proofs.Common.{◌≡◌, ◌⊎◌, inl, inr, ℕ, ◌+◌, ◌*◌, ◌<◌, ◌≤◌, List, [], length, Bool, true, false, cond, Option, Some, is_some, Result, Ok, Err, refl, sym, ◌∙◌, ap, subst, arith}
-use Rattle.std.specs.Prelude.{◌↔◌, IsErrAnd, IfErr, IsErrOf}
+use Rattle.std.proofs.Common.{◌≡◌, inl, inr, ℕ, ◌+◌, ◌*◌, ◌<◌, ◌≤◌, List, [], length, Bool, true, false, cond, Option, Some, is_some, Result, Ok, Err, refl, sym, ◌∙◌, ap, subst, arith}
+use Rattle.std.specs.Prelude.{◌↔◌, IsErrAnd, IsErrOf}
 use Rattle.std.specs.Option.{option_map}
 use Rattle.std.proofs.lemmas.Bool.{le-ltb}
 use Rattle.page_model.specs.Address.{grown}
@@ -15,11 +15,12 @@ use Rattle.page_io.proofs.Exits.{both_ways}
 use Rattle.dbm_fault.specs.Among.{IsAmong}
 use Rattle.dbm_fault.specs.Faults.{fault_of, fault_from}
 use Rattle.dbm_fault.specs.declared.fault.Fault.{Fault}
-use Rattle.dbm_fault.specs.declared.fault.Fault.TheVariants.{Memory, Device, Broken, ReadOnly, TooLong, Full, NoRoom, Damaged}
+use Rattle.dbm_fault.specs.declared.fault.Fault.TheVariants.{Memory, Broken, ReadOnly, TooLong, Full, Damaged}
 use Rattle.linear_hash.specs.Tables.{shape_in, shape_for}
 use Rattle.chain_walks.specs.Answers.{IsWalkAnswer}
 use Rattle.chain_walks.specs.Walks.{EndsWithout}
 use Rattle.dbm_file.specs.Answers.{IsCallEnded}
+use Rattle.dbm_file.specs.Changing.{WasDeleted, WasStored, HasFullBuckets}
 use Rattle.dbm_file.specs.Database.{store_of, meta_kept, page_state}
 use Rattle.dbm_file.specs.Replies.{store_faults, delete_faults}
 use Rattle.dbm_file.specs.Searches.{Searched, EndsWith}
@@ -33,6 +34,7 @@ use Rattle.dbm_file.specs.declared.calls.DeleteReply.TheVariants as deleted
 use Rattle.dbm_file.specs.declared.database.Database.{Database}
 use Rattle.dbm_file.proofs.ChangeSteps.{IsDone, told_device, told_broken}
 use Rattle.dbm_file.proofs.Lends.{kept_error}
+use Rattle.dbm_file.proofs.Refused.{IsOfChange, told_other, told_by, told_is, told_memory, told_no_value, among_store, among_delete, not_read_only, never_too_long}
 use Rattle.dbm_file.proofs.ReadSteps.{broken_keeps, read_keeps, refused_keeps, still_meta, still_limit, still_writable, still_usable}
 
 -- neither of two things holds, or both do
@@ -52,73 +54,6 @@ stays_as : (old new : Meta) → IsMeta old → new ≡ old
 stays_as old new valid same =
     subst (λ (m : Meta). shape_in m ≡ shape_for m.pairs (shape_in old)) (sym same) (stays old valid)
 
--- what is refused for another reason isn't refused for this one
-told_other : {T : Type 0} (r : Result T Fault) (e : PageFault) (other : Fault)
-    → IsErrAnd r (λ fault. fault ≡ fault_from e) → (fault_from e ≡ other → ⊥) → r ≡ Err other → ⊥
-told_other (Ok value) e other told is_not is = absurd told
-told_other (Err fault) e other told is_not is =
-    is_not (sym told ∙ (let same = is in let f : fault ≡ other = cc in f))
-
-told_by : {T : Type 0} (P : Fault → Type 0) (r : Result T Fault) (e : PageFault)
-    → IsErrAnd r (λ fault. fault ≡ fault_from e) → P (fault_from e) → IfErr r P
-told_by P (Ok value) e told holds = absurd told
-told_by P (Err fault) e told holds = subst P (sym told) holds
-
-told_no_value : {T : Type 0} (r : Result T Fault) (e : PageFault) (value : T)
-    → IsErrAnd r (λ fault. fault ≡ fault_from e) → r ≡ Ok value → ⊥
-told_no_value (Ok other) e value told is = told
-told_no_value (Err fault) e value told is = absurd (let same = is in cc)
-
--- the faults of a walk, and of a change
-abbrev pub IsOfWalk : PageFault → Type 0
-IsOfWalk e = (e ≡ page.Broken) ⊎ ((e ≡ page.Damaged) ⊎ (e ≡ page.Device))
-
-abbrev pub IsOfChange : PageFault → Type 0
-IsOfChange e = (e ≡ page.Broken)
-    ⊎ ((e ≡ page.Memory) ⊎ ((e ≡ page.NoRoom) ⊎ ((e ≡ page.Damaged) ⊎ (e ≡ page.Device))))
-
-pub as_change : (e : PageFault) → IsOfWalk e → IsOfChange e
-as_change e (inl is) = inl is
-as_change e (inr (inl is)) = inr (inr (inr (inl is)))
-as_change e (inr (inr is)) = inr (inr (inr (inr is)))
-
--- by cases of the fault of the pages
-by_change : (P : Fault → Type 0) → P Broken → P Memory → P NoRoom → P Damaged → P Device
-    → (e : PageFault) → IsOfChange e → P (fault_from e)
-by_change P broken memory no_room damaged device e (inl is) =
-    subst (λ (x : PageFault). P (fault_from x)) (sym is) broken
-by_change P broken memory no_room damaged device e (inr (inl is)) =
-    subst (λ (x : PageFault). P (fault_from x)) (sym is) memory
-by_change P broken memory no_room damaged device e (inr (inr (inl is))) =
-    subst (λ (x : PageFault). P (fault_from x)) (sym is) no_room
-by_change P broken memory no_room damaged device e (inr (inr (inr (inl is)))) =
-    subst (λ (x : PageFault). P (fault_from x)) (sym is) damaged
-by_change P broken memory no_room damaged device e (inr (inr (inr (inr is)))) =
-    subst (λ (x : PageFault). P (fault_from x)) (sym is) device
-
-among_store : (e : PageFault) → IsOfChange e → IsAmong (fault_from e) store_faults
-among_store = by_change (λ fault. IsAmong fault store_faults) (inl refl)
-    (inr (inr (inr (inr (inl refl))))) (inr (inr (inr (inr (inr (inr (inl refl)))))))
-    (inr (inr (inr (inr (inr (inr (inr refl))))))) (inr (inr (inr (inr (inr (inl refl))))))
-
-among_delete : (e : PageFault) → IsOfChange e → IsAmong (fault_from e) delete_faults
-among_delete = by_change (λ fault. IsAmong fault delete_faults) (inl refl) (inr (inr (inl refl)))
-    (inr (inr (inr (inr (inl refl))))) (inr (inr (inr (inr (inr refl)))))
-    (inr (inr (inr (inl refl))))
-
-not_read_only : (e : PageFault) → IsOfChange e → fault_from e ≡ ReadOnly → ⊥
-not_read_only = by_change (λ fault. fault ≡ ReadOnly → ⊥) (λ is. absurd (let x = is in cc))
-    (λ is. absurd (let x = is in cc)) (λ is. absurd (let x = is in cc))
-    (λ is. absurd (let x = is in cc)) (λ is. absurd (let x = is in cc))
-
-never_too_long : (e : PageFault) → fault_from e ≡ TooLong → ⊥
-never_too_long page.Memory is = absurd (let x = is in cc)
-never_too_long page.Device is = absurd (let x = is in cc)
-never_too_long page.Broken is = absurd (let x = is in cc)
-never_too_long page.ReadOnly is = absurd (let x = is in cc)
-never_too_long page.NoRoom is = absurd (let x = is in cc)
-never_too_long page.Damaged is = absurd (let x = is in cc)
-
 module _ {S : Type 0} {s : Ghosts S} where
   module _ (old : Database S s) (key : List ℕ) where
     -- a broken database
@@ -130,6 +65,8 @@ module _ {S : Type 0} {s : Ghosts S} where
         read_only = neither (λ is. absurd (let x = is in cc))
             (λ all. absurd (let x = sym broken ∙ all.0 in cc));
         kept = λ is. absurd (let x = is in cc);
+        stored = λ is. absurd (let x = is in cc);
+        memory = λ is. absurd (let x = is in cc);
         too_long = neither (λ is. absurd (let x = is in cc))
             (λ all. absurd (let x = sym broken ∙ all.0 in cc));
         keeps = broken_keeps StoreReply s old broken;
@@ -143,6 +80,7 @@ module _ {S : Type 0} {s : Ghosts S} where
             (λ all. absurd (let x = sym broken ∙ all.0 in cc));
         absent = λ is. absurd (let x = is in cc);
         counted = λ is. absurd (let x = is in cc);
+        deleted = λ is. absurd (let x = is in cc);
         keeps = broken_keeps DeleteReply s old broken;
         only = inl refl;
       }
@@ -156,6 +94,8 @@ module _ {S : Type 0} {s : Ghosts S} where
         shape = stays (meta_kept old) old.valid;
         read_only = both refl (usable, reading);
         kept = λ is. absurd (let x = is in cc);
+        stored = λ is. absurd (let x = is in cc);
+        memory = λ is. absurd (let x = is in cc);
         too_long = neither (λ is. absurd (let x = is in cc))
             (λ all. absurd (let x = sym reading ∙ all.1 in cc));
         keeps = refused_keeps s old old still usable StoreReply ReadOnly
@@ -169,6 +109,7 @@ module _ {S : Type 0} {s : Ghosts S} where
         read_only = both refl (usable, reading);
         absent = λ is. absurd (let x = is in cc);
         counted = λ is. absurd (let x = is in cc);
+        deleted = λ is. absurd (let x = is in cc);
         keeps = refused_keeps s old old still usable DeleteReply ReadOnly
             (λ is. absurd (let x = is in cc)) (λ is. absurd (let x = is in cc));
         only = inr (inl refl);
@@ -187,6 +128,8 @@ module _ {S : Type 0} {s : Ghosts S} where
         shape = stays (meta_kept old) old.valid;
         read_only = neither (λ is. absurd (let x = is in cc)) may_write;
         kept = λ is. absurd (let x = is in cc);
+        stored = λ is. absurd (let x = is in cc);
+        memory = λ is. absurd (let x = is in cc);
         too_long = both refl (usable, writable, long);
         keeps = refused_keeps s old old still usable StoreReply TooLong
             (λ is. absurd (let x = is in cc)) (λ is. absurd (let x = is in cc));
@@ -204,13 +147,16 @@ module _ {S : Type 0} {s : Ghosts S} where
           -- refused by the pages below, as a `?` answers it
           pub told_store : (r : Result StoreReply Fault) (e : PageFault)
               → IsErrAnd r (λ fault. fault ≡ fault_from e) → IsOfChange e
+              → (e ≡ page.Memory → HasFullBuckets (meta_kept old))
               → meta_kept new ≡ meta_kept old
               → IsCallEnded old (with_error_of new r) r
               → IsStoreEnd old new (with_error_of new r) key content mode r
-          told_store r e told one meta keeps = record {
+          told_store r e told one full meta keeps = record {
             shape = stays_as (meta_kept old) (meta_kept new) old.valid meta;
             read_only = neither (told_other r e ReadOnly told (not_read_only e one)) may_write;
             kept = λ is. absurd (told_no_value r e stored.Kept told is);
+            stored = λ is. absurd (told_no_value r e stored.Stored told is);
+            memory = λ is. full (told_memory e (told_is r e Memory told is));
             too_long = neither (told_other r e TooLong told (never_too_long e)) not_long;
             keeps = keeps;
             only = told_by (λ fault. IsAmong fault store_faults) r e told (among_store e one);
@@ -223,6 +169,8 @@ module _ {S : Type 0} {s : Ghosts S} where
             shape = stays_as (meta_kept old) (meta_kept new) old.valid (still_meta s old new read);
             read_only = neither (λ is. absurd (let x = is in cc)) may_write;
             kept = λ _. (inserts, searched);
+            stored = λ is. absurd (let x = is in cc);
+            memory = λ is. absurd (let x = is in cc);
             too_long = neither (λ is. absurd (let x = is in cc)) not_long;
             keeps = read_keeps s old new read usable stored.Kept;
             only = tt;
@@ -235,6 +183,8 @@ module _ {S : Type 0} {s : Ghosts S} where
             shape = stays_as (meta_kept old) (meta_kept new) old.valid (still_meta s old new read);
             read_only = neither (λ is. absurd (let x = is in cc)) may_write;
             kept = λ is. absurd (let x = is in cc);
+            stored = λ is. absurd (let x = is in cc);
+            memory = λ is. absurd (let x = is in cc);
             too_long = neither (λ is. absurd (let x = is in cc)) not_long;
             keeps = refused_keeps s old new read usable StoreReply Full
                 (λ is. absurd (let x = is in cc)) (λ is. absurd (let x = is in cc));
@@ -244,12 +194,14 @@ module _ {S : Type 0} {s : Ghosts S} where
           -- the pair is there
           pub done_store : shape_in (meta_kept new)
               ≡ shape_for (meta_kept new).pairs (shape_in (meta_kept old))
-              → IsCallEnded old new (Ok stored.Stored)
+              → WasStored old new (key, content) → IsCallEnded old new (Ok stored.Stored)
               → IsStoreEnd old new new key content mode (Ok stored.Stored)
-          done_store shape keeps = record {
+          done_store shape put keeps = record {
             shape = shape;
             read_only = neither (λ is. absurd (let x = is in cc)) may_write;
             kept = λ is. absurd (let x = is in cc);
+            stored = λ _. put;
+            memory = λ is. absurd (let x = is in cc);
             too_long = neither (λ is. absurd (let x = is in cc)) not_long;
             keeps = keeps;
             only = tt;
@@ -257,17 +209,19 @@ module _ {S : Type 0} {s : Ghosts S} where
 
         -- a delete that the pages below refuse
         pub told_delete : (r : Result DeleteReply Fault) (e : PageFault)
-            → IsErrAnd r (λ fault. fault ≡ fault_from e) → IsOfChange e
+            → IsErrAnd r (λ fault. fault ≡ fault_from e) → IsOfChange e → (e ≡ page.Memory → ⊥)
             → meta_kept new ≡ meta_kept old
             → IsCallEnded old (with_error_of new r) r
             → IsDeleteEnd old new (with_error_of new r) key r
-        told_delete r e told one meta keeps = record {
+        told_delete r e told one no_memory meta keeps = record {
           shape = ap shape_in meta;
           read_only = neither (told_other r e ReadOnly told (not_read_only e one)) may_write;
           absent = λ is. absurd (told_no_value r e deleted.Absent told is);
           counted = λ is. absurd (told_no_value r e deleted.Deleted told is);
+          deleted = λ is. absurd (told_no_value r e deleted.Deleted told is);
           keeps = keeps;
-          only = told_by (λ fault. IsAmong fault delete_faults) r e told (among_delete e one);
+          only = told_by (λ fault. IsAmong fault delete_faults) r e told
+              (among_delete e one no_memory);
         }
 
         -- the key isn't there
@@ -278,6 +232,7 @@ module _ {S : Type 0} {s : Ghosts S} where
           read_only = neither (λ is. absurd (let x = is in cc)) may_write;
           absent = λ _. searched;
           counted = λ is. absurd (let x = is in cc);
+          deleted = λ is. absurd (let x = is in cc);
           keeps = read_keeps s old new read usable deleted.Absent;
           only = tt;
         }
@@ -290,21 +245,23 @@ module _ {S : Type 0} {s : Ghosts S} where
           read_only = neither (λ is. absurd (let x = is in cc)) may_write;
           absent = λ is. absurd (let x = is in cc);
           counted = λ is. absurd (let x = is in cc);
+          deleted = λ is. absurd (let x = is in cc);
           keeps = refused_keeps s old new read usable DeleteReply Damaged
               (λ is. absurd (let x = is in cc)) (λ is. absurd (let x = is in cc));
-          only = inr (inr (inr (inr (inr refl))));
+          only = inr (inr (inr (inr refl)));
         }
 
         -- the key is gone
         pub done_delete : shape_in (meta_kept new) ≡ shape_in (meta_kept old)
-            → (meta_kept new).pairs + 1 ≡ (meta_kept old).pairs
+            → (meta_kept new).pairs + 1 ≡ (meta_kept old).pairs → WasDeleted old new key
             → IsCallEnded old new (Ok deleted.Deleted)
             → IsDeleteEnd old new new key (Ok deleted.Deleted)
-        done_delete shape counted keeps = record {
+        done_delete shape counted gone keeps = record {
           shape = shape;
           read_only = neither (λ is. absurd (let x = is in cc)) may_write;
           absent = λ is. absurd (let x = is in cc);
           counted = λ _. counted;
+          deleted = λ _. gone;
           keeps = keeps;
           only = tt;
         }
@@ -368,6 +325,8 @@ module _ {S : Type 0} {s : Ghosts S} where
           shape = end.shape;
           read_only = end.read_only;
           kept = end.kept;
+          stored = λ is. absurd (let x = is in cc);
+          memory = end.memory;
           too_long =
               end.too_long;
           keeps = flagged_keeps end.keeps;
@@ -383,8 +342,8 @@ module _ {S : Type 0} {s : Ghosts S} where
           shape = end.shape;
           read_only = end.read_only;
           absent = end.absent;
-          counted =
-              end.counted;
+          counted = end.counted;
+          deleted = λ is. absurd (let x = is in cc);
           keeps = flagged_keeps end.keeps;
           only = end.only;
         }

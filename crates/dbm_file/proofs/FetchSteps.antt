@@ -3,11 +3,12 @@ use Rattle.std.proofs.Common.{◌≡◌, ◌⊎◌, inl, inr, IfErr, IfSome, ℕ
 use Rattle.std.specs.Borrow.{Bor}
 use Rattle.std.specs.List.{HoldsAt}
 use Rattle.std.specs.Option.{option_map}
-use Rattle.std.specs.FinMap.{get}
+use Rattle.std.specs.FinMap.{get, len}
 use Rattle.dbm_model.specs.Calls as model
 use Rattle.dbm_model.specs.Pairs.{Key, Pair, Contents}
 use Rattle.page_model.specs.Slots.{taken}
-use Rattle.dbm_model.specs.Steps.{Case, Finds, Suffers, fetched}
+use Rattle.dbm_model.specs.Steps.{Case, Finds, Suffers, buckets_opened, fetched}
+use Rattle.dbm_model.specs.States.{Handle}
 use Rattle.page_model.specs.Valid.{IsMeta}
 use Rattle.page_io.specs.Answers.{HasDeviceCause}
 use Rattle.page_io.specs.declared.store.PageStore.{Ghosts}
@@ -82,6 +83,11 @@ finds (Some slice) = refl
 abbrev IsFetched : {S : Type 0} {s : Ghosts S} → Database S s → Key → Lent → Database S s → Type 0
 IsFetched old key r new = Lends (model.Fetch key) (lent_reply model.NoRecord) old r new
 
+fetch_opens_none : (before : Handle) (pairs : ℕ) (found : Option (Bor (List ℕ)))
+    → buckets_opened before (lent_reply model.NoRecord (Ok found)) pairs ≡ 0
+fetch_opens_none before pairs None = refl
+fetch_opens_none before pairs (Some content) = refl
+
 -- a fetch that was answered
 pub fetched_well : {S : Type 0} (s : Ghosts S) (old new : Database S s) (key : Key)
     (found : Option (Bor (List ℕ))) → IsRead old new → (page_state old).usable ≡ true
@@ -94,7 +100,7 @@ fetched_well s old new key found read usable is = record {
       let pass = h.state.pass in
       from_own at (found_step s old new map pass (model.Fetch key) read honest (at.map usable)
       (at.pass usable) (at.rests usable) (lent_reply model.NoRecord (Ok found))
-      (fetch_rule (handle_of old map pass).state key (option_map (λ b. b.now) found) usable
+      (fetch_opens_none (handle_of old map pass) (len map) found) (fetch_rule (handle_of old map pass).state key (option_map (λ b. b.now) found) usable
       (sym (is honest map (at.map usable))) ∙ finds found));
   keeps = read_keeps s old new read usable found;
 }

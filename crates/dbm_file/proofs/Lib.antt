@@ -1,7 +1,9 @@
 pub mod Answered
 pub mod Breaks
+pub mod BucketSteps
 pub mod Cases
 pub mod ChangeSteps
+pub mod Done
 pub mod Endings
 pub mod FetchSteps
 pub mod Lends
@@ -9,6 +11,7 @@ pub mod OpenedFiles
 pub mod PassKeys
 pub mod PassSteps
 pub mod ReadSteps
+pub mod Refused
 pub mod Runs
 pub mod Searches
 pub mod StoreSteps

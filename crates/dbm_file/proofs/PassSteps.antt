@@ -11,9 +11,9 @@ use Rattle.page_model.specs.Pages.{Meta, Body}
 use Rattle.dbm_model.specs.Pairs.{Key, Pair, Contents}
 use Rattle.page_model.specs.Placement.{Placement}
 use Rattle.page_model.specs.Placement as placement
-use Rattle.dbm_model.specs.States.{Keys, Handle, error_number}
+use Rattle.dbm_model.specs.States.{State, Keys, Handle, error_number}
 use Rattle.page_model.specs.Valid.{IsMeta}
-use Rattle.dbm_model.specs.Steps.{Case, Passes, GivesKey, Suffers, case_of, Answers}
+use Rattle.dbm_model.specs.Steps.{Case, Passes, GivesKey, Suffers, buckets_opened, case_of, Answers}
 use Rattle.page_io.specs.Store.{Settled, Pages, page_of}
 use Rattle.page_io.specs.Answers.{HasDeviceCause}
 use Rattle.page_io.specs.Views.{body_at}
@@ -42,7 +42,7 @@ use Rattle.dbm_file.proofs.Cases.{first_rule, next_rule, no_pass_rule, passes_fa
 use Rattle.dbm_file.proofs.Lends.{kept_error, flagged_step}
 use Rattle.linear_hash.proofs.Passes.{begins}
 use Rattle.dbm_file.proofs.PassKeys.{gives, all_keys}
-use Rattle.dbm_file.proofs.ReadSteps.{at_own, from_own, same_state, same_pass, no_more_pages, still_limit, still_capacity, still_end, still_writable, still_usable, still_meta, still_holds, still_rests, still_survives, no_read, rejected_step, refused_keeps, walk_failed_step}
+use Rattle.dbm_file.proofs.ReadSteps.{at_own, from_own, same_state, same_pass, no_more_pages, no_more_buckets, still_buckets, still_limit, still_capacity, still_end, still_writable, still_usable, still_meta, still_holds, still_rests, still_survives, no_read, rejected_step, refused_keeps, walk_failed_step}
 use Rattle.linear_hash.proofs.Tables.{placed, is_table, map_placed, committed_said}
 
 -- the same database with its pass elsewhere
@@ -104,6 +104,14 @@ gives_next pages m cursor keys bytes found at has some next =
               };
         }
 
+-- a key that is given, or the end, opens no bucket
+none_opened : (before : Handle) (keys : Keys) (reply : model.Reply) (after : State) (pairs : ℕ)
+    → GivesKey before.state keys reply after → buckets_opened before reply pairs ≡ 0
+none_opened before keys reply after pairs (inl end) =
+    ap (λ (r : model.Reply). buckets_opened before r pairs) end.1
+none_opened before keys reply after pairs (inr given) =
+    ap (λ (r : model.Reply). buckets_opened before r pairs) given.2
+
 -- a call that falls under passing these keys
 module _ {S : Type 0} (s : Ghosts S) (old new : Database S s) (h : Handle) (at : IsAt old h)
     (call : model.Call) (keys : Keys) (read : IsRead old (with_pass new old.pass))
@@ -131,6 +139,8 @@ module _ {S : Type 0} (s : Ghosts S) (old new : Database S s) (h : Handle) (at :
       counts = read.reads.stages_only.later;
       capacity = still_capacity s old mid read;
       pages = no_more_pages before (handle_of new map (Some left)) reply (still_end s old mid read);
+      buckets = no_more_buckets before (handle_of new map (Some left)) reply (finmap.len map)
+          (still_buckets s old mid read) (none_opened before keys reply _ (finmap.len map) given);
       answers = inl (subst (λ (c : Case).
           Answers before.state c reply (handle_of new map (Some left)).state)
           (sym falls_own)
@@ -308,6 +318,8 @@ module _ {S : Type 0} (s : Ghosts S) (old : Database S s) (h : Handle) (at : IsA
           counts = omega arith;
           capacity = refl;
           pages = no_more_pages own own (model.Number (error_number (error_of old))) refl;
+          buckets = no_more_buckets own own (model.Number (error_number (error_of old)))
+              (finmap.len h.state.map) refl refl;
           answers = inl (subst (λ (c : Case).
               Answers own.state c (model.Number (error_number (error_of old))) own.state)
               (sym (error_rule own.state)) (refl, refl));
@@ -328,6 +340,8 @@ module _ {S : Type 0} (s : Ghosts S) (old : Database S s) (h : Handle) (at : IsA
           counts = omega arith;
           capacity = refl;
           pages = no_more_pages own (handle_of new h.state.map h.state.pass) (model.Number 0) refl;
+          buckets = no_more_buckets own (handle_of new h.state.map h.state.pass)
+              (model.Number 0) (finmap.len h.state.map) refl refl;
           answers = inl (subst (λ (c : Case).
               Answers own.state c (model.Number 0)
               (handle_of new h.state.map h.state.pass).state)

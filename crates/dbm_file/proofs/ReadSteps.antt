@@ -2,13 +2,15 @@
 use Rattle.std.proofs.Common.{◌≡◌, ◌⊎◌, ◌↔◌, inl, inr, ℕ, ◌+◌, ◌≤◌, Bool, true, false, cond, Option, Some, None, is_some, Ok, Err, IsErrOf, refl, sym, ◌∙◌, ap, subst, arith}
 use Rattle.std.specs.Prelude.{IsTrue}
 use Rattle.std.specs.Option.{option_map}
+use Rattle.std.specs.FinMap.{len}
 use Rattle.sect_dev.specs.Device.{MoreFaults}
 use Rattle.sect_dev.specs.Moments.{weaker}
 use Rattle.dbm_model.specs.Calls as model
 use Rattle.page_model.specs.Pages.{Meta, MetaPage}
+use Rattle.page_model.specs.Valid.{meta_buckets}
 use Rattle.dbm_model.specs.Pairs.{Contents}
 use Rattle.dbm_model.specs.States.{State, Keys, Handle, first_fault, flagged}
-use Rattle.dbm_model.specs.Steps.{Case, Refuses, Declines, Finds, case_of, Answers, Suffers, Fails, growth, Step}
+use Rattle.dbm_model.specs.Steps.{Case, Refuses, Declines, Finds, case_of, Answers, Suffers, Fails, growth, buckets_opened, Step}
 use Rattle.page_model.specs.Meaning.{said_by}
 use Rattle.page_io.specs.Store.{Pages, Settled, file_of, page_of}
 use Rattle.page_io.specs.Store as store
@@ -131,6 +133,9 @@ module _ {S : Type 0} (s : Ghosts S) (old new : Database S s) (read : IsRead old
   pub still_capacity : (page_state new).capacity ≡ (page_state old).capacity
   still_capacity = ap (λ (st : store.StoreState). st.capacity) read.reads.same
 
+  pub still_buckets : meta_buckets (meta_kept new) ≡ meta_buckets (meta_kept old)
+  still_buckets = ap meta_buckets still_meta
+
   pub still_end : (page_state new).end ≡ (page_state old).end
   still_end = ap (λ (st : store.StoreState). st.end) read.reads.same
 
@@ -138,6 +143,12 @@ module _ {S : Type 0} (s : Ghosts S) (old new : Database S s) (read : IsRead old
 pub no_more_pages : (before after : Handle) (reply : model.Reply) → after.pages ≡ before.pages
     → (before.pages ≤ after.pages) × (after.pages ≤ before.pages + growth before reply)
 no_more_pages before after reply same = (omega (arith, same), omega (arith, same))
+
+-- one that opens no bucket, with the buckets that there were
+pub no_more_buckets : (before after : Handle) (reply : model.Reply) (pairs : ℕ)
+    → after.buckets ≡ before.buckets → buckets_opened before reply pairs ≡ 0
+    → after.buckets ≡ before.buckets + buckets_opened before reply pairs
+no_more_buckets before after reply pairs same none = omega (arith, same, none)
 
 module _ {S : Type 0} (s : Ghosts S) (old new : Database S s) (map : Contents)
     (pass : Option Keys) where
@@ -213,14 +224,16 @@ module _ {S : Type 0} (s : Ghosts S) (old new : Database S s) (map : Contents) (
   abbrev before : Handle
   before = handle_of old map pass
 
-  pub found_step : (reply : model.Reply) → case_of before.state call ≡ Finds reply
-      → IsStep old new before call reply
-  found_step reply falls = record {
+  pub found_step : (reply : model.Reply) → buckets_opened before reply (len map) ≡ 0
+      → case_of before.state call ≡ Finds reply → IsStep old new before call reply
+  found_step reply none falls = record {
     after = handle_of new map pass;
     step = record {
       counts = read.reads.stages_only.later;
       capacity = still_capacity s old new read;
       pages = no_more_pages before (handle_of new map pass) reply (still_end s old new read);
+      buckets = no_more_buckets before (handle_of new map pass) reply (len map)
+          (still_buckets s old new read) none;
       answers = inl (subst (λ (c : Case).
           Answers before.state c reply (handle_of new map pass).state) (sym falls) (
             refl,
@@ -268,6 +281,8 @@ module _ {S : Type 0} (s : Ghosts S) (old new : Database S s) (map : Contents) (
       counts = read.reads.stages_only.later;
       capacity = still_capacity s old new read;
       pages = still_pages;
+      buckets = no_more_buckets before (handle_of refused map pass)
+          (model.Refused (fault_of fault)) (len map) (still_buckets s old new read) refl;
       answers = inl (subst (λ (c : Case).
           Answers before.state c (model.Refused (fault_of fault))
           (handle_of refused map pass).state) (sym falls) is);
@@ -290,6 +305,8 @@ module _ {S : Type 0} (s : Ghosts S) (old new : Database S s) (map : Contents) (
       counts = read.reads.stages_only.later;
       capacity = still_capacity s old new read;
       pages = still_pages;
+      buckets = no_more_buckets before (handle_of refused map pass)
+          (model.Refused (fault_of fault)) (len map) (still_buckets s old new read) refl;
       answers = inr (may (model.Refused (fault_of fault)) (handle_of refused map pass) (
         ap (λ (f : Fault). model.Refused (fault_of f)) is,
         more,
@@ -354,6 +371,9 @@ broken_step s old map pass call broken falls = record {
     capacity = refl;
     pages = no_more_pages (handle_of old map pass) (handle_of (with_fault old Broken) map pass)
         (model.Refused model.Broken) refl;
+    buckets = no_more_buckets (handle_of old map pass)
+        (handle_of (with_fault old Broken) map pass) (model.Refused model.Broken) (len map)
+        refl refl;
     answers = inl (subst (λ (c : Case).
         Answers (handle_of old map pass).state c (model.Refused model.Broken)
         (handle_of (with_fault old Broken) map pass).state) (sym falls)

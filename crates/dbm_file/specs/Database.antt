@@ -3,6 +3,7 @@ use Rattle.std.specs.Prelude.{◌≡◌, true, Option}
 use Rattle.std.specs.Option.{option_map}
 use Rattle.dbm_model.specs.Calls as model
 use Rattle.page_model.specs.Pages.{Meta}
+use Rattle.page_model.specs.Valid.{meta_buckets}
 use Rattle.dbm_model.specs.Pairs.{Contents}
 use Rattle.dbm_model.specs.States.{Keys, Handle}
 use Rattle.page_io.specs.Store.{Settled, StoreState}
@@ -63,6 +64,7 @@ handle_of {S} {s} db map pass = record {
   faults = s.faults (store_of db);
   pages = (page_state db).end;
   capacity = (page_state db).capacity;
+  buckets = meta_buckets (meta_kept db);
 }
 
 -- The database is at this handle of the definitions. Of a broken one's map and pass nothing is

@@ -1,5 +1,6 @@
 pub mod Answers
 pub mod Calls
+pub mod Changing
 pub mod Database
 pub mod Ending
 pub mod Lending

@@ -8,6 +8,7 @@ use Rattle.page_io.specs.declared.store.PageStore.{Ghosts}
 use Rattle.chain_walks.specs.Walks.{EndsWithout}
 use Rattle.dbm_file.specs.Answers.{IsCallEnded}
 use Rattle.dbm_file.specs.Calls.{Lent}
+use Rattle.dbm_file.specs.Changing.{WasDeleted, WasStored}
 use Rattle.dbm_file.specs.Database.{store_of, meta_kept, error_of, cursor_of}
 use Rattle.dbm_file.specs.Searches.{Searched, EndsWith, EndsAtContent, Passed, WentOn, pass_start}
 use Rattle.dbm_file.specs.declared.calls.Call.{Call}
@@ -23,7 +24,7 @@ use Rattle.dbm_file.specs.declared.database.Database.{Database}
 
 -- the faults by which a delete may be refused, and those of a store
 abbrev pub delete_faults : List Fault
-delete_faults = Broken ∷ ReadOnly ∷ Memory ∷ Device ∷ NoRoom ∷ Damaged ∷ []
+delete_faults = Broken ∷ ReadOnly ∷ Device ∷ NoRoom ∷ Damaged ∷ []
 
 abbrev pub store_faults : List Fault
 store_faults = Broken ∷ ReadOnly ∷ TooLong ∷ Full ∷ Memory ∷ Device ∷ NoRoom ∷ Damaged ∷ []
@@ -89,6 +90,13 @@ WasRead db Next End = WentOn db None
 WasRead db Next (Bytes key) = WentOn db (Some key)
 WasRead db call reply = Unit {0}
 
+-- what was written of the file, over an honest store, by a call that was answered so
+abbrev pub WasDone : {S : Type 0} {s : Ghosts S} → Database S s → Database S s → Call
+    → Reply → Type 0
+WasDone old new (Store key content mode) Stored = WasStored old new (key, content)
+WasDone old new (Delete key) Deleted = WasDeleted old new key
+WasDone old new call reply = Unit {0}
+
 -- the error number was told, and nothing changed
 abbrev pub IsErrorTold : {S : Type 0} {s : Ghosts S} → Database S s → Database S s → Reply → Type 0
 IsErrorTold old new reply = (reply ≡ Number (pos (error_number (error_of old)))) × (new ≡ old)
@@ -107,6 +115,7 @@ pub record IsCallAnswered {S : Type 0} {s : Ghosts S} (old new : Database S s) (
     (reply : Reply) : Type 0 where
   pub replied : IsReplyTo call reply
   pub read : WasRead old call reply
+  pub done : WasDone old new call reply
   pub keeps : IsCallEnded old new (refusal reply)
 
 abbrev pub IsAnswered : {S : Type 0} {s : Ghosts S} → Database S s → Database S s → Call

@@ -7,17 +7,18 @@ use Rattle.slot_page.specs.Contents.{page_pairs}
 use Rattle.dbm_fault.specs.Faults.{fault_of}
 use Rattle.dbm_fault.specs.Among.{IsErrAmong}
 use Rattle.dbm_fault.specs.declared.fault.Fault.{Fault}
-use Rattle.dbm_fault.specs.declared.fault.Fault.TheVariants.{ReadOnly, TooLong}
+use Rattle.dbm_fault.specs.declared.fault.Fault.TheVariants.{Memory, ReadOnly, TooLong}
 use Rattle.linear_hash.specs.Tables.{shape_in, shape_for}
 use Rattle.chain_walks.specs.Walks.{EndsWithout}
 use Rattle.dbm_file.specs.Answers.{IsCallEnded}
+use Rattle.dbm_file.specs.Changing.{WasDeleted, WasStored, HasFullBuckets}
 use Rattle.dbm_file.specs.Database.{store_of, meta_kept, page_state}
 use Rattle.dbm_file.specs.Replies.{store_faults, delete_faults}
 use Rattle.dbm_file.specs.Searches.{Searched, EndsWith}
 use Rattle.dbm_file.specs.declared.calls.StoreMode.{StoreMode}
 use Rattle.dbm_file.specs.declared.calls.StoreMode.TheVariants.{Insert}
 use Rattle.dbm_file.specs.declared.calls.StoreReply.{StoreReply}
-use Rattle.dbm_file.specs.declared.calls.StoreReply.TheVariants.{Kept}
+use Rattle.dbm_file.specs.declared.calls.StoreReply.TheVariants.{Kept, Stored}
 use Rattle.dbm_file.specs.declared.calls.DeleteReply.{DeleteReply}
 use Rattle.dbm_file.specs.declared.calls.DeleteReply.TheVariants.{Absent, Deleted}
 use Rattle.dbm_file.specs.declared.database.Database.{Database}
@@ -53,9 +54,11 @@ pub record IsStoreEnd {S : Type 0} {s : Ghosts S} (old new told : Database S s)
   pub read_only : (result ≡ Err ReadOnly)
       ↔ (((page_state old).usable ≡ true) × ((page_state old).writable ≡ false))
   pub kept : result ≡ Ok Kept → (mode ≡ Insert) × Searched old key (EndsWith key)
+  pub stored : result ≡ Ok Stored → WasStored old new (key, content)
   pub too_long : (result ≡ Err TooLong)
       ↔ (((page_state old).usable ≡ true) × ((page_state old).writable ≡ true)
       × (2026 < length key + length content))
+  pub memory : result ≡ Err Memory → HasFullBuckets (meta_kept old)
   pub keeps : IsCallEnded old told result
   pub only : IsErrAmong result store_faults
 
@@ -66,5 +69,6 @@ pub record IsDeleteEnd {S : Type 0} {s : Ghosts S} (old new told : Database S s)
       ↔ (((page_state old).usable ≡ true) × ((page_state old).writable ≡ false))
   pub absent : result ≡ Ok Absent → Searched old key (EndsWithout key)
   pub counted : result ≡ Ok Deleted → (meta_kept new).pairs + 1 ≡ (meta_kept old).pairs
+  pub deleted : result ≡ Ok Deleted → WasDeleted old new key
   pub keeps : IsCallEnded old told result
   pub only : IsErrAmong result delete_faults

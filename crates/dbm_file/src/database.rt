@@ -44,6 +44,7 @@ impl<S: PageStore> Database<S> {
     ghost use Rattle.dbm_model.specs.Steps.{Passes, case_of};
     ghost use Rattle.page_model.specs.Valid.{meta_buckets};
     ghost use Rattle.linear_hash.specs.Tables.{shape_in, shape_for};
+    ghost use Rattle.dbm_file.specs.Changing.{WasDeleted, WasStored, HasFullBuckets};
     ghost use Rattle.dbm_file.specs.Calls.{mode_of, store_reply, delete_reply, lent_reply, seen};
     ghost use Rattle.dbm_file.specs.Database.{store_of, meta_kept, page_state, error_of, cursor_of, IsAt, AtEachHandle};
     ghost use Rattle.dbm_file.specs.Answers.{IsStep, IsCallEnded};
@@ -87,7 +88,7 @@ impl<S: PageStore> Database<S> {
     /// Stores a pair (POSIX: `dbm_store`), in one commit. In this order: `Broken`; `ReadOnly`;
     /// `TooLong` where key and content together are above 2,026 bytes; `Device` or `Damaged` while
     /// the key is looked up; `Kept`; `Full` where the key is new and the limit is reached; then
-    /// `Memory`, `Device`, `NoRoom` or `Damaged` as the work meets them. Where the commit fails by
+    /// `Device`, `NoRoom`, `Damaged`, or `Memory` where a bucket is split, as the work meets them. Where the commit fails by
     /// `Device`, the database is broken, and opening the device again settles whether the pair is
     /// there.
     pub fn store(
@@ -104,9 +105,16 @@ impl<S: PageStore> Database<S> {
             ↔ (((page_state self.old).usable ≡ true) × ((page_state self.old).writable ≡ false)) }
         ensures kept { result ≡ Ok StoreReply.Kept
             → (mode ≡ StoreMode.Insert) × Searched self.old key.now (EndsWith key.now) }
+
+        // On any file, where no bucket is split, the pair was put into the key's bucket.
+        ensures stored { result ≡ Ok StoreReply.Stored
+            → WasStored self.old self.new (key.now, content.now) }
         ensures too_long { (result ≡ Err Fault.TooLong)
             ↔ (((page_state self.old).usable ≡ true) × ((page_state self.old).writable ≡ true)
             × (2026 < length key.now + length content.now)) }
+
+        // On any file a store takes memory only where there are eight pairs to a bucket.
+        ensures memory { result ≡ Err Fault.Memory → HasFullBuckets (meta_kept self.old) }
         ensures keeps { IsCallEnded self.old self.new result }
         ensures only { IsErrAmong result store_faults }
     {
@@ -117,8 +125,9 @@ impl<S: PageStore> Database<S> {
     }
 
     /// Deletes a key with its content (POSIX: `dbm_delete`), in one commit. In this order:
-    /// `Broken`; `ReadOnly`; `Device` or `Damaged` while the key is looked up; `Absent`; then as
-    /// `store`, and `Damaged` where the file counts no pair.
+    /// `Broken`; `ReadOnly`; `Device` or `Damaged` while the key is looked up; `Absent`; then
+    /// `Device`, `NoRoom` or `Damaged` as the work meets them, `Damaged` also where the file counts
+    /// no pair. It is never refused for memory.
     pub fn delete(&mut self, key: &[u8]) -> Result<DeleteReply, Fault>
         ensures step { AtEachHandle self.old (λ h.
             IsStep self.old self.new h (Delete key.now) (delete_reply result)) }
@@ -129,6 +138,10 @@ impl<S: PageStore> Database<S> {
             → Searched self.old key.now (EndsWithout key.now) }
         ensures counted { result ≡ Ok DeleteReply.Deleted
             → (meta_kept self.new).pairs + 1 ≡ (meta_kept self.old).pairs }
+
+        // On any file the key was taken out of its bucket.
+        ensures deleted { result ≡ Ok DeleteReply.Deleted
+            → WasDeleted self.old self.new key.now }
         ensures keeps { IsCallEnded self.old self.new result }
         ensures only { IsErrAmong result delete_faults }
     {

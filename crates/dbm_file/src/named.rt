@@ -1,6 +1,6 @@
 //! A database by the name of its file.
 
-ghost use Rattle.std.specs.Prelude.{◌≡◌, ◌≢◌, ◌&&◌, ◌++◌, codes, false, IfOk, IfErr};
+ghost use Rattle.std.specs.Prelude.{◌≡◌, ◌≢◌, ◌<◌, ◌&&◌, ◌++◌, codes, false, IsSome, IfOk, IfErr};
 ghost use Rattle.std.specs.String.{string_bytes};
 ghost use Rattle.file_opening.specs.Opening.{writes};
 ghost use Rattle.dbm_file.specs.Opened.{IsNewlyOpened};
@@ -11,11 +11,22 @@ use crate::{Fault, OpenHow};
 use sect_dev::{FileDev, FileFault, SectorDev};
 use std::alloc::{AllocError, Global};
 use std::fs::File;
+use std::io;
 use std::rt::Files;
+use thiserror::Error;
 
 /// How many sectors a file has room for: what a database of 1,000,000 pairs needs, 4.6 GB. A file
 /// grows as it is written.
 const FILE_SECTORS: u32 = 9_001_992;
+
+/// Why the database of a name was not opened.
+#[derive(Clone, Copy, Debug, Error)]
+#[error("{fault}")]
+pub struct Refusal {
+    pub fault: Fault,
+    /// The error of the system at the last of its calls that failed, if one has.
+    pub system: Option<io::Error>,
+}
 
 /// Opens the database of that name, which is the file `name` with `.db` appended (POSIX:
 /// `dbm_open`; the two files that the standard speaks of are one here). With `create` a file that
@@ -46,18 +57,69 @@ pub fn dbm_open<R: Files<File = File>>(
         (λ fault. fault ≢ Fault.Memory → fault ≢ Fault.Missing → fault ≢ Fault.Device
         → RefusesFile ⟦<FileDev as SectorDev>⟧ how fault) }
 {
+    match open_named(rt, alloc, name, how) {
+        Ok(db) => Ok(db),
+        Err(refusal) => Err(refusal.fault),
+    }
+}
+
+/// As `dbm_open`, and a refusal has the system's error beside the fault.
+pub fn open_named<R: Files<File = File>>(
+    rt: &R,
+    alloc: Global,
+    name: &str,
+    how: OpenHow,
+) -> Result<Db<FileDev>, Refusal>
+    ensures fresh { IfOk result (IsNewlyOpened (writes how.access) 2250498) }
+    ensures missing { IfErr result
+        (λ e. e.fault ≡ Fault.Missing → (writes how.access && how.create) ≡ false) }
+    ensures only { IfErr result (λ e.
+        (e.fault ≢ Fault.Broken) × (e.fault ≢ Fault.TooLong) × (e.fault ≢ Fault.Full)
+        × (e.fault ≢ Fault.NoPass)) }
+    ensures opens { IfOk result (OpensFile how) }
+    ensures refused { IfErr result
+        (λ e. e.fault ≢ Fault.Memory → e.fault ≢ Fault.Missing → e.fault ≢ Fault.Device
+        → RefusesFile ⟦<FileDev as SectorDev>⟧ how e.fault) }
+
+    // A fault of the device is never told without its cause.
+    ensures told { IfErr result (λ e. e.fault ≡ Fault.Device → IsSome e.system) }
+{
     let Ok(path) = path_of(alloc, name) else {
-        return Err(Fault::Memory);
+        return Err(untold(Fault::Memory));
     };
     let writable = how.access.is_writable();
     match FileDev::open(rt, path.as_str(), writable, how.create, FILE_SECTORS) {
         Ok(dev) => match Db::open(alloc, dev, how) {
             Ok(db) => Ok(db),
-            Err((_, fault)) => Err(fault),
+            Err((dev, fault)) => Err(refused_by(&dev, fault)),
         },
-        Err(FileFault::Memory) => Err(Fault::Memory),
-        Err(FileFault::Missing) => Err(Fault::Missing),
-        Err(FileFault::Device) => Err(Fault::Device),
+        Err(FileFault::Memory) => Err(untold(Fault::Memory)),
+        Err(FileFault::Missing) => Err(untold(Fault::Missing)),
+        Err(FileFault::Device(error)) => Err(Refusal {
+            fault: Fault::Device,
+            system: Some(error),
+        }),
+    }
+}
+
+/// The refusal of an opening that gave its device back.
+fn refused_by(dev: &FileDev, fault: Fault) -> Refusal
+    ensures fault { result.fault ≡ fault }
+    ensures system { 0 < ⟦<FileDev as SectorDev>⟧.faults dev.now → IsSome result.system }
+{
+    Refusal {
+        fault,
+        system: dev.last_error(),
+    }
+}
+
+/// A refusal of which the system tells nothing.
+fn untold(fault: Fault) -> Refusal
+    ensures { result.fault ≡ fault }
+{
+    Refusal {
+        fault,
+        system: None,
     }
 }
 

@@ -27,7 +27,7 @@ pub fn run<S: PageStore>(
         (map reply_of replies.items))) }
 
     // On any device each reply is one to its own call, and each call leaves what it leaves alone.
-    // Over an honest store a reply tells nothing of the file that wasn't read.
+    // Over an honest store a reply tells nothing of the file that wasn't read or done.
     ensures answers { IfOk result (λ replies. AreAnswered db.old db.new calls.now replies.items) }
     ensures one_each { IfOk result (λ replies. vec_len replies ≡ length calls.now) }
     ensures goes { IsSameDatabase db.old db.new }

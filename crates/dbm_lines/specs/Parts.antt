@@ -1,5 +1,5 @@
 -- A part of a line, as far as the reader's buffer has it.
-use Rattle.std.specs.Prelude.{◌≡◌, ◌≢◌, ℕ, ◌+◌, ◌<◌, ◌≤◌, List, [], ◌++◌, length, take, drop, slice_index, Option, Some}
+use Rattle.std.specs.Prelude.{◌≡◌, ◌≢◌, ℕ, ◌+◌, ◌<◌, List, [], ◌++◌, length, take, drop, slice_index, Option, Some}
 use Rattle.dbm_lines.specs.Reading.{line_bytes, after_line}
 use Rattle.dbm_lines.specs.declared.lines.Part.{Part}
 use Rattle.dbm_lines.specs.declared.lines.Part.TheVariants.{End, Whole, Begun}

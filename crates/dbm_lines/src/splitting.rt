@@ -2,6 +2,8 @@
 ghost use Rattle.std.specs.Prelude.{◌≡◌, ◌==◌, ◌≤◌, ◌∷◌, [], IfSome, IfNone, length, position};
 ghost use Rattle.std.specs.List.{slice_split};
 
+use memchr::memchr;
+
 /// The part before the first separator, and what is behind the separator, if there is one.
 pub fn split_at(line: &[u8], separator: u8) -> Option<(&[u8], &[u8])>
     ensures split { IfSome result (λ parts. slice_split (λ byte. byte == separator) line.now
@@ -19,5 +21,5 @@ pub fn split_at(line: &[u8], separator: u8) -> Option<(&[u8], &[u8])>
 fn first_separator(line: &[u8], separator: u8) -> Option<usize>
     ensures { result ≡ position (λ byte. byte == separator) line.now }
 {
-    line.iter().position(|byte| *byte == separator)
+    memchr(separator, line)
 }

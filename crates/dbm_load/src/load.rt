@@ -10,6 +10,7 @@ ghost use Rattle.dbm_load.specs.Loading.{Loads, LoadsDump, LoadsLine};
 use dbm_fault::EngineFault;
 use dbm_file::{Database, StoreMode};
 use dbm_lines::{Buffers, TextForm, pair_in_form, read_line};
+use dbm_progress::{Progress, Work};
 use page_io::PageStore;
 use std::alloc::Global;
 use std::io::BufRead;
@@ -20,10 +21,11 @@ use std::io::BufRead;
 /// 4,294,967,295. `Memory` comes before anything is read; no line takes memory of its own, and a
 /// store that finds none is told as `Db`. `Read` comes where reading fails or the text is too long.
 /// The stores made so far stand.
-pub fn load_engine<S: PageStore, R: BufRead>(
+pub fn load_engine<S: PageStore, R: BufRead, P: Progress>(
     alloc: Global,
     db: &mut Database<S>,
     reader: &mut R,
+    progress: &mut P,
 ) -> Result<(), EngineFault>
     ensures loads { Loads pair_of_line result (R.remaining reader.old) db.old db.new }
     ensures read { OnOk result (IfSome (R.remaining reader.old)
@@ -38,16 +40,17 @@ pub fn load_engine<S: PageStore, R: BufRead>(
         → (db.new ≡ db.old) × (reader.new ≡ reader.old) }
     ensures only { result ≡ Err EngineFault.Write → ⊥ }
 {
-    load_in_form(alloc, db, reader, TextForm::Hexadecimal)
+    load_in_form(alloc, db, reader, TextForm::Hexadecimal, progress)
 }
 
 /// Stores the pair that each line says as two fields with a tab between them, and otherwise does
 /// and fails as `load_engine`. A byte of a field that no backslash begins stands for itself, so a
 /// text typed by hand loads.
-pub fn load_text_engine<S: PageStore, R: BufRead>(
+pub fn load_text_engine<S: PageStore, R: BufRead, P: Progress>(
     alloc: Global,
     db: &mut Database<S>,
     reader: &mut R,
+    progress: &mut P,
 ) -> Result<(), EngineFault>
     ensures loads { Loads pair_of_text_line result (R.remaining reader.old) db.old db.new }
     ensures read { OnOk result (IfSome (R.remaining reader.old)
@@ -62,15 +65,16 @@ pub fn load_text_engine<S: PageStore, R: BufRead>(
         → (db.new ≡ db.old) × (reader.new ≡ reader.old) }
     ensures only { result ≡ Err EngineFault.Write → ⊥ }
 {
-    load_in_form(alloc, db, reader, TextForm::Escaped)
+    load_in_form(alloc, db, reader, TextForm::Escaped, progress)
 }
 
 /// Stores the pair that each line of this form says.
-fn load_in_form<S: PageStore, R: BufRead>(
+fn load_in_form<S: PageStore, R: BufRead, P: Progress>(
     alloc: Global,
     db: &mut Database<S>,
     reader: &mut R,
     form: TextForm,
+    progress: &mut P,
 ) -> Result<(), EngineFault>
     ensures loads { Loads (pair_in form) result (R.remaining reader.old) db.old db.new }
     ensures read { OnOk result (IfSome (R.remaining reader.old)
@@ -88,15 +92,16 @@ fn load_in_form<S: PageStore, R: BufRead>(
     let Ok(mut buffers) = Box::new(alloc, Buffers::new()) else {
         return Err(EngineFault::Memory);
     };
-    load_lines(db, reader, &mut buffers, form)
+    load_lines(db, reader, &mut buffers, form, progress)
 }
 
 /// The engine with its buffers.
-fn load_lines<S: PageStore, R: BufRead>(
+fn load_lines<S: PageStore, R: BufRead, P: Progress>(
     db: &mut Database<S>,
     reader: &mut R,
     buffers: &mut Buffers,
     form: TextForm,
+    progress: &mut P,
 ) -> Result<(), EngineFault>
     ensures loads { Loads (pair_in form) result (R.remaining reader.old) db.old db.new }
     ensures read { OnOk result (IfSome (R.remaining reader.old)
@@ -114,6 +119,7 @@ fn load_lines<S: PageStore, R: BufRead>(
             return Ok(());
         }
         load_line(db, buffers, number, form)?;
+        progress.step(Work::LinesLoaded);
     }
     Err(EngineFault::Read)
 }

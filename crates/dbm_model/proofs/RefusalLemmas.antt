@@ -1,13 +1,14 @@
 -- Why the rule that a call falls under refuses it, and what has to be refused.
-use Rattle.std.proofs.Common.{◌≡◌, inl, inr, ⊎_elim, ℕ, ◌+◌, List, length, true, false, cond, not, Option, Some, None, refl, sym, ap, subst}
+use Rattle.std.proofs.Common.{◌≡◌, inl, inr, ⊎_elim, ℕ, ◌+◌, ◌≤◌, List, length, Bool, true, false, cond, not, Option, Some, None, is_some, refl, sym, ap, subst, arith}
 use Rattle.std.specs.Prelude.{nat_le}
 use Rattle.std.proofs.lemmas.Bool.{leb-true, leb-false}
-use Rattle.std.specs.FinMap.{get, insert, len}
+use Rattle.std.specs.FinMap.{get, insert, len, len-insert}
+use Rattle.std.specs.Cmp.Lexicographic.{nat_list_cmp_total}
 use Rattle.dbm_model.specs.Calls.{Mode, Insert, Replace, Call, Store, Fetch, Delete, First, Next, Error, Clear, Reply, Stored, Refused, Fault, Memory, Device, Broken, ReadOnly, TooLong, Full, NoPass, NoRoom, Damaged, NotADatabase, Version, TooSmall, BadLimit, Missing, Exists, is_changing}
-use Rattle.dbm_model.specs.Pairs.{Key}
+use Rattle.dbm_model.specs.Pairs.{Key, Contents}
 use Rattle.dbm_model.specs.States.{State, Keys, Handle}
-use Rattle.dbm_model.specs.Steps.{Case, Tells, Refuses, Declines, Finds, Passes, Changes, fetched, stored, deleted, passed, usable_case, broken_case, case_of, Answers, Suffers}
-use Rattle.dbm_model.specs.Refusals.{MayChange, IsTooLong, IsOneTooMany, IsDue, RefusesOnlyWhereDue}
+use Rattle.dbm_model.specs.Steps.{Case, Tells, Refuses, Declines, Finds, Passes, Changes, fetched, stored, deleted, passed, usable_case, broken_case, case_of, OpensBucket, Answers, Suffers}
+use Rattle.dbm_model.specs.Refusals.{MayChange, IsTooLong, IsOneTooMany, IsOneBucketMore, IsDue, RefusesOnlyWhereDue}
 
 -- the reason of a refusal that comes from the state alone
 abbrev Reason : Fault → State → Call → Type 0
@@ -22,6 +23,11 @@ abbrev pub IsNoRefusal : Reply → Type 0
 IsNoRefusal (Refused fault) = ⊥
 IsNoRefusal reply = Unit {0}
 
+-- what a change makes of the map where it is a store
+abbrev Makes : State → Call → Reply → Contents → Type 0
+Makes s (Store key content mode) said map = map ≡ insert s.map key content
+Makes s call said map = said ≡ Stored → ⊥
+
 -- what a rule says of the state that it comes from
 abbrev pub Explains : State → Call → Case → Type 0
 Explains s call (Tells said told) = IsNoRefusal said
@@ -29,7 +35,8 @@ Explains s call (Refuses fault) = Reason fault s call
 Explains s call (Declines fault) = (s.usable ≡ true) × Reason fault s call
 Explains s call (Finds found) = (s.usable ≡ true) × IsNoRefusal found
 Explains s call (Passes left) = s.usable ≡ true
-Explains s call (Changes said map) = MayChange s × (is_changing call ≡ true) × IsNoRefusal said
+Explains s call (Changes said map) =
+    MayChange s × (is_changing call ≡ true) × IsNoRefusal said × Makes s call said map
 
 -- a new key, by whether there are as many pairs as the limit allows
 new_explains : (s : State) (key content : List ℕ) (mode : Mode) → MayChange s → get s.map key ≡ None
@@ -41,21 +48,21 @@ new_explains s key content mode may absent =
     → Explains s (Store key content mode)
     (cond b (Declines Full) (Changes Stored (insert s.map key content)))) [
       | true ↦ λ full. (may.usable, (may, (absent, leb-true s.limit (len s.map) full)))
-      | false ↦ λ room. (may, refl, tt)
+      | false ↦ λ room. (may, refl, tt, refl)
     ] refl
 
 stored_explains : (s : State) (key content : List ℕ) (mode : Mode) (old : Option (List ℕ))
     → MayChange s → get s.map key ≡ old
     → Explains s (Store key content mode) (stored s key content mode old)
 stored_explains s key content Insert (Some old) may has = (may.usable, tt)
-stored_explains s key content Replace (Some old) may has = (may, refl, tt)
+stored_explains s key content Replace (Some old) may has = (may, refl, tt, refl)
 stored_explains s key content Insert None may has = new_explains s key content Insert may has
 stored_explains s key content Replace None may has = new_explains s key content Replace may has
 
 deleted_explains : (s : State) (key : Key) (old : Option (List ℕ)) → MayChange s
     → Explains s (Delete key) (deleted s key old)
 deleted_explains s key None may = (may.usable, tt)
-deleted_explains s key (Some content) may = (may, refl, tt)
+deleted_explains s key (Some content) may = (may, refl, tt, λ is. absurd (let x = is in cc))
 
 fetched_explains : (s : State) (key : Key) (old : Option (List ℕ)) → s.usable ≡ true
     → Explains s (Fetch key) (fetched old)
@@ -179,6 +186,29 @@ due_as : (before after : Handle) (call : Call) (fault other : Fault) → Refused
 due_as before after call fault other is due =
     subst (λ f. IsDue f before call after) (same_fault fault other is) due
 
+at_most_one : (map : Contents) (key content : List ℕ) (there : Bool)
+    → len (insert map key content) ≡ cond there (len map) (len map + 1)
+    → len (insert map key content) ≤ len map + 1
+at_most_one map key content true is = omega (arith, is)
+at_most_one map key content false is = omega (arith, is)
+
+-- a store that opens a bucket
+one_more : (h : Handle) (call : Call) (said : Reply) (map : Contents) → Makes h.state call said map
+    → said ≡ Stored → OpensBucket h map → IsOneBucketMore h call
+one_more h (Store key content mode) said map is stored opens =
+    omega (
+      arith,
+      subst (OpensBucket h) is opens,
+      at_most_one h.state.map key content (is_some (get h.state.map key))
+          (len-insert nat_list_cmp_total h.state.map key content),
+    )
+one_more h (Fetch key) said map other stored opens = absurd (other stored)
+one_more h (Delete key) said map other stored opens = absurd (other stored)
+one_more h First said map other stored opens = absurd (other stored)
+one_more h Next said map other stored opens = absurd (other stored)
+one_more h Error said map other stored opens = absurd (other stored)
+one_more h Clear said map other stored opens = absurd (other stored)
+
 due_suffered : (before after : Handle) (call : Call) (c : Case) (fault : Fault)
     → Explains before.state call c → Suffers before c (Refused fault) after
     → IsDue fault before call after
@@ -195,7 +225,8 @@ due_suffered before after call (Changes said map) fault why (inl fails) =
 due_suffered before after call (Changes said map) fault why (inr (inl breaks)) =
     due_as before after call fault Device breaks.0 (why.0.usable, breaks.1)
 due_suffered before after call (Changes said map) fault why (inr (inr (inl memory))) =
-    due_as before after call fault Memory memory.0 (why.0, why.1)
+    due_as before after call fault Memory memory.0
+    (why.0, one_more before call said map why.3 memory.2 memory.3)
 due_suffered before after call (Changes said map) fault why (inr (inr (inr room))) =
     due_as before after call fault NoRoom room.0 (why.0, why.1, room.1)
 

@@ -10,49 +10,70 @@ use Rattle.std.specs.FinSet as set
 use Rattle.dbm_model.specs.Calls.{Mode, Insert, Replace, Call, Store, Fetch, First, Next, End, Refused, Reply, Stored, Kept, Deleted, Absent, Bytes, NoRecord, Number, Fault, NoPass, Full, TooLong}
 use Rattle.dbm_model.specs.Pairs.{Contents, Key, key_cmp}
 use Rattle.dbm_model.specs.States.{State, Keys, Handle, fresh}
-use Rattle.dbm_model.specs.Steps.{Case, Tells, Refuses, Declines, Finds, Passes, Changes, fetched, deleted, stored, case_of, Answers, Suffers, Step, Run}
+use Rattle.dbm_model.specs.Steps.{Case, Tells, Refuses, Declines, Finds, Passes, Changes, fetched, deleted, stored, case_of, Answers, Suffers, Step, Run, buckets_opened}
 use Rattle.dbm_model.specs.Examples.{StopsAtLimit, StoresAndDeletes, PassesOverNothing, PassesOn, EndsPass, MayAnswer, WrongReplies, new_database, one}
+
+-- the handle after a call that nothing stops
+abbrev with_state : Handle → Reply → State → Handle
+with_state h reply after = record h {
+  state = after;
+  buckets = h.buckets + buckets_opened h reply (len after.map);
+}
 
 -- a first call that nothing stops
 calm : (h last : Handle) (call : Call) (calls : List Call) (c : Case) (reply : Reply)
     (replies : List Reply) (after : State)
     → case_of h.state call ≡ c → Answers h.state c reply after
-    → Run (record h { state = after }) calls replies last
+    → Run (with_state h reply after) calls replies last
     → Run h (call ∷ calls) (reply ∷ replies) last
 calm h last call calls c reply replies after falls answers rest = (
-  record h { state = after },
+  with_state h reply after,
   record {
     counts = omega arith;
     capacity = refl;
     pages =
         (omega arith, omega arith);
+    buckets = refl;
     answers =
         inl (subst (λ (d : Case). Answers h.state d reply after) (sym falls) answers);
   },
   rest,
 )
 
--- from a state, the calls may get these replies
+-- a handle at the state, with so many buckets
+abbrev with_buckets : State → ℕ → Handle
+with_buckets s buckets = record {
+  state = s;
+  faults = 0;
+  pages = 4;
+  capacity = 8;
+  buckets = buckets;
+}
+
+-- from a state, the calls may get these replies, however many buckets there are
 record IsRunFrom (s : State) (calls : List Call) (replies : List Reply) : Type 0 where
-  pub last : Handle
-  pub run : Run (record { state = s; faults = 0; pages = 4; capacity = 8 }) calls replies last
+  pub last : ℕ → Handle
+  pub run : (buckets : ℕ) → Run (with_buckets s buckets) calls replies (last buckets)
 
 goes : (s : State) {call : Call} {calls : List Call} {reply : Reply} {replies : List Reply}
     (c : Case) (after : State)
     → case_of s call ≡ c → Answers s c reply after → IsRunFrom after calls replies
     → IsRunFrom s (call ∷ calls) (reply ∷ replies)
 goes s {call} {calls} {reply} {replies} c after falls answers rest = record {
-  last = rest.last;
-  run = calm (record { state = s; faults = 0; pages = 4; capacity = 8 }) rest.last call calls c
-      reply replies after falls answers rest.run;
+  last = λ buckets.
+      rest.last (buckets + buckets_opened (with_buckets s buckets) reply (len after.map));
+  run = λ buckets.
+      let then_are = buckets + buckets_opened (with_buckets s buckets) reply (len after.map) in
+      calm (with_buckets s buckets) (rest.last then_are) call calls c
+      reply replies after falls answers (rest.run then_are);
 }
 
 done : (s : State) → IsRunFrom s [] []
-done s = record { last = record { state = s; faults = 0; pages = 4; capacity = 8 }; run = refl }
+done s = record { last = with_buckets s; run = λ buckets. refl }
 
 may : (limit : ℕ) {calls : List Call} {replies : List Reply}
     → IsRunFrom (fresh empty limit true) calls replies → MayAnswer limit calls replies
-may limit g = record { after = g.last; run = g.run }
+may limit g = record { after = g.last 1; run = g.run 1 }
 
 abbrev all_of : Contents → Keys
 all_of map = set.from_list (keys map)
@@ -96,7 +117,7 @@ has_it : (content : List ℕ) → IsTrue (set.contains (all_of (only content)) (
 has_it content = all_keys (only content) (one 0x61) ∙ ap is_some (is_only content (one 0x61))
 
 -- a map of one pair has one key
-one_more : (key content : List ℕ) → len (insert (empty {X = List ℕ} {R = key_cmp}) key content) ≡ 1
+pub one_more : (key content : List ℕ) → len (insert (empty {X = List ℕ} {R = key_cmp}) key content) ≡ 1
 one_more key content = len-insert order empty key content
     ∙ ap (λ (old : Option (List ℕ)).
     cond (is_some old) (len (empty {X = List ℕ} {R = key_cmp}))

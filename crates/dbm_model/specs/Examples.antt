@@ -7,7 +7,13 @@ use Rattle.dbm_model.specs.Steps.{Run}
 
 -- a new database of that limit over a device that has not failed
 abbrev pub new_database : ℕ → Handle
-new_database limit = record { state = fresh empty limit true; faults = 0; pages = 4; capacity = 8 }
+new_database limit = record {
+  state = fresh empty limit true;
+  faults = 0;
+  pages = 4;
+  capacity = 8;
+  buckets = 1;
+}
 
 -- a new database may answer the calls so
 pub record MayAnswer (limit : ℕ) (calls : List Call) (replies : List Reply) : Type 0 where

@@ -1,5 +1,5 @@
 -- Why a call is refused, and what has to be refused, told from the handle and the reply.
-use Rattle.std.specs.Prelude.{◌≡◌, ◌⊎◌, ◌+◌, ◌<◌, ◌≤◌, ℕ, List, length, true, false, Some, None}
+use Rattle.std.specs.Prelude.{◌≡◌, ◌⊎◌, ◌+◌, ◌*◌, ◌<◌, ◌≤◌, ℕ, List, length, true, false, Some, None}
 use Rattle.std.specs.FinMap.{get, len}
 use Rattle.dbm_model.specs.Calls.{Call, Store, Delete, Next, Error, Clear, Mode, Insert, Reply, Kept, Absent, Number, Refused, Fault, Memory, Device, Broken, ReadOnly, TooLong, Full, NoPass, NoRoom, is_changing}
 use Rattle.dbm_model.specs.FaultCount.{MoreFaults}
@@ -22,6 +22,11 @@ abbrev pub IsOneTooMany : Contents → ℕ → Call → Type 0
 IsOneTooMany map limit (Store key content mode) = (get map key ≡ None) × (limit ≤ len map)
 IsOneTooMany map limit call = ⊥
 
+-- a store where there are eight pairs to a bucket
+abbrev pub IsOneBucketMore : Handle → Call → Type 0
+IsOneBucketMore h (Store key content mode) = 8 * h.buckets ≤ len h.state.map
+IsOneBucketMore h call = ⊥
+
 -- what a refusal by this fault says of the handle and the call
 abbrev pub IsDue : Fault → Handle → Call → Handle → Type 0
 IsDue Broken before call after = before.state.usable ≡ false
@@ -34,7 +39,7 @@ IsDue NoPass before call after =
     (before.state.usable ≡ true) × (call ≡ Next) × (before.state.pass ≡ None)
 IsDue Device before call after =
     (before.state.usable ≡ true) × MoreFaults before.faults after.faults
-IsDue Memory before call after = MayChange before.state × (is_changing call ≡ true)
+IsDue Memory before call after = MayChange before.state × IsOneBucketMore before call
 IsDue NoRoom before call after = MayChange before.state × (is_changing call ≡ true) × IsShort before
 IsDue fault before call after = ⊥
 

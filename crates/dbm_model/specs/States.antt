@@ -54,3 +54,5 @@ pub record Handle : Type 0 where
   -- how many pages the file has, and how many there is room for
   pub pages : ℕ
   pub capacity : ℕ
+  -- how many buckets its table has
+  pub buckets : ℕ

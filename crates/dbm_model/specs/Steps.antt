@@ -1,5 +1,5 @@
 -- What each call replies, and the state after it.
-use Rattle.std.specs.Prelude.{◌≡◌, ◌⊎◌, ℕ, ◌+◌, ◌*◌, ◌<◌, ◌≤◌, false, not, nat_le, IsTrue, if◌then◌else◌, List, [], ◌∷◌, length, Option, Some, None}
+use Rattle.std.specs.Prelude.{◌≡◌, ◌⊎◌, ℕ, ◌+◌, ◌*◌, ◌<◌, ◌≤◌, false, not, nat_le, nat_lt, IsTrue, if◌then◌else◌, List, [], ◌∷◌, length, Option, Some, None}
 use Rattle.std.specs.FinMap.{get, insert, remove, len, keys}
 use Rattle.std.specs.FinSet as set
 use Rattle.dbm_model.specs.Calls.{Mode, Insert, Replace, Call, Store, Fetch, Delete, First, Next, Error, Clear, Reply, Stored, Kept, Deleted, Absent, Bytes, NoRecord, End, Number, Refused, Fault, Memory, Device, Broken, ReadOnly, TooLong, Full, NoPass, NoRoom}
@@ -84,16 +84,22 @@ abbrev pub Fails : Handle → Reply → Handle → Type 0
 Fails h reply after = (reply ≡ Refused Device) × MoreFaults h.faults after.faults × (after.state ≡ flagged Device h.state)
 
 -- a fault of the device in the midst of a change: the file stands for the old map or for the new
--- one until it is opened again
+-- one until it is buckets_opened again
 abbrev pub Breaks : Handle → Contents → Reply → Handle → Type 0
 Breaks h map reply after =
     (reply ≡ Refused Device) × MoreFaults h.faults after.faults
     × (left : Contents) × ((left ≡ h.state.map) ⊎ (left ≡ map))
     × (after.state ≡ record (flagged Device h.state) { map = left; usable = false })
 
--- no memory for a change
-abbrev pub LacksMemory : Handle → Reply → Handle → Type 0
-LacksMemory h reply after = (reply ≡ Refused Memory) × (after.state ≡ flagged Memory h.state)
+-- there would be more than eight pairs to a bucket, so one more is buckets_opened
+abbrev pub OpensBucket : Handle → Contents → Type 0
+OpensBucket h map = 8 * h.buckets < len map
+
+-- no memory for a store that opens a bucket; no other change takes any
+abbrev pub LacksMemory : Handle → Reply → Contents → Reply → Handle → Type 0
+LacksMemory h said map reply after =
+    (reply ≡ Refused Memory) × (after.state ≡ flagged Memory h.state)
+    × (said ≡ Stored) × OpensBucket h map
 
 -- there may be no room for a change: for as many pages more as the map has pairs, and four, with
 -- all of them twice
@@ -113,7 +119,7 @@ Suffers h (Finds found) reply after = Fails h reply after
 Suffers h (Passes left) reply after = Fails h reply after
 Suffers h (Changes said map) reply after =
     Fails h reply after ⊎ (Breaks h map reply after
-    ⊎ (LacksMemory h reply after ⊎ LacksRoom h reply after))
+    ⊎ (LacksMemory h said map reply after ⊎ LacksRoom h reply after))
 
 -- how many pages a call adds to the file at most: a store that is acknowledged those of a split,
 -- any other none
@@ -121,11 +127,17 @@ abbrev pub growth : Handle → Reply → ℕ
 growth h Stored = len h.state.map + 4
 growth h reply = 0
 
+-- how many buckets it opens, where there are then so many pairs
+abbrev pub buckets_opened : Handle → Reply → ℕ → ℕ
+buckets_opened h Stored pairs = if nat_lt (8 * h.buckets) pairs then 1 else 0
+buckets_opened h reply pairs = 0
+
 -- from one handle, the call may get this reply and leave the other
 pub record Step (before : Handle) (call : Call) (reply : Reply) (after : Handle) : Type 0 where
   pub counts : before.faults ≤ after.faults
   pub capacity : after.capacity ≡ before.capacity
   pub pages : (before.pages ≤ after.pages) × (after.pages ≤ before.pages + growth before reply)
+  pub buckets : after.buckets ≡ before.buckets + buckets_opened before reply (len after.state.map)
   pub answers : Answers before.state (case_of before.state call) reply after.state
       ⊎ Suffers before (case_of before.state call) reply after
 

@@ -1,5 +1,13 @@
 // What the program may be asked to do.
 
+/// What the words ask for.
+#[derive(Clone, Copy, Debug, PartialEq, Eq)]
+pub struct Request<'a> {
+    pub plan: Plan<'a>,
+    /// Whether the system's own words are to be told of a fault of the device.
+    pub verbose: bool,
+}
+
 /// What the words ask for. Each `file` is a name without `.db`, and each `key` and `content` is the
 /// word as it was given: what it spells is left to the caller.
 #[derive(Clone, Copy, Debug, PartialEq, Eq)]

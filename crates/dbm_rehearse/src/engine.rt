@@ -13,6 +13,7 @@ use crate::report::{Rehearsed, write_counts};
 use crate::stopping::{Rehearsal, pairs_before, unstopped};
 use dbm_fault::EngineFault;
 use dbm_file::Call;
+use dbm_progress::Progress;
 use sect_dev::MemDev;
 use std::alloc::Global;
 use std::io::{BufRead, Write};
@@ -24,14 +25,16 @@ use std::io::{BufRead, Write};
 /// its reopening is stopped once more. A line may have 8,192 bytes without its line feed, and a text
 /// 4,294,967,295. `Memory` comes where a growth is refused, `Read` where reading fails or the text
 /// is too long, `Write` where writing fails, and `Db` where the database can't be opened or read
-/// that is on the device. Nothing is flushed.
-pub fn rehearse_script<R: BufRead, W: Write>(
+/// that is on the device. Nothing is flushed. Each stop that was made is a step of `progress`,
+/// which is cleared before the counts are written.
+pub fn rehearse_script<R: BufRead, W: Write, P: Progress>(
     alloc: Global,
     dev: &MemDev,
     limit: Option<u32>,
     stops: Option<u32>,
     reader: &mut R,
     writer: &mut W,
+    progress: &mut P,
 ) -> Result<Rehearsed, EngineFault>
     // Each bad line is answered, and then the counts are told.
     ensures printed { IfOk result (λ counts. IfSome (R.remaining reader.old)
@@ -49,18 +52,21 @@ pub fn rehearse_script<R: BufRead, W: Write>(
     ensures only { IsErrAmong result rehearsal_faults }
 {
     let calls = read_calls(alloc, reader, writer)?;
-    let counts = rehearse_calls(alloc, dev, limit, stops, calls.as_slice())?;
+    let counted = rehearse_calls(alloc, dev, limit, stops, calls.as_slice(), progress);
+    progress.clear();
+    let counts = counted?;
     write_counts(writer, &counts).map_err(|_| EngineFault::Write)?;
     Ok(counts)
 }
 
 // Rehearses some calls.
-fn rehearse_calls(
+fn rehearse_calls<P: Progress>(
     alloc: Global,
     dev: &MemDev,
     limit: Option<u32>,
     stops: Option<u32>,
     calls: &[Call],
+    progress: &mut P,
 ) -> Result<Rehearsed, EngineFault>
     ensures counted { IfOk result AreCounted }
     ensures sizes { IfOk result (λ counts. (counts.calls ≡ length calls.now)
@@ -80,6 +86,6 @@ fn rehearse_calls(
         before,
     };
     rehearsal
-        .make_stops(device_calls, stops)
+        .make_stops(device_calls, stops, progress)
         .map_err(|_| EngineFault::Memory)
 }

@@ -10,7 +10,8 @@ use crate::counting::Counting;
 use crate::finding::{open_device, pairs_in, told};
 use crate::report::{Outcome, Rehearsed};
 use dbm_fault::EngineFault;
-use dbm_file::{Call, Reply};
+use dbm_file::{Call, Fault, Reply};
+use dbm_progress::{Progress, Work};
 use rehearsal::{Ending, Opening, session};
 use sect_dev::{Fuse, MemDev};
 use std::alloc::{AllocError, Global};
@@ -36,7 +37,12 @@ pub struct Rehearsal<'a> {
 
 impl<'a> Rehearsal<'a> {
     /// Stops the session before each of its device calls, or before so many of them, evenly spread.
-    pub fn make_stops(&self, device_calls: u64, most: Option<u32>) -> Result<Rehearsed, AllocError>
+    pub fn make_stops<P: Progress>(
+        &self,
+        device_calls: u64,
+        most: Option<u32>,
+        progress: &mut P,
+    ) -> Result<Rehearsed, AllocError>
         ensures counted { IfOk result AreCounted }
         ensures sizes { IfOk result (λ counts. (counts.calls ≡ length self.now.calls.now)
             × (counts.device_calls ≡ device_calls)
@@ -47,6 +53,7 @@ impl<'a> Rehearsal<'a> {
         for i in 0..stops {
             let stop = spread(i, stops, device_calls);
             counts.add(stop, self.outcome_at(stop)?);
+            progress.step(Work::StopsMade);
         }
         Ok(counts)
     }
@@ -115,7 +122,12 @@ pub fn unstopped(
     };
     let (_, ending, made) = cut_session(alloc, copy, u64::MAX, limit, calls);
     match ending {
-        Ending::Rested(replies) => Ok((replies, made)),
+        Ending::Rested(replies) => {
+            if lacked_memory(replies.as_slice()) {
+                return Err(EngineFault::Memory);
+            }
+            Ok((replies, made))
+        }
         Ending::NotOpened(fault) => Err(told(fault)),
         Ending::NoMemory | Ending::Broke(_) => Err(EngineFault::Memory),
     }
@@ -160,11 +172,23 @@ fn left_with(alloc: Global, dev: &MemDev, choice: Choice, seed: u64) -> Result<M
 
 // The replies that were given before the stop.
 fn replies_of(ending: &Ending) -> Result<&[Reply], AllocError> {
-    match ending {
-        Ending::Rested(replies) | Ending::Broke(replies) => Ok(replies.as_slice()),
-        Ending::NotOpened(_) => Ok(&[]),
-        Ending::NoMemory => Err(AllocError),
+    let replies: &[Reply] = match ending {
+        Ending::Rested(replies) | Ending::Broke(replies) => replies.as_slice(),
+        Ending::NotOpened(_) => &[],
+        Ending::NoMemory => return Err(AllocError),
+    };
+    if lacked_memory(replies) {
+        return Err(AllocError);
     }
+    Ok(replies)
+}
+
+// Whether a call was refused for want of memory. The session then made other changes than the one
+// that it is compared with.
+fn lacked_memory(replies: &[Reply]) -> bool {
+    replies
+        .iter()
+        .any(|reply| matches!(reply, Reply::Refused(Fault::Memory)))
 }
 
 // Stop i of so many that are spread over the device calls. Where there are above 2^32 of these, the

@@ -89,7 +89,7 @@ store_in_doubt = record {
       stopped_store,
       (
         pair 9 ∷ [],
-        fetches only (Bytes (one 0x01)) pair_in_doubt (ap fetched has_pair),
+        fetches only (Bytes (one 0x01)) pair_in_doubt refl (ap fetched has_pair),
         refl,
       ),
     );
@@ -102,7 +102,7 @@ store_in_doubt = record {
       stopped_store,
       (
         nothing 9 ∷ [],
-        fetches empty NoRecord nothing_in_doubt (ap fetched (get-empty key_cmp (one 0x61))),
+        fetches empty NoRecord nothing_in_doubt refl (ap fetched (get-empty key_cmp (one 0x61))),
         refl,
       ),
     );

@@ -1,13 +1,13 @@
 -- Small sessions: handles, a store that was stored, stopped or broken, and what a fetch tells.
-use Rattle.std.proofs.Common.{◌≡◌, ◌⊎◌, inl, inr, ℕ, true, false, List, [], ◌∷◌, ◌++◌, Option, Some, None, refl, sym, ◌∙◌, ap, subst, arith, Contains}
-use Rattle.std.specs.FinMap.{empty, get, insert, get-empty, get-insert}
+use Rattle.std.proofs.Common.{◌≡◌, ◌⊎◌, inl, inr, ℕ, ◌+◌, true, false, List, [], ◌∷◌, ◌++◌, Option, Some, None, refl, sym, ◌∙◌, ap, subst, arith, Contains}
+use Rattle.std.specs.FinMap.{empty, get, insert, len, get-empty, get-insert}
 use Rattle.std.specs.Cmp.Lexicographic.{nat_list_cmp_total}
 use Rattle.dbm_model.specs.Calls.{Call, Reply, Stored, Refused, Device}
 use Rattle.dbm_model.specs.Examples.{one}
 use Rattle.dbm_model.specs.Pairs.{Contents, key_cmp}
 use Rattle.dbm_model.specs.States.{State, Handle, fresh, flagged}
-use Rattle.dbm_model.specs.Steps.{Case, Finds, Changes, fetched, case_of, Answers, Suffers, Step, Run}
-use Rattle.dbm_model.proofs.RunLemmas.{adds, none_yet}
+use Rattle.dbm_model.specs.Steps.{Case, Finds, Changes, fetched, case_of, Answers, Suffers, Step, Run, buckets_opened}
+use Rattle.dbm_model.proofs.RunLemmas.{adds, none_yet, one_more}
 use Rattle.dbm_model.proofs.RuleLemmas.{ByCase, falls}
 use Rattle.dbm_sessions.specs.Members.{Member, NoDatabase, Holding, Members, held, Opening, opened}
 use Rattle.dbm_sessions.specs.Sessions.{Rested, StoppedCall, Broke, Begins, Rests, left_by, CutShort, SessionStep}
@@ -17,7 +17,7 @@ use Rattle.dbm_sessions.proofs.Lists.{is_first, is_later}
 -- ---- handles
 
 abbrev pub at : State → Handle
-at s = record { state = s; faults = 0; pages = 4; capacity = 8 }
+at s = record { state = s; faults = 0; pages = 4; capacity = 8; buckets = 1 }
 
 abbrev pub start : Contents → Handle
 start map = at (fresh map 9 true)
@@ -25,12 +25,14 @@ start map = at (fresh map 9 true)
 abbrev pub only : Contents
 only = insert empty (one 0x61) (one 0x01)
 
-step : (s after : State) (call : Call) (c : Case) (reply : Reply) → case_of s call ≡ c
+step : (s after : State) (call : Call) (c : Case) (reply : Reply)
+    → buckets_opened (at s) reply (len after.map) ≡ 0 → case_of s call ≡ c
     → Answers s c reply after → Step (at s) call reply (at after)
-step s after call c reply rule answers = record {
+step s after call c reply none rule answers = record {
   counts = omega arith;
   capacity = refl;
   pages = (omega arith, omega arith);
+  buckets = ap (λ more. 1 + more) (sym none);
   answers = inl (subst (λ (d : Case). Answers s d reply after) (sym rule) answers);
 }
 
@@ -38,9 +40,13 @@ store_rule : case_of (fresh empty 9 true) store ≡ Changes Stored only
 store_rule = adds 9 empty None None (one 0x61) (one 0x01) refl (get-empty key_cmp (one 0x61))
     (none_yet 9 (omega arith))
 
+-- one pair is no reason for another bucket
+one_bucket : buckets_opened (start empty) Stored (len only) ≡ 0
+one_bucket = ap (buckets_opened (start empty) Stored) (one_more (one 0x61) (one 0x01))
+
 pub is_stored : Step (start empty) store Stored (start only)
 is_stored = step (fresh empty 9 true) (fresh only 9 true) store (Changes Stored only) Stored
-    store_rule (refl, refl)
+    one_bucket store_rule (refl, refl)
 
 pub has_pair : get only (one 0x61) ≡ Some (one 0x01)
 has_pair = get-insert nat_list_cmp_total empty (one 0x61) (one 0x01) (one 0x61)
@@ -117,14 +123,14 @@ stopped_store = (
 )
 
 pub fetches : (map : Contents) (reply : Reply) → Contains doubt (Holding map 9)
-    → case_of (fresh map 9 true) fetch ≡ Finds reply
+    → buckets_opened (start map) reply (len map) ≡ 0 → case_of (fresh map 9 true) fetch ≡ Finds reply
     → SessionStep doubt (reopens (fetch ∷ [])) (Rested (reply ∷ [])) (Holding map 9 ∷ [])
-fetches map reply among rule = (
+fetches map reply among none rule = (
   start map,
   begins doubt (reopens []).how (Holding map 9) map 9 among refl,
   all_answered (start map) (start map) (fetch ∷ []) (reply ∷ []) refl (
     start map,
-    step (fresh map 9 true) (fresh map 9 true) fetch (Finds reply) reply rule
+    step (fresh map 9 true) (fresh map 9 true) fetch (Finds reply) reply none rule
         (refl, refl),
     refl,
   ) refl,
@@ -137,6 +143,7 @@ broken_store = record {
   faults = 1;
   pages = 4;
   capacity = 8;
+  buckets = 1;
 }
 
 breaks_store : Step (start empty) store (Refused Device) broken_store
@@ -145,6 +152,7 @@ breaks_store = record {
   counts = omega arith;
   capacity = refl;
   pages = (omega arith, omega arith);
+  buckets = refl;
   answers = inr (subst
       (λ (d : Case). Suffers (start empty) d (Refused Device) broken_store) (sym store_rule)
       (inr (inl (refl, omega arith, empty, inl refl, refl))));

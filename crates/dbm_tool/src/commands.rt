@@ -5,28 +5,29 @@ ghost use Rattle.dbm_script.specs.Scripts.{AnswersInMemory};
 ghost use Rattle.dbm_tool.specs.Endings.{EndsAs, prints, reads};
 ghost use Rattle.dbm_tool.specs.Plans.{Does, Loses};
 
+use crate::host::Host;
 use crate::rehearsals::{rehearse_file, rehearse_new};
 use crate::{
     EngineFault, dump_engine, dump_text_engine, list_engine, load_engine, load_text_engine,
     script_engine,
 };
-use dbm_commands::{Failure, Outcome, bytes_of, closed, flushed};
-use dbm_file::{Access, Db, Fault, OpenHow, StoreMode, dbm_open};
+use dbm_commands::{Failure, Outcome, bytes_of, flushed};
+use dbm_file::{Access, OpenHow, StoreMode};
 use dbm_plan::{FAULT_TABLE, Plan, Source, Spelling};
+use dbm_progress::Progress;
 use dbm_script::script_in_memory;
-use sect_dev::FileDev;
 use std::alloc::Global;
 use std::fs::File;
 use std::io::{self, BufRead, Write};
 use std::rt::Files;
 
 /// Carries out a plan.
-pub fn carry_out<T: Files<File = File>, R: BufRead, O: Write>(
-    rt: &T,
-    alloc: Global,
+pub fn carry_out<T: Files<File = File>, R: BufRead, O: Write, P: Progress>(
+    host: &mut Host<'_, T>,
     plan: Plan,
     input: &mut R,
     output: &mut O,
+    progress: &mut P,
 ) -> Result<Outcome, Failure>
     ensures does { OnOk result (Does plan.entry (R.remaining input.old) (O.contents output.old)
         (O.contents output.new)) }
@@ -41,43 +42,43 @@ pub fn carry_out<T: Files<File = File>, R: BufRead, O: Write>(
         → output.new ≡ output.old }
 {
     match plan {
-        Plan::Create { file, limit } => create(rt, alloc, file, limit),
+        Plan::Create { file, limit } => create(host, file, limit),
         Plan::Store {
             file,
             key,
             content,
             spelling,
-        } => store(rt, alloc, file, key, content, spelling, StoreMode::Replace),
+        } => store(host, file, key, content, spelling, StoreMode::Replace),
         Plan::Insert {
             file,
             key,
             content,
             spelling,
-        } => store(rt, alloc, file, key, content, spelling, StoreMode::Insert),
+        } => store(host, file, key, content, spelling, StoreMode::Insert),
         Plan::Fetch {
             file,
             key,
             spelling,
-        } => fetch(rt, alloc, file, key, spelling, output),
+        } => fetch(host, file, key, spelling, output),
         Plan::Delete {
             file,
             key,
             spelling,
-        } => delete(rt, alloc, file, key, spelling),
-        Plan::List { file } => list(rt, alloc, file, output),
-        Plan::Dump { file, spelling } => dump(rt, alloc, file, spelling, output),
-        Plan::Load { file, spelling } => load(rt, alloc, file, spelling, input),
-        Plan::Stat { file } => stat(rt, alloc, file, output),
-        Plan::Script(Source::File(file)) => script(rt, alloc, file, input, output),
-        Plan::Script(Source::Memory(limit)) => new_script(alloc, limit, input, output),
+        } => delete(host, file, key, spelling),
+        Plan::List { file } => list(host, file, output, progress),
+        Plan::Dump { file, spelling } => dump(host, file, spelling, output, progress),
+        Plan::Load { file, spelling } => load(host, file, spelling, input, progress),
+        Plan::Stat { file } => stat(host, file, output),
+        Plan::Script(Source::File(file)) => script(host, file, input, output),
+        Plan::Script(Source::Memory(limit)) => new_script(host.alloc, limit, input, output),
         Plan::Rehearse {
             source: Source::File(file),
             stops,
-        } => rehearse_file(rt, alloc, file, stops, input, output),
+        } => rehearse_file(host, file, stops, input, output, progress),
         Plan::Rehearse {
             source: Source::Memory(limit),
             stops,
-        } => rehearse_new(alloc, limit, stops, input, output),
+        } => rehearse_new(host.alloc, limit, stops, input, output, progress),
         Plan::Faults => print_faults(output),
     }
 }
@@ -100,26 +101,8 @@ pub fn unwritten(_: io::Error) -> Failure
     Failure::Fault(EngineFault::Write)
 }
 
-/// Opens a database that is there.
-fn open<T: Files<File = File>>(
-    rt: &T,
-    alloc: Global,
-    file: &str,
-    access: Access,
-) -> Result<Db<FileDev>, Fault> {
-    let how = OpenHow {
-        access,
-        create: false,
-        exclusive: false,
-        truncate: false,
-        limit: 0,
-    };
-    dbm_open(rt, alloc, file, how)
-}
-
 fn create<T: Files<File = File>>(
-    rt: &T,
-    alloc: Global,
+    host: &mut Host<'_, T>,
     file: &str,
     limit: u32,
 ) -> Result<Outcome, Failure>
@@ -132,13 +115,12 @@ fn create<T: Files<File = File>>(
         truncate: false,
         limit,
     };
-    let db = dbm_open(rt, alloc, file, how)?;
-    closed(db, Ok(Outcome::Done))
+    let db = host.open(file, how)?;
+    host.close(db, Ok(Outcome::Done))
 }
 
 fn store<T: Files<File = File>>(
-    rt: &T,
-    alloc: Global,
+    host: &mut Host<'_, T>,
     file: &str,
     key: &str,
     content: &str,
@@ -150,31 +132,29 @@ fn store<T: Files<File = File>>(
     ensures inserted { mode ≡ StoreMode.Insert
         → EndsAs (Plan.Insert file.entry key.entry content.entry spelling) result }
 {
-    let key = bytes_of(alloc, key, spelling)?;
-    let content = bytes_of(alloc, content, spelling)?;
-    let mut db = open(rt, alloc, file, Access::ReadWrite)?;
+    let key = bytes_of(host.alloc, key, spelling)?;
+    let content = bytes_of(host.alloc, content, spelling)?;
+    let mut db = host.open_there(file, Access::ReadWrite)?;
     let done = dbm_commands::store(&mut db, &key, &content, mode);
-    closed(db, done)
+    host.close(db, done)
 }
 
 fn delete<T: Files<File = File>>(
-    rt: &T,
-    alloc: Global,
+    host: &mut Host<'_, T>,
     file: &str,
     key: &str,
     spelling: Spelling,
 ) -> Result<Outcome, Failure>
     ensures { EndsAs (Plan.Delete file.entry key.entry spelling) result }
 {
-    let key = bytes_of(alloc, key, spelling)?;
-    let mut db = open(rt, alloc, file, Access::ReadWrite)?;
+    let key = bytes_of(host.alloc, key, spelling)?;
+    let mut db = host.open_there(file, Access::ReadWrite)?;
     let done = dbm_commands::delete(&mut db, &key);
-    closed(db, done)
+    host.close(db, done)
 }
 
 fn fetch<T: Files<File = File>, O: Write>(
-    rt: &T,
-    alloc: Global,
+    host: &mut Host<'_, T>,
     file: &str,
     key: &str,
     spelling: Spelling,
@@ -184,75 +164,74 @@ fn fetch<T: Files<File = File>, O: Write>(
     ensures quiet { (result ≡ Ok Outcome.Nothing) ⊎ (result ≡ Err Failure.NotHex)
         → output.new ≡ output.old }
 {
-    let key = bytes_of(alloc, key, spelling)?;
-    let mut db = open(rt, alloc, file, Access::ReadOnly)?;
+    let key = bytes_of(host.alloc, key, spelling)?;
+    let mut db = host.open_there(file, Access::ReadOnly)?;
     let done = dbm_commands::fetch(&mut db, &key, spelling, output);
-    closed(db, done)
+    host.close(db, done)
 }
 
-fn list<T: Files<File = File>, O: Write>(
-    rt: &T,
-    alloc: Global,
+fn list<T: Files<File = File>, O: Write, P: Progress>(
+    host: &mut Host<'_, T>,
     file: &str,
     output: &mut O,
+    progress: &mut P,
 ) -> Result<Outcome, Failure>
     ensures { EndsAs (Plan.List file.entry) result }
 {
-    let mut db = open(rt, alloc, file, Access::ReadOnly)?;
-    let done = list_engine(alloc, &mut db, output);
-    closed(db, flushed(done, output))
+    let mut db = host.open_there(file, Access::ReadOnly)?;
+    let done = list_engine(host.alloc, &mut db, output, progress);
+    host.close(db, flushed(done, output))
 }
 
-fn dump<T: Files<File = File>, O: Write>(
-    rt: &T,
-    alloc: Global,
+fn dump<T: Files<File = File>, O: Write, P: Progress>(
+    host: &mut Host<'_, T>,
     file: &str,
     spelling: Spelling,
     output: &mut O,
+    progress: &mut P,
 ) -> Result<Outcome, Failure>
     ensures { EndsAs (Plan.Dump file.entry spelling) result }
 {
-    let mut db = open(rt, alloc, file, Access::ReadOnly)?;
+    let mut db = host.open_there(file, Access::ReadOnly)?;
     let done = match spelling {
-        Spelling::Hexadecimal => dump_engine(alloc, &mut db, output),
-        Spelling::Text => dump_text_engine(alloc, &mut db, output),
+        Spelling::Hexadecimal => dump_engine(host.alloc, &mut db, output, progress),
+        Spelling::Text => dump_text_engine(host.alloc, &mut db, output, progress),
     };
-    closed(db, flushed(done, output))
+    host.close(db, flushed(done, output))
 }
 
-fn load<T: Files<File = File>, R: BufRead>(
-    rt: &T,
-    alloc: Global,
+fn load<T: Files<File = File>, R: BufRead, P: Progress>(
+    host: &mut Host<'_, T>,
     file: &str,
     spelling: Spelling,
     input: &mut R,
+    progress: &mut P,
 ) -> Result<Outcome, Failure>
     ensures { EndsAs (Plan.Load file.entry spelling) result }
 {
-    let mut db = open(rt, alloc, file, Access::ReadWrite)?;
+    let mut db = host.open_there(file, Access::ReadWrite)?;
     let loaded = match spelling {
-        Spelling::Hexadecimal => load_engine(alloc, &mut db, input),
-        Spelling::Text => load_text_engine(alloc, &mut db, input),
+        Spelling::Hexadecimal => load_engine(host.alloc, &mut db, input, progress),
+        Spelling::Text => load_text_engine(host.alloc, &mut db, input, progress),
     };
     let done = match loaded {
         Ok(()) => Ok(Outcome::Done),
         Err(fault) => Err(Failure::from(fault)),
     };
-    closed(db, done)
+    host.close(db, done)
 }
 
 fn script<T: Files<File = File>, R: BufRead, O: Write>(
-    rt: &T,
-    alloc: Global,
+    host: &mut Host<'_, T>,
     file: &str,
     input: &mut R,
     output: &mut O,
 ) -> Result<Outcome, Failure>
     ensures { EndsAs (Plan.Script (Source.File file.entry)) result }
 {
-    let mut db = open(rt, alloc, file, Access::ReadWrite)?;
-    let done = script_engine(alloc, &mut db, input, output);
-    closed(db, flushed(done, output))
+    let mut db = host.open_there(file, Access::ReadWrite)?;
+    let done = script_engine(host.alloc, &mut db, input, output);
+    host.close(db, flushed(done, output))
 }
 
 /// Answers a script by a new database in memory.
@@ -271,14 +250,13 @@ fn new_script<R: BufRead, O: Write>(
 }
 
 fn stat<T: Files<File = File>, O: Write>(
-    rt: &T,
-    alloc: Global,
+    host: &mut Host<'_, T>,
     file: &str,
     output: &mut O,
 ) -> Result<Outcome, Failure>
     ensures { EndsAs (Plan.Stat file.entry) result }
 {
-    let db = open(rt, alloc, file, Access::ReadOnly)?;
+    let db = host.open_there(file, Access::ReadOnly)?;
     let done = dbm_commands::stat(&db, output);
-    closed(db, done)
+    host.close(db, done)
 }

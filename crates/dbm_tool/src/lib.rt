@@ -2,6 +2,7 @@
 #![tactic(auto)]
 
 mod commands;
+mod host;
 mod program;
 mod rehearsals;
 

@@ -1,15 +1,18 @@
 // The program over its words.
-ghost use Rattle.std.specs.Prelude.{◌≡◌, ◌⊎◌, OnErr, OnOk, IfErr, map, true, codes};
+ghost use Rattle.std.specs.Prelude.{◌≡◌, ◌⊎◌, OnErr, OnOk, IfErr, Err, is_some, map, true, codes};
 ghost use Rattle.std.specs.Io.KnownBytes.{Appends};
 ghost use Rattle.dbm_words.specs.CommandLine.{AreTaken};
 ghost use Rattle.dbm_tool.specs.Endings.{looks_for_a_key, prints, reads};
 ghost use Rattle.dbm_tool.specs.Faults.{failure_line, fault_line};
 ghost use Rattle.dbm_tool.specs.Plans.{DoesWords};
-ghost use Rattle.dbm_tool.specs.Statuses.{AreRefused, AskFor, Tells, TellsFault, TellsLoss, TellsMisuse, no_command_line, status_of};
+ghost use Rattle.dbm_tool.specs.Statuses.{AreRefused, AskFor, MoreIsTold, Tells, TellsFault, TellsLoss, TellsMisuse, TellsMore, no_command_line, status_of};
 
 use crate::EngineFault;
 use crate::commands::carry_out;
+use crate::host::Host;
 use dbm_commands::{Failure, Outcome};
+use dbm_file::Fault;
+use dbm_progress::Progress;
 use dbm_words::{WordsError, read_words};
 use std::alloc::Global;
 use std::fs::File;
@@ -44,13 +47,14 @@ pub struct Exit {
 /// that are no plan or no hexadecimal, of which one text goes to `faults`. Faults are looked for in
 /// the words, in the words' hexadecimal digits, in the opening, in the call or the engine with the
 /// last of its output, and in the closing, in this order.
-pub fn tool<T: Files<File = File>, R: BufRead, O: Write, F: Write>(
+pub fn tool<T: Files<File = File>, R: BufRead, O: Write, F: Write, P: Progress>(
     rt: &T,
     alloc: Global,
     words: &[&str],
     input: &mut R,
     output: &mut O,
     faults: &mut F,
+    progress: &mut P,
 ) -> Exit
     ensures status { (result.status ≡ 0)
         ⊎ ((result.status ≡ 1) ⊎ ((result.status ≡ 2) ⊎ (result.status ≡ 3))) }
@@ -80,7 +84,16 @@ pub fn tool<T: Files<File = File>, R: BufRead, O: Write, F: Write>(
     ensures unprinted { (result.status ≡ 1) ⊎ (result.status ≡ 3) → output.new ≡ output.old }
 {
     match read_words(alloc, words) {
-        Ok(plan) => ended(carry_out(rt, alloc, plan, input, output), faults),
+        Ok(request) => {
+            let mut host = Host {
+                rt,
+                alloc,
+                cause: None,
+            };
+            let done = carry_out(&mut host, request.plan, input, output, progress);
+            progress.clear();
+            ended_by(alloc, done, asked(request.verbose, host.cause), faults)
+        }
         Err(WordsError::Memory) => out_of_memory(faults),
         Err(WordsError::Help(text)) => match show(output, WordsError::Help(text)) {
             Ok(()) => ended(Ok(Outcome::Done), faults),
@@ -88,6 +101,56 @@ pub fn tool<T: Files<File = File>, R: BufRead, O: Write, F: Write>(
         },
         Err(error) => refused(error, faults),
     }
+}
+
+/// The system's error, where it is asked for.
+fn asked(verbose: bool, cause: Option<io::Error>) -> Option<io::Error>
+    ensures { is_some result ≡ true → verbose ≡ true }
+{
+    if verbose { cause } else { None }
+}
+
+/// The end of a plan. Behind the line of a fault of the device there is one with its cause, if there
+/// is one.
+fn ended_by<F: Write>(
+    alloc: Global,
+    done: Result<Outcome, Failure>,
+    cause: Option<io::Error>,
+    faults: &mut F,
+) -> Exit
+    ensures status { result.status ≡ status_of done }
+    ensures quiet { OnOk done (faults.new ≡ faults.old) }
+    ensures line { IfErr done (TellsMore (is_some cause) result.told (F.contents faults.old)
+        (F.contents faults.new)) }
+{
+    let exit = ended(done, faults);
+    let Some(error) = cause else {
+        return exit;
+    };
+    if !is_of_device(done) {
+        return exit;
+    }
+    Exit {
+        status: exit.status,
+        told: exit.told && write_cause(alloc, faults, error).is_ok(),
+    }
+}
+
+/// Whether it failed by a fault of the device.
+fn is_of_device(done: Result<Outcome, Failure>) -> bool
+    ensures { result ≡ true → done ≡ Err (Failure.Fault (EngineFault.Db Fault.Device)) }
+{
+    matches!(done, Err(Failure::Fault(EngineFault::Db(Fault::Device))))
+}
+
+/// Writes the system's error in a line, unless there is no memory for its words.
+fn write_cause<F: Write>(alloc: Global, faults: &mut F, error: io::Error) -> io::Result<()>
+    ensures { OnOk result (MoreIsTold (F.contents faults.old) (F.contents faults.new)) }
+{
+    let Ok(words) = format!(in alloc; "{error}") else {
+        return Ok(());
+    };
+    writeln!(faults, "dbmtool: {}", words.as_str())
 }
 
 /// Tells on `faults` that there is no memory, which is fault 1.

@@ -4,9 +4,11 @@ ghost use Rattle.dbm_tool.specs.Endings.{EndsAs, MayEndRehearsal};
 ghost use Rattle.dbm_tool.specs.Plans.{Loses, Rehearses};
 
 use crate::commands::unwritten;
+use crate::host::Host;
 use dbm_commands::{Failure, Outcome};
 use dbm_file::{Fault, needed_sectors};
 use dbm_plan::{Plan, Source};
+use dbm_progress::Progress;
 use dbm_rehearse::{Rehearsed, device_with, rehearse_script};
 use sect_dev::MemDev;
 use std::alloc::Global;
@@ -19,13 +21,13 @@ const FILE_SECTORS: u32 = 9_001_992;
 
 /// Rehearses the script on a copy in memory of a database's file, which is locked (flock) while it
 /// is read, and shared with others that read it.
-pub fn rehearse_file<T: Files<File = File>, R: BufRead, O: Write>(
-    rt: &T,
-    alloc: Global,
+pub fn rehearse_file<T: Files<File = File>, R: BufRead, O: Write, P: Progress>(
+    host: &mut Host<'_, T>,
     file: &str,
     stops: Option<u32>,
     input: &mut R,
     output: &mut O,
+    progress: &mut P,
 ) -> Result<Outcome, Failure>
     ensures does { OnOk result (IfSome (R.remaining input.old) (λ text.
         Rehearses stops None text (O.contents output.old) (O.contents output.new))) }
@@ -33,17 +35,18 @@ pub fn rehearse_file<T: Files<File = File>, R: BufRead, O: Write>(
         failure (R.remaining input.old) (O.contents output.old) (O.contents output.new)) }
     ensures ends { EndsAs (Plan.Rehearse (Source.File file.entry) stops) result }
 {
-    let dev = copy_of(rt, alloc, file)?;
-    rehearse(alloc, &dev, None, stops, input, output)
+    let dev = copy_of(host, file)?;
+    rehearse(host.alloc, &dev, None, stops, input, output, progress)
 }
 
 /// Rehearses the script on a new database in memory.
-pub fn rehearse_new<R: BufRead, O: Write>(
+pub fn rehearse_new<R: BufRead, O: Write, P: Progress>(
     alloc: Global,
     limit: u32,
     stops: Option<u32>,
     input: &mut R,
     output: &mut O,
+    progress: &mut P,
 ) -> Result<Outcome, Failure>
     ensures does { OnOk result (IfSome (R.remaining input.old) (λ text.
         Rehearses stops None text (O.contents output.old) (O.contents output.new))) }
@@ -61,17 +64,19 @@ pub fn rehearse_new<R: BufRead, O: Write>(
         stops,
         input,
         output,
+        progress,
     )
 }
 
 // Rehearses the script on what is on a device.
-fn rehearse<R: BufRead, O: Write>(
+fn rehearse<R: BufRead, O: Write, P: Progress>(
     alloc: Global,
     dev: &MemDev,
     limit: Option<u32>,
     stops: Option<u32>,
     input: &mut R,
     output: &mut O,
+    progress: &mut P,
 ) -> Result<Outcome, Failure>
     ensures does { OnOk result (IfSome (R.remaining input.old) (λ text.
         Rehearses stops None text (O.contents output.old) (O.contents output.new))) }
@@ -79,7 +84,7 @@ fn rehearse<R: BufRead, O: Write>(
         failure (R.remaining input.old) (O.contents output.old) (O.contents output.new)) }
     ensures ends { MayEndRehearsal result }
 {
-    let done = rehearse_script(alloc, dev, limit, stops, input, output);
+    let done = rehearse_script(alloc, dev, limit, stops, input, output, progress);
     let flushed = output.flush();
     let counts = done?;
     flushed.map_err(unwritten)?;
@@ -98,9 +103,16 @@ fn verdict(counts: &Rehearsed) -> Result<Outcome, Failure>
 }
 
 // A copy of a database's file.
-fn copy_of<T: Files<File = File>>(rt: &T, alloc: Global, name: &str) -> Result<MemDev, Fault> {
-    let bytes = content_of(rt, alloc, name).map_err(refusal)?;
-    device_with(alloc, FILE_SECTORS, bytes.as_slice()).map_err(|_| Fault::Memory)
+fn copy_of<T: Files<File = File>>(host: &mut Host<'_, T>, name: &str) -> Result<MemDev, Fault> {
+    match content_of(host.rt, host.alloc, name) {
+        Ok(bytes) => {
+            device_with(host.alloc, FILE_SECTORS, bytes.as_slice()).map_err(|_| Fault::Memory)
+        }
+        Err(error) => {
+            host.cause = Some(error);
+            Err(refusal(error))
+        }
+    }
 }
 
 // The bytes of a database's file.

@@ -1,8 +1,8 @@
 -- The program's command line in the parser's words, and the plan that it gives.
-use Rattle.std.specs.Prelude.{◌≡◌, ℕ, List, [], ◌∷◌, Option, Some, None, Ok, is_some, pos, true, false, codes}
+use Rattle.std.specs.Prelude.{◌≡◌, ℕ, List, [], ◌∷◌, Option, Some, None, Ok, Bool, is_some, pos, true, false, codes}
 use Rattle.std.specs.Str.Parse.{ParsesUnsigned}
 use Rattle.std.specs.declared.num.ParseIntError.{ParseIntError}
-use Rattle.clap.specs.Words.{App, Row, Rule, Shape, Text, first_of, new_app, new_rule, one_of, subcommand_of, takes}
+use Rattle.clap.specs.Words.{App, Row, Rule, Shape, Text, first_of, matches_of, new_app, new_rule, one_of, subcommand_of, takes}
 use Rattle.clap.specs.declared.builder.action.ArgAction.TheVariants.{SetTrue}
 use Rattle.clap.specs.declared.builder.value_parser.ValueParser.TheVariants as parser
 use Rattle.dbm_plan.specs.declared.plan.Plan.{Plan}
@@ -38,6 +38,13 @@ hexadecimal_rule = record (new_rule (codes "hexadecimal")) {
 abbrev pub text_rule : Rule
 text_rule = record (new_rule (codes "text")) {
   long = Some (codes "text");
+  action = Some SetTrue;
+}
+
+-- `--verbose`
+abbrev pub verbose_rule : Rule
+verbose_rule = record (new_rule (codes "verbose")) {
+  long = Some (codes "verbose");
   action = Some SetTrue;
 }
 
@@ -85,9 +92,9 @@ rehearse_line = line (codes "rehearse")
 abbrev pub faults_line : Shape
 faults_line = line (codes "faults") []
 
--- `dbmtool [--version]`, whose name is none of the words that are read
+-- `dbmtool [--verbose] [--version]`, whose name is none of the words that are read
 abbrev pub program_line : Shape
-program_line = record (new_app (codes "dbmtool")).top {
+program_line = record (line (codes "dbmtool") (verbose_rule ∷ [])) {
   has_version = true;
   no_binary_name = true;
   subcommand_required = true;
@@ -182,6 +189,19 @@ Names (Some entered) plan = Asks entered.0 entered.1 plan
 -- what the words enter asks for the plan
 abbrev pub IsPlan : List Text → Plan → Type 0
 IsPlan words plan = Names (subcommand_of command_line words) plan
+
+-- what is entered for a flag
+abbrev pub flag_entry : Bool → Text
+flag_entry true = codes "true"
+flag_entry false = codes "false"
+
+-- `--verbose` was entered, or not
+abbrev pub IsVerbose : List Row → Bool → Type 0
+IsVerbose rows verbose = one_of (codes "verbose") rows ≡ Some (flag_entry verbose)
+
+-- the words enter it, or not
+abbrev pub AreVerbose : List Text → Bool → Type 0
+AreVerbose words verbose = IsVerbose (matches_of command_line words) verbose
 
 -- the parser takes the words: they are no mistake, and don't ask for help
 abbrev pub AreTaken : List Text → Type 0

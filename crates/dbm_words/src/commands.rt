@@ -1,9 +1,10 @@
-// The commands and their options.
+// The commands.
 ghost use Rattle.std.specs.Prelude.{IfOk, codes};
-ghost use Rattle.dbm_words.specs.Building.{Adds, IsApp, IsRule, alone};
-ghost use Rattle.dbm_words.specs.CommandLine.{command_line, create_line, faults_line, file_line, hexadecimal_rule, key_line, number_rule, pair_line, pairs_line, program_line, rehearse_line, script_line, text_rule, word_rule};
+ghost use Rattle.dbm_words.specs.Building.{Adds, IsApp, alone};
+ghost use Rattle.dbm_words.specs.CommandLine.{command_line, create_line, faults_line, file_line, key_line, pair_line, pairs_line, program_line, rehearse_line, script_line};
 
-use clap::{Arg, ArgAction, Command, value_parser};
+use crate::arguments::{hexadecimal, number, text_form, verbose, word};
+use clap::Command;
 use dbm_plan::fault_table;
 use std::alloc::{AllocError, Global};
 
@@ -51,6 +52,8 @@ pub const LIMIT: &str = "limit";
 pub const MEMORY: &str = "memory";
 
 pub const STOPS: &str = "stops";
+
+pub const VERBOSE: &str = "verbose";
 
 const FILE_HELP: &str = "The name of the database, without `.db`";
 
@@ -139,7 +142,8 @@ fn program<'a>(alloc: Global) -> Result<Command<'a>, AllocError>
         .no_binary_name(true)
         .subcommand_required(true)
         .after_help(fault_table())
-        .bin_name(NAME)
+        .bin_name(NAME)?
+        .arg(verbose(alloc))
 }
 
 // A long text stands in a function of its own, since each step of a function's proof repeats the
@@ -364,47 +368,4 @@ fn file_command<'a>(
         .about(about)
         .after_help(after)
         .arg(word(alloc, FILE, "FILE", FILE_HELP))
-}
-
-/// A word that has to be given, in its place.
-fn word<'a>(alloc: Global, id: &'a str, shown: &'a str, help: &'a str) -> Arg<'a>
-    ensures { IsRule result (word_rule id.now) }
-{
-    Arg::new(alloc, id)
-        .value_name(shown)
-        .required(true)
-        .help(help)
-}
-
-/// An option whose value is a `u32`.
-fn number<'a>(alloc: Global, name: &'a str, help: &'a str) -> Arg<'a>
-    ensures { IsRule result (number_rule name.now) }
-{
-    Arg::new(alloc, name)
-        .long(name)
-        .value_name("N")
-        .value_parser(value_parser!(u32))
-        .help(help)
-}
-
-fn hexadecimal<'a>(alloc: Global) -> Arg<'a>
-    ensures { IsRule result hexadecimal_rule }
-{
-    Arg::new(alloc, HEXADECIMAL)
-        .short('x')
-        .action(ArgAction::SetTrue)
-        .help(
-            "The bytes are in hexadecimal, two digits each and `.` for none; so is what is printed",
-        )
-}
-
-fn text_form<'a>(alloc: Global) -> Arg<'a>
-    ensures { IsRule result text_rule }
-{
-    Arg::new(alloc, TEXT)
-        .long(TEXT)
-        .action(ArgAction::SetTrue)
-        .help(
-            "Lines are key and content with a tab between them, and `\\t`, `\\n`, `\\\\`, `\\xHH` for bytes; else two words in hexadecimal",
-        )
 }

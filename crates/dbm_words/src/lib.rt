@@ -1,6 +1,7 @@
 //! The words of the program's command line, read into a plan.
 #![tactic(auto)]
 
+mod arguments;
 mod commands;
 mod options;
 mod words;

@@ -1,19 +1,47 @@
 // The plan that a parse entered.
 ghost use Rattle.std.specs.Prelude.{◌≡◌, ◌⊎◌, IfErr, IfOk, IfSome, MatchOption, None, Some, codes};
 ghost use Rattle.clap.specs.Words.{first_of, found_of, one_of, rows_of, subcommand_rows_of};
-ghost use Rattle.dbm_words.specs.CommandLine.{Asks, IsNumberText, IsOptional, IsSource, IsText, LacksSource, Names, NamesNoSource, flag_text, text_flag};
+ghost use Rattle.dbm_words.specs.CommandLine.{Asks, IsNumberText, IsOptional, IsSource, IsText, IsVerbose, LacksSource, Names, NamesNoSource, flag_text, text_flag};
 ghost use Rattle.dbm_words.specs.Sorting.{IsOfChoice};
 
 use crate::WordsError;
 use crate::commands::{
     CONTENT, CREATE, DELETE, DUMP, FAULTS, FETCH, FILE, HEXADECIMAL, INSERT, KEY, LIMIT, LIST,
-    LOAD, MEMORY, REHEARSE, SCRIPT, STAT, STOPS, STORE, TEXT,
+    LOAD, MEMORY, REHEARSE, SCRIPT, STAT, STOPS, STORE, TEXT, VERBOSE,
 };
 use clap::ArgMatches;
-use dbm_plan::{Plan, Source, Spelling};
+use dbm_plan::{Plan, Request, Source, Spelling};
+
+/// What the words ask for.
+pub fn requested<'a>(matches: &ArgMatches<'a>) -> Result<Request<'a>, WordsError>
+    ensures plan { IfOk result (λ r. Names (subcommand_rows_of matches.now) r.plan) }
+    ensures verbose { IfOk result (λ r. IsVerbose (rows_of (found_of matches.now)) r.verbose) }
+    ensures source { IfErr result (λ e. e ≡ WordsError.ScriptSource
+        → NamesNoSource (codes "script") (subcommand_rows_of matches.now)) }
+    ensures device { IfErr result (λ e. e ≡ WordsError.RehearsalSource
+        → NamesNoSource (codes "rehearse") (subcommand_rows_of matches.now)) }
+    ensures others { IfErr result IsOfChoice }
+{
+    match (chosen(matches), verbose(matches)) {
+        (Ok(plan), Some(verbose)) => Ok(Request { plan, verbose }),
+        (Err(error), _) => Err(error),
+        (Ok(_), None) => Err(WordsError::NoPlan),
+    }
+}
+
+/// Whether the system's own words are to be told.
+fn verbose(options: &ArgMatches<'_>) -> Option<bool>
+    ensures { IfSome result (IsVerbose (rows_of (found_of options.now))) }
+{
+    if options.get_one::<bool>(VERBOSE)? {
+        Some(true)
+    } else {
+        Some(false)
+    }
+}
 
 /// The plan that the words name.
-pub fn chosen<'a>(matches: &ArgMatches<'a>) -> Result<Plan<'a>, WordsError>
+fn chosen<'a>(matches: &ArgMatches<'a>) -> Result<Plan<'a>, WordsError>
     ensures plan { IfOk result (Names (subcommand_rows_of matches.now)) }
     ensures source { IfErr result (λ e. e ≡ WordsError.ScriptSource
         → NamesNoSource (codes "script") (subcommand_rows_of matches.now)) }

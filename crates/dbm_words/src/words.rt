@@ -1,14 +1,14 @@
 // The words after the program's name.
 ghost use Rattle.std.specs.Prelude.{◌≡◌, ◌≢◌, ◌⊎◌, IfErr, IfOk, map, codes};
 ghost use Rattle.clap.specs.Words.{kind_of};
-ghost use Rattle.dbm_words.specs.CommandLine.{AreTaken, IsPlan, IsWithoutSource};
+ghost use Rattle.dbm_words.specs.CommandLine.{AreTaken, AreVerbose, IsPlan, IsWithoutSource};
 ghost use Rattle.dbm_words.specs.Sorting.{IsOfChoice, IsSorted};
 
 use crate::commands::command;
-use crate::options::chosen;
+use crate::options::requested;
 use clap::Error as Refusal;
 use clap::error::ErrorKind;
-use dbm_plan::Plan;
+use dbm_plan::Request;
 use std::alloc::Global;
 use thiserror::Error;
 
@@ -39,8 +39,10 @@ pub enum WordsError {
 /// `Usage` where they are no plan: no command, an unknown one, an option too many or too few, or a
 /// number that is no `u32`. `ScriptSource` where the parser takes the words, and a script has both
 /// of FILE and `--memory` or neither; `RehearsalSource` where a rehearsal does.
-pub fn read_words<'a>(alloc: Global, words: &'a [&'a str]) -> Result<Plan<'a>, WordsError>
-    ensures plan { IfOk result (IsPlan (map (λ word. word.now) words.now)) }
+pub fn read_words<'a>(alloc: Global, words: &'a [&'a str]) -> Result<Request<'a>, WordsError>
+    ensures plan { IfOk result (λ r. IsPlan (map (λ word. word.now) words.now) r.plan) }
+    ensures verbose { IfOk result
+        (λ r. AreVerbose (map (λ word. word.now) words.now) r.verbose) }
     ensures sorted { IfErr result IsSorted }
     ensures source { IfErr result (λ e. e ≡ WordsError.ScriptSource
         → IsWithoutSource (codes "script") (map (λ word. word.now) words.now)) }
@@ -53,7 +55,7 @@ pub fn read_words<'a>(alloc: Global, words: &'a [&'a str]) -> Result<Plan<'a>, W
         return Err(WordsError::Memory);
     };
     match command.try_get_matches_from(words) {
-        Ok(matches) => chosen(&matches),
+        Ok(matches) => requested(&matches),
         Err(refusal) => Err(sorted(refusal)),
     }
 }

@@ -1,9 +1,10 @@
 //! The program: its words and its standard streams.
 #![tactic(auto)]
 
+use dbm_progress::{Terminal, Terminals};
 use dbm_tool::{Exit, not_text, out_of_memory, tool};
 use std::env;
-use std::io::{self, BufReader, BufWriter, ErrorKind, Write};
+use std::io::{self, BufReader, BufWriter, ErrorKind, IsTerminal, Write};
 use std::process::ExitCode;
 
 fn main(rt: HostRuntime) -> ExitCode {
@@ -30,5 +31,23 @@ fn run<F: Write>(rt: &HostRuntime, faults: &mut F) -> io::Result<Exit> {
     }
     let mut input = BufReader::new(alloc, rt.stdin())?;
     let mut output = BufWriter::new(alloc, rt.stdout())?;
-    Ok(tool(rt, alloc, texts.as_slice(), &mut input, &mut output, faults))
+    let mut progress = Terminal::new(rt, rt.stderr(), terminals(rt));
+    Ok(tool(
+        rt,
+        alloc,
+        texts.as_slice(),
+        &mut input,
+        &mut output,
+        faults,
+        &mut progress,
+    ))
+}
+
+/// Which of the standard streams are terminals.
+fn terminals(rt: &HostRuntime) -> Terminals {
+    Terminals {
+        input: rt.stdin().is_terminal(),
+        output: rt.stdout().is_terminal(),
+        error: rt.stderr().is_terminal(),
+    }
 }

@@ -92,7 +92,7 @@ fn a_missing_file_is_made_only_where_asked(rt: HostRuntime) -> Result<(), Fail> 
 fn is_device_fault(rt: &impl Files<File = fs::File>, path: &str) -> bool {
     matches!(
         FileDev::open(rt, path, true, true, 1),
-        Err(FileFault::Device)
+        Err(FileFault::Device(_))
     )
 }
 
@@ -103,5 +103,22 @@ fn what_the_system_refuses_is_a_device_fault(rt: HostRuntime) -> Result<(), Fail
         assert!(rt; is_device_fault(&rt, path), "{path}");
     }
     fs::remove_file(&rt, "plain.dev")?;
+    Ok(())
+}
+
+/// The number of the system's error after a write, if it failed.
+fn error_of_write(dev: &mut FileDev) -> Option<i32> {
+    set_sector(dev, 0, &[1; 512]).err()?;
+    dev.last_error()?.raw_os_error()
+}
+
+#[test]
+fn a_failed_call_keeps_the_systems_error(rt: HostRuntime) -> Result<(), Fail> {
+    fs::write(&rt, "errors.dev", b"".as_slice())?;
+    let mut dev = FileDev::open(&rt, "errors.dev", false, false, 8)?;
+    assert!(rt; dev.last_error().is_none());
+    // EBADF, as the file isn't open for writing.
+    assert!(rt; error_of_write(&mut dev) == Some(9));
+    fs::remove_file(&rt, "errors.dev")?;
     Ok(())
 }

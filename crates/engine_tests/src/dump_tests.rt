@@ -5,6 +5,7 @@ use crate::engines::{self, new_db};
 use crate::streams::FailingWriter;
 use dbm_fault::EngineFault;
 use dbm_file::{Db, Fault};
+use dbm_progress::Silent;
 use sect_dev::MemDev;
 use std::alloc::Global;
 use std::test::Fail;
@@ -38,9 +39,9 @@ fn is_written(
     listed: &[u8],
 ) -> Result<bool, Fail> {
     let mut dump = Vec::new(alloc);
-    engines::dump(alloc, db, &mut dump)?;
+    engines::dump(alloc, db, &mut dump, &mut Silent)?;
     let mut list = Vec::new(alloc);
-    engines::list(alloc, db, &mut list)?;
+    engines::list(alloc, db, &mut list, &mut Silent)?;
     Ok(dump.as_slice() == dumped && list.as_slice() == listed)
 }
 
@@ -48,7 +49,7 @@ fn is_written(
 fn dumps_until(alloc: Global, db: &mut Db<MemDev>, room: usize) -> bool {
     let taken = Vec::new(alloc);
     let mut writer = FailingWriter { taken, room };
-    let done = engines::dump(alloc, db, &mut writer);
+    let done = engines::dump(alloc, db, &mut writer, &mut Silent);
     done == Err(EngineFault::Write) && DUMP.get(..room) == Some(writer.taken.as_slice())
 }
 
@@ -56,7 +57,7 @@ fn dumps_until(alloc: Global, db: &mut Db<MemDev>, room: usize) -> bool {
 fn lists_until(alloc: Global, db: &mut Db<MemDev>, room: usize) -> bool {
     let taken = Vec::new(alloc);
     let mut writer = FailingWriter { taken, room };
-    let done = engines::list(alloc, db, &mut writer);
+    let done = engines::list(alloc, db, &mut writer, &mut Silent);
     done == Err(EngineFault::Write) && LIST.get(..room) == Some(writer.taken.as_slice())
 }
 
@@ -89,8 +90,8 @@ fn a_pass_in_a_circle_is_damaged(rt: HostRuntime) -> Result<(), Fail> {
     let mut db = with_a_circle(rt.alloc())?;
     let mut written: Vec<u8> = Vec::new(rt.alloc());
     let damaged = Err(EngineFault::Db(Fault::Damaged));
-    let dumped = engines::dump(rt.alloc(), &mut db, &mut written);
-    let listed = engines::list(rt.alloc(), &mut db, &mut written);
+    let dumped = engines::dump(rt.alloc(), &mut db, &mut written, &mut Silent);
+    let listed = engines::list(rt.alloc(), &mut db, &mut written, &mut Silent);
     assert!(rt; dumped == damaged && listed == damaged && written.is_empty());
     Ok(())
 }

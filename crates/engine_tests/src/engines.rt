@@ -5,6 +5,7 @@ use dbm_dump::{dump_engine, list_engine};
 use dbm_fault::EngineFault;
 use dbm_file::{Db, Fault};
 use dbm_load::load_engine;
+use dbm_progress::Progress;
 use dbm_script::script_engine;
 use sect_dev::MemDev;
 use std::alloc::Global;
@@ -27,28 +28,31 @@ pub fn script<R: BufRead, W: Write>(
 }
 
 /// Loads the pairs of a text.
-pub fn load<R: BufRead>(
+pub fn load<R: BufRead, P: Progress>(
     alloc: Global,
     db: &mut Db<MemDev>,
     reader: &mut R,
+    progress: &mut P,
 ) -> Result<(), EngineFault> {
-    load_engine(alloc, db, reader)
+    load_engine(alloc, db, reader, progress)
 }
 
 /// Writes the pairs of a database.
-pub fn dump<W: Write>(
+pub fn dump<W: Write, P: Progress>(
     alloc: Global,
     db: &mut Db<MemDev>,
     writer: &mut W,
+    progress: &mut P,
 ) -> Result<(), EngineFault> {
-    dump_engine(alloc, db, writer)
+    dump_engine(alloc, db, writer, progress)
 }
 
 /// Writes the keys of a database.
-pub fn list<W: Write>(
+pub fn list<W: Write, P: Progress>(
     alloc: Global,
     db: &mut Db<MemDev>,
     writer: &mut W,
+    progress: &mut P,
 ) -> Result<(), EngineFault> {
-    list_engine(alloc, db, writer)
+    list_engine(alloc, db, writer, progress)
 }

@@ -10,4 +10,6 @@ mod load_tests;
 #[cfg(test)]
 mod script_tests;
 #[cfg(test)]
+mod step_tests;
+#[cfg(test)]
 mod streams;

@@ -3,6 +3,7 @@
 use crate::engines::{load, new_db};
 use crate::streams::FailingReader;
 use dbm_fault::EngineFault;
+use dbm_progress::Silent;
 use std::alloc::Global;
 use std::io::BufReader;
 use std::test::Fail;
@@ -13,7 +14,7 @@ const TEXT: &[u8] = b"61 01\n62 02\n";
 fn keeps_before(alloc: Global, good: usize) -> Result<bool, Fail> {
     let mut db = new_db(alloc, 100)?;
     let mut input = BufReader::new(alloc, FailingReader { rest: TEXT, good })?;
-    let done = load(alloc, &mut db, &mut input);
+    let done = load(alloc, &mut db, &mut input, &mut Silent);
     Ok(
         done == Err(EngineFault::Read)
             && db.fetch(b"a")?.is_some() == (good >= 6)

@@ -80,6 +80,13 @@ never_damaged (inl (inr (inl e))) = absurd cc
 never_damaged (inl (inr (inr e))) = absurd cc
 never_damaged (inr e) = absurd cc
 
+-- nor Memory
+pub never_memory : IsRefusal Memory ⊎ (Memory ≡ Device) → ⊥
+never_memory (inl (inl e)) = absurd cc
+never_memory (inl (inr (inl e))) = absurd cc
+never_memory (inl (inr (inr e))) = absurd cc
+never_memory (inr e) = absurd cc
+
 -- a change that is done leaves the file with the end that was staged
 pub grows_to : (at : ℕ → Body) (m : Meta) (q : Placement) (old mid new : StoreState) (most : ℕ)
     (A : PageFault → Type 0) (r : Result ℕ PageFault) (result : Result Unit PageFault)

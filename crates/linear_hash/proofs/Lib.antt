@@ -16,3 +16,4 @@ pub mod SplitLemmas
 pub mod Stagings
 pub mod StoredPairs
 pub mod Tables
+pub mod Written

@@ -1,9 +1,10 @@
 -- A placement midway in a change: one key deleted, one pair put.
-use Rattle.std.proofs.Common.{◌≡◌, ℕ, ◌<◌, ◌≤◌, false, List, [], ◌∷◌, cond, length, set, get_or, length-set, get_or-set_same, Option, Some, None, is_some, refl, sym, ap, subst, ◌∙◌, arith}
+use Rattle.std.proofs.Common.{◌≡◌, ℕ, ◌+◌, ◌<◌, ◌≤◌, true, false, List, [], ◌∷◌, cond, length, set, get_or, length-set, get_or-set_same, Option, Some, None, is_some, refl, sym, ap, subst, ◌∙◌, arith}
 use Rattle.std.specs.Prelude.{All}
 use Rattle.std.specs.FinMap.{get, get-from_entries}
 use Rattle.std.proofs.lemmas.Cmp.{nat_list_cmp_total}
 use Rattle.std.proofs.lemmas.List.{get_or-map}
+use Rattle.std.proofs.lemmas.List.Sums.{sum_by-cons}
 use Rattle.page_model.specs.Address.{address, hash_of}
 use Rattle.page_model.specs.Numbers.{IsNumber}
 use Rattle.page_model.specs.Pages.{Meta, Body}
@@ -57,6 +58,17 @@ delete_none p key sound gone =
     delete_absent p key sound (get-from_entries nat_list_cmp_total (pairs_of p) key
     ∙ nowhere p key gone)
 
+-- one that is found comes
+found_times : (key : Key) (pairs : List Pair) → is_some (value_in key pairs) ≡ true
+    → 1 ≤ times key pairs
+found_times key [] has = absurd cc
+found_times key (pair ∷ pairs) has =
+    elim (has_key key pair) as (λ b. is_some (cond b (Some pair.1) (value_in key pairs)) ≡ true
+    → cond b 1 0 + times key pairs ≡ times key (pair ∷ pairs) → 1 ≤ times key (pair ∷ pairs)) [
+      | true ↦ λ h count. omega (arith, count)
+      | false ↦ λ h count. omega (arith, count, found_times key pairs h)
+    ] has (sym (sum_by-cons (λ p. cond (has_key key p) 1 0) pair pairs))
+
 -- a chain keeps its head page
 head_kept : (key : Key) (chain : Chain)
     → first_of (numbers (remove key chain)) ≡ first_of (numbers chain)
@@ -88,6 +100,19 @@ module _ (at : ℕ → Body) (m : Meta) (space : FreeState) (p : Placement)
         sum_by-flat_map-set f pairs_in p.chains (key_bucket p.shape key) [] []
             (bucket_in p mid.sound key),
       )
+
+  -- one that the map has comes there
+  pub midway_one : (key : Key) → is_some (get (contents p) key) ≡ true
+      → times key (pairs_in (chain_at p (key_bucket p.shape key))) ≡ 1
+  midway_one key has = omega (arith, midway_once key, found_times key chain there)
+    where
+      chain : List Pair
+      chain = pairs_in (chain_at p (key_bucket p.shape key))
+
+      there : is_some (value_in key chain) ≡ true
+      there = ap is_some (sym (value_at p.shape p.chains key mid.sound.split_in
+          mid.sound.all_buckets mid.sound.in_place)
+          ∙ sym (get-from_entries nat_list_cmp_total (pairs_of p) key)) ∙ has
 
   -- a key taken out of its chain is deleted
   pub midway_deleted : (at' : ℕ → Body) (space' : FreeState) (key : Key)

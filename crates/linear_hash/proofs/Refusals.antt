@@ -47,7 +47,7 @@ of_remove e (inr (inl is)) = inr (inl is)
 of_remove e (inr (inr (inl is))) = inr (inr (inr (inl is)))
 of_remove e (inr (inr (inr is))) = inr (inr (inr (inr is)))
 
-head_no_memory : {T : Type 0} (e : PageFault) → (e ≡ Broken) ⊎ ((e ≡ Damaged) ⊎ (e ≡ Device))
+pub head_no_memory : {T : Type 0} (e : PageFault) → (e ≡ Broken) ⊎ ((e ≡ Damaged) ⊎ (e ≡ Device))
     → IsErrOf {T = T} (Err e) Memory → ⊥
 head_no_memory e (inl broken) is = cc
 head_no_memory e (inr (inl damaged)) is = cc

@@ -65,12 +65,6 @@ module _ (at : ℕ → Body) (m : Meta) (space : FreeState) (p : Placement)
       apart k same none = let one = ap (λ (n : ℕ). times_of n (1 ∷ [])) same in
           omega (arith, one, none)
 
--- what holds of any value that was answered
-pub removed_ok : {T E P : Type 0} {Q : T → Type 0} (result : Result T E) → ((x : T) → Q x → P)
-    → IfOk result Q → OnOk result P
-removed_ok (Ok x) then q = then x q
-removed_ok (Err e) then q = tt
-
 -- where a value is answered, and what is said then
 pub staged_ok : {T E P : Type 0} {Q R : T → Type 0} (result : Result T E)
     → (P → (x : T) → Q x → R x) → OnOk result P → IfOk result Q → IfOk result R

@@ -1,9 +1,10 @@
 -- What a change stages.
-use Rattle.std.specs.Prelude.{◌≡◌, ◌⊎◌, ◌+◌, ◌^◌, ℕ, false, Result, IfErr, IsErrOf}
+use Rattle.std.specs.Prelude.{◌≡◌, ◌⊎◌, ◌+◌, ◌*◌, ◌^◌, ◌<◌, ℕ, Bool, if◌then◌else◌, false, Result, IfErr, IsErrOf}
 use Rattle.page_model.specs.Address.{grown}
 use Rattle.page_model.specs.Pages.{Meta, Body}
 use Rattle.page_model.specs.Placement.{Placement, IsSound}
 use Rattle.page_model.specs.PageBodies.{meta_of, IsSpelled}
+use Rattle.page_model.specs.Valid.{meta_buckets}
 use Rattle.free_pages.specs.declared.free_state.FreeState.{FreeState}
 use Rattle.page_io.specs.Store.{StoreState}
 use Rattle.page_io.specs.declared.store.PageFault.{PageFault}
@@ -29,6 +30,10 @@ pub record IsChangeAnswer {T : Type 0} (state : StoreState)
   pub broken : IsErrOf result Broken → state.usable ≡ false
   pub only : IfErr result (λ e.
       (e ≡ Broken) ⊎ ((e ≡ Memory) ⊎ ((e ≡ NoRoom) ⊎ ((e ≡ Damaged) ⊎ (e ≡ Device)))))
+
+-- with one pair more, where its key is new, there would be more than eight pairs to a bucket
+abbrev pub WouldSplit : Meta → Bool → Type 0
+WouldSplit m was_there = 8 * meta_buckets m < (if was_there then m.pairs else m.pairs + 1)
 
 -- one bucket more, and at most one segment
 pub record IsGrown (old new : Meta) : Type 0 where

@@ -1,13 +1,16 @@
 //! Changes of the file, each in one commit.
 
-ghost use Rattle.std.specs.Prelude.{◌≡◌, ◌↔◌, ◌+◌, ◌<◌, [], true, false, is_some, IfErr, OnOk, if◌then◌else◌};
+ghost use Rattle.std.specs.Prelude.{◌≡◌, ◌↔◌, ◌+◌, ◌*◌, ◌<◌, ◌≤◌, [], true, false, is_some, IfErr, OnOk, IsErrOf, if◌then◌else◌};
 ghost use Rattle.std.specs.FinMap.{get, insert, remove};
 ghost use Rattle.dbm_model.specs.Pairs.{Contents, IsAllowed};
-ghost use Rattle.page_model.specs.Valid.{IsMeta};
+ghost use Rattle.page_model.specs.Valid.{IsMeta, meta_buckets};
 ghost use Rattle.page_io.specs.Answers.{HasDeviceCause};
+ghost use Rattle.page_io.specs.Views.{body_at};
+ghost use Rattle.page_io.specs.declared.store.PageFault.TheVariants.{Memory};
 ghost use Rattle.seg_table.specs.MetaPages.{model_meta};
 ghost use Rattle.linear_hash.specs.Tables.{shape_in, shape_for};
-ghost use Rattle.linear_hash.specs.Staging.{IsChangeAnswer};
+ghost use Rattle.linear_hash.specs.Staging.{IsChangeAnswer, WouldSplit};
+ghost use Rattle.linear_hash.specs.Changing.{IsDeleted, IsStored};
 ghost use Rattle.page_commit.specs.Committing.{Holds, IsForgotten};
 ghost use Rattle.linear_hash.specs.Holding.{IsEnded, ChangesMap};
 
@@ -44,6 +47,12 @@ fn commit_store<S: PageStore>(
     ensures cause { HasDeviceCause (S.faults store.old) (S.faults store.new) result }
     ensures honesty { S.honest store.new ↔ S.honest store.old }
     ensures answer { IsChangeAnswer (S.state store.old) result }
+    ensures memory { IsErrOf result Memory → WouldSplit (model_meta meta.old) was_there }
+    ensures stored { S.honest store.old
+        → meta.new.pairs ≤ 8 * meta_buckets (model_meta meta.old)
+        → OnOk result (IsStored was_there (body_at S.PageStore store.old)
+        (body_at S.PageStore store.new) (model_meta meta.old) (model_meta meta.new)
+        (S.state store.old).end (S.state store.new).end (key.now, content.now)) }
     ensures turns { S.honest store.old → (S.state store.old).usable ≡ true → (map : Contents)
         → Holds S.PageStore store.old (model_meta meta.old) map
         → was_there ≡ is_some (get map key.now) →
@@ -53,7 +62,8 @@ fn commit_store<S: PageStore>(
     finish(store, staged)
 }
 
-/// Stores a pair, in the place of its key's where that is there.
+/// Stores a pair, in the place of its key's where that is there. Damaged is answered too where it
+/// was told to be there and isn't.
 pub fn store_pair<S: PageStore>(
     alloc: Global,
     store: &mut S,
@@ -71,8 +81,17 @@ pub fn store_pair<S: PageStore>(
         (model_meta meta.new) result }
     ensures pairs { OnOk result (meta.new.pairs
         ≡ (if was_there then meta.old.pairs else meta.old.pairs + 1)) }
+    // Without a split it takes no memory.
+    ensures memory { IsErrOf result Memory → WouldSplit (model_meta meta.old) was_there }
     ensures shape { OnOk result (shape_in (model_meta meta.new)
         ≡ shape_for meta.new.pairs (shape_in (model_meta meta.old))) }
+
+    // On any file, where no bucket is split, the pair is put into its bucket.
+    ensures stored { S.honest store.old
+        → meta.new.pairs ≤ 8 * meta_buckets (model_meta meta.old)
+        → OnOk result (IsStored was_there (body_at S.PageStore store.old)
+        (body_at S.PageStore store.new) (model_meta meta.old) (model_meta meta.new)
+        (S.state store.old).end (S.state store.new).end (key.now, content.now)) }
 
     // Where the file stands for a map, it then stands for the changed one, and at every moment for
     // one of the two.
@@ -104,6 +123,11 @@ fn commit_delete<S: PageStore>(store: &mut S, meta: &mut Meta, key: &[u8]) -> Re
     ensures cause { HasDeviceCause (S.faults store.old) (S.faults store.new) result }
     ensures honesty { S.honest store.new ↔ S.honest store.old }
     ensures answer { IsChangeAnswer (S.state store.old) result }
+    ensures no_memory { IsErrOf result Memory → ⊥ }
+    ensures deleted { S.honest store.old
+        → OnOk result (IsDeleted (body_at S.PageStore store.old) (body_at S.PageStore store.new)
+        (model_meta meta.old) (model_meta meta.new) (S.state store.old).end (S.state store.new).end
+        key.now) }
     ensures turns { S.honest store.old → (S.state store.old).usable ≡ true → (map : Contents)
         → Holds S.PageStore store.old (model_meta meta.old) map → is_some (get map key.now) ≡ true →
         ChangesMap S.PageStore store.old store.new (model_meta meta.old) (model_meta meta.new) map (remove map key.now) 0 result }
@@ -112,7 +136,7 @@ fn commit_delete<S: PageStore>(store: &mut S, meta: &mut Meta, key: &[u8]) -> Re
     finish(store, staged)
 }
 
-/// Deletes the pair of a key that is there.
+/// Deletes the pair of a key that is there; where it isn't, Damaged is answered.
 pub fn delete_pair<S: PageStore>(
     store: &mut S,
     meta: &mut Meta,
@@ -125,7 +149,14 @@ pub fn delete_pair<S: PageStore>(
     ensures ends { IsEnded S.PageStore store.old store.new (model_meta meta.old)
         (model_meta meta.new) result }
     ensures pairs { OnOk result (meta.new.pairs + 1 ≡ meta.old.pairs) }
+    ensures no_memory { IsErrOf result Memory → ⊥ }
     ensures shape { OnOk result (shape_in (model_meta meta.new) ≡ shape_in (model_meta meta.old)) }
+
+    // On any file the key is taken out of its bucket.
+    ensures deleted { S.honest store.old
+        → OnOk result (IsDeleted (body_at S.PageStore store.old) (body_at S.PageStore store.new)
+        (model_meta meta.old) (model_meta meta.new) (S.state store.old).end (S.state store.new).end
+        key.now) }
 
     // Where the file stands for a map, it then stands for the changed one, and at every moment for
     // one of the two.

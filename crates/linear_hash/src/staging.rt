@@ -3,18 +3,23 @@
 ghost use Rattle.std.specs.Prelude.{◌≡◌, ◌+◌, ◌-◌, ◌*◌, ◌<◌, ◌≤◌, ℕ, [], true, false, is_some, IfOk, OnOk, IsErrOf, length, if◌then◌else◌};
 ghost use Rattle.std.specs.FinMap.{get};
 ghost use Rattle.dbm_model.specs.Pairs.{IsAllowed};
+ghost use Rattle.page_model.specs.PairLists.{times};
+ghost use Rattle.page_model.specs.Chain.{pairs_in};
 ghost use Rattle.page_model.specs.Placement.{pairs_of, contents, delete, replace, store as stored, MayStore};
 ghost use Rattle.page_model.specs.Pages.{MetaPage};
 ghost use Rattle.page_model.specs.Valid.{IsMeta, meta_buckets};
 ghost use Rattle.page_io.specs.Answers.{HasDeviceCause, IsStageAnswer};
 ghost use Rattle.page_io.specs.Views.{body_at, StagesOnly, MayEnd};
-ghost use Rattle.page_io.specs.declared.store.PageFault.TheVariants.{NoRoom, Damaged};
+ghost use Rattle.page_io.specs.declared.store.PageFault.TheVariants.{Memory, NoRoom, Damaged};
 ghost use Rattle.free_pages.specs.FreeList.{HasEnds};
 ghost use Rattle.seg_table.specs.MetaPages.{model_meta};
 ghost use Rattle.bucket_chain.specs.Answers.{IsRemoveAnswer};
+ghost use Rattle.bucket_chain.specs.AnyFile.{IsTakenOut};
+ghost use Rattle.bucket_chain.specs.Changes.{BecomesPlaced, ForEachPlaced, remove_from};
+ghost use Rattle.linear_hash.specs.Changing.{IsDeleted, IsStored, PutIn, TookOut};
 ghost use Rattle.linear_hash.specs.Tables.{space_in, shape_in, shape_for, split_where_full, ForEachTable};
 ghost use Rattle.page_commit.specs.Committing.{MayCommit};
-ghost use Rattle.linear_hash.specs.Staging.{IsMidway, IsChangeAnswer, IsStaged, ForEachMidway};
+ghost use Rattle.linear_hash.specs.Staging.{IsMidway, IsChangeAnswer, IsStaged, ForEachMidway, WouldSplit};
 
 use crate::splitting::split_bucket;
 use bucket_chain::{put, remove};
@@ -38,6 +43,38 @@ fn space_of(meta: &Meta, file_end: u32) -> FreeState
     }
 }
 
+/// Takes a key out of the chain from page `head` on, which is Damaged where it lacks the key.
+fn take_out<S: PageStore>(
+    store: &mut S,
+    space: &mut FreeState,
+    head: u32,
+    key: &[u8],
+) -> Result<(), PageFault>
+    ensures stages { StagesOnly S.PageStore store.old store.new }
+    ensures few { length (S.state store.new).staged ≤ length (S.state store.old).staged + 2 }
+    ensures cause { HasDeviceCause (S.faults store.old) (S.faults store.new) result }
+    ensures answer { IsRemoveAnswer S.reserved (S.state store.old) result }
+    ensures end { space.new.file_end ≡ space.old.file_end }
+    ensures ends { HasEnds space.old → HasEnds space.new }
+    ensures may_end { MayEnd (S.state store.old) space.old.file_end
+        → OnOk result (MayEnd (S.state store.new) space.new.file_end) }
+    ensures taken_out { S.honest store.old
+        → OnOk result (IsTakenOut (body_at S.PageStore store.old) (body_at S.PageStore store.new)
+        space.old space.new head key.now) }
+    ensures exact { ForEachPlaced S.PageStore store.old space.old head (λ chain s.
+        times key.now (pairs_in chain) ≤ 1
+        → OnOk result (BecomesPlaced (body_at S.PageStore store.old)
+        (body_at S.PageStore store.new) space.new (remove_from (chain, s) key.now))) }
+    ensures whole { ForEachPlaced S.PageStore store.old space.old head (λ chain s.
+        times key.now (pairs_in chain) ≡ 1 → IsErrOf result Damaged → ⊥) }
+{
+    if remove(store, space, head, key)? {
+        Ok(())
+    } else {
+        Err(PageFault::Damaged)
+    }
+}
+
 /// Puts a pair into the chain of its bucket, in the place of its key's where that is there.
 fn replace_pair<S: PageStore>(
     store: &mut S,
@@ -50,12 +87,21 @@ fn replace_pair<S: PageStore>(
     requires allowed { IsAllowed (key.now, content.now) }
     requires valid { IsMeta (model_meta meta.now) }
     ensures stages { StagesOnly S.PageStore store.old store.new }
+    ensures few { length (S.state store.new).staged ≤ length (S.state store.old).staged + 4 }
     ensures cause { HasDeviceCause (S.faults store.old) (S.faults store.new) result }
     ensures answer { IsChangeAnswer (S.state store.old) result }
+    ensures memory { IsErrOf result Memory
+        → S.reserved ≤ length (S.state store.old).staged + 3 }
     ensures ends { HasEnds space.old → HasEnds space.new }
     ensures may_end { MayEnd (S.state store.old) space.old.file_end
         → OnOk result (MayEnd (S.state store.new) space.new.file_end) }
     ensures room { IsErrOf result NoRoom → (S.state store.old).capacity ≤ space.old.file_end }
+
+    // On any file the pair is put into the chain of its bucket.
+    ensures put_in { S.honest store.old
+        → OnOk result (PutIn was_there (MayEnd (S.state store.old) space.old.file_end)
+        (body_at S.PageStore store.old) (model_meta meta.now) space.old (key.now, content.now)
+        (body_at S.PageStore store.new) space.new) }
     ensures exact { ForEachMidway S.PageStore store.old (model_meta meta.now) space.old (λ p.
         was_there ≡ is_some (get (contents p) key.now)
         → OnOk result (IsMidway (body_at S.PageStore store.new) (model_meta meta.now) space.new
@@ -65,7 +111,7 @@ fn replace_pair<S: PageStore>(
 {
     let head = head_of(store, meta, meta.shape.bucket(hash(key)))?;
     if was_there {
-        remove(store, space, head, key)?;
+        take_out(store, space, head, key)?;
     }
     put(store, space, head, key, content)
 }
@@ -84,12 +130,17 @@ fn split_if_full<S: PageStore>(
     ensures stages { StagesOnly S.PageStore store.old store.new }
     ensures cause { HasDeviceCause (S.faults store.old) (S.faults store.new) result }
     ensures answer { IsChangeAnswer (S.state store.old) result }
+    ensures memory { IsErrOf result Memory
+        → 8 * meta_buckets (model_meta meta.old) < meta.old.pairs }
     ensures valid { OnOk result (IsMeta
         (record (model_meta meta.new) { free_head = 0; free_count = 0 })) }
     ensures kept { OnOk result ((meta.new.limit ≡ meta.old.limit)
         × (meta.new.pairs ≡ meta.old.pairs)) }
     ensures shape { OnOk result (shape_in (model_meta meta.new)
         ≡ shape_for meta.new.pairs (shape_in (model_meta meta.old))) }
+    ensures still { meta.old.pairs ≤ 8 * meta_buckets (model_meta meta.old)
+        → (store.new ≡ store.old) × (model_meta meta.new ≡ model_meta meta.old)
+        × (space.new ≡ space.old) }
     ensures ends { HasEnds space.old → HasEnds space.new }
     ensures may_end { MayEnd (S.state store.old) space.old.file_end
         → OnOk result (MayEnd (S.state store.new) space.new.file_end) }
@@ -165,6 +216,7 @@ pub fn stage_store<S: PageStore>(
     ensures stages { StagesOnly S.PageStore store.old store.new }
     ensures cause { HasDeviceCause (S.faults store.old) (S.faults store.new) result }
     ensures answer { IsChangeAnswer (S.state store.old) result }
+    ensures memory { IsErrOf result Memory → WouldSplit (model_meta meta.old) was_there }
     ensures valid { OnOk result (IsMeta (model_meta meta.new)) }
     ensures limit { OnOk result (meta.new.limit ≡ meta.old.limit) }
     ensures pairs { OnOk result (meta.new.pairs
@@ -173,6 +225,13 @@ pub fn stage_store<S: PageStore>(
         ≡ shape_for meta.new.pairs (shape_in (model_meta meta.old))) }
     ensures may_commit { IfOk result (MayCommit (S.state store.new)) }
     ensures grows { IfOk result (λ end. (S.state store.old).end ≤ end) }
+
+    // On any file, where no bucket is split, the pair is put into its bucket.
+    ensures stored { S.honest store.old
+        → meta.new.pairs ≤ 8 * meta_buckets (model_meta meta.old)
+        → IfOk result (λ end. IsStored was_there (body_at S.PageStore store.old)
+        (body_at S.PageStore store.new) (model_meta meta.old) (model_meta meta.new)
+        (S.state store.old).end end (key.now, content.now)) }
 
     // On the pages of a good placement it leaves the model's, is never Damaged, and takes few
     // pages.
@@ -193,27 +252,31 @@ pub fn stage_store<S: PageStore>(
     stage_meta(store, meta, space)
 }
 
-/// Takes a key out of the chain of its bucket, where it is there.
+/// Takes a key out of the chain of its bucket, which is Damaged where it lacks the key.
 fn remove_key<S: PageStore>(
     store: &mut S,
     meta: &Meta,
     space: &mut FreeState,
     key: &[u8],
-) -> Result<bool, PageFault>
+) -> Result<(), PageFault>
     requires { IsMeta (model_meta meta.now) }
     ensures stages { StagesOnly S.PageStore store.old store.new }
+    ensures few { length (S.state store.new).staged ≤ length (S.state store.old).staged + 2 }
     ensures cause { HasDeviceCause (S.faults store.old) (S.faults store.new) result }
     ensures answer { IsRemoveAnswer S.reserved (S.state store.old) result }
     ensures ends { HasEnds space.old → HasEnds space.new }
     ensures may_end { MayEnd (S.state store.old) space.old.file_end
         → OnOk result (MayEnd (S.state store.new) space.new.file_end) }
+    ensures took_out { S.honest store.old
+        → OnOk result (TookOut (body_at S.PageStore store.old) (model_meta meta.now) space.old
+        key.now (body_at S.PageStore store.new) space.new) }
     ensures exact { ForEachMidway S.PageStore store.old (model_meta meta.now) space.old (λ p.
         OnOk result (IsMidway (body_at S.PageStore store.new) (model_meta meta.now) space.new (delete p key.now))) }
     ensures whole { ForEachMidway S.PageStore store.old (model_meta meta.now) space.old (λ p.
-        IsErrOf result Damaged → ⊥) }
+        is_some (get (contents p) key.now) ≡ true → IsErrOf result Damaged → ⊥) }
 {
     let head = head_of(store, meta, meta.shape.bucket(hash(key)))?;
-    remove(store, space, head, key)
+    take_out(store, space, head, key)
 }
 
 /// Stages what the delete of a key that is there changes, and answers where the file then ends.
@@ -229,6 +292,7 @@ pub fn stage_delete<S: PageStore>(
     ensures cause { HasDeviceCause (S.faults store.old) (S.faults store.new) result }
     ensures answer { IsChangeAnswer (S.state store.old) result }
     ensures no_room { IsErrOf result NoRoom → ⊥ }
+    ensures no_memory { IsErrOf result Memory → ⊥ }
     ensures valid { OnOk result (IsMeta (model_meta meta.new)) }
     ensures limit { OnOk result (meta.new.limit ≡ meta.old.limit) }
     ensures pairs { OnOk result (meta.new.pairs + 1 ≡ meta.old.pairs) }
@@ -236,13 +300,19 @@ pub fn stage_delete<S: PageStore>(
     ensures may_commit { IfOk result (MayCommit (S.state store.new)) }
     ensures grows { IfOk result (λ end. (S.state store.old).end ≤ end) }
 
+    // On any file the key is taken out of its bucket.
+    ensures deleted { S.honest store.old
+        → IfOk result (λ end. IsDeleted (body_at S.PageStore store.old)
+        (body_at S.PageStore store.new) (model_meta meta.old) (model_meta meta.new)
+        (S.state store.old).end end key.now) }
+
     // On the pages of a good placement it leaves the model's, and is never Damaged.
     ensures exact { ForEachTable S.PageStore store.old (model_meta meta.old) (λ p.
         is_some (get (contents p) key.now) ≡ true
         → IfOk result (λ end. IsStaged (body_at S.PageStore store.new) (model_meta meta.new) end
         (delete p key.now))) }
     ensures whole { ForEachTable S.PageStore store.old (model_meta meta.old) (λ p.
-        IsErrOf result Damaged → ⊥) }
+        is_some (get (contents p) key.now) ≡ true → IsErrOf result Damaged → ⊥) }
 {
     let mut space = space_of(meta, store.end());
     remove_key(store, meta, &mut space, key)?;

@@ -79,6 +79,8 @@ impl<S: PageStore> PageStore for CachedPages<S> {
 
     ghost reserved = { S.reserved };
 
+    ghost reserves = { S.reserves };
+
     ghost committed_may_stay = { λ c. S.committed_may_stay c.store };
 
     ghost only_committed = { λ c. S.only_committed c.store };

@@ -3,7 +3,7 @@ ghost use Rattle.std.specs.Prelude.{◌≡◌, ◌≤◌, ◌<◌, ◌+◌, ◌^
 ghost use Rattle.page_io.specs.Page.{own_number};
 ghost use Rattle.page_io.specs.Store.{bytes_of, file_pages, page_of, overlaid, are_in_order};
 
-use crate::{Page, PageFault, PageStore, find_staged, is_among, put_staged};
+use crate::{Page, PageFault, PageStore, StagedPages, find_staged, is_among, put_staged};
 use std::alloc::{AllocError, Global};
 
 // Puts each page at its own number.
@@ -27,7 +27,7 @@ fn lay(pages: &mut Vec<Page>, staged: &[Page])
 #[derive(Drop)]
 pub struct MemPages {
     pages: Vec<Page>,
-    staged: Vec<Page>,
+    staged: StagedPages,
     end: u32,
     ghost least: { 4 ≤ end },
     ghost room: { end ≤ length pages.items + 1 },
@@ -58,7 +58,7 @@ impl MemPages {
         all.extend_from_slice(room.as_slice())?;
         Ok(MemPages {
             pages: all,
-            staged: Vec::new(alloc),
+            staged: StagedPages::new(alloc),
             end: pages.len() as u32 + 1,
         })
     }
@@ -66,6 +66,7 @@ impl MemPages {
 
 impl PageStore for MemPages {
     ghost use Rattle.std.proofs.Common.{refl};
+    ghost use Rattle.std.proofs.Math.Nat.{le_refl};
     ghost use Rattle.page_io.specs.Counts.{counts_end};
     ghost use Rattle.page_io.specs.MemPages.{OnlySettled};
 
@@ -91,7 +92,9 @@ impl PageStore for MemPages {
     ghost settled_since = { λ p _.
         OnlySettled (file_pages (page_of (bytes_of p.pages.items)) p.end) };
 
-    ghost reserved = { 0 };
+    ghost reserved = { 5 };
+
+    ghost reserves = { le_refl 5 };
 
     ghost committed_may_stay = { λ p h u. refl };
 

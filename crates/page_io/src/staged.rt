@@ -4,7 +4,12 @@ ghost use Rattle.page_io.specs.Page.{own_number};
 ghost use Rattle.page_io.specs.Store.{bytes_of, overlaid, put_page, has_page, are_in_order};
 
 use crate::Page;
+use smallvec::SmallVec;
 use std::alloc::AllocError;
+
+/// Staged pages. The first five take no memory of their own: a store that splits no bucket changes
+/// at most two pages where an older pair leaves, two where the pair goes, and the meta page.
+pub type StagedPages = SmallVec<Page, 5>;
 
 /// Whether page n is among these.
 pub fn is_among(staged: &[Page], n: u32) -> bool
@@ -61,7 +66,7 @@ fn is_at(staged: &[Page], at: usize, page: &Page) -> bool
 }
 
 /// Stages a page among pages in order of their numbers, in the place of one of its number.
-pub fn put_staged(staged: &mut Vec<Page>, page: &Page) -> Result<(), AllocError>
+pub fn put_staged(staged: &mut StagedPages, page: &Page) -> Result<(), AllocError>
     requires order { are_in_order 1 (2 ^ 32) (bytes_of staged.old.items) ≡ true }
     requires number { (1 ≤ own_number page.now.bytes) × (own_number page.now.bytes < 2 ^ 32) }
     ensures ok { OnOk result (bytes_of staged.new.items
@@ -69,10 +74,13 @@ pub fn put_staged(staged: &mut Vec<Page>, page: &Page) -> Result<(), AllocError>
     ensures err { OnErr result (staged.new.items ≡ staged.old.items) }
     ensures order { are_in_order 1 (2 ^ 32) (bytes_of staged.new.items) ≡ true }
 
-    // A page in the place of another takes no memory.
+    // A page in the place of another takes no memory, and neither do the first five.
     ensures grown { OnErr result (has_page (bytes_of staged.old.items)
         (own_number page.now.bytes) ≡ false) }
+    ensures full { OnErr result (5 ≤ length staged.old.items) }
 {
+    // A proof learns here that five have room.
+    let _ = staged.capacity();
     let pages = staged.as_slice();
     let at = place_of(pages, page);
     if is_at(pages, at, page) {

@@ -55,6 +55,9 @@ pub trait PageStore {
     /// How many pages can be staged with no memory taken.
     ghost reserved: { ℕ };
 
+    /// As many as a store changes that splits no bucket.
+    ghost reserves: { 5 ≤ reserved };
+
     /// Gives the staged page n, else the committed one. It is never refused for want of memory. At
     /// `Err` the bytes of `page` are unspecified.
     fn read(&mut self, n: u32, page: &mut Page) -> Result<(), PageFault>

@@ -118,7 +118,7 @@ split_below s h =
 twice : (n : ℕ) → 2 ^ (n + 1) ≡ 2 ^ n + 2 ^ n
 twice n = grind (arith, pow-add)
 
-buckets_grown : (s : Shape) → buckets (grown s) ≡ buckets s + 1
+pub buckets_grown : (s : Shape) → buckets (grown s) ≡ buckets s + 1
 buckets_grown s =
     elim (eqb (s.split + 1) (2 ^ s.level)) as
     (λ t. eqb (s.split + 1) (2 ^ s.level) ≡ t

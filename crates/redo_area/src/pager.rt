@@ -8,7 +8,9 @@ ghost use Rattle.redo_area.specs.Settling.{SettlesIfUsable, SettlesTo};
 
 mod opening;
 
-use page_io::{Page, PageFault, PageStore, find_staged, is_among, put_staged, read_page};
+use page_io::{
+    Page, PageFault, PageStore, StagedPages, find_staged, is_among, put_staged, read_page,
+};
 use redo_commit::commit_pages;
 use sect_dev::SectorDev;
 
@@ -17,7 +19,7 @@ use sect_dev::SectorDev;
 #[derive(Drop)]
 pub struct Pager<D: SectorDev> {
     dev: D,
-    staged: Vec<Page>,
+    staged: StagedPages,
     // The redo images of an armed file that was opened for reading alone.
     redo: Vec<Page>,
     end: u32,
@@ -33,6 +35,7 @@ pub struct Pager<D: SectorDev> {
 
 impl<D: SectorDev> PageStore for Pager<D> {
     ghost use Rattle.std.specs.Prelude.{OnOk, IsErrOf};
+    ghost use Rattle.std.proofs.Math.Nat.{le_refl};
     ghost use Rattle.sect_dev.specs.Device.{LeavesOnly};
     ghost use Rattle.page_io.specs.Answers.{HasDeviceCause, IsReadAnswer, IsCommitAnswer, IsRefusal};
     ghost use Rattle.page_io.specs.Counts.{counts_end};
@@ -65,7 +68,9 @@ impl<D: SectorDev> PageStore for Pager<D> {
 
     ghost settled_since = { λ p. IsOutcome D.left_since (settled (D.sectors p.dev / 4)) p.dev };
 
-    ghost reserved = { 0 };
+    ghost reserved = { 5 };
+
+    ghost reserves = { le_refl 5 };
 
     ghost committed_may_stay = { λ p h usable.
         record {

@@ -2,4 +2,6 @@
 #![tactic(auto)]
 
 #[cfg(test)]
+mod drawn_tests;
+#[cfg(test)]
 mod stop_tests;

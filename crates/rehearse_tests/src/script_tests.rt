@@ -1,6 +1,7 @@
 //! Scripts rehearsed on a device in memory.
 
 use dbm_fault::EngineFault;
+use dbm_progress::{Progress, Work};
 use dbm_rehearse::{Rehearsed, rehearse_script};
 use sect_dev::MemDev;
 use std::alloc::Global;
@@ -26,6 +27,32 @@ D 62
 S 63 33
 ";
 
+/// Counts the stops that it is told of, up to the time when nothing is to be shown any more.
+#[derive(Clone, Copy, Debug)]
+struct Counter {
+    stops: u64,
+    is_cleared: bool,
+}
+
+impl Counter {
+    const NEW: Counter = Counter {
+        stops: 0,
+        is_cleared: false,
+    };
+}
+
+impl Progress for Counter {
+    fn step(&mut self, work: Work) {
+        if work == Work::StopsMade && !self.is_cleared {
+            self.stops = self.stops.saturating_add(1);
+        }
+    }
+
+    fn clear(&mut self) {
+        self.is_cleared = true;
+    }
+}
+
 /// A rehearsal on a blank device of a database of limit 100, with no clause, so that those of the
 /// engine stand in no test.
 fn rehearsed(
@@ -33,6 +60,7 @@ fn rehearsed(
     script: &[u8],
     stops: Option<u32>,
     writer: &mut Vec<u8>,
+    progress: &mut Counter,
 ) -> Result<Rehearsed, EngineFault> {
     let mut reader = script;
     rehearse_script(
@@ -42,6 +70,7 @@ fn rehearsed(
         stops,
         &mut reader,
         writer,
+        progress,
     )
 }
 
@@ -53,9 +82,11 @@ fn is_all_kept(counts: Rehearsed) -> bool {
 #[test]
 fn each_stop_of_a_script_is_kept(rt: HostRuntime) -> Result<(), Fail> {
     let mut written = Vec::new(rt.alloc());
-    let counts = rehearsed(rt.alloc(), SCRIPT, None, &mut written)?;
+    let mut counter = Counter::NEW;
+    let counts = rehearsed(rt.alloc(), SCRIPT, None, &mut written, &mut counter)?;
     assert!(rt; is_all_kept(counts), "{counts:?}");
     assert!(rt; counts.calls == 15 && counts.stops == counts.device_calls && counts.stops > 300);
+    assert!(rt; counter.stops == counts.stops && counter.is_cleared);
     Ok(())
 }
 
@@ -68,7 +99,13 @@ fn is_told(written: &[u8]) -> bool {
 #[test]
 fn the_counts_are_told(rt: HostRuntime) -> Result<(), Fail> {
     let mut written = Vec::new(rt.alloc());
-    let _ = rehearsed(rt.alloc(), b"Q\nE\n", Some(3), &mut written)?;
+    let _ = rehearsed(
+        rt.alloc(),
+        b"Q\nE\n",
+        Some(3),
+        &mut written,
+        &mut Counter::NEW,
+    )?;
     assert!(rt; is_told(written.as_slice()));
     Ok(())
 }

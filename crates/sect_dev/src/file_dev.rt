@@ -1,11 +1,11 @@
 //! A device over a file.
-ghost use Rattle.std.specs.Prelude.{◌≡◌, ◌+◌, ◌-◌, ◌*◌, ◌^◌, ◌<◌, ◌≤◌, ◌&&◌, false, is_ok, is_some, IsErr, IfOk, IfErr, OnOk, length, take};
+ghost use Rattle.std.specs.Prelude.{◌≡◌, ◌↔◌, ◌+◌, ◌-◌, ◌*◌, ◌^◌, ◌<◌, ◌≤◌, ◌&&◌, false, is_ok, is_some, IsSome, IsErr, IfOk, IfErr, OnOk, length, take};
 ghost use Rattle.sect_dev.specs.Device.{HasCause};
 ghost use Rattle.sect_dev.specs.FileHistory.{IsHonest, LeftFrom};
 ghost use Rattle.sect_dev.specs.FileHistory.Change.{Writes, Syncs};
 
 use crate::{DevFault, SectorDev};
-use std::fs::{File, OpenOptions};
+use std::fs::{File, OpenOptions, TryLockError};
 use std::io;
 use std::os::fd::AsRawFd;
 use std::os::unix::fs::FileExt;
@@ -14,7 +14,7 @@ use std::rt::Files;
 use thiserror::Error;
 
 /// Why a file was not opened.
-#[derive(Clone, Copy, Debug, PartialEq, Eq, Error)]
+#[derive(Clone, Copy, Debug, Error)]
 pub enum FileFault {
     /// The system had no memory for it.
     #[error("no memory to open the file")]
@@ -22,9 +22,10 @@ pub enum FileFault {
     /// There is no such file, and none was to be made.
     #[error("there is no such file")]
     Missing,
-    /// The system refused the file, or its folder, for another cause.
-    #[error("the file was refused")]
-    Device,
+    /// The system refused the file, or its folder, for another cause, which is its error; or another
+    /// opening has the file locked.
+    #[error("the file was refused: {0}")]
+    Device(io::Error),
 }
 
 /// A device over a file. Sector n is the 512 bytes from byte 512 n on, and what lies past the
@@ -39,7 +40,10 @@ pub struct FileDev {
     // How many writes and syncs the system answered.
     changes: u64,
     faults: u64,
+    // The system's error at the last call that failed.
+    last: Option<io::Error>,
     ghost fits: { capacity < 2 ^ 32 },
+    ghost told: { IsSome last ↔ 0 < faults },
 }
 
 // Where a sector begins.
@@ -49,13 +53,18 @@ fn offset_of(n: u32) -> u64
     u64::from(n) * 512
 }
 
-fn fault_of(error: &io::Error) -> FileFault
+fn fault_of(error: io::Error) -> FileFault
     ensures { result ≡ FileFault.Missing → ⊥ }
 {
     match error.kind() {
         io::ErrorKind::OutOfMemory => FileFault::Memory,
-        _ => FileFault::Device,
+        _ => FileFault::Device(error),
     }
+}
+
+// The error of a change beyond the most that are counted, which the system isn't asked for.
+fn uncounted() -> io::Error {
+    io::Error::other("too many writes and syncs since the file was opened")
 }
 
 // What is meant for a standard stream that was closed must not land in the file.
@@ -108,12 +117,19 @@ fn find<R: Files<File = File>>(
 // Takes the system's advisory lock on a file, alone for writing and shared for reading, and waits
 // for none. It ends with the last handle of the file.
 fn lock(file: &File, write: bool) -> io::Result<()> {
-    if write {
-        file.try_lock()?;
+    let locked = if write {
+        file.try_lock()
     } else {
-        file.try_lock_shared()?;
+        file.try_lock_shared()
+    };
+    match locked {
+        Ok(()) => Ok(()),
+        Err(TryLockError::WouldBlock) => Err(io::Error::new(
+            io::ErrorKind::WouldBlock,
+            "another program has the file open",
+        )),
+        Err(TryLockError::Error(error)) => Err(error),
     }
-    Ok(())
 }
 
 impl FileDev {
@@ -147,9 +163,10 @@ impl FileDev {
                 capacity,
                 changes: 0,
                 faults: 0,
+                last: None,
             }),
             Ok(None) => Err(FileFault::Missing),
-            Err(error) => Err(fault_of(&error)),
+            Err(error) => Err(fault_of(error)),
         }
     }
 
@@ -203,13 +220,21 @@ impl FileDev {
         Err(io::ErrorKind::Interrupted.into())
     }
 
-    // Counts a fault.
-    fn fail(&mut self) -> Result<(), DevFault>
+    /// The system's error at the last call of the device that failed, if one has.
+    pub fn last_error(&self) -> Option<io::Error>
+        ensures { IsSome result ↔ 0 < ⟦<FileDev as SectorDev>⟧.faults self.now }
+    {
+        self.last
+    }
+
+    // Counts a fault, and keeps the system's error.
+    fn fail(&mut self, error: io::Error) -> Result<(), DevFault>
         ensures fails { IsErr result }
         ensures same { IsSame self.old self.new }
         ensures cause { HasCause self.old.faults self.new.faults result }
     {
         self.faults = self.faults.saturating_add(1);
+        self.last = Some(error);
         Err(DevFault)
     }
 
@@ -219,10 +244,10 @@ impl FileDev {
         ensures same { IsSame self.old self.new }
         ensures cause { HasCause self.old.faults self.new.faults result }
     {
-        if answer.is_err() {
-            return self.fail();
+        match answer {
+            Ok(()) => Ok(()),
+            Err(error) => self.fail(error),
         }
-        Ok(())
     }
 }
 
@@ -266,10 +291,10 @@ impl SectorDev for FileDev {
         ensures cause { HasCause (⟦<FileDev as SectorDev>⟧.faults self.old)
             (⟦<FileDev as SectorDev>⟧.faults self.new) result }
     {
-        if self.fill(n, out).is_err() {
-            return self.fail();
+        match self.fill(n, out) {
+            Ok(()) => Ok(()),
+            Err(error) => self.fail(error),
         }
-        Ok(())
     }
 
     fn write(&mut self, n: u32, from: &[u8; 512]) -> Result<(), DevFault>
@@ -283,7 +308,7 @@ impl SectorDev for FileDev {
             ≡ ⟦<FileDev as SectorDev>⟧.sectors self.old }
     {
         if self.changes == u64::MAX {
-            return self.fail();
+            return self.fail(uncounted());
         }
         let answer = self.pwrite(offset_of(n), from);
         self.note(answer)
@@ -297,7 +322,7 @@ impl SectorDev for FileDev {
             ≡ ⟦<FileDev as SectorDev>⟧.sectors self.old }
     {
         if self.changes == u64::MAX {
-            return self.fail();
+            return self.fail(uncounted());
         }
         let answer = self.fdatasync();
         self.note(answer)

@@ -1,13 +1,10 @@
 -- What the slots of a page say, one step on.
-use Rattle.std.proofs.Common.{◌≡◌, ℕ, zero, suc, ◌+◌, ◌*◌, ◌≤◌, ◌<◌, List, [], ◌∷◌, ◌++◌, length, sym, ap, ◌∙◌, add-one, arith, ◌≢◌, Bool, false, inl, inr, All, get_or, subst}
-use Rattle.std.proofs.lemmas.List.FromFn.{map-range_with_len_more, length-map-range_with_len, get_or-map-range_with_len}
-use Rattle.std.specs.Bool.{Decides}
-use Rattle.std.proofs.lemmas.Bool.{cases_lt}
-use Rattle.std.proofs.lemmas.List.{get_or_default}
-use Rattle.page_model.specs.Reading.{slot_of, slot_count, low, key_of, IsClear}
+use Rattle.std.proofs.Common.{◌≡◌, ℕ, zero, suc, ◌+◌, ◌≤◌, ◌<◌, List, [], ◌∷◌, ◌++◌, sym, ap, ◌∙◌, add-one, arith, subst}
+use Rattle.std.proofs.lemmas.List.FromFn.{map-range_with_len_more}
+use Rattle.page_model.specs.Reading.{slot_of, slot_count, low}
 use Rattle.slot_page.specs.declared.slot.Slot.{Slot}
-use Rattle.slot_page.specs.Slots.{as_spelled, slot_at, first_slots}
-use Rattle.slot_page.specs.Layout.{end_of, AreInPlace, IsLaidOut, HasGoodHeader, HaveDistinctKeys}
+use Rattle.slot_page.specs.Slots.{slot_at, first_slots}
+use Rattle.slot_page.specs.Layout.{end_of, AreInPlace, IsLaidOut}
 
 -- the next record ends where this one begins
 pub end_of-more : (bytes : List ℕ) (i : ℕ) → end_of bytes (i + 1) ≡ (slot_of bytes i).offset
@@ -55,31 +52,3 @@ pub key_inside : (bytes : List ℕ) (n i : ℕ) (s : Slot) → AreInPlace bytes 
 key_inside bytes n i s h lt e =
     let inside = ends_inside bytes n h i lt in
     subst (λ (t : Slot). t.offset + t.key_len ≤ 2048) (sym e) (omega (arith, inside))
-
--- the key of one more slot is another one
-pub differs_more : (bytes key got : List ℕ) (i : ℕ) (r : Bool)
-    → ((k : ℕ) → k < i → key_of bytes (slot_of bytes k) ≢ key) → got ≡ key_of bytes (slot_of bytes i)
-    → Decides r (got ≡ key) → r ≡ false → (k : ℕ) → k < i + 1 → key_of bytes (slot_of bytes k) ≢ key
-differs_more bytes key got i r h e says was_false k lt =
-    elim (cases_lt k i) [
-      | inl less ↦ h k less
-      | inr ge ↦ λ same.
-          let at : i ≡ k = omega arith in
-          let was_true = says.1 (e ∙ ap (λ (n : ℕ). key_of bytes (slot_of bytes n)) at ∙ same) in
-          absurd cc
-    ]
-
--- every test of a page
-pub tested : (bytes : List ℕ) (count from : ℕ) → count ≡ slot_count bytes → from ≡ low bytes
-    → HasGoodHeader bytes → 16 + 6 * count ≤ from → AreInPlace bytes count
-    → from ≡ end_of bytes count
-    → IsClear bytes (16 + 6 * count) from → HaveDistinctKeys bytes count → IsLaidOut bytes
-tested bytes count from count_is low_is header room in_place ends gap distinct = record {
-  header = header;
-  room = omega (arith, room, count_is, low_is);
-  in_place = subst (AreInPlace bytes) count_is in_place;
-  low_is = sym low_is ∙ ends ∙ ap (end_of bytes) count_is;
-  gap = subst (λ (n : ℕ). IsClear bytes (16 + 6 * n) (low bytes)) count_is
-      (subst (IsClear bytes (16 + 6 * count)) low_is gap);
-  distinct = subst (HaveDistinctKeys bytes) count_is distinct;
-}

@@ -1,6 +1,7 @@
 pub mod Adding
 pub mod Found
 pub mod Held
+pub mod KeyMarks
 pub mod Laid
 pub mod Layouts
 pub mod Pages

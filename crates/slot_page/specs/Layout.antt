@@ -19,6 +19,11 @@ AreInPlace bytes n = (i : ℕ) → i < n
     → (slot_of bytes i).offset + (slot_of bytes i).key_len + (slot_of bytes i).content_len
     ≡ end_of bytes i
 
+-- slot j has another key than each slot before it
+abbrev pub HasNewKey : List ℕ → ℕ → Type 0
+HasNewKey bytes j = (i : ℕ) → i < j
+    → key_of bytes (slot_of bytes i) ≢ key_of bytes (slot_of bytes j)
+
 -- no two of the first n slots have one key
 abbrev pub HaveDistinctKeys : List ℕ → ℕ → Type 0
 HaveDistinctKeys bytes n = (i j : ℕ) → i < j → j < n

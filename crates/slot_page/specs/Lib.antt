@@ -1,3 +1,4 @@
 pub mod Contents
 pub mod Layout
+pub mod Marks
 pub mod Slots

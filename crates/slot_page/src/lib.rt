@@ -4,6 +4,7 @@
 mod bucket;
 mod laws;
 mod layout;
+mod marks;
 mod reading;
 mod slot;
 

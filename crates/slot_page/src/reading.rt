@@ -3,9 +3,10 @@
 ghost use Rattle.std.specs.Prelude.{◌≡◌, ◌+◌, ◌*◌, ◌<◌, ◌≤◌, ◌↔◌, ℕ, slice_index, IsTrue};
 ghost use Rattle.page_model.specs.Reading.{key_of, content_of};
 ghost use Rattle.slot_page.specs.Slots.{as_spelled, slot_at, first_slots};
-ghost use Rattle.slot_page.specs.Layout.{HasGoodHeader, AreInPlace, HaveDistinctKeys, IsLaidOut, end_of};
+ghost use Rattle.slot_page.specs.Layout.{HasGoodHeader, AreInPlace, HasNewKey, HaveDistinctKeys, IsLaidOut, end_of};
 
 use crate::layout::{COUNT_AT, HEAD, HEADER_LEN, KIND_AT, LOW_AT, OVERFLOW, SLOT_LEN};
+use crate::marks::{MARK_COUNT, mark_of};
 use crate::slot::{Slot, Slots};
 use page_io::{PAGE_LEN, Page};
 
@@ -83,19 +84,35 @@ pub fn content_at(page: &Page, slot: Slot) -> &[u8]
     &page.bytes[from..from + slot.content_len as usize]
 }
 
-/// Whether no two of the first `count` slots have one key.
+/// Whether slot `j` has another key than each slot before it.
+fn is_new_key(page: &Page, j: usize) -> bool
+    requires slots { 16 + 6 * j + 6 ≤ 2048 }
+    requires in_place { AreInPlace page.now.bytes (j + 1) }
+    ensures { IsTrue result ↔ HasNewKey page.now.bytes j }
+{
+    let key = key_at(page, slot_at(page, j));
+    for i in 0..j {
+        if key_at(page, slot_at(page, i)) == key {
+            return false;
+        }
+    }
+    true
+}
+
+/// Whether no two of the first `count` slots have one key. Keys are compared only where they share
+/// a mark.
 fn have_distinct_keys(page: &Page, count: usize) -> bool
     requires slots { 16 + 6 * count ≤ 2048 }
     requires in_place { AreInPlace page.now.bytes count }
     ensures { IsTrue result ↔ HaveDistinctKeys page.now.bytes count }
 {
+    let mut is_seen = [false; MARK_COUNT];
     for j in 0..count {
-        let key = key_at(page, slot_at(page, j));
-        for i in 0..j {
-            if key_at(page, slot_at(page, i)) == key {
-                return false;
-            }
+        let mark = usize::from(mark_of(key_at(page, slot_at(page, j))));
+        if is_seen[mark] && !is_new_key(page, j) {
+            return false;
         }
+        is_seen[mark] = true;
     }
     true
 }

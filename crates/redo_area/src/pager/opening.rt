@@ -11,7 +11,7 @@ ghost use Rattle.redo_area.specs.Reading.{OnlyReads};
 use crate::reading::read_file;
 use crate::recovery::recover;
 use crate::{OpenFault, Pager};
-use page_io::{Page, PageStore};
+use page_io::{Page, PageStore, StagedPages};
 use redo_commit::format_pages;
 use sect_dev::SectorDev;
 use std::alloc::Global;
@@ -52,7 +52,7 @@ impl<D: SectorDev> Pager<D> {
         }
         Ok(Pager {
             dev,
-            staged: Vec::new(alloc),
+            staged: StagedPages::new(alloc),
             redo: Vec::new(alloc),
             end: pages.len() as u32 + 1,
             usable: true,
@@ -110,7 +110,7 @@ impl<D: SectorDev> Pager<D> {
             return match recover(&mut dev) {
                 Ok(end) => Ok(Pager {
                     dev,
-                    staged: Vec::new(alloc),
+                    staged: StagedPages::new(alloc),
                     redo: Vec::new(alloc),
                     end,
                     usable: true,
@@ -122,7 +122,7 @@ impl<D: SectorDev> Pager<D> {
         match read_file(alloc, &mut dev) {
             Ok(file) => Ok(Pager {
                 dev,
-                staged: Vec::new(alloc),
+                staged: StagedPages::new(alloc),
                 redo: file.redo,
                 end: file.end,
                 usable: true,

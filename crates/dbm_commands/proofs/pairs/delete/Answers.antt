@@ -11,5 +11,5 @@ returns g c = record {
   step = λ honest h at. same_step refl (sym (delete_is_told c.delete.result _ refl))
       (c.delete.ensures.step honest h at);
   answered = delete_answered c.delete.result _ _ _ refl refl c.delete.ensures.absent
-      c.delete.ensures.only c.delete.ensures.keeps;
+      c.delete.ensures.deleted c.delete.ensures.only c.delete.ensures.keeps;
 }

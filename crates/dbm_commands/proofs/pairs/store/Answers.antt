@@ -10,6 +10,6 @@ returns g c = record {
   told = c.store_told.ensures;
   step = λ honest h at. same_step refl (sym (store_is_told c.store.result _ refl))
       (c.store.ensures.step honest h at);
-  answered = store_answered c.store.result _ _ _ _ _ refl refl c.store.ensures.kept
-      c.store.ensures.only c.store.ensures.keeps;
+  answered = store_answered c.store.result _ _ _ _ _ _ refl refl refl c.store.ensures.kept
+      c.store.ensures.stored c.store.ensures.only c.store.ensures.keeps;
 }

@@ -13,8 +13,9 @@ returns-in-Store g c = record {
       ∙ sym (ap call_of c.in-Store.is)) (sym (store_is_told _ _ c.store_told.ensures))
       (c.store.ensures.step honest h at);
   answered = answered_to c.args.db.now c.store.new.self _ _ c.store_told.result c.in-Store.is
-      (store_answered c.store.result c.store_told.result _ _ _ _ c.store_told.ensures
-      c.as_slice.ensures c.store.ensures.kept c.store.ensures.only c.store.ensures.keeps);
+      (store_answered c.store.result c.store_told.result _ _ _ _ _ c.store_told.ensures
+      c.as_slice.ensures c.as_slice-in-Store.ensures c.store.ensures.kept c.store.ensures.stored
+      c.store.ensures.only c.store.ensures.keeps);
   goes = c.store.ensures.keeps.goes;
   rooms = c.requires.0;
   taken = no_room_taken _ _ _ c.in-Store.is refl;
@@ -43,8 +44,8 @@ returns-in-Delete g c = record {
       (sym (delete_is_told _ _ c.delete_told.ensures)) (c.delete.ensures.step honest h at);
   answered = answered_to c.args.db.now c.delete.new.self _ _ c.delete_told.result c.in-Delete.is
       (delete_answered c.delete.result c.delete_told.result _ _ c.delete_told.ensures
-      c.as_slice-in-Delete.ensures c.delete.ensures.absent c.delete.ensures.only
-      c.delete.ensures.keeps);
+      c.as_slice-in-Delete.ensures c.delete.ensures.absent c.delete.ensures.deleted
+      c.delete.ensures.only c.delete.ensures.keeps);
   goes = c.delete.ensures.keeps.goes;
   rooms = c.requires.0;
   taken = no_room_taken _ _ _ c.in-Delete.is refl;

@@ -1,4 +1,3 @@
-use Rattle.std.proofs.Common.{subst}
 use Rattle.dbm_lines.proofs.Reading.{at_end, at_feed, at_part, counted_on}
 use Rattle.dbm_lines.proofs.lines.read_line.Goals as goal
 

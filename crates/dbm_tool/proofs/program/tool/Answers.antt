@@ -1,6 +1,7 @@
-use Rattle.std.proofs.Common.{inl, inr, ⊎_elim, refl}
+use Rattle.std.proofs.Common.{inl, inr, ⊎_elim, map, refl, subst, Bool}
+use Rattle.dbm_words.specs.CommandLine.{AreVerbose}
 use Rattle.dbm_fault.specs.declared.engine_fault.EngineFault.TheVariants.{Write}
-use Rattle.dbm_tool.proofs.Statuses.{done_at_zero, prints_or_stays, reads_or_stays, tells_fault}
+use Rattle.dbm_tool.proofs.Statuses.{done_at_zero, plain_lines, prints_or_stays, reads_or_stays, tells_fault, tells_misuse}
 use Rattle.dbm_tool.proofs.program.tool.Goals as goal
 
 pub returns-in-Ok-show-clause-done : goal.returns-in-Ok-show-clause-done
@@ -28,7 +29,7 @@ returns-in-Err-show-clause-fault g c two =
             other)
             (c.in-Err-Help.ensures.passes taken),
       ));
-      line = c.ended-in-Err-show.ensures.line;
+      lines = plain_lines _ _ _ _ Write c.ended-in-Err-show.ensures.line;
     }
 
 pub returns-in-Err-show-clause-output : goal.returns-in-Err-show-clause-output
@@ -42,21 +43,28 @@ returns-in-Err-show-clause-output g c =
 
 pub returns-in-Ok-clause-done : goal.returns-in-Ok-clause-done
 returns-in-Ok-clause-done g c zero = inr record {
-  plan = c.in-Ok.plan;
+  plan = c.in-Ok.request.plan;
   is_plan = c.in-Ok.ensures.plan;
-  does = done_at_zero c.carry_out.result _ c.ended.ensures.status zero c.carry_out.ensures.does;
+  does = done_at_zero c.carry_out-done.result _ c.ended_by.ensures.status zero c.carry_out-done.ensures.does;
 }
 
 pub returns-in-Ok-clause-fault : goal.returns-in-Ok-clause-fault
 returns-in-Ok-clause-fault g c two =
-    tells_fault _ c.in-Ok.plan c.carry_out.result _ _ _ _ _ _ _ c.in-Ok.ensures.plan
-    c.carry_out.ensures.ends c.carry_out.ensures.loses c.ended.ensures.line c.ended.ensures.status
-    two
+    tells_fault _ c.in-Ok.request.plan c.carry_out-done.result _ _ _ _ _ _ _ _ c.in-Ok.ensures.plan
+    c.carry_out-done.ensures.ends c.carry_out-done.ensures.loses
+    (λ is. subst (λ (b : Bool). AreVerbose (map (λ word. word.now) c.args.words.now) b)
+    (c.asked.ensures is) c.in-Ok.ensures.verbose)
+    c.ended_by.ensures.line c.ended_by.ensures.status two
+
+pub returns-in-Ok-clause-usage : goal.returns-in-Ok-clause-usage
+returns-in-Ok-clause-usage g c three =
+    tells_misuse _ c.in-Ok.request.plan c.carry_out-done.result _ _ _ _ _ c.in-Ok.ensures.plan
+    c.carry_out-done.ensures.ends c.ended_by.ensures.line c.ended_by.ensures.status three
 
 pub returns-in-Ok-clause-output : goal.returns-in-Ok-clause-output
 returns-in-Ok-clause-output g c =
-    prints_or_stays _ c.in-Ok.plan _ c.in-Ok.ensures.plan c.carry_out.ensures.output
+    prints_or_stays _ c.in-Ok.request.plan _ c.in-Ok.ensures.plan c.carry_out-done.ensures.output
 
 pub returns-in-Ok-clause-input : goal.returns-in-Ok-clause-input
 returns-in-Ok-clause-input g c =
-    reads_or_stays _ c.in-Ok.plan _ c.in-Ok.ensures.plan c.carry_out.ensures.input
+    reads_or_stays _ c.in-Ok.request.plan _ c.in-Ok.ensures.plan c.carry_out-done.ensures.input

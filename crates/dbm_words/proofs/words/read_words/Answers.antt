@@ -1,32 +1,39 @@
 use Rattle.std.proofs.Common.{◌≡◌, ◌∙◌, IfErr, IfOk, inl, map, ap, refl, codes}
 use Rattle.clap.specs.Words.{app_of, takes}
-use Rattle.dbm_words.specs.CommandLine.{Names, NamesNoSource}
+use Rattle.dbm_words.specs.CommandLine.{IsVerbose, Names, NamesNoSource}
 use Rattle.dbm_words.specs.declared.words.WordsError.TheVariants.{RehearsalSource, ScriptSource}
-use Rattle.dbm_words.proofs.Reading.{of_words}
+use Rattle.dbm_words.proofs.Reading.{of_words, rows_of_words}
 use Rattle.dbm_words.proofs.Refusing.{choice_is_sorted, choice_passes, memory_is_other}
 use Rattle.dbm_words.proofs.words.read_words.Goals as goal
 
 pub returns-in-Ok-try_get_matches_from-clause-plan : goal.returns-in-Ok-try_get_matches_from-clause-plan
 returns-in-Ok-try_get_matches_from-clause-plan c =
     of_words c.in-Ok-try_get_matches_from.matches (app_of c.in-Ok.command)
-    (map (λ word. word.now) c.args.words.now) (λ entered. IfOk c.chosen.result (Names entered))
-    c.in-Ok.ensures.shape c.in-Ok-try_get_matches_from.ensures.matches c.chosen.ensures.plan
+    (map (λ word. word.now) c.args.words.now) (λ entered. IfOk c.requested.result (λ r. Names entered r.plan))
+    c.in-Ok.ensures.shape c.in-Ok-try_get_matches_from.ensures.matches c.requested.ensures.plan
+
+pub returns-in-Ok-try_get_matches_from-clause-verbose : goal.returns-in-Ok-try_get_matches_from-clause-verbose
+returns-in-Ok-try_get_matches_from-clause-verbose c =
+    rows_of_words c.in-Ok-try_get_matches_from.matches (app_of c.in-Ok.command)
+    (map (λ word. word.now) c.args.words.now)
+    (λ rows. IfOk c.requested.result (λ r. IsVerbose rows r.verbose))
+    c.in-Ok.ensures.shape c.in-Ok-try_get_matches_from.ensures.matches c.requested.ensures.verbose
 
 pub returns-in-Ok-try_get_matches_from-clause-source : goal.returns-in-Ok-try_get_matches_from-clause-source
 returns-in-Ok-try_get_matches_from-clause-source c =
     of_words c.in-Ok-try_get_matches_from.matches (app_of c.in-Ok.command)
     (map (λ word. word.now) c.args.words.now)
-    (λ entered. IfErr c.chosen.result
+    (λ entered. IfErr c.requested.result
     (λ e. e ≡ ScriptSource → NamesNoSource (codes "script") entered))
-    c.in-Ok.ensures.shape c.in-Ok-try_get_matches_from.ensures.matches c.chosen.ensures.source
+    c.in-Ok.ensures.shape c.in-Ok-try_get_matches_from.ensures.matches c.requested.ensures.source
 
 pub returns-in-Ok-try_get_matches_from-clause-device : goal.returns-in-Ok-try_get_matches_from-clause-device
 returns-in-Ok-try_get_matches_from-clause-device c =
     of_words c.in-Ok-try_get_matches_from.matches (app_of c.in-Ok.command)
     (map (λ word. word.now) c.args.words.now)
-    (λ entered. IfErr c.chosen.result
+    (λ entered. IfErr c.requested.result
     (λ e. e ≡ RehearsalSource → NamesNoSource (codes "rehearse") entered))
-    c.in-Ok.ensures.shape c.in-Ok-try_get_matches_from.ensures.matches c.chosen.ensures.device
+    c.in-Ok.ensures.shape c.in-Ok-try_get_matches_from.ensures.matches c.requested.ensures.device
 
 pub returns-in-Err-clause-source : goal.returns-in-Err-clause-source
 returns-in-Err-clause-source c = λ is. absurd (c.sorted.ensures.source.0 is)
@@ -51,11 +58,11 @@ returns-in_default-clause-passes c = λ _. inl refl
 
 pub returns-in-Ok-try_get_matches_from-clause-sorted : goal.returns-in-Ok-try_get_matches_from-clause-sorted
 returns-in-Ok-try_get_matches_from-clause-sorted c =
-    choice_is_sorted c.chosen.result c.chosen.ensures.others
+    choice_is_sorted c.requested.result c.requested.ensures.others
 
 pub returns-in-Ok-try_get_matches_from-clause-passes : goal.returns-in-Ok-try_get_matches_from-clause-passes
 returns-in-Ok-try_get_matches_from-clause-passes c = λ _.
-    choice_passes c.chosen.result c.chosen.ensures.others
+    choice_passes c.requested.result c.requested.ensures.others
 
 pub returns-in-Err-clause-sorted : goal.returns-in-Err-clause-sorted
 returns-in-Err-clause-sorted c = c.sorted.ensures.sorted

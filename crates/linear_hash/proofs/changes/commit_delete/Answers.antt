@@ -6,7 +6,7 @@ use Rattle.dbm_model.specs.Pairs.{Contents}
 use Rattle.page_model.specs.Placement.{Placement, contents, delete}
 use Rattle.page_io.specs.Store.{StoreState}
 use Rattle.page_io.specs.Views.{body_at}
-use Rattle.page_io.specs.declared.store.PageFault.TheVariants.{Damaged}
+use Rattle.page_io.specs.declared.store.PageFault.TheVariants.{Memory, Damaged}
 use Rattle.page_io.specs.declared.store.PageFault.{PageFault}
 use Rattle.seg_table.specs.MetaPages.{model_meta}
 use Rattle.linear_hash.specs.Tables.{IsTable}
@@ -14,9 +14,10 @@ use Rattle.page_commit.specs.Committing.{Holds, MayCommit}
 use Rattle.linear_hash.specs.Holding.{StandsForEither}
 use Rattle.linear_hash.specs.Staging.{IsStaged}
 use Rattle.page_commit.proofs.CommitResults.{commit_ok}
-use Rattle.linear_hash.proofs.Changing.{never_damaged, few_staged, grows_to, lacks_few, change_answer, commit_holds, staged_stands, leaves_either, leaves_old, told_by, no_room_by}
+use Rattle.linear_hash.proofs.Changing.{never_damaged, never_memory, few_staged, grows_to, lacks_few, change_answer, commit_holds, staged_stands, leaves_either, leaves_old, told_by, no_room_by}
 use Rattle.linear_hash.proofs.Plans.{now, was_placed, deleted_good, deleted_map}
 use Rattle.linear_hash.proofs.Tables.{is_table}
+use Rattle.linear_hash.proofs.Written.{written_committed}
 use Rattle.linear_hash.proofs.changes.commit_delete.Given.{Over}
 use Rattle.linear_hash.proofs.changes.commit_delete.Goals.{After-finish}
 use Rattle.linear_hash.proofs.changes.commit_delete.Goals as goal
@@ -66,6 +67,13 @@ returns-clause-answer g c =
     c.stage_delete-staged.ensures.stages _ c.requires.writable
     c.stage_delete-staged.ensures.answer c.finish.ensures.answer c.finish.ensures.refused
 
+pub returns-clause-no_memory : goal.returns-clause-no_memory
+returns-clause-no_memory g c is =
+    c.stage_delete-staged.ensures.no_memory
+    (told_by g.S.PageStore _ _ c.finish.new.store c.stage_delete-staged.result
+    c.finish.result c.stage_delete-staged.ensures.stages _ Memory never_memory
+    c.finish.ensures.answer c.finish.ensures.refused is)
+
 pub returns-clause-turns : goal.returns-clause-turns
 returns-clause-turns g c honest usable map holds was =
     let staged = c.stage_delete-staged.ensures in
@@ -105,7 +113,7 @@ returns-clause-turns g c honest usable map holds was =
           c.finish.result c.stage_delete-staged.ensures.stages _ Damaged never_damaged
           c.finish.ensures.answer c.finish.ensures.refused damaged in
           c.stage_delete-staged.ensures.whole honest (plan g c map holds)
-          (table g c map holds) early;
+          (table g c map holds) (there g c map holds was) early;
       grows =
           let p = plan g c map holds in
           let in_table = table g c map holds in
@@ -140,3 +148,11 @@ returns-clause-turns g c honest usable map holds was =
           (omega (arith, is.ends, in_table.ends))
           (ap (λ (st : StoreState). st.capacity) staged.stages.state)) by;
     }
+
+pub returns-clause-deleted : goal.returns-clause-deleted
+returns-clause-deleted g c honest =
+    let staged = c.stage_delete-staged.ensures in
+    let h1 = staged.stages.honesty.1 honest in
+    written_committed g.S.PageStore c.stage_delete-staged.new.store c.finish.new.store _ _ _ _
+    c.stage_delete-staged.result c.finish.result c.finish.ensures.refused staged.may_commit
+    (c.finish.ensures.committed h1) c.finish.ensures.ok (staged.deleted honest)

@@ -7,7 +7,7 @@ use Rattle.dbm_model.specs.Pairs.{Pair, Contents}
 use Rattle.page_model.specs.Placement.{Placement, contents, MayStore, store}
 use Rattle.page_io.specs.Store.{StoreState}
 use Rattle.page_io.specs.Views.{body_at}
-use Rattle.page_io.specs.declared.store.PageFault.TheVariants.{Damaged}
+use Rattle.page_io.specs.declared.store.PageFault.TheVariants.{Memory, Damaged}
 use Rattle.page_io.specs.declared.store.PageFault.{PageFault}
 use Rattle.page_model.proofs.Ends.{store_takes_few}
 use Rattle.seg_table.specs.MetaPages.{model_meta}
@@ -16,9 +16,10 @@ use Rattle.page_commit.specs.Committing.{Holds, MayCommit}
 use Rattle.linear_hash.specs.Holding.{StandsForEither}
 use Rattle.linear_hash.specs.Staging.{IsStaged}
 use Rattle.page_commit.proofs.CommitResults.{commit_ok}
-use Rattle.linear_hash.proofs.Changing.{never_damaged, few_staged, grows_to, lacks_few, change_answer, commit_holds, staged_stands, leaves_either, leaves_old, told_by, no_room_by}
+use Rattle.linear_hash.proofs.Changing.{never_damaged, never_memory, few_staged, grows_to, lacks_few, change_answer, commit_holds, staged_stands, leaves_either, leaves_old, told_by, no_room_by}
 use Rattle.linear_hash.proofs.Plans.{now, was_placed, may_store, stored_good, stored_map}
 use Rattle.linear_hash.proofs.Tables.{is_table}
+use Rattle.linear_hash.proofs.Written.{written_committed}
 use Rattle.linear_hash.proofs.changes.commit_store.Given.{Over}
 use Rattle.linear_hash.proofs.changes.commit_store.Goals.{After-finish}
 use Rattle.linear_hash.proofs.changes.commit_store.Goals as goal
@@ -78,6 +79,13 @@ returns-clause-answer g c =
     change_answer g.S.PageStore _ _ c.finish.new.store c.stage_store-staged.result c.finish.result
     c.stage_store-staged.ensures.stages _ c.requires.writable
     c.stage_store-staged.ensures.answer c.finish.ensures.answer c.finish.ensures.refused
+
+pub returns-clause-memory : goal.returns-clause-memory
+returns-clause-memory g c is =
+    c.stage_store-staged.ensures.memory
+    (told_by g.S.PageStore _ _ c.finish.new.store c.stage_store-staged.result
+    c.finish.result c.stage_store-staged.ensures.stages _ Memory never_memory
+    c.finish.ensures.answer c.finish.ensures.refused is)
 
 pub returns-clause-turns : goal.returns-clause-turns
 returns-clause-turns g c honest usable map holds was =
@@ -162,3 +170,11 @@ returns-clause-turns g c honest usable map holds was =
           (omega (arith, grow, ap (λ (st : StoreState). st.end) staged.stages.state)) few
           (omega (arith, end, is.ends, in_table.ends, pairs)) capacity) by;
     }
+
+pub returns-clause-stored : goal.returns-clause-stored
+returns-clause-stored g c honest few =
+    let staged = c.stage_store-staged.ensures in
+    let h1 = staged.stages.honesty.1 honest in
+    written_committed g.S.PageStore c.stage_store-staged.new.store c.finish.new.store _ _ _ _
+    c.stage_store-staged.result c.finish.result c.finish.ensures.refused staged.may_commit
+    (c.finish.ensures.committed h1) c.finish.ensures.ok (staged.stored honest few)

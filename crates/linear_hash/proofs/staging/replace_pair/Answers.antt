@@ -1,28 +1,32 @@
-use Rattle.std.proofs.Common.{◌≡◌, ◌∙◌, get_or, refl, sym, ap, subst, is_some, arith}
+use Rattle.std.proofs.Common.{◌≡◌, ◌∙◌, ℕ, ◌+◌, ◌≤◌, length, get_or, refl, sym, ap, subst, is_some, arith}
 use Rattle.std.specs.FinMap.{get}
 use Rattle.std.proofs.lemmas.Result.{IfOk-from_err, on_ok_weaker}
 use Rattle.page_model.specs.Address.{address, hash_of}
 use Rattle.page_model.specs.PairLists.{times}
+use Rattle.page_model.specs.Pages.{Body}
 use Rattle.page_model.specs.Chain.{pairs_in}
 use Rattle.page_model.specs.Placement.{Placement, contents, key_bucket, chain_at, delete}
 use Rattle.page_model.specs.PageBodies.{heads_of}
 use Rattle.page_model.proofs.Places.{deleted_finds_none}
 use Rattle.page_io.specs.Store.{StoreState}
 use Rattle.page_io.specs.Views.{body_at, StagesOnly, MayEnd}
-use Rattle.page_io.specs.declared.store.PageFault.TheVariants.{NoRoom, Damaged}
-use Rattle.page_io.proofs.Views.{stages_then}
+use Rattle.page_io.specs.declared.store.PageFault.TheVariants.{Memory, NoRoom, Damaged}
+use Rattle.page_io.proofs.Views.{same_said, stages_then}
 use Rattle.page_io.proofs.Exits.{exit_is, came, cause_first, cause_then, cause_last}
 use Rattle.free_pages.specs.FreeList.{HasEnds}
 use Rattle.free_pages.specs.declared.free_state.FreeState.{FreeState}
 use Rattle.seg_table.specs.MetaPages.{model_meta}
+use Rattle.bucket_chain.specs.AnyFile.{AreInTurn, IsAdded}
 use Rattle.bucket_chain.specs.Changes.{IsPlaced}
 use Rattle.linear_hash.specs.Tables.{shape_in}
 use Rattle.linear_hash.specs.Staging.{IsMidway}
+use Rattle.linear_hash.specs.Changing.{IsOutWhere}
 use Rattle.linear_hash.proofs.Buckets.{bucket_of, bucket_is}
-use Rattle.linear_hash.proofs.Midway.{midway_read, midway_same, midway_heads, midway_below, midway_chain, midway_once, midway_deleted, midway_put, delete_none, not_in_chain, head_still, may_end_same, may_end_read}
-use Rattle.linear_hash.proofs.Refusals.{head_refused, remove_refused, head_has_room, remove_has_room, put_answers}
+use Rattle.linear_hash.proofs.Midway.{midway_read, midway_same, midway_heads, midway_below, midway_chain, midway_once, midway_one, midway_deleted, midway_put, delete_none, not_in_chain, head_still, may_end_same, may_end_read}
+use Rattle.linear_hash.proofs.Refusals.{head_no_memory, head_refused, remove_refused, head_has_room, remove_has_room, put_answers}
+use Rattle.linear_hash.proofs.Written.{in_bucket, was_out, was_not, added_under}
 use Rattle.linear_hash.proofs.staging.replace_pair.Given.{Over}
-use Rattle.linear_hash.proofs.staging.replace_pair.Goals.{In_ok-head, After-put, then-was_there+in_ok-remove, else-was_there}
+use Rattle.linear_hash.proofs.staging.replace_pair.Goals.{In_ok-head, After-put, then-was_there+in_ok-take_out, else-was_there}
 use Rattle.linear_hash.proofs.staging.replace_pair.Goals as goal
 
 -- the head page is not told
@@ -33,11 +37,14 @@ returns-in_err-head g c =
     let exit = exit_is result.result c.in_err-head.field-0.0 result.ensures.1 in
     record {
       stages = told.reads.stages_only;
+      few = omega (arith, ap (λ (s : StoreState). length s.staged) told.reads.same);
+      memory = λ is. absurd (head_no_memory {T = ℕ} _ told.answer.only (came _ _ exit Memory is));
       cause = cause_first _ _ exit _ _ told.cause;
       answer = head_refused _ _ refl _ _ exit told.answer;
       ends = λ e. e;
       may_end = λ may. IfOk-from_err _ _ result.ensures.0;
       room = λ none. absurd (head_has_room _ _ told.answer (came _ _ exit NoRoom none));
+      put_in = λ honest. IfOk-from_err _ _ result.ensures.0;
       exact = λ honest p mid was. IfOk-from_err _ _ result.ensures.0;
       whole = λ honest p mid was damaged.
           told.whole honest (heads_of p.chains) (midway_heads _ _ _ p mid c.requires.valid.used)
@@ -45,21 +52,28 @@ returns-in_err-head g c =
     }
 
 -- the key is not taken out
-pub returns-in_err-remove : goal.returns-in_err-remove
-returns-in_err-remove g c =
+pub returns-in_err-take_out : goal.returns-in_err-take_out
+returns-in_err-take_out g c =
     let one = c.in_ok-head.ensures.reads in
-    let told = c.in_err-remove.ensures in
-    let result = c.from_residual-in_err-remove in
-    let exit = exit_is result.result c.in_err-remove.field-0.0 result.ensures.1 in
+    let told = c.in_err-take_out.ensures in
+    let result = c.from_residual-in_err-take_out in
+    let exit = exit_is result.result c.in_err-take_out.field-0.0 result.ensures.1 in
     record {
       stages = stages_then g.S.PageStore _ _ _ (g.met.S.PageStore.counts_now c.head_of.new.store)
           one.stages_only told.stages;
+      few = omega (arith, told.few, ap (λ (s : StoreState). length s.staged) one.same);
+      memory = λ is. omega (
+        arith,
+        told.answer.memory (came _ _ exit Memory is),
+        ap (λ (s : StoreState). length s.staged) one.same,
+      );
       cause = cause_then _ _ exit _ _ _ one.stages_only.later told.cause;
       answer = remove_refused _ _ (ap (λ (s : StoreState). s.usable) one.same) _ _
           exit _ told.answer;
       ends = told.ends;
       may_end = λ may. IfOk-from_err _ _ result.ensures.0;
       room = λ none. absurd (remove_has_room _ _ _ told.answer (came _ _ exit NoRoom none));
+      put_in = λ honest. IfOk-from_err _ _ result.ensures.0;
       exact = λ honest p mid was. IfOk-from_err _ _ result.ensures.0;
       whole = λ honest p mid was damaged.
           let used = c.requires.valid.used in
@@ -71,7 +85,8 @@ returns-in_err-remove g c =
           let here = midway_read g.S.PageStore _ _ _ _ p one honest mid in
           told.whole (one.stages_only.honesty.1 honest) _ _
           (midway_chain _ _ _ p here used c.args.key.now c.bucket.result bucket
-          c.in_ok-head.head head) (midway_once _ _ _ p here used c.args.key.now)
+          c.in_ok-head.head head)
+          (midway_one _ _ _ p here used c.args.key.now (sym was ∙ c.if-was_there.true))
           (came _ _ exit Damaged damaged);
     }
 
@@ -81,17 +96,30 @@ module _ (g : Over) (c : After-put g) where
   stages_so_far =
       let reads = c.in_ok-head.ensures.reads.stages_only in
       elim c.if-was_there.branch [
-        | then-was_there+in_ok-remove w ↦
+        | then-was_there+in_ok-take_out w ↦
             subst (StagesOnly g.S.PageStore c.args.store.now) (sym w.store-is)
             (stages_then g.S.PageStore _ _ _ (g.met.S.PageStore.counts_now c.head_of.new.store)
-            reads w.in_ok-remove.ensures.stages)
+            reads w.in_ok-take_out.ensures.stages)
         | else-was_there w ↦ subst (StagesOnly g.S.PageStore c.args.store.now)
             (sym w.store-is) reads
       ]
 
+  few_so_far : length (g.S.PageStore.state c.if-was_there.store).staged
+      ≤ length (g.S.PageStore.state c.args.store.now).staged + 2
+  few_so_far =
+      let read = ap (λ (s : StoreState). length s.staged) c.in_ok-head.ensures.reads.same in
+      elim c.if-was_there.branch [
+        | then-was_there+in_ok-take_out w ↦
+            let is = ap (λ s. length (g.S.PageStore.state s).staged) w.store-is in
+            omega (arith, is, w.in_ok-take_out.ensures.few, read)
+        | else-was_there w ↦
+            let is = ap (λ s. length (g.S.PageStore.state s).staged) w.store-is in
+            omega (arith, is, read)
+      ]
+
   ends_so_far : HasEnds c.args.space.now → HasEnds c.if-was_there.space
   ends_so_far e = elim c.if-was_there.branch [
-    | then-was_there+in_ok-remove w ↦ subst HasEnds (sym w.space-is) (w.in_ok-remove.ensures.ends e)
+    | then-was_there+in_ok-take_out w ↦ subst HasEnds (sym w.space-is) (w.in_ok-take_out.ensures.ends e)
     | else-was_there w ↦ subst HasEnds (sym w.space-is) e
   ]
 
@@ -100,16 +128,16 @@ module _ (g : Over) (c : After-put g) where
   may_end_so_far may =
       let read = may_end_read g.S.PageStore _ _ _ c.in_ok-head.ensures.reads may in
       elim c.if-was_there.branch [
-        | then-was_there+in_ok-remove w ↦
+        | then-was_there+in_ok-take_out w ↦
             may_end_same g.S.PageStore _ _ _ _ w.store-is w.space-is
-            (w.in_ok-remove.ensures.may_end read)
+            (w.in_ok-take_out.ensures.may_end read)
         | else-was_there w ↦ may_end_same g.S.PageStore _ _ _ _ w.store-is w.space-is read
       ]
 
   end_so_far : c.if-was_there.space.file_end ≡ c.args.space.now.file_end
   end_so_far = elim c.if-was_there.branch [
-    | then-was_there+in_ok-remove w ↦
-        ap (λ (f : FreeState). f.file_end) w.space-is ∙ w.in_ok-remove.ensures.end
+    | then-was_there+in_ok-take_out w ↦
+        ap (λ (f : FreeState). f.file_end) w.space-is ∙ w.in_ok-take_out.ensures.end
     | else-was_there w ↦ ap (λ (f : FreeState). f.file_end) w.space-is
   ]
 
@@ -117,6 +145,31 @@ module _ (g : Over) (c : After-put g) where
       (hash_of c.args.key.now)
   bucket = bucket_of c.args.meta.now c.args.key.now c.bucket.result c.hash.result
       c.bucket.ensures.address c.hash.ensures
+
+  -- the change of the chain from a head page on
+  abbrev put_from : (ℕ → Body) → ℕ → Type 0
+  put_from at head =
+      AreInTurn (λ (mid : ℕ → Body) (between : FreeState).
+      IsOutWhere c.args.was_there at mid c.args.space.now between head c.args.key.now)
+      (λ (mid : ℕ → Body) (between : FreeState).
+      IsAdded mid (body_at g.S.PageStore c.put.new.store)
+      (MayEnd (g.S.PageStore.state c.args.store.now) c.args.space.now.file_end) between
+      c.put.new.space head (c.args.key.now, c.args.content.now))
+
+  -- the key is out of its bucket, on any file
+  out_so_far : g.S.PageStore.honest c.args.store.now
+      → IsOutWhere c.args.was_there (body_at g.S.PageStore c.head_of.new.store)
+      (body_at g.S.PageStore c.if-was_there.store) c.args.space.now c.if-was_there.space
+      c.in_ok-head.head c.args.key.now
+  out_so_far honest = elim c.if-was_there.branch [
+    | then-was_there+in_ok-take_out w ↦
+        was_out g.S.PageStore _ _ _ _ _ _ _ _ _ w.store-is w.space-is w.if-was_there.true
+        (w.in_ok-take_out.ensures.taken_out
+        (c.in_ok-head.ensures.reads.stages_only.honesty.1 honest))
+    | else-was_there w ↦
+        was_not g.S.PageStore _ _ _ _ _ _ _ _ _ w.store-is w.space-is w.if-was_there.false
+        refl refl
+  ]
 
   module _ (honest : g.S.PageStore.honest c.args.store.now) (p : Placement)
       (mid : IsMidway (body_at g.S.PageStore c.args.store.now) (model_meta c.args.meta.now)
@@ -135,13 +188,13 @@ module _ (g : Over) (c : After-put g) where
         let h1 = c.in_ok-head.ensures.reads.stages_only.honesty.1 honest in
         let here = midway_read g.S.PageStore _ _ _ _ p c.in_ok-head.ensures.reads honest mid in
         elim c.if-was_there.branch [
-          | then-was_there+in_ok-remove w ↦
+          | then-was_there+in_ok-take_out w ↦
               let placed = midway_chain _ _ _ p here used c.args.key.now c.bucket.result bucket
               c.in_ok-head.head head_is in
-              let gone = w.in_ok-remove.ensures.exact h1 _ _ placed
+              let gone = w.in_ok-take_out.ensures.exact h1 _ _ placed
               (midway_once _ _ _ p here used c.args.key.now) in
               midway_same g.S.PageStore _ _ _ _ _ _ w.store-is w.space-is
-              (midway_deleted _ _ _ p here used _ _ c.args.key.now gone.left)
+              (midway_deleted _ _ _ p here used _ _ c.args.key.now gone)
           | else-was_there w ↦
               let none = delete_none p c.args.key.now mid.sound (sym was ∙ w.if-was_there.false) in
               midway_same g.S.PageStore _ _ _ _ _ _ w.store-is w.space-is
@@ -175,6 +228,8 @@ returns g c =
     record {
       stages = stages_then g.S.PageStore _ _ _ (g.met.S.PageStore.counts_now c.if-was_there.store)
           so_far told.stages;
+      few = omega (arith, told.few, few_so_far g c);
+      memory = λ is. omega (arith, told.answer.memory is, few_so_far g c);
       cause = cause_last _ _ _ _ so_far.later told.cause;
       answer = put_answers _ _ _ _ _ (ap (λ (s : StoreState). s.usable) so_far.state) told.answer;
       ends = λ e. told.ends (ends_so_far g c e);
@@ -185,6 +240,17 @@ returns g c =
         end_so_far g c,
         ap (λ (s : StoreState). s.capacity) so_far.state,
       );
+      put_in = λ honest.
+          on_ok_weaker c.put.result (λ added.
+          in_bucket _ _ (model_meta c.args.meta.now) c.args.key.now c.bucket.result
+          c.in_ok-head.head (put_from g c) (bucket g c) (c.in_ok-head.ensures.entry honest)
+          (same_said g.S.PageStore _ _ c.in_ok-head.ensures.reads honest)
+          (record {
+            mid = body_at g.S.PageStore c.if-was_there.store;
+            between = c.if-was_there.space;
+            first = out_so_far g c honest;
+            second = added_under _ _ _ _ _ _ _ _ (may_end_so_far g c) added;
+          })) (told.added (h1 honest));
       exact = λ honest p mid was.
           on_ok_weaker c.put.result (λ becomes.
           midway_put _ _ _ (delete p c.args.key.now) (removed g c honest p mid was)

@@ -1,4 +1,4 @@
-use Rattle.std.proofs.Common.{◌≡◌, ℕ, ◌*◌, ◌<◌, ◌≤◌, refl, sym, ap, subst}
+use Rattle.std.proofs.Common.{◌≡◌, ℕ, ◌*◌, ◌<◌, ◌≤◌, refl, sym, ap, subst, arith}
 use Rattle.std.proofs.lemmas.Result.{IfOk-from_err}
 use Rattle.page_model.specs.Pages.{Meta}
 use Rattle.page_io.specs.Views.{body_at}
@@ -33,9 +33,16 @@ returns-in_err-split_bucket g c =
       stages = told.stages;
       cause = cause_first _ _ exit _ _ told.cause;
       answer = change_refused _ _ refl _ _ exit told.answer;
+      memory = λ is.
+          subst (λ (b : ℕ). 8 * b < c.args.meta.now.pairs) c.buckets.ensures
+          c.if-meta-buckets.true;
       valid = IfOk-from_err _ _ result.ensures.0;
       kept = IfOk-from_err _ _ result.ensures.0;
       shape = IfOk-from_err _ _ result.ensures.0;
+      still = λ few.
+          let full = subst (λ (b : ℕ). 8 * b < c.args.meta.now.pairs) c.buckets.ensures
+          c.if-meta-buckets.true in
+          absurd (omega (arith, few, full));
       ends = told.ends;
       may_end = λ may. IfOk-from_err _ _ result.ensures.0;
       exact = λ honest p mid near counted. IfOk-from_err _ _ result.ensures.0;
@@ -59,6 +66,12 @@ pub returns-in_ok-split_bucket-clause-kept : goal.returns-in_ok-split_bucket-cla
 returns-in_ok-split_bucket-clause-kept g c =
     let rest = c.in_ok-split_bucket.ensures.grown.rest in
     (ap (λ (m : Meta). m.limit) rest, ap (λ (m : Meta). m.pairs) rest)
+
+pub returns-in_ok-split_bucket-clause-still : goal.returns-in_ok-split_bucket-clause-still
+returns-in_ok-split_bucket-clause-still g c few =
+    let full = subst (λ (b : ℕ). 8 * b < c.args.meta.now.pairs) c.buckets.ensures
+    c.if-meta-buckets.true in
+    absurd (omega (arith, few, full))
 
 pub returns-in_ok-split_bucket-clause-ends : goal.returns-in_ok-split_bucket-clause-ends
 returns-in_ok-split_bucket-clause-ends g c = c.in_ok-split_bucket.ensures.ends
@@ -114,6 +127,9 @@ returns-else-meta-buckets-clause-answer g c = no_refusal _ _
 
 pub returns-else-meta-buckets-clause-kept : goal.returns-else-meta-buckets-clause-kept
 returns-else-meta-buckets-clause-kept g c = (refl, refl)
+
+pub returns-else-meta-buckets-clause-still : goal.returns-else-meta-buckets-clause-still
+returns-else-meta-buckets-clause-still g c few = (refl, refl, refl)
 
 pub returns-else-meta-buckets-clause-ends : goal.returns-else-meta-buckets-clause-ends
 returns-else-meta-buckets-clause-ends g c e = e

@@ -1,24 +1,34 @@
-use Rattle.std.proofs.Common.{◌≡◌, ◌∙◌, ◌+◌, ◌≤◌, IfOk, length, refl, sym, ap, subst, arith}
+use Rattle.std.proofs.Common.{◌≡◌, ◌∙◌, ⊎_elim, ℕ, ◌+◌, ◌*◌, ◌≤◌, Bool, true, false, cond, IfOk, length, refl, sym, ap, subst, arith}
+use Rattle.std.proofs.lemmas.Bool.{cases_lt}
 use Rattle.std.proofs.lemmas.Result.{IfOk-from_err}
+use Rattle.page_model.specs.Valid.{meta_buckets}
 use Rattle.page_model.specs.Pages.{Meta}
 use Rattle.dbm_model.specs.Pairs.{Pair}
 use Rattle.page_model.specs.Placement.{Placement, pairs_of, replace}
-use Rattle.page_io.specs.Store.{StoreState}
-use Rattle.page_io.specs.Views.{body_at, StagesOnly}
-use Rattle.page_io.specs.declared.store.PageFault.TheVariants.{Damaged, NoRoom}
+use Rattle.page_io.specs.Store.{Pages, StoreState}
+use Rattle.page_io.specs.Views.{body_at, StagesOnly, MayEnd}
+use Rattle.page_io.specs.declared.store.PageFault.TheVariants.{Memory, Damaged, NoRoom}
 use Rattle.page_io.proofs.Views.{stages_then}
 use Rattle.page_io.proofs.Exits.{exit_is, came, cause_first, cause_then, cause_last, last_not_damaged, last_has_room}
 use Rattle.free_pages.specs.declared.free_state.FreeState.{FreeState}
 use Rattle.seg_table.specs.MetaPages.{model_meta}
 use Rattle.linear_hash.specs.Tables.{space_in, split_where_full}
 use Rattle.linear_hash.specs.Staging.{IsStaged}
+use Rattle.linear_hash.specs.Changing.{PutIn}
 use Rattle.linear_hash.proofs.Midway.{midway_same}
 use Rattle.linear_hash.proofs.Stagings.{table_midway, midway_pairs, staged_at_last, staged_ok}
 use Rattle.linear_hash.proofs.StoredPairs.{replaced_end, at_most_one_more, counted_more, where_full, full_count}
+use Rattle.linear_hash.proofs.Written.{put_under, put_after, idle_end, counted_only, written_last}
 use Rattle.linear_hash.proofs.staging.stage_store.Given.{Over}
 use Rattle.linear_hash.proofs.staging.stage_store.Goals.{After-stage_meta}
 use Rattle.linear_hash.proofs.Refusals.{change_refused, stage_answers}
 use Rattle.linear_hash.proofs.staging.stage_store.Goals as goal
+
+-- how many pairs there are then
+more_pairs : (was_there : Bool) (pairs more : ℕ) → more ≡ cond was_there 0 1
+    → pairs + more ≡ cond was_there pairs (pairs + 1)
+more_pairs true pairs more is = omega (arith, is)
+more_pairs false pairs more is = omega (arith, is)
 
 -- the pair is not put
 pub returns-in_err-replace_pair : goal.returns-in_err-replace_pair
@@ -30,12 +40,19 @@ returns-in_err-replace_pair g c =
       stages = told.stages;
       cause = cause_first _ _ exit _ _ told.cause;
       answer = change_refused _ _ refl _ _ exit told.answer;
+      memory = λ is. absurd (omega (
+        arith,
+        told.memory (came _ _ exit Memory is),
+        ap (λ (ps : Pages). length ps) c.requires.idle,
+        g.S.PageStore.reserves,
+      ));
       valid = IfOk-from_err _ _ result.ensures.0;
       limit = IfOk-from_err _ _ result.ensures.0;
       pairs = IfOk-from_err _ _ result.ensures.0;
       shape = IfOk-from_err _ _ result.ensures.0;
       may_commit = IfOk-from_err _ _ result.ensures.0;
       grows = IfOk-from_err _ _ result.ensures.0;
+      stored = λ honest few. IfOk-from_err _ _ result.ensures.0;
       exact = λ honest p table may was. IfOk-from_err _ _ result.ensures.0;
       whole = λ honest p table was damaged.
           let start = midway_same g.S.PageStore _ _ _ _ c.space_of-space.result p refl
@@ -60,12 +77,18 @@ returns-in_err-split_if_full g c =
       cause = cause_then _ _ exit _ _ _ one.later told.cause;
       answer = change_refused _ _ (ap (λ (s : StoreState). s.usable) one.state) _ _
           exit told.answer;
+      memory = λ is. omega (
+        arith,
+        told.memory (came _ _ exit Memory is),
+        more_pairs c.args.was_there c.args.meta.now.pairs c.added.result c.added.ensures,
+      );
       valid = IfOk-from_err _ _ result.ensures.0;
       limit = IfOk-from_err _ _ result.ensures.0;
       pairs = IfOk-from_err _ _ result.ensures.0;
       shape = IfOk-from_err _ _ result.ensures.0;
       may_commit = IfOk-from_err _ _ result.ensures.0;
       grows = IfOk-from_err _ _ result.ensures.0;
+      stored = λ honest few. IfOk-from_err _ _ result.ensures.0;
       exact = λ honest p table may was. IfOk-from_err _ _ result.ensures.0;
       whole = λ honest p table was damaged.
           let pair : Pair = (c.args.key.now, c.args.content.now) in
@@ -123,6 +146,24 @@ pub returns-clause-answer : goal.returns-clause-answer
 returns-clause-answer g c = stage_answers _ _ _ _ _
     (ap (λ (s : StoreState). s.usable) (staged_so_far g c).state) c.stage_meta.ensures.answer
 
+-- without a split the meta page is the fifth at most
+pub returns-clause-memory : goal.returns-clause-memory
+returns-clause-memory g c is =
+    let old = c.args.meta.now in
+    let pairs = old.pairs + c.added.result in
+    let more = more_pairs c.args.was_there old.pairs c.added.result c.added.ensures in
+    ⊎_elim
+    (λ full. omega (arith, full, more))
+    (λ few. absurd (omega (
+      arith,
+      (c.stage_meta.ensures.answer.memory is).1,
+      ap (λ s. length (g.S.PageStore.state s).staged) (c.in_ok-split_if_full.ensures.still few).0,
+      c.in_ok-replace_pair.ensures.few,
+      ap (λ (ps : Pages). length ps) c.requires.idle,
+      g.S.PageStore.reserves,
+    )))
+    (cases_lt (8 * meta_buckets (model_meta old)) pairs)
+
 pub returns-clause-whole : goal.returns-clause-whole
 returns-clause-whole g c honest p table was damaged =
     absurd (last_not_damaged _ _ _ _ c.stage_meta.ensures.answer damaged)
@@ -161,3 +202,35 @@ returns-clause-exact g c honest p table may was =
     (λ page end last. staged_at_last _ _ _ (split_where_full q) split all _ _ end
     c.stage_meta.ensures.meta last page (c.stage_meta.ensures.others h2))
     (c.stage_meta.ensures.page h2) c.stage_meta.ensures.end)
+
+-- on any file: the pair is put into its bucket, none is split, and then the meta page is written
+pub returns-clause-stored : goal.returns-clause-stored
+returns-clause-stored g c honest few =
+    let st = g.S.PageStore in
+    let before = model_meta c.args.meta.now in
+    let pair : Pair = (c.args.key.now, c.args.content.now) in
+    let old = body_at st c.args.store.now in
+    let end = (st.state c.args.store.now).end in
+    let replaced = c.in_ok-replace_pair.ensures in
+    let split = c.in_ok-split_if_full.ensures in
+    let h2 = split.stages.honesty.1 (replaced.stages.honesty.1 honest) in
+    let start = c.space_of-space.ensures ∙ ap (space_in before) c.end.ensures in
+    let ends = subst (λ (f : FreeState). MayEnd (st.state c.args.store.now) f.file_end) (sym start)
+    (idle_end (st.state c.args.store.now) c.requires.idle) in
+    let counted : c.split_if_full.new.meta.pairs ≡ c.args.meta.now.pairs + c.added.result =
+    split.kept.1 in
+    let final : c.stage_meta.new.meta.pairs ≡ c.split_if_full.new.meta.pairs =
+    ap (λ (m : Meta). m.pairs) c.stage_meta.ensures.meta in
+    let still = split.still (omega (arith, few, final, counted)) in
+    let put = put_after st c.args.was_there old before (space_in before end) _ _ pair _ _ still.0
+    still.2 (subst (λ (f : FreeState). PutIn c.args.was_there (Unit {0}) old before f pair
+    (body_at st c.replace_pair.new.store) c.replace_pair.new.space) start
+    (put_under c.args.was_there _ (Unit {0}) old _ before _ _ pair (λ u. ends)
+    (replaced.put_in honest))) in
+    staged_ok c.stage_meta.result
+    (λ page last is. written_last
+    (PutIn c.args.was_there (Unit {0}) old before (space_in before end) pair) _ _ before
+    (model_meta c.split_if_full.new.meta) _ _ last put
+    (counted_only before (c.args.meta.now.pairs + c.added.result) _ still.1)
+    c.stage_meta.ensures.meta is page (c.stage_meta.ensures.others h2))
+    (c.stage_meta.ensures.page h2) c.stage_meta.ensures.end

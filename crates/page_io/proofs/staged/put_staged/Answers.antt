@@ -1,5 +1,7 @@
-use Rattle.std.proofs.Common.{◌≡◌, List, ◌∷◌, ◌++◌, set, take, drop, true, false, sym, ◌∙◌, ap, subst}
+use Rattle.std.proofs.Common.{rules, ◌≡◌, List, length, ◌∷◌, ◌++◌, set, take, drop, true, false, sym, ◌∙◌, ap, subst}
+use Rattle.std.proofs.lemmas.List.{length-set}
 use Rattle.std.specs.Prelude.{IsFalse}
+use Rattle.smallvec.proofs.SmallVecLemmas.{items-with_items}
 use Rattle.page_io.specs.Page.{own_number}
 use Rattle.page_io.specs.Store.{Pages, bytes_of, put_page, has_page, are_in_order}
 use Rattle.page_io.specs.declared.page.Page.{Page}
@@ -14,8 +16,14 @@ returns-then-is_at-clause-ok c =
     let at = c.place_of-at.result in
     let page = c.args.page.now in
     let here = c.is_at.ensures.yes c.if-is_at.true in
-    subst (λ (ps : List Page). bytes_of (set ps at page) ≡ put_page (bytes_of ps) page.bytes)
-    c.as_slice-pages.ensures.value
+    let written = set c.deref_mut.result.now at page in
+    let long : length written ≡ length c.args.staged.now.items =
+    length-set c.deref_mut.result.now at page ∙ ap (λ (ps : List Page). length ps)
+    c.deref_mut.ensures.value in
+    ap bytes_of (items-with_items c.args.staged.now written long)
+    ∙ ap (λ (ps : List Page). bytes_of (set ps at page)) c.deref_mut.ensures.value
+    ∙ subst (λ (ps : List Page). bytes_of (set ps at page) ≡ put_page (bytes_of ps) page.bytes)
+    c.as_slice-pages.ensures
     (replaced_at c.as_slice-pages.result.now at page place.within place.before here.0 here.1)
 
 pub returns-then-is_at-clause-order : goal.returns-then-is_at-clause-order
@@ -31,9 +39,9 @@ returns-clause-ok c =
     let at = c.place_of-at.result in
     let page = c.args.page.now in
     let other : IsFalse c.is_at.result = cc in
-    ap bytes_of c.in_ok-insert.ensures.items
+    ap bytes_of c.in_ok-insert.ensures.ok
     ∙ subst (λ (ps : List Page). bytes_of (take at ps ++ page ∷ drop at ps)
-    ≡ put_page (bytes_of ps) page.bytes) c.as_slice-pages.ensures.value
+    ≡ put_page (bytes_of ps) page.bytes) c.as_slice-pages.ensures
     (inserted_at c.as_slice-pages.result.now at page place.within place.before place.after
     (c.is_at.ensures.no other))
 
@@ -53,4 +61,7 @@ returns-in_err-insert-clause-grown c =
     at_error c.from_residual.result _
     (subst (λ (ps : List Page). are_in_order 1 4294967296 (bytes_of ps) ≡ true
     → has_page (bytes_of ps) (own_number page.bytes) ≡ false)
-    c.as_slice-pages.ensures.value absent c.requires.order)
+    c.as_slice-pages.ensures absent c.requires.order)
+
+pub returns-in_err-insert-clause-full : goal.returns-in_err-insert-clause-full
+returns-in_err-insert-clause-full c = at_error c.from_residual.result _ (search rules)

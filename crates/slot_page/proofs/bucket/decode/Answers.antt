@@ -1,7 +1,6 @@
-use Rattle.std.proofs.Common.{◌≡◌, length, map, ap, refl, sym, ◌∙◌}
+use Rattle.std.proofs.Common.{length, ap, refl, sym, ◌∙◌}
 use Rattle.std.proofs.lemmas.List.{length-map}
 use Rattle.page_model.proofs.Buckets.{length-slots_ending, bucket_again}
-use Rattle.page_model.specs.Slots.{slots_ending}
 use Rattle.slot_page.specs.Contents.{page_pairs}
 use Rattle.slot_page.specs.Slots.{as_spelled}
 use Rattle.slot_page.proofs.Pages.{spelled_page, slots_read}

@@ -1,11 +1,11 @@
-use Rattle.std.proofs.Common.{◌≢◌, ◌<◌, ℕ}
-use Rattle.page_model.specs.Reading.{key_of, slot_of}
+use Rattle.std.proofs.Common.{◌≡◌, length}
 use Rattle.slot_page.specs.Layout.{HaveDistinctKeys}
+use Rattle.slot_page.proofs.KeyMarks.{AreNoted}
 use Rattle.slot_page.proofs.reading.have_distinct_keys.Given as goal
 
 abbrev pub invariant-loop-j : goal.invariant-loop-j
-invariant-loop-j l = HaveDistinctKeys l.page.bytes l.j
-
-abbrev pub invariant-loop-i : goal.invariant-loop-i
-invariant-loop-i l =
-    (k : ℕ) → k < l.i → key_of l.page.bytes (slot_of l.page.bytes k) ≢ l.key
+invariant-loop-j l = record {
+  many : length l.is_seen ≡ 256;
+  noted : AreNoted l.page.bytes l.is_seen l.j;
+  distinct : HaveDistinctKeys l.page.bytes l.j;
+}

@@ -1,5 +1,5 @@
-use Rattle.std.proofs.Common.{◌∙◌, refl, arith}
-use Rattle.slot_page.proofs.Layouts.{not_laid_out, tested}
+use Rattle.std.proofs.Common.{arith}
+use Rattle.slot_page.proofs.Layouts.{not_laid_out}
 use Rattle.slot_page.proofs.reading.is_laid_out.Goals as goal
 
 pub returns-then-low-gt-PAGE_LEN : goal.returns-then-low-gt-PAGE_LEN

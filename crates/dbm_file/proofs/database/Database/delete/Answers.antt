@@ -1,4 +1,5 @@
 use Rattle.dbm_file.proofs.Endings.{flagged_ended, flagged_delete}
+use Rattle.dbm_file.proofs.Refused.{refused_is_none}
 use Rattle.dbm_file.proofs.StoreSteps.{delete_flagged}
 use Rattle.dbm_file.proofs.database.Database.delete.Goals as goal
 
@@ -17,6 +18,7 @@ returns-in-Err g c =
       read_only = end.read_only;
       absent = end.absent;
       counted = end.counted;
+      deleted = λ is. refused_is_none c.refuse.result _ _ c.refuse.ensures.answer is;
       keeps = flagged_ended c.args.self.now mid _ _ _ c.refuse.new.error c.in-Err.fault
           c.refuse.ensures.flag c.refuse.result c.refuse.ensures.answer all.ends.keeps;
       only = end.only;
@@ -31,6 +33,7 @@ returns-in-Ok g c =
       read_only = all.ends.read_only;
       absent = all.ends.absent;
       counted = all.ends.counted;
+      deleted = all.ends.deleted;
       keeps = all.ends.keeps;
       only = all.ends.only;
     }

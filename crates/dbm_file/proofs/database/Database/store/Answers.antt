@@ -1,4 +1,5 @@
 use Rattle.dbm_file.proofs.Endings.{flagged_ended, flagged_store}
+use Rattle.dbm_file.proofs.Refused.{refused_is_none}
 use Rattle.dbm_file.proofs.StoreSteps.{store_flagged}
 use Rattle.dbm_file.proofs.database.Database.store.Goals as goal
 
@@ -17,7 +18,9 @@ returns-in-Err g c =
       shape = end.shape;
       read_only = end.read_only;
       kept = end.kept;
+      stored = λ is. refused_is_none c.refuse.result _ _ c.refuse.ensures.answer is;
       too_long = end.too_long;
+      memory = end.memory;
       keeps = flagged_ended c.args.self.now mid _ _ _ c.refuse.new.error c.in-Err.fault
           c.refuse.ensures.flag c.refuse.result c.refuse.ensures.answer all.ends.keeps;
       only = end.only;
@@ -31,7 +34,9 @@ returns-in-Ok g c =
       shape = all.ends.shape;
       read_only = all.ends.read_only;
       kept = all.ends.kept;
+      stored = all.ends.stored;
       too_long = all.ends.too_long;
+      memory = all.ends.memory;
       keeps = all.ends.keeps;
       only = all.ends.only;
     }

@@ -1,17 +1,21 @@
-use Rattle.std.proofs.Common.{◌∙◌, ap, sym, subst, refl, arith}
-use Rattle.std.specs.FinMap.{get}
+use Rattle.std.proofs.Common.{◌∙◌, ap, sym, subst, refl, Err, arith}
+use Rattle.std.specs.FinMap.{get, remove, len}
 use Rattle.dbm_model.specs.Calls as model
 use Rattle.dbm_model.specs.Steps.{Case, Suffers}
 use Rattle.page_io.specs.Store.{StoreState}
 use Rattle.page_model.specs.Pages.{Meta}
 use Rattle.linear_hash.specs.Tables.{shape_in}
-use Rattle.dbm_file.specs.Database.{handle_of}
+use Rattle.dbm_file.specs.Database.{handle_of, meta_kept}
 use Rattle.dbm_file.specs.declared.calls.DeleteReply.TheVariants as deleted
 use Rattle.dbm_fault.specs.declared.fault.Fault.TheVariants.{ReadOnly}
 use Rattle.dbm_file.proofs.Cases.{broken_delete, delete_read_only, delete_rule, delete_fails, absent}
 use Rattle.dbm_file.proofs.ReadSteps.{from_own, no_read, still_meta, still_writable, not_broken, rejected_step, found_step, walk_failed_step, broken_step}
 use Rattle.dbm_file.proofs.ChangeSteps.{mid_honest, mid_usable, mid_holds, changed_step, no_growth, refused_step, told_keeps}
-use Rattle.dbm_file.proofs.Endings.{unusable_delete, unwritable_delete, told_delete, absent_delete, uncounted_delete, done_delete, walk_told, done_keeps, as_change}
+use Rattle.dbm_file.proofs.Endings.{unusable_delete, unwritable_delete, told_delete, absent_delete, uncounted_delete, done_delete, walk_told, done_keeps}
+use Rattle.seg_table.specs.MetaPages.{model_meta}
+use Rattle.dbm_file.proofs.BucketSteps.{none_opened}
+use Rattle.dbm_file.proofs.Refused.{as_change, walk_no_memory}
+use Rattle.dbm_file.proofs.Done.{was_deleted}
 use Rattle.dbm_file.proofs.Searches.{was_absent}
 use Rattle.dbm_file.proofs.StoreSteps.{delete_asked, no_key, delete_told}
 use Rattle.dbm_file.proofs.database.Database.try_delete.Goals as goal
@@ -76,6 +80,7 @@ returns-in_err-has g c =
           c.from_residual.result c.from_residual.ensures.1);
       ends = told_delete db key usable writable c.has.new.self c.from_residual.result
           c.in_err-has.field-0.0 told (as_change _ all.answer.only)
+          (walk_no_memory _ all.answer.only)
           (still_meta s db c.has.new.self all.reads) keeps;
     }
 
@@ -96,7 +101,7 @@ returns-then-not-branch g c =
           ∙ c.if-not-branch.true in
           let falls = delete_rule state key usable writable ∙ absent state key (get map key) none in
           from_own at (found_step s db c.has.new.self map pass _ c.in_ok-has.ensures.reads honest
-          (at.map usable) (at.pass usable) (at.rests usable) model.Absent falls);
+          (at.map usable) (at.pass usable) (at.rests usable) model.Absent refl falls);
       ends = absent_delete db key usable writable c.has.new.self all.reads
           (λ honest. was_absent _ _ key _ c.if-not-branch.true (all.searched honest));
     }
@@ -148,10 +153,11 @@ returns-in_err-delete_pair g c =
           record { ends = all.ends; error_is = refl; pass_ends = tt; pass_stays = refl }
           (all.turns (mid_honest s asked) (mid_usable s asked) map (mid_holds s asked) there)
           (λ t x le left. g.met.S.PageStore.counts_now c.delete_pair.new.store t x
-          (all.ends.honesty.1 (mid_honest s asked)) le left))
+          (all.ends.honesty.1 (mid_honest s asked)) le left)
+          (λ is. absurd (all.no_memory (ap Err is))))
           c.from_residual-in_err-delete_pair.result c.from_residual-in_err-delete_pair.ensures.1);
       ends = told_delete db key usable writable _ r c.in_err-delete_pair.field-0.0 told
-          all.ends.answer.only (all.ends.err.1 ∙ still_meta s db c.has.new.self read) keeps;
+          all.ends.answer.only (λ is. all.no_memory (ap Err is)) (all.ends.err.1 ∙ still_meta s db c.has.new.self read) keeps;
     }
 
 pub returns : goal.returns
@@ -177,6 +183,8 @@ returns g c =
           from_own at (changed_step s asked _
           record { ends = all.ends; error_is = refl; pass_ends = refl; pass_stays = tt }
           (no_growth s asked)
+          (none_opened (handle_of db map pass) model.Deleted (meta_kept c.has.new.self)
+          (model_meta c.delete_pair.new.meta) (len (remove map key)) all.shape refl)
           (all.turns (mid_honest s asked) (mid_usable s asked) map (mid_holds s asked) there)
           (λ x left. g.met.S.PageStore.only_committed c.delete_pair.new.store x
           (all.ends.honesty.1 (mid_honest s asked))
@@ -185,5 +193,8 @@ returns g c =
           ∙ still_writable s db c.has.new.self c.in_ok-has.ensures.reads ∙ writable)
           left));
       ends = done_delete db key usable writable _ (all.shape ∙ ap shape_in same)
-          (all.pairs ∙ ap (λ (m : Meta). m.pairs) same) keeps;
+          (all.pairs ∙ ap (λ (m : Meta). m.pairs) same)
+          (λ honest. was_deleted db c.has.new.self read honest c.delete_pair.new.store
+          (model_meta c.delete_pair.new.meta) key
+          (all.deleted (read.reads.stages_only.honesty.1 honest))) keeps;
     }

@@ -1,9 +1,10 @@
-use Rattle.std.proofs.Common.{◌≡◌, ◌<◌, ◌≤◌, ◌∙◌, ap, sym, subst, refl, true, false, arith}
-use Rattle.std.specs.FinMap.{get, len}
+use Rattle.std.proofs.Common.{◌≡◌, ◌<◌, ◌≤◌, ◌∙◌, ap, sym, subst, refl, true, false, Err, arith}
+use Rattle.std.specs.FinMap.{get, insert, len}
 use Rattle.dbm_model.specs.Calls as model
 use Rattle.dbm_model.specs.Steps.{Case, Suffers}
 use Rattle.dbm_file.specs.Calls.{mode_of}
 use Rattle.page_io.specs.Store.{StoreState}
+use Rattle.page_model.specs.Valid.{meta_buckets}
 use Rattle.seg_table.specs.MetaPages.{model_meta}
 use Rattle.dbm_file.specs.Database.{handle_of, meta_kept}
 use Rattle.dbm_file.specs.declared.calls.StoreMode.TheVariants.{Replace}
@@ -12,8 +13,11 @@ use Rattle.dbm_fault.specs.declared.fault.Fault.TheVariants.{ReadOnly, TooLong, 
 use Rattle.page_io.proofs.Exits.{not_both}
 use Rattle.dbm_file.proofs.Cases.{broken_store, store_read_only, too_long_rule, store_rule, store_fails, kept, full}
 use Rattle.dbm_file.proofs.ReadSteps.{from_own, no_read, still_meta, still_writable, not_broken, found_step, declined_step, rejected_step, walk_failed_step, broken_step}
-use Rattle.dbm_file.proofs.ChangeSteps.{mid_honest, mid_usable, mid_holds, changed_step, store_growth, refused_step, told_keeps}
-use Rattle.dbm_file.proofs.Endings.{unusable_store, unwritable_store, long_store, told_store, kept_store, full_store, done_store, walk_told, done_keeps, changed_shape, as_change}
+use Rattle.dbm_file.proofs.ChangeSteps.{mid_honest, mid_usable, mid_holds, mid_pairs, mid_buckets, changed_step, store_growth, refused_step, told_keeps}
+use Rattle.dbm_file.proofs.Endings.{unusable_store, unwritable_store, long_store, told_store, kept_store, full_store, done_store, walk_told, done_keeps, changed_shape}
+use Rattle.dbm_file.proofs.BucketSteps.{store_opens, would_open, full_buckets}
+use Rattle.dbm_file.proofs.Refused.{as_change, walk_no_memory}
+use Rattle.dbm_file.proofs.Done.{was_put}
 use Rattle.dbm_file.proofs.Searches.{was_found}
 use Rattle.dbm_file.proofs.StoreSteps.{store_asked, store_told, inserts_so, replaces_so}
 use Rattle.linear_hash.proofs.Tables.{counted}
@@ -113,7 +117,7 @@ returns-in_err-was_there g c =
           c.from_residual.result c.from_residual.ensures.1);
       ends = told_store db key usable writable c.has.new.self content mode short
           c.from_residual.result c.in_err-was_there.field-0.0 told (as_change _ all.answer.only)
-          (still_meta s db c.has.new.self all.reads) keeps;
+          (λ is. absurd (walk_no_memory _ all.answer.only is)) (still_meta s db c.has.new.self all.reads) keeps;
     }
 
 pub returns-then-eq : goal.returns-then-eq
@@ -138,7 +142,7 @@ returns-then-eq g c =
           let falls = store_rule state key content (mode_of mode) usable writable short
           ∙ kept state key content (get map key) (mode_of mode) there (ap mode_of inserts) in
           from_own at (found_step s db c.has.new.self map pass _ c.in_ok-was_there.ensures.reads
-          honest held (at.pass usable) (at.rests usable) model.Kept falls);
+          honest held (at.pass usable) (at.rests usable) model.Kept refl falls);
       ends = kept_store db key usable writable c.has.new.self content mode short all.reads inserts
           (λ honest. was_found _ _ key _ c.if-was_there.true (all.searched honest));
     }
@@ -219,10 +223,19 @@ returns-in_err-store_pair g c =
           record { ends = all.ends; error_is = refl; pass_ends = tt; pass_stays = refl }
           (all.turns (mid_honest s asked) (mid_usable s asked) map (mid_holds s asked) there)
           (λ t x le left. g.met.S.PageStore.counts_now c.store_pair.new.store t x
-          (all.ends.honesty.1 (mid_honest s asked)) le left))
+          (all.ends.honesty.1 (mid_honest s asked)) le left)
+          (λ is. (
+            refl,
+            would_open map key content c.in_ok-was_there.was_there (meta_kept c.has.new.self)
+                (meta_buckets (meta_kept db)) there (mid_pairs s asked) (mid_buckets s asked)
+                (all.memory (ap Err is)),
+          )))
           c.from_residual-in_err-store_pair.result c.from_residual-in_err-store_pair.ensures.1);
       ends = told_store db key usable writable _ content mode short r c.in_err-store_pair.field-0.0
-          told all.ends.answer.only (all.ends.err.1 ∙ still_meta s db c.has.new.self read) keeps;
+          told all.ends.answer.only
+          (λ is. full_buckets (meta_kept db) (meta_kept c.has.new.self) c.in_ok-was_there.was_there
+          db.valid (still_meta s db c.has.new.self read) (all.memory (ap Err is)))
+          (all.ends.err.1 ∙ still_meta s db c.has.new.self read) keeps;
     }
 
 pub returns : goal.returns
@@ -259,10 +272,17 @@ returns g c =
           let asked = store_asked s db c.has.new.self map pass key c.in_ok-was_there.ensures.reads
           usable writable honest (at.map usable) (at.pass usable) (at.rests usable)
           content mode c.in_ok-was_there.was_there short there replaces few in
+          let turns = all.turns (mid_honest s asked) (mid_usable s asked) map (mid_holds s asked)
+          there in
           from_own at (changed_step s asked _
           record { ends = all.ends; error_is = refl; pass_ends = refl; pass_stays = tt }
           (store_growth s asked refl)
-          (all.turns (mid_honest s asked) (mid_usable s asked) map (mid_holds s asked) there)
+          (store_opens (meta_kept db) (meta_kept c.has.new.self)
+          (model_meta c.store_pair.new.meta) (len (insert map key content))
+          (still_meta s db c.has.new.self read)
+          (sym (counted s c.store_pair.new.store (model_meta c.store_pair.new.meta)
+          (insert map key content) turns.done)) all.shape)
+          turns
           (λ x left. g.met.S.PageStore.only_committed c.store_pair.new.store x
           (all.ends.honesty.1 (mid_honest s asked))
           (ap (λ (st : StoreState). st.usable) all.ends.ok ∙ mid_usable s asked)
@@ -272,5 +292,7 @@ returns g c =
       ends = done_store db key usable writable _ content mode short
           (changed_shape (meta_kept db) (meta_kept c.has.new.self)
           (model_meta c.store_pair.new.meta) (still_meta s db c.has.new.self read) all.shape)
-          keeps;
+          (λ honest. was_put db c.has.new.self read honest _ (key, content)
+          c.in_ok-was_there.was_there (c.in_ok-was_there.ensures.searched honest) all.pairs
+          (all.stored (read.reads.stages_only.honesty.1 honest))) keeps;
     }

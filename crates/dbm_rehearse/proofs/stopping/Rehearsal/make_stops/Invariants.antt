@@ -3,7 +3,7 @@ use Rattle.dbm_rehearse.specs.Counts.{AreCounted}
 use Rattle.dbm_rehearse.proofs.stopping.Rehearsal.make_stops.Given as goal
 
 abbrev pub invariant-loop-i : goal.invariant-loop-i
-invariant-loop-i l = record {
+invariant-loop-i g l = record {
   counted : AreCounted l.counts;
   calls : l.counts.calls ≡ length l.self.calls.now;
   device_calls : l.counts.device_calls ≡ l.device_calls;

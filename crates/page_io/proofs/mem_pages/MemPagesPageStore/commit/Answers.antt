@@ -18,7 +18,7 @@ returns-clause-answer c =
     (λ lacks. omega (
       arith,
       length-map staged.items (λ (p : Page). p.bytes),
-      staged.ok.0,
+      c.len.ensures.value,
       lacks,
     ))
 
@@ -26,18 +26,17 @@ pub lay-requires : goal.lay-requires
 lay-requires c =
     let old = c.args.self.now in
     let staged = old.staged.items in
-    let count = ap (λ (ps : List Page). length ps) c.as_slice.ensures.value in
     let fits : c.args.new_end ≤ length old.pages.items + 1 =
     end_within _ _ _ _ _ _ _ _ c.saturating_sub-room.ensures c.capacity.ensures c.max.ensures
-    (c.len.ensures ∙ sym c.as_slice.ensures.len ∙ count
-    ∙ sym (length-map old.staged.items (λ (p : Page). p.bytes))) c.if-len-room.false
+    (c.len.ensures.value ∙ sym (length-map old.staged.items (λ (p : Page). p.bytes)))
+    c.if-len-room.false
     c.requires.some in
     let order = order_below 1 4294967296 c.args.new_end (bytes_of staged) old.order
     c.requires.below in
     subst (λ (ps : List Page). (k : ℕ) → k < length ps
     → (1 ≤ own_number (get_or (bytes_of ps) k []))
     × (own_number (get_or (bytes_of ps) k []) ≤ length old.pages.items))
-    (sym c.as_slice.ensures.value)
+    (sym c.as_slice.ensures)
     (λ k lt.
     let both = in_range 1 c.args.new_end (bytes_of staged) k order
     (omega (arith, lt, length-map staged (λ (p : Page). p.bytes))) in
@@ -48,16 +47,15 @@ returns-clause-committed c honest =
     let old = c.args.self.now in
     let end = c.args.new_end in
     let home = page_of (bytes_of old.pages.items) in
-    let count = ap (λ (ps : List Page). length ps) c.as_slice.ensures.value in
     let fits : c.args.new_end ≤ length old.pages.items + 1 =
     end_within _ _ _ _ _ _ _ _ c.saturating_sub-room.ensures c.capacity.ensures c.max.ensures
-    (c.len.ensures ∙ sym c.as_slice.ensures.len ∙ count
-    ∙ sym (length-map old.staged.items (λ (p : Page). p.bytes))) c.if-len-room.false
+    (c.len.ensures.value ∙ sym (length-map old.staged.items (λ (p : Page). p.bytes)))
+    c.if-len-room.false
     c.requires.some in
     same_file (page_of (bytes_of c.lay.new.pages.items))
     (overlaid (bytes_of old.staged.items) home) end
     (λ n ge lt. c.lay.ensures.laid n ge (omega (arith, lt, fits))
-    ∙ ap (λ (ps : List Page). overlaid (bytes_of ps) home n) c.as_slice.ensures.value)
+    ∙ ap (λ (ps : List Page). overlaid (bytes_of ps) home n) c.as_slice.ensures)
     ∙ replaced home old.end end (bytes_of old.staged.items) c.requires.grown
 
 pub returns-clause-any_moment : goal.returns-clause-any_moment
@@ -77,7 +75,7 @@ invariant_of-self-2 c =
       room = omega (
         arith,
         length-map old.staged.items (λ (p : Page). p.bytes),
-        old.staged.ok.0,
+        c.len.ensures.value,
         c.lay.ensures.size,
       );
       fits = capacity_fits (length c.lay.new.pages.items + 1) (length old.pages.items + 1) (2 ^ 32)
@@ -100,8 +98,7 @@ invariant_of-self c = let old = c.args.self.now in
 pub returns-then-len-room-clause-answer : goal.returns-then-len-room-clause-answer
 returns-then-len-room-clause-answer c =
     let staged = c.args.self.now.staged in
-    let count = c.len.ensures ∙ staged.ok.0
-    ∙ sym (length-map staged.items (λ (p : Page). p.bytes)) in
+    let count = c.len.ensures.value ∙ sym (length-map staged.items (λ (p : Page). p.bytes)) in
     full_answer _ c.args.new_end refl refl
     (lacks_room _ _ _ _ _ _ _ _ c.saturating_sub-room.ensures c.capacity.ensures c.max.ensures
     count c.if-len-room.true)

@@ -5,4 +5,4 @@ use Rattle.page_io.proofs.mem_pages.MemPagesPageStore.is_staged.Goals as goal
 
 pub returns : goal.returns
 returns c = c.is_among.ensures
-    ∙ ap (λ (ps : List Page). has_page (bytes_of ps) c.args.n) c.as_slice.ensures.value
+    ∙ ap (λ (ps : List Page). has_page (bytes_of ps) c.args.n) c.as_slice.ensures

@@ -13,7 +13,7 @@ returns-then-find_staged-clause-found c honest =
     c.find_staged.ensures.page
     ∙ overlaid-staged (bytes_of c.as_slice.result.now) home (λ _. c.args.page.now.bytes) c.args.n
     (sym c.find_staged.ensures.found ∙ c.if-find_staged.true)
-    ∙ ap (λ (ps : List Page). overlaid (bytes_of ps) home c.args.n) c.as_slice.ensures.value
+    ∙ ap (λ (ps : List Page). overlaid (bytes_of ps) home c.args.n) c.as_slice.ensures
 
 pub returns-clause-found : goal.returns-clause-found
 returns-clause-found c honest =
@@ -22,7 +22,7 @@ returns-clause-found c honest =
     let at = page_of (bytes_of old.pages.items) in
     let home = page_of (file_pages at old.end) in
     let none : has_page (bytes_of old.staged.items) n ≡ false =
-    ap (λ (ps : List Page). has_page (bytes_of ps) n) (sym c.as_slice.ensures.value)
+    ap (λ (ps : List Page). has_page (bytes_of ps) n) (sym c.as_slice.ensures)
     ∙ sym c.find_staged.ensures.found ∙ c.if-find_staged.false in
     let ge : 1 ≤ n = omega (arith, c.if-n-lt1.false) in
     let lt : n < old.end = omega (arith, c.if-self-n.false) in
@@ -35,7 +35,7 @@ pub returns-then-find_staged-clause-answer : goal.returns-then-find_staged-claus
 returns-then-find_staged-clause-answer c =
     let n = c.args.n in
     let has : has_page (bytes_of c.args.self.now.staged.items) n ≡ true =
-    ap (λ (ps : List Page). has_page (bytes_of ps) n) (sym c.as_slice.ensures.value)
+    ap (λ (ps : List Page). has_page (bytes_of ps) n) (sym c.as_slice.ensures)
     ∙ sym c.find_staged.ensures.found ∙ c.if-find_staged.true in
     known_answer _ n refl tt (inl has)
 

@@ -34,7 +34,7 @@ returns-then-len-room-clause-any_moment g c honest usable writable =
 pub commit_pages-requires-clause-in_order : goal.commit_pages-requires-clause-in_order
 commit_pages-requires-clause-in_order g c =
     subst (λ (ps : List Page). are_in_order 1 c.args.new_end (bytes_of ps) ≡ true)
-    (sym c.as_slice.ensures.value)
+    (sym c.as_slice.ensures)
     (order_below 1 4294967296 c.args.new_end (bytes_of c.args.self.now.staged.items)
     c.args.self.now.order c.requires.below)
 
@@ -55,13 +55,13 @@ invariant_of-self-2-clause-rests g c still usable =
 pub returns-then-is_err-clause-any_moment : goal.returns-then-is_err-clause-any_moment
 returns-then-is_err-clause-any_moment g c honest usable writable =
     commit_leaves g.D.SectorDev c.args.self.now _ c.args.new_end c.as_slice.result.now writable
-    c.commit_pages.ensures.size c.as_slice.ensures.value c.requires.grown
+    c.commit_pages.ensures.size c.as_slice.ensures c.requires.grown
     (c.commit_pages.ensures.any_moment honest)
 
 pub returns-clause-any_moment : goal.returns-clause-any_moment
 returns-clause-any_moment g c honest usable writable =
     commit_leaves g.D.SectorDev c.args.self.now _ c.args.new_end c.as_slice.result.now writable
-    c.commit_pages.ensures.size c.as_slice.ensures.value c.requires.grown
+    c.commit_pages.ensures.size c.as_slice.ensures c.requires.grown
     (c.commit_pages.ensures.any_moment honest)
 
 pub returns-clause-committed : goal.returns-clause-committed
@@ -76,7 +76,7 @@ returns-clause-committed g c honest =
     ∙ from_test c.commit_pages.result c.is_err.ensures.value c.if-is_err.false
     (c.commit_pages.ensures.pages honest)
     ∙ new_pages redo home none old.end c.args.new_end (bytes_of c.as_slice.result.now)
-    (bytes_of old.staged.items) (ap bytes_of c.as_slice.ensures.value) c.requires.grown
+    (bytes_of old.staged.items) (ap bytes_of c.as_slice.ensures) c.requires.grown
 
 -- the store is broken
 pub returns-then-not-self-clause-any_moment : goal.returns-then-not-self-clause-any_moment

@@ -17,13 +17,13 @@ returns-then-find_staged-clause-found g c honest =
     c.find_staged.ensures.page
     ∙ overlaid-staged (bytes_of c.as_slice.result.now) home (λ _. c.args.page.now.bytes) c.args.n
     (sym c.find_staged.ensures.found ∙ c.if-find_staged.true)
-    ∙ ap (λ (ps : List Page). overlaid (bytes_of ps) home c.args.n) c.as_slice.ensures.value
+    ∙ ap (λ (ps : List Page). overlaid (bytes_of ps) home c.args.n) c.as_slice.ensures
 
 pub returns-then-find_staged-2-clause-found : goal.returns-then-find_staged-2-clause-found
 returns-then-find_staged-2-clause-found g c honest =
     let old = c.args.self.now in
     let seen = page_at (g.D.SectorDev.seen old.dev) in
-    let none = not_found c.args.n c.as_slice.ensures.value c.find_staged.ensures.found
+    let none = not_found c.args.n c.as_slice.ensures c.find_staged.ensures.found
     c.if-find_staged.false in
     c.find_staged-2.ensures.page
     ∙ overlaid-staged (bytes_of c.as_slice-2.result.now) seen (λ _. c.find_staged.new.page.bytes)
@@ -37,7 +37,7 @@ returns-clause-found g c honest =
     let old = c.args.self.now in
     let redo = bytes_of old.redo.items in
     let seen = page_at (g.D.SectorDev.seen old.dev) in
-    let none = not_found c.args.n c.as_slice.ensures.value c.find_staged.ensures.found
+    let none = not_found c.args.n c.as_slice.ensures c.find_staged.ensures.found
     c.if-find_staged.false in
     let not_kept = not_found c.args.n c.as_slice-2.ensures.value c.find_staged-2.ensures.found
     c.if-find_staged-2.false in

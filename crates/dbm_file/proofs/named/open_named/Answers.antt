@@ -1,0 +1,37 @@
+use Rattle.std.proofs.Common.{Bool, ◌&&◌, ap, subst, sym, ◌∙◌, arith}
+use Rattle.dbm_fault.specs.declared.fault.Fault.{Fault}
+use Rattle.dbm_file.specs.Named.{RefusesFile}
+use Rattle.sect_dev.specs.contracts.file_dev.FileDevSectorDev.TheImpl.{ghosts as FileDevGhosts}
+use Rattle.dbm_file.proofs.OpenedFiles.{refuses_file}
+use Rattle.dbm_file.proofs.named.open_named.Goals as goal
+
+pub returns-in-Ok-open-2-clause-opens : goal.returns-in-Ok-open-2-clause-opens
+returns-in-Ok-open-2-clause-opens g c = record {
+  first = c.in-Ok-open.dev;
+  begins = c.in-Ok-open.ensures.begins;
+  size = c.in-Ok-open.ensures.size;
+  stands = λ honest one stand. c.in-Ok-open-2.ensures.stands honest one stand;
+  opened = λ honest. c.in-Ok-open-2.ensures.opened honest;
+  any_moment = λ honest. c.in-Ok-open-2.ensures.any_moment honest;
+}
+
+pub returns-in-Err-Missing-clause-missing : goal.returns-in-Err-Missing-clause-missing
+returns-in-Err-Missing-clause-missing g c _ =
+    ap (λ (writes_so : Bool). writes_so && c.args.how.create) (sym c.is_writable-writable.ensures)
+    ∙ c.in-Err-Missing.ensures.missing c.in-Err-Missing.field-0-is
+
+-- the refusal has the fault of the opening
+pub returns-in-Ok-open-clause-refused : goal.returns-in-Ok-open-clause-refused
+returns-in-Ok-open-clause-refused g c memory missing other =
+    let told = c.in-Err.ensures in
+    let same = c.refused_by.ensures.fault in
+    subst (λ (fault : Fault). RefusesFile FileDevGhosts c.args.how fault) (sym same)
+    (refuses_file _ FileDevGhosts c.args.how c.in-Ok-open.dev c.in-Err.dev c.in-Err.fault
+    c.in-Ok-open.ensures.begins c.in-Ok-open.ensures.size told.early
+    (λ honest none. told.refused honest none (λ is. other (same ∙ is))))
+
+-- a device that failed has counted it
+pub returns-in-Ok-open-clause-told : goal.returns-in-Ok-open-clause-told
+returns-in-Ok-open-clause-told g c device =
+    c.refused_by.ensures.system
+    (omega (arith, c.in-Err.ensures.device (sym c.refused_by.ensures.fault ∙ device)))
