@@ -34,25 +34,26 @@ counts() {
   [ "$(cat err)" = "$end" ] || wrong "$command: another text in a pipe of errors: $(cat err)"
 }
 
-# 600 pairs of a page each, of which half are read anew where all are fetched
+# 600 pairs of a page each, whose list fills a pipe, and half of them, which are more than the pages that are kept in memory
 awk 'BEGIN {
   for (zeros = "00"; length(zeros) < 2000; ) zeros = zeros zeros
   for (i = 0; i < 600; i++) printf "%04x%s %s\n", i, substr(zeros, 1, 200), substr(zeros, 1, 2000)
 }' > pairs
 "$program" create t && "$program" load t < pairs && "$program" list t > listed || exit 1
-"$program" create empty || exit 1
-head -n 100 pairs > some
+head -n 300 pairs > fewer
+"$program" create half && "$program" load half < fewer && "$program" create empty || exit 1
+head -n 40 pairs > some
 { cat some; echo Q; } > bad_line
-awk 'BEGIN { for (i = 0; i < 150; i++) printf "S %02x 00\n", i }' > calls
+awk 'BEGIN { for (i = 0; i < 90; i++) printf "S %02x 00\n", i }' > calls
 
 counts 0 'keys read' '' "$slow list t > out"
 cmp -s out listed || wrong "another list where it is slow"
-counts 0 'keys read|contents read|pairs written' '' "$slow dump t > out"
-cmp -s out pairs || wrong "another dump where it is slow"
+counts 0 'keys read|contents read|pairs written' '' "$slow dump half > out"
+cmp -s out fewer || wrong "another dump where it is slow"
 counts 0 'lines loaded' '' "cp empty.db new.db; $slow load new < some"
-counts 2 'lines loaded' 'dbmtool: line 101' "cp empty.db new.db; $slow load new < bad_line"
+counts 2 'lines loaded' 'dbmtool: line 41' "cp empty.db new.db; $slow load new < bad_line"
 counts 0 'stops made' '' "$program rehearse --memory 200 < calls > out"
-[ "$(head -n 1 out)" = 'calls 150' ] || wrong "the rehearsal is another"
+[ "$(head -n 1 out)" = 'calls 90' ] || wrong "the rehearsal is another"
 
 # readers that keep a list and a dump waiting while they write
 counts 0 'keys written' '' "$program list t | (sleep 2; cat) > out"
@@ -64,7 +65,7 @@ head -n 1 shown | grep -q 'keys read' || wrong "a list on a terminal shows nothi
 sed '1s/.*\r \{34\}\r//; s/\r$//' shown | cmp - listed || wrong "a list on a terminal is mixed with its progress"
 cp empty.db new.db
 script -qec "$slow load new" /dev/null < some > shown
-[ "$("$program" stat new | head -n 1)" = 'pairs 100' ] || wrong "lines that are typed aren't loaded"
+[ "$("$program" stat new | head -n 1)" = 'pairs 40' ] || wrong "lines that are typed aren't loaded"
 grep -q 'lines loaded' shown && wrong "progress stands among lines that are typed"
 
 # to a file, and in the first second
