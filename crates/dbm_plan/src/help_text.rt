@@ -1,4 +1,5 @@
 // What the help tells of the exit statuses and the faults.
+ghost use Rattle.std.specs.Prelude.{◌≡◌};
 
 /// The exit statuses of the program and its faults, with what to do, in lines of under 80 columns.
 /// The program's help ends with it, and `dbmtool faults` prints it.
@@ -40,6 +41,8 @@ Faults:
 ";
 
 /// The same, where a proof is to read a call in place of the whole text.
-pub fn fault_table<'a>() -> &'a str {
+pub fn fault_table<'a>() -> &'a str
+    ensures { result.now ≡ FAULT_TABLE.now }
+{
     FAULT_TABLE
 }

@@ -1,4 +1,6 @@
 // Progress on a terminal.
+ghost use Rattle.std.specs.Prelude.{◌≡◌, None, false, true};
+ghost use Rattle.dbm_progress.specs.InTheWay.{in_the_way};
 
 use crate::{Progress, Work};
 use std::io::Write;
@@ -36,7 +38,12 @@ pub struct Terminal<'a, C, W> {
 
 impl<'a, C: Clock, W: Write> Terminal<'a, C, W> {
     /// A command begins. `writer` is standard error.
-    pub fn new(clock: &'a C, writer: W, terminals: Terminals) -> Terminal<'a, C, W> {
+    pub fn new(clock: &'a C, writer: W, terminals: Terminals) -> Terminal<'a, C, W>
+        ensures terminals { result.terminals ≡ terminals }
+        ensures writer { result.writer ≡ writer }
+        ensures none_is_due { terminals.error ≡ false → result.due ≡ None }
+        ensures none_is_shown { result.is_shown ≡ false }
+    {
         Terminal {
             clock,
             writer,
@@ -49,7 +56,9 @@ impl<'a, C: Clock, W: Write> Terminal<'a, C, W> {
     }
 
     /// Whether a line would stand among those that the work reads or writes.
-    fn is_in_the_way(&self, work: Work) -> bool {
+    fn is_in_the_way(&self, work: Work) -> bool
+        ensures { result ≡ in_the_way self.now.terminals work }
+    {
         match work {
             Work::LinesLoaded => self.terminals.input,
             Work::KeysWritten | Work::PairsWritten => self.terminals.output,
@@ -58,7 +67,10 @@ impl<'a, C: Clock, W: Write> Terminal<'a, C, W> {
     }
 
     /// Counts a step.
-    fn count(&mut self, work: Work) {
+    fn count(&mut self, work: Work)
+        ensures { (self.new.terminals ≡ self.old.terminals) × (self.new.writer ≡ self.old.writer)
+            × (self.new.is_shown ≡ self.old.is_shown) }
+    {
         if self.work != Some(work) {
             self.work = Some(work);
             self.done = 0;
@@ -75,12 +87,16 @@ impl<'a, C: Clock, W: Write> Terminal<'a, C, W> {
     }
 
     /// Writes blanks over the line that stands, as many as the widest one has columns.
-    fn erase(&mut self) {
+    fn erase(&mut self)
+        ensures { self.new.terminals ≡ self.old.terminals }
+    {
         let _ = write!(self.writer, "\r{:34}\r", "");
     }
 
     /// Writes the line anew.
-    fn show(&mut self, work: Work) {
+    fn show(&mut self, work: Work)
+        ensures { self.new.terminals ≡ self.old.terminals }
+    {
         self.erase();
         let _ = write!(self.writer, "{} {}", self.done, work.steps());
         self.is_shown = true;
@@ -89,7 +105,12 @@ impl<'a, C: Clock, W: Write> Terminal<'a, C, W> {
 }
 
 impl<C: Clock, W: Write> Progress for Terminal<'_, C, W> {
-    fn step(&mut self, work: Work) {
+    fn step(&mut self, work: Work)
+        ensures terminals { self.new.terminals ≡ self.old.terminals }
+        ensures none_is_due { self.old.due ≡ None → self.new ≡ self.old }
+        ensures in_the_way { in_the_way self.old.terminals work ≡ true
+            → (self.new.writer ≡ self.old.writer) × (self.new.is_shown ≡ self.old.is_shown) }
+    {
         if self.due.is_none() {
             return;
         }
@@ -99,7 +120,11 @@ impl<C: Clock, W: Write> Progress for Terminal<'_, C, W> {
         }
     }
 
-    fn clear(&mut self) {
+    fn clear(&mut self)
+        ensures terminals { self.new.terminals ≡ self.old.terminals }
+        ensures none_is_shown { self.old.is_shown ≡ false → self.new ≡ self.old }
+        ensures taken_away { self.new.is_shown ≡ false }
+    {
         if self.is_shown {
             self.erase();
             self.is_shown = false;
