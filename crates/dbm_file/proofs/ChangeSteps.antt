@@ -126,7 +126,8 @@ module _ {S : Type 0} (s : Ghosts S) {old mid : Database S s} {map changed : Con
     -- `only` is the store's law `only_committed`
     pub changed_step : IsDone s mid new (Ok tt) → {most : ℕ} → most ≤ growth before said
         → meta_buckets (meta_kept new)
-        ≡ meta_buckets (meta_kept mid) + buckets_opened before said (len changed) → ChangesMap s (store_of mid) (store_of new) (meta_kept mid) (meta_kept new) map changed
+        ≡ meta_buckets (meta_kept mid) + buckets_opened before said (len changed)
+        → ChangesMap s (store_of mid) (store_of new) (meta_kept mid) (meta_kept new) map changed
         most (Ok tt) → ((x : Settled) → s.settles_to (store_of new) x
         → x ≡ file_of (s.committed (store_of new))) → IsStep old new before call said
     changed_step ended few grown turns only =

@@ -100,7 +100,8 @@ fetched_well s old new key found read usable is = record {
       let pass = h.state.pass in
       from_own at (found_step s old new map pass (model.Fetch key) read honest (at.map usable)
       (at.pass usable) (at.rests usable) (lent_reply model.NoRecord (Ok found))
-      (fetch_opens_none (handle_of old map pass) (len map) found) (fetch_rule (handle_of old map pass).state key (option_map (λ b. b.now) found) usable
+      (fetch_opens_none (handle_of old map pass) (len map) found)
+      (fetch_rule (handle_of old map pass).state key (option_map (λ b. b.now) found) usable
       (sym (is honest map (at.map usable))) ∙ finds found));
   keeps = read_keeps s old new read usable found;
 }

@@ -84,14 +84,14 @@ abbrev pub Fails : Handle → Reply → Handle → Type 0
 Fails h reply after = (reply ≡ Refused Device) × MoreFaults h.faults after.faults × (after.state ≡ flagged Device h.state)
 
 -- a fault of the device in the midst of a change: the file stands for the old map or for the new
--- one until it is buckets_opened again
+-- one until it is opened again
 abbrev pub Breaks : Handle → Contents → Reply → Handle → Type 0
 Breaks h map reply after =
     (reply ≡ Refused Device) × MoreFaults h.faults after.faults
     × (left : Contents) × ((left ≡ h.state.map) ⊎ (left ≡ map))
     × (after.state ≡ record (flagged Device h.state) { map = left; usable = false })
 
--- there would be more than eight pairs to a bucket, so one more is buckets_opened
+-- there would be more than eight pairs to a bucket, so one more is opened
 abbrev pub OpensBucket : Handle → Contents → Type 0
 OpensBucket h map = 8 * h.buckets < len map
 

@@ -27,6 +27,7 @@ pub fn number<'a>(alloc: Global, name: &'a str, help: &'a str) -> Arg<'a>
         .help(help)
 }
 
+/// The flag `-x`.
 pub fn hexadecimal<'a>(alloc: Global) -> Arg<'a>
     ensures { IsRule result hexadecimal_rule }
 {
@@ -38,6 +39,7 @@ pub fn hexadecimal<'a>(alloc: Global) -> Arg<'a>
         )
 }
 
+/// The flag `--text` of a command of all pairs.
 pub fn text_form<'a>(alloc: Global) -> Arg<'a>
     ensures { IsRule result text_rule }
 {
@@ -49,6 +51,7 @@ pub fn text_form<'a>(alloc: Global) -> Arg<'a>
         )
 }
 
+/// The flag `--verbose`, in front of the command.
 pub fn verbose<'a>(alloc: Global) -> Arg<'a>
     ensures { IsRule result verbose_rule }
 {

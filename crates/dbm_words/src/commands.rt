@@ -13,6 +13,8 @@ const NAME: &str = "dbmtool";
 /// The program's version, and the version that a file's meta page has.
 const VERSION: &str = "0.1.0, file format 1";
 
+// The commands by their names.
+
 pub const CREATE: &str = "create";
 
 pub const STORE: &str = "store";
@@ -36,6 +38,8 @@ pub const SCRIPT: &str = "script";
 pub const REHEARSE: &str = "rehearse";
 
 pub const FAULTS: &str = "faults";
+
+// Their words and options, as the parser keeps what was given for each.
 
 pub const FILE: &str = "file";
 

@@ -56,7 +56,8 @@ fn commit_store<S: PageStore>(
     ensures turns { S.honest store.old → (S.state store.old).usable ≡ true → (map : Contents)
         → Holds S.PageStore store.old (model_meta meta.old) map
         → was_there ≡ is_some (get map key.now) →
-        ChangesMap S.PageStore store.old store.new (model_meta meta.old) (model_meta meta.new) map (insert map key.now content.now) (meta.old.pairs + 4) result }
+        ChangesMap S.PageStore store.old store.new (model_meta meta.old) (model_meta meta.new) map
+        (insert map key.now content.now) (meta.old.pairs + 4) result }
 {
     let staged = stage_store(alloc, store, meta, key, content, was_there);
     finish(store, staged)
@@ -98,7 +99,8 @@ pub fn store_pair<S: PageStore>(
     ensures turns { S.honest store.old → (S.state store.old).usable ≡ true → (map : Contents)
         → Holds S.PageStore store.old (model_meta meta.old) map
         → was_there ≡ is_some (get map key.now) →
-        ChangesMap S.PageStore store.old store.new (model_meta meta.old) (model_meta meta.new) map (insert map key.now content.now) (meta.old.pairs + 4) result }
+        ChangesMap S.PageStore store.old store.new (model_meta meta.old) (model_meta meta.new) map
+        (insert map key.now content.now) (meta.old.pairs + 4) result }
 {
     let mut changed = meta.copied();
     commit_store(alloc, store, &mut changed, key, content, was_there)?;

@@ -10,10 +10,10 @@ use page_io::Page;
 use std::alloc::Global;
 use std::num::NonZeroUsize;
 
-// How many pages are kept.
+/// How many pages are kept.
 const MOST: usize = 256;
 
-// Copies of pages. Where the room for them was refused there are none.
+/// Copies of pages by their numbers. Where the room for them was refused there are none.
 #[derive(Drop)]
 pub struct CleanPages {
     pages: Option<LruCache<u32, Page>>,
@@ -23,6 +23,7 @@ pub struct CleanPages {
 impl CleanPages {
     ghost use Rattle.page_cache.specs.Copies.{copies_of, has_copy, HasNone};
 
+    /// No copies yet, and room for `MOST` of them where it isn't refused.
     pub fn new(alloc: Global) -> CleanPages
         ensures { copies_of result ≡ [] }
     {
@@ -34,7 +35,7 @@ impl CleanPages {
         }
     }
 
-    // Gives the copy of page n.
+    /// Writes the copy of page n to `page`, and says whether there is one.
     pub fn find(&mut self, n: u32, page: &mut Page) -> bool
         ensures found { result ≡ has_copy (copies_of self.old) n }
         ensures page { IsTrue result → Contains (copies_of self.old) (n, page.new) }
@@ -52,7 +53,7 @@ impl CleanPages {
         }
     }
 
-    // Keeps a copy of page n where its room isn't refused.
+    /// Keeps a copy of page n where its room isn't refused.
     pub fn keep(&mut self, n: u32, page: &Page)
         ensures { (k : ℕ) (one : OnePage) → Contains (copies_of self.new) (k, one)
             → Contains (copies_of self.old) (k, one) ⊎ ((k ≡ n) × (one ≡ page.now)) }
@@ -62,7 +63,7 @@ impl CleanPages {
         }
     }
 
-    // Takes the copy of page n out.
+    /// Takes the copy of page n out.
     pub fn forget(&mut self, n: u32)
         ensures none { HasNone (copies_of self.new) n }
         ensures copies { copies_of self.new ≡ remove_entry (nat_eq n) (copies_of self.old) }

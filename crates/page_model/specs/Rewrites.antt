@@ -34,4 +34,6 @@ new_head p = bare (next_page (give (drop 1 (numbers (chain_at p p.shape.split)))
 -- what is rewritten where a bucket is opened: the emptied head, the new head, the last segment page
 -- and the free list
 abbrev pub opened_bodies : Placement → List NumberedBody
-opened_bodies p = chain_bodies (bared (chain_at p p.shape.split)) ++ chain_bodies (new_head p ∷ []) ++ last_segment (opened p) ++ free_bodies (opened p).space.free
+opened_bodies p =
+    chain_bodies (bared (chain_at p p.shape.split)) ++ chain_bodies (new_head p ∷ [])
+    ++ last_segment (opened p) ++ free_bodies (opened p).space.free

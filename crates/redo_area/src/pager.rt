@@ -172,7 +172,9 @@ impl<D: SectorDev> PageStore for Pager<D> {
             → (⟦<Pager<D> as PageStore>⟧.state self.old).writable ≡ true
             → LeavesOnly ⟦<Pager<D> as PageStore>⟧.moment ⟦<Pager<D> as PageStore>⟧.settled_since
             self.old self.new
-            (IsEither (⟦<Pager<D> as PageStore>⟧.committed self.old) (committed_with (⟦<Pager<D> as PageStore>⟧.committed self.old) (⟦<Pager<D> as PageStore>⟧.state self.old).staged new_end)) }
+            (IsEither (⟦<Pager<D> as PageStore>⟧.committed self.old)
+            (committed_with (⟦<Pager<D> as PageStore>⟧.committed self.old)
+            (⟦<Pager<D> as PageStore>⟧.state self.old).staged new_end)) }
         ensures committed { ⟦<Pager<D> as PageStore>⟧.honest self.old
             → OnOk result (⟦<Pager<D> as PageStore>⟧.committed self.new
             ≡ committed_with (⟦<Pager<D> as PageStore>⟧.committed self.old)
@@ -186,7 +188,9 @@ impl<D: SectorDev> PageStore for Pager<D> {
             (λ e. IsRefusal e → (⟦<Pager<D> as PageStore>⟧.state self.new
             ≡ ⟦<Pager<D> as PageStore>⟧.state self.old)
             × (⟦<Pager<D> as PageStore>⟧.honest self.old
-            → KeepsPages ⟦<Pager<D> as PageStore>⟧.committed ⟦<Pager<D> as PageStore>⟧.moment ⟦<Pager<D> as PageStore>⟧.settled_since ⟦<Pager<D> as PageStore>⟧.settles_to self.old self.new)) }
+            → KeepsPages ⟦<Pager<D> as PageStore>⟧.committed ⟦<Pager<D> as PageStore>⟧.moment
+            ⟦<Pager<D> as PageStore>⟧.settled_since ⟦<Pager<D> as PageStore>⟧.settles_to
+            self.old self.new)) }
         ensures breaks { IsErrOf result Device
             → ⟦<Pager<D> as PageStore>⟧.state self.new
             ≡ record (⟦<Pager<D> as PageStore>⟧.state self.old) { usable = false } }

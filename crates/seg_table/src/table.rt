@@ -102,7 +102,8 @@ pub fn set_head<S: PageStore>(
     ensures exact { S.honest store.old → (heads : List ℕ) (s : Space)
         → CanSet (body_at S.PageStore store.old) (model_meta meta.old) space.old heads
         bucket head s →
-        OnOk result (IsHeadSet (body_at S.PageStore store.old) (body_at S.PageStore store.new) (model_meta meta.old) (model_meta meta.new) space.new heads bucket head s) }
+        OnOk result (IsHeadSet (body_at S.PageStore store.old) (body_at S.PageStore store.new)
+        (model_meta meta.old) (model_meta meta.new) space.new heads bucket head s) }
     ensures whole { S.honest store.old → (heads : List ℕ) (s : Space)
         → CanSet (body_at S.PageStore store.old) (model_meta meta.old) space.old heads bucket head s
         → IsErrOf result Damaged → ⊥ }
