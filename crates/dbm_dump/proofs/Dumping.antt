@@ -3,7 +3,7 @@ use Rattle.std.proofs.Common.{◌≡◌, ◌⊎◌, inl, inr, ⊎_elim, ℕ, Lis
 use Rattle.std.specs.Global.{Vec}
 use Rattle.sect_dev.specs.Device.{LeavesOnly}
 use Rattle.sect_dev.specs.Moments.{started, followed_by, weaker}
-use Rattle.dbm_model.specs.Calls.{Call, Reply, Fetch, First, Next, Refused}
+use Rattle.dbm_model.specs.Calls.{Call, Reply, Fetch, First, Next}
 use Rattle.dbm_model.specs.Calls as model
 use Rattle.dbm_model.specs.Pairs.{Key, Contents}
 use Rattle.dbm_model.specs.States.{State, Handle, Keys, flagged, first_fault}

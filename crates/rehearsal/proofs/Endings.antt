@@ -13,7 +13,7 @@ use Rattle.page_io.specs.declared.store.PageStore.{Ghosts}
 use Rattle.redo_commit.specs.File.{settled}
 use Rattle.dbm_sessions.specs.Members.{Member, Holding, Members, held}
 use Rattle.dbm_sessions.specs.Sessions as model
-use Rattle.dbm_sessions.specs.Sessions.{Plan, StoppedOpening, StoppedCall, Begins, Rests, CutShort, Breaks, left_by, SessionStep}
+use Rattle.dbm_sessions.specs.Sessions.{Plan, StoppedOpening, StoppedCall, Begins, Rests, Breaks, left_by, SessionStep}
 use Rattle.dbm_sessions.proofs.Cuts.{broken_leaves}
 use Rattle.dbm_sessions.proofs.Lists.{is_first, is_later}
 use Rattle.dbm_fault.specs.declared.fault.Fault.{Fault}

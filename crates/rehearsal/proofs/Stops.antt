@@ -11,7 +11,7 @@ use Rattle.dbm_model.proofs.StayLemmas.{settings_stay}
 use Rattle.dbm_model.proofs.Runs.{run-push}
 use Rattle.dbm_sessions.specs.Members.{Member, Holding, Members, held}
 use Rattle.dbm_sessions.specs.Sessions as model
-use Rattle.dbm_sessions.specs.Sessions.{StoppedCall, Goes, CutShort, left_by}
+use Rattle.dbm_sessions.specs.Sessions.{StoppedCall, left_by}
 use Rattle.dbm_sessions.proofs.Lists.{is_first, is_later}
 use Rattle.dbm_file.specs.Answers.{MayBeLeft}
 use Rattle.dbm_file.specs.Runs.{MayBeLeftWithin}
