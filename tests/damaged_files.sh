@@ -33,7 +33,7 @@ changed() {
   cp t.db damaged.db
 }
 
-# refused FAULT: by every command that opens the file, which stays as it is
+# refused FAULT: by a fetch, a store and a dump, and the file stays as it is
 refused() {
   run 2 '' "dbmtool: fault $1" fetch t a
   run 2 '' "dbmtool: fault $1" store t a new
@@ -96,6 +96,6 @@ run 0 "$long" '' fetch t a
 run 2 '' 'dbmtool: fault 9' fetch t b
 run 2 '' 'dbmtool: fault 9' list t
 
-{ sed -n 's/ .*//; s/^/F /p' nine.text; echo 1; for _ in nine.text 2 3 4 5 6 7 8 9; do echo N; done; echo S 62 ff; echo D 61; } > lines
+{ sed -n 's/ .*//; s/^/F /p' nine.text; echo 1; for _ in 1 2 3 4 5 6 7 8 9; do echo N; done; echo S 62 ff; echo D 61; } > lines
 ./each_byte "$program" t nine.db $((20 * 512)) lines || wrong=1
 [ "$wrong" = 0 ]
