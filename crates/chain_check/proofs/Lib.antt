@@ -1,0 +1,12 @@
+pub mod ApartPairs
+pub mod BucketPairs
+pub mod ChainTimes
+pub mod DistinctPairs
+pub mod GoodChains
+pub mod KeyPasses
+pub mod PageBytes
+pub mod PartChains
+pub mod ReadChains
+pub mod ReadKeys
+pub mod SameWays
+pub mod SeenPages

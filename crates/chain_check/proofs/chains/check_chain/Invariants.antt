@@ -1,0 +1,17 @@
+use Rattle.std.proofs.Common.{◌≡◌, ◌⊎◌, ℕ, List, length}
+use Rattle.page_io.specs.Views.{body_at, ReadsOnly}
+use Rattle.page_marks.specs.Marks.{AreMarked}
+use Rattle.lin_addr.specs.Shapes.{shape_of}
+use Rattle.chain_check.proofs.PartChains.{IsPart}
+use Rattle.chain_check.proofs.chains.check_chain.Given as goal
+
+abbrev pub invariant-loop-step : goal.invariant-loop-step
+invariant-loop-step g l = record {
+  kinds : (l.kind ≡ 3) ⊎ (l.kind ≡ 4);
+  marks : length l.marks ≡ length l.fn.marks;
+  reads : ReadsOnly g.S.PageStore l.fn.store l.store;
+  part : g.S.PageStore.honest l.fn.store → (seen : List ℕ)
+      → AreMarked l.fn.marks (g.S.PageStore.state l.fn.store).end seen
+      → IsPart (body_at g.S.PageStore l.fn.store) (g.S.PageStore.state l.fn.store).end
+      l.fn.head (shape_of l.shape) l.bucket l.at l.kind l._step l.pairs l.marks seen;
+}

@@ -1,0 +1,24 @@
+use Rattle.std.proofs.Common.{◌≡◌, ◌*◌, ◌++◌, ℕ, List, length, flat_map, take}
+use Rattle.page_model.specs.Chain.{Chain, numbers}
+use Rattle.page_io.specs.Views.{body_at, ReadsOnly}
+use Rattle.page_marks.specs.Marks.{AreMarked, MayBeSeen}
+use Rattle.seg_table.specs.MetaPages.{model_meta}
+use Rattle.file_check.specs.Segments.{AreBuckets, AreCounted}
+use Rattle.file_check.proofs.BucketReads.{AreSegmentsChecked}
+use Rattle.file_check.proofs.segments.check_buckets.Given as goal
+
+abbrev pub invariant-loop-s : goal.invariant-loop-s
+invariant-loop-s g l = record {
+  length : length l.marks ≡ length l.fn.marks;
+  reads : ReadsOnly g.S.PageStore l.fn.store l.store;
+  sound : g.S.PageStore.honest l.fn.store → (seen : List ℕ)
+      → AreMarked l.fn.marks (g.S.PageStore.state l.fn.store).end seen
+      → AreSegmentsChecked (body_at g.S.PageStore l.fn.store) (g.S.PageStore.state l.fn.store).end
+      (model_meta l.fn.meta) l.s l.pairs l.marks seen;
+  exact : g.S.PageStore.honest l.fn.store → (seen : List ℕ) (chains : List Chain)
+      → AreMarked l.fn.marks (g.S.PageStore.state l.fn.store).end seen
+      → AreBuckets (body_at g.S.PageStore l.fn.store) (model_meta l.fn.meta) chains
+      → MayBeSeen (g.S.PageStore.state l.fn.store).end (seen ++ flat_map numbers chains)
+      → AreCounted (take (508 * l.s) chains) (g.S.PageStore.state l.fn.store).end l.pairs l.marks
+      seen;
+}

@@ -1,0 +1,109 @@
+//! Whether a file is a good one.
+
+ghost use Rattle.std.specs.Prelude.{◌≡◌, ◌≤◌, ◌↔◌, ◌++◌, ◌∷◌, [], ℕ, length, IfOk, OnOk, IsErrOf, IsTrue};
+ghost use Rattle.page_model.specs.Pages as model;
+ghost use Rattle.page_model.specs.Pages.{MetaPage};
+ghost use Rattle.page_model.specs.Valid.{IsMeta};
+ghost use Rattle.page_io.specs.Answers.{HasDeviceCause};
+ghost use Rattle.page_io.specs.Views.{body_at, ReadsOnly};
+ghost use Rattle.page_io.specs.declared.store.PageFault.TheVariants.{Damaged};
+ghost use Rattle.page_marks.specs.Marks.{AreMarked, MayBeSeen};
+ghost use Rattle.seg_table.specs.MetaPages.{model_meta};
+ghost use Rattle.chain_walks.specs.Answers.{IsWalkAnswer};
+ghost use Rattle.file_check.specs.Good.{IsFilled, IsGoodFile};
+
+use crate::free::check_free;
+use crate::segments::check_buckets;
+use crate::sizes::most_pages;
+use page_io::{Page, PageFault, PageStore};
+use page_marks::{are_all_marked, clear, mark, mark_all};
+use seg_table::{Meta, read_meta};
+
+/// What the meta page says.
+fn check_meta<S: PageStore>(store: &mut S) -> Result<Meta, PageFault>
+    ensures reads { ReadsOnly S.PageStore store.old store.new }
+    ensures cause { HasDeviceCause (S.faults store.old) (S.faults store.new) result }
+    ensures answer { IsWalkAnswer (S.state store.old) result }
+    ensures valid { IfOk result (λ meta. IsMeta (model_meta meta)) }
+    ensures says { S.honest store.old → IfOk result (λ meta.
+        body_at S.PageStore store.old 1 ≡ MetaPage (model_meta meta)) }
+    ensures whole { S.honest store.old → (m : model.Meta) → IsMeta m
+        → body_at S.PageStore store.old 1 ≡ MetaPage m → IsErrOf result Damaged → ⊥ }
+{
+    let mut page = Page::blank();
+    store.read(1, &mut page)?;
+    read_meta(&page).map_err(|_| PageFault::Damaged)
+}
+
+/// Marks the meta page and the segment pages where nothing is marked, and answers whether they are
+/// pages of the file, each once.
+fn mark_tables(meta: &Meta, marks: &mut [bool], end: u32) -> bool
+    requires room { end ≤ length marks.old }
+    requires none { AreMarked marks.old end [] }
+    ensures length { length marks.new ≡ length marks.old }
+    ensures marked { IsTrue result → AreMarked marks.new end (1 ∷ meta.now.segments.items) }
+    ensures may_be { IsTrue result ↔ MayBeSeen end (1 ∷ meta.now.segments.items) }
+{
+    mark(marks, 1, end) && mark_all(marks, &meta.segments, end)
+}
+
+/// Reads all pages but the meta page, and marks them where nothing is marked. Damaged is answered
+/// where they aren't as the meta page asks for.
+fn check_pages<S: PageStore>(
+    store: &mut S,
+    meta: &Meta,
+    marks: &mut [bool],
+) -> Result<(), PageFault>
+    requires marks { (S.state store.old).end ≤ length marks.old }
+    requires meta { IsMeta (model_meta meta.now) }
+    requires none { AreMarked marks.old (S.state store.old).end [] }
+    ensures reads { ReadsOnly S.PageStore store.old store.new }
+    ensures cause { HasDeviceCause (S.faults store.old) (S.faults store.new) result }
+    ensures answer { IsWalkAnswer (S.state store.old) result }
+    ensures sound { S.honest store.old
+        → OnOk result (IsFilled (body_at S.PageStore store.old) (S.state store.old).end
+        (model_meta meta.now)) }
+    ensures whole { S.honest store.old
+        → IsFilled (body_at S.PageStore store.old) (S.state store.old).end (model_meta meta.now)
+        → IsErrOf result Damaged → ⊥ }
+{
+    let end = store.end();
+    if end > most_pages(meta.limit) || !mark_tables(meta, marks, end) {
+        return Err(PageFault::Damaged);
+    }
+    let pairs = check_buckets(store, meta, marks)?;
+    if pairs != meta.pairs {
+        return Err(PageFault::Damaged);
+    }
+    check_free(store, meta.free_head, meta.free_count, marks)?;
+    if are_all_marked(marks, end) {
+        Ok(())
+    } else {
+        Err(PageFault::Damaged)
+    }
+}
+
+/// Reads every page, and answers how many pairs the file has. Damaged is answered where it is no
+/// good file: where a page doesn't say what the format asks of it, stands in two places or in none,
+/// where a pair is in another bucket than its key's, a key stands there twice, a count is wrong, or
+/// there are more pages than the limit asks for. It takes no memory. What the marks hold before
+/// doesn't matter, and after it they are unspecified.
+pub fn verify<S: PageStore>(store: &mut S, marks: &mut [bool]) -> Result<u32, PageFault>
+    requires { (S.state store.old).end ≤ length marks.old }
+    ensures reads { ReadsOnly S.PageStore store.old store.new }
+    ensures cause { HasDeviceCause (S.faults store.old) (S.faults store.new) result }
+    ensures answer { IsWalkAnswer (S.state store.old) result }
+
+    // It answers how many pairs there are exactly where it is a good file, and Damaged only where
+    // it is none.
+    ensures good { S.honest store.old
+        → IfOk result (λ pairs. IsGoodFile (body_at S.PageStore store.old)
+        (S.state store.old).end pairs) }
+    ensures damaged { S.honest store.old → IsErrOf result Damaged → (pairs : ℕ)
+        → IsGoodFile (body_at S.PageStore store.old) (S.state store.old).end pairs → ⊥ }
+{
+    clear(marks);
+    let meta = check_meta(store)?;
+    check_pages(store, &meta, marks)?;
+    Ok(meta.pairs)
+}

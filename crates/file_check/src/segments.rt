@@ -1,0 +1,140 @@
+//! The buckets, segment by segment.
+
+ghost use Rattle.std.specs.Prelude.{◌≡◌, ◌≤◌, ◌<◌, ◌+◌, ◌*◌, ◌^◌, ◌++◌, ℕ, List, length, flat_map, IfOk, IsErrOf};
+ghost use Rattle.lin_addr.specs.Shapes.{shape_of};
+ghost use Rattle.page_model.specs.Chain.{Chain, numbers};
+ghost use Rattle.page_model.specs.Valid.{IsMeta};
+ghost use Rattle.page_io.specs.Answers.{HasDeviceCause};
+ghost use Rattle.page_io.specs.Views.{body_at, ReadsOnly};
+ghost use Rattle.page_io.specs.declared.store.PageFault.TheVariants.{Damaged};
+ghost use Rattle.page_marks.specs.Marks.{AreMarked, MayBeSeen};
+ghost use Rattle.seg_table.specs.MetaPages.{model_meta};
+ghost use Rattle.seg_table.specs.Segments.{heads_in};
+ghost use Rattle.chain_walks.specs.Answers.{IsWalkAnswer};
+ghost use Rattle.file_check.specs.Segments.{AreHeadChains, AreHeadsChecked, AreInSegment, IsSegmentChecked, AreBuckets, AreChecked, AreCounted};
+
+use crate::sizes::PER_SEGMENT;
+use chain_check::check_chain;
+use lin_addr::Shape;
+use page_io::{Page, PageFault, PageStore};
+use seg_table::{Meta, segment_ok};
+
+/// Where the heads begin.
+const HEADS_AT: usize = 16;
+
+/// Reads the chains of the first `count` heads on a segment page, those of the buckets from `first`
+/// on, and answers how many pairs they have.
+fn check_heads<S: PageStore>(
+    store: &mut S,
+    shape: Shape,
+    page: &Page,
+    first: u32,
+    count: u32,
+    marks: &mut [bool],
+) -> Result<u32, PageFault>
+    requires marks { (S.state store.old).end ≤ length marks.old }
+    requires few { count ≤ 508 }
+    requires small { first + count < 2 ^ 32 }
+    ensures reads { ReadsOnly S.PageStore store.old store.new }
+    ensures length { length marks.new ≡ length marks.old }
+    ensures cause { HasDeviceCause (S.faults store.old) (S.faults store.new) result }
+    ensures answer { IsWalkAnswer (S.state store.old) result }
+    ensures sound { S.honest store.old → (seen : List ℕ)
+        → AreMarked marks.old (S.state store.old).end seen
+        → IfOk result (λ pairs. AreHeadsChecked (body_at S.PageStore store.old)
+        (S.state store.old).end (shape_of shape) page.now.bytes first count pairs marks.new seen) }
+    ensures exact { S.honest store.old → (seen : List ℕ) (chains : List Chain)
+        → AreMarked marks.old (S.state store.old).end seen
+        → AreHeadChains (body_at S.PageStore store.old) (shape_of shape) page.now.bytes first count
+        chains → MayBeSeen (S.state store.old).end (seen ++ flat_map numbers chains)
+        → IfOk result (λ pairs. AreCounted chains (S.state store.old).end pairs marks.new seen) }
+    ensures whole { S.honest store.old → (seen : List ℕ) (chains : List Chain)
+        → AreMarked marks.old (S.state store.old).end seen
+        → AreHeadChains (body_at S.PageStore store.old) (shape_of shape) page.now.bytes first count
+        chains → MayBeSeen (S.state store.old).end (seen ++ flat_map numbers chains)
+        → IsErrOf result Damaged → ⊥ }
+{
+    let mut pairs: u32 = 0;
+    for i in 0..count {
+        let head = page.u32_at(HEADS_AT + 4 * i as usize);
+        let more = check_chain(store, shape, first + i, head, marks)?;
+        pairs = pairs.saturating_add(more);
+    }
+    Ok(pairs)
+}
+
+/// Reads the buckets of segment `s`, and answers how many pairs they have.
+fn check_segment<S: PageStore>(
+    store: &mut S,
+    meta: &Meta,
+    s: u32,
+    marks: &mut [bool],
+) -> Result<u32, PageFault>
+    requires marks { (S.state store.old).end ≤ length marks.old }
+    requires meta { IsMeta (model_meta meta.now) }
+    requires within { s < length meta.now.segments.items }
+    ensures reads { ReadsOnly S.PageStore store.old store.new }
+    ensures length { length marks.new ≡ length marks.old }
+    ensures cause { HasDeviceCause (S.faults store.old) (S.faults store.new) result }
+    ensures answer { IsWalkAnswer (S.state store.old) result }
+    ensures sound { S.honest store.old → (seen : List ℕ)
+        → AreMarked marks.old (S.state store.old).end seen
+        → IfOk result (λ pairs. IsSegmentChecked (body_at S.PageStore store.old)
+        (S.state store.old).end (model_meta meta.now) s pairs marks.new seen) }
+    ensures exact { S.honest store.old → (seen : List ℕ) (chains : List Chain)
+        → AreMarked marks.old (S.state store.old).end seen
+        → AreInSegment (body_at S.PageStore store.old) (model_meta meta.now) s chains
+        → MayBeSeen (S.state store.old).end (seen ++ flat_map numbers chains)
+        → IfOk result (λ pairs. AreCounted chains (S.state store.old).end pairs marks.new seen) }
+    ensures whole { S.honest store.old → (seen : List ℕ) (chains : List Chain)
+        → AreMarked marks.old (S.state store.old).end seen
+        → AreInSegment (body_at S.PageStore store.old) (model_meta meta.now) s chains
+        → MayBeSeen (S.state store.old).end (seen ++ flat_map numbers chains)
+        → IsErrOf result Damaged → ⊥ }
+{
+    let n = meta.segments[s as usize];
+    let mut page = Page::blank();
+    store.read(n, &mut page)?;
+    if !segment_ok(&page, meta, s as usize) {
+        return Err(PageFault::Damaged);
+    }
+    let first = PER_SEGMENT * s;
+    let count = (meta.shape.buckets() - first).min(PER_SEGMENT);
+    check_heads(store, meta.shape, &page, first, count, marks)
+}
+
+/// Reads all buckets with their segment pages, marks the pages of the chains, and answers how many
+/// pairs there are, 4,294,967,295 where there are more.
+pub fn check_buckets<S: PageStore>(
+    store: &mut S,
+    meta: &Meta,
+    marks: &mut [bool],
+) -> Result<u32, PageFault>
+    requires marks { (S.state store.old).end ≤ length marks.old }
+    requires meta { IsMeta (model_meta meta.now) }
+    ensures reads { ReadsOnly S.PageStore store.old store.new }
+    ensures length { length marks.new ≡ length marks.old }
+    ensures cause { HasDeviceCause (S.faults store.old) (S.faults store.new) result }
+    ensures answer { IsWalkAnswer (S.state store.old) result }
+    ensures sound { S.honest store.old → (seen : List ℕ)
+        → AreMarked marks.old (S.state store.old).end seen
+        → IfOk result (λ pairs. AreChecked (body_at S.PageStore store.old) (S.state store.old).end
+        (model_meta meta.now) pairs marks.new seen) }
+    ensures exact { S.honest store.old → (seen : List ℕ) (chains : List Chain)
+        → AreMarked marks.old (S.state store.old).end seen
+        → AreBuckets (body_at S.PageStore store.old) (model_meta meta.now) chains
+        → MayBeSeen (S.state store.old).end (seen ++ flat_map numbers chains)
+        → IfOk result (λ pairs. AreCounted chains (S.state store.old).end pairs marks.new seen) }
+    ensures whole { S.honest store.old → (seen : List ℕ) (chains : List Chain)
+        → AreMarked marks.old (S.state store.old).end seen
+        → AreBuckets (body_at S.PageStore store.old) (model_meta meta.now) chains
+        → MayBeSeen (S.state store.old).end (seen ++ flat_map numbers chains)
+        → IsErrOf result Damaged → ⊥ }
+{
+    let mut pairs: u32 = 0;
+    for s in 0..meta.segments.len() as u32 {
+        let more = check_segment(store, meta, s, marks)?;
+        pairs = pairs.saturating_add(more);
+    }
+    Ok(pairs)
+}
