@@ -6,11 +6,13 @@ pub mod ChangeSteps
 pub mod Done
 pub mod Endings
 pub mod FetchSteps
+pub mod GoodFiles
 pub mod Lends
 pub mod OpenedFiles
 pub mod PassKeys
 pub mod PassSteps
 pub mod ReadSteps
+pub mod ReadThrough
 pub mod Refused
 pub mod Runs
 pub mod Searches

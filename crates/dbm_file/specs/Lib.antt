@@ -12,3 +12,4 @@ pub mod Rooms
 pub mod Runs
 pub mod Searches
 pub mod Trying
+pub mod Verifying

@@ -8,6 +8,7 @@ mod named;
 mod octets;
 mod opening;
 mod running;
+mod verifying;
 
 pub use calls::{Call, DeleteReply, Reply, Stat, StoreMode, StoreReply};
 pub use database::{Database, Db};

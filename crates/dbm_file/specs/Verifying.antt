@@ -1,0 +1,33 @@
+-- What is said of a file that was read through.
+use Rattle.std.specs.Prelude.{◌≡◌, ℕ, true}
+use Rattle.std.specs.FinMap.{len}
+use Rattle.dbm_model.specs.Pairs.{Contents}
+use Rattle.dbm_model.specs.States.{Handle}
+use Rattle.page_io.specs.Store.{Pages}
+use Rattle.page_io.specs.Meaning.{FileStandsFor}
+use Rattle.page_io.specs.Views.{ReadsOnly}
+use Rattle.page_io.specs.declared.store.PageStore.{Ghosts}
+use Rattle.dbm_file.specs.Answers.{Survives}
+use Rattle.dbm_file.specs.Database.{store_of, meta_kept, page_state, error_of, cursor_of, IsAt}
+use Rattle.dbm_file.specs.declared.database.Database.{Database}
+
+-- the pages are a good file of so many pairs: they stand for a map that has them
+pub record IsFileOf (pages : Pages) (pairs : ℕ) : Type 0 where
+  pub map : Contents
+  pub limit : ℕ
+  pub stands : FileStandsFor pages map limit
+  pub many : len map ≡ pairs
+
+-- pages may have been read, and nothing else has changed: neither what is kept of the meta page,
+-- nor the first fault, nor the pass
+pub record IsReadThrough {S : Type 0} {s : Ghosts S} (old new : Database S s) : Type 0 where
+  pub reads : ReadsOnly s (store_of old) (store_of new)
+  pub meta : meta_kept new ≡ meta_kept old
+  pub error : error_of new ≡ error_of old
+  pub pass : cursor_of new ≡ cursor_of old
+
+-- a database at this handle is at the same one, but that the device may have failed more often, and
+-- every image of every moment stands for its map
+pub record StaysAt {S : Type 0} {s : Ghosts S} (old new : Database S s) (h : Handle) : Type 0 where
+  pub is_at : IsAt new (record h { faults = s.faults (store_of new) })
+  pub survives : (page_state old).usable ≡ true → Survives old new (λ map. map ≡ h.state.map)

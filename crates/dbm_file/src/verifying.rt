@@ -1,0 +1,48 @@
+// Whether the file is a good one.
+ghost use Rattle.std.specs.Prelude.{◌≡◌, ◌↔◌, ◌≤◌, ℕ, false, true, length, Err, IfOk};
+
+use crate::{Database, Fault};
+use file_check::verify;
+use page_io::PageStore;
+
+impl<S: PageStore> Database<S> {
+    ghost use Rattle.std.specs.FinMap.{len};
+    ghost use Rattle.sect_dev.specs.Device.{MoreFaults};
+    ghost use Rattle.dbm_fault.specs.Among.{IsErrAmong};
+    ghost use Rattle.dbm_file.specs.Database.{store_of, page_state, AtEachHandle};
+    ghost use Rattle.dbm_file.specs.Replies.{read_faults};
+    ghost use Rattle.dbm_file.specs.Verifying.{IsFileOf, IsReadThrough, StaysAt};
+
+    /// Reads every page of the file, and answers how many pairs it has. It takes no memory: the
+    /// caller lends a mark for each page, whatever they hold, and after it they are unspecified.
+    /// Neither the first fault nor a pass that is on changes. In this order: `Broken`; then
+    /// `Device`, or `Damaged` where it is no good file: where a page doesn't say what the format
+    /// asks of it or stands in two places or in none, a pair is in another bucket than its key's, a
+    /// key stands there twice, a count is wrong, or there are more pages than the limit asks for.
+    pub fn verify(&mut self, marks: &mut [bool]) -> Result<u32, Fault>
+        requires { (page_state self.old).end ≤ length marks.old }
+
+        // It says how many pairs there are exactly where the committed pages are a good file, and
+        // that it is damaged only where they are none.
+        ensures good { S.honest (store_of self.old)
+            → IfOk result (IsFileOf (S.committed (store_of self.old))) }
+        ensures damaged { S.honest (store_of self.old) → result ≡ Err Fault.Damaged → (pairs : ℕ)
+            → IsFileOf (S.committed (store_of self.old)) pairs → ⊥ }
+
+        // So it never calls what these calls have made damaged, and counts their pairs.
+        ensures counts { AtEachHandle self.old (λ h. h.state.usable ≡ true
+            → IfOk result (λ pairs. pairs ≡ len h.state.map)
+            × (result ≡ Err Fault.Damaged → ⊥)) }
+        ensures stays { AtEachHandle self.old (StaysAt self.old self.new) }
+        ensures read { IsReadThrough self.old self.new }
+        ensures broken { (result ≡ Err Fault.Broken) ↔ ((page_state self.old).usable ≡ false) }
+        ensures device { result ≡ Err Fault.Device
+            → MoreFaults (S.faults (store_of self.old)) (S.faults (store_of self.new)) }
+        ensures only { IsErrAmong result read_faults }
+    {
+        if self.store.is_broken() {
+            return Err(Fault::Broken);
+        }
+        Ok(verify(&mut self.store, marks)?)
+    }
+}
