@@ -21,7 +21,7 @@ _dbmtool_places() {
 }
 
 _dbmtool() {
-  local commands='create store insert fetch delete list dump load stat script rehearse faults help'
+  local commands='create store insert fetch delete list dump load stat verify script rehearse faults help'
   local word=${COMP_WORDS[COMP_CWORD]} options='' places
   COMPREPLY=()
   # The program's own option stands before the command.
@@ -42,7 +42,7 @@ _dbmtool() {
     script) options='--memory -h --help' ;;
     rehearse) options='--memory --stops -h --help' ;;
     dump | load) options='--text -h --help' ;;
-    list | stat | faults) options='-h --help' ;;
+    list | stat | verify | faults) options='-h --help' ;;
   esac
   places=$(_dbmtool_places)
   case $word,$places,${COMP_WORDS[1]} in

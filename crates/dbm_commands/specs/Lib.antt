@@ -1,3 +1,4 @@
 pub mod Outcomes
 pub mod Printing
+pub mod Verifying
 pub mod Words

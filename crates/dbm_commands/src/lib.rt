@@ -5,10 +5,12 @@ mod ending;
 mod outcomes;
 mod pairs;
 mod printing;
+mod verifying;
 mod words;
 
 pub use ending::{closed, flushed};
 pub use outcomes::{Failure, Outcome};
 pub use pairs::{delete, fetch, store};
 pub use printing::stat;
+pub use verifying::verify;
 pub use words::bytes_of;

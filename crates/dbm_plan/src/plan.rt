@@ -62,6 +62,10 @@ pub enum Plan<'a> {
     Stat {
         file: &'a str,
     },
+    /// Look at every page, and print how many pairs there are.
+    Verify {
+        file: &'a str,
+    },
     /// Run the script on standard input.
     Script(Source<'a>),
     /// Run the script on standard input in memory, stopped before each of its device calls, or

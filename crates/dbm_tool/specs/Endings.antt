@@ -1,7 +1,7 @@
 -- How a plan may end.
 use Rattle.std.specs.Prelude.{◌≡◌, ◌⊎◌, ℕ, Bool, true, false, Option, None, Result, Ok, Err}
 use Rattle.dbm_plan.specs.declared.plan.Plan.{Plan}
-use Rattle.dbm_plan.specs.declared.plan.Plan.TheVariants.{Store, Insert, Fetch, Delete, List as ListKeys, Dump, Load, Stat, Script, Rehearse, Faults}
+use Rattle.dbm_plan.specs.declared.plan.Plan.TheVariants.{Store, Insert, Fetch, Delete, List as ListKeys, Dump, Load, Stat, Verify, Script, Rehearse, Faults}
 use Rattle.dbm_plan.specs.declared.plan.Source.{Source}
 use Rattle.dbm_plan.specs.declared.plan.Source.TheVariants.{Memory as InMemory}
 use Rattle.dbm_commands.specs.Words.{spelled}
@@ -28,6 +28,7 @@ prints (Fetch file key spelling) = true
 prints (ListKeys file) = true
 prints (Dump file spelling) = true
 prints (Stat file) = true
+prints (Verify file) = true
 prints (Script source) = true
 prints (Rehearse source stops) = true
 prints Faults = true

@@ -6,7 +6,7 @@ use Rattle.clap.specs.Words.{App, Row, Rule, Shape, Text, first_of, matches_of, 
 use Rattle.clap.specs.declared.builder.action.ArgAction.TheVariants.{SetTrue}
 use Rattle.clap.specs.declared.builder.value_parser.ValueParser.TheVariants as parser
 use Rattle.dbm_plan.specs.declared.plan.Plan.{Plan}
-use Rattle.dbm_plan.specs.declared.plan.Plan.TheVariants.{Create, Store, Insert, Fetch, Delete, List as ListKeys, Dump, Load, Stat, Script, Rehearse, Faults}
+use Rattle.dbm_plan.specs.declared.plan.Plan.TheVariants.{Create, Store, Insert, Fetch, Delete, List as ListKeys, Dump, Load, Stat, Verify, Script, Rehearse, Faults}
 use Rattle.dbm_plan.specs.declared.plan.Source.{Source}
 use Rattle.dbm_plan.specs.declared.plan.Source.TheVariants.{File, Memory}
 use Rattle.dbm_plan.specs.declared.plan.Spelling.{Spelling}
@@ -107,7 +107,7 @@ command_line = record {
   subs = create_line ∷ pair_line (codes "store") ∷ pair_line (codes "insert")
       ∷ key_line (codes "fetch") ∷ key_line (codes "delete")
       ∷ file_line (codes "list") ∷ pairs_line (codes "dump") ∷ pairs_line (codes "load")
-      ∷ file_line (codes "stat") ∷ script_line ∷ rehearse_line ∷ faults_line ∷ [];
+      ∷ file_line (codes "stat") ∷ file_line (codes "verify") ∷ script_line ∷ rehearse_line ∷ faults_line ∷ [];
 }
 
 -- ---- the plan
@@ -177,6 +177,7 @@ Asks name rows (ListKeys file) = (name ≡ codes "list") × IsText rows (codes "
 Asks name rows (Dump file spelled) = (name ≡ codes "dump") × ArePairs rows file.now spelled
 Asks name rows (Load file spelled) = (name ≡ codes "load") × ArePairs rows file.now spelled
 Asks name rows (Stat file) = (name ≡ codes "stat") × IsText rows (codes "file") file.now
+Asks name rows (Verify file) = (name ≡ codes "verify") × IsText rows (codes "file") file.now
 Asks name rows (Script source) = (name ≡ codes "script") × IsSource rows source
 Asks name rows (Rehearse source stops) = (name ≡ codes "rehearse") × IsSource rows source
     × IsOptional rows (codes "stops") stops

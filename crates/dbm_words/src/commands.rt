@@ -33,6 +33,8 @@ pub const LOAD: &str = "load";
 
 pub const STAT: &str = "stat";
 
+pub const VERIFY: &str = "verify";
+
 pub const SCRIPT: &str = "script";
 
 pub const REHEARSE: &str = "rehearse";
@@ -120,6 +122,7 @@ pub fn command<'a>(alloc: Global) -> Result<Command<'a>, AllocError>
     let command = added(command, dump_command(alloc));
     let command = added(command, load_command(alloc));
     let command = added(command, stat_command(alloc));
+    let command = added(command, verify_command(alloc));
     let command = added(command, script_command(alloc));
     let command = added(command, rehearse_command(alloc));
     added(command, Ok(faults_command(alloc)))
@@ -260,6 +263,17 @@ fn stat_command<'a>(alloc: Global) -> Result<Command<'a>, AllocError>
         STAT,
         "Prints how many pairs, buckets and pages there are, in seven lines",
         "Example:\n  dbmtool stat colors",
+    )
+}
+
+fn verify_command<'a>(alloc: Global) -> Result<Command<'a>, AllocError>
+    ensures { IfOk result (λ c. IsApp c (alone (file_line (codes "verify")))) }
+{
+    file_command(
+        alloc,
+        VERIFY,
+        "Looks at every page, and prints how many pairs there are, or tells fault 9",
+        "Example:\n  dbmtool verify colors",
     )
 }
 

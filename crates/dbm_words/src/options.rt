@@ -7,7 +7,7 @@ ghost use Rattle.dbm_words.specs.Sorting.{IsOfChoice};
 use crate::WordsError;
 use crate::commands::{
     CONTENT, CREATE, DELETE, DUMP, FAULTS, FETCH, FILE, HEXADECIMAL, INSERT, KEY, LIMIT, LIST,
-    LOAD, MEMORY, REHEARSE, SCRIPT, STAT, STOPS, STORE, TEXT, VERBOSE,
+    LOAD, MEMORY, REHEARSE, SCRIPT, STAT, STOPS, STORE, TEXT, VERBOSE, VERIFY,
 };
 use clap::ArgMatches;
 use dbm_plan::{Plan, Request, Source, Spelling};
@@ -126,6 +126,7 @@ fn of_file<'a>(name: &str, options: &ArgMatches<'a>) -> Option<Plan<'a>>
             spelling: form(options)?,
         }),
         STAT => Some(Plan::Stat { file }),
+        VERIFY => Some(Plan::Verify { file }),
         _ => of_key(name, options),
     }
 }

@@ -43,5 +43,8 @@ returns-in_ok-form-in-load c =
 pub returns-in-stat : goal.returns-in-stat
 returns-in-stat c = (c.in-stat.is, c.in_ok-file.ensures)
 
+pub returns-in-verify : goal.returns-in-verify
+returns-in-verify c = (c.in-verify.is, c.in_ok-file.ensures)
+
 pub returns-in_default : goal.returns-in_default
 returns-in_default c = c.of_key.ensures
