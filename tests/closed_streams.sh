@@ -21,7 +21,7 @@ cp t.db before
 
 # what can't be printed is told, and the file keeps its pairs
 "$program" dump t > before.text
-for words in 'fetch t key' 'list t' 'dump t' 'stat t' 'faults'; do
+for words in 'fetch t key' 'list t' 'dump t' 'stat t' 'verify t' 'faults'; do
   # shellcheck disable=SC2086
   "$program" $words >&- 2> err < /dev/null
   status=$?

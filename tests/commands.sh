@@ -46,6 +46,7 @@ run 2 '' 'dbmtool: fault 14\n' store missing a b
 run 2 '' 'dbmtool: fault 14\n' insert missing a b
 run 2 '' 'dbmtool: fault 14\n' delete missing a
 run 2 '' 'dbmtool: fault 14\n' stat missing
+run 2 '' 'dbmtool: fault 14\n' verify missing
 [ ! -e missing.db ] || wrong "a file was made"
 
 # Two pairs of 1,500 bytes take a page each. Where the second one goes, its page is free, and the next such pair takes it.
@@ -59,6 +60,7 @@ run 0 'pairs 1\nlimit 100\nbuckets 1\nlevel 0\nsplit 0\npages 5\nfree 1\n' '' st
 run 0 '' '' store pages c "$long"
 run 0 'pairs 2\nlimit 100\nbuckets 1\nlevel 0\nsplit 0\npages 5\nfree 0\n' '' stat pages
 run 0 "$long\n" '' fetch pages a
+run 0 '2\n' '' verify pages
 
 # A script in which the device fails within a change goes on, each later change is refused as that of a broken database, and
 # the fault of closing is told.

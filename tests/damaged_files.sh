@@ -1,13 +1,16 @@
 #!/usr/bin/env bash
 # Damaged files: what is answered where a field breaks a rule of the format, and that on a file with any one byte changed each
-# command ends, with replies or the one line of a fault, and a refused one leaves the file as it is.
+# command ends, with replies or the one line of a fault, and a refused one leaves the file as it is. What `verify` says is compared
+# with a plain look at the file, there and on larger files that are damaged at random.
 set -u
 top=$(cd "$(dirname "$0")/.." && pwd)
 program=$top/crates/dbmtool/out/dbmtool
 work=$(mktemp -d)
 trap 'rm -rf "$work"' EXIT
 cd "$work" || exit 1
-cc -O1 -o each_byte "$top/tests/each_byte.c" || exit 1
+for each in each_byte hostile; do
+  cc -O1 -o "$each" "$top/tests/$each.c" "$top/tests/plain_check.c" || exit 1
+done
 wrong=0
 
 # run STATUS OUTPUT FAULTS WORD..
@@ -33,8 +36,9 @@ changed() {
   cp t.db damaged.db
 }
 
-# refused FAULT: by a fetch, a store and a dump, and the file stays as it is
+# refused FAULT: by a fetch, a store, a dump and a verify, and the file stays as it is
 refused() {
+  run 2 '' "dbmtool: fault $1" verify t
   run 2 '' "dbmtool: fault $1" fetch t a
   run 2 '' "dbmtool: fault $1" store t a new
   run 2 '' "dbmtool: fault $1" dump t
@@ -45,13 +49,17 @@ refused() {
 "$program" create nine --limit 100 || exit 1
 for digit in 1 2 3 4 5 6 7 8 9; do echo "6$digit 0$digit"; done > nine.text
 "$program" load nine < nine.text || exit 1
+rule='a good file'
+run 0 9 '' verify nine
 
 changed 'a segment names a head twice' nine.db 2*2048+20 00000003
 run 0 01 '' fetch t 61 -x
 run 1 '' '' fetch t 62 -x
+run 2 '' 'dbmtool: fault 9' verify t
 changed 'a pair more than is counted' nine.db 2048+24 00000008
 run 0 01 '' fetch t 61 -x
 run 0 09 '' fetch t 69 -x
+run 2 '' 'dbmtool: fault 9' verify t
 changed 'more pairs than eight to a bucket' nine.db 2048+24 00000011
 refused 9
 changed 'another version' nine.db 2048+16 00000009
@@ -61,9 +69,11 @@ run 0 01 '' fetch t 61 -x
 run 2 '' 'dbmtool: fault 9' fetch t 62 -x
 run 2 '' 'dbmtool: fault 9' store t 62 02 -x
 run 2 '' 'dbmtool: fault 9' dump t
+run 2 '' 'dbmtool: fault 9' verify t
 changed 'more slots than there is room for' nine.db 3*2048+7 ff
 run 2 '' 'dbmtool: fault 9' fetch t 61 -x
 run 0 02 '' fetch t 62 -x
+run 2 '' 'dbmtool: fault 9' verify t
 changed 'an end far beyond the device' nine.db 12 ffffffff
 refused 9
 changed 'a state that is none' nine.db 8 00000002
@@ -75,7 +85,8 @@ refused 10
 armed=(8 00000001000000050000000500000004)
 changed 'an armed file' nine.db "${armed[@]}"
 run 0 "$(cat nine.text)" '' dump t
-cmp -s t.db damaged.db || { echo "$rule: a dump changed the file"; wrong=1; }
+run 0 9 '' verify t
+cmp -s t.db damaged.db || { echo "$rule: a dump or a verify changed the file"; wrong=1; }
 run 0 '' '' store t 61 01 -x
 run 0 "$(cat nine.text)" '' dump t
 images=(5*2048 "$(tail -c +$((6 * 2048 + 1)) nine.db | head -c 2048 | od -An -v -tx1 | tr -d ' \n')"
@@ -87,15 +98,32 @@ refused 9
 long=$(printf '%01499d' 0)
 "$program" create chain --limit 100 && "$program" store chain a "$long" && "$program" store chain b "$long" \
   && "$program" delete chain b || exit 1
+rule='a good file with a free page'
+run 0 1 '' verify chain
 changed 'a free page that names itself' chain.db 4*2048+8 00000004
 run 2 '' 'dbmtool: fault 9' store t b "$long"
+run 2 '' 'dbmtool: fault 9' verify t
 cmp -s t.db damaged.db || { echo "$rule: a refused store changed the file"; wrong=1; }
 run 0 "$long" '' fetch t a
 changed 'a bucket whose next page is itself' chain.db 3*2048+8 00000003
 run 0 "$long" '' fetch t a
 run 2 '' 'dbmtool: fault 9' fetch t b
 run 2 '' 'dbmtool: fault 9' list t
+run 2 '' 'dbmtool: fault 9' verify t
 
 { sed -n 's/ .*//; s/^/F /p' nine.text; echo 1; for _ in 1 2 3 4 5 6 7 8 9; do echo N; done; echo S 62 ff; echo D 61; } > lines
 ./each_byte "$program" t nine.db $((20 * 512)) lines || wrong=1
+
+# Larger files: three levels with long chains and a free list, and two segments.
+pairs() { awk -v from="$1" -v to="$2" -v most="$3" 'BEGIN {
+  for (i = from; i <= to; i++) { line = sprintf("%08x ", i); for (j = i * 7919 % most; j >= 0; j--) line = line "5a"; print line } }'; }
+"$program" create levels --limit 100 && pairs 1 60 1900 | "$program" load levels \
+  && pairs 1 60 1900 | awk 'NR % 3 == 0 { print "D " $1 }' | "$program" script levels > replies \
+  && [ "$(sort -u replies)" = 0 ] && run 0 40 '' verify levels || exit 1
+"$program" create segments --limit 10000 && pairs 1 4200 40 | "$program" load segments \
+  && run 0 4200 '' verify segments || exit 1
+for seed in 1 2; do
+  ./hostile "$program" t levels.db 3000 "$seed" || wrong=1
+  ./hostile "$program" t segments.db 300 "$seed" || wrong=1
+done
 [ "$wrong" = 0 ]

@@ -1,6 +1,8 @@
 // Runs a program on copies of a file in which one byte is changed: each byte, to 00 and to ff. Its words are the program, the name of
-// the copy without .db, the good file, how many bytes of it are changed, and the lines of a script, which is run after a dump.
+// the copy without .db, the good file, how many bytes of it are changed, and the lines of a script, which is run after a dump and a
+// `verify`.
 #define _GNU_SOURCE
+#include "plain_check.h"
 #include <fcntl.h>
 #include <signal.h>
 #include <spawn.h>
@@ -63,6 +65,15 @@ static int lines_of(const char *name) {
     return lines;
 }
 
+// Whether `verify` says of the file what a plain look at it says.
+static int is_verified(const char *program, const char *name, size_t size) {
+    long is = plain_pairs((unsigned char *)good, size);
+    int status = run(program, "verify", name, "/dev/null");
+    if (!is_told(status)) return 0;
+    slurp("out", text);
+    return status == 0 ? text[0] && strtol(text, NULL, 10) == is : is < 0 && !text[0];
+}
+
 int main(int count, char **words) {
     if (count != 6) return 2;
     const char *program = words[1], *name = words[2], *script = words[5];
@@ -81,6 +92,10 @@ int main(int count, char **words) {
             int is_same = slurp(file, left) == size && !memcmp(good, left, size);
             if (!is_told(status) || !is_same) {
                 printf("byte %zu is %02x: a dump has status %d, or changes the file, and says %s\n", at, values[i] & 255, status, text);
+                return 1;
+            }
+            if (!is_verified(program, name, size)) {
+                printf("byte %zu is %02x: verify says %s\n", at, values[i] & 255, text);
                 return 1;
             }
             status = run(program, "script", name, script);

@@ -1,6 +1,6 @@
 #!/usr/bin/env bash
-# A store on a real file in which one read, write or sync fails, each in turn: it is fault 2, and the file opens again with the
-# old content or the new, and with all other pairs.
+# Commands on a real file in which one read, write or sync fails, each in turn: the command is fault 2, and the file then verifies and has
+# the pairs from before the change that was under way, or from after it, and can be changed. A create may leave no database at all.
 set -u
 top=$(cd "$(dirname "$0")/.." && pwd)
 program=$top/crates/dbmtool/out/dbmtool
@@ -8,25 +8,65 @@ work=$(mktemp -d)
 trap 'rm -rf "$work"' EXIT
 cd "$work" || exit 1
 cc -shared -fPIC -O1 -o fail.so "$top/tests/fail.c" -ldl || exit 1
-"$program" create t --limit 100 && "$program" store t other 1 && "$program" store t key old || exit 1
-cp t.db first.db
 
-FAIL_CALL=0 LD_PRELOAD=./fail.so "$program" store t key new 2> err || { echo "a store failed with no failed call"; exit 1; }
-calls=$(sed -n 's/^calls //p' err)
-[ "${calls:-0}" -gt 20 ] || { echo "no call was counted"; exit 1; }
-old=0; new=0
-for n in $(seq 1 "$calls"); do
-  cp first.db t.db
-  FAIL_CALL=$n LD_PRELOAD=./fail.so "$program" store t key new > out 2> err
-  status=$?
-  [ "$status" = 2 ] && [ "$(cat err)" = 'dbmtool: fault 2' ] || { echo "call $n of $calls failed: status $status, $(cat err)"; exit 1; }
-  [ "$("$program" fetch t other)" = 1 ] || { echo "call $n of $calls failed, and another pair is gone"; exit 1; }
-  case $("$program" fetch t key) in
-    old) old=$((old + 1)) ;;
-    new) new=$((new + 1)) ;;
-    *) echo "call $n of $calls failed, and the key has another content"; exit 1 ;;
-  esac
-  "$program" store t key third && [ "$("$program" fetch t key)" = third ] || { echo "call $n of $calls failed, and the file can't be changed"; exit 1; }
+# Eight pairs, so that one more opens a bucket.
+"$program" create first --limit 100 || exit 1
+for digit in 1 2 3 4 5 6 7 8; do echo "6$digit 0$digit"; done | "$program" load first || exit 1
+for digit in 9 a b; do echo "6$digit 0$digit"; done > further
+
+# run N WORD..: the command with call N failed, on a copy of the first file
+run() {
+  rm -f t.db
+  [ "$2" = create ] || cp first.db t.db
+  FAIL_CALL=$1 LD_PRELOAD=./fail.so "$program" "${@:2}" < further > out 2> err
+}
+
+# is_left FILE: the pairs that the database has are those of the file
+is_left() {
+  local pairs
+  pairs=$("$program" verify t 2> /dev/null < /dev/null) && [ "$pairs" = "$(wc -l < "$1")" ] && "$program" dump t < /dev/null | cmp -s - "$1"
+}
+
+# failed DUMPS WORD..: each call of the command failed in turn, which leaves the pairs of one of these dumps; each of them is left by some
+failed() {
+  local dumps=$1 calls none=0 left status
+  local -A times=()
+  shift
+  run 0 "$@" || { echo "$*: it fails with no failed call"; exit 1; }
+  calls=$(sed -n 's/^calls //p' err)
+  for n in $(seq 1 "${calls:-0}"); do
+    run "$n" "$@"
+    status=$?
+    [ "$status" = 2 ] && [ "$(cat err)" = 'dbmtool: fault 2' ] || { echo "$*, call $n of $calls failed: status $status, $(cat err)"; exit 1; }
+    left=
+    for dump in $dumps; do
+      if is_left "$dump"; then left=$dump; break; fi
+    done
+    if [ -z "$left" ] && [ "$1" = create ] && [ "$("$program" verify t 2>&1)" = 'dbmtool: fault 10' ]; then
+      none=$((none + 1))
+      continue
+    fi
+    [ -n "$left" ] || { echo "$*, call $n of $calls failed: other pairs are left"; exit 1; }
+    times[$left]=$((${times[$left]:-0} + 1))
+    "$program" store t later 1 && [ "$("$program" fetch t later)" = 1 ] || { echo "$*, call $n of $calls failed: the file can't be changed"; exit 1; }
+  done
+  echo "$*: $calls calls failed in turn;$(for dump in $dumps; do echo -n " ${times[$dump]:-0} left $dump,"; done) $none nothing"
+  for dump in $dumps; do
+    [ "${times[$dump]:-0}" -gt 0 ] || { echo "$*: no failed call left $dump"; exit 1; }
+  done
+}
+
+"$program" dump first > before
+for n in 1 2 3; do
+  { cat before; head -n "$n" further; } > "before+$n"
 done
-echo "$calls calls failed in turn: $old left the old content, $new the new one"
-[ "$old" -gt 0 ] && [ "$new" -gt 0 ]
+sed 's/^64 .*/64 ff/' before > changed
+grep -v '^65' before > deleted
+: > empty
+failed 'before before+1' store t 69 09 -x
+failed 'before changed' store t 64 ff -x
+failed 'before deleted' delete t 65 -x
+failed 'before before+1 before+2 before+3' load t
+failed before verify t
+failed before dump t
+failed empty create t --limit 100

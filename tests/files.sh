@@ -79,7 +79,7 @@ printf 'S 6b 76\nF 6b\nQ\nD 6b\n' > lines
 run 0 '0\n76\n-1 line\n0\n' '' script t < lines
 
 # usage names the word that was wrong
-for words in 'store t' 'verify t' 'fetch t k v' 'create t --limit x' '--unknown' ''; do
+for words in 'store t' 'verify' 'check t' 'fetch t k v' 'create t --limit x' '--unknown' ''; do
   # shellcheck disable=SC2086
   "$program" $words > out 2> err < /dev/null
   [ $? = 3 ] && [ ! -s out ] && [ -s err ] || { echo "dbmtool $words: no usage"; wrong=1; }
@@ -88,7 +88,7 @@ grep -q -- '--unknown' <("$program" --unknown 2>&1) || { echo "usage doesn't nam
 
 # help names each command, and ends with an example
 "$program" --help > out || wrong=1
-for command in create store insert fetch delete list dump load stat script rehearse faults; do
+for command in create store insert fetch delete list dump load stat verify script rehearse faults; do
   grep -qw "$command" out || { echo "the help has no $command"; wrong=1; }
   "$program" "$command" --help > command.out || { echo "no help of $command"; wrong=1; }
   grep -q "dbmtool $command" command.out || { echo "the help of $command has no example"; wrong=1; }

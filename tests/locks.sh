@@ -62,7 +62,7 @@ answers() {
 
 # beside a writer
 writes_on
-for command in list dump stat load script rehearse; do is_refused "$command" t; done
+for command in list dump stat verify load script rehearse; do is_refused "$command" t; done
 is_refused fetch t k
 is_refused store t a b
 is_refused insert t a b

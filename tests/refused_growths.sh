@@ -1,6 +1,7 @@
 #!/usr/bin/env bash
-# One growth refused in the built program, each in turn, over scripts on a new database in memory and on one in a file. The program then
-# ends with fault 1, or it gives the full right answer; a store is refused by fault 1, and changes nothing, only where it opens a bucket.
+# One growth refused in the built program, each in turn, over scripts on a new database in memory and on one in a file, and over a
+# verify. The program then ends with fault 1, or it gives the full right answer; a store is refused by fault 1, and changes nothing, only
+# where it opens a bucket.
 set -u
 top=$(cd "$(dirname "$0")/.." && pwd)
 program=$top/crates/dbmtool/out/dbmtool
@@ -54,3 +55,21 @@ refused few --memory 100
 refused nine --memory 100
 refused few t
 refused nine t
+
+# a verify of the file, which makes a mark for each page
+rm -f t.db; "$program" create t --limit 100 && "$program" script t < nine > out || exit 1
+FAIL_ALLOC=0 LD_PRELOAD=./refuse.so "$program" verify t > out 2> err && [ "$(cat out)" = 9 ] || exit 1
+growths=$(sed -n 's/^growths //p' err) memory=0 right=0
+for n in $(seq 1 "${growths:-0}"); do
+  FAIL_ALLOC=$n LD_PRELOAD=./refuse.so "$program" verify t > out 2> err
+  status=$?
+  if [ "$status" = 2 ] && cmp -s err memory && [ ! -s out ]; then
+    memory=$((memory + 1))
+  elif [ "$status" = 0 ] && [ ! -s err ] && [ "$(cat out)" = 9 ]; then
+    right=$((right + 1))
+  else
+    echo "verify t, growth $n of $growths: status $status"; cat out err; exit 1
+  fi
+done
+echo "verify t: $growths growths, fault 1 after $memory, the right answer after $right"
+[ "$memory" -gt 0 ] || exit 1

@@ -149,10 +149,12 @@ create nine --limit 0 [] [] [dbmtool: fault 13/] 2
 create nine --limit=100 [] [] [] 0
 load nine [61 01/62 02/63 03/64 04/65 05/66 06/67 07/68 08/69 09/] [] [] 0
 stat nine [] [pairs 9/limit 100/buckets 2/level 1/split 0/pages 5/free 0/] [] 0
+verify nine [] [9/] [] 0
 load nine [61 FF/62 ./zz/63 00/] [] [dbmtool: line 3/] 2
 dump nine [] [61 ff/62 ./63 03/64 04/65 05/66 06/67 07/68 08/69 09/] [] 0
 create t2 --limit 4294967295 [] [] [dbmtool: fault 13/] 2
 create seven --limit 7 [] [] [] 0
+verify seven [] [0/] [] 0
 stat seven [] [pairs 0/limit 7/buckets 1/level 0/split 0/pages 4/free 0/] [] 0
 create --limit=1 one [] [] [] 0
 stat one [] [pairs 0/limit 1/buckets 1/level 0/split 0/pages 4/free 0/] [] 0
@@ -160,6 +162,7 @@ create most [] [] [] 0
 stat most [] [pairs 0/limit 1000000/buckets 1/level 0/split 0/pages 4/free 0/] [] 0
 fetch absent x [] [] [dbmtool: fault 14/] 2
 load absent [] [] [dbmtool: fault 14/] 2
+verify absent [] [] [dbmtool: fault 14/] 2
 create fields --limit 10 [] [] [] 0
 load --text fields [sky	blue/a\tb	\\/\x00	/	z/] [] [] 0
 dump fields [] [. 7a/00 ./610962 5c/736b79 626c7565/] [] 0
@@ -209,7 +212,7 @@ for words in --help -h help; do
   runs "$words"
   [ "$status" = 0 ] && [ ! -s err ] && grep -A1 '^Example:' out | grep -q '^  dbmtool create' || wrong "dbmtool $words"
 done
-commands='create store insert fetch delete list dump load stat script'
+commands='create store insert fetch delete list dump load stat verify script'
 for command in $commands; do
   grep -qE "^  $command " out || wrong "the help doesn't name $command"
 done
@@ -223,5 +226,5 @@ for line in 'S KEY CONTENT' 'I KEY CONTENT' 'F KEY' 'D KEY' 1 N E C; do
 done
 
 echo "$rows rows"
-[ "$rows" = 94 ] || wrong "not each row was read"
+[ "$rows" = 97 ] || wrong "not each row was read"
 exit $bad
