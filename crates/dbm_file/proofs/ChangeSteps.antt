@@ -1,5 +1,5 @@
 -- Calls that change the file, as steps.
-use Rattle.std.proofs.Common.{◌≡◌, ◌⊎◌, inl, inr, ⊎_elim, ℕ, ◌+◌, ◌≤◌, true, false, cond, Option, Some, None, is_some, Result, Ok, Err, OnOk, OnErr, refl, sym, ◌∙◌, ap, subst, arith}
+use Rattle.std.proofs.Common.{◌≡◌, ◌⊎◌, inl, inr, ⊎_elim, ℕ, ◌+◌, ◌*◌, ◌<◌, ◌≤◌, true, false, cond, Option, Some, None, is_some, Result, Ok, Err, OnOk, OnErr, refl, sym, ◌∙◌, ap, subst, arith}
 use Rattle.std.specs.Prelude.{IsErrAnd}
 use Rattle.std.specs.FinMap.{len}
 use Rattle.std.specs.Option.{option_map}
@@ -10,6 +10,7 @@ use Rattle.page_model.specs.Valid.{meta_buckets}
 use Rattle.page_model.specs.Pages.{Meta, MetaPage}
 use Rattle.dbm_model.specs.Pairs.{Contents}
 use Rattle.dbm_model.specs.States.{Keys, Handle, first_fault, flagged}
+use Rattle.dbm_model.specs.Sizes.{home}
 use Rattle.dbm_model.specs.Steps.{Case, Changes, case_of, Answers, Suffers, IsShort, OpensBucket, growth, buckets_opened}
 use Rattle.page_model.specs.Meaning.{said_by}
 use Rattle.page_io.specs.Store.{Settled, Pages, file_of, page_of}
@@ -97,6 +98,11 @@ module _ {S : Type 0} (s : Ghosts S) {old mid : Database S s} {map changed : Con
   abbrev before : Handle
   before = handle_of old map pass
 
+  -- the pages that a database of its limit needs
+  of_limit : (Says : ℕ → Type 0) → Says (home (meta_kept mid).limit)
+      → Says (home (meta_kept old).limit)
+  of_limit Says = subst (λ (limit : ℕ). Says (home limit)) (still_limit s old mid asked.read)
+
   -- the pages that a store adds are those of the definitions
   pub store_growth : said ≡ model.Stored → (meta_kept mid).pairs + 4 ≤ growth before said
   store_growth is = subst (λ (r : model.Reply). (meta_kept mid).pairs + 4 ≤ growth before r)
@@ -144,6 +150,7 @@ module _ {S : Type 0} (s : Ghosts S) {old mid : Database S s} {map changed : Con
               omega (arith, turns.grows.0, mid_end),
               omega (arith, turns.grows.1, mid_end, few),
             );
+            bounded = inr (of_limit (λ pages. (page_state new).end ≤ pages) turns.bounded);
             buckets = grown ∙ ap (λ (n : ℕ). n + buckets_opened before said (len changed))
                 mid_buckets;
             answers = inl (subst (λ (c : Case).
@@ -204,7 +211,11 @@ module _ {S : Type 0} (s : Ghosts S) {old mid : Database S s} {map changed : Con
             ∙ still_writable s old mid asked.read) same
 
         short : e ≡ page.NoRoom → IsShort before
-        short is = omega (arith, turns.no_room (ap Err is), mid_capacity, mid_end, mid_pairs)
+        short is =
+            let lacks = turns.no_room (ap Err is) in (
+              omega (arith, of_limit (λ pages. (page_state mid).capacity < 2 * pages) lacks.0, mid_capacity),
+              omega (arith, lacks.1, mid_capacity, mid_end, mid_pairs),
+            )
 
         suffers : (e ≡ page.Broken) ⊎ ((e ≡ page.Memory)
             ⊎ ((e ≡ page.NoRoom) ⊎ ((e ≡ page.Damaged) ⊎ (e ≡ page.Device))))
@@ -264,6 +275,7 @@ module _ {S : Type 0} (s : Ghosts S) {old mid : Database S s} {map changed : Con
             counts = omega (arith, asked.read.reads.stages_only.later, ended.ends.cause.later);
             capacity = room_is.0;
             pages = no_more_pages before after reply room_is.1;
+            bounded = inl room_is.1;
             buckets = no_more_buckets before after reply (len map) after_buckets refl;
             answers = inr (subst (λ (c : Case). Suffers before c reply after) (sym asked.falls)
                 (suffers ended.ends.answer.only));
@@ -291,6 +303,7 @@ module _ {S : Type 0} (s : Ghosts S) {old mid : Database S s} {map changed : Con
           counts = omega (arith, asked.read.reads.stages_only.later, ended.ends.cause.later);
           capacity = room_is.0;
           pages = no_more_pages before after reply room_is.1;
+          bounded = inl room_is.1;
           buckets = no_more_buckets before after reply (len map) after_buckets refl;
           answers = inr (subst (λ (c : Case). Suffers before c reply after)
               (sym asked.falls) (inr (inl (

@@ -5,6 +5,7 @@ pub mod Cases
 pub mod ChangeSteps
 pub mod Done
 pub mod Endings
+pub mod EnoughRoom
 pub mod FetchSteps
 pub mod GoodFiles
 pub mod Lends

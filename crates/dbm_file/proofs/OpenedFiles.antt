@@ -1,9 +1,10 @@
 -- A database as it was just opened, and what its images stand for.
-use Rattle.std.proofs.Common.{◌≡◌, ◌⊎◌, inl, inr, ℕ, Bool, true, Option, Some, None, Result, Ok, Err, refl, sym, ap, subst, ◌∙◌}
+use Rattle.std.proofs.Common.{◌≡◌, ◌⊎◌, inl, inr, ℕ, ◌+◌, ◌≤◌, length, Bool, true, Option, Some, None, Result, Ok, Err, refl, sym, ap, subst, ◌∙◌, arith}
 use Rattle.std.specs.Prelude.{IfSome}
 use Rattle.std.specs.FinMap.{len}
 use Rattle.sect_dev.specs.declared.device.SectorDev as device
 use Rattle.dbm_model.specs.Pairs.{Contents}
+use Rattle.dbm_model.specs.Sizes.{home}
 use Rattle.dbm_model.specs.States.{Handle}
 use Rattle.page_model.specs.Meaning.{said_by}
 use Rattle.page_io.specs.Store.{Settled, StoreState, page_of}
@@ -95,6 +96,17 @@ counts_pairs s db h at usable =
       sym (ap (λ (x : Handle). x.state.limit) at.shows),
     )
 
+-- nor has it more pages than a database of its limit needs; `ends` is the store's law
+pub few_pages : {S : Type 0} (s : store.Ghosts S) (db : Database S s) (h : Handle) → IsAt db h
+    → h.state.usable ≡ true
+    → length (s.committed (store_of db)) + 1 ≡ (s.state (store_of db)).end
+    → (s.state (store_of db)).end ≤ home h.state.limit
+few_pages s db h at usable ends =
+    let held = at.map (sym (ap (λ (x : Handle). x.state.usable) at.shows) ∙ usable) in
+    subst (λ (limit : ℕ). (s.state (store_of db)).end ≤ home limit)
+    (held.stands.limited ∙ sym (ap (λ (x : Handle). x.state.limit) at.shows))
+    (omega (arith, held.stands.good.bounded, held.stands.ends, ends))
+
 -- every image that is left of it stands for the map
 pub stands_for : {S : Type 0} (s : store.Ghosts S) (db : Database S s) (h : Handle) (y : Settled)
     → IsAt db h → h.state.usable ≡ true → s.settles_to (store_of db) y
@@ -110,7 +122,7 @@ fault_in other (Ok x) = other
 fault_in other (Err e) = e.1
 
 -- what refused an opening at once, or else
-early_or : (T : Type 0) {D P : Type 0} (early : Option Fault) (fault : Fault) (first left : D)
+pub early_or : (T : Type 0) {D P : Type 0} (early : Option Fault) (fault : Fault) (first left : D)
     → IfSome early (λ told. ◌≡◌ {A = Result T (D × Fault)} (Err (left, fault)) (Err (first, told)))
     → (early ≡ None → P) → (early ≡ Some fault) ⊎ P
 early_or T None fault first left told then = inr (then refl)

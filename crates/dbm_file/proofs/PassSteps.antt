@@ -139,6 +139,7 @@ module _ {S : Type 0} (s : Ghosts S) (old new : Database S s) (h : Handle) (at :
       counts = read.reads.stages_only.later;
       capacity = still_capacity s old mid read;
       pages = no_more_pages before (handle_of new map (Some left)) reply (still_end s old mid read);
+      bounded = inl (still_end s old mid read);
       buckets = no_more_buckets before (handle_of new map (Some left)) reply (finmap.len map)
           (still_buckets s old mid read) (none_opened before keys reply _ (finmap.len map) given);
       answers = inl (subst (λ (c : Case).
@@ -318,6 +319,7 @@ module _ {S : Type 0} (s : Ghosts S) (old : Database S s) (h : Handle) (at : IsA
           counts = omega arith;
           capacity = refl;
           pages = no_more_pages own own (model.Number (error_number (error_of old))) refl;
+          bounded = inl refl;
           buckets = no_more_buckets own own (model.Number (error_number (error_of old)))
               (finmap.len h.state.map) refl refl;
           answers = inl (subst (λ (c : Case).
@@ -340,6 +342,7 @@ module _ {S : Type 0} (s : Ghosts S) (old : Database S s) (h : Handle) (at : IsA
           counts = omega arith;
           capacity = refl;
           pages = no_more_pages own (handle_of new h.state.map h.state.pass) (model.Number 0) refl;
+          bounded = inl refl;
           buckets = no_more_buckets own (handle_of new h.state.map h.state.pass)
               (model.Number 0) (finmap.len h.state.map) refl refl;
           answers = inl (subst (λ (c : Case).

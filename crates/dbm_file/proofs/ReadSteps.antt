@@ -232,6 +232,7 @@ module _ {S : Type 0} (s : Ghosts S) (old new : Database S s) (map : Contents) (
       counts = read.reads.stages_only.later;
       capacity = still_capacity s old new read;
       pages = no_more_pages before (handle_of new map pass) reply (still_end s old new read);
+      bounded = inl (still_end s old new read);
       buckets = no_more_buckets before (handle_of new map pass) reply (len map)
           (still_buckets s old new read) none;
       answers = inl (subst (λ (c : Case).
@@ -281,6 +282,7 @@ module _ {S : Type 0} (s : Ghosts S) (old new : Database S s) (map : Contents) (
       counts = read.reads.stages_only.later;
       capacity = still_capacity s old new read;
       pages = still_pages;
+      bounded = inl (still_end s old new read);
       buckets = no_more_buckets before (handle_of refused map pass)
           (model.Refused (fault_of fault)) (len map) (still_buckets s old new read) refl;
       answers = inl (subst (λ (c : Case).
@@ -305,6 +307,7 @@ module _ {S : Type 0} (s : Ghosts S) (old new : Database S s) (map : Contents) (
       counts = read.reads.stages_only.later;
       capacity = still_capacity s old new read;
       pages = still_pages;
+      bounded = inl (still_end s old new read);
       buckets = no_more_buckets before (handle_of refused map pass)
           (model.Refused (fault_of fault)) (len map) (still_buckets s old new read) refl;
       answers = inr (may (model.Refused (fault_of fault)) (handle_of refused map pass) (
@@ -371,6 +374,7 @@ broken_step s old map pass call broken falls = record {
     capacity = refl;
     pages = no_more_pages (handle_of old map pass) (handle_of (with_fault old Broken) map pass)
         (model.Refused model.Broken) refl;
+    bounded = inl refl;
     buckets = no_more_buckets (handle_of old map pass)
         (handle_of (with_fault old Broken) map pass) (model.Refused model.Broken) (len map)
         refl refl;

@@ -1,15 +1,20 @@
 -- A database over a device.
-use Rattle.std.specs.Prelude.{◌≡◌, ℕ, Bool, true, None, Result, Ok, Err}
+use Rattle.std.specs.Prelude.{◌≡◌, ◌⊎◌, ℕ, ◌*◌, ◌≤◌, Bool, true, None, Result, Ok, Err}
+use Rattle.sect_dev.specs.Device.{Image, Candidates, IsImageOf}
 use Rattle.sect_dev.specs.declared.device.SectorDev.{Ghosts}
+use Rattle.page_io.specs.Store.{blank}
+use Rattle.page_io.specs.Meaning.{ImageStandsFor}
 use Rattle.page_io.specs.declared.store.PageStore as store
+use Rattle.redo_commit.specs.File.{settled}
 use Rattle.redo_area.specs.Pagers.{device_of}
 use Rattle.redo_area.specs.declared.pager.Pager.{Pager}
 use Rattle.page_cache.specs.Stores.{store_below}
 use Rattle.page_cache.specs.declared.cached_pages.CachedPages.{CachedPages}
 use Rattle.dbm_model.specs.Pairs.{Contents}
+use Rattle.dbm_model.specs.Sizes.{home}
 use Rattle.dbm_model.specs.States.{Handle}
 use Rattle.dbm_model.specs.States as model
-use Rattle.dbm_file.specs.Database.{store_of, page_state, error_of, cursor_of, IsAt}
+use Rattle.dbm_file.specs.Database.{store_of, meta_kept, page_state, error_of, cursor_of, IsAt}
 use Rattle.dbm_fault.specs.declared.fault.Fault.{Fault}
 use Rattle.dbm_file.specs.declared.database.Database.{Database}
 
@@ -34,6 +39,18 @@ pub record IsNewlyOpened {S : Type 0} {s : store.Ghosts S} (for_writing : Bool) 
   pub capacity : (page_state db).capacity ≡ pages
   pub no_error : error_of db ≡ None
   pub no_pass : cursor_of db ≡ None
+
+-- each image is blank or stands for a map, and a device of so many pages has twice those that a
+-- database of its limit needs
+abbrev pub AllHaveRoom : ℕ → Candidates → Type 0
+AllHaveRoom pages start = (image : Image) → IsImageOf start image
+    → (settled pages image ≡ blank)
+    ⊎ ((map : Contents) × (limit : ℕ) × ImageStandsFor (settled pages image) map limit
+    × (2 * home limit ≤ pages))
+
+-- there is room for twice as many pages as a database of its limit needs
+pub record HasRoom {S : Type 0} {s : store.Ghosts S} (db : Database S s) : Type 0 where
+  pub room : 2 * home (meta_kept db).limit ≤ (page_state db).capacity
 
 -- just opened, its file stands for this map and limit
 pub record IsOpenedAt {S : Type 0} {s : store.Ghosts S} (writable : Bool) (db : Database S s)

@@ -40,6 +40,7 @@ impl<S: PageStore> Database<S> {
     ghost use Rattle.std.specs.FinMap.{get, len};
     ghost use Rattle.dbm_model.specs.Calls.{Call, Store, Fetch, Delete, First, Next, Error, Clear, NoRecord, End, Number};
     ghost use Rattle.dbm_model.specs.Pairs.{Contents};
+    ghost use Rattle.dbm_model.specs.Sizes.{home};
     ghost use Rattle.dbm_model.specs.States.{Keys, Handle, error_number};
     ghost use Rattle.dbm_model.specs.Steps.{Passes, case_of};
     ghost use Rattle.page_model.specs.Valid.{meta_buckets};
@@ -231,6 +232,10 @@ impl<S: PageStore> Database<S> {
     pub fn stat(&self) -> Stat
         ensures counts { (h : Handle) → IsAt self.now h → h.state.usable ≡ true
             → (result.pairs ≡ len h.state.map) × (result.limit ≡ h.state.limit) }
+
+        // It has no more pages than a database of its limit needs.
+        ensures bounded { (h : Handle) → IsAt self.now h → h.state.usable ≡ true
+            → result.pages ≤ home h.state.limit }
         ensures shown { result ≡ record {
           pairs = (meta_kept self.now).pairs;
           limit = (meta_kept self.now).limit;

@@ -3,7 +3,7 @@
 ghost use Rattle.std.specs.Prelude.{◌≡◌, ◌≢◌, ◌<◌, ◌&&◌, ◌++◌, codes, false, IsSome, IfOk, IfErr};
 ghost use Rattle.std.specs.String.{string_bytes};
 ghost use Rattle.file_opening.specs.Opening.{writes};
-ghost use Rattle.dbm_file.specs.Opened.{IsNewlyOpened};
+ghost use Rattle.dbm_file.specs.Opened.{HasRoom, IsNewlyOpened};
 ghost use Rattle.dbm_file.specs.Named.{OpensFile, RefusesFile};
 
 use crate::database::Db;
@@ -44,6 +44,9 @@ pub fn dbm_open<R: Files<File = File>>(
     how: OpenHow,
 ) -> Result<Db<FileDev>, Fault>
     ensures fresh { IfOk result (IsNewlyOpened (writes how.access) 2250498) }
+
+    // A file has room for twice as many pages as a database of any limit needs.
+    ensures room { IfOk result HasRoom }
     ensures missing { IfErr result
         (λ fault. fault ≡ Fault.Missing → (writes how.access && how.create) ≡ false) }
     ensures only { IfErr result (λ fault.
@@ -71,6 +74,7 @@ pub fn open_named<R: Files<File = File>>(
     how: OpenHow,
 ) -> Result<Db<FileDev>, Refusal>
     ensures fresh { IfOk result (IsNewlyOpened (writes how.access) 2250498) }
+    ensures room { IfOk result HasRoom }
     ensures missing { IfErr result
         (λ e. e.fault ≡ Fault.Missing → (writes how.access && how.create) ≡ false) }
     ensures only { IfErr result (λ e.

@@ -11,7 +11,7 @@ ghost use Rattle.redo_area.specs.Reading.{OnlyReads};
 ghost use Rattle.dbm_model.specs.States.{Handle};
 ghost use Rattle.dbm_file.specs.Database.{store_of, meta_kept, IsAt};
 ghost use Rattle.file_opening.specs.Opening.{writes, early_fault, IsRefusedOpening, AllAllow, MayRemain, AllStand, KeepsMeta, IsOpened};
-ghost use Rattle.dbm_file.specs.Opened.{device_below, device_opened, IsNewlyOpened, IsOpenedAt};
+ghost use Rattle.dbm_file.specs.Opened.{device_below, device_opened, AllHaveRoom, HasRoom, IsNewlyOpened, IsOpenedAt};
 
 use crate::database::{Database, Db};
 use crate::{Fault, OpenHow};
@@ -76,6 +76,11 @@ impl<D: SectorDev> Database<CachedPages<Pager<D>>> {
             IfErr result (λ e. (e.1 ≡ Fault.Device)
             ⊎ ((e.1 ≡ Fault.Memory) × ((how.truncate ≡ true)
             ⊎ (writes how.access ≡ false)))) }
+
+        // Where the device has twice the pages that the limit of each map needs, there is room: it
+        // is not refused for want of it, and what is opened has it.
+        ensures room { D.honest dev → AllHaveRoom (D.sectors dev / 4) (D.candidate dev)
+            → IfErr result (λ e. e.1 ≢ Fault.NoRoom) × IfOk result HasRoom }
         ensures refused { D.honest dev → early_fault how (D.sectors dev) ≡ None
             → IfErr result (λ e. e.1 ≢ Fault.Device
             → IsRefusedOpening how (D.sectors dev) (D.candidate dev) (D.candidate e.0) e.1) }

@@ -33,6 +33,7 @@ calm h last call calls c reply replies after falls answers rest = (
     capacity = refl;
     pages =
         (omega arith, omega arith);
+    bounded = inl refl;
     buckets = refl;
     answers =
         inl (subst (λ (d : Case). Answers h.state d reply after) (sym falls) answers);

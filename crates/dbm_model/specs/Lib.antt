@@ -7,5 +7,6 @@ pub mod Pairs
 pub mod Passes
 pub mod Refusals
 pub mod Room
+pub mod Sizes
 pub mod States
 pub mod Steps

@@ -1,8 +1,10 @@
--- The room of a file: what a call keeps of it, told from the reply, and examples.
-use Rattle.std.specs.Prelude.{◌≡◌, ◌≤◌, ℕ}
+-- The room of a file: that it is known beforehand, what a call keeps of it, told from the reply, and
+-- examples.
+use Rattle.std.specs.Prelude.{◌≡◌, ◌≢◌, ◌≤◌, ◌*◌, ℕ, All, List}
 use Rattle.dbm_model.specs.Calls.{Call, Store, Replace, Reply, Stored, Refused, NoRoom}
+use Rattle.dbm_model.specs.Sizes.{home}
 use Rattle.dbm_model.specs.States.{Handle}
-use Rattle.dbm_model.specs.Steps.{Step}
+use Rattle.dbm_model.specs.Steps.{Step, Run}
 use Rattle.dbm_model.specs.Examples.{new_database, one}
 
 -- a call keeps the capacity, and where it isn't a store that was acknowledged the number of pages
@@ -12,19 +14,42 @@ RoomStays = (before after : Handle) (call : Call) (reply : Reply) → Step befor
     (after.capacity ≡ before.capacity) × ((reply ≡ Stored → ⊥) → (after.pages ≡ before.pages)
     × (after.buckets ≡ before.buckets))
 
--- a new database with room for so many pages
-abbrev pub with_room : ℕ → Handle
-with_room capacity = record (new_database 100) { capacity = capacity }
+-- there is room for twice as many pages as a database of the limit needs
+abbrev pub HasRoom : Handle → Type 0
+HasRoom h = 2 * home h.state.limit ≤ h.capacity
 
-abbrev pub IsFirstStore : ℕ → Reply → Handle → Type 0
-IsFirstStore capacity reply after =
-    Step (with_room capacity) (Store (one 0x61) (one 0x01) Replace) reply after
+-- no reply says that there is no room
+abbrev pub AreNeverShort : List Reply → Type 0
+AreNeverShort replies = All (λ reply. reply ≢ Refused NoRoom) replies
+
+-- where there is room, there is room for every list of calls, and after it
+abbrev pub RoomIsKnown : Type 0
+RoomIsKnown = (before after : Handle) (calls : List Call) (replies : List Reply) → HasRoom before
+    → Run before calls replies after → AreNeverShort replies × HasRoom after
+
+-- no call makes the file larger than a database of the limit needs
+abbrev pub PagesAreBounded : Type 0
+PagesAreBounded = (before after : Handle) (calls : List Call) (replies : List Reply)
+    → before.pages ≤ home before.state.limit → Run before calls replies after
+    → after.pages ≤ home after.state.limit
+
+-- a new database with room for so many pages
+abbrev pub with_room : ℕ → ℕ → Handle
+with_room limit capacity = record (new_database limit) { capacity = capacity }
+
+abbrev pub IsFirstStore : ℕ → ℕ → Reply → Handle → Type 0
+IsFirstStore limit capacity reply after =
+    Step (with_room limit capacity) (Store (one 0x61) (one 0x01) Replace) reply after
 
 -- room for 15 pages may be too little for a first store, room for 16 is not, and it leaves at most
--- 8 pages and one bucket
+-- 8 pages and one bucket; with a limit of one pair, room for 9 may be too little, and room for 10
+-- is not
 pub record RoomExamples : Type 0 where
-  pub short : (after : Handle) × IsFirstStore 15 (Refused NoRoom) after
-  pub enough : (after : Handle) → IsFirstStore 16 (Refused NoRoom) after → ⊥
-  pub eight : (capacity : ℕ) (after : Handle) → IsFirstStore capacity Stored after → after.pages ≤ 8
-  pub one_bucket : (capacity : ℕ) (after : Handle) → IsFirstStore capacity Stored after
+  pub short : (after : Handle) × IsFirstStore 100 15 (Refused NoRoom) after
+  pub enough : (after : Handle) → IsFirstStore 100 16 (Refused NoRoom) after → ⊥
+  pub short_of_one : (after : Handle) × IsFirstStore 1 9 (Refused NoRoom) after
+  pub enough_for_one : (after : Handle) → IsFirstStore 1 10 (Refused NoRoom) after → ⊥
+  pub eight : (capacity : ℕ) (after : Handle) → IsFirstStore 100 capacity Stored after
+      → after.pages ≤ 8
+  pub one_bucket : (capacity : ℕ) (after : Handle) → IsFirstStore 100 capacity Stored after
       → after.buckets ≡ 1

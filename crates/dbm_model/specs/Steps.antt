@@ -5,6 +5,7 @@ use Rattle.std.specs.FinSet as set
 use Rattle.dbm_model.specs.Calls.{Mode, Insert, Replace, Call, Store, Fetch, Delete, First, Next, Error, Clear, Reply, Stored, Kept, Deleted, Absent, Bytes, NoRecord, End, Number, Refused, Fault, Memory, Device, Broken, ReadOnly, TooLong, Full, NoPass, NoRoom}
 use Rattle.dbm_model.specs.FaultCount.{MoreFaults}
 use Rattle.dbm_model.specs.Pairs.{Key, Contents}
+use Rattle.dbm_model.specs.Sizes.{home}
 use Rattle.dbm_model.specs.States.{State, Keys, Handle, flagged, error_number}
 
 -- which rule a call falls under
@@ -101,10 +102,11 @@ LacksMemory h said map reply after =
     (reply ≡ Refused Memory) × (after.state ≡ flagged Memory h.state)
     × (said ≡ Stored) × OpensBucket h map
 
--- there may be no room for a change: for as many pages more as the map has pairs, and four, with
--- all of them twice
+-- there may be no room for a change: not for twice as many pages as a database of the limit needs,
+-- nor for as many more as the map has pairs, and four, with all of them twice
 abbrev pub IsShort : Handle → Type 0
-IsShort h = h.capacity < 2 * (h.pages + len h.state.map + 4)
+IsShort h =
+    (h.capacity < 2 * home h.state.limit) × (h.capacity < 2 * (h.pages + len h.state.map + 4))
 
 -- no room in the file for a change
 abbrev pub LacksRoom : Handle → Reply → Handle → Type 0
@@ -137,6 +139,8 @@ pub record Step (before : Handle) (call : Call) (reply : Reply) (after : Handle)
   pub counts : before.faults ≤ after.faults
   pub capacity : after.capacity ≡ before.capacity
   pub pages : (before.pages ≤ after.pages) × (after.pages ≤ before.pages + growth before reply)
+  -- none is added beyond what a database of the limit needs
+  pub bounded : (after.pages ≡ before.pages) ⊎ (after.pages ≤ home before.state.limit)
   pub buckets : after.buckets ≡ before.buckets + buckets_opened before reply (len after.state.map)
   pub answers : Answers before.state (case_of before.state call) reply after.state
       ⊎ Suffers before (case_of before.state call) reply after

@@ -1,10 +1,12 @@
 // Laws of calls and runs. What each says stands in `specs/Changes.antt`, `specs/Refusals.antt`,
-// `specs/FaultNumbers.antt`, `specs/Passes.antt`, `specs/Room.antt` and `specs/Examples.antt`.
+// `specs/FaultNumbers.antt`, `specs/Passes.antt`, `specs/Room.antt`,
+// `specs/Sizes.antt` and `specs/Examples.antt`.
 ghost use Rattle.dbm_model.specs.Changes.{OnlyAcknowledgedChanges, OnlyChangesBreak, BrokenStays};
 ghost use Rattle.dbm_model.specs.Refusals.{RefusesOnlyWhereDue, BrokenRefuses, ReadingRefuses, ReadingKeeps, SettingsStay, TooLongIsRefused, InsertKeeps, FullIsRefused, AbsentIsTold, ErrorIsTold, ErrorIsCleared, FirstFaultIsKept};
 ghost use Rattle.dbm_model.specs.FaultNumbers.{FaultsAreNumbered, NumbersDiffer, NoFaultIsZero};
 ghost use Rattle.dbm_model.specs.Passes.{PassesAreComplete};
-ghost use Rattle.dbm_model.specs.Room.{RoomStays, RoomExamples};
+ghost use Rattle.dbm_model.specs.Room.{RoomStays, RoomIsKnown, PagesAreBounded, RoomExamples};
+ghost use Rattle.dbm_model.specs.Sizes.{SizeExamples};
 ghost use Rattle.dbm_model.specs.Examples.{StoresAndDeletes, StopsAtLimit, PassesOverNothing, PassesOn, EndsPass, WrongReplies};
 
 /// Only an acknowledged change changes the map of a handle that stays usable.
@@ -45,6 +47,14 @@ pub fn settings_stay()
 pub fn room_stays()
     ensures stays { RoomStays }
     ensures examples { RoomExamples }
+{}
+
+/// Room is known beforehand: with twice as many pages as a database of the limit needs, no list of
+/// calls lacks any, and the file never has more of them than it needs.
+pub fn room_is_known()
+    ensures known { RoomIsKnown }
+    ensures bounded { PagesAreBounded }
+    ensures sizes { SizeExamples }
 {}
 
 /// The first fault is kept until it is cleared.

@@ -6,10 +6,11 @@ use Rattle.dbm_model.specs.Calls.{Call}
 use Rattle.dbm_model.specs.States.{Handle}
 use Rattle.dbm_text.specs.Lines.{reply_line, bad_line}
 use Rattle.dbm_text.specs.Scripts.{script_of}
-use Rattle.page_model.specs.Sizes.{is_limit}
+use Rattle.dbm_model.specs.Sizes.{is_limit}
 use Rattle.page_io.specs.declared.store.PageStore.{Ghosts}
-use Rattle.dbm_file.specs.Opened.{IsOpenedAt}
+use Rattle.dbm_file.specs.Opened.{HasRoom, IsOpenedAt}
 use Rattle.dbm_file.specs.declared.database.Database.{Database}
+use Rattle.dbm_file.proofs.EnoughRoom.{room_at}
 use Rattle.dbm_script.specs.Scripts.{AnswersScript, AnswersInMemory, AnswersLine}
 
 kept : (old mid new : Option (List ℕ)) (text : List ℕ) → Appends old mid text → Keeps mid new
@@ -37,10 +38,10 @@ line_flushed r (Some call) old new start before mid after answer keeps =
 -- the answer of a new database, after the last flush
 pub answered : {S E : Type 0} {s : Ghosts S} (r : Result Unit E) (limit : ℕ)
     (first old mid new : Option (List ℕ)) (db after : Database S s)
-    (opened : IsOpenedAt true db map.empty limit) → is_limit limit ≡ true
+    (opened : IsOpenedAt true db map.empty limit) → HasRoom db → is_limit limit ≡ true
     → IfSome first (λ text. AnswersScript (script_of text) db after opened.handle old mid)
     → Keeps mid new → OnOk r (IfSome first (λ text. AnswersInMemory limit text old new))
-answered {S} {E} {s} r limit first old mid new db after opened allowed answers keeps =
+answered {S} {E} {s} r limit first old mid new db after opened room allowed answers keeps =
     by_case r first answers
   where
     of_text : (text : List ℕ) → AnswersScript (script_of text) db after opened.handle old mid
@@ -49,6 +50,7 @@ answered {S} {E} {s} r limit first old mid new db after opened allowed answers k
       allowed = allowed;
       before = opened.handle;
       empty = opened.is_fresh;
+      room = room_at db opened.handle room opened.is_at;
       after = answers.run.after;
       replies = answers.replies;
       run = answers.run.run;

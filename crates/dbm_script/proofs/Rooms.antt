@@ -7,7 +7,7 @@ use Rattle.std.proofs.lemmas.Bool.Decides.{leb_tells}
 use Rattle.sect_dev.specs.Device.{Image, Candidates, IsImageOf, IsStable}
 use Rattle.sect_dev.specs.Sector.{zeros}
 use Rattle.dbm_model.specs.Pairs.{Contents}
-use Rattle.page_model.specs.Sizes.{is_limit, buckets_for, segments_for, home, sectors_for}
+use Rattle.dbm_model.specs.Sizes.{is_limit, buckets_for, segments_for, home, sectors_for}
 use Rattle.page_io.specs.Store.{Settled, blank}
 use Rattle.page_io.specs.Meaning.{ImageStandsFor}
 use Rattle.redo_commit.specs.Header.{header_of}

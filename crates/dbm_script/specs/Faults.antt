@@ -1,6 +1,6 @@
 -- How a fault in memory is told.
 use Rattle.std.specs.Prelude.{◌≡◌, ℕ, false}
-use Rattle.page_model.specs.Sizes.{is_limit}
+use Rattle.dbm_model.specs.Sizes.{is_limit}
 use Rattle.dbm_fault.specs.declared.fault.Fault.{Fault}
 use Rattle.dbm_fault.specs.declared.fault.Fault.TheVariants.{Device, Broken, BadLimit}
 use Rattle.dbm_fault.specs.declared.engine_fault.EngineFault.{EngineFault}

@@ -5,9 +5,10 @@ use Rattle.std.specs.Io.KnownBytes.{Appends}
 use Rattle.dbm_model.specs.Calls.{Call, Reply}
 use Rattle.dbm_text.specs.Lines.{reply_line, bad_line}
 use Rattle.dbm_text.specs.Scripts.{script_of, calls_in, answer_of}
+use Rattle.dbm_model.specs.Room.{HasRoom}
 use Rattle.dbm_model.specs.States.{Handle, fresh}
 use Rattle.dbm_model.specs.Steps.{Run}
-use Rattle.page_model.specs.Sizes.{is_limit}
+use Rattle.dbm_model.specs.Sizes.{is_limit}
 use Rattle.page_io.specs.declared.store.PageStore.{Ghosts}
 use Rattle.dbm_file.specs.Answers.{IsStep}
 use Rattle.dbm_file.specs.Runs.{IsRun}
@@ -47,11 +48,13 @@ AnswersLine None old new start Says = (new ≡ old) × Says bad_line
 AnswersLine (Some call) old new start Says =
     (reply : Reply) × IsStep old new start call reply × Says (reply_line reply)
 
--- the script was answered by a run of a new database of the limit
+-- the script was answered by a run of a new database of the limit, which has room for every list
+-- of calls
 pub record AnswersInMemory (limit : ℕ) (text : List ℕ) (old new : Option (List ℕ)) : Type 0 where
   pub allowed : is_limit limit ≡ true
   pub before : Handle
   pub empty : before.state ≡ fresh map.empty limit true
+  pub room : HasRoom before
   pub after : Handle
   pub replies : List Reply
   pub run : Run before (calls_in (script_of text)) replies after

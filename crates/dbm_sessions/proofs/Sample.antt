@@ -32,6 +32,7 @@ step s after call c reply none rule answers = record {
   counts = omega arith;
   capacity = refl;
   pages = (omega arith, omega arith);
+  bounded = inl refl;
   buckets = ap (λ more. 1 + more) (sym none);
   answers = inl (subst (λ (d : Case). Answers s d reply after) (sym rule) answers);
 }
@@ -152,6 +153,7 @@ breaks_store = record {
   counts = omega arith;
   capacity = refl;
   pages = (omega arith, omega arith);
+  bounded = inl refl;
   buckets = refl;
   answers = inr (subst
       (λ (d : Case). Suffers (start empty) d (Refused Device) broken_store) (sym store_rule)

@@ -1,4 +1,5 @@
 pub mod Changes
 pub mod Examples
 pub mod Members
+pub mod Room
 pub mod Sessions

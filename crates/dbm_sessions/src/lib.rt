@@ -5,4 +5,6 @@
 
 mod session_laws;
 
-pub use session_laws::{acknowledged_changes_stay, doubt_is_settled, session_examples};
+pub use session_laws::{
+    acknowledged_changes_stay, doubt_is_settled, session_examples, sessions_keep_room,
+};

@@ -1,5 +1,7 @@
-// Laws of sessions. What each says stands in `specs/Changes.antt` and `specs/Examples.antt`.
+// Laws of sessions. What each says stands in `specs/Changes.antt`, `specs/Room.antt` and
+// `specs/Examples.antt`.
 ghost use Rattle.dbm_sessions.specs.Changes.{AcknowledgedChangesStay, OneInDoubt, PrefixIsLeft, OpeningEndsDoubt, RefusalTakesNothing, BreakLeavesBoth};
+ghost use Rattle.dbm_sessions.specs.Room.{SessionsKeepRoom};
 ghost use Rattle.dbm_sessions.specs.Examples.{StoreAcknowledged, StoreInDoubt, CreationInDoubt, EmptyingInDoubt, WrongSessions};
 
 /// After any list of sessions, each stopped anywhere, what the file may stand for is left by their
@@ -17,6 +19,12 @@ pub fn doubt_is_settled()
     ensures ends { OpeningEndsDoubt }
     ensures stays { RefusalTakesNothing }
     ensures both { BreakLeavesBoth }
+{}
+
+/// Room is known beforehand: where there is enough for each limit, that is there or is asked for,
+/// there is enough for whatever sessions leave.
+pub fn sessions_keep_room()
+    ensures { SessionsKeepRoom }
 {}
 
 /// Sessions that are worked out by hand, and some that never end so.

@@ -13,7 +13,7 @@ use Rattle.dbm_fault.specs.declared.fault.Fault.{Fault as Refusal}
 use Rattle.dbm_fault.specs.declared.fault.Fault.TheVariants.{BadLimit}
 use Rattle.dbm_fault.specs.declared.engine_fault.EngineFault.{EngineFault}
 use Rattle.dbm_fault.specs.declared.engine_fault.EngineFault.TheVariants.{Memory, Read, Write, Line, Db}
-use Rattle.page_model.specs.Sizes.{is_limit}
+use Rattle.dbm_model.specs.Sizes.{is_limit}
 
 -- it reads standard input
 abbrev pub reads : Plan → Bool

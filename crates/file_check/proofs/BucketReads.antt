@@ -7,7 +7,7 @@ use Rattle.page_model.specs.Chain.{Chain, numbers}
 use Rattle.page_model.specs.PageBodies.{first_of, heads_of, segment_bodies, AreRead}
 use Rattle.page_model.specs.Pages as model
 use Rattle.page_model.specs.Pages.{Body, SegmentPage}
-use Rattle.page_model.specs.Sizes.{segments_for}
+use Rattle.dbm_model.specs.Sizes.{segments_for}
 use Rattle.page_model.specs.Valid.{IsMeta, meta_buckets}
 use Rattle.page_marks.specs.Marks.{AreMarked, MayBeSeen}
 use Rattle.seg_table.proofs.Tables.{part_read}

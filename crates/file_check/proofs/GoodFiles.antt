@@ -8,7 +8,7 @@ use Rattle.page_model.specs.PageBodies.{heads_of, segment_bodies, chain_bodies, 
 use Rattle.page_model.specs.Pages as model
 use Rattle.page_model.specs.Pages.{Body, MetaPage}
 use Rattle.page_model.specs.Placement.{Placement, IsGood}
-use Rattle.page_model.specs.Sizes.{segments_for, home}
+use Rattle.dbm_model.specs.Sizes.{segments_for, home}
 use Rattle.page_model.specs.Space.{is_page, IsExact}
 use Rattle.page_model.specs.Valid.{IsMeta}
 use Rattle.page_model.proofs.Chains.{AllByRecursion-append, AllByRecursion-left, AllByRecursion-right}

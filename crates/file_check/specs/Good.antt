@@ -2,7 +2,7 @@
 use Rattle.std.specs.Prelude.{◌≡◌, ◌≤◌, ℕ, List, ◌∷◌, ◌++◌, length, flat_map}
 use Rattle.page_model.specs.Pages.{Meta, Body}
 use Rattle.page_model.specs.Chain.{Chain, numbers, pairs_in}
-use Rattle.page_model.specs.Sizes.{home}
+use Rattle.dbm_model.specs.Sizes.{home}
 use Rattle.page_model.specs.Placement.{Placement, pairs_of, IsGood}
 use Rattle.page_model.specs.PageBodies.{IsSpelled}
 use Rattle.page_marks.specs.Marks.{IsEachSeen}

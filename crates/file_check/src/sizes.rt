@@ -1,7 +1,7 @@
 //! How many pages a database may have.
 
 ghost use Rattle.std.specs.Prelude.{◌≡◌, ◌≤◌};
-ghost use Rattle.page_model.specs.Sizes.{home};
+ghost use Rattle.dbm_model.specs.Sizes.{home};
 
 /// How many buckets a segment page has room for.
 pub const PER_SEGMENT: u32 = 508;

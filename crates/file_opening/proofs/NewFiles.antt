@@ -6,7 +6,7 @@ use Rattle.page_model.specs.Placement.{fresh_placement}
 use Rattle.page_model.specs.Reading.{body_of, bucket_of}
 use Rattle.page_model.specs.PageBodies.{meta_of, IsSpelled}
 use Rattle.page_model.specs.Meaning.{said_by}
-use Rattle.page_model.specs.Sizes.{sectors_for}
+use Rattle.dbm_model.specs.Sizes.{sectors_for}
 use Rattle.page_model.specs.Valid.{IsBucket}
 use Rattle.page_model.proofs.Flat.{flat_is_contents}
 use Rattle.page_model.proofs.Stores.{fresh_is_good}

@@ -7,7 +7,7 @@ use Rattle.std.proofs.lemmas.Bool.Decides.{nat_tests}
 use Rattle.page_model.specs.Pages.{Meta}
 use Rattle.page_model.specs.PageBodies.{meta_of}
 use Rattle.page_model.specs.Placement.{fresh_placement}
-use Rattle.page_model.specs.Sizes.{is_limit, buckets_for, segments_for, home, sectors_for}
+use Rattle.dbm_model.specs.Sizes.{is_limit, buckets_for, segments_for, home, sectors_for}
 use Rattle.page_model.specs.Valid.{IsMeta}
 use Rattle.page_model.proofs.GoodBodies.{bodies_valid}
 use Rattle.page_model.proofs.Stores.{fresh_is_good}

@@ -9,7 +9,7 @@ use Rattle.dbm_model.specs.Pairs.{Contents}
 use Rattle.page_model.specs.PageBodies.{meta_of}
 use Rattle.page_model.specs.Placement.{fresh_placement}
 use Rattle.page_model.specs.Reading.{body_of}
-use Rattle.page_model.specs.Sizes.{sectors_for}
+use Rattle.dbm_model.specs.Sizes.{sectors_for}
 use Rattle.page_model.specs.Valid.{IsMeta}
 use Rattle.page_io.specs.Store.{Pages, Settled, blank, file_of, nothing, page_of}
 use Rattle.page_io.specs.Meaning.{ImageStandsFor}

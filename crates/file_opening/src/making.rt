@@ -7,7 +7,7 @@ ghost use Rattle.page_model.specs.Meaning.{said_by};
 ghost use Rattle.page_model.specs.Pages.{MetaPage};
 ghost use Rattle.page_model.specs.Placement.{fresh_placement};
 ghost use Rattle.page_model.specs.PageBodies.{meta_of as placement_meta};
-ghost use Rattle.page_model.specs.Sizes.{sectors_for};
+ghost use Rattle.dbm_model.specs.Sizes.{sectors_for};
 ghost use Rattle.page_io.specs.Meaning.{FileStandsFor, ImageStandsFor};
 ghost use Rattle.page_io.specs.Page.{own_number};
 ghost use Rattle.page_io.specs.Store.{blank, bytes_of, page_of};

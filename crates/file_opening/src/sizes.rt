@@ -1,6 +1,6 @@
 // How large a device has to be.
 ghost use Rattle.std.specs.Prelude.{◌≡◌, Option};
-ghost use Rattle.page_model.specs.Sizes.{sectors_for};
+ghost use Rattle.dbm_model.specs.Sizes.{sectors_for};
 
 /// How many sectors of 512 bytes a database of so many pairs needs: room for each bucket and each
 /// pair to have a page of its own, and as much again for a change on its way. `None` where the

@@ -103,6 +103,19 @@ grows_to at m q old mid new most A (Err fault) (Ok done) refused is least staged
     absurd (let x = refused.0 in cc)
 grows_to at m q old mid new most A (Err fault) (Err e) refused is least staged few = tt
 
+-- it is that of the placement
+pub ends_within : (at : ℕ → Body) (m : Meta) (q : Placement) (mid new : StoreState) (most : ℕ)
+    (A : PageFault → Type 0) (r : Result ℕ PageFault) (result : Result Unit PageFault)
+    → IfErr r (λ e. (result ≡ Err e) × A e)
+    → IfOk r (λ end. OnOk result (new ≡ record mid { staged = []; end = end }))
+    → IfOk r (λ end. IsStaged at m end q) → q.space.end ≤ most → OnOk result (new.end ≤ most)
+ends_within at m q mid new most A (Ok end) (Ok done) refused is staged few =
+    omega (arith, few, staged.ends, ap (λ (st : StoreState). st.end) is)
+ends_within at m q mid new most A (Ok end) (Err e) refused is staged few = tt
+ends_within at m q mid new most A (Err fault) (Ok done) refused is staged few =
+    absurd (let x = refused.0 in cc)
+ends_within at m q mid new most A (Err fault) (Err e) refused is staged few = tt
+
 -- fewer staged pages than the file then has
 pub few_staged : (least end : ℕ) (pages : Pages) → are_in_order least (2 ^ 32) pages ≡ true
     → AllBelow end pages → least ≤ end → length pages + least ≤ end
@@ -120,12 +133,16 @@ few_staged least end (page ∷ pages) order below le =
           (omega (arith, below.0)),
     )
 
--- a commit lacks room only on a device that is not much larger than the file
-pub lacks_few : (st : StoreState) (end : ℕ) (old_capacity bound pairs : ℕ) → LacksPages st end
-    → st.end ≤ end → length st.staged + 1 ≤ end → end ≤ bound + pairs + 4
-    → st.capacity ≡ old_capacity → old_capacity < 2 * (bound + pairs) + 8
-lacks_few st end old_capacity bound pairs lacks le few most same =
-    omega (arith, lacks, le, few, most, same)
+-- a commit lacks room only on a device for less than twice the pages that the file then has
+pub lacks_twice : (st : StoreState) (end capacity : ℕ) → LacksPages st end → st.end ≤ end
+    → length st.staged + 1 ≤ end → st.capacity ≡ capacity → capacity < 2 * end
+lacks_twice st end capacity lacks le few same = omega (arith, lacks, le, few, same)
+
+-- that is less than two bounds on them allow for
+pub short_by : (capacity end most old pairs : ℕ) → capacity < 2 * end → end ≤ most
+    → end ≤ old + pairs + 4 → (capacity < 2 * most) × (capacity < 2 * (old + pairs) + 8)
+short_by capacity end most old pairs short bounded few =
+    (omega (arith, short, bounded), omega (arith, short, few))
 
 module _ {S : Type 0} (s : Ghosts S) (old mid new : S) (r : Result ℕ PageFault)
     (result : Result Unit PageFault) (stages : StagesOnly s old mid) where

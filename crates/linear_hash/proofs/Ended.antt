@@ -52,5 +52,6 @@ module _ {S : Type 0} (s : Ghosts S) (old new : S) (before : Meta) where
               told.unchanged;
           whole = told.whole;
           grows = tt;
+          bounded = tt;
           no_room = told.no_room;
         })

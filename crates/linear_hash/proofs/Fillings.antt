@@ -3,7 +3,7 @@ use Rattle.std.proofs.Common.{◌≡◌, ℕ, zero, suc, ◌+◌, ◌^◌, ◌<�
 use Rattle.std.specs.List.{AllByRecursion}
 use Rattle.std.proofs.Math.Seq.{drop-cons}
 use Rattle.std.proofs.lemmas.Bool.{cases_eq}
-use Rattle.std.proofs.lemmas.List.{get_or_append_left, get_or_push, length-map, length-take-le, take_all, take_more}
+use Rattle.std.proofs.lemmas.List.{get_or_append_left, get_or_push, length-map, take-append-drop, take_all, take_more}
 use Rattle.std.proofs.lemmas.List.Sums.{fold-append}
 use Rattle.page_model.specs.Address.{Shape, hash_of, grown}
 use Rattle.page_model.specs.Pages.{Body}
@@ -15,7 +15,7 @@ use Rattle.page_model.specs.Placement.{Placement, key_bucket, chain_at, put, bar
 use Rattle.page_model.specs.PageBodies.{first_of}
 use Rattle.page_model.specs.Rewrites.{new_head}
 use Rattle.page_model.proofs.AddressLemmas.{address_below}
-use Rattle.page_model.proofs.Ends.{end_fold}
+use Rattle.page_model.proofs.Ends.{kept_fold}
 use Rattle.page_model.proofs.Frames.{first_of_add}
 use Rattle.page_model.proofs.Openings.{first_of_bared}
 use Rattle.page_model.proofs.PairLists.{value_in}
@@ -210,15 +210,18 @@ filling_ends at space p i le so_far =
     subst (λ pairs. IsBelow at space (fold put (opened p) pairs))
     (take_all i (moved p) le) so_far.below
 
--- each put takes a page at most
+-- no put gives a page back
 pub filling_room : (at : ℕ → Body) (space : FreeState) (p : Placement) (i : ℕ)
-    → i ≤ length (moved p) → IsFilling at space p i → space.file_end ≤ (opened p).space.end + i
-filling_room at space p i le so_far =
+    → IsFilling at space p i → space.file_end ≤ (split p).space.end
+filling_room at space p i so_far =
+    let all : fold put (filled p i) (drop i (moved p)) ≡ split p =
+    sym (fold-append put (opened p) (take i (moved p)) (drop i (moved p)))
+    ∙ ap (fold put (opened p)) (take-append-drop i (moved p)) in
     omega (
       arith,
       ap (λ (s : FreeState). s.file_end) so_far.below.kept,
-      end_fold (take i (moved p)) (opened p),
-      length-take-le i (moved p) le,
+      kept_fold (drop i (moved p)) (filled p i),
+      ap (λ (q : Placement). q.space.end) all,
     )
 
 -- ---- the pairs of the code

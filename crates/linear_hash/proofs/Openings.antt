@@ -12,7 +12,7 @@ use Rattle.page_model.specs.Reading.{body_of, bucket_of}
 use Rattle.page_model.specs.Address.{Shape}
 use Rattle.page_model.specs.Numbers.{IsNumber}
 use Rattle.page_model.specs.Chain.{Chain, numbers}
-use Rattle.page_model.specs.Sizes.{segments_for}
+use Rattle.dbm_model.specs.Sizes.{segments_for}
 use Rattle.page_model.specs.Space.{Space, next_page, after_take, give, is_page, times_of}
 use Rattle.page_model.specs.Placement.{Placement, chain_at, bare, bared, opened, IsSound}
 use Rattle.page_model.specs.Placement as placement

@@ -1,6 +1,7 @@
 -- What a change of a file that holds a map is to leave.
-use Rattle.std.proofs.Common.{◌≡◌, ◌∙◌, ℕ, ◌<◌, Bool, false, Option, is_some, List, sym, ap, arith}
+use Rattle.std.proofs.Common.{◌≡◌, ◌∙◌, ℕ, ◌<◌, ◌≤◌, Bool, false, Option, is_some, List, sym, ap, subst, arith}
 use Rattle.std.specs.FinMap.{get, insert, remove}
+use Rattle.dbm_model.specs.Sizes.{home}
 use Rattle.page_model.specs.Pages.{Meta}
 use Rattle.dbm_model.specs.Pairs.{Key, Pair, Contents, IsAllowed}
 use Rattle.page_model.specs.PairLists.{HasBytes}
@@ -45,9 +46,23 @@ module _ {S : Type 0} (s : Ghosts S) (old : S) (m : Meta) (map : Contents)
   stored_map pair may = (store_stays_good now pair holds.stands.good may).1
       ∙ ap (λ (c : Contents). insert c pair.0 pair.1) (map_placed s old m map holds)
 
+  -- it has no more pages than a database of the limit needs
+  pub stored_bounded : (pair : Pair) → MayStore now pair
+      → (store now pair).space.end ≤ home m.limit
+  stored_bounded pair may =
+      let stays = store_stays_good now pair holds.stands.good may in
+      subst (λ (limit : ℕ). (store now pair).space.end ≤ home limit)
+      (stays.2 ∙ sym (ap (λ (n : Meta). n.limit) (meta_held s old m map holds))) stays.0.bounded
+
   pub deleted_good : (key : Key) → IsGood (delete now key)
   deleted_good key = (delete_stays_good now key holds.stands.good).0
 
   pub deleted_map : (key : Key) → contents (delete now key) ≡ remove map key
   deleted_map key = (delete_stays_good now key holds.stands.good).1
       ∙ ap (λ (c : Contents). remove c key) (map_placed s old m map holds)
+
+  pub deleted_bounded : (key : Key) → (delete now key).space.end ≤ home m.limit
+  deleted_bounded key =
+      let stays = delete_stays_good now key holds.stands.good in
+      subst (λ (limit : ℕ). (delete now key).space.end ≤ home limit)
+      (stays.2 ∙ sym (ap (λ (n : Meta). n.limit) (meta_held s old m map holds))) stays.0.bounded

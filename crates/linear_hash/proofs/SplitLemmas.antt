@@ -7,11 +7,9 @@ use Rattle.dbm_model.specs.Pairs.{Pair}
 use Rattle.page_model.specs.Pages.{Meta, Body}
 use Rattle.page_model.specs.Numbers.{IsNumber}
 use Rattle.page_model.specs.Chain.{Chain, numbers, pairs_in}
-use Rattle.page_model.specs.Placement.{Placement, pairs_of, chain_at, put, opened, split, IsSound}
+use Rattle.page_model.specs.Placement.{Placement, chain_at, put, opened, split}
 use Rattle.page_model.specs.PageBodies.{first_of, segment_bodies, heads_of, AreRead}
-use Rattle.page_model.proofs.Ends.{end_opened}
-use Rattle.page_model.proofs.PairLists.{length-sum_by}
-use Rattle.page_model.proofs.Splits.{split_filled, sum_by-opened}
+use Rattle.page_model.proofs.Splits.{split_filled}
 use Rattle.page_model.proofs.Stores.{split_keeps}
 use Rattle.free_pages.specs.declared.free_state.FreeState.{FreeState}
 use Rattle.page_io.specs.Store.{StoreState}
@@ -177,17 +175,3 @@ is_grown m m1 m' added shape segments rest = record {
       ∙ ap (λ (ns : List ℕ). record m { level = m'.level; split = m'.split; segments = ns })
       (sym segments);
 }
-
--- a page for each pair of the bucket, and two more
-pub end_refilled : (p : Placement) → IsSound p
-    → (opened p).space.end + length (pairs_in (chain_at p p.shape.split)) ≤ p.space.end
-    + length (pairs_of p) + 2
-end_refilled p sound =
-    let pairs = pairs_in (chain_at p p.shape.split) in
-    omega (
-      arith,
-      end_opened p,
-      sum_by-opened p sound (λ _. 1),
-      length-sum_by pairs,
-      length-sum_by (pairs_of p),
-    )

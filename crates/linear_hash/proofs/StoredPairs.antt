@@ -40,17 +40,6 @@ full_count p sound = elim (ltb (8 * length p.chains) (length (pairs_of p))) as
       | false ↦ refl
     ]
 
-pub at_most_one_more : (p : Placement) (pair : Pair) → IsSound p → IsAllowed pair
-    → length (pairs_of (replace p pair)) ≤ length (pairs_of p) + 1
-at_most_one_more p pair sound small =
-    by_case (is_some (get (contents p) pair.0)) (replaced_count p pair sound small)
-  where
-    by_case : (b : Bool) → length (pairs_of (replace p pair))
-        ≡ cond b (length (pairs_of p)) (length (pairs_of p) + 1)
-        → length (pairs_of (replace p pair)) ≤ length (pairs_of p) + 1
-    by_case true e = omega (arith, e)
-    by_case false e = omega (arith, e)
-
 -- as the code counts them
 pub counted_more : (p : Placement) (pair : Pair) (was : Bool) (pairs more : ℕ) → IsSound p
     → IsAllowed pair → was ≡ is_some (get (contents p) pair.0) → pairs ≡ length (pairs_of p)

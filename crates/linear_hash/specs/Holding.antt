@@ -2,6 +2,7 @@
 use Rattle.std.specs.Prelude.{◌≡◌, ◌⊎◌, ◌↔◌, ◌+◌, ◌*◌, ◌<◌, ◌≤◌, ℕ, true, Result, OnOk, OnErr, IfErr, IsErrOf}
 use Rattle.sect_dev.specs.Device.{LeavesOnly}
 use Rattle.dbm_model.specs.Pairs.{Contents}
+use Rattle.dbm_model.specs.Sizes.{home}
 use Rattle.page_model.specs.Pages.{Meta}
 use Rattle.page_model.specs.Valid.{IsMeta}
 use Rattle.page_io.specs.Answers.{HasDeviceCause}
@@ -31,7 +32,9 @@ pub record IsEnded {S : Type 0} (s : Ghosts S) (old new : S) (before after : Met
   pub answer : IsChangeAnswer (s.state old) result
 
 -- What it makes of a file that stood for the map: it stands for the changed one, with at most so
--- many pages more, or is as it was, and at every moment for one of the two.
+-- many pages more and no more than a database of the limit needs, or is as it was, and at every
+-- moment for one of the two. It lacks no room on a device for twice as many pages as such a database
+-- needs, nor on one for twice as many as the file then might have.
 pub record ChangesMap {S : Type 0} (s : Ghosts S) (old new : S) (before after : Meta)
     (map changed : Contents) (most : ℕ) (result : Result Unit PageFault) : Type 0 where
   pub done : OnOk result (Holds s new after changed)
@@ -44,5 +47,7 @@ pub record ChangesMap {S : Type 0} (s : Ghosts S) (old new : S) (before after : 
   pub whole : IsErrOf result Damaged → ⊥
   pub grows : OnOk result (((s.state old).end ≤ (s.state new).end)
       × ((s.state new).end ≤ (s.state old).end + most))
+  pub bounded : OnOk result ((s.state new).end ≤ home before.limit)
   pub no_room : IsErrOf result NoRoom
-      → (s.state old).capacity < 2 * ((s.state old).end + before.pairs) + 8
+      → ((s.state old).capacity < 2 * home before.limit)
+      × ((s.state old).capacity < 2 * ((s.state old).end + before.pairs) + 8)

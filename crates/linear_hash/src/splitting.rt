@@ -5,7 +5,7 @@ ghost use Rattle.dbm_model.specs.Pairs.{IsAllowed};
 ghost use Rattle.page_model.specs.Chain.{numbers};
 ghost use Rattle.page_model.specs.Placement.{Placement, pairs_of, chain_at, opened, split};
 ghost use Rattle.page_model.specs.PageBodies.{first_of};
-ghost use Rattle.page_model.specs.Sizes.{segments_for};
+ghost use Rattle.dbm_model.specs.Sizes.{segments_for};
 ghost use Rattle.page_model.specs.Valid.{meta_buckets};
 ghost use Rattle.page_io.specs.Answers.{HasDeviceCause};
 ghost use Rattle.page_io.specs.Views.{body_at, StagesOnly, MayEnd};
@@ -49,7 +49,7 @@ pub fn split_bucket<S: PageStore>(
         → OnOk result (MayEnd (S.state store.new) space.new.file_end) }
 
     // Where at most one page was taken since the last commit, it leaves the model's placement, is
-    // never Damaged, and takes a page for each pair and two more at most.
+    // never Damaged, and lacks room only on a device that is no larger than that placement.
     ensures exact { ForEachMidway S.PageStore store.old (model_meta meta.old) space.old (λ p.
         p.space.end ≤ (S.state store.old).end + 1
         → OnOk result (IsMidway (body_at S.PageStore store.new) (model_meta meta.new)
@@ -58,7 +58,7 @@ pub fn split_bucket<S: PageStore>(
         p.space.end ≤ (S.state store.old).end + 1 → IsErrOf result Damaged → ⊥) }
     ensures room { ForEachMidway S.PageStore store.old (model_meta meta.old) space.old (λ p.
         p.space.end ≤ (S.state store.old).end + 1 → IsErrOf result NoRoom
-        → (S.state store.old).capacity ≤ p.space.end + length (pairs_of p) + 2) }
+        → (S.state store.old).capacity ≤ (split p).space.end) }
 {
     // Every page has a number of four bytes.
     prove!(space.file_end <= u32::MAX);
@@ -91,8 +91,8 @@ fn open_bucket<S: PageStore>(
     ensures may_end { MayEnd (S.state store.old) space.old.file_end
         → OnOk result (MayEnd (S.state store.new) space.new.file_end) }
 
-    // It leaves the model's placement with no pair in either bucket, is never Damaged, and takes
-    // two pages at most.
+    // It leaves the model's placement with no pair in either bucket, is never Damaged, and lacks
+    // room only on a device that is no larger than that placement.
     ensures exact { ForEachMidway S.PageStore store.old (model_meta meta.old) space.old (λ p.
         head ≡ first_of (numbers (chain_at p p.shape.split))
         → IfOk result (IsBucketOpened (body_at S.PageStore store.new) (model_meta meta.new)
@@ -101,7 +101,7 @@ fn open_bucket<S: PageStore>(
         head ≡ first_of (numbers (chain_at p p.shape.split)) → IsErrOf result Damaged → ⊥) }
     ensures room { ForEachMidway S.PageStore store.old (model_meta meta.old) space.old (λ p.
         head ≡ first_of (numbers (chain_at p p.shape.split)) → IsErrOf result NoRoom
-        → (S.state store.old).capacity ≤ p.space.end + 2) }
+        → (S.state store.old).capacity ≤ (opened p).space.end) }
 {
     store_all(store, space, head, &[])?;
     let new_head = take(store, space)?;
@@ -128,8 +128,8 @@ fn refill<S: PageStore>(
     ensures may_end { MayEnd (S.state store.old) space.old.file_end
         → OnOk result (MayEnd (S.state store.new) space.new.file_end) }
 
-    // From the opened placement it leaves the split one, is never Damaged, and takes a page for
-    // each pair at most.
+    // From the opened placement it leaves the split one, is never Damaged, and lacks room only on a
+    // device that is no larger than that one.
     ensures exact { S.honest store.old → (p : Placement)
         → IsRefilled (body_at S.PageStore store.old) space.old (shape_of shape) head new_head
         (map pair_of pairs.now) p → OnOk result
@@ -140,7 +140,7 @@ fn refill<S: PageStore>(
     ensures room { S.honest store.old → (p : Placement)
         → IsRefilled (body_at S.PageStore store.old) space.old (shape_of shape) head new_head
         (map pair_of pairs.now) p → IsErrOf result NoRoom
-        → (S.state store.old).capacity ≤ (opened p).space.end + length pairs.now }
+        → (S.state store.old).capacity ≤ (split p).space.end }
 {
     for pair in pairs {
         let goes_up = shape.split_goes_up(hash(&pair.key));

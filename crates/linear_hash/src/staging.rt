@@ -151,8 +151,8 @@ fn split_if_full<S: PageStore>(
     ensures whole { ForEachMidway S.PageStore store.old (model_meta meta.old) space.old (λ p.
         p.space.end ≤ (S.state store.old).end + 1 → IsErrOf result Damaged → ⊥) }
     ensures room { ForEachMidway S.PageStore store.old (model_meta meta.old) space.old (λ p.
-        p.space.end ≤ (S.state store.old).end + 1 → IsErrOf result NoRoom
-        → (S.state store.old).capacity ≤ p.space.end + length (pairs_of p) + 2) }
+        p.space.end ≤ (S.state store.old).end + 1 → meta.old.pairs ≡ length (pairs_of p)
+        → IsErrOf result NoRoom → (S.state store.old).capacity ≤ (split_where_full p).space.end) }
 {
     if meta.pairs > PER_BUCKET * meta.shape.buckets() {
         split_bucket(alloc, store, meta, space)?;
@@ -233,17 +233,17 @@ pub fn stage_store<S: PageStore>(
         (body_at S.PageStore store.new) (model_meta meta.old) (model_meta meta.new)
         (S.state store.old).end end (key.now, content.now)) }
 
-    // On the pages of a good placement it leaves the model's, is never Damaged, and takes few
-    // pages.
+    // On the pages of a good placement it leaves the model's, is never Damaged, and lacks room only
+    // on a device that is no larger than the model's.
     ensures exact { ForEachTable S.PageStore store.old (model_meta meta.old) (λ p.
         MayStore p (key.now, content.now) → was_there ≡ is_some (get (contents p) key.now)
         → IfOk result (λ end. IsStaged (body_at S.PageStore store.new) (model_meta meta.new) end
         (stored p (key.now, content.now)))) }
     ensures whole { ForEachTable S.PageStore store.old (model_meta meta.old) (λ p.
         was_there ≡ is_some (get (contents p) key.now) → IsErrOf result Damaged → ⊥) }
-    ensures few { ForEachTable S.PageStore store.old (model_meta meta.old) (λ p.
+    ensures no_room { ForEachTable S.PageStore store.old (model_meta meta.old) (λ p.
         was_there ≡ is_some (get (contents p) key.now) → IsErrOf result NoRoom
-        → (S.state store.old).capacity ≤ p.space.end + length (pairs_of p) + 4) }
+        → (S.state store.old).capacity ≤ (stored p (key.now, content.now)).space.end) }
 {
     let mut space = space_of(meta, store.end());
     replace_pair(store, meta, &mut space, key, content, was_there)?;

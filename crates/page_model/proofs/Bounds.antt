@@ -6,7 +6,7 @@ use Rattle.std.proofs.Math.Pow.{pow_mono}
 use Rattle.dbm_model.specs.Pairs.{Pair}
 use Rattle.page_model.specs.Chain.{Chain, numbers, pairs_in, has_room, IsChain}
 use Rattle.page_model.specs.Space.{Space, next_page, after_take, give, IsExact}
-use Rattle.page_model.specs.Sizes.{buckets_for, home}
+use Rattle.dbm_model.specs.Sizes.{buckets_for, home}
 use Rattle.page_model.specs.Placement.{Placement, pairs_of, in_use, key_bucket, chain_at, put, IsSound, opens_segment, opened, split}
 use Rattle.page_model.specs.PlacementLaws.{LevelIsLow}
 use Rattle.page_model.proofs.PairLists.{length-sum_by}

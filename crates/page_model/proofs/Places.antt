@@ -17,7 +17,7 @@ use Rattle.dbm_model.specs.Pairs.{Key, Pair, Contents, key_cmp, IsAllowed}
 use Rattle.page_model.specs.PairLists.{has_key, times}
 use Rattle.page_model.specs.Chain.{Chain, numbers, pairs_in, has_room, add, remove, emptied, IsChain}
 use Rattle.page_model.specs.Space.{next_page, after_take, IsExact}
-use Rattle.page_model.specs.Sizes.{segments_for}
+use Rattle.dbm_model.specs.Sizes.{segments_for}
 use Rattle.page_model.specs.Placement.{Placement, pairs_of, contents, in_use, key_bucket, chain_at, put, delete, replace, IsInPlace, IsSound}
 use Rattle.page_model.specs.PlacementLaws.{ReplaceInserts, DeleteRemoves}
 use Rattle.page_model.proofs.AddressLemmas.{address_below}

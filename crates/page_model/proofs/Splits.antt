@@ -16,7 +16,7 @@ use Rattle.page_model.specs.PairLists.{has_key, times}
 use Rattle.page_model.specs.Slots.{taken}
 use Rattle.page_model.specs.Chain.{Chain, numbers, pairs_in, used, IsChain}
 use Rattle.page_model.specs.Space.{next_page, after_take, give, IsExact}
-use Rattle.page_model.specs.Sizes.{segments_for}
+use Rattle.dbm_model.specs.Sizes.{segments_for}
 use Rattle.page_model.specs.Placement.{Placement, pairs_of, contents, in_use, key_bucket, chain_at, put, IsInPlace, IsSound, bare, bared, opens_segment, opened, split}
 use Rattle.page_model.specs.PlacementLaws.{PairsAreAllowed}
 use Rattle.page_model.proofs.AddressLemmas.{grown_address}

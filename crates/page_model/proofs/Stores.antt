@@ -11,7 +11,7 @@ use Rattle.dbm_model.specs.Pairs.{Key, Pair, key_cmp, contents_of, IsAllowed}
 use Rattle.page_model.specs.PairLists.{has_key, times, HasBytes}
 use Rattle.page_model.specs.Chain.{pairs_in}
 use Rattle.page_model.specs.Space.{IsExact}
-use Rattle.page_model.specs.Sizes.{buckets_for, home}
+use Rattle.dbm_model.specs.Sizes.{buckets_for, home}
 use Rattle.page_model.specs.Placement.{Placement, pairs_of, contents, in_use, key_bucket, chain_at, delete, replace, split, store, fresh_placement, IsInPlace, IsSound, IsGood, MayStore}
 use Rattle.page_model.specs.PlacementLaws.{SplitKeeps, LooksInOneChain, CountsKeys, StoreStaysGood, DeleteStaysGood, FreshIsGood}
 use Rattle.page_model.proofs.PairLists.{times_some, length-sum_by}

@@ -13,7 +13,6 @@ pub mod PlacementExamples
 pub mod PlacementLaws
 pub mod Reading
 pub mod Rewrites
-pub mod Sizes
 pub mod Slots
 pub mod Space
 pub mod Spelling

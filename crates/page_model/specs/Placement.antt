@@ -5,7 +5,7 @@ use Rattle.std.specs.FinMap.{get, len}
 use Rattle.page_model.specs.Address.{Shape, buckets, address, grown, hash_of}
 use Rattle.dbm_model.specs.Pairs.{Key, Pair, Contents, contents_of, IsAllowed}
 use Rattle.page_model.specs.PairLists.{times, HasBytes}
-use Rattle.page_model.specs.Sizes.{buckets_for, segments_for, home}
+use Rattle.dbm_model.specs.Sizes.{buckets_for, segments_for, home}
 use Rattle.page_model.specs.Chain.{Chain, Leaf, numbers, pairs_in, has_room, add, remove, emptied, IsChain}
 use Rattle.page_model.specs.Space.{Space, next_page, after_take, give, IsExact}
 

@@ -2,7 +2,7 @@
 use Rattle.std.specs.Prelude.{◌≡◌, ◌≢◌, ◌⊎◌, ◌↔◌, ℕ, ◌+◌, ◌*◌, ◌^◌, ◌<◌, ◌≤◌, length, All, AllPairs}
 use Rattle.page_model.specs.Numbers.{IsNumber}
 use Rattle.page_model.specs.Pages.{Meta, Body, MetaPage, SegmentPage, HeadPage, OverflowPage, FreePage, Other, NumberedBody, Bucket, bucket}
-use Rattle.page_model.specs.Sizes.{buckets_for, segments_for}
+use Rattle.dbm_model.specs.Sizes.{buckets_for, segments_for}
 use Rattle.page_model.specs.Slots.{taken}
 use Rattle.page_model.specs.Reading.{trimmed}
 

@@ -2,7 +2,6 @@
 // `specs/PlacementExamples.antt`.
 ghost use Rattle.page_model.specs.PlacementLaws.{GrowingMovesOneBucket, AddressesAreBelow, ReplaceInserts, DeleteRemoves, AbsentDeleteKeeps, SplitKeeps, LooksInOneChain, CountsKeys, PairsAreAllowed, StoreStaysGood, DeleteStaysGood, FreshIsGood, MapHoldsBytes, LevelIsLow, StoreTakesFew, OnceIsPermutation};
 ghost use Rattle.page_model.specs.PlacementExamples.{HashExamples, NinePairs, SeventeenPairs, LongPairs, ThickPairs, FullPages};
-ghost use Rattle.page_model.specs.Sizes.{SizeExamples};
 
 /// A further bucket takes hashes of the bucket that is split, and of no other.
 pub fn growing_moves_one_bucket()
@@ -84,7 +83,7 @@ pub fn once_is_permutation()
     ensures { OnceIsPermutation }
 {}
 
-/// Hashes, placements and sizes that are worked out by hand.
+/// Hashes and placements that are worked out by hand.
 pub fn placement_examples()
     ensures hashes { HashExamples }
     ensures nine_pairs { NinePairs }
@@ -92,5 +91,4 @@ pub fn placement_examples()
     ensures long_pairs { LongPairs }
     ensures thick_pairs { ThickPairs }
     ensures full_pages { FullPages }
-    ensures sizes { SizeExamples }
 {}

@@ -25,7 +25,7 @@ use Rattle.rehearsal.specs.Members.{StandsForOne}
 use Rattle.rehearsal.specs.Sessions.{IfNotOpened, GoesOn, CallsLeave}
 use Rattle.rehearsal.specs.declared.sessions.Ending.{Ending}
 use Rattle.rehearsal.specs.declared.sessions.Ending.TheVariants.{NotOpened, NoMemory, Rested, Broke}
-use Rattle.rehearsal.proofs.Stops.{limit_stays}
+use Rattle.dbm_sessions.proofs.Rooms.{limit_stays}
 
 -- a session that an opening began
 pub step_of : (before : Members) (plan : Plan) (ending : model.Ending) (after : Members)

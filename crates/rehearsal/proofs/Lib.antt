@@ -2,4 +2,5 @@ pub mod Endings
 pub mod Lists
 pub mod Moments
 pub mod Openings
+pub mod Rooms
 pub mod Stops

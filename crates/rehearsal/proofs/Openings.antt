@@ -15,7 +15,7 @@ use Rattle.dbm_sessions.specs.Sessions.{Begins}
 use Rattle.dbm_sessions.proofs.Lists.{map_has}
 use Rattle.file_opening.specs.Opening.{writes, making_fault, room_fault, BeginsEmpty, MayRemain, AllStand, IsOpened}
 use Rattle.dbm_fault.specs.declared.fault.Fault.TheVariants.{NotADatabase}
-use Rattle.page_model.specs.Sizes.{sectors_for}
+use Rattle.dbm_model.specs.Sizes.{sectors_for}
 use Rattle.page_io.specs.declared.store.PageStore.{Ghosts}
 use Rattle.file_opening.specs.declared.open_how.OpenHow.{OpenHow}
 use Rattle.dbm_file.specs.Database.{IsAt}

@@ -268,13 +268,3 @@ pub within : (first after : Handle) (calls : List Call) (replies : List Reply)
 within first after calls replies contents usable left =
     within_from first first after [] calls [] replies contents first.state.limit refl usable refl
     left
-
--- a list of calls leaves the limit
-pub limit_stays : (first last : Handle) (calls : List Call) (replies : List Reply)
-    → Run first calls replies last → last.state.limit ≡ first.state.limit
-limit_stays first last [] [] run = ap (λ (h : Handle). h.state.limit) run
-limit_stays first last [] (reply ∷ replies) run = absurd run
-limit_stays first last (call ∷ calls) [] run = absurd run
-limit_stays first last (call ∷ calls) (reply ∷ replies) run =
-    limit_stays run.0 last calls replies run.2
-    ∙ (settings_stay first run.0 call reply run.1).0

@@ -1,10 +1,11 @@
 -- What sessions leave that are made one after another, each with its ending.
-use Rattle.std.specs.Prelude.{ℕ, List, map, Contains}
+use Rattle.std.specs.Prelude.{ℕ, All, List, map, Contains}
 use Rattle.sect_dev.specs.Device.{Image, Candidates, IsImageOf}
 use Rattle.redo_commit.specs.File.{settled}
 use Rattle.dbm_sessions.specs.Members.{Member, Members}
 use Rattle.dbm_sessions.specs.Sessions.{Plan, Sessions}
 use Rattle.dbm_sessions.specs.Changes.{changes_of, LeftBy}
+use Rattle.dbm_sessions.specs.Room.{IsNeverShort}
 use Rattle.rehearsal.specs.Members.{StandsFor, AllStandFor}
 use Rattle.rehearsal.specs.Sessions.{plan_of, ending_of, Leaves}
 use Rattle.rehearsal.specs.declared.sessions.Ending.{Ending}
@@ -40,3 +41,7 @@ pub record IsLeft (before : Members) (plans : List Plan) (endings : List Ending)
 abbrev pub AreAllLeft : Members → List Plan → List Ending → ℕ → Candidates → Type 0
 AreAllLeft before plans endings pages candidate =
     (image : Image) → IsImageOf candidate image → IsLeft before plans endings pages image
+
+-- nothing was refused for want of room in any of the sessions
+abbrev pub AreNeverShort : List Ending → Type 0
+AreNeverShort endings = All IsNeverShort (map ending_of endings)

@@ -1,8 +1,10 @@
 // Sessions on a device in memory, each of them stopped.
-ghost use Rattle.std.specs.Prelude.{◌/◌, ℕ, IfOk, map};
+ghost use Rattle.std.specs.Prelude.{◌≡◌, ◌/◌, ℕ, All, IfOk, map};
 ghost use Rattle.dbm_sessions.specs.Members.{Members};
+ghost use Rattle.dbm_sessions.specs.Room.{AllHaveRoom, AsksForRoom, IsNeverShort};
 ghost use Rattle.rehearsal.specs.Members.{AllStandFor};
-ghost use Rattle.rehearsal.specs.Rehearsals.{planned, SessionLeaves, SessionsLeave, AreAllLeft};
+ghost use Rattle.rehearsal.specs.Rehearsals.{planned, SessionLeaves, SessionsLeave, AreAllLeft, AreNeverShort};
+ghost use Rattle.rehearsal.specs.Sessions.{ending_of};
 
 use crate::{Ending, Opening, session};
 use dbm_file::Call;
@@ -42,6 +44,15 @@ pub fn rehearse(
         (⟦<MemDev as SectorDev>⟧.candidate dev)
         → IfOk result (λ r. AreAllLeft before (map planned stages.now) r.1.items
         (⟦<MemDev as SectorDev>⟧.sectors r.0 / 4) (⟦<MemDev as SectorDev>⟧.candidate r.0)) }
+
+    // Where the device has twice the pages that each limit needs, that is there or is asked for,
+    // nothing is refused for want of room.
+    ensures room { (before : Members)
+        → AllStandFor before (⟦<MemDev as SectorDev>⟧.sectors dev / 4)
+        (⟦<MemDev as SectorDev>⟧.candidate dev)
+        → AllHaveRoom (⟦<MemDev as SectorDev>⟧.sectors dev / 4) before
+        → All (AsksForRoom (⟦<MemDev as SectorDev>⟧.sectors dev / 4)) (map planned stages.now)
+        → IfOk result (λ r. AreNeverShort r.1.items) }
 {
     let mut dev = dev;
     let mut endings = Vec::new(alloc);
@@ -55,11 +66,18 @@ pub fn rehearse(
 
 // One of them.
 fn stopped(alloc: Global, dev: MemDev, stage: &Stage) -> Result<(MemDev, Ending), AllocError>
-    ensures { (before : Members)
+    ensures leaves { (before : Members)
         → AllStandFor before (⟦<MemDev as SectorDev>⟧.sectors dev / 4)
         (⟦<MemDev as SectorDev>⟧.candidate dev)
         → IfOk result (λ r. SessionLeaves before (planned stage.now) r.1
         (⟦<MemDev as SectorDev>⟧.sectors r.0 / 4) (⟦<MemDev as SectorDev>⟧.candidate r.0)) }
+    ensures room { (before : Members)
+        → AllStandFor before (⟦<MemDev as SectorDev>⟧.sectors dev / 4)
+        (⟦<MemDev as SectorDev>⟧.candidate dev)
+        → AllHaveRoom (⟦<MemDev as SectorDev>⟧.sectors dev / 4) before
+        → IfOk result (λ r. IsNeverShort (ending_of r.1)) }
+    ensures size { IfOk result (λ r. ⟦<MemDev as SectorDev>⟧.sectors r.0 / 4
+        ≡ ⟦<MemDev as SectorDev>⟧.sectors dev / 4) }
 {
     let fuse = Fuse::new(dev, stage.device_calls);
     let (fuse, ending) = session(alloc, fuse, stage.how, stage.calls.as_slice());

@@ -3,12 +3,14 @@ ghost use Rattle.std.specs.Prelude.{◌≡◌, ◌≢◌, ◌⊎◌, ◌↔◌, 
 ghost use Rattle.sect_dev.specs.Device.{Image, IsImageOf, LeavesOnly, MoreFaults};
 ghost use Rattle.sect_dev.specs.Moments.{IsOutcome};
 ghost use Rattle.redo_commit.specs.File.{settled};
+ghost use Rattle.dbm_model.specs.Room.{HasRoom};
 ghost use Rattle.dbm_model.specs.States.{Handle};
 ghost use Rattle.dbm_sessions.specs.Members.{Members};
+ghost use Rattle.dbm_sessions.specs.Room.{IsNeverShort};
 ghost use Rattle.file_opening.specs.Opening.{early_fault, AllStand, AllAllow};
 ghost use Rattle.dbm_file.specs.Calls.{call_of};
 ghost use Rattle.dbm_file.specs.Database.{IsAt};
-ghost use Rattle.dbm_file.specs.Opened.{device_below};
+ghost use Rattle.dbm_file.specs.Opened.{device_below, AllHaveRoom};
 ghost use Rattle.rehearsal.specs.Members.{AllStandFor};
 ghost use Rattle.rehearsal.specs.Sessions.{plan_of, for_writing, ending_of, IsOneEach, IfNotOpened, WhyNotOpened, Leaves, IsLeftByStop, CallsLeave, IsLeftByCalls};
 
@@ -84,6 +86,11 @@ pub fn session<D: SectorDev>(alloc: Global, dev: D, how: Opening, calls: &[Call]
         → AllAllow (for_writing how) (D.sectors dev) (D.candidate dev)
         → IfNotOpened result.1 (λ fault. (fault ≡ Fault.Device)
         ⊎ ((fault ≡ Fault.Memory) × (how.truncate ≡ true))) }
+
+    // Where the device has twice the pages that each map's limit needs, neither the opening nor a
+    // call is refused for want of room.
+    ensures room { D.honest dev → AllHaveRoom (D.sectors dev / 4) (D.candidate dev)
+        → IsNeverShort (ending_of result.1) }
     ensures honesty { D.honest result.0 ↔ D.honest dev }
     ensures size { D.sectors result.0 / 4 ≡ D.sectors dev / 4 }
 {
@@ -105,6 +112,8 @@ fn make_calls<D: SectorDev>(alloc: Global, db: Db<D>, calls: &[Call]) -> (D, End
         (IsOutcome D.left_since (settled (D.sectors (device_below db) / 4)))
         (device_below db) result.0
         (IsLeftByCalls h (map call_of calls.now) (ending_of result.1)) }
+    ensures room { D.honest (device_below db) → (h : Handle) → IsAt db h → HasRoom h
+        → IsNeverShort (ending_of result.1) }
     ensures opened { IfNotOpened result.1 (λ fault. ⊥) }
     ensures one_each { IsOneEach calls.now result.1 }
     ensures honesty { D.honest result.0 ↔ D.honest (device_below db) }

@@ -1,7 +1,8 @@
-use Rattle.std.proofs.Common.{Bool, ◌&&◌, ap, subst, sym, ◌∙◌, arith}
+use Rattle.std.proofs.Common.{ℕ, ◌/◌, Bool, ◌&&◌, ap, subst, sym, ◌∙◌, arith}
 use Rattle.dbm_fault.specs.declared.fault.Fault.{Fault}
 use Rattle.dbm_file.specs.Named.{RefusesFile}
 use Rattle.sect_dev.specs.contracts.file_dev.FileDevSectorDev.TheImpl.{ghosts as FileDevGhosts}
+use Rattle.dbm_file.proofs.EnoughRoom.{file_has_room}
 use Rattle.dbm_file.proofs.OpenedFiles.{refuses_file}
 use Rattle.dbm_file.proofs.named.open_named.Goals as goal
 
@@ -35,3 +36,9 @@ pub returns-in-Ok-open-clause-told : goal.returns-in-Ok-open-clause-told
 returns-in-Ok-open-clause-told g c device =
     c.refused_by.ensures.system
     (omega (arith, c.in-Err.ensures.device (sym c.refused_by.ensures.fault ∙ device)))
+
+pub returns-in-Ok-open-2-clause-room : goal.returns-in-Ok-open-2-clause-room
+returns-in-Ok-open-2-clause-room g c =
+    let db = c.in-Ok-open-2.db in
+    file_has_room db db.valid (c.in-Ok-open-2.ensures.fresh.capacity
+    ∙ ap (λ (n : ℕ). n / 4) c.in-Ok-open.ensures.size)

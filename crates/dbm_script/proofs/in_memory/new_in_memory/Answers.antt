@@ -41,3 +41,7 @@ returns-clause-only c allowed =
       c.new.ensures.size,
     ))) (λ image is. inl (blank image is))
     (λ image is. subst (Allows how _) (sym (blank image is)) room))
+
+pub returns-in-Ok-clause-room : goal.returns-in-Ok-clause-room
+returns-in-Ok-clause-room c =
+    (c.in-Ok.ensures.room tt (λ image is. inl (blank_there _ _ c.new.ensures.stable image is))).1

@@ -5,5 +5,5 @@ pub returns-clause-answer : goal.returns-clause-answer
 returns-clause-answer g c =
     let made = c.in-Ok.ensures.fresh in
     answered c.map_err-2.result c.args.limit _ _ _ _ c.in-Ok.db c.script_engine-done.new.db made
-    c.in-Ok.ensures.allowed (c.in_ok-done.ensures.answer tt made.handle made.is_at)
+    c.in-Ok.ensures.room c.in-Ok.ensures.allowed (c.in_ok-done.ensures.answer tt made.handle made.is_at)
     c.flush-flushed.ensures.bytes

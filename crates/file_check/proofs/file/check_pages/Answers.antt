@@ -1,7 +1,7 @@
 use Rattle.std.proofs.Common.{◌≡◌, ◌≤◌, ◌<◌, ◌∷◌, ◌++◌, ℕ, length, flat_map, Err, sym, ap, subst, arith}
 use Rattle.std.proofs.lemmas.Result.{err_from_is_err_and}
 use Rattle.page_model.specs.Chain.{numbers, pairs_in}
-use Rattle.page_model.specs.Sizes.{home}
+use Rattle.dbm_model.specs.Sizes.{home}
 use Rattle.page_io.specs.declared.store.PageFault.TheVariants.{Damaged}
 use Rattle.page_marks.specs.Marks.{AreMarked, MayBeSeen, IsEachSeen}
 use Rattle.seg_table.specs.MetaPages.{model_meta}

@@ -10,7 +10,7 @@ use Rattle.page_io.specs.Page.{page_at}
 use Rattle.redo_area.specs.Reading.{OnlyReads}
 use Rattle.redo_area.specs.Settling.{only_seen}
 use Rattle.page_model.specs.Pages.{Meta}
-use Rattle.page_model.specs.Sizes.{sectors_for}
+use Rattle.dbm_model.specs.Sizes.{sectors_for}
 use Rattle.dbm_fault.specs.Faults.{fault_from}
 use Rattle.dbm_fault.specs.declared.fault.Fault.{Fault}
 use Rattle.dbm_fault.specs.declared.fault.Fault.TheVariants.{Memory}

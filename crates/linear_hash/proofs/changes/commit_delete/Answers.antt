@@ -3,6 +3,7 @@ use Rattle.std.specs.FinMap.{get, remove}
 use Rattle.sect_dev.specs.Device.{LeavesOnly}
 use Rattle.std.proofs.lemmas.Result.{on_err_weaker}
 use Rattle.dbm_model.specs.Pairs.{Contents}
+use Rattle.dbm_model.specs.Sizes.{home}
 use Rattle.page_model.specs.Placement.{Placement, contents, delete}
 use Rattle.page_io.specs.Store.{StoreState}
 use Rattle.page_io.specs.Views.{body_at}
@@ -14,8 +15,8 @@ use Rattle.page_commit.specs.Committing.{Holds, MayCommit}
 use Rattle.linear_hash.specs.Holding.{StandsForEither}
 use Rattle.linear_hash.specs.Staging.{IsStaged}
 use Rattle.page_commit.proofs.CommitResults.{commit_ok}
-use Rattle.linear_hash.proofs.Changing.{never_damaged, never_memory, few_staged, grows_to, lacks_few, change_answer, commit_holds, staged_stands, leaves_either, leaves_old, told_by, no_room_by}
-use Rattle.linear_hash.proofs.Plans.{now, was_placed, deleted_good, deleted_map}
+use Rattle.linear_hash.proofs.Changing.{never_damaged, never_memory, few_staged, grows_to, ends_within, lacks_twice, short_by, change_answer, commit_holds, staged_stands, leaves_either, leaves_old, told_by, no_room_by}
+use Rattle.linear_hash.proofs.Plans.{now, was_placed, deleted_good, deleted_map, deleted_bounded}
 use Rattle.linear_hash.proofs.Tables.{is_table}
 use Rattle.linear_hash.proofs.Written.{written_committed}
 use Rattle.linear_hash.proofs.changes.commit_delete.Given.{Over}
@@ -32,6 +33,10 @@ module _ (g : Over) (c : After-finish g) (map : Contents)
       (g.S.PageStore.state c.args.store.now).end plan
   table = is_table g.S.PageStore c.args.store.now (model_meta c.args.meta.now) map holds
       (g.met.S.PageStore.ends c.args.store.now) c.requires.idle
+
+  bounded : (delete plan c.args.key.now).space.end ≤ home c.args.meta.now.limit
+  bounded = deleted_bounded g.S.PageStore c.args.store.now (model_meta c.args.meta.now) map holds
+      c.args.key.now
 
   module _ (was : is_some (get map c.args.key.now) ≡ true) where
     there : is_some (get (contents plan) c.args.key.now) ≡ true
@@ -122,12 +127,21 @@ returns-clause-turns g c honest usable map holds was =
           (g.S.PageStore.state c.finish.new.store) 0 _ c.stage_delete-staged.result
           c.finish.result c.finish.ensures.refused c.finish.ensures.ok staged.grows
           (staged.exact honest p in_table (there g c map holds was)) (omega (arith, in_table.ends));
+      bounded =
+          let p = plan g c map holds in
+          ends_within _ _ (delete p c.args.key.now)
+          (g.S.PageStore.state c.stage_delete-staged.new.store)
+          (g.S.PageStore.state c.finish.new.store) _ _ c.stage_delete-staged.result c.finish.result
+          c.finish.ensures.refused c.finish.ensures.ok
+          (staged.exact honest p (table g c map holds) (there g c map holds was))
+          (bounded g c map holds);
       no_room = λ room.
           let in_table = table g c map holds in
+          let end = (delete (plan g c map holds) c.args.key.now).space.end in
           let by = no_room_by g.S.PageStore _ _ c.finish.new.store c.stage_delete-staged.result
           c.finish.result staged.stages _ c.finish.ensures.answer
           c.finish.ensures.refused room in
-          ⊎_elim (λ early. absurd (staged.no_room early))
+          short_by _ end _ _ _ (⊎_elim (λ early. absurd (staged.no_room early))
           (λ late.
           let is = subst (λ (q : Result ℕ PageFault).
           IfOk q (λ end. IsStaged (body_at g.S.PageStore c.stage_delete-staged.new.store)
@@ -143,10 +157,11 @@ returns-clause-turns g c honest usable map holds was =
           let few = few_staged 1 late.0 _
           (g.met.S.PageStore.in_order c.stage_delete-staged.new.store) can.below
           (omega (arith, can.least)) in
-          lacks_few (g.S.PageStore.state c.stage_delete-staged.new.store) late.0 _ _ _ late.2
-          (omega (arith, grow, ap (λ (st : StoreState). st.end) staged.stages.state)) few
-          (omega (arith, is.ends, in_table.ends))
-          (ap (λ (st : StoreState). st.capacity) staged.stages.state)) by;
+          let short = lacks_twice (g.S.PageStore.state c.stage_delete-staged.new.store) late.0 _
+          late.2 (omega (arith, grow, ap (λ (st : StoreState). st.end) staged.stages.state)) few
+          (ap (λ (st : StoreState). st.capacity) staged.stages.state) in
+          omega (arith, short, is.ends)) by) (bounded g c map holds)
+          (omega (arith, in_table.ends));
     }
 
 pub returns-clause-deleted : goal.returns-clause-deleted

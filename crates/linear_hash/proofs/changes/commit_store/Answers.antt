@@ -2,6 +2,7 @@ use Rattle.std.proofs.Common.{◌≡◌, ◌∙◌, ◌+◌, ◌≤◌, ℕ, Res
 use Rattle.std.specs.FinMap.{get, insert}
 use Rattle.sect_dev.specs.Device.{LeavesOnly}
 use Rattle.std.proofs.lemmas.Result.{on_err_weaker}
+use Rattle.dbm_model.specs.Sizes.{home}
 use Rattle.page_model.specs.Pages.{Meta}
 use Rattle.dbm_model.specs.Pairs.{Pair, Contents}
 use Rattle.page_model.specs.Placement.{Placement, contents, MayStore, store}
@@ -16,8 +17,8 @@ use Rattle.page_commit.specs.Committing.{Holds, MayCommit}
 use Rattle.linear_hash.specs.Holding.{StandsForEither}
 use Rattle.linear_hash.specs.Staging.{IsStaged}
 use Rattle.page_commit.proofs.CommitResults.{commit_ok}
-use Rattle.linear_hash.proofs.Changing.{never_damaged, never_memory, few_staged, grows_to, lacks_few, change_answer, commit_holds, staged_stands, leaves_either, leaves_old, told_by, no_room_by}
-use Rattle.linear_hash.proofs.Plans.{now, was_placed, may_store, stored_good, stored_map}
+use Rattle.linear_hash.proofs.Changing.{never_damaged, never_memory, few_staged, grows_to, ends_within, lacks_twice, short_by, change_answer, commit_holds, staged_stands, leaves_either, leaves_old, told_by, no_room_by}
+use Rattle.linear_hash.proofs.Plans.{now, was_placed, may_store, stored_good, stored_map, stored_bounded}
 use Rattle.linear_hash.proofs.Tables.{is_table}
 use Rattle.linear_hash.proofs.Written.{written_committed}
 use Rattle.linear_hash.proofs.changes.commit_store.Given.{Over}
@@ -49,6 +50,10 @@ module _ (g : Over) (c : After-finish g) (map : Contents)
   there : c.args.was_there ≡ is_some (get (contents plan) c.args.key.now)
   there = was_placed g.S.PageStore c.args.store.now (model_meta c.args.meta.now) map holds
       c.args.key.now c.args.was_there was
+
+  bounded : (store plan pair).space.end ≤ home c.args.meta.now.limit
+  bounded = stored_bounded g.S.PageStore c.args.store.now (model_meta c.args.meta.now) map holds
+      pair may
 
   moments : g.S.PageStore.honest c.args.store.now
       → (g.S.PageStore.state c.args.store.now).usable ≡ true
@@ -139,16 +144,30 @@ returns-clause-turns g c honest usable map holds was =
           c.finish.ensures.ok staged.grows
           (staged.exact honest p in_table (may g c map holds was) (there g c map holds was))
           (omega (arith, few, in_table.ends, ap (λ (m : Meta). m.pairs) in_table.meta_is));
+      bounded =
+          let p = plan g c map holds was in
+          let changed = store p (pair g c map holds was) in
+          ends_within _ _ changed (g.S.PageStore.state c.stage_store-staged.new.store)
+          (g.S.PageStore.state c.finish.new.store) _ _ c.stage_store-staged.result c.finish.result
+          c.finish.ensures.refused c.finish.ensures.ok
+          (staged.exact honest p (table g c map holds was) (may g c map holds was)
+          (there g c map holds was)) (bounded g c map holds was);
       no_room = λ room.
           let p = plan g c map holds was in
+          let changed = store p (pair g c map holds was) in
           let in_table = table g c map holds was in
+          let end = store_takes_few p (pair g c map holds was) in_table.good.sound
+          c.requires.allowed in
           let pairs = ap (λ (m : Meta). m.pairs) in_table.meta_is in
+          let good = stored_good g.S.PageStore c.args.store.now (model_meta c.args.meta.now) map
+          holds (pair g c map holds was) (may g c map holds was) in
           let capacity = ap (λ (st : StoreState). st.capacity) staged.stages.state in
           let by = no_room_by g.S.PageStore _ _ c.finish.new.store c.stage_store-staged.result
           c.finish.result staged.stages _ c.finish.ensures.answer
           c.finish.ensures.refused room in
-          ⊎_elim (λ early. let most = staged.few honest p in_table (there g c map holds was)
-          early in omega (arith, most, pairs, in_table.ends))
+          short_by _ changed.space.end _ _ _ (⊎_elim
+          (λ early. let full = staged.no_room honest p in_table (there g c map holds was) early in
+          omega (arith, full, good.sound.pages.as_many))
           (λ late.
           let is = subst (λ (q : Result ℕ PageFault).
           IfOk q (λ end. IsStaged (body_at g.S.PageStore c.stage_store-staged.new.store)
@@ -164,11 +183,11 @@ returns-clause-turns g c honest usable map holds was =
           let few = few_staged 1 late.0 _
           (g.met.S.PageStore.in_order c.stage_store-staged.new.store) can.below
           (omega (arith, can.least)) in
-          let end = store_takes_few p (pair g c map holds was) in_table.good.sound
-          c.requires.allowed in
-          lacks_few (g.S.PageStore.state c.stage_store-staged.new.store) late.0 _ _ _ late.2
-          (omega (arith, grow, ap (λ (st : StoreState). st.end) staged.stages.state)) few
-          (omega (arith, end, is.ends, in_table.ends, pairs)) capacity) by;
+          let short = lacks_twice (g.S.PageStore.state c.stage_store-staged.new.store) late.0 _
+          late.2 (omega (arith, grow, ap (λ (st : StoreState). st.end) staged.stages.state)) few
+          capacity in
+          omega (arith, short, is.ends)) by) (bounded g c map holds was)
+          (omega (arith, end, in_table.ends, pairs));
     }
 
 pub returns-clause-stored : goal.returns-clause-stored

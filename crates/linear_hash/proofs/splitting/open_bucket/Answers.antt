@@ -1,7 +1,7 @@
 use Rattle.std.proofs.Common.{refl, sym, ap, ◌∙◌, subst, arith}
 use Rattle.std.proofs.lemmas.Result.{IfOk-from_err}
 use Rattle.page_model.specs.PageBodies.{heads_of}
-use Rattle.page_model.proofs.Ends.{end_taken}
+use Rattle.page_model.proofs.Ends.{kept_taken, kept_opened}
 use Rattle.free_pages.specs.declared.free_state.FreeState.{FreeState}
 use Rattle.page_io.specs.Store.{StoreState, put_page}
 use Rattle.page_io.specs.Views.{body_at, MayEnd}
@@ -66,6 +66,8 @@ returns-in_err-new_head g c =
             full,
             ap (λ (s : FreeState). s.file_end) emptied.kept,
             ap (λ (s : StoreState). s.capacity) ok1.stages.state,
+            kept_taken (given_space p),
+            kept_opened p,
           );
     }
 
@@ -178,7 +180,7 @@ returns-in_err-set_head g c =
             full.1,
             ap (λ (s : FreeState). s.file_end) taken.1,
             room,
-            end_taken (given_space p),
+            kept_opened p,
           );
     }
 

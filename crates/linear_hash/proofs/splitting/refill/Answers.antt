@@ -56,15 +56,11 @@ returns-in_err-put g c =
           absent (came _ _ exit Damaged damaged);
       room = λ honest p from none.
           let so_far = c.loop-pair.invariant.filling honest p from in
-          let many = refill_length _ _ _ _ _ _ p from in
           let full = c.in_err-put.ensures.answer.no_room (came _ _ exit NoRoom none) in
-          let room = filling_room _ _ p c.loop-pair.pair-index
-          (omega (arith, c.loop-pair-test.true, many)) so_far in
           omega (
             arith,
             full.1,
-            room,
-            c.loop-pair-test.true,
+            filling_room _ _ p c.loop-pair.pair-index so_far,
             ap (λ (s : StoreState). s.capacity) c.loop-pair.invariant.stages.state,
           );
     }

@@ -1,8 +1,7 @@
-use Rattle.std.proofs.Common.{◌^◌, ◌<◌, List, length, map, refl, sym, ap, subst, ◌∙◌, arith}
+use Rattle.std.proofs.Common.{◌^◌, ◌<◌, map, refl, sym, ap, subst, ◌∙◌, arith}
 use Rattle.std.proofs.lemmas.Result.{IfOk-from_err}
-use Rattle.std.proofs.lemmas.List.{length-map}
-use Rattle.dbm_model.specs.Pairs.{Pair}
 use Rattle.page_model.specs.PageBodies.{heads_of}
+use Rattle.page_model.proofs.Ends.{kept_split}
 use Rattle.page_io.specs.Store.{StoreState}
 use Rattle.page_io.specs.declared.store.PageFault.TheVariants.{NoRoom, Damaged}
 use Rattle.page_io.specs.Views.{MayEnd}
@@ -10,7 +9,7 @@ use Rattle.page_io.proofs.Views.{stages_then}
 use Rattle.page_io.proofs.Exits.{exit_is, came, cause_first, cause_then, cause_ok}
 use Rattle.chain_walks.specs.Pairs.{pair_of}
 use Rattle.linear_hash.proofs.Refusals.{head_refused, load_refused, change_refused, no_refusal, head_has_room, load_has_room}
-use Rattle.linear_hash.proofs.SplitLemmas.{heads_read, split_head, chain_then, honest_later, midway_later, refilled_later, midway_split, end_refilled, is_grown}
+use Rattle.linear_hash.proofs.SplitLemmas.{heads_read, split_head, chain_then, honest_later, midway_later, refilled_later, midway_split, is_grown}
 use Rattle.linear_hash.proofs.splitting.split_bucket.Goals as goal
 
 -- the head page is not told
@@ -99,7 +98,12 @@ returns-in_err-new_head g c =
           (honest_later st _ _ _ _ p _ from one honest midway _ two) p
           (midway_later st _ _ _ _ p _ from one honest midway _ two) from
           (came _ _ exit NoRoom none) in
-          omega (arith, full, ap (λ (s : StoreState). s.capacity) (two.same ∙ one.same));
+          omega (
+            arith,
+            full,
+            ap (λ (s : StoreState). s.capacity) (two.same ∙ one.same),
+            kept_split p,
+          );
     }
 
 -- the pairs are not put again
@@ -149,15 +153,7 @@ returns-in_err-refill g c =
           (came _ _ exit NoRoom none) in
           let room = ap (λ (s : StoreState). s.capacity) (c.in_ok-new_head.ensures.stages.state)
           ∙ ap (λ (s : StoreState). s.capacity) (two.same ∙ one.same) in
-          let many = ap (λ (ps : List Pair). length ps) again.pairs_are in
-          omega (
-            arith,
-            full,
-            room,
-            many,
-            length-map c.as_slice.result.now pair_of,
-            end_refilled p midway.sound,
-          );
+          omega (arith, full, room);
     }
 
 -- the bucket is split

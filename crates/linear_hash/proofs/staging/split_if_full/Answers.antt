@@ -1,6 +1,7 @@
 use Rattle.std.proofs.Common.{◌≡◌, ℕ, ◌*◌, ◌<◌, ◌≤◌, refl, sym, ap, subst, arith}
 use Rattle.std.proofs.lemmas.Result.{IfOk-from_err}
 use Rattle.page_model.specs.Pages.{Meta}
+use Rattle.page_model.specs.Placement.{Placement}
 use Rattle.page_io.specs.Views.{body_at}
 use Rattle.page_io.specs.declared.store.PageFault.TheVariants.{NoRoom, Damaged}
 use Rattle.page_io.proofs.Exits.{exit_is, came, cause_first, cause_ok}
@@ -48,7 +49,14 @@ returns-in_err-split_bucket g c =
       exact = λ honest p mid near counted. IfOk-from_err _ _ result.ensures.0;
       whole = λ honest p mid near damaged.
           told.whole honest p mid near (came _ _ exit Damaged damaged);
-      room = λ honest p mid near none. told.room honest p mid near (came _ _ exit NoRoom none);
+      room = λ honest p mid near counted none.
+          let full = subst (λ (b : ℕ). 8 * b < c.args.meta.now.pairs) c.buckets.ensures
+          c.if-meta-buckets.true in
+          omega (
+            arith,
+            told.room honest p mid near (came _ _ exit NoRoom none),
+            ap (λ (q : Placement). q.space.end) (full_is_split _ _ _ p mid counted full),
+          );
     }
 
 -- the bucket is split
@@ -83,7 +91,7 @@ pub returns-in_ok-split_bucket-clause-whole : goal.returns-in_ok-split_bucket-cl
 returns-in_ok-split_bucket-clause-whole g c honest p mid near damaged = cc
 
 pub returns-in_ok-split_bucket-clause-room : goal.returns-in_ok-split_bucket-clause-room
-returns-in_ok-split_bucket-clause-room g c honest p mid near none = absurd cc
+returns-in_ok-split_bucket-clause-room g c honest p mid near counted none = absurd cc
 
 pub returns-in_ok-split_bucket-clause-valid : goal.returns-in_ok-split_bucket-clause-valid
 returns-in_ok-split_bucket-clause-valid g c =
@@ -141,7 +149,7 @@ pub returns-else-meta-buckets-clause-whole : goal.returns-else-meta-buckets-clau
 returns-else-meta-buckets-clause-whole g c honest p mid near damaged = cc
 
 pub returns-else-meta-buckets-clause-room : goal.returns-else-meta-buckets-clause-room
-returns-else-meta-buckets-clause-room g c honest p mid near none = absurd cc
+returns-else-meta-buckets-clause-room g c honest p mid near counted none = absurd cc
 
 pub returns-else-meta-buckets-clause-valid : goal.returns-else-meta-buckets-clause-valid
 returns-else-meta-buckets-clause-valid g c =

@@ -5,6 +5,7 @@ use Rattle.page_model.specs.Valid.{meta_buckets}
 use Rattle.page_model.specs.Pages.{Meta}
 use Rattle.dbm_model.specs.Pairs.{Pair}
 use Rattle.page_model.specs.Placement.{Placement, pairs_of, replace}
+use Rattle.page_model.proofs.Ends.{kept_store}
 use Rattle.page_io.specs.Store.{Pages, StoreState}
 use Rattle.page_io.specs.Views.{body_at, StagesOnly, MayEnd}
 use Rattle.page_io.specs.declared.store.PageFault.TheVariants.{Memory, Damaged, NoRoom}
@@ -17,7 +18,7 @@ use Rattle.linear_hash.specs.Staging.{IsStaged}
 use Rattle.linear_hash.specs.Changing.{PutIn}
 use Rattle.linear_hash.proofs.Midway.{midway_same}
 use Rattle.linear_hash.proofs.Stagings.{table_midway, midway_pairs, staged_at_last, staged_ok}
-use Rattle.linear_hash.proofs.StoredPairs.{replaced_end, at_most_one_more, counted_more, where_full, full_count}
+use Rattle.linear_hash.proofs.StoredPairs.{replaced_end, counted_more, where_full, full_count}
 use Rattle.linear_hash.proofs.Written.{put_under, put_after, idle_end, counted_only, written_last}
 use Rattle.linear_hash.proofs.staging.stage_store.Given.{Over}
 use Rattle.linear_hash.proofs.staging.stage_store.Goals.{After-stage_meta}
@@ -59,9 +60,15 @@ returns-in_err-replace_pair g c =
           (c.space_of-space.ensures ∙ ap (space_in (model_meta c.args.meta.now)) c.end.ensures)
           (table_midway _ _ _ p table) in
           told.whole honest p start was (came _ _ exit Damaged damaged);
-      few = λ honest p table was none.
+      no_room = λ honest p table was none.
           let end = ap (λ (f : FreeState). f.file_end) c.space_of-space.ensures ∙ c.end.ensures in
-          omega (arith, told.room (came _ _ exit NoRoom none), end, table.ends);
+          omega (
+            arith,
+            told.room (came _ _ exit NoRoom none),
+            end,
+            table.ends,
+            kept_store p (c.args.key.now, c.args.content.now),
+          );
     }
 
 -- no bucket is split
@@ -106,7 +113,7 @@ returns-in_err-split_if_full g c =
           c.in_err-split_if_full.ensures.whole
           (c.in_ok-replace_pair.ensures.stages.honesty.1 honest) (replace p pair)
           (midway_pairs _ _ _ (replace p pair) _ mid) end (came _ _ exit Damaged damaged);
-      few = λ honest p table was none.
+      no_room = λ honest p table was none.
           let pair : Pair = (c.args.key.now, c.args.content.now) in
           let start = midway_same g.S.PageStore _ _ _ _ c.space_of-space.result p refl
           (c.space_of-space.ensures ∙ ap (space_in (model_meta c.args.meta.now)) c.end.ensures)
@@ -115,14 +122,15 @@ returns-in_err-split_if_full g c =
           let same = ap (λ (st : StoreState). st.end) c.in_ok-replace_pair.ensures.stages.state in
           let end : (replace p pair).space.end ≤ (g.S.PageStore.state c.replace_pair.new.store).end
           + 1 = omega (arith, replaced_end p pair, table.ends, same) in
+          let counted = counted_more p pair c.args.was_there _ _ table.good.sound
+          c.requires.allowed was (ap (λ (m : Meta). m.pairs) table.meta_is) c.added.ensures in
           let most = c.in_err-split_if_full.ensures.room
           (c.in_ok-replace_pair.ensures.stages.honesty.1 honest) (replace p pair)
-          (midway_pairs _ _ _ (replace p pair) _ mid) end (came _ _ exit NoRoom none) in
+          (midway_pairs _ _ _ (replace p pair) _ mid) end counted (came _ _ exit NoRoom none) in
           omega (
             arith,
             most,
-            replaced_end p pair,
-            at_most_one_more p pair table.good.sound c.requires.allowed,
+            ap (λ (q : Placement). q.space.end) (where_full p pair),
             ap (λ (st : StoreState). st.capacity) c.in_ok-replace_pair.ensures.stages.state,
           );
     }
@@ -168,8 +176,8 @@ pub returns-clause-whole : goal.returns-clause-whole
 returns-clause-whole g c honest p table was damaged =
     absurd (last_not_damaged _ _ _ _ c.stage_meta.ensures.answer damaged)
 
-pub returns-clause-few : goal.returns-clause-few
-returns-clause-few g c honest p table was none =
+pub returns-clause-no_room : goal.returns-clause-no_room
+returns-clause-no_room g c honest p table was none =
     absurd (last_has_room _ _ _ _ c.stage_meta.ensures.answer none)
 
 pub returns-clause-exact : goal.returns-clause-exact

@@ -1,4 +1,3 @@
-use Rattle.std.proofs.Common.{refl}
 use Rattle.page_model.proofs.PlacementExampleLemmas.{hashes, nine_pairs, seventeen_pairs, long_pairs, thick_pairs, full_pages}
 use Rattle.page_model.proofs.placement_laws.placement_examples.Goals as goal
 
@@ -10,5 +9,4 @@ returns c = record {
   long_pairs = long_pairs;
   thick_pairs = thick_pairs;
   full_pages = full_pages;
-  sizes = record { none = refl; least = refl; hundred = refl; largest = refl; too_many = refl };
 }

@@ -1,11 +1,17 @@
-use Rattle.std.proofs.Common.{◌/◌, List, [], ◌∷◌, ◌++◌, map, take, sym, subst, arith}
+use Rattle.std.proofs.Common.{ℕ, ◌/◌, List, [], ◌∷◌, ◌++◌, All, map, take, refl, sym, ◌∙◌, subst, arith}
+use Rattle.std.proofs.lemmas.List.{take-map}
+use Rattle.std.proofs.lemmas.List.Elements.{All-nil, All-take}
 use Rattle.sect_dev.specs.contracts.mem.MemDevSectorDev.TheImpl.{ghosts as MemDevGhosts}
+use Rattle.dbm_sessions.specs.Room.{AllHaveRoom, AsksForRoom, IsNeverShort}
 use Rattle.dbm_sessions.specs.Sessions.{Plan}
+use Rattle.dbm_sessions.proofs.Rooms.{sessions_keep_room}
 use Rattle.dbm_file.proofs.Runs.{all_taken, seen_next}
-use Rattle.rehearsal.specs.Rehearsals.{planned, SessionsLeave}
+use Rattle.rehearsal.specs.Rehearsals.{planned, SessionsLeave, AreNeverShort}
+use Rattle.rehearsal.specs.Sessions.{ending_of}
 use Rattle.rehearsal.specs.declared.sessions.Ending.{Ending}
 use Rattle.rehearsal.specs.declared.rehearsing.Stage.{Stage}
 use Rattle.rehearsal.proofs.Lists.{none_yet, one_more, all_left}
+use Rattle.rehearsal.proofs.Rooms.{short_no_more}
 use Rattle.rehearsal.proofs.rehearsing.rehearse.Goals as goal
 
 pub loop-stage-init : goal.loop-stage-init
@@ -15,6 +21,9 @@ loop-stage-init c = record {
       let candidate = MemDevGhosts.candidate c.args.dev in
       subst (λ (es : List Ending). SessionsLeave before [] es pages candidate)
       (sym c.new-endings.ensures.items) (none_yet before pages candidate stand);
+  size = refl;
+  short = λ before stand all asked.
+      subst AreNeverShort (sym c.new-endings.ensures.items) (All-nil IsNeverShort);
 }
 
 pub loop-stage-preserved : goal.loop-stage-preserved
@@ -35,7 +44,22 @@ loop-stage-preserved c = record {
       (sym c.in_ok-push.ensures.items)
       (one_more before (map planned (take i stages)) c.loop-stage.endings.items (planned one)
       c.in_ok-left.ending (MemDevGhosts.sectors old / 4) pages (MemDevGhosts.candidate old) now
-      so_far (c.in_ok-left.ensures so_far.after so_far.stand)));
+      so_far (c.in_ok-left.ensures.leaves so_far.after so_far.stand)));
+  size = c.in_ok-left.ensures.size ∙ c.loop-stage.invariant.size;
+  short = λ before stand all asked.
+      let so_far = c.loop-stage.invariant.left before stand in
+      let stages = c.args.stages.now in
+      let i = c.loop-stage.stage-index in
+      let pages = MemDevGhosts.sectors c.args.dev / 4 in
+      let first = subst (All (AsksForRoom pages)) (take-map planned i stages)
+      (All-take (AsksForRoom pages) i (map planned stages) asked) in
+      let room = sessions_keep_room pages before so_far.after (map planned (take i stages))
+      (map ending_of c.loop-stage.endings.items) all first so_far.sessions in
+      let one = c.in_ok-left.ensures.room so_far.after so_far.stand
+      (subst (λ (n : ℕ). AllHaveRoom n so_far.after) (sym c.loop-stage.invariant.size) room) in
+      subst AreNeverShort (sym c.in_ok-push.ensures.items)
+      (short_no_more c.loop-stage.endings.items c.in_ok-left.ending
+      (c.loop-stage.invariant.short before stand all asked) one);
 }
 
 pub returns-clause-leaves : goal.returns-clause-leaves

@@ -1,8 +1,9 @@
-use Rattle.std.proofs.Common.{◌/◌, map, take}
+use Rattle.std.proofs.Common.{◌≡◌, ◌/◌, All, map, take}
 use Rattle.sect_dev.specs.contracts.mem.MemDevSectorDev.TheImpl.{ghosts as MemDevGhosts}
 use Rattle.dbm_sessions.specs.Members.{Members}
+use Rattle.dbm_sessions.specs.Room.{AllHaveRoom, AsksForRoom}
 use Rattle.rehearsal.specs.Members.{AllStandFor}
-use Rattle.rehearsal.specs.Rehearsals.{planned, SessionsLeave}
+use Rattle.rehearsal.specs.Rehearsals.{planned, SessionsLeave, AreNeverShort}
 use Rattle.rehearsal.proofs.rehearsing.rehearse.Given as goal
 
 abbrev pub invariant-loop-stage : goal.invariant-loop-stage
@@ -12,4 +13,11 @@ invariant-loop-stage l = record {
       (MemDevGhosts.candidate l.initial.dev)
       → SessionsLeave before (map planned (take l.stage-index l.stages)) l.endings.items
       (MemDevGhosts.sectors l.dev / 4) (MemDevGhosts.candidate l.dev);
+  size : MemDevGhosts.sectors l.dev / 4 ≡ MemDevGhosts.sectors l.initial.dev / 4;
+  short : (before : Members)
+      → AllStandFor before (MemDevGhosts.sectors l.initial.dev / 4)
+      (MemDevGhosts.candidate l.initial.dev)
+      → AllHaveRoom (MemDevGhosts.sectors l.initial.dev / 4) before
+      → All (AsksForRoom (MemDevGhosts.sectors l.initial.dev / 4)) (map planned l.stages)
+      → AreNeverShort l.endings.items;
 }

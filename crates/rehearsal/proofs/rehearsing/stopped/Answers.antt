@@ -1,14 +1,16 @@
-use Rattle.std.proofs.Common.{ℕ, ◌/◌, List, sym, ap, subst}
+use Rattle.std.proofs.Common.{ℕ, ◌/◌, List, sym, ap, ◌∙◌, subst}
 use Rattle.sect_dev.specs.contracts.mem.MemDevSectorDev.TheImpl.{ghosts as MemDevGhosts}
+use Rattle.dbm_file.specs.Opened as files
 use Rattle.dbm_file.specs.declared.calls.Call.{Call}
 use Rattle.rehearsal.specs.Members.{AllStandFor}
 use Rattle.rehearsal.specs.Sessions.{plan_of, ending_of, Leaves}
 use Rattle.rehearsal.specs.Rehearsals.{planned}
 use Rattle.rehearsal.proofs.Lists.{stop_leaves}
+use Rattle.rehearsal.proofs.Rooms.{members_have_room}
 use Rattle.rehearsal.proofs.rehearsing.stopped.Goals as goal
 
-pub returns : goal.returns
-returns c before stand =
+pub returns-clause-leaves : goal.returns-clause-leaves
+returns-clause-leaves c before stand =
     let inner = c.into_inner.result in
     let left = c.in_ok-left.left in
     let how = c.args.stage.now.how in
@@ -26,3 +28,18 @@ returns c before stand =
     (MemDevGhosts.candidate d)) (sym c.into_inner.ensures) one)
     c.in_ok-left.ensures.image c.in_ok-left.ensures.stable
     (ap (λ (n : ℕ). n / 4) c.in_ok-left.ensures.size)
+
+pub returns-clause-room : goal.returns-clause-room
+returns-clause-room c before stand all =
+    c.session-fuse.ensures.room tt
+    (subst (λ d. files.AllHaveRoom (MemDevGhosts.sectors d / 4) (MemDevGhosts.candidate d))
+    (sym c.new-fuse.ensures.inner)
+    (members_have_room before (MemDevGhosts.sectors c.args.dev / 4)
+    (MemDevGhosts.candidate c.args.dev) stand all))
+
+pub returns-clause-size : goal.returns-clause-size
+returns-clause-size c =
+    ap (λ (n : ℕ). n / 4) c.in_ok-left.ensures.size
+    ∙ ap (λ d. MemDevGhosts.sectors d / 4) c.into_inner.ensures
+    ∙ c.session-fuse.ensures.size
+    ∙ ap (λ d. MemDevGhosts.sectors d / 4) c.new-fuse.ensures.inner

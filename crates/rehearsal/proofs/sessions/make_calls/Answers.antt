@@ -1,7 +1,10 @@
-use Rattle.std.proofs.Common.{◌/◌, [], ◌∷◌, map, refl, sym, ◌∙◌, ap, subst}
+use Rattle.std.proofs.Common.{◌≢◌, ◌/◌, [], ◌∷◌, map, refl, sym, ◌∙◌, ap, subst}
+use Rattle.std.proofs.lemmas.List.Elements.{All-nil}
 use Rattle.sect_dev.specs.Device.{LeavesOnly}
 use Rattle.sect_dev.specs.Moments.{IsOutcome, started}
+use Rattle.dbm_model.specs.Calls.{Reply, Refused, NoRoom}
 use Rattle.dbm_model.specs.States.{Handle}
+use Rattle.dbm_model.proofs.RoomLemmas.{room_is_known}
 use Rattle.dbm_sessions.specs.Sessions.{Rested, Broke}
 use Rattle.dbm_sessions.specs.Members.{held}
 use Rattle.dbm_sessions.proofs.Lists.{is_first}
@@ -110,3 +113,20 @@ returns-in_default-Err-clause-any_moment g c honest h at usable =
     (run.survives (sym (ap (λ (x : Handle). x.state.usable) shows) ∙ usable))
     (left_within h run.after calls replies (meta_kept old).limit (Broke replies) refl usable
     (ap (λ (x : Handle). x.state.limit) shows)))
+
+-- no reply says that there is no room
+pub returns-in_default-clause-room : goal.returns-in_default-clause-room
+returns-in_default-clause-room g c honest h at room =
+    All-nil (λ (reply : Reply). reply ≢ Refused NoRoom)
+
+pub returns-in_default-Ok-clause-room : goal.returns-in_default-Ok-clause-room
+returns-in_default-Ok-clause-room g c honest h at room =
+    let run = c.in-Ok.ensures.run honest h at in
+    (room_is_known h run.after (map call_of c.args.calls.now)
+    (map reply_of c.in-Ok.replies.items) room run.run).0
+
+pub returns-in_default-Err-clause-room : goal.returns-in_default-Err-clause-room
+returns-in_default-Err-clause-room g c honest h at room =
+    let run = c.in-Ok.ensures.run honest h at in
+    (room_is_known h run.after (map call_of c.args.calls.now)
+    (map reply_of c.in-Ok.replies.items) room run.run).0

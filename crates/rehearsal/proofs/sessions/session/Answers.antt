@@ -1,18 +1,20 @@
-use Rattle.std.proofs.Common.{ℕ, ◌/◌, ◌++◌, map, refl, sym, subst}
+use Rattle.std.proofs.Common.{◌≡◌, ⊎_elim, inl, inr, ℕ, ◌/◌, ◌++◌, map, None, refl, sym, ap, ◌∙◌, subst}
 use Rattle.sect_dev.specs.Device.{LeavesOnly}
 use Rattle.sect_dev.specs.Moments.{IsOutcome, weaker, followed_by}
 use Rattle.dbm_sessions.specs.Members.{opened}
 use Rattle.dbm_sessions.specs.Sessions.{NotOpened}
 use Rattle.dbm_fault.specs.Faults.{fault_of}
 use Rattle.dbm_file.specs.Opened.{device_below}
+use Rattle.dbm_file.proofs.EnoughRoom.{room_at}
 use Rattle.redo_commit.specs.File.{settled}
-use Rattle.file_opening.specs.Opening.{MayRemain}
+use Rattle.file_opening.specs.Opening.{early_fault, AllAllow, MayRemain}
 use Rattle.file_opening.specs.declared.open_how.OpenHow.{OpenHow}
 use Rattle.rehearsal.specs.Members.{StandsForOne}
 use Rattle.rehearsal.specs.Sessions.{plan_of, opening_of, ending_of, IsLeftByStop, IsLeftByCalls}
 use Rattle.rehearsal.proofs.Moments.{left_in_opening, left_in_calls}
 use Rattle.rehearsal.proofs.Openings.{all_stand, remains, never_reads, begun}
 use Rattle.rehearsal.proofs.Endings.{step_of, none_refused}
+use Rattle.rehearsal.proofs.Rooms.{not_short, are_maps}
 use Rattle.rehearsal.proofs.sessions.session.Goals as goal
 
 pub returns-in-Err-clause-leaves : goal.returns-in-Err-clause-leaves
@@ -106,3 +108,37 @@ returns-in-Ok-clause-refused g c honest =
 pub returns-in-Ok-clause-opens : goal.returns-in-Ok-clause-opens
 returns-in-Ok-clause-opens g c honest none stand allow =
     none_refused c.make_calls.result.1 _ c.make_calls.ensures.opened
+
+pub returns-in-Err-clause-room : goal.returns-in-Err-clause-room
+returns-in-Err-clause-room g c honest all =
+    not_short c.in-Err.fault (c.in-Err.ensures.room honest all).0
+
+pub returns-in-Ok-clause-room : goal.returns-in-Ok-clause-room
+returns-in-Ok-clause-room g c honest all =
+    let dev = g.D.SectorDev in
+    let old = c.args.dev in
+    let how = c.args.how in
+    let found = c.in-Ok.ensures.stands honest
+    (λ reads. absurd (never_reads how c.for_writing.result c.for_writing.ensures reads))
+    (are_maps (dev.sectors old / 4) (dev.candidate old) all) in
+    let handle = found.2.handle in
+    c.make_calls.ensures.room (c.in-Ok.ensures.honesty.1 honest) handle found.2.is_at
+    (room_at c.in-Ok.db handle (c.in-Ok.ensures.room honest all).1 found.2.is_at)
+
+pub returns-in-Err-clause-opens : goal.returns-in-Err-clause-opens
+returns-in-Err-clause-opens g c honest none stand allow =
+    let dev = g.D.SectorDev in
+    let old = c.args.dev in
+    let how = c.args.how in
+    let is = c.for_writing.ensures in
+    ⊎_elim (λ device. inl device)
+    (λ memory. inr (
+      memory.0,
+      ⊎_elim
+          (λ empties. sym (ap (λ (asked : OpenHow). asked.truncate) is) ∙ empties)
+          (λ reads. absurd (never_reads how c.for_writing.result is reads)) memory.1,
+    ))
+    (c.in-Err.ensures.opens honest
+    (subst (λ (asked : OpenHow). early_fault asked (dev.sectors old) ≡ None) (sym is) none) stand
+    (subst (λ (asked : OpenHow). AllAllow asked (dev.sectors old) (dev.candidate old))
+    (sym is) allow))

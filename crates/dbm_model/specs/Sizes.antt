@@ -1,4 +1,4 @@
--- How many pages and sectors a database of a limit needs.
+-- How many pages and sectors a database of a limit needs, whatever is stored in it and deleted.
 use Rattle.std.specs.Prelude.{◌≡◌, Bool, ℕ, ◌+◌, ◌*◌, ◌/◌, nat_le, ◌&&◌, Option, Some, None, if◌then◌else◌}
 
 -- a limit may be 1 to 1,000,000
