@@ -1,0 +1,91 @@
+#!/usr/bin/env bash
+# Changes of a real file that are killed at some moment, a thousand times over: stores one after another, deletes one after another, and
+# loads, in turn. Each change that had ended with status 0 is there afterwards, of the others one a round at most, and of a load as many
+# lines as were stored, the first ones.
+set -u
+top=$(cd "$(dirname "$0")/.." && pwd)
+program=$top/crates/dbmtool/out/dbmtool
+work=$(mktemp -d)
+trap 'rm -rf "$work"' EXIT
+cd "$work" || exit 1
+workers=4
+rounds=250
+
+# line ROUND N: the pair of a round
+line() {
+  printf '%04x%04x %04x\n' "$1" "$2" "$2"
+}
+
+stores() {
+  for n in $(seq 1 1000); do
+    line "$1" "$n" > next
+    "$program" store t $(cat next) -x && cat next >> done
+  done
+}
+
+deletes() {
+  while read -r key content; do
+    "$program" delete t "$key" -x && echo "$key" >> done
+  done < map
+}
+
+loads() {
+  "$program" load t < lines && cp lines done
+}
+
+# the maps that may be there, from the one before the round and what was acknowledged
+may_be() {
+  local count
+  count=$(wc -l < done)
+  case $1 in
+    stores)
+      sort map done > one
+      { cat one; line "$2" $((count + 1)); } | sort > two ;;
+    deletes)
+      tail -n +$((count + 1)) map > one
+      tail -n +$((count + 2)) map > two ;;
+    loads)
+      [ "$count" != 0 ] || count=$(($(wc -l < found) - $(wc -l < map)))
+      head -n "$count" lines | sort - map > one
+      cp one two ;;
+  esac
+}
+
+# worker: so many rounds on a database of its own
+worker() {
+  local kinds=(stores deletes loads) kind round group
+  set -m   # each round is a process group of its own, which is killed whole
+  "$program" create t --limit 100000 || return 1
+  : > map
+  for round in $(seq 1 "$rounds"); do
+    kind=${kinds[$((round % 3))]}
+    : > done
+    for n in $(seq 1 40); do line "$round" "$n"; done > lines
+    "$kind" "$round" 2> err &
+    group=$!
+    sleep "0.$(printf '%03d' $((4 + round * 7 % 30)))"
+    kill -9 -- -"$group" 2> /dev/null
+    wait "$group" 2> /dev/null
+    flock -x -w 20 t.db true || return 1   # till the program that was killed is gone, and its lock with it
+    "$program" dump t > found 2> err || { echo "round $round of $kind: $(cat err)"; return 1; }
+    may_be "$kind" "$round"
+    cmp -s found one || cmp -s found two || { echo "round $round of $kind left another map"; return 1; }
+    cmp -s found one || echo "$kind" >> more
+    sed "s/^/$kind /" done >> acknowledged
+    cp found map
+  done
+  [ "$("$program" verify t)" = "$(wc -l < map)" ]
+}
+
+for number in $(seq 1 "$workers"); do
+  mkdir "$number"
+  ( cd "$number" && : > more && : > acknowledged && worker && touch passed ) > "$number.text" 2>&1 &
+done
+wait
+cat ./*.text
+for number in $(seq 1 "$workers"); do [ -e "$number/passed" ] || exit 1; done
+for kind in stores deletes loads; do
+  count=$(cat ./*/acknowledged | grep -c "^$kind")
+  echo "$count acknowledged by $kind in $((workers * rounds)) rounds, and $(cat ./*/more | grep -c "$kind") more happened"
+  [ "$count" -ge 100 ] || exit 1
+done
