@@ -1,5 +1,5 @@
 #!/usr/bin/env bash
-# Progress: a load, a dump, a list and a rehearsal of more than a second count their steps on a terminal, in one line, which is written anew
+# Progress: a load, a dump, a list, a verify and a rehearsal of more than a second count their steps on a terminal, in one line, which is written anew
 # once a second at most and taken away before anything else is written there. No byte of it goes elsewhere, nor in the first second.
 set -u
 top=$(cd "$(dirname "$0")/.." && pwd)
@@ -50,6 +50,8 @@ counts 0 'keys read' '' "$slow list t > out"
 cmp -s out listed || wrong "another list where it is slow"
 counts 0 'keys read|contents read|pairs written' '' "$slow dump half > out"
 cmp -s out fewer || wrong "another dump where it is slow"
+counts 0 'buckets verified' '' "$slow verify t > out"
+[ "$(cat out)" = 600 ] || wrong "another number of pairs where a verify is slow"
 counts 0 'lines loaded' '' "cp empty.db new.db; $slow load new < some"
 counts 2 'lines loaded' 'dbmtool: line 41' "cp empty.db new.db; $slow load new < bad_line"
 counts 0 'stops made' '' "$program rehearse --memory 200 < calls > out"

@@ -11,19 +11,34 @@ ghost use Rattle.dbm_commands.specs.Verifying.{TellsPairs, verify_failures};
 use crate::outcomes::unwritten;
 use crate::{Failure, Outcome};
 use dbm_fault::{EngineFault, Fault};
-use dbm_file::Database;
+use dbm_file::{Database, Watch};
+use dbm_progress::{Progress, Work};
 use page_io::PageStore;
 use std::alloc::{AllocError, Global};
 use std::io::{self, Write};
 
-/// Looks at every page of the file, prints how many pairs it has, and flushes the output. `Memory`
-/// is answered where there is none for a mark of each page, before the file is read; then the
-/// call's faults come in its order, before anything is printed. After `Write` some of the number
-/// may be out.
-pub fn verify<S: PageStore, W: Write>(
+/// Tells a progress each bucket that was looked at.
+#[derive(Drop)]
+struct Steps<'a, P> {
+    progress: &'a mut P,
+}
+
+impl<P: Progress> Watch for Steps<'_, P> {
+    fn bucket(&mut self) {
+        self.progress.step(Work::BucketsVerified);
+    }
+}
+
+/// Looks at every page of the file, prints how many pairs it has, and flushes the output. Each
+/// bucket that was looked at is a step of `progress`, which is cleared before the number is
+/// printed. `Memory` is answered where there is none for a mark of each page, before the file is
+/// read; then the call's faults come in its order, before anything is printed. After `Write` some
+/// of the number may be out.
+pub fn verify<S: PageStore, W: Write, P: Progress>(
     alloc: Global,
     db: &mut Database<S>,
     output: &mut W,
+    progress: &mut P,
 ) -> Result<Outcome, Failure>
     ensures good { S.honest (store_of db.old)
         → OnOk result (TellsPairs (S.committed (store_of db.old)) (W.contents output.old)
@@ -39,12 +54,14 @@ pub fn verify<S: PageStore, W: Write>(
     let Ok(mut marks) = marks_of(alloc, db) else {
         return Err(Failure::Fault(EngineFault::Memory));
     };
-    match db.verify(&mut marks) {
-        Ok(pairs) => match print_pairs(pairs, output) {
-            Ok(()) => Ok(Outcome::Done),
-            Err(error) => Err(unwritten(error)),
-        },
-        Err(fault) => Err(Failure::from(fault)),
+    let pairs = match db.verify(&mut marks, &mut Steps { progress }) {
+        Ok(pairs) => pairs,
+        Err(fault) => return Err(Failure::from(fault)),
+    };
+    progress.clear();
+    match print_pairs(pairs, output) {
+        Ok(()) => Ok(Outcome::Done),
+        Err(error) => Err(unwritten(error)),
     }
 }
 

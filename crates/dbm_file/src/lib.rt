@@ -12,6 +12,7 @@ mod verifying;
 
 pub use calls::{Call, DeleteReply, Reply, Stat, StoreMode, StoreReply};
 pub use database::{Database, Db};
+pub use file_check::{Unwatched, Watch};
 pub use file_opening::{Access, Fault, OpenHow, needed_sectors};
 pub use named::{Refusal, dbm_open, open_named};
 pub use octets::Octets;

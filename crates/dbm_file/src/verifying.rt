@@ -2,7 +2,7 @@
 ghost use Rattle.std.specs.Prelude.{◌≡◌, ◌↔◌, ◌≤◌, ℕ, false, true, length, Err, IfOk};
 
 use crate::{Database, Fault};
-use file_check::verify;
+use file_check::{Watch, verify};
 use page_io::PageStore;
 
 impl<S: PageStore> Database<S> {
@@ -19,7 +19,8 @@ impl<S: PageStore> Database<S> {
     /// `Device`, or `Damaged` where it is no good file: where a page doesn't say what the format
     /// asks of it or stands in two places or in none, a pair is in another bucket than its key's, a
     /// key stands there twice, a count is wrong, or there are more pages than the limit asks for.
-    pub fn verify(&mut self, marks: &mut [bool]) -> Result<u32, Fault>
+    /// Each bucket that was looked at is told to `watch` (`Unwatched` does nothing with it).
+    pub fn verify<W: Watch>(&mut self, marks: &mut [bool], watch: &mut W) -> Result<u32, Fault>
         requires { (page_state self.old).end ≤ length marks.old }
 
         // It says how many pairs there are exactly where the committed pages are a good file, and
@@ -43,6 +44,6 @@ impl<S: PageStore> Database<S> {
         if self.store.is_broken() {
             return Err(Fault::Broken);
         }
-        Ok(verify(&mut self.store, marks)?)
+        Ok(verify(&mut self.store, marks, watch)?)
     }
 }

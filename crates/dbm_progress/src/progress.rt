@@ -15,6 +15,8 @@ pub enum Work {
     PairsWritten,
     /// A rehearsal stops its session.
     StopsMade,
+    /// A verify looks at the buckets.
+    BucketsVerified,
 }
 
 impl Work {
@@ -27,6 +29,7 @@ impl Work {
             Work::KeysWritten => "keys written",
             Work::PairsWritten => "pairs written",
             Work::StopsMade => "stops made",
+            Work::BucketsVerified => "buckets verified",
         }
     }
 }

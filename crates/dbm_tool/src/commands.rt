@@ -69,7 +69,7 @@ pub fn carry_out<T: Files<File = File>, R: BufRead, O: Write, P: Progress>(
         Plan::Dump { file, spelling } => dump(host, file, spelling, output, progress),
         Plan::Load { file, spelling } => load(host, file, spelling, input, progress),
         Plan::Stat { file } => stat(host, file, output),
-        Plan::Verify { file } => verify(host, file, output),
+        Plan::Verify { file } => verify(host, file, output, progress),
         Plan::Script(Source::File(file)) => script(host, file, input, output),
         Plan::Script(Source::Memory(limit)) => new_script(host.alloc, limit, input, output),
         Plan::Rehearse {
@@ -262,14 +262,15 @@ fn stat<T: Files<File = File>, O: Write>(
     host.close(db, done)
 }
 
-fn verify<T: Files<File = File>, O: Write>(
+fn verify<T: Files<File = File>, O: Write, P: Progress>(
     host: &mut Host<'_, T>,
     file: &str,
     output: &mut O,
+    progress: &mut P,
 ) -> Result<Outcome, Failure>
     ensures { EndsAs (Plan.Verify file.entry) result }
 {
     let mut db = host.open_there(file, Access::ReadOnly)?;
-    let done = dbm_commands::verify(host.alloc, &mut db, output);
+    let done = dbm_commands::verify(host.alloc, &mut db, output, progress);
     host.close(db, done)
 }

@@ -28,6 +28,7 @@ impl Progress for Recorder {
             Work::KeysWritten => b'K',
             Work::PairsWritten => b'P',
             Work::StopsMade => b's',
+            Work::BucketsVerified => b'b',
         });
     }
 

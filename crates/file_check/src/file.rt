@@ -15,6 +15,7 @@ ghost use Rattle.file_check.specs.Good.{IsFilled, IsGoodFile};
 use crate::free::check_free;
 use crate::segments::check_buckets;
 use crate::sizes::most_pages;
+use crate::watch::Watch;
 use page_io::{Page, PageFault, PageStore};
 use page_marks::{are_all_marked, clear, mark, mark_all};
 use seg_table::{Meta, read_meta};
@@ -49,10 +50,11 @@ fn mark_tables(meta: &Meta, marks: &mut [bool], end: u32) -> bool
 
 /// Reads all pages but the meta page, and marks them where nothing is marked. Damaged is answered
 /// where they aren't as the meta page asks for.
-fn check_pages<S: PageStore>(
+fn check_pages<S: PageStore, W: Watch>(
     store: &mut S,
     meta: &Meta,
     marks: &mut [bool],
+    watch: &mut W,
 ) -> Result<(), PageFault>
     requires marks { (S.state store.old).end ≤ length marks.old }
     requires meta { IsMeta (model_meta meta.now) }
@@ -71,7 +73,7 @@ fn check_pages<S: PageStore>(
     if end > most_pages(meta.limit) || !mark_tables(meta, marks, end) {
         return Err(PageFault::Damaged);
     }
-    let pairs = check_buckets(store, meta, marks)?;
+    let pairs = check_buckets(store, meta, marks, watch)?;
     if pairs != meta.pairs {
         return Err(PageFault::Damaged);
     }
@@ -87,8 +89,13 @@ fn check_pages<S: PageStore>(
 /// good file: where a page doesn't say what the format asks of it, stands in two places or in none,
 /// where a pair is in another bucket than its key's, a key stands there twice, a count is wrong, or
 /// there are more pages than the limit asks for. It takes no memory. What the marks hold before
-/// doesn't matter, and after it they are unspecified.
-pub fn verify<S: PageStore>(store: &mut S, marks: &mut [bool]) -> Result<u32, PageFault>
+/// doesn't matter, and after it they are unspecified. Each bucket that was looked at is told to
+/// `watch`.
+pub fn verify<S: PageStore, W: Watch>(
+    store: &mut S,
+    marks: &mut [bool],
+    watch: &mut W,
+) -> Result<u32, PageFault>
     requires { (S.state store.old).end ≤ length marks.old }
     ensures reads { ReadsOnly S.PageStore store.old store.new }
     ensures cause { HasDeviceCause (S.faults store.old) (S.faults store.new) result }
@@ -104,6 +111,6 @@ pub fn verify<S: PageStore>(store: &mut S, marks: &mut [bool]) -> Result<u32, Pa
 {
     clear(marks);
     let meta = check_meta(store)?;
-    check_pages(store, &meta, marks)?;
+    check_pages(store, &meta, marks, watch)?;
     Ok(meta.pairs)
 }

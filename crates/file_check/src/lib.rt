@@ -5,5 +5,7 @@ mod file;
 mod free;
 mod segments;
 mod sizes;
+mod watch;
 
 pub use file::verify;
+pub use watch::{Unwatched, Watch};

@@ -14,6 +14,7 @@ ghost use Rattle.chain_walks.specs.Answers.{IsWalkAnswer};
 ghost use Rattle.file_check.specs.Segments.{AreHeadChains, AreHeadsChecked, AreInSegment, IsSegmentChecked, AreBuckets, AreChecked, AreCounted};
 
 use crate::sizes::PER_SEGMENT;
+use crate::watch::Watch;
 use chain_check::check_chain;
 use lin_addr::Shape;
 use page_io::{Page, PageFault, PageStore};
@@ -24,13 +25,14 @@ const HEADS_AT: usize = 16;
 
 /// Reads the chains of the first `count` heads on a segment page, those of the buckets from `first`
 /// on, and answers how many pairs they have.
-fn check_heads<S: PageStore>(
+fn check_heads<S: PageStore, W: Watch>(
     store: &mut S,
     shape: Shape,
     page: &Page,
     first: u32,
     count: u32,
     marks: &mut [bool],
+    watch: &mut W,
 ) -> Result<u32, PageFault>
     requires marks { (S.state store.old).end ≤ length marks.old }
     requires few { count ≤ 508 }
@@ -59,16 +61,18 @@ fn check_heads<S: PageStore>(
         let head = page.u32_at(HEADS_AT + 4 * i as usize);
         let more = check_chain(store, shape, first + i, head, marks)?;
         pairs = pairs.saturating_add(more);
+        watch.bucket();
     }
     Ok(pairs)
 }
 
 /// Reads the buckets of segment `s`, and answers how many pairs they have.
-fn check_segment<S: PageStore>(
+fn check_segment<S: PageStore, W: Watch>(
     store: &mut S,
     meta: &Meta,
     s: u32,
     marks: &mut [bool],
+    watch: &mut W,
 ) -> Result<u32, PageFault>
     requires marks { (S.state store.old).end ≤ length marks.old }
     requires meta { IsMeta (model_meta meta.now) }
@@ -100,15 +104,16 @@ fn check_segment<S: PageStore>(
     }
     let first = PER_SEGMENT * s;
     let count = (meta.shape.buckets() - first).min(PER_SEGMENT);
-    check_heads(store, meta.shape, &page, first, count, marks)
+    check_heads(store, meta.shape, &page, first, count, marks, watch)
 }
 
 /// Reads all buckets with their segment pages, marks the pages of the chains, and answers how many
 /// pairs there are, 4,294,967,295 where there are more.
-pub fn check_buckets<S: PageStore>(
+pub fn check_buckets<S: PageStore, W: Watch>(
     store: &mut S,
     meta: &Meta,
     marks: &mut [bool],
+    watch: &mut W,
 ) -> Result<u32, PageFault>
     requires marks { (S.state store.old).end ≤ length marks.old }
     requires meta { IsMeta (model_meta meta.now) }
@@ -133,7 +138,7 @@ pub fn check_buckets<S: PageStore>(
 {
     let mut pairs: u32 = 0;
     for s in 0..meta.segments.len() as u32 {
-        let more = check_segment(store, meta, s, marks)?;
+        let more = check_segment(store, meta, s, marks, watch)?;
         pairs = pairs.saturating_add(more);
     }
     Ok(pairs)

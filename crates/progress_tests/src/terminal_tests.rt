@@ -56,6 +56,7 @@ fn work_of(letter: &str) -> Option<Work> {
         "K" => Some(Work::KeysWritten),
         "P" => Some(Work::PairsWritten),
         "s" => Some(Work::StopsMade),
+        "b" => Some(Work::BucketsVerified),
         _ => None,
     }
 }

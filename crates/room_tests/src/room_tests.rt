@@ -1,6 +1,6 @@
 //! Databases on devices that just suffice for their limits.
 
-use dbm_file::{Access, Database, Db, Fault, OpenHow};
+use dbm_file::{Access, Database, Db, Fault, OpenHow, Unwatched};
 use page_io::PageStore;
 use sect_dev::MemDev;
 use std::alloc::Global;
@@ -95,7 +95,7 @@ fn verified<S: PageStore>(db: &mut Database<S>) -> Result<u32, Fail> {
     if db.stat().pages as usize > marks.len() {
         return Err("at most 116 pages".into());
     }
-    Ok(db.verify(&mut marks)?)
+    Ok(db.verify(&mut marks, &mut Unwatched)?)
 }
 
 #[test]
