@@ -123,7 +123,7 @@ pairs() { awk -v from="$1" -v to="$2" -v most="$3" 'BEGIN {
 "$program" create segments --limit 10000 && pairs 1 4200 40 | "$program" load segments \
   && run 0 4200 '' verify segments || exit 1
 for seed in 1 2; do
-  ./hostile "$program" t levels.db 3000 "$seed" || wrong=1
-  ./hostile "$program" t segments.db 300 "$seed" || wrong=1
+  ./hostile "$program" t levels.db 1500 "$seed" || wrong=1
+  ./hostile "$program" t segments.db 150 "$seed" || wrong=1
 done
 [ "$wrong" = 0 ]

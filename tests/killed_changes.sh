@@ -87,5 +87,5 @@ for number in $(seq 1 "$workers"); do [ -e "$number/passed" ] || exit 1; done
 for kind in stores deletes loads; do
   count=$(cat ./*/acknowledged | grep -c "^$kind")
   echo "$count acknowledged by $kind in $((workers * rounds)) rounds, and $(cat ./*/more | grep -c "$kind") more happened"
-  [ "$count" -ge 100 ] || exit 1
+  [ "$count" -ge 50 ] || { echo "too few to tell anything"; exit 1; }
 done

@@ -192,7 +192,7 @@ while IFS='|' read -r words named; do
   [ "$status" = 3 ] && [ ! -s out ] && grep -qF -- "$named" err || { wrong "dbmtool $words: status $status"; cat err; }
 done <<'ROWS'
 |dbmtool
-verify t|'verify'
+check t|'check'
 create|<FILE>
 create t --limit 4294967296|'4294967296'
 create t --limit many|'many'

@@ -25,6 +25,11 @@ struct Answers {
     right: bool,
 }
 
+/// Counts an answer, which no broken database gives.
+fn accept(answers: &mut Answers, right: bool) {
+    answers.right = answers.right && right && answers.broken == 0;
+}
+
 /// Counts a refusal.
 fn refuse(answers: &mut Answers, fault: Fault) {
     match fault {
@@ -38,8 +43,10 @@ fn refuse(answers: &mut Answers, fault: Fault) {
 fn store_pairs<S: PageStore>(db: &mut Database<S>, answers: &mut Answers) {
     for (i, (key, content)) in PAIRS.iter().enumerate() {
         match put(db, &[*key], &[*content]) {
-            Ok(StoreReply::Stored) => answers.stored[i] = true,
-            Ok(StoreReply::Kept) => answers.right = false,
+            Ok(reply) => {
+                answers.stored[i] = true;
+                accept(answers, reply == StoreReply::Stored);
+            }
             Err(fault) => refuse(answers, fault),
         }
     }
@@ -48,10 +55,10 @@ fn store_pairs<S: PageStore>(db: &mut Database<S>, answers: &mut Answers) {
 /// Fetches each key: its content is there exactly where the store was acknowledged.
 fn fetch_pairs<S: PageStore>(db: &mut Database<S>, answers: &mut Answers) {
     for (i, (key, content)) in PAIRS.iter().enumerate() {
+        let stored = answers.stored[i];
         match db.fetch(&[*key]) {
-            Ok(Some(found)) if found != [*content].as_slice() => answers.right = false,
-            Ok(found) if found.is_some() != answers.stored[i] => answers.right = false,
-            Ok(_) => {}
+            Ok(Some(found)) => accept(answers, stored && found == [*content].as_slice()),
+            Ok(None) => accept(answers, !stored),
             Err(fault) => refuse(answers, fault),
         }
     }
