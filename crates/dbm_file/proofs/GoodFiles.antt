@@ -9,9 +9,9 @@ use Rattle.page_model.specs.Pages.{Body, Meta}
 use Rattle.page_model.proofs.Flat.{flat_is_contents}
 use Rattle.page_model.proofs.Meaning.{one_meaning}
 use Rattle.page_model.proofs.Stores.{counts_keys}
-use Rattle.page_io.specs.Store.{Pages, page_of}
-use Rattle.page_io.specs.Meaning.{FileStandsFor}
-use Rattle.page_io.specs.Views.{body_at}
+use Rattle.page_io.specs.Store.{Pages, Settled, file_of, page_of}
+use Rattle.page_io.specs.Meaning.{FileStandsFor, ImageStandsFor}
+use Rattle.page_io.specs.Views.{body_at, ReadsOnly}
 use Rattle.page_io.specs.declared.store.PageStore.{Ghosts}
 use Rattle.page_io.specs.declared.store.PageFault.{PageFault}
 use Rattle.page_io.specs.declared.store.PageFault.TheVariants as page
@@ -21,7 +21,9 @@ use Rattle.dbm_fault.specs.Faults.{fault_from}
 use Rattle.dbm_fault.specs.declared.fault.Fault.{Fault}
 use Rattle.dbm_fault.specs.declared.fault.Fault.TheVariants.{Damaged}
 use Rattle.file_check.specs.Good.{IsGoodFile}
-use Rattle.dbm_file.specs.Verifying.{IsFileOf}
+use Rattle.dbm_file.specs.Database.{store_of}
+use Rattle.dbm_file.specs.Verifying.{IsFileOf, StandsWith}
+use Rattle.dbm_file.specs.declared.database.Database.{Database}
 
 -- the map of a file has as many keys as its placement has pairs
 many_of : (pages : Pages) (map : Contents) (limit : ℕ) (stands : FileStandsFor pages map limit)
@@ -114,3 +116,17 @@ damage_told e result told is =
     by_fault page.ReadOnly is = absurd (let same = is in cc)
     by_fault page.NoRoom is = absurd (let same = is in cc)
     by_fault page.Damaged is = refl
+
+-- what a store may be left with that was read through stands for its map; `only` is its law
+pub stands_with : {S : Type 0} (s : Ghosts S) (old new : Database S s) (pairs : ℕ)
+    → ReadsOnly s (store_of old) (store_of new) → s.honest (store_of old)
+    → IsFileOf (s.committed (store_of old)) pairs
+    → ((y : Settled) → s.settles_to (store_of new) y → y ≡ file_of (s.committed (store_of new)))
+    → StandsWith new pairs
+stands_with s old new pairs reads honest file only = record {
+  map = file.map;
+  limit = file.limit;
+  many = file.many;
+  stands = λ y left. subst (λ (z : Settled). ImageStandsFor z file.map file.limit)
+      (sym (only y left ∙ ap file_of (reads.stages_only.kept honest).committed)) file.stands;
+}

@@ -3,8 +3,8 @@ use Rattle.std.specs.Prelude.{◌≡◌, ℕ, true}
 use Rattle.std.specs.FinMap.{len}
 use Rattle.dbm_model.specs.Pairs.{Contents}
 use Rattle.dbm_model.specs.States.{Handle}
-use Rattle.page_io.specs.Store.{Pages}
-use Rattle.page_io.specs.Meaning.{FileStandsFor}
+use Rattle.page_io.specs.Store.{Pages, Settled}
+use Rattle.page_io.specs.Meaning.{FileStandsFor, ImageStandsFor}
 use Rattle.page_io.specs.Views.{ReadsOnly}
 use Rattle.page_io.specs.declared.store.PageStore.{Ghosts}
 use Rattle.dbm_file.specs.Answers.{Survives}
@@ -17,6 +17,14 @@ pub record IsFileOf (pages : Pages) (pairs : ℕ) : Type 0 where
   pub limit : ℕ
   pub stands : FileStandsFor pages map limit
   pub many : len map ≡ pairs
+
+-- every image that a stop may leave now stands for one map, with so many pairs
+pub record StandsWith {S : Type 0} {s : Ghosts S} (db : Database S s) (pairs : ℕ) : Type 0 where
+  pub map : Contents
+  pub limit : ℕ
+  pub many : len map ≡ pairs
+  pub stands : (settled : Settled) → s.settles_to (store_of db) settled
+      → ImageStandsFor settled map limit
 
 -- pages may have been read, and nothing else has changed: neither what is kept of the meta page,
 -- nor the first fault, nor the pass

@@ -11,7 +11,7 @@ impl<S: PageStore> Database<S> {
     ghost use Rattle.dbm_fault.specs.Among.{IsErrAmong};
     ghost use Rattle.dbm_file.specs.Database.{store_of, page_state, AtEachHandle};
     ghost use Rattle.dbm_file.specs.Replies.{read_faults};
-    ghost use Rattle.dbm_file.specs.Verifying.{IsFileOf, IsReadThrough, StaysAt};
+    ghost use Rattle.dbm_file.specs.Verifying.{IsFileOf, StandsWith, IsReadThrough, StaysAt};
 
     /// Reads every page of the file, and answers how many pairs it has. It takes no memory: the
     /// caller lends a mark for each page, whatever they hold, and after it they are unspecified.
@@ -29,6 +29,11 @@ impl<S: PageStore> Database<S> {
             → IfOk result (IsFileOf (S.committed (store_of self.old))) }
         ensures damaged { S.honest (store_of self.old) → result ≡ Err Fault.Damaged → (pairs : ℕ)
             → IsFileOf (S.committed (store_of self.old)) pairs → ⊥ }
+
+        // Where it was opened for writing, each image that a stop may leave then stands for the map
+        // of these pairs: an opening may begin from it, wherever the file came from.
+        ensures begins { S.honest (store_of self.old) → (page_state self.old).writable ≡ true
+            → IfOk result (StandsWith self.new) }
 
         // So it never calls what these calls have made damaged, and counts their pairs.
         ensures counts { AtEachHandle self.old (λ h. h.state.usable ≡ true

@@ -1,8 +1,10 @@
-use Rattle.std.proofs.Common.{Err, refl, ap}
+use Rattle.std.proofs.Common.{Err, refl, ap, ◌∙◌}
 use Rattle.std.proofs.lemmas.Result.{IfOk-from_err}
 use Rattle.std.specs.FinMap.{len}
+use Rattle.page_io.specs.Store.{StoreState}
 use Rattle.dbm_file.specs.Database.{meta_kept}
-use Rattle.dbm_file.proofs.GoodFiles.{damage_told, file_read, held_file, pairs_of_map, read_as_file}
+use Rattle.dbm_file.proofs.GoodFiles.{damage_told, file_read, held_file, pairs_of_map, read_as_file, stands_with}
+use Rattle.dbm_file.proofs.ReadSteps.{not_broken}
 use Rattle.dbm_file.proofs.ReadThrough.{shown_usable, stays_at}
 use Rattle.dbm_file.proofs.database.Database.verify.Goals as goal
 
@@ -63,3 +65,17 @@ returns-clause-stays g c honest h at =
       error_is = refl;
       pass_is = refl;
     } honest h at
+
+pub returns-clause-begins : goal.returns-clause-begins
+returns-clause-begins g c honest writable =
+    let s = g.S.PageStore in
+    let store = c.args.self.now.store in
+    let reads = c.in_ok-verify.ensures.reads in
+    let pairs = c.in_ok-verify.field-0 in
+    stands_with s c.args.self.now _ pairs reads honest
+    (file_read s store c.args.self.now.idle (g.met.S.PageStore.ends store) pairs
+    (c.in_ok-verify.ensures.good honest))
+    (λ y left. g.met.S.PageStore.only_committed _ y (reads.stages_only.honesty.1 honest)
+    (ap (λ (st : StoreState). st.usable) reads.same
+    ∙ not_broken _ _ c.is_broken.ensures c.if-is_broken.false)
+    (ap (λ (st : StoreState). st.writable) reads.same ∙ writable) left)
