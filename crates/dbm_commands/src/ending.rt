@@ -1,13 +1,19 @@
 // The end of a command: its last output, and the closing of its database.
-ghost use Rattle.std.specs.Prelude.{◌≡◌, ◌⊎◌, Ok, Err, IfOk, IfErr, OnOk, if◌then◌else◌};
+ghost use Rattle.std.specs.Prelude.{◌≡◌, ◌⊎◌, ◌/◌, true, false, Ok, Err, IfOk, IfErr, OnOk};
 ghost use Rattle.std.specs.Io.KnownBytes.{Keeps};
-ghost use Rattle.dbm_file.specs.Database.{page_state};
+ghost use Rattle.sect_dev.specs.Device.{LeavesOnly, MoreFaults};
+ghost use Rattle.sect_dev.specs.Moments.{IsOutcome};
+ghost use Rattle.redo_commit.specs.File.{settled, IsAtRest};
+ghost use Rattle.dbm_file.specs.Database.{store_of, page_state};
 ghost use Rattle.dbm_file.specs.Opened.{device_below};
 
 use crate::outcomes::unwritten;
 use crate::{Failure, Outcome};
 use dbm_fault::EngineFault;
 use dbm_file::{Db, Fault};
+use page_cache::CachedPages;
+use page_io::PageStore;
+use redo_area::Pager;
 use sect_dev::SectorDev;
 use std::io::Write;
 
@@ -26,16 +32,33 @@ pub fn flushed<W: Write>(done: Result<(), EngineFault>, output: &mut W) -> Resul
 }
 
 /// Closes a database after what was done with it, and gives its device back. Of two failures the
-/// earlier one is told. No device call is made.
+/// earlier one is told.
 pub fn closed<D: SectorDev>(
     db: Db<D>,
     done: Result<Outcome, Failure>,
 ) -> (D, Result<Outcome, Failure>)
-    ensures device { result.0 ≡ device_below db }
     ensures failed { IfErr done (λ failure. result.1 ≡ Err failure) }
-    ensures done { IfOk done (λ outcome.
-        result.1 ≡ (if (page_state db).usable then Ok outcome
-        else Err (Failure.Fault (EngineFault.Db Fault.Broken)))) }
+    ensures done { IfOk done (λ outcome. (page_state db).usable ≡ true
+        → (result.1 ≡ Ok outcome) ⊎ (result.1 ≡ Err (Failure.Fault (EngineFault.Db Fault.Device)))) }
+    ensures broken { OnOk done ((page_state db).usable ≡ false
+        → result.1 ≡ Err (Failure.Fault (EngineFault.Db Fault.Broken))) }
+
+    // The closing fails only by a fault of the device.
+    ensures cause { OnOk done (result.1 ≡ Err (Failure.Fault (EngineFault.Db Fault.Device))
+        → MoreFaults (D.faults (device_below db)) (D.faults result.0)) }
+
+    // Where all went well, the file of a database opened for writing is at rest.
+    ensures rests { D.honest result.0 → (page_state db).writable ≡ true
+        → OnOk result.1 (IsAtRest (D.sectors result.0 / 4) (page_state db).end
+        (D.candidate result.0) (D.seen result.0)) }
+
+    // Every image of every moment settles to something that the store of the database might have
+    // been left with.
+    ensures any_moment { D.honest (device_below db)
+        → LeavesOnly D.moment
+        (IsOutcome D.left_since (settled (D.sectors (device_below db) / 4)))
+        (device_below db) result.0
+        (⟦<CachedPages<Pager<D>> as PageStore>⟧.settles_to (store_of db)) }
 {
     let (dev, answer) = db.close();
     (dev, earlier(done, answer))

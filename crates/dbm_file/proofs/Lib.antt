@@ -3,6 +3,7 @@ pub mod Breaks
 pub mod BucketSteps
 pub mod Cases
 pub mod ChangeSteps
+pub mod Closings
 pub mod Done
 pub mod Endings
 pub mod EnoughRoom

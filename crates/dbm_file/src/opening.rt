@@ -1,15 +1,16 @@
 //! Opening a device, and closing it.
 
-ghost use Rattle.std.specs.Prelude.{◌≡◌, ◌≢◌, ◌⊎◌, ◌↔◌, ◌≤◌, ◌<◌, ◌/◌, ℕ, IfOk, IfErr, IfSome, None, Err, true, false, if◌then◌else◌, map};
+ghost use Rattle.std.specs.Prelude.{◌≡◌, ◌≢◌, ◌⊎◌, ◌↔◌, ◌≤◌, ◌<◌, ◌/◌, ℕ, IfOk, IfErr, IfSome, OnOk, None, Err, true, false, [], ◌∷◌};
 ghost use Rattle.std.specs.FinMap.{empty};
 ghost use Rattle.sect_dev.specs.Device.{Image, IsImageOf, IsStable, LeavesOnly, MoreFaults};
 ghost use Rattle.sect_dev.specs.Moments.{IsOutcome};
 ghost use Rattle.dbm_model.specs.Pairs.{Contents};
 ghost use Rattle.page_io.specs.Meaning.{ImageStandsFor};
-ghost use Rattle.redo_commit.specs.File.{settled};
+ghost use Rattle.redo_commit.specs.File.{settled, IsAtRest};
+ghost use Rattle.dbm_fault.specs.Among.{IsErrAmong};
 ghost use Rattle.redo_area.specs.Reading.{OnlyReads};
 ghost use Rattle.dbm_model.specs.States.{Handle};
-ghost use Rattle.dbm_file.specs.Database.{store_of, meta_kept, IsAt};
+ghost use Rattle.dbm_file.specs.Database.{store_of, meta_kept, page_state, IsAt};
 ghost use Rattle.file_opening.specs.Opening.{writes, early_fault, IsRefusedOpening, AllAllow, MayRemain, AllStand, KeepsMeta, IsOpened};
 ghost use Rattle.dbm_file.specs.Opened.{device_below, device_opened, AllHaveRoom, HasRoom, IsNewlyOpened, IsOpenedAt};
 
@@ -108,15 +109,28 @@ impl<D: SectorDev> Database<CachedPages<Pager<D>>> {
         }
     }
 
-    /// Gives the device back. `Broken` where a change was left in doubt. No device call is made.
+    /// Closes a database, and gives the device back (POSIX: `dbm_close`). Pages of the last commit that still wait are
+    /// put in their places first: `Device` where that fails, which loses nothing, for the next opening ends it.
+    /// `Broken` where a change was left in doubt. No device call is made then, nor for a database opened for reading.
     pub fn close(self) -> (D, Result<(), Fault>)
-        ensures device { result.0 ≡ device_below self }
-        ensures answer { result.1 ≡ (if (⟦<CachedPages<Pager<D>> as PageStore>⟧.state (store_of self)).usable
-            then Ok tt else Err Fault.Broken) }
+        ensures broken { (result.1 ≡ Err Fault.Broken) ↔ ((page_state self).usable ≡ false) }
+        ensures device { result.1 ≡ Err Fault.Device
+            → MoreFaults (D.faults (device_below self)) (D.faults result.0) }
+        ensures only { IsErrAmong result.1 (Fault.Broken ∷ Fault.Device ∷ []) }
+        ensures untouched { ((page_state self).usable ≡ false) ⊎ ((page_state self).writable ≡ false)
+            → result.0 ≡ device_below self }
 
-        // Each image that is now left, of a broken database too, settles to something that the
-        // store of the database may be left with.
-        ensures settles { (image : Image) → IsImageOf (D.candidate result.0) image
+        // Every image of every moment settles to something that the store of the database might
+        // have been left with, whatever is answered.
+        ensures any_moment { D.honest (device_below self)
+            → LeavesOnly D.moment
+            (IsOutcome D.left_since (settled (D.sectors (device_below self) / 4)))
+            (device_below self) result.0
+            (⟦<CachedPages<Pager<D>> as PageStore>⟧.settles_to (store_of self)) }
+
+        // So does each image that is now left, of a broken database too.
+        ensures settles { D.honest (device_below self) → (image : Image)
+            → IsImageOf (D.candidate result.0) image
             → ⟦<CachedPages<Pager<D>> as PageStore>⟧.settles_to (store_of self)
             (settled (D.sectors result.0 / 4) image) }
 
@@ -124,9 +138,18 @@ impl<D: SectorDev> Database<CachedPages<Pager<D>>> {
         ensures stands { D.honest result.0 → (h : Handle) → IsAt self h → h.state.usable ≡ true
             → (image : Image) → IsImageOf (D.candidate result.0) image
             → ImageStandsFor (settled (D.sectors result.0 / 4) image) h.state.map h.state.limit }
+
+        // Of a database opened for writing all is then on the disk, and no commit on its way.
+        ensures rests { D.honest result.0 → (page_state self).writable ≡ true
+            → OnOk result.1 (IsAtRest (D.sectors result.0 / 4) (page_state self).end
+            (D.candidate result.0) (D.seen result.0)) }
+        ensures honesty { D.honest result.0 ↔ D.honest (device_below self) }
+        ensures later { D.faults (device_below self) ≤ D.faults result.0 }
+        ensures size { D.sectors result.0 / 4 ≡ D.sectors (device_below self) / 4 }
     {
-        let usable = !self.store.is_broken();
-        let dev = self.store.into_inner().into_dev();
-        (dev, if usable { Ok(()) } else { Err(Fault::Broken) })
+        let mut store = self.store;
+        let settled = store.settle();
+        let dev = store.into_inner().into_dev();
+        (dev, settled.map_err(Fault::from))
     }
 }

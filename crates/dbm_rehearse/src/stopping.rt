@@ -129,7 +129,7 @@ pub fn unstopped(
             Ok((replies, made))
         }
         Ending::NotOpened(fault) => Err(told(fault)),
-        Ending::NoMemory | Ending::Broke(_) => Err(EngineFault::Memory),
+        Ending::NoMemory | Ending::Unsettled(_) | Ending::Broke(_) => Err(EngineFault::Memory),
     }
 }
 
@@ -173,7 +173,9 @@ fn left_with(alloc: Global, dev: &MemDev, choice: Choice, seed: u64) -> Result<M
 // The replies that were given before the stop.
 fn replies_of(ending: &Ending) -> Result<&[Reply], AllocError> {
     let replies: &[Reply] = match ending {
-        Ending::Rested(replies) | Ending::Broke(replies) => replies.as_slice(),
+        Ending::Rested(replies) | Ending::Unsettled(replies) | Ending::Broke(replies) => {
+            replies.as_slice()
+        }
         Ending::NotOpened(_) => &[],
         Ending::NoMemory => return Err(AllocError),
     };

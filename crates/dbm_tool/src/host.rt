@@ -1,5 +1,5 @@
 // What a command on a file has of the system.
-ghost use Rattle.std.specs.Prelude.{◌≡◌, Ok, Err, IfErr, IfOk, if◌then◌else◌};
+ghost use Rattle.std.specs.Prelude.{◌≡◌, ◌⊎◌, true, false, Ok, Err, IfErr, IfOk, IsSome, OnOk};
 ghost use Rattle.dbm_file.specs.Database.{page_state};
 
 use crate::EngineFault;
@@ -53,9 +53,14 @@ impl<T: Files<File = File>> Host<'_, T> {
         done: Result<Outcome, Failure>,
     ) -> Result<Outcome, Failure>
         ensures failed { IfErr done (λ failure. result ≡ Err failure) }
-        ensures done { IfOk done (λ outcome.
-            result ≡ (if (page_state db).usable then Ok outcome
-            else Err (Failure.Fault (EngineFault.Db Fault.Broken)))) }
+        ensures done { IfOk done (λ outcome. (page_state db).usable ≡ true → (result ≡ Ok outcome)
+            ⊎ (result ≡ Err (Failure.Fault (EngineFault.Db Fault.Device)))) }
+        ensures broken { OnOk done ((page_state db).usable ≡ false
+            → result ≡ Err (Failure.Fault (EngineFault.Db Fault.Broken))) }
+
+        // A closing that fails has the system's error.
+        ensures told { OnOk done (result ≡ Err (Failure.Fault (EngineFault.Db Fault.Device))
+            → IsSome self.new.cause) }
     {
         let (dev, ended) = closed(db, done);
         self.cause = dev.last_error();

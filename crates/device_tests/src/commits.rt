@@ -1,7 +1,7 @@
 //! Files of three pages over a device, and commits to them that are stopped.
 
 use crate::sectors::sector_of;
-use crate::stores::{grows_by_page_4, has_pages, numbered, stage};
+use crate::stores::{has_pages, may_end_at_5, numbered, stage};
 use page_io::{Page, PageFault, PageStore};
 use redo_area::{OpenFault, Pager};
 use sect_dev::{DevFault, Fuse, MemDev, SectorDev};
@@ -77,14 +77,20 @@ fn commit_four<S: PageStore>(
     stage(store, &new[0])?;
     stage(store, &new[2])?;
     stage(store, &new[1])?;
-    if !grows_by_page_4(store) {
+    if !may_end_at_5(store) {
         return Err(PageFault::Damaged);
     }
     Ok(store.commit(5))
 }
 
-/// A commit of new pages 1 to 4 to a new file of old ones, stopped after so many of its device
-/// calls.
+/// The device calls of a commit of four pages, and of its settling: the images, a sync, the armed
+/// sector, a sync; the pages at their own numbers, a sync, the clear sector, a sync.
+pub const COMMIT: u64 = 16 + 1 + 1 + 1;
+
+pub const SETTLING: u64 = 16 + 1 + 1 + 1;
+
+/// A commit of new pages 1 to 4 to a new file of old ones, and its settling, stopped after so many
+/// of their device calls.
 pub fn stopped(
     alloc: Global,
     calls: u64,
@@ -93,11 +99,29 @@ pub fn stopped(
 ) -> Result<MemDev, Fail> {
     let fuse = Fuse::new(MemDev::new(alloc, 64), calls.saturating_add(15));
     let mut pager = new_file(alloc, fuse, old)?;
-    let answer = commit_four(&mut pager, new)?;
-    if answer.is_err() != (calls < 38) {
-        return Err(PageFault::Damaged.into());
+    let committed = commit_four(&mut pager, new)?;
+    let settled = pager.settle();
+    if committed != answer_in(calls, COMMIT, PageFault::Device) {
+        return Err("the commit's own answer".into());
+    }
+    if settled != answer_of_settling(calls) {
+        return Err("the settling's own answer".into());
     }
     Ok(pager.into_dev().into_inner())
+}
+
+/// What is answered where so many device calls are made of those that are needed.
+fn answer_in(calls: u64, needed: u64, fault: PageFault) -> Result<(), PageFault> {
+    if calls < needed { Err(fault) } else { Ok(()) }
+}
+
+/// What the settling answers behind the commit.
+fn answer_of_settling(calls: u64) -> Result<(), PageFault> {
+    if calls < COMMIT {
+        Err(PageFault::Broken)
+    } else {
+        answer_in(calls, COMMIT + SETTLING, PageFault::Device)
+    }
 }
 
 /// Which of the unsynced writes happened: none, all, and each second one. There are at most 16 of

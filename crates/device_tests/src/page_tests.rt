@@ -4,7 +4,7 @@ ghost use Rattle.std.specs.Prelude.{◌≡◌, [], true, IfOk};
 ghost use Rattle.page_io.specs.Store.{StoreState};
 
 use crate::sectors::sector_of;
-use crate::stores::{grows_by_page_4, numbered, stage};
+use crate::stores::{may_end_at_5, numbered, stage};
 use page_io::{MemPages, Page, PageFault, PageStore, read_page, replace_byte, write_page};
 use sect_dev::{DevFault, Fuse, MemDev, SectorDev};
 use std::alloc::{AllocError, Global};
@@ -161,7 +161,7 @@ fn commit_two<S: PageStore>(store: &mut S) -> Result<bool, PageFault>
     stage(store, &numbered(2, 20))?;
     let staged = store.is_staged(2) && !store.is_staged(3);
     let right = end_with(store, [1, 2, 4], [1, 20, 40])?;
-    if !grows_by_page_4(store) {
+    if !may_end_at_5(store) {
         return Ok(false);
     }
     store.commit(5)?;

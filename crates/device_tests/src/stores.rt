@@ -24,12 +24,12 @@ pub fn page_of(store: &mut impl PageStore, n: u32) -> Result<Page, PageFault> {
     Ok(page)
 }
 
-/// Whether page 4 can be the first new page of a commit.
-pub fn grows_by_page_4<S: PageStore>(store: &S) -> bool
+/// Whether a commit may end the file before page 5: it ends there, or page 4 is staged behind it.
+pub fn may_end_at_5<S: PageStore>(store: &S) -> bool
     ensures { IsTrue result → (n : ℕ) → (S.state store.now).end ≤ n → n < 5
         → has_page (S.state store.now).staged n ≡ true }
 {
-    store.end() == 4 && store.is_staged(4)
+    store.end() == 5 || store.end() == 4 && store.is_staged(4)
 }
 
 /// Stages a page under its own number, which has to be 1 to 4.

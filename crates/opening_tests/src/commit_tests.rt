@@ -1,6 +1,6 @@
 //! How many pages a change commits, by the redo images that an armed commit sector names.
 
-use dbm_file::{Database, Db};
+use dbm_file::{Access, Database, Db, Fault, OpenHow, StoreReply};
 use page_io::PageStore;
 use sect_dev::{Fuse, MemDev};
 use std::alloc::Global;
@@ -87,5 +87,64 @@ fn a_change_commits_the_pages_of_its_bucket(rt: HostRuntime) -> Result<(), Fail>
     assert!(rt; commits(alloc, &dev, Change::Delete(&[0x62]), &[1, 3, 4])?);
     let dev = changed(alloc, dev, Change::Delete(&[0x62]))?;
     assert!(rt; commits(alloc, &dev, Change::Put(&[0x62], &long), &[1, 3, 4])?);
+    Ok(())
+}
+
+/// What is left of the device where the store was just acknowledged, with what the closing behind
+/// it answered.
+type Acknowledged = Option<(MemDev, Result<(), Fault>)>;
+
+/// The same where the store has so many device calls, if they suffice.
+fn acknowledged_in(alloc: Global, dev: MemDev, calls: u64) -> Acknowledged {
+    let mut db = Db::open(alloc, Fuse::new(dev, calls), opening(false, 0)).ok()?;
+    if put(&mut db, &[0x6b], &[0x76]) != Ok(StoreReply::Stored) {
+        return None;
+    }
+    let (fuse, answer) = db.close();
+    Some((fuse.into_inner(), answer))
+}
+
+/// The same with the least calls that suffice.
+fn just_acknowledged(alloc: Global, dev: &MemDev) -> Result<Acknowledged, Fail> {
+    for calls in 0..MOST {
+        let left = acknowledged_in(alloc, dev.crashed(alloc, &[])?, calls);
+        if left.is_some() {
+            return Ok(left);
+        }
+    }
+    Ok(None)
+}
+
+/// Whether the device opens with the pair, for writing or for reading.
+fn has_pair(alloc: Global, dev: MemDev, access: Access) -> Result<bool, Fault> {
+    let how = OpenHow {
+        access,
+        ..opening(false, 0)
+    };
+    let mut db = match Db::open(alloc, dev, how) {
+        Ok(db) => db,
+        Err((_, fault)) => return Err(fault),
+    };
+    let pairs = db.stat().pairs;
+    Ok(pairs == 1 && db.fetch(&[0x6b])? == Some(&[0x76]))
+}
+
+#[test]
+fn an_acknowledged_store_waits_for_the_closing(rt: HostRuntime) -> Result<(), Fail> {
+    let alloc = rt.alloc();
+    let empty = closed(new_database(alloc, 100)?)?;
+    let Some((mut dev, answer)) = just_acknowledged(alloc, &empty)? else {
+        return Err("a store that is acknowledged".into());
+    };
+    assert!(rt; answer == Err(Fault::Device) && dev.pending() == 0);
+
+    // `DBMREDO1`; armed, end 4, two redo images from page 4 on.
+    let sector = page_at(&mut dev, 0)?;
+    let fields = [0x4442_4d52, 0x4544_4f31, 1, 4, 4, 2];
+    for (i, field) in fields.iter().enumerate() {
+        assert!(rt; sector.u32_at(4 * i) == *field, "field {i}");
+    }
+    assert!(rt; has_pair(alloc, dev.crashed(alloc, &[])?, Access::ReadOnly)?);
+    assert!(rt; has_pair(alloc, dev, Access::ReadWrite)?);
     Ok(())
 }

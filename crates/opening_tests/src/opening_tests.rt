@@ -159,9 +159,9 @@ fn an_emptied_database_has_the_new_limit(rt: HostRuntime) -> Result<(), Fail> {
     Ok(())
 }
 
-/// The device calls of an emptying: a sync, a read of sector 0 and four of page 1; twelve writes of
-/// images and a sync; the armed sector and a sync; twelve writes and a sync; the clear sector and a
-/// sync.
+/// The device calls of an emptying and of the closing behind it: a sync, a read of sector 0 and four
+/// of page 1; twelve writes of images and a sync; the armed sector and a sync; then twelve writes
+/// and a sync; the clear sector and a sync.
 const EMPTYING: u64 = 6 + 13 + 2 + 13 + 2;
 
 /// The sync behind the armed sector of an emptying, from which on it is done.
@@ -189,19 +189,23 @@ fn leaves_all_or_none(alloc: Global, dev: &MemDev, calls: u64) -> Result<bool, F
     Ok(true)
 }
 
-/// What an emptying leaves that has so many device calls, and whether it was done.
-fn emptied_in(alloc: Global, dev: MemDev, calls: u64, how: OpenHow) -> (MemDev, bool) {
+/// What an emptying leaves that has so many device calls, and whether it was opened, and closed.
+fn emptied_in(alloc: Global, dev: MemDev, calls: u64, how: OpenHow) -> (MemDev, bool, bool) {
     match Db::open(alloc, Fuse::new(dev, calls), how) {
-        Ok(db) => (db.close().0.into_inner(), true),
-        Err((fuse, _)) => (fuse.into_inner(), false),
+        Ok(db) => {
+            let (fuse, closed) = db.close();
+            (fuse.into_inner(), true, closed.is_ok())
+        }
+        Err((fuse, _)) => (fuse.into_inner(), false, false),
     }
 }
 
 /// Whether an emptying of the nine pairs that is stopped after so many calls ends as it has to.
 fn is_emptied_so(alloc: Global, nine: &MemDev, calls: u64) -> Result<bool, Fail> {
     let copy = nine.crashed(alloc, &[])?;
-    let (dev, done) = emptied_in(alloc, copy, calls, how_of("truncate 5")?);
-    Ok(done == (calls == EMPTYING) && leaves_all_or_none(alloc, &dev, calls)?)
+    let (dev, opened, closed) = emptied_in(alloc, copy, calls, how_of("truncate 5")?);
+    let answers = opened == (calls > EMPTIED) && closed == (calls == EMPTYING);
+    Ok(answers && leaves_all_or_none(alloc, &dev, calls)?)
 }
 
 #[test]

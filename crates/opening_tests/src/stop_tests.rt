@@ -27,9 +27,12 @@ const COMMIT: u64 = OPENING + 8;
 /// sector.
 const ARMING: u64 = COMMIT + 18;
 
-/// The end of the ninth store, after the 16 writes of the pages, their sync, the clear sector and
-/// its sync.
-const STORED: u64 = ARMING + 1 + 19;
+/// The end of the ninth store.
+const STORED: u64 = ARMING + 1;
+
+/// The end of the closing behind it, after the 16 writes of the pages, their sync, the clear sector
+/// and its sync.
+const CLOSED: u64 = STORED + 19;
 
 /// A device with the first eight pairs, which keeps a short record: it is often copied.
 fn eight_pairs(alloc: Global) -> Result<MemDev, Fail> {
@@ -46,10 +49,10 @@ fn eight_pairs(alloc: Global) -> Result<MemDev, Fail> {
 struct Stopped {
     dev: MemDev,
     done: bool,
-    broken: bool,
+    closed: Result<(), Fault>,
 }
 
-/// Opens a device and stores the ninth pair, with so many device calls.
+/// Opens a device, stores the ninth pair and closes the database, with so many device calls.
 fn store_stopped(alloc: Global, dev: MemDev, calls: u64) -> Stopped {
     match Db::open(alloc, Fuse::new(dev, calls), opening(false, 0)) {
         Ok(mut db) => {
@@ -58,13 +61,13 @@ fn store_stopped(alloc: Global, dev: MemDev, calls: u64) -> Stopped {
             Stopped {
                 dev: fuse.into_inner(),
                 done: answer == Ok(StoreReply::Stored),
-                broken: closed == Err(Fault::Broken),
+                closed,
             }
         }
-        Err((fuse, _)) => Stopped {
+        Err((fuse, fault)) => Stopped {
             dev: fuse.into_inner(),
             done: false,
-            broken: false,
+            closed: Err(fault),
         },
     }
 }
@@ -91,13 +94,23 @@ fn leaves_pairs(alloc: Global, dev: &MemDev, calls: u64) -> Result<bool, Fail> {
     Ok(true)
 }
 
-/// Whether a ninth store that is stopped after so many calls ends as it has to.
+/// What the closing answers, or the opening where that is stopped.
+fn closed_after(calls: u64) -> Result<(), Fault> {
+    if calls < OPENING || STORED <= calls && calls < CLOSED {
+        Err(Fault::Device)
+    } else if COMMIT <= calls && calls < STORED {
+        Err(Fault::Broken)
+    } else {
+        Ok(())
+    }
+}
+
+/// Whether a ninth store that is stopped after so many calls ends as it has to, and its closing.
 fn is_stored_so(alloc: Global, eight: &MemDev, calls: u64) -> Result<bool, Fail> {
     let stopped = store_stopped(alloc, eight.crashed(alloc, &[])?, calls);
-    let in_commit = COMMIT <= calls && calls < STORED;
     Ok(
-        stopped.done == (calls == STORED)
-            && stopped.broken == in_commit
+        stopped.done == (STORED <= calls)
+            && stopped.closed == closed_after(calls)
             && leaves_pairs(alloc, &stopped.dev, calls)?,
     )
 }
@@ -105,7 +118,7 @@ fn is_stored_so(alloc: Global, eight: &MemDev, calls: u64) -> Result<bool, Fail>
 #[test]
 fn a_stopped_store_is_whole_or_absent(rt: HostRuntime) -> Result<(), Fail> {
     let eight = eight_pairs(rt.alloc())?;
-    for calls in 0..STORED + 1 {
+    for calls in 0..CLOSED + 1 {
         let right = is_stored_so(rt.alloc(), &eight, calls)?;
         assert!(rt; right, "after {calls} calls");
     }
@@ -115,15 +128,18 @@ fn a_stopped_store_is_whole_or_absent(rt: HostRuntime) -> Result<(), Fail> {
 /// Opens a device, with so many device calls.
 fn open_stopped(alloc: Global, dev: MemDev, calls: u64, create: bool) -> Stopped {
     match Db::open(alloc, Fuse::new(dev, calls), opening(create, 100)) {
-        Ok(db) => Stopped {
-            dev: db.close().0.into_inner(),
-            done: true,
-            broken: false,
-        },
-        Err((fuse, _)) => Stopped {
+        Ok(db) => {
+            let (fuse, closed) = db.close();
+            Stopped {
+                dev: fuse.into_inner(),
+                done: true,
+                closed,
+            }
+        }
+        Err((fuse, fault)) => Stopped {
             dev: fuse.into_inner(),
             done: false,
-            broken: false,
+            closed: Err(fault),
         },
     }
 }
@@ -190,8 +206,8 @@ fn stop_each_opening(
 /// writes happened or not.
 fn calls_to_open(calls: u64, first: bool) -> u64 {
     let is_clear = pairs_after(calls, first) == 8
-        || calls == STORED
-        || calls == STORED - 1 && first;
+        || calls == CLOSED
+        || calls == CLOSED - 1 && first;
     if is_clear { OPENING } else { RECOVERY }
 }
 
@@ -222,7 +238,7 @@ fn opens_again_after(alloc: Global, eight: &MemDev, calls: u64) -> Result<bool, 
 fn a_stopped_opening_may_be_made_again(rt: HostRuntime) -> Result<(), Fail> {
     let alloc = rt.alloc();
     let eight = eight_pairs(alloc)?;
-    for calls in COMMIT..STORED + 1 {
+    for calls in COMMIT..CLOSED + 1 {
         let right = opens_again_after(alloc, &eight, calls)?;
         assert!(rt; right, "after {calls} calls");
     }

@@ -7,7 +7,7 @@ use Rattle.page_io.specs.Page.{own_number}
 use Rattle.page_io.specs.Store.{Pages, StoreState, page_of, overlaid, put_page, has_page, committed_with}
 use Rattle.page_io.specs.declared.page.Page.{Page}
 use Rattle.page_io.specs.declared.store.PageFault.{PageFault}
-use Rattle.page_io.specs.declared.store.PageFault.TheVariants.{Device}
+use Rattle.page_io.specs.declared.store.PageFault.TheVariants.{Broken, Device}
 use Rattle.page_io.specs.declared.store.PageStore.{Ghosts}
 use Rattle.page_io.proofs.Overlays.{overlaid-none, page_of-file}
 use Rattle.page_io.proofs.StagedPages.{has_page-put_other}
@@ -117,6 +117,14 @@ module _ {S : Type 0} (s : Ghosts S) where
         ∙ unstaged)
     staged_apart (Err e) bytes n own none ok err kept = unchanged err kept
 
+    -- the store broke
+    broken_apart : s.state new ≡ record (s.state old) { usable = false } → AreClean s new copies
+    broken_apart same n page c = record {
+      unstaged = ap (λ (st : StoreState). has_page st.staged n) same ∙ (clean n page c).unstaged;
+      same = λ h usable ge lt. absurd (false≢true
+          (sym (ap (λ (st : StoreState). st.usable) same) ∙ usable));
+    }
+
     module _ (new_end : ℕ) (grown : (n : ℕ) → (s.state old).end ≤ n → n < new_end
         → has_page (s.state old).staged n ≡ true) where
       -- a page that is not staged is the same in the new file
@@ -149,14 +157,6 @@ module _ {S : Type 0} (s : Ghosts S) where
                 ∙ ap (λ (ps : Pages). page_of ps n) (sym (pages (was h)));
           }
 
-      -- the store broke
-      broken_apart : s.state new ≡ record (s.state old) { usable = false } → AreClean s new copies
-      broken_apart same n page c = record {
-        unstaged = ap (λ (st : StoreState). has_page st.staged n) same ∙ (clean n page c).unstaged;
-        same = λ h usable ge lt. absurd (false≢true
-            (sym (ap (λ (st : StoreState). st.usable) same) ∙ usable));
-      }
-
       -- whatever a commit answers
       pub after_commit : {T : Type 0} (result : Result T PageFault)
           → OnOk result (s.state new ≡ record (s.state old) { staged = []; end = new_end })
@@ -173,3 +173,20 @@ module _ {S : Type 0} (s : Ghosts S) where
         | inl refusal ↦ unchanged (refused refusal).0 (refused refusal).1
         | inr device ↦ broken_apart (breaks (ap Err device))
       ]
+
+    -- whatever a settling answers
+    pub after_settle : {T : Type 0} (result : Result T PageFault)
+        → OnOk result (s.state new ≡ s.state old)
+        → (s.honest old → OnOk result (s.committed new ≡ s.committed old))
+        → (IsErrOf result Device → s.state new ≡ record (s.state old) { usable = false })
+        → ((s.state old).usable ≡ false → new ≡ old)
+        → (IsErrOf result Broken → (s.state old).usable ≡ false)
+        → IfErr result (λ e. (e ≡ Broken) ⊎ (e ≡ Device))
+        → AreClean s new copies
+    after_settle (Ok x) ok pages breaks untouched broken only =
+        other_staged (s.state old).staged ok pages (λ n page c none. none)
+    after_settle (Err e) ok pages breaks untouched broken only = elim only [
+      | inl is ↦ subst (λ store. AreClean s store copies)
+          (sym (untouched (broken (ap Err is)))) clean
+      | inr device ↦ broken_apart (breaks (ap Err device))
+    ]

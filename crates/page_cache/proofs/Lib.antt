@@ -1,2 +1,3 @@
 mod Cleanness
 mod Lookups
+mod Whole

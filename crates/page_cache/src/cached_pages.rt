@@ -77,6 +77,8 @@ impl<S: PageStore> PageStore for CachedPages<S> {
 
     ghost settled_since = { λ c. S.settled_since c.store };
 
+    ghost at_home = { λ c. S.at_home c.store };
+
     ghost reserved = { S.reserved };
 
     ghost reserves = { S.reserves };
@@ -140,6 +142,11 @@ impl<S: PageStore> PageStore for CachedPages<S> {
     // A page that it changes was staged, and so has no copy.
     fn commit(&mut self, new_end: u32) -> Result<(), PageFault> {
         self.store.commit(new_end)
+    }
+
+    // Copies of committed pages stay true.
+    fn settle(&mut self) -> Result<(), PageFault> {
+        self.store.settle()
     }
 
     fn end(&self) -> u32 {

@@ -40,3 +40,9 @@ pub record IsCommitAnswer {T : Type 0} (state : StoreState) (new_end : ℕ)
   pub no_room : IsErrOf result NoRoom
       ↔ ((state.usable ≡ true) × (state.writable ≡ true) × LacksPages state new_end)
   pub only : IfErr result (λ e. IsRefusal e ⊎ (e ≡ Device))
+
+-- a store opened for reading alone has no page to put in its place, and answers Ok
+pub record IsSettleAnswer {T : Type 0} (state : StoreState) (result : Result T PageFault) : Type 0 where
+  pub broken : IsErrOf result Broken ↔ (state.usable ≡ false)
+  pub device : IsErrOf result Device → state.writable ≡ true
+  pub only : IfErr result (λ e. (e ≡ Broken) ⊎ (e ≡ Device))

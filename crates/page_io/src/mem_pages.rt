@@ -92,6 +92,8 @@ impl PageStore for MemPages {
     ghost settled_since = { λ p _.
         OnlySettled (file_pages (page_of (bytes_of p.pages.items)) p.end) };
 
+    ghost at_home = { λ _. Unit {0} };
+
     ghost reserved = { 5 };
 
     ghost reserves = { le_refl 5 };
@@ -140,6 +142,11 @@ impl PageStore for MemPages {
         lay(&mut self.pages, self.staged.as_slice());
         self.staged.clear();
         self.end = new_end;
+        Ok(())
+    }
+
+    // No page waits.
+    fn settle(&mut self) -> Result<(), PageFault> {
         Ok(())
     }
 

@@ -1,10 +1,10 @@
 // A store of pages as the layers above see it.
-ghost use Rattle.std.specs.Prelude.{◌≡◌, ◌<◌, ◌≤◌, ◌+◌, ◌^◌, ◌↔◌, ℕ, [], true, false, length, IfErr, OnOk, OnErr, IsErrOf, IsTrue};
+ghost use Rattle.std.specs.Prelude.{◌≡◌, ◌⊎◌, ◌<◌, ◌≤◌, ◌+◌, ◌^◌, ◌↔◌, ℕ, [], true, false, length, IfErr, OnOk, OnErr, IsErrOf, IsTrue};
 ghost use Rattle.sect_dev.specs.Device.{LeavesOnly};
 ghost use Rattle.page_io.specs.Page.{own_number};
 ghost use Rattle.page_io.specs.Store.{Pages, Settled, file_of, StoreState, IsEither, page_of, overlaid, put_page, has_page, are_in_order, committed_with, AllBelow};
 ghost use Rattle.page_io.specs.Kept.{KeepsPages};
-ghost use Rattle.page_io.specs.Answers.{HasDeviceCause, IsReadAnswer, IsStageAnswer, IsCommitAnswer, IsRefusal};
+ghost use Rattle.page_io.specs.Answers.{HasDeviceCause, IsReadAnswer, IsStageAnswer, IsCommitAnswer, IsSettleAnswer, IsRefusal};
 ghost use Rattle.page_io.specs.declared.store.PageFault.TheVariants.{Device};
 
 use crate::Page;
@@ -16,7 +16,8 @@ pub enum PageFault {
     Memory,
     /// A call of the device below failed.
     Device,
-    /// An earlier commit failed half way. What it left is found by opening the device again.
+    /// An earlier commit failed half way, or the settling of one. What it left is found by opening
+    /// the device again.
     Broken,
     /// The store was opened for reading alone.
     ReadOnly,
@@ -51,6 +52,9 @@ pub trait PageStore {
 
     /// What an image that a stop at some moment from that one on may have left settles to.
     ghost settled_since: { Self → ℕ → Settled → Type 0 };
+
+    /// Each committed page stands in its place on the device, and no commit is on its way there.
+    ghost at_home: { Self → Type 0 };
 
     /// How many pages can be staged with no memory taken.
     ghost reserved: { ℕ };
@@ -96,7 +100,8 @@ pub trait PageStore {
         ensures faults { faults self.new ≡ faults self.old };
 
     /// Puts the staged pages in the place of those that they name, whole or not at all; the file
-    /// then ends before page `new_end`. It takes no memory.
+    /// then ends before page `new_end`. It takes no memory. At `Ok` a stop leaves the new pages,
+    /// also where some of them still wait for their place on the device.
     fn commit(&mut self, new_end: u32) -> Result<(), PageFault>
         requires some { 0 < length (state self.old).staged }
         requires least { 4 ≤ new_end }
@@ -123,6 +128,24 @@ pub trait PageStore {
         ensures honesty { honest self.new ↔ honest self.old }
         ensures cause { HasDeviceCause (faults self.old) (faults self.new) result };
 
+    /// Brings committed pages that wait to their places on the device. It takes no memory.
+    fn settle(&mut self) -> Result<(), PageFault>
+        // Every image of every moment since the call's start settles to what one could settle to
+        // then, whatever is answered: in a usable store opened for writing to the committed pages.
+        ensures any_moment { honest self.old
+            → LeavesOnly moment settled_since self.old self.new (settles_to self.old) }
+        ensures committed { honest self.old → OnOk result (committed self.new ≡ committed self.old) }
+        ensures home { honest self.old
+            → OnOk result ((state self.old).writable ≡ true → at_home self.new) }
+        ensures ok { OnOk result (state self.new ≡ state self.old) }
+        ensures breaks { IsErrOf result Device
+            → state self.new ≡ record (state self.old) { usable = false } }
+        ensures untouched { ((state self.old).usable ≡ false) ⊎ ((state self.old).writable ≡ false)
+            → self.new ≡ self.old }
+        ensures answer { IsSettleAnswer (state self.old) result }
+        ensures honesty { honest self.new ↔ honest self.old }
+        ensures cause { HasDeviceCause (faults self.old) (faults self.new) result };
+
     /// The number behind the last committed page.
     fn end(&self) -> u32
         ensures { result ≡ (state self.now).end };
@@ -135,7 +158,7 @@ pub trait PageStore {
     fn is_staged(&self, n: u32) -> bool
         ensures { result ≡ has_page (state self.now).staged n };
 
-    /// Whether a commit has failed on the device. Every later call then answers Broken.
+    /// Whether a commit or its settling has failed on the device. Every later call then answers Broken.
     fn is_broken(&self) -> bool
         ensures { IsTrue result ↔ ((state self.now).usable ≡ false) };
 

@@ -1,7 +1,7 @@
--- Redo images that are kept in memory over the device's pages, and none in a pager that commits.
-use Rattle.std.proofs.Common.{◌≡◌, inl, inr, ⊎_elim, ℕ, ◌<◌, ◌≤◌, ◌/◌, Bool, List, [], true, false, refl, sym, ◌∙◌, ap, subst}
+-- Pages that wait over the device's, and what calls leave of both.
+use Rattle.std.proofs.Common.{◌≡◌, inl, inr, ⊎_elim, ℕ, ◌<◌, ◌≤◌, ◌/◌, Bool, List, true, false, refl, sym, ◌∙◌, ap, subst}
 use Rattle.sect_dev.specs.Device.{Image, IsImageOf, LeavesOnly}
-use Rattle.sect_dev.specs.Moments.{IsOutcome, weaker, lifted}
+use Rattle.sect_dev.specs.Moments.{IsOutcome, weaker, followed_by, lifted}
 use Rattle.sect_dev.specs.declared.device.SectorDev.{Ghosts}
 use Rattle.page_io.specs.Kept.{KeepsPages}
 use Rattle.page_io.specs.Page.{page_at}
@@ -26,35 +26,45 @@ pub not_staged : (staged : Pages) (home : ℕ → List ℕ) (end n : ℕ) → 1 
 not_staged staged home end n ge lt none =
     overlaid-none staged (page_of (file_pages home end)) n none ∙ page_of-file home end n ge lt
 
-module _ (redo : Pages) (home : ℕ → List ℕ) (none : redo ≡ []) where
-  pub none_over : home ≡ overlaid redo home
-  none_over = ap (λ (ps : Pages). overlaid ps home) (sym none)
-
+-- pages at home, and a commit from there
+module _ (before : Pages) (home : ℕ → List ℕ) (old_end : ℕ)
+    (at_home : file_pages home old_end ≡ before) where
   -- what is committed afterwards
-  pub new_pages : (old_end new_end : ℕ) (pages staged : Pages) → pages ≡ staged
+  pub new_pages : (new_end : ℕ) (pages staged : Pages) → pages ≡ staged
       → ((n : ℕ) → old_end ≤ n → n < new_end → has_page staged n ≡ true)
-      → file_pages (overlaid pages home) new_end
-      ≡ committed_with (file_pages (overlaid redo home) old_end) staged new_end
-  new_pages old_end new_end pages staged same grown =
+      → file_pages (overlaid pages home) new_end ≡ committed_with before staged new_end
+  new_pages new_end pages staged same grown =
       ap (λ (ps : Pages). file_pages (overlaid ps home) new_end) same
       ∙ replaced home old_end new_end staged grown
-      ∙ ap (λ (f : ℕ → List ℕ). committed_with (file_pages f old_end) staged new_end) none_over
+      ∙ ap (λ (ps : Pages). committed_with ps staged new_end) at_home
 
   -- what a stop in between leaves
-  pub either : (old_end new_end : ℕ) (pages staged : Pages) (y : Settled) → pages ≡ staged
+  pub either : (new_end : ℕ) (pages staged : Pages) (y : Settled) → pages ≡ staged
       → ((n : ℕ) → old_end ≤ n → n < new_end → has_page staged n ≡ true)
       → IsEither (file_pages home old_end) (file_pages (overlaid pages home) new_end) y
-      → IsEither (file_pages (overlaid redo home) old_end)
-      (committed_with (file_pages (overlaid redo home) old_end) staged new_end) y
-  either old_end new_end pages staged y same grown is =
-      ⊎_elim (λ old. inl (old ∙ ap (λ (f : ℕ → List ℕ). file_of (file_pages f old_end)) none_over))
-      (λ new. inr (new ∙ ap file_of (new_pages old_end new_end pages staged same grown))) is
+      → IsEither before (committed_with before staged new_end) y
+  either new_end pages staged y same grown is =
+      ⊎_elim (λ old. inl (old ∙ ap file_of at_home))
+      (λ new. inr (new ∙ ap file_of (new_pages new_end pages staged same grown))) is
 
 -- the pages that a pager reads
-abbrev pages_of : {D : Type 0} (dev : Ghosts D) → Pager D dev → Pages
-pages_of dev p = file_pages (overlaid (bytes_of p.redo.items) (page_at (dev.seen p.dev))) p.end
+abbrev pub pages_of : {D : Type 0} (dev : Ghosts D) → Pager D dev → Pages
+pages_of dev p = file_pages (overlaid (bytes_of p.waiting.items) (page_at (dev.seen p.dev))) p.end
 
--- what a stop during reads leaves, as the store reads it
+-- what a stop leaves, as the store reads it
+pub as_read : {D : Type 0} (dev : Ghosts D) (old new : Pager D dev) (P : Settled → Type 0)
+    → dev.sectors new.dev ≡ dev.sectors old.dev
+    → LeavesOnly dev.moment dev.left_since old.dev new.dev
+    (λ image. P (settled (dev.sectors old.dev / 4) image))
+    → LeavesOnly (λ (p : Pager D dev). dev.moment p.dev)
+    (λ (p : Pager D dev). IsOutcome dev.left_since (settled (dev.sectors p.dev / 4)) p.dev) old
+    new P
+as_read {D} dev old new P size run =
+    lifted dev.moment dev.left_since (λ (p : Pager D dev). p.dev)
+    (λ (p : Pager D dev). settled (dev.sectors p.dev / 4)) old new P
+    (ap (λ (s : ℕ). settled (s / 4)) size) run
+
+-- what a stop during reads leaves
 pub read_leaves : {D : Type 0} (dev : Ghosts D) (old new : Pager D dev)
     → dev.sectors new.dev ≡ dev.sectors old.dev
     → LeavesOnly dev.moment dev.left_since old.dev new.dev (IsImageOf (dev.candidate old.dev))
@@ -62,14 +72,11 @@ pub read_leaves : {D : Type 0} (dev : Ghosts D) (old new : Pager D dev)
     (λ (p : Pager D dev). IsOutcome dev.left_since (settled (dev.sectors p.dev / 4)) p.dev) old
     new
     (SettlesTo (dev.sectors old.dev / 4) (dev.candidate old.dev))
-read_leaves {D} dev old new size run =
-    let cap : ℕ = dev.sectors old.dev / 4 in
-    let P = SettlesTo cap (dev.candidate old.dev) in
-    lifted dev.moment dev.left_since (λ (p : Pager D dev). p.dev)
-    (λ (p : Pager D dev). settled (dev.sectors p.dev / 4)) old new P
-    (ap (λ (s : ℕ). settled (s / 4)) size)
-    (weaker dev.moment dev.left_since old.dev new.dev (λ image. P (settled cap image))
-    (IsImageOf (dev.candidate old.dev)) run
+read_leaves dev old new size run =
+    let P = SettlesTo (dev.sectors old.dev / 4) (dev.candidate old.dev) in
+    as_read dev old new P size
+    (weaker dev.moment dev.left_since old.dev new.dev
+    (λ image. P (settled (dev.sectors old.dev / 4) image)) (IsImageOf (dev.candidate old.dev)) run
     (λ image is. record { image = image; is_image = is; reads = refl }))
 
 -- what a call that asks the device for nothing keeps
@@ -88,30 +95,68 @@ unasked {D} dev old new same pages only_now = record {
       (none_yet dev old.dev only_now).any_moment);
 }
 
--- what a stop during a commit leaves, as the store reads it
-pub commit_leaves : {D : Type 0} (dev : Ghosts D) (old new : Pager D dev) (new_end : ℕ)
-    (pages : List Page) → old.writable ≡ true → dev.sectors new.dev ≡ dev.sectors old.dev
+-- what a stop leaves while pages that wait are brought home
+module _ {D : Type 0} (dev : Ghosts D) (old new : Pager D dev)
+    (size : dev.sectors new.dev ≡ dev.sectors old.dev)
+    (run : LeavesOnly dev.moment dev.left_since old.dev new.dev
+    (λ image. settled (dev.sectors old.dev / 4) image ≡ file_of (pages_of dev old))) where
+  -- in a settling
+  pub settle_leaves : settled (dev.sectors old.dev / 4) (dev.seen old.dev)
+      ≡ file_of (pages_of dev old) → IsImageOf (dev.candidate old.dev) (dev.seen old.dev)
+      → LeavesOnly (λ (p : Pager D dev). dev.moment p.dev)
+      (λ (p : Pager D dev). IsOutcome dev.left_since (settled (dev.sectors p.dev / 4)) p.dev) old
+      new (SettlesTo (dev.sectors old.dev / 4) (dev.candidate old.dev))
+  settle_leaves settles may_stay =
+      let P = SettlesTo (dev.sectors old.dev / 4) (dev.candidate old.dev) in
+      as_read dev old new P size
+      (weaker dev.moment dev.left_since old.dev new.dev
+      (λ image. P (settled (dev.sectors old.dev / 4) image)) _ run
+      (λ image is.
+      record { image = dev.seen old.dev; is_image = may_stay; reads = settles ∙ sym is }))
+
+  -- at the beginning of a commit
+  pub commit_begins : (after : Pages)
+      → LeavesOnly (λ (p : Pager D dev). dev.moment p.dev)
+      (λ (p : Pager D dev). IsOutcome dev.left_since (settled (dev.sectors p.dev / 4)) p.dev) old
+      new (IsEither (pages_of dev old) after)
+  commit_begins after =
+      let P = IsEither (pages_of dev old) after in
+      as_read dev old new P size
+      (weaker dev.moment dev.left_since old.dev new.dev
+      (λ image. P (settled (dev.sectors old.dev / 4) image)) _ run (λ image is. inl is))
+
+-- what a stop leaves in a commit, whose device had all pages at home in between
+pub commit_leaves : {D : Type 0} (dev : Ghosts D) (old new : Pager D dev) (mid : D) (new_end : ℕ)
+    (waiting pages : List Page) → dev.sectors mid ≡ dev.sectors old.dev
+    → dev.sectors new.dev ≡ dev.sectors mid → waiting ≡ old.waiting.items
     → pages ≡ old.staged.items
     → ((n : ℕ) → old.end ≤ n → n < new_end → has_page (bytes_of old.staged.items) n ≡ true)
-    → LeavesOnly dev.moment dev.left_since old.dev new.dev
-    (λ image. IsEither (file_pages (page_at (dev.seen old.dev)) old.end)
-    (file_pages (overlaid (bytes_of pages) (page_at (dev.seen old.dev))) new_end)
-    (settled (dev.sectors old.dev / 4) image))
+    → LeavesOnly dev.moment dev.left_since old.dev mid
+    (λ image. settled (dev.sectors old.dev / 4) image
+    ≡ file_of (file_pages (overlaid (bytes_of waiting) (page_at (dev.seen old.dev))) old.end))
+    → file_pages (page_at (dev.seen mid)) old.end ≡ pages_of dev old
+    → LeavesOnly dev.moment dev.left_since mid new.dev
+    (λ image. IsEither (file_pages (page_at (dev.seen mid)) old.end)
+    (file_pages (overlaid (bytes_of pages) (page_at (dev.seen mid))) new_end)
+    (settled (dev.sectors mid / 4) image))
     → LeavesOnly (λ (p : Pager D dev). dev.moment p.dev)
     (λ (p : Pager D dev). IsOutcome dev.left_since (settled (dev.sectors p.dev / 4)) p.dev) old
     new
-    (IsEither (file_pages (overlaid (bytes_of old.redo.items) (page_at (dev.seen old.dev))) old.end)
-    (committed_with (file_pages (overlaid (bytes_of old.redo.items) (page_at (dev.seen old.dev)))
-    old.end) (bytes_of old.staged.items) new_end))
-commit_leaves {D} dev old new new_end pages writable size same grown run =
+    (IsEither (pages_of dev old)
+    (committed_with (pages_of dev old) (bytes_of old.staged.items) new_end))
+commit_leaves dev old new mid new_end waiting pages first_size size kept same grown settled_run
+    at_home run =
     let cap : ℕ = dev.sectors old.dev / 4 in
-    let home = page_at (dev.seen old.dev) in
-    let before = file_pages (overlaid (bytes_of old.redo.items) home) old.end in
+    let before = pages_of dev old in
     let P = IsEither before (committed_with before (bytes_of old.staged.items) new_end) in
-    lifted dev.moment dev.left_since (λ (p : Pager D dev). p.dev)
-    (λ (p : Pager D dev). settled (dev.sectors p.dev / 4)) old new P
-    (ap (λ (s : ℕ). settled (s / 4)) size)
-    (weaker dev.moment dev.left_since old.dev new.dev (λ image. P (settled cap image)) _ run
-    (λ image is. either (bytes_of old.redo.items) home (old.none writable) old.end new_end
-    (bytes_of pages) (bytes_of old.staged.items) (settled cap image)
-    (ap bytes_of same) grown is))
+    let were : file_pages (overlaid (bytes_of waiting) (page_at (dev.seen old.dev))) old.end ≡ before =
+    ap (λ (ps : List Page). file_pages (overlaid (bytes_of ps) (page_at (dev.seen old.dev)))
+    old.end) kept in
+    as_read dev old new P (size ∙ first_size)
+    (followed_by dev.moment dev.left_since old.dev mid new.dev (λ image. P (settled cap image)) _
+    (weaker dev.moment dev.left_since old.dev mid (λ image. P (settled cap image)) _ settled_run
+    (λ image is. inl (is ∙ ap file_of were))) run
+    (λ image is. subst (λ (s : ℕ). P (settled (s / 4) image)) first_size
+    (either before (page_at (dev.seen mid)) old.end at_home new_end (bytes_of pages)
+    (bytes_of old.staged.items) (settled (dev.sectors mid / 4) image) (ap bytes_of same) grown
+    is)))

@@ -5,6 +5,7 @@ mod open_fault;
 mod pager;
 mod reading;
 mod recovery;
+mod settling;
 
 pub use open_fault::OpenFault;
 pub use pager::Pager;

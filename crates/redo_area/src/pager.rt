@@ -8,29 +8,38 @@ ghost use Rattle.redo_area.specs.Settling.{SettlesIfUsable, SettlesTo};
 
 mod opening;
 
+use crate::settling::bring_home;
 use page_io::{
     Page, PageFault, PageStore, StagedPages, find_staged, is_among, put_staged, read_page,
 };
-use redo_commit::commit_pages;
+use redo_commit::arm;
 use sect_dev::SectorDev;
+use std::mem::swap;
 
 /// A store of pages over a device. A commit that a stop cuts short is whole or absent when the
-/// device is opened again. One that was opened for reading alone never writes and never syncs.
+/// device is opened again. It answers once its redo images are armed; its pages then wait in memory
+/// until `settle` or the next commit brings them home. A store that was opened for reading alone
+/// never writes and never syncs.
 #[derive(Drop)]
 pub struct Pager<D: SectorDev> {
     dev: D,
     staged: StagedPages,
-    // The redo images of an armed file that was opened for reading alone.
-    redo: Vec<Page>,
+    // Committed pages that stand over the device's: those of the last commit that aren't at home
+    // yet, or the redo images of an armed file that was opened for reading alone.
+    waiting: StagedPages,
+    // The page of the first redo image, where pages of a commit wait.
+    start: u32,
     end: u32,
     usable: bool,
     writable: bool,
     ghost least: { 4 ≤ end },
     ghost fits: { end ≤ D.sectors dev / 4 },
     ghost order: { are_in_order 1 (2 ^ 32) (bytes_of staged.items) ≡ true },
-    ghost none: { writable ≡ true → bytes_of redo.items ≡ [] },
-    ghost rests: { SettlesIfUsable (D.honest dev) usable writable (D.sectors dev / 4) end
-        (bytes_of redo.items) (D.candidate dev) (D.seen dev) },
+    ghost behind: { end ≤ start },
+    ghost within: { start ≤ D.sectors dev / 4 },
+    ghost rising: { writable ≡ true → are_in_order 1 end (bytes_of waiting.items) ≡ true },
+    ghost settles: { SettlesIfUsable (D.honest dev) usable writable (D.sectors dev / 4) end start
+        (bytes_of waiting.items) (D.candidate dev) (D.seen dev) },
 }
 
 impl<D: SectorDev> PageStore for Pager<D> {
@@ -45,6 +54,7 @@ impl<D: SectorDev> PageStore for Pager<D> {
     ghost use Rattle.redo_area.specs.Pagers.{device_of};
     ghost use Rattle.redo_area.specs.Reading.{OnlyReads};
     ghost use Rattle.redo_area.specs.Settling.{only_seen, quarter_fits};
+    ghost use Rattle.redo_commit.specs.File.{IsAtRest};
 
     ghost state = { λ p. record {
       staged = bytes_of p.staged.items;
@@ -56,7 +66,7 @@ impl<D: SectorDev> PageStore for Pager<D> {
     } };
 
     ghost committed = { λ p. file_pages
-        (overlaid (bytes_of p.redo.items) (page_at (D.seen p.dev))) p.end };
+        (overlaid (bytes_of p.waiting.items) (page_at (D.seen p.dev))) p.end };
 
     ghost honest = { λ p. D.honest p.dev };
 
@@ -68,6 +78,9 @@ impl<D: SectorDev> PageStore for Pager<D> {
 
     ghost settled_since = { λ p. IsOutcome D.left_since (settled (D.sectors p.dev / 4)) p.dev };
 
+    ghost at_home = { λ p.
+        IsAtRest (D.sectors p.dev / 4) p.end (D.candidate p.dev) (D.seen p.dev) };
+
     ghost reserved = { 5 };
 
     ghost reserves = { le_refl 5 };
@@ -77,12 +90,12 @@ impl<D: SectorDev> PageStore for Pager<D> {
           image = D.seen p.dev;
           is_image = D.seen_may_stay p.dev h;
           reads =
-              (p.rests h usable).settles;
+              (p.settles h usable).settles;
         } };
 
     ghost only_committed = { λ p y h usable w s.
         only_seen (D.sectors p.dev / 4) (D.candidate p.dev) (D.seen p.dev) y _
-        ((p.rests h usable).at_rest w).stable (p.rests h usable).settles s };
+        ((p.settles h usable).waits w).stable (p.settles h usable).settles s };
 
     ghost only_now = { λ p y h s.
         record {
@@ -98,7 +111,7 @@ impl<D: SectorDev> PageStore for Pager<D> {
           reads = s.reads;
         } };
 
-    ghost ends = { λ p. counts_end (overlaid (bytes_of p.redo.items) (page_at (D.seen p.dev)))
+    ghost ends = { λ p. counts_end (overlaid (bytes_of p.waiting.items) (page_at (D.seen p.dev)))
         p.end p.least };
 
     ghost in_range = { λ p. (p.least, p.fits, quarter_fits (D.sectors p.dev) (D.fits p.dev)) };
@@ -137,7 +150,7 @@ impl<D: SectorDev> PageStore for Pager<D> {
         if n < 1 || self.end <= n {
             return Err(PageFault::Damaged);
         }
-        if find_staged(self.redo.as_slice(), n, page) {
+        if find_staged(self.waiting.as_slice(), n, page) {
             return Ok(());
         }
         if read_page(&mut self.dev, n, page).is_err() {
@@ -160,7 +173,8 @@ impl<D: SectorDev> PageStore for Pager<D> {
         self.staged.clear();
     }
 
-    /// As the trait says, and a refusal makes no device call.
+    /// As the trait says, and a refusal makes no device call. Pages of the last commit that still
+    /// wait are brought home first.
     fn commit(&mut self, new_end: u32) -> Result<(), PageFault>
         requires some { 0 < length (⟦<Pager<D> as PageStore>⟧.state self.old).staged }
         requires least { 4 ≤ new_end }
@@ -216,11 +230,34 @@ impl<D: SectorDev> PageStore for Pager<D> {
         }
         let old_end = self.end;
         self.usable = false;
-        if commit_pages(&mut self.dev, old_end, new_end, self.staged.as_slice()).is_err() {
+        if bring_home(&mut self.dev, self.start, old_end, self.waiting.as_slice()).is_err() {
             return Err(PageFault::Device);
         }
-        self.staged.clear();
+        self.waiting.clear();
+        let start = old_end.max(new_end);
+        let pages = self.staged.as_slice();
+        if arm(&mut self.dev, start, old_end, new_end, pages).is_err() {
+            return Err(PageFault::Device);
+        }
+        swap(&mut self.staged, &mut self.waiting);
+        self.start = start;
         self.end = new_end;
+        self.usable = true;
+        Ok(())
+    }
+
+    fn settle(&mut self) -> Result<(), PageFault> {
+        if !self.usable {
+            return Err(PageFault::Broken);
+        }
+        if !self.writable {
+            return Ok(());
+        }
+        self.usable = false;
+        if bring_home(&mut self.dev, self.start, self.end, self.waiting.as_slice()).is_err() {
+            return Err(PageFault::Device);
+        }
+        self.waiting.clear();
         self.usable = true;
         Ok(())
     }

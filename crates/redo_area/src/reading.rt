@@ -8,7 +8,7 @@ ghost use Rattle.redo_area.specs.Opening.{refusal_of, SaysArmed};
 ghost use Rattle.redo_area.specs.Reading.{OnlyReads};
 
 use crate::OpenFault;
-use page_io::{Page, read_page};
+use page_io::{Page, StagedPages, read_page};
 use redo_commit::{Header, read_header};
 use sect_dev::SectorDev;
 use std::alloc::Global;
@@ -18,10 +18,10 @@ use std::alloc::Global;
 #[derive(Drop)]
 pub struct SeenFile {
     pub end: u32,
-    pub redo: Vec<Page>,
+    pub redo: StagedPages,
 }
 
-/// Reads the redo images into memory. Damaged is the answer where their numbers do not rise from 1
+/// Reads the redo images into memory, of which the first five take none. Damaged is the answer where their numbers do not rise from 1
 /// on and below the end.
 fn read_images<D: SectorDev>(
     alloc: Global,
@@ -29,7 +29,7 @@ fn read_images<D: SectorDev>(
     start: u32,
     count: u32,
     end: u32,
-) -> Result<Vec<Page>, OpenFault>
+) -> Result<StagedPages, OpenFault>
     requires { 4 * (start + count) ≤ D.sectors dev.old }
     ensures images { D.honest dev.old
         → IfOk result (λ images. bytes_of images.items ≡ redo_images (D.seen dev.old) start count) }
@@ -47,7 +47,7 @@ fn read_images<D: SectorDev>(
     ensures honesty { D.honest dev.new ↔ D.honest dev.old }
     ensures size { D.sectors dev.new ≡ D.sectors dev.old }
 {
-    let mut images = Vec::new(alloc);
+    let mut images = StagedPages::new(alloc);
     let mut page = Page::blank();
     let mut least: u64 = 1;
     for i in 0..count {
@@ -97,7 +97,7 @@ pub fn read_file<D: SectorDev>(alloc: Global, dev: &mut D) -> Result<SeenFile, O
         Header::Blank => Err(OpenFault::Blank),
         Header::Clear { end } => Ok(SeenFile {
             end,
-            redo: Vec::new(alloc),
+            redo: StagedPages::new(alloc),
         }),
         Header::Armed { end, start, count } => {
             let redo = read_images(alloc, dev, start, count, end)?;

@@ -11,7 +11,7 @@ use Rattle.page_io.specs.declared.page.Page.{Page}
 use Rattle.redo_commit.specs.Header.{header_of, spelled}
 use Rattle.redo_commit.specs.File.{settled, IsOutsideAll, IsAtRest, IsArmed}
 use Rattle.redo_commit.proofs.Headers.{says_clear, says_armed}
-use Rattle.redo_commit.proofs.Images.{staging, armed_over, now_armed, going_home, now_clear, same_new, settled-clear}
+use Rattle.redo_commit.proofs.Images.{staging, armed_over, now_armed, going_home, now_clear, settled-clear}
 
 -- a run, and then the commit sector
 pub then_header : {D : Type 0} (dev : Ghosts D) (P : Image → Type 0) (first mid new : D)
@@ -125,23 +125,3 @@ module _ {D : Type 0} (dev : Ghosts D) (first : D) {end start : ℕ} {redo : Pag
       (ap (header_of cap) (at_same (dev.seen mid) 0 content 0 refl)
       ∙ says_clear (dev.sectors first) end content fits least room spells)
       ∙ ap file_of (now_clear cap (dev.seen first) (dev.seen mid) content end redo written))
-
--- all four steps
-pub finish_leaves : {D : Type 0} (dev : Ghosts D) (first mid new : D) (old staged : Pages)
-    (end start : ℕ) → end ≤ start → dev.sectors mid ≡ dev.sectors first
-    → ((m : ℕ) → 0 < m → m < 4 * start → dev.seen mid m ≡ dev.seen first m)
-    → LeavesOnly dev.moment dev.left_since first mid
-    (λ image. IsEither old (file_pages (overlaid staged (page_at (dev.seen first))) end)
-    (settled (dev.sectors first / 4) image))
-    → LeavesOnly dev.moment dev.left_since mid new
-    (λ image. settled (dev.sectors mid / 4) image
-    ≡ file_of (file_pages (overlaid staged (page_at (dev.seen mid))) end))
-    → LeavesOnly dev.moment dev.left_since first new
-    (λ image. IsEither old (file_pages (overlaid staged (page_at (dev.seen first))) end)
-    (settled (dev.sectors first / 4) image))
-finish_leaves dev first mid new old staged end start le size same armed finished =
-    followed_by dev.moment dev.left_since first mid new
-    (λ image. IsEither old (file_pages (overlaid staged (page_at (dev.seen first))) end)
-    (settled (dev.sectors first / 4) image)) _ armed finished
-    (λ image is. inr (ap (λ (s : ℕ). settled (s / 4) image) (sym size) ∙ is
-    ∙ ap file_of (same_new (dev.seen first) (dev.seen mid) staged end start le same)))

@@ -1,5 +1,5 @@
 // The steps of a commit.
-ghost use Rattle.std.specs.Prelude.{◌≡◌, ◌≤◌, ◌<◌, ◌+◌, ◌*◌, ◌/◌, ◌↔◌, ℕ, List, length, true, max, OnOk, slice_index_or, []};
+ghost use Rattle.std.specs.Prelude.{◌≡◌, ◌≤◌, ◌<◌, ◌+◌, ◌*◌, ◌/◌, ◌↔◌, ℕ, List, length, true, OnOk, slice_index_or, []};
 ghost use Rattle.sect_dev.specs.Device.{IsImageOf, IsStable, with_sector, with_candidate, HasCause, LeavesOnly};
 ghost use Rattle.page_io.specs.Page.{page_at, own_number, KeepsWhere};
 ghost use Rattle.page_io.specs.Store.{file_of, pages_from, file_pages, overlaid, are_in_order, bytes_of, IsEither};
@@ -121,8 +121,8 @@ fn put_homes<D: SectorDev>(dev: &mut D, pages: &[Page]) -> Result<(), DevFault>
 }
 
 /// Steps 1 and 2: the pages are on the disk as redo images, and the commit sector is armed over
-/// them.
-fn arm<D: SectorDev>(
+/// them. From here on a stop leaves the new pages.
+pub fn arm<D: SectorDev>(
     dev: &mut D,
     start: u32,
     old_end: u32,
@@ -159,7 +159,12 @@ fn arm<D: SectorDev>(
 }
 
 /// Steps 3 and 4: the pages are on the disk at their own numbers, and the commit sector is clear.
-fn finish<D: SectorDev>(dev: &mut D, start: u32, end: u32, pages: &[Page]) -> Result<(), DevFault>
+pub fn finish<D: SectorDev>(
+    dev: &mut D,
+    start: u32,
+    end: u32,
+    pages: &[Page],
+) -> Result<(), DevFault>
     requires armed { D.honest dev.old
         → IsArmed (D.sectors dev.old / 4) end start (bytes_of pages.now) (D.candidate dev.old)
         (D.seen dev.old) }
@@ -185,42 +190,5 @@ fn finish<D: SectorDev>(dev: &mut D, start: u32, end: u32, pages: &[Page]) -> Re
 {
     put_homes(dev, pages)?;
     put_header(dev, &clear_sector(end))?;
-    Ok(())
-}
-
-/// Puts pages in the place of those that they name, whole or not at all.
-pub fn commit_pages<D: SectorDev>(
-    dev: &mut D,
-    old_end: u32,
-    new_end: u32,
-    pages: &[Page],
-) -> Result<(), DevFault>
-    requires rest { D.honest dev.old
-        → IsAtRest (D.sectors dev.old / 4) old_end (D.candidate dev.old) (D.seen dev.old) }
-    requires some { 0 < length pages.now }
-    requires least { 4 ≤ new_end }
-    requires room { max old_end new_end + length pages.now ≤ D.sectors dev.old / 4 }
-    requires in_order { are_in_order 1 new_end (bytes_of pages.now) ≡ true }
-
-    // Every image of every moment since the start settles to the old pages or to the new.
-    ensures any_moment { D.honest dev.old → LeavesOnly D.moment D.left_since dev.old dev.new
-        (λ image. IsEither (file_pages (page_at (D.seen dev.old)) old_end)
-        (file_pages (overlaid (bytes_of pages.now) (page_at (D.seen dev.old))) new_end)
-        (settled (D.sectors dev.old / 4) image)) }
-
-    // At `Ok` all is on the disk, and what a read gives are the new pages.
-    ensures rest { D.honest dev.old
-        → OnOk result (IsAtRest (D.sectors dev.old / 4) new_end (D.candidate dev.new)
-        (D.seen dev.new)) }
-    ensures pages { D.honest dev.old
-        → OnOk result (file_pages (page_at (D.seen dev.new)) new_end
-        ≡ file_pages (overlaid (bytes_of pages.now) (page_at (D.seen dev.old))) new_end) }
-    ensures honesty { D.honest dev.new ↔ D.honest dev.old }
-    ensures cause { HasCause (D.faults dev.old) (D.faults dev.new) result }
-    ensures size { D.sectors dev.new ≡ D.sectors dev.old }
-{
-    let start = old_end.max(new_end);
-    arm(dev, start, old_end, new_end, pages)?;
-    finish(dev, start, new_end, pages)?;
     Ok(())
 }

@@ -1,5 +1,7 @@
 -- How the calls of a session ended, as the definitions say it.
-use Rattle.std.proofs.Common.{◌≡◌, inl, inr, ℕ, Bool, true, false, cond, Result, Ok, Err, List, [], ◌∷◌, refl, sym, ◌∙◌, ap, subst, Contains}
+use Rattle.std.proofs.Common.{◌≡◌, ◌≢◌, ◌⊎◌, ◌↔◌, inl, inr, ⊎_elim, ℕ, Bool, true, false, Result, Ok, Err, OnOk, IfErr, Vec, List, [], ◌∷◌, map, refl, sym, ◌∙◌, ap, subst, Contains}
+use Rattle.std.specs.Global.{Global}
+use Rattle.std.proofs.lemmas.Bool.{false≢true}
 use Rattle.std.proofs.lemmas.List.{append-nil}
 use Rattle.sect_dev.specs.Device.{Image, Candidates, IsImageOf}
 use Rattle.dbm_model.specs.Calls.{Call, Reply}
@@ -18,13 +20,15 @@ use Rattle.dbm_sessions.proofs.Cuts.{broken_leaves}
 use Rattle.dbm_sessions.proofs.Lists.{is_first, is_later}
 use Rattle.dbm_fault.specs.declared.fault.Fault.{Fault}
 use Rattle.dbm_fault.specs.declared.fault.Fault.TheVariants.{Broken}
+use Rattle.dbm_file.specs.Calls.{reply_of}
+use Rattle.dbm_file.specs.declared.calls.Reply as code
 use Rattle.dbm_file.specs.Database.{store_of, meta_kept, page_state, IsAt}
 use Rattle.dbm_file.specs.Runs.{IsInDoubt, IsBreak, IsRun}
 use Rattle.dbm_file.specs.declared.database.Database.{Database}
 use Rattle.rehearsal.specs.Members.{StandsForOne}
-use Rattle.rehearsal.specs.Sessions.{IfNotOpened, GoesOn, CallsLeave}
+use Rattle.rehearsal.specs.Sessions.{ending_of, IfNotOpened, GoesOn, CallsLeave}
 use Rattle.rehearsal.specs.declared.sessions.Ending.{Ending}
-use Rattle.rehearsal.specs.declared.sessions.Ending.TheVariants.{NotOpened, NoMemory, Rested, Broke}
+use Rattle.rehearsal.specs.declared.sessions.Ending.TheVariants.{NotOpened, NoMemory, Rested, Unsettled, Broke}
 use Rattle.dbm_sessions.proofs.Rooms.{limit_stays}
 
 -- a session that an opening began
@@ -132,16 +136,37 @@ module _ {S : Type 0} {s : Ghosts S} (new : Database S s) (first last : Handle) 
         subst (λ (n : ℕ). ImageStandsFor y one.0 n) same one.2,
       )
 
--- a database that is closed was usable, or it was broken
-pub was_usable : {X : Type 0} (b : Bool) (x : X) (told : Result X Fault)
-    → told ≡ cond b (Ok x) (Err Broken) → told ≡ Ok x → b ≡ true
-was_usable true x told answer is = refl
-was_usable false x told answer is = absurd (let e = sym answer ∙ is in cc)
+-- it was usable when it was closed, or broken
+pub how_ended : (usable : Bool) {X : Type 0} (closed : Result X Fault) (ending : Ending)
+    (replies : Vec code.Reply Global) → (closed ≡ Err Broken ↔ (usable ≡ false))
+    → OnOk closed (ending ≡ Rested replies)
+    → IfErr closed (λ fault. fault ≢ Broken → ending ≡ Unsettled replies)
+    → (closed ≡ Err Broken → ending ≡ Broke replies)
+    → ((usable ≡ true) × ((ending ≡ Rested replies) ⊎ (ending ≡ Unsettled replies)))
+    ⊎ ((usable ≡ false) × (ending ≡ Broke replies))
+how_ended false closed ending replies broken rested failed broke =
+    inr (refl, broke (broken.1 refl))
+how_ended true (Ok x) ending replies broken rested failed broke = inl (refl, inl rested)
+how_ended true (Err fault) ending replies broken rested failed broke = inl (
+  refl,
+  inr (failed (λ is. false≢true (sym (broken.0 (ap Err is))))),
+)
 
-pub was_broken : {X : Type 0} (b : Bool) (x : X) (fault : Fault) (told : Result X Fault)
-    → told ≡ cond b (Ok x) (Err Broken) → told ≡ Err fault → b ≡ false
-was_broken true x fault told answer is = absurd (let e = sym answer ∙ is in cc)
-was_broken false x fault told answer is = refl
+-- what holds of either way of ending
+pub by_ending : (usable : Bool) {X : Type 0} (closed : Result X Fault) (ending : Ending)
+    (replies : Vec code.Reply Global) → (closed ≡ Err Broken ↔ (usable ≡ false))
+    → OnOk closed (ending ≡ Rested replies)
+    → IfErr closed (λ fault. fault ≢ Broken → ending ≡ Unsettled replies)
+    → (closed ≡ Err Broken → ending ≡ Broke replies) → (P : model.Ending → Type 0)
+    → (usable ≡ true → P (model.Rested (map reply_of replies.items)))
+    → (usable ≡ false → P (model.Broke (map reply_of replies.items))) → P (ending_of ending)
+by_ending usable closed ending replies broken rested failed broke P sound doubt =
+    elim (how_ended usable closed ending replies broken rested failed broke) [
+      | inl was ↦ ⊎_elim
+          (λ is. subst (λ (e : Ending). P (ending_of e)) (sym is) (sound was.0))
+          (λ is. subst (λ (e : Ending). P (ending_of e)) (sym is) (sound was.0)) was.1
+      | inr was ↦ subst (λ (e : Ending). P (ending_of e)) (sym was.1) (doubt was.0)
+    ]
 
 -- ---- what is left of the device
 
@@ -190,4 +215,5 @@ pub none_refused : (ending : Ending) (P : Fault → Type 0) → IfNotOpened endi
 none_refused (NotOpened fault) P is = absurd is
 none_refused NoMemory P is = tt
 none_refused (Rested replies) P is = tt
+none_refused (Unsettled replies) P is = tt
 none_refused (Broke replies) P is = tt

@@ -1,13 +1,12 @@
 -- What a stop within a session leaves.
-use Rattle.std.proofs.Common.{◌≡◌, inl, inr, ⊎_elim, ℕ, ◌/◌, true, List, [], ◌∷◌, ◌++◌, map, refl, sym, ◌∙◌, subst}
-use Rattle.sect_dev.specs.Device.{Candidates, LeavesOnly}
-use Rattle.sect_dev.specs.Moments.{IsOutcome}
-use Rattle.sect_dev.specs.declared.device.SectorDev as device
+use Rattle.std.proofs.Common.{◌≡◌, ℕ, ◌/◌, true, List, [], ◌∷◌, ◌++◌, map, refl, sym, ◌∙◌, subst}
+use Rattle.std.proofs.lemmas.List.{append-nil}
+use Rattle.sect_dev.specs.Device.{Candidates}
 use Rattle.dbm_model.specs.Calls.{Call, Reply}
 use Rattle.dbm_model.specs.States.{Handle}
+use Rattle.dbm_model.specs.Steps.{Run}
 use Rattle.page_io.specs.Store.{Settled}
 use Rattle.page_io.specs.Meaning.{ImageStandsFor}
-use Rattle.redo_commit.specs.File.{settled}
 use Rattle.file_opening.specs.Opening.{MayRemain}
 use Rattle.file_opening.specs.declared.open_how.OpenHow.{OpenHow}
 use Rattle.dbm_sessions.specs.Members.{Holding, Members, held, opened}
@@ -20,31 +19,8 @@ use Rattle.rehearsal.specs.Members.{AllStandFor}
 use Rattle.rehearsal.specs.Sessions.{opening_of, for_writing, replies_in, IsStopOf, IsLeftByStop, IsLeftByCalls}
 use Rattle.rehearsal.specs.declared.sessions.Opening.{Opening}
 use Rattle.rehearsal.proofs.Openings.{remains}
-use Rattle.rehearsal.proofs.Endings.{step_of, none_made}
+use Rattle.rehearsal.proofs.Endings.{step_of, none_made, all_made}
 use Rattle.rehearsal.proofs.Stops.{within}
-
--- ---- the moments of a device
-
--- those of a layer above it
-pub lower : {S D : Type 0} (dev : device.Ghosts D) (below : S → D) (old new : S)
-    (P Q : Settled → Type 0) → dev.sectors (below new) / 4 ≡ dev.sectors (below old) / 4
-    → LeavesOnly (λ p. dev.moment (below p))
-    (λ p. IsOutcome dev.left_since (settled (dev.sectors (below p) / 4)) (below p)) old new P
-    → ((y : Settled) → P y → Q y)
-    → LeavesOnly dev.moment
-    (IsOutcome dev.left_since (settled (dev.sectors (below old) / 4))) (below old) (below new) Q
-lower dev below old new P Q same run weaker =
-    let at_own : (t : ℕ) (y : Settled)
-    → IsOutcome dev.left_since (settled (dev.sectors (below old) / 4)) (below new) t y
-    → IsOutcome dev.left_since (settled (dev.sectors (below new) / 4)) (below new) t y =
-    λ t y is.
-    subst (λ (n : ℕ). IsOutcome dev.left_since (settled n) (below new) t y) (sym same) is in
-    record {
-      later = run.later;
-      each = λ y is. weaker y (run.each y (at_own (dev.moment (below old)) y is));
-      before = λ t y le is. ⊎_elim (λ past. inl past) (λ p. inr (weaker y p))
-          (run.before t y le (at_own t y is));
-    }
 
 -- ---- the calls
 
@@ -86,6 +62,19 @@ left_unmade h calls usable y stands = record {
   after = held h.state ∷ [];
   goes = none_made h calls usable;
   stands = (held h.state, is_first (held h.state) [] (held h.state) refl, stands);
+}
+
+-- all were made
+pub left_made : (h last : Handle) (calls : List Call) (replies : List Reply)
+    (ending : model.Ending) → replies_in ending ≡ replies → Run h calls replies last
+    → last.state.usable ≡ true → (y : Settled)
+    → ImageStandsFor y last.state.map last.state.limit → IsLeftByCalls h calls ending y
+left_made h last calls replies ending same run usable y stands = record {
+  stop = model.Rested replies;
+  is_stop = stops_so ending replies (model.Rested replies) same ([], sym (append-nil replies));
+  after = held last.state ∷ [];
+  goes = all_made h last calls replies run usable;
+  stands = (held last.state, is_first (held last.state) [] (held last.state) refl, stands);
 }
 
 -- ---- a session

@@ -1,5 +1,5 @@
 -- A session of the code as one of the definitions.
-use Rattle.std.specs.Prelude.{◌≡◌, ◌≢◌, ℕ, false, List, [], ◌++◌, map, length, vec_len, None, IfSome}
+use Rattle.std.specs.Prelude.{◌≡◌, ◌≢◌, ℕ, ◌/◌, false, List, [], ◌++◌, map, length, vec_len, None, IfSome}
 use Rattle.sect_dev.specs.Device.{Candidates, MoreFaults}
 use Rattle.sect_dev.specs.declared.device.SectorDev.{Ghosts}
 use Rattle.page_io.specs.Store.{Settled}
@@ -9,6 +9,7 @@ use Rattle.dbm_sessions.specs.Members as members
 use Rattle.dbm_sessions.specs.Members.{Members}
 use Rattle.dbm_sessions.specs.Sessions as model
 use Rattle.dbm_sessions.specs.Sessions.{Plan, StoppedOpening, StoppedCall, Rests, CutShort, Breaks, SessionStep}
+use Rattle.redo_commit.specs.File.{IsAtRest}
 use Rattle.dbm_fault.specs.Faults.{fault_of}
 use Rattle.dbm_fault.specs.declared.fault.Fault.{Fault}
 use Rattle.dbm_fault.specs.declared.fault.Fault.TheVariants.{Device}
@@ -20,7 +21,7 @@ use Rattle.dbm_file.specs.declared.calls.Call.{Call}
 use Rattle.rehearsal.specs.Members.{StandsForOne, AllStandFor}
 use Rattle.rehearsal.specs.declared.sessions.Opening.{Opening}
 use Rattle.rehearsal.specs.declared.sessions.Ending.{Ending}
-use Rattle.rehearsal.specs.declared.sessions.Ending.TheVariants.{NotOpened, NoMemory, Rested, Broke}
+use Rattle.rehearsal.specs.declared.sessions.Ending.TheVariants.{NotOpened, NoMemory, Rested, Unsettled, Broke}
 
 -- ---- what it is asked to do, and how it ended
 
@@ -44,6 +45,7 @@ abbrev pub ending_of : Ending → model.Ending
 ending_of (NotOpened fault) = model.NotOpened (fault_of fault)
 ending_of NoMemory = model.Rested []
 ending_of (Rested replies) = model.Rested (map reply_of replies.items)
+ending_of (Unsettled replies) = model.Rested (map reply_of replies.items)
 ending_of (Broke replies) = model.Broke (map reply_of replies.items)
 
 -- there is one reply a call, where calls were made
@@ -51,11 +53,27 @@ abbrev pub IsOneEach : List Call → Ending → Type 0
 IsOneEach calls (NotOpened fault) = Unit {0}
 IsOneEach calls NoMemory = Unit {0}
 IsOneEach calls (Rested replies) = vec_len replies ≡ length calls
+IsOneEach calls (Unsettled replies) = vec_len replies ≡ length calls
 IsOneEach calls (Broke replies) = vec_len replies ≡ length calls
 
 abbrev pub IfNotOpened : Ending → (Fault → Type 0) → Type 0
 IfNotOpened (NotOpened fault) P = P fault
 IfNotOpened ending P = Unit {0}
+
+-- it was closed
+abbrev pub IfRested : Ending → Type 0 → Type 0
+IfRested (Rested replies) P = P
+IfRested ending P = Unit {0}
+
+-- the closing failed
+abbrev pub IfUnsettled : Ending → Type 0 → Type 0
+IfUnsettled (Unsettled replies) P = P
+IfUnsettled ending P = Unit {0}
+
+-- all is on the disk, and no commit on its way
+abbrev pub IsSettled : {D : Type 0} → Ghosts D → D → Type 0
+IsSettled bound dev =
+    (end : ℕ) × IsAtRest (bound.sectors dev / 4) end (bound.candidate dev) (bound.seen dev)
 
 -- why an honest device was not opened: what is asked can't be had of a device of its size; a call
 -- of it failed; or an image that it had at the start is refused so

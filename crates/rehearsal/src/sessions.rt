@@ -1,5 +1,5 @@
 // A session on a device, from its opening to its end.
-ghost use Rattle.std.specs.Prelude.{◌≡◌, ◌≢◌, ◌⊎◌, ◌↔◌, ◌≤◌, ◌/◌, ℕ, None, true, map};
+ghost use Rattle.std.specs.Prelude.{◌≡◌, ◌≢◌, ◌⊎◌, ◌↔◌, ◌≤◌, ◌/◌, ℕ, None, true, map, Err, IfErr, OnOk};
 ghost use Rattle.sect_dev.specs.Device.{Image, IsImageOf, LeavesOnly, MoreFaults};
 ghost use Rattle.sect_dev.specs.Moments.{IsOutcome};
 ghost use Rattle.redo_commit.specs.File.{settled};
@@ -9,10 +9,10 @@ ghost use Rattle.dbm_sessions.specs.Members.{Members};
 ghost use Rattle.dbm_sessions.specs.Room.{IsNeverShort};
 ghost use Rattle.file_opening.specs.Opening.{early_fault, AllStand, AllAllow};
 ghost use Rattle.dbm_file.specs.Calls.{call_of};
-ghost use Rattle.dbm_file.specs.Database.{IsAt};
+ghost use Rattle.dbm_file.specs.Database.{page_state, IsAt};
 ghost use Rattle.dbm_file.specs.Opened.{device_below, AllHaveRoom};
 ghost use Rattle.rehearsal.specs.Members.{AllStandFor};
-ghost use Rattle.rehearsal.specs.Sessions.{plan_of, for_writing, ending_of, IsOneEach, IfNotOpened, WhyNotOpened, Leaves, IsLeftByStop, CallsLeave, IsLeftByCalls};
+ghost use Rattle.rehearsal.specs.Sessions.{plan_of, for_writing, ending_of, IsOneEach, IfNotOpened, IfRested, IfUnsettled, IsSettled, WhyNotOpened, Leaves, IsLeftByStop, CallsLeave, IsLeftByCalls};
 
 use dbm_file::{Access, Call, Db, Fault, OpenHow, Reply, run};
 use sect_dev::SectorDev;
@@ -54,7 +54,9 @@ pub enum Ending {
     NoMemory,
     /// Each call was given its reply, and the database was closed.
     Rested(Vec<Reply>),
-    /// The same, and a fault of the device broke the database in one of the calls.
+    /// The same, but the closing failed by a fault of the device. What the calls did stands.
+    Unsettled(Vec<Reply>),
+    /// Each call was given its reply, and a fault of the device broke the database in one of them.
     Broke(Vec<Reply>),
 }
 
@@ -91,6 +93,11 @@ pub fn session<D: SectorDev>(alloc: Global, dev: D, how: Opening, calls: &[Call]
     // call is refused for want of room.
     ensures room { D.honest dev → AllHaveRoom (D.sectors dev / 4) (D.candidate dev)
         → IsNeverShort (ending_of result.1) }
+
+    // Where it is told that the database was closed, nothing is on its way to the disk; where the
+    // closing is told as failed, a call of the device was.
+    ensures closed { D.honest dev → IfRested result.1 (IsSettled D.SectorDev result.0) }
+    ensures failed { IfUnsettled result.1 (MoreFaults (D.faults dev) (D.faults result.0)) }
     ensures honesty { D.honest result.0 ↔ D.honest dev }
     ensures size { D.sectors result.0 / 4 ≡ D.sectors dev / 4 }
 {
@@ -114,6 +121,10 @@ fn make_calls<D: SectorDev>(alloc: Global, db: Db<D>, calls: &[Call]) -> (D, End
         (IsLeftByCalls h (map call_of calls.now) (ending_of result.1)) }
     ensures room { D.honest (device_below db) → (h : Handle) → IsAt db h → HasRoom h
         → IsNeverShort (ending_of result.1) }
+    ensures closed { D.honest (device_below db) → (page_state db).writable ≡ true
+        → IfRested result.1 (IsSettled D.SectorDev result.0) }
+    ensures failed { IfUnsettled result.1
+        (MoreFaults (D.faults (device_below db)) (D.faults result.0)) }
     ensures opened { IfNotOpened result.1 (λ fault. ⊥) }
     ensures one_each { IsOneEach calls.now result.1 }
     ensures honesty { D.honest result.0 ↔ D.honest (device_below db) }
@@ -123,8 +134,20 @@ fn make_calls<D: SectorDev>(alloc: Global, db: Db<D>, calls: &[Call]) -> (D, End
     let Ok(replies) = run(alloc, &mut db, calls) else {
         return (db.close().0, Ending::NoMemory);
     };
-    match db.close() {
-        (dev, Ok(())) => (dev, Ending::Rested(replies)),
-        (dev, Err(_)) => (dev, Ending::Broke(replies)),
+    let (dev, closed) = db.close();
+    (dev, ended(closed, replies))
+}
+
+// How a session ended whose calls got these replies.
+fn ended(closed: Result<(), Fault>, replies: Vec<Reply>) -> Ending
+    ensures rested { OnOk closed (result ≡ Ending.Rested replies) }
+    ensures failed { IfErr closed
+        (λ fault. fault ≢ Fault.Broken → result ≡ Ending.Unsettled replies) }
+    ensures broke { closed ≡ Err Fault.Broken → result ≡ Ending.Broke replies }
+{
+    match closed {
+        Ok(()) => Ending::Rested(replies),
+        Err(Fault::Broken) => Ending::Broke(replies),
+        Err(_) => Ending::Unsettled(replies),
     }
 }

@@ -169,7 +169,7 @@ fn states_of(
 /// How many changes of a session were acknowledged.
 fn acknowledged(before: &Option<Table>, how: Opening, ending: &Ending) -> usize {
     match ending {
-        Ending::Rested(replies) | Ending::Broke(replies) => replies
+        Ending::Rested(replies) | Ending::Unsettled(replies) | Ending::Broke(replies) => replies
             .iter()
             .filter(|reply| matches!(reply, Reply::Stored | Reply::Deleted))
             .count()

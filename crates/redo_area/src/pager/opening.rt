@@ -53,7 +53,8 @@ impl<D: SectorDev> Pager<D> {
         Ok(Pager {
             dev,
             staged: StagedPages::new(alloc),
-            redo: Vec::new(alloc),
+            waiting: StagedPages::new(alloc),
+            start: pages.len() as u32 + 1,
             end: pages.len() as u32 + 1,
             usable: true,
             writable: true,
@@ -111,7 +112,8 @@ impl<D: SectorDev> Pager<D> {
                 Ok(end) => Ok(Pager {
                     dev,
                     staged: StagedPages::new(alloc),
-                    redo: Vec::new(alloc),
+                    waiting: StagedPages::new(alloc),
+                    start: end,
                     end,
                     usable: true,
                     writable: true,
@@ -123,7 +125,8 @@ impl<D: SectorDev> Pager<D> {
             Ok(file) => Ok(Pager {
                 dev,
                 staged: StagedPages::new(alloc),
-                redo: file.redo,
+                waiting: file.redo,
+                start: file.end,
                 end: file.end,
                 usable: true,
                 writable: false,
@@ -132,7 +135,8 @@ impl<D: SectorDev> Pager<D> {
         }
     }
 
-    /// The device as it is. Staged pages are lost.
+    /// The device as it is. Staged pages are lost; those that wait are brought home by the next
+    /// opening for writing, unless `settle` came before.
     pub fn into_dev(self) -> D
         ensures { result ≡ device_of self }
     {

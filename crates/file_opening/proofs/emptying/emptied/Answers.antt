@@ -26,17 +26,17 @@ pub returns-in-Some-clause-any_moment : goal.returns-in-Some-clause-any_moment
 returns-in-Some-clause-any_moment g c honest =
     let dev = g.D.SectorDev in
     let store = c.args.store in
-    let rest = store.rests honest c.requires.fresh.usable in
+    let rest = store.settles honest c.requires.fresh.usable in
     subst (λ d. LeavesOnly dev.moment
     (IsOutcome dev.left_since (settled (dev.sectors store.dev / 4))) store.dev d
-    (OldOrEmpty (file_pages (overlaid (bytes_of store.redo.items)
+    (OldOrEmpty (file_pages (overlaid (bytes_of store.waiting.items)
     (page_at (dev.seen store.dev))) store.end)
     (emptying_fault c.args.limit (dev.sectors store.dev) store.end ≡ None)
     c.args.limit)) (sym c.into_dev.ensures)
     (settles_still dev.moment dev.left_since dev.candidate store.dev (dev.sectors store.dev / 4) _
     (λ image left. g.met.D.SectorDev.only_now store.dev image honest left)
     (λ y is. inl (only_seen (dev.sectors store.dev / 4) (dev.candidate store.dev)
-    (dev.seen store.dev) y _ (rest.at_rest c.requires.fresh.writable).stable
+    (dev.seen store.dev) y _ (rest.waits c.requires.fresh.writable).stable
     rest.settles is)))
 
 pub returns-in-Ok-clause-stands : goal.returns-in-Ok-clause-stands
@@ -45,13 +45,13 @@ returns-in-Ok-clause-stands g c honest =
     let new = c.commit_empty.new.store in
     let m = c.of_empty-meta.result in
     let holds = c.in-Ok.ensures.holds honest in
-    let rest = new.rests (c.commit_empty.ensures.honesty.1 honest) in
+    let rest = new.settles (c.commit_empty.ensures.honesty.1 honest) in
     let writable = ap (λ (st : StoreState). st.writable) c.in-Ok.ensures.ok
     ∙ c.requires.fresh.writable in record {
       holds = λ usable. holds;
       rests = λ usable y left. subst (λ (z : Settled). ImageStandsFor z empty m.limit)
           (sym (only_seen (dev.sectors new.dev / 4) (dev.candidate new.dev) (dev.seen new.dev) y _
-          ((rest usable).at_rest writable).stable (rest usable).settles left)) holds.stands;
+          ((rest usable).waits writable).stable (rest usable).settles left)) holds.stands;
       limit_is = ap (λ (n : Meta). n.limit) c.of_empty-meta.ensures;
     }
 
@@ -93,11 +93,11 @@ returns-in-Some-clause-left g c honest other =
     let dev = g.D.SectorDev in
     let store = c.args.store in
     let d = store.dev in
-    let rest = store.rests honest c.requires.fresh.usable in
+    let rest = store.settles honest c.requires.fresh.usable in
     reads_leave dev (dev.sectors d / 4) d c.into_dev.result _
     (subst (OnlyReads dev d) (sym c.into_dev.ensures)
     (reads_nothing dev d (λ image left. g.met.D.SectorDev.only_now d image honest left)))
-    (rest.at_rest c.requires.fresh.writable).stable rest.settles
+    (rest.waits c.requires.fresh.writable).stable rest.settles
 
 pub returns-in-Some-clause-device : goal.returns-in-Some-clause-device
 returns-in-Some-clause-device g c is =
@@ -198,7 +198,7 @@ returns-in-Err-clause-any_moment g c honest =
     let new = c.commit_empty.new.store in
     subst (λ d. LeavesOnly dev.moment (IsOutcome dev.left_since (settled (dev.sectors old.dev / 4)))
     old.dev d (OldOrEmpty (file_pages
-    (overlaid (bytes_of old.redo.items) (page_at (dev.seen old.dev))) old.end)
+    (overlaid (bytes_of old.waiting.items) (page_at (dev.seen old.dev))) old.end)
     (emptying_fault c.args.limit (dev.sectors old.dev) old.end ≡ None) c.args.limit))
     (sym c.into_dev-in-Err.ensures)
     (run_below dev old new _ c.args.limit c.of_empty-meta.result.limit

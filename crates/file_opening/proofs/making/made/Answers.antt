@@ -21,7 +21,7 @@ returns-in-Ok-clause-stands g c honest =
     c.pages_of_empty.ensures.stands in
     let dev = g.D.SectorDev in
     let new = c.in-Ok.store in
-    let rest = new.rests (c.in-Ok.ensures.honesty.1 honest) in
+    let rest = new.settles (c.in-Ok.ensures.honesty.1 honest) in
     let writable = ap (λ (st : StoreState). st.writable) c.in-Ok.ensures.state in record {
       holds = λ usable. record {
         stands = stands;
@@ -30,7 +30,7 @@ returns-in-Ok-clause-stands g c honest =
       };
       rests = λ usable y left. subst (λ (z : Settled). ImageStandsFor z empty m.limit)
           (sym (only_seen (dev.sectors new.dev / 4) (dev.candidate new.dev) (dev.seen new.dev) y _
-          ((rest usable).at_rest writable).stable (rest usable).settles left)) stands;
+          ((rest usable).waits writable).stable (rest usable).settles left)) stands;
       limit_is = ap (λ (n : Meta). n.limit) c.of_empty-meta.ensures;
     }
 

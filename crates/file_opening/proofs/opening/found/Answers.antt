@@ -26,7 +26,7 @@ returns-in-Ok-clause-stands g c honest only map limit stands =
     let dev = g.D.SectorDev in
     let store = c.args.store in
     let new = c.read.new.self in
-    let file = file_pages (overlaid (bytes_of store.redo.items) (page_at (dev.seen store.dev)))
+    let file = file_pages (overlaid (bytes_of store.waiting.items) (page_at (dev.seen store.dev)))
     store.end in
     let m = c.in-Ok.meta in
     let meta = meta_of stands.placement in
@@ -121,7 +121,7 @@ returns-in-Ok-clause-kept g c honest = (c.in_default.ensures.kept honest).commit
 pub returns-in-Ok-clause-says : goal.returns-in-Ok-clause-says
 returns-in-Ok-clause-says g c honest =
     let store = c.args.store in
-    let file = file_pages (overlaid (bytes_of store.redo.items)
+    let file = file_pages (overlaid (bytes_of store.waiting.items)
     (page_at (g.D.SectorDev.seen store.dev))) store.end in
     let read = c.in_default.ensures.found honest
     ∙ ap (λ (s : Pages). overlaid s (page_of file) 1) c.requires.fresh.staged in
@@ -153,7 +153,7 @@ returns-in-Err-Version-clause-only_reads g c honest =
 pub returns-in-Err-Version-clause-refused : goal.returns-in-Err-Version-clause-refused
 returns-in-Err-Version-clause-refused g c honest other =
     let store = c.args.store in
-    let file = file_pages (overlaid (bytes_of store.redo.items)
+    let file = file_pages (overlaid (bytes_of store.waiting.items)
     (page_at (g.D.SectorDev.seen store.dev))) store.end in
     let read = c.in_default.ensures.found honest
     ∙ ap (λ (s : Pages). overlaid s (page_of file) 1) c.requires.fresh.staged in
@@ -195,7 +195,7 @@ returns-in-Err-Damaged-clause-only_reads g c honest =
 pub returns-in-Err-Damaged-clause-refused : goal.returns-in-Err-Damaged-clause-refused
 returns-in-Err-Damaged-clause-refused g c honest other =
     let store = c.args.store in
-    let file = file_pages (overlaid (bytes_of store.redo.items)
+    let file = file_pages (overlaid (bytes_of store.waiting.items)
     (page_at (g.D.SectorDev.seen store.dev))) store.end in
     let read = c.in_default.ensures.found honest
     ∙ ap (λ (s : Pages). overlaid s (page_of file) 1) c.requires.fresh.staged in

@@ -30,7 +30,7 @@ returns-then-not-how-clause-stands g c honest only map limit stands =
 -- what is due of the file that was found is due of the pages at the start
 due_here : (g : Over) (c : goal.After-emptied g) → g.D.SectorDev.honest c.args.store.dev →
     emptying_fault c.args.how.limit (g.D.SectorDev.sectors c.args.store.dev)
-    (length (file_pages (overlaid (bytes_of c.args.store.redo.items)
+    (length (file_pages (overlaid (bytes_of c.args.store.waiting.items)
     (page_at (g.D.SectorDev.seen c.args.store.dev))) c.args.store.end) + 1)
     ≡ emptying_fault c.args.how.limit (g.D.SectorDev.sectors c.in-Ok.file.store.dev)
     c.in-Ok.file.store.end
@@ -40,14 +40,14 @@ due_here g c honest =
     let how = c.args.how in
     let all = c.in-Ok.ensures in
     let end_is = ap (λ (ps : Pages). length ps + 1) (sym (all.kept honest))
-    ∙ counts_end (overlaid (bytes_of mid.redo.items) (page_at (dev.seen mid.dev)))
+    ∙ counts_end (overlaid (bytes_of mid.waiting.items) (page_at (dev.seen mid.dev)))
     mid.end mid.least in
     ap (λ (n : ℕ). emptying_fault how.limit (dev.sectors c.args.store.dev) n) end_is
     ∙ ap (λ (n : ℕ). emptying_fault how.limit n mid.end) (sym all.size)
 
 -- its meta page is a good one
 says_here : (g : Over) (c : goal.After-emptied g) → g.D.SectorDev.honest c.args.store.dev → SaysMeta
-    (page_of (file_pages (overlaid (bytes_of c.args.store.redo.items)
+    (page_of (file_pages (overlaid (bytes_of c.args.store.waiting.items)
     (page_at (g.D.SectorDev.seen c.args.store.dev))) c.args.store.end) 1)
 says_here g c honest =
     let says = c.in-Ok.ensures.says honest in
@@ -91,7 +91,7 @@ returns-in-Ok-clause-any_moment g c honest =
     let mid = c.in-Ok.file.store in
     let how = c.args.how in
     let cap : ℕ = dev.sectors store.dev / 4 in
-    let file = file_pages (overlaid (bytes_of store.redo.items) (page_at (dev.seen store.dev)))
+    let file = file_pages (overlaid (bytes_of store.waiting.items) (page_at (dev.seen store.dev)))
     store.end in
     let all = c.in-Ok.ensures in
     let P : Settled → Type 0 = λ now.
@@ -105,11 +105,11 @@ returns-in-Ok-clause-any_moment g c honest =
       is_image =
           g.met.D.SectorDev.seen_may_stay store.dev honest;
       reads =
-          (store.rests honest c.requires.fresh.usable).settles;
+          (store.settles honest c.requires.fresh.usable).settles;
     } in
     settles_on dev.moment dev.left_since store.dev mid.dev (device_left c.emptied.result) cap
     (dev.sectors mid.dev / 4) P (OldOrEmpty
-    (file_pages (overlaid (bytes_of mid.redo.items) (page_at (dev.seen mid.dev))) mid.end)
+    (file_pages (overlaid (bytes_of mid.waiting.items) (page_at (dev.seen mid.dev))) mid.end)
     (emptying_fault how.limit (dev.sectors mid.dev) mid.end ≡ None) how.limit)
     (ap (λ (n : ℕ). n / 4) all.size)
     (settles_run dev.moment dev.left_since store.dev mid.dev cap P
@@ -179,13 +179,13 @@ returns-then-not-how-clause-refused g c honest =
     let dev = g.D.SectorDev in
     let store = c.args.store in
     let d = store.dev in
-    let rest = store.rests honest c.requires.fresh.usable in
+    let rest = store.settles honest c.requires.fresh.usable in
     let all = c.found-found.ensures in
     each_err c.found-found.result (all.refused honest) (λ e is why other. (
       inl (inr (c.requires.allowed, inl (why other))),
       λ writing. reads_leave dev (dev.sectors d / 4) d e.0 _
           (subst (OnlyReads dev d) (ap device_left is) (all.only_reads honest))
-          (rest.at_rest (c.requires.fresh.writable ∙ writing)).stable rest.settles,
+          (rest.waits (c.requires.fresh.writable ∙ writing)).stable rest.settles,
     ))
 
 pub returns-then-not-how-clause-device : goal.returns-then-not-how-clause-device
@@ -282,14 +282,14 @@ returns-in-Err-clause-refused g c honest other =
     let dev = g.D.SectorDev in
     let store = c.args.store in
     let d = store.dev in
-    let rest = store.rests honest c.requires.fresh.usable in (
+    let rest = store.settles honest c.requires.fresh.usable in (
       inl (inr (
         c.requires.allowed,
         inl (c.in-Err.ensures.refused honest other),
       )),
       λ writing. reads_leave dev (dev.sectors d / 4) d c.in-Err.refused.0 _
           (c.in-Err.ensures.only_reads honest)
-          (rest.at_rest (c.requires.fresh.writable ∙ writing)).stable rest.settles,
+          (rest.waits (c.requires.fresh.writable ∙ writing)).stable rest.settles,
     )
 
 pub returns-in-Err-clause-device : goal.returns-in-Err-clause-device

@@ -38,7 +38,7 @@ returns-in-Ok-clause-any_moment g c honest =
     let run = all.any_moment honest in
     let h1 = all.honesty.1 honest in
     let P : Settled → Type 0 = MayRemain how (dev.sectors old) (dev.candidate old) in
-    let file = file_pages (overlaid (bytes_of store.redo.items) (page_at (dev.seen mid)))
+    let file = file_pages (overlaid (bytes_of store.waiting.items) (page_at (dev.seen mid)))
     store.end in
     let size = ap (λ (n : ℕ). n / 4) all.size in
     settles_on dev.moment dev.left_since old mid (device_left c.opened.result) cap
@@ -69,12 +69,12 @@ returns-in-Ok-clause-stands g c honest one stand =
     let mid = store.dev in
     let all = c.in-Ok.ensures in
     let h1 = all.honesty.1 honest in
-    let file = file_pages (overlaid (bytes_of store.redo.items) (page_at (dev.seen mid)))
+    let file = file_pages (overlaid (bytes_of store.waiting.items) (page_at (dev.seen mid)))
     store.end in
     let what = what_stood cap (dev.candidate old) file (all.committed honest) stand in
-    let rest = store.rests h1 all.state.usable in
+    let rest = store.settles h1 all.state.usable in
     let stable = by_access c.is_writable.result
-    (λ on. (rest.at_rest (all.state.writable ∙ on)).stable)
+    (λ on. (rest.waits (all.state.writable ∙ on)).stable)
     (λ off. stable_still dev old mid (all.only_reads off honest)
     (one (sym c.is_writable.ensures ∙ off))) in
     let written = may_empty how (dev.sectors old)
@@ -93,7 +93,7 @@ pub returns-in-Ok-clause-opened : goal.returns-in-Ok-clause-opened
 returns-in-Ok-clause-opened g c honest =
     let all = c.in-Ok.ensures in
     let store = c.in-Ok.store in
-    let file = file_pages (overlaid (bytes_of store.redo.items)
+    let file = file_pages (overlaid (bytes_of store.waiting.items)
     (page_at (g.D.SectorDev.seen store.dev))) store.end in
     from_ok c.opened.result (c.opened.ensures.opened (all.honesty.1 honest)) (λ new keeps.
     inl (
@@ -113,7 +113,7 @@ file_refused g c honest =
     let how = c.args.how in
     let store = c.in-Ok.store in
     let all = c.in-Ok.ensures in
-    let file = file_pages (overlaid (bytes_of store.redo.items) (page_at (dev.seen store.dev)))
+    let file = file_pages (overlaid (bytes_of store.waiting.items) (page_at (dev.seen store.dev)))
     store.end in
     each_err c.opened.result (c.opened.ensures.refused (all.honesty.1 honest)) (λ e is why other.
     let both = why other in

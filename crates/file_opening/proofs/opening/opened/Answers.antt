@@ -33,12 +33,12 @@ returns-then-is_exclusive-clause-refused g c honest other =
     let dev = g.D.SectorDev in
     let store = c.args.store in
     let d = store.dev in
-    let rest = store.rests honest c.requires.fresh.usable in
+    let rest = store.settles honest c.requires.fresh.usable in
     let reads = subst (OnlyReads dev d) (sym c.into_dev.ensures)
     (reads_nothing dev d (λ image left. g.met.D.SectorDev.only_now d image honest left)) in (
       inl (inl (sym c.is_exclusive.ensures ∙ c.if-is_exclusive.true, refl)),
       λ writing. reads_leave dev (dev.sectors d / 4) d c.into_dev.result _ reads
-          (rest.at_rest (c.requires.fresh.writable ∙ writing)).stable rest.settles,
+          (rest.waits (c.requires.fresh.writable ∙ writing)).stable rest.settles,
     )
 
 pub returns-then-is_exclusive-clause-device : goal.returns-then-is_exclusive-clause-device

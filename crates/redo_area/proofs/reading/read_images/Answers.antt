@@ -1,4 +1,4 @@
-use Rattle.std.proofs.Common.{◌≡◌, ◌+◌, ◌-◌, ℕ, List, [], ◌∷◌, ◌++◌, ◌<◌, ◌≤◌, ◌⊎◌, inl, inr, Bool, true, cond, is_ok, refl, ◌∙◌, sym, ap, arith}
+use Rattle.std.proofs.Common.{◌≡◌, ◌+◌, ◌-◌, ℕ, List, [], ◌∷◌, ◌++◌, ◌<◌, ◌≤◌, ◌⊎◌, inl, inr, refl, ◌∙◌, sym, ap, arith}
 use Rattle.std.proofs.lemmas.List.{map-append}
 use Rattle.sect_dev.specs.Device.{Image}
 use Rattle.page_io.specs.Page.{page_at, own_number}
@@ -131,11 +131,11 @@ returns g c =
       size = inv.size;
     }
 
-pushed : (ok : Bool) (now items : List Page) (page : Page) (old : Pages) (new : List ℕ)
-    → now ≡ cond ok (items ++ page ∷ []) items → ok ≡ true → bytes_of items ≡ old → page.bytes ≡ new
+pushed : (now items : List Page) (page : Page) (old : Pages) (new : List ℕ)
+    → now ≡ items ++ page ∷ [] → bytes_of items ≡ old → page.bytes ≡ new
     → bytes_of now ≡ old ++ new ∷ []
-pushed ok now items page old new is taken before bytes =
-    ap bytes_of (is ∙ ap (λ (b : Bool). cond b (items ++ page ∷ []) items) taken)
+pushed now items page old new is before bytes =
+    ap bytes_of is
     ∙ map-append (λ (p : Page). p.bytes) items (page ∷ [])
     ∙ ap (λ (ps : Pages). ps ++ page.bytes ∷ []) before ∙ ap (λ (b : List ℕ). old ++ b ∷ []) bytes
 
@@ -165,8 +165,9 @@ loop-i-preserved g c =
           (omega (arith, c.if-own-least.false))
           (omega (arith, c.if-from-own.false, c.from.ensures));
       images = λ h.
-          pushed (is_ok c.push.result) c.push.new.self.items c.loop-i.images.items
-          c.read_page.new.page (pages_from at c.args.start i) (at place) c.push.ensures.items
-          c.if-is_err-2.ensures.negation (inv.images h) (bytes h)
+          pushed c.push.new.self.items c.loop-i.images.items c.read_page.new.page
+          (pages_from at c.args.start i) (at place)
+          (from_test c.push.result c.is_err-in-loop-i.ensures.value c.if-is_err-2.false c.push.ensures.ok)
+          (inv.images h) (bytes h)
           ∙ sym (pages_more at c.args.start i);
     }

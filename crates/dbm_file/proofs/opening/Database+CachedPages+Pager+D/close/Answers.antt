@@ -1,28 +1,49 @@
-use Rattle.std.proofs.Common.{◌/◌, refl, sym, ap, subst, ◌∙◌}
-use Rattle.sect_dev.specs.Device.{IsImageOf}
-use Rattle.page_io.specs.Meaning.{ImageStandsFor}
+use Rattle.std.proofs.Common.{◌/◌, inl, sym, ◌∙◌, ap, subst}
+use Rattle.sect_dev.specs.Device.{LeavesOnly}
+use Rattle.sect_dev.specs.Moments.{IsOutcome}
 use Rattle.redo_commit.specs.File.{settled}
 use Rattle.redo_area.specs.Pagers.{device_of}
+use Rattle.redo_area.specs.Settling.{SettlesTo}
+use Rattle.page_cache.specs.Stores.{store_below}
+use Rattle.dbm_file.proofs.Closings.{lower, left_now, same_capacity}
 use Rattle.dbm_file.proofs.OpenedFiles.{stands_for}
 use Rattle.dbm_file.proofs.opening.Database+CachedPages+Pager+D.close.Goals as goal
 
-pub returns-clause-stands : goal.returns-clause-stands
-returns-clause-stands g c honest h at usable image is =
+pub returns-clause-any_moment : goal.returns-clause-any_moment
+returns-clause-any_moment g c honest =
     let dev = g.D.SectorDev in
-    let old = c.args.self.store.store.dev in
-    let same = c.into_dev-dev.ensures ∙ ap device_of c.into_inner.ensures in
-    let there = subst (λ d. IsImageOf (dev.candidate d) image) same is in
-    subst (λ d. ImageStandsFor (settled (dev.sectors d / 4) image) h.state.map h.state.limit)
-    (sym same) (stands_for _ c.args.self h (settled (dev.sectors old / 4) image) at usable
-    (record { image = image; is_image = there; reads = refl }))
+    let old = c.args.self.store in
+    let new = c.settle-settled.new.self in
+    let done = c.settle-settled.ensures in
+    let cap = dev.sectors old.store.dev / 4 in
+    let P = SettlesTo cap (dev.candidate old.store.dev) in
+    subst (λ d. LeavesOnly dev.moment (IsOutcome dev.left_since (settled cap)) old.store.dev d P)
+    (sym (c.into_dev-dev.ensures ∙ ap device_of c.into_inner.ensures))
+    (lower dev (λ cached. device_of (store_below cached)) old new P P
+    (same_capacity _ _ c.settle-settled.result done.ok done.breaks
+    (λ is. ap (λ cached. dev.sectors (device_of (store_below cached)) / 4)
+    (done.untouched (inl (done.answer.broken.0 is)))) done.answer.only)
+    (done.any_moment honest) (λ y is. is))
 
-pub returns-clause-settles : goal.returns-clause-settles
-returns-clause-settles g c image is =
+pub returns-clause-stands : goal.returns-clause-stands
+returns-clause-stands g c still h at usable image is =
     let dev = g.D.SectorDev in
+    let old = c.args.self.store in
+    let new = c.settle-settled.new.self in
+    let done = c.settle-settled.ensures in
     let same = c.into_dev-dev.ensures ∙ ap device_of c.into_inner.ensures in
-    let there = subst (λ d. IsImageOf (dev.candidate d) image) same is in
-    record {
-      image = image;
-      is_image = there;
-      reads = ap (λ d. settled (dev.sectors d / 4) image) (sym same);
-    }
+    let honest = done.honesty.0 (subst dev.honest same still) in
+    let cap = dev.sectors old.store.dev / 4 in
+    let P = SettlesTo cap (dev.candidate old.store.dev) in
+    let capacity = same_capacity _ _ c.settle-settled.result done.ok done.breaks
+    (λ is. ap (λ cached. dev.sectors (device_of (store_below cached)) / 4)
+    (done.untouched (inl (done.answer.broken.0 is)))) done.answer.only in
+    let run = subst
+    (λ d. LeavesOnly dev.moment (IsOutcome dev.left_since (settled cap)) old.store.dev d P) (sym same)
+    (lower dev (λ cached. device_of (store_below cached)) old new P P capacity
+    (done.any_moment honest) (λ y p. p)) in
+    stands_for _ c.args.self h (settled (dev.sectors c.into_dev-dev.result / 4) image) at usable
+    (left_now dev old.store.dev c.into_dev-dev.result P image
+    (ap (λ d. dev.sectors d / 4) same ∙ capacity) run
+    (λ later. g.met.D.SectorDev.counts_now c.into_dev-dev.result (dev.moment old.store.dev) image
+    still later is))

@@ -14,8 +14,8 @@ returns-then-is_err-clause-any_moment g c honest none =
     (blank_candidates (dev.sectors first / 4) (dev.candidate first) (dev.seen first)
     (g.met.D.SectorDev.seen_may_stay first honest) none)
 
-pub invariant_of-result-clause-rests : goal.invariant_of-result-clause-rests
-invariant_of-result-clause-rests g c still usable =
+pub invariant_of-result-clause-settles : goal.invariant_of-result-clause-settles
+invariant_of-result-clause-settles g c still usable =
     let dev = g.D.SectorDev in
     let new = c.format_pages.new.dev in
     let kept = c.new-2.result.items in
@@ -28,7 +28,7 @@ invariant_of-result-clause-rests g c still usable =
     let ends : 1 + count ≡ count + 1 = omega arith in
     let rest = from_test c.format_pages.result c.is_err.ensures.value c.if-is_err.false
     (c.format_pages.ensures.rest honest) in
-    rests_at true (dev.sectors new / 4) (count + 1) (bytes_of kept) (dev.candidate new)
+    rests_at true (dev.sectors new / 4) (count + 1) (count + 1) (bytes_of kept) (dev.candidate new)
     (dev.seen new) (ap bytes_of none)
     (subst (λ (end : ℕ). at_rest (dev.sectors new / 4) end) ends
     (subst (λ (cap : ℕ). at_rest cap (1 + count)) same rest))

@@ -5,8 +5,8 @@ use Rattle.redo_area.specs.Settling.{rests_at}
 use Rattle.redo_area.proofs.Recoveries.{as_before}
 use Rattle.redo_area.proofs.pager.Pager.open.Goals as goal
 
-pub invariant_of-result-clause-rests : goal.invariant_of-result-clause-rests
-invariant_of-result-clause-rests g c still usable =
+pub invariant_of-result-clause-settles : goal.invariant_of-result-clause-settles
+invariant_of-result-clause-settles g c still usable =
     let dev = g.D.SectorDev in
     let new = c.recover.new.dev in
     let kept = c.new-in-Ok.result.items in
@@ -14,7 +14,7 @@ invariant_of-result-clause-rests g c still usable =
     let at_rest = λ (cap : ℕ). IsAtRest cap c.in-Ok.end (dev.candidate new) (dev.seen new) in
     let same : dev.sectors c.args.dev / 4 ≡ dev.sectors new / 4 =
     ap (λ (s : ℕ). s / 4) (sym c.recover.ensures.size) in
-    rests_at true (dev.sectors new / 4) c.in-Ok.end (bytes_of kept) (dev.candidate new)
+    rests_at true (dev.sectors new / 4) c.in-Ok.end c.in-Ok.end (bytes_of kept) (dev.candidate new)
     (dev.seen new) (ap bytes_of none)
     (subst at_rest same (c.in-Ok.ensures.rest (c.recover.ensures.honesty.0 still)))
 
@@ -32,7 +32,7 @@ returns-in-Ok-clause-committed g c honest =
     let now = run.each (dev.seen new)
     (met.counts_now new (dev.moment first) (dev.seen new) h1 run.later
     (met.seen_may_stay new h1)) in
-    let rests = rests_at true cap c.in-Ok.end (bytes_of kept) (dev.candidate new) (dev.seen new)
+    let rests = rests_at true cap c.in-Ok.end c.in-Ok.end (bytes_of kept) (dev.candidate new) (dev.seen new)
     (ap bytes_of none) (c.in-Ok.ensures.rest honest) in
     record { image = now.0; is_image = now.1; reads = sym now.2 ∙ rests.settles }
 

@@ -13,7 +13,7 @@ pub returns-then-find_staged-clause-found : goal.returns-then-find_staged-clause
 returns-then-find_staged-clause-found g c honest =
     let old = c.args.self.now in
     let home = page_of (file_pages
-    (overlaid (bytes_of old.redo.items) (page_at (g.D.SectorDev.seen old.dev))) old.end) in
+    (overlaid (bytes_of old.waiting.items) (page_at (g.D.SectorDev.seen old.dev))) old.end) in
     c.find_staged.ensures.page
     ∙ overlaid-staged (bytes_of c.as_slice.result.now) home (λ _. c.args.page.now.bytes) c.args.n
     (sym c.find_staged.ensures.found ∙ c.if-find_staged.true)
@@ -28,23 +28,23 @@ returns-then-find_staged-2-clause-found g c honest =
     c.find_staged-2.ensures.page
     ∙ overlaid-staged (bytes_of c.as_slice-2.result.now) seen (λ _. c.find_staged.new.page.bytes)
     c.args.n (sym c.find_staged-2.ensures.found ∙ c.if-find_staged-2.true)
-    ∙ ap (λ (ps : List Page). overlaid (bytes_of ps) seen c.args.n) c.as_slice-2.ensures.value
-    ∙ sym (not_staged (bytes_of old.staged.items) (overlaid (bytes_of old.redo.items) seen) old.end
+    ∙ ap (λ (ps : List Page). overlaid (bytes_of ps) seen c.args.n) c.as_slice-2.ensures
+    ∙ sym (not_staged (bytes_of old.staged.items) (overlaid (bytes_of old.waiting.items) seen) old.end
     c.args.n c.if-n-lt1.false c.if-self-n.false none)
 
 pub returns-clause-found : goal.returns-clause-found
 returns-clause-found g c honest =
     let old = c.args.self.now in
-    let redo = bytes_of old.redo.items in
+    let waiting = bytes_of old.waiting.items in
     let seen = page_at (g.D.SectorDev.seen old.dev) in
     let none = not_found c.args.n c.as_slice.ensures c.find_staged.ensures.found
     c.if-find_staged.false in
-    let not_kept = not_found c.args.n c.as_slice-2.ensures.value c.find_staged-2.ensures.found
+    let not_kept = not_found c.args.n c.as_slice-2.ensures c.find_staged-2.ensures.found
     c.if-find_staged-2.false in
     from_test c.read_page.result c.is_err.ensures.value c.if-is_err.false
     (c.read_page.ensures.read honest)
-    ∙ sym (overlaid-none redo seen c.args.n not_kept)
-    ∙ sym (not_staged (bytes_of old.staged.items) (overlaid redo seen) old.end c.args.n
+    ∙ sym (overlaid-none waiting seen c.args.n not_kept)
+    ∙ sym (not_staged (bytes_of old.staged.items) (overlaid waiting seen) old.end c.args.n
     c.if-n-lt1.false c.if-self-n.false none)
 
 -- the store is broken
@@ -97,7 +97,7 @@ returns-then-is_err-clause-kept g c honest =
     let old = c.args.self.now in
     let page = c.read_page.ensures in
     record {
-      committed = ap (λ (s : Image). file_pages (overlaid (bytes_of old.redo.items) (page_at s))
+      committed = ap (λ (s : Image). file_pages (overlaid (bytes_of old.waiting.items) (page_at s))
           old.end) (page.seen honest);
       any_moment = read_leaves g.D.SectorDev old _ page.size (page.any_moment honest);
     }
@@ -118,7 +118,7 @@ returns-clause-kept g c honest =
     let old = c.args.self.now in
     let page = c.read_page.ensures in
     record {
-      committed = ap (λ (s : Image). file_pages (overlaid (bytes_of old.redo.items) (page_at s))
+      committed = ap (λ (s : Image). file_pages (overlaid (bytes_of old.waiting.items) (page_at s))
           old.end) (page.seen honest);
       any_moment = read_leaves g.D.SectorDev old _ page.size (page.any_moment honest);
     }
