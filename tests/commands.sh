@@ -63,18 +63,28 @@ run 0 "$long\n" '' fetch pages a
 run 0 '2\n' '' verify pages
 
 # A script in which the device fails within a change goes on, each later change is refused as that of a broken database, and
-# the fault of closing is told.
+# the fault of closing is told: one that an earlier change left, or its own, and then each change is there.
 cc -shared -fPIC -O1 -o fail.so "$top/tests/fail.c" -ldl || exit 1
-printf 'S 61 02\n' > lines
 cp t.db first.db
+# failing CALL REPLIES FAULT: the script with that call of the system on the file failed
+failing() {
+  local status
+  cp first.db t.db
+  FAIL_CALL=$1 LD_PRELOAD=./fail.so "$program" script t < lines > out 2> err
+  status=$?
+  printf -- "$2" | cmp -s - out && [ "$(cat err)" = "dbmtool: fault $3" ] && [ "$status" = 2 ] ||
+    { wrong "a script on a device of which call $1 fails: status $status"; cat out err; }
+}
+printf 'S 61 02\n' > lines
 FAIL_CALL=0 LD_PRELOAD=./fail.so "$program" script t < lines > out 2> err || wrong "a script failed with no failed call"
 calls=$(sed -n 's/^calls //p' err)
+failing "$calls" '0\n' 2
+run 0 '02\n' '' fetch -x t 61
+# The closing writes two pages and the clear sector, 9 sectors, and syncs twice.
 printf 'S 61 02\nS 62 03\nF 61\n' > lines
-cp first.db t.db
-FAIL_CALL=$calls LD_PRELOAD=./fail.so "$program" script t < lines > out 2> err
-status=$?
-printf -- '-1 fault 2\n-1 fault 3\n-1 fault 3\n' | cmp -s - out && [ "$(cat err)" = 'dbmtool: fault 3' ] && [ "$status" = 2 ] ||
-  { wrong "a script on a device that fails: status $status"; cat out err; }
+failing $((calls - 11)) '-1 fault 2\n-1 fault 3\n-1 fault 3\n' 3
+failing "$calls" '0\n-1 fault 2\n-1 fault 3\n' 3
+run 0 '02\n' '' fetch -x t 61
 run 1 '' '' fetch t b
 run 0 'first\n' '' fetch t new
 exit $bad
