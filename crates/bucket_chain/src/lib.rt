@@ -7,7 +7,7 @@ mod removes;
 mod staging;
 mod stores;
 
-pub use chain_walks::{Pair, Place, load_all, lookup, step};
+pub use chain_walks::{Pair, Place, least_behind, load_all, lookup, step};
 pub use laws::{chains_are_placed, puts_are_placements, removals_are_placements};
 pub use puts::put;
 pub use removes::remove;

@@ -274,7 +274,7 @@ fn a_pass_and_the_error_number_are_asked_in_a_run(rt: HostRuntime) -> Result<(),
     ";
     assert_eq!(rt;
         replies(rt.alloc(), 100, calls)?.as_str(),
-        "[Number(0), Refused(NoPass), Number(7), Stored, Bytes(Octets { bytes: [97] }), End, End, Kept, End, Stored, Refused(NoPass), Bytes(Octets { bytes: [97] }), Number(0), End, Number(0)]"
+        "[Number(0), Refused(NoPass), Number(7), Stored, Bytes(Octets { bytes: [97] }), End, End, Kept, End, Stored, End, Bytes(Octets { bytes: [97] }), Number(0), End, Number(0)]"
     );
     Ok(())
 }

@@ -1,6 +1,8 @@
 pub mod EntryLists
 pub mod Headers
 pub mod KeyWalks
+pub mod LeastKeys
+pub mod LeastWalks
 pub mod LinkBodies
 pub mod LoadedPairs
 pub mod ReadPages

@@ -1,5 +1,6 @@
 pub mod Answers
 pub mod Chains
+pub mod Leasts
 pub mod Links
 pub mod Pairs
 pub mod Places

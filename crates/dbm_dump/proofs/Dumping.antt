@@ -6,7 +6,7 @@ use Rattle.sect_dev.specs.Moments.{started, followed_by, weaker}
 use Rattle.dbm_model.specs.Calls.{Call, Reply, Fetch, First, Next}
 use Rattle.dbm_model.specs.Calls as model
 use Rattle.dbm_model.specs.Pairs.{Key, Contents}
-use Rattle.dbm_model.specs.States.{State, Handle, Keys, flagged, first_fault}
+use Rattle.dbm_model.specs.States.{State, Pass, NotBegun, Begun, Behind, Handle, flagged, first_fault}
 use Rattle.dbm_model.specs.Steps.{Case, Tells, Refuses, Declines, Finds, Passes, Changes, usable_case, broken_case, case_of, Answers, Suffers}
 use Rattle.dbm_model.specs.Steps.{fetched, passed}
 use Rattle.std.specs.FinMap.{get}
@@ -40,9 +40,10 @@ pub reads_first : (s : State) → IsReading (case_of s First)
 reads_first s = elim s.usable as
     (λ b. IsReading (cond b (usable_case s First) (broken_case s First))) [ true ↦ tt | false ↦ tt ]
 
-reads_passed : (pass : Option Keys) → IsReading (passed pass)
-reads_passed None = tt
-reads_passed (Some left) = tt
+reads_passed : (pass : Pass) → IsReading (passed pass)
+reads_passed NotBegun = tt
+reads_passed Begun = tt
+reads_passed (Behind last) = tt
 
 pub reads_next : (s : State) → IsReading (case_of s Next)
 reads_next s = elim s.usable as
@@ -84,7 +85,7 @@ keeps_flagged s after fault is =
       usable = ap (λ (x : State). x.usable) is;
     }
 
-keeps_passed : (s after : State) (pass : Option Keys) → after ≡ record s { pass = pass }
+keeps_passed : (s after : State) (pass : Pass) → after ≡ record s { pass = pass }
     → KeepsMap s after
 keeps_passed s after pass is =
     record {

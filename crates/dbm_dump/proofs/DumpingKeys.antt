@@ -1,5 +1,5 @@
 -- What a pass has given, and what is gathered of it.
-use Rattle.std.proofs.Common.{◌≡◌, ◌⊎◌, inl, inr, ⊎_elim, ℕ, ◌+◌, ◌≤◌, Bool, true, false, cond, ◌||◌, List, [], ◌∷◌, map, length, Option, Some, None, is_some, Result, Ok, Err, MatchResult, refl, sym, ◌∙◌, ap, subst, arith}
+use Rattle.std.proofs.Common.{◌≡◌, ◌≢◌, ◌⊎◌, inl, inr, ⊎_elim, ℕ, ◌+◌, ◌≤◌, Bool, true, false, cond, ◌||◌, List, [], ◌∷◌, map, length, Option, Some, None, is_some, Result, Ok, Err, MatchResult, refl, sym, ◌∙◌, ap, subst, arith}
 use Rattle.std.specs.Global.{Vec}
 use Rattle.std.specs.BTreeSet.{insert_key}
 use Rattle.std.specs.Cmp.Lexicographic.{slice_cmp}
@@ -13,8 +13,8 @@ use Rattle.std.proofs.lemmas.Cmp.{nat_list_cmp_total}
 use Rattle.dbm_model.specs.Calls as model
 use Rattle.dbm_model.specs.Calls.{Call, First, Next, End, Bytes}
 use Rattle.dbm_model.specs.Pairs.{Key, Contents, key_cmp}
-use Rattle.dbm_model.specs.States.{State, Handle, Keys}
-use Rattle.dbm_model.specs.Steps.{Case, Passes, usable_case, broken_case, case_of, passed, Answers, Suffers, Step}
+use Rattle.dbm_model.specs.States.{State, Pass, NotBegun, Begun, Behind, Handle}
+use Rattle.dbm_model.specs.Steps.{Case, Passes, IsNextKey, IsOver, usable_case, broken_case, case_of, passed, Answers, Suffers, Step}
 use Rattle.page_io.specs.declared.store.PageStore.{Ghosts}
 use Rattle.dbm_file.specs.Calls.{Lent, lent_reply}
 use Rattle.dbm_file.specs.Database.{IsAt}
@@ -27,7 +27,8 @@ use Rattle.dbm_dump.specs.Dumping.{IsChance, IsCopied, CopiesStep}
 use Rattle.dbm_dump.proofs.Dumping.{keeps_map, reads_first, reads_next}
 use Rattle.dbm_fault.specs.declared.engine_fault.EngineFault.{EngineFault}
 use Rattle.dbm_fault.specs.declared.engine_fault.EngineFault.TheVariants.{Db}
-use Rattle.dbm_dump.proofs.KeySets.{Gathered, key_inserted, contains_inserted, all_gathered, nothing, keys_of_nothing, contains_nothing, all_counted, fewer_by_one, taken}
+use Rattle.dbm_dump.proofs.PassSets.{HasAhead, all_ahead, next_among, others_ahead, none_ahead}
+use Rattle.dbm_dump.proofs.KeySets.{Keys, Gathered, key_inserted, contains_inserted, all_gathered, nothing, keys_of_nothing, contains_nothing, all_counted, fewer_by_one, taken}
 
 -- ---- a pass
 
@@ -55,32 +56,31 @@ by_chance why told is refused =
     let e : fault_of why ≡ model.Device = cc in
     inr (is ∙ ap Db (device_only why e))
 
--- what a pass with these keys left gives
-abbrev PassGives : Keys → Option Keys → Result (Option (Vec ℕ)) EngineFault → Type 0
-PassGives left pass (Ok None) = left ≡ set.empty
-PassGives left pass (Ok (Some key)) =
-    (set.contains left key.items ≡ true) × (pass ≡ Some (set.remove left key.items))
-PassGives left pass (Err fault) = IsChance fault
+-- what a pass that stands there gives, and where it stands then
+abbrev PassGives : Contents → Pass → Pass → Result (Option (Vec ℕ)) EngineFault → Type 0
+PassGives m from pass (Ok None) = IsOver m from
+PassGives m from pass (Ok (Some key)) = IsNextKey m from key.items × (pass ≡ Behind key.items)
+PassGives m from pass (Err fault) = IsChance fault
 
-pass_gives : (before after : Handle) (left : Keys) (lent : Lent)
+pass_gives : (before after : Handle) (from : Pass) (lent : Lent)
     (result : Result (Option (Vec ℕ)) EngineFault) → IsCopied lent result
-    → Answers before.state (Passes left) (lent_reply End lent) after.state
-    ⊎ Suffers before (Passes left) (lent_reply End lent) after
-    → PassGives left after.state.pass result
-pass_gives before after left (Ok None) (Ok None) copied h =
+    → Answers before.state (Passes from) (lent_reply End lent) after.state
+    ⊎ Suffers before (Passes from) (lent_reply End lent) after
+    → PassGives before.state.map from after.state.pass result
+pass_gives before after from (Ok None) (Ok None) copied h =
     ⊎_elim (λ given. ⊎_elim (λ x. x.0) (λ x. let e = x.2 in absurd (no_key x.0 e)) given)
     (λ x. let e = x.0 in cc) h
   where
     no_key : (key : Key) → End ≡ Bytes key → ⊥
     no_key key e = cc
-pass_gives before after left (Ok None) (Ok (Some copy)) copied h = absurd copied
-pass_gives before after left (Ok None) (Err told) copied h = absurd copied
-pass_gives before after left (Ok (Some bytes)) (Ok None) copied h = absurd copied
-pass_gives before after left (Ok (Some bytes)) (Ok (Some copy)) copied h = ⊎_elim
+pass_gives before after from (Ok None) (Ok (Some copy)) copied h = absurd copied
+pass_gives before after from (Ok None) (Err told) copied h = absurd copied
+pass_gives before after from (Ok (Some bytes)) (Ok None) copied h = absurd copied
+pass_gives before after from (Ok (Some bytes)) (Ok (Some copy)) copied h = ⊎_elim
     (λ given. ⊎_elim (λ x. absurd (no_end x.1)) (λ x.
     let same : x.0 ≡ copy.items = sym (one_key x.0 x.2) ∙ sym copied in (
-      subst (λ (k : Key). set.contains left k ≡ true) same x.1,
-      ap (λ (s : State). s.pass) x.3 ∙ ap (λ (k : Key). Some (set.remove left k)) same,
+      subst (IsNextKey before.state.map from) same x.1,
+      ap (λ (s : State). s.pass) x.3 ∙ ap Behind same,
     ))
     given)
     (λ x. absurd (no_fault x.0)) h
@@ -93,10 +93,10 @@ pass_gives before after left (Ok (Some bytes)) (Ok (Some copy)) copied h = ⊎_e
 
     no_fault : Bytes bytes.now ≡ model.Refused model.Device → ⊥
     no_fault e = cc
-pass_gives before after left (Ok (Some bytes)) (Err told) copied h = inl copied
-pass_gives before after left (Err why) (Ok None) copied h = absurd copied
-pass_gives before after left (Err why) (Ok (Some copy)) copied h = absurd copied
-pass_gives before after left (Err why) (Err told) copied h = ⊎_elim
+pass_gives before after from (Ok (Some bytes)) (Err told) copied h = inl copied
+pass_gives before after from (Err why) (Ok None) copied h = absurd copied
+pass_gives before after from (Err why) (Ok (Some copy)) copied h = absurd copied
+pass_gives before after from (Err why) (Err told) copied h = ⊎_elim
     (λ given. ⊎_elim (λ x. absurd (no_end x.1)) (λ x. absurd (no_bytes x.0 x.2)) given)
     (λ x. by_chance why told copied x.0) h
   where
@@ -111,41 +111,46 @@ pass_gives before after left (Err why) (Err told) copied h = ⊎_elim
 -- of the map's keys these are gathered, this one is to come next, and the others are left to the
 -- pass
 pub record IsGathering (m : Contents) (done : List Key) (key : Key) (count : ℕ)
-    (pass : Option Keys) : Type 0 where
+    (pass : Pass) : Type 0 where
   pub left : Keys
   pub some : Gathered
-  pub on : pass ≡ Some left
+  pub begun : pass ≢ NotBegun
+  pub ahead : HasAhead m pass left
   pub done_is : done ≡ keys some
   pub whole : (q : Key) → contains_key m q
       ≡ (contains_key some q || (eq_by_cmp key_cmp q key || set.contains left q))
   pub counted : count + 1 + set.len left ≡ finite.len m
 
 -- where no key came, all are gathered
-abbrev pub HasGathered : Contents → List Key → Option (Vec ℕ) → ℕ → Option Keys → Type 0
+abbrev pub HasGathered : Contents → List Key → Option (Vec ℕ) → ℕ → Pass → Type 0
 HasGathered m done None count pass = done ≡ keys m
 HasGathered m done (Some key) count pass = IsGathering m done key.items count pass
 
-begins : (m : Contents) (pass : Option Keys) (result : Result (Option (Vec ℕ)) EngineFault)
-    → PassGives (set.from_list (keys m)) pass result
+begins : (m : Contents) (pass : Pass) (result : Result (Option (Vec ℕ)) EngineFault)
+    → PassGives m Begun pass result
     → MatchResult result (λ given. HasGathered m [] given 0 pass) IsChance
-begins m pass (Ok None) none =
+begins m pass (Ok None) over =
+    let none = none_ahead m Begun (set.from_list (keys m)) (all_ahead m) over in
     sym keys_of_nothing ∙ all_gathered m nothing (λ q.
     finite.contains_key-keys m q ∙ sym (set.contains-from_list nat_list_cmp_total (keys m) q)
     ∙ ap (λ (x : Keys). set.contains x q) none ∙ set.contains-empty key_cmp q
     ∙ sym (contains_nothing q))
 begins m pass (Ok (Some key)) given =
     let all : Keys = set.from_list (keys m) in
+    let there = next_among m Begun all (all_ahead m) key.items given.0 in
     record {
       left = set.remove all key.items;
       some = nothing;
-      on = given.1;
+      begun = λ none. absurd (let e = sym given.1 ∙ none in cc);
+      ahead = subst (λ (p : Pass). HasAhead m p (set.remove all key.items)) (sym given.1)
+          (others_ahead m Begun all (all_ahead m) key.items given.0);
       done_is = sym keys_of_nothing;
       whole = λ q.
           finite.contains_key-keys m q ∙ sym (set.contains-from_list nat_list_cmp_total (keys m) q)
-          ∙ taken all key.items q given.0
+          ∙ taken all key.items q there
           ∙ ap (λ b. b || (eq_by_cmp key_cmp q key.items || set.contains (set.remove all key.items)
           q)) (sym (contains_nothing q));
-      counted = let one = fewer_by_one all key.items given.0 in let many = all_counted m in
+      counted = let one = fewer_by_one all key.items there in let many = all_counted m in
           omega (arith, one, many);
     }
 begins m pass (Err fault) chance = chance
@@ -162,12 +167,13 @@ gone_over true false c = refl
 gone_over false true c = refl
 gone_over false false c = refl
 
-goes_on : (m : Contents) (done : List Key) (key : Key) (count : ℕ) (before pass : Option Keys)
+goes_on : (m : Contents) (done : List Key) (key : Key) (count : ℕ) (before pass : Pass)
     (held : IsGathering m done key count before) (result : Result (Option (Vec ℕ)) EngineFault)
-    → PassGives held.left pass result
+    → PassGives m before pass result
     → MatchResult result (λ given.
     HasGathered m (insert_key key_cmp done key) given (count + 1) pass) IsChance
-goes_on m done key count before pass held (Ok None) none =
+goes_on m done key count before pass held (Ok None) over =
+    let none = none_ahead m before held.left held.ahead over in
     ap (λ (ks : List Key). insert_key key_cmp ks key) held.done_is ∙ key_inserted held.some key
     ∙ all_gathered m (finite.insert held.some key tt) (λ q.
     held.whole q
@@ -177,14 +183,18 @@ goes_on m done key count before pass held (Ok None) none =
 goes_on m done key count before pass held (Ok (Some next)) given = record {
   left = set.remove held.left next.items;
   some = finite.insert held.some key tt;
-  on = given.1;
+  begun = λ none. absurd (let e = sym given.1 ∙ none in cc);
+  ahead = subst (λ (p : Pass). HasAhead m p (set.remove held.left next.items)) (sym given.1)
+      (others_ahead m before held.left held.ahead next.items given.0);
   done_is = ap (λ (ks : List Key). insert_key key_cmp ks key) held.done_is
       ∙ key_inserted held.some key;
   whole = λ q.
       held.whole q ∙ gone_over (contains_key held.some q) (eq_by_cmp key_cmp q key)
       (set.contains held.left q)
-      ∙ (λ i. sym (contains_inserted held.some key q) i || taken held.left next.items q given.0 i);
-  counted = let one = fewer_by_one held.left next.items given.0 in let many = held.counted in
+      ∙ (λ i. sym (contains_inserted held.some key q) i || taken held.left next.items q
+      (next_among m before held.left held.ahead next.items given.0) i);
+  counted = let one = fewer_by_one held.left next.items
+      (next_among m before held.left held.ahead next.items given.0) in let many = held.counted in
       omega (arith, one, many);
 }
 goes_on m done key count before pass held (Err fault) chance = chance
@@ -199,6 +209,12 @@ on_usable before after call reply usable step =
     ⊎ Suffers before rule reply after)
     (ap (λ b. cond b (usable_case before.state call) (broken_case before.state call)) usable)
     step.answers
+
+-- that of a pass which was begun
+goes_by : (pass : Pass) → pass ≢ NotBegun → passed pass ≡ Passes pass
+goes_by NotBegun begun = absurd (begun refl)
+goes_by Begun begun = refl
+goes_by (Behind last) begun = refl
 
 -- a pass over a database of the map, as far as it has come
 pub record IsPassing {S : Type 0} {s : Ghosts S} (db : Database S s) (m : Contents)
@@ -226,7 +242,7 @@ module _ {S : Type 0} {s : Ghosts S} where
   begun old new start result usable (lent, copied, made) =
       let keeps = keeps_map start made.after (case_of start.state First) (lent_reply End lent)
       (reads_first start.state) made.step.answers in
-      let gives = pass_gives start made.after (set.from_list (keys start.state.map)) lent result
+      let gives = pass_gives start made.after Begun lent result
       copied (on_usable start made.after First (lent_reply End lent) usable made.step) in
       passing new start.state.map made.after [] 0 result made.is_at keeps.map
       (keeps.usable ∙ usable) (begins start.state.map made.after.state.pass result gives)
@@ -264,10 +280,13 @@ module _ {S : Type 0} {s : Ghosts S} where
       let keeps = keeps_map start made.after (case_of start.state Next) (lent_reply End lent)
       (reads_next start.state) made.step.answers in
       let step = on_usable start made.after Next (lent_reply End lent) so_far.usable made.step in
-      let left = subst (λ (pass : Option Keys).
-      Answers start.state (passed pass) (lent_reply End lent) made.after.state
-      ⊎ Suffers start (passed pass) (lent_reply End lent) made.after) so_far.held.on step in
-      let gives = pass_gives start made.after so_far.held.left lent result copied left in
+      let from = start.state.pass in
+      let rule = subst (λ (c : Case).
+      Answers start.state c (lent_reply End lent) made.after.state
+      ⊎ Suffers start c (lent_reply End lent) made.after)
+      (goes_by from so_far.held.begun) step in
+      let gives = subst (λ (all : Contents). PassGives all from made.after.state.pass result)
+      so_far.map_is (pass_gives start made.after from lent result copied rule) in
       subst (λ (k : Vec ℕ). MatchResult result
       (λ next. IsPassing new m (insert_key key_cmp done k.items) next (count + 1)) IsChance)
       same

@@ -12,7 +12,9 @@ use Rattle.std.specs.declared.cmp.Ordering.{Ordering}
 use Rattle.std.specs.declared.cmp.Ordering.TheVariants.{Less, Equal, Greater}
 use Rattle.std.proofs.lemmas.Cmp.{nat_list_cmp_total}
 use Rattle.dbm_model.specs.Pairs.{Key, Contents, key_cmp}
-use Rattle.dbm_model.specs.States.{Keys}
+
+abbrev pub Keys : Type 0
+Keys = set.FinSet key_cmp
 
 -- keys as a map of nothing
 abbrev pub Gathered : Type 0

@@ -3,3 +3,4 @@ pub mod DumpingKeys
 pub mod DumpingPairs
 pub mod Exits
 pub mod KeySets
+pub mod PassSets

@@ -10,7 +10,8 @@ use Rattle.dbm_file.specs.Calls.{reply_of, store_reply, delete_reply, Lent, lent
 use Rattle.dbm_file.specs.Database.{store_of, meta_kept}
 use Rattle.dbm_file.specs.Replies.{IsCallAnswered, IsAnswered, AreAnswered, store_faults, delete_faults, read_faults, next_faults, told_of_store, told_of_delete, told_of_bytes}
 use Rattle.dbm_file.specs.Rooms.{rooms_in}
-use Rattle.dbm_file.specs.Searches.{Searched, EndsWith, EndsAtContent, Passed, WentOn, pass_start}
+use Rattle.dbm_model.specs.States.{Begun}
+use Rattle.dbm_file.specs.Searches.{Searched, EndsWith, EndsAtContent, Passed, WentOn}
 use Rattle.dbm_file.specs.declared.calls.Call.{Call}
 use Rattle.dbm_file.specs.declared.calls.Call.TheVariants.{Store, Fetch, Delete, First, Next}
 use Rattle.dbm_file.specs.declared.calls.Reply.{Reply}
@@ -119,7 +120,7 @@ module _ {S : Type 0} {s : Ghosts S} {old new : Database S s} where
   fetched_well (Err fault) key searched only keeps =
       record { replied = only; read = tt; done = tt; keeps = keeps_err fault keeps }
 
-  begun_well : (found : Lent) → IfOk found (λ key. Passed old pass_start (seen key))
+  begun_well : (found : Lent) → IfOk found (λ key. Passed old Begun (seen key))
       → IsErrAmong found read_faults → IsCallEnded old new found
       → IsCallAnswered old new First (told_of_bytes End found)
   begun_well (Ok None) passed only keeps =
@@ -176,7 +177,7 @@ module _ {S : Type 0} {s : Ghosts S} {old new : Database S s} where
       (fetched_well found given searched only keeps))
 
   pub first_answered : (found : Lent) (reply : Reply) → reply ≡ told_of_bytes End found
-      → IfOk found (λ key. Passed old pass_start (seen key)) → IsErrAmong found read_faults
+      → IfOk found (λ key. Passed old Begun (seen key)) → IsErrAmong found read_faults
       → IsCallEnded old new found
       → IsCallAnswered old new First reply
   first_answered found reply is passed only keeps =

@@ -1,11 +1,10 @@
 -- The rule that a call of a usable handle falls under.
 use Rattle.std.proofs.Common.{◌≡◌, inl, ℕ, ◌+◌, ◌<◌, ◌≤◌, true, false, cond, not, List, length, Option, Some, None, is_some, refl, ◌∙◌, ap}
-use Rattle.std.specs.Prelude.{nat_le}
-use Rattle.std.specs.FinMap.{get, insert, remove, len, keys}
-use Rattle.std.specs.FinSet as set
+use Rattle.std.specs.Prelude.{◌≢◌, nat_le}
+use Rattle.std.specs.FinMap.{get, insert, remove, len}
 use Rattle.std.proofs.lemmas.Bool.{le-leb, lt-leb}
 use Rattle.dbm_model.specs.Calls.{Mode, Insert, Replace, Call, Store, Fetch, Delete, First, Next, Error, Clear, Reply, Number, Stored, Kept, Deleted, Absent, TooLong, Full, Broken, ReadOnly, NoPass}
-use Rattle.dbm_model.specs.States.{State, Keys, Handle, error_number}
+use Rattle.dbm_model.specs.States.{State, Pass, NotBegun, Begun, Behind, Handle, error_number}
 use Rattle.dbm_model.specs.Steps.{Tells, Refuses, Declines, Finds, Passes, Changes, fetched, stored, deleted, passed, usable_case, broken_case, case_of, Suffers, Fails}
 
 usable_rule : (s : State) (call : Call) → s.usable ≡ true → case_of s call ≡ usable_case s call
@@ -150,20 +149,25 @@ broken_first s broken = broken_rule s First broken
 pub broken_next : (s : State) → s.usable ≡ false → case_of s Next ≡ Refuses Broken
 broken_next s broken = broken_rule s Next broken
 
-pub first_rule : (s : State) → s.usable ≡ true
-    → case_of s First ≡ Passes (set.from_list (keys s.map))
+pub first_rule : (s : State) → s.usable ≡ true → case_of s First ≡ Passes Begun
 first_rule s usable = usable_rule s First usable
 
-pub next_rule : (s : State) (left : Keys) → s.usable ≡ true → s.pass ≡ Some left
-    → case_of s Next ≡ Passes left
-next_rule s left usable on = usable_rule s Next usable ∙ ap passed on
+begun_passes : (pass : Pass) → pass ≢ NotBegun → passed pass ≡ Passes pass
+begun_passes NotBegun begun = absurd (begun refl)
+begun_passes Begun begun = refl
+begun_passes (Behind last) begun = refl
 
-pub no_pass_rule : (s : State) → s.usable ≡ true → s.pass ≡ None → case_of s Next ≡ Refuses NoPass
+pub next_rule : (s : State) → s.usable ≡ true → s.pass ≢ NotBegun
+    → case_of s Next ≡ Passes s.pass
+next_rule s usable begun = usable_rule s Next usable ∙ begun_passes s.pass begun
+
+pub no_pass_rule : (s : State) → s.usable ≡ true → s.pass ≡ NotBegun
+    → case_of s Next ≡ Refuses NoPass
 no_pass_rule s usable off = usable_rule s Next usable ∙ ap passed off
 
 pub passes_fail : (h : Handle) (reply : Reply) (after : Handle) → Fails h reply after
-    → (left : Keys) → Suffers h (Passes left) reply after
-passes_fail h reply after fails left = fails
+    → (from : Pass) → Suffers h (Passes from) reply after
+passes_fail h reply after fails from = fails
 
 -- the error number can be asked for and cleared in a broken state too
 pub error_rule : (s : State) → case_of s Error ≡ Tells (Number (error_number s.error)) s

@@ -9,7 +9,7 @@ use Rattle.dbm_model.specs.Calls as model
 use Rattle.page_model.specs.Valid.{meta_buckets}
 use Rattle.page_model.specs.Pages.{Meta, MetaPage}
 use Rattle.dbm_model.specs.Pairs.{Contents}
-use Rattle.dbm_model.specs.States.{Keys, Handle, first_fault, flagged}
+use Rattle.dbm_model.specs.States.{Handle, first_fault, flagged}
 use Rattle.dbm_model.specs.Sizes.{home}
 use Rattle.dbm_model.specs.Steps.{Case, Changes, case_of, Answers, Suffers, IsShort, OpensBucket, growth, buckets_opened}
 use Rattle.page_model.specs.Meaning.{said_by}
@@ -23,24 +23,22 @@ use Rattle.page_io.proofs.Exits.{more_later, both_ways}
 use Rattle.dbm_fault.specs.Faults.{fault_of, fault_from}
 use Rattle.page_commit.specs.Committing.{Holds, IsForgotten}
 use Rattle.linear_hash.specs.Holding.{StandsForEither, IsEnded, ChangesMap}
-use Rattle.dbm_file.specs.Database.{store_of, meta_kept, page_state, error_of, cursor_of, handle_of}
-use Rattle.dbm_file.specs.Passing.{IsPass}
+use Rattle.dbm_file.specs.Passing.{model_pass}
+use Rattle.dbm_file.specs.Database.{store_of, meta_kept, page_state, error_of, handle_of}
 use Rattle.dbm_file.specs.Answers.{MayBeLeft, StandsForSome, Survives, IsStep, IsCallEnded}
 use Rattle.dbm_file.specs.Trying.{with_fault, with_error_of, IsRead}
 use Rattle.dbm_fault.specs.declared.fault.Fault.{Fault}
 use Rattle.dbm_fault.specs.declared.fault.Fault.TheVariants.{Device, Broken}
-use Rattle.linear_hash.specs.declared.passing.Cursor.{Cursor}
 use Rattle.dbm_file.specs.declared.database.Database.{Database}
-use Rattle.dbm_file.proofs.ReadSteps.{kept_first, same_parts, at_own, same_pass, no_more_pages, no_more_buckets, still_buckets, still_meta, still_limit, still_writable, still_usable, still_capacity, still_end, still_holds, still_passes, still_survives, flagged_is}
+use Rattle.dbm_file.proofs.ReadSteps.{kept_first, same_parts, at_own, no_more_pages, no_more_buckets, still_buckets, still_meta, still_limit, still_writable, still_usable, still_capacity, still_end, still_holds, still_survives, flagged_is}
 use Rattle.linear_hash.proofs.Tables.{counted}
 
--- how a change of the file ended, with what it leaves of the error and of the pass
+-- how a change of the file ended, with what it leaves of the error; the pass stays
 pub record IsDone {S : Type 0} (s : Ghosts S) (old new : Database S s)
     (result : Result (Unit {0}) PageFault) : Type 0 where
   pub ends : IsEnded s (store_of old) (store_of new) (meta_kept old) (meta_kept new) result
   pub error_is : new.error ≡ old.error
-  pub pass_ends : OnOk result (new.pass ≡ None)
-  pub pass_stays : OnErr result (new.pass ≡ old.pass)
+  pub pass_is : new.pass ≡ old.pass
 
 -- what is forgotten leaves a store as writable as it was
 forgotten_writable : (old new : store.StoreState) (fault : PageFault) → IsForgotten old new fault
@@ -60,19 +58,18 @@ forgotten_room old new fault (inr broke) = (
 
 -- What is known when a change begins: the call asks for it, after no more than a read.
 pub record IsAsked {S : Type 0} (s : Ghosts S) (old mid : Database S s) (map changed : Contents)
-    (pass : Option Keys) (call : model.Call) (said : model.Reply) : Type 0 where
+    (call : model.Call) (said : model.Reply) : Type 0 where
   pub read : IsRead old mid
   pub usable : (page_state old).usable ≡ true
   pub honest : s.honest (store_of old)
   pub holds : Holds s (store_of old) (meta_kept old) map
   pub rests : (x : Settled) → s.settles_to (store_of old) x
       → ImageStandsFor x map (meta_kept old).limit
-  pub going : IsPass (s.committed (store_of old)) (meta_kept old) (cursor_of old) pass
-  pub falls : case_of (handle_of old map pass).state call ≡ Changes said changed
+  pub falls : case_of (handle_of old map).state call ≡ Changes said changed
 
 module _ {S : Type 0} (s : Ghosts S) {old mid : Database S s} {map changed : Contents}
-    {pass : Option Keys} {call : model.Call} {said : model.Reply}
-    (asked : IsAsked s old mid map changed pass call said) where
+    {call : model.Call} {said : model.Reply}
+    (asked : IsAsked s old mid map changed call said) where
   pub mid_honest : s.honest (store_of mid)
   mid_honest = asked.read.reads.stages_only.honesty.1 asked.honest
 
@@ -96,7 +93,7 @@ module _ {S : Type 0} (s : Ghosts S) {old mid : Database S s} {map changed : Con
       ∙ sym (counted s (store_of old) (meta_kept old) map asked.holds)
 
   abbrev before : Handle
-  before = handle_of old map pass
+  before = handle_of old map
 
   -- the pages that a database of its limit needs
   of_limit : (Says : ℕ → Type 0) → Says (home (meta_kept mid).limit)
@@ -142,7 +139,7 @@ module _ {S : Type 0} (s : Ghosts S) {old mid : Database S s} {map changed : Con
         let writable_is = ap (λ (st : store.StoreState). st.writable) ended.ends.ok
         ∙ still_writable s old mid asked.read in
         record {
-          after = handle_of new changed None;
+          after = handle_of new changed;
           step = record {
             counts = omega (arith, asked.read.reads.stages_only.later, ended.ends.cause.later);
             capacity = ap (λ (st : store.StoreState). st.capacity) ended.ends.ok ∙ mid_capacity;
@@ -154,23 +151,21 @@ module _ {S : Type 0} (s : Ghosts S) {old mid : Database S s} {map changed : Con
             buckets = grown ∙ ap (λ (n : ℕ). n + buckets_opened before said (len changed))
                 mid_buckets;
             answers = inl (subst (λ (c : Case).
-                Answers before.state c said (handle_of new changed None).state)
+                Answers before.state c said (handle_of new changed).state)
                 (sym asked.falls) (
                   refl,
-                  same_parts changed None _ _ _ _ _ _ _ _
+                  same_parts changed _ _ _ _ _ _ _ _ _ _
+                      (ap model_pass (ended.pass_is ∙ asked.read.pass_is))
                       (ended.ends.limit ∙ still_limit s old mid asked.read)
                       (ap (λ (o : Option Fault). option_map fault_of o)
                       (ended.error_is ∙ asked.read.error_is)) writable_is usable_is,
                 ));
           };
-          is_at = at_own new changed None (λ usable. turns.done)
+          is_at = at_own new changed (λ usable. turns.done)
               (λ usable x left. subst (λ (y : Settled).
               ImageStandsFor y changed (meta_kept new).limit) (sym (only x left))
-              turns.done.stands) (λ usable.
-              subst (λ (c : Option Cursor).
-              IsPass (s.committed (store_of new)) (meta_kept new) c None)
-              (sym ended.pass_ends) tt);
-          survives = λ usable. survives_change (MayBeLeft before (handle_of new changed None) call)
+              turns.done.stands);
+          survives = λ usable. survives_change (MayBeLeft before (handle_of new changed) call)
               (inl refl) (inr (inl refl)) turns.any_moment;
         }
 
@@ -181,7 +176,7 @@ module _ {S : Type 0} (s : Ghosts S) {old mid : Database S s} {map changed : Con
         (counts : (t : ℕ) (x : Settled) → t ≤ s.moment (store_of new)
         → s.settles_to (store_of new) x → s.settled_since (store_of new) t x) where
       abbrev after : Handle
-      after = handle_of (with_fault new (fault_from e)) map pass
+      after = handle_of (with_fault new (fault_from e)) map
 
       abbrev reply : model.Reply
       reply = model.Refused (fault_of (fault_from e))
@@ -204,7 +199,8 @@ module _ {S : Type 0} (s : Ghosts S) {old mid : Database S s} {map changed : Con
       module _ (same : (page_state new).usable ≡ (page_state old).usable)
           (opens : e ≡ page.Memory → (said ≡ model.Stored) × OpensBucket before changed) where
         state_is : after.state ≡ flagged (fault_of (fault_from e)) before.state
-        state_is = flagged_is s old new map pass (fault_from e)
+        state_is = flagged_is s old new map (fault_from e)
+            (ended.pass_is ∙ asked.read.pass_is)
             (ended.ends.limit ∙ still_limit s old mid asked.read)
             (ended.error_is ∙ asked.read.error_is)
             (forgotten_writable (page_state mid) (page_state new) e ended.ends.err.0
@@ -280,10 +276,8 @@ module _ {S : Type 0} (s : Ghosts S) {old mid : Database S s} {map changed : Con
             answers = inr (subst (λ (c : Case). Suffers before c reply after) (sym asked.falls)
                 (suffers ended.ends.answer.only));
           };
-          is_at = at_own (with_fault new (fault_from e)) map pass (λ is. holds_on is)
-              (λ is. rests_on is)
-              (λ is. same_pass _ _ _ _ _ _ pass (turns.kept is) ended.ends.err.1 ended.pass_stays
-              (still_passes s old mid pass asked.read asked.honest asked.going));
+          is_at = at_own (with_fault new (fault_from e)) map (λ is. holds_on is)
+              (λ is. rests_on is);
           survives = λ was.
               followed_by s.moment s.settled_since (store_of old) (store_of mid) (store_of new)
               (StandsForSome (MayBeLeft before after call) (meta_kept old).limit)
@@ -312,7 +306,8 @@ module _ {S : Type 0} (s : Ghosts S) {old mid : Database S s} {map changed : Con
                     (ended.ends.cause.fault (ap Err is)),
                 map,
                 inl refl,
-                same_parts map pass _ _ _ _ _ _ _ _
+                same_parts map _ _ _ _ _ _ _ _ _ _
+                    (ap model_pass (ended.pass_is ∙ asked.read.pass_is))
                     (ended.ends.limit ∙ still_limit s old mid asked.read)
                     (error_is ∙ ap (λ (f : PageFault).
                     first_fault (error_of old) (fault_of (fault_from f))) is)
@@ -320,8 +315,8 @@ module _ {S : Type 0} (s : Ghosts S) {old mid : Database S s} {map changed : Con
                     ∙ still_writable s old mid asked.read) broken,
               ))));
         };
-        is_at = at_own (with_fault new (fault_from e)) map pass (λ now. absurd (let x = now in cc))
-            (λ now. absurd (let x = now in cc)) (λ now. absurd (let x = now in cc));
+        is_at = at_own (with_fault new (fault_from e)) map (λ now. absurd (let x = now in cc))
+            (λ now. absurd (let x = now in cc));
         survives = λ was. survives_change (MayBeLeft before after call) (inl refl)
             (inr (inr (broken, (said, asked.falls)))) turns.any_moment;
       }
@@ -402,7 +397,7 @@ module _ {S : Type 0} (s : Ghosts S) (old mid new : Database S s) (read : IsRead
         refused = (
           ended.ends.err.1 ∙ still_meta s old mid read,
           was.end,
-          ended.pass_stays ∙ read.pass_is,
+          ap model_pass (ended.pass_is ∙ read.pass_is),
         );
         breaks = ⊎_elim (λ same. inl same)
             (λ broke. inr (ap Err (ap fault_from broke.0), broke.1)) was.breaks;

@@ -40,7 +40,6 @@ flagged_step s old db h idle access valid call error fault flag reply step =
         map = λ usable. step.is_at.map usable;
         rests =
             λ usable. step.is_at.rests usable;
-        pass = λ usable. step.is_at.pass usable;
       };
       survives = λ usable. step.survives usable;
     }
@@ -71,8 +70,6 @@ module _ {S : Type 0} (s : Ghosts S) (db : Database S s) (call : model.Call) (no
                 shows = step.is_at.shows;
                 map = λ usable. step.is_at.map usable;
                 rests = λ usable. step.is_at.rests usable;
-                pass = λ usable.
-                    step.is_at.pass usable;
               };
               survives = λ usable. step.survives usable;
             };
@@ -104,8 +101,8 @@ module _ {S : Type 0} (s : Ghosts S) (db : Database S s) (call : model.Call) (no
       flagged_lends db (subst (λ (f : Fault).
       Lends call (lent_reply none) db (Err f) (with_fault db f)) (sym told_so) record {
         step = λ honest h at. from_own at
-            (broken_step s db h.state.map h.state.pass call broken
-            (rule (handle_of db h.state.map h.state.pass) broken));
+            (broken_step s db h.state.map call broken
+            (rule (handle_of db h.state.map) broken));
         keeps = broken_keeps (Option (Bor (List ℕ))) s db broken;
       })
 

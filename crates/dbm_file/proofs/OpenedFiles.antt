@@ -5,7 +5,7 @@ use Rattle.std.specs.FinMap.{len}
 use Rattle.sect_dev.specs.declared.device.SectorDev as device
 use Rattle.dbm_model.specs.Pairs.{Contents}
 use Rattle.dbm_model.specs.Sizes.{home}
-use Rattle.dbm_model.specs.States.{Handle}
+use Rattle.dbm_model.specs.States.{NotBegun, Handle}
 use Rattle.page_model.specs.Meaning.{said_by}
 use Rattle.page_io.specs.Store.{Settled, StoreState, page_of}
 use Rattle.page_io.specs.Meaning.{FileStandsFor, ImageStandsFor}
@@ -13,14 +13,13 @@ use Rattle.page_io.specs.declared.store.PageStore as store
 use Rattle.page_commit.specs.Committing.{Holds}
 use Rattle.page_cache.specs.Stores.{store_below}
 use Rattle.page_cache.specs.declared.cached_pages.CachedPages.{CachedPages}
-use Rattle.dbm_file.specs.Database.{store_of, meta_kept, error_of, cursor_of, HoldsMap, StandsAfterStop, handle_of, IsAt}
+use Rattle.dbm_file.specs.Passing.{pass_of}
+use Rattle.dbm_file.specs.Database.{store_of, meta_kept, error_of, HoldsMap, StandsAfterStop, handle_of, IsAt}
 use Rattle.dbm_file.specs.Opened.{IsNewlyOpened, IsOpenedAt}
 use Rattle.dbm_file.specs.Named.{RefusesFile}
 use Rattle.file_opening.specs.Opening.{early_fault, IsRefusedOpening}
 use Rattle.file_opening.specs.declared.open_how.OpenHow.{OpenHow}
 use Rattle.dbm_fault.specs.declared.fault.Fault.{Fault}
-use Rattle.dbm_file.specs.Passing.{IsPass}
-use Rattle.linear_hash.specs.declared.passing.Cursor.{Cursor}
 use Rattle.dbm_file.specs.declared.database.Database.{Database}
 use Rattle.dbm_file.proofs.ReadSteps.{at_own, same_parts}
 use Rattle.linear_hash.proofs.Tables.{counted}
@@ -31,11 +30,9 @@ pub opened_at : {S : Type 0} {s : store.Ghosts S} (writable : Bool) (pages : ℕ
     → (meta_kept db).limit ≡ limit → IsNewlyOpened writable pages db
     → IsOpenedAt writable db map limit
 opened_at {S} {s} writable pages db map limit held rests limit_is fresh = record {
-  handle = handle_of db map None;
-  is_at = at_own db map None held rests
-      (λ usable. subst (λ (c : Option Cursor).
-      IsPass (s.committed (store_of db)) (meta_kept db) c None) (sym fresh.no_pass) tt);
-  is_fresh = same_parts map None _ _ _ _ _ _ _ _ limit_is fresh.no_error
+  handle = handle_of db map;
+  is_at = at_own db map held rests;
+  is_fresh = same_parts map _ _ _ _ _ _ _ _ _ _ fresh.no_pass limit_is fresh.no_error
       fresh.writable fresh.usable;
 }
 
@@ -56,7 +53,7 @@ pub opened_over : {S : Type 0} {s : store.Ghosts S} (t : store.Ghosts (CachedPag
     → ImageStandsFor y map (meta_kept db).limit)
     → (meta_kept db).limit ≡ limit → (s.state file).usable ≡ true
     → (s.state file).writable ≡ writable → (s.state file).capacity ≡ pages
-    → error_of db ≡ None → cursor_of db ≡ None → IsOpenedAt writable db map limit
+    → error_of db ≡ None → pass_of db ≡ NotBegun → IsOpenedAt writable db map limit
 opened_over {S} {s} t writable pages db file map limit shows same held rests limit_is usable
     writes_so capacity no_error no_pass =
     let here = shows (store_of db) in

@@ -1,202 +1,186 @@
 -- Calls of a pass, as steps.
-use Rattle.std.proofs.Common.{◌≡◌, ⊎_elim, inl, inr, IfErr, ℕ, zero, suc, ◌+◌, ◌<◌, ◌≤◌, List, [], ◌∷◌, length, true, cond, is_some, Option, Some, None, Result, Ok, Err, IsErrOf, slice_index_or, refl, sym, ◌∙◌, ap, subst, arith}
+use Rattle.std.proofs.Common.{◌≡◌, ◌≢◌, ⊎_elim, inl, inr, IfErr, ℕ, zero, suc, ◌+◌, ◌<◌, ◌≤◌, List, [], ◌∷◌, length, Bool, true, false, cond, is_some, Option, Some, None, Result, Ok, Err, IsErrOf, slice_index_or, refl, sym, ◌∙◌, ap, subst, arith}
+use Rattle.std.specs.Prelude.{◌↔◌, IsTrue}
 use Rattle.std.specs.Borrow.{Bor}
 use Rattle.std.specs.List.{HoldsAt}
 use Rattle.std.specs.FinMap as finmap
-use Rattle.std.specs.FinSet as set
 use Rattle.sect_dev.specs.Moments.{started}
 use Rattle.dbm_model.specs.Calls as model
-use Rattle.page_model.specs.Meaning.{said_by}
-use Rattle.page_model.specs.Pages.{Meta, Body}
 use Rattle.dbm_model.specs.Pairs.{Key, Pair, Contents}
+use Rattle.dbm_model.specs.States.{State, Pass, NotBegun, Begun, Behind, Handle, error_number}
+use Rattle.dbm_model.specs.Steps.{Case, Passes, IsNextKey, GivesKey, Suffers, buckets_opened, case_of, Answers}
 use Rattle.page_model.specs.Placement.{Placement}
 use Rattle.page_model.specs.Placement as placement
-use Rattle.dbm_model.specs.States.{State, Keys, Handle, error_number}
+use Rattle.page_model.specs.Slots.{taken}
 use Rattle.page_model.specs.Valid.{IsMeta}
-use Rattle.dbm_model.specs.Steps.{Case, Passes, GivesKey, Suffers, buckets_opened, case_of, Answers}
-use Rattle.page_io.specs.Store.{Settled, Pages, page_of}
+use Rattle.page_io.specs.Store.{Settled}
 use Rattle.page_io.specs.Answers.{HasDeviceCause}
 use Rattle.page_io.specs.Views.{body_at}
 use Rattle.page_io.specs.declared.store.PageStore.{Ghosts}
 use Rattle.page_io.specs.declared.store.PageFault.{PageFault}
 use Rattle.page_io.specs.declared.store.PageFault.TheVariants as page
-use Rattle.chain_walks.specs.Answers.{IsWalkAnswer}
-use Rattle.chain_walks.specs.declared.place.Place.{Place}
-use Rattle.page_model.specs.Slots.{taken}
 use Rattle.slot_page.specs.Contents.{IsBucketPage, page_pairs}
-use Rattle.dbm_file.specs.Answers.{MayBeLeft, StandsForSome, Survives, IsStep, IsCallEnded}
-use Rattle.dbm_file.specs.Calls.{Lent, lent_reply}
+use Rattle.chain_walks.specs.Answers.{IsWalkAnswer}
+use Rattle.chain_walks.specs.Leasts.{IsLeast}
+use Rattle.linear_hash.specs.Tables.{IsTable, ForEachTable}
+use Rattle.linear_hash.proofs.Tables.{placed, is_table, map_placed}
 use Rattle.dbm_fault.specs.Faults.{fault_of, fault_from}
-use Rattle.page_commit.specs.Committing.{Holds}
-use Rattle.dbm_file.specs.Lending.{Lends}
-use Rattle.dbm_file.specs.Passing.{HasLeft, IsPass, keys_of}
-use Rattle.linear_hash.specs.Passing.{IsBehind, IsNext}
-use Rattle.linear_hash.specs.Tables.{IsTable}
-use Rattle.dbm_file.specs.Database.{store_of, meta_kept, page_state, error_of, handle_of, IsAt}
-use Rattle.dbm_file.specs.Trying.{with_fault, IsRead, slot_reply}
 use Rattle.dbm_fault.specs.declared.fault.Fault.{Fault}
 use Rattle.dbm_fault.specs.declared.fault.Fault.TheVariants.{Device, Broken, NoPass}
-use Rattle.linear_hash.specs.declared.passing.Cursor.{Cursor}
+use Rattle.dbm_file.specs.Answers.{MayBeLeft, StandsForSome, Survives, IsStep, IsCallEnded}
+use Rattle.dbm_file.specs.Calls.{Lent, lent_reply}
+use Rattle.dbm_file.specs.Database.{store_of, meta_kept, page_state, error_of, handle_of, IsAt}
+use Rattle.dbm_file.specs.Lending.{Lends}
+use Rattle.dbm_file.specs.Passing.{pass_of, pass_from}
+use Rattle.dbm_file.specs.Trying.{with_fault, IsRead, slot_reply}
 use Rattle.dbm_file.specs.declared.database.Database.{Database}
+use Rattle.dbm_file.specs.declared.pass.Pass as code
 use Rattle.dbm_file.proofs.Cases.{first_rule, next_rule, no_pass_rule, passes_fail, error_rule, clear_rule}
 use Rattle.dbm_file.proofs.Lends.{kept_error, flagged_step}
-use Rattle.linear_hash.proofs.Passes.{begins}
-use Rattle.dbm_file.proofs.PassKeys.{gives, all_keys}
-use Rattle.dbm_file.proofs.ReadSteps.{at_own, from_own, same_state, same_pass, no_more_pages, no_more_buckets, still_buckets, still_limit, still_capacity, still_end, still_writable, still_usable, still_meta, still_holds, still_rests, still_survives, no_read, rejected_step, refused_keeps, walk_failed_step}
-use Rattle.linear_hash.proofs.Tables.{placed, is_table, map_placed, committed_said}
+use Rattle.dbm_file.proofs.PassKeys.{next_of_map, over_the_map}
+use Rattle.dbm_file.proofs.ReadSteps.{at_own, from_own, same_state, no_more_pages, no_more_buckets, still_buckets, still_limit, still_capacity, still_end, still_writable, still_usable, still_holds, still_rests, still_survives, no_read, rejected_step, refused_keeps, walk_failed_step}
 
 -- the same database with its pass elsewhere
-abbrev pub with_pass : {S : Type 0} {s : Ghosts S} → Database S s → Option Cursor → Database S s
+abbrev pub with_pass : {S : Type 0} {s : Ghosts S} → Database S s → code.Pass → Database S s
 with_pass db pass = record db { pass = pass }
 
--- what was kept of the pages, as a walk reads them
-pub left_table : {S : Type 0} (s : Ghosts S) (db : Database S s) (cursor : Cursor) (keys : Keys)
-    (has : HasLeft (s.committed (store_of db)) (meta_kept db) cursor keys)
-    → length (s.committed (store_of db)) + 1 ≡ (page_state db).end → (page_state db).staged ≡ []
-    → IsTable (body_at s (store_of db)) (meta_kept db) (page_state db).end has.placement
-left_table s db cursor keys has ends idle =
-    subst (λ (n : ℕ). IsTable (body_at s (store_of db)) (meta_kept db) n has.placement) ends
-    (subst (λ (at : ℕ → Body). IsTable at (meta_kept db) (length (s.committed (store_of db)) + 1)
-    has.placement) (sym (committed_said s (store_of db) idle)) has.table)
-
--- nothing is left behind the last pair
-none_behind : (p : Placement) (left : List Pair) (bytes : List ℕ) (found : Option (ℕ × Place))
-    → found ≡ None → IsNext p left bytes found → left ≡ []
-none_behind p [] bytes found none next = refl
-none_behind p (pair ∷ left) bytes None none next = absurd next
-none_behind p (pair ∷ left) bytes (Some at) none next = absurd (let e = none in cc)
-
--- the next key, and what is then left
-record Gives (pages : Pages) (m : Meta) (keys : Keys) (bytes : List ℕ)
-    (at : ℕ × Place) : Type 0 where
-  key : Key
-  among : set.contains keys key ≡ true
-  there : (slice_index_or (page_pairs bytes) at.1.slot ([], [])).0 ≡ key
-  left : HasLeft pages m (record { bucket = at.0; behind = Some at.1 }) (set.remove keys key)
-
-gives_next : (pages : Pages) (m : Meta) (cursor : Cursor) (keys : Keys) (bytes : List ℕ)
-    (found : Option (ℕ × Place)) (at : ℕ × Place) (has : HasLeft pages m cursor keys)
-    → found ≡ Some at → IsNext has.placement has.left bytes found → Gives pages m keys bytes at
-gives_next pages m cursor keys bytes found at has some next =
-    by_case has.left has.keys_are has.behind found some next
-  where
-    by_case : (left : List Pair) → keys ≡ keys_of left → IsBehind has.placement cursor left
-        → (found : Option (ℕ × Place)) → found ≡ Some at → IsNext has.placement left bytes found
-        → Gives pages m keys bytes at
-    by_case [] is behind found some next = absurd (let e = sym next ∙ some in cc)
-    by_case (pair ∷ left) is behind None some next = absurd next
-    by_case (pair ∷ left) is behind (Some there) some next =
-        let given = gives has.placement cursor pair left has.table.good behind in
-        let same : there ≡ at = let e = some in cc in
-        record {
-          key = pair.0;
-          among = ap (λ (k : Keys). set.contains k pair.0) is ∙ given.0;
-          there = ap (λ (a : ℕ × Place). (slice_index_or (page_pairs bytes) a.1.slot ([], [])).0)
-              (sym same) ∙ ap (λ (p : Pair). p.0) (next.0.there ([], []));
-          left = subst (λ (a : ℕ × Place).
-              HasLeft pages m (record { bucket = a.0; behind = Some a.1 })
-              (set.remove keys pair.0)) same record {
-                placement = has.placement;
-                table = has.table;
-                left = left;
-                behind = next.1;
-                keys_are = ap (λ (k : Keys). set.remove k pair.0) is ∙ sym given.1;
-              };
-        }
-
 -- a key that is given, or the end, opens no bucket
-none_opened : (before : Handle) (keys : Keys) (reply : model.Reply) (after : State) (pairs : ℕ)
-    → GivesKey before.state keys reply after → buckets_opened before reply pairs ≡ 0
-none_opened before keys reply after pairs (inl end) =
+none_opened : (before : Handle) (from : Pass) (reply : model.Reply) (after : State) (pairs : ℕ)
+    → GivesKey before.state from reply after → buckets_opened before reply pairs ≡ 0
+none_opened before from reply after pairs (inl end) =
     ap (λ (r : model.Reply). buckets_opened before r pairs) end.1
-none_opened before keys reply after pairs (inr given) =
+none_opened before from reply after pairs (inr given) =
     ap (λ (r : model.Reply). buckets_opened before r pairs) given.2
 
--- a call that falls under passing these keys
+-- a call that goes on from there
 module _ {S : Type 0} (s : Ghosts S) (old new : Database S s) (h : Handle) (at : IsAt old h)
-    (call : model.Call) (keys : Keys) (read : IsRead old (with_pass new old.pass))
+    (call : model.Call) (from : Pass) (read : IsRead old (with_pass new old.pass))
     (honest : s.honest (store_of old)) (usable : (page_state old).usable ≡ true)
-    (falls : case_of h.state call ≡ Passes keys) where
+    (falls : case_of h.state call ≡ Passes from) where
   abbrev map : Contents
   map = h.state.map
 
   abbrev before : Handle
-  before = handle_of old map h.state.pass
+  before = handle_of old map
 
   abbrev mid : Database S s
   mid = with_pass new old.pass
 
-  falls_own : case_of before.state call ≡ Passes keys
+  falls_own : case_of before.state call ≡ Passes from
   falls_own = ap (λ (x : Handle). case_of x.state call) (sym at.shows) ∙ falls
 
-  moved : (cursor : Cursor) (reply : model.Reply) (left : Keys) → new.pass ≡ Some cursor
-      → HasLeft (s.committed (store_of old)) (meta_kept old) cursor left
-      → GivesKey before.state keys reply (record before.state { pass = Some left })
+  state_after : (handle_of new map).state ≡ record before.state { pass = pass_of new }
+  state_after = ap (λ (x : State). record x { pass = pass_of new })
+      (same_state s old mid map read.pass_is (still_limit s old mid read) read.error_is
+      (still_writable s old mid read) (still_usable s old mid read))
+
+  moved : (reply : model.Reply)
+      → GivesKey before.state from reply (record before.state { pass = pass_of new })
       → IsStep old new h call reply
-  moved cursor reply left is has given = from_own at record {
-    after = handle_of new map (Some left);
+  moved reply given = from_own at record {
+    after = handle_of new map;
     step = record {
       counts = read.reads.stages_only.later;
       capacity = still_capacity s old mid read;
-      pages = no_more_pages before (handle_of new map (Some left)) reply (still_end s old mid read);
+      pages = no_more_pages before (handle_of new map) reply (still_end s old mid read);
       bounded = inl (still_end s old mid read);
-      buckets = no_more_buckets before (handle_of new map (Some left)) reply (finmap.len map)
-          (still_buckets s old mid read) (none_opened before keys reply _ (finmap.len map) given);
+      buckets = no_more_buckets before (handle_of new map) reply (finmap.len map)
+          (still_buckets s old mid read) (none_opened before from reply _ (finmap.len map) given);
       answers = inl (subst (λ (c : Case).
-          Answers before.state c reply (handle_of new map (Some left)).state)
-          (sym falls_own)
-          (subst (GivesKey before.state keys reply)
-          (sym (same_state s old mid map (Some left) (still_limit s old mid read)
-          read.error_is (still_writable s old mid read)
-          (still_usable s old mid read))) given));
+          Answers before.state c reply (handle_of new map).state) (sym falls_own)
+          (subst (GivesKey before.state from reply) (sym state_after) given));
     };
-    is_at = at_own new map (Some left) (λ u. still_holds s old mid map read honest (at.map usable))
-        (λ u. still_rests s old mid map read honest (at.rests usable))
-        (λ u. same_pass _ _ _ _ (Some cursor) _ (Some left)
-        (read.reads.stages_only.kept honest).committed (still_meta s old mid read) is has);
+    is_at = at_own new map (λ u. still_holds s old mid map read honest (at.map usable))
+        (λ u. still_rests s old mid map read honest (at.rests usable));
     survives = λ u. still_survives s old mid map read honest (at.rests usable)
-        (MayBeLeft before (handle_of new map (Some left)) call) (inl refl);
+        (MayBeLeft before (handle_of new map) call) (inl refl);
   }
 
-  module _ (cursor : Cursor) (has : HasLeft (s.committed (store_of old)) (meta_kept old) cursor
-      keys) (bytes : List ℕ) (found : Option (ℕ × Place))
-      (next : IsNext has.placement has.left bytes found) where
-    -- behind the last pair the pass stays
-    pub ended_step : found ≡ None → new.pass ≡ Some cursor → IsStep old new h call model.End
-    ended_step none is = moved cursor model.End keys is has
-        (inl (
-          has.keys_are ∙ ap keys_of
-              (none_behind has.placement has.left bytes found none next),
-          refl,
-          refl,
+  module _ (p : Placement) (is : placement.contents p ≡ map) (bytes : List ℕ)
+      (found : Option ℕ) (least : IsLeast (placement.pairs_of p) from bytes found) where
+    -- no key is before it, and it stays
+    pub ended_step : found ≡ None → pass_of new ≡ from → IsStep old new h call model.End
+    ended_step none stays = moved model.End (inl (
+      over_the_map p map is from
+          (subst (λ (o : Option ℕ). IsLeast (placement.pairs_of p) from bytes o) none least),
+      refl,
+      ap (λ (x : Pass). record before.state { pass = x }) stays,
+    ))
+
+    -- the next key is given, and it stands behind that
+    pub given_step : (slot : ℕ) (key : Key) → found ≡ Some slot
+        → (slice_index_or (page_pairs bytes) slot ([], [])).0 ≡ key
+        → pass_of new ≡ Behind key
+        → IsStep old new h call (slot_reply bytes (Ok (Some slot)))
+    given_step slot key some reads stands =
+        let next = subst (λ (o : Option ℕ). IsLeast (placement.pairs_of p) from bytes o) some
+        least in
+        let same : next.key ≡ key = sym (next.has.1 ([], [])) ∙ reads in
+        moved _ (inr (
+          key,
+          subst (IsNextKey map from) same (next_of_map p map is from next.key next.least),
+          ap model.Bytes reads,
+          ap (λ (x : Pass). record before.state { pass = x }) stands,
         ))
 
-    -- else it goes on behind the pair, whose key is given
-    pub given_step : (there : ℕ × Place) → found ≡ Some there
-        → new.pass ≡ Some (record { bucket = there.0; behind = Some there.1 })
-        → IsStep old new h call (slot_reply bytes (Ok (Some there.1.slot)))
-    given_step there some is =
-        let given = gives_next _ _ cursor keys bytes found there has some next in
-        moved _ _ (set.remove keys given.key) is given.left
-        (inr (given.key, given.among, ap model.Bytes given.there, refl))
+-- the pages of a usable database at a handle say a placement of its map
+pub table_at : {S : Type 0} (s : Ghosts S) (db : Database S s) (h : Handle) (at : IsAt db h)
+    (usable : (page_state db).usable ≡ true)
+    → length (s.committed (store_of db)) + 1 ≡ (page_state db).end
+    → IsTable (body_at s (store_of db)) (meta_kept db) (page_state db).end
+    (placed s (store_of db) (meta_kept db) h.state.map (at.map usable))
+table_at s db h at usable ends =
+    is_table s (store_of db) (meta_kept db) h.state.map (at.map usable) ends db.idle
+
+-- the least of its keys, by a placement of its map
+pub record IsLeastOfMap (map : Contents) (from : Pass) (bytes : List ℕ)
+    (found : Option ℕ) : Type 0 where
+  pub pages : Placement
+  pub map_is : placement.contents pages ≡ map
+  pub least : IsLeast (placement.pairs_of pages) from bytes found
+
+-- what was looked for behind the key that the pass gave, or from the start, is the next of the pass
+pub least_of_map : {S : Type 0} (s : Ghosts S) (db : Database S s) (h : Handle) → IsAt db h
+    → s.honest (store_of db) → (page_state db).usable ≡ true
+    → length (s.committed (store_of db)) + 1 ≡ (page_state db).end
+    → (behind from : Pass) → behind ≡ from → (bytes : List ℕ) (found : Option ℕ)
+    → ForEachTable s (store_of db) (meta_kept db)
+    (λ p. IsLeast (placement.pairs_of p) behind bytes found)
+    → IsLeastOfMap h.state.map from bytes found
+least_of_map s db h at honest usable ends behind from is bytes found exact = record {
+  pages = p;
+  map_is = map_placed s (store_of db) (meta_kept db) h.state.map (at.map usable);
+  least = subst (λ (x : Pass). IsLeast (placement.pairs_of p) x bytes found) is
+      (exact honest p (table_at s db h at usable ends));
+}
+  where
+    p : Placement
+    p = placed s (store_of db) (meta_kept db) h.state.map (at.map usable)
+
+pub begins_so : {S : Type 0} {s : Ghosts S} (begins : Bool) (db : Database S s) → begins ≡ true
+    → Begun ≡ pass_from begins db
+begins_so begins db is = sym (ap (λ (b : Bool). pass_from b db) is)
+
+pub goes_on_so : {S : Type 0} {s : Ghosts S} (begins : Bool) (db : Database S s)
+    → begins ≡ false → pass_of db ≡ pass_from begins db
+goes_on_so begins db is = sym (ap (λ (b : Bool). pass_from b db) is)
 
 -- a pass that failed
 pub pass_failed : {S : Type 0} (s : Ghosts S) (old new : Database S s) (h : Handle) → IsAt old h
-    → (call : model.Call) (keys : Keys) → case_of h.state call ≡ Passes keys → IsRead old new
+    → (call : model.Call) (from : Pass) → case_of h.state call ≡ Passes from → IsRead old new
     → s.honest (store_of old) → (page_state old).usable ≡ true
     → (T : Type 0) (e : PageFault) → IsWalkAnswer {T = T} (page_state old) (Err e)
     → HasDeviceCause {T = T} (s.faults (store_of old)) (s.faults (store_of new)) (Err e)
     → (IsErrOf {T = T} (Err e) page.Damaged → ⊥)
     → IsStep old (with_fault new (fault_from e)) h call
     (model.Refused (fault_of (fault_from e)))
-pass_failed s old new h at call keys falls read honest usable T e answer cause whole =
+pass_failed s old new h at call from falls read honest usable T e answer cause whole =
     let map = h.state.map in
-    let pass = h.state.pass in
     let falls_own = ap (λ (x : Handle). case_of x.state call) (sym at.shows) ∙ falls in
-    from_own at (walk_failed_step s old new map pass call read honest (at.map usable)
-    (at.pass usable) (at.rests usable) T e usable answer cause whole
-    (λ reply after fails. subst (λ (rule : Case). Suffers (handle_of old map pass) rule reply after)
-    (sym falls_own) (passes_fail (handle_of old map pass) reply after fails keys)))
+    from_own at (walk_failed_step s old new map call read honest (at.map usable)
+    (at.rests usable) T e usable answer cause whole
+    (λ reply after fails. subst (λ (rule : Case). Suffers (handle_of old map) rule reply after)
+    (sym falls_own) (passes_fail (handle_of old map) reply after fails from)))
 
 -- and whose fault was then kept as the first one
 pub pass_flagged : {S : Type 0} (s : Ghosts S) (old db : Database S s) (h : Handle)
@@ -215,26 +199,6 @@ pass_flagged s old db h idle access valid call error fault told_as flag same byt
     (model.Refused (fault_of fault))
     (subst (λ (f : Fault). IsStep old (with_fault db f) h call (model.Refused (fault_of f)))
     (sym same) step))
-
--- a pass begins with all keys of the map
-pub all_left : {S : Type 0} (s : Ghosts S) (db : Database S s) (map : Contents)
-    → Holds s (store_of db) (meta_kept db) map
-    → length (s.committed (store_of db)) + 1 ≡ (page_state db).end → (page_state db).staged ≡ []
-    → HasLeft (s.committed (store_of db)) (meta_kept db) (record { bucket = 0; behind = None })
-    (set.from_list (finmap.keys map))
-all_left s db map h ends idle =
-    let p = placed s (store_of db) (meta_kept db) map h in
-    let table = is_table s (store_of db) (meta_kept db) map h ends idle in
-    record {
-      placement = p;
-      table = subst (λ (n : ℕ). IsTable (said_by (page_of (s.committed (store_of db))))
-          (meta_kept db) n p) (sym ends)
-          (subst (λ (at : ℕ → Body). IsTable at (meta_kept db) (page_state db).end p)
-          (committed_said s (store_of db) idle) table);
-      left = placement.pairs_of p;
-      behind = begins p;
-      keys_are = all_keys p map h.stands.good (map_placed s (store_of db) (meta_kept db) map h);
-    }
 
 -- what is kept does not depend on what is given
 pub keeps_as : {S T U : Type 0} {s : Ghosts S} {old new : Database S s} (value : T) (other : U)
@@ -312,7 +276,7 @@ module _ {S : Type 0} (s : Ghosts S) (old : Database S s) (h : Handle) (at : IsA
 
   pub error_step : IsStep old old h model.Error (model.Number (error_number (error_of old)))
   error_step =
-      let own = handle_of old h.state.map h.state.pass in
+      let own = handle_of old h.state.map in
       from_own at record {
         after = own;
         step = record {
@@ -326,7 +290,7 @@ module _ {S : Type 0} (s : Ghosts S) (old : Database S s) (h : Handle) (at : IsA
               Answers own.state c (model.Number (error_number (error_of old))) own.state)
               (sym (error_rule own.state)) (refl, refl));
         };
-        is_at = at_own old h.state.map h.state.pass at.map at.rests at.pass;
+        is_at = at_own old h.state.map at.map at.rests;
         survives = λ usable. stays (MayBeLeft own own model.Error) (inl refl) usable;
       }
 
@@ -335,24 +299,24 @@ module _ {S : Type 0} (s : Ghosts S) (old : Database S s) (h : Handle) (at : IsA
       → IsStep old (kept_error s old idle access valid None) h model.Clear (model.Number 0)
   cleared_step idle access valid =
       let new = kept_error s old idle access valid None in
-      let own = handle_of old h.state.map h.state.pass in
+      let own = handle_of old h.state.map in
       from_own at record {
-        after = handle_of new h.state.map h.state.pass;
+        after = handle_of new h.state.map;
         step = record {
           counts = omega arith;
           capacity = refl;
-          pages = no_more_pages own (handle_of new h.state.map h.state.pass) (model.Number 0) refl;
+          pages = no_more_pages own (handle_of new h.state.map) (model.Number 0) refl;
           bounded = inl refl;
-          buckets = no_more_buckets own (handle_of new h.state.map h.state.pass)
+          buckets = no_more_buckets own (handle_of new h.state.map)
               (model.Number 0) (finmap.len h.state.map) refl refl;
           answers = inl (subst (λ (c : Case).
               Answers own.state c (model.Number 0)
-              (handle_of new h.state.map h.state.pass).state)
+              (handle_of new h.state.map).state)
               (sym (clear_rule own.state)) (refl, refl));
         };
-        is_at = at_own new h.state.map h.state.pass (λ usable. at.map usable)
-            (λ usable. at.rests usable) (λ usable. at.pass usable);
-        survives = λ usable. stays (MayBeLeft own (handle_of new h.state.map h.state.pass)
+        is_at = at_own new h.state.map (λ usable. at.map usable)
+            (λ usable. at.rests usable);
+        survives = λ usable. stays (MayBeLeft own (handle_of new h.state.map)
             model.Clear) (inl refl) usable;
       }
 
@@ -360,18 +324,6 @@ module _ {S : Type 0} (s : Ghosts S) (old : Database S s) (h : Handle) (at : IsA
 pub own_usable : {S : Type 0} {s : Ghosts S} (db : Database S s) (h : Handle) → IsAt db h
     → (page_state db).usable ≡ true → h.state.usable ≡ true
 own_usable db h at usable = ap (λ (x : Handle). x.state.usable) at.shows ∙ usable
-
--- what a pass has left, where it is on
-pub going_on : (pages : Pages) (m : Meta) (cursor : Cursor) (pass : Option Keys)
-    → IsPass pages m (Some cursor) pass
-    → (keys : Keys) × (pass ≡ Some keys) × HasLeft pages m cursor keys
-going_on pages m cursor None is = absurd is
-going_on pages m cursor (Some keys) is = (keys, refl, is)
-
-pub not_going : (pages : Pages) (m : Meta) (pass : Option Keys)
-    → IsPass pages m None pass → pass ≡ None
-not_going pages m None is = refl
-not_going pages m (Some keys) is = absurd is
 
 -- a call that lends a key of the page
 pub passed_lends : {S : Type 0} (s : Ghosts S) (old new : Database S s) (call : model.Call)
@@ -389,33 +341,38 @@ passed_lends s old new call bytes r lent step same keeps =
 
 -- a first key, by the step of a pass that begins
 pub first_step : {S : Type 0} (s : Ghosts S) (db new : Database S s) (reply : model.Reply)
-    → (page_state db).usable ≡ true → length (s.committed (store_of db)) + 1 ≡ (page_state db).end
-    → (page_state db).staged ≡ [] → (h : Handle) → IsAt db h
-    → ((call : model.Call) (keys : Keys) → case_of h.state call ≡ Passes keys
-    → HasLeft (s.committed (store_of db)) (meta_kept db)
-    (record { bucket = 0; behind = None }) keys → IsStep db new h call reply)
+    → (page_state db).usable ≡ true → (h : Handle) → IsAt db h
+    → ((call : model.Call) → case_of h.state call ≡ Passes (pass_from true db)
+    → IsStep db new h call reply)
     → IsStep db new h model.First reply
-first_step s db new reply usable ends idle h at step =
-    step model.First (set.from_list (finmap.keys h.state.map))
-    (first_rule h.state (own_usable db h at usable))
-    (all_left s db h.state.map (at.map usable) ends idle)
+first_step s db new reply usable h at step =
+    step model.First (first_rule h.state (own_usable db h at usable))
 
--- a next key, by the step of the pass that is on
+-- a next key, by the step of the pass that was begun
 pub next_step : {S : Type 0} (s : Ghosts S) (db new : Database S s) (reply : model.Reply)
-    (cursor : Cursor) → db.pass ≡ Some cursor → (page_state db).usable ≡ true
-    → (h : Handle) → IsAt db h
-    → ((call : model.Call) (keys : Keys) → case_of h.state call ≡ Passes keys
-    → HasLeft (s.committed (store_of db)) (meta_kept db) cursor keys
+    → (pass_of db ≢ NotBegun) → (page_state db).usable ≡ true → (h : Handle) → IsAt db h
+    → ((call : model.Call) → case_of h.state call ≡ Passes (pass_from false db)
     → IsStep db new h call reply) → IsStep db new h model.Next reply
-next_step s db new reply cursor on usable h at step =
-    let going = going_on (s.committed (store_of db)) (meta_kept db) cursor h.state.pass
-    (subst (λ (c : Option Cursor).
-    IsPass (s.committed (store_of db)) (meta_kept db) c h.state.pass) on
-    (at.pass usable)) in
-    step model.Next going.0 (next_rule h.state going.0 (own_usable db h at usable) going.1) going.2
+next_step s db new reply begun usable h at step =
+    let shown : h.state.pass ≡ pass_of db = ap (λ (x : Handle). x.state.pass) at.shows in
+    step model.Next (next_rule h.state (own_usable db h at usable)
+    (λ none. begun (sym shown ∙ none)) ∙ ap Passes shown)
+
+-- whether one was begun, by a test of it
+pub was_begun : (pass : Pass) (test : Bool) → IsTrue test ↔ (pass ≢ NotBegun) → test ≡ true
+    → pass ≢ NotBegun
+was_begun pass test exact is = exact.0 is
+
+pub was_not_begun : (pass : Pass) (test : Bool) → IsTrue test ↔ (pass ≢ NotBegun)
+    → test ≡ false → pass ≡ NotBegun
+was_not_begun NotBegun test exact is = refl
+was_not_begun Begun test exact is =
+    absurd (let on = exact.1 (λ none. absurd (let e = none in cc)) in let e = sym is ∙ on in cc)
+was_not_begun (Behind last) test exact is =
+    absurd (let on = exact.1 (λ none. absurd (let e = none in cc)) in let e = sym is ∙ on in cc)
 
 -- no pass was begun
-pub no_pass_lends : {S : Type 0} (s : Ghosts S) (db : Database S s) → db.pass ≡ None
+pub no_pass_lends : {S : Type 0} (s : Ghosts S) (db : Database S s) → pass_of db ≡ NotBegun
     → (page_state db).usable ≡ true
     → ((y : Settled) → s.honest (store_of db)
     → s.settled_since (store_of db) (s.moment (store_of db)) y → s.settles_to (store_of db) y)
@@ -423,13 +380,9 @@ pub no_pass_lends : {S : Type 0} (s : Ghosts S) (db : Database S s) → db.pass 
 no_pass_lends s db off usable now = record {
   step = λ honest h at.
       let map = h.state.map in
-      let pass = h.state.pass in
-      let none = not_going (s.committed (store_of db)) (meta_kept db) pass
-      (subst (λ (c : Option Cursor). IsPass (s.committed (store_of db)) (meta_kept db) c pass)
-      off (at.pass usable)) in
-      from_own at (rejected_step s db db map pass model.Next (no_read s db now) honest
-      (at.map usable) (at.pass usable) (at.rests usable) NoPass
-      (no_pass_rule (handle_of db map pass).state usable none));
+      from_own at (rejected_step s db db map model.Next (no_read s db now) honest
+      (at.map usable) (at.rests usable) NoPass
+      (no_pass_rule (handle_of db map).state usable off));
   keeps = refused_keeps s db db (no_read s db now) usable (Option (Bor (List ℕ))) NoPass
       (λ is. absurd (let e = is in cc)) (λ is. absurd (let e = is in cc));
 }

@@ -9,7 +9,7 @@ use Rattle.dbm_model.specs.Calls as model
 use Rattle.page_model.specs.Pages.{Meta, MetaPage}
 use Rattle.page_model.specs.Valid.{meta_buckets}
 use Rattle.dbm_model.specs.Pairs.{Contents}
-use Rattle.dbm_model.specs.States.{State, Keys, Handle, first_fault, flagged}
+use Rattle.dbm_model.specs.States.{State, Pass, Handle, first_fault, flagged}
 use Rattle.dbm_model.specs.Steps.{Case, Refuses, Declines, Finds, case_of, Answers, Suffers, Fails, growth, buckets_opened, Step}
 use Rattle.page_model.specs.Meaning.{said_by}
 use Rattle.page_io.specs.Store.{Pages, Settled, file_of, page_of}
@@ -25,14 +25,13 @@ use Rattle.seg_table.specs.MetaPages.{model_meta}
 use Rattle.chain_walks.specs.Answers.{IsWalkAnswer}
 use Rattle.dbm_fault.specs.Faults.{fault_of, fault_from}
 use Rattle.page_commit.specs.Committing.{Holds}
-use Rattle.dbm_file.specs.Database.{store_of, meta_kept, page_state, cursor_of, HoldsMap, HoldsPass, StandsAfterStop, handle_of, IsAt}
-use Rattle.dbm_file.specs.Passing.{IsPass}
+use Rattle.dbm_file.specs.Database.{store_of, meta_kept, page_state, HoldsMap, StandsAfterStop, handle_of, IsAt}
+use Rattle.dbm_file.specs.Passing.{model_pass}
 use Rattle.dbm_file.specs.Answers.{MayBeLeft, StandsForSome, Survives, IsStep, IsSameDatabase, IsCallEnded}
 use Rattle.chain_walks.proofs.ReadPages.{reads_none}
 use Rattle.dbm_file.specs.Trying.{with_fault, IsRead}
 use Rattle.dbm_fault.specs.declared.fault.Fault.{Fault}
 use Rattle.dbm_fault.specs.declared.fault.Fault.TheVariants.{Device, Broken}
-use Rattle.linear_hash.specs.declared.passing.Cursor.{Cursor}
 use Rattle.dbm_file.specs.declared.database.Database.{Database}
 
 -- the flag of the program is that of the definitions
@@ -42,7 +41,7 @@ pub kept_first : (old : Option Fault) (fault : Fault)
 kept_first None fault = refl
 kept_first (Some earlier) fault = refl
 
-abbrev state_with : Contents → Option Keys → ℕ → Option model.Fault → Bool → Bool → State
+abbrev state_with : Contents → Pass → ℕ → Option model.Fault → Bool → Bool → State
 state_with map pass limit error writable usable =
     record {
       map = map;
@@ -53,39 +52,30 @@ state_with map pass limit error writable usable =
       usable = usable;
     }
 
-pub same_parts : (map : Contents) (pass : Option Keys) (limit limit' : ℕ)
-    (error error' : Option model.Fault) (writable writable' usable usable' : Bool) → limit ≡ limit'
-    → error ≡ error' → writable ≡ writable' → usable ≡ usable'
+pub same_parts : (map : Contents) (pass pass' : Pass) (limit limit' : ℕ)
+    (error error' : Option model.Fault) (writable writable' usable usable' : Bool) → pass ≡ pass'
+    → limit ≡ limit' → error ≡ error' → writable ≡ writable' → usable ≡ usable'
     → state_with map pass limit error writable usable
-    ≡ state_with map pass limit' error' writable' usable'
-same_parts map pass limit limit' error error' writable writable' usable usable' l e w u =
-    ap (λ (n : ℕ). state_with map pass n error writable usable) l
-    ∙ ap (λ (f : Option model.Fault). state_with map pass limit' f writable usable) e
-    ∙ ap (λ (b : Bool). state_with map pass limit' error' b usable) w
-    ∙ ap (state_with map pass limit' error' writable') u
+    ≡ state_with map pass' limit' error' writable' usable'
+same_parts map pass pass' limit limit' error error' writable writable' usable usable' p l e w u =
+    ap (λ (x : Pass). state_with map x limit error writable usable) p
+    ∙ ap (λ (n : ℕ). state_with map pass' n error writable usable) l
+    ∙ ap (λ (f : Option model.Fault). state_with map pass' limit' f writable usable) e
+    ∙ ap (λ (b : Bool). state_with map pass' limit' error' b usable) w
+    ∙ ap (state_with map pass' limit' error' writable') u
 
--- a database at its own map and pass
-pub at_own : {S : Type 0} {s : Ghosts S} (db : Database S s) (map : Contents) (pass : Option Keys)
-    → HoldsMap db map → StandsAfterStop db map → HoldsPass db pass → IsAt db (handle_of db map pass)
-at_own db map pass held rests going =
-    record { shows = refl; map = held; rests = rests; pass = going }
+-- a database at its own map
+pub at_own : {S : Type 0} {s : Ghosts S} (db : Database S s) (map : Contents)
+    → HoldsMap db map → StandsAfterStop db map → IsAt db (handle_of db map)
+at_own db map held rests = record { shows = refl; map = held; rests = rests }
 
 -- a step from there is one from the handle that it is at
 pub from_own : {S : Type 0} {s : Ghosts S} {old new : Database S s} {h : Handle} {call : model.Call}
     {reply : model.Reply} → IsAt old h
-    → IsStep old new (handle_of old h.state.map h.state.pass) call reply
+    → IsStep old new (handle_of old h.state.map) call reply
     → IsStep old new h call reply
 from_own {S} {s} {old} {new} {h} {call} {reply} at step =
     subst (λ (x : Handle). IsStep old new x call reply) (sym at.shows) step
-
--- the pass depends on the committed pages, the meta page and the cursor
-pub same_pass : (pages pages' : Pages) (m m' : Meta) (cursor cursor' : Option Cursor)
-    (pass : Option Keys) → pages' ≡ pages → m' ≡ m → cursor' ≡ cursor → IsPass pages m cursor pass
-    → IsPass pages' m' cursor' pass
-same_pass pages pages' m m' cursor cursor' pass p n c is =
-    subst (λ (x : Pages). IsPass x m' cursor' pass) (sym p)
-    (subst (λ (x : Meta). IsPass pages x cursor' pass) (sym n)
-    (subst (λ (x : Option Cursor). IsPass pages m x pass) (sym c) is))
 
 -- with no call of the store; `only` is its law `only_now`
 pub no_read : {S : Type 0} (s : Ghosts S) (db : Database S s)
@@ -151,25 +141,25 @@ pub no_more_buckets : (before after : Handle) (reply : model.Reply) (pairs : ℕ
 no_more_buckets before after reply pairs same none = omega (arith, same, none)
 
 module _ {S : Type 0} (s : Ghosts S) (old new : Database S s) (map : Contents)
-    (pass : Option Keys) where
-  -- the state of a database with this fault
-  pub flagged_is : (fault : Fault) → (meta_kept new).limit ≡ (meta_kept old).limit
-      → new.error ≡ old.error → (page_state new).writable ≡ (page_state old).writable
-      → (page_state new).usable ≡ (page_state old).usable
-      → (handle_of (with_fault new fault) map pass).state
-      ≡ flagged (fault_of fault) (handle_of old map pass).state
-  flagged_is fault limit error writable usable =
-      same_parts map pass _ _ _ _ _ _ _ _ limit
-      (ap (λ (e : Option Fault). option_map fault_of (cond (is_some e) e (Some fault))) error
-      ∙ kept_first old.error fault) writable usable
+  where
+    -- the state of a database with this fault
+    pub flagged_is : (fault : Fault) → new.pass ≡ old.pass → (meta_kept new).limit ≡ (meta_kept old).limit
+        → new.error ≡ old.error → (page_state new).writable ≡ (page_state old).writable
+        → (page_state new).usable ≡ (page_state old).usable
+        → (handle_of (with_fault new fault) map).state
+        ≡ flagged (fault_of fault) (handle_of old map).state
+    flagged_is fault pass limit error writable usable =
+        same_parts map _ _ _ _ _ _ _ _ _ _ (ap model_pass pass) limit
+        (ap (λ (e : Option Fault). option_map fault_of (cond (is_some e) e (Some fault))) error
+        ∙ kept_first old.error fault) writable usable
 
-  pub same_state : (meta_kept new).limit ≡ (meta_kept old).limit → new.error ≡ old.error
-      → (page_state new).writable ≡ (page_state old).writable
-      → (page_state new).usable ≡ (page_state old).usable
-      → (handle_of new map pass).state ≡ (handle_of old map pass).state
-  same_state limit error writable usable =
-      same_parts map pass _ _ _ _ _ _ _ _ limit
-      (ap (λ (e : Option Fault). option_map fault_of e) error) writable usable
+    pub same_state : new.pass ≡ old.pass → (meta_kept new).limit ≡ (meta_kept old).limit → new.error ≡ old.error
+        → (page_state new).writable ≡ (page_state old).writable
+        → (page_state new).usable ≡ (page_state old).usable
+        → (handle_of new map).state ≡ (handle_of old map).state
+    same_state pass limit error writable usable =
+        same_parts map _ _ _ _ _ _ _ _ _ _ (ap model_pass pass) limit
+        (ap (λ (e : Option Fault). option_map fault_of e) error) writable usable
 
 module _ {S : Type 0} (s : Ghosts S) (old new : Database S s) (map : Contents) where
   module _ (read : IsRead old new) where
@@ -206,88 +196,76 @@ module _ {S : Type 0} (s : Ghosts S) (old new : Database S s) (map : Contents) w
         (read.reads.stages_only.kept honest).any_moment
         (λ x is. (map, left, rests x is))
 
--- what was kept of the pass stays right
-pub still_passes : {S : Type 0} (s : Ghosts S) (old new : Database S s) (pass : Option Keys)
-    → IsRead old new → s.honest (store_of old)
-    → IsPass (s.committed (store_of old)) (meta_kept old) (cursor_of old) pass
-    → IsPass (s.committed (store_of new)) (meta_kept new) (cursor_of new) pass
-still_passes s old new pass read honest going =
-    same_pass _ _ _ _ _ _ pass (read.reads.stages_only.kept honest).committed
-    (still_meta s old new read) read.pass_is going
-
-module _ {S : Type 0} (s : Ghosts S) (old new : Database S s) (map : Contents) (pass : Option Keys)
+module _ {S : Type 0} (s : Ghosts S) (old new : Database S s) (map : Contents)
     (call : model.Call) (read : IsRead old new) (honest : s.honest (store_of old))
     (h : Holds s (store_of old) (meta_kept old) map)
-    (going : IsPass (s.committed (store_of old)) (meta_kept old) (cursor_of old) pass)
     (rests : (x : Settled) → s.settles_to (store_of old) x
     → ImageStandsFor x map (meta_kept old).limit) where
   abbrev before : Handle
-  before = handle_of old map pass
+  before = handle_of old map
 
   pub found_step : (reply : model.Reply) → buckets_opened before reply (len map) ≡ 0
       → case_of before.state call ≡ Finds reply → IsStep old new before call reply
   found_step reply none falls = record {
-    after = handle_of new map pass;
+    after = handle_of new map;
     step = record {
       counts = read.reads.stages_only.later;
       capacity = still_capacity s old new read;
-      pages = no_more_pages before (handle_of new map pass) reply (still_end s old new read);
+      pages = no_more_pages before (handle_of new map) reply (still_end s old new read);
       bounded = inl (still_end s old new read);
-      buckets = no_more_buckets before (handle_of new map pass) reply (len map)
+      buckets = no_more_buckets before (handle_of new map) reply (len map)
           (still_buckets s old new read) none;
       answers = inl (subst (λ (c : Case).
-          Answers before.state c reply (handle_of new map pass).state) (sym falls) (
+          Answers before.state c reply (handle_of new map).state) (sym falls) (
             refl,
-            same_state s old new map pass (still_limit s old new read) read.error_is
+            same_state s old new map read.pass_is (still_limit s old new read) read.error_is
                 (still_writable s old new read) (still_usable s old new read),
           ));
     };
-    is_at = at_own new map pass (λ usable. still_holds s old new map read honest h)
-        (λ usable. still_rests s old new map read honest rests)
-        (λ usable. still_passes s old new pass read honest going);
+    is_at = at_own new map (λ usable. still_holds s old new map read honest h)
+        (λ usable. still_rests s old new map read honest rests);
     survives = λ usable. still_survives s old new map read honest rests
-        (MayBeLeft before (handle_of new map pass) call) (inl refl);
+        (MayBeLeft before (handle_of new map) call) (inl refl);
   }
 
   module _ (fault : Fault) where
     abbrev refused : Database S s
     refused = with_fault new fault
 
-    refused_state : (handle_of refused map pass).state ≡ flagged (fault_of fault) before.state
-    refused_state = flagged_is s old new map pass fault (still_limit s old new read) read.error_is
+    refused_state : (handle_of refused map).state ≡ flagged (fault_of fault) before.state
+    refused_state = flagged_is s old new map fault read.pass_is (still_limit s old new read) read.error_is
         (still_writable s old new read) (still_usable s old new read)
 
     still_pages : (before.pages ≤ (page_state new).end)
         × ((page_state new).end ≤ before.pages + growth before (model.Refused (fault_of fault)))
-    still_pages = no_more_pages before (handle_of refused map pass) (model.Refused (fault_of fault))
+    still_pages = no_more_pages before (handle_of refused map) (model.Refused (fault_of fault))
         (still_end s old new read)
 
-    refused_step : (Step before call (model.Refused (fault_of fault)) (handle_of refused map pass))
+    refused_step : (Step before call (model.Refused (fault_of fault)) (handle_of refused map))
         → IsStep old refused before call (model.Refused (fault_of fault))
     refused_step step = record {
-      after = handle_of refused map pass;
+      after = handle_of refused map;
       step = step;
-      is_at = at_own refused map pass (λ usable. still_holds s old new map read honest h)
-          (λ usable. still_rests s old new map read honest rests)
-          (λ usable. still_passes s old new pass read honest going);
+      is_at = at_own refused map (λ usable. still_holds s old new map read honest h)
+          (λ usable. still_rests s old new map read honest rests);
       survives = λ usable. still_survives s old new map read honest rests
-          (MayBeLeft before (handle_of refused map pass) call) (inl refl);
+          (MayBeLeft before (handle_of refused map) call) (inl refl);
     }
 
     told_step : (rule : Case) → case_of before.state call ≡ rule
         → Answers before.state rule (model.Refused (fault_of fault))
-        (handle_of refused map pass).state
+        (handle_of refused map).state
         → IsStep old refused before call (model.Refused (fault_of fault))
     told_step rule falls is = refused_step record {
       counts = read.reads.stages_only.later;
       capacity = still_capacity s old new read;
       pages = still_pages;
       bounded = inl (still_end s old new read);
-      buckets = no_more_buckets before (handle_of refused map pass)
+      buckets = no_more_buckets before (handle_of refused map)
           (model.Refused (fault_of fault)) (len map) (still_buckets s old new read) refl;
       answers = inl (subst (λ (c : Case).
           Answers before.state c (model.Refused (fault_of fault))
-          (handle_of refused map pass).state) (sym falls) is);
+          (handle_of refused map).state) (sym falls) is);
     }
 
     pub rejected_step : case_of before.state call ≡ Refuses (fault_of fault)
@@ -308,9 +286,9 @@ module _ {S : Type 0} (s : Ghosts S) (old new : Database S s) (map : Contents) (
       capacity = still_capacity s old new read;
       pages = still_pages;
       bounded = inl (still_end s old new read);
-      buckets = no_more_buckets before (handle_of refused map pass)
+      buckets = no_more_buckets before (handle_of refused map)
           (model.Refused (fault_of fault)) (len map) (still_buckets s old new read) refl;
-      answers = inr (may (model.Refused (fault_of fault)) (handle_of refused map pass) (
+      answers = inr (may (model.Refused (fault_of fault)) (handle_of refused map) (
         ap (λ (f : Fault). model.Refused (fault_of f)) is,
         more,
         refused_state ∙ ap (λ (f : Fault). flagged (fault_of f) before.state) is,
@@ -363,28 +341,28 @@ walk_sound s old e usable answer same = by_case answer.only
 
 -- what a broken database answers
 pub broken_step : {S : Type 0} (s : Ghosts S) (old : Database S s) (map : Contents)
-    (pass : Option Keys) (call : model.Call) → (page_state old).usable ≡ false
-    → case_of (handle_of old map pass).state call ≡ Refuses model.Broken
-    → IsStep old (with_fault old Broken) (handle_of old map pass) call
+    (call : model.Call) → (page_state old).usable ≡ false
+    → case_of (handle_of old map).state call ≡ Refuses model.Broken
+    → IsStep old (with_fault old Broken) (handle_of old map) call
     (model.Refused model.Broken)
-broken_step s old map pass call broken falls = record {
-  after = handle_of (with_fault old Broken) map pass;
+broken_step s old map call broken falls = record {
+  after = handle_of (with_fault old Broken) map;
   step = record {
     counts = omega arith;
     capacity = refl;
-    pages = no_more_pages (handle_of old map pass) (handle_of (with_fault old Broken) map pass)
+    pages = no_more_pages (handle_of old map) (handle_of (with_fault old Broken) map)
         (model.Refused model.Broken) refl;
     bounded = inl refl;
-    buckets = no_more_buckets (handle_of old map pass)
-        (handle_of (with_fault old Broken) map pass) (model.Refused model.Broken) (len map)
+    buckets = no_more_buckets (handle_of old map)
+        (handle_of (with_fault old Broken) map) (model.Refused model.Broken) (len map)
         refl refl;
     answers = inl (subst (λ (c : Case).
-        Answers (handle_of old map pass).state c (model.Refused model.Broken)
-        (handle_of (with_fault old Broken) map pass).state) (sym falls)
-        (refl, flagged_is s old old map pass Broken refl refl refl refl));
+        Answers (handle_of old map).state c (model.Refused model.Broken)
+        (handle_of (with_fault old Broken) map).state) (sym falls)
+        (refl, flagged_is s old old map Broken refl refl refl refl refl));
   };
-  is_at = at_own (with_fault old Broken) map pass (λ usable. absurd (let e = usable in cc))
-      (λ usable. absurd (let e = usable in cc)) (λ usable. absurd (let e = usable in cc));
+  is_at = at_own (with_fault old Broken) map (λ usable. absurd (let e = usable in cc))
+      (λ usable. absurd (let e = usable in cc));
   survives = λ usable. absurd (let e = usable in cc);
 }
 
@@ -432,7 +410,7 @@ module _ {S : Type 0} (s : Ghosts S) (old new : Database S s) (read : IsRead old
     refused = (
       still_meta s old new read,
       ap (λ (st : store.StoreState). st.end) read.reads.same,
-      read.pass_is,
+      ap model_pass read.pass_is,
     );
     breaks = inl (still_usable s old new read);
     broken = (λ is. absurd (sound (let e = is in cc)), λ broken. absurd (let e = broken in cc));

@@ -1,9 +1,11 @@
 -- Searches, by what they answered.
-use Rattle.std.proofs.Common.{◌≡◌, ◌⊎◌, ℕ, Bool, true, false, is_some, List, Option, Some, None, Result, Err, IfOk, inl, inr, sym, ◌∙◌, ap, subst}
-use Rattle.std.specs.Prelude.{◌↔◌}
+use Rattle.std.proofs.Common.{◌≡◌, ◌⊎◌, ℕ, Bool, true, false, is_some, List, [], Option, Some, None, Result, Err, IfOk, inl, inr, sym, ◌∙◌, ap, subst}
+use Rattle.std.specs.Prelude.{◌↔◌, ◌≢◌}
 use Rattle.std.specs.Borrow.{Bor}
 use Rattle.std.specs.List.{HoldsAt}
 use Rattle.dbm_model.specs.Pairs.{Key, Pair}
+use Rattle.dbm_model.specs.States.{Pass, NotBegun}
+use Rattle.dbm_model.specs.Steps.{IsAhead}
 use Rattle.page_model.specs.Chain.{Leaf}
 use Rattle.page_model.specs.Pages.{Meta, Body}
 use Rattle.slot_page.specs.Contents.{page_pairs}
@@ -12,9 +14,9 @@ use Rattle.chain_walks.specs.declared.place.Place.{Place}
 use Rattle.linear_hash.specs.Looking.{IsSearch, EndsAt}
 use Rattle.dbm_fault.specs.declared.fault.Fault.{Fault}
 use Rattle.dbm_fault.specs.declared.fault.Fault.TheVariants.{NoPass, Device, Damaged}
+use Rattle.chain_walks.specs.Leasts.{IsAheadAt}
 use Rattle.linear_hash.specs.Passing.{IsPassed}
-use Rattle.linear_hash.specs.declared.passing.Cursor.{Cursor}
-use Rattle.dbm_file.specs.Searches.{EndsWith, EndsBy, EndsAtContent, IsReached, IsGiven}
+use Rattle.dbm_file.specs.Searches.{EndsWith, EndsBy, EndsAtContent, IsGiven}
 
 -- a search of whose last page less is said
 pub ended_so : (at : ℕ → Body) (m : Meta) (key : Key) (P Q : Leaf → ℕ → Type 0)
@@ -97,60 +99,60 @@ pub nothing_searched : {T : Type 0} (P : T → Type 0) (r : Result T Fault) (fau
 nothing_searched {T} P r fault is = subst (λ (x : Result T Fault). IfOk x P) (sym is) tt
 
 -- the key of the pair that a pass has reached
-pub given_key : (at : ℕ → Body) (m : Meta) (cursor : Cursor) (bytes : List ℕ) (reached : Option ℕ)
+pub given_key : (at : ℕ → Body) (m : Meta) (from : Pass) (bytes : List ℕ) (reached : Option ℕ)
     (slot : ℕ) (pair : Bor (List ℕ) × Bor (List ℕ)) → reached ≡ Some slot
     → HoldsAt (λ p. p ≡ (pair.0.now, pair.1.now)) (page_pairs bytes) slot
-    → IsReached at m cursor bytes reached → IsGiven at m cursor (Some pair.0.now)
-given_key at m cursor bytes reached slot pair is holds there = (
+    → IsPassed at m from bytes reached → IsGiven at m from (Some pair.0.now)
+given_key at m from bytes reached slot pair is holds there = (
   bytes,
   slot,
-  subst (λ (o : Option ℕ). IsReached at m cursor bytes o) is there,
+  subst (λ (o : Option ℕ). IsPassed at m from bytes o) is there,
   λ d.
       ap (λ (p : Pair). p.0) (holds d),
 )
 
-pub given_none : (at : ℕ → Body) (m : Meta) (cursor : Cursor) (bytes : List ℕ) (reached : Option ℕ)
-    → reached ≡ None → IsReached at m cursor bytes reached → IsGiven at m cursor None
-given_none at m cursor bytes reached is there =
-    subst (λ (o : Option ℕ). IsReached at m cursor bytes o) is there
+pub given_none : (at : ℕ → Body) (m : Meta) (from : Pass) (bytes : List ℕ) (reached : Option ℕ)
+    → reached ≡ None → IsPassed at m from bytes reached → IsGiven at m from None
+given_none at m from bytes reached is there =
+    subst (λ (o : Option ℕ). IsPassed at m from bytes o) is there
 
--- a pass that reached a place, or none
-pub reached_place : (at : ℕ → Body) (m : Meta) (cursor : Cursor) (bytes : List ℕ)
-    (found : Option (ℕ × Place)) (bucket : ℕ) (there : Place) → found ≡ Some (bucket, there)
-    → IsPassed at m cursor bytes found → IsReached at m cursor bytes (Some there.slot)
-reached_place at m cursor bytes found bucket there is passed =
-    (bucket, there.page, subst (λ (o : Option (ℕ × Place)). IsPassed at m cursor bytes o) is passed)
+-- from another place, and with another answer, of which it is known that they are the same
+pub passed_so : (at : ℕ → Body) (m : Meta) (behind from : Pass) (bytes : List ℕ)
+    (found answer : Option ℕ) → behind ≡ from → found ≡ answer
+    → IsPassed at m behind bytes found → IsPassed at m from bytes answer
+passed_so at m behind from bytes found answer is same passed =
+    subst (λ (o : Option ℕ). IsPassed at m from bytes o) same
+    (subst (λ (x : Pass). IsPassed at m x bytes found) is passed)
 
-pub reached_end : (at : ℕ → Body) (m : Meta) (cursor : Cursor) (bytes : List ℕ)
-    (found : Option (ℕ × Place)) → found ≡ None → IsPassed at m cursor bytes found
-    → IsReached at m cursor bytes None
-reached_end at m cursor bytes found is passed =
-    subst (λ (o : Option (ℕ × Place)). IsPassed at m cursor bytes o) is passed
+-- the key in a slot of a page that a pass came to is one before it
+pub key_ahead : (from : Pass) (bytes : List ℕ) (slot : ℕ) (pair : Bor (List ℕ) × Bor (List ℕ))
+    → HoldsAt (λ p. p ≡ (pair.0.now, pair.1.now)) (page_pairs bytes) slot
+    → IsAheadAt from bytes slot → IsAhead from pair.0.now
+key_ahead from bytes slot pair holds there =
+    subst (IsAhead from)
+    (sym (there.has.1 ([], [])) ∙ ap (λ (p : Pair). p.0) (holds ([], []))) there.ahead
 
 same_fault : {T : Type 0} (r : Result T Fault) (one other : Fault) → r ≡ Err one
     → r ≡ Err other → one ≡ other
 same_fault r one other is also = let same = sym is ∙ also in cc
 
--- whether a pass was on, by the cursor that the database had
-module _ {T : Type 0} (r : Result T Fault) (usable : Bool) (had : Option Cursor) where
+-- whether a pass was begun, by where that of the database stood
+module _ {T : Type 0} (r : Result T Fault) (usable : Bool) (stood : Pass) where
   -- a broken database doesn't say
   pub broken_first : (fault : Fault) → r ≡ Err fault → (fault ≡ NoPass → ⊥) → usable ≡ false
-      → (r ≡ Err NoPass) ↔ ((usable ≡ true) × (had ≡ None))
+      → (r ≡ Err NoPass) ↔ ((usable ≡ true) × (stood ≡ NotBegun))
   broken_first fault is other broken = (
     (λ no_pass. absurd (other (same_fault r fault NoPass is no_pass))),
     (λ lacks. absurd (let both = sym broken ∙ lacks.0 in cc)),
   )
 
-  pub pass_lacked : r ≡ Err NoPass → usable ≡ true → had ≡ None
-      → (r ≡ Err NoPass) ↔ ((usable ≡ true) × (had ≡ None))
+  pub pass_lacked : r ≡ Err NoPass → usable ≡ true → stood ≡ NotBegun
+      → (r ≡ Err NoPass) ↔ ((usable ≡ true) × (stood ≡ NotBegun))
   pass_lacked is goes none = ((λ _. (goes, none)), λ _. is)
 
-  pub pass_on : (cursor : Cursor) → had ≡ Some cursor → (r ≡ Err NoPass → ⊥)
-      → (r ≡ Err NoPass) ↔ ((usable ≡ true) × (had ≡ None))
-  pass_on cursor on other = (
-    (λ no_pass. absurd (other no_pass)),
-    (λ lacks. absurd (let both = sym on ∙ lacks.1 in cc)),
-  )
+  pub pass_on : stood ≢ NotBegun → (r ≡ Err NoPass → ⊥)
+      → (r ≡ Err NoPass) ↔ ((usable ≡ true) × (stood ≡ NotBegun))
+  pass_on begun other = ((λ no_pass. absurd (other no_pass)), (λ lacks. absurd (begun lacks.1)))
 
 -- what goes wrong while pages are read
 pub not_for_pass : (fault : Fault) → (fault ≡ Device) ⊎ (fault ≡ Damaged) → fault ≡ NoPass → ⊥

@@ -14,9 +14,8 @@ use Rattle.seg_table.specs.declared.meta.Meta as code
 use Rattle.dbm_fault.specs.Faults.{fault_of, fault_from}
 use Rattle.page_commit.specs.Committing.{Holds}
 use Rattle.dbm_file.specs.Calls.{mode_of, store_reply, delete_reply}
-use Rattle.dbm_model.specs.States.{Keys, Handle}
-use Rattle.dbm_file.specs.Database.{store_of, meta_kept, page_state, cursor_of, handle_of}
-use Rattle.dbm_file.specs.Passing.{IsPass}
+use Rattle.dbm_model.specs.States.{Handle}
+use Rattle.dbm_file.specs.Database.{store_of, meta_kept, page_state, handle_of}
 use Rattle.dbm_file.specs.Answers.{IsStep}
 use Rattle.dbm_file.specs.Trying.{with_fault, with_error_of, IsRead}
 use Rattle.dbm_fault.specs.declared.fault.Fault.{Fault}
@@ -40,18 +39,17 @@ pub replaces_so : (mode : StoreMode) → false ≡ sameb the_type mode Insert �
 replaces_so Insert is = absurd (let x = is in cc)
 replaces_so Replace is = refl
 
-module _ {S : Type 0} (s : Ghosts S) (old mid : Database S s) (map : Contents) (pass : Option Keys)
+module _ {S : Type 0} (s : Ghosts S) (old mid : Database S s) (map : Contents)
     (key : List ℕ) (read : IsRead old mid) (usable : (page_state old).usable ≡ true)
     (writable : (page_state old).writable ≡ true) (honest : s.honest (store_of old))
     (h : Holds s (store_of old) (meta_kept old) map)
-    (going : IsPass (s.committed (store_of old)) (meta_kept old) (cursor_of old) pass)
     (rests : (x : Settled) → s.settles_to (store_of old) x
     → ImageStandsFor x map (meta_kept old).limit) where
   -- a store of an allowed pair, whose key was there or not
   pub store_asked : (content : List ℕ) (mode : StoreMode) (there : Bool)
       → length key + length content ≤ 2026 → there ≡ is_some (get map key)
       → (there ≡ true → mode ≡ Replace) → (there ≡ false → mid.meta.pairs < mid.meta.limit)
-      → IsAsked s old mid map (insert map key content) pass
+      → IsAsked s old mid map (insert map key content)
       (model.Store key content (mode_of mode)) model.Stored
   store_asked content mode there short is replaces few = record {
     read = read;
@@ -59,10 +57,9 @@ module _ {S : Type 0} (s : Ghosts S) (old mid : Database S s) (map : Contents) (
     honest = honest;
     holds = h;
     rests = rests;
-    going = going;
-    falls = store_rule (handle_of old map pass).state key content (mode_of mode)
+    falls = store_rule (handle_of old map).state key content (mode_of mode)
         usable writable short
-        ∙ changes (handle_of old map pass).state key content (get map key) (mode_of mode)
+        ∙ changes (handle_of old map).state key content (get map key) (mode_of mode)
         (λ has. ap mode_of (replaces (is ∙ has)))
         (λ absent. omega (
           arith,
@@ -75,16 +72,15 @@ module _ {S : Type 0} (s : Ghosts S) (old mid : Database S s) (map : Contents) (
 
   -- a delete of a key that is there
   pub delete_asked : is_some (get map key) ≡ true
-      → IsAsked s old mid map (remove map key) pass (model.Delete key) model.Deleted
+      → IsAsked s old mid map (remove map key) (model.Delete key) model.Deleted
   delete_asked is = record {
     read = read;
     usable = usable;
     honest = honest;
     holds = h;
     rests = rests;
-    going = going;
-    falls = delete_rule (handle_of old map pass).state key usable writable
-        ∙ removes (handle_of old map pass).state key (get map key) is;
+    falls = delete_rule (handle_of old map).state key usable writable
+        ∙ removes (handle_of old map).state key (get map key) is;
   }
 
 -- a file that counts no pair has no key

@@ -9,7 +9,8 @@ use Rattle.page_io.specs.Store.{Settled}
 use Rattle.page_io.specs.Meaning.{ImageStandsFor}
 use Rattle.page_io.specs.declared.store.PageStore.{Ghosts}
 use Rattle.dbm_fault.specs.Faults.{fault_of}
-use Rattle.dbm_file.specs.Database.{store_of, meta_kept, page_state, error_of, cursor_of, IsAt}
+use Rattle.dbm_file.specs.Passing.{pass_of}
+use Rattle.dbm_file.specs.Database.{store_of, meta_kept, page_state, error_of, IsAt}
 use Rattle.dbm_fault.specs.declared.fault.Fault.{Fault}
 use Rattle.dbm_fault.specs.declared.fault.Fault.TheVariants.{Device, Broken}
 use Rattle.dbm_file.specs.declared.database.Database.{Database}
@@ -64,7 +65,7 @@ pub record IsCallEnded {S T : Type 0} {s : Ghosts S} (old new : Database S s)
   pub error : IfErr result (λ e. error_of new ≡ first_fault (error_of old) (fault_of e))
   -- a refusal changes nothing, but that a fault of the device may break the database
   pub refused : OnErr result ((meta_kept new ≡ meta_kept old)
-      × ((page_state new).end ≡ (page_state old).end) × (cursor_of new ≡ cursor_of old))
+      × ((page_state new).end ≡ (page_state old).end) × (pass_of new ≡ pass_of old))
   pub breaks : ((page_state new).usable ≡ (page_state old).usable)
       ⊎ (IsErrOf result Device × ((page_state new).usable ≡ false))
   pub broken : IsErrOf result Broken ↔ ((page_state old).usable ≡ false)

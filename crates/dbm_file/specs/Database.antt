@@ -5,15 +5,14 @@ use Rattle.dbm_model.specs.Calls as model
 use Rattle.page_model.specs.Pages.{Meta}
 use Rattle.page_model.specs.Valid.{meta_buckets}
 use Rattle.dbm_model.specs.Pairs.{Contents}
-use Rattle.dbm_model.specs.States.{Keys, Handle}
+use Rattle.dbm_model.specs.States.{Handle}
 use Rattle.page_io.specs.Store.{Settled, StoreState}
 use Rattle.page_io.specs.Meaning.{ImageStandsFor}
 use Rattle.page_io.specs.declared.store.PageStore.{Ghosts}
 use Rattle.seg_table.specs.MetaPages.{model_meta}
 use Rattle.dbm_fault.specs.Faults.{fault_of}
 use Rattle.page_commit.specs.Committing.{Holds}
-use Rattle.dbm_file.specs.Passing.{IsPass}
-use Rattle.linear_hash.specs.declared.passing.Cursor.{Cursor}
+use Rattle.dbm_file.specs.Passing.{pass_of}
 use Rattle.dbm_file.specs.declared.database.Database.{Database}
 
 -- the store of pages below
@@ -26,10 +25,6 @@ meta_kept db = model_meta db.meta
 
 abbrev pub page_state : {S : Type 0} {s : Ghosts S} → Database S s → StoreState
 page_state {S} {s} db = s.state db.store
-
--- where its pass stands, if one is on
-abbrev pub cursor_of : {S : Type 0} {s : Ghosts S} → Database S s → Option Cursor
-cursor_of db = db.pass
 
 -- the first fault since the opening or the last clearing
 abbrev pub error_of : {S : Type 0} {s : Ghosts S} → Database S s → Option model.Fault
@@ -45,19 +40,14 @@ StandsAfterStop {S} {s} db map =
     (page_state db).usable ≡ true → (settled : Settled) → s.settles_to (store_of db) settled
     → ImageStandsFor settled map (meta_kept db).limit
 
--- its pass has these keys yet to give, or none is on
-abbrev pub HoldsPass : {S : Type 0} {s : Ghosts S} → Database S s → Option Keys → Type 0
-HoldsPass {S} {s} db pass = (page_state db).usable ≡ true
-    → IsPass (s.committed (store_of db)) (meta_kept db) (cursor_of db) pass
-
--- the handle of a database at this map and pass
-abbrev pub handle_of : {S : Type 0} {s : Ghosts S} → Database S s → Contents → Option Keys → Handle
-handle_of {S} {s} db map pass = record {
+-- the handle of a database at this map
+abbrev pub handle_of : {S : Type 0} {s : Ghosts S} → Database S s → Contents → Handle
+handle_of {S} {s} db map = record {
   state = record {
     map = map;
     limit = (meta_kept db).limit;
     error = error_of db;
-    pass = pass;
+    pass = pass_of db;
     writable = (page_state db).writable;
     usable = (page_state db).usable;
   };
@@ -67,13 +57,12 @@ handle_of {S} {s} db map pass = record {
   buckets = meta_buckets (meta_kept db);
 }
 
--- The database is at this handle of the definitions. Of a broken one's map and pass nothing is
--- said: of its file the clauses of the call that broke it speak.
+-- The database is at this handle of the definitions. Of a broken one's map nothing is said: of its
+-- file the clauses of the call that broke it speak.
 pub record IsAt {S : Type 0} {s : Ghosts S} (db : Database S s) (h : Handle) : Type 0 where
-  pub shows : h ≡ handle_of db h.state.map h.state.pass
+  pub shows : h ≡ handle_of db h.state.map
   pub map : HoldsMap db h.state.map
   pub rests : StandsAfterStop db h.state.map
-  pub pass : HoldsPass db h.state.pass
 
 -- what is said of an honest database at any handle of the definitions
 abbrev pub AtEachHandle : {S : Type 0} {s : Ghosts S} → Database S s → (Handle → Type 0) → Type 0

@@ -12,9 +12,10 @@ use Rattle.page_cache.specs.Stores.{store_below}
 use Rattle.page_cache.specs.declared.cached_pages.CachedPages.{CachedPages}
 use Rattle.dbm_model.specs.Pairs.{Contents}
 use Rattle.dbm_model.specs.Sizes.{home}
-use Rattle.dbm_model.specs.States.{Handle}
+use Rattle.dbm_model.specs.States.{NotBegun, Handle}
 use Rattle.dbm_model.specs.States as model
-use Rattle.dbm_file.specs.Database.{store_of, meta_kept, page_state, error_of, cursor_of, IsAt}
+use Rattle.dbm_file.specs.Passing.{pass_of}
+use Rattle.dbm_file.specs.Database.{store_of, meta_kept, page_state, error_of, IsAt}
 use Rattle.dbm_fault.specs.declared.fault.Fault.{Fault}
 use Rattle.dbm_file.specs.declared.database.Database.{Database}
 
@@ -38,7 +39,7 @@ pub record IsNewlyOpened {S : Type 0} {s : store.Ghosts S} (for_writing : Bool) 
   pub writable : (page_state db).writable ≡ for_writing
   pub capacity : (page_state db).capacity ≡ pages
   pub no_error : error_of db ≡ None
-  pub no_pass : cursor_of db ≡ None
+  pub no_pass : pass_of db ≡ NotBegun
 
 -- each image is blank or stands for a map, and a device of so many pages has twice those that a
 -- database of its limit needs

@@ -3,14 +3,15 @@ use Rattle.std.specs.Prelude.{◌≡◌, pos, List, [], ◌∷◌, None, Some, R
 use Rattle.dbm_fault.specs.Among.{IsAmong}
 use Rattle.dbm_fault.specs.declared.fault.Fault.{Fault}
 use Rattle.dbm_fault.specs.declared.fault.Fault.TheVariants.{Memory, Device, Broken, ReadOnly, TooLong, Full, NoPass, NoRoom, Damaged}
-use Rattle.dbm_model.specs.States.{error_number}
+use Rattle.dbm_model.specs.States.{Begun, error_number}
 use Rattle.page_io.specs.declared.store.PageStore.{Ghosts}
 use Rattle.chain_walks.specs.Walks.{EndsWithout}
 use Rattle.dbm_file.specs.Answers.{IsCallEnded}
 use Rattle.dbm_file.specs.Calls.{Lent}
 use Rattle.dbm_file.specs.Changing.{WasDeleted, WasStored}
-use Rattle.dbm_file.specs.Database.{store_of, meta_kept, error_of, cursor_of}
-use Rattle.dbm_file.specs.Searches.{Searched, EndsWith, EndsAtContent, Passed, WentOn, pass_start}
+use Rattle.dbm_file.specs.Passing.{pass_of}
+use Rattle.dbm_file.specs.Database.{store_of, meta_kept, error_of}
+use Rattle.dbm_file.specs.Searches.{Searched, EndsWith, EndsAtContent, Passed, WentOn}
 use Rattle.dbm_file.specs.declared.calls.Call.{Call}
 use Rattle.dbm_file.specs.declared.calls.Call.TheVariants.{Store, Fetch, Delete, First, Next, Error, Clear}
 use Rattle.dbm_file.specs.declared.calls.Reply.{Reply}
@@ -84,8 +85,8 @@ WasRead db (Store key content mode) Kept = Searched db key (EndsWith key)
 WasRead db (Delete key) Absent = Searched db key (EndsWithout key)
 WasRead db (Fetch key) NoRecord = Searched db key (EndsAtContent key None)
 WasRead db (Fetch key) (Bytes content) = Searched db key (EndsAtContent key (Some content))
-WasRead db First End = Passed db pass_start None
-WasRead db First (Bytes key) = Passed db pass_start (Some key)
+WasRead db First End = Passed db Begun None
+WasRead db First (Bytes key) = Passed db Begun (Some key)
 WasRead db Next End = WentOn db None
 WasRead db Next (Bytes key) = WentOn db (Some key)
 WasRead db call reply = Unit {0}
@@ -108,7 +109,7 @@ pub record IsErrorCleared {S : Type 0} {s : Ghosts S} (old new : Database S s)
   pub cleared : error_of new ≡ None
   pub still : store_of new ≡ store_of old
   pub kept : meta_kept new ≡ meta_kept old
-  pub pass : cursor_of new ≡ cursor_of old
+  pub pass : pass_of new ≡ pass_of old
 
 -- any other call was answered by a reply to it
 pub record IsCallAnswered {S : Type 0} {s : Ghosts S} (old new : Database S s) (call : Call)

@@ -1,19 +1,18 @@
 -- What a call has read that looks for a key, on any file.
-use Rattle.std.specs.Prelude.{◌≡◌, ℕ, Bool, true, false, List, Option, Some, None}
+use Rattle.std.specs.Prelude.{◌≡◌, ◌≢◌, ℕ, Bool, true, false, List, [], Option, Some, None}
 use Rattle.std.specs.List.{HoldsAt}
 use Rattle.dbm_model.specs.Pairs.{Key}
+use Rattle.dbm_model.specs.States.{Pass, NotBegun}
 use Rattle.page_model.specs.Chain.{Leaf}
 use Rattle.page_model.specs.Pages.{Meta, Body}
-use Rattle.page_model.specs.Valid.{meta_buckets}
 use Rattle.slot_page.specs.Contents.{HasKeyAt, page_pairs}
 use Rattle.page_io.specs.Views.{body_at}
 use Rattle.page_io.specs.declared.store.PageStore.{Ghosts}
-use Rattle.chain_walks.specs.Places.{place}
 use Rattle.chain_walks.specs.Walks.{EndsWithout}
 use Rattle.linear_hash.specs.Looking.{IsSearch}
-use Rattle.linear_hash.specs.Passing.{GaveNothing, IsPassed}
-use Rattle.linear_hash.specs.declared.passing.Cursor.{Cursor}
-use Rattle.dbm_file.specs.Database.{store_of, meta_kept, page_state, cursor_of}
+use Rattle.linear_hash.specs.Passing.{IsPassed}
+use Rattle.dbm_file.specs.Passing.{pass_of}
+use Rattle.dbm_file.specs.Database.{store_of, meta_kept, page_state}
 use Rattle.dbm_file.specs.declared.database.Database.{Database}
 
 -- over an honest store: the pages that say where the key's bucket is, and those of its chain, were
@@ -38,34 +37,23 @@ EndsAtContent key None leaf after = EndsWithout key leaf after
 EndsAtContent key (Some content) leaf after =
     (slot : ℕ) × HoldsAt (λ pair. pair ≡ (key, content)) leaf.pairs slot
 
--- before all pairs
-abbrev pub pass_start : Cursor
-pass_start = record { bucket = 0; behind = None }
-
--- a pass went on from the cursor to this slot of the page, which the bytes are; or no bucket had a
--- pair for it
-abbrev pub IsReached : (ℕ → Body) → Meta → Cursor → List ℕ → Option ℕ → Type 0
-IsReached at m cursor bytes None = GaveNothing at m cursor (meta_buckets m)
-IsReached at m cursor bytes (Some slot) =
-    (bucket : ℕ) × (page : ℕ) × IsPassed at m cursor bytes (Some (bucket, place page slot))
-
 -- the key that was answered is that of the pair which the pass reached
-abbrev pub IsGiven : (ℕ → Body) → Meta → Cursor → Option Key → Type 0
-IsGiven at m cursor None = GaveNothing at m cursor (meta_buckets m)
-IsGiven at m cursor (Some key) =
-    (bytes : List ℕ) × (slot : ℕ) × IsReached at m cursor bytes (Some slot)
+abbrev pub IsGiven : (ℕ → Body) → Meta → Pass → Option Key → Type 0
+IsGiven at m from None = IsPassed at m from [] None
+IsGiven at m from (Some key) =
+    (bytes : List ℕ) × (slot : ℕ) × IsPassed at m from bytes (Some slot)
     × HoldsAt (λ pair. pair.0 ≡ key) (page_pairs bytes) slot
 
 -- over an honest store: the pages that say where the buckets are, and those of their chains, were
--- read from the cursor on
-abbrev pub Passed : {S : Type 0} {s : Ghosts S} → Database S s → Cursor → Option Key → Type 0
-Passed {S} {s} db cursor found =
-    s.honest (store_of db) → IsGiven (body_at s (store_of db)) (meta_kept db) cursor found
+-- read from there on
+abbrev pub Passed : {S : Type 0} {s : Ghosts S} → Database S s → Pass → Option Key → Type 0
+Passed {S} {s} db from found =
+    s.honest (store_of db) → IsGiven (body_at s (store_of db)) (meta_kept db) from found
 
--- a pass was on, and they were read from where it stood
+-- a pass was begun, and they were read from where it stood
 abbrev pub WentOn : {S : Type 0} {s : Ghosts S} → Database S s → Option Key → Type 0
-WentOn db found = (cursor : Cursor) × (cursor_of db ≡ Some cursor) × Passed db cursor found
+WentOn db found = (pass_of db ≢ NotBegun) × Passed db (pass_of db) found
 
--- no pass is on, and the database isn't broken
+-- no pass was begun, and the database isn't broken
 abbrev pub LacksPass : {S : Type 0} {s : Ghosts S} → Database S s → Type 0
-LacksPass db = ((page_state db).usable ≡ true) × (cursor_of db ≡ None)
+LacksPass db = ((page_state db).usable ≡ true) × (pass_of db ≡ NotBegun)

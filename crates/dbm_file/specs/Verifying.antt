@@ -8,7 +8,8 @@ use Rattle.page_io.specs.Meaning.{FileStandsFor, ImageStandsFor}
 use Rattle.page_io.specs.Views.{ReadsOnly}
 use Rattle.page_io.specs.declared.store.PageStore.{Ghosts}
 use Rattle.dbm_file.specs.Answers.{Survives}
-use Rattle.dbm_file.specs.Database.{store_of, meta_kept, page_state, error_of, cursor_of, IsAt}
+use Rattle.dbm_file.specs.Passing.{pass_of}
+use Rattle.dbm_file.specs.Database.{store_of, meta_kept, page_state, error_of, IsAt}
 use Rattle.dbm_file.specs.declared.database.Database.{Database}
 
 -- the pages are a good file of so many pairs: they stand for a map that has them
@@ -32,7 +33,7 @@ pub record IsReadThrough {S : Type 0} {s : Ghosts S} (old new : Database S s) : 
   pub reads : ReadsOnly s (store_of old) (store_of new)
   pub meta : meta_kept new ≡ meta_kept old
   pub error : error_of new ≡ error_of old
-  pub pass : cursor_of new ≡ cursor_of old
+  pub pass : pass_of new ≡ pass_of old
 
 -- a database at this handle is at the same one, but that the device may have failed more often, and
 -- every image of every moment stands for its map

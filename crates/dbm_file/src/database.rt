@@ -4,17 +4,15 @@ ghost use Rattle.dbm_fault.specs.Among.{IsErrAmong};
 ghost use Rattle.page_model.specs.Valid.{IsMeta};
 ghost use Rattle.seg_table.specs.MetaPages.{model_meta};
 
+use crate::pass::{MAX_PAIR, Pass};
 use crate::{DeleteReply, Fault, Stat, StoreMode, StoreReply};
-use linear_hash::{Cursor, delete_pair, find_pair, next_pair, store_pair};
+use linear_hash::{delete_pair, find_pair, next_pair, store_pair};
 use page_cache::CachedPages;
 use page_io::{Page, PageFault, PageStore};
 use redo_area::Pager;
 use seg_table::Meta;
 use slot_page::pair_at;
 use std::alloc::Global;
-
-/// The most bytes that a key and its content may have together.
-const MAX_PAIR: usize = 2026;
 
 /// An open database over a device of sectors, whose clean pages are kept in memory.
 pub type Db<D> = Database<CachedPages<Pager<D>>>;
@@ -26,7 +24,7 @@ pub struct Database<S: PageStore> {
     pub(crate) meta: Meta,
     pub(crate) page: Page,
     pub(crate) error: Option<Fault>,
-    pub(crate) pass: Option<Cursor>,
+    pub(crate) pass: Pass,
     pub(crate) writable: bool,
     pub(crate) alloc: Global,
     pub(crate) ghost idle: { (S.state store).staged ≡ [] },
@@ -35,28 +33,30 @@ pub struct Database<S: PageStore> {
 }
 
 impl<S: PageStore> Database<S> {
-    ghost use Rattle.std.specs.Prelude.{◌≡◌, ◌↔◌, ◌+◌, ◌<◌, ◌≤◌, pos, is_some, IsErrOf, IfOk, IfSome, Err, Ok, Option, Some, None, Result, length, true, false};
+    ghost use Rattle.std.specs.Prelude.{◌≡◌, ◌≢◌, ◌⊎◌, ◌↔◌, ◌+◌, ◌<◌, ◌≤◌, pos, is_some, IsErrOf, IfOk, IfSome, Err, Ok, Option, Some, None, Result, length, true, false};
     ghost use Rattle.std.specs.Borrow.{sem};
     ghost use Rattle.std.specs.FinMap.{get, len};
     ghost use Rattle.dbm_model.specs.Calls.{Call, Store, Fetch, Delete, First, Next, Error, Clear, NoRecord, End, Number};
     ghost use Rattle.dbm_model.specs.Pairs.{Contents};
     ghost use Rattle.dbm_model.specs.Sizes.{home};
-    ghost use Rattle.dbm_model.specs.States.{Keys, Handle, error_number};
-    ghost use Rattle.dbm_model.specs.Steps.{Passes, case_of};
+    ghost use Rattle.dbm_model.specs.States.{NotBegun, Begun, Handle, error_number};
+    ghost use Rattle.dbm_model.specs.Steps.{Passes, IsAhead, case_of};
     ghost use Rattle.page_model.specs.Valid.{meta_buckets};
+    ghost use Rattle.linear_hash.specs.Passing.{IsPassed};
     ghost use Rattle.linear_hash.specs.Tables.{shape_in, shape_for};
     ghost use Rattle.dbm_file.specs.Changing.{WasDeleted, WasStored, HasFullBuckets};
     ghost use Rattle.dbm_file.specs.Calls.{mode_of, store_reply, delete_reply, lent_reply, seen};
-    ghost use Rattle.dbm_file.specs.Database.{store_of, meta_kept, page_state, error_of, cursor_of, IsAt, AtEachHandle};
+    ghost use Rattle.dbm_file.specs.Database.{store_of, meta_kept, page_state, error_of, IsAt, AtEachHandle};
     ghost use Rattle.dbm_file.specs.Answers.{IsStep, IsCallEnded};
     ghost use Rattle.dbm_file.specs.Lending.{Lends};
     ghost use Rattle.dbm_file.specs.Replies.{store_faults, delete_faults, read_faults, next_faults};
-    ghost use Rattle.dbm_file.specs.Passing.{HasLeft};
-    ghost use Rattle.dbm_file.specs.Searches.{Searched, EndsWith, EndsBy, EndsAtContent, Passed, WentOn, LacksPass, IsReached, pass_start};
+    ghost use Rattle.dbm_file.specs.Passing.{pass_of, pass_from};
+    ghost use Rattle.dbm_file.specs.Searches.{Searched, EndsWith, EndsBy, EndsAtContent, Passed, WentOn, LacksPass};
     ghost use Rattle.dbm_file.specs.Ending.{EndsAs};
     ghost use Rattle.dbm_file.specs.Trying.{with_error_of, IsRead, IsStoreEnd, IsDeleteEnd, slot_reply};
     ghost use Rattle.page_commit.specs.Committing.{Holds};
     ghost use Rattle.chain_walks.specs.Answers.{IsWalkAnswer};
+    ghost use Rattle.chain_walks.specs.Leasts.{IsAheadAt};
     ghost use Rattle.chain_walks.specs.Walks.{EndsWithout};
     ghost use Rattle.page_io.specs.Answers.{HasDeviceCause};
     ghost use Rattle.page_io.specs.Views.{body_at};
@@ -89,9 +89,9 @@ impl<S: PageStore> Database<S> {
     /// Stores a pair (POSIX: `dbm_store`), in one commit. In this order: `Broken`; `ReadOnly`;
     /// `TooLong` where key and content together are above 2,026 bytes; `Device` or `Damaged` while
     /// the key is looked up; `Kept`; `Full` where the key is new and the limit is reached; then
-    /// `Device`, `NoRoom`, `Damaged`, or `Memory` where a bucket is split, as the work meets them. Where the commit fails by
-    /// `Device`, the database is broken, and opening the device again settles whether the pair is
-    /// there.
+    /// `Device`, `NoRoom`, `Damaged`, or `Memory` where a bucket is split, as the work meets them.
+    /// Where the commit fails by `Device`, the database is broken, and opening the device again
+    /// settles whether the pair is there.
     pub fn store(
         &mut self,
         key: &[u8],
@@ -152,34 +152,36 @@ impl<S: PageStore> Database<S> {
         }
     }
 
-    /// Begins a pass over all keys, in no set order, and gives the first one, or `None` where there
-    /// is none (POSIX: `dbm_firstkey`). The slice lies in the database, and ends with the next
-    /// call. It is never refused for memory. In this order: `Broken`; then `Device` or `Damaged`
-    /// while pages are read. Where it is refused, a pass that was on stays.
+    /// Begins a pass over all keys, and gives the first one, or `None` where there is none (POSIX:
+    /// `dbm_firstkey`). Keys come in the order of their hashes' bits from the lowest up, then by
+    /// bytes. The slice lies in the database, and ends with the next call. It is never refused for
+    /// memory. In this order: `Broken`; then `Device` or `Damaged` while pages are read. Where it
+    /// is refused, a pass that was on stays.
     pub fn firstkey(&mut self) -> Result<Option<&[u8]>, Fault>
         ensures* after { sem 𝓛 (EndsAs S.row S.PageStore self.entry
             (Lends First (lent_reply End) self.old result)) }
         ensures short { IfOk result (λ r. IfSome r (λ key. length key.now ≤ 2026)) }
 
         // On any file the buckets were read from the first one on.
-        ensures passed { IfOk result (λ found. Passed self.old pass_start (seen found)) }
+        ensures passed { IfOk result (λ found. Passed self.old Begun (seen found)) }
         ensures only { IsErrAmong result read_faults }
     {
         if self.store.is_broken() {
             return refuse(&mut self.error, Fault::Broken);
         }
-        match self.advance(Cursor::START) {
+        match self.advance(true) {
             Ok(Some(slot)) => Ok(Some(pair_at(&self.page, slot).0)),
             Ok(None) => Ok(None),
             Err(fault) => Err(fault),
         }
     }
 
-    /// The next key of the pass, each once, or `None` where it has given all, then and after that
-    /// (POSIX: `dbm_nextkey`). The slice lies in the database, and ends with the next call. It
-    /// is never refused for memory. In this order: `Broken`; `NoPass` where no pass was begun since
-    /// the opening or the last `Stored` or `Deleted`; then `Device` or `Damaged` while pages are
-    /// read. A refusal leaves the pass where it is.
+    /// The next key of the pass: of those that are there now, the first one behind the last that it
+    /// gave, or `None` where there is none (POSIX: `dbm_nextkey`, which needs a new `dbm_firstkey`
+    /// after a change; this one goes on). The slice lies in the database, and ends with the next
+    /// call. It is never refused for memory. In this order: `Broken`; `NoPass` where no pass was
+    /// begun since the opening; then `Device` or `Damaged` while pages are read. A refusal leaves
+    /// the pass where it is.
     pub fn nextkey(&mut self) -> Result<Option<&[u8]>, Fault>
         ensures* after { sem 𝓛 (EndsAs S.row S.PageStore self.entry
             (Lends Next (lent_reply End) self.old result)) }
@@ -187,16 +189,20 @@ impl<S: PageStore> Database<S> {
 
         // On any file the buckets were read from where the pass stood.
         ensures passed { IfOk result (λ found. WentOn self.old (seen found)) }
+
+        // On any bytes the keys of a pass ascend.
+        ensures ahead { IfOk result (λ found.
+            IfSome found (λ key. IsAhead (pass_of self.old) key.now)) }
         ensures no_pass { (result ≡ Err Fault.NoPass) ↔ LacksPass self.old }
         ensures only { IsErrAmong result next_faults }
     {
         if self.store.is_broken() {
             return refuse(&mut self.error, Fault::Broken);
         }
-        let Some(cursor) = self.pass else {
+        if !self.pass.is_begun() {
             return refuse(&mut self.error, Fault::NoPass);
-        };
-        match self.advance(cursor) {
+        }
+        match self.advance(false) {
             Ok(Some(slot)) => Ok(Some(pair_at(&self.page, slot).0)),
             Ok(None) => Ok(None),
             Err(fault) => Err(fault),
@@ -221,7 +227,7 @@ impl<S: PageStore> Database<S> {
         ensures clear { error_of self.new ≡ None }
         ensures still { (store_of self.new ≡ store_of self.old)
             × (meta_kept self.new ≡ meta_kept self.old)
-            × (cursor_of self.new ≡ cursor_of self.old) }
+            × (pass_of self.new ≡ pass_of self.old) }
     {
         self.error = None;
         0
@@ -293,7 +299,6 @@ impl<S: PageStore> Database<S> {
             content,
             was_there,
         )?;
-        self.pass = None;
         Ok(StoreReply::Stored)
     }
 
@@ -317,39 +322,36 @@ impl<S: PageStore> Database<S> {
             return Err(Fault::Damaged);
         }
         delete_pair(&mut self.store, &mut self.meta, key)?;
-        self.pass = None;
         Ok(DeleteReply::Deleted)
     }
 
-    // Moves the pass to the pair behind the cursor, and gives its slot in the page. A refusal
-    // leaves the pass where it is, and the first fault is kept.
-    fn advance(&mut self, from: Cursor) -> Result<Option<usize>, Fault>
-        requires { (page_state self.old).usable ≡ true }
+    // Moves the pass behind its next key, whose slot in the page is given; a pass is begun, or the
+    // one that is on goes on. A refusal leaves the pass where it is, and the first fault is kept.
+    fn advance(&mut self, begins: bool) -> Result<Option<usize>, Fault>
+        requires usable { (page_state self.old).usable ≡ true }
+        requires begun { (begins ≡ true) ⊎ (pass_of self.old ≢ NotBegun) }
         ensures step { AtEachHandle self.old (λ h.
-            (call : Call) (keys : Keys) → case_of h.state call ≡ Passes keys
-            → HasLeft (S.committed (store_of self.old)) (meta_kept self.old) from keys
+            (call : Call) → case_of h.state call ≡ Passes (pass_from begins self.old)
             → IsStep self.old self.new h call (slot_reply self.new.page.bytes result)) }
-        ensures held { IfOk result (λ found.
-            IfSome found (λ slot. IsBucketPage self.new.page.bytes
-            × (slot < length (page_pairs self.new.page.bytes)))) }
+        ensures ahead { IfOk result (λ found. IfSome found (λ slot.
+            IsAheadAt (pass_from begins self.old) self.new.page.bytes slot)) }
         ensures passed { S.honest (store_of self.old)
-            → IfOk result (IsReached (body_at S.PageStore (store_of self.old)) (meta_kept self.old)
-            from self.new.page.bytes) }
+            → IfOk result (IsPassed (body_at S.PageStore (store_of self.old)) (meta_kept self.old)
+            (pass_from begins self.old) self.new.page.bytes) }
         ensures keeps { IsCallEnded self.old self.new result }
         ensures only { IsErrAmong result (Fault.Device ∷ Fault.Damaged ∷ []) }
     {
-        match next_pair(&mut self.store, &self.meta, from, &mut self.page) {
-            Ok(Some((bucket, place))) => {
-                self.pass = Some(Cursor {
-                    bucket,
-                    behind: Some(place),
-                });
-                Ok(Some(place.slot))
+        let last = self.pass.last(begins);
+        match next_pair(&mut self.store, &self.meta, last, &mut self.page) {
+            Ok(Some(slot)) => {
+                self.pass = Pass::behind(pair_at(&self.page, slot).0);
+                Ok(Some(slot))
             }
-            Ok(None) => {
-                self.pass = Some(from);
+            Ok(None) if begins => {
+                self.pass = Pass::Begun;
                 Ok(None)
             }
+            Ok(None) => Ok(None),
             Err(fault) => refuse(&mut self.error, Fault::from(fault)),
         }
     }

@@ -7,6 +7,7 @@ mod database;
 mod named;
 mod octets;
 mod opening;
+mod pass;
 mod running;
 mod verifying;
 

@@ -15,6 +15,7 @@ ghost use Rattle.file_opening.specs.Opening.{writes, early_fault, IsRefusedOpeni
 ghost use Rattle.dbm_file.specs.Opened.{device_below, device_opened, AllHaveRoom, HasRoom, IsNewlyOpened, IsOpenedAt};
 
 use crate::database::{Database, Db};
+use crate::pass::Pass;
 use crate::{Fault, OpenHow};
 use file_opening::open_file;
 use page_cache::CachedPages;
@@ -26,18 +27,20 @@ use std::alloc::Global;
 impl<D: SectorDev> Database<CachedPages<Pager<D>>> {
     /// Opens a device that a stop may have left, or hands it back with the fault. In this order:
     ///
-    /// 1. `ReadOnly` where a database is to be emptied that is opened for reading, and `TooSmall` below 16 sectors, with
-    ///    no device call.
-    /// 2. `Device`. Opened for writing, a commit that a stop cut short is ended first. Opened for reading, nothing is
-    ///    written and nothing synced: the pages of such a commit are read into memory, where `Memory` may come.
-    /// 3. Where the device is blank: `NotADatabase` without `create`, `ReadOnly` where it is opened for reading,
-    ///    `BadLimit` outside 1 to 1,000,000, `TooSmall` below `needed_sectors`, and `Device` while the empty database
-    ///    is made.
-    /// 4. Where it isn't: `Exists` with `create` and `exclusive`, whatever it holds; `NotADatabase` where the first
-    ///    sector has another magic, `Damaged` where it or a redo image breaks a rule.
+    /// 1. `ReadOnly` where a database is to be emptied that is opened for reading, and `TooSmall`
+    ///    below 16 sectors, with no device call.
+    /// 2. `Device`. Opened for writing, a commit that a stop cut short is ended first. Opened for
+    ///    reading, nothing is written and nothing synced: the pages of such a commit are read into
+    ///    memory, where `Memory` may come.
+    /// 3. Where the device is blank: `NotADatabase` without `create`, `ReadOnly` where it is opened
+    ///    for reading, `BadLimit` outside 1 to 1,000,000, `TooSmall` below `needed_sectors`, and
+    ///    `Device` while the empty database is made.
+    /// 4. Where it isn't: `Exists` with `create` and `exclusive`, whatever it holds; `NotADatabase`
+    ///    where the first sector has another magic, `Damaged` where it or a redo image breaks a
+    ///    rule.
     /// 5. The meta page's faults, `Version` and `Damaged`.
-    /// 6. With `truncate`: `BadLimit` and `TooSmall` as above, then `Memory`, `NoRoom` or `Device` while the database is
-    ///    emptied in one commit.
+    /// 6. With `truncate`: `BadLimit` and `TooSmall` as above, then `Memory`, `NoRoom` or `Device`
+    ///    while the database is emptied in one commit.
     ///
     /// A stop within it leaves the database that was there, or the empty one that was asked for.
     pub fn open(alloc: Global, dev: D, how: OpenHow) -> Result<Db<D>, (D, Fault)>
@@ -101,7 +104,7 @@ impl<D: SectorDev> Database<CachedPages<Pager<D>>> {
                 meta: file.meta,
                 page: Page::blank(),
                 error: None,
-                pass: None,
+                pass: Pass::NotBegun,
                 writable: file.writable,
                 alloc,
             }),
@@ -109,9 +112,10 @@ impl<D: SectorDev> Database<CachedPages<Pager<D>>> {
         }
     }
 
-    /// Closes a database, and gives the device back (POSIX: `dbm_close`). Pages of the last commit that still wait are
-    /// put in their places first: `Device` where that fails, which loses nothing, for the next opening ends it.
-    /// `Broken` where a change was left in doubt. No device call is made then, nor for a database opened for reading.
+    /// Closes a database, and gives the device back (POSIX: `dbm_close`). Pages of the last commit
+    /// that still wait are put in their places first: `Device` where that fails, which loses
+    /// nothing, for the next opening ends it. `Broken` where a change was left in doubt. No device
+    /// call is made then, nor for a database opened for reading.
     pub fn close(self) -> (D, Result<(), Fault>)
         ensures broken { (result.1 ≡ Err Fault.Broken) ↔ ((page_state self).usable ≡ false) }
         ensures device { result.1 ≡ Err Fault.Device

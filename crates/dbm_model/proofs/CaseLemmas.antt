@@ -5,7 +5,7 @@ use Rattle.std.specs.FinMap.{get, insert, len}
 use Rattle.dbm_model.specs.Calls.{Mode, Insert, Replace, Call, Store, Fetch, Delete, First, Next, Error, Clear, Reply, Stored, Bytes, End, Refused, Device, ReadOnly, TooLong, Full, Memory, NoRoom, Fault, is_changing}
 use Rattle.dbm_model.specs.Changes.{map_after, map_asked, OnlyAcknowledgedChanges, OnlyChangesBreak}
 use Rattle.dbm_model.specs.Pairs.{Key, Contents}
-use Rattle.dbm_model.specs.States.{State, Keys, Handle, flagged}
+use Rattle.dbm_model.specs.States.{State, Pass, NotBegun, Begun, Behind, Handle, flagged}
 use Rattle.dbm_model.specs.Steps.{Case, Tells, Refuses, Declines, Finds, Passes, Changes, fetched, stored, deleted, passed, usable_case, broken_case, case_of, Answers, Suffers}
 
 -- a refusal, a key or the end is no acknowledgement
@@ -45,7 +45,7 @@ Suits s call (Tells said told) =
 Suits s call (Refuses fault) = Unit {0}
 Suits s call (Declines fault) = Unit {0}
 Suits s call (Finds found) = s.map ≡ map_after s.map call found
-Suits s call (Passes left) = Unit {0}
+Suits s call (Passes from) = Unit {0}
 Suits s call (Changes said map) =
     (map ≡ map_after s.map call said) × (map ≡ map_asked s.map call) × (is_changing call ≡ true)
 
@@ -79,9 +79,10 @@ fetched_suits : (s : State) (key : Key) (old : Option (List ℕ)) → Suits s (F
 fetched_suits s key None = refl
 fetched_suits s key (Some content) = refl
 
-passed_suits : (s : State) (pass : Option Keys) → Suits s Next (passed pass)
-passed_suits s None = tt
-passed_suits s (Some left) = tt
+passed_suits : (s : State) (pass : Pass) → Suits s Next (passed pass)
+passed_suits s NotBegun = tt
+passed_suits s Begun = tt
+passed_suits s (Behind last) = tt
 
 usable_suits : (s : State) (call : Call) → Suits s call (usable_case s call)
 usable_suits s (Store key content mode) =
@@ -140,9 +141,9 @@ answered s call (Declines fault) reply after fits is =
     ∙ ap (map_after s.map call) (sym is.0)
 answered s call (Finds found) reply after fits is =
     ap (λ (t : State). t.map) is.1 ∙ fits ∙ ap (map_after s.map call) (sym is.0)
-answered s call (Passes left) reply after fits (inl end) =
+answered s call (Passes from) reply after fits (inl end) =
     ap (λ (t : State). t.map) end.2 ∙ after_end s.map call ∙ ap (map_after s.map call) (sym end.1)
-answered s call (Passes left) reply after fits (inr given) =
+answered s call (Passes from) reply after fits (inr given) =
     ap (λ (t : State). t.map) given.3 ∙ after_key s.map call given.0
     ∙ ap (map_after s.map call) (sym given.2)
 answered s call (Changes said map) reply after fits is =
@@ -164,7 +165,7 @@ suffered before after call (Declines fault) reply is usable =
     refused_map before.state after.state call Device reply is.0 is.2
 suffered before after call (Finds found) reply is usable =
     refused_map before.state after.state call Device reply is.0 is.2
-suffered before after call (Passes left) reply is usable =
+suffered before after call (Passes from) reply is usable =
     refused_map before.state after.state call Device reply is.0 is.2
 suffered before after call (Changes said map) reply (inl fails) usable =
     refused_map before.state after.state call Device reply fails.0 fails.2
@@ -188,8 +189,8 @@ stays s call (Tells said told) reply after fits is = ap (λ (t : State). t.usabl
 stays s call (Refuses fault) reply after fits is = ap (λ (t : State). t.usable) is.1
 stays s call (Declines fault) reply after fits is = ap (λ (t : State). t.usable) is.1
 stays s call (Finds found) reply after fits is = ap (λ (t : State). t.usable) is.1
-stays s call (Passes left) reply after fits (inl end) = ap (λ (t : State). t.usable) end.2
-stays s call (Passes left) reply after fits (inr given) = ap (λ (t : State). t.usable) given.3
+stays s call (Passes from) reply after fits (inl end) = ap (λ (t : State). t.usable) end.2
+stays s call (Passes from) reply after fits (inr given) = ap (λ (t : State). t.usable) given.3
 stays s call (Changes said map) reply after fits is = ap (λ (t : State). t.usable) is.1
 
 abbrev BrokeBy : Handle → Call → Reply → Handle → Type 0
@@ -210,7 +211,7 @@ broke before after call (Declines fault) reply fits is was now =
     absurd (still before.state after.state Device is.2 was now)
 broke before after call (Finds found) reply fits is was now =
     absurd (still before.state after.state Device is.2 was now)
-broke before after call (Passes left) reply fits is was now =
+broke before after call (Passes from) reply fits is was now =
     absurd (still before.state after.state Device is.2 was now)
 broke before after call (Changes said map) reply fits (inl fails) was now =
     absurd (still before.state after.state Device fails.2 was now)

@@ -1,9 +1,16 @@
+pub mod AscentLemmas
 pub mod CaseLemmas
+pub mod KeyOrderLemmas
 pub mod NumberLemmas
 pub mod PassLemmas
+pub mod PassRuns
+pub mod PassSteps
 pub mod RefusalLemmas
 pub mod RoomLemmas
 pub mod RuleLemmas
 pub mod RunLemmas
 pub mod Runs
 pub mod StayLemmas
+pub mod TimesLemmas
+pub mod UseLemmas
+pub mod WrongRuns

@@ -1,355 +1,235 @@
--- The keys that a pass gives.
-use Rattle.std.proofs.Common.{◌≡◌, inl, inr, ⊎_elim, ℕ, ◌+◌, Bool, true, false, cond, not, ◌&&◌, List, [], ◌∷◌, ◌++◌, length, Option, Some, None, refl, sym, ◌∙◌, ap, subst, arith}
-use Rattle.std.specs.Prelude.{nat_le, is_some, IsTrue}
-use Rattle.std.specs.Cmp.{IsTotalOrder, Equal-is}
+-- A key that is there throughout a pass is given once.
+use Rattle.std.proofs.Common.{◌≡◌, ◌≢◌, ⊎_elim, ℕ, ◌≤◌, Bool, true, false, cond, List, [], ◌∷◌, ◌++◌, Some, None, refl, sym, ◌∙◌, ap, subst, arith}
+use Rattle.std.specs.Prelude.{is_some, IsSome}
 use Rattle.std.specs.Cmp.Lexicographic.{nat_list_cmp_total}
+use Rattle.std.specs.FinMap.{get, insert, remove, get-insert, get-remove}
 use Rattle.std.specs.Ordering.{eq_by_cmp}
-use Rattle.std.specs.FinMap.{get, insert, len, keys, contains_key-keys}
-use Rattle.std.specs.FinSet as set
-use Rattle.dbm_model.specs.Calls.{Mode, Insert, Replace, Call, Store, Fetch, Delete, First, Next, Error, Clear, Reply, Stored, Bytes, End, Broken, ReadOnly, TooLong, Full, is_acknowledged}
+use Rattle.dbm_model.specs.Calls.{Mode, Call, Store, Fetch, Delete, First, Next, Error, Clear, Reply, Stored, Kept, Deleted, Absent, Bytes, NoRecord, End, Number, Refused, is_acknowledged}
+use Rattle.dbm_model.specs.Changes.{map_after}
 use Rattle.dbm_model.specs.Pairs.{Key, Contents, key_cmp}
-use Rattle.dbm_model.specs.States.{State, Keys, Handle}
-use Rattle.dbm_model.specs.Steps.{Case, Tells, Refuses, Declines, Finds, Passes, Changes, fetched, stored, deleted, passed, usable_case, case_of, GivesKey, Answers, Suffers, Step, Run}
-use Rattle.dbm_model.specs.Passes.{given_by, given, times_in, is_refused, GoesOn, PassesAreComplete}
-use Rattle.dbm_model.proofs.RuleLemmas.{broken_refuses, ByCase, falls, if_usable, if_broken}
-use Rattle.dbm_model.proofs.StayLemmas.{error_told, error_cleared}
+use Rattle.dbm_model.specs.States.{State, Pass, Handle}
+use Rattle.dbm_model.specs.Steps.{IsAhead, IsOver, Step, Run}
+use Rattle.dbm_model.specs.Passes.{given_by, given, times_in, is_refused, GoesOn, BeginNone, KeepKey, PassesAreComplete, LastingKeysAreGiven}
+use Rattle.dbm_model.proofs.AscentLemmas.{from_same, none_given_twice}
+use Rattle.dbm_model.proofs.CaseLemmas.{map_of_usable}
+use Rattle.dbm_model.proofs.KeyOrderLemmas.{one_comes_before}
+use Rattle.dbm_model.proofs.PassSteps.{IsOfPass, from_of, PassStep, rests, ends, gives, end_gives, pass_step}
+use Rattle.dbm_model.proofs.TimesLemmas.{another, more, is_first, not_first}
+use Rattle.dbm_model.proofs.UseLemmas.{run_was_usable, ends_usable}
 
-abbrev order : IsTotalOrder key_cmp
-order = nat_list_cmp_total
+-- ---- what an acknowledgement does to a key of the map
 
--- ---- what a call that is no pass's keeps of one
+data MapChange (map : Contents) (call : Call) (reply : Reply) : Type 0 where
+  keeps : map_after map call reply ≡ map → MapChange map call reply
+  stores : (name content : List ℕ) → reply ≡ Stored
+      → map_after map call reply ≡ insert map name content → MapChange map call reply
+  deletes : (name : Key) → call ≡ Delete name → reply ≡ Deleted
+      → map_after map call reply ≡ remove map name → MapChange map call reply
 
--- what a rule does to a pass: none is begun or gone on with, and a change is acknowledged
-abbrev SparesPass : State → Case → Type 0
-SparesPass s (Tells said told) = told.pass ≡ s.pass
-SparesPass s (Passes left) = ⊥
-SparesPass s (Changes said map) = is_acknowledged said ≡ true
-SparesPass s c = Unit {0}
+by_store : (map : Contents) (name content : List ℕ) (mode : Mode) (reply : Reply)
+    → MapChange map (Store name content mode) reply
+by_store map name content mode Stored = stores name content refl refl
+by_store map name content mode Kept = keeps refl
+by_store map name content mode Deleted = keeps refl
+by_store map name content mode Absent = keeps refl
+by_store map name content mode (Bytes bytes) = keeps refl
+by_store map name content mode NoRecord = keeps refl
+by_store map name content mode End = keeps refl
+by_store map name content mode (Number number) = keeps refl
+by_store map name content mode (Refused fault) = keeps refl
 
-new_spares : (s : State) (key content : List ℕ)
-    → SparesPass s (cond (nat_le s.limit (len s.map)) (Declines Full)
-    (Changes Stored (insert s.map key content)))
-new_spares s key content = elim (nat_le s.limit (len s.map)) as
-    (λ b. SparesPass s (cond b (Declines Full) (Changes Stored (insert s.map key content)))) [
-      | true ↦ tt
-      | false ↦ refl
-    ]
+by_delete : (map : Contents) (name : Key) (reply : Reply) → MapChange map (Delete name) reply
+by_delete map name Stored = keeps refl
+by_delete map name Kept = keeps refl
+by_delete map name Deleted = deletes name refl refl refl
+by_delete map name Absent = keeps refl
+by_delete map name (Bytes bytes) = keeps refl
+by_delete map name NoRecord = keeps refl
+by_delete map name End = keeps refl
+by_delete map name (Number number) = keeps refl
+by_delete map name (Refused fault) = keeps refl
 
-stored_spares : (s : State) (key content : List ℕ) (mode : Mode) (old : Option (List ℕ))
-    → SparesPass s (stored s key content mode old)
-stored_spares s key content Insert (Some old) = tt
-stored_spares s key content Replace (Some old) = refl
-stored_spares s key content Insert None = new_spares s key content
-stored_spares s key content Replace None = new_spares s key content
+map_change : (map : Contents) (call : Call) (reply : Reply) → MapChange map call reply
+map_change map (Store name content mode) reply = by_store map name content mode reply
+map_change map (Fetch name) reply = keeps refl
+map_change map (Delete name) reply = by_delete map name reply
+map_change map First reply = keeps refl
+map_change map Next reply = keeps refl
+map_change map Error reply = keeps refl
+map_change map Clear reply = keeps refl
 
-deleted_spares : (s : State) (key : Key) (old : Option (List ℕ)) → SparesPass s (deleted s key old)
-deleted_spares s key None = tt
-deleted_spares s key (Some content) = refl
-
-fetched_spares : (s : State) (old : Option (List ℕ)) → SparesPass s (fetched old)
-fetched_spares s None = tt
-fetched_spares s (Some content) = tt
-
-store_spares : (s : State) (key content : List ℕ) (mode : Mode)
-    → SparesPass s (usable_case s (Store key content mode))
-store_spares s key content mode =
-    elim s.writable as (λ b. SparesPass s
-    (cond (not b) (Refuses ReadOnly)
-    (cond (nat_le (length key + length content) 2026)
-    (stored s key content mode (get s.map key)) (Refuses TooLong)))) [
-      | true ↦ elim (nat_le (length key + length content) 2026) as
-          (λ b. SparesPass s (cond b (stored s key content mode (get s.map key))
-          (Refuses TooLong))) [
-            | true ↦ stored_spares s key content mode (get s.map key)
-            | false ↦ tt
-          ]
-      | false ↦ tt
-    ]
-
-delete_spares : (s : State) (key : Key) → SparesPass s (usable_case s (Delete key))
-delete_spares s key = elim s.writable as
-    (λ b. SparesPass s (cond b (deleted s key (get s.map key)) (Refuses ReadOnly))) [
-      | true ↦
-          deleted_spares s key (get s.map key)
-      | false ↦ tt
-    ]
-
-spared_answer : (s after : State) (c : Case) (reply : Reply) → SparesPass s c
-    → is_acknowledged reply ≡ false → Answers s c reply after → after.pass ≡ s.pass
-spared_answer s after (Tells said told) reply spares calm is =
-    ap (λ (t : State). t.pass) is.1 ∙ spares
-spared_answer s after (Refuses fault) reply spares calm is = ap (λ (t : State). t.pass) is.1
-spared_answer s after (Declines fault) reply spares calm is = ap (λ (t : State). t.pass) is.1
-spared_answer s after (Finds found) reply spares calm is = ap (λ (t : State). t.pass) is.1
-spared_answer s after (Passes left) reply spares calm is = absurd spares
-spared_answer s after (Changes said map) reply spares calm is =
-    absurd (let told = ap is_acknowledged is.0 in cc)
-
-spared_suffered : (before after : Handle) (c : Case) (reply : Reply) → Suffers before c reply after
-    → after.state.pass ≡ before.state.pass
-spared_suffered before after (Tells said told) reply is = absurd is
-spared_suffered before after (Refuses fault) reply is = absurd is
-spared_suffered before after (Declines fault) reply is = ap (λ (t : State). t.pass) is.2
-spared_suffered before after (Finds found) reply is = ap (λ (t : State). t.pass) is.2
-spared_suffered before after (Passes left) reply is = ap (λ (t : State). t.pass) is.2
-spared_suffered before after (Changes said map) reply (inl fails) =
-    ap (λ (t : State). t.pass) fails.2
-spared_suffered before after (Changes said map) reply (inr (inl breaks)) =
-    ap (λ (t : State). t.pass) breaks.4
-spared_suffered before after (Changes said map) reply (inr (inr (inl memory))) =
-    ap (λ (t : State). t.pass) memory.1
-spared_suffered before after (Changes said map) reply (inr (inr (inr room))) =
-    ap (λ (t : State). t.pass) room.2
-
-spared : (before after : Handle) (call : Call) (reply : Reply) → Step before call reply after
-    → before.state.usable ≡ true → SparesPass before.state (usable_case before.state call)
-    → is_acknowledged reply ≡ false
-    → after.state.pass ≡ before.state.pass
-spared before after call reply step usable spares calm =
-    ⊎_elim (spared_answer before.state after.state (usable_case before.state call) reply spares
-    calm) (spared_suffered before after (usable_case before.state call) reply)
-    (falls before after call reply (usable_case before.state call)
-    (if_usable before.state call usable) step)
-
-abbrev one_if : Bool → ℕ
-one_if b = cond b 1 0
-
--- ---- a pass under way
-
--- some keys are left, and each of the map's was given as often as it isn't left
-record IsPassing (map : Contents) (times : Key → ℕ) (s : State) : Type 0 where
-  pub left : Keys
-  pub pass_is : s.pass ≡ Some left
-  pub counts : (key : Key) → times key + cond (set.contains left key) 1 0
-      ≡ cond (is_some (get map key)) 1 0
-
--- none is needed of a broken handle
-abbrev IsPassingIfUsable : Contents → (Key → ℕ) → State → Type 0
-IsPassingIfUsable map times s = s.usable ≡ true → IsPassing map times s
-
--- one key more was given
-one_given : (left : Keys) (key one : Key) (n m : ℕ) → IsTrue (set.contains left one)
-    → n + cond (set.contains left key) 1 0 ≡ m
-    → n + (cond (eq_by_cmp key_cmp key one) 1 0 + 0)
-    + cond (set.contains (set.remove left one) key) 1 0 ≡ m
-one_given left key one n m there counts =
-    subst (λ b. n + (cond (eq_by_cmp key_cmp key one) 1 0 + 0) + cond b 1 0 ≡ m)
-    (sym (set.contains-remove order left one key)) (by_tie (eq_by_cmp key_cmp key one) refl)
+stays_in_store : (map : Contents) (name content : List ℕ) (key : Key) → IsSome (get map key)
+    → IsSome (get (insert map name content) key)
+stays_in_store map name content key has =
+    ap is_some (get-insert nat_list_cmp_total map name content key)
+    ∙ by_tie (eq_by_cmp key_cmp key name)
   where
-    by_tie : (b : Bool) → eq_by_cmp key_cmp key one ≡ b
-        → n + (cond b 1 0 + 0) + cond (not b && set.contains left key) 1 0 ≡ m
-    by_tie true tied =
-        let same = sym (set.contains_tied order left key one ((Equal-is (key_cmp key one)).0 tied))
-        ∙ there in
-        omega (arith, counts, ap one_if same)
-    by_tie false tied = omega (arith, counts)
+    by_tie : (b : Bool) → is_some (cond b (Some content) (get map key)) ≡ true
+    by_tie true = refl
+    by_tie false = has
 
--- a step of the pass gives a key, or ends
-gives : (map : Contents) (times : Key → ℕ) (s after : State) (call : Call) (left : Keys)
-    (reply : Reply) → ((bytes : Key) → given_by call (Bytes bytes) ≡ bytes ∷ [])
-    → given_by call End ≡ []
-    → ((key : Key) → times key + cond (set.contains left key) 1 0
-    ≡ cond (is_some (get map key)) 1 0) → GivesKey s left reply after
-    → IsPassing map (λ key. times key + times_in (given_by call reply) key) after
-gives map times s after call left reply bytes end counts (inl ended) = record {
-  left = left;
-  pass_is = ap (λ (t : State). t.pass) ended.2;
-  counts = λ key. omega (
-    arith,
-    counts key,
-    ap (λ r. times_in (given_by call r) key) ended.1,
-    ap (λ ks. times_in ks key) end,
-  );
-}
-gives map times s after call left reply bytes end counts (inr step) = record {
-  left = set.remove left step.0;
-  pass_is = ap (λ (t : State). t.pass) step.3;
-  counts = λ key.
-      subst (λ (ks : List Key). times key + times_in ks key
-      + cond (set.contains (set.remove left step.0) key) 1 0
-      ≡ cond (is_some (get map key)) 1 0) (sym (ap (given_by call) step.2 ∙ bytes step.0))
-      (one_given left key step.0 (times key) (cond (is_some (get map key)) 1 0)
-      step.1 (counts key));
-}
+stays_in_delete : (map : Contents) (name key : Key) → key ≢ name → IsSome (get map key)
+    → IsSome (get (remove map name) key)
+stays_in_delete map name key differ has =
+    ap is_some (get-remove nat_list_cmp_total map name key)
+    ∙ ap (λ b. is_some (cond b None (get map key))) (another key name differ) ∙ has
 
--- nothing was given
-still : (map : Contents) (times : Key → ℕ) (s after : State) (ks : List Key) → IsPassing map times s
-    → after.pass ≡ s.pass → ks ≡ [] → IsPassing map (λ key. times key + times_in ks key) after
-still map times s after ks passing same none = record {
-  left = passing.left;
-  pass_is = same ∙ passing.pass_is;
-  counts = λ key. omega (arith, passing.counts key, ap (λ xs. times_in xs key) none);
-}
+stays_by : (map : Contents) (call : Call) (reply : Reply) (key : Key) → MapChange map call reply
+    → (call ≡ Delete key → reply ≢ Deleted) → IsSome (get map key)
+    → IsSome (get (map_after map call reply) key)
+stays_by map call reply key (keeps is) kept has = subst (λ m. IsSome (get m key)) (sym is) has
+stays_by map call reply key (stores name content said is) kept has =
+    subst (λ m. IsSome (get m key)) (sym is) (stays_in_store map name content key has)
+stays_by map call reply key (deletes name asked said is) kept has =
+    subst (λ m. IsSome (get m key)) (sym is)
+    (stays_in_delete map name key (λ same. kept (asked ∙ ap Delete (sym same)) said) has)
 
-next_falls : (s : State) (left : Keys) → s.usable ≡ true → s.pass ≡ Some left
-    → case_of s Next ≡ Passes left
-next_falls s left usable is = if_usable s Next usable ∙ ap passed is
+calm_by : (map : Contents) (call : Call) (reply : Reply) → MapChange map call reply
+    → is_acknowledged reply ≡ false → map_after map call reply ≡ map
+calm_by map call reply (keeps is) calm = is
+calm_by map call reply (stores name content said is) calm =
+    absurd (let told = ap is_acknowledged said in cc)
+calm_by map call reply (deletes name asked said is) calm =
+    absurd (let told = ap is_acknowledged said in cc)
 
-by_next : (map : Contents) (times : Key → ℕ) (before after : Handle) (reply : Reply)
-    → Step before Next reply after → before.state.usable ≡ true → IsPassing map times before.state
-    → IsPassing map (λ key. times key + times_in (given_by Next reply) key) after.state
-by_next map times before after reply step usable passing =
-    ⊎_elim (gives map times before.state after.state Next passing.left reply (λ bytes. refl) refl
-    passing.counts)
-    (λ fails. still map times before.state after.state (given_by Next reply) passing
-    (ap (λ (t : State). t.pass) fails.2) (ap (given_by Next) fails.0))
-    (falls before after Next reply (Passes passing.left)
-    (next_falls before.state passing.left usable passing.pass_is) step)
+-- ---- a key that is ahead is given before the end
 
--- any call but a firstkey
-by_call : (map : Contents) (times : Key → ℕ) (before after : Handle) (call : Call) (reply : Reply)
-    → Step before call reply after → before.state.usable ≡ true → (call ≡ First → ⊥)
-    → is_acknowledged reply ≡ false
-    → IsPassing map times before.state
-    → IsPassing map (λ key. times key + times_in (given_by call reply) key) after.state
-by_call map times before after (Store key content mode) reply step usable other calm passing =
-    still map times before.state after.state [] passing
-    (spared before after (Store key content mode) reply step usable
-    (store_spares before.state key content mode) calm) refl
-by_call map times before after (Fetch key) reply step usable other calm passing =
-    still map times before.state after.state [] passing
-    (spared before after (Fetch key) reply step usable
-    (fetched_spares before.state (get before.state.map key)) calm) refl
-by_call map times before after (Delete key) reply step usable other calm passing =
-    still map times before.state after.state [] passing
-    (spared before after (Delete key) reply step usable (delete_spares before.state key) calm)
-    refl
-by_call map times before after First reply step usable other calm passing = absurd (other refl)
-by_call map times before after Next reply step usable other calm passing =
-    by_next map times before after reply step usable passing
-by_call map times before after Error reply step usable other calm passing =
-    still map times before.state after.state [] passing
-    (spared before after Error reply step usable refl calm) refl
-by_call map times before after Clear reply step usable other calm passing =
-    still map times before.state after.state [] passing
-    (spared before after Clear reply step usable refl calm) refl
+-- by this step or by a later one
+by_step : (s after : State) (call : Call) (reply : Reply) (key : Key) (ks : List Key)
+    → PassStep s call reply after → IsSome (get s.map key) → IsAhead (from_of s call) key
+    → ((IsOfPass call → is_refused reply ≡ true) → IsAhead s.pass key)
+    → (IsAhead after.pass key → 1 ≤ times_in ks key)
+    → 1 ≤ times_in (given_by call reply ++ ks) key
+by_step s after call reply key ks (rests same none refused) has ahead resting later =
+    subst (λ (one : List Key). 1 ≤ times_in (one ++ ks) key) (sym none)
+    (later (subst (λ (p : Pass). IsAhead p key) (sym same) (resting refused)))
+by_step s after call reply key ks (ends over same said) has ahead resting later =
+    absurd (over key has ahead)
+by_step s after call reply key ks (gives other next same said one) has ahead resting later =
+    subst (λ (some : List Key). 1 ≤ times_in (some ++ ks) key) (sym one)
+    (⊎_elim (λ before. absurd (next.least key has ahead before))
+    (⊎_elim
+    (λ equal. subst (λ (k : Key). 1 ≤ times_in (k ∷ ks) key) equal (is_first key ks))
+    (λ behind. let given = later (subst (λ (p : Pass). IsAhead p key) (sym same) behind) in
+    omega (arith, more (other ∷ []) ks key)))
+    (one_comes_before key other))
 
--- a broken handle stays so
-refused_broken : (before after : Handle) (reply : Reply)
-    → ByCase before (Refuses Broken) reply after → before.state.usable ≡ false
-    → after.state.usable ≡ false
-refused_broken before after reply (inl is) broken = ap (λ (t : State). t.usable) is.1 ∙ broken
-refused_broken before after reply (inr is) broken = absurd is
+over_by : (s after : State) → PassStep s Next End after → IsOver s.map s.pass
+over_by s after (rests same none refused) = absurd (let wrong = refused tt in cc)
+over_by s after (ends over same said) = over
+over_by s after (gives key next same said one) = absurd (let wrong = said in cc)
 
-stays_broken : (before after : Handle) (call : Call) (reply : Reply) → Step before call reply after
-    → before.state.usable ≡ false → after.state.usable ≡ false
-stays_broken before after (Store key content mode) reply step broken =
-    refused_broken before after reply
-    (falls before after (Store key content mode) reply (Refuses Broken)
-    (if_broken before.state (Store key content mode) broken) step) broken
-stays_broken before after (Fetch key) reply step broken =
-    refused_broken before after reply
-    (falls before after (Fetch key) reply (Refuses Broken)
-    (if_broken before.state (Fetch key) broken) step) broken
-stays_broken before after (Delete key) reply step broken =
-    refused_broken before after reply
-    (falls before after (Delete key) reply (Refuses Broken)
-    (if_broken before.state (Delete key) broken) step) broken
-stays_broken before after First reply step broken =
-    refused_broken before after reply
-    (falls before after First reply (Refuses Broken) (if_broken before.state First broken) step)
-    broken
-stays_broken before after Next reply step broken =
-    refused_broken before after reply
-    (falls before after Next reply (Refuses Broken) (if_broken before.state Next broken) step)
-    broken
-stays_broken before after Error reply step broken =
-    ap (λ (t : State). t.usable) (error_told before after reply step).1 ∙ broken
-stays_broken before after Clear reply step broken =
-    ap (λ (t : State). t.usable) (error_cleared before after reply step).1 ∙ broken
-
-was_usable : (before after : Handle) (call : Call) (reply : Reply) → Step before call reply after
-    → after.state.usable ≡ true → before.state.usable ≡ true
-was_usable before after call reply step now = by_mark before.state.usable refl
+at_least_once : (before mid after : Handle) (calls : List Call) (replies : List Reply) (key : Key)
+    → Run before calls replies mid → BeginNone calls → KeepKey key calls replies
+    → Step mid Next End after → IsSome (get before.state.map key)
+    → IsAhead before.state.pass key → 1 ≤ times_in (given calls replies) key
+at_least_once before mid after [] [] key run none keep step has ahead =
+    absurd (subst (λ (h : Handle). IsOver h.state.map h.state.pass) run
+    (over_by mid.state after.state (pass_step mid after Next End step)) key has ahead)
+at_least_once before mid after (call ∷ calls) (reply ∷ replies) key run none keep step has ahead =
+    let from = from_same before.state call none.0 in
+    by_step before.state run.0.state call reply key (given calls replies)
+    (pass_step before run.0 call reply run.1) has
+    (subst (λ (p : Pass). IsAhead p key) (sym from) ahead) (λ refused. ahead)
+    (λ still. at_least_once run.0 mid after calls replies key run.2 none.1 keep.1 step
+    (stays_at before run.0 call reply key run.1
+    (run_was_usable run.0 mid calls replies run.2 (ends_usable mid after step)) keep.0 has) still)
   where
-    by_mark : (b : Bool) → before.state.usable ≡ b → before.state.usable ≡ true
-    by_mark true is = is
-    by_mark false is = absurd (let stays = stays_broken before after call reply step is in cc)
+    stays_at : (old new : Handle) (call : Call) (reply : Reply) (key : Key)
+        → Step old call reply new → new.state.usable ≡ true
+        → (call ≡ Delete key → reply ≢ Deleted) → IsSome (get old.state.map key)
+        → IsSome (get new.state.map key)
+    stays_at old new call reply key step usable kept has =
+        subst (λ (m : Contents). IsSome (get m key))
+        (sym (map_of_usable old new call reply step usable))
+        (stays_by old.state.map call reply key (map_change old.state.map call reply) kept has)
+at_least_once before mid after [] (reply ∷ replies) key run none keep step has ahead = absurd run
+at_least_once before mid after (call ∷ calls) [] key run none keep step has ahead = absurd run
 
-more : (ks later : List Key) (key : Key)
-    → times_in (ks ++ later) key ≡ times_in ks key + times_in later key
-more [] later key = omega arith
-more (one ∷ ks) later key = omega (arith, more ks later key)
+pub lasting_are_given : LastingKeysAreGiven
+lasting_are_given before mid after calls reply replies run answered none step key has keep =
+    let usable = run_was_usable run.0 mid calls replies run.2 (ends_usable mid after step) in
+    let stays : IsSome (get run.0.state.map key) =
+    subst (λ (m : Contents). IsSome (get m key))
+    (sym (map_of_usable before run.0 First reply run.1 usable)) has in
+    let least = by_step before.state run.0.state First reply key (given calls replies)
+    (pass_step before run.0 First reply run.1) has tt
+    (λ refused. absurd (let told = refused tt in cc))
+    (λ still. at_least_once run.0 mid after calls replies key run.2 none keep step stays still) in
+    let most = none_given_twice before mid calls (reply ∷ replies) run none key in
+    omega arith
 
--- the calls after a firstkey
-by_calls : (map : Contents) (times : Key → ℕ) (before after : Handle) (calls : List Call)
-    (replies : List Reply) → Run before calls replies after → GoesOn calls replies
-    → IsPassingIfUsable map times before.state
-    → IsPassingIfUsable map (λ key. times key + times_in (given calls replies) key) after.state
-by_calls map times before after [] [] run goes passing usable =
-    let p = passing (ap (λ (h : Handle). h.state.usable) (sym run) ∙ usable) in
-    still map times before.state after.state [] p (ap (λ (h : Handle). h.state.pass) run) refl
-by_calls map times before after (call ∷ calls) (reply ∷ replies) run goes passing usable =
-    let mid = run.0 in
-    let one : IsPassingIfUsable map
-    (λ key. times key + times_in (given_by call reply) key) mid.state
-    = λ now. let was = was_usable before mid call reply run.1 now in
-    by_call map times before mid call reply run.1 was goes.0 goes.1 (passing was) in
-    let all = by_calls map (λ key. times key + times_in (given_by call reply) key) mid after calls
-    replies run.2 goes.2 one usable in
-    record {
-      left = all.left;
-      pass_is = all.pass_is;
-      counts = λ key.
-          omega (arith, all.counts key, more (given_by call reply) (given calls replies) key);
-    }
-by_calls map times before after [] (reply ∷ replies) run goes passing usable = absurd run
-by_calls map times before after (call ∷ calls) [] run goes passing usable = absurd run
+-- ---- with no change between, no other key is given
 
--- the keys that a pass begins with
-begins_with : (map : Contents) (key : Key)
-    → set.contains {R = key_cmp} (set.from_list (keys map)) key ≡ is_some (get map key)
-begins_with map key = set.contains-from_list order (keys map) key ∙ sym (contains_key-keys map key)
+differs : (map : Contents) (key other : Key) → is_some (get map key) ≡ false
+    → IsSome (get map other) → key ≢ other
+differs map key other absent there same =
+    absurd (let told = ap (λ k. is_some (get map k)) same in cc)
 
-by_first : (before mid : Handle) (reply : Reply) → Step before First reply mid
-    → is_refused reply ≡ false → before.state.usable ≡ true
-    → IsPassing before.state.map (λ key. times_in (given_by First reply) key) mid.state
-by_first before mid reply step answered usable =
-    let p = ⊎_elim
-    (gives before.state.map (λ key. 0) before.state mid.state First
-    (set.from_list (keys before.state.map)) reply (λ bytes. refl) refl
-    (λ key. omega (arith, ap one_if (begins_with before.state.map key))))
-    (λ fails. absurd (let told = ap is_refused fails.0 in cc))
-    (falls before mid First reply (Passes (set.from_list (keys before.state.map)))
-    (if_usable before.state First usable) step) in
-    record { left = p.left; pass_is = p.pass_is; counts = λ key. omega (arith, p.counts key) }
+not_by_step : (s after : State) (call : Call) (reply : Reply) (key : Key) (ks : List Key)
+    → PassStep s call reply after → is_some (get s.map key) ≡ false → times_in ks key ≡ 0
+    → times_in (given_by call reply ++ ks) key ≡ 0
+not_by_step s after call reply key ks (rests same none refused) absent later =
+    ap (λ (one : List Key). times_in (one ++ ks) key) none ∙ later
+not_by_step s after call reply key ks (ends over same said) absent later =
+    ap (λ (one : List Key). times_in (one ++ ks) key) (ap (given_by call) said ∙ end_gives call)
+    ∙ later
+not_by_step s after call reply key ks (gives other next same said one) absent later =
+    ap (λ (some : List Key). times_in (some ++ ks) key) one
+    ∙ not_first other ks key (differs s.map key other absent next.there) ∙ later
 
--- a pass that ends has given all
-ended : (map : Contents) (times : Key → ℕ) (mid after : Handle) → Step mid Next End after
-    → mid.state.usable ≡ true → IsPassing map times mid.state → (key : Key)
-    → times key ≡ cond (is_some (get map key)) 1 0
-ended map times mid after step usable passing key =
-    ⊎_elim (⊎_elim
-    (λ end. omega (
-      arith,
-      passing.counts key,
-      ap one_if (ap (λ (ks : Keys). set.contains ks key) end.0
-          ∙ set.contains-empty key_cmp key),
-    ))
-    (λ given. absurd (let told = given.2 in cc)))
-    (λ fails. absurd (let told = fails.0 in cc))
-    (falls mid after Next End (Passes passing.left)
-    (next_falls mid.state passing.left usable passing.pass_is) step)
+absent_not_given : (before after : Handle) (calls : List Call) (replies : List Reply) (key : Key)
+    → Run before calls replies after → after.state.usable ≡ true → GoesOn calls replies
+    → is_some (get before.state.map key) ≡ false → times_in (given calls replies) key ≡ 0
+absent_not_given before after [] [] key run usable goes absent = refl
+absent_not_given before after (call ∷ calls) (reply ∷ replies) key run usable goes absent =
+    let now = run_was_usable run.0 after calls replies run.2 usable in
+    let same = map_of_usable before run.0 call reply run.1 now
+    ∙ calm_by before.state.map call reply (map_change before.state.map call reply) goes.1 in
+    not_by_step before.state run.0.state call reply key (given calls replies)
+    (pass_step before run.0 call reply run.1) absent
+    (absent_not_given run.0 after calls replies key run.2 usable goes.2
+    (ap (λ (m : Contents). is_some (get m key)) same ∙ absent))
+absent_not_given before after [] (reply ∷ replies) key run usable goes absent = absurd run
+absent_not_given before after (call ∷ calls) [] key run usable goes absent = absurd run
 
-ends_usable : (mid after : Handle) → Step mid Next End after → mid.state.usable ≡ true
-ends_usable mid after step = by_mark mid.state.usable refl
-  where
-    by_mark : (b : Bool) → mid.state.usable ≡ b → mid.state.usable ≡ true
-    by_mark true is = is
-    by_mark false is = absurd (⊎_elim (λ e. cc) (⊎_elim (λ e. cc) (λ e. cc))
-        (broken_refuses mid after Next End step is))
+begin_none : (before after : Handle) (calls : List Call) (replies : List Reply)
+    → Run before calls replies after → GoesOn calls replies → BeginNone calls
+begin_none before after [] [] run goes = tt
+begin_none before after (call ∷ calls) (reply ∷ replies) run goes =
+    (goes.0, begin_none run.0 after calls replies run.2 goes.2)
+begin_none before after [] (reply ∷ replies) run goes = absurd run
+begin_none before after (call ∷ calls) [] run goes = absurd run
+
+keep_all : (calls : List Call) (replies : List Reply) (key : Key) → GoesOn calls replies
+    → KeepKey key calls replies
+keep_all [] [] key goes = tt
+keep_all [] (reply ∷ replies) key goes = tt
+keep_all (call ∷ calls) [] key goes = tt
+keep_all (call ∷ calls) (reply ∷ replies) key goes = (
+  λ asked told. absurd (let is = ap is_acknowledged told in let calm = goes.1 in cc),
+  keep_all calls replies key goes.2,
+)
 
 pub passes_complete : PassesAreComplete
 passes_complete before mid after calls reply replies run answered goes step key =
-    let first = run.0 in
-    let passing : IsPassingIfUsable before.state.map
-    (λ k. times_in (given_by First reply) k) first.state
-    = λ now. by_first before first reply run.1 answered
-    (was_usable before first First reply run.1 now) in
-    let usable = ends_usable mid after step in
-    let all = by_calls before.state.map (λ k. times_in (given_by First reply) k) first mid calls
-    replies run.2 goes passing usable in
-    more (given_by First reply) (given calls replies) key
-    ∙ ended before.state.map (λ k.
-    times_in (given_by First reply) k + times_in (given calls replies) k) mid after
-    step usable all key
+    by_mark (is_some (get before.state.map key)) refl
+  where
+    usable : run.0.state.usable ≡ true
+    usable = run_was_usable run.0 mid calls replies run.2 (ends_usable mid after step)
+
+    by_mark : (b : Bool) → is_some (get before.state.map key) ≡ b
+        → times_in (given (First ∷ calls) (reply ∷ replies)) key
+        ≡ cond (is_some (get before.state.map key)) 1 0
+    by_mark true is =
+        lasting_are_given before mid after calls reply replies run answered
+        (begin_none run.0 mid calls replies run.2 goes) step key is
+        (keep_all calls replies key goes)
+        ∙ sym (ap (λ b. cond b 1 0) is)
+    by_mark false is =
+        not_by_step before.state run.0.state First reply key (given calls replies)
+        (pass_step before run.0 First reply run.1) is
+        (absent_not_given run.0 mid calls replies key run.2 (ends_usable mid after step) goes
+        (ap (λ (m : Contents). is_some (get m key))
+        (map_of_usable before run.0 First reply run.1 usable) ∙ is))
+        ∙ sym (ap (λ b. cond b 1 0) is)

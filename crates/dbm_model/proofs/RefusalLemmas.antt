@@ -6,7 +6,7 @@ use Rattle.std.specs.FinMap.{get, insert, len, len-insert}
 use Rattle.std.specs.Cmp.Lexicographic.{nat_list_cmp_total}
 use Rattle.dbm_model.specs.Calls.{Mode, Insert, Replace, Call, Store, Fetch, Delete, First, Next, Error, Clear, Reply, Stored, Refused, Fault, Memory, Device, Broken, ReadOnly, TooLong, Full, NoPass, NoRoom, Damaged, NotADatabase, Version, TooSmall, BadLimit, Missing, Exists, is_changing}
 use Rattle.dbm_model.specs.Pairs.{Key, Contents}
-use Rattle.dbm_model.specs.States.{State, Keys, Handle}
+use Rattle.dbm_model.specs.States.{State, Pass, NotBegun, Begun, Behind, Handle}
 use Rattle.dbm_model.specs.Steps.{Case, Tells, Refuses, Declines, Finds, Passes, Changes, fetched, stored, deleted, passed, usable_case, broken_case, case_of, OpensBucket, Answers, Suffers}
 use Rattle.dbm_model.specs.Refusals.{MayChange, IsTooLong, IsOneTooMany, IsOneBucketMore, IsDue, RefusesOnlyWhereDue}
 
@@ -16,7 +16,7 @@ Reason Broken s call = s.usable ≡ false
 Reason ReadOnly s call = (s.usable ≡ true) × (s.writable ≡ false) × (is_changing call ≡ true)
 Reason TooLong s call = MayChange s × IsTooLong call
 Reason Full s call = MayChange s × IsOneTooMany s.map s.limit call
-Reason NoPass s call = (s.usable ≡ true) × (call ≡ Next) × (s.pass ≡ None)
+Reason NoPass s call = (s.usable ≡ true) × (call ≡ Next) × (s.pass ≡ NotBegun)
 Reason fault s call = ⊥
 
 abbrev pub IsNoRefusal : Reply → Type 0
@@ -34,7 +34,7 @@ Explains s call (Tells said told) = IsNoRefusal said
 Explains s call (Refuses fault) = Reason fault s call
 Explains s call (Declines fault) = (s.usable ≡ true) × Reason fault s call
 Explains s call (Finds found) = (s.usable ≡ true) × IsNoRefusal found
-Explains s call (Passes left) = s.usable ≡ true
+Explains s call (Passes from) = s.usable ≡ true
 Explains s call (Changes said map) =
     MayChange s × (is_changing call ≡ true) × IsNoRefusal said × Makes s call said map
 
@@ -69,10 +69,11 @@ fetched_explains : (s : State) (key : Key) (old : Option (List ℕ)) → s.usabl
 fetched_explains s key None usable = (usable, tt)
 fetched_explains s key (Some content) usable = (usable, tt)
 
-passed_explains : (s : State) (pass : Option Keys) → s.usable ≡ true → s.pass ≡ pass
+passed_explains : (s : State) (pass : Pass) → s.usable ≡ true → s.pass ≡ pass
     → Explains s Next (passed pass)
-passed_explains s None usable is = (usable, refl, is)
-passed_explains s (Some left) usable is = usable
+passed_explains s NotBegun usable is = (usable, refl, is)
+passed_explains s Begun usable is = usable
+passed_explains s (Behind last) usable is = usable
 
 -- a store on a handle for changes, by its length
 length_explains : (s : State) (key content : List ℕ) (mode : Mode) → MayChange s
@@ -173,9 +174,9 @@ due_answer before after call (Declines other) fault why is =
     by_reason before after call fault other is.0 why.1
 due_answer before after call (Finds found) fault why is =
     absurd (subst IsNoRefusal (sym is.0) why.1)
-due_answer before after call (Passes left) fault why (inl end) =
+due_answer before after call (Passes from) fault why (inl end) =
     absurd (subst IsNoRefusal (sym end.1) tt)
-due_answer before after call (Passes left) fault why (inr given) =
+due_answer before after call (Passes from) fault why (inr given) =
     absurd (subst IsNoRefusal (sym given.2) tt)
 due_answer before after call (Changes said map) fault why is =
     absurd (subst IsNoRefusal (sym is.0) why.2)
@@ -218,7 +219,7 @@ due_suffered before after call (Declines other) fault why is =
     due_as before after call fault Device is.0 (why.0, is.1)
 due_suffered before after call (Finds found) fault why is =
     due_as before after call fault Device is.0 (why.0, is.1)
-due_suffered before after call (Passes left) fault why is =
+due_suffered before after call (Passes from) fault why is =
     due_as before after call fault Device is.0 (why, is.1)
 due_suffered before after call (Changes said map) fault why (inl fails) =
     due_as before after call fault Device fails.0 (why.0.usable, fails.1)

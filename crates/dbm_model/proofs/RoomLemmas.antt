@@ -5,7 +5,7 @@ use Rattle.std.specs.FinMap.{empty, len, get-empty, len-empty}
 use Rattle.dbm_model.specs.Calls.{Call, Store, Replace, Reply, Stored, Kept, Deleted, Absent, Bytes, NoRecord, End, Number, Refused, NoRoom}
 use Rattle.dbm_model.specs.Pairs.{Contents, key_cmp}
 use Rattle.dbm_model.specs.Sizes.{home}
-use Rattle.dbm_model.specs.States.{State, Handle, flagged, fresh}
+use Rattle.dbm_model.specs.States.{State, NotBegun, Handle, flagged, fresh}
 use Rattle.dbm_model.specs.Steps.{Case, Changes, Suffers, IsShort, growth, buckets_opened, case_of, Step}
 use Rattle.dbm_model.specs.Examples.{one}
 use Rattle.dbm_model.specs.Room.{RoomStays, HasRoom, RoomIsKnown, PagesAreBounded, RoomExamples, with_room, IsFirstStore}
@@ -57,7 +57,7 @@ no_pair = len-empty key_cmp (List ℕ)
 module _ (limit : ℕ) (some : 1 ≤ limit) where
   first_falls : case_of (fresh empty limit true) (Store (one 0x61) (one 0x01) Replace)
       ≡ Changes Stored (only (one 0x01))
-  first_falls = adds limit empty None None (one 0x61) (one 0x01) refl
+  first_falls = adds limit empty None NotBegun (one 0x61) (one 0x01) refl
       (get-empty key_cmp (one 0x61)) (none_yet limit some)
 
   -- one that lacks room is short of it

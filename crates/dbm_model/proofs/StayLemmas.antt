@@ -47,9 +47,9 @@ kept_answer before after call (Declines other) fault why is =
     flagged_error before.state after.state fault other is.0 is.1
 kept_answer before after call (Finds found) fault why is =
     absurd (subst IsNoRefusal (sym is.0) why.1)
-kept_answer before after call (Passes left) fault why (inl end) =
+kept_answer before after call (Passes from) fault why (inl end) =
     absurd (subst IsNoRefusal (sym end.1) tt)
-kept_answer before after call (Passes left) fault why (inr given) =
+kept_answer before after call (Passes from) fault why (inr given) =
     absurd (subst IsNoRefusal (sym given.2) tt)
 kept_answer before after call (Changes said map) fault why is =
     absurd (subst IsNoRefusal (sym is.0) why.2)
@@ -63,7 +63,7 @@ kept_suffered before after (Declines other) fault is =
     flagged_error before.state after.state fault Device is.0 is.2
 kept_suffered before after (Finds found) fault is =
     flagged_error before.state after.state fault Device is.0 is.2
-kept_suffered before after (Passes left) fault is =
+kept_suffered before after (Passes from) fault is =
     flagged_error before.state after.state fault Device is.0 is.2
 kept_suffered before after (Changes said map) fault (inl fails) =
     flagged_error before.state after.state fault Device fails.0 fails.2
@@ -118,14 +118,14 @@ stays_answer s after call (Finds found) reply why fits is =
           ap (λ (t : State). t.writable) is.1;
       map = λ reading. ap (λ (t : State). t.map) is.1;
     }
-stays_answer s after call (Passes left) reply why fits (inl end) =
+stays_answer s after call (Passes from) reply why fits (inl end) =
     record {
       limit = ap (λ (t : State). t.limit) end.2;
       writable =
           ap (λ (t : State). t.writable) end.2;
       map = λ reading. ap (λ (t : State). t.map) end.2;
     }
-stays_answer s after call (Passes left) reply why fits (inr given) =
+stays_answer s after call (Passes from) reply why fits (inr given) =
     record {
       limit = ap (λ (t : State). t.limit) given.3;
       writable =
@@ -148,7 +148,7 @@ stays_suffered before after call (Declines fault) reply why is =
     stays_flagged before.state after.state Device is.2
 stays_suffered before after call (Finds found) reply why is =
     stays_flagged before.state after.state Device is.2
-stays_suffered before after call (Passes left) reply why is =
+stays_suffered before after call (Passes from) reply why is =
     stays_flagged before.state after.state Device is.2
 stays_suffered before after call (Changes said map) reply why (inl fails) =
     stays_flagged before.state after.state Device fails.2

@@ -53,19 +53,22 @@ PassesOn = MayAnswer 100
     ∷ Store (one 0x61) (one 0x02) Insert ∷ Next ∷ Next ∷ [])
     (Stored ∷ Bytes (one 0x61) ∷ Bytes (one 0x01) ∷ Kept ∷ End ∷ End ∷ [])
 
--- a store ends a pass
-abbrev pub EndsPass : Type 0
-EndsPass = MayAnswer 100
-    (Store (one 0x61) (one 0x01) Replace ∷ First ∷ Store (one 0x61) (one 0x02) Replace
-    ∷ Next ∷ First ∷ [])
-    (Stored ∷ Bytes (one 0x61) ∷ Stored ∷ Refused NoPass ∷ Bytes (one 0x61) ∷ [])
+-- a pass goes on over changes: a key behind its place comes no more, one before it comes
+abbrev pub PassesOverChanges : Type 0
+PassesOverChanges = MayAnswer 100
+    (Store (one 0x61) (one 0x01) Replace ∷ Store (one 0x62) (one 0x01) Replace ∷ First
+    ∷ Delete (one 0x61) ∷ Store (one 0x67) (one 0x01) Replace ∷ Next
+    ∷ Store (one 0x61) (one 0x01) Replace ∷ Next ∷ Next ∷ [])
+    (Stored ∷ Stored ∷ Bytes (one 0x61) ∷ Deleted ∷ Stored ∷ Bytes (one 0x67) ∷ Stored
+    ∷ Bytes (one 0x62) ∷ End ∷ [])
 
 -- a new database never answers the calls so
 abbrev pub NeverAnswers : ℕ → List Call → List Reply → Type 0
 NeverAnswers limit calls replies = MayAnswer limit calls replies → ⊥
 
 -- replies that no run has: a content is invented, a pair is lost, a content is another one, an
--- insert replaces, the limit is passed, a pass ends with a key left or begins by itself
+-- insert replaces, the limit is passed, a pass ends with a key left, begins by itself, is ended by
+-- a store, gives a key twice, or begins with a later one
 pub record WrongReplies : Type 0 where
   pub invented : NeverAnswers 100 (Fetch (one 0x61) ∷ []) (Bytes (one 0x01) ∷ [])
   pub lost : NeverAnswers 100 (Store (one 0x61) (one 0x01) Replace ∷ Fetch (one 0x61) ∷ [])
@@ -80,3 +83,11 @@ pub record WrongReplies : Type 0 where
   pub ended : NeverAnswers 100 (Store (one 0x61) (one 0x01) Replace ∷ First ∷ [])
       (Stored ∷ End ∷ [])
   pub unbegun : NeverAnswers 100 (Next ∷ []) (End ∷ [])
+  pub ended_by_a_store : NeverAnswers 100 (Store (one 0x61) (one 0x01) Replace ∷ First
+      ∷ Store (one 0x61) (one 0x02) Replace ∷ Next ∷ [])
+      (Stored ∷ Bytes (one 0x61) ∷ Stored ∷ Refused NoPass ∷ [])
+  pub twice : NeverAnswers 100 (Store (one 0x61) (one 0x01) Replace ∷ First ∷ Next ∷ [])
+      (Stored ∷ Bytes (one 0x61) ∷ Bytes (one 0x61) ∷ [])
+  pub later_one : NeverAnswers 100 (Store (one 0x61) (one 0x01) Replace
+      ∷ Store (one 0x62) (one 0x01) Replace ∷ First ∷ [])
+      (Stored ∷ Stored ∷ Bytes (one 0x62) ∷ [])

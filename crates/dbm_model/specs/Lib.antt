@@ -3,6 +3,7 @@ pub mod Changes
 pub mod Examples
 pub mod FaultCount
 pub mod FaultNumbers
+pub mod KeyOrder
 pub mod Pairs
 pub mod Passes
 pub mod Refusals

@@ -4,7 +4,7 @@ use Rattle.std.specs.FinMap.{get, len}
 use Rattle.dbm_model.specs.Calls.{Call, Store, Delete, Next, Error, Clear, Mode, Insert, Reply, Kept, Absent, Number, Refused, Fault, Memory, Device, Broken, ReadOnly, TooLong, Full, NoPass, NoRoom, is_changing}
 use Rattle.dbm_model.specs.FaultCount.{MoreFaults}
 use Rattle.dbm_model.specs.Pairs.{Key, Contents, IsAllowed}
-use Rattle.dbm_model.specs.States.{State, Handle, first_fault, error_number}
+use Rattle.dbm_model.specs.States.{State, NotBegun, Handle, first_fault, error_number}
 use Rattle.dbm_model.specs.Steps.{IsShort, Step}
 
 -- usable, and opened for changes
@@ -36,7 +36,7 @@ IsDue TooLong before call after = MayChange before.state × IsTooLong call
 IsDue Full before call after =
     MayChange before.state × IsOneTooMany before.state.map before.state.limit call
 IsDue NoPass before call after =
-    (before.state.usable ≡ true) × (call ≡ Next) × (before.state.pass ≡ None)
+    (before.state.usable ≡ true) × (call ≡ Next) × (before.state.pass ≡ NotBegun)
 IsDue Device before call after =
     (before.state.usable ≡ true) × MoreFaults before.faults after.faults
 IsDue Memory before call after = MayChange before.state × IsOneBucketMore before call

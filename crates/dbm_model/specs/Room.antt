@@ -1,5 +1,5 @@
--- The room of a file: that it is known beforehand, what a call keeps of it, told from the reply, and
--- examples.
+-- The room of a file: that it is known beforehand, what a call keeps of it, told from the reply,
+-- and examples.
 use Rattle.std.specs.Prelude.{◌≡◌, ◌≢◌, ◌≤◌, ◌*◌, ℕ, All, List}
 use Rattle.dbm_model.specs.Calls.{Call, Store, Replace, Reply, Stored, Refused, NoRoom}
 use Rattle.dbm_model.specs.Sizes.{home}

@@ -1,11 +1,16 @@
 -- The state of an open database, as its callers know it. It has no page and no file.
 use Rattle.std.specs.Prelude.{ℕ, Bool, true, Option, Some, None}
-use Rattle.std.specs.FinSet.{FinSet}
 use Rattle.dbm_model.specs.Calls.{Fault, number_of}
-use Rattle.dbm_model.specs.Pairs.{Contents, key_cmp}
+use Rattle.dbm_model.specs.Pairs.{Key, Contents}
 
-abbrev pub Keys : Type 0
-Keys = FinSet key_cmp
+-- where a pass stands
+pub data Pass : Type 0 where
+  -- none was begun since the opening
+  NotBegun : Pass
+  -- before all keys
+  Begun : Pass
+  -- behind this key, which was the last one given
+  Behind : Key → Pass
 
 pub record State : Type 0 where
   pub map : Contents
@@ -13,8 +18,7 @@ pub record State : Type 0 where
   pub limit : ℕ
   -- the first fault since the opening or the last dbm_clearerr
   pub error : Option Fault
-  -- the keys that a pass has yet to give, where one was begun and no change ended it
-  pub pass : Option Keys
+  pub pass : Pass
   -- opened for changes
   pub writable : Bool
   -- no change has been left in doubt
@@ -26,7 +30,7 @@ fresh map limit writable = record {
   map = map;
   limit = limit;
   error = None;
-  pass = None;
+  pass = NotBegun;
   writable =
       writable;
   usable = true;

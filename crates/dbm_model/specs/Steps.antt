@@ -1,12 +1,12 @@
 -- What each call replies, and the state after it.
-use Rattle.std.specs.Prelude.{◌≡◌, ◌⊎◌, ℕ, ◌+◌, ◌*◌, ◌<◌, ◌≤◌, false, not, nat_le, nat_lt, IsTrue, if◌then◌else◌, List, [], ◌∷◌, length, Option, Some, None}
-use Rattle.std.specs.FinMap.{get, insert, remove, len, keys}
-use Rattle.std.specs.FinSet as set
+use Rattle.std.specs.Prelude.{◌≡◌, ◌⊎◌, ℕ, ◌+◌, ◌*◌, ◌<◌, ◌≤◌, false, not, nat_le, nat_lt, IsSome, if◌then◌else◌, List, [], ◌∷◌, length, Option, Some, None}
+use Rattle.std.specs.FinMap.{get, insert, remove, len}
 use Rattle.dbm_model.specs.Calls.{Mode, Insert, Replace, Call, Store, Fetch, Delete, First, Next, Error, Clear, Reply, Stored, Kept, Deleted, Absent, Bytes, NoRecord, End, Number, Refused, Fault, Memory, Device, Broken, ReadOnly, TooLong, Full, NoPass, NoRoom}
 use Rattle.dbm_model.specs.FaultCount.{MoreFaults}
+use Rattle.dbm_model.specs.KeyOrder.{ComesBefore}
 use Rattle.dbm_model.specs.Pairs.{Key, Contents}
 use Rattle.dbm_model.specs.Sizes.{home}
-use Rattle.dbm_model.specs.States.{State, Keys, Handle, flagged, error_number}
+use Rattle.dbm_model.specs.States.{State, Pass, NotBegun, Begun, Behind, Handle, flagged, error_number}
 
 -- which rule a call falls under
 pub data Case : Type 0 where
@@ -18,8 +18,8 @@ pub data Case : Type 0 where
   Declines : Fault → Case
   -- replied from the file, which stays
   Finds : Reply → Case
-  -- one of these keys, or the end where there is none
-  Passes : Keys → Case
+  -- the next key of a pass that stands there, or the end where there is none
+  Passes : Pass → Case
   -- the map changes to this one
   Changes : Reply → Contents → Case
 
@@ -40,9 +40,9 @@ deleted s key None = Finds Absent
 deleted s key (Some content) = Changes Deleted (remove s.map key)
 
 -- the next step of a pass
-abbrev pub passed : Option Keys → Case
-passed None = Refuses NoPass
-passed (Some left) = Passes left
+abbrev pub passed : Pass → Case
+passed NotBegun = Refuses NoPass
+passed from = Passes from
 
 abbrev pub usable_case : State → Call → Case
 usable_case s (Store key content mode) =
@@ -51,7 +51,7 @@ usable_case s (Store key content mode) =
     else Refuses TooLong
 usable_case s (Fetch key) = fetched (get s.map key)
 usable_case s (Delete key) = if s.writable then deleted s key (get s.map key) else Refuses ReadOnly
-usable_case s First = Passes (set.from_list (keys s.map))
+usable_case s First = Passes Begun
 usable_case s Next = passed s.pass
 usable_case s Error = Tells (Number (error_number s.error)) s
 usable_case s Clear = Tells (Number 0) (record s { error = None })
@@ -65,11 +65,29 @@ broken_case s _ = Refuses Broken
 abbrev pub case_of : State → Call → Case
 case_of s call = if s.usable then usable_case s call else broken_case s call
 
--- a pass gives any key that it has not given, and the end where it has given all
-abbrev pub GivesKey : State → Keys → Reply → State → Type 0
-GivesKey s left reply after =
-    ((left ≡ set.empty) × (reply ≡ End) × (after ≡ record s { pass = Some left }))
-    ⊎ ((key : Key) × IsTrue (set.contains left key) × (reply ≡ Bytes key) × (after ≡ record s { pass = Some (set.remove left key) }))
+-- a pass that stands there has the key before it
+abbrev pub IsAhead : Pass → Key → Type 0
+IsAhead NotBegun key = ⊥
+IsAhead Begun key = Unit {0}
+IsAhead (Behind last) key = ComesBefore last key
+
+-- the least of the keys that a pass has before it
+pub record IsNextKey (map : Contents) (from : Pass) (key : Key) : Type 0 where
+  pub there : IsSome (get map key)
+  pub ahead : IsAhead from key
+  pub least : (other : Key) → IsSome (get map other) → IsAhead from other
+      → ComesBefore other key → ⊥
+
+-- it has none before it
+abbrev pub IsOver : Contents → Pass → Type 0
+IsOver map from = (key : Key) → IsSome (get map key) → IsAhead from key → ⊥
+
+-- a pass gives the next key, and the end where there is none
+abbrev pub GivesKey : State → Pass → Reply → State → Type 0
+GivesKey s from reply after =
+    (IsOver s.map from × (reply ≡ End) × (after ≡ record s { pass = from }))
+    ⊎ ((key : Key) × IsNextKey s.map from key × (reply ≡ Bytes key)
+    × (after ≡ record s { pass = Behind key }))
 
 -- what comes where nothing fails
 abbrev pub Answers : State → Case → Reply → State → Type 0
@@ -77,12 +95,13 @@ Answers s (Tells said told) reply after = (reply ≡ said) × (after ≡ told)
 Answers s (Refuses fault) reply after = (reply ≡ Refused fault) × (after ≡ flagged fault s)
 Answers s (Declines fault) reply after = (reply ≡ Refused fault) × (after ≡ flagged fault s)
 Answers s (Finds found) reply after = (reply ≡ found) × (after ≡ s)
-Answers s (Passes left) reply after = GivesKey s left reply after
-Answers s (Changes said map) reply after = (reply ≡ said) × (after ≡ record s { map = map; pass = None })
+Answers s (Passes from) reply after = GivesKey s from reply after
+Answers s (Changes said map) reply after = (reply ≡ said) × (after ≡ record s { map = map })
 
 -- a fault of the device, which changes nothing
 abbrev pub Fails : Handle → Reply → Handle → Type 0
-Fails h reply after = (reply ≡ Refused Device) × MoreFaults h.faults after.faults × (after.state ≡ flagged Device h.state)
+Fails h reply after = (reply ≡ Refused Device) × MoreFaults h.faults after.faults
+    × (after.state ≡ flagged Device h.state)
 
 -- a fault of the device in the midst of a change: the file stands for the old map or for the new
 -- one until it is opened again
@@ -110,7 +129,8 @@ IsShort h =
 
 -- no room in the file for a change
 abbrev pub LacksRoom : Handle → Reply → Handle → Type 0
-LacksRoom h reply after = (reply ≡ Refused NoRoom) × IsShort h × (after.state ≡ flagged NoRoom h.state)
+LacksRoom h reply after =
+    (reply ≡ Refused NoRoom) × IsShort h × (after.state ≡ flagged NoRoom h.state)
 
 -- the refusals that may come instead, none of which changes the map of a usable handle
 abbrev pub Suffers : Handle → Case → Reply → Handle → Type 0
@@ -118,7 +138,7 @@ Suffers h (Tells said told) reply after = ⊥
 Suffers h (Refuses fault) reply after = ⊥
 Suffers h (Declines fault) reply after = Fails h reply after
 Suffers h (Finds found) reply after = Fails h reply after
-Suffers h (Passes left) reply after = Fails h reply after
+Suffers h (Passes from) reply after = Fails h reply after
 Suffers h (Changes said map) reply after =
     Fails h reply after ⊎ (Breaks h map reply after
     ⊎ (LacksMemory h said map reply after ⊎ LacksRoom h reply after))

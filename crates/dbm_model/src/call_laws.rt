@@ -4,10 +4,10 @@
 ghost use Rattle.dbm_model.specs.Changes.{OnlyAcknowledgedChanges, OnlyChangesBreak, BrokenStays};
 ghost use Rattle.dbm_model.specs.Refusals.{RefusesOnlyWhereDue, BrokenRefuses, ReadingRefuses, ReadingKeeps, SettingsStay, TooLongIsRefused, InsertKeeps, FullIsRefused, AbsentIsTold, ErrorIsTold, ErrorIsCleared, FirstFaultIsKept};
 ghost use Rattle.dbm_model.specs.FaultNumbers.{FaultsAreNumbered, NumbersDiffer, NoFaultIsZero};
-ghost use Rattle.dbm_model.specs.Passes.{PassesAreComplete};
+ghost use Rattle.dbm_model.specs.Passes.{PassesAreComplete, LastingKeysAreGiven, PassesAscend, NoKeyIsGivenTwice, GivenKeysAreThere, RefusalsKeepPass, PassesStay};
 ghost use Rattle.dbm_model.specs.Room.{RoomStays, RoomIsKnown, PagesAreBounded, RoomExamples};
 ghost use Rattle.dbm_model.specs.Sizes.{SizeExamples};
-ghost use Rattle.dbm_model.specs.Examples.{StoresAndDeletes, StopsAtLimit, PassesOverNothing, PassesOn, EndsPass, WrongReplies};
+ghost use Rattle.dbm_model.specs.Examples.{StoresAndDeletes, StopsAtLimit, PassesOverNothing, PassesOn, PassesOverChanges, WrongReplies};
 
 /// Only an acknowledged change changes the map of a handle that stays usable.
 pub fn only_acknowledged_changes()
@@ -76,12 +76,23 @@ pub fn passes_are_complete()
     ensures { PassesAreComplete }
 {}
 
+/// A pass goes on over changes, in ascending order: a key that is there throughout is given exactly
+/// once, none twice, and one only while it is there.
+pub fn passes_survive_changes()
+    ensures lasting { LastingKeysAreGiven }
+    ensures ascending { PassesAscend }
+    ensures once { NoKeyIsGivenTwice }
+    ensures there { GivenKeysAreThere }
+    ensures refused { RefusalsKeepPass }
+    ensures stay { PassesStay }
+{}
+
 /// Runs of a new database that are worked out by hand, and replies that none has.
 pub fn run_examples()
     ensures stores_and_deletes { StoresAndDeletes }
     ensures stops_at_limit { StopsAtLimit }
     ensures passes_over_nothing { PassesOverNothing }
     ensures passes_on { PassesOn }
-    ensures ends_pass { EndsPass }
+    ensures over_changes { PassesOverChanges }
     ensures never { WrongReplies }
 {}

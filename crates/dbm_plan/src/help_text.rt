@@ -28,7 +28,7 @@ Faults:
   5   key and content together have more than 2026 bytes: shorten them
   6   the limit is reached, and the key is new: dump, create a database with a
       higher limit, and load
-  7   a next key with no pass begun, or after a change ended it: begin a pass
+  7   a next key with no pass begun: begin a pass
   8   no room in the file for the change: take a larger device
   9   the file is damaged: load a dump, or restore the file
   10  the file is no database: look at the name, which is given without `.db`

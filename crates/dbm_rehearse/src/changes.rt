@@ -14,8 +14,8 @@ pub enum Change<'a> {
 }
 
 /// Whether the pairs found are what the acknowledged changes make of those before, which are the
-/// first so many, or what these and the next one make of them, which was in doubt. They aren't where
-/// more changes were acknowledged than there are.
+/// first so many, or what these and the next one make of them, which was in doubt. They aren't
+/// where more changes were acknowledged than there are.
 pub fn is_kept(
     alloc: Global,
     before: &Pairs,

@@ -18,15 +18,15 @@ use sect_dev::MemDev;
 use std::alloc::Global;
 use std::io::{BufRead, Write};
 
-/// Reads a script to its end, makes its calls on a copy of the device, as a stop now leaves that with
-/// none of its unsynced writes, and stops this session before each of its device calls, or before as
-/// many of them as `stops` says, evenly spread. Where the device is blank a database of the `limit`
-/// is made, if there is one. Each stop is looked at with four choices of the unsynced writes, and
-/// its reopening is stopped once more. A line may have 8,192 bytes without its line feed, and a text
-/// 4,294,967,295. `Memory` comes where a growth is refused, `Read` where reading fails or the text
-/// is too long, `Write` where writing fails, and `Db` where the database can't be opened or read
-/// that is on the device. Nothing is flushed. Each stop that was made is a step of `progress`,
-/// which is cleared before the counts are written.
+/// Reads a script to its end, makes its calls on a copy of the device, as a stop now leaves that
+/// with none of its unsynced writes, and stops this session before each of its device calls, or
+/// before as many of them as `stops` says, evenly spread. Where the device is blank a database of
+/// the `limit` is made, if there is one. Each stop is looked at with four choices of the unsynced
+/// writes, and its reopening is stopped once more. A line may have 8,192 bytes without its line
+/// feed, and a text 4,294,967,295. `Memory` comes where a growth is refused, `Read` where reading
+/// fails or the text is too long, `Write` where writing fails, and `Db` where the database can't be
+/// opened or read that is on the device. Nothing is flushed. Each stop that was made is a step of
+/// `progress`, which is cleared before the counts are written.
 pub fn rehearse_script<R: BufRead, W: Write, P: Progress>(
     alloc: Global,
     dev: &MemDev,

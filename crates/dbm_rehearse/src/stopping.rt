@@ -143,10 +143,10 @@ pub fn pairs_before(alloc: Global, dev: &MemDev, limit: Option<u32>) -> Result<P
     }
 }
 
-// A session that makes a database of the limit where the device is blank and there is one, cut after
-// so many device calls. It gives what is left, and how many device calls were asked for. Each session
-// is on this one type of device, since the program has the code of a database once for each type; and
-// it has no clause, so that those of a session stand in no other goal.
+// A session that makes a database of the limit where the device is blank and there is one, cut
+// after so many device calls. It gives what is left, and how many device calls were asked for. Each
+// session is on this one type of device, since the program has the code of a database once for each
+// type; and it has no clause, so that those of a session stand in no other goal.
 fn cut_session(
     alloc: Global,
     dev: MemDev,

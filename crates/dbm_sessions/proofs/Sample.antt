@@ -5,7 +5,7 @@ use Rattle.std.specs.Cmp.Lexicographic.{nat_list_cmp_total}
 use Rattle.dbm_model.specs.Calls.{Call, Reply, Stored, Refused, Device}
 use Rattle.dbm_model.specs.Examples.{one}
 use Rattle.dbm_model.specs.Pairs.{Contents, key_cmp}
-use Rattle.dbm_model.specs.States.{State, Handle, fresh, flagged}
+use Rattle.dbm_model.specs.States.{NotBegun, State, Handle, fresh, flagged}
 use Rattle.dbm_model.specs.Steps.{Case, Finds, Changes, fetched, case_of, Answers, Suffers, Step, Run, buckets_opened}
 use Rattle.dbm_model.proofs.RunLemmas.{adds, none_yet, one_more}
 use Rattle.dbm_model.proofs.RuleLemmas.{ByCase, falls}
@@ -38,7 +38,7 @@ step s after call c reply none rule answers = record {
 }
 
 store_rule : case_of (fresh empty 9 true) store ≡ Changes Stored only
-store_rule = adds 9 empty None None (one 0x61) (one 0x01) refl (get-empty key_cmp (one 0x61))
+store_rule = adds 9 empty None NotBegun (one 0x61) (one 0x01) refl (get-empty key_cmp (one 0x61))
     (none_yet 9 (omega arith))
 
 -- one pair is no reason for another bucket

@@ -110,8 +110,8 @@ fn asked(verbose: bool, cause: Option<io::Error>) -> Option<io::Error>
     if verbose { cause } else { None }
 }
 
-/// The end of a plan. Behind the line of a fault of the device there is one with its cause, if there
-/// is one.
+/// The end of a plan. Behind the line of a fault of the device there is one with its cause, if
+/// there is one.
 fn ended_by<F: Write>(
     alloc: Global,
     done: Result<Outcome, Failure>,
@@ -199,8 +199,8 @@ fn failure_status(failure: Failure) -> u8
     }
 }
 
-/// The end where the words gave no plan, and `error` says why. The line of `NoPlan` is written here,
-/// since no contract says what an error displays.
+/// The end where the words gave no plan, and `error` says why. The line of `NoPlan` is written
+/// here, since no contract says what an error displays.
 fn refused<F: Write>(error: WordsError, faults: &mut F) -> Exit
     ensures status { result.status ≡ 3 }
     ensures line { error ≡ WordsError.NoPlan → Tells result.told (F.contents faults.old)

@@ -103,8 +103,8 @@ fn is_kept<S: PageStore>(db: &mut Database<S>, answers: &Answers) -> Result<bool
     Ok(more == 0 || more == 1 && answers.broken > 0)
 }
 
-/// Whether a stop leaves that too, with none or all of the unsynced writes, which are fewer than the
-/// marks.
+/// Whether a stop leaves that too, with none or all of the unsynced writes, which are fewer than
+/// the marks.
 fn survives(alloc: Global, dev: &MemDev, answers: &Answers) -> Result<bool, Fail> {
     for marks in [[false; 40], [true; 40]].iter() {
         let mut db = opened(alloc, dev.crashed(alloc, marks)?, false, 0)?;

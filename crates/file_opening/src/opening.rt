@@ -33,18 +33,19 @@ const MIN_SECTORS: u32 = 16;
 
 /// Opens a device that a stop may have left, or hands it back with the fault. In this order:
 ///
-/// 1. `ReadOnly` where a database is to be emptied that is opened for reading, and `TooSmall` below 16 sectors, with
-///    no device call.
-/// 2. `Device`. Opened for writing, a commit that a stop cut short is ended first. Opened for reading, nothing is
-///    written and nothing synced: the pages of such a commit are read into memory, where `Memory` may come.
-/// 3. Where the device is blank: `NotADatabase` without `create`, `ReadOnly` where it is opened for reading,
-///    `BadLimit` outside 1 to 1,000,000, `TooSmall` below `needed_sectors`, and `Device` while the empty database
-///    is made.
-/// 4. Where it isn't: `Exists` with `create` and `exclusive`, whatever it holds; `NotADatabase` where the first
-///    sector has another magic, `Damaged` where it or a redo image breaks a rule.
+/// 1. `ReadOnly` where a database is to be emptied that is opened for reading, and `TooSmall` below
+///    16 sectors, with no device call.
+/// 2. `Device`. Opened for writing, a commit that a stop cut short is ended first. Opened for
+///    reading, nothing is written and nothing synced: the pages of such a commit are read into
+///    memory, where `Memory` may come.
+/// 3. Where the device is blank: `NotADatabase` without `create`, `ReadOnly` where it is opened for
+///    reading, `BadLimit` outside 1 to 1,000,000, `TooSmall` below `needed_sectors`, and `Device`
+///    while the empty database is made.
+/// 4. Where it isn't: `Exists` with `create` and `exclusive`, whatever it holds; `NotADatabase`
+///    where the first sector has another magic, `Damaged` where it or a redo image breaks a rule.
 /// 5. The meta page's faults, `Version` and `Damaged`.
-/// 6. With `truncate`: `BadLimit` and `TooSmall` as above, then `Memory`, `NoRoom` or `Device` while the database is
-///    emptied in one commit.
+/// 6. With `truncate`: `BadLimit` and `TooSmall` as above, then `Memory`, `NoRoom` or `Device`
+///    while the database is emptied in one commit.
 ///
 /// A stop within it leaves the database that was there, or the empty one that was asked for.
 pub fn open_file<D: SectorDev>(

@@ -3,7 +3,7 @@ ghost use Rattle.std.specs.Prelude.{◌≡◌};
 ghost use Rattle.page_model.specs.Address.{hash_of};
 
 /// The hash of a key: FNV-1a, 32 bits.
-#[tactic(auto, unfolding(page_model::specs::Address::hash_of))]
+#[tactic(auto, unfolding(dbm_model::specs::KeyOrder::hash_of))]
 pub fn hash(key: &[u8]) -> u32
     ensures { result ≡ hash_of key.now }
 {

@@ -1,5 +1,7 @@
 //! How far the buckets have grown.
-ghost use Rattle.std.specs.Prelude.{◌≡◌, ◌↔◌, ◌+◌, ◌^◌, ◌<◌, ◌≤◌, ◌==◌, ◌&&◌, ℕ, IsTrue, IsSome, IfSome, if◌then◌else◌};
+ghost use Rattle.std.specs.Prelude.{◌≡◌, ◌↔◌, ◌+◌, ◌%◌, ◌^◌, ◌<◌, ◌≤◌, ◌==◌, ◌&&◌, ℕ, IsTrue, IsSome, IfSome, IfNone, if◌then◌else◌};
+
+use crate::rank;
 
 /// So many buckets: `2^level + split`. Buckets below `split`, and those from `2^level` on, have the
 /// hashes of one bit more; `split` is the bucket that is split next. There are at most 131,071
@@ -22,8 +24,10 @@ fn power(exponent: u32) -> u32
 
 impl Shape {
     ghost use Rattle.std.specs.Int.{bit_at};
+    ghost use Rattle.dbm_model.specs.KeyOrder as order;
     ghost use Rattle.page_model.specs.Address as model;
     ghost use Rattle.page_model.specs.Address.{address};
+    ghost use Rattle.lin_addr.specs.Intervals.{Precedes, IsFollowing, PrecedesNone};
     ghost use Rattle.lin_addr.specs.Shapes.{shape_of, CanBe, BelongsTo};
 
     /// One bucket.
@@ -70,6 +74,41 @@ impl Shape {
         }
     }
 
+    // How many low bits of a hash say whether it is one of the bucket's.
+    fn width(&self, bucket: u32) -> u32
+        requires { bucket < model.buckets (shape_of self.now) }
+        ensures low { result ≤ 17 }
+        ensures decides { (hash : ℕ) → (address (shape_of self.now) hash ≡ bucket)
+            ↔ (hash % 2 ^ result ≡ bucket) }
+    {
+        if bucket < self.split || bucket >= power(self.level) {
+            self.level + 1
+        } else {
+            self.level
+        }
+    }
+
+    // The hash of the bucket that has the greatest rank: all bits that do not decide are set.
+    fn highest(&self, bucket: u32) -> u32
+        requires { bucket < model.buckets (shape_of self.now) }
+        ensures there { address (shape_of self.now) result ≡ bucket }
+        ensures greatest { (hash : ℕ) → hash < 2 ^ 32 → address (shape_of self.now) hash ≡ bucket
+            → order.rank hash ≤ order.rank result }
+    {
+        bucket | (u32::MAX << self.width(bucket))
+    }
+
+    /// The bucket with the least rank above all ranks of this one's hashes, or `None` where this
+    /// one has the greatest.
+    pub fn following(&self, bucket: u32) -> Option<u32>
+        requires { bucket < model.buckets (shape_of self.now) }
+        ensures next { IfSome result (λ next. IsFollowing (shape_of self.now) bucket next) }
+        ensures last { IfNone result (PrecedesNone (shape_of self.now) bucket) }
+    {
+        let next = rank(self.highest(bucket)).checked_add(1)?;
+        Some(self.bucket(rank(next)))
+    }
+
     /// One bucket more, which takes hashes of bucket `split` alone: those whose bit `level` is set.
     pub fn grown(&self) -> Shape
         requires { model.buckets (shape_of self.now) < 125000 }
@@ -78,6 +117,11 @@ impl Shape {
             ≡ (if address (shape_of self.now) hash == self.now.split && bit_at hash
             self.now.level == 1 then self.now.split + 2 ^ self.now.level
             else address (shape_of self.now) hash) }
+
+        // The interval of the bucket that is split is cut in two: the new bucket has the upper
+        // part.
+        ensures cuts { Precedes (shape_of result) self.now.split
+            (self.now.split + 2 ^ self.now.level) }
     {
         if self.split + 1 == power(self.level) {
             Shape {

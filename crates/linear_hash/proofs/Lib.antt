@@ -15,5 +15,6 @@ pub mod Searches
 pub mod SplitLemmas
 pub mod Stagings
 pub mod StoredPairs
+pub mod TableChains
 pub mod Tables
 pub mod Written

@@ -1,56 +1,83 @@
 -- The buckets that a pass has read, on any file.
-use Rattle.std.proofs.Common.{◌≡◌, inl, inr, ℕ, ◌+◌, ◌<◌, ◌≤◌, ◌/◌, ◌%◌, List, slice_index, Option, None, refl, sym, subst, arith}
-use Rattle.std.proofs.lemmas.Bool.{cases_eq}
+use Rattle.std.proofs.Common.{◌≡◌, inl, inr, ℕ, ◌^◌, ◌<◌, ◌≤◌, ◌/◌, ◌%◌, List, slice_index, Option, None, sym, subst, arith}
+use Rattle.std.proofs.lemmas.Nat.{pow_pos}
+use Rattle.dbm_model.specs.KeyOrder.{hash_of}
+use Rattle.dbm_model.specs.States.{Pass, NotBegun, Begun, Behind}
 use Rattle.page_model.specs.Pages.{Meta, Body}
 use Rattle.page_model.specs.Valid.{meta_buckets}
+use Rattle.page_model.proofs.AddressLemmas.{address_below}
+use Rattle.lin_addr.specs.Intervals.{Precedes, IsFollowing, PrecedesNone}
+use Rattle.lin_addr.proofs.Precedence.{never_both, never_itself, chained, before_next, before_end}
 use Rattle.seg_table.specs.Heads.{HasEntry}
-use Rattle.chain_walks.specs.Places.{IsChainStep}
-use Rattle.chain_walks.specs.declared.place.Place.{Place}
-use Rattle.linear_hash.specs.Passing.{LooksBehind, IsBucketStep, GaveNothing}
-use Rattle.linear_hash.specs.declared.passing.Cursor.{Cursor}
+use Rattle.chain_walks.specs.Leasts.{IsLeastRead}
+use Rattle.linear_hash.specs.Passing.{bucket_of_pass, IsToRead, IsBucketRead, HaveNone}
+use Rattle.linear_hash.specs.Tables.{shape_in}
 
--- a step, by pages that say what they said at first
-pub bucket_step : (at at' at'' : ℕ → Body) (m : Meta) (cursor : Cursor) (bucket head : ℕ)
-    (behind : Option Place) (bytes : List ℕ) (answer : Option Place) → cursor.bucket ≤ bucket
-    → bucket < meta_buckets m → LooksBehind cursor bucket behind → at' ≡ at → at'' ≡ at'
+-- a bucket that was read, by pages that say what they said at first
+pub bucket_read : (at at' at'' : ℕ → Body) (m : Meta) (bucket head : ℕ) (from : Pass)
+    (bytes : List ℕ) (answer : Option ℕ) → bucket < meta_buckets m → IsToRead m from bucket
+    → at' ≡ at → at'' ≡ at'
     → HasEntry (at' (slice_index m.segments (bucket / 508))) (bucket % 508) head
-    → IsChainStep at'' head behind bytes answer → IsBucketStep at m cursor bucket bytes answer
-bucket_step at at' at'' m cursor bucket head behind bytes answer from there looks first second entry
-    step = record {
-      from = from;
+    → IsLeastRead at'' head from bytes answer → IsBucketRead at m bucket from bytes answer
+bucket_read at at' at'' m bucket head from bytes answer there to_read first second entry least =
+    record {
       there = there;
+      to_read = to_read;
       head = head;
       segment = subst (λ (f : ℕ → Body).
           HasEntry (f (slice_index m.segments (bucket / 508))) (bucket % 508) head) first entry;
-      behind = behind;
-      looks = looks;
-      step = subst (λ (f : ℕ → Body). IsChainStep f head behind bytes answer) first
-          (subst (λ (f : ℕ → Body). IsChainStep f head behind bytes answer) second step);
+      least = subst (λ (f : ℕ → Body). IsLeastRead f head from bytes answer) first
+          (subst (λ (f : ℕ → Body). IsLeastRead f head from bytes answer) second least);
     }
 
-pub looks_first : (cursor : Cursor) → LooksBehind cursor cursor.bucket cursor.behind
-looks_first cursor = record { own = λ same. refl; later = λ less. absurd (omega (arith, less)) }
+module _ (m : Meta) (split_in : m.split < 2 ^ m.level) (low_level : m.level ≤ 17)
+    (from : Pass) where
+  pub first_below : bucket_of_pass m from < meta_buckets m
+  first_below = by_pass from
+    where
+      by_pass : (from : Pass) → bucket_of_pass m from < meta_buckets m
+      by_pass NotBegun = omega (arith, pow_pos m.level)
+      by_pass Begun = omega (arith, pow_pos m.level)
+      by_pass (Behind last) = address_below (shape_in m) (hash_of last) split_in
 
-pub looks_on : (cursor : Cursor) (bucket : ℕ) → cursor.bucket ≤ bucket
-    → LooksBehind cursor (bucket + 1) None
-looks_on cursor bucket reached =
-    record { own = λ same. absurd (omega (arith, same, reached)); later = λ less. refl }
+  pub to_read_next : (bucket next : ℕ) → bucket < meta_buckets m → IsToRead m from bucket
+      → Precedes (shape_in m) bucket next → IsToRead m from next
+  to_read_next bucket next below (inl same) before =
+      inr (subst (λ (b : ℕ). Precedes (shape_in m) b next) same before)
+  to_read_next bucket next below (inr behind) before =
+      inr (chained (shape_in m) split_in low_level (bucket_of_pass m from) bucket next below behind
+      before)
 
-pub none_below : (at : ℕ → Body) (m : Meta) (cursor : Cursor)
-    → GaveNothing at m cursor cursor.bucket
-none_below at m cursor bucket from below = absurd (omega (arith, from, below))
+  module _ (at : ℕ → Body) where
+    pub none_before_first : HaveNone at m from
+        (λ other. Precedes (shape_in m) other (bucket_of_pass m from))
+    none_before_first other below (inl same) before =
+        absurd (never_itself (shape_in m) split_in low_level other (bucket_of_pass m from) below
+        same before)
+    none_before_first other below (inr behind) before =
+        absurd (never_both (shape_in m) split_in low_level other (bucket_of_pass m from) below
+        first_below before behind)
 
--- one bucket more gave nothing
-pub nothing_more : (at : ℕ → Body) (m : Meta) (cursor : Cursor) (last : ℕ) (bytes : List ℕ)
-    → GaveNothing at m cursor last → IsBucketStep at m cursor last bytes None
-    → GaveNothing at m cursor (last + 1)
-nothing_more at m cursor last bytes before step bucket from below = elim (cases_eq bucket last) [
-  | inl same ↦ (bytes, subst (λ (b : ℕ). IsBucketStep at m cursor b bytes None) (sym same) step)
-  | inr other ↦ before bucket from (omega (arith, below, other))
-]
+    module _ (bucket : ℕ) (bytes : List ℕ) (below : bucket < meta_buckets m)
+        (before : HaveNone at m from (λ other. Precedes (shape_in m) other bucket))
+        (read : IsBucketRead at m bucket from bytes None) where
+      none_here : (other : ℕ) → other ≡ bucket
+          → (bytes : List ℕ) × IsBucketRead at m other from bytes None
+      none_here other same =
+          (bytes, subst (λ (b : ℕ). IsBucketRead at m b from bytes None) (sym same) read)
 
--- as many buckets as there are
-pub nothing_at_all : (at : ℕ → Body) (m : Meta) (cursor : Cursor) (last all : ℕ) → all ≤ last
-    → GaveNothing at m cursor last → GaveNothing at m cursor all
-nothing_at_all at m cursor last all many before bucket from below =
-    before bucket from (omega (arith, below, many))
+      pub none_before_next : (next : ℕ) → IsFollowing (shape_in m) bucket next
+          → HaveNone at m from (λ other. Precedes (shape_in m) other next)
+      none_before_next next following other other_below to_read less =
+          elim (before_next (shape_in m) split_in low_level bucket next other below other_below
+          following less) [
+            | inl same ↦ none_here other same
+            | inr earlier ↦ before other other_below to_read earlier
+          ]
+
+      pub none_at_all : PrecedesNone (shape_in m) bucket → HaveNone at m from (λ other. Unit {0})
+      none_at_all last other other_below to_read any =
+          elim (before_end (shape_in m) split_in low_level bucket other below other_below last) [
+            | inl same ↦ none_here other same
+            | inr earlier ↦ before other other_below to_read earlier
+          ]

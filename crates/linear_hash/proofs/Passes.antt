@@ -1,208 +1,203 @@
--- What is left behind a cursor, as a pass goes on.
-use Rattle.std.proofs.Common.{◌≡◌, ℕ, zero, suc, ◌+◌, ◌<◌, ◌≤◌, List, [], ◌∷◌, ◌++◌, length, drop, get_or, flat_map, Option, None, Some, refl, sym, ap, ◌∙◌, subst, arith, append_assoc}
-use Rattle.std.specs.Prelude.{map}
-use Rattle.std.proofs.lemmas.List.{reverse-append}
-use Rattle.page_model.specs.Address.{buckets}
+-- The keys that a pass has before it, in a placement.
+use Rattle.std.proofs.Common.{◌≡◌, ◌⊎◌, inl, inr, ℕ, zero, suc, ◌+◌, ◌<◌, ◌≤◌, true, false, cond, List, [], ◌∷◌, ◌++◌, length, get_or, flat_map, refl, sym, ap, subst, arith}
+use Rattle.std.specs.List.{AllByRecursion}
+use Rattle.std.proofs.lemmas.List.Sums.{sum_by-append, sum_by-cons}
+use Rattle.dbm_model.specs.KeyOrder.{hash_of, rank, ComesBefore}
+use Rattle.dbm_model.specs.Pairs.{Key, Pair}
+use Rattle.dbm_model.specs.States.{Pass, NotBegun, Begun, Behind}
+use Rattle.dbm_model.specs.Steps.{IsAhead}
+use Rattle.page_model.specs.Address.{Shape, buckets}
+use Rattle.page_model.specs.Chain.{Chain, pairs_in}
+use Rattle.page_model.specs.PairLists.{has_key, times}
 use Rattle.page_model.specs.Pages.{Meta, Body}
-use Rattle.dbm_model.specs.Pairs.{Pair}
-use Rattle.page_model.specs.Chain.{Chain, numbers, pairs_in}
-use Rattle.page_model.specs.Placement.{Placement, pairs_of, chain_at}
-use Rattle.page_model.specs.PageBodies.{first_of, heads_of}
-use Rattle.page_io.specs.Store.{StoreState}
-use Rattle.page_io.specs.Views.{body_at, ReadsOnly}
-use Rattle.page_io.specs.declared.store.PageStore.{Ghosts}
-use Rattle.page_io.proofs.Views.{same_said}
-use Rattle.seg_table.specs.Heads.{AreHeads}
-use Rattle.seg_table.proofs.PlacementHeads.{heads_read, used_segments}
-use Rattle.free_pages.specs.FreeList.{state_of}
-use Rattle.chain_walks.specs.Chains.{IsChainAt}
-use Rattle.chain_walks.specs.Places.{Entry, entries_from, entries, last_place, HoldsPair, IsFirst}
-use Rattle.chain_walks.specs.declared.place.Place.{Place}
-use Rattle.bucket_chain.proofs.PlacedChains.{chains_placed}
-use Rattle.chain_walks.proofs.ReadPages.{still_honest}
+use Rattle.page_model.specs.Placement.{Placement, pairs_of, key_bucket, chain_at, IsSound}
+use Rattle.page_model.specs.Valid.{meta_buckets}
+use Rattle.page_model.proofs.AddressLemmas.{address_below}
+use Rattle.page_model.proofs.Places.{same_key}
+use Rattle.lin_addr.specs.Intervals.{Precedes, IsFollowing, PrecedesNone}
+use Rattle.lin_addr.proofs.Intervals.{from_zero}
+use Rattle.lin_addr.proofs.KeyRanks.{hash_below, not_by_rank}
+use Rattle.lin_addr.proofs.Precedence.{compared}
+use Rattle.chain_walks.specs.Leasts.{IsLeastAt}
+use Rattle.linear_hash.specs.Passing.{bucket_of_pass}
 use Rattle.linear_hash.specs.Tables.{shape_in, IsTable}
-use Rattle.linear_hash.specs.Passing.{IsBehind, IsNext}
-use Rattle.linear_hash.specs.declared.passing.Cursor.{Cursor}
-use Rattle.linear_hash.proofs.Buckets.{table_heads}
+use Rattle.linear_hash.proofs.Buckets.{table_shape}
+use Rattle.linear_hash.proofs.TableChains.{table_buckets}
 
-abbrev cursor : ℕ → Option Place → Cursor
-cursor bucket behind = record { bucket = bucket; behind = behind }
+-- ---- lists of pairs
+all_weaker : (P Q : Pair → Type 0) (xs : List Pair) → ((x : Pair) → P x → Q x)
+    → AllByRecursion P xs → AllByRecursion Q xs
+all_weaker P Q [] f all = tt
+all_weaker P Q (x ∷ xs) f all = (f x all.0, all_weaker P Q xs f all.1)
 
--- ---- the pairs of entries
-abbrev pub pairs_at : List Entry → List Pair
-pairs_at xs = map (λ (entry : Entry). entry.1) xs
+all_both : (P : Pair → Type 0) (xs ys : List Pair) → AllByRecursion P xs → AllByRecursion P ys
+    → AllByRecursion P (xs ++ ys)
+all_both P [] ys all more = more
+all_both P (x ∷ xs) ys all more = (all.0, all_both P xs ys all.1 more)
 
-pairs_at_page : (n s : ℕ) (pairs : List Pair) (rest : List Entry)
-    → pairs_at (entries_from n s pairs ++ rest) ≡ pairs ++ pairs_at rest
-pairs_at_page n s [] rest = refl
-pairs_at_page n s (pair ∷ pairs) rest =
-    ap (λ (xs : List Pair). pair ∷ xs) (pairs_at_page n (s + 1) pairs rest)
+all_chains : (P : Pair → Type 0) (chains : List Chain)
+    → ((i : ℕ) → i < length chains → AllByRecursion P (pairs_in (get_or chains i [])))
+    → AllByRecursion P (flat_map pairs_in chains)
+all_chains P [] each = tt
+all_chains P (chain ∷ chains) each =
+    all_both P (pairs_in chain) (flat_map pairs_in chains) (each 0 (omega arith))
+    (all_chains P chains (λ i below. each (suc i) (omega arith)))
 
-pub pairs_at_chain : (chain : Chain) → pairs_at (entries chain) ≡ pairs_in chain
-pairs_at_chain [] = refl
-pairs_at_chain (leaf ∷ chain) =
-    pairs_at_page leaf.number 0 leaf.pairs (entries chain)
-    ∙ ap (λ (xs : List Pair). leaf.pairs ++ xs) (pairs_at_chain chain)
+times_in : (key : Key) (chains : List Chain) (i : ℕ)
+    → times key (pairs_in (get_or chains i [])) ≤ times key (flat_map pairs_in chains)
+times_in key [] zero = omega arith
+times_in key [] (suc i) = omega arith
+times_in key (chain ∷ chains) zero =
+    omega (
+      arith,
+      sum_by-append (λ (pair : Pair). cond (has_key key pair) 1 0) (pairs_in chain)
+          (flat_map pairs_in chains),
+    )
+times_in key (chain ∷ chains) (suc i) =
+    omega (
+      arith,
+      times_in key chains i,
+      sum_by-append (λ (pair : Pair). cond (has_key key pair) 1 0) (pairs_in chain)
+          (flat_map pairs_in chains),
+    )
 
-pub pairs_at_append : (passed rest : List Entry)
-    → pairs_at (passed ++ rest) ≡ pairs_at passed ++ pairs_at rest
-pairs_at_append [] rest = refl
-pairs_at_append (entry ∷ passed) rest =
-    ap (λ (xs : List Pair). entry.1 ∷ xs) (pairs_at_append passed rest)
+-- what holds of all keys holds of each
+one_of : (key : Key) (P : Key → Type 0) (xs : List Pair) → 0 < times key xs
+    → AllByRecursion (λ pair. P pair.0) xs → P key
+one_of key P [] some all = absurd (omega arith)
+one_of key P (x ∷ xs) some all =
+    elim (has_key key x) as (λ b. has_key key x ≡ b → cond b 1 0 + times key xs ≡ times key (x ∷ xs)
+    → P key) [
+      | true ↦ λ has count. subst P (sym (same_key key x has)) all.0
+      | false ↦ λ has count. one_of key P xs (omega (arith, some, count)) all.1
+    ] refl (sym (sum_by-cons (λ (pair : Pair). cond (has_key key pair) 1 0) x xs))
 
--- the pairs of the buckets from i on are those of bucket i and of the later ones
-pub from_bucket : (chains : List Chain) (i : ℕ)
-    → flat_map pairs_in (drop i chains) ≡ pairs_in (get_or chains i [])
-    ++ flat_map pairs_in (drop (suc i) chains)
-from_bucket [] zero = refl
-from_bucket [] (suc i) = refl
-from_bucket (chain ∷ chains) zero = refl
-from_bucket (chain ∷ chains) (suc i) = from_bucket chains i
+-- ---- the buckets that are left
+abbrev HasNone : List Pair → Pass → Type 0
+HasNone pairs from = AllByRecursion (λ pair. IsAhead from pair.0 → ⊥) pairs
 
-no_chain : (chains : List Chain) (i : ℕ) → length chains ≤ i → get_or chains i [] ≡ []
-no_chain [] zero le = refl
-no_chain [] (suc i) le = refl
-no_chain (chain ∷ chains) zero le = absurd (omega arith)
-no_chain (chain ∷ chains) (suc i) le = no_chain chains i (omega arith)
+-- a bucket that has a key for the pass is this one, or one that it precedes
+abbrev pub IsLeft : Placement → Pass → ℕ → Type 0
+IsLeft p from bucket = (other : ℕ) → other < length p.chains
+    → HasNone (pairs_in (chain_at p other)) from
+    ⊎ ((other ≡ bucket) ⊎ Precedes p.shape bucket other)
 
-no_chains : (chains : List Chain) (i : ℕ) → length chains ≤ i
-    → flat_map pairs_in (drop i chains) ≡ []
-no_chains [] zero le = refl
-no_chains [] (suc i) le = refl
-no_chains (chain ∷ chains) zero le = absurd (omega arith)
-no_chains (chain ∷ chains) (suc i) le = no_chains chains i (omega arith)
+module _ (p : Placement) (sound : IsSound p) (low_level : p.shape.level ≤ 17) where
+  -- a key in a bucket that precedes another one has the lower rank
+  ranks : (b c : ℕ) (key other : Key) → Precedes p.shape b c → key_bucket p.shape key ≡ b
+      → key_bucket p.shape other ≡ c → rank (hash_of key) < rank (hash_of other)
+  ranks b c key other before = before (hash_of key) (hash_of other) (hash_below key)
+      (hash_below other)
 
--- ---- what is left
--- before the first pair of a bucket, its pairs and those of the later ones
-pub before_bucket : (p : Placement) (bucket : ℕ)
-    → IsBehind p (cursor bucket None) (flat_map pairs_in (drop bucket p.chains))
-before_bucket p bucket = record {
-  passed = [];
-  rest = entries (chain_at p bucket);
-  parts = refl;
-  last = refl;
-  left_is =
-      let next : suc bucket ≡ bucket + 1 = omega arith in
-      from_bucket p.chains bucket
-      ∙ ap (λ (xs : List Pair). xs ++ flat_map pairs_in (drop (suc bucket) p.chains))
-      (sym (pairs_at_chain (chain_at p bucket)))
-      ∙ ap (λ (k : ℕ). pairs_at (entries (chain_at p bucket))
-      ++ flat_map pairs_in (drop k p.chains)) next;
-}
+  in_place : (i : ℕ) → i < length p.chains
+      → AllByRecursion (λ pair. key_bucket p.shape pair.0 ≡ i) (pairs_in (chain_at p i))
+  in_place i below = (sound.in_place i below).1
 
--- a pass begins with all pairs
-pub begins : (p : Placement) → IsBehind p (record { bucket = 0; behind = None }) (pairs_of p)
-begins p = before_bucket p 0
+  within : (i : ℕ) → i < length p.chains → i < buckets p.shape
+  within i below = omega (arith, below, sound.all_buckets)
 
-module _ (p : Placement) (bucket : ℕ) (behind : Option Place) (left : List Pair)
-    (stands : IsBehind p (cursor bucket behind) left) where
-  -- the bucket has one more: the first of what is left
-  pub next_here : (bytes : List ℕ) (place : Place) → IsFirst stands.rest bytes (Some place)
-      → IsNext p left bytes (Some (bucket, place))
-  next_here bytes place first = by_rest stands.rest stands.parts stands.left_is first
+  -- a pass begins with bucket 0
+  pub left_at_first : (from : Pass) → IsLeft p from 0
+  left_at_first from other below =
+      inr (from_zero p.shape sound.split_in low_level other (within other below))
+
+  -- and goes on in the bucket of the last key
+  pub left_behind : (last : Key) → key_bucket p.shape last < length p.chains
+      → IsLeft p (Behind last) (key_bucket p.shape last)
+  left_behind last here other below =
+      elim (compared p.shape sound.split_in low_level other (key_bucket p.shape last)
+      (within other below) (within _ here)) [
+        | inl same ↦ inr (inl same)
+        | inr (inl less) ↦ inl (all_weaker _ _ (pairs_in (chain_at p other))
+            (λ pair is. not_by_rank last pair.0 (ranks other (key_bucket p.shape last) pair.0 last
+            less is refl)) (in_place other below))
+        | inr (inr more) ↦ inr (inr more)
+      ]
+
+  module _ (from : Pass) (bucket : ℕ) (left : IsLeft p from bucket) where
+    pub left_next : (next : ℕ) → HasNone (pairs_in (chain_at p bucket)) from
+        → IsFollowing p.shape bucket next → IsLeft p from next
+    left_next next none following other below = elim (left other below) [
+      | inl nothing ↦ inl nothing
+      | inr (inl same) ↦ inl (subst (λ (b : ℕ). HasNone (pairs_in (chain_at p b)) from) (sym same)
+          none)
+      | inr (inr behind) ↦ inr (following.first other (within other below) behind)
+    ]
+
+    pub none_left : HasNone (pairs_in (chain_at p bucket)) from → PrecedesNone p.shape bucket
+        → HasNone (pairs_of p) from
+    none_left none last = all_chains _ p.chains (λ other below. elim (left other below) [
+      | inl nothing ↦ nothing
+      | inr (inl same) ↦ subst (λ (b : ℕ). HasNone (pairs_in (chain_at p b)) from) (sym same) none
+      | inr (inr behind) ↦ absurd (last other (within other below) behind)
+    ])
+
+    pub least_of_all : (bytes : List ℕ) (slot : ℕ) → bucket < length p.chains
+        → IsLeastAt (pairs_in (chain_at p bucket)) from bytes slot
+        → IsLeastAt (pairs_of p) from bytes slot
+    least_of_all bytes slot here found = record {
+      key = found.key;
+      page = found.page;
+      has = found.has;
+      least = record {
+        among = omega (arith, found.least.among, times_in found.key p.chains bucket);
+        ahead = found.least.ahead;
+        least = all_chains _ p.chains (λ other below. elim (left other below) [
+          | inl nothing ↦ all_weaker _ _ (pairs_in (chain_at p other))
+              (λ pair never ahead before. never ahead) nothing
+          | inr (inl same) ↦ subst (λ (b : ℕ). AllByRecursion
+              (λ pair. IsAhead from pair.0 → ComesBefore pair.0 found.key → ⊥)
+              (pairs_in (chain_at p b))) (sym same) found.least.least
+          | inr (inr behind) ↦ all_weaker _ _ (pairs_in (chain_at p other))
+              (λ pair is ahead. not_by_rank pair.0 found.key
+              (ranks bucket other found.key pair.0 behind own_bucket is)) (in_place other below)
+        ]);
+      };
+    }
+      where
+        own_bucket : key_bucket p.shape found.key ≡ bucket
+        own_bucket = one_of found.key (λ key. key_bucket p.shape key ≡ bucket)
+            (pairs_in (chain_at p bucket)) found.least.among (in_place bucket here)
+
+-- ---- the same by the buckets of a table
+module _ (at : ℕ → Body) (m : Meta) (end : ℕ) (p : Placement) (table : IsTable at m end p)
+    (low_level : m.level ≤ 16) (from : Pass) where
+  low : p.shape.level ≤ 17
+  low = omega (arith, low_level, ap (λ (s : Shape). s.level) (table_shape at m end p table))
+
+  many : length p.chains ≡ meta_buckets m
+  many = table_buckets at m end p table
+
+  pub first_left : IsLeft p from (bucket_of_pass m from)
+  first_left = by_pass from
     where
-      later : List Pair
-      later = flat_map pairs_in (drop (bucket + 1) p.chains)
+      by_pass : (from : Pass) → IsLeft p from (bucket_of_pass m from)
+      by_pass NotBegun = left_at_first p table.good.sound low NotBegun
+      by_pass Begun = left_at_first p table.good.sound low Begun
+      by_pass (Behind last) = subst (λ (s : Shape). IsLeft p (Behind last) (key_bucket s last))
+          (sym (table_shape at m end p table)) (left_behind p table.good.sound low last
+          (omega (
+            arith,
+            address_below p.shape (hash_of last) table.good.sound.split_in,
+            table.good.sound.all_buckets,
+          )))
 
-      last_is : (passed : List Entry) (entry : Entry)
-          → last_place (passed ++ entry ∷ []) ≡ Some entry.0
-      last_is passed entry = rw (reverse-append passed (entry ∷ [])) refl
+  module _ (bucket : ℕ) (left : IsLeft p from bucket) where
+    pub still_left : (next : ℕ) → HasNone (pairs_in (chain_at p bucket)) from
+        → IsFollowing (shape_in m) bucket next → IsLeft p from next
+    still_left next none following =
+        left_next p table.good.sound low from bucket left next none
+        (subst (λ (s : Shape). IsFollowing s bucket next) (table_shape at m end p table) following)
 
-      by_rest : (rest : List Entry) → entries (chain_at p bucket) ≡ stands.passed ++ rest
-          → left ≡ pairs_at rest ++ later → IsFirst rest bytes (Some place)
-          → IsNext p left bytes (Some (bucket, place))
-      by_rest [] parts left_is first = absurd (cc)
-      by_rest (entry ∷ rest) parts left_is first =
-          let same : entry.0 ≡ place = cc (first.0) in
-          let goes_on : IsBehind p (cursor bucket (Some entry.0))
-          (pairs_at rest ++ later) = record {
-            passed = stands.passed ++ entry ∷ [];
-            rest = rest;
-            parts = parts ∙ sym (append_assoc stands.passed (entry ∷ []) rest);
-            last = sym (last_is stands.passed entry);
-            left_is = refl;
-          } in
-          subst (λ (xs : List Pair). IsNext p xs bytes (Some (bucket, place))) (sym left_is)
-          (subst (λ (at : Place). HoldsPair bytes at entry.1
-          × IsBehind p (cursor bucket (Some at)) (pairs_at rest ++ later)) same
-          (first.1, goes_on))
+    pub nothing_left : HasNone (pairs_in (chain_at p bucket)) from → PrecedesNone (shape_in m) bucket
+        → HasNone (pairs_of p) from
+    nothing_left none last =
+        none_left p table.good.sound low from bucket left none
+        (subst (λ (s : Shape). PrecedesNone s bucket) (table_shape at m end p table) last)
 
-  -- it has none: the pass goes on before the first pair of the next bucket
-  pub passes_on : (bytes : List ℕ) → IsFirst stands.rest bytes None
-      → IsBehind p (cursor (bucket + 1) None) left
-  passes_on bytes first = by_rest stands.rest stands.left_is first
-    where
-      by_rest : (rest : List Entry)
-          → left ≡ pairs_at rest ++ flat_map pairs_in (drop (bucket + 1) p.chains)
-          → IsFirst rest bytes None → IsBehind p (cursor (bucket + 1) None) left
-      by_rest [] left_is first = subst (IsBehind p (cursor (bucket + 1) None)) (sym left_is)
-          (before_bucket p (bucket + 1))
-      by_rest (entry ∷ rest) left_is first = absurd (cc (first.0))
-
-  -- there is no such bucket
-  pub ends_here : (bytes : List ℕ) → length p.chains ≤ bucket → IsNext p left bytes None
-  ends_here bytes behind_all = subst (λ (xs : List Pair). IsNext p xs bytes None) (sym nothing) refl
-    where
-      none_left : (passed rest : List Entry) → [] ≡ passed ++ rest → rest ≡ []
-      none_left [] rest e = sym e
-      none_left (entry ∷ passed) rest e = absurd (cc)
-
-      nothing : left ≡ []
-      nothing =
-          let none = none_left stands.passed stands.rest
-          (ap entries (sym (no_chain p.chains bucket behind_all)) ∙ stands.parts) in
-          stands.left_is ∙ ap (λ (xs : List Entry).
-          pairs_at xs ++ flat_map pairs_in (drop (bucket + 1) p.chains)) none
-          ∙ no_chains p.chains (bucket + 1) (omega arith)
-
--- ---- the chain of a bucket
-module _ (at : ℕ → Body) (m : Meta) (end : ℕ) (p : Placement) (table : IsTable at m end p) where
-  pub table_buckets : length p.chains ≡ buckets (shape_in m)
-  table_buckets = table.good.sound.all_buckets ∙ ap buckets (ap shape_in (sym table.meta_is))
-
-  -- from its head page on it is read as one
-  pub bucket_chain_there : (bucket head : ℕ) → bucket < length p.chains
-      → head ≡ get_or (heads_of p.chains) bucket 0 → IsChainAt at end head (chain_at p bucket)
-  bucket_chain_there bucket head below head_is =
-      let sound = table.good.sound in
-      let used = used_segments p sound (omega (arith, table.good.bounded, table.good.limited)) in
-      let first : head ≡ first_of (numbers (chain_at p bucket)) =
-      head_is ∙ (heads_read at p sound used table.are_read).each bucket below in
-      let there = chains_placed at (state_of p.space) p bucket sound
-      (record { are_read = table.are_read; kept = refl }) below in
-      subst (λ (n : ℕ). IsChainAt at n head (chain_at p bucket)) table.ends
-      (subst (λ (n : ℕ). IsChainAt at p.space.end n (chain_at p bucket)) (sym first)
-      there.chain_is)
-
--- ---- the same after reads
-module _ {S : Type 0} (s : Ghosts S) where
-  table_after : (old new : S) (m : Meta) (p : Placement) → ReadsOnly s old new → s.honest old
-      → IsTable (body_at s old) m (s.state old).end p
-      → IsTable (body_at s new) m (s.state new).end p
-  table_after old new m p reads honest table =
-      subst (λ (st : StoreState). IsTable (body_at s new) m st.end p) (sym reads.same)
-      (subst (λ (at : ℕ → Body). IsTable at m (s.state old).end p)
-      (sym (same_said s old new reads honest)) table)
-
-  module _ (first store : S) (m : Meta) (p : Placement) (reads : ReadsOnly s first store)
-      (honest : s.honest first) (table : IsTable (body_at s first) m (s.state first).end p) where
-    there : IsTable (body_at s store) m (s.state store).end p
-    there = table_after first store m p reads honest table
-
-    pub heads_there : AreHeads (body_at s store) m (heads_of p.chains)
-    heads_there = table_heads (body_at s store) m (s.state store).end p there
-
-    -- `found` is what `head_of` says of the head that it answers
-    pub chain_there : (new : S) (bucket head : ℕ) → ReadsOnly s store new
-        → bucket < buckets (shape_in m)
-        → ((heads : List ℕ) → AreHeads (body_at s store) m heads → bucket < length heads
-        → head ≡ get_or heads bucket 0)
-        → IsChainAt (body_at s new) (s.state new).end head (chain_at p bucket)
-    chain_there new bucket head goes_on within found =
-        let later = table_after store new m p goes_on
-        (still_honest s first store reads honest) there in
-        let is_head = found (heads_of p.chains) heads_there
-        (omega (arith, within, heads_there.many)) in
-        bucket_chain_there (body_at s new) m (s.state new).end p later bucket head
-        (omega (arith, within, table_buckets (body_at s first) m (s.state first).end p table))
-        is_head
+    pub least_left : (bytes : List ℕ) (slot : ℕ) → bucket < meta_buckets m
+        → IsLeastAt (pairs_in (chain_at p bucket)) from bytes slot
+        → IsLeastAt (pairs_of p) from bytes slot
+    least_left bytes slot within =
+        least_of_all p table.good.sound low from bucket left bytes slot
+        (omega (arith, many, within))

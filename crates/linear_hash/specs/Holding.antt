@@ -33,8 +33,8 @@ pub record IsEnded {S : Type 0} (s : Ghosts S) (old new : S) (before after : Met
 
 -- What it makes of a file that stood for the map: it stands for the changed one, with at most so
 -- many pages more and no more than a database of the limit needs, or is as it was, and at every
--- moment for one of the two. It lacks no room on a device for twice as many pages as such a database
--- needs, nor on one for twice as many as the file then might have.
+-- moment for one of the two. It lacks no room on a device for twice as many pages as such a
+-- database needs, nor on one for twice as many as the file then might have.
 pub record ChangesMap {S : Type 0} (s : Ghosts S) (old new : S) (before after : Meta)
     (map changed : Contents) (most : ℕ) (result : Result Unit PageFault) : Type 0 where
   pub done : OnOk result (Holds s new after changed)

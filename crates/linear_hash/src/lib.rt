@@ -1,5 +1,5 @@
 //! A linear hash table over a store of pages (Litwin 1980): looking a key up, passing over all
-//! pairs, and changes, each in one commit.
+//! keys, and changes, each in one commit.
 #![tactic(auto)]
 
 mod changes;
@@ -10,4 +10,4 @@ mod staging;
 
 pub use changes::{delete_pair, store_pair};
 pub use looking::find_pair;
-pub use passing::{Cursor, next_pair};
+pub use passing::next_pair;

@@ -58,8 +58,8 @@ fn images(alloc: Global, dev: &mut MemDev) -> Result<Vec<u32>, Fail> {
     Ok(numbers)
 }
 
-/// Whether the change commits exactly these pages: it is cut short after more and more device calls,
-/// up to one that leaves the commit sector armed.
+/// Whether the change commits exactly these pages: it is cut short after more and more device
+/// calls, up to one that leaves the commit sector armed.
 fn commits(alloc: Global, dev: &MemDev, change: Change<'_>, pages: &[u32]) -> Result<bool, Fail> {
     for calls in 0..MOST {
         let mut left = cut(alloc, dev.crashed(alloc, &[])?, calls, change);

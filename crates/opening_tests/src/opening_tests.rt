@@ -159,9 +159,9 @@ fn an_emptied_database_has_the_new_limit(rt: HostRuntime) -> Result<(), Fail> {
     Ok(())
 }
 
-/// The device calls of an emptying and of the closing behind it: a sync, a read of sector 0 and four
-/// of page 1; twelve writes of images and a sync; the armed sector and a sync; then twelve writes
-/// and a sync; the clear sector and a sync.
+/// The device calls of an emptying and of the closing behind it: a sync, a read of sector 0 and
+/// four of page 1; twelve writes of images and a sync; the armed sector and a sync; then twelve
+/// writes and a sync; the clear sector and a sync.
 const EMPTYING: u64 = 6 + 13 + 2 + 13 + 2;
 
 /// The sync behind the armed sector of an emptying, from which on it is done.

@@ -42,7 +42,8 @@ pub record IsCommitAnswer {T : Type 0} (state : StoreState) (new_end : ℕ)
   pub only : IfErr result (λ e. IsRefusal e ⊎ (e ≡ Device))
 
 -- a store opened for reading alone has no page to put in its place, and answers Ok
-pub record IsSettleAnswer {T : Type 0} (state : StoreState) (result : Result T PageFault) : Type 0 where
+pub record IsSettleAnswer {T : Type 0} (state : StoreState)
+    (result : Result T PageFault) : Type 0 where
   pub broken : IsErrOf result Broken ↔ (state.usable ≡ false)
   pub device : IsErrOf result Device → state.writable ≡ true
   pub only : IfErr result (λ e. (e ≡ Broken) ⊎ (e ≡ Device))

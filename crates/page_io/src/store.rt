@@ -113,7 +113,8 @@ pub trait PageStore {
         // new.
         ensures any_moment { honest self.old → (state self.old).usable ≡ true
             → (state self.old).writable ≡ true → LeavesOnly moment settled_since self.old self.new
-            (IsEither (committed self.old) (committed_with (committed self.old) (state self.old).staged new_end)) }
+            (IsEither (committed self.old)
+            (committed_with (committed self.old) (state self.old).staged new_end)) }
         ensures committed { honest self.old
             → OnOk result (committed self.new
             ≡ committed_with (committed self.old) (state self.old).staged new_end) }
@@ -134,7 +135,8 @@ pub trait PageStore {
         // then, whatever is answered: in a usable store opened for writing to the committed pages.
         ensures any_moment { honest self.old
             → LeavesOnly moment settled_since self.old self.new (settles_to self.old) }
-        ensures committed { honest self.old → OnOk result (committed self.new ≡ committed self.old) }
+        ensures committed { honest self.old
+            → OnOk result (committed self.new ≡ committed self.old) }
         ensures home { honest self.old
             → OnOk result ((state self.old).writable ≡ true → at_home self.new) }
         ensures ok { OnOk result (state self.new ≡ state self.old) }
@@ -158,7 +160,8 @@ pub trait PageStore {
     fn is_staged(&self, n: u32) -> bool
         ensures { result ≡ has_page (state self.now).staged n };
 
-    /// Whether a commit or its settling has failed on the device. Every later call then answers Broken.
+    /// Whether a commit or its settling has failed on the device. Every later call then answers
+    /// Broken.
     fn is_broken(&self) -> bool
         ensures { IsTrue result ↔ ((state self.now).usable ≡ false) };
 

@@ -1,7 +1,7 @@
 //! The chain of a bucket: what is read, and what is no chain.
 
 use crate::pages::{filled, is_pair, page_at, put_pair, space_of, staged};
-use bucket_chain::{Place, load_all, lookup, remove, step, store_all};
+use bucket_chain::{Place, least_behind, load_all, lookup, remove, step, store_all};
 use chain_walks::{HEAD, OVERFLOW, link_of};
 use page_io::{MemPages, Page, PageFault, PageStore};
 use slot_page::{add, decode, empty, fits, set_next};
@@ -177,10 +177,12 @@ fn is_damaged_to_read(alloc: Global, case: usize) -> Result<bool, Fail> {
     let mut page = Page::blank();
     let looked_up = lookup(&mut store, 3, b"d", &mut page);
     let loaded = load_all(alloc, &mut store, 3).err();
+    let least = least_behind(&mut store, 3, None, &mut page);
     let stepped = step(&mut store, 3, place(3, 0), &mut page);
     Ok(
         looked_up == Err(PageFault::Damaged)
             && loaded == Some(PageFault::Damaged)
+            && least == Err(PageFault::Damaged)
             && (stepped == Err(PageFault::Damaged)) == (case != 0),
     )
 }

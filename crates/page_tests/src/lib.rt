@@ -11,6 +11,8 @@ mod change_tests;
 #[cfg(test)]
 mod free_tests;
 #[cfg(test)]
+mod least_tests;
+#[cfg(test)]
 mod pages;
 #[cfg(test)]
 mod segment_tests;

@@ -21,8 +21,8 @@ pub struct SeenFile {
     pub redo: StagedPages,
 }
 
-/// Reads the redo images into memory, of which the first five take none. Damaged is the answer where their numbers do not rise from 1
-/// on and below the end.
+/// Reads the redo images into memory, of which the first five take none. Damaged is the answer
+/// where their numbers do not rise from 1 on and below the end.
 fn read_images<D: SectorDev>(
     alloc: Global,
     dev: &mut D,

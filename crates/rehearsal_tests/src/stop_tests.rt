@@ -153,8 +153,8 @@ fn stores_kept(alloc: Global, calls: u64) -> Result<Option<Kept>, Fail> {
     Ok(kept)
 }
 
-/// The calls of the device in the closing, which brings the four pages of the ninth store home: four
-/// sectors of each page, a sync, the clear sector, a sync.
+/// The calls of the device in the closing, which brings the four pages of the ninth store home:
+/// four sectors of each page, a sync, the clear sector, a sync.
 const IN_CLOSING: u64 = 4 * 4 + 3;
 
 /// Stops the stores after more and more calls of the device, until all are done and the database is

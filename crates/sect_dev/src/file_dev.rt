@@ -22,8 +22,8 @@ pub enum FileFault {
     /// There is no such file, and none was to be made.
     #[error("there is no such file")]
     Missing,
-    /// The system refused the file, or its folder, for another cause, which is its error; or another
-    /// opening has the file locked.
+    /// The system refused the file, or its folder, for another cause, which is its error; or
+    /// another opening has the file locked.
     #[error("the file was refused: {0}")]
     Device(io::Error),
 }

@@ -30,8 +30,8 @@ fn word_at(key: &[u8], at: usize) -> u32
     }
 }
 
-/// The mark of a key: bits 24 to 31 of a sum of products, on which each byte that it looks at bears.
-/// Among random keys, decimal numbers and counters about one pair in 256 has one mark.
+/// The mark of a key: bits 24 to 31 of a sum of products, on which each byte that it looks at
+/// bears. Among random keys, decimal numbers and counters about one pair in 256 has one mark.
 #[tactic(auto, unfolding(crate::specs::Marks::mark_of))]
 pub fn mark_of(key: &[u8]) -> u8
     ensures { result ≡ mark_of key.now }

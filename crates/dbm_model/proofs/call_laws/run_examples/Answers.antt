@@ -1,4 +1,6 @@
-use Rattle.dbm_model.proofs.RunLemmas.{stores_and_deletes, stops_at_limit, passes_over_nothing, passes_on, ends_pass, wrong_replies}
+use Rattle.dbm_model.proofs.PassRuns.{passes_over_nothing, passes_on, passes_over_changes}
+use Rattle.dbm_model.proofs.RunLemmas.{stores_and_deletes, stops_at_limit}
+use Rattle.dbm_model.proofs.WrongRuns.{wrong_replies}
 use Rattle.dbm_model.proofs.call_laws.run_examples.Goals as goal
 
 pub returns : goal.returns
@@ -7,6 +9,6 @@ returns c = record {
   stops_at_limit = stops_at_limit;
   passes_over_nothing = passes_over_nothing;
   passes_on = passes_on;
-  ends_pass = ends_pass;
+  over_changes = passes_over_changes;
   never = wrong_replies;
 }

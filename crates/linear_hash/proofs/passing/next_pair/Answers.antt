@@ -1,150 +1,184 @@
-use Rattle.std.proofs.Common.{◌≡◌, Option, Some, None, ap, subst, arith, rules}
-use Rattle.std.proofs.lemmas.Result.{IfOk-from_err}
+use Rattle.std.proofs.Common.{◌≡◌, ℕ, ◌-◌, ◌^◌, ◌<◌, ◌≤◌, List, Option, Some, None, MatchOption, Bor, inl, sym, subst, arith, rules}
+use Rattle.std.specs.Option.{option_map}
+use Rattle.dbm_model.specs.KeyOrder.{rank}
+use Rattle.dbm_model.specs.States.{Pass}
+use Rattle.page_model.specs.Chain.{pairs_in}
 use Rattle.page_model.specs.PageBodies.{heads_of}
-use Rattle.page_io.specs.Store.{StoreState}
-use Rattle.page_io.specs.declared.store.PageFault.TheVariants.{Damaged}
+use Rattle.page_model.specs.Placement.{Placement, chain_at, key_bucket}
 use Rattle.page_io.specs.Views.{body_at}
+use Rattle.page_io.specs.declared.store.PageFault.TheVariants.{Damaged}
+use Rattle.page_io.proofs.Exits.{exit_is, came}
 use Rattle.page_io.proofs.Views.{reads_then, same_said}
+use Rattle.lin_addr.specs.Intervals.{Precedes}
+use Rattle.lin_addr.proofs.Precedence.{rises}
+use Rattle.lin_addr.proofs.Ranks.{rank_below}
+use Rattle.lin_addr.specs.Shapes.{shape_of}
 use Rattle.seg_table.specs.MetaPages.{model_meta}
-use Rattle.page_io.proofs.Exits.{exit_is, came, cause_then}
-use Rattle.chain_walks.specs.Places.{IsFirst, IsChainStep}
-use Rattle.chain_walks.specs.declared.place.Place.{Place}
+use Rattle.seg_table.specs.declared.meta.Meta as code
+use Rattle.chain_walks.specs.Leasts.{pass_behind, IsLeast, IsLeastRead}
 use Rattle.chain_walks.proofs.ReadPages.{still_honest}
-use Rattle.linear_hash.proofs.Passes.{next_here, passes_on, ends_here, table_buckets, heads_there, chain_there}
-use Rattle.linear_hash.proofs.Refusals.{head_of_walk, walk_passed}
-use Rattle.linear_hash.proofs.PassedBuckets.{bucket_step, looks_first, looks_on, none_below, nothing_more, nothing_at_all}
-use Rattle.linear_hash.specs.Passing.{IsBucketStep}
+use Rattle.linear_hash.specs.Passing.{bucket_of_pass, IsBucketRead, HaveNone}
+use Rattle.linear_hash.specs.Tables.{shape_in, IsTable}
+use Rattle.linear_hash.proofs.PassedBuckets.{bucket_read, first_below, to_read_next, none_before_first, none_before_next, none_at_all}
+use Rattle.linear_hash.proofs.Passes.{IsLeft, first_left, still_left, nothing_left, least_left}
+use Rattle.linear_hash.proofs.TableChains.{heads_there, chain_there}
 use Rattle.linear_hash.proofs.passing.next_pair.Given.{Over}
-use Rattle.linear_hash.proofs.passing.next_pair.Goals.{In_ok-place}
+use Rattle.linear_hash.proofs.passing.next_pair.Goals.{In_ok-slot}
 use Rattle.linear_hash.proofs.passing.next_pair.Goals as goal
 
+-- where the pass stands
+abbrev from_of : Option (Bor (List ℕ)) → Pass
+from_of last = pass_behind (option_map (λ (key : Bor (List ℕ)). key.now) last)
+
+at_most : {n : ℕ} → n ≤ 16 → n ≤ 17
+at_most low = omega arith
+
+-- the bucket that it begins with
+first_is : (meta : code.Meta) (last : Option (Bor (List ℕ))) (bucket : ℕ)
+    (Told : Bor (List ℕ) → Type 0) → MatchOption last (bucket ≡ 0) Told
+    → ((key : Bor (List ℕ)) → Told key → bucket ≡ key_bucket (shape_of meta.shape) key.now)
+    → bucket ≡ bucket_of_pass (model_meta meta) (from_of last)
+first_is meta None bucket Told told by_key = told
+first_is meta (Some key) bucket Told told by_key = by_key key told
+
+pub loop-head-init : goal.loop-head-init
+loop-head-init g c =
+    let m = model_meta c.args.meta.now in
+    let from = from_of c.args.last in
+    let low = at_most c.args.meta.now.shape.low_level in
+    let first : c.map_or-bucket.result ≡ bucket_of_pass m from =
+    first_is c.args.meta.now c.args.last c.map_or-bucket.result _ c.map_or-bucket.ensures
+    (λ key told. search rules) in
+    record {
+      reads = search rules;
+      within = omega (arith, first, first_below m c.requires.split_in low from);
+      to_read = inl first;
+      passed = λ honest. subst (λ (b : ℕ). HaveNone (body_at g.S.PageStore c.args.store.now) m from
+          (λ other. Precedes (shape_in m) other b)) (sym first)
+          (none_before_first m c.requires.split_in low from
+          (body_at g.S.PageStore c.args.store.now));
+      left = λ honest p table. subst (λ (b : ℕ). IsLeft p from b) (sym first)
+          (first_left _ _ _ p table c.args.meta.now.shape.low_level from);
+    }
+
 -- a head page is not told
-pub returns-in_err-head : goal.returns-in_err-head
-returns-in_err-head g c =
-    let reads = c.loop-bucket.invariant.reads in
-    let told = c.in_err-head.ensures in
+pub returns-in_err-head-clause-whole : goal.returns-in_err-head-clause-whole
+returns-in_err-head-clause-whole g c honest p table damaged =
+    let reads = c.loop-head.invariant.reads in
     let result = c.from_residual in
     let exit = exit_is result.result c.in_err-head.field-0.0 result.ensures.1 in
-    record {
-      reads = reads_then g.S.PageStore _ _ _ (g.met.S.PageStore.counts_now c.loop-bucket.store)
-          reads told.reads;
-      cause = cause_then _ _ exit _ _ _ reads.stages_only.later told.cause;
-      answer = head_of_walk _ _ (ap (λ (s : StoreState). s.usable) reads.same) _ _ exit told.answer;
-      held = IfOk-from_err _ _ result.ensures.0;
-      passed = λ honest. IfOk-from_err _ _ result.ensures.0;
-      exact = λ honest p left table stands. IfOk-from_err _ _ result.ensures.0;
-      whole = λ honest p left table stands damaged.
-          c.in_err-head.ensures.whole (still_honest g.S.PageStore _ _ reads honest)
-          (heads_of p.chains) (heads_there g.S.PageStore _ _ _ p reads honest table)
-          (came _ _ exit Damaged damaged);
-    }
+    c.in_err-head.ensures.whole (still_honest g.S.PageStore _ _ reads honest) (heads_of p.chains)
+    (heads_there g.S.PageStore _ _ _ p reads honest table) (came _ _ exit Damaged damaged)
 
--- a step fails
-pub returns-in_err-place : goal.returns-in_err-place
-returns-in_err-place g c =
-    let reads = c.loop-bucket.invariant.reads in
-    let goes_on = c.in_ok-head.ensures.reads in
-    let told = c.in_err-place.ensures in
-    let result = c.from_residual-in_err-place in
-    let exit = exit_is result.result c.in_err-place.field-0.0 result.ensures.1 in
-    let both = reads_then g.S.PageStore _ _ _ (g.met.S.PageStore.counts_now c.loop-bucket.store)
-    reads goes_on in
-    record {
-      reads = reads_then g.S.PageStore _ _ _ (g.met.S.PageStore.counts_now c.head_of.new.store)
-          both told.reads;
-      cause = cause_then _ _ exit _ _ _ both.stages_only.later told.cause;
-      answer = walk_passed _ _ (ap (λ (s : StoreState). s.usable) both.same) _ _ exit told.answer;
-      held = IfOk-from_err _ _ result.ensures.0;
-      passed = λ honest. IfOk-from_err _ _ result.ensures.0;
-      exact = λ honest p left table stands. IfOk-from_err _ _ result.ensures.0;
-      whole = λ honest p left table stands damaged.
-          let still = still_honest g.S.PageStore _ _ reads honest in
-          let here = c.loop-bucket.invariant.stands honest p left table stands in
-          let chain = chain_there g.S.PageStore _ _ _ p reads honest table _ _ _ goes_on
-          (omega arith) (c.in_ok-head.ensures.exact still) in
-          c.in_err-place.ensures.whole (still_honest g.S.PageStore _ _ goes_on still) _ here.passed
-          here.rest chain here.parts here.last (came _ _ exit Damaged damaged);
-    }
-
--- the step in the bucket, by pages that say what they said at first
-stepped : (g : Over) (c : In_ok-place g) → g.S.PageStore.honest c.args.store.now
-    → (answer : Option Place) → c.in_ok-place.field-0 ≡ answer
-    → IsBucketStep (body_at g.S.PageStore c.args.store.now) (model_meta c.args.meta.now) c.args.from
-    c.loop-bucket.bucket c.step.new.page.bytes answer
-stepped g c honest answer is =
-    let so_far = c.loop-bucket.invariant in
+-- a chain is not walked
+pub returns-in_err-slot-clause-whole : goal.returns-in_err-slot-clause-whole
+returns-in_err-slot-clause-whole g c honest p table damaged =
+    let so_far = c.loop-head.invariant in
     let still = still_honest g.S.PageStore _ _ so_far.reads honest in
     let reads = c.in_ok-head.ensures.reads in
-    bucket_step _ _ _ (model_meta c.args.meta.now) c.args.from c.loop-bucket.bucket
-    c.in_ok-head.head c.loop-bucket.behind c.step.new.page.bytes answer so_far.reached
-    (omega arith) so_far.looks
+    let result = c.from_residual-in_err-slot in
+    let exit = exit_is result.result c.in_err-slot.field-0.0 result.ensures.1 in
+    let chain = chain_there g.S.PageStore _ _ _ p so_far.reads honest table _ _ _ reads
+    so_far.within (c.in_ok-head.ensures.exact still) in
+    c.in_err-slot.ensures.whole (still_honest g.S.PageStore _ _ reads still)
+    (chain_at p c.loop-head.bucket) chain (came _ _ exit Damaged damaged)
+
+-- what the walk found, by pages that say what they said at first
+read_here : (g : Over) (c : In_ok-slot g) → g.S.PageStore.honest c.args.store.now
+    → (answer : Option ℕ) → c.in_ok-slot.field-0 ≡ answer
+    → IsBucketRead (body_at g.S.PageStore c.args.store.now) (model_meta c.args.meta.now)
+    c.loop-head.bucket (from_of c.args.last) c.least_behind.new.page.bytes answer
+read_here g c honest answer is =
+    let so_far = c.loop-head.invariant in
+    let still = still_honest g.S.PageStore _ _ so_far.reads honest in
+    let reads = c.in_ok-head.ensures.reads in
+    bucket_read _ _ _ (model_meta c.args.meta.now) c.loop-head.bucket c.in_ok-head.head
+    (from_of c.args.last) c.least_behind.new.page.bytes answer so_far.within so_far.to_read
     (same_said g.S.PageStore _ _ so_far.reads honest) (same_said g.S.PageStore _ _ reads still)
     (c.in_ok-head.ensures.entry still)
-    (subst (λ (place : Option Place).
-    IsChainStep (body_at g.S.PageStore c.head_of.new.store) c.in_ok-head.head
-    c.loop-bucket.behind c.step.new.page.bytes place) is
-    (c.in_ok-place.ensures.stepped (still_honest g.S.PageStore _ _ reads still)))
+    (subst (λ (found : Option ℕ). IsLeastRead (body_at g.S.PageStore c.head_of.new.store)
+    c.in_ok-head.head (from_of c.args.last) c.least_behind.new.page.bytes found) is
+    (c.in_ok-slot.ensures.walked (still_honest g.S.PageStore _ _ reads still)))
 
-pub loop-bucket-init : goal.loop-bucket-init
-loop-bucket-init g c = record {
-  reads = search rules;
-  passed = λ honest. none_below _ _ c.args.from;
-  looks = looks_first c.args.from;
-  reached = omega arith;
-  stands = λ honest p left table stands. stands;
-}
+-- the least of the keys of the bucket of a table
+least_here : (g : Over) (c : In_ok-slot g) → g.S.PageStore.honest c.args.store.now
+    → (p : Placement)
+    → IsTable (body_at g.S.PageStore c.args.store.now) (model_meta c.args.meta.now)
+    (g.S.PageStore.state c.args.store.now).end p
+    → (answer : Option ℕ) → c.in_ok-slot.field-0 ≡ answer
+    → IsLeast (pairs_in (chain_at p c.loop-head.bucket)) (from_of c.args.last)
+    c.least_behind.new.page.bytes answer
+least_here g c honest p table answer is =
+    let so_far = c.loop-head.invariant in
+    let still = still_honest g.S.PageStore _ _ so_far.reads honest in
+    let reads = c.in_ok-head.ensures.reads in
+    let chain = chain_there g.S.PageStore _ _ _ p so_far.reads honest table _ _ _ reads
+    so_far.within (c.in_ok-head.ensures.exact still) in
+    subst (IsLeast (pairs_in (chain_at p c.loop-head.bucket)) (from_of c.args.last)
+    c.least_behind.new.page.bytes) is
+    (c.in_ok-slot.ensures.exact (still_honest g.S.PageStore _ _ reads still)
+    (chain_at p c.loop-head.bucket) chain)
 
 pub returns-in-Some-clause-passed : goal.returns-in-Some-clause-passed
-returns-in-Some-clause-passed g c honest = (
-  c.loop-bucket.invariant.passed honest,
-  stepped g c.before honest (Some c.in-Some.place) c.in-Some.is,
-)
-
-pub returns-clause-passed : goal.returns-clause-passed
-returns-clause-passed g c honest =
-    nothing_at_all _ _ c.args.from c.loop-bucket.bucket _ (omega arith)
-    (c.loop-bucket.invariant.passed honest)
+returns-in-Some-clause-passed g c honest = record {
+  bucket = c.loop-head.bucket;
+  read = read_here g c.before honest (Some c.in-Some.slot) c.in-Some.is;
+  before = c.loop-head.invariant.passed honest;
+}
 
 pub returns-in-Some-clause-exact : goal.returns-in-Some-clause-exact
-returns-in-Some-clause-exact g c honest p left table stands =
-    let reads = c.loop-bucket.invariant.reads in
-    let goes_on = c.in_ok-head.ensures.reads in
-    let still = still_honest g.S.PageStore _ _ reads honest in
-    let here = c.loop-bucket.invariant.stands honest p left table stands in
-    let chain = chain_there g.S.PageStore _ _ _ p reads honest table _ _ _ goes_on (omega arith)
-    (c.in_ok-head.ensures.exact still) in
-    let first = c.in_ok-place.ensures.exact (still_honest g.S.PageStore _ _ goes_on still) _
-    here.passed here.rest chain here.parts here.last in
-    next_here p _ _ left here _ _
-    (subst (λ (found : Option Place). IsFirst here.rest c.step.new.page.bytes found)
-    c.in-Some.is first)
+returns-in-Some-clause-exact g c honest p table =
+    least_left _ _ _ p table c.args.meta.now.shape.low_level (from_of c.args.last)
+    c.loop-head.bucket (c.loop-head.invariant.left honest p table) _ c.in-Some.slot
+    c.loop-head.invariant.within
+    (least_here g c.before honest p table (Some c.in-Some.slot) c.in-Some.is)
 
-pub loop-bucket-preserved : goal.loop-bucket-preserved
-loop-bucket-preserved g c =
-    let reads = c.loop-bucket.invariant.reads in
-    let goes_on = c.in_ok-head.ensures.reads in
+falls : (b next : ℕ) → rank b < rank next → 2 ^ 32 - rank next < 2 ^ 32 - rank b
+falls b next more = omega (arith, rank_below next)
+
+pub loop-head-smaller : goal.loop-head-smaller
+loop-head-smaller g c =
+    let following = c.in-Some-following.ensures.next in
+    falls c.loop-head.bucket c.in-Some-following.next
+    (rises (shape_in (model_meta c.args.meta.now)) c.requires.split_in
+    (at_most c.args.meta.now.shape.low_level) c.loop-head.bucket c.in-Some-following.next
+    c.loop-head.invariant.within following.there following.behind)
+
+pub loop-head-preserved : goal.loop-head-preserved
+loop-head-preserved g c =
+    let so_far = c.loop-head.invariant in
+    let following = c.in-Some-following.ensures.next in
+    let low = at_most c.args.meta.now.shape.low_level in
     let counts = g.met.S.PageStore.counts_now in
     record {
       reads = reads_then g.S.PageStore _ _ _ (counts c.head_of.new.store)
-          (reads_then g.S.PageStore _ _ _ (counts c.loop-bucket.store) reads goes_on)
-          c.in_ok-place.ensures.reads;
-      passed = λ honest. nothing_more _ _ c.args.from c.loop-bucket.bucket c.step.new.page.bytes
-          (c.loop-bucket.invariant.passed honest) (stepped g c.before honest None c.in_default.is);
-      looks = looks_on c.args.from c.loop-bucket.bucket c.loop-bucket.invariant.reached;
-      reached = omega (arith, c.loop-bucket.invariant.reached);
-      stands = λ honest p left table stands.
-          let still = still_honest g.S.PageStore _ _ reads honest in
-          let here = c.loop-bucket.invariant.stands honest p left table stands in
-          let chain = chain_there g.S.PageStore _ _ _ p reads honest table _ _ _ goes_on
-          (omega arith) (c.in_ok-head.ensures.exact still) in
-          let first = c.in_ok-place.ensures.exact (still_honest g.S.PageStore _ _ goes_on still) _
-          here.passed here.rest chain here.parts here.last in
-          passes_on p _ _ left here _ (subst
-          (λ (found : Option Place). IsFirst here.rest c.step.new.page.bytes found)
-          c.in_default.is first);
+          (reads_then g.S.PageStore _ _ _ (counts c.loop-head.store) so_far.reads
+          c.in_ok-head.ensures.reads) c.in_ok-slot.ensures.reads;
+      within = following.there;
+      to_read = to_read_next (model_meta c.args.meta.now) c.requires.split_in low
+          (from_of c.args.last) c.loop-head.bucket c.in-Some-following.next so_far.within
+          so_far.to_read following.behind;
+      passed = λ honest. none_before_next (model_meta c.args.meta.now) c.requires.split_in low
+          (from_of c.args.last) _ c.loop-head.bucket c.least_behind.new.page.bytes so_far.within
+          (so_far.passed honest) (read_here g c.before.before.before honest None c.in_default.is)
+          c.in-Some-following.next following;
+      left = λ honest p table. still_left _ _ _ p table c.args.meta.now.shape.low_level
+          (from_of c.args.last) c.loop-head.bucket (so_far.left honest p table)
+          c.in-Some-following.next
+          (least_here g c.before.before.before honest p table None c.in_default.is) following;
     }
 
-pub returns-clause-exact : goal.returns-clause-exact
-returns-clause-exact g c honest p left table stands =
-    let all = table_buckets _ _ _ p table in
-    ends_here p _ _ left (c.loop-bucket.invariant.stands honest p left table stands) _ (omega arith)
+pub returns-in-None-clause-passed : goal.returns-in-None-clause-passed
+returns-in-None-clause-passed g c honest =
+    none_at_all (model_meta c.args.meta.now) c.requires.split_in
+    (at_most c.args.meta.now.shape.low_level) (from_of c.args.last) _ c.loop-head.bucket
+    c.least_behind.new.page.bytes c.loop-head.invariant.within
+    (c.loop-head.invariant.passed honest)
+    (read_here g c.before.before.before honest None c.in_default.is)
+    c.in-None.ensures.last
+
+pub returns-in-None-clause-exact : goal.returns-in-None-clause-exact
+returns-in-None-clause-exact g c honest p table =
+    nothing_left _ _ _ p table c.args.meta.now.shape.low_level (from_of c.args.last)
+    c.loop-head.bucket (c.loop-head.invariant.left honest p table)
+    (least_here g c.before.before.before honest p table None c.in_default.is) c.in-None.ensures.last

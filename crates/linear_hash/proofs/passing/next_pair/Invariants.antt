@@ -1,21 +1,30 @@
-use Rattle.std.proofs.Common.{List, ◌≤◌}
-use Rattle.dbm_model.specs.Pairs.{Pair}
-use Rattle.page_model.specs.Placement.{Placement}
+use Rattle.std.proofs.Common.{ℕ, ◌-◌, ◌^◌, ◌<◌, List, Bor}
+use Rattle.std.specs.Option.{option_map}
+use Rattle.dbm_model.specs.KeyOrder.{rank}
+use Rattle.page_model.specs.Valid.{meta_buckets}
 use Rattle.page_io.specs.Views.{body_at, ReadsOnly}
+use Rattle.lin_addr.specs.Intervals.{Precedes}
 use Rattle.seg_table.specs.MetaPages.{model_meta}
-use Rattle.linear_hash.specs.Tables.{IsTable}
-use Rattle.linear_hash.specs.Passing.{IsBehind, GaveNothing, LooksBehind}
+use Rattle.chain_walks.specs.Leasts.{pass_behind}
+use Rattle.linear_hash.specs.Tables.{shape_in, ForEachTable}
+use Rattle.linear_hash.specs.Passing.{IsToRead, HaveNone}
+use Rattle.linear_hash.proofs.Passes.{IsLeft}
 use Rattle.linear_hash.proofs.passing.next_pair.Given as goal
 
-abbrev pub invariant-loop-bucket : goal.invariant-loop-bucket
-invariant-loop-bucket g l = record {
+abbrev pub invariant-loop-head : goal.invariant-loop-head
+invariant-loop-head g l = record {
   reads : ReadsOnly g.S.PageStore l.fn.store l.store;
+  within : l.bucket < meta_buckets (model_meta l.meta);
+  to_read : IsToRead (model_meta l.meta)
+      (pass_behind (option_map (λ (key : Bor (List ℕ)). key.now) l.fn.last)) l.bucket;
   passed : g.S.PageStore.honest l.fn.store
-      → GaveNothing (body_at g.S.PageStore l.fn.store) (model_meta l.meta) l.fn.from l.bucket;
-  looks : LooksBehind l.fn.from l.bucket l.behind;
-  reached : l.fn.from.bucket ≤ l.bucket;
-  stands : g.S.PageStore.honest l.fn.store → (p : Placement) (left : List Pair)
-      → IsTable (body_at g.S.PageStore l.fn.store) (model_meta l.meta)
-      (g.S.PageStore.state l.fn.store).end p →
-      IsBehind p l.fn.from left → IsBehind p (record { bucket = l.bucket; behind = l.behind }) left;
+      → HaveNone (body_at g.S.PageStore l.fn.store) (model_meta l.meta)
+      (pass_behind (option_map (λ (key : Bor (List ℕ)). key.now) l.fn.last))
+      (λ other. Precedes (shape_in (model_meta l.meta)) other l.bucket);
+  left : ForEachTable g.S.PageStore l.fn.store (model_meta l.meta) (λ p.
+      IsLeft p (pass_behind (option_map (λ (key : Bor (List ℕ)). key.now) l.fn.last)) l.bucket);
 }
+
+-- the ranks of the buckets rise
+abbrev pub decreases-loop-head : goal.decreases-loop-head
+decreases-loop-head g l = 2 ^ 32 - rank l.bucket

@@ -1,6 +1,7 @@
-use Rattle.std.proofs.Common.{◌∙◌, ℕ, ◌<◌, length, Option, Some, None, IfSome, Ok, Err, refl, inl, inr, subst, ap}
+use Rattle.std.proofs.Common.{◌∙◌, ℕ, true, false, Option, Some, None, IfSome, Ok, Err, refl, inl, inr, subst, ap}
 use Rattle.dbm_model.specs.Calls.{First, End}
-use Rattle.slot_page.specs.Contents.{IsBucketPage, page_pairs}
+use Rattle.chain_walks.specs.Leasts.{IsAheadAt}
+use Rattle.dbm_file.specs.Passing.{pass_from}
 use Rattle.dbm_file.specs.Trying.{slot_reply}
 use Rattle.dbm_file.proofs.Cases.{broken_first}
 use Rattle.dbm_file.proofs.Lends.{lends_broken, lends_nothing}
@@ -37,16 +38,14 @@ returns-in-Ok-Some g c =
     let usable = not_broken _ _ c.is_broken.ensures c.if-is_broken.false in
     let all = c.in-Ok-Some.ensures in
     let bytes = c.advance.new.self.page.bytes in
-    let held = subst (λ (o : Option ℕ).
-    IfSome o (λ slot. IsBucketPage bytes × (slot < length (page_pairs bytes))))
-    c.in-Ok-Some.field-0-is all.held in (
+    let ahead = subst (λ (o : Option ℕ). IfSome o (λ slot. IsAheadAt (pass_from true db) bytes slot))
+    c.in-Ok-Some.field-0-is all.ahead in (
       (
         refl,
         (λ _. tt),
         passed_lends s db c.advance.new.self First bytes (Ok c.in-Ok-Some.field-0)
             (Ok (Some c.pair_at.result.0))
-            (λ honest h at. first_step s db c.advance.new.self _ usable
-            (g.met.S.PageStore.ends db.store) db.idle h at (all.step honest h at))
+            (λ honest h at. first_step s db c.advance.new.self _ usable h at (all.step honest h at))
             (ap (λ (o : Option ℕ). slot_reply bytes (Ok o)) c.in-Ok-Some.field-0-is
             ∙ lent_key bytes c.in-Ok-Some.slot c.pair_at.result c.pair_at.ensures)
             (keeps_as c.in-Ok-Some.field-0 (Some c.pair_at.result.0) all.keeps),
@@ -54,7 +53,7 @@ returns-in-Ok-Some g c =
       record {
         after = tt;
         short = short_key bytes c.pair_at.result.0.now c.pair_at.result.1.now
-            c.in-Ok-Some.slot held.0 held.1 c.pair_at.ensures;
+            c.in-Ok-Some.slot ahead.page ahead.has.0 c.pair_at.ensures;
         passed =
             (λ honest. given_key _ _ _ bytes _ c.in-Ok-Some.slot c.pair_at.result
             c.in-Ok-Some.field-0-is c.pair_at.ensures (all.passed honest));
@@ -73,8 +72,7 @@ returns-in-Ok-None g c =
         refl,
         (λ _. tt),
         passed_lends s db c.advance.new.self First bytes (Ok c.in-Ok-None.field-0) (Ok None)
-            (λ honest h at. first_step s db c.advance.new.self _ usable
-            (g.met.S.PageStore.ends db.store) db.idle h at (all.step honest h at))
+            (λ honest h at. first_step s db c.advance.new.self _ usable h at (all.step honest h at))
             (ap (λ (o : Option ℕ). slot_reply bytes (Ok o)) c.in-Ok-None.field-0-is)
             (keeps_as c.in-Ok-None.field-0 None all.keeps),
       ),
@@ -98,8 +96,7 @@ returns-in-Err g c =
         (λ _. tt),
         passed_lends s db c.advance.new.self First c.advance.new.self.page.bytes
             (Err c.in-Err.fault) (Err c.in-Err.fault)
-            (λ honest h at. first_step s db c.advance.new.self _ usable
-            (g.met.S.PageStore.ends db.store) db.idle h at (all.step honest h at)) refl
+            (λ honest h at. first_step s db c.advance.new.self _ usable h at (all.step honest h at)) refl
             (keeps_err c.in-Err.fault all.keeps),
       ),
       record { after = tt; short = tt; passed = tt; only = inr all.only },

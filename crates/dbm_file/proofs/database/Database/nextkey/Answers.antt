@@ -1,13 +1,14 @@
-use Rattle.std.proofs.Common.{◌∙◌, ℕ, ◌<◌, length, Option, Some, None, IfSome, Ok, Err, refl, inl, inr, subst, ap}
+use Rattle.std.proofs.Common.{◌∙◌, ℕ, true, false, Option, Some, None, IfSome, Ok, Err, refl, inl, inr, subst, ap}
 use Rattle.dbm_model.specs.Calls.{Next, End}
-use Rattle.slot_page.specs.Contents.{IsBucketPage, page_pairs}
+use Rattle.chain_walks.specs.Leasts.{IsAheadAt}
+use Rattle.dbm_file.specs.Passing.{pass_of, pass_from}
 use Rattle.dbm_file.specs.Trying.{slot_reply}
 use Rattle.dbm_fault.specs.declared.fault.Fault.TheVariants.{NoPass}
 use Rattle.dbm_file.proofs.Cases.{broken_next}
 use Rattle.dbm_file.proofs.Lends.{lends_broken, lends_nothing, flagged_lends}
 use Rattle.dbm_file.proofs.ReadSteps.{not_broken}
-use Rattle.dbm_file.proofs.PassSteps.{next_step, passed_lends, keeps_as, keeps_err, lent_key, short_key, refused_by, no_pass_lends}
-use Rattle.dbm_file.proofs.Searches.{nothing_searched, given_key, given_none, broken_first, pass_lacked, pass_on, not_for_pass}
+use Rattle.dbm_file.proofs.PassSteps.{next_step, passed_lends, keeps_as, keeps_err, lent_key, short_key, refused_by, no_pass_lends, was_begun, was_not_begun}
+use Rattle.dbm_file.proofs.Searches.{nothing_searched, given_key, given_none, key_ahead, broken_first, pass_lacked, pass_on, not_for_pass}
 use Rattle.dbm_file.proofs.database.Database.nextkey.Goals as goal
 
 pub returns-then-is_broken : goal.returns-then-is_broken
@@ -25,6 +26,8 @@ returns-then-is_broken g c =
         short = lends_nothing c.refuse.result _ answer;
         passed =
             nothing_searched _ c.refuse.result _ answer;
+        ahead =
+            nothing_searched _ c.refuse.result _ answer;
         no_pass =
             broken_first c.refuse.result _ _ _ answer (λ is. cc)
             (c.is_broken.ensures.0 c.if-is_broken.true);
@@ -33,29 +36,33 @@ returns-then-is_broken g c =
       },
     )
 
-pub returns-in_default : goal.returns-in_default
-returns-in_default g c =
+pub returns-then-not-is_begun : goal.returns-then-not-is_begun
+returns-then-not-is_begun g c =
     let s = g.S.PageStore in
     let db = c.args.self.now in
     let usable = not_broken _ _ c.is_broken.ensures c.if-is_broken.false in
-    let answer = c.refuse-in_default.ensures.answer in (
+    let none = was_not_begun (pass_of db) c.is_begun.result c.is_begun.ensures
+    c.if-not-is_begun.true in
+    let answer = c.refuse-then-not-is_begun.ensures.answer in (
       (
         refl,
         (λ _. tt),
-        flagged_lends s db Next End _ _ _ c.refuse-in_default.new.error NoPass
-            c.refuse-in_default.ensures.flag c.refuse-in_default.result answer db
-            (no_pass_lends s db c.in_default.is usable
+        flagged_lends s db Next End _ _ _ c.refuse-then-not-is_begun.new.error NoPass
+            c.refuse-then-not-is_begun.ensures.flag c.refuse-then-not-is_begun.result answer db
+            (no_pass_lends s db none usable
             (λ y honest left. g.met.S.PageStore.only_now db.store y honest left)),
       ),
       record {
         after = tt;
-        short = lends_nothing c.refuse-in_default.result _ answer;
+        short = lends_nothing c.refuse-then-not-is_begun.result _ answer;
         passed =
-            nothing_searched _ c.refuse-in_default.result _ answer;
+            nothing_searched _ c.refuse-then-not-is_begun.result _ answer;
+        ahead =
+            nothing_searched _ c.refuse-then-not-is_begun.result _ answer;
         no_pass =
-            pass_lacked c.refuse-in_default.result _ _ answer usable c.in_default.is;
+            pass_lacked c.refuse-then-not-is_begun.result _ _ answer usable none;
         only =
-            refused_by _ c.refuse-in_default.result _ answer (inr (inl refl));
+            refused_by _ c.refuse-then-not-is_begun.result _ answer (inr (inl refl));
       },
     )
 
@@ -64,17 +71,18 @@ returns-in-Ok-Some g c =
     let s = g.S.PageStore in
     let db = c.args.self.now in
     let usable = not_broken _ _ c.is_broken.ensures c.if-is_broken.false in
+    let begun = was_begun (pass_of db) c.is_begun.result c.is_begun.ensures
+    c.if-not-is_begun.false in
     let all = c.in-Ok-Some.ensures in
     let bytes = c.advance.new.self.page.bytes in
-    let held = subst (λ (o : Option ℕ).
-    IfSome o (λ slot. IsBucketPage bytes × (slot < length (page_pairs bytes))))
-    c.in-Ok-Some.field-0-is all.held in (
+    let ahead = subst (λ (o : Option ℕ). IfSome o (λ slot. IsAheadAt (pass_from false db) bytes slot))
+    c.in-Ok-Some.field-0-is all.ahead in (
       (
         refl,
         (λ _. tt),
         passed_lends s db c.advance.new.self Next bytes (Ok c.in-Ok-Some.field-0)
             (Ok (Some c.pair_at.result.0))
-            (λ honest h at. next_step s db c.advance.new.self _ c.in-Some.cursor c.in-Some.is usable
+            (λ honest h at. next_step s db c.advance.new.self _ begun usable
             h at (all.step honest h at))
             (ap (λ (o : Option ℕ). slot_reply bytes (Ok o)) c.in-Ok-Some.field-0-is
             ∙ lent_key bytes c.in-Ok-Some.slot c.pair_at.result c.pair_at.ensures)
@@ -83,17 +91,16 @@ returns-in-Ok-Some g c =
       record {
         after = tt;
         short = short_key bytes c.pair_at.result.0.now c.pair_at.result.1.now
-            c.in-Ok-Some.slot held.0 held.1 c.pair_at.ensures;
+            c.in-Ok-Some.slot ahead.page ahead.has.0 c.pair_at.ensures;
         passed = (
-          c.in-Some.cursor,
-          c.in-Some.is,
+          begun,
           λ honest.
               given_key _ _ _ bytes _ c.in-Ok-Some.slot c.pair_at.result c.in-Ok-Some.field-0-is
               c.pair_at.ensures (all.passed honest),
         );
-        no_pass =
-            pass_on (Ok (Some c.pair_at.result.0)) _ _ c.in-Some.cursor c.in-Some.is
-            (λ is. cc);
+        ahead = key_ahead (pass_of db) bytes c.in-Ok-Some.slot c.pair_at.result c.pair_at.ensures
+            ahead;
+        no_pass = pass_on (Ok (Some c.pair_at.result.0)) _ _ begun (λ is. cc);
         only = tt;
       },
     )
@@ -103,13 +110,15 @@ returns-in-Ok-None g c =
     let s = g.S.PageStore in
     let db = c.args.self.now in
     let usable = not_broken _ _ c.is_broken.ensures c.if-is_broken.false in
+    let begun = was_begun (pass_of db) c.is_begun.result c.is_begun.ensures
+    c.if-not-is_begun.false in
     let all = c.in-Ok-None.ensures in
     let bytes = c.advance.new.self.page.bytes in (
       (
         refl,
         (λ _. tt),
         passed_lends s db c.advance.new.self Next bytes (Ok c.in-Ok-None.field-0) (Ok None)
-            (λ honest h at. next_step s db c.advance.new.self _ c.in-Some.cursor c.in-Some.is usable
+            (λ honest h at. next_step s db c.advance.new.self _ begun usable
             h at (all.step honest h at))
             (ap (λ (o : Option ℕ). slot_reply bytes (Ok o)) c.in-Ok-None.field-0-is)
             (keeps_as c.in-Ok-None.field-0 None all.keeps),
@@ -118,13 +127,12 @@ returns-in-Ok-None g c =
         after = tt;
         short = tt;
         passed = (
-          c.in-Some.cursor,
-          c.in-Some.is,
+          begun,
           λ honest.
               given_none _ _ _ bytes _ c.in-Ok-None.field-0-is (all.passed honest),
         );
-        no_pass =
-            pass_on (Ok None) _ _ c.in-Some.cursor c.in-Some.is (λ is. cc);
+        ahead = tt;
+        no_pass = pass_on (Ok None) _ _ begun (λ is. cc);
         only = tt;
       },
     )
@@ -134,21 +142,24 @@ returns-in-Err g c =
     let s = g.S.PageStore in
     let db = c.args.self.now in
     let usable = not_broken _ _ c.is_broken.ensures c.if-is_broken.false in
+    let begun = was_begun (pass_of db) c.is_begun.result c.is_begun.ensures
+    c.if-not-is_begun.false in
     let all = c.in-Err.ensures in (
       (
         refl,
         (λ _. tt),
         passed_lends s db c.advance.new.self Next c.advance.new.self.page.bytes (Err c.in-Err.fault)
             (Err c.in-Err.fault) (λ honest h at.
-            next_step s db c.advance.new.self _ c.in-Some.cursor c.in-Some.is usable h at
+            next_step s db c.advance.new.self _ begun usable h at
             (all.step honest h at)) refl (keeps_err c.in-Err.fault all.keeps),
       ),
       record {
         after = tt;
         short = tt;
         passed = tt;
+        ahead = tt;
         no_pass =
-            pass_on (Err c.in-Err.fault) _ _ c.in-Some.cursor c.in-Some.is
+            pass_on (Err c.in-Err.fault) _ _ begun
             (λ is. not_for_pass c.in-Err.fault all.only (let same = is in cc));
         only =
             inr (inr all.only);

@@ -25,11 +25,10 @@ returns-then-is_broken g c =
     record {
       step = λ honest h at.
           let map = h.state.map in
-          let pass = h.state.pass in
           let db = c.args.self.now in
           let broken = c.is_broken.ensures.0 c.if-is_broken.true in
-          from_own at (broken_step g.S.PageStore db map pass _ broken
-          (broken_delete (handle_of db map pass).state c.args.key.now broken));
+          from_own at (broken_step g.S.PageStore db map _ broken
+          (broken_delete (handle_of db map).state c.args.key.now broken));
       ends = unusable_delete c.args.self.now c.args.key.now
           (c.is_broken.ensures.0 c.if-is_broken.true);
     }
@@ -43,12 +42,11 @@ returns-then-not-self g c =
     record {
       step = λ honest h at.
           let map = h.state.map in
-          let pass = h.state.pass in
-          let falls = delete_read_only (handle_of db map pass).state key usable
+          let falls = delete_read_only (handle_of db map).state key usable
           (db.told ∙ c.if-not-self.true) in
-          from_own at (rejected_step s db db map pass _
+          from_own at (rejected_step s db db map _
           (no_read s db (λ y h left. g.met.S.PageStore.only_now db.store y h left)) honest
-          (at.map usable) (at.pass usable) (at.rests usable) ReadOnly falls);
+          (at.map usable) (at.rests usable) ReadOnly falls);
       ends = unwritable_delete db key usable (db.told ∙ c.if-not-self.true)
           (no_read s db (λ y honest left. g.met.S.PageStore.only_now db.store y honest left));
     }
@@ -67,16 +65,15 @@ returns-in_err-has g c =
     record {
       step = λ honest h at.
           let map = h.state.map in
-          let pass = h.state.pass in
-          let falls = delete_rule (handle_of db map pass).state key usable writable in
+          let falls = delete_rule (handle_of db map).state key usable writable in
           from_own at (delete_told c.has.new.self c.in_err-has.field-0.0
-          (walk_failed_step s db c.has.new.self map pass _ c.in_err-has.ensures.reads honest
-          (at.map usable) (at.pass usable) (at.rests usable)
+          (walk_failed_step s db c.has.new.self map _ c.in_err-has.ensures.reads honest
+          (at.map usable) (at.rests usable)
           _ c.in_err-has.field-0.0 usable c.in_err-has.ensures.answer c.in_err-has.ensures.cause
           (c.in_err-has.ensures.whole honest map (at.map usable))
           (λ reply after fails. subst (λ (rule : Case).
-          Suffers (handle_of db map pass) rule reply after) (sym falls)
-          (delete_fails (handle_of db map pass) reply after fails key (get map key))))
+          Suffers (handle_of db map) rule reply after) (sym falls)
+          (delete_fails (handle_of db map) reply after fails key (get map key))))
           c.from_residual.result c.from_residual.ensures.1);
       ends = told_delete db key usable writable c.has.new.self c.from_residual.result
           c.in_err-has.field-0.0 told (as_change _ all.answer.only)
@@ -95,13 +92,12 @@ returns-then-not-branch g c =
     record {
       step = λ honest h at.
           let map = h.state.map in
-          let pass = h.state.pass in
-          let state = (handle_of db map pass).state in
+          let state = (handle_of db map).state in
           let none = sym (c.in_ok-has.ensures.exact honest map (at.map usable))
           ∙ c.if-not-branch.true in
           let falls = delete_rule state key usable writable ∙ absent state key (get map key) none in
-          from_own at (found_step s db c.has.new.self map pass _ c.in_ok-has.ensures.reads honest
-          (at.map usable) (at.pass usable) (at.rests usable) model.Absent refl falls);
+          from_own at (found_step s db c.has.new.self map _ c.in_ok-has.ensures.reads honest
+          (at.map usable) (at.rests usable) model.Absent refl falls);
       ends = absent_delete db key usable writable c.has.new.self all.reads
           (λ honest. was_absent _ _ key _ c.if-not-branch.true (all.searched honest));
     }
@@ -139,18 +135,17 @@ returns-in_err-delete_pair g c =
     let told = c.from_residual-in_err-delete_pair.ensures.1 in
     let r = c.from_residual-in_err-delete_pair.result in
     let keeps = told_keeps s db c.has.new.self _ read usable c.in_err-delete_pair.field-0.0
-    record { ends = all.ends; error_is = refl; pass_ends = tt; pass_stays = refl } r told in
+    record { ends = all.ends; error_is = refl; pass_is = refl } r told in
     record {
       step = λ honest h at.
           let map = h.state.map in
-          let pass = h.state.pass in
           let there = sym (c.in_ok-has.ensures.exact honest map (at.map usable))
           ∙ c.if-not-branch.false in
-          let asked = delete_asked s db c.has.new.self map pass key c.in_ok-has.ensures.reads usable
-          writable honest (at.map usable) (at.pass usable) (at.rests usable) there in
+          let asked = delete_asked s db c.has.new.self map key c.in_ok-has.ensures.reads usable
+          writable honest (at.map usable) (at.rests usable) there in
           from_own at (delete_told _ c.in_err-delete_pair.field-0.0
           (refused_step s asked _ c.in_err-delete_pair.field-0.0
-          record { ends = all.ends; error_is = refl; pass_ends = tt; pass_stays = refl }
+          record { ends = all.ends; error_is = refl; pass_is = refl }
           (all.turns (mid_honest s asked) (mid_usable s asked) map (mid_holds s asked) there)
           (λ t x le left. g.met.S.PageStore.counts_now c.delete_pair.new.store t x
           (all.ends.honesty.1 (mid_honest s asked)) le left)
@@ -171,19 +166,18 @@ returns g c =
     let all = c.in_ok-delete_pair.ensures in
     let same = still_meta s db c.has.new.self read in
     let keeps = done_keeps db c.has.new.self _ deleted.Deleted read usable
-    record { ends = all.ends; error_is = refl; pass_ends = refl; pass_stays = tt } in
+    record { ends = all.ends; error_is = refl; pass_is = refl } in
     record {
       step = λ honest h at.
           let map = h.state.map in
-          let pass = h.state.pass in
           let there = sym (c.in_ok-has.ensures.exact honest map (at.map usable))
           ∙ c.if-not-branch.false in
-          let asked = delete_asked s db c.has.new.self map pass key c.in_ok-has.ensures.reads usable
-          writable honest (at.map usable) (at.pass usable) (at.rests usable) there in
+          let asked = delete_asked s db c.has.new.self map key c.in_ok-has.ensures.reads usable
+          writable honest (at.map usable) (at.rests usable) there in
           from_own at (changed_step s asked _
-          record { ends = all.ends; error_is = refl; pass_ends = refl; pass_stays = tt }
+          record { ends = all.ends; error_is = refl; pass_is = refl }
           (no_growth s asked)
-          (none_opened (handle_of db map pass) model.Deleted (meta_kept c.has.new.self)
+          (none_opened (handle_of db map) model.Deleted (meta_kept c.has.new.self)
           (model_meta c.delete_pair.new.meta) (len (remove map key)) all.shape refl)
           (all.turns (mid_honest s asked) (mid_usable s asked) map (mid_holds s asked) there)
           (λ x left. g.met.S.PageStore.only_committed c.delete_pair.new.store x

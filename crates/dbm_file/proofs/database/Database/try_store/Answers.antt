@@ -29,11 +29,10 @@ returns-then-is_broken g c =
     record {
       step = λ honest h at.
           let map = h.state.map in
-          let pass = h.state.pass in
           let db = c.args.self.now in
           let broken = c.is_broken.ensures.0 c.if-is_broken.true in
-          from_own at (broken_step g.S.PageStore db map pass _ broken
-          (broken_store (handle_of db map pass).state c.args.key.now c.args.content.now
+          from_own at (broken_step g.S.PageStore db map _ broken
+          (broken_store (handle_of db map).state c.args.key.now c.args.content.now
           (mode_of c.args.mode) broken));
       ends = unusable_store c.args.self.now c.args.key.now
           (c.is_broken.ensures.0 c.if-is_broken.true) c.args.content.now c.args.mode;
@@ -50,12 +49,11 @@ returns-then-not-self g c =
     record {
       step = λ honest h at.
           let map = h.state.map in
-          let pass = h.state.pass in
-          let falls = store_read_only (handle_of db map pass).state key content (mode_of mode)
+          let falls = store_read_only (handle_of db map).state key content (mode_of mode)
           usable (db.told ∙ c.if-not-self.true) in
-          from_own at (rejected_step s db db map pass _
+          from_own at (rejected_step s db db map _
           (no_read s db (λ y h left. g.met.S.PageStore.only_now db.store y h left)) honest
-          (at.map usable) (at.pass usable) (at.rests usable) ReadOnly falls);
+          (at.map usable) (at.rests usable) ReadOnly falls);
       ends = unwritable_store db key usable (db.told ∙ c.if-not-self.true)
           (no_read s db (λ y honest left. g.met.S.PageStore.only_now db.store y honest left))
           content mode;
@@ -73,12 +71,11 @@ returns-then-key-content-gt-MAX_PAIR g c =
     record {
       step = λ honest h at.
           let map = h.state.map in
-          let pass = h.state.pass in
-          let falls = too_long_rule (handle_of db map pass).state key content (mode_of mode) usable
+          let falls = too_long_rule (handle_of db map).state key content (mode_of mode) usable
           writable c.if-key-content-gt-MAX_PAIR.true in
-          from_own at (rejected_step s db db map pass _
+          from_own at (rejected_step s db db map _
           (no_read s db (λ y h left. g.met.S.PageStore.only_now db.store y h left)) honest
-          (at.map usable) (at.pass usable) (at.rests usable) TooLong falls);
+          (at.map usable) (at.rests usable) TooLong falls);
       ends = long_store db key usable writable content mode
           (no_read s db (λ y honest left. g.met.S.PageStore.only_now db.store y honest left))
           c.if-key-content-gt-MAX_PAIR.true;
@@ -101,18 +98,17 @@ returns-in_err-was_there g c =
     record {
       step = λ honest h at.
           let map = h.state.map in
-          let pass = h.state.pass in
           let held = at.map usable in
-          let state = (handle_of db map pass).state in
+          let state = (handle_of db map).state in
           let falls = store_rule state key content (mode_of mode) usable writable short in
           from_own at (store_told c.has.new.self c.in_err-was_there.field-0.0
-          (walk_failed_step s db c.has.new.self map pass _ c.in_err-was_there.ensures.reads honest
-          held (at.pass usable) (at.rests usable)
+          (walk_failed_step s db c.has.new.self map _ c.in_err-was_there.ensures.reads honest
+          held (at.rests usable)
           _ c.in_err-was_there.field-0.0 usable c.in_err-was_there.ensures.answer
           c.in_err-was_there.ensures.cause (c.in_err-was_there.ensures.whole honest map held)
           (λ reply after fails. subst (λ (rule : Case).
-          Suffers (handle_of db map pass) rule reply after) (sym falls)
-          (store_fails (handle_of db map pass) reply after fails key content (mode_of mode)
+          Suffers (handle_of db map) rule reply after) (sym falls)
+          (store_fails (handle_of db map) reply after fails key content (mode_of mode)
           (get map key))))
           c.from_residual.result c.from_residual.ensures.1);
       ends = told_store db key usable writable c.has.new.self content mode short
@@ -135,14 +131,13 @@ returns-then-eq g c =
     record {
       step = λ honest h at.
           let map = h.state.map in
-          let pass = h.state.pass in
           let held = at.map usable in
           let there = sym (c.in_ok-was_there.ensures.exact honest map held) ∙ c.if-was_there.true in
-          let state = (handle_of db map pass).state in
+          let state = (handle_of db map).state in
           let falls = store_rule state key content (mode_of mode) usable writable short
           ∙ kept state key content (get map key) (mode_of mode) there (ap mode_of inserts) in
-          from_own at (found_step s db c.has.new.self map pass _ c.in_ok-was_there.ensures.reads
-          honest held (at.pass usable) (at.rests usable) model.Kept refl falls);
+          from_own at (found_step s db c.has.new.self map _ c.in_ok-was_there.ensures.reads
+          honest held (at.rests usable) model.Kept refl falls);
       ends = kept_store db key usable writable c.has.new.self content mode short all.reads inserts
           (λ honest. was_found _ _ key _ c.if-was_there.true (all.searched honest));
     }
@@ -160,11 +155,10 @@ returns-then-self g c =
     record {
       step = λ honest h at.
           let map = h.state.map in
-          let pass = h.state.pass in
           let held = at.map usable in
           let told_absent = c.if-not-was_there.true in
           let absent = sym (c.in_ok-was_there.ensures.exact honest map held) ∙ told_absent in
-          let state = (handle_of db map pass).state in
+          let state = (handle_of db map).state in
           let read = c.in_ok-was_there.ensures.reads in
           let many : db.meta.limit ≤ len map =
           omega (
@@ -176,8 +170,8 @@ returns-then-self g c =
           ) in
           let falls = store_rule state key content (mode_of mode) usable writable short
           ∙ full state key content (get map key) (mode_of mode) absent many in
-          from_own at (declined_step s db c.has.new.self map pass _ read honest held
-          (at.pass usable) (at.rests usable) Full falls);
+          from_own at (declined_step s db c.has.new.self map _ read honest held
+          (at.rests usable) Full falls);
       ends = full_store db key usable writable c.has.new.self content mode short
           c.in_ok-was_there.ensures.reads;
     }
@@ -197,11 +191,10 @@ returns-in_err-store_pair g c =
     let told = c.from_residual-in_err-store_pair.ensures.1 in
     let r = c.from_residual-in_err-store_pair.result in
     let keeps = told_keeps s db c.has.new.self _ read usable c.in_err-store_pair.field-0.0
-    record { ends = all.ends; error_is = refl; pass_ends = tt; pass_stays = refl } r told in
+    record { ends = all.ends; error_is = refl; pass_is = refl } r told in
     record {
       step = λ honest h at.
           let map = h.state.map in
-          let pass = h.state.pass in
           let there = c.in_ok-was_there.ensures.exact honest map (at.map usable) in
           let replaces : c.in_ok-was_there.was_there ≡ true → mode ≡ Replace =
           elim c.else-was_there.branch [
@@ -215,12 +208,12 @@ returns-in_err-store_pair g c =
             | else-not-was_there-via-else-not-was_there w ↦ λ is.
                 not_both _ w.if-not-was_there.false is
           ] in
-          let asked = store_asked s db c.has.new.self map pass key c.in_ok-was_there.ensures.reads
-          usable writable honest (at.map usable) (at.pass usable) (at.rests usable)
+          let asked = store_asked s db c.has.new.self map key c.in_ok-was_there.ensures.reads
+          usable writable honest (at.map usable) (at.rests usable)
           content mode c.in_ok-was_there.was_there short there replaces few in
           from_own at (store_told _ c.in_err-store_pair.field-0.0
           (refused_step s asked _ c.in_err-store_pair.field-0.0
-          record { ends = all.ends; error_is = refl; pass_ends = tt; pass_stays = refl }
+          record { ends = all.ends; error_is = refl; pass_is = refl }
           (all.turns (mid_honest s asked) (mid_usable s asked) map (mid_holds s asked) there)
           (λ t x le left. g.met.S.PageStore.counts_now c.store_pair.new.store t x
           (all.ends.honesty.1 (mid_honest s asked)) le left)
@@ -251,11 +244,10 @@ returns g c =
     let read = c.in_ok-was_there.ensures.reads in
     let all = c.in_ok-store_pair.ensures in
     let keeps = done_keeps db c.has.new.self _ stored.Stored read usable
-    record { ends = all.ends; error_is = refl; pass_ends = refl; pass_stays = tt } in
+    record { ends = all.ends; error_is = refl; pass_is = refl } in
     record {
       step = λ honest h at.
           let map = h.state.map in
-          let pass = h.state.pass in
           let there = c.in_ok-was_there.ensures.exact honest map (at.map usable) in
           let replaces : c.in_ok-was_there.was_there ≡ true → mode ≡ Replace =
           elim c.else-was_there.branch [
@@ -269,13 +261,13 @@ returns g c =
             | else-not-was_there-via-else-not-was_there w ↦ λ is.
                 not_both _ w.if-not-was_there.false is
           ] in
-          let asked = store_asked s db c.has.new.self map pass key c.in_ok-was_there.ensures.reads
-          usable writable honest (at.map usable) (at.pass usable) (at.rests usable)
+          let asked = store_asked s db c.has.new.self map key c.in_ok-was_there.ensures.reads
+          usable writable honest (at.map usable) (at.rests usable)
           content mode c.in_ok-was_there.was_there short there replaces few in
           let turns = all.turns (mid_honest s asked) (mid_usable s asked) map (mid_holds s asked)
           there in
           from_own at (changed_step s asked _
-          record { ends = all.ends; error_is = refl; pass_ends = refl; pass_stays = tt }
+          record { ends = all.ends; error_is = refl; pass_is = refl }
           (store_growth s asked refl)
           (store_opens (meta_kept db) (meta_kept c.has.new.self)
           (model_meta c.store_pair.new.meta) (len (insert map key content))

@@ -1,0 +1,250 @@
+-- The least key of the pairs that were read, as more are read.
+use Rattle.std.proofs.Common.{◌≡◌, ℕ, ◌+◌, ◌<◌, ◌↔◌, Bool, true, false, cond, List, [], ◌∷◌, ◌++◌, length, take, Option, None, Some, IsTrue, refl, sym, ap, ◌∙◌, subst, arith}
+use Rattle.std.specs.Prelude.{IfSome, IfNone}
+use Rattle.std.specs.Cmp.{IsTotalOrder}
+use Rattle.std.specs.Cmp.Lexicographic.{on_texts}
+use Rattle.std.specs.declared.cmp.Ordering.{Ordering}
+use Rattle.std.specs.declared.cmp.Ordering.TheVariants.{Less, Equal, Greater}
+use Rattle.std.specs.Ordering.{ordering_reverse}
+use Rattle.std.specs.List.{AllByRecursion, HoldsAt}
+use Rattle.std.proofs.lemmas.Cmp.{tied_itself, alike_right}
+use Rattle.std.proofs.lemmas.List.{take_more}
+use Rattle.std.proofs.lemmas.List.Sums.{sum_by-append}
+use Rattle.dbm_model.specs.KeyOrder.{hash_of, rank, pass_cmp, ComesBefore}
+use Rattle.dbm_model.specs.Pairs.{Key, Pair}
+use Rattle.dbm_model.specs.States.{Pass}
+use Rattle.dbm_model.specs.Steps.{IsAhead}
+use Rattle.page_model.specs.PairLists.{has_key, times}
+use Rattle.page_model.proofs.Chains.{AllByRecursion-append}
+use Rattle.slot_page.specs.Contents.{IsBucketPage, HasKeyAt, page_pairs}
+use Rattle.chain_walks.specs.Leasts.{IsLeastKey, IsLeastAt, IsLeast, IsAheadAt}
+use Rattle.chain_walks.proofs.KeyWalks.{has_key_is}
+
+-- ---- the order of keys
+
+-- what comes before one key comes before each that isn't before it
+before_rest : {K : Type 0} {R : K → K → Ordering} → IsTotalOrder R → (x best other : K)
+    → R x best ≡ Less → (R other best ≡ Less → ⊥) → R x other ≡ Less
+before_rest {K} {R} o x best other before not = elim (R other best) as
+    (λ r. R other best ≡ r → R x other ≡ Less) [
+      | Less ↦ λ e. absurd (not e)
+      | Equal ↦ λ e. alike_right o other best x e ∙ before
+      | Greater ↦ λ e. o.trans x best other before (o.antisymm best other ∙ ap ordering_reverse e)
+    ] refl
+
+total : IsTotalOrder pass_cmp
+total = on_texts (λ (key : Key). rank (hash_of key) ∷ key)
+
+not_itself : (key : Key) → ComesBefore key key → ⊥
+not_itself key before = let same = tied_itself total key in cc
+
+-- ---- pairs of which none comes before a key
+
+abbrev NoneBefore : Pass → Key → List Pair → Type 0
+NoneBefore from key pairs =
+    AllByRecursion (λ pair. IsAhead from pair.0 → ComesBefore pair.0 key → ⊥) pairs
+
+abbrev pub NoneAhead : Pass → List Pair → Type 0
+NoneAhead from pairs = AllByRecursion (λ pair. IsAhead from pair.0 → ⊥) pairs
+
+none_before : (from : Pass) (key : Key) (pairs : List Pair) → NoneAhead from pairs
+    → NoneBefore from key pairs
+none_before from key [] none = tt
+none_before from key (pair ∷ pairs) none =
+    (λ ahead before. none.0 ahead, none_before from key pairs none.1)
+
+-- the key comes before another that none comes before
+none_before_less : (from : Pass) (key other : Key) (pairs : List Pair) → ComesBefore key other
+    → NoneBefore from other pairs → NoneBefore from key pairs
+none_before_less from key other [] less none = tt
+none_before_less from key other (pair ∷ pairs) less none = (
+  λ ahead before. none.0 ahead (total.trans pair.0 key other before less),
+  none_before_less from key other pairs less none.1,
+)
+
+-- another that none comes before isn't before the key
+none_before_rest : (from : Pass) (key other : Key) (pairs : List Pair)
+    → (ComesBefore other key → ⊥) → NoneBefore from other pairs → NoneBefore from key pairs
+none_before_rest from key other [] not none = tt
+none_before_rest from key other (pair ∷ pairs) not none = (
+  λ ahead before. none.0 ahead (before_rest total pair.0 key other before not),
+  none_before_rest from key other pairs not none.1,
+)
+
+-- ---- the least key of more pairs
+
+module _ (old here : List Pair) (from : Pass) (key : Key) where
+  times_both : times key (old ++ here) ≡ times key old + times key here
+  times_both = sum_by-append (λ (pair : Pair). cond (has_key key pair) 1 0) old here
+
+  still_least : IsLeastKey old from key → NoneBefore from key here
+      → IsLeastKey (old ++ here) from key
+  still_least least none = record {
+    among = omega (arith, times_both, least.among);
+    ahead = least.ahead;
+    least = AllByRecursion-append
+        (λ (pair : Pair). IsAhead from pair.0 → ComesBefore pair.0 key → ⊥) old here
+        least.least none;
+  }
+
+  now_least : IsLeastKey here from key → NoneBefore from key old
+      → IsLeastKey (old ++ here) from key
+  now_least least none = record {
+    among = omega (arith, times_both, least.among);
+    ahead = least.ahead;
+    least = AllByRecursion-append
+        (λ (pair : Pair). IsAhead from pair.0 → ComesBefore pair.0 key → ⊥) old here
+        none least.least;
+  }
+
+-- a key alone
+alone : (from : Pass) (key : Key) (content : List ℕ) → IsAhead from key
+    → IsLeastKey ((key, content) ∷ []) from key
+alone from key content ahead =
+    let one : cond {A = ℕ} (has_key key (key, content)) 1 0 ≡ 1 =
+    ap (λ (b : Bool). cond {A = ℕ} b 1 0) (has_key_is key (key, content) refl) in
+    record {
+      among = omega (arith, one);
+      ahead = ahead;
+      least = (λ _ before. not_itself key before, tt);
+    }
+
+-- ---- the best slot so far
+
+-- more pairs that the pass has behind it
+pub best_over : (old here : List Pair) (from : Pass) (bytes : List ℕ) (best : Option ℕ)
+    → IsLeast old from bytes best → NoneAhead from here → IsLeast (old ++ here) from bytes best
+best_over old here from bytes None least none =
+    AllByRecursion-append (λ (pair : Pair). IsAhead from pair.0 → ⊥) old here least none
+best_over old here from bytes (Some at) least none = record {
+  key = least.key;
+  page = least.page;
+  has = least.has;
+  least = still_least old here from least.key least.least
+      (none_before from least.key here none);
+}
+
+-- whether the key in a slot comes before the best one so far
+abbrev IsFirst : Option ℕ → Bool → Type 0
+IsFirst best better = IfNone best (IsTrue better)
+
+abbrev IsLess : List ℕ → Option ℕ → List ℕ → ℕ → Bool → Type 0
+IsLess bytes best look slot better = IfSome best (λ at. (key other : Key)
+    → HasKeyAt key (page_pairs look) slot → HasKeyAt other (page_pairs bytes) at
+    → IsTrue better ↔ ComesBefore key other)
+
+module _ (old here : List Pair) (from : Pass) (bytes look : List ℕ) (at : ℕ)
+    (new : IsLeastAt here from look at) where
+  pub best_stays : (best : Option ℕ) (better : Bool) → IsLeast old from bytes best
+      → IsFirst best better → IsLess bytes best look at better → better ≡ false
+      → IsLeast (old ++ here) from bytes best
+  best_stays None better least first less not = absurd (cc)
+  best_stays (Some held) better least first less not =
+      let stays : ComesBefore new.key least.key → ⊥ =
+      λ before. (let now = (less new.key least.key new.has least.has).1 before in cc) in
+      record {
+        key = least.key;
+        page = least.page;
+        has = least.has;
+        least = still_least old here from least.key least.least
+            (none_before_rest from least.key new.key here stays new.least.least);
+      }
+
+  pub best_changes : (best : Option ℕ) (better : Bool) → IsLeast old from bytes best
+      → IsFirst best better → IsLess bytes best look at better → better ≡ true
+      → IsLeast (old ++ here) from look (Some at)
+  best_changes None better least first less is = record {
+    key = new.key;
+    page = new.page;
+    has = new.has;
+    least = now_least old here from new.key new.least
+        (none_before from new.key old least);
+  }
+  best_changes (Some held) better least first less is =
+      let before = (less new.key least.key new.has least.has).0 is in
+      record {
+        key = new.key;
+        page = new.page;
+        has = new.has;
+        least = now_least old here from new.key new.least
+            (none_before_less from new.key least.key old before least.least.least);
+      }
+
+-- ---- what the slot is
+
+pub best_ahead : (pairs : List Pair) (from : Pass) (bytes : List ℕ) (best : Option ℕ)
+    → IsLeast pairs from bytes best → IfSome best (λ at. IsAheadAt from bytes at)
+best_ahead pairs from bytes None least = tt
+best_ahead pairs from bytes (Some at) least = record {
+  page = least.page;
+  key = least.key;
+  has = least.has;
+  ahead = least.least.ahead;
+}
+
+-- ---- the key in a slot
+
+pub key_is : (pairs : List Pair) (slot : ℕ) (found key : Key) (content : List ℕ)
+    → HoldsAt (λ p. p ≡ (found, content)) pairs slot → HasKeyAt key pairs slot → found ≡ key
+key_is pairs slot found key content there has =
+    ap (λ (p : Pair). p.0) (sym (there ([], []))) ∙ has.1 ([], [])
+
+pub same_before : (found key found' key' : Key) (better : Bool) → found ≡ key → found' ≡ key'
+    → IsTrue better ↔ ComesBefore found found' → IsTrue better ↔ ComesBefore key key'
+same_before found key found' key' better e e' is =
+    subst (λ (k : Key). IsTrue better ↔ ComesBefore k key') e
+    (subst (λ (k : Key). IsTrue better ↔ ComesBefore found k) e' is)
+
+-- ---- one slot more of a page
+
+module _ (bytes : List ℕ) (slot : ℕ) (key : Key) (content : List ℕ)
+    (within : slot < length (page_pairs bytes))
+    (there : HoldsAt (λ p. p ≡ (key, content)) (page_pairs bytes) slot)
+    (from : Pass) (best next : Option ℕ) (ahead : Bool)
+    (ahead_is : IsTrue ahead ↔ IsAhead from key)
+    (least : IsLeast (take slot (page_pairs bytes)) from bytes best) where
+  with_slot : IsLeast (take slot (page_pairs bytes) ++ (key, content) ∷ []) from bytes next
+      → IsLeast (take (slot + 1) (page_pairs bytes)) from bytes next
+  with_slot now = subst (λ (pairs : List Pair). IsLeast pairs from bytes next)
+      (ap (λ (p : Pair). take slot (page_pairs bytes) ++ p ∷ []) (sym (there (key, content)))
+      ∙ sym (take_more (page_pairs bytes) slot (key, content) within)) now
+
+  -- the pass has its key behind it
+  pub slot_passed : ahead ≡ false → next ≡ best
+      → IsLeast (take (slot + 1) (page_pairs bytes)) from bytes next
+  slot_passed not same =
+      let none : IsAhead from key → ⊥ = λ is. (let now = ahead_is.1 is in cc) in
+      with_slot (subst (λ (b : Option ℕ).
+      IsLeast (take slot (page_pairs bytes) ++ (key, content) ∷ []) from bytes b) (sym same)
+      (best_over (take slot (page_pairs bytes)) ((key, content) ∷ []) from bytes best least
+      (none, tt)))
+
+  slot_least : IsBucketPage bytes → ahead ≡ true
+      → IsLeastAt ((key, content) ∷ []) from bytes slot
+  slot_least page is = record {
+    key = key;
+    page = page;
+    has = (within, λ d. ap (λ (p : Pair). p.0) (there d));
+    least = alone from key content (ahead_is.0 is);
+  }
+
+  -- its key isn't less than the least before it
+  pub slot_left : IsBucketPage bytes → ahead ≡ true → (better : Bool) → IsFirst best better
+      → IsLess bytes best bytes slot better → better ≡ false → next ≡ best
+      → IsLeast (take (slot + 1) (page_pairs bytes)) from bytes next
+  slot_left page is better first less not same =
+      with_slot (subst (λ (b : Option ℕ).
+      IsLeast (take slot (page_pairs bytes) ++ (key, content) ∷ []) from bytes b) (sym same)
+      (best_stays (take slot (page_pairs bytes)) ((key, content) ∷ []) from bytes bytes
+      slot (slot_least page is) best better least first less not))
+
+  -- it is less
+  pub slot_taken : IsBucketPage bytes → ahead ≡ true → (better : Bool)
+      → IsFirst best better → IsLess bytes best bytes slot better → better ≡ true
+      → next ≡ Some slot
+      → IsLeast (take (slot + 1) (page_pairs bytes)) from bytes next
+  slot_taken page is better first less true_is now =
+      with_slot (subst (λ (b : Option ℕ).
+      IsLeast (take slot (page_pairs bytes) ++ (key, content) ∷ []) from bytes b) (sym now)
+      (best_changes (take slot (page_pairs bytes)) ((key, content) ∷ []) from bytes bytes
+      slot (slot_least page is) best better least first less true_is))
