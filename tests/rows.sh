@@ -51,7 +51,12 @@ done <<'ROWS'
 100 [I 61 01/I 61 02/F 61/D 61/D 61/F 61/] [0/1/01/0/-1 absent/none/]
 100 [N/1/N/E/] [-1 fault 7/end/end/7/]
 100 [S 61 01/1/F 61/I 61 02/N/N/] [0/61/01/1/end/end/]
-100 [S 61 01/1/S 61 02/N/1/] [0/61/0/-1 fault 7/61/]
+100 [S 61 01/1/S 61 02/N/1/] [0/61/0/end/61/]
+100 [S 61 01/S 62 02/1/N/N/] [0/0/61/62/end/]
+100 [S 64 00/S 63 00/S 62 00/S 61 00/1/N/N/N/N/] [0/0/0/0/61/63/62/64/end/]
+100 [S 64 00/S 63 00/S 62 00/S 61 00/1/D 63/N/S 63 00/N/N/] [0/0/0/0/61/0/62/0/64/end/]
+100 [S 61 00/S 62 00/S 63 00/S 64 00/1/S 65 00/S 66 00/S 67 00/S 68 00/S 69 00/N/N/N/N/N/N/N/1/N/N/N/N/N/N/N/N/N/] [0/0/0/0/61/0/0/0/0/0/63/67/66/62/64/68/end/65/69/61/63/67/66/62/64/68/end/]
+100 [1/S 61 00/N/N/] [end/0/61/end/]
 1 [S 61 01/S 62 01/N/E/C/E/] [0/-1 fault 6/-1 fault 7/6/0/0/]
 100 [S . 01/1/D ./E/] [0/./0/0/]
 100 [1 /N 61/e/C/I 61/D 61 62/ 1/] [-1 line/-1 line/-1 line/0/-1 line/-1 line/-1 line/]
@@ -226,5 +231,5 @@ for line in 'S KEY CONTENT' 'I KEY CONTENT' 'F KEY' 'D KEY' 1 N E C; do
 done
 
 echo "$rows rows"
-[ "$rows" = 97 ] || wrong "not each row was read"
+[ "$rows" = 102 ] || wrong "not each row was read"
 exit $bad

@@ -29,7 +29,7 @@ expects 0 '-1 line\n-1 line\n-1 line\n-1 line\nnone\n' '' 'Q\nS 6\nF 6b 6b\n\nF 
 expects 0 '0\n-1 fault 6\n1\n0\n02\n' '' 'S 61 01\nS 62 01\nI 61 03\nS 61 02\nF 61\n' script --memory 1
 expects 0 '-1 fault 7\nend\nend\n7\n' '' 'N\n1\nN\nE\n' script --memory 100
 expects 0 '0\n61\n01\n1\nend\nend\n' '' 'S 61 01\n1\nF 61\nI 61 02\nN\nN\n' script --memory 100
-expects 0 '0\n61\n0\n-1 fault 7\n61\n' '' 'S 61 01\n1\nS 61 02\nN\n1\n' script --memory 100
+expects 0 '0\n61\n0\nend\n61\n' '' 'S 61 01\n1\nS 61 02\nN\n1\n' script --memory 100
 expects 0 '' '' '' script --memory 1000000
 expects 2 '' 'dbmtool: fault 13' 'S 6b 76\n' script --memory 0
 expects 2 '' 'dbmtool: fault 13' 'S 6b 76\n' script --memory 1000001

@@ -52,11 +52,8 @@ ends() {
   [ "$status" = "$1" ] || wrong "status $status, and not $1: $(cat err)"
 }
 
-# the lines of a round and their replies; it leaves an empty database, no pass and no error number
+# the lines of a round and their replies; it leaves an empty database and no error number
 round='E|0
-N|-1 fault 7
-E|7
-C|0
 1|end
 N|end
 S 6b 76|0
@@ -71,9 +68,8 @@ D 6c|-1 absent
 1|6b
 N|end
 S 6b .|0
-N|-1 fault 7
+N|end
 F 6b|.
-E|7
 C|0
 E|0
 Q|-1 line
