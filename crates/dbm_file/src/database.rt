@@ -190,7 +190,7 @@ impl<S: PageStore> Database<S> {
         // On any file the buckets were read from where the pass stood.
         ensures passed { IfOk result (λ found. WentOn self.old (seen found)) }
 
-        // On any bytes the keys of a pass ascend.
+        // On any bytes a key is behind the place where the pass stood.
         ensures ahead { IfOk result (λ found.
             IfSome found (λ key. IsAhead (pass_of self.old) key.now)) }
         ensures no_pass { (result ≡ Err Fault.NoPass) ↔ LacksPass self.old }
