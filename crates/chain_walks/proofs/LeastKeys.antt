@@ -17,7 +17,9 @@ use Rattle.dbm_model.specs.Steps.{IsAhead}
 use Rattle.page_model.specs.PairLists.{has_key, times}
 use Rattle.page_model.proofs.Chains.{AllByRecursion-append}
 use Rattle.slot_page.specs.Contents.{IsBucketPage, HasKeyAt, page_pairs}
+use Rattle.chain_walks.specs.Bests.{slot_of, IsRankedAt}
 use Rattle.chain_walks.specs.Leasts.{IsLeastKey, IsLeastAt, IsLeast, IsAheadAt}
+use Rattle.chain_walks.specs.declared.leasts.Best.{Best}
 use Rattle.chain_walks.proofs.KeyWalks.{has_key_is}
 
 -- ---- the order of keys
@@ -77,24 +79,14 @@ module _ (old here : List Pair) (from : Pass) (key : Key) where
   times_both : times key (old ++ here) ≡ times key old + times key here
   times_both = sum_by-append (λ (pair : Pair). cond (has_key key pair) 1 0) old here
 
-  still_least : IsLeastKey old from key → NoneBefore from key here
-      → IsLeastKey (old ++ here) from key
-  still_least least none = record {
-    among = omega (arith, times_both, least.among);
-    ahead = least.ahead;
+  -- a key of either, before which none of both comes
+  least_of : 0 < times key old + times key here → IsAhead from key → NoneBefore from key old
+      → NoneBefore from key here → IsLeastKey (old ++ here) from key
+  least_of among ahead none none_here = record {
+    among = omega (arith, times_both, among);
+    ahead = ahead;
     least = AllByRecursion-append
-        (λ (pair : Pair). IsAhead from pair.0 → ComesBefore pair.0 key → ⊥) old here
-        least.least none;
-  }
-
-  now_least : IsLeastKey here from key → NoneBefore from key old
-      → IsLeastKey (old ++ here) from key
-  now_least least none = record {
-    among = omega (arith, times_both, least.among);
-    ahead = least.ahead;
-    least = AllByRecursion-append
-        (λ (pair : Pair). IsAhead from pair.0 → ComesBefore pair.0 key → ⊥) old here
-        none least.least;
+        (λ (pair : Pair). IsAhead from pair.0 → ComesBefore pair.0 key → ⊥) old here none none_here;
   }
 
 -- a key alone
@@ -109,66 +101,84 @@ alone from key content ahead =
       least = (λ _ before. not_itself key before, tt);
     }
 
+-- ---- the key in a slot
+
+pub key_is : (pairs : List Pair) (slot : ℕ) (found key : Key) (content : List ℕ)
+    → HoldsAt (λ p. p ≡ (found, content)) pairs slot → HasKeyAt key pairs slot → found ≡ key
+key_is pairs slot found key content there has =
+    ap (λ (p : Pair). p.0) (sym (there ([], []))) ∙ has.1 ([], [])
+
+pub one_key : (pairs : List Pair) (slot : ℕ) (key other : Key) → HasKeyAt key pairs slot
+    → HasKeyAt other pairs slot → key ≡ other
+one_key pairs slot key other has has' = sym (has.1 ([], [])) ∙ has'.1 ([], [])
+
+pub same_before : (pairs : List Pair) (slot : ℕ) (key found other : Key) (before : Bool)
+    → HasKeyAt found pairs slot → HasKeyAt other pairs slot
+    → IsTrue before ↔ ComesBefore key found → IsTrue before ↔ ComesBefore key other
+same_before pairs slot key found other before has has' is =
+    subst (λ (k : Key). IsTrue before ↔ ComesBefore key k)
+    (one_key pairs slot found other has has') is
+
 -- ---- the best slot so far
 
 -- more pairs that the pass has behind it
-pub best_over : (old here : List Pair) (from : Pass) (bytes : List ℕ) (best : Option ℕ)
-    → IsLeast old from bytes best → NoneAhead from here → IsLeast (old ++ here) from bytes best
+pub best_over : (old here : List Pair) (from : Pass) (bytes : List ℕ) (best : Option Best)
+    → IsLeast old from bytes (slot_of best) → NoneAhead from here
+    → IsLeast (old ++ here) from bytes (slot_of best)
 best_over old here from bytes None least none =
     AllByRecursion-append (λ (pair : Pair). IsAhead from pair.0 → ⊥) old here least none
-best_over old here from bytes (Some at) least none = record {
+best_over old here from bytes (Some held) least none = record {
   key = least.key;
   page = least.page;
   has = least.has;
-  least = still_least old here from least.key least.least
-      (none_before from least.key here none);
+  least = least_of old here from least.key (omega (arith, least.least.among)) least.least.ahead
+      least.least.least (none_before from least.key here none);
 }
 
--- whether the key in a slot comes before the best one so far
-abbrev IsFirst : Option ℕ → Bool → Type 0
-IsFirst best better = IfNone best (IsTrue better)
-
-abbrev IsLess : List ℕ → Option ℕ → List ℕ → ℕ → Bool → Type 0
-IsLess bytes best look slot better = IfSome best (λ at. (key other : Key)
-    → HasKeyAt key (page_pairs look) slot → HasKeyAt other (page_pairs bytes) at
-    → IsTrue better ↔ ComesBefore key other)
+-- whether a key comes before the best one so far
+abbrev IsBetter : List ℕ → Option Best → Key → Bool → Type 0
+IsBetter bytes best key better = IfSome best (λ at. (other : Key)
+    → HasKeyAt other (page_pairs bytes) at.slot → IsTrue better ↔ ComesBefore key other)
 
 module _ (old here : List Pair) (from : Pass) (bytes look : List ℕ) (at : ℕ)
-    (new : IsLeastAt here from look at) where
-  pub best_stays : (best : Option ℕ) (better : Bool) → IsLeast old from bytes best
-      → IsFirst best better → IsLess bytes best look at better → better ≡ false
-      → IsLeast (old ++ here) from bytes best
-  best_stays None better least first less not = absurd (cc)
-  best_stays (Some held) better least first less not =
-      let stays : ComesBefore new.key least.key → ⊥ =
-      λ before. (let now = (less new.key least.key new.has least.has).1 before in cc) in
+    (new : IsLeastAt here from look at) (key : Key) (has : HasKeyAt key (page_pairs look) at) where
+  new_least : IsLeastKey here from key
+  new_least = subst (IsLeastKey here from)
+      (one_key (page_pairs look) at new.key key new.has has) new.least
+
+  pub best_stays : (best : Option Best) (better : Bool) → IsLeast old from bytes (slot_of best)
+      → IfNone best (IsTrue better) → IsBetter bytes best key better → better ≡ false
+      → IsLeast (old ++ here) from bytes (slot_of best)
+  best_stays None better least first before not = absurd (cc)
+  best_stays (Some held) better least first before not =
+      let stays : ComesBefore key least.key → ⊥ =
+      λ is. (let now = (before least.key least.has).1 is in cc) in
       record {
         key = least.key;
         page = least.page;
         has = least.has;
-        least = still_least old here from least.key least.least
-            (none_before_rest from least.key new.key here stays new.least.least);
+        least = least_of old here from least.key (omega (arith, least.least.among))
+            least.least.ahead least.least.least
+            (none_before_rest from least.key key here stays new_least.least);
       }
 
-  pub best_changes : (best : Option ℕ) (better : Bool) → IsLeast old from bytes best
-      → IsFirst best better → IsLess bytes best look at better → better ≡ true
+  pub best_changes : (best : Option Best) (better : Bool) → IsLeast old from bytes (slot_of best)
+      → IfNone best (IsTrue better) → IsBetter bytes best key better → better ≡ true
       → IsLeast (old ++ here) from look (Some at)
-  best_changes None better least first less is = record {
-    key = new.key;
+  best_changes best better least first before is = record {
+    key = key;
     page = new.page;
-    has = new.has;
-    least = now_least old here from new.key new.least
-        (none_before from new.key old least);
+    has = has;
+    least = least_of old here from key (omega (arith, new_least.among)) new_least.ahead
+        (none_old best least before) new_least.least;
   }
-  best_changes (Some held) better least first less is =
-      let before = (less new.key least.key new.has least.has).0 is in
-      record {
-        key = new.key;
-        page = new.page;
-        has = new.has;
-        least = now_least old here from new.key new.least
-            (none_before_less from new.key least.key old before least.least.least);
-      }
+    where
+      none_old : (best : Option Best) → IsLeast old from bytes (slot_of best)
+          → IsBetter bytes best key better → NoneBefore from key old
+      none_old None least before = none_before from key old least
+      none_old (Some held) least before =
+          none_before_less from key least.key old ((before least.key least.has).0 is)
+          least.least.least
 
 -- ---- what the slot is
 
@@ -182,69 +192,68 @@ best_ahead pairs from bytes (Some at) least = record {
   ahead = least.least.ahead;
 }
 
--- ---- the key in a slot
-
-pub key_is : (pairs : List Pair) (slot : ℕ) (found key : Key) (content : List ℕ)
-    → HoldsAt (λ p. p ≡ (found, content)) pairs slot → HasKeyAt key pairs slot → found ≡ key
-key_is pairs slot found key content there has =
-    ap (λ (p : Pair). p.0) (sym (there ([], []))) ∙ has.1 ([], [])
-
-pub same_before : (found key found' key' : Key) (better : Bool) → found ≡ key → found' ≡ key'
-    → IsTrue better ↔ ComesBefore found found' → IsTrue better ↔ ComesBefore key key'
-same_before found key found' key' better e e' is =
-    subst (λ (k : Key). IsTrue better ↔ ComesBefore k key') e
-    (subst (λ (k : Key). IsTrue better ↔ ComesBefore found k) e' is)
-
 -- ---- one slot more of a page
+
+-- the best of these pairs of the page, which the bytes are
+pub record IsBest (pairs : List Pair) (from : Pass) (bytes : List ℕ) (best : Option Best)
+    : Type 0 where
+  pub ranked : IfSome best (IsRankedAt bytes)
+  pub least : IsLeast pairs from bytes (slot_of best)
 
 module _ (bytes : List ℕ) (slot : ℕ) (key : Key) (content : List ℕ)
     (within : slot < length (page_pairs bytes))
     (there : HoldsAt (λ p. p ≡ (key, content)) (page_pairs bytes) slot)
-    (from : Pass) (best next : Option ℕ) (ahead : Bool)
+    (from : Pass) (best next : Option Best) (ahead : Bool)
     (ahead_is : IsTrue ahead ↔ IsAhead from key)
-    (least : IsLeast (take slot (page_pairs bytes)) from bytes best) where
-  with_slot : IsLeast (take slot (page_pairs bytes) ++ (key, content) ∷ []) from bytes next
-      → IsLeast (take (slot + 1) (page_pairs bytes)) from bytes next
-  with_slot now = subst (λ (pairs : List Pair). IsLeast pairs from bytes next)
-      (ap (λ (p : Pair). take slot (page_pairs bytes) ++ p ∷ []) (sym (there (key, content)))
-      ∙ sym (take_more (page_pairs bytes) slot (key, content) within)) now
+    (so_far : IsBest (take slot (page_pairs bytes)) from bytes best) where
+  with_slot : (now : Option Best) → next ≡ now → IfSome now (IsRankedAt bytes)
+      → IsLeast (take slot (page_pairs bytes) ++ (key, content) ∷ []) from bytes (slot_of now)
+      → IsBest (take (slot + 1) (page_pairs bytes)) from bytes next
+  with_slot now same ranked least =
+      subst (IsBest (take (slot + 1) (page_pairs bytes)) from bytes) (sym same) record {
+        ranked = ranked;
+        least = subst (λ (pairs : List Pair). IsLeast pairs from bytes (slot_of now))
+            (ap (λ (p : Pair). take slot (page_pairs bytes) ++ p ∷ []) (sym (there (key, content)))
+            ∙ sym (take_more (page_pairs bytes) slot (key, content) within)) least;
+      }
 
   -- the pass has its key behind it
   pub slot_passed : ahead ≡ false → next ≡ best
-      → IsLeast (take (slot + 1) (page_pairs bytes)) from bytes next
+      → IsBest (take (slot + 1) (page_pairs bytes)) from bytes next
   slot_passed not same =
       let none : IsAhead from key → ⊥ = λ is. (let now = ahead_is.1 is in cc) in
-      with_slot (subst (λ (b : Option ℕ).
-      IsLeast (take slot (page_pairs bytes) ++ (key, content) ∷ []) from bytes b) (sym same)
-      (best_over (take slot (page_pairs bytes)) ((key, content) ∷ []) from bytes best least
-      (none, tt)))
+      with_slot best same so_far.ranked
+      (best_over (take slot (page_pairs bytes)) ((key, content) ∷ []) from bytes best so_far.least
+      (none, tt))
+
+  slot_has : HasKeyAt key (page_pairs bytes) slot
+  slot_has = (within, λ d. ap (λ (p : Pair). p.0) (there d))
 
   slot_least : IsBucketPage bytes → ahead ≡ true
       → IsLeastAt ((key, content) ∷ []) from bytes slot
   slot_least page is = record {
     key = key;
     page = page;
-    has = (within, λ d. ap (λ (p : Pair). p.0) (there d));
+    has = slot_has;
     least = alone from key content (ahead_is.0 is);
   }
 
   -- its key isn't less than the least before it
-  pub slot_left : IsBucketPage bytes → ahead ≡ true → (better : Bool) → IsFirst best better
-      → IsLess bytes best bytes slot better → better ≡ false → next ≡ best
-      → IsLeast (take (slot + 1) (page_pairs bytes)) from bytes next
-  slot_left page is better first less not same =
-      with_slot (subst (λ (b : Option ℕ).
-      IsLeast (take slot (page_pairs bytes) ++ (key, content) ∷ []) from bytes b) (sym same)
-      (best_stays (take slot (page_pairs bytes)) ((key, content) ∷ []) from bytes bytes
-      slot (slot_least page is) best better least first less not))
+  pub slot_left : IsBucketPage bytes → ahead ≡ true → (better : Bool)
+      → IfNone best (IsTrue better) → IsBetter bytes best key better → better ≡ false
+      → next ≡ best → IsBest (take (slot + 1) (page_pairs bytes)) from bytes next
+  slot_left page is better first before not same =
+      with_slot best same so_far.ranked
+      (best_stays (take slot (page_pairs bytes)) ((key, content) ∷ []) from bytes bytes slot
+      (slot_least page is) key slot_has best better so_far.least first before not)
 
   -- it is less
   pub slot_taken : IsBucketPage bytes → ahead ≡ true → (better : Bool)
-      → IsFirst best better → IsLess bytes best bytes slot better → better ≡ true
-      → next ≡ Some slot
-      → IsLeast (take (slot + 1) (page_pairs bytes)) from bytes next
-  slot_taken page is better first less true_is now =
-      with_slot (subst (λ (b : Option ℕ).
-      IsLeast (take slot (page_pairs bytes) ++ (key, content) ∷ []) from bytes b) (sym now)
-      (best_changes (take slot (page_pairs bytes)) ((key, content) ∷ []) from bytes bytes
-      slot (slot_least page is) best better least first less true_is))
+      → IfNone best (IsTrue better) → IsBetter bytes best key better → better ≡ true
+      → (of : ℕ) → of ≡ rank (hash_of key) → next ≡ Some (record { slot = slot; rank = of })
+      → IsBest (take (slot + 1) (page_pairs bytes)) from bytes next
+  slot_taken page is better first before less of of_key now =
+      with_slot (Some (record { slot = slot; rank = of })) now
+      record { key = key; page = page; has = slot_has; rank_is = of_key }
+      (best_changes (take slot (page_pairs bytes)) ((key, content) ∷ []) from bytes bytes slot
+      (slot_least page is) key slot_has best better so_far.least first before less)

@@ -1,5 +1,5 @@
 -- What reads of a store tell their caller.
-use Rattle.std.proofs.Common.{◌≡◌, inl, inr, ⊎_elim, ℕ, zero, suc, ◌≤◌, true, false, Result, Ok, None, Some, Option, List, refl, sym, ◌∙◌, subst, arith}
+use Rattle.std.proofs.Common.{◌≡◌, ◌≢◌, inl, inr, ⊎_elim, ℕ, zero, suc, ◌≤◌, true, false, Result, Ok, None, Some, Option, List, refl, sym, ◌∙◌, subst, arith}
 use Rattle.std.specs.Prelude.{IfOk, IfSome}
 use Rattle.std.specs.Option.{ok_or}
 use Rattle.std.proofs.lemmas.Bool.{cases_lt, false≢true}
@@ -11,6 +11,9 @@ use Rattle.page_io.specs.Views.{body_at, ReadsOnly}
 use Rattle.page_io.specs.declared.store.PageStore.{Ghosts}
 use Rattle.page_io.proofs.StagedPages.{in_range, has_between}
 use Rattle.page_io.proofs.Views.{same_said}
+use Rattle.page_model.specs.Chain.{Chain}
+use Rattle.chain_walks.specs.Bests.{IsHeadRead}
+use Rattle.chain_walks.specs.Chains.{IsChainAt}
 use Rattle.chain_walks.specs.Links.{SaysLink}
 
 -- before the first call; `only` is the store's law `only_now`
@@ -104,3 +107,21 @@ module _ {S : Type 0} (s : Ghosts S) (old mid : S) (reads : ReadsOnly s old mid)
   link_after n kind next pairs link =
       subst (λ (at : ℕ → Body). SaysLink at n kind next pairs)
       (sym (same_said s old mid reads honest)) link
+
+  -- the page that was read first, for those who read on
+  pub head_after : (head n : ℕ) (pairs : List Pair) → SaysLink (body_at s old) head 3 n pairs
+      → 1 ≤ head → n ≢ 0 → IsHeadRead (body_at s mid) head n pairs
+  head_after head n pairs link some more = record {
+    says = link_after head 3 n pairs link;
+    some = some;
+    more = more;
+  }
+
+  pub chain_after : (head : ℕ) (chain : Chain)
+      → IsChainAt (body_at s old) (s.state old).end head chain
+      → IsChainAt (body_at s mid) (s.state mid).end head chain
+  chain_after head chain is =
+      subst (λ (at : ℕ → Body). IsChainAt at (s.state mid).end head chain)
+      (sym (same_said s old mid reads honest))
+      (subst (λ (state : StoreState). IsChainAt (body_at s old) state.end head chain)
+      (sym reads.same) is)

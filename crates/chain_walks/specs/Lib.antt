@@ -1,4 +1,5 @@
 pub mod Answers
+pub mod Bests
 pub mod Chains
 pub mod Leasts
 pub mod Links

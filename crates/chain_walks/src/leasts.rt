@@ -1,7 +1,6 @@
 //! The next key of a pass in a chain.
 
-ghost use Rattle.std.specs.Prelude.{◌≡◌, ◌↔◌, ◌++◌, ◌<◌, List, length, IfOk, IfSome, IfNone, IsErrOf, IsTrue};
-ghost use Rattle.std.specs.Option.{option_map};
+ghost use Rattle.std.specs.Prelude.{◌≡◌, ◌↔◌, ◌++◌, ◌<◌, ℕ, List, length, option_copied, IfOk, IfSome, IfNone, IsErrOf, IsTrue};
 ghost use Rattle.dbm_model.specs.KeyOrder.{ComesBefore};
 ghost use Rattle.dbm_model.specs.Pairs.{Key, Pair};
 ghost use Rattle.dbm_model.specs.Steps.{IsAhead};
@@ -11,79 +10,160 @@ ghost use Rattle.page_io.specs.Views.{body_at, ReadsOnly};
 ghost use Rattle.page_io.specs.declared.store.PageFault.TheVariants.{Damaged};
 ghost use Rattle.slot_page.specs.Contents.{IsBucketPage, HasKeyAt, page_pairs};
 ghost use Rattle.chain_walks.specs.Answers.{IsWalkAnswer};
+ghost use Rattle.chain_walks.specs.Bests.{pass_from, slot_of, IsRankedAt, IsHeadRead};
 ghost use Rattle.chain_walks.specs.Chains.{ForEachChain};
 ghost use Rattle.chain_walks.specs.Leasts.{pass_behind, IsLeast, IsLeastRead, IsAheadAt};
 
 use crate::link::{HEAD, OVERFLOW, read_link};
-use lin_addr::comes_before;
+use lin_addr::Ranked;
 use page_io::{Page, PageFault, PageStore};
 use slot_page::pair_at;
 
+/// The best key so far: its slot in its page, and its rank.
+#[derive(Clone, Copy)]
+struct Best {
+    slot: usize,
+    rank: u32,
+}
+
+fn slot_in(best: Option<Best>) -> Option<usize>
+    ensures { result ≡ slot_of best }
+{
+    best.map(|best| best.slot)
+}
+
+/// The last key of a pass, with its rank.
+fn ranked(last: Option<&[u8]>) -> Option<Ranked<'_>>
+    ensures { pass_from result ≡ pass_behind (option_copied last.entry) }
+{
+    last.map(Ranked::of)
+}
+
+/// The key of a page's best slot, with the rank that was taken of it.
+fn ranked_at(page: &Page, best: Best) -> Ranked<'_>
+    requires { IsRankedAt page.now.bytes best }
+    ensures { HasKeyAt result.key.now (page_pairs page.now.bytes) best.slot }
+{
+    Ranked {
+        key: pair_at(page, best.slot).0,
+        rank: best.rank,
+    }
+}
+
 /// Whether the pass that gave `last` has the key before it.
-fn is_behind(last: Option<&[u8]>, key: &[u8]) -> bool
-    ensures { IsTrue result
-        ↔ IsAhead (pass_behind (option_map (λ key. key.now) last.entry)) key.now }
+fn is_behind(last: Option<Ranked<'_>>, key: &Ranked<'_>) -> bool
+    ensures { IsTrue result ↔ IsAhead (pass_from last.entry) key.now.key.now }
 {
     match last {
-        Some(last) => comes_before(last, key),
+        Some(last) => last.comes_before(key),
         None => true,
     }
 }
 
-/// Whether the key in a slot of the page `look` comes before the best one so far, which is one of
-/// `page`.
-fn is_better(page: &Page, best: Option<usize>, look: &Page, slot: usize) -> bool
-    requires best { IfSome best (λ at. IsBucketPage page.now.bytes
-        × (at < length (page_pairs page.now.bytes))) }
-    requires look { IsBucketPage look.now.bytes }
-    requires within { slot < length (page_pairs look.now.bytes) }
+/// Whether the key comes before the best one so far, which is one of `page`.
+fn is_better(key: &Ranked<'_>, page: &Page, best: Option<Best>) -> bool
+    requires { IfSome best (IsRankedAt page.now.bytes) }
     ensures first { IfNone best (IsTrue result) }
-    ensures before { IfSome best (λ at. (key other : Key)
-        → HasKeyAt key (page_pairs look.now.bytes) slot
-        → HasKeyAt other (page_pairs page.now.bytes) at
-        → IsTrue result ↔ ComesBefore key other) }
+    ensures before { IfSome best (λ at. (other : Key)
+        → HasKeyAt other (page_pairs page.now.bytes) at.slot
+        → IsTrue result ↔ ComesBefore key.now.key.now other) }
 {
     match best {
-        Some(at) => comes_before(pair_at(look, slot).0, pair_at(page, at).0),
+        Some(best) => key.comes_before(&ranked_at(page, best)),
         None => true,
     }
 }
 
-/// The slot in which the page has the least of its keys behind `last`.
-fn least_in(page: &Page, last: Option<&[u8]>) -> Option<usize>
+/// The least of the page's keys behind `last`. Each hash is taken once.
+fn least_in(page: &Page, last: Option<Ranked<'_>>) -> Option<Best>
     requires { IsBucketPage page.now.bytes }
-    ensures { IsLeast (page_pairs page.now.bytes)
-        (pass_behind (option_map (λ key. key.now) last.entry)) page.now.bytes result }
+    ensures ranked { IfSome result (IsRankedAt page.now.bytes) }
+    ensures least { IsLeast (page_pairs page.now.bytes) (pass_from last.entry) page.now.bytes
+        (slot_of result) }
 {
     let mut best = None;
     for slot in 0..page.slots() as usize {
-        let (key, _) = pair_at(page, slot);
-        if is_behind(last, key) && is_better(page, best, page, slot) {
-            best = Some(slot);
+        let key = Ranked::of(pair_at(page, slot).0);
+        if is_behind(last, &key) && is_better(&key, page, best) {
+            best = Some(Best {
+                slot,
+                rank: key.rank,
+            });
         }
     }
     best
 }
 
-/// The slot of the lesser key: of the best one so far, which is one of `page`, or of the least of
-/// `look`; `page` is then its page.
-fn best_of(page: &mut Page, best: Option<usize>, look: &Page, last: Option<&[u8]>) -> Option<usize>
-    requires best { IfSome best (λ at. IsBucketPage page.old.bytes
-        × (at < length (page_pairs page.old.bytes))) }
+/// The lesser key: the best one so far, which is one of `page`, or the least of `look`; `page` is
+/// then its page.
+fn best_of(
+    page: &mut Page,
+    best: Option<Best>,
+    look: &Page,
+    last: Option<Ranked<'_>>,
+) -> Option<Best>
+    requires best { IfSome best (IsRankedAt page.old.bytes) }
     requires look { IsBucketPage look.now.bytes }
-    ensures { (pairs : List Pair)
-        → IsLeast pairs (pass_behind (option_map (λ key. key.now) last.entry)) page.old.bytes best
-        → IsLeast (pairs ++ page_pairs look.now.bytes)
-        (pass_behind (option_map (λ key. key.now) last.entry)) page.new.bytes result }
+    ensures ranked { IfSome result (IsRankedAt page.new.bytes) }
+    ensures least { (pairs : List Pair)
+        → IsLeast pairs (pass_from last.entry) page.old.bytes (slot_of best)
+        → IsLeast (pairs ++ page_pairs look.now.bytes) (pass_from last.entry) page.new.bytes
+        (slot_of result) }
 {
-    let Some(at) = least_in(look, last) else {
+    let Some(least) = least_in(look, last) else {
         return best;
     };
-    if !is_better(page, best, look, at) {
+    if !is_better(&ranked_at(look, least), page, best) {
         return best;
     }
     *page = *look;
-    Some(at)
+    Some(least)
+}
+
+/// The slot of the least key of a chain, where `best` is that of its head page, which is `page`, and
+/// the overflow pages begin at page `first`; `page` is then its page.
+fn least_with_overflow<S: PageStore>(
+    store: &mut S,
+    first: u32,
+    last: Option<Ranked<'_>>,
+    mut best: Option<Best>,
+    page: &mut Page,
+) -> Result<Option<usize>, PageFault>
+    requires { IfSome best (IsRankedAt page.old.bytes) }
+    ensures reads { ReadsOnly S.PageStore store.old store.new }
+    ensures cause { HasDeviceCause (S.faults store.old) (S.faults store.new) result }
+    ensures answer { IsWalkAnswer (S.state store.old) result }
+    ensures ahead { (pairs : List Pair)
+        → IsLeast pairs (pass_from last.entry) page.old.bytes (slot_of best)
+        → IfOk result (λ found. IfSome found (λ slot.
+        IsAheadAt (pass_from last.entry) page.new.bytes slot)) }
+    ensures walked { (head : ℕ) (pairs : List Pair) → S.honest store.old
+        → IsHeadRead (body_at S.PageStore store.old) head first pairs
+        → IsLeast pairs (pass_from last.entry) page.old.bytes (slot_of best)
+        → IfOk result (λ found. IsLeastRead (body_at S.PageStore store.old) head
+        (pass_from last.entry) page.new.bytes found) }
+    ensures exact { (head : ℕ) (pairs : List Pair)
+        → IsHeadRead (body_at S.PageStore store.old) head first pairs
+        → IsLeast pairs (pass_from last.entry) page.old.bytes (slot_of best)
+        → ForEachChain S.PageStore store.old head (λ chain.
+        IfOk result (λ found. IsLeast (pairs_in chain) (pass_from last.entry) page.new.bytes
+        found)) }
+    ensures whole { (head : ℕ) (pairs : List Pair)
+        → IsHeadRead (body_at S.PageStore store.old) head first pairs
+        → IsLeast pairs (pass_from last.entry) page.old.bytes (slot_of best)
+        → ForEachChain S.PageStore store.old head (λ chain. IsErrOf result Damaged → ⊥) }
+{
+    let mut look = Page::blank();
+    let mut at = first;
+    for _step in 1..store.end() {
+        let next = read_link(store, at, OVERFLOW, &mut look)?;
+        best = best_of(page, best, &look, last);
+        if next == 0 {
+            return Ok(slot_in(best));
+        }
+        at = next;
+    }
+    Err(PageFault::Damaged)
 }
 
 /// The slot of the least key behind `last` in the chain from page `head` on, in the order of a pass,
@@ -102,31 +182,24 @@ pub fn least_behind<S: PageStore>(
 
     // On any bytes a key is answered that is behind `last`.
     ensures ahead { IfOk result (λ found. IfSome found (λ slot.
-        IsAheadAt (pass_behind (option_map (λ key. key.now) last.entry)) page.new.bytes slot)) }
+        IsAheadAt (pass_behind (option_copied last.entry)) page.new.bytes slot)) }
 
     // On any file all pages of the chain were read.
     ensures walked { S.honest store.old
         → IfOk result (λ found. IsLeastRead (body_at S.PageStore store.old) head
-        (pass_behind (option_map (λ key. key.now) last.entry)) page.new.bytes found) }
+        (pass_behind (option_copied last.entry)) page.new.bytes found) }
 
     // On a chain that is read as one it is the least of its keys, and Damaged is never answered.
     ensures exact { ForEachChain S.PageStore store.old head (λ chain.
         IfOk result (λ found. IsLeast (pairs_in chain)
-        (pass_behind (option_map (λ key. key.now) last.entry)) page.new.bytes found)) }
+        (pass_behind (option_copied last.entry)) page.new.bytes found)) }
     ensures whole { ForEachChain S.PageStore store.old head (λ chain. IsErrOf result Damaged → ⊥) }
 {
-    let mut look = Page::blank();
-    let mut best = None;
-    let mut at = head;
-    let mut kind = HEAD;
-    for _step in 0..store.end() {
-        let next = read_link(store, at, kind, &mut look)?;
-        best = best_of(page, best, &look, last);
-        if next == 0 {
-            return Ok(best);
-        }
-        at = next;
-        kind = OVERFLOW;
+    let last = ranked(last);
+    let next = read_link(store, head, HEAD, page)?;
+    let best = least_in(page, last);
+    if next == 0 {
+        return Ok(slot_in(best));
     }
-    Err(PageFault::Damaged)
+    least_with_overflow(store, next, last, best, page)
 }

@@ -3,7 +3,7 @@
 
 ghost use Rattle.std.specs.Prelude.{◌≡◌, ◌↔◌, ◌<◌, ◌^◌, IsTrue};
 ghost use Rattle.dbm_model.specs.KeyOrder as order;
-ghost use Rattle.dbm_model.specs.KeyOrder.{ComesBefore};
+ghost use Rattle.dbm_model.specs.KeyOrder.{hash_of, ComesBefore};
 
 use crate::hash;
 
@@ -16,11 +16,36 @@ pub fn rank(hash: u32) -> u32
     hash.reverse_bits()
 }
 
+/// A key with the rank of its hash, which is taken once.
+#[derive(Clone, Copy)]
+pub struct Ranked<'a> {
+    pub key: &'a [u8],
+    pub rank: u32,
+    pub ghost is_rank: { rank ≡ order.rank (hash_of key.now) },
+}
+
+impl<'a> Ranked<'a> {
+    /// The key with its rank.
+    pub fn of(key: &'a [u8]) -> Ranked<'a>
+        ensures { result.key.now ≡ key.now }
+    {
+        Ranked {
+            key,
+            rank: rank(hash(key)),
+        }
+    }
+
+    /// Whether the key comes before another one in a pass.
+    pub fn comes_before(&self, other: &Ranked<'_>) -> bool
+        ensures { IsTrue result ↔ ComesBefore self.now.key.now other.now.key.now }
+    {
+        self.rank < other.rank || (self.rank == other.rank && self.key < other.key)
+    }
+}
+
 /// Whether a key comes before another one in a pass.
 pub fn comes_before(key: &[u8], other: &[u8]) -> bool
     ensures { IsTrue result ↔ ComesBefore key.now other.now }
 {
-    let here = rank(hash(key));
-    let there = rank(hash(other));
-    here < there || (here == there && key < other)
+    Ranked::of(key).comes_before(&Ranked::of(other))
 }

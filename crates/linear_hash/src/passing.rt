@@ -1,7 +1,6 @@
 //! A pass over all keys, in the order of the ranks of their hashes.
 
-ghost use Rattle.std.specs.Prelude.{IfOk, IfSome, IsErrOf};
-ghost use Rattle.std.specs.Option.{option_map};
+ghost use Rattle.std.specs.Prelude.{option_copied, IfOk, IfSome, IsErrOf};
 ghost use Rattle.page_model.specs.Placement.{pairs_of};
 ghost use Rattle.page_model.specs.Valid.{IsMeta};
 ghost use Rattle.page_io.specs.Answers.{HasDeviceCause};
@@ -35,17 +34,17 @@ pub fn next_pair<S: PageStore>(
 
     // On any bytes a key is answered that is behind `last`.
     ensures ahead { IfOk result (λ found. IfSome found (λ slot.
-        IsAheadAt (pass_behind (option_map (λ key. key.now) last.entry)) page.new.bytes slot)) }
+        IsAheadAt (pass_behind (option_copied last.entry)) page.new.bytes slot)) }
 
     // On any file the buckets were read from that of `last` on, in their order.
     ensures passed { S.honest store.old
         → IfOk result (IsPassed (body_at S.PageStore store.old) (model_meta meta.now)
-        (pass_behind (option_map (λ key. key.now) last.entry)) page.new.bytes) }
+        (pass_behind (option_copied last.entry)) page.new.bytes) }
 
     // On pages that say a good placement it is the least of all keys, and Damaged is never
     // answered.
     ensures exact { ForEachTable S.PageStore store.old (model_meta meta.now) (λ p.
-        IfOk result (IsLeast (pairs_of p) (pass_behind (option_map (λ key. key.now) last.entry))
+        IfOk result (IsLeast (pairs_of p) (pass_behind (option_copied last.entry))
         page.new.bytes)) }
     ensures whole { ForEachTable S.PageStore store.old (model_meta meta.now) (λ p.
         IsErrOf result Damaged → ⊥) }

@@ -1,69 +1,56 @@
-use Rattle.std.proofs.Common.{◌≡◌, inl, inr, refl, ap, Err, arith}
-use Rattle.std.proofs.lemmas.Result.{err_from_is_err_and}
-use Rattle.page_io.specs.Views.{body_at}
-use Rattle.page_io.specs.declared.store.PageFault.TheVariants.{Damaged}
-use Rattle.page_io.proofs.Views.{reads_then}
-use Rattle.chain_walks.proofs.ReadPages.{reads_none, still_honest, link_before, link_after}
-use Rattle.chain_walks.proofs.Walks.{walk_is_here, some_page, not_too_long}
-use Rattle.chain_walks.proofs.LeastKeys.{best_ahead}
-use Rattle.chain_walks.proofs.LeastWalks.{best_of_none, best_goes_on, best_is_read, best_is_least}
+use Rattle.std.proofs.Common.{ℕ, IfOk, subst}
+use Rattle.page_model.specs.Pages.{Body}
+use Rattle.page_io.proofs.Views.{same_said}
+use Rattle.chain_walks.specs.Bests.{pass_from}
+use Rattle.chain_walks.specs.Leasts.{IsLeastRead}
+use Rattle.chain_walks.proofs.ReadPages.{still_honest, head_after, chain_after}
+use Rattle.chain_walks.proofs.LeastWalks.{head_is_read, head_is_least}
 use Rattle.chain_walks.proofs.leasts.least_behind.Goals as goal
-
-pub loop-step-init : goal.loop-step-init
-loop-step-init g c = record {
-  kinds = inl refl;
-  reads = reads_none g.S.PageStore c.args.store.now
-      (λ y h left. g.met.S.PageStore.only_now c.args.store.now y h left);
-  so_far = best_of_none _ (body_at g.S.PageStore c.args.store.now) c.args.head _ _;
-}
-
-pub returns-in_err-next-clause-whole : goal.returns-in_err-next-clause-whole
-returns-in_err-next-clause-whole g c honest chain is damaged =
-    let loaded = c.loop-step.invariant.so_far.loaded honest in
-    let reads = c.loop-step.invariant.reads in
-    let here = walk_is_here _ _ _ _ _ _ _ chain is loaded.walk in
-    let some = some_page _ _ _ _ _ _ _ chain is loaded.walk in
-    let p = err_from_is_err_and c.from_residual.result c.from_residual.ensures.1 in
-    let fault : c.in_err-next.field-0.0 ≡ Damaged = let e = rw (p.1, p.2) at damaged in cc in
-    c.in_err-next.ensures.whole (still_honest g.S.PageStore _ _ reads honest) _ _ some
-    (link_after g.S.PageStore _ _ reads honest _ _ _ _ here.link) (ap Err fault)
-
-pub returns-then-next-eq0-clause-ahead : goal.returns-then-next-eq0-clause-ahead
-returns-then-next-eq0-clause-ahead g c =
-    let so_far = c.loop-step.invariant.so_far in
-    best_ahead _ _ _ _ (c.best_of-best.ensures so_far.pairs so_far.least)
 
 pub returns-then-next-eq0-clause-walked : goal.returns-then-next-eq0-clause-walked
 returns-then-next-eq0-clause-walked g c honest =
-    let so_far = c.loop-step.invariant.so_far in
-    let link = link_before g.S.PageStore _ _ c.loop-step.invariant.reads honest _ _ _ _
-    c.in_ok-next.ensures.says in
-    best_is_read _ _ _ _ _ _ _ _ _ _ _ _ _ so_far
-    (c.best_of-best.ensures so_far.pairs so_far.least) c.in_ok-next.ensures.known.0 honest link
-    c.if-next-eq0.true
+    rw (c.slot_in.ensures, ← c.ranked-last.ensures)
+    (head_is_read _ _ _ _ _ _ _ c.least_in-best.ensures.least c.in_ok-next.ensures.known.0
+    (c.in_ok-next.ensures.says honest) c.if-next-eq0.true)
 
 pub returns-then-next-eq0-clause-exact : goal.returns-then-next-eq0-clause-exact
 returns-then-next-eq0-clause-exact g c honest chain is =
-    let so_far = c.loop-step.invariant.so_far in
-    let link = link_before g.S.PageStore _ _ c.loop-step.invariant.reads honest _ _ _ _
-    c.in_ok-next.ensures.says in
-    best_is_least _ _ _ _ _ _ _ _ _ _ _ _ _ so_far
-    (c.best_of-best.ensures so_far.pairs so_far.least) c.in_ok-next.ensures.known.0 honest link
-    _ chain is c.if-next-eq0.true
+    rw (c.slot_in.ensures, ← c.ranked-last.ensures)
+    (head_is_least _ _ _ _ _ _ _ c.least_in-best.ensures.least c.in_ok-next.ensures.known.0
+    (c.in_ok-next.ensures.says honest) c.if-next-eq0.true _ chain is)
 
-pub loop-step-preserved : goal.loop-step-preserved
-loop-step-preserved g c = record {
-  kinds = inr refl;
-  reads = reads_then g.S.PageStore _ _ _ (g.met.S.PageStore.counts_now c.loop-step.store)
-      c.loop-step.invariant.reads c.in_ok-next.ensures.reads;
-  so_far = let so_far = c.loop-step.invariant.so_far in
-      best_goes_on _ _ _ _ _ _ _ _ _ _ _ _ _ so_far
-      (c.best_of-best.ensures so_far.pairs so_far.least) c.in_ok-next.ensures.known.0
-      (λ honest. link_before g.S.PageStore _ _ c.loop-step.invariant.reads honest _ _ _ _
-      c.in_ok-next.ensures.says) c.if-next-eq0.false;
-}
+pub returns-clause-ahead : goal.returns-clause-ahead
+returns-clause-ahead g c =
+    rw (← c.ranked-last.ensures)
+    (c.least_with_overflow.ensures.ahead _ c.least_in-best.ensures.least)
+
+pub returns-clause-walked : goal.returns-clause-walked
+returns-clause-walked g c honest =
+    let reads = c.in_ok-next.ensures.reads in
+    let read = head_after g.S.PageStore _ _ reads honest _ _ _ (c.in_ok-next.ensures.says honest)
+    c.in_ok-next.ensures.known.0 c.if-next-eq0.false in
+    rw (← c.ranked-last.ensures)
+    (subst (λ (at : ℕ → Body). IfOk c.least_with_overflow.result (λ found.
+    IsLeastRead at c.args.head (pass_from c.ranked-last.result)
+    c.least_with_overflow.new.page.bytes found)) (same_said g.S.PageStore _ _ reads honest)
+    (c.least_with_overflow.ensures.walked _ _ (still_honest g.S.PageStore _ _ reads honest) read
+    c.least_in-best.ensures.least))
+
+pub returns-clause-exact : goal.returns-clause-exact
+returns-clause-exact g c honest chain is =
+    let reads = c.in_ok-next.ensures.reads in
+    let read = head_after g.S.PageStore _ _ reads honest _ _ _ (c.in_ok-next.ensures.says honest)
+    c.in_ok-next.ensures.known.0 c.if-next-eq0.false in
+    rw (← c.ranked-last.ensures)
+    (c.least_with_overflow.ensures.exact _ _ read c.least_in-best.ensures.least
+    (still_honest g.S.PageStore _ _ reads honest) chain
+    (chain_after g.S.PageStore _ _ reads honest _ chain is))
 
 pub returns-clause-whole : goal.returns-clause-whole
-returns-clause-whole g c honest chain is damaged =
-    not_too_long _ _ _ _ _ _ _ chain is
-    (c.loop-step.invariant.so_far.loaded honest).walk (omega arith)
+returns-clause-whole g c honest chain is =
+    let reads = c.in_ok-next.ensures.reads in
+    let read = head_after g.S.PageStore _ _ reads honest _ _ _ (c.in_ok-next.ensures.says honest)
+    c.in_ok-next.ensures.known.0 c.if-next-eq0.false in
+    c.least_with_overflow.ensures.whole _ _ read c.least_in-best.ensures.least
+    (still_honest g.S.PageStore _ _ reads honest) chain
+    (chain_after g.S.PageStore _ _ reads honest _ chain is)

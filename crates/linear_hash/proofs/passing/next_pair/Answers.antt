@@ -1,5 +1,4 @@
-use Rattle.std.proofs.Common.{◌≡◌, ℕ, ◌-◌, ◌^◌, ◌<◌, ◌≤◌, List, Option, Some, None, MatchOption, Bor, inl, sym, subst, arith, rules}
-use Rattle.std.specs.Option.{option_map}
+use Rattle.std.proofs.Common.{◌≡◌, ℕ, ◌-◌, ◌^◌, ◌<◌, ◌≤◌, List, Option, Some, None, MatchOption, option_copied, Bor, inl, sym, subst, arith, rules}
 use Rattle.dbm_model.specs.KeyOrder.{rank}
 use Rattle.dbm_model.specs.States.{Pass}
 use Rattle.page_model.specs.Chain.{pairs_in}
@@ -28,7 +27,7 @@ use Rattle.linear_hash.proofs.passing.next_pair.Goals as goal
 
 -- where the pass stands
 abbrev from_of : Option (Bor (List ℕ)) → Pass
-from_of last = pass_behind (option_map (λ (key : Bor (List ℕ)). key.now) last)
+from_of last = pass_behind (option_copied last)
 
 at_most : {n : ℕ} → n ≤ 16 → n ≤ 17
 at_most low = omega arith

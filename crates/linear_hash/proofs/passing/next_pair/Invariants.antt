@@ -1,5 +1,4 @@
-use Rattle.std.proofs.Common.{ℕ, ◌-◌, ◌^◌, ◌<◌, List, Bor}
-use Rattle.std.specs.Option.{option_map}
+use Rattle.std.proofs.Common.{ℕ, ◌-◌, ◌^◌, ◌<◌, option_copied}
 use Rattle.dbm_model.specs.KeyOrder.{rank}
 use Rattle.page_model.specs.Valid.{meta_buckets}
 use Rattle.page_io.specs.Views.{body_at, ReadsOnly}
@@ -15,14 +14,13 @@ abbrev pub invariant-loop-head : goal.invariant-loop-head
 invariant-loop-head g l = record {
   reads : ReadsOnly g.S.PageStore l.fn.store l.store;
   within : l.bucket < meta_buckets (model_meta l.meta);
-  to_read : IsToRead (model_meta l.meta)
-      (pass_behind (option_map (λ (key : Bor (List ℕ)). key.now) l.fn.last)) l.bucket;
+  to_read : IsToRead (model_meta l.meta) (pass_behind (option_copied l.fn.last)) l.bucket;
   passed : g.S.PageStore.honest l.fn.store
       → HaveNone (body_at g.S.PageStore l.fn.store) (model_meta l.meta)
-      (pass_behind (option_map (λ (key : Bor (List ℕ)). key.now) l.fn.last))
+      (pass_behind (option_copied l.fn.last))
       (λ other. Precedes (shape_in (model_meta l.meta)) other l.bucket);
   left : ForEachTable g.S.PageStore l.fn.store (model_meta l.meta) (λ p.
-      IsLeft p (pass_behind (option_map (λ (key : Bor (List ℕ)). key.now) l.fn.last)) l.bucket);
+      IsLeft p (pass_behind (option_copied l.fn.last)) l.bucket);
 }
 
 -- the ranks of the buckets rise

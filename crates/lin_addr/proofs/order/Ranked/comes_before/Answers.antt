@@ -1,10 +1,10 @@
-use Rattle.std.proofs.Common.{◌≡◌, ◌↔◌, ℕ, Bool, IsTrue, refl, ap, ◌∙◌, nat_cmp, Less, Equal, Greater, rules}
+use Rattle.std.proofs.Common.{◌≡◌, ◌↔◌, ℕ, Bool, IsTrue, refl, sym, ap, ◌∙◌, nat_cmp, Less, Equal, Greater}
 use Rattle.std.specs.Cmp.{nat_cmp_is}
 use Rattle.std.specs.Cmp.Lexicographic.{slice_cmp, lists_agrees}
 use Rattle.std.specs.Ordering.{ordering_then, is_lt, is_some_and}
 use Rattle.std.specs.declared.cmp.Ordering.{Ordering}
 use Rattle.dbm_model.specs.KeyOrder.{rank, hash_of}
-use Rattle.lin_addr.proofs.order.comes_before.Goals as goal
+use Rattle.lin_addr.proofs.order.Ranked.comes_before.Goals as goal
 
 is_less : (o : Ordering) → IsTrue (is_lt o) ↔ (o ≡ Less)
 is_less Less = (λ _. refl, λ _. refl)
@@ -18,10 +18,12 @@ by_bytes a b o t e is =
     let tied : Equal ≡ nat_cmp a b = nat_cmp_is a b Equal e in
     rw (is, ← tied) (is_less o)
 
-pub returns-then-here-there-2 : goal.returns-then-here-there-2
-returns-then-here-there-2 c =
-    by_bytes (rank (hash_of c.args.key.now)) (rank (hash_of c.args.other.now))
-    (slice_cmp nat_cmp c.args.key.now c.args.other.now) c.lt.result
-    (search rules)
+pub returns-then-self-other-2 : goal.returns-then-self-other-2
+returns-then-self-other-2 c =
+    let here = c.args.self.now in
+    let there = c.args.other.now in
+    by_bytes (rank (hash_of here.key.now)) (rank (hash_of there.key.now))
+    (slice_cmp nat_cmp here.key.now there.key.now) c.lt.result
+    (sym here.is_rank ∙ c.if-self-other-2.true ∙ there.is_rank)
     (c.lt.ensures ∙ ap (is_some_and is_lt)
-    (lists_agrees (λ _ _. refl) c.args.key.now c.args.other.now))
+    (lists_agrees (λ _ _. refl) here.key.now there.key.now))

@@ -1,0 +1,19 @@
+use Rattle.std.proofs.Common.{ℕ, List, IfSome}
+use Rattle.dbm_model.specs.Pairs.{Pair}
+use Rattle.page_io.specs.Views.{body_at, ReadsOnly}
+use Rattle.chain_walks.specs.Bests.{pass_from, slot_of, IsRankedAt, IsHeadRead}
+use Rattle.chain_walks.specs.Leasts.{IsLeast}
+use Rattle.chain_walks.proofs.LeastWalks.{IsBestSoFar}
+use Rattle.chain_walks.proofs.leasts.least_with_overflow.Given as goal
+
+abbrev pub invariant-loop-step : goal.invariant-loop-step
+invariant-loop-step g l = record {
+  reads : ReadsOnly g.S.PageStore l.fn.store l.store;
+  ranked : IfSome l.best (IsRankedAt l.page.bytes);
+  so_far : (head : ℕ) (pairs : List Pair)
+      → IsLeast pairs (pass_from l.last) l.fn.page.bytes (slot_of l.fn.best)
+      → IsBestSoFar (g.S.PageStore.honest l.fn.store
+      × IsHeadRead (body_at g.S.PageStore l.fn.store) head l.fn.first pairs)
+      (body_at g.S.PageStore l.fn.store) head l.at 4 l._step (pass_from l.last)
+      l.page.bytes (slot_of l.best);
+}
