@@ -200,6 +200,7 @@ same_goes {S} {s} old new store meta = record {
   limit = ap (λ m. m.limit) meta;
   capacity = ap (λ (x : S). (s.state x).capacity) store;
   writable = ap (λ (x : S). (s.state x).writable) store;
+  base = ap (λ (x : S). (s.state x).base) store;
   still = λ broken. store;
 }
 

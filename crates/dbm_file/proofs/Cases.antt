@@ -51,7 +51,7 @@ store_read_only s key content mode usable reads =
 
 module _ (s : State) (key content : List ℕ) (mode : Mode) (usable : s.usable ≡ true)
     (writable : s.writable ≡ true) where
-  by_length : case_of s (Store key content mode)
+  pub by_length : case_of s (Store key content mode)
       ≡ cond (nat_le (length key + length content) 2026) (stored s key content mode (get s.map key))
       (Refuses TooLong)
   by_length =

@@ -56,6 +56,12 @@ forgotten_room old new fault (inr broke) = (
   ap (λ (st : store.StoreState). st.end) broke.1,
 )
 
+-- and over the same store
+forgotten_base : (old new : store.StoreState) (fault : PageFault) → IsForgotten old new fault
+    → new.base ≡ old.base
+forgotten_base old new fault (inl same) = ap (λ (st : store.StoreState). st.base) same
+forgotten_base old new fault (inr broke) = ap (λ (st : store.StoreState). st.base) broke.1
+
 -- What is known when a change begins: the call asks for it, after no more than a read.
 pub record IsAsked {S : Type 0} (s : Ghosts S) (old mid : Database S s) (map changed : Contents)
     (call : model.Call) (said : model.Reply) : Type 0 where
@@ -386,6 +392,8 @@ module _ {S : Type 0} (s : Ghosts S) (old mid new : Database S s) (read : IsRead
           capacity = was.capacity;
           writable = forgotten_writable (page_state mid) (page_state new) e ended.ends.err.0
               ∙ still_writable s old mid read;
+          base = forgotten_base (page_state mid) (page_state new) e ended.ends.err.0
+              ∙ ap (λ (st : store.StoreState). st.base) read.reads.same;
           still = λ broken. absurd (let x = broken in cc);
         };
         fault = λ is. more_later _ _ _ read.reads.stages_only.later

@@ -299,8 +299,8 @@ module _ {S : Type 0} {s : Ghosts S} where
             limit = k.goes.limit;
             capacity = k.goes.capacity;
             writable = k.goes.writable;
-            still = λ broken.
-                k.goes.still broken;
+            base = k.goes.base;
+            still = λ broken. k.goes.still broken;
           };
           fault = λ is. k.fault is;
           no_error = k.no_error;
@@ -359,6 +359,8 @@ module _ {S : Type 0} {s : Ghosts S} where
       capacity = ap (λ (st : StoreState). st.capacity) done.ends.ok
           ∙ ap (λ (st : StoreState). st.capacity) read.reads.same;
       writable = ap (λ (st : StoreState). st.writable) done.ends.ok ∙ still_writable s old mid read;
+      base = ap (λ (st : StoreState). st.base) done.ends.ok
+          ∙ ap (λ (st : StoreState). st.base) read.reads.same;
       still = λ broken. absurd (let x = sym usable ∙ broken in cc);
     };
     fault = λ is. absurd (let x = is in cc);

@@ -22,6 +22,7 @@ use Rattle.dbm_fault.specs.Faults.{fault_from}
 use Rattle.page_commit.specs.Committing.{Holds}
 use Rattle.linear_hash.specs.Looking.{IsHeld, IsFound}
 use Rattle.dbm_file.specs.Lending.{Lends}
+use Rattle.dbm_file.specs.Passing.{model_pass}
 use Rattle.dbm_file.specs.Database.{store_of, meta_kept, page_state, handle_of}
 use Rattle.dbm_file.specs.Trying.{with_fault, IsRead}
 use Rattle.dbm_fault.specs.declared.fault.Fault.{Fault}
@@ -103,6 +104,7 @@ fetched_well s old new key found read usable is = record {
       (fetch_rule (handle_of old map).state key (option_map (λ b. b.now) found) usable
       (sym (is honest map (at.map usable))) ∙ finds found));
   keeps = read_keeps s old new read usable found;
+  stands = ap model_pass read.pass_is;
 }
 
 -- a fetch that failed, and whose fault was then kept as the first one
@@ -135,6 +137,7 @@ module _ {S : Type 0} (s : Ghosts S) (db : Database S s) (key : Key)
             (fetch_fails (handle_of old map) reply after fails (get map key))));
         keeps = refused_keeps s old db read usable (Option (Bor (List ℕ))) (fault_from e)
             (walk_more s old db e answer cause) (walk_sound s old e usable answer);
+        stands = tt;
       })
 
 -- what a refused fetch answers

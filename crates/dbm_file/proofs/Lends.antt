@@ -82,6 +82,7 @@ module _ {S : Type 0} (s : Ghosts S) (db : Database S s) (call : model.Call) (no
             capacity = f.keeps.goes.capacity;
             writable =
                 f.keeps.goes.writable;
+            base = f.keeps.goes.base;
             still = λ broken. f.keeps.goes.still broken;
           };
           fault = λ e. f.keeps.fault e;
@@ -91,6 +92,7 @@ module _ {S : Type 0} (s : Ghosts S) (db : Database S s) (call : model.Call) (no
           breaks = f.keeps.breaks;
           broken = f.keeps.broken;
         };
+        stands = tt;
       })
 
   -- the database was broken
@@ -104,6 +106,7 @@ module _ {S : Type 0} (s : Ghosts S) (db : Database S s) (call : model.Call) (no
             (broken_step s db h.state.map call broken
             (rule (handle_of db h.state.map) broken));
         keeps = broken_keeps (Option (Bor (List ℕ))) s db broken;
+        stands = tt;
       })
 
 -- nothing is lent

@@ -9,6 +9,8 @@ pub mod Endings
 pub mod EnoughRoom
 pub mod FetchSteps
 pub mod GoodFiles
+pub mod GroupEnds
+pub mod GroupSteps
 pub mod Lends
 pub mod OpenedFiles
 pub mod PassKeys

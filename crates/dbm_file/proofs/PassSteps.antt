@@ -1,6 +1,6 @@
 -- Calls of a pass, as steps.
 use Rattle.std.proofs.Common.{◌≡◌, ◌≢◌, ⊎_elim, inl, inr, IfErr, ℕ, zero, suc, ◌+◌, ◌<◌, ◌≤◌, List, [], ◌∷◌, length, Bool, true, false, cond, is_some, Option, Some, None, Result, Ok, Err, IsErrOf, slice_index_or, refl, sym, ◌∙◌, ap, subst, arith}
-use Rattle.std.specs.Prelude.{◌↔◌, IsTrue}
+use Rattle.std.specs.Prelude.{◌↔◌, IfOk, IsTrue}
 use Rattle.std.specs.Borrow.{Bor}
 use Rattle.std.specs.List.{HoldsAt}
 use Rattle.std.specs.FinMap as finmap
@@ -31,7 +31,7 @@ use Rattle.dbm_file.specs.Answers.{MayBeLeft, StandsForSome, Survives, IsStep, I
 use Rattle.dbm_file.specs.Calls.{Lent, lent_reply}
 use Rattle.dbm_file.specs.Database.{store_of, meta_kept, page_state, error_of, handle_of, IsAt}
 use Rattle.dbm_file.specs.Lending.{Lends}
-use Rattle.dbm_file.specs.Passing.{pass_of, pass_from}
+use Rattle.dbm_file.specs.Passing.{pass_of, pass_from, pass_at, pass_after}
 use Rattle.dbm_file.specs.Trying.{with_fault, IsRead, slot_reply}
 use Rattle.dbm_file.specs.declared.database.Database.{Database}
 use Rattle.dbm_file.specs.declared.pass.Pass as code
@@ -247,6 +247,7 @@ keeps_passed old new value k = record {
     capacity =
         k.goes.capacity;
     writable = k.goes.writable;
+    base = k.goes.base;
     still = λ broken. k.goes.still broken;
   };
   fault = λ is. k.fault is;
@@ -331,13 +332,28 @@ pub passed_lends : {S : Type 0} (s : Ghosts S) (old new : Database S s) (call : 
     → (s.honest (store_of old) → (h : Handle) → IsAt old h
     → IsStep old new h call (slot_reply bytes r))
     → slot_reply bytes r ≡ lent_reply model.End lent → IsCallEnded old new lent
+    → IfOk lent (λ found. pass_of new ≡ pass_after call found (pass_of old))
     → Lends call (lent_reply model.End) old lent new
-passed_lends s old new call bytes r lent step same keeps =
+passed_lends s old new call bytes r lent step same keeps stands =
     record {
       step = λ honest h at.
           subst (λ (reply : model.Reply). IsStep old new h call reply) same (step honest h at);
       keeps = keeps;
+      stands = stands;
     }
+
+-- a pass that found a slot stands behind its key
+pub stands_behind : (new from : Pass) (bytes : List ℕ) (found : Option ℕ) (slot : ℕ)
+    (pair : Bor (List ℕ) × Bor (List ℕ)) → new ≡ pass_at from bytes found → found ≡ Some slot
+    → HoldsAt (λ p. p ≡ (pair.0.now, pair.1.now)) (page_pairs bytes) slot
+    → new ≡ Behind pair.0.now
+stands_behind new from bytes found slot pair stands some read =
+    stands ∙ ap (pass_at from bytes) some ∙ ap (λ (p : Pair). Behind p.0) (read ([], []))
+
+-- one that found none stands where it was
+pub stands_still : (new from : Pass) (bytes : List ℕ) (found : Option ℕ)
+    → new ≡ pass_at from bytes found → found ≡ None → new ≡ from
+stands_still new from bytes found stands none = stands ∙ ap (pass_at from bytes) none
 
 -- a first key, by the step of a pass that begins
 pub first_step : {S : Type 0} (s : Ghosts S) (db new : Database S s) (reply : model.Reply)
@@ -385,6 +401,7 @@ no_pass_lends s db off usable now = record {
       (no_pass_rule (handle_of db map).state usable off));
   keeps = refused_keeps s db db (no_read s db now) usable (Option (Bor (List ℕ))) NoPass
       (λ is. absurd (let e = is in cc)) (λ is. absurd (let e = is in cc));
+  stands = tt;
 }
 
 small_key_at : (pairs : List Pair) (i : ℕ) (d : Pair) → i < length pairs → taken pairs ≤ 2032

@@ -375,6 +375,7 @@ module _ {S : Type 0} (s : Ghosts S) (old new : Database S s) (read : IsRead old
     limit = still_limit s old new read;
     capacity = still_capacity s old new read;
     writable = still_writable s old new read;
+    base = ap (λ (st : store.StoreState). st.base) read.reads.same;
     still = λ broken. absurd (let e = broken in cc);
   }
 
@@ -400,8 +401,8 @@ module _ {S : Type 0} (s : Ghosts S) (old new : Database S s) (read : IsRead old
       limit = read_goes.limit;
       capacity = read_goes.capacity;
       writable = read_goes.writable;
-      still = λ broken.
-          read_goes.still broken;
+      base = read_goes.base;
+      still = λ broken. read_goes.still broken;
     };
     fault = λ is. more (let e = is in cc);
     no_error = tt;
@@ -425,6 +426,7 @@ broken_keeps T s old broken = record {
     limit = refl;
     capacity = refl;
     writable = refl;
+    base = refl;
     still = λ is. refl;
   };
   fault = λ is. absurd (let e = is in cc);

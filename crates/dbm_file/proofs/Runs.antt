@@ -197,6 +197,7 @@ goes_nowhere db = record {
   capacity =
       refl;
   writable = refl;
+  base = refl;
   still = λ broken. refl;
 }
 
@@ -208,6 +209,7 @@ still_goes {S} {s} old mid new first second = record {
   limit = second.limit ∙ first.limit;
   capacity = second.capacity ∙ first.capacity;
   writable = second.writable ∙ first.writable;
+  base = second.base ∙ first.base;
   still = λ broken. second.still
       (ap (λ (store : S). (s.state store).usable) (first.still broken) ∙ broken)
       ∙ first.still broken;

@@ -52,6 +52,7 @@ pub record IsSameDatabase {S : Type 0} {s : Ghosts S} (old new : Database S s) :
   pub limit : (meta_kept new).limit ≡ (meta_kept old).limit
   pub capacity : (page_state new).capacity ≡ (page_state old).capacity
   pub writable : (page_state new).writable ≡ (page_state old).writable
+  pub base : (page_state new).base ≡ (page_state old).base
   -- a broken one makes no device call
   pub still : (page_state old).usable ≡ false → store_of new ≡ store_of old
 

@@ -3,6 +3,8 @@ pub mod Calls
 pub mod Changing
 pub mod Database
 pub mod Ending
+pub mod Grouping
+pub mod Groups
 pub mod Lending
 pub mod Named
 pub mod Opened

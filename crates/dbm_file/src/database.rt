@@ -50,7 +50,7 @@ impl<S: PageStore> Database<S> {
     ghost use Rattle.dbm_file.specs.Answers.{IsStep, IsCallEnded};
     ghost use Rattle.dbm_file.specs.Lending.{Lends};
     ghost use Rattle.dbm_file.specs.Replies.{store_faults, delete_faults, read_faults, next_faults};
-    ghost use Rattle.dbm_file.specs.Passing.{pass_of, pass_from};
+    ghost use Rattle.dbm_file.specs.Passing.{pass_of, pass_from, pass_at};
     ghost use Rattle.dbm_file.specs.Searches.{Searched, EndsWith, EndsBy, EndsAtContent, Passed, WentOn, LacksPass};
     ghost use Rattle.dbm_file.specs.Ending.{EndsAs};
     ghost use Rattle.dbm_file.specs.Trying.{with_error_of, IsRead, IsStoreEnd, IsDeleteEnd, slot_reply};
@@ -117,6 +117,7 @@ impl<S: PageStore> Database<S> {
         // On any file a store takes memory only where there are eight pairs to a bucket.
         ensures memory { result ≡ Err Fault.Memory → HasFullBuckets (meta_kept self.old) }
         ensures keeps { IsCallEnded self.old self.new result }
+        ensures pass { pass_of self.new ≡ pass_of self.old }
         ensures only { IsErrAmong result store_faults }
     {
         match self.try_store(key, content, mode) {
@@ -144,6 +145,7 @@ impl<S: PageStore> Database<S> {
         ensures deleted { result ≡ Ok DeleteReply.Deleted
             → WasDeleted self.old self.new key.now }
         ensures keeps { IsCallEnded self.old self.new result }
+        ensures pass { pass_of self.new ≡ pass_of self.old }
         ensures only { IsErrAmong result delete_faults }
     {
         match self.try_delete(key) {
@@ -274,6 +276,7 @@ impl<S: PageStore> Database<S> {
             IsStep self.old (with_error_of self.new result) h (Store key.now content.now (mode_of mode)) (store_reply result)) }
         ensures ends { IsStoreEnd self.old self.new (with_error_of self.new result) key.now
             content.now mode result }
+        ensures pass { pass_of self.new ≡ pass_of self.old }
     {
         if self.store.is_broken() {
             return Err(Fault::Broken);
@@ -308,6 +311,7 @@ impl<S: PageStore> Database<S> {
             IsStep self.old (with_error_of self.new result) h (Delete key.now) (delete_reply result)) }
         ensures ends { IsDeleteEnd self.old self.new (with_error_of self.new result)
             key.now result }
+        ensures pass { pass_of self.new ≡ pass_of self.old }
     {
         if self.store.is_broken() {
             return Err(Fault::Broken);
@@ -335,6 +339,8 @@ impl<S: PageStore> Database<S> {
             → IsStep self.old self.new h call (slot_reply self.new.page.bytes result)) }
         ensures ahead { IfOk result (λ found. IfSome found (λ slot.
             IsAheadAt (pass_from begins self.old) self.new.page.bytes slot)) }
+        ensures stands { IfOk result (λ found.
+            pass_of self.new ≡ pass_at (pass_from begins self.old) self.new.page.bytes found) }
         ensures passed { S.honest (store_of self.old)
             → IfOk result (IsPassed (body_at S.PageStore (store_of self.old)) (meta_kept self.old)
             (pass_from begins self.old) self.new.page.bytes) }
@@ -375,8 +381,8 @@ impl<S: PageStore> Database<S> {
     }
 }
 
-// Refuses a call, and keeps the first fault.
-fn refuse<T>(error: &mut Option<Fault>, fault: Fault) -> Result<T, Fault>
+/// Refuses a call, and keeps the first fault.
+pub(crate) fn refuse<T>(error: &mut Option<Fault>, fault: Fault) -> Result<T, Fault>
     ensures answer { result ≡ Err fault }
     ensures flag { error.new ≡ (if is_some error.old then error.old else Some fault) }
 {

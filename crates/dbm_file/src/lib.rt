@@ -4,6 +4,7 @@
 
 mod calls;
 mod database;
+mod groups;
 mod named;
 mod octets;
 mod opening;
@@ -12,6 +13,7 @@ mod running;
 mod verifying;
 
 pub use calls::{Call, DeleteReply, Reply, Stat, StoreMode, StoreReply};
+pub use chain_walks::Pair;
 pub use database::{Database, Db};
 pub use file_check::{Unwatched, Watch};
 pub use file_opening::{Access, Fault, OpenHow, needed_sectors};

@@ -119,7 +119,7 @@ fn sectors_are_written_in_order(rt: HostRuntime) -> Result<(), Fail> {
 fn three_pages(alloc: Global) -> Result<MemPages, AllocError>
     ensures { IfOk result (λ store.
         ⟦<MemPages as PageStore>⟧.state store
-        ≡ record { staged = []; end = 4; capacity = 7; usable = true; writable = true }) }
+        ≡ record { staged = []; end = 4; capacity = 7; usable = true; writable = true; base = [] }) }
 {
     MemPages::new(alloc, &[numbered(1, 1), numbered(2, 2), numbered(3, 3)], 7)
 }
@@ -181,7 +181,7 @@ fn a_commit_in_memory(rt: HostRuntime) -> Result<(), Fail> {
 /// What a commit of pages 4 and 5 to a file of three pages answers.
 fn commit_five(store: &mut MemPages) -> Result<Result<(), PageFault>, PageFault>
     requires { ⟦<MemPages as PageStore>⟧.state store.old
-        ≡ record { staged = []; end = 4; capacity = 7; usable = true; writable = true } }
+        ≡ record { staged = []; end = 4; capacity = 7; usable = true; writable = true; base = [] } }
 {
     store.stage(4, &numbered(4, 40))?;
     store.stage(5, &numbered(5, 50))?;

@@ -156,6 +156,7 @@ state_of {D} {bound} p = record {
       bound.sectors p.dev / 4;
   usable = p.usable;
   writable = p.writable;
+  base = [];
 }
 
 -- a fault of the pages that isn't the device's left the store usable

@@ -52,7 +52,14 @@ fills all front pages room count capacity is same long rest lt =
 -- what such a store shows
 abbrev pub state_of : Pages → ℕ → ℕ → StoreState
 state_of staged end capacity =
-    record { staged = staged; end = end; capacity = capacity; usable = true; writable = true }
+    record {
+      staged = staged;
+      end = end;
+      capacity = capacity;
+      usable = true;
+      writable = true;
+      base = [];
+    }
 
 pub state_is : (staged : Pages) (end all capacity : ℕ) → staged ≡ [] → all ≡ capacity
     → state_of staged end all ≡ state_of [] end capacity

@@ -81,6 +81,9 @@ pub record StoreState : Type 0 where
   pub capacity : ℕ
   pub usable : Bool
   pub writable : Bool
+  -- the committed pages of the store that this one was made over, which its calls leave alone; none
+  -- where it stands over a device
+  pub base : Pages
 
 -- page n is staged, or one of the committed ones
 abbrev pub IsKnown : StoreState → ℕ → Type 0

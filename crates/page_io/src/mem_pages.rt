@@ -48,6 +48,7 @@ impl MemPages {
               capacity = capacity;
               usable = true;
               writable = true;
+              base = [];
             }) }
         ensures committed { IfOk result
             (λ store. ⟦<MemPages as PageStore>⟧.committed store ≡ bytes_of pages.now) }
@@ -77,6 +78,7 @@ impl PageStore for MemPages {
           length p.pages.items + 1;
       usable = true;
       writable = true;
+      base = [];
     } };
 
     ghost committed = { λ p. file_pages (page_of (bytes_of p.pages.items)) p.end };

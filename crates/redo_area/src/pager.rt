@@ -63,6 +63,7 @@ impl<D: SectorDev> PageStore for Pager<D> {
           D.sectors p.dev / 4;
       usable = p.usable;
       writable = p.writable;
+      base = [];
     } };
 
     ghost committed = { λ p. file_pages

@@ -37,6 +37,7 @@ impl<D: SectorDev> Pager<D> {
               capacity = D.sectors dev / 4;
               usable = true;
               writable = true;
+              base = [];
             }) }
         ensures committed { D.honest dev
             → IfOk result (λ pager. ⟦<Pager<D> as PageStore>⟧.committed pager

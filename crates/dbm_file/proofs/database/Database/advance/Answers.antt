@@ -1,7 +1,8 @@
-use Rattle.std.proofs.Common.{ℕ, List, [], Option, Some, IfSome, refl, ap, subst}
+use Rattle.std.proofs.Common.{◌∙◌, ℕ, List, [], Option, Some, IfSome, refl, sym, ap, subst}
 use Rattle.std.specs.Borrow.{Bor}
 use Rattle.std.specs.Option.{option_map}
 use Rattle.dbm_model.specs.Pairs.{Pair}
+use Rattle.dbm_model.specs.States.{Behind}
 use Rattle.chain_walks.specs.Leasts.{pass_behind, IsAheadAt}
 use Rattle.dbm_file.specs.Passing.{pass_from}
 use Rattle.dbm_file.proofs.PassSteps.{least_of_map, table_at, begins_so, goes_on_so, given_step, ended_step, pass_failed, pass_flagged, short_key}
@@ -85,3 +86,13 @@ pub returns-in-Ok-None-2-clause-passed : goal.returns-in-Ok-None-2-clause-passed
 returns-in-Ok-None-2-clause-passed g c honest =
     passed_so _ _ _ _ _ _ _ (c.last-last.ensures c.requires.begun) c.in-Ok-None.field-0-is
     (c.in-Ok-None.ensures.passed honest)
+
+pub returns-in-Ok-Some-clause-stands : goal.returns-in-Ok-Some-clause-stands
+returns-in-Ok-Some-clause-stands g c =
+    c.behind-self.ensures ∙ sym (ap (λ (pair : Pair). Behind pair.0) (c.pair_at.ensures ([], [])))
+
+pub returns-in-Ok-None-clause-stands : goal.returns-in-Ok-None-clause-stands
+returns-in-Ok-None-clause-stands g c = begins_so c.args.begins c.args.self.now c.if-begins.true
+
+pub returns-in-Ok-None-2-clause-stands : goal.returns-in-Ok-None-2-clause-stands
+returns-in-Ok-None-2-clause-stands g c = goes_on_so c.args.begins c.args.self.now c.if-begins.false

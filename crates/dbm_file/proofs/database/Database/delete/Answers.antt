@@ -22,6 +22,7 @@ returns-in-Err g c =
       keeps = flagged_ended c.args.self.now mid _ _ _ c.refuse.new.error c.in-Err.fault
           c.refuse.ensures.flag c.refuse.result c.refuse.ensures.answer all.ends.keeps;
       only = end.only;
+      pass = all.pass;
     }
 
 pub returns-in-Ok : goal.returns-in-Ok
@@ -36,4 +37,5 @@ returns-in-Ok g c =
       deleted = all.ends.deleted;
       keeps = all.ends.keeps;
       only = all.ends.only;
+      pass = all.pass;
     }

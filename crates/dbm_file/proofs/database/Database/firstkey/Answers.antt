@@ -6,7 +6,7 @@ use Rattle.dbm_file.specs.Trying.{slot_reply}
 use Rattle.dbm_file.proofs.Cases.{broken_first}
 use Rattle.dbm_file.proofs.Lends.{lends_broken, lends_nothing}
 use Rattle.dbm_file.proofs.ReadSteps.{not_broken}
-use Rattle.dbm_file.proofs.PassSteps.{first_step, passed_lends, keeps_as, keeps_err, lent_key, short_key, refused_by}
+use Rattle.dbm_file.proofs.PassSteps.{first_step, passed_lends, keeps_as, keeps_err, lent_key, short_key, refused_by, stands_behind, stands_still}
 use Rattle.dbm_file.proofs.Searches.{nothing_searched, given_key, given_none}
 use Rattle.dbm_file.proofs.database.Database.firstkey.Goals as goal
 
@@ -48,7 +48,9 @@ returns-in-Ok-Some g c =
             (λ honest h at. first_step s db c.advance.new.self _ usable h at (all.step honest h at))
             (ap (λ (o : Option ℕ). slot_reply bytes (Ok o)) c.in-Ok-Some.field-0-is
             ∙ lent_key bytes c.in-Ok-Some.slot c.pair_at.result c.pair_at.ensures)
-            (keeps_as c.in-Ok-Some.field-0 (Some c.pair_at.result.0) all.keeps),
+            (keeps_as c.in-Ok-Some.field-0 (Some c.pair_at.result.0) all.keeps)
+            (stands_behind _ (pass_from true db) bytes _ c.in-Ok-Some.slot c.pair_at.result
+            all.stands c.in-Ok-Some.field-0-is c.pair_at.ensures),
       ),
       record {
         after = tt;
@@ -74,7 +76,8 @@ returns-in-Ok-None g c =
         passed_lends s db c.advance.new.self First bytes (Ok c.in-Ok-None.field-0) (Ok None)
             (λ honest h at. first_step s db c.advance.new.self _ usable h at (all.step honest h at))
             (ap (λ (o : Option ℕ). slot_reply bytes (Ok o)) c.in-Ok-None.field-0-is)
-            (keeps_as c.in-Ok-None.field-0 None all.keeps),
+            (keeps_as c.in-Ok-None.field-0 None all.keeps)
+            (stands_still _ (pass_from true db) bytes _ all.stands c.in-Ok-None.field-0-is),
       ),
       record {
         after = tt;
@@ -97,7 +100,7 @@ returns-in-Err g c =
         passed_lends s db c.advance.new.self First c.advance.new.self.page.bytes
             (Err c.in-Err.fault) (Err c.in-Err.fault)
             (λ honest h at. first_step s db c.advance.new.self _ usable h at (all.step honest h at)) refl
-            (keeps_err c.in-Err.fault all.keeps),
+            (keeps_err c.in-Err.fault all.keeps) tt,
       ),
       record { after = tt; short = tt; passed = tt; only = inr all.only },
     )

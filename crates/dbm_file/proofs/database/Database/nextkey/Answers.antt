@@ -7,7 +7,7 @@ use Rattle.dbm_fault.specs.declared.fault.Fault.TheVariants.{NoPass}
 use Rattle.dbm_file.proofs.Cases.{broken_next}
 use Rattle.dbm_file.proofs.Lends.{lends_broken, lends_nothing, flagged_lends}
 use Rattle.dbm_file.proofs.ReadSteps.{not_broken}
-use Rattle.dbm_file.proofs.PassSteps.{next_step, passed_lends, keeps_as, keeps_err, lent_key, short_key, refused_by, no_pass_lends, was_begun, was_not_begun}
+use Rattle.dbm_file.proofs.PassSteps.{next_step, passed_lends, keeps_as, keeps_err, lent_key, short_key, refused_by, stands_behind, stands_still, no_pass_lends, was_begun, was_not_begun}
 use Rattle.dbm_file.proofs.Searches.{nothing_searched, given_key, given_none, key_ahead, broken_first, pass_lacked, pass_on, not_for_pass}
 use Rattle.dbm_file.proofs.database.Database.nextkey.Goals as goal
 
@@ -86,7 +86,9 @@ returns-in-Ok-Some g c =
             h at (all.step honest h at))
             (ap (λ (o : Option ℕ). slot_reply bytes (Ok o)) c.in-Ok-Some.field-0-is
             ∙ lent_key bytes c.in-Ok-Some.slot c.pair_at.result c.pair_at.ensures)
-            (keeps_as c.in-Ok-Some.field-0 (Some c.pair_at.result.0) all.keeps),
+            (keeps_as c.in-Ok-Some.field-0 (Some c.pair_at.result.0) all.keeps)
+            (stands_behind _ (pass_from false db) bytes _ c.in-Ok-Some.slot c.pair_at.result
+            all.stands c.in-Ok-Some.field-0-is c.pair_at.ensures),
       ),
       record {
         after = tt;
@@ -121,7 +123,8 @@ returns-in-Ok-None g c =
             (λ honest h at. next_step s db c.advance.new.self _ begun usable
             h at (all.step honest h at))
             (ap (λ (o : Option ℕ). slot_reply bytes (Ok o)) c.in-Ok-None.field-0-is)
-            (keeps_as c.in-Ok-None.field-0 None all.keeps),
+            (keeps_as c.in-Ok-None.field-0 None all.keeps)
+            (stands_still _ (pass_from false db) bytes _ all.stands c.in-Ok-None.field-0-is),
       ),
       record {
         after = tt;
@@ -151,7 +154,7 @@ returns-in-Err g c =
         passed_lends s db c.advance.new.self Next c.advance.new.self.page.bytes (Err c.in-Err.fault)
             (Err c.in-Err.fault) (λ honest h at.
             next_step s db c.advance.new.self _ begun usable h at
-            (all.step honest h at)) refl (keeps_err c.in-Err.fault all.keeps),
+            (all.step honest h at)) refl (keeps_err c.in-Err.fault all.keeps) tt,
       ),
       record {
         after = tt;

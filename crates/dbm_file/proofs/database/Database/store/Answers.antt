@@ -24,6 +24,7 @@ returns-in-Err g c =
       keeps = flagged_ended c.args.self.now mid _ _ _ c.refuse.new.error c.in-Err.fault
           c.refuse.ensures.flag c.refuse.result c.refuse.ensures.answer all.ends.keeps;
       only = end.only;
+      pass = all.pass;
     }
 
 pub returns-in-Ok : goal.returns-in-Ok
@@ -39,4 +40,5 @@ returns-in-Ok g c =
       memory = all.ends.memory;
       keeps = all.ends.keeps;
       only = all.ends.only;
+      pass = all.pass;
     }

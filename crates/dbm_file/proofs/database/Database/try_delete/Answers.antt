@@ -6,6 +6,7 @@ use Rattle.page_io.specs.Store.{StoreState}
 use Rattle.page_model.specs.Pages.{Meta}
 use Rattle.linear_hash.specs.Tables.{shape_in}
 use Rattle.dbm_file.specs.Database.{handle_of, meta_kept}
+use Rattle.dbm_file.specs.Passing.{model_pass}
 use Rattle.dbm_file.specs.declared.calls.DeleteReply.TheVariants as deleted
 use Rattle.dbm_fault.specs.declared.fault.Fault.TheVariants.{ReadOnly}
 use Rattle.dbm_file.proofs.Cases.{broken_delete, delete_read_only, delete_rule, delete_fails, absent}
@@ -31,6 +32,7 @@ returns-then-is_broken g c =
           (broken_delete (handle_of db map).state c.args.key.now broken));
       ends = unusable_delete c.args.self.now c.args.key.now
           (c.is_broken.ensures.0 c.if-is_broken.true);
+      pass = refl;
     }
 
 pub returns-then-not-self : goal.returns-then-not-self
@@ -49,6 +51,7 @@ returns-then-not-self g c =
           (at.map usable) (at.rests usable) ReadOnly falls);
       ends = unwritable_delete db key usable (db.told ∙ c.if-not-self.true)
           (no_read s db (λ y honest left. g.met.S.PageStore.only_now db.store y honest left));
+      pass = refl;
     }
 
 pub returns-in_err-has : goal.returns-in_err-has
@@ -79,6 +82,7 @@ returns-in_err-has g c =
           c.in_err-has.field-0.0 told (as_change _ all.answer.only)
           (walk_no_memory _ all.answer.only)
           (still_meta s db c.has.new.self all.reads) keeps;
+      pass = ap model_pass c.in_err-has.ensures.reads.pass_is;
     }
 
 pub returns-then-not-branch : goal.returns-then-not-branch
@@ -100,6 +104,7 @@ returns-then-not-branch g c =
           (at.map usable) (at.rests usable) model.Absent refl falls);
       ends = absent_delete db key usable writable c.has.new.self all.reads
           (λ honest. was_absent _ _ key _ c.if-not-branch.true (all.searched honest));
+      pass = ap model_pass c.in_ok-has.ensures.reads.pass_is;
     }
 
 pub returns-then-self-eq0 : goal.returns-then-self-eq0
@@ -121,6 +126,7 @@ returns-then-self-eq0 g c =
             ap (λ m. m.pairs) c.in_ok-has.ensures.reads.meta_is,
           )) there);
       ends = uncounted_delete db key usable writable c.has.new.self c.in_ok-has.ensures.reads;
+      pass = ap model_pass c.in_ok-has.ensures.reads.pass_is;
     }
 
 pub returns-in_err-delete_pair : goal.returns-in_err-delete_pair
@@ -153,6 +159,7 @@ returns-in_err-delete_pair g c =
           c.from_residual-in_err-delete_pair.result c.from_residual-in_err-delete_pair.ensures.1);
       ends = told_delete db key usable writable _ r c.in_err-delete_pair.field-0.0 told
           all.ends.answer.only (λ is. all.no_memory (ap Err is)) (all.ends.err.1 ∙ still_meta s db c.has.new.self read) keeps;
+      pass = ap model_pass c.in_ok-has.ensures.reads.pass_is;
     }
 
 pub returns : goal.returns
@@ -191,4 +198,5 @@ returns g c =
           (λ honest. was_deleted db c.has.new.self read honest c.delete_pair.new.store
           (model_meta c.delete_pair.new.meta) key
           (all.deleted (read.reads.stages_only.honesty.1 honest))) keeps;
+      pass = ap model_pass c.in_ok-has.ensures.reads.pass_is;
     }

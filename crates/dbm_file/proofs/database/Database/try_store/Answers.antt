@@ -3,6 +3,7 @@ use Rattle.std.specs.FinMap.{get, insert, len}
 use Rattle.dbm_model.specs.Calls as model
 use Rattle.dbm_model.specs.Steps.{Case, Suffers}
 use Rattle.dbm_file.specs.Calls.{mode_of}
+use Rattle.dbm_file.specs.Passing.{model_pass}
 use Rattle.page_io.specs.Store.{StoreState}
 use Rattle.page_model.specs.Valid.{meta_buckets}
 use Rattle.seg_table.specs.MetaPages.{model_meta}
@@ -36,6 +37,7 @@ returns-then-is_broken g c =
           (mode_of c.args.mode) broken));
       ends = unusable_store c.args.self.now c.args.key.now
           (c.is_broken.ensures.0 c.if-is_broken.true) c.args.content.now c.args.mode;
+      pass = refl;
     }
 
 pub returns-then-not-self : goal.returns-then-not-self
@@ -57,6 +59,7 @@ returns-then-not-self g c =
       ends = unwritable_store db key usable (db.told ∙ c.if-not-self.true)
           (no_read s db (λ y honest left. g.met.S.PageStore.only_now db.store y honest left))
           content mode;
+      pass = refl;
     }
 
 pub returns-then-key-content-gt-MAX_PAIR : goal.returns-then-key-content-gt-MAX_PAIR
@@ -79,6 +82,7 @@ returns-then-key-content-gt-MAX_PAIR g c =
       ends = long_store db key usable writable content mode
           (no_read s db (λ y honest left. g.met.S.PageStore.only_now db.store y honest left))
           c.if-key-content-gt-MAX_PAIR.true;
+      pass = refl;
     }
 
 pub returns-in_err-was_there : goal.returns-in_err-was_there
@@ -114,6 +118,7 @@ returns-in_err-was_there g c =
       ends = told_store db key usable writable c.has.new.self content mode short
           c.from_residual.result c.in_err-was_there.field-0.0 told (as_change _ all.answer.only)
           (λ is. absurd (walk_no_memory _ all.answer.only is)) (still_meta s db c.has.new.self all.reads) keeps;
+      pass = ap model_pass c.in_err-was_there.ensures.reads.pass_is;
     }
 
 pub returns-then-eq : goal.returns-then-eq
@@ -140,6 +145,7 @@ returns-then-eq g c =
           honest held (at.rests usable) model.Kept refl falls);
       ends = kept_store db key usable writable c.has.new.self content mode short all.reads inserts
           (λ honest. was_found _ _ key _ c.if-was_there.true (all.searched honest));
+      pass = ap model_pass c.in_ok-was_there.ensures.reads.pass_is;
     }
 
 pub returns-then-self : goal.returns-then-self
@@ -174,6 +180,7 @@ returns-then-self g c =
           (at.rests usable) Full falls);
       ends = full_store db key usable writable c.has.new.self content mode short
           c.in_ok-was_there.ensures.reads;
+      pass = ap model_pass c.in_ok-was_there.ensures.reads.pass_is;
     }
 
 pub returns-in_err-store_pair : goal.returns-in_err-store_pair
@@ -229,6 +236,7 @@ returns-in_err-store_pair g c =
           (λ is. full_buckets (meta_kept db) (meta_kept c.has.new.self) c.in_ok-was_there.was_there
           db.valid (still_meta s db c.has.new.self read) (all.memory (ap Err is)))
           (all.ends.err.1 ∙ still_meta s db c.has.new.self read) keeps;
+      pass = ap model_pass c.in_ok-was_there.ensures.reads.pass_is;
     }
 
 pub returns : goal.returns
@@ -287,4 +295,5 @@ returns g c =
           (λ honest. was_put db c.has.new.self read honest _ (key, content)
           c.in_ok-was_there.was_there (c.in_ok-was_there.ensures.searched honest) all.pairs
           (all.stored (read.reads.stages_only.honesty.1 honest))) keeps;
+      pass = ap model_pass c.in_ok-was_there.ensures.reads.pass_is;
     }

@@ -1,0 +1,343 @@
+-- How a store of many pairs ends, on a database at a handle.
+use Rattle.std.proofs.Common.{◌≡◌, ◌⊎◌, inl, inr, ⊎_elim, ℕ, ◌+◌, ◌≤◌, List, [], length, take, map, Bool, true, false, cond, is_some, Option, Some, Result, Ok, Err, refl, sym, ◌∙◌, ap, subst, arith}
+use Rattle.std.specs.Option.{option_map}
+use Rattle.std.specs.Prelude.{IsErrAnd}
+use Rattle.sect_dev.specs.Device.{LeavesOnly, MoreFaults}
+use Rattle.sect_dev.specs.Moments.{followed_by}
+use Rattle.dbm_model.specs.Calls as model
+use Rattle.dbm_model.specs.Pairs.{Pair, Contents}
+use Rattle.dbm_model.specs.States.{State, Pass, Handle, first_fault, flagged}
+use Rattle.dbm_model.specs.Steps.{Breaks, Run}
+use Rattle.page_model.specs.Meaning.{said_by}
+use Rattle.page_model.specs.Pages.{Meta, MetaPage}
+use Rattle.page_model.specs.Valid.{IsMeta, meta_buckets}
+use Rattle.page_io.specs.Store.{Pages, Settled, StoreState, IsEither, file_of, page_of}
+use Rattle.page_io.specs.Meaning.{FileStandsFor, ImageStandsFor}
+use Rattle.page_io.specs.declared.store.PageStore.{Ghosts}
+use Rattle.page_io.specs.declared.store.PageFault.{PageFault}
+use Rattle.page_commit.specs.Committing.{Holds}
+use Rattle.dbm_fault.specs.Faults.{fault_of, fault_from}
+use Rattle.dbm_fault.specs.declared.fault.Fault.{Fault}
+use Rattle.dbm_fault.specs.declared.fault.Fault.TheVariants.{Device, Broken}
+use Rattle.dbm_file.specs.Answers.{StandsForSome, Survives}
+use Rattle.dbm_file.specs.Database.{store_of, meta_kept, page_state, error_of, handle_of, IsAt}
+use Rattle.dbm_file.specs.Grouping.{IsOver, handle_in, IsAlike, HasStored}
+use Rattle.dbm_file.specs.Groups.{replacing, with_pairs, IsGroup, IsWithSome, IsGroupRefused, GroupEnds}
+use Rattle.dbm_file.specs.Passing.{pass_of}
+use Rattle.dbm_file.specs.Trying.{with_fault, with_error_of, IsRead}
+use Rattle.dbm_file.specs.declared.database.Database.{Database}
+use Rattle.dbm_file.proofs.Lends.{kept_error}
+use Rattle.dbm_file.proofs.ReadSteps.{same_parts, at_own, kept_first, same_state, flagged_is, still_meta, still_limit, still_buckets, still_capacity, still_end, still_writable, still_usable, still_holds, still_rests, still_survives}
+
+-- handles with equal parts
+same_handles : (h k : Handle) → h.state ≡ k.state → h.faults ≡ k.faults → h.pages ≡ k.pages
+    → h.capacity ≡ k.capacity → h.buckets ≡ k.buckets → h ≡ k
+same_handles h k state faults pages capacity buckets =
+    ap (λ (x : State). record h { state = x }) state
+    ∙ ap (λ (n : ℕ). record h { state = k.state; faults = n }) faults
+    ∙ ap (λ (n : ℕ). record h { state = k.state; faults = k.faults; pages = n }) pages
+    ∙ ap (λ (n : ℕ). record k { capacity = n; buckets = h.buckets }) capacity
+    ∙ ap (λ (n : ℕ). record k { buckets = n }) buckets
+
+-- what a `?` answers of a fault of the pages
+pub group_told : {S : Type 0} (s : Ghosts S) (old new : Database S s) (h : Handle)
+    (pairs : List Pair) (e : PageFault) (r : Result ℕ Fault)
+    → IsErrAnd r (λ fault. fault ≡ fault_from e)
+    → IsGroupRefused old (with_fault new (fault_from e)) h pairs (fault_from e)
+    → GroupEnds old (with_error_of new r) h pairs r
+group_told s old new h pairs e (Ok stored) told refused = absurd told
+group_told s old new h pairs e (Err fault) told refused = subst
+    (λ (f : Fault). IsGroupRefused old (with_fault new f) h pairs f) (sym told) refused
+
+-- a refusal whose fault was then kept as the first one
+pub group_flagged : {S : Type 0} (s : Ghosts S) (old db : Database S s) (h : Handle)
+    (idle : (page_state db).staged ≡ []) (access : (page_state db).writable ≡ db.writable)
+    (valid : IsMeta (meta_kept db)) (error : Option Fault) (fault : Fault)
+    → error ≡ cond (is_some db.error) db.error (Some fault) → (pairs : List Pair)
+    (r : Result ℕ Fault) → r ≡ Err fault
+    → IsGroupRefused old (with_fault db fault) h pairs fault
+    → GroupEnds old (kept_error s db idle access valid error) h pairs r
+group_flagged s old db h idle access valid error fault flag pairs r is refused =
+    subst (λ (x : Result ℕ Fault).
+    GroupEnds old (kept_error s db idle access valid error) h pairs x) (sym is)
+    (subst (λ (e : Option Fault).
+    IsGroupRefused old (kept_error s db idle access valid e) h pairs fault) (sym flag) record {
+      after = refused.after;
+      counts = refused.counts;
+      ends = refused.ends;
+      is_at = record {
+        shows = refused.is_at.shows;
+        map = λ usable. refused.is_at.map usable;
+        rests = λ usable. refused.is_at.rests usable;
+      };
+      survives = λ usable. refused.survives usable;
+    })
+
+-- a broken database refuses them
+pub broken_refuses : {S : Type 0} (s : Ghosts S) (db : Database S s) (h : Handle) → IsAt db h
+    → (page_state db).usable ≡ false → (pairs : List Pair)
+    → IsGroupRefused db (with_fault db Broken) h pairs Broken
+broken_refuses s db h at broken pairs = record {
+  after = handle_of (with_fault db Broken) h.state.map;
+  counts = omega (arith, ap (λ (x : Handle). x.faults) at.shows);
+  ends = inl (flagged_is s db db h.state.map Broken refl refl refl refl refl
+      ∙ ap (λ (x : Handle). flagged model.Broken x.state) (sym at.shows));
+  is_at = at_own (with_fault db Broken) h.state.map
+      (λ usable. absurd (let e = sym broken ∙ usable in cc))
+      (λ usable. absurd (let e = sym broken ∙ usable in cc));
+  survives = λ usable. absurd (let e = sym broken ∙ usable in cc);
+}
+
+-- a group that has just begun is at the map of the database
+pub group_at : {S G : Type 0} (s : Ghosts S) (g : Ghosts G) (db : Database S s)
+    (group : Database G g) (h : Handle) → IsAt db h → (page_state db).usable ≡ true
+    → g.committed (store_of group) ≡ s.committed (store_of db) → meta_kept group ≡ meta_kept db
+    → ((x : Settled) → g.settles_to (store_of group) x → x ≡ file_of (g.committed (store_of group)))
+    → IsAt group (handle_of group h.state.map)
+group_at s g db group h at usable committed meta only =
+    at_own group h.state.map (λ u. holds) (λ u x left.
+    subst (λ (y : Settled). ImageStandsFor y h.state.map (meta_kept group).limit)
+    (sym (only x left)) holds.stands)
+  where
+    holds : Holds g (store_of group) (meta_kept group) h.state.map
+    holds = record {
+      stands = subst (λ (m : Meta). FileStandsFor (g.committed (store_of group)) h.state.map m.limit)
+          (sym meta) (subst (λ (ps : Pages).
+          FileStandsFor ps h.state.map (meta_kept db).limit) (sym committed)
+          (at.map usable).stands);
+      meta_is = subst (λ (m : Meta).
+          said_by (page_of (g.committed (store_of group))) 1 ≡ MetaPage m) (sym meta)
+          (subst (λ (ps : Pages). said_by (page_of ps) 1 ≡ MetaPage (meta_kept db))
+          (sym committed) (at.map usable).meta_is);
+    }
+
+module _ {S : Type 0} (s : Ghosts S) (old new : Database S s) (h : Handle) (at : IsAt old h)
+    (honest : s.honest (store_of old)) (usable : (page_state old).usable ≡ true) where
+  abbrev contents : Contents
+  contents = h.state.map
+
+  abbrev now : ℕ
+  now = s.faults (store_of new)
+
+  -- nothing was stored
+  module _ (read : IsRead old new) where
+    same_again : handle_of new contents ≡ record h { faults = now }
+    same_again = same_handles (handle_of new contents) (record h { faults = now })
+        (same_state s old new contents read.pass_is (still_limit s old new read) read.error_is
+        (still_writable s old new read) (still_usable s old new read)
+        ∙ ap (λ (x : Handle). x.state) (sym at.shows))
+        refl
+        (still_end s old new read ∙ ap (λ (x : Handle). x.pages) (sym at.shows))
+        (still_capacity s old new read ∙ ap (λ (x : Handle). x.capacity) (sym at.shows))
+        (still_buckets s old new read ∙ ap (λ (x : Handle). x.buckets) (sym at.shows))
+
+    faults_rise : h.faults ≤ now
+    faults_rise = omega (
+      arith,
+      ap (λ (x : Handle). x.faults) at.shows,
+      read.reads.stages_only.later,
+    )
+
+    is_still_at : IsAt new (handle_of new contents)
+    is_still_at = at_own new contents
+        (λ u. still_holds s old new contents read honest (at.map usable))
+        (λ u. still_rests s old new contents read honest (at.rests usable))
+
+    pub none_grouped : IsGroup old new h []
+    none_grouped = record {
+      after = handle_of new contents;
+      counts = faults_rise;
+      run = same_again;
+      is_at = is_still_at;
+      survives = λ u. still_survives s old new contents read honest (at.rests usable)
+          (λ left. (left ≡ contents) ⊎ (left ≡ contents)) (inl refl);
+    }
+
+    -- they were refused, and nothing has changed
+    pub group_refused : (pairs : List Pair) (fault : Fault)
+        → IsGroupRefused old (with_fault new fault) h pairs fault
+    group_refused pairs fault = record {
+      after = handle_of (with_fault new fault) contents;
+      counts = faults_rise;
+      ends = inl (flagged_is s old new contents fault read.pass_is (still_limit s old new read)
+          read.error_is (still_writable s old new read) (still_usable s old new read)
+          ∙ ap (λ (x : Handle). flagged (fault_of fault) x.state) (sym at.shows));
+      is_at = at_own (with_fault new fault) contents
+          (λ u. still_holds s old new contents read honest (at.map usable))
+          (λ u. still_rests s old new contents read honest (at.rests usable));
+      survives = λ u. still_survives s old new contents read honest (at.rests usable)
+          (λ left. (left ≡ contents)
+          ⊎ (((page_state new).usable ≡ false) × IsWithSome contents pairs left)) (inl refl);
+    }
+
+-- what a commit leaves where it follows reads
+pub record IsCommitted {S : Type 0} (s : Ghosts S) (old mid new : Database S s)
+    (grouped : Pages) : Type 0 where
+  pub read : IsRead old mid
+  pub error_is : new.error ≡ old.error
+  pub pass_is : new.pass ≡ old.pass
+  pub later : s.faults (store_of mid) ≤ s.faults (store_of new)
+  pub any_moment : LeavesOnly s.moment s.settled_since (store_of mid) (store_of new)
+      (IsEither (s.committed (store_of mid)) grouped)
+
+module _ {S G : Type 0} (s : Ghosts S) (g : Ghosts G) (old mid new : Database S s)
+    (first last : Database G g) (h : Handle) (at : IsAt old h)
+    (honest : s.honest (store_of old)) (usable : (page_state old).usable ≡ true)
+    (writable : (page_state old).writable ≡ true)
+    (pairs : List Pair) (stored : HasStored first last h.state.map pairs)
+    (last_usable : (page_state last).usable ≡ true)
+    (end : (page_state first).end ≡ (page_state old).end)
+    (meta : meta_kept first ≡ meta_kept old)
+    (capacity : (page_state first).capacity ≡ (page_state old).capacity)
+    (limit : (meta_kept last).limit ≡ (meta_kept old).limit)
+    (done : IsCommitted s old mid new (g.committed (store_of last))) where
+  abbrev before : Contents
+  before = h.state.map
+
+  abbrev grouped : Contents
+  grouped = with_pairs before pairs
+
+  abbrev rises : ℕ
+  rises = s.faults (store_of new)
+
+  held : Holds g (store_of last) (meta_kept last) grouped
+  held = stored.is_at.map last_usable
+
+  mid_holds : Holds s (store_of mid) (meta_kept mid) before
+  mid_holds = still_holds s old mid before done.read honest (at.map usable)
+
+  -- each image at any moment stands for the map before or the one after
+  each_either : (x : Settled)
+      → IsEither (s.committed (store_of mid)) (g.committed (store_of last)) x
+      → ImageStandsFor x before (meta_kept old).limit
+      ⊎ ImageStandsFor x grouped (meta_kept old).limit
+  each_either x (inl is) = inl (subst (λ (y : Settled).
+      ImageStandsFor y before (meta_kept old).limit) (sym is)
+      (subst (λ (n : ℕ). FileStandsFor (s.committed (store_of mid)) before n)
+      (still_limit s old mid done.read) mid_holds.stands))
+  each_either x (inr is) = inr (subst (λ (y : Settled).
+      ImageStandsFor y grouped (meta_kept old).limit) (sym is)
+      (subst (λ (n : ℕ). FileStandsFor (g.committed (store_of last)) grouped n) limit held.stands))
+
+  survives_so : (Left : Contents → Type 0) → Left before → Left grouped → Survives old new Left
+  survives_so Left left also =
+      followed_by s.moment s.settled_since (store_of old) (store_of mid) (store_of new)
+      (StandsForSome Left (meta_kept old).limit)
+      (IsEither (s.committed (store_of mid)) (g.committed (store_of last)))
+      (still_survives s old mid before done.read honest (at.rests usable) Left left)
+      done.any_moment
+      (λ x is. ⊎_elim (λ stands. (before, left, stands)) (λ stands. (grouped, also, stands))
+      (each_either x is))
+
+  faults_so : h.faults ≤ rises
+  faults_so = omega (
+    arith,
+    ap (λ (x : Handle). x.faults) at.shows,
+    done.read.reads.stages_only.later,
+    done.later,
+  )
+
+  -- the handle that the group began from is the one before
+  begins_so : handle_in h rises first before ≡ record h { faults = rises }
+  begins_so = same_handles (handle_in h rises first before) (record h { faults = rises }) refl refl
+      (end ∙ ap (λ (x : Handle). x.pages) (sym at.shows)) refl
+      (ap meta_buckets meta ∙ ap (λ (x : Handle). x.buckets) (sym at.shows))
+
+  alike : IsAlike h first
+  alike = record {
+    usable = ap (λ (x : Handle). x.state.usable) at.shows ∙ usable;
+    writable = ap (λ (x : Handle). x.state.writable) at.shows ∙ writable;
+    limit = ap (λ (x : Handle). x.state.limit) at.shows ∙ sym (ap (λ (m : Meta). m.limit) meta);
+    capacity = ap (λ (x : Handle). x.capacity) at.shows ∙ sym capacity;
+  }
+
+  -- all of them are committed
+  module _ (state : page_state new ≡ record (page_state old) { end = (page_state last).end })
+      (meta_is : meta_kept new ≡ meta_kept last)
+      (committed : s.committed (store_of new) ≡ g.committed (store_of last))
+      (only : (x : Settled) → s.settles_to (store_of new) x
+      → x ≡ file_of (s.committed (store_of new))) where
+    new_limit : (meta_kept new).limit ≡ (meta_kept old).limit
+    new_limit = ap (λ (m : Meta). m.limit) meta_is ∙ limit
+
+    ends_so : handle_in h rises last grouped ≡ handle_of new grouped
+    ends_so = same_handles (handle_in h rises last grouped) (handle_of new grouped)
+        (ap (λ (x : Handle). record x.state { map = grouped }) at.shows
+        ∙ sym (same_parts grouped _ _ _ _ _ _ _ _ _ _
+        (ap (λ p. pass_of (record old { pass = p })) done.pass_is) new_limit
+        (ap (λ (e : Option Fault). option_map fault_of e) done.error_is)
+        (ap (λ (st : StoreState). st.writable) state)
+        (ap (λ (st : StoreState). st.usable) state)))
+        refl
+        (sym (ap (λ (st : StoreState). st.end) state))
+        (ap (λ (x : Handle). x.capacity) at.shows ∙ sym (ap (λ (st : StoreState). st.capacity) state))
+        (ap meta_buckets (sym meta_is))
+
+    holds_so : Holds s (store_of new) (meta_kept new) grouped
+    holds_so = record {
+      stands = subst (λ (m : Meta). FileStandsFor (s.committed (store_of new)) grouped m.limit)
+          (sym meta_is) (subst (λ (ps : Pages). FileStandsFor ps grouped (meta_kept last).limit)
+          (sym committed) held.stands);
+      meta_is = subst (λ (m : Meta).
+          said_by (page_of (s.committed (store_of new))) 1 ≡ MetaPage m) (sym meta_is)
+          (subst (λ (ps : Pages). said_by (page_of ps) 1 ≡ MetaPage (meta_kept last))
+          (sym committed) held.meta_is);
+    }
+
+    pub all_grouped : (all : List Pair) (count : ℕ) → pairs ≡ take count all
+        → IsGroup old new h (take count all)
+    all_grouped all count is = subst (λ (ps : List Pair). IsGroup old new h ps) is record {
+      after = handle_of new grouped;
+      counts = faults_so;
+      run = subst (λ (x : Handle). Run x (map replacing pairs) (map (λ _. model.Stored) pairs)
+          (handle_of new grouped)) begins_so
+          (subst (λ (x : Handle). Run (handle_in h rises first before) (map replacing pairs)
+          (map (λ _. model.Stored) pairs) x) ends_so (stored.run h rises alike));
+      is_at = at_own new grouped (λ u. holds_so)
+          (λ u x left. subst (λ (y : Settled). ImageStandsFor y grouped (meta_kept new).limit)
+          (sym (only x left)) holds_so.stands);
+      survives = λ u. survives_so (λ left. (left ≡ before) ⊎ (left ≡ grouped)) (inl refl)
+          (inr refl);
+    }
+
+  -- the device broke the database in their commit
+  module _ (more : MoreFaults (s.faults (store_of old)) (s.faults (store_of new)))
+      (broken : (page_state new).usable ≡ false)
+      (same_limit : (meta_kept new).limit ≡ (meta_kept old).limit)
+      (same_writable : (page_state new).writable ≡ (page_state old).writable) where
+    abbrev told : Database S s
+    told = with_fault new Device
+
+    state_so : (handle_of told before).state
+        ≡ record (flagged model.Device h.state) { map = before; usable = false }
+    state_so = same_parts before _ _ _ _ _ _ _ _ _ _
+        (ap (λ p. pass_of (record old { pass = p })) done.pass_is) same_limit
+        (ap (λ (e : Option Fault). option_map fault_of (cond (is_some e) e (Some Device)))
+        done.error_is ∙ kept_first old.error Device) same_writable broken
+        ∙ ap (λ (x : Handle). record (flagged model.Device x.state) { map = before; usable = false })
+        (sym at.shows)
+
+    pub group_broke : (all : List Pair) (count : ℕ) → pairs ≡ take count all
+        → (fault : Fault) → fault ≡ Device → IsGroupRefused old (with_fault new fault) h all fault
+    group_broke all count is fault by_device = subst
+        (λ (f : Fault). IsGroupRefused old (with_fault new f) h all f) (sym by_device) record {
+          after = handle_of told before;
+          counts = faults_so;
+          ends = inr (
+            grouped,
+            (count, ap (with_pairs before) is),
+            (
+              refl,
+              subst (λ (n : ℕ). MoreFaults n (s.faults (store_of new)))
+                  (ap (λ (x : Handle). x.faults) (sym at.shows)) more,
+              before,
+              inl refl,
+              state_so,
+            ),
+          );
+          is_at = at_own told before (λ u. absurd (let e = sym broken ∙ u in cc))
+              (λ u. absurd (let e = sym broken ∙ u in cc));
+          survives = λ u. survives_so (λ left. (left ≡ before)
+              ⊎ (((page_state new).usable ≡ false) × IsWithSome before all left)) (inl refl)
+              (inr (broken, (count, ap (with_pairs before) is)));
+        }

@@ -1,0 +1,376 @@
+-- Stores in a group, as steps of the database that it began from.
+use Rattle.std.proofs.Common.{◌≡◌, ◌⊎◌, inl, inr, ⊎_elim, ℕ, ◌+◌, ◌≤◌, List, [], ◌∷◌, ◌++◌, length, map, Bool, true, false, cond, not, Option, Some, None, Result, Ok, Err, refl, sym, ◌∙◌, ap, subst, arith}
+use Rattle.std.specs.Prelude.{◌↔◌, nat_le, IsErrOf}
+use Rattle.std.specs.FinMap.{get, insert, len}
+use Rattle.std.proofs.lemmas.List.{map-append}
+use Rattle.dbm_model.specs.Calls as model
+use Rattle.dbm_model.specs.Pairs.{Pair, Contents}
+use Rattle.dbm_model.specs.Sizes.{home}
+use Rattle.dbm_model.specs.States.{State, Handle}
+use Rattle.dbm_model.specs.Steps.{Case, Tells, Refuses, Declines, Finds, Passes, Changes, stored, usable_case, broken_case, case_of, Answers, Suffers, Step, Run}
+use Rattle.dbm_model.proofs.CaseLemmas.{map_of_usable}
+use Rattle.dbm_model.proofs.Runs.{run-push}
+use Rattle.page_model.specs.Valid.{meta_buckets}
+use Rattle.page_io.specs.Store.{Pages, Settled}
+use Rattle.page_io.specs.declared.store.PageStore.{Ghosts}
+use Rattle.page_io.proofs.Exits.{both_ways}
+use Rattle.page_io.proofs.Views.{reads_then}
+use Rattle.dbm_file.specs.Answers.{IsStep, IsSameDatabase, IsCallEnded}
+use Rattle.dbm_file.specs.Calls.{store_reply}
+use Rattle.dbm_file.specs.Database.{store_of, meta_kept, page_state, handle_of, IsAt}
+use Rattle.dbm_file.specs.Grouping.{IsOver, IsSameGroup, handle_in, IsAlike, IsStoredIn, StoresOne, HasStored, StoresMany}
+use Rattle.dbm_file.specs.Groups.{replacing, with_pairs}
+use Rattle.dbm_file.specs.Trying.{IsRead}
+use Rattle.dbm_file.specs.declared.calls.StoreReply.{StoreReply}
+use Rattle.dbm_file.specs.declared.calls.StoreReply.TheVariants.{Kept}
+use Rattle.dbm_file.specs.declared.calls.StoreReply.TheVariants as done
+use Rattle.dbm_file.specs.declared.database.Database.{Database}
+use Rattle.dbm_fault.specs.declared.fault.Fault.{Fault}
+use Rattle.dbm_file.proofs.Cases.{by_length}
+use Rattle.dbm_file.proofs.ReadSteps.{at_own, still_capacity, still_limit}
+
+-- a store that was acknowledged changed the map
+module _ (s : State) (key content : List ℕ) (after : State) where
+  abbrev IsChange : Case → Type 0
+  IsChange c = (c ≡ Changes model.Stored (insert s.map key content))
+      × (after ≡ record s { map = insert s.map key content })
+
+  by_old : (old : Option (List ℕ)) → Answers s (stored s key content model.Replace old) model.Stored after
+      → IsChange (stored s key content model.Replace old)
+  by_old (Some earlier) is = (refl, is.1)
+  by_old None is = elim (nat_le s.limit (len s.map)) as
+      (λ b. Answers s (cond b (Declines model.Full)
+      (Changes model.Stored (insert s.map key content))) model.Stored after
+      → IsChange (cond b (Declines model.Full)
+      (Changes model.Stored (insert s.map key content)))) [
+        | true ↦ λ full. absurd (let e = full.0 in cc)
+        | false ↦ λ done. (refl, done.1)
+      ] is
+
+  by_size : (b : Bool) → Answers s (cond b (stored s key content model.Replace (get s.map key))
+      (Refuses model.TooLong)) model.Stored after
+      → IsChange (cond b (stored s key content model.Replace (get s.map key))
+      (Refuses model.TooLong))
+  by_size true is = by_old (get s.map key) is
+  by_size false is = absurd (let e = is.0 in cc)
+
+  changed : s.usable ≡ true → s.writable ≡ true
+      → Answers s (case_of s (model.Store key content model.Replace)) model.Stored after
+      → IsChange (case_of s (model.Store key content model.Replace))
+  changed usable writable is =
+      let rule = by_length s key content model.Replace usable writable in
+      subst IsChange (sym rule) (by_size (nat_le (length key + length content) 2026)
+      (subst (λ (c : Case). Answers s c model.Stored after) rule is))
+
+-- it wasn't refused
+unrefused : (before : Handle) (c : Case) (after : Handle) → Suffers before c model.Stored after → ⊥
+unrefused before (Tells said told) after is = is
+unrefused before (Refuses fault) after is = is
+unrefused before (Declines fault) after is = let e = is.0 in cc
+unrefused before (Finds found) after is = let e = is.0 in cc
+unrefused before (Passes from) after is = let e = is.0 in cc
+unrefused before (Changes said contents) after (inl fails) = let e = fails.0 in cc
+unrefused before (Changes said contents) after (inr (inl breaks)) = let e = breaks.0 in cc
+unrefused before (Changes said contents) after (inr (inr (inl memory))) = let e = memory.0 in cc
+unrefused before (Changes said contents) after (inr (inr (inr room))) = let e = room.0 in cc
+
+-- the rule that it falls under depends on no error and no pass
+same_rule : (s t : State) (key content : List ℕ) (old : Option (List ℕ)) → t.map ≡ s.map
+    → t.limit ≡ s.limit
+    → stored t key content model.Replace old ≡ stored s key content model.Replace old
+same_rule s t key content (Some earlier) contents limit =
+    ap (λ (m : Contents). Changes model.Stored (insert m key content)) contents
+same_rule s t key content None contents limit =
+    ap (λ (m : Contents). cond (nat_le t.limit (len m)) (Declines model.Full)
+    (Changes model.Stored (insert m key content))) contents
+    ∙ ap (λ (n : ℕ). cond (nat_le n (len s.map)) (Declines model.Full)
+    (Changes model.Stored (insert s.map key content))) limit
+
+same_case : (s t : State) (key content : List ℕ) → s.usable ≡ true → s.writable ≡ true
+    → t.usable ≡ true → t.writable ≡ true → t.map ≡ s.map → t.limit ≡ s.limit
+    → case_of t (model.Store key content model.Replace)
+    ≡ case_of s (model.Store key content model.Replace)
+same_case s t key content usable writable also too contents limit =
+    by_length t key content model.Replace also too
+    ∙ ap (λ (c : Case). cond (nat_le (length key + length content) 2026) c (Refuses model.TooLong))
+    (ap (λ (m : Contents). stored t key content model.Replace (get m key)) contents
+    ∙ same_rule s t key content (get s.map key) contents limit)
+    ∙ sym (by_length s key content model.Replace usable writable)
+
+module _ {G : Type 0} {g : Ghosts G} (old new : Database G g) where
+  -- the step of a store in the group, from a handle that is like the group's
+  module _ (contents : Contents) (pair : Pair) (usable : (page_state old).usable ≡ true)
+      (writable : (page_state old).writable ≡ true) (after : Handle)
+      (step : Step (handle_of old contents) (replacing pair) model.Stored after)
+      (is : after ≡ handle_of new (insert contents pair.0 pair.1)) where
+    abbrev own : Handle
+    own = handle_of old contents
+
+    abbrev left : Handle
+    left = handle_of new (insert contents pair.0 pair.1)
+
+    own_step : Step own (replacing pair) model.Stored left
+    own_step = subst (λ (h : Handle). Step own (replacing pair) model.Stored h) is step
+
+    falls : case_of own.state (replacing pair)
+        ≡ Changes model.Stored (insert contents pair.0 pair.1)
+    falls = ⊎_elim
+        (λ answers. (changed own.state pair.0 pair.1 left.state usable writable answers).0)
+        (λ suffers. absurd (unrefused own (case_of own.state (replacing pair)) left suffers))
+        own_step.answers
+
+    pub stored_step : (before : Handle) (faults : ℕ) → IsAlike before old
+        → Step (handle_in before faults old contents) (replacing pair) model.Stored
+        (handle_in before faults new (insert contents pair.0 pair.1))
+    stored_step before faults alike = record {
+      counts = omega arith;
+      capacity = refl;
+      pages = own_step.pages;
+      bounded = subst (λ (n : ℕ). ((page_state new).end ≡ (page_state old).end)
+          ⊎ ((page_state new).end ≤ home n)) (sym alike.limit) own_step.bounded;
+      buckets = own_step.buckets;
+      answers = inl (subst (λ (c : Case).
+          Answers (handle_in before faults old contents).state c model.Stored
+          (handle_in before faults new (insert contents pair.0 pair.1)).state)
+          (sym (same_case own.state (handle_in before faults old contents).state pair.0 pair.1
+          usable writable alike.usable alike.writable refl alike.limit ∙ falls)) (refl, refl));
+    }
+
+  -- what a store in the group that was answered leaves there
+  module _ (pair : Pair) (writable : (page_state old).writable ≡ true)
+      (usable : (page_state old).usable ≡ true) (now : (page_state new).usable ≡ true) where
+    pub stored_in : (contents : Contents)
+        → IsStep old new (handle_of old contents) (replacing pair) model.Stored
+        → IsStoredIn old new contents pair
+    stored_in contents is =
+        let after_usable = ap (λ (h : Handle). h.state.usable) is.is_at.shows ∙ now in
+        let left = map_of_usable (handle_of old contents) is.after (replacing pair) model.Stored
+        is.step after_usable in
+        let after_is = is.is_at.shows ∙ ap (handle_of new) left in
+        record {
+          step = stored_step contents pair usable writable is.after is.step after_is;
+          is_at = subst (IsAt new) after_is is.is_at;
+        }
+
+  -- what one that was refused leaves there
+  pub unstored_in : (pair : Pair) (fault : model.Fault) → meta_kept new ≡ meta_kept old
+      → (page_state new).end ≡ (page_state old).end
+      → (g.honest (store_of old) → (contents : Contents) → IsAt old (handle_of old contents)
+      → IsStep old new (handle_of old contents) (replacing pair) (model.Refused fault))
+      → IsSameGroup old new
+  unstored_in pair fault meta end step = record {
+    meta = meta;
+    end = end;
+    stays = λ honest contents at. stays contents (step honest contents at);
+  }
+    where
+      stays : (contents : Contents)
+          → IsStep old new (handle_of old contents) (replacing pair) (model.Refused fault)
+          → IsAt new (handle_of new contents)
+      stays contents is = elim (page_state new).usable as
+          (λ b. (page_state new).usable ≡ b → IsAt new (handle_of new contents)) [
+            | true ↦ λ usable.
+                let after_usable = ap (λ (h : Handle). h.state.usable) is.is_at.shows ∙ usable in
+                let left = map_of_usable (handle_of old contents) is.after (replacing pair)
+                (model.Refused fault) is.step after_usable in
+                subst (IsAt new) (is.is_at.shows ∙ ap (handle_of new) left) is.is_at
+            | false ↦ λ broken.
+                at_own new contents (λ usable. absurd (let e = sym broken ∙ usable in cc))
+                (λ usable. absurd (let e = sym broken ∙ usable in cc))
+          ] refl
+
+-- reads one after another; `counts` is the store's law `counts_now`
+pub read_on : {S : Type 0} (s : Ghosts S) (old mid new : Database S s)
+    → ((t : ℕ) (y : Settled) → s.honest (store_of mid) → t ≤ s.moment (store_of mid)
+    → s.settles_to (store_of mid) y → s.settled_since (store_of mid) t y)
+    → IsRead old mid → IsRead mid new → IsRead old new
+read_on s old mid new counts first second = record {
+  reads = reads_then s (store_of old) (store_of mid) (store_of new) counts first.reads second.reads;
+  meta_is = second.meta_is ∙ first.meta_is;
+  error_is = second.error_is ∙ first.error_is;
+  pass_is = second.pass_is ∙ first.pass_is;
+}
+
+-- a group over a database stays over it while either is only called
+module _ {S G : Type 0} {s : Ghosts S} {g : Ghosts G} where
+  pub over_after : (db : Database S s) (old new : Database G g) → IsOver db old
+      → IsSameDatabase old new → IsOver db new
+  over_after db old new over goes = record {
+    ends = ap (λ (ps : Pages). length ps + 1) goes.base ∙ over.ends;
+    same = λ honest. goes.base ∙ over.same honest;
+    honesty = both_ways goes.honesty over.honesty;
+    limit = goes.limit ∙ over.limit;
+    capacity = goes.capacity ∙ over.capacity;
+    writable = goes.writable ∙ over.writable;
+  }
+
+  module _ (old new : Database S s) (first last : Database G g) (begins : IsOver old first)
+      (read : IsRead old new) (over : IsOver new last) where
+    pub group_honest : g.honest (store_of first) → g.honest (store_of last)
+    group_honest honest =
+        over.honesty.1 (read.reads.stages_only.honesty.1 (begins.honesty.0 honest))
+
+    pub group_capacity : (page_state last).capacity ≡ (page_state first).capacity
+    group_capacity = over.capacity ∙ still_capacity s old new read ∙ sym begins.capacity
+
+    pub group_limit : (meta_kept last).limit ≡ (meta_kept first).limit
+    group_limit = over.limit ∙ still_limit s old new read ∙ sym begins.limit
+
+-- a replacing store that is answered has stored its pair
+pub is_stored : (reply : StoreReply) → (reply ≡ Kept → ⊥) → reply ≡ done.Stored
+is_stored done.Stored not_kept = refl
+is_stored done.Kept not_kept = absurd (not_kept refl)
+
+-- what is known of the group before and after a store that was answered
+module _ {G T : Type 0} {g : Ghosts G} (old new : Database G g) (value : T)
+    (keeps : IsCallEnded old new (Ok value)) where
+  pub was_sound : (page_state old).usable ≡ true
+  was_sound = by_mark (page_state old).usable refl
+    where
+      by_mark : (b : Bool) → (page_state old).usable ≡ b → (page_state old).usable ≡ true
+      by_mark true is = is
+      by_mark false is = absurd (let e = keeps.broken.1 is in let x = e in cc)
+
+  pub is_sound : (page_state new).usable ≡ true
+  is_sound = ⊎_elim (λ same. same ∙ was_sound) (λ broke. absurd (let e = broke.0 in cc)) keeps.breaks
+
+-- a step with the call and the reply told otherwise
+pub as_stored : {G : Type 0} {g : Ghosts G} {old new : Database G g} {h : Handle}
+    (key content : List ℕ) (pair : Pair) (reply : StoreReply) → key ≡ pair.0 → content ≡ pair.1
+    → reply ≡ done.Stored
+    → IsStep old new h (model.Store key content model.Replace) (store_reply (Ok reply))
+    → IsStep old new h (replacing pair) model.Stored
+as_stored {old = old} {new = new} {h = h} key content pair reply k v is step =
+    subst (λ (x : List ℕ). IsStep old new h (model.Store x pair.1 model.Replace) model.Stored) k
+    (subst (λ (x : List ℕ). IsStep old new h (model.Store key x model.Replace) model.Stored) v
+    (subst (λ (r : StoreReply). IsStep old new h (model.Store key content model.Replace)
+    (store_reply (Ok r))) is step))
+
+pub as_refused : {G : Type 0} {g : Ghosts G} {old new : Database G g} {h : Handle}
+    (key content : List ℕ) (pair : Pair) (fault : model.Fault) → key ≡ pair.0 → content ≡ pair.1
+    → IsStep old new h (model.Store key content model.Replace) (model.Refused fault)
+    → IsStep old new h (replacing pair) (model.Refused fault)
+as_refused {old = old} {new = new} {h = h} key content pair fault k v step =
+    subst (λ (x : List ℕ). IsStep old new h (model.Store x pair.1 model.Replace)
+    (model.Refused fault)) k
+    (subst (λ (x : List ℕ). IsStep old new h (model.Store key x model.Replace)
+    (model.Refused fault)) v step)
+
+-- the pairs stored so far, with one more
+last_pair : (contents : Contents) (pairs : List Pair) (pair : Pair)
+    → with_pairs contents (pairs ++ pair ∷ []) ≡ insert (with_pairs contents pairs) pair.0 pair.1
+last_pair contents [] pair = refl
+last_pair contents (first ∷ pairs) pair = last_pair (insert contents first.0 first.1) pairs pair
+
+-- groups whose files are the same
+module _ {G : Type 0} {g : Ghosts G} where
+  pub same_group : (group : Database G g) → IsSameGroup group group
+  same_group group = record { meta = refl; end = refl; stays = λ honest contents at. at }
+
+  pub same_twice : (old mid new : Database G g) → IsSameGroup old mid → IsSameGroup mid new
+      → (g.honest (store_of old) → g.honest (store_of mid)) → IsSameGroup old new
+  same_twice old mid new first second honesty = record {
+    meta = second.meta ∙ first.meta;
+    end = second.end ∙ first.end;
+    stays = λ honest contents at.
+        second.stays (honesty honest) contents (first.stays honest contents at);
+  }
+
+  same_handle : (old new : Database G g) → IsSameGroup old new → (before : Handle) (faults : ℕ)
+      (contents : Contents)
+      → handle_in before faults new contents ≡ handle_in before faults old contents
+  same_handle old new same before faults contents =
+      ap (λ (n : ℕ). record (handle_in before faults new contents) { pages = n }) same.end
+      ∙ ap (λ m. record (handle_in before faults new contents) {
+        pages = (page_state old).end;
+        buckets = meta_buckets m;
+      }) same.meta
+
+  pub alike_still : (old new : Database G g) (before : Handle)
+      → (meta_kept new).limit ≡ (meta_kept old).limit
+      → (page_state new).capacity ≡ (page_state old).capacity → IsAlike before old
+      → IsAlike before new
+  alike_still old new before limit capacity alike = record {
+    usable = alike.usable;
+    writable = alike.writable;
+    limit = alike.limit ∙ sym limit;
+    capacity = alike.capacity ∙ sym capacity;
+  }
+
+  -- a pair stored in a group that was the same before
+  pub then_one : (old mid new : Database G g) (pair : Pair) → IsSameGroup old mid
+      → (page_state mid).capacity ≡ (page_state old).capacity
+      → (g.honest (store_of old) → g.honest (store_of mid))
+      → StoresOne mid new pair true → StoresOne old new pair true
+  then_one old mid new pair same capacity honesty one honest contents at =
+      let done = one (honesty honest) contents (same.stays honest contents at) in
+      record {
+        step = λ before faults alike.
+            subst (λ (h : Handle). Step h (replacing pair) model.Stored
+            (handle_in before faults new (insert contents pair.0 pair.1)))
+            (same_handle old mid same before faults contents)
+            (done.step before faults (alike_still old mid before (ap (λ m. m.limit) same.meta)
+            capacity alike));
+        is_at = done.is_at;
+      }
+
+  -- whether it was stored or not
+  pub after_same : (old mid new : Database G g) (pair : Pair) (stored : Bool) → IsSameGroup old mid
+      → (page_state mid).capacity ≡ (page_state old).capacity
+      → (g.honest (store_of old) → g.honest (store_of mid))
+      → StoresOne mid new pair stored → StoresOne old new pair stored
+  after_same old mid new pair true same capacity honesty one =
+      then_one old mid new pair same capacity honesty one
+  after_same old mid new pair false same capacity honesty one =
+      same_twice old mid new same one honesty
+
+  pub none_stored : (group : Database G g) → StoresMany group group []
+  none_stored group honest contents at = record {
+    run = λ before faults alike. refl;
+    is_at = at;
+  }
+
+  pub one_more_stored : (old mid new : Database G g) (pairs : List Pair) (pair : Pair)
+      → (meta_kept mid).limit ≡ (meta_kept old).limit
+      → (page_state mid).capacity ≡ (page_state old).capacity
+      → (g.honest (store_of old) → g.honest (store_of mid))
+      → StoresMany old mid pairs → StoresOne mid new pair true
+      → StoresMany old new (pairs ++ pair ∷ [])
+  one_more_stored old mid new pairs pair limit capacity honesty many one honest contents at =
+      let earlier = many honest contents at in
+      let last = one (honesty honest) (with_pairs contents pairs) earlier.is_at in
+      let is = sym (last_pair contents pairs pair) in
+      record {
+        run = λ before faults alike.
+            subst (λ cs. Run (handle_in before faults old contents) cs
+            (map (λ _. model.Stored) (pairs ++ pair ∷ []))
+            (handle_in before faults new (with_pairs contents (pairs ++ pair ∷ []))))
+            (sym (map-append replacing pairs (pair ∷ [])))
+            (subst (λ rs. Run (handle_in before faults old contents)
+            (map replacing pairs ++ replacing pair ∷ []) rs
+            (handle_in before faults new (with_pairs contents (pairs ++ pair ∷ []))))
+            (sym (map-append (λ _. model.Stored) pairs (pair ∷ [])))
+            (subst (λ m. Run (handle_in before faults old contents)
+            (map replacing pairs ++ replacing pair ∷ [])
+            (map (λ _. model.Stored) pairs ++ model.Stored ∷ [])
+            (handle_in before faults new m)) is
+            (run-push _ _ _ (map replacing pairs) (map (λ _. model.Stored) pairs)
+            (replacing pair) model.Stored (earlier.run before faults alike)
+            (last.step before faults (alike_still old mid before limit capacity alike)))));
+        is_at = subst (λ m. IsAt new (handle_of new m)) is last.is_at;
+      }
+
+  -- and with no more
+  pub no_more_stored : (old mid new : Database G g) (pairs : List Pair)
+      → (g.honest (store_of old) → g.honest (store_of mid))
+      → StoresMany old mid pairs → IsSameGroup mid new → StoresMany old new pairs
+  no_more_stored old mid new pairs honesty many same honest contents at =
+      let earlier = many honest contents at in
+      record {
+        run = λ before faults alike.
+            subst (λ (h : Handle). Run (handle_in before faults old contents) (map replacing pairs)
+            (map (λ _. model.Stored) pairs) h)
+            (sym (same_handle mid new same before faults (with_pairs contents pairs)))
+            (earlier.run before faults alike);
+        is_at = same.stays (honesty honest) (with_pairs contents pairs) earlier.is_at;
+      }

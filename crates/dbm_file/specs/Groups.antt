@@ -1,0 +1,58 @@
+-- Stores of many pairs in one commit.
+use Rattle.std.specs.Prelude.{◌≡◌, ◌⊎◌, ◌≤◌, ℕ, true, false, List, [], ◌∷◌, take, map, Result, Ok, Err}
+use Rattle.std.specs.FinMap.{insert}
+use Rattle.dbm_model.specs.Calls.{Call, Store, Replace, Stored, Refused}
+use Rattle.dbm_model.specs.Pairs.{Pair, Contents}
+use Rattle.dbm_model.specs.States.{Handle, flagged}
+use Rattle.dbm_model.specs.Steps.{Breaks, Run}
+use Rattle.page_io.specs.declared.store.PageStore.{Ghosts}
+use Rattle.dbm_fault.specs.Faults.{fault_of}
+use Rattle.dbm_fault.specs.declared.fault.Fault.{Fault}
+use Rattle.dbm_file.specs.Answers.{Survives}
+use Rattle.dbm_file.specs.Database.{page_state, IsAt}
+use Rattle.dbm_file.specs.declared.database.Database.{Database}
+
+-- the call that stores a pair, also where its key is there
+abbrev pub replacing : Pair → Call
+replacing pair = Store pair.0 pair.1 Replace
+
+-- the map with these pairs stored, one after another
+abbrev pub with_pairs : Contents → List Pair → Contents
+with_pairs contents [] = contents
+with_pairs contents (pair ∷ pairs) = with_pairs (insert contents pair.0 pair.1) pairs
+
+-- These pairs were stored as by calls one after another, and at every moment a stop leaves none of
+-- them or all.
+pub record IsGroup {S : Type 0} {s : Ghosts S} (old new : Database S s) (before : Handle)
+    (pairs : List Pair) : Type 0 where
+  pub after : Handle
+  pub counts : before.faults ≤ after.faults
+  pub run : Run (record before { faults = after.faults }) (map replacing pairs)
+      (map (λ _. Stored) pairs) after
+  pub is_at : IsAt new after
+  pub survives : (page_state old).usable ≡ true
+      → Survives old new (λ left. (left ≡ before.state.map) ⊎ (left ≡ after.state.map))
+
+-- with some of the pairs stored, from the first one on
+abbrev pub IsWithSome : Contents → List Pair → Contents → Type 0
+IsWithSome contents pairs left = (count : ℕ) × (left ≡ with_pairs contents (take count pairs))
+
+-- They were refused: nothing has changed, but that a fault of the device in the commit breaks the
+-- database, and leaves in the file none of them or those that were to be committed.
+pub record IsGroupRefused {S : Type 0} {s : Ghosts S} (old new : Database S s) (before : Handle)
+    (pairs : List Pair) (fault : Fault) : Type 0 where
+  pub after : Handle
+  pub counts : before.faults ≤ after.faults
+  pub ends : (after.state ≡ flagged (fault_of fault) before.state)
+      ⊎ ((grouped : Contents) × IsWithSome before.state.map pairs grouped
+      × Breaks before grouped (Refused (fault_of fault)) after)
+  pub is_at : IsAt new after
+  pub survives : (page_state old).usable ≡ true
+      → Survives old new (λ left. (left ≡ before.state.map)
+      ⊎ ((after.state.usable ≡ false) × IsWithSome before.state.map pairs left))
+
+-- how a store of these pairs ends on a database at this handle: so many of them are stored, or none
+abbrev pub GroupEnds : {S : Type 0} {s : Ghosts S} → Database S s → Database S s → Handle
+    → List Pair → Result ℕ Fault → Type 0
+GroupEnds old new before pairs (Ok stored) = IsGroup old new before (take stored pairs)
+GroupEnds old new before pairs (Err fault) = IsGroupRefused old new before pairs fault

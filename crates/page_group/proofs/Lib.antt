@@ -1,0 +1,4 @@
+mod Committed
+mod Entries
+mod Putting
+mod Staging
