@@ -1,5 +1,5 @@
 -- How far a text has been loaded.
-use Rattle.std.proofs.Common.{◌≡◌, ℕ, ◌+◌, true, List, [], ◌∷◌, ◌++◌, length, take, map, Option, Some, None, IfSome, Result, Ok, Err, OnOk, refl, sym, ap, subst, ◌∙◌, arith, append-nil, append_assoc, length-append}
+use Rattle.std.proofs.Common.{◌≡◌, inl, ℕ, ◌+◌, true, List, [], ◌∷◌, ◌++◌, length, take, map, Option, Some, None, IfSome, Result, Ok, Err, OnOk, refl, sym, ap, subst, ◌∙◌, arith, append-nil, append_assoc, length-append}
 use Rattle.std.specs.FinMap.{entries}
 use Rattle.std.proofs.lemmas.List.{map-append}
 use Rattle.dbm_model.specs.Calls.{Store, Replace, Stored, Refused, Fault}
@@ -11,7 +11,7 @@ use Rattle.dbm_model.specs.Steps.{Run}
 use Rattle.page_io.specs.declared.store.PageStore.{Ghosts}
 use Rattle.dbm_file.specs.Answers.{IsStep, IsSameDatabase}
 use Rattle.dbm_file.specs.Calls.{store_reply}
-use Rattle.dbm_file.specs.Database.{store_of, meta_kept, IsAt}
+use Rattle.dbm_file.specs.Database.{store_of, meta_kept, IsAt, AtEachHandle}
 use Rattle.dbm_file.specs.Runs.{IsRun}
 use Rattle.dbm_fault.specs.Faults.{fault_of}
 use Rattle.dbm_file.specs.declared.calls.StoreReply.{StoreReply}
@@ -23,7 +23,9 @@ use Rattle.dbm_lines.specs.Forms.{pair_in, dump_in}
 use Rattle.dbm_lines.specs.PairLines.{pair_of_words, Say}
 use Rattle.dbm_lines.specs.declared.forms.TextForm.{TextForm}
 use Rattle.dbm_lines.specs.declared.forms.TextForm.TheVariants.{Hexadecimal, Escaped}
-use Rattle.dbm_load.specs.Loading.{replacing, StoresAll, StoresBefore, Loads, LoadsDump, LoadsLine}
+use Rattle.dbm_file.specs.Groups.{replacing}
+use Rattle.dbm_load.specs.Loading.{Loads, LoadsDump, LoadsLine}
+use Rattle.dbm_load.specs.Storing.{StoresAll, StoresBefore, StoresPair}
 use Rattle.dbm_lines.specs.Reading.{line_bytes, after_line, ReadsLine}
 use Rattle.dbm_fault.specs.declared.fault.Fault as db
 use Rattle.dbm_fault.specs.declared.engine_fault.EngineFault.{EngineFault}
@@ -78,7 +80,7 @@ at_start form db (Some text) none =
     }
 
 -- the line that was read is the next one of the text, or says the same
-read_on : (form : TextForm) (first now next : Option (List ℕ)) (line : List ℕ)
+pub read_on : (form : TextForm) (first now next : Option (List ℕ)) (line : List ℕ)
     (done : List (List ℕ))
     → AreRead first now done → IfSome now (λ text. ReadsLine 8193 text true line next)
     → (whole : List ℕ) × (pair_in form whole ≡ pair_in form line)
@@ -94,7 +96,7 @@ read_on form (Some text) (Some (x ∷ xs)) next line done h r = (
 )
 
 -- the lines behind those that were read
-left_over : (first now : Option (List ℕ)) (done : List (List ℕ)) → AreRead first now done
+pub left_over : (first now : Option (List ℕ)) (done : List (List ℕ)) → AreRead first now done
     → (rest : List (List ℕ)) × IfSome first (λ text. lines_of text ≡ done ++ rest)
 left_over None now done h = ([], tt)
 left_over (Some text) None done h = absurd h
@@ -135,21 +137,24 @@ module _ {S : Type 0} (s : Ghosts S) (old mid new : Database S s)
 seen : {A : Type 0} {x y : A} → Some x ≡ Some y → x ≡ y
 seen e = cc
 
--- what an Ok of a replacing store says of the line's pair
-pub replaced : {S : Type 0} {s : Ghosts S} (said : Option Pair) (key content : List ℕ)
-    (reply : StoreReply) (number : ℕ) (old new : Database S s) → Some (key, content) ≡ said
-    → (s.honest (store_of old) → (h : Handle) → IsAt old h
-    → IsStep old new h (Store key content Replace) (store_reply (Ok reply)))
-    → LoadsLine (Ok tt) said number old new
-replaced None key content reply number old new e step = cc
-replaced {S} {s} (Some pair) key content stored.Stored number old new e step =
-    let same : (key, content) ≡ pair = seen e in
-    subst (λ (p : Pair). s.honest (store_of old) → (h : Handle) → IsAt old h
-    → IsStep old new h (replacing p) Stored) same step
-replaced (Some pair) key content stored.Kept number old new e step = λ honest h at. let one =
+-- a store that is acknowledged has stored
+pub stored_pair : {S : Type 0} {s : Ghosts S} (key content : List ℕ) (reply : StoreReply)
+    (old new : Database S s)
+    → AtEachHandle old (λ h. IsStep old new h (Store key content Replace) (store_reply (Ok reply)))
+    → StoresPair (Ok tt) old new (key, content)
+stored_pair key content stored.Stored old new step = step
+stored_pair key content stored.Kept old new step = λ honest h at. let one =
     step honest h at in absurd (never_kept h one.after key content one.step)
 
--- and what its refusal does
+-- so was the line's pair
+pub stored_line : {S : Type 0} {s : Ghosts S} (said : Option Pair) (key content : List ℕ)
+    (number : ℕ) (old new : Database S s) → Some (key, content) ≡ said
+    → StoresPair (Ok tt) old new (key, content) → LoadsLine (Ok tt) said number old new
+stored_line None key content number old new e step = cc
+stored_line {S} {s} (Some pair) key content number old new e step =
+    subst (λ (p : Pair). StoresPair (Ok tt) old new p) (seen e) step
+
+-- or refused
 pub refused_line : {S : Type 0} {s : Ghosts S} (said : Option Pair) (key content : List ℕ)
     (fault : db.Fault) (number : ℕ) (old new : Database S s) → Some (key, content) ≡ said
     → (s.honest (store_of old) → (h : Handle) → IsAt old h
@@ -218,7 +223,7 @@ module _ {S : Type 0} (s : Ghosts S) (form : TextForm) (old mid new : Database S
         stored = h.stored;
         lines = lines;
         said = h.said;
-        ends = (
+        ends = inl (
           pair,
           says,
           one_refused s old mid new limit honesty goes counts h.stored pair

@@ -13,7 +13,7 @@ use Rattle.dbm_model.specs.Pairs.{Key, Pair, Contents, key_cmp}
 use Rattle.dbm_model.specs.States.{State, Handle}
 use Rattle.dbm_model.specs.Steps.{Case, Tells, Refuses, Declines, Finds, Passes, Changes, stored, usable_case, broken_case, case_of, Answers, Suffers, Step, Run}
 use Rattle.dbm_model.proofs.CaseLemmas.{map_of_usable, breaks_by_change}
-use Rattle.dbm_load.specs.Loading.{replacing}
+use Rattle.dbm_file.specs.Groups.{replacing}
 
 -- a broken handle refuses each store
 when_broken : (before after : Handle) (key content : List ℕ) (mode : Mode) (reply : Reply)
@@ -29,7 +29,7 @@ when_broken before after key content mode reply step was =
     after) was step.answers)
 
 -- after Stored the handle is usable
-stays_usable : (before after : Handle) (key content : List ℕ) (mode : Mode)
+pub stays_usable : (before after : Handle) (key content : List ℕ) (mode : Mode)
     → Step before (Store key content mode) Stored after → after.state.usable ≡ false → ⊥
 stays_usable before after key content mode step now =
     elim before.state.usable as (λ u. before.state.usable ≡ u → ⊥) [

@@ -1,2 +1,4 @@
 pub use Rattle.dbm_lines.specs.PairLines
+pub mod Batches
 pub mod Loading
+pub mod Storing

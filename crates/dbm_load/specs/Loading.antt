@@ -1,50 +1,52 @@
 -- What a text of pairs says, and what a load of it does.
-use Rattle.std.specs.Prelude.{◌≡◌, ℕ, ◌+◌, List, [], ◌∷◌, ◌++◌, length, map, Option, Some, None, IfSome, Result, Ok, Err}
+use Rattle.std.specs.Prelude.{◌≡◌, ◌⊎◌, ◌<◌, ℕ, ◌+◌, List, [], ◌∷◌, ◌++◌, length, Option, Some, None, IfSome, Result, Ok, Err}
 use Rattle.std.specs.FinMap.{empty, entries}
 use Rattle.std.specs.List.{All}
-use Rattle.dbm_model.specs.Calls.{Call, Store, Replace, Stored, Refused}
-use Rattle.dbm_model.specs.Calls as model
+use Rattle.dbm_model.specs.Calls.{Stored, Refused}
 use Rattle.dbm_text.specs.Lines.{lines_of}
 use Rattle.page_model.specs.PairLists.{HasBytes}
 use Rattle.dbm_model.specs.Pairs.{Pair, Contents}
 use Rattle.dbm_model.specs.States.{Handle}
 use Rattle.page_io.specs.declared.store.PageStore.{Ghosts}
 use Rattle.dbm_file.specs.Answers.{IsStep}
-use Rattle.dbm_file.specs.Database.{store_of, IsAt}
-use Rattle.dbm_file.specs.Runs.{IsRun}
+use Rattle.dbm_file.specs.Database.{store_of, IsAt, AtEachHandle}
+use Rattle.dbm_file.specs.Groups.{replacing}
 use Rattle.dbm_fault.specs.Faults.{fault_of}
 use Rattle.dbm_file.specs.declared.database.Database.{Database}
 use Rattle.dbm_lines.specs.PairLines.{Say}
+use Rattle.dbm_fault.specs.declared.fault.Fault.{Fault}
 use Rattle.dbm_fault.specs.declared.engine_fault.EngineFault.{EngineFault}
 use Rattle.dbm_fault.specs.declared.engine_fault.EngineFault.TheVariants.{Line, Db}
+use Rattle.dbm_load.specs.Storing.{StoresAll, StoresBefore, StoresThenGroup}
 
 -- there is a first line, and it says this pair, or is bad
 abbrev pub FirstSays : (List ℕ → Option Pair) → List (List ℕ) → Option Pair → Type 0
 FirstSays pair_of [] said = ⊥
 FirstSays pair_of (line ∷ lines) said = pair_of line ≡ said
 
--- the call that stores a pair, also where the key is there
-abbrev pub replacing : Pair → Call
-replacing pair = Store pair.0 pair.1 Replace
-
 -- each key and content of the map is of bytes
 abbrev pub IsOfBytes : Contents → Type 0
 IsOfBytes contents = All HasBytes (entries contents)
 
--- on an honest store the pairs were stored one after another, and no other call was made
-abbrev pub StoresAll : {S : Type 0} {s : Ghosts S} → Database S s → Database S s
-    → List Pair → Type 0
-StoresAll {S} {s} old new pairs =
-    s.honest (store_of old) → (h : Handle) → IsAt old h
-    → IsRun old new h (map replacing pairs) (map (λ _. Stored) pairs)
+-- the first of these lines say these pairs
+abbrev pub FirstSay : (List ℕ → Option Pair) → List (List ℕ) → List Pair → Type 0
+FirstSay pair_of rest pairs =
+    (lines : List (List ℕ)) × (later : List (List ℕ)) × (rest ≡ lines ++ later)
+    × Say pair_of lines pairs
 
--- the same, and then the store of one more was refused
-abbrev pub StoresBefore : {S : Type 0} {s : Ghosts S} → Database S s → Database S s → List Pair
-    → Pair → model.Fault → Type 0
-StoresBefore {S} {s} old new pairs refused fault =
-    s.honest (store_of old) → (h : Handle) → IsAt old h →
-    IsRun old new h (map replacing pairs ++ replacing refused ∷ [])
-    (map (λ _. Stored) pairs ++ Refused fault ∷ [])
+-- These pairs were stored, and then that of the next line was refused by a store of its own.
+abbrev pub IsRefusedAlone : {S : Type 0} {s : Ghosts S} → (List ℕ → Option Pair) → Fault
+    → Database S s → Database S s → List (List ℕ) → List Pair → Type 0
+IsRefusedAlone pair_of fault old new rest stored =
+    (pair : Pair) × FirstSays pair_of rest (Some pair)
+    × StoresBefore old new stored pair (fault_of fault)
+
+-- These pairs were stored, and then those of some lines that follow by a store of their group.
+abbrev pub IsRefusedInGroup : {S : Type 0} {s : Ghosts S} → (List ℕ → Option Pair) → Fault
+    → Database S s → Database S s → List (List ℕ) → List Pair → Type 0
+IsRefusedInGroup pair_of fault old new rest stored =
+    (group : List Pair) × (0 < length group) × FirstSay pair_of rest group
+    × AtEachHandle old (λ h. StoresThenGroup old new h stored group fault)
 
 -- how a load ended that stored these pairs, of the first lines, and did not store the rest
 abbrev pub EndsBy : {S : Type 0} {s : Ghosts S} → (List ℕ → Option Pair)
@@ -54,8 +56,8 @@ EndsBy pair_of (Ok done) old new first rest stored = (rest ≡ []) × StoresAll 
 EndsBy pair_of (Err (Line n)) old new first rest stored =
     (n ≡ length first + 1) × FirstSays pair_of rest None × StoresAll old new stored
 EndsBy pair_of (Err (Db fault)) old new first rest stored =
-    (pair : Pair) × FirstSays pair_of rest (Some pair)
-    × StoresBefore old new stored pair (fault_of fault)
+    IsRefusedAlone pair_of fault old new rest stored
+    ⊎ IsRefusedInGroup pair_of fault old new rest stored
 EndsBy pair_of _ old new first rest stored = StoresAll old new stored
 
 -- What a load did of a text whose lines say pairs in this way, whatever it answers: it stored what

@@ -7,8 +7,11 @@ ghost use Rattle.dbm_lines.specs.Forms.{pair_in, dump_in};
 ghost use Rattle.dbm_lines.specs.PairLines.{pair_of_line};
 ghost use Rattle.dbm_load.specs.Loading.{Loads, LoadsDump, LoadsLine};
 
+use crate::batch::Batch;
+use crate::grouping::load_groups;
+use crate::storing::store_pair;
 use dbm_fault::EngineFault;
-use dbm_file::{Database, StoreMode};
+use dbm_file::Database;
 use dbm_lines::{Buffers, TextForm, pair_in_form, read_line};
 use dbm_progress::{Progress, Work};
 use page_io::PageStore;
@@ -18,13 +21,18 @@ use std::io::BufRead;
 /// Stores the pair that each line says, in place of an older one of its key, and stops at the first
 /// line that says none, told by its number from 1 as `Line`, or at the first store that is refused,
 /// told as `Db`. A line is `key content`, may have 8,192 bytes without its line feed, and a text
-/// 4,294,967,295. `Memory` comes before anything is read; no line takes memory of its own, and a
-/// store that finds none is told as `Db`. `Read` comes where reading fails or the text is too long.
-/// The stores made so far stand.
+/// 4,294,967,295. `Memory` comes before anything is read; a store that finds none is told as `Db`.
+/// `Read` comes where reading fails or the text is too long. The stores made so far stand.
+///
+/// So many lines as `group` says may share a commit, as far as they go into 4 MB; of 0 and 1 each
+/// line has its own, and takes no memory of its own. A pair for which there is no memory beside
+/// the others has a commit of its own. Each line before a bad one, and before a failed reading, is
+/// stored.
 pub fn load_engine<S: PageStore, R: BufRead, P: Progress>(
     alloc: Global,
     db: &mut Database<S>,
     reader: &mut R,
+    group: u32,
     progress: &mut P,
 ) -> Result<(), EngineFault>
     ensures loads { Loads pair_of_line result (R.remaining reader.old) db.old db.new }
@@ -40,7 +48,7 @@ pub fn load_engine<S: PageStore, R: BufRead, P: Progress>(
         → (db.new ≡ db.old) × (reader.new ≡ reader.old) }
     ensures only { result ≡ Err EngineFault.Write → ⊥ }
 {
-    load_in_form(alloc, db, reader, TextForm::Hexadecimal, progress)
+    load_in_form(alloc, db, reader, TextForm::Hexadecimal, group, progress)
 }
 
 /// Stores the pair that each line says as two fields with a tab between them, and otherwise does
@@ -50,6 +58,7 @@ pub fn load_text_engine<S: PageStore, R: BufRead, P: Progress>(
     alloc: Global,
     db: &mut Database<S>,
     reader: &mut R,
+    group: u32,
     progress: &mut P,
 ) -> Result<(), EngineFault>
     ensures loads { Loads pair_of_text_line result (R.remaining reader.old) db.old db.new }
@@ -65,7 +74,7 @@ pub fn load_text_engine<S: PageStore, R: BufRead, P: Progress>(
         → (db.new ≡ db.old) × (reader.new ≡ reader.old) }
     ensures only { result ≡ Err EngineFault.Write → ⊥ }
 {
-    load_in_form(alloc, db, reader, TextForm::Escaped, progress)
+    load_in_form(alloc, db, reader, TextForm::Escaped, group, progress)
 }
 
 /// Stores the pair that each line of this form says.
@@ -74,6 +83,7 @@ fn load_in_form<S: PageStore, R: BufRead, P: Progress>(
     db: &mut Database<S>,
     reader: &mut R,
     form: TextForm,
+    group: u32,
     progress: &mut P,
 ) -> Result<(), EngineFault>
     ensures loads { Loads (pair_in form) result (R.remaining reader.old) db.old db.new }
@@ -92,7 +102,11 @@ fn load_in_form<S: PageStore, R: BufRead, P: Progress>(
     let Ok(mut buffers) = Box::new(alloc, Buffers::new()) else {
         return Err(EngineFault::Memory);
     };
-    load_lines(db, reader, &mut buffers, form, progress)
+    if group < 2 {
+        return load_lines(db, reader, &mut buffers, form, progress);
+    }
+    let mut batch = Batch::new(alloc, group);
+    load_groups(db, reader, &mut buffers, &mut batch, form, progress)
 }
 
 /// The engine with its buffers.
@@ -139,8 +153,8 @@ fn load_line<S: PageStore>(
     let Some((key, content)) = pair else {
         return Err(EngineFault::Line(number));
     };
-    match db.store(key, content, StoreMode::Replace) {
-        Ok(_) => Ok(()),
+    match store_pair(db, key, content) {
+        Ok(()) => Ok(()),
         Err(fault) => Err(EngineFault::Db(fault)),
     }
 }

@@ -57,6 +57,8 @@ pub enum Plan<'a> {
     Load {
         file: &'a str,
         spelling: Spelling,
+        /// How many lines may share a commit, from 1 to 100000.
+        group: u32,
     },
     /// Print the numbers of a database.
     Stat {

@@ -17,7 +17,7 @@ use Rattle.dbm_model.specs.Sizes.{is_limit}
 
 -- it reads standard input
 abbrev pub reads : Plan → Bool
-reads (Load file spelling) = true
+reads (Load file spelling group) = true
 reads (Script source) = true
 reads (Rehearse source stops) = true
 reads _ = false
@@ -43,7 +43,7 @@ looks_for_a_key _ = false
 
 -- a line of its input may be bad
 abbrev pub has_lines : Plan → Bool
-has_lines (Load file spelling) = true
+has_lines (Load file spelling group) = true
 has_lines _ = false
 
 -- it looks at what stops leave

@@ -67,7 +67,11 @@ pub fn carry_out<T: Files<File = File>, R: BufRead, O: Write, P: Progress>(
         } => delete(host, file, key, spelling),
         Plan::List { file } => list(host, file, output, progress),
         Plan::Dump { file, spelling } => dump(host, file, spelling, output, progress),
-        Plan::Load { file, spelling } => load(host, file, spelling, input, progress),
+        Plan::Load {
+            file,
+            spelling,
+            group,
+        } => load(host, file, spelling, group, input, progress),
         Plan::Stat { file } => stat(host, file, output),
         Plan::Verify { file } => verify(host, file, output, progress),
         Plan::Script(Source::File(file)) => script(host, file, input, output),
@@ -205,15 +209,16 @@ fn load<T: Files<File = File>, R: BufRead, P: Progress>(
     host: &mut Host<'_, T>,
     file: &str,
     spelling: Spelling,
+    group: u32,
     input: &mut R,
     progress: &mut P,
 ) -> Result<Outcome, Failure>
-    ensures { EndsAs (Plan.Load file.entry spelling) result }
+    ensures { EndsAs (Plan.Load file.entry spelling group) result }
 {
     let mut db = host.open_there(file, Access::ReadWrite)?;
     let loaded = match spelling {
-        Spelling::Hexadecimal => load_engine(host.alloc, &mut db, input, progress),
-        Spelling::Text => load_text_engine(host.alloc, &mut db, input, progress),
+        Spelling::Hexadecimal => load_engine(host.alloc, &mut db, input, group, progress),
+        Spelling::Text => load_text_engine(host.alloc, &mut db, input, group, progress),
     };
     let done = match loaded {
         Ok(()) => Ok(Outcome::Done),

@@ -1,5 +1,5 @@
 -- The program's command line in the parser's words, and the plan that it gives.
-use Rattle.std.specs.Prelude.{◌≡◌, ℕ, List, [], ◌∷◌, Option, Some, None, Ok, Bool, is_some, pos, true, false, codes}
+use Rattle.std.specs.Prelude.{◌≡◌, ◌≤◌, ◌⊎◌, ℕ, List, [], ◌∷◌, Option, Some, None, Ok, Bool, is_some, pos, true, false, codes}
 use Rattle.std.specs.Str.Parse.{ParsesUnsigned}
 use Rattle.std.specs.declared.num.ParseIntError.{ParseIntError}
 use Rattle.clap.specs.Words.{App, Row, Rule, Shape, Text, first_of, matches_of, new_app, new_rule, one_of, subcommand_of, takes}
@@ -25,6 +25,13 @@ number_rule name = record (new_rule name) {
   value_names = 1;
   parser =
       Some (parser.Signed (pos 0) (pos 4294967295));
+}
+
+-- `--group N`, and N from 1 to 100000
+abbrev pub group_rule : Rule
+group_rule = record (number_rule (codes "group")) {
+  parser =
+      Some (parser.Signed (pos 1) (pos 100000));
 }
 
 -- `-x`
@@ -58,6 +65,10 @@ file_line name = line name (word_rule (codes "file") ∷ [])
 -- `NAME FILE [--text]`
 abbrev pub pairs_line : Text → Shape
 pairs_line name = line name (word_rule (codes "file") ∷ text_rule ∷ [])
+
+-- `load FILE [--text] [--group N]`
+abbrev pub load_line : Shape
+load_line = line (codes "load") (word_rule (codes "file") ∷ text_rule ∷ group_rule ∷ [])
 
 -- `NAME FILE KEY [-x]`
 abbrev pub key_line : Text → Shape
@@ -106,7 +117,7 @@ command_line = record {
   top = record program_line { is_leaf = false };
   subs = create_line ∷ pair_line (codes "store") ∷ pair_line (codes "insert")
       ∷ key_line (codes "fetch") ∷ key_line (codes "delete")
-      ∷ file_line (codes "list") ∷ pairs_line (codes "dump") ∷ pairs_line (codes "load")
+      ∷ file_line (codes "list") ∷ pairs_line (codes "dump") ∷ load_line
       ∷ file_line (codes "stat") ∷ file_line (codes "verify") ∷ script_line ∷ rehearse_line ∷ faults_line ∷ [];
 }
 
@@ -126,6 +137,11 @@ IsNumberText rows id number =
 abbrev pub IsOptional : List Row → Text → Option ℕ → Type 0
 IsOptional rows id None = first_of id rows ≡ None
 IsOptional rows id (Some number) = IsNumberText rows id number
+
+-- a number under `group` from 1 to 100000, or no text, which stands for 1
+abbrev pub IsGroup : List Row → ℕ → Type 0
+IsGroup rows group = ((first_of (codes "group") rows ≡ None) × (group ≡ 1))
+    ⊎ (IsNumberText rows (codes "group") group × (1 ≤ group) × (group ≤ 100000))
 
 abbrev pub flag_text : Spelling → Text
 flag_text spelling.Text = codes "false"
@@ -175,7 +191,8 @@ Asks name rows (Delete file key spelled) =
     (name ≡ codes "delete") × IsKey rows file.now key.now spelled
 Asks name rows (ListKeys file) = (name ≡ codes "list") × IsText rows (codes "file") file.now
 Asks name rows (Dump file spelled) = (name ≡ codes "dump") × ArePairs rows file.now spelled
-Asks name rows (Load file spelled) = (name ≡ codes "load") × ArePairs rows file.now spelled
+Asks name rows (Load file spelled group) = (name ≡ codes "load")
+    × ArePairs rows file.now spelled × IsGroup rows group
 Asks name rows (Stat file) = (name ≡ codes "stat") × IsText rows (codes "file") file.now
 Asks name rows (Verify file) = (name ≡ codes "verify") × IsText rows (codes "file") file.now
 Asks name rows (Script source) = (name ≡ codes "script") × IsSource rows source

@@ -1,8 +1,8 @@
 // The words and options that commands take.
 ghost use Rattle.dbm_words.specs.Building.{IsRule};
-ghost use Rattle.dbm_words.specs.CommandLine.{hexadecimal_rule, number_rule, text_rule, verbose_rule, word_rule};
+ghost use Rattle.dbm_words.specs.CommandLine.{group_rule, hexadecimal_rule, number_rule, text_rule, verbose_rule, word_rule};
 
-use crate::commands::{HEXADECIMAL, TEXT, VERBOSE};
+use crate::commands::{GROUP, HEXADECIMAL, MOST_LINES, TEXT, VERBOSE};
 use clap::{Arg, ArgAction, value_parser};
 use std::alloc::Global;
 
@@ -25,6 +25,19 @@ pub fn number<'a>(alloc: Global, name: &'a str, help: &'a str) -> Arg<'a>
         .value_name("N")
         .value_parser(value_parser!(u32))
         .help(help)
+}
+
+/// The option `--group`, whose value is from 1 to `MOST_LINES`.
+pub fn group<'a>(alloc: Global) -> Arg<'a>
+    ensures { IsRule result group_rule }
+{
+    Arg::new(alloc, GROUP)
+        .long(GROUP)
+        .value_name("N")
+        .value_parser(value_parser!(u32).range(1..=i64::from(MOST_LINES)))
+        .help(
+            "Store up to N lines (1 to 100000) in one commit, in place of one: faster, and a stop leaves all of a group or none",
+        )
 }
 
 /// The flag `-x`.

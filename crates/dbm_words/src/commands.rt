@@ -1,9 +1,9 @@
 // The commands.
 ghost use Rattle.std.specs.Prelude.{IfOk, codes};
 ghost use Rattle.dbm_words.specs.Building.{Adds, IsApp, alone};
-ghost use Rattle.dbm_words.specs.CommandLine.{command_line, create_line, faults_line, file_line, key_line, pair_line, pairs_line, program_line, rehearse_line, script_line};
+ghost use Rattle.dbm_words.specs.CommandLine.{command_line, create_line, faults_line, file_line, key_line, load_line, pair_line, pairs_line, program_line, rehearse_line, script_line};
 
-use crate::arguments::{hexadecimal, number, text_form, verbose, word};
+use crate::arguments::{group, hexadecimal, number, text_form, verbose, word};
 use clap::Command;
 use dbm_plan::fault_table;
 use std::alloc::{AllocError, Global};
@@ -59,7 +59,12 @@ pub const MEMORY: &str = "memory";
 
 pub const STOPS: &str = "stops";
 
+pub const GROUP: &str = "group";
+
 pub const VERBOSE: &str = "verbose";
+
+/// The most lines of a load that may share a commit.
+pub const MOST_LINES: u32 = 100_000;
 
 const FILE_HELP: &str = "The name of the database, without `.db`";
 
@@ -81,6 +86,11 @@ Example:
   dbmtool create colors
   dbmtool store colors sky blue
   dbmtool fetch colors sky";
+
+const LOAD_EXAMPLES: &str = "Example:
+  dbmtool load colors < colors.txt
+  dbmtool load colors --group 1000 < colors.txt
+  printf 'sky\\tblue\\n' | dbmtool load --text colors";
 
 const SCRIPT_LINES: &str =
     "Each line is a call, its words one space apart and bytes in hexadecimal, `.` for none:
@@ -245,14 +255,19 @@ fn dump_command<'a>(alloc: Global) -> Result<Command<'a>, AllocError>
 }
 
 fn load_command<'a>(alloc: Global) -> Result<Command<'a>, AllocError>
-    ensures { IfOk result (λ c. IsApp c (alone (pairs_line (codes "load")))) }
+    ensures { IfOk result (λ c. IsApp c (alone load_line)) }
 {
     pairs_command(
         alloc,
         LOAD,
         "Stores the pairs on standard input, as `dump` prints them",
-        "Example:\n  dbmtool load colors < colors.txt\n  printf 'sky\\tblue\\n' | dbmtool load --text colors",
-    )
+        load_examples(),
+    )?
+    .arg(group(alloc))
+}
+
+fn load_examples<'a>() -> &'a str {
+    LOAD_EXAMPLES
 }
 
 fn stat_command<'a>(alloc: Global) -> Result<Command<'a>, AllocError>

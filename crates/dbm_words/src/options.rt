@@ -1,13 +1,13 @@
 // The plan that a parse entered.
 ghost use Rattle.std.specs.Prelude.{◌≡◌, ◌⊎◌, IfErr, IfOk, IfSome, MatchOption, None, Some, codes};
 ghost use Rattle.clap.specs.Words.{first_of, found_of, one_of, rows_of, subcommand_rows_of};
-ghost use Rattle.dbm_words.specs.CommandLine.{Asks, IsNumberText, IsOptional, IsSource, IsText, IsVerbose, LacksSource, Names, NamesNoSource, flag_text, text_flag};
+ghost use Rattle.dbm_words.specs.CommandLine.{Asks, IsGroup, IsNumberText, IsOptional, IsSource, IsText, IsVerbose, LacksSource, Names, NamesNoSource, flag_text, text_flag};
 ghost use Rattle.dbm_words.specs.Sorting.{IsOfChoice};
 
 use crate::WordsError;
 use crate::commands::{
-    CONTENT, CREATE, DELETE, DUMP, FAULTS, FETCH, FILE, HEXADECIMAL, INSERT, KEY, LIMIT, LIST,
-    LOAD, MEMORY, REHEARSE, SCRIPT, STAT, STOPS, STORE, TEXT, VERBOSE, VERIFY,
+    CONTENT, CREATE, DELETE, DUMP, FAULTS, FETCH, FILE, GROUP, HEXADECIMAL, INSERT, KEY, LIMIT,
+    LIST, LOAD, MEMORY, MOST_LINES, REHEARSE, SCRIPT, STAT, STOPS, STORE, TEXT, VERBOSE, VERIFY,
 };
 use clap::ArgMatches;
 use dbm_plan::{Plan, Request, Source, Spelling};
@@ -124,11 +124,27 @@ fn of_file<'a>(name: &str, options: &ArgMatches<'a>) -> Option<Plan<'a>>
         LOAD => Some(Plan::Load {
             file,
             spelling: form(options)?,
+            group: group(options)?,
         }),
         STAT => Some(Plan::Stat { file }),
         VERIFY => Some(Plan::Verify { file }),
         _ => of_key(name, options),
     }
+}
+
+/// How many lines of a load may share a commit: one, where that wasn't given. None where it is no
+/// number from 1 to `MOST_LINES`, as the parser has refused before.
+fn group(options: &ArgMatches<'_>) -> Option<u32>
+    ensures { IfSome result (IsGroup (rows_of (found_of options.now))) }
+{
+    if text(options, GROUP).is_none() {
+        return Some(1);
+    }
+    let lines = number(options, GROUP)?;
+    if lines == 0 || MOST_LINES < lines {
+        return None;
+    }
+    Some(lines)
 }
 
 /// The plan of a command on a key in a file.

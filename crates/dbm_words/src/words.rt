@@ -36,9 +36,10 @@ pub enum WordsError {
 }
 
 /// Reads the words after the program's name. `Help` where they ask for help or the version, and
-/// `Usage` where they are no plan: no command, an unknown one, an option too many or too few, or a
-/// number that is no `u32`. `ScriptSource` where the parser takes the words, and a script has both
-/// of FILE and `--memory` or neither; `RehearsalSource` where a rehearsal does.
+/// `Usage` where they are no plan: no command, an unknown one, an option too many or too few, a
+/// number that is no `u32`, or a group outside 1 to 100000. `ScriptSource` where the parser takes
+/// the words, and a script has both of FILE and `--memory` or neither; `RehearsalSource` where a
+/// rehearsal does.
 pub fn read_words<'a>(alloc: Global, words: &'a [&'a str]) -> Result<Request<'a>, WordsError>
     ensures plan { IfOk result (λ r. IsPlan (map (λ word. word.now) words.now) r.plan) }
     ensures verbose { IfOk result

@@ -27,14 +27,15 @@ pub fn script<R: BufRead, W: Write>(
     script_engine(alloc, db, reader, writer)
 }
 
-/// Loads the pairs of a text.
+/// Loads the pairs of a text, of which so many lines may share a commit.
 pub fn load<R: BufRead, P: Progress>(
     alloc: Global,
     db: &mut Db<MemDev>,
     reader: &mut R,
+    group: u32,
     progress: &mut P,
 ) -> Result<(), EngineFault> {
-    load_engine(alloc, db, reader, progress)
+    load_engine(alloc, db, reader, group, progress)
 }
 
 /// Writes the pairs of a database.

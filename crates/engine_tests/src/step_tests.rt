@@ -37,14 +37,15 @@ impl Progress for Recorder {
     }
 }
 
-/// What a load of three lines, of which the last one is bad, a dump and a list tell.
-fn told(alloc: Global) -> Result<Vec<u8>, Fail> {
+/// What a load of three lines, of which the last one is bad, a dump and a list tell, where so many
+/// lines may share a commit.
+fn told(alloc: Global, group: u32) -> Result<Vec<u8>, Fail> {
     let mut db = new_db(alloc, 100)?;
     let mut recorder = Recorder {
         told: Vec::new(alloc),
     };
     let mut text: &[u8] = b"62 .\n61 01\nQ\n";
-    let loaded = engines::load(alloc, &mut db, &mut text, &mut recorder);
+    let loaded = engines::load(alloc, &mut db, &mut text, group, &mut recorder);
     if loaded != Err(EngineFault::Line(3)) {
         return Err(Fail::new("the third line is loaded"));
     }
@@ -58,9 +59,12 @@ fn told(alloc: Global) -> Result<Vec<u8>, Fail> {
 
 #[test]
 fn a_step_is_told_once_it_is_done(rt: HostRuntime) -> Result<(), Fail> {
-    assert_eq!(rt;
-        told(rt.alloc())?.as_slice(),
-        b"ll kkccxPP kkxKK".as_slice()
-    );
+    for group in 0..5 {
+        assert_eq!(rt;
+            told(rt.alloc(), group)?.as_slice(),
+            b"ll kkccxPP kkxKK".as_slice(),
+            "in groups of {group}"
+        );
+    }
     Ok(())
 }

@@ -10,5 +10,9 @@ returns-in_default-clause-loads g c =
     no_run g.S.PageStore db start at
     (λ x left. g.met.S.PageStore.only_now db.store x honest left))
 
+pub returns-then-group-lt2-clause-dump : goal.returns-then-group-lt2-clause-dump
+returns-then-group-lt2-clause-dump g c =
+    dump_back c.args.form c.load_lines.result _ _ _ c.load_lines.ensures.loads
+
 pub returns-clause-dump : goal.returns-clause-dump
-returns-clause-dump g c = dump_back c.args.form c.load_lines.result _ _ _ c.load_lines.ensures.loads
+returns-clause-dump g c = dump_back c.args.form c.load_groups.result _ _ _ c.load_groups.ensures.loads

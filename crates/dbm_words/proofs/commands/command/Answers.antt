@@ -1,5 +1,5 @@
 use Rattle.std.proofs.Common.{Ok, codes}
-use Rattle.dbm_words.specs.CommandLine.{command_line, create_line, faults_line, file_line, key_line, pair_line, pairs_line, program_line, rehearse_line, script_line}
+use Rattle.dbm_words.specs.CommandLine.{command_line, create_line, faults_line, file_line, key_line, load_line, pair_line, pairs_line, program_line, rehearse_line, script_line}
 use Rattle.dbm_words.proofs.Building.{thirteen_lines_added}
 use Rattle.dbm_words.proofs.commands.command.Goals as goal
 
@@ -8,7 +8,7 @@ unfolding command_line
 returns c =
     thirteen_lines_added program_line create_line (pair_line (codes "store"))
     (pair_line (codes "insert")) (key_line (codes "fetch")) (key_line (codes "delete"))
-    (file_line (codes "list")) (pairs_line (codes "dump")) (pairs_line (codes "load"))
+    (file_line (codes "list")) (pairs_line (codes "dump")) load_line
     (file_line (codes "stat")) (file_line (codes "verify")) script_line rehearse_line faults_line
     c.program.result c.added-command.result c.added-command-2.result c.added-command-3.result
     c.added-command-4.result c.added-command-5.result c.added-command-6.result

@@ -36,9 +36,18 @@ returns-in_err-form-in-load c =
     (Asks c.args.name.now (rows_of (found_of c.args.options.now)))
     c.from_residual-in_err-form-in-load.ensures
 
-pub returns-in_ok-form-in-load : goal.returns-in_ok-form-in-load
-returns-in_ok-form-in-load c =
-    (c.in-load.is, record { file = c.in_ok-file.ensures; flag = c.in_ok-form-in-load.ensures })
+pub returns-in_err-group-in-load : goal.returns-in_err-group-in-load
+returns-in_err-group-in-load c =
+    if_none c.from_residual-in_err-group-in-load.result
+    (Asks c.args.name.now (rows_of (found_of c.args.options.now)))
+    c.from_residual-in_err-group-in-load.ensures
+
+pub returns-in_ok-group-in-load : goal.returns-in_ok-group-in-load
+returns-in_ok-group-in-load c = (
+  c.in-load.is,
+  record { file = c.in_ok-file.ensures; flag = c.in_ok-form-in-load.ensures },
+  c.in_ok-group-in-load.ensures,
+)
 
 pub returns-in-stat : goal.returns-in-stat
 returns-in-stat c = (c.in-stat.is, c.in_ok-file.ensures)

@@ -1,0 +1,14 @@
+use Rattle.dbm_file.specs.Answers.{IsSameDatabase}
+use Rattle.dbm_lines.specs.Reading.{IsCounted}
+use Rattle.dbm_load.specs.Batches.{pairs_in}
+use Rattle.dbm_load.proofs.Gathering.{IsGathering}
+use Rattle.dbm_load.proofs.grouping.load_groups.Given as goal
+
+abbrev pub invariant-loop-number : goal.invariant-loop-number
+invariant-loop-number g l = record {
+  gathering : IsGathering l.form l.initial.db l.db (g.R.Read.remaining l.initial.reader)
+      (g.R.Read.remaining l.reader) (pairs_in l.batch) l.number;
+  goes : IsSameDatabase l.initial.db l.db;
+  counted : IsCounted (g.R.Read.remaining l.initial.reader) 4294967295
+      (g.R.Read.remaining l.reader) l.left;
+}

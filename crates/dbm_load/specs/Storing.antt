@@ -1,0 +1,89 @@
+-- What stores of pairs leave, alone and many in one commit.
+use Rattle.std.specs.Prelude.{◌≡◌, ◌⊎◌, ◌<◌, ℕ, List, [], ◌∷◌, ◌++◌, length, map, take, Result, Ok, Err}
+use Rattle.dbm_model.specs.Calls.{Stored, Refused}
+use Rattle.dbm_model.specs.Calls as model
+use Rattle.dbm_model.specs.Pairs.{Pair}
+use Rattle.dbm_model.specs.States.{Handle}
+use Rattle.page_io.specs.declared.store.PageStore.{Ghosts}
+use Rattle.dbm_file.specs.Answers.{IsStep, IsSameDatabase}
+use Rattle.dbm_file.specs.Database.{AtEachHandle}
+use Rattle.dbm_file.specs.Groups.{replacing, IsGroupRefused}
+use Rattle.dbm_file.specs.Runs.{IsRun}
+use Rattle.dbm_fault.specs.Faults.{fault_of}
+use Rattle.dbm_fault.specs.declared.fault.Fault.{Fault}
+use Rattle.dbm_fault.specs.declared.engine_fault.EngineFault.{EngineFault}
+use Rattle.dbm_fault.specs.declared.engine_fault.EngineFault.TheVariants.{Db}
+use Rattle.dbm_file.specs.declared.database.Database.{Database}
+
+-- on an honest store the pairs were stored one after another, and no other call was made
+abbrev pub StoresAll : {S : Type 0} {s : Ghosts S} → Database S s → Database S s
+    → List Pair → Type 0
+StoresAll old new pairs =
+    AtEachHandle old (λ h. IsRun old new h (map replacing pairs) (map (λ _. Stored) pairs))
+
+-- the same, and then the store of one more was refused
+abbrev pub StoresBefore : {S : Type 0} {s : Ghosts S} → Database S s → Database S s → List Pair
+    → Pair → model.Fault → Type 0
+StoresBefore old new pairs refused fault =
+    AtEachHandle old (λ h. IsRun old new h (map replacing pairs ++ replacing refused ∷ [])
+    (map (λ _. Stored) pairs ++ Refused fault ∷ []))
+
+-- The pairs were stored one after another, which led to a database `mid`, and the store of a group
+-- of pairs was then refused there.
+pub record StoresThenGroup {S : Type 0} {s : Ghosts S} (old new : Database S s) (h : Handle)
+    (pairs group : List Pair) (fault : Fault) : Type 0 where
+  pub mid : Database S s
+  pub goes : IsSameDatabase old mid
+  pub run : IsRun old mid h (map replacing pairs) (map (λ _. Stored) pairs)
+  pub refused : IsGroupRefused mid new run.after group fault
+
+-- The first pairs were stored, and then these ones refused: the one by a store of its own, or some
+-- by one of their group.
+abbrev pub IsRefused : {S : Type 0} {s : Ghosts S} → Database S s → Database S s → List Pair
+    → List Pair → Fault → Type 0
+IsRefused old new stored refused fault =
+    ((pair : Pair) × (refused ≡ pair ∷ []) × StoresBefore old new stored pair (fault_of fault))
+    ⊎ ((0 < length refused) × AtEachHandle old (λ h. StoresThenGroup old new h stored refused fault))
+
+-- some of the pairs were stored, from the first one on, and the next ones refused
+pub record StopsWithin {S : Type 0} {s : Ghosts S} (old new : Database S s) (pairs : List Pair)
+    (fault : Fault) : Type 0 where
+  pub stored : List Pair
+  pub refused : List Pair
+  pub later : List Pair
+  pub pairs_are : pairs ≡ stored ++ (refused ++ later)
+  pub how : IsRefused old new stored refused fault
+
+-- what a store of this pair alone answers
+abbrev pub StoresPair : {S : Type 0} {s : Ghosts S} → Result Unit Fault → Database S s
+    → Database S s → Pair → Type 0
+StoresPair (Ok done) old new pair =
+    AtEachHandle old (λ h. IsStep old new h (replacing pair) Stored)
+StoresPair (Err fault) old new pair =
+    AtEachHandle old (λ h. IsStep old new h (replacing pair) (Refused (fault_of fault)))
+
+abbrev pub StoresAlone : {S : Type 0} {s : Ghosts S} → Result Unit EngineFault → Database S s
+    → Database S s → Pair → Type 0
+StoresAlone (Ok done) old new pair =
+    AtEachHandle old (λ h. IsStep old new h (replacing pair) Stored)
+StoresAlone (Err (Db fault)) old new pair =
+    AtEachHandle old (λ h. IsStep old new h (replacing pair) (Refused (fault_of fault)))
+StoresAlone _ old new pair = ⊥
+
+-- what a store of some of these pairs answers: how many, from the first one on
+abbrev pub StoresSome : {S : Type 0} {s : Ghosts S} → Result ℕ Fault → Database S s → Database S s
+    → List Pair → Type 0
+StoresSome (Ok stored) old new pairs = StoresAll old new (take stored pairs)
+StoresSome (Err fault) old new pairs = StopsWithin old new pairs fault
+
+-- and of all of them
+abbrev pub StoresEach : {S : Type 0} {s : Ghosts S} → Result Unit Fault → Database S s
+    → Database S s → List Pair → Type 0
+StoresEach (Ok done) old new pairs = StoresAll old new pairs
+StoresEach (Err fault) old new pairs = StopsWithin old new pairs fault
+
+abbrev pub StoresBatch : {S : Type 0} {s : Ghosts S} → Result Unit EngineFault → Database S s
+    → Database S s → List Pair → Type 0
+StoresBatch (Ok done) old new pairs = StoresAll old new pairs
+StoresBatch (Err (Db fault)) old new pairs = StopsWithin old new pairs fault
+StoresBatch _ old new pairs = ⊥

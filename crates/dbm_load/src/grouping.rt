@@ -1,0 +1,95 @@
+//! Loads in which lines share commits.
+ghost use Rattle.std.specs.Prelude.{◌≡◌, ◌≤◌, Err, OnOk, IfSome, Some, [], length};
+ghost use Rattle.dbm_file.specs.Answers.{IsSameDatabase};
+ghost use Rattle.dbm_lines.specs.Forms.{pair_in};
+ghost use Rattle.dbm_load.specs.Batches.{pairs_in, GroupsPair, GroupsLine};
+ghost use Rattle.dbm_load.specs.Loading.{Loads};
+
+use crate::batch::Batch;
+use crate::storing::{store_alone, store_batch};
+use dbm_fault::EngineFault;
+use dbm_file::Database;
+use dbm_lines::{Buffers, TextForm, pair_in_form, read_line};
+use dbm_progress::Progress;
+use page_io::PageStore;
+use std::io::BufRead;
+
+/// The engine with its buffers and a batch, which has no pair yet.
+pub fn load_groups<S: PageStore, R: BufRead, P: Progress>(
+    db: &mut Database<S>,
+    reader: &mut R,
+    buffers: &mut Buffers,
+    batch: &mut Batch,
+    form: TextForm,
+    progress: &mut P,
+) -> Result<(), EngineFault>
+    requires none { pairs_in batch.old ≡ [] }
+    ensures loads { Loads (pair_in form) result (R.remaining reader.old) db.old db.new }
+    ensures read { OnOk result (IfSome (R.remaining reader.old)
+        (λ text. R.remaining reader.new ≡ Some [])) }
+    ensures size { OnOk result (IfSome (R.remaining reader.old)
+        (λ text. length text ≤ 4294967295)) }
+    ensures goes { IsSameDatabase db.old db.new }
+    ensures no_memory { result ≡ Err EngineFault.Memory → ⊥ }
+    ensures no_write { result ≡ Err EngineFault.Write → ⊥ }
+{
+    let mut left = u32::MAX;
+    for number in 1..u64::MAX {
+        let Ok(read) = read_line(reader, &mut buffers.line, &mut left) else {
+            store_batch(db, batch, progress)?;
+            return Err(EngineFault::Read);
+        };
+        if !read.is_line() {
+            return store_batch(db, batch, progress);
+        }
+        group_line(db, buffers, batch, number, form, progress)?;
+    }
+    store_batch(db, batch, progress)?;
+    Err(EngineFault::Read)
+}
+
+/// Puts the pair that the line says, which has this number, into the batch, and stores the batch
+/// where it ends there.
+fn group_line<S: PageStore, P: Progress>(
+    db: &mut Database<S>,
+    buffers: &mut Buffers,
+    batch: &mut Batch,
+    number: u64,
+    form: TextForm,
+    progress: &mut P,
+) -> Result<(), EngineFault>
+    ensures line { GroupsLine result (pair_in form buffers.old.line.items) number db.old db.new
+        (pairs_in batch.old) (pairs_in batch.new) }
+    ensures goes { IsSameDatabase db.old db.new }
+{
+    let line = buffers.line.as_slice();
+    let pair = pair_in_form(form, line, &mut buffers.key, &mut buffers.content);
+    let Some((key, content)) = pair else {
+        store_batch(db, batch, progress)?;
+        return Err(EngineFault::Line(number));
+    };
+    group_pair(db, batch, key, content, progress)
+}
+
+/// Puts a pair into the batch, and stores the batch where it is full, or where there is no memory
+/// for the pair, which is then stored alone.
+fn group_pair<S: PageStore, P: Progress>(
+    db: &mut Database<S>,
+    batch: &mut Batch,
+    key: &[u8],
+    content: &[u8],
+    progress: &mut P,
+) -> Result<(), EngineFault>
+    ensures pair { GroupsPair result (key.now, content.now) db.old db.new
+        (pairs_in batch.old) (pairs_in batch.new) }
+    ensures goes { IsSameDatabase db.old db.new }
+{
+    let Ok(()) = batch.keep(key, content) else {
+        store_batch(db, batch, progress)?;
+        return store_alone(db, key, content, progress);
+    };
+    if batch.is_full() {
+        return store_batch(db, batch, progress);
+    }
+    Ok(())
+}
