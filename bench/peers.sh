@@ -4,19 +4,20 @@
 # the disk that is to be measured, and counts (10000 and 100000 where none is given).
 #
 # Each change of a script is synced, by LMDB as a transaction of its own. A load of dbmtool commits
-# each pair; the others sync once, at the end, LMDB one transaction. A time is that of the whole
+# each pair, or GROUP of them; the others sync once, at the end, LMDB one transaction. A time is that of the whole
 # program, with its opening, closing, reading and writing of lines. The programs take turns, so that
 # each meets the machine in the same state, and the best of ROUNDS runs counts.
 #
-# In the environment: ROUNDS (3); MOST (2000), the most pairs that are stored one by one, and as
-# many deleted, since on a disk each may take milliseconds; DBMTOOL, a built program to measure in
-# place of this tree's.
+# In the environment: ROUNDS (3); GROUP (1), how many lines of a load of dbmtool share a commit; MOST
+# (2000), the most pairs that are stored one by one, and as many deleted, since on a disk each may
+# take milliseconds; DBMTOOL, a built program to measure in place of this tree's.
 set -euo pipefail
 top=$(cd "$(dirname "$0")/.." && pwd)
 folder=${1:?the folder that is to be measured}
 counts=("${@:2}")
 [ ${#counts[@]} -gt 0 ] || counts=(10000 100000)
 rounds=${ROUNDS:-3}
+group=${GROUP:-1}
 most=${MOST:-2000}
 
 work=$(realpath "$(mktemp -d "$folder/peers.XXXXXX")")
@@ -82,12 +83,13 @@ check_replies() {
 
 # Runs a workload of a program on its database, and keeps the time where it is the best one.
 run() {
-  local name=$1 workload=$2 word=script begun ended
-  if [ "$workload" = load ]; then word=load; fi
+  local name=$1 workload=$2 words=(script) begun ended
+  if [ "$workload" = load ]; then words=(load); fi
+  if [ "$name $workload" = 'dbmtool load' ]; then words+=(--group "$group"); fi
   # what others have written is not to be written within this one's time
   sync -f .
   begun=${EPOCHREALTIME/./}
-  "${program[$name]}" "$word" "base/$name" < "$workload" > replies || fail "$name ends by $?"
+  "${program[$name]}" "${words[@]}" "base/$name" < "$workload" > replies || fail "$name ends by $?"
   ended=${EPOCHREALTIME/./}
   check_replies "$name" "$workload"
   local time=$((ended - begun)) least=${best[$name $workload]:-}

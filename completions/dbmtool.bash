@@ -12,7 +12,7 @@ _dbmtool_places() {
   local at count=0
   for ((at = 2; at < COMP_CWORD; at++)); do
     case ${COMP_WORDS[at]} in
-      --limit | --memory | --stops) at=$((at + 1)); [ "${COMP_WORDS[at]}" != = ] || at=$((at + 1)) ;;
+      --group | --limit | --memory | --stops) at=$((at + 1)); [ "${COMP_WORDS[at]}" != = ] || at=$((at + 1)) ;;
       -*) ;;
       *) count=$((count + 1)) ;;
     esac
@@ -34,14 +34,15 @@ _dbmtool() {
     return
   fi
   case ${COMP_WORDS[COMP_CWORD - 1]} in
-    --limit | --memory | --stops | =) return ;;
+    --group | --limit | --memory | --stops | =) return ;;
   esac
   case ${COMP_WORDS[1]} in
     create) options='--limit -h --help' ;;
     store | insert | fetch | delete) options='-x -h --help' ;;
     script) options='--memory -h --help' ;;
     rehearse) options='--memory --stops -h --help' ;;
-    dump | load) options='--text -h --help' ;;
+    dump) options='--text -h --help' ;;
+    load) options='--group --text -h --help' ;;
     list | stat | verify | faults) options='-h --help' ;;
   esac
   places=$(_dbmtool_places)

@@ -1,7 +1,7 @@
 #!/usr/bin/env bash
 # Changes of a real file that are killed at some moment, a thousand times over: stores one after another, deletes one after another, and
-# loads, in turn. Each change that had ended with status 0 is there afterwards, of the others one a round at most, and of a load as many
-# lines as were stored, the first ones.
+# loads, in turn, line by line and in groups. Each change that had ended with status 0 is there afterwards, of the others one a round at
+# most, and of a load as many lines as were stored, the first ones, and whole groups of them.
 set -u
 top=$(cd "$(dirname "$0")/.." && pwd)
 program=$top/crates/dbmtool/out/dbmtool
@@ -33,6 +33,10 @@ loads() {
   "$program" load t < lines && cp lines done
 }
 
+grouped() {
+  "$program" load t --group 10 < lines && cp lines done
+}
+
 # the maps that may be there, from the one before the round and what was acknowledged
 may_be() {
   local count
@@ -44,8 +48,9 @@ may_be() {
     deletes)
       tail -n +$((count + 1)) map > one
       tail -n +$((count + 2)) map > two ;;
-    loads)
+    loads | grouped)
       [ "$count" != 0 ] || count=$(($(wc -l < found) - $(wc -l < map)))
+      [ "$1" = loads ] || count=$((count / 10 * 10))
       head -n "$count" lines | sort - map > one
       cp one two ;;
   esac
@@ -53,12 +58,12 @@ may_be() {
 
 # worker: so many rounds on a database of its own
 worker() {
-  local kinds=(stores deletes loads) kind round group
+  local kinds=(stores deletes loads grouped) kind round group
   set -m   # each round is a process group of its own, which is killed whole
   "$program" create t --limit 100000 || return 1
   : > map
   for round in $(seq 1 "$rounds"); do
-    kind=${kinds[$((round % 3))]}
+    kind=${kinds[$((round % 4))]}
     : > done
     for n in $(seq 1 40); do line "$round" "$n"; done > lines
     "$kind" "$round" 2> err &
@@ -84,7 +89,7 @@ done
 wait
 cat ./*.text
 for number in $(seq 1 "$workers"); do [ -e "$number/passed" ] || exit 1; done
-for kind in stores deletes loads; do
+for kind in stores deletes loads grouped; do
   count=$(cat ./*/acknowledged | grep -c "^$kind")
   echo "$count acknowledged by $kind in $((workers * rounds)) rounds, and $(cat ./*/more | grep -c "$kind") more happened"
   [ "$count" -ge 50 ] || { echo "too few to tell anything"; exit 1; }

@@ -62,3 +62,4 @@ after=deleted
 refused nothing delete t key
 after=loaded
 refused nothing load t
+refused nothing load t --group 2

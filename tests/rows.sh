@@ -64,15 +64,18 @@ done <<'ROWS'
 100 [] []
 ROWS
 
-# LIMIT [lines to load] [faults] [dump] STATUS
+# LIMIT [lines to load] [faults] [dump] STATUS, whatever number of lines shares a commit
 while IFS= read -r row; do
   fields "$row"
-  rm -f t.db; "$program" create t --limit "${before[0]}" || wrong "no file was made"
   lines "${texts[0]}" > in
-  runs load t
-  [ "$status" = "$behind" ] && [ ! -s out ] && says err "${texts[1]}" || told "$row"
-  runs dump t
-  says out "${texts[2]}" || told "$row"
+  for group in '' '--group 1' '--group 2' '--group 100000'; do
+    rm -f t.db; "$program" create t --limit "${before[0]}" || wrong "no file was made"
+    # shellcheck disable=SC2086
+    runs load t $group
+    [ "$status" = "$behind" ] && [ ! -s out ] && says err "${texts[1]}" || told "$row"
+    runs dump t
+    says out "${texts[2]}" || told "$row"
+  done
 done <<'ROWS'
 100 [61 FF/62 ./zz/] [dbmtool: line 3/] [61 ff/62 ./] 2
 100 [] [] [] 0
@@ -107,10 +110,12 @@ answers_long 'S 6b ' 2026 '-1 fault 5/none/'
 answers_long 'S . ' 4094 '-1 fault 5/none/'
 answers_long 'S 6b ' 4094 '-1 line/none/'
 loads_long() {
-  rm -f t.db; "$program" create t --limit 100
   long "$1" "$2" > in
-  runs load t
-  says err "$3" || wrong "a line to load of '$1' and $2 bytes"
+  for group in 1 2; do
+    rm -f t.db; "$program" create t --limit 100
+    runs load t --group "$group"
+    says err "$3" || wrong "a line to load of '$1' and $2 bytes"
+  done
 }
 loads_long '6b ' 2025 ''
 loads_long '6b ' 2026 'dbmtool: fault 5/'
@@ -209,6 +214,10 @@ fetch t|<KEY>
 fetch t k -x -x|-x
 list|<FILE>
 dump t --memory 5|'--memory'
+dump t --group 5|'--group'
+load t --group 0|'0'
+load t --group 100001|'100001'
+load t --group many|'many'
 script --memory -1|-1
 ROWS
 
@@ -231,5 +240,5 @@ for line in 'S KEY CONTENT' 'I KEY CONTENT' 'F KEY' 'D KEY' 1 N E C; do
 done
 
 echo "$rows rows"
-[ "$rows" = 102 ] || wrong "not each row was read"
+[ "$rows" = 106 ] || wrong "not each row was read"
 exit $bad
