@@ -1,9 +1,12 @@
 -- A page put among staged pages, as a list of pages and as their bytes.
-use Rattle.std.proofs.Common.{◌≡◌, ℕ, zero, suc, ◌<◌, ◌≤◌, List, [], ◌∷◌, ◌++◌, length, get_or, set, take, drop, true, false, ◌≢◌, refl, sym, ◌∙◌, ap, arith}
+use Rattle.std.proofs.Common.{◌≡◌, ℕ, zero, suc, ◌+◌, ◌<◌, ◌≤◌, List, [], ◌∷◌, ◌++◌, length, get_or, set, take, drop, Bool, true, false, IsTrue, IsFalse, ◌≢◌, inl, inr, refl, sym, ◌∙◌, ap, subst, arith}
+use Rattle.std.proofs.lemmas.Bool.{cases_lt}
 use Rattle.std.proofs.lemmas.List.{map-append, map-set, length-map}
 use Rattle.page_io.specs.Page.{own_number}
-use Rattle.page_io.specs.Store.{Pages, bytes_of, put_page, has_page, are_in_order}
-use Rattle.page_io.proofs.StagedPages.{put_page-before, put_page-over, put_page-behind, has_between}
+use Rattle.page_io.specs.Store.{Pages, bytes_of, overlaid, put_page, has_page, are_in_order}
+use Rattle.page_io.proofs.StagedPages.{put_page-before, put_page-over, put_page-behind, rises, has_between, overlaid-at}
+use Rattle.page_io.proofs.Overlays.{has_page-at}
+use Rattle.page_io.proofs.PageLists.{bytes_at}
 use Rattle.page_io.specs.declared.page.Page.{Page}
 
 set_same : (pages : Pages) (at : ℕ) (new : List ℕ) → at < length pages
@@ -49,8 +52,62 @@ bytes-insert pages i page =
     ∙ ap (λ (ps : Pages). ps ++ page.bytes ∷ bytes_of (drop i pages)) (bytes-take pages i)
     ∙ ap (λ (ps : Pages). take i (bytes_of pages) ++ page.bytes ∷ ps) (bytes-drop pages i)
 
+-- where a page of number n stands or would be put
+abbrev pub IsPlace : List Page → ℕ → ℕ → Type 0
+IsPlace items at n = record {
+  within : at ≤ length items;
+  before : (k : ℕ) → k < at → own_number (get_or (bytes_of items) k []) < n;
+  after : at < length items → n ≤ own_number (get_or (bytes_of items) at []);
+}
+
+-- whether a page of number n is at that place
+abbrev pub IsThere : List Page → ℕ → ℕ → Bool → Type 0
+IsThere items at n there = record {
+  yes : IsTrue there → (at < length items) × (own_number (get_or (bytes_of items) at []) ≡ n);
+  no : IsFalse there → at < length items → own_number (get_or (bytes_of items) at []) ≢ n;
+}
+
 long : (pages : List Page) → length (bytes_of pages) ≡ length pages
 long pages = length-map pages (λ (p : Page). p.bytes)
+
+-- a number above that of one place is above those of the places before it
+pub below_place : (items : List Page) (at n : ℕ)
+    → are_in_order 1 4294967296 (bytes_of items) ≡ true → at < length items
+    → own_number (get_or (bytes_of items) at []) < n → (k : ℕ) → k < at + 1
+    → own_number (get_or (bytes_of items) k []) < n
+below_place items at n order lt high k le = elim (cases_lt k at) [
+  | inl before ↦
+      let less = rises 1 4294967296 (bytes_of items) k at order before
+      (omega (arith, lt, long items)) in
+      omega (arith, less, high)
+  | inr behind ↦
+      let same : at ≡ k = omega (arith, le, behind) in
+      subst (λ (i : ℕ). own_number (get_or (bytes_of items) i []) < n) same high
+]
+
+-- the place at which a page of number n is, if it is among them: whether it is there is whether it
+-- is among them
+pub found_at : (items : List Page) (at n : ℕ) (there : Bool) → IsPlace items at n
+    → IsThere items at n there → are_in_order 1 4294967296 (bytes_of items) ≡ true
+    → there ≡ has_page (bytes_of items) n
+found_at items at n true place is order =
+    let here = is.yes refl in
+    sym (has_page-at (bytes_of items) at n (omega (arith, here.0, long items)) here.1)
+found_at items at n false place is order =
+    sym (has_between 1 4294967296 (bytes_of items) at n order place.before
+    (λ lt. let within : at < length items = omega (arith, lt, long items) in
+    let low = place.after within in
+    let other = is.no refl within in
+    omega (arith, low, other)) (omega (arith, place.within, long items)))
+
+-- the page that is there is what a read gives
+pub given_at : (items : List Page) (home : ℕ → List ℕ) (at n : ℕ) (page : Page) → at < length items
+    → page ≡ get_or items at page → own_number (get_or (bytes_of items) at []) ≡ n
+    → are_in_order 1 4294967296 (bytes_of items) ≡ true
+    → overlaid (bytes_of items) home n ≡ page.bytes
+given_at items home at n page lt is here order =
+    overlaid-at 1 4294967296 (bytes_of items) home at n order (omega (arith, lt, long items)) here
+    ∙ bytes_at items at page lt is
 
 -- a page that goes to place `at` of staged pages: all before it have lower numbers
 module _ (items : List Page) (at : ℕ) (page : Page) (le : at ≤ length items)

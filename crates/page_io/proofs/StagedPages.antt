@@ -113,6 +113,33 @@ in_range least end (page ∷ pages) (suc k) order lt =
     let more = in_range (own_number page + 1) end pages k both.1 (omega (arith, lt)) in
     (omega (arith, low, more.0), more.1)
 
+-- a bound on the row may be wider
+pub order_wider : (least end high : ℕ) (pages : Pages) → end ≤ high
+    → are_in_order least end pages ≡ true → are_in_order least high pages ≡ true
+order_wider least end high [] wide order = refl
+order_wider least end high (page ∷ pages) wide order =
+    let both = and_parts (leb least (own_number page) && ltb (own_number page) end)
+    (are_in_order (own_number page + 1) end pages) order in
+    let ends = and_parts (leb least (own_number page)) (ltb (own_number page) end) both.0 in
+    let lt = ltb-true (own_number page) end ends.1 in
+    joins least high page pages (leb-true least (own_number page) ends.0) (omega (arith, lt, wide))
+    (order_wider (own_number page + 1) end high pages wide both.1)
+
+-- the numbers rise from one place to a later one
+pub rises : (least high : ℕ) (pages : Pages) (i j : ℕ) → are_in_order least high pages ≡ true
+    → i < j → j < length pages → own_number (get_or pages i []) < own_number (get_or pages j [])
+rises least high [] i j order lt within = absurd (omega (arith, within))
+rises least high (page ∷ pages) i zero order lt within = absurd (omega (arith, lt))
+rises least high (page ∷ pages) zero (suc j) order lt within =
+    let both = and_parts (leb least (own_number page) && ltb (own_number page) high)
+    (are_in_order (own_number page + 1) high pages) order in
+    let more = in_range (own_number page + 1) high pages j both.1 (omega (arith, within)) in
+    omega (arith, more.0)
+rises least high (page ∷ pages) (suc i) (suc j) order lt within =
+    let both = and_parts (leb least (own_number page) && ltb (own_number page) high)
+    (are_in_order (own_number page + 1) high pages) order in
+    rises (own_number page + 1) high pages i j both.1 (omega (arith, lt)) (omega (arith, within))
+
 -- none of a row has a number below its least
 has_below : (least high : ℕ) (pages : Pages) (n : ℕ) → are_in_order least high pages ≡ true
     → n < least → has_page pages n ≡ false
@@ -145,6 +172,23 @@ has_between least high (page ∷ pages) (suc at) n order before above le =
     ∙ has_between (own_number page + 1) high pages at n both.1
     (λ k lk. before (suc k) (omega (arith, lk))) (λ more. above (omega (arith, more)))
     (omega (arith, le))
+
+-- the page at a place is what a read gives at its number
+pub overlaid-at : (least high : ℕ) (pages : Pages) (home : ℕ → List ℕ) (at n : ℕ)
+    → are_in_order least high pages ≡ true → at < length pages
+    → own_number (get_or pages at []) ≡ n → overlaid pages home n ≡ get_or pages at []
+overlaid-at least high [] home at n order lt is = absurd (omega (arith, lt))
+overlaid-at least high (page ∷ pages) home zero n order lt is =
+    let both = and_parts (leb least (own_number page) && ltb (own_number page) high)
+    (are_in_order (own_number page + 1) high pages) order in
+    overlaid-none pages (with_page home page) n
+    (has_below (own_number page + 1) high pages n both.1 (omega (arith, is)))
+    ∙ with_page-same home page n is
+overlaid-at least high (page ∷ pages) home (suc at) n order lt is =
+    let both = and_parts (leb least (own_number page) && ltb (own_number page) high)
+    (are_in_order (own_number page + 1) high pages) order in
+    overlaid-at (own_number page + 1) high pages (with_page home page) at n both.1
+    (omega (arith, lt)) is
 
 -- a staged page is among them afterwards
 pub has_page-put : (pages : Pages) (new : List ℕ) (n : ℕ) → own_number new ≡ n

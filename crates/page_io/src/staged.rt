@@ -11,58 +11,59 @@ use std::alloc::AllocError;
 /// at most two pages where an older pair leaves, two where the pair goes, and the meta page.
 pub type StagedPages = SmallVec<Page, 5>;
 
-/// Whether page n is among these.
-pub fn is_among(staged: &[Page], n: u32) -> bool
-    ensures { result ≡ has_page (bytes_of staged.now) n }
+// The place of the first page whose number isn't below n, found by halves.
+fn place_of(staged: &[Page], n: u32) -> usize
+    requires order { are_in_order 1 (2 ^ 32) (bytes_of staged.now) ≡ true }
+    ensures within { result ≤ length staged.now }
+    ensures before { (k : ℕ) → k < result
+        → own_number (slice_index_or (bytes_of staged.now) k []) < n }
+    ensures after { result < length staged.now
+        → n ≤ own_number (slice_index_or (bytes_of staged.now) result []) }
 {
-    for one in staged {
-        if one.own() == n {
-            return true;
+    let mut low = 0;
+    let mut high = staged.len();
+    while low < high {
+        let middle = low + (high - low) / 2;
+        if staged[middle].own() < n {
+            low = middle + 1;
+        } else {
+            high = middle;
         }
     }
-    false
+    low
 }
 
-/// Whether page n is among these. If it is, the buffer becomes that page, else it is unchanged.
+// Whether the page at this place has this number.
+fn is_at(staged: &[Page], at: usize, n: u32) -> bool
+    ensures yes { IsTrue result → (at < length staged.now)
+        × (own_number (slice_index_or (bytes_of staged.now) at []) ≡ n) }
+    ensures no { IsFalse result → at < length staged.now
+        → own_number (slice_index_or (bytes_of staged.now) at []) ≢ n }
+{
+    at < staged.len() && staged[at].own() == n
+}
+
+/// Whether page n is among these, which are in order of their numbers.
+pub fn is_among(staged: &[Page], n: u32) -> bool
+    requires order { are_in_order 1 (2 ^ 32) (bytes_of staged.now) ≡ true }
+    ensures { result ≡ has_page (bytes_of staged.now) n }
+{
+    is_at(staged, place_of(staged, n), n)
+}
+
+/// Whether page n is among these, which are in order of their numbers. If it is, the buffer becomes
+/// that page, else it is unchanged.
 pub fn find_staged(staged: &[Page], n: u32, page: &mut Page) -> bool
+    requires order { are_in_order 1 (2 ^ 32) (bytes_of staged.now) ≡ true }
     ensures found { result ≡ has_page (bytes_of staged.now) n }
     ensures page { page.new.bytes ≡ overlaid (bytes_of staged.now) (λ _. page.old.bytes) n }
 {
-    let mut found = false;
-    for one in staged {
-        if one.own() == n {
-            *page = *one;
-            found = true;
-        }
+    let at = place_of(staged, n);
+    let found = is_at(staged, at, n);
+    if found {
+        *page = staged[at];
     }
     found
-}
-
-// The place of the first page whose number isn't below this page's.
-fn place_of(staged: &[Page], page: &Page) -> usize
-    ensures within { result ≤ length staged.now }
-    ensures before { (k : ℕ) → k < result
-        → own_number (slice_index_or (bytes_of staged.now) k []) < own_number page.now.bytes }
-    ensures after { result < length staged.now
-        → own_number page.now.bytes ≤ own_number (slice_index_or (bytes_of staged.now) result []) }
-{
-    let own = page.own();
-    for (i, one) in staged.iter().enumerate() {
-        if own <= one.own() {
-            return i;
-        }
-    }
-    staged.len()
-}
-
-// Whether the page at this place has this page's number.
-fn is_at(staged: &[Page], at: usize, page: &Page) -> bool
-    ensures yes { IsTrue result → (at < length staged.now)
-        × (own_number (slice_index_or (bytes_of staged.now) at []) ≡ own_number page.now.bytes) }
-    ensures no { IsFalse result → at < length staged.now
-        → own_number (slice_index_or (bytes_of staged.now) at []) ≢ own_number page.now.bytes }
-{
-    at < staged.len() && staged[at].own() == page.own()
 }
 
 /// Stages a page among pages in order of their numbers, in the place of one of its number.
@@ -82,8 +83,9 @@ pub fn put_staged(staged: &mut StagedPages, page: &Page) -> Result<(), AllocErro
     // A proof learns here that five have room.
     let _ = staged.capacity();
     let pages = staged.as_slice();
-    let at = place_of(pages, page);
-    if is_at(pages, at, page) {
+    let own = page.own();
+    let at = place_of(pages, own);
+    if is_at(pages, at, own) {
         staged[at] = *page;
         return Ok(());
     }

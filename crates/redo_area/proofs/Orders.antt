@@ -1,8 +1,8 @@
 -- The numbers of redo images, one after another.
-use Rattle.std.proofs.Common.{◌≡◌, ◌⊎◌, ⊎_elim, ◌<◌, ◌≤◌, ◌+◌, ◌-◌, ℕ, suc, List, ◌∷◌, false, ◌&&◌, Bool, leb, ltb, sym, ◌∙◌, ap, arith}
-use Rattle.std.proofs.lemmas.Bool.{and_from, and_left, and_right, le-leb, lt-leb, lt-ltb, le-ltb}
+use Rattle.std.proofs.Common.{◌≡◌, ◌⊎◌, ⊎_elim, ◌<◌, ◌≤◌, ◌+◌, ◌-◌, ℕ, suc, List, [], ◌∷◌, ◌++◌, true, false, ◌&&◌, Bool, leb, ltb, sym, ◌∙◌, ap, arith}
+use Rattle.std.proofs.lemmas.Bool.{and_from, and_parts, and_left, and_right, le-leb, lt-leb, lt-ltb, le-ltb}
 use Rattle.page_io.specs.Page.{own_number}
-use Rattle.page_io.specs.Store.{Pages, pages_from, are_in_order}
+use Rattle.page_io.specs.Store.{Pages, pages_from, are_in_order, AllBelow}
 
 next_in_order : (least end : ℕ) (page : List ℕ) (pages : Pages) → least ≤ own_number page
     → own_number page < end → are_in_order least end (page ∷ pages)
@@ -25,6 +25,32 @@ too_high least end page pages le =
     ap (λ (b : Bool). b && are_in_order (own_number page + 1) end pages)
     (and_right (leb least (own_number page)) (ltb (own_number page) end)
     (le-ltb (own_number page) end le))
+
+-- a page behind others, whose number is above theirs
+pub order_push : (least end : ℕ) (pages : Pages) (page : List ℕ)
+    → are_in_order least end pages ≡ true → AllBelow (own_number page) pages
+    → least ≤ own_number page → own_number page < end
+    → are_in_order least end (pages ++ page ∷ []) ≡ true
+order_push least end [] page order below low high = next_in_order least end page [] low high
+order_push least end (first ∷ pages) page order below low high =
+    let both = and_parts (leb least (own_number first) && ltb (own_number first) end)
+    (are_in_order (own_number first + 1) end pages) order in
+    and_from (leb least (own_number first) && ltb (own_number first) end)
+    (are_in_order (own_number first + 1) end (pages ++ page ∷ [])) both.0
+    (order_push (own_number first + 1) end pages page both.1 below.1 (omega (arith, below.0)) high)
+
+pub below_push : (least end : ℕ) (pages : Pages) (page : List ℕ) → AllBelow least pages
+    → least ≤ end → own_number page < end → AllBelow end (pages ++ page ∷ [])
+below_push least end [] page below le lt = (lt, tt)
+below_push least end (first ∷ pages) page below le lt =
+    (omega (arith, below.0, le), below_push least end pages page below.1 le lt)
+
+-- a number above the least of those to come is above all that came
+pub below_more : (least most : ℕ) (pages : Pages) → least ≤ most → AllBelow least pages
+    → AllBelow most pages
+below_more least most [] le below = tt
+below_more least most (first ∷ pages) le below =
+    (omega (arith, below.0, le), below_more least most pages le below.1)
 
 -- all images were read
 pub all_read : (count i : ℕ) → count ≤ i → i ≤ count → i ≡ count

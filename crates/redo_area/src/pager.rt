@@ -37,7 +37,7 @@ pub struct Pager<D: SectorDev> {
     ghost order: { are_in_order 1 (2 ^ 32) (bytes_of staged.items) ≡ true },
     ghost behind: { end ≤ start },
     ghost within: { start ≤ D.sectors dev / 4 },
-    ghost rising: { writable ≡ true → are_in_order 1 end (bytes_of waiting.items) ≡ true },
+    ghost rising: { are_in_order 1 end (bytes_of waiting.items) ≡ true },
     ghost settles: { SettlesIfUsable (D.honest dev) usable writable (D.sectors dev / 4) end start
         (bytes_of waiting.items) (D.candidate dev) (D.seen dev) },
 }

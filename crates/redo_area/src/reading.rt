@@ -36,6 +36,7 @@ fn read_images<D: SectorDev>(
     ensures in_order { D.honest dev.old
         → IfOk result (λ images. are_in_order 1 end
         (redo_images (D.seen dev.old) start count) ≡ true) }
+    ensures rising { IfOk result (λ images. are_in_order 1 end (bytes_of images.items) ≡ true) }
     ensures damaged { D.honest dev.old → IsErrOf result OpenFault.Damaged
         → are_in_order 1 end (redo_images (D.seen dev.old) start count) ≡ false }
     ensures only { IfErr result (λ e.
@@ -76,6 +77,8 @@ pub fn read_file<D: SectorDev>(alloc: Global, dev: &mut D) -> Result<SeenFile, O
         ≡ file_of (file_pages (overlaid (bytes_of file.redo.items) (page_at (D.seen dev.old)))
         file.end)) }
     ensures end { IfOk result (λ file. (4 ≤ file.end) × (file.end ≤ D.sectors dev.old / 4)) }
+    ensures rising { IfOk result (λ file.
+        are_in_order 1 file.end (bytes_of file.redo.items) ≡ true) }
     ensures refused { D.honest dev.old
         → IfErr result (λ e. e ≢ OpenFault.Device → e ≢ OpenFault.Memory
         → refusal_of (D.sectors dev.old / 4) (D.seen dev.old) ≡ Some e) }

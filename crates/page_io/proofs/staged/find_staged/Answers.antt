@@ -1,72 +1,26 @@
-use Rattle.std.proofs.Common.{◌≡◌, ◌≢◌, ℕ, List, [], ◌∷◌, ◌++◌, take, Bool, true, false, cond, refl, sym, ◌∙◌, ap}
-use Rattle.std.proofs.lemmas.Bool.{eq-eqb, ne_eqb}
-use Rattle.page_io.specs.Page.{own_number}
-use Rattle.page_io.specs.Store.{Pages, bytes_of, overlaid, has_page}
-use Rattle.page_io.proofs.Overlays.{has_page-push, overlaid-push, with_page-same, with_page-other}
-use Rattle.page_io.proofs.PageLists.{bytes_more}
-use Rattle.page_io.specs.declared.page.Page.{Page}
+use Rattle.std.proofs.Common.{◌≡◌, true, sym, ◌∙◌}
+use Rattle.page_io.proofs.PageLists.{bytes_at}
+use Rattle.page_io.proofs.Places.{found_at, given_at}
+use Rattle.page_io.proofs.Overlays.{overlaid-none}
 use Rattle.page_io.proofs.staged.find_staged.Goals as goal
-use Rattle.page_io.proofs.staged.find_staged.Goals.{then-own-n, else-own-n}
 
-cond_true : (b : Bool) → cond b true true ≡ true
-cond_true true = refl
-cond_true false = refl
+pub returns-then-found-clause-found : goal.returns-then-found-clause-found
+returns-then-found-clause-found c =
+    found_at c.args.staged.now c.place_of-at.result c.args.n c.is_at-found.result
+    c.place_of-at.ensures c.is_at-found.ensures c.requires.order
 
-cond_same : (b : Bool) → cond b true false ≡ b
-cond_same true = refl
-cond_same false = refl
+pub returns-then-found-clause-page : goal.returns-then-found-clause-page
+returns-then-found-clause-page c =
+    let here = c.is_at-found.ensures.yes c.if-found.true in
+    sym (given_at c.args.staged.now (λ _. c.args.page.now.bytes) c.place_of-at.result c.args.n
+    c.index-staged-at.result here.0 c.index-staged-at.is here.1 c.requires.order)
 
-has_same : (pages : Pages) (page : List ℕ) (n : ℕ) → own_number page ≡ n
-    → has_page (pages ++ page ∷ []) n ≡ true
-has_same pages page n same = has_page-push pages page n
-    ∙ ap (λ (b : Bool). cond (has_page pages n) true b) (eq-eqb (own_number page) n same)
-    ∙ cond_true (has_page pages n)
+pub returns-else-found-clause-found : goal.returns-else-found-clause-found
+returns-else-found-clause-found c =
+    found_at c.args.staged.now c.place_of-at.result c.args.n c.is_at-found.result
+    c.place_of-at.ensures c.is_at-found.ensures c.requires.order
 
-has_other : (pages : Pages) (page : List ℕ) (n : ℕ) → own_number page ≢ n
-    → has_page (pages ++ page ∷ []) n ≡ has_page pages n
-has_other pages page n other =
-    has_page-push pages page n ∙ ap (λ (b : Bool). cond (has_page pages n) true b)
-    (ne_eqb (own_number page) n other) ∙ cond_same (has_page pages n)
-
-over_same : (pages : Pages) (page : List ℕ) (f : ℕ → List ℕ) (n : ℕ) → own_number page ≡ n
-    → overlaid (pages ++ page ∷ []) f n ≡ page
-over_same pages page f n same =
-    ap (λ (h : ℕ → List ℕ). h n) (overlaid-push pages f page)
-    ∙ with_page-same (overlaid pages f) page n same
-
-over_other : (pages : Pages) (page : List ℕ) (f : ℕ → List ℕ) (n : ℕ) → own_number page ≢ n
-    → overlaid (pages ++ page ∷ []) f n ≡ overlaid pages f n
-over_other pages page f n other =
-    ap (λ (h : ℕ → List ℕ). h n) (overlaid-push pages f page)
-    ∙ with_page-other (overlaid pages f) page n other
-
-pub loop-one-preserved : goal.loop-one-preserved
-loop-one-preserved c =
-    let n = c.args.n in
-    let one = c.one-item.result in
-    let so_far = bytes_of (take c.loop-one.one-index c.args.staged.now) in
-    let home = λ (m : ℕ). c.args.page.now.bytes in
-    let more = bytes_more c.args.staged.now c.loop-one.one-index one c.loop-one-test.true
-    c.one-item.is in
-    elim c.if-own-n.branch [
-      | then-own-n w ↦
-          let same : own_number one.bytes ≡ n = sym c.own.ensures.number ∙ w.if-own-n.true in
-          record {
-            found = w.found-is ∙ sym (ap (λ (ps : Pages). has_page ps n) more
-                ∙ has_same so_far one.bytes n same);
-            page = ap (λ (p : Page). p.bytes) w.page-is
-                ∙ sym (ap (λ (ps : Pages). overlaid ps home n) more
-                ∙ over_same so_far one.bytes home n same);
-          }
-      | else-own-n w ↦
-          let other : own_number one.bytes ≢ n = λ same.
-          w.if-own-n.false (c.own.ensures.number ∙ same) in
-          record {
-            found = w.found-is ∙ c.loop-one.invariant.found
-                ∙ sym (ap (λ (ps : Pages). has_page ps n) more
-                ∙ has_other so_far one.bytes n other);
-            page = ap (λ (p : Page). p.bytes) w.page-is ∙ c.loop-one.invariant.page
-                ∙ sym (ap (λ (ps : Pages). overlaid ps home n) more
-                ∙ over_other so_far one.bytes home n other);
-          }
-    ]
+pub returns-else-found-clause-page : goal.returns-else-found-clause-page
+returns-else-found-clause-page c =
+    sym (overlaid-none _ (λ _. c.args.page.now.bytes) c.args.n
+    (sym (returns-else-found-clause-found c) ∙ c.if-found.false))

@@ -1,4 +1,4 @@
-use Rattle.std.proofs.Common.{rules, ◌≡◌, List, length, ◌∷◌, ◌++◌, set, take, drop, true, false, sym, ◌∙◌, ap, subst}
+use Rattle.std.proofs.Common.{rules, ◌≡◌, ℕ, List, length, ◌∷◌, ◌++◌, set, take, drop, true, false, sym, ◌∙◌, ap, subst}
 use Rattle.std.proofs.lemmas.List.{length-set}
 use Rattle.std.specs.Prelude.{IsFalse}
 use Rattle.smallvec.proofs.SmallVecLemmas.{items-with_items}
@@ -6,16 +6,19 @@ use Rattle.page_io.specs.Page.{own_number}
 use Rattle.page_io.specs.Store.{Pages, bytes_of, put_page, has_page, are_in_order}
 use Rattle.page_io.specs.declared.page.Page.{Page}
 use Rattle.page_io.proofs.Exits.{at_error}
-use Rattle.page_io.proofs.Places.{replaced_at, inserted_at, absent_at}
+use Rattle.page_io.proofs.Places.{IsPlace, IsThere, replaced_at, inserted_at, absent_at}
 use Rattle.page_io.proofs.StagedPages.{order_put}
 use Rattle.page_io.proofs.staged.put_staged.Goals as goal
 
 pub returns-then-is_at-clause-ok : goal.returns-then-is_at-clause-ok
 returns-then-is_at-clause-ok c =
-    let place = c.place_of-at.ensures in
     let at = c.place_of-at.result in
     let page = c.args.page.now in
-    let here = c.is_at.ensures.yes c.if-is_at.true in
+    let place = subst (IsPlace c.as_slice-pages.result.now at) c.own-own.ensures.number
+    c.place_of-at.ensures in
+    let is = subst (λ (n : ℕ). IsThere c.as_slice-pages.result.now at n c.is_at.result)
+    c.own-own.ensures.number c.is_at.ensures in
+    let here = is.yes c.if-is_at.true in
     let written = set c.deref_mut.result.now at page in
     let long : length written ≡ length c.args.staged.now.items =
     length-set c.deref_mut.result.now at page ∙ ap (λ (ps : List Page). length ps)
@@ -35,15 +38,18 @@ returns-then-is_at-clause-order c =
 
 pub returns-clause-ok : goal.returns-clause-ok
 returns-clause-ok c =
-    let place = c.place_of-at.ensures in
     let at = c.place_of-at.result in
     let page = c.args.page.now in
+    let place = subst (IsPlace c.as_slice-pages.result.now at) c.own-own.ensures.number
+    c.place_of-at.ensures in
+    let is = subst (λ (n : ℕ). IsThere c.as_slice-pages.result.now at n c.is_at.result)
+    c.own-own.ensures.number c.is_at.ensures in
     let other : IsFalse c.is_at.result = cc in
     ap bytes_of c.in_ok-insert.ensures.ok
     ∙ subst (λ (ps : List Page). bytes_of (take at ps ++ page ∷ drop at ps)
     ≡ put_page (bytes_of ps) page.bytes) c.as_slice-pages.ensures
     (inserted_at c.as_slice-pages.result.now at page place.within place.before place.after
-    (c.is_at.ensures.no other))
+    (is.no other))
 
 pub returns-clause-order : goal.returns-clause-order
 returns-clause-order c =
@@ -53,11 +59,15 @@ returns-clause-order c =
 
 pub returns-in_err-insert-clause-grown : goal.returns-in_err-insert-clause-grown
 returns-in_err-insert-clause-grown c =
-    let place = c.place_of-at.ensures in
+    let at = c.place_of-at.result in
     let page = c.args.page.now in
+    let place = subst (IsPlace c.as_slice-pages.result.now at) c.own-own.ensures.number
+    c.place_of-at.ensures in
+    let is = subst (λ (n : ℕ). IsThere c.as_slice-pages.result.now at n c.is_at.result)
+    c.own-own.ensures.number c.is_at.ensures in
     let absent = λ (order : are_in_order 1 4294967296 (bytes_of c.as_slice-pages.result.now) ≡ true).
-    absent_at c.as_slice-pages.result.now c.place_of-at.result page place.within place.before
-    place.after (c.is_at.ensures.no c.if-is_at.false) 1 4294967296 order in
+    absent_at c.as_slice-pages.result.now at page place.within place.before
+    place.after (is.no c.if-is_at.false) 1 4294967296 order in
     at_error c.from_residual.result _
     (subst (λ (ps : List Page). are_in_order 1 4294967296 (bytes_of ps) ≡ true
     → has_page (bytes_of ps) (own_number page.bytes) ≡ false)

@@ -1,8 +1,9 @@
-use Rattle.std.proofs.Common.{◌≡◌, ◌≢◌, ◌≤◌, ◌/◌, ℕ, [], Err, Some, ◌∙◌, refl, sym, ap, subst}
+use Rattle.std.proofs.Common.{◌≡◌, ◌≢◌, ◌≤◌, ◌/◌, ℕ, List, [], Err, Some, ◌∙◌, refl, sym, ap, subst}
 use Rattle.std.proofs.lemmas.Result.{IfOk-from_err}
 use Rattle.sect_dev.specs.Device.{Image}
 use Rattle.page_io.specs.Store.{bytes_of, are_in_order}
 use Rattle.page_io.proofs.Exits.{exit_is, came, if_exit, no_err, later_then, more_later, both_ways}
+use Rattle.page_io.specs.declared.page.Page.{Page}
 use Rattle.redo_commit.specs.File.{redo_images}
 use Rattle.redo_area.specs.Opening.{refusal_of}
 use Rattle.redo_area.specs.declared.open_fault.OpenFault.{OpenFault}
@@ -19,6 +20,7 @@ returns-then-is_err g c =
     record {
       found = λ honest. tt;
       end = tt;
+      rising = tt;
       refused = λ honest device memory. absurd (device refl);
       memory = λ honest is. other_fault Device Memory refl is;
       only_reads = λ honest. sector_read g.D.SectorDev c.args.dev.now c.read.new.self
@@ -38,6 +40,7 @@ returns-in-Blank g c =
     record {
       found = λ honest. tt;
       end = tt;
+      rising = tt;
       refused = λ honest device memory.
           let read = from_test c.read.result c.is_err.ensures.value c.if-is_err.false
           (told.read honest) in
@@ -60,6 +63,7 @@ returns-in-NotOurs g c =
     record {
       found = λ honest. tt;
       end = tt;
+      rising = tt;
       refused = λ honest device memory.
           let read = from_test c.read.result c.is_err.ensures.value c.if-is_err.false
           (told.read honest) in
@@ -82,6 +86,7 @@ returns-in-Damaged g c =
     record {
       found = λ honest. tt;
       end = tt;
+      rising = tt;
       refused = λ honest device memory.
           let read = from_test c.read.result c.is_err.ensures.value c.if-is_err.false
           (told.read honest) in
@@ -115,6 +120,9 @@ returns-in-Clear g c =
         subst (λ (k : ℕ). clear.end ≤ k / 4)
             c.capacity-capacity.ensures clear.ensures.in_range.1,
       );
+      rising =
+          let none : c.new.result.items ≡ [] = c.new.ensures.items in
+          ap (λ (ps : List Page). are_in_order 1 clear.end (bytes_of ps)) none;
       refused = λ honest. tt;
       memory = λ honest is. no_err _ _ is;
       only_reads = λ honest. sector_read g.D.SectorDev c.args.dev.now c.read.new.self
@@ -152,6 +160,7 @@ returns-in_ok-redo-in-Armed g c =
         subst (λ (k : ℕ). armed.end ≤ k / 4) c.capacity-capacity.ensures
             (below_room _ _ _ _ range.1 range.2),
       );
+      rising = more.rising;
       refused = λ honest. tt;
       memory = λ honest is. no_err _ _ is;
       only_reads = λ honest.
@@ -180,6 +189,7 @@ returns-in_err-redo-in-Armed g c =
     record {
       found = λ honest. IfOk-from_err _ _ result.ensures.0;
       end = IfOk-from_err _ _ result.ensures.0;
+      rising = IfOk-from_err _ _ result.ensures.0;
       refused = λ honest.
           let read = from_test c.read.result c.is_err.ensures.value c.if-is_err.false
           (told.read honest) in

@@ -1,12 +1,12 @@
-use Rattle.std.proofs.Common.{◌≡◌, ◌+◌, ◌-◌, ℕ, List, [], ◌∷◌, ◌++◌, ◌<◌, ◌≤◌, ◌⊎◌, inl, inr, refl, ◌∙◌, sym, ap, arith}
+use Rattle.std.proofs.Common.{◌≡◌, ◌+◌, ◌-◌, ℕ, List, [], ◌∷◌, ◌++◌, ◌<◌, ◌≤◌, ◌⊎◌, inl, inr, true, refl, ◌∙◌, sym, ap, subst, arith}
 use Rattle.std.proofs.lemmas.List.{map-append}
 use Rattle.sect_dev.specs.Device.{Image}
 use Rattle.page_io.specs.Page.{page_at, own_number}
-use Rattle.page_io.specs.Store.{Pages, bytes_of, pages_from, are_in_order}
+use Rattle.page_io.specs.Store.{Pages, bytes_of, pages_from, are_in_order, AllBelow}
 use Rattle.page_io.specs.declared.page.Page.{Page}
 use Rattle.page_io.proofs.Overlays.{pages_more}
 use Rattle.page_io.proofs.Exits.{no_err, later_then, more_later, both_ways}
-use Rattle.redo_area.proofs.Orders.{not_in_order, one_in_order, none_left, all_read}
+use Rattle.redo_area.proofs.Orders.{not_in_order, one_in_order, none_left, all_read, order_push, below_push, below_more}
 use Rattle.redo_area.proofs.ReadRuns.{none_yet, one_more}
 use Rattle.redo_area.specs.declared.open_fault.OpenFault.TheVariants.{Memory, Device, Damaged}
 use Rattle.redo_area.proofs.Results.{from_test, fault_from_test, other_fault}
@@ -30,6 +30,9 @@ loop-i-init g c =
           let all : c.args.count ≡ c.args.count - 0 = omega arith in
           ap (λ (k : ℕ). are_in_order 1 c.args.end (pages_from at k c.args.count)) here
           ∙ ap (λ (k : ℕ). are_in_order 1 c.args.end (pages_from at (c.args.start + 0) k)) all;
+      rising = ap (λ (ps : List Page). are_in_order 1 c.args.end (bytes_of ps)) none;
+      below = subst (λ (ps : List Page). AllBelow 1 (bytes_of ps)) (sym none) tt;
+      positive = omega arith;
       images = λ h. ap bytes_of none;
     }
 
@@ -41,6 +44,7 @@ returns-then-is_err g c =
     record {
       images = λ h. tt;
       in_order = λ h. tt;
+      rising = tt;
       damaged = λ h is. other_fault Device Damaged refl is;
       only = inl refl;
       only_reads = λ h.
@@ -63,6 +67,7 @@ returns-then-own-least g c =
     record {
       images = λ h. tt;
       in_order = λ h. tt;
+      rising = tt;
       damaged = λ h _.
           let at = page_at (g.D.SectorDev.seen c.args.dev.now) in
           let read = from_test c.read_page.result c.is_err.ensures.value c.if-is_err.false
@@ -98,6 +103,7 @@ returns-then-is_err-2 g c =
     record {
       images = λ h. tt;
       in_order = λ h. tt;
+      rising = tt;
       damaged = λ h is. other_fault Memory Damaged refl is;
       only = inr (inl refl);
       only_reads = λ h.
@@ -116,6 +122,7 @@ returns g c =
     let at = page_at (g.D.SectorDev.seen c.args.dev.now) in
     let inv = c.loop-i.invariant in
     record {
+      rising = inv.rising;
       images = λ h. inv.images h ∙ ap (pages_from at c.args.start)
           (all_read _ _ c.loop-i-test.false c.loop-i.auto.i-end);
       in_order = λ h.
@@ -131,12 +138,15 @@ returns g c =
       size = inv.size;
     }
 
+grown : (now items : List Page) (page : Page) → now ≡ items ++ page ∷ []
+    → bytes_of now ≡ bytes_of items ++ page.bytes ∷ []
+grown now items page is = ap bytes_of is ∙ map-append (λ (p : Page). p.bytes) items (page ∷ [])
+
 pushed : (now items : List Page) (page : Page) (old : Pages) (new : List ℕ)
     → now ≡ items ++ page ∷ [] → bytes_of items ≡ old → page.bytes ≡ new
     → bytes_of now ≡ old ++ new ∷ []
 pushed now items page old new is before bytes =
-    ap bytes_of is
-    ∙ map-append (λ (p : Page). p.bytes) items (page ∷ [])
+    grown now items page is
     ∙ ap (λ (ps : Pages). ps ++ page.bytes ∷ []) before ∙ ap (λ (b : List ℕ). old ++ b ∷ []) bytes
 
 pub loop-i-preserved : goal.loop-i-preserved
@@ -149,6 +159,12 @@ loop-i-preserved g c =
     let inv = c.loop-i.invariant in
     let page = c.read_page.ensures in
     let h1 = inv.honesty.1 in
+    let items = bytes_of c.loop-i.images.items in
+    let new = c.read_page.new.page.bytes in
+    let own : c.from-own.result ≡ own_number new = c.from-own.ensures ∙ c.own.ensures.number in
+    let is_pushed = from_test c.push.result c.is_err-in-loop-i.ensures.value
+    c.if-is_err-2.false c.push.ensures.ok in
+    let all = sym (grown c.push.new.self.items c.loop-i.images.items c.read_page.new.page is_pushed) in
     let bytes = λ (h : dev.honest first).
     from_test c.read_page.result c.is_err.ensures.value c.if-is_err.false (page.read (h1 h))
     ∙ ap (λ (s : Image). page_at s place) (inv.only_reads h).seen in
@@ -164,10 +180,20 @@ loop-i-preserved g c =
           (c.from-own.ensures ∙ c.own.ensures.number ∙ ap own_number (bytes h))
           (omega (arith, c.if-own-least.false))
           (omega (arith, c.if-from-own.false, c.from.ensures));
+      rising = subst (λ (ps : Pages). are_in_order 1 c.args.end ps ≡ true) all
+          (order_push 1 c.args.end items new inv.rising
+          (below_more c.loop-i.least (own_number new) items
+          (omega (arith, own, c.if-own-least.false)) inv.below)
+          (omega (arith, own, c.if-own-least.false, inv.positive))
+          (omega (arith, own, c.if-from-own.false, c.from.ensures)));
+      below = subst (AllBelow (c.from-own.result + 1)) all
+          (below_push c.loop-i.least (c.from-own.result + 1) items new inv.below
+          (omega (arith, c.if-own-least.false)) (omega (arith, own)));
+      positive = omega arith;
       images = λ h.
           pushed c.push.new.self.items c.loop-i.images.items c.read_page.new.page
           (pages_from at c.args.start i) (at place)
-          (from_test c.push.result c.is_err-in-loop-i.ensures.value c.if-is_err-2.false c.push.ensures.ok)
+          is_pushed
           (inv.images h) (bytes h)
           ∙ sym (pages_more at c.args.start i);
     }

@@ -72,7 +72,7 @@ invariant_of-self-2-clause-settles g c still usable =
     (subst (armed (dev.sectors c.bring_home.new.dev / 4)) c.as_slice-pages.ensures is_armed)))
 
 pub invariant_of-self-2-clause-rising : goal.invariant_of-self-2-clause-rising
-invariant_of-self-2-clause-rising g c writable =
+invariant_of-self-2-clause-rising g c =
     ap (λ v. are_in_order 1 c.args.new_end (bytes_of v.items)) c.swap.ensures.y_after
     ∙ order_below 1 4294967296 c.args.new_end (bytes_of c.args.self.now.staged.items)
     c.args.self.now.order c.requires.below

@@ -1,13 +1,26 @@
-use Rattle.std.proofs.Common.{List, refl, sym, ◌∙◌, ap}
+use Rattle.std.proofs.Common.{◌≡◌, List, true, refl, sym, ◌∙◌, ap, subst, arith}
 use Rattle.sect_dev.specs.Device.{Image}
 use Rattle.page_io.specs.Page.{page_at}
-use Rattle.page_io.specs.Store.{bytes_of, file_pages, overlaid, page_of}
+use Rattle.page_io.specs.Store.{bytes_of, file_pages, overlaid, page_of, are_in_order}
 use Rattle.page_io.proofs.Overlays.{overlaid-staged, overlaid-none}
+use Rattle.page_io.proofs.StagedPages.{order_wider}
 use Rattle.page_io.specs.declared.page.Page.{Page}
+use Rattle.redo_area.specs.Settling.{quarter_fits}
 use Rattle.redo_area.proofs.Kept.{not_found, not_staged, read_leaves, unasked}
 use Rattle.redo_area.proofs.ReadRuns.{none_yet}
 use Rattle.redo_area.proofs.Results.{from_test}
 use Rattle.redo_area.proofs.pager.PagerPageStore.read.Goals as goal
+
+pub find_staged-requires-2 : goal.find_staged-requires-2
+find_staged-requires-2 g c =
+    let old = c.args.self.now in
+    let end = g.met.D.SectorDev.fits old.dev in
+    record {
+      order = subst (λ (ps : List Page). are_in_order 1 4294967296 (bytes_of ps) ≡ true)
+          (sym c.as_slice-2.ensures)
+          (order_wider 1 old.end 4294967296 (bytes_of old.waiting.items)
+          (omega (arith, old.fits, quarter_fits _ end)) old.rising);
+    }
 
 pub returns-then-find_staged-clause-found : goal.returns-then-find_staged-clause-found
 returns-then-find_staged-clause-found g c honest =
