@@ -5,11 +5,10 @@
 #include <stdlib.h>
 #include <unistd.h>
 
-static char sector[512];
+static char bytes[2048];
 
 static void put(int file, long first, int count) {
-    for (int i = 0; i < count; i++)
-        if (pwrite(file, sector, 512, (first + i) * 512) != 512) exit(1);
+    if (pwrite(file, bytes, count * 512, first * 512) != count * 512) exit(1);
 }
 
 static void settle(int file) {
@@ -21,8 +20,9 @@ int main(int count, char **words) {
     int file = open(words[1], O_RDWR | O_CREAT, 0666);
     if (file < 0) return 1;
     for (long n = atol(words[2]); n > 0; n--) {
-        sector[0] = (char)n;
-        put(file, 4 * 1300, 8);
+        bytes[0] = (char)n;
+        put(file, 4 * 1300, 4);
+        put(file, 4 * 1301, 4);
         settle(file);
         put(file, 0, 1);
         settle(file);

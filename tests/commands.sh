@@ -80,9 +80,9 @@ FAIL_CALL=0 LD_PRELOAD=./fail.so "$program" script t < lines > out 2> err || wro
 calls=$(sed -n 's/^calls //p' err)
 failing "$calls" '0\n' 2
 run 0 '02\n' '' fetch -x t 61
-# The closing writes two pages and the clear sector, 9 sectors, and syncs twice.
+# The closing writes two pages and the clear sector, and syncs twice: five calls.
 printf 'S 61 02\nS 62 03\nF 61\n' > lines
-failing $((calls - 11)) '-1 fault 2\n-1 fault 3\n-1 fault 3\n' 3
+failing $((calls - 5)) '-1 fault 2\n-1 fault 3\n-1 fault 3\n' 3
 failing "$calls" '0\n-1 fault 2\n-1 fault 3\n' 3
 run 0 '02\n' '' fetch -x t 61
 run 1 '' '' fetch t b

@@ -11,7 +11,7 @@ bad=0
 wrong() { echo "$1"; bad=1; }
 command -v script > out || { echo "script, which gives a terminal, is needed (Debian: bsdutils)"; exit 1; }
 cc -shared -fPIC -O1 -o slow.so "$top/tests/slow.c" -ldl || exit 1
-slow="LD_PRELOAD=./slow.so SLOW_CALLS=1 $program"
+slow="LD_PRELOAD=./slow.so SLOW_CALLS=4 $program"
 printf -v erased '\r%34s\r' ''
 
 # on_terminal COMMAND: what it writes on a terminal goes into the file `shown`

@@ -40,7 +40,7 @@ exec 9>&-
 # each read, write and sync of a store fails in turn
 FAIL_CALL=0 LD_PRELOAD=./fail.so "$program" store t key new 2> err || exit 1
 calls=$(sed -n 's/^calls //p' err)
-[ "${calls:-0}" -gt 20 ] || { echo "no call was counted"; bad=1; }
+[ "${calls:-0}" -gt 10 ] || { echo "no call was counted"; bad=1; }
 for n in $(seq 1 "${calls:-0}"); do
   tells 2 $'dbmtool: fault 2\ndbmtool: Input/output error (os error 5)' \
     env FAIL_CALL="$n" LD_PRELOAD=./fail.so "$program" --verbose store t key new

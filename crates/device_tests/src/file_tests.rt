@@ -1,7 +1,7 @@
 //! Devices over real files, in the folder that the tests run in.
 
-use crate::sectors::{ends, sector_of, set_sector};
-use sect_dev::{DevFault, FileDev, FileFault, SectorDev};
+use crate::sectors::{ends, four_from, sector_of, set_four, set_sector};
+use sect_dev::{DevFault, FileDev, FileFault, MemDev, SectorDev};
 use std::fs;
 use std::rt::Files;
 use std::test::Fail;
@@ -58,6 +58,30 @@ fn past_the_end_there_are_zeros(rt: HostRuntime) -> Result<(), Fail> {
     fs::write(&rt, path, [6; 700].as_slice())?;
     let mut dev = FileDev::open(&rt, path, true, false, 3)?;
     assert!(rt; grows_from_700(&mut dev)?);
+    fs::remove_file(&rt, path)?;
+    Ok(())
+}
+
+/// Whether four sectors are written as one run, sector by sector, and read as one, with zeros behind
+/// them.
+fn moves_a_run(dev: &mut impl SectorDev) -> Result<bool, DevFault> {
+    let mut run = [5; 2048];
+    run[512] = 6;
+    run[2047] = 7;
+    set_four(dev, 1, &run)?;
+    let apart = [ends(dev, 0)?, ends(dev, 1)?, ends(dev, 2)?, ends(dev, 4)?];
+    let after = four_from(dev, 3)?;
+    let zeros = after[1023] == 7 && after[1024..].iter().all(|byte| *byte == 0);
+    Ok(apart == [[0, 0], [5, 5], [6, 5], [5, 7]] && zeros && four_from(dev, 1)? == run)
+}
+
+#[test]
+fn a_run_is_as_its_sectors(rt: HostRuntime) -> Result<(), Fail> {
+    let path = "run.dev";
+    let _ = fs::remove_file(&rt, path);
+    let mut dev = FileDev::open(&rt, path, true, true, 8)?;
+    assert!(rt; moves_a_run(&mut dev)? && fs::metadata(&rt, path)?.len() == 5 * 512);
+    assert!(rt; moves_a_run(&mut MemDev::new(rt.alloc(), 8))?);
     fs::remove_file(&rt, path)?;
     Ok(())
 }

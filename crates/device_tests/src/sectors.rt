@@ -21,6 +21,24 @@ pub fn set_sector(dev: &mut impl SectorDev, n: u32, sector: &[u8; 512]) -> Resul
     dev.write(n, sector)
 }
 
+/// Four sectors from sector n on of a device, which has to have them.
+pub fn four_from(dev: &mut impl SectorDev, n: u32) -> Result<[u8; 2048], DevFault> {
+    if dev.capacity().saturating_sub(n) < 4 {
+        return Err(DevFault);
+    }
+    let mut run = [255; 2048];
+    dev.read_run(n, &mut run)?;
+    Ok(run)
+}
+
+/// Writes four sectors from sector n on of a device, which has to have them.
+pub fn set_four(dev: &mut impl SectorDev, n: u32, run: &[u8; 2048]) -> Result<(), DevFault> {
+    if dev.capacity().saturating_sub(n) < 4 {
+        return Err(DevFault);
+    }
+    dev.write_run(n, run)
+}
+
 /// The first and the last byte of a sector.
 pub fn ends(dev: &mut impl SectorDev, n: u32) -> Result<[u8; 2], DevFault> {
     let sector = sector_of(dev, n)?;

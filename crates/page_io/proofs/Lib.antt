@@ -11,7 +11,6 @@ mod Places
 pub mod PlainPages
 mod Replacing
 pub mod Runs
-mod SectorRuns
 mod Slices
 pub mod StagedPages
 pub mod Views

@@ -1,19 +1,9 @@
 -- Laws of pages and their sectors, for the layers above.
-use Rattle.std.proofs.Common.{◌≡◌, ◌≢◌, inl, inr, ℕ, zero, suc, ◌+◌, ◌*◌, ◌<◌, ◌≤◌, List, [], ◌++◌, length, take, drop, refl, sym, ◌∙◌, ap, arith, rules, append_assoc}
-use Rattle.std.proofs.lemmas.List.{drop-drop, take-append-drop, drop_all, append-nil, take_at, length-append, length-take-le}
+use Rattle.std.proofs.Common.{◌≡◌, ◌≢◌, ⊎_elim, inl, inr, ℕ, ◌+◌, ◌*◌, ◌/◌, ◌<◌, ◌≤◌, List, [], ◌++◌, length, take, drop, refl, sym, ◌∙◌, ap, arith, rules}
+use Rattle.std.proofs.lemmas.List.{drop-drop, take-append-drop, drop_all, append-nil}
 use Rattle.std.proofs.lemmas.Bool.Decides.{nat_tests}
-use Rattle.sect_dev.specs.Device.{Image, with_sector}
-use Rattle.page_io.specs.Page.{part, page_at, IsOutside}
-use Rattle.page_model.specs.Bytes.{overwrite}
-
--- so many sectors in a row
-abbrev pub joined : Image → ℕ → ℕ → List ℕ
-joined image at zero = []
-joined image at (suc count) = joined image at count ++ image (at + count)
-
-pub not_inside : (from to m n : ℕ) → from ≤ n → n < to → IsOutside from to m → m ≢ n
-not_inside from to m n ge lt (inl below) same = omega arith
-not_inside from to m n ge lt (inr above) same = omega arith
+use Rattle.sect_dev.specs.Device.{Image, Candidates, with_sector, IsImageOf, sector_count, part_of, HasRun, with_run_candidates}
+use Rattle.page_io.specs.Page.{part, page_at, IsPartlyWritten}
 
 pub at_same : (image : Image) (n : ℕ) (c : List ℕ) (m : ℕ) → m ≡ n → with_sector image n c m ≡ c
 at_same image n c m same = search (rules, nat_tests)
@@ -72,23 +62,20 @@ page_of_parts image n bytes long parts =
     let whole = parts_join 512 bytes (omega (arith, long)) in
     cc
 
-pub page_at-joined : (image : Image) (n : ℕ) → joined image (4 * n) 4 ≡ page_at image n
-unfolding page_at
-page_at-joined image n =
-    let none : 4 * n + 0 ≡ 4 * n = omega arith in
-    ap (λ (m : ℕ). ((image m ++ image (4 * n + 1)) ++ image (4 * n + 2)) ++ image (4 * n + 3)) none
-    ∙ simp append_assoc
+-- the page of a run of four sectors
+pub page_of_run : (image : Image) (n : ℕ) (bytes : List ℕ) → length bytes ≡ 2048
+    → HasRun image (4 * n) bytes → page_at image n ≡ bytes
+unfolding part part_of
+page_of_run image n bytes long run = page_of_parts image n bytes long (λ k within.
+    run k (omega (arith, within, four_sectors bytes long)))
+  where
+    four_sectors : (bytes : List ℕ) → length bytes ≡ 2048 → sector_count bytes ≡ 4
+    four_sectors bytes long = ap (λ (size : ℕ). size / 512) long
 
-pub joined-more : (image : Image) (at k : ℕ)
-    → joined image at (k + 1) ≡ joined image at k ++ image (at + k)
-joined-more image at k = let more : k + 1 ≡ suc k = omega arith in ap (joined image at) more
-
--- the front after a write
-pub take_over : (xs c : List ℕ) (at to : ℕ) → at ≤ length xs → at + length c ≡ to
-    → take to (overwrite xs at c) ≡ take at xs ++ c
-take_over xs c at to le e =
-    let rest : List ℕ = drop (at + length c) xs in
-    let front : List ℕ = take at xs ++ c in
-    let long : length front ≡ to =
-    omega (arith, length-append (take at xs) c, length-take-le at xs le) in
-    ap (take to) (sym (append_assoc (take at xs) c rest)) ∙ take_at front rest to long
+-- of what a write of a page's run may leave
+pub partly_written : (candidate : Candidates) (n : ℕ) (bytes : List ℕ) (image : Image)
+    → IsImageOf (with_run_candidates candidate (4 * n) bytes) image
+    → IsPartlyWritten candidate n bytes image
+unfolding part part_of
+partly_written candidate n bytes image may k within = ⊎_elim (λ old. inl old)
+    (λ is. inr (is.same ∙ ap (part_of bytes) (omega (arith, is.place)))) (may (4 * n + k))

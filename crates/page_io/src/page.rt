@@ -1,8 +1,8 @@
 //! A page and its big-endian fields.
 
-ghost use Rattle.std.specs.Prelude.{◌≡◌, ◌+◌, ◌*◌, ◌≤◌, ◌<◌, length, replicate, slice_index, slice_set};
+ghost use Rattle.std.specs.Prelude.{◌≡◌, ◌+◌, ◌≤◌, ◌<◌, length, replicate, slice_index, slice_set};
 ghost use Rattle.page_model.specs.Bytes.{u16_at, u32_at, u16_bytes, u32_bytes, overwrite};
-ghost use Rattle.page_io.specs.Page.{own_number, part};
+ghost use Rattle.page_io.specs.Page.{own_number};
 
 use byteorder::{BigEndian, ByteOrder};
 
@@ -154,28 +154,6 @@ impl Page {
         ensures number { own_number self.new.bytes ≡ own_number self.old.bytes }
     {
         self.set_u16_at(12, low);
-    }
-
-    /// The content of one of the page's four sectors.
-    #[tactic(auto, unfolding(crate::specs::Page::part))]
-    pub fn sector(&self, k: usize) -> [u8; 512]
-        requires { k < 4 }
-        ensures { result ≡ part 512 self.now.bytes k }
-    {
-        let mut content = [0; 512];
-        let at = 512 * k;
-        content.copy_from_slice(&self.bytes[at..at + 512]);
-        content
-    }
-
-    /// Puts a content in the place of one of the page's four sectors.
-    pub fn set_sector(&mut self, k: usize, content: &[u8; 512])
-        requires { k < 4 }
-        ensures bytes { self.new.bytes ≡ overwrite self.old.bytes (512 * k) content.now }
-        ensures size { length content.now ≡ 512 }
-    {
-        let at = 512 * k;
-        self.bytes[at..at + 512].copy_from_slice(content);
     }
 }
 

@@ -6,8 +6,8 @@ ghost use Rattle.page_io.specs.Page.{page_at, IsOutsidePage, IsPartlyWritten, Ke
 use crate::{Page, SECTORS_PER_PAGE};
 use sect_dev::{DevFault, SectorDev};
 
-/// Writes page n: its four sectors, in order. The first failed write ends it, and the page's
-/// sectors may then have their old content or the new.
+/// Writes page n, as a run of four sectors. At `Err` each of them may have its old content or the
+/// new.
 pub fn write_page<D: SectorDev>(dev: &mut D, n: u32, page: &Page) -> Result<(), DevFault>
     requires { 4 * n + 4 ≤ D.sectors dev.old }
     ensures written { D.honest dev.old → OnOk result (page_at (D.seen dev.new) n ≡ page.now.bytes) }
@@ -30,14 +30,11 @@ pub fn write_page<D: SectorDev>(dev: &mut D, n: u32, page: &Page) -> Result<(), 
     ensures cause { HasCause (D.faults dev.old) (D.faults dev.new) result }
     ensures size { D.sectors dev.new ≡ D.sectors dev.old }
 {
-    for k in 0..SECTORS_PER_PAGE {
-        dev.write(SECTORS_PER_PAGE * n + k, &page.sector(k as usize))?;
-    }
-    Ok(())
+    dev.write_run(SECTORS_PER_PAGE * n, &page.bytes)
 }
 
-/// Reads page n: its four sectors, in order. It changes nothing on the device. At `Err` the bytes
-/// of `page` are unspecified.
+/// Reads page n, as a run of four sectors. It changes nothing on the device. At `Err` the bytes of
+/// `page` are unspecified.
 pub fn read_page<D: SectorDev>(dev: &mut D, n: u32, page: &mut Page) -> Result<(), DevFault>
     requires { 4 * n + 4 ≤ D.sectors dev.old }
     ensures read { D.honest dev.old → OnOk result (page.new.bytes ≡ page_at (D.seen dev.old) n) }
@@ -51,10 +48,5 @@ pub fn read_page<D: SectorDev>(dev: &mut D, n: u32, page: &mut Page) -> Result<(
     ensures cause { HasCause (D.faults dev.old) (D.faults dev.new) result }
     ensures size { D.sectors dev.new ≡ D.sectors dev.old }
 {
-    let mut content = [0; 512];
-    for k in 0..SECTORS_PER_PAGE {
-        dev.read(SECTORS_PER_PAGE * n + k, &mut content)?;
-        page.set_sector(k as usize, &content);
-    }
-    Ok(())
+    dev.read_run(SECTORS_PER_PAGE * n, &mut page.bytes)
 }

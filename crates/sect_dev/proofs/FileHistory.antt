@@ -1,8 +1,9 @@
 -- What a call of a device over a file does, by the file_history of what happens under the file.
-use Rattle.std.proofs.Common.{◌≡◌, ◌⊎◌, ◌+◌, ◌*◌, ℕ, false, Result, is_ok, OnOk, OnErr, List, length, ⊎_elim, inl, inr, refl, sym, subst, arith, ◌↔◌}
+use Rattle.std.proofs.Common.{◌≡◌, ◌⊎◌, ◌+◌, ◌*◌, ◌%◌, ℕ, false, Result, is_ok, OnOk, OnErr, List, length, ⊎_elim, inl, inr, refl, sym, subst, arith, ◌↔◌}
 use Rattle.std.proofs.lemmas.Bool.{cases_lt}
+use Rattle.std.proofs.lemmas.Nat.{div-add-mod'}
 use Rattle.std.specs.declared.fs.File.{File}
-use Rattle.sect_dev.specs.Device.{Image, Candidates, IsImageOf, IsStable, NoNewCandidate, IsWrittenOrNot, with_sector, with_candidate, Elapses}
+use Rattle.sect_dev.specs.Device.{Image, Candidates, IsImageOf, IsStable, NoNewCandidate, Elapses, sector_count, IsRunWritten, IsRunPartlyWritten, with_run_candidates}
 use Rattle.sect_dev.specs.FileHistory.{Change, history_of, RecordsCalls, IsHonest, KeepsWrite, KeepsSync, KeepsChange, LeftFrom}
 use Rattle.sect_dev.specs.FileHistory.Change.{Writes, Syncs}
 use Rattle.sect_dev.proofs.Results.{on_ok, on_err, not_ok}
@@ -101,9 +102,9 @@ module _ {T E F : Type 0} (r : Result T E) (file now_file : File) (before now : 
             (sym refused.0) (failed refused.1)
       ])
 
--- the clauses of a write
+-- the clauses of a write of a run
 module _ {T E F : Type 0} (r : Result T E) (file now_file : File) (before now n : ℕ) (from : List ℕ)
-    (whole : length from ≡ 512) (same : now_file ≡ file)
+    (whole : length from % 512 ≡ 0) (same : now_file ≡ file)
     (answered : ((now ≡ before + 1)
     × (RecordsCalls file → (history_of file).change before
     ≡ Writes (n * 512) from (is_ok r))) ⊎ ((now ≡ before) × (is_ok r ≡ false) × F))
@@ -114,33 +115,37 @@ module _ {T E F : Type 0} (r : Result T E) (file now_file : File) (before now n 
   abbrev left : Candidates
   left = (history_of file).candidate before
 
+  sectors : length from ≡ sector_count from * 512
+  sectors = omega (arith, div-add-mod' (length from) 512, whole)
+
   by_write : (P : Image → Candidates → Type 0)
       → ((image : Image) (candidate : Candidates)
       → KeepsWrite n from (is_ok r) seen image left candidate → P image candidate)
       → (is_ok r ≡ false → P seen left)
       → P ((history_of now_file).seen now) ((history_of now_file).candidate now)
   by_write P kept = by_change r file now_file before now (Writes (n * 512) from (is_ok r)) same
-      answered P honest (λ image candidate keeps. kept image candidate (keeps n refl whole))
+      answered P honest
+      (λ image candidate keeps. kept image candidate (keeps n (sector_count from) refl sectors))
 
-  pub write_seen : OnOk r ((history_of now_file).seen now ≡ with_sector seen n from)
-  write_seen = by_write (λ image candidate. OnOk r (image ≡ with_sector seen n from))
-      (λ image candidate keeps. on_ok r (image ≡ with_sector seen n from) keeps.written)
-      (not_ok r (seen ≡ with_sector seen n from))
+  pub run_seen : OnOk r (IsRunWritten seen n from ((history_of now_file).seen now))
+  run_seen = by_write (λ image candidate. OnOk r (IsRunWritten seen n from image))
+      (λ image candidate keeps. on_ok r (IsRunWritten seen n from image) keeps.written)
+      (not_ok r (IsRunWritten seen n from seen))
 
-  pub write_failed : OnErr r (IsWrittenOrNot seen n from ((history_of now_file).seen now))
-  write_failed = by_write (λ image candidate. OnErr r (IsWrittenOrNot seen n from image))
-      (λ image candidate keeps. on_err r (IsWrittenOrNot seen n from image)
+  pub run_failed : OnErr r (IsRunPartlyWritten seen n from ((history_of now_file).seen now))
+  run_failed = by_write (λ image candidate. OnErr r (IsRunPartlyWritten seen n from image))
+      (λ image candidate keeps. on_err r (IsRunPartlyWritten seen n from image)
       (λ failed. keeps.failed))
-      (λ failed. on_err r (IsWrittenOrNot seen n from seen) (λ failed. inl refl))
+      (λ failed. on_err r (IsRunPartlyWritten seen n from seen) (λ failed m. inl refl))
 
-  pub write_adds_one : NoNewCandidate (with_candidate left n from)
+  pub run_adds : NoNewCandidate (with_run_candidates left n from)
       ((history_of now_file).candidate now)
-  write_adds_one = by_write (λ image candidate.
-      NoNewCandidate (with_candidate left n from) candidate)
+  run_adds = by_write (λ image candidate.
+      NoNewCandidate (with_run_candidates left n from) candidate)
       (λ image candidate keeps. keeps.candidates) (λ failed m c is. inl is)
 
-  pub write_removes_none : NoNewCandidate ((history_of now_file).candidate now) left
-  write_removes_none = by_write (λ image candidate. NoNewCandidate candidate left)
+  pub run_removes_none : NoNewCandidate ((history_of now_file).candidate now) left
+  run_removes_none = by_write (λ image candidate. NoNewCandidate candidate left)
       (λ image candidate keeps. keeps.keeps) (λ failed m c is. is)
 
 -- the clauses of a sync

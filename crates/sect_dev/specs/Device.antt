@@ -1,5 +1,5 @@
 -- What the calls of a sector device do, and what a stop may leave.
-use Rattle.std.specs.Prelude.{◌≡◌, ◌⊎◌, ◌≤◌, ℕ, ◌==◌, if◌then◌else◌, List, Result, OnErr}
+use Rattle.std.specs.Prelude.{◌≡◌, ◌⊎◌, ◌+◌, ◌*◌, ◌/◌, ◌<◌, ◌≤◌, ℕ, ◌==◌, if◌then◌else◌, List, length, take, drop, Result, OnErr}
 pub use Rattle.dbm_model.specs.FaultCount.{MoreFaults}
 
 -- the content of each sector
@@ -54,3 +54,41 @@ pub record LeavesOnly {D X : Type 0} (moment : D → ℕ) (left_since : D → �
   pub each : (x : X) → left_since new (moment old) x → P x
   -- for a run that began earlier
   pub before : (t : ℕ) (x : X) → t ≤ moment old → left_since new t x → left_since old t x ⊎ P x
+
+-- ---- runs of adjacent sectors
+
+-- how many sectors these bytes fill
+abbrev pub sector_count : List ℕ → ℕ
+sector_count bytes = length bytes / 512
+
+-- sector k of a run's bytes
+unfoldable pub part_of : List ℕ → ℕ → List ℕ
+part_of bytes k = take 512 (drop (512 * k) bytes)
+
+-- the sectors from n on have these bytes, each its part
+abbrev pub HasRun : Image → ℕ → List ℕ → Type 0
+HasRun image n bytes = (k : ℕ) → k < sector_count bytes → image (n + k) ≡ part_of bytes k
+
+-- sector m is none of `count` from n on
+abbrev pub IsOutsideRun : ℕ → ℕ → ℕ → Type 0
+IsOutsideRun n count m = (m < n) ⊎ (n + count ≤ m)
+
+-- Sector m is one of those that these bytes fill from n on, and this content is its part.
+pub record IsPart (n : ℕ) (bytes : List ℕ) (m : ℕ) (content : List ℕ) : Type 0 where
+  pub k : ℕ
+  pub within : k < sector_count bytes
+  pub place : m ≡ n + k
+  pub same : content ≡ part_of bytes k
+
+-- these bytes are written over the sectors from n on, and no other
+pub record IsRunWritten (old : Image) (n : ℕ) (bytes : List ℕ) (new : Image) : Type 0 where
+  pub inside : HasRun new n bytes
+  pub outside : (m : ℕ) → IsOutsideRun n (sector_count bytes) m → new m ≡ old m
+
+-- of a failed write of a run, each sector has happened or not, independently of the others
+abbrev pub IsRunPartlyWritten : Image → ℕ → List ℕ → Image → Type 0
+IsRunPartlyWritten old n bytes new = (m : ℕ) → (new m ≡ old m) ⊎ IsPart n bytes m (new m)
+
+-- the same candidates, and for each sector of the run its part
+abbrev pub with_run_candidates : Candidates → ℕ → List ℕ → Candidates
+with_run_candidates candidate n bytes = λ m c. candidate m c ⊎ IsPart n bytes m c

@@ -1,9 +1,9 @@
 -- What happens under a file from its opening on. No program sees it. What ties it to the calls is
 -- `RecordsCalls` alone.
-use Rattle.std.specs.Prelude.{◌≡◌, ◌+◌, ◌*◌, ◌<◌, ◌≤◌, ℕ, Bool, true, false, IsTrue, List, [], length, slice_index}
+use Rattle.std.specs.Prelude.{◌≡◌, ◌+◌, ◌*◌, ◌/◌, ◌%◌, ◌<◌, ◌≤◌, ℕ, Bool, true, false, IsTrue, List, [], length, slice_index}
 use Rattle.std.specs.declared.fs.File.{File}
 use Rattle.std.proofs.Common.{subst, arith}
-use Rattle.sect_dev.specs.Device.{Image, Candidates, IsImageOf, NoNewCandidate, with_sector, with_candidate, IsStable, IsWrittenOrNot}
+use Rattle.sect_dev.specs.Device.{Image, Candidates, IsImageOf, NoNewCandidate, IsStable, IsRunWritten, IsRunPartlyWritten, with_run_candidates}
 
 -- what the system was asked to change, from which byte of the file on, and whether it answered Ok
 pub data Change : Type 0 where
@@ -19,18 +19,28 @@ pub record FileHistory : Type 1 where
   pub candidate : ℕ → Candidates
   pub gave : ℕ → ℕ → List ℕ → Type 0
 
--- These bytes stand in a sector's content from place i on. Where a read gave none, the file has
--- ended, and what is left of the sector is zeros.
-pub record StandsAt (content : List ℕ) (i : ℕ) (bytes : List ℕ) : Type 0 where
-  pub each : (j : ℕ) → j < length bytes → slice_index content (i + j) ≡ slice_index bytes j
-  pub ended : length bytes ≡ 0 → (j : ℕ) → i ≤ j → slice_index content j ≡ 0
+-- byte p of the file, as sectors have it
+abbrev pub byte_of : Image → ℕ → ℕ
+byte_of image p = slice_index (image (p / 512)) (p % 512)
 
--- A write of a whole sector that is Ok is seen, and one that failed has happened or not.
+-- these bytes stand in the file from byte `at` on
+abbrev pub HasBytes : Image → ℕ → List ℕ → Type 0
+HasBytes image at bytes = (j : ℕ) → j < length bytes
+    → byte_of image (at + j) ≡ slice_index bytes j
+
+-- A read from byte `at` on may give these. Where it gave none, the file has ended, and all that
+-- follows is zeros.
+pub record StandsAt (image : Image) (at : ℕ) (bytes : List ℕ) : Type 0 where
+  pub each : HasBytes image at bytes
+  pub ended : length bytes ≡ 0 → (p : ℕ) → at ≤ p → byte_of image p ≡ 0
+
+-- A write of whole sectors that is Ok is seen. Of one that failed each sector has happened or not,
+-- whatever has of the others.
 pub record KeepsWrite (n : ℕ) (bytes : List ℕ) (ok : Bool) (old new : Image)
     (before after : Candidates) : Type 0 where
-  pub written : IsTrue ok → new ≡ with_sector old n bytes
-  pub failed : IsWrittenOrNot old n bytes new
-  pub candidates : NoNewCandidate (with_candidate before n bytes) after
+  pub written : IsTrue ok → IsRunWritten old n bytes new
+  pub failed : IsRunPartlyWritten old n bytes new
+  pub candidates : NoNewCandidate (with_run_candidates before n bytes) after
   pub keeps : NoNewCandidate after before
 
 -- A sync that is Ok settles what is seen, and one that failed settles nothing.
@@ -42,7 +52,8 @@ pub record KeepsSync (ok : Bool) (old new : Image) (before after : Candidates) :
 
 abbrev pub KeepsChange : Change → Image → Image → Candidates → Candidates → Type 0
 KeepsChange (Writes at bytes ok) old new before after =
-    (n : ℕ) → at ≡ n * 512 → length bytes ≡ 512 → KeepsWrite n bytes ok old new before after
+    (n count : ℕ) → at ≡ n * 512 → length bytes ≡ count * 512
+    → KeepsWrite n bytes ok old new before after
 KeepsChange (Syncs ok) old new before after = KeepsSync ok old new before after
 
 -- The premise on a disk: it keeps each sector whole, returns what was written, and settles what it
@@ -50,8 +61,8 @@ KeepsChange (Syncs ok) old new before after = KeepsSync ok old new before after
 pub record IsKept (file_history : FileHistory) : Type 0 where
   pub whole : (t n : ℕ) → length (file_history.seen t n) ≡ 512
   pub may_stay : (t : ℕ) → IsImageOf (file_history.candidate t) (file_history.seen t)
-  pub reads : (t n i : ℕ) (bytes : List ℕ) → i < 512 → i + length bytes ≤ 512
-      → file_history.gave t (n * 512 + i) bytes → StandsAt (file_history.seen t n) i bytes
+  pub reads : (t at : ℕ) (bytes : List ℕ) → file_history.gave t at bytes
+      → StandsAt (file_history.seen t) at bytes
   pub keeps : (t : ℕ) → KeepsChange (file_history.change t) (file_history.seen t)
       (file_history.seen (t + 1)) (file_history.candidate t) (file_history.candidate (t + 1))
 

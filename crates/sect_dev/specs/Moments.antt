@@ -4,7 +4,7 @@ use mathlib.Core.Logic.{inl, inr}
 use Rattle.std.proofs.Common.{⊎_elim, sym, ◌∙◌, ap, subst, arith, rules}
 use Rattle.std.proofs.lemmas.Bool.{cases_eq}
 use Rattle.std.proofs.lemmas.Bool.Decides.{nat_tests}
-use Rattle.sect_dev.specs.Device.{Image, Candidates, IsImageOf, IsStable, NoNewCandidate, with_sector, with_candidate, Elapses, LeavesOnly}
+use Rattle.sect_dev.specs.Device.{Image, Candidates, IsImageOf, IsStable, NoNewCandidate, with_sector, with_candidate, Elapses, LeavesOnly, sector_count, IsOutsideRun, IsPart, IsRunPartlyWritten}
 
 -- with fewer candidates there are no other images
 pub fewer_images : (old new : Candidates) (image : Image) → NoNewCandidate old new
@@ -115,6 +115,18 @@ two_images candidate seen n content image stable is =
       | inl same ↦ ap image same ∙ here ∙ sym (at_same seen n content m same)
       | inr other ↦ others m other ∙ sym (at_other seen n content m other)
     ]
+
+-- a sector outside a run has no part of it
+pub no_part : (n : ℕ) (bytes : List ℕ) (m : ℕ) (content : List ℕ)
+    → IsOutsideRun n (sector_count bytes) m → IsPart n bytes m content → ⊥
+no_part n bytes m content (inl below) part = omega (arith, below, part.place)
+no_part n bytes m content (inr above) part = omega (arith, above, part.within, part.place)
+
+-- where a run is written in part, the other sectors stay
+pub outside_run : (n : ℕ) (bytes : List ℕ) (old new : Image) → IsRunPartlyWritten old n bytes new
+    → (m : ℕ) → IsOutsideRun n (sector_count bytes) m → new m ≡ old m
+outside_run n bytes old new partly m out =
+    ⊎_elim (λ same. same) (λ part. absurd (no_part n bytes m (new m) out part)) (partly m)
 
 -- What a stop leaves at one layer, read by the layer above: `below` is the state of the layer
 -- below.

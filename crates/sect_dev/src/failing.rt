@@ -19,8 +19,8 @@ pub trait Plan: Drop {
         ensures next { (i : ℕ) → fails self.new i ≡ fails self.old (i + 1) };
 }
 
-/// A device that fails calls of read, write and sync by a plan, and counts each as a fault. `Fuse`,
-/// `FailOnce` and `FailLate` are the plans that there are.
+/// A device that fails calls of read, write and sync by a plan, and counts each as a fault. A run is
+/// a call for each of its sectors. `Fuse`, `FailOnce` and `FailLate` are the plans that there are.
 #[derive(Drop)]
 pub struct Failing<D: SectorDev, P: Plan> {
     inner: D,

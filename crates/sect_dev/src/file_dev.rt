@@ -1,7 +1,7 @@
 //! A device over a file.
-ghost use Rattle.std.specs.Prelude.{◌≡◌, ◌↔◌, ◌+◌, ◌-◌, ◌*◌, ◌^◌, ◌<◌, ◌≤◌, ◌&&◌, false, is_ok, is_some, IsSome, IsErr, IfOk, IfErr, OnOk, length, take};
-ghost use Rattle.sect_dev.specs.Device.{HasCause};
-ghost use Rattle.sect_dev.specs.FileHistory.{IsHonest, LeftFrom};
+ghost use Rattle.std.specs.Prelude.{◌≡◌, ◌↔◌, ◌+◌, ◌-◌, ◌*◌, ◌%◌, ◌^◌, ◌<◌, ◌≤◌, ◌&&◌, false, is_ok, is_some, IsSome, IsErr, IfOk, IfErr, OnOk, length, take};
+ghost use Rattle.sect_dev.specs.Device.{HasCause, HasRun, sector_count};
+ghost use Rattle.sect_dev.specs.FileHistory.{HasBytes, IsHonest, LeftFrom};
 ghost use Rattle.sect_dev.specs.FileHistory.Change.{Writes, Syncs};
 
 use crate::{DevFault, SectorDev};
@@ -29,8 +29,8 @@ pub enum FileFault {
 }
 
 /// A device over a file. Sector n is the 512 bytes from byte 512 n on, and what lies past the
-/// file's end reads as zeros. Each read and each write is one positioned call of the system (more
-/// where that was cut short), a sync is one, and nothing is buffered.
+/// file's end reads as zeros. Each read and each write, of a sector or of a run, is one positioned
+/// call of the system (more where that was cut short), a sync is one, and nothing is buffered.
 ///
 /// That it is honest is claimed nowhere. The crate's README says what that premise is.
 #[derive(Drop)]
@@ -179,8 +179,8 @@ impl FileDev {
         self.file.read_at(out, at)
     }
 
-    // Asks it to write a sector. A change is counted where it is asked for, so none more can be.
-    fn pwrite(&mut self, at: u64, from: &[u8; 512]) -> io::Result<()>
+    // Asks it to write bytes. A change is counted where it is asked for, so none more can be.
+    fn pwrite(&mut self, at: u64, from: &[u8]) -> io::Result<()>
         requires { self.old.changes < 2 ^ 64 - 1 }
         ensures { IsChanged self.old self.new (Writes at from.now (is_ok result)) }
     {
@@ -197,17 +197,18 @@ impl FileDev {
         self.file.sync_data()
     }
 
-    // Reads a sector, with zeros past the file's end.
-    fn fill(&self, n: u32, out: &mut [u8; 512]) -> io::Result<()>
+    // Reads the bytes from byte `at` on, with zeros past the file's end.
+    fn fill(&self, at: u64, out: &mut [u8]) -> io::Result<()>
+        requires { at + length out.old < 2 ^ 64 }
         ensures { IsHonest self.now.file
-            → OnOk result (out.new ≡ (file_history self.now).seen self.now.changes n) }
+            → OnOk result (HasBytes ((file_history self.now).seen self.now.changes) at out.new) }
     {
         let mut filled = 0;
         for _ in 0..u64::MAX {
             if filled >= out.len() {
                 return Ok(());
             }
-            match self.pread(offset_of(n) + filled as u64, &mut out[filled..]) {
+            match self.pread(at + filled as u64, &mut out[filled..]) {
                 Ok(0) => {
                     out[filled..].fill(0);
                     return Ok(());
@@ -291,10 +292,7 @@ impl SectorDev for FileDev {
         ensures cause { HasCause (⟦<FileDev as SectorDev>⟧.faults self.old)
             (⟦<FileDev as SectorDev>⟧.faults self.new) result }
     {
-        match self.fill(n, out) {
-            Ok(()) => Ok(()),
-            Err(error) => self.fail(error),
-        }
+        self.read_run(n, out)
     }
 
     fn write(&mut self, n: u32, from: &[u8; 512]) -> Result<(), DevFault>
@@ -302,6 +300,35 @@ impl SectorDev for FileDev {
         ensures goes { AsksSystem self.old self.new (Writes (n * 512) from.now (is_ok result))
             (is_ok result) }
         ensures whole { length from.now ≡ 512 }
+        ensures cause { HasCause (⟦<FileDev as SectorDev>⟧.faults self.old)
+            (⟦<FileDev as SectorDev>⟧.faults self.new) result }
+        ensures size { ⟦<FileDev as SectorDev>⟧.sectors self.new
+            ≡ ⟦<FileDev as SectorDev>⟧.sectors self.old }
+    {
+        self.write_run(n, from)
+    }
+
+    fn read_run(&mut self, n: u32, out: &mut [u8]) -> Result<(), DevFault>
+        requires whole { length out.old % 512 ≡ 0 }
+        requires fits { n + sector_count out.old ≤ ⟦<FileDev as SectorDev>⟧.sectors self.old }
+        ensures content { IsHonest self.old.file
+            → OnOk result (HasRun (⟦<FileDev as SectorDev>⟧.seen self.old) n out.new) }
+        ensures same { IsSame self.old self.new }
+        ensures cause { HasCause (⟦<FileDev as SectorDev>⟧.faults self.old)
+            (⟦<FileDev as SectorDev>⟧.faults self.new) result }
+    {
+        match self.fill(offset_of(n), out) {
+            Ok(()) => Ok(()),
+            Err(error) => self.fail(error),
+        }
+    }
+
+    fn write_run(&mut self, n: u32, from: &[u8]) -> Result<(), DevFault>
+        requires whole { length from.now % 512 ≡ 0 }
+        requires fits { n + sector_count from.now ≤ ⟦<FileDev as SectorDev>⟧.sectors self.old }
+        ensures goes { AsksSystem self.old self.new (Writes (n * 512) from.now (is_ok result))
+            (is_ok result) }
+        ensures whole { length from.now % 512 ≡ 0 }
         ensures cause { HasCause (⟦<FileDev as SectorDev>⟧.faults self.old)
             (⟦<FileDev as SectorDev>⟧.faults self.new) result }
         ensures size { ⟦<FileDev as SectorDev>⟧.sectors self.new

@@ -1,14 +1,14 @@
-use Rattle.std.proofs.Common.{◌≡◌, ℕ, ◌<◌, ◌≤◌, length, slice_index}
-use Rattle.sect_dev.specs.FileHistory.{IsHonest}
+use Rattle.std.proofs.Common.{◌≡◌, ℕ, ◌+◌, ◌<◌, ◌≤◌, length, slice_index}
+use Rattle.sect_dev.specs.FileHistory.{IsHonest, byte_of}
 use Rattle.sect_dev.specs.File.{file_history}
 use Rattle.sect_dev.proofs.file_dev.FileDev.fill.Given as goal
 
--- what is filled is the sector's
+-- what is filled is the file's
 abbrev pub invariant-loop : goal.invariant-loop
 invariant-loop l = record {
-  long : length l.out ≡ 512;
-  within : l.filled ≤ 512;
+  long : length l.out ≡ length l.fn.out;
+  within : l.filled ≤ length l.fn.out;
   same : IsHonest l.fn.self.file → (j : ℕ) → j < l.filled
-      → slice_index l.out j ≡ slice_index
-      ((file_history l.fn.self).seen l.fn.self.changes l.fn.n) j;
+      → byte_of ((file_history l.fn.self).seen l.fn.self.changes) (l.fn.at + j)
+      ≡ slice_index l.out j;
 }

@@ -1,6 +1,9 @@
-use Rattle.std.proofs.Common.{◌*◌, is_ok, inr}
+use Rattle.std.proofs.Common.{◌*◌, ◌%◌, ℕ, is_ok, inr, ap}
+use Rattle.std.proofs.lemmas.Result.{on_ok_weaker, on_err_weaker}
+use Rattle.sect_dev.specs.FileHistory.{history_of}
 use Rattle.sect_dev.specs.FileHistory.Change.{Writes, Syncs}
-use Rattle.sect_dev.proofs.FileHistory.{honesty, time, same_seen, none_added, none_removed, change_time, write_seen, write_failed, write_adds_one, write_removes_none, sync_settles, sync_seen, sync_adds_none, sync_failed}
+use Rattle.sect_dev.proofs.FileHistory.{honesty, time, same_seen, none_added, none_removed, change_time, run_seen, run_failed, run_adds, run_removes_none, sync_settles, sync_seen, sync_adds_none, sync_failed}
+use Rattle.sect_dev.proofs.OneSector.{one_candidate, one_written, one_failed}
 use Rattle.sect_dev.proofs.file_dev.FileDevSectorDev.TheImpl.Goals as goal
 
 pub read-tells : goal.read-tells
@@ -26,18 +29,70 @@ write-tells c =
     let goes = c.ensures.goes in
     let old = c.args.self.now in
     let new = c.new.self.now in
+    let n = c.args.n in
     let from = c.args.from.now in
+    let long = c.ensures.whole in
+    let whole = ap (λ (size : ℕ). size % 512) long in
+    let before = (history_of old.file).seen old.changes in
+    let now = (history_of new.file).seen new.changes in
     record {
-      written = write_seen c.result old.file new.file old.changes new.changes c.args.n from
-          c.ensures.whole goes.file goes.answered;
-      failed = write_failed c.result old.file new.file old.changes new.changes c.args.n from
-          c.ensures.whole goes.file goes.answered;
-      candidates = write_adds_one c.result old.file new.file old.changes new.changes c.args.n from
-          c.ensures.whole goes.file goes.answered;
-      keeps = write_removes_none c.result old.file new.file old.changes new.changes c.args.n from
-          c.ensures.whole goes.file goes.answered;
+      written = λ honest. on_ok_weaker c.result (one_written n from long before now)
+          (run_seen c.result old.file new.file old.changes new.changes n from whole goes.file
+          goes.answered honest);
+      failed = λ honest. on_err_weaker c.result (one_failed n from long before now)
+          (run_failed c.result old.file new.file old.changes new.changes n from whole goes.file
+          goes.answered honest);
+      candidates = λ honest. one_candidate n from long
+          ((history_of old.file).candidate old.changes)
+          ((history_of new.file).candidate new.changes)
+          (run_adds c.result old.file new.file old.changes new.changes n from whole goes.file
+          goes.answered honest);
+      keeps = run_removes_none c.result old.file new.file old.changes new.changes n from whole
+          goes.file goes.answered;
       time = λ honest. change_time c.result old.file new.file old.changes new.changes
-          (Writes (c.args.n * 512) from (is_ok c.result)) goes.file goes.answered;
+          (Writes (n * 512) from (is_ok c.result)) goes.file goes.answered;
+      honesty = honesty old.file new.file old.changes new.changes goes.file;
+      cause = c.ensures.cause;
+      size = c.ensures.size;
+    }
+
+pub read_run-tells : goal.read_run-tells
+read_run-tells c =
+    let same = c.ensures.same in
+    let old = c.args.self.now in
+    let new = c.new.self.now in
+    record {
+      read = c.ensures.content;
+      seen = λ honest. same_seen old.file new.file old.changes new.changes same.file same.changes;
+      candidates = λ honest. none_added old.file new.file old.changes new.changes
+          same.file same.changes;
+      keeps = λ honest. none_removed old.file new.file old.changes new.changes
+          same.file same.changes;
+      time = λ honest. time old.file new.file old.changes new.changes same.file (inr same.changes);
+      honesty = honesty old.file new.file old.changes new.changes same.file;
+      cause = c.ensures.cause;
+      size = same.capacity;
+    }
+
+pub write_run-tells : goal.write_run-tells
+write_run-tells c =
+    let goes = c.ensures.goes in
+    let old = c.args.self.now in
+    let new = c.new.self.now in
+    let n = c.args.n in
+    let from = c.args.from.now in
+    let whole = c.ensures.whole in
+    record {
+      written = run_seen c.result old.file new.file old.changes new.changes n from whole goes.file
+          goes.answered;
+      failed = run_failed c.result old.file new.file old.changes new.changes n from whole
+          goes.file goes.answered;
+      candidates = run_adds c.result old.file new.file old.changes new.changes n from whole
+          goes.file goes.answered;
+      keeps = run_removes_none c.result old.file new.file old.changes new.changes n from whole
+          goes.file goes.answered;
+      time = λ honest. change_time c.result old.file new.file old.changes new.changes
+          (Writes (n * 512) from (is_ok c.result)) goes.file goes.answered;
       honesty = honesty old.file new.file old.changes new.changes goes.file;
       cause = c.ensures.cause;
       size = c.ensures.size;

@@ -1,6 +1,6 @@
 use Rattle.std.proofs.Common.{◌*◌, ◌∙◌, is_ok}
 use Rattle.sect_dev.proofs.Asking.{asked_to_write, cause_since}
-use Rattle.sect_dev.proofs.file_dev.FileDevSectorDev.write.Goals as goal
+use Rattle.sect_dev.proofs.file_dev.FileDevSectorDev.write_run.Goals as goal
 
 pub returns : goal.returns
 returns c =
@@ -12,7 +12,7 @@ returns c =
       goes = asked_to_write old mid c.note.new.self (is_ok c.note.result)
           (is_ok c.pwrite-answer.result) told.answer told.same
           c.offset_of.result (c.args.n * 512) c.args.from.now c.offset_of.ensures done;
-      whole = c.told-from;
+      whole = c.requires.whole;
       cause = cause_since c.note.result old.faults mid.faults c.note.new.self.faults
           done.faults told.cause;
       size = told.same.capacity ∙ done.capacity;
