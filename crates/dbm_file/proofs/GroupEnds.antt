@@ -22,7 +22,7 @@ use Rattle.dbm_fault.specs.declared.fault.Fault.TheVariants.{Device, Broken}
 use Rattle.dbm_file.specs.Answers.{StandsForSome, Survives}
 use Rattle.dbm_file.specs.Database.{store_of, meta_kept, page_state, error_of, handle_of, IsAt}
 use Rattle.dbm_file.specs.Grouping.{IsOver, handle_in, IsAlike, HasStored}
-use Rattle.dbm_file.specs.Groups.{replacing, with_pairs, IsGroup, IsWithSome, IsGroupRefused, GroupEnds}
+use Rattle.dbm_file.specs.Groups.{replacing, with_pairs, IsGroup, IsGroupRefused, GroupEnds}
 use Rattle.dbm_file.specs.Passing.{pass_of}
 use Rattle.dbm_file.specs.Trying.{with_fault, with_error_of, IsRead}
 use Rattle.dbm_file.specs.declared.database.Database.{Database}
@@ -63,6 +63,7 @@ group_flagged s old db h idle access valid error fault flag pairs r is refused =
     (subst (λ (e : Option Fault).
     IsGroupRefused old (kept_error s db idle access valid e) h pairs fault) (sym flag) record {
       after = refused.after;
+      count = refused.count;
       counts = refused.counts;
       ends = refused.ends;
       is_at = record {
@@ -79,6 +80,7 @@ pub broken_refuses : {S : Type 0} (s : Ghosts S) (db : Database S s) (h : Handle
     → IsGroupRefused db (with_fault db Broken) h pairs Broken
 broken_refuses s db h at broken pairs = record {
   after = handle_of (with_fault db Broken) h.state.map;
+  count = 0;
   counts = omega (arith, ap (λ (x : Handle). x.faults) at.shows);
   ends = inl (flagged_is s db db h.state.map Broken refl refl refl refl refl
       ∙ ap (λ (x : Handle). flagged model.Broken x.state) (sym at.shows));
@@ -158,6 +160,7 @@ module _ {S : Type 0} (s : Ghosts S) (old new : Database S s) (h : Handle) (at :
         → IsGroupRefused old (with_fault new fault) h pairs fault
     group_refused pairs fault = record {
       after = handle_of (with_fault new fault) contents;
+      count = 0;
       counts = faults_rise;
       ends = inl (flagged_is s old new contents fault read.pass_is (still_limit s old new read)
           read.error_is (still_writable s old new read) (still_usable s old new read)
@@ -166,8 +169,8 @@ module _ {S : Type 0} (s : Ghosts S) (old new : Database S s) (h : Handle) (at :
           (λ u. still_holds s old new contents read honest (at.map usable))
           (λ u. still_rests s old new contents read honest (at.rests usable));
       survives = λ u. still_survives s old new contents read honest (at.rests usable)
-          (λ left. (left ≡ contents)
-          ⊎ (((page_state new).usable ≡ false) × IsWithSome contents pairs left)) (inl refl);
+          (λ left. (left ≡ contents) ⊎ (((page_state new).usable ≡ false)
+          × (left ≡ with_pairs contents (take 0 pairs)))) (inl refl);
     }
 
 -- what a commit leaves where it follows reads
@@ -322,22 +325,20 @@ module _ {S G : Type 0} (s : Ghosts S) (g : Ghosts G) (old mid new : Database S 
     group_broke all count is fault by_device = subst
         (λ (f : Fault). IsGroupRefused old (with_fault new f) h all f) (sym by_device) record {
           after = handle_of told before;
+          count = count;
           counts = faults_so;
           ends = inr (
-            grouped,
-            (count, ap (with_pairs before) is),
-            (
-              refl,
-              subst (λ (n : ℕ). MoreFaults n (s.faults (store_of new)))
-                  (ap (λ (x : Handle). x.faults) (sym at.shows)) more,
-              before,
-              inl refl,
-              state_so,
-            ),
+            refl,
+            subst (λ (n : ℕ). MoreFaults n (s.faults (store_of new)))
+                (ap (λ (x : Handle). x.faults) (sym at.shows)) more,
+            before,
+            inl refl,
+            state_so,
           );
           is_at = at_own told before (λ u. absurd (let e = sym broken ∙ u in cc))
               (λ u. absurd (let e = sym broken ∙ u in cc));
           survives = λ u. survives_so (λ left. (left ≡ before)
-              ⊎ (((page_state new).usable ≡ false) × IsWithSome before all left)) (inl refl)
-              (inr (broken, (count, ap (with_pairs before) is)));
+              ⊎ (((page_state new).usable ≡ false)
+              × (left ≡ with_pairs before (take count all)))) (inl refl)
+              (inr (broken, ap (with_pairs before) is));
         }

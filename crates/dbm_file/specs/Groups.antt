@@ -33,23 +33,21 @@ pub record IsGroup {S : Type 0} {s : Ghosts S} (old new : Database S s) (before 
   pub survives : (page_state old).usable ≡ true
       → Survives old new (λ left. (left ≡ before.state.map) ⊎ (left ≡ after.state.map))
 
--- with some of the pairs stored, from the first one on
-abbrev pub IsWithSome : Contents → List Pair → Contents → Type 0
-IsWithSome contents pairs left = (count : ℕ) × (left ≡ with_pairs contents (take count pairs))
-
--- They were refused: nothing has changed, but that a fault of the device in the commit breaks the
--- database, and leaves in the file none of them or those that were to be committed.
+-- They were refused: nothing has changed, but that a fault of the device in the commit of the first
+-- `count` of them breaks the database, and each image then has none of them or those.
 pub record IsGroupRefused {S : Type 0} {s : Ghosts S} (old new : Database S s) (before : Handle)
     (pairs : List Pair) (fault : Fault) : Type 0 where
   pub after : Handle
+  pub count : ℕ
   pub counts : before.faults ≤ after.faults
   pub ends : (after.state ≡ flagged (fault_of fault) before.state)
-      ⊎ ((grouped : Contents) × IsWithSome before.state.map pairs grouped
-      × Breaks before grouped (Refused (fault_of fault)) after)
+      ⊎ Breaks before (with_pairs before.state.map (take count pairs)) (Refused (fault_of fault))
+      after
   pub is_at : IsAt new after
   pub survives : (page_state old).usable ≡ true
       → Survives old new (λ left. (left ≡ before.state.map)
-      ⊎ ((after.state.usable ≡ false) × IsWithSome before.state.map pairs left))
+      ⊎ ((after.state.usable ≡ false)
+      × (left ≡ with_pairs before.state.map (take count pairs))))
 
 -- how a store of these pairs ends on a database at this handle: so many of them are stored, or none
 abbrev pub GroupEnds : {S : Type 0} {s : Ghosts S} → Database S s → Database S s → Handle

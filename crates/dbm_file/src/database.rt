@@ -350,7 +350,7 @@ impl<S: PageStore> Database<S> {
         let last = self.pass.last(begins);
         match next_pair(&mut self.store, &self.meta, last, &mut self.page) {
             Ok(Some(slot)) => {
-                self.pass = Pass::behind(pair_at(&self.page, slot).0);
+                self.pass.go_behind(pair_at(&self.page, slot).0);
                 Ok(Some(slot))
             }
             Ok(None) if begins => {

@@ -22,14 +22,18 @@ pub(crate) enum Pass {
 }
 
 impl Pass {
-    /// Behind this key.
-    pub fn behind(key: &[u8]) -> Pass
+    /// Goes behind this key, whose bytes are kept where those of the last one were.
+    pub fn go_behind(&mut self, key: &[u8])
         requires { length key.now ≤ 2026 }
-        ensures { model_pass result ≡ model.Behind key.now }
+        ensures { model_pass self.new ≡ model.Behind key.now }
     {
-        let mut last = ArrayVec::new();
-        last.try_extend_from_slice(key).unwrap();
-        Pass::Behind(last)
+        if !matches!(self, Pass::Behind(_)) {
+            *self = Pass::Behind(ArrayVec::new());
+        }
+        if let Pass::Behind(last) = self {
+            last.clear();
+            last.try_extend_from_slice(key).unwrap();
+        }
     }
 
     /// Whether one was begun.

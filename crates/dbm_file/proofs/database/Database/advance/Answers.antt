@@ -10,8 +10,8 @@ use Rattle.dbm_file.proofs.ReadSteps.{after_reads}
 use Rattle.dbm_file.proofs.Searches.{passed_so}
 use Rattle.dbm_file.proofs.database.Database.advance.Goals as goal
 
-pub behind-self-requires : goal.behind-self-requires
-behind-self-requires g c =
+pub go_behind-requires : goal.go_behind-requires
+go_behind-requires g c =
     let bytes = c.next_pair.new.page.bytes in
     let from = pass_behind (option_map (λ (key : Bor (List ℕ)). key.now) c.last-last.result) in
     let ahead = subst (λ (o : Option ℕ). IfSome o (λ at. IsAheadAt from bytes at))
@@ -31,7 +31,7 @@ returns-in-Ok-Some-clause-step g c honest h at call falls =
     record { reads = all.reads; meta_is = refl; error_is = refl; pass_is = refl } honest
     c.requires.usable falls least.pages least.map_is _ _ least.least
     c.in-Ok-Some.slot c.pair_at.result.0.now c.in-Ok-Some.field-0-is
-    (ap (λ (pair : Pair). pair.0) (c.pair_at.ensures ([], []))) c.behind-self.ensures
+    (ap (λ (pair : Pair). pair.0) (c.pair_at.ensures ([], []))) c.go_behind.ensures
 
 pub returns-in-Ok-None-clause-step : goal.returns-in-Ok-None-clause-step
 returns-in-Ok-None-clause-step g c honest h at call falls =
@@ -89,7 +89,7 @@ returns-in-Ok-None-2-clause-passed g c honest =
 
 pub returns-in-Ok-Some-clause-stands : goal.returns-in-Ok-Some-clause-stands
 returns-in-Ok-Some-clause-stands g c =
-    c.behind-self.ensures ∙ sym (ap (λ (pair : Pair). Behind pair.0) (c.pair_at.ensures ([], [])))
+    c.go_behind.ensures ∙ sym (ap (λ (pair : Pair). Behind pair.0) (c.pair_at.ensures ([], [])))
 
 pub returns-in-Ok-None-clause-stands : goal.returns-in-Ok-None-clause-stands
 returns-in-Ok-None-clause-stands g c = begins_so c.args.begins c.args.self.now c.if-begins.true
