@@ -122,14 +122,16 @@ pub fn unstopped(
     };
     let (_, ending, made) = cut_session(alloc, copy, u64::MAX, limit, calls);
     match ending {
-        Ending::Rested(replies) => {
+        Ending::Rested(replies, _) => {
             if lacked_memory(replies.as_slice()) {
                 return Err(EngineFault::Memory);
             }
             Ok((replies, made))
         }
         Ending::NotOpened(fault) => Err(told(fault)),
-        Ending::NoMemory | Ending::Unsettled(_) | Ending::Broke(_) => Err(EngineFault::Memory),
+        Ending::NoMemory | Ending::Unsettled(..) | Ending::Broke(_) | Ending::BrokeGroup(_) => {
+            Err(EngineFault::Memory)
+        }
     }
 }
 
@@ -159,7 +161,8 @@ fn cut_session(
         truncate: false,
         limit: limit.unwrap_or(0),
     };
-    let (dev, ending) = session(alloc, Counting::new(Fuse::new(dev, stop)), how, calls);
+    let counting = Counting::new(Fuse::new(dev, stop));
+    let (dev, ending) = session(alloc, counting, how, calls, &[]);
     let made = dev.calls();
     (dev.into_inner().into_inner(), ending, made)
 }
@@ -173,9 +176,10 @@ fn left_with(alloc: Global, dev: &MemDev, choice: Choice, seed: u64) -> Result<M
 // The replies that were given before the stop.
 fn replies_of(ending: &Ending) -> Result<&[Reply], AllocError> {
     let replies: &[Reply] = match ending {
-        Ending::Rested(replies) | Ending::Unsettled(replies) | Ending::Broke(replies) => {
-            replies.as_slice()
-        }
+        Ending::Rested(replies, _)
+        | Ending::Unsettled(replies, _)
+        | Ending::Broke(replies)
+        | Ending::BrokeGroup(replies) => replies.as_slice(),
         Ending::NotOpened(_) => &[],
         Ending::NoMemory => return Err(AllocError),
     };

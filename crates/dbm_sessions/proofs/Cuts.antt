@@ -8,11 +8,11 @@ use Rattle.dbm_model.specs.Steps.{Case, Tells, Refuses, Declines, Finds, Passes,
 use Rattle.dbm_model.proofs.CaseLemmas.{Suits, suits}
 use Rattle.dbm_model.proofs.RuleLemmas.{ByCase}
 use Rattle.dbm_sessions.specs.Members.{Member, Holding, held}
-use Rattle.dbm_sessions.specs.Sessions.{left_by}
+use Rattle.dbm_sessions.specs.Sessions.{Goes, left_by}
 use Rattle.dbm_sessions.specs.Changes.{Marked, of_answer, of_cut, of_calls, of_stopped, is_device, has_device, of_broken, LeftBy, OnlyLastInDoubt}
 use Rattle.dbm_sessions.proofs.Lists.{in_one, in_two, is_first, is_later}
 use Rattle.dbm_sessions.proofs.Leaving.{one_behind}
-use Rattle.dbm_sessions.proofs.Calls.{answer_all}
+use Rattle.dbm_sessions.proofs.Calls.{answer_all, calls_left}
 
 -- ---- the call itself
 
@@ -132,7 +132,7 @@ stopped_changes first last (one ∷ made) (reply ∷ replies) call rest run =
     (stopped_changes run.0 last made replies call rest run.2)
     ∙ sym (append_assoc (of_answer one reply) (of_calls made replies) (of_cut call))
 
-pub rested_changes : (first last : Handle) (made : List Call) (replies : List Reply)
+rested_changes : (first last : Handle) (made : List Call) (replies : List Reply)
     (later : List Call) → Run first made replies last
     → of_calls (made ++ later) replies ≡ of_calls made replies
 rested_changes first last [] [] [] run = refl
@@ -142,6 +142,15 @@ rested_changes first last (one ∷ made) [] later run = absurd run
 rested_changes first last (one ∷ made) (reply ∷ replies) later run =
     ap (λ (changes : List Marked). of_answer one reply ++ changes)
     (rested_changes run.0 last made replies later run.2)
+
+pub goes_left : (first : Handle) (calls : List Call) (replies : List Reply)
+    (goes : Goes first calls replies)
+    → LeftBy (of_calls calls replies) (held first.state) (held goes.last.state)
+goes_left first calls replies goes =
+    let changes = ap (λ (cs : List Call). of_calls cs replies) goes.calls_are
+    ∙ rested_changes first goes.last goes.made replies goes.later goes.run in
+    subst (λ (xs : List Marked). LeftBy xs (held first.state) (held goes.last.state)) (sym changes)
+    (calls_left first goes.last goes.made replies goes.run goes.usable)
 
 has_one : (answered refused : List Reply)
     → has_device (answered ++ Refused Device ∷ refused) ≡ true

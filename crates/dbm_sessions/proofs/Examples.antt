@@ -16,7 +16,7 @@ use Rattle.dbm_model.proofs.RuleLemmas.{ByCase}
 use Rattle.dbm_sessions.proofs.Sample.{told_at, at, start, only, is_stored, has_pair, begins, all_answered, doubt, pair_in_doubt, nothing_in_doubt, stopped_store, fetches, broken_session, told_by}
 
 -- what the sessions leave, by their changes from one member
-left_of : (before : Member) (plans : List Plan) (endings : List Ending) (member : Member)
+pub left_of : (before : Member) (plans : List Plan) (endings : List Ending) (member : Member)
     → MayLeave (before ∷ []) plans endings member
     → LeftBy (changes_of plans endings) before member
 left_of before plans endings member m =

@@ -1,6 +1,8 @@
 pub mod Calls
 pub mod Cuts
 pub mod Examples
+pub mod GroupExamples
+pub mod Groups
 pub mod Leaving
 pub mod Lists
 pub mod Rooms

@@ -1,14 +1,15 @@
 -- The limits that sessions leave.
-use Rattle.std.proofs.Common.{◌≡◌, ⊎_elim, ℕ, ◌*◌, ◌≤◌, true, false, cond, List, [], ◌∷◌, ◌++◌, map, sym, ◌∙◌, ap, subst, Contains}
+use Rattle.std.proofs.Common.{◌≡◌, ⊎_elim, ℕ, ◌*◌, ◌≤◌, true, false, cond, List, [], ◌∷◌, ◌++◌, take, map, sym, ◌∙◌, ap, subst, Contains}
 use Rattle.std.specs.FinMap.{empty}
 use Rattle.std.proofs.lemmas.List.Elements.{Contains-append_cases, All-head, All-tail}
-use Rattle.dbm_model.specs.Calls.{Call, Reply}
+use Rattle.dbm_model.specs.Calls.{Call, Reply, Stored}
+use Rattle.dbm_model.specs.Pairs.{Pair}
 use Rattle.dbm_model.specs.Sizes.{home}
 use Rattle.dbm_model.specs.States.{State, Handle}
 use Rattle.dbm_model.specs.Steps.{Case, Tells, Refuses, Declines, Finds, Passes, Changes, case_of, Run}
 use Rattle.dbm_model.proofs.StayLemmas.{settings_stay}
 use Rattle.dbm_sessions.specs.Members.{Member, NoDatabase, Holding, Members, held, Opening, opened}
-use Rattle.dbm_sessions.specs.Sessions.{Plan, Ending, NotOpened, StoppedOpening, Rested, StoppedCall, Broke, Begins, Goes, Rests, left_by, CutShort, SessionStep}
+use Rattle.dbm_sessions.specs.Sessions.{Plan, Ending, NotOpened, StoppedOpening, Rested, StoppedCall, Broke, Grouped, StoppedGroup, BrokeGroup, Begins, Goes, Rests, left_by, CutShort, replacing, with_pairs, Groups, GroupCutShort, SessionStep}
 use Rattle.dbm_sessions.specs.Room.{HasRoomFor, AllHaveRoom, AsksForRoom, SessionsKeepRoom}
 use Rattle.dbm_sessions.proofs.Lists.{in_one, in_two, in_map}
 
@@ -55,6 +56,9 @@ module _ (pages : ℕ) where
       subst (HasRoomFor pages) begins.begins
       (opened_room how begins.member asked (all begins.member begins.among))
 
+  sole : (s : State) → 2 * home s.limit ≤ pages → AllHaveRoom pages (held s ∷ [])
+  sole s has member among = subst (HasRoomFor pages) (sym (in_one (held s) member among)) has
+
   module _ (first : Handle) (room : 2 * home first.state.limit ≤ pages) (calls : List Call)
       (replies : List Reply) where
     gone : (goes : Goes first calls replies) → 2 * home goes.last.state.limit ≤ pages
@@ -62,24 +66,16 @@ module _ (pages : ℕ) where
         (sym (limit_stays first goes.last goes.made replies goes.run)) room
 
     rested : (after : Members) → Rests first calls replies after → AllHaveRoom pages after
-    rested after rests member among =
-        subst (HasRoomFor pages)
-        (sym (in_one (held rests.goes.last.state) member
-        (subst (λ (members : Members). Contains members member) rests.left among)))
-        (gone rests.goes)
+    rested after rests =
+        subst (AllHaveRoom pages) (sym rests.left) (sole rests.goes.last.state (gone rests.goes))
 
     either : (s : State) (c : Case) → 2 * home s.limit ≤ pages → AllHaveRoom pages (left_by s c)
-    either s (Tells said told) has member among =
-        subst (HasRoomFor pages) (sym (in_one (held s) member among)) has
-    either s (Refuses fault) has member among =
-        subst (HasRoomFor pages) (sym (in_one (held s) member among)) has
-    either s (Declines fault) has member among =
-        subst (HasRoomFor pages) (sym (in_one (held s) member among)) has
-    either s (Finds found) has member among =
-        subst (HasRoomFor pages) (sym (in_one (held s) member among)) has
-    either s (Passes left) has member among =
-        subst (HasRoomFor pages) (sym (in_one (held s) member among)) has
-    either s (Changes said changed) has member among =
+    either s (Tells said told) has = sole s has
+    either s (Refuses fault) has = sole s has
+    either s (Declines fault) has = sole s has
+    either s (Finds found) has = sole s has
+    either s (Passes left) has = sole s has
+    either s (Changes said changed) has = λ member among.
         ⊎_elim (λ is. subst (HasRoomFor pages) (sym is) has)
         (λ is. subst (HasRoomFor pages) (sym is) has)
         (in_two (held s) (held (record s { map = changed })) member among)
@@ -88,6 +84,22 @@ module _ (pages : ℕ) where
     cut_short after cut =
         let s = cut.goes.last.state in
         subst (AllHaveRoom pages) (sym cut.left) (either s (case_of s cut.call) (gone cut.goes))
+
+    grouped : (stored : List Pair) (after : Members) → Groups first calls replies stored after
+        → AllHaveRoom pages after
+    grouped stored after g =
+        let before = record g.goes.last { faults = g.last.faults } in
+        subst (AllHaveRoom pages) (sym g.left) (sole g.last.state
+        (subst (λ (limit : ℕ). 2 * home limit ≤ pages)
+        (sym (limit_stays before g.last (map replacing stored) (map (λ _. Stored) stored) g.run))
+        (gone g.goes)))
+
+    group_cut : (asked : List Pair) (after : Members)
+        → GroupCutShort first calls replies asked after → AllHaveRoom pages after
+    group_cut asked after cut =
+        let s = cut.goes.last.state in
+        subst (AllHaveRoom pages) (sym cut.left)
+        (either s (Changes Stored (with_pairs s.map asked)) (gone cut.goes))
 
   one_session : (before after : Members) (plan : Plan) (ending : Ending)
       → AllHaveRoom pages before → AsksForRoom pages plan → SessionStep before plan ending after
@@ -103,6 +115,15 @@ module _ (pages : ℕ) where
   one_session before after plan (Broke replies) all asked (first, begins, breaks) =
       cut_short first (begun before plan.how first all asked begins) plan.calls breaks.answered
       after breaks.cut
+  one_session before after plan (Grouped replies count) all asked (first, begins, group) =
+      grouped first (begun before plan.how first all asked begins) plan.calls replies
+      (take count plan.group) after group
+  one_session before after plan (StoppedGroup replies count) all asked (first, begins, cut) =
+      group_cut first (begun before plan.how first all asked begins) plan.calls replies
+      (take count plan.group) after cut
+  one_session before after plan (BrokeGroup replies count) all asked (first, begins, cut) =
+      group_cut first (begun before plan.how first all asked begins) plan.calls replies
+      (take count plan.group) after cut
 
 pub sessions_keep_room : SessionsKeepRoom
 sessions_keep_room pages before after [] [] all asked is = subst (AllHaveRoom pages) (sym is) all

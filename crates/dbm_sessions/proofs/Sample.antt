@@ -25,7 +25,7 @@ start map = at (fresh map 9 true)
 abbrev pub only : Contents
 only = insert empty (one 0x61) (one 0x01)
 
-step : (s after : State) (call : Call) (c : Case) (reply : Reply)
+pub step : (s after : State) (call : Call) (c : Case) (reply : Reply)
     → buckets_opened (at s) reply (len after.map) ≡ 0 → case_of s call ≡ c
     → Answers s c reply after → Step (at s) call reply (at after)
 step s after call c reply none rule answers = record {
@@ -189,7 +189,7 @@ abbrev limit_of : Member → ℕ
 limit_of NoDatabase = 0
 limit_of (Holding map limit) = limit
 
-abbrev map_of : Member → Contents
+abbrev pub map_of : Member → Contents
 map_of NoDatabase = empty
 map_of (Holding map limit) = map
 

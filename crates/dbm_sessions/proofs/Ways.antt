@@ -1,15 +1,16 @@
 -- What sessions leave, by their changes.
-use Rattle.std.proofs.Common.{◌≡◌, ◌⊎◌, inl, inr, ⊎_elim, true, List, [], ◌∷◌, ◌++◌, map, refl, sym, ◌∙◌, ap, ap₂, subst, Contains}
+use Rattle.std.proofs.Common.{◌≡◌, ◌⊎◌, inl, inr, ⊎_elim, ℕ, true, List, [], ◌∷◌, ◌++◌, take, map, refl, sym, ◌∙◌, ap, ap₂, subst, Contains}
 use Rattle.std.proofs.lemmas.List.Elements.{Contains-append_left, Contains-append_right, Contains-append_cases}
 use Rattle.dbm_model.specs.Calls.{Call, Reply, Refused, Device}
 use Rattle.dbm_model.specs.States.{Handle}
 use Rattle.dbm_sessions.specs.Members.{Member, Members, held, Opening, opened}
-use Rattle.dbm_sessions.specs.Sessions.{Plan, Ending, NotOpened, StoppedOpening, Rested, StoppedCall, Broke, Begins, Rests, CutShort, Breaks, SessionStep}
-use Rattle.dbm_sessions.specs.Changes.{Marked, Acknowledged, InDoubt, of_opening, of_cut, of_calls, of_stopped, of_broken, changes_in, changes_of, LeftBy, OneInDoubt, AcknowledgedChangesStay, PrefixIsLeft, is_opened, OpeningEndsDoubt, RefusalTakesNothing, BreakLeavesBoth}
+use Rattle.dbm_sessions.specs.Sessions.{Plan, Ending, NotOpened, StoppedOpening, Rested, StoppedCall, Broke, Grouped, StoppedGroup, BrokeGroup, Begins, Rests, CutShort, Breaks, SessionStep}
+use Rattle.dbm_sessions.specs.Changes.{Marked, Acknowledged, InDoubt, PutsAll, of_opening, of_cut, of_calls, of_stopped, of_broken, of_group, changes_in, changes_of, LeftBy, OneInDoubt, AcknowledgedChangesStay, PrefixIsLeft, is_opened, OpeningEndsDoubt, RefusalTakesNothing, BreakLeavesBoth, LeavesBoth, GroupCutShortLeavesBoth}
 use Rattle.dbm_sessions.proofs.Lists.{in_one, in_map, map_has}
 use Rattle.dbm_sessions.proofs.Leaving.{left_append, left_rest, opening_made, opening_in_doubt, opening_all, opening_one, prefix_left, one_behind, none_in_doubt}
 use Rattle.dbm_sessions.proofs.Calls.{none_by_device, calls_left, calls_all}
-use Rattle.dbm_sessions.proofs.Cuts.{cut_left, broken_leaves, both_left, stopped_changes, rested_changes, broken_changes, stopped_one, broken_one}
+use Rattle.dbm_sessions.proofs.Groups.{group_left, group_cut_left, group_cut_has, group_one}
+use Rattle.dbm_sessions.proofs.Cuts.{cut_left, broken_leaves, both_left, stopped_changes, goes_left, broken_changes, stopped_one, broken_one}
 
 -- ---- the calls of a session
 
@@ -17,15 +18,10 @@ pub rests_left : (first : Handle) (calls : List Call) (replies : List Reply) (af
     → Rests first calls replies after → (member : Member) → Contains after member
     → LeftBy (of_calls calls replies) (held first.state) member
 rests_left first calls replies after r member is =
-    let last = r.goes.last in
-    let made = r.goes.made in
-    let e = in_one (held last.state) member
-    (subst (λ (ms : Members). Contains ms member) r.left is) in
-    let changes = ap (λ (cs : List Call). of_calls cs replies) r.goes.calls_are
-    ∙ rested_changes first last made replies r.goes.later r.goes.run in
-    subst (λ (xs : List Marked). LeftBy xs (held first.state) member) (sym changes)
-    (subst (LeftBy (of_calls made replies) (held first.state)) (sym e)
-    (calls_left first last made replies r.goes.run r.goes.usable))
+    subst (LeftBy (of_calls calls replies) (held first.state))
+    (sym (in_one (held r.goes.last.state) member
+    (subst (λ (ms : Members). Contains ms member) r.left is)))
+    (goes_left first calls replies r.goes)
 
 cut_way : (first : Handle) (calls : List Call) (replies : List Reply) (after : Members)
     (cut : CutShort first calls replies after) (member : Member) → Contains after member
@@ -100,6 +96,19 @@ refused_left before how after left member is =
     let c = refused_cases before how after left member is in
     (c.0, c.1, opening_in_doubt how c.0 member c.2)
 
+cut_ends_doubt : (before after : Members) (plan : Plan) (replies : List Reply) (count : ℕ)
+    → SessionStep before plan (StoppedGroup replies count) after → (start : Member)
+    × Contains before start
+    × ((member : Member) → Contains after member
+    → LeftBy (of_group InDoubt plan replies count) start member)
+cut_ends_doubt before after plan replies count step = (
+  step.1.member,
+  step.1.among,
+  λ member among. after_opening before plan.how step.0 step.1
+      (of_calls plan.calls replies ++ InDoubt (PutsAll (take count plan.group)) ∷ []) member
+      (group_cut_left step.0 plan.calls replies (take count plan.group) after step.2 member among),
+)
+
 pub ends_doubt : OpeningEndsDoubt
 ends_doubt before after plan (NotOpened fault) step is = absurd (let x = is in cc)
 ends_doubt before after plan StoppedOpening step is = absurd (let x = is in cc)
@@ -121,6 +130,17 @@ ends_doubt before after plan (Broke replies) step is = (
   λ member among. after_opening before plan.how step.0 step.1 (of_broken plan.calls replies)
       member (breaks_left step.0 plan.calls replies after step.2 member among),
 )
+ends_doubt before after plan (Grouped replies count) step is = (
+  step.1.member,
+  step.1.among,
+  λ member among. after_opening before plan.how step.0 step.1
+      (of_calls plan.calls replies ++ Acknowledged (PutsAll (take count plan.group)) ∷ []) member
+      (group_left step.0 plan.calls replies (take count plan.group) after step.2 member among),
+)
+ends_doubt before after plan (StoppedGroup replies count) step is =
+    cut_ends_doubt before after plan replies count step
+ends_doubt before after plan (BrokeGroup replies count) step is =
+    cut_ends_doubt before after plan replies count step
 
 by_opened : (before after : Members) (plan : Plan) (ending : Ending)
     → SessionStep before plan ending after → is_opened ending ≡ true → (member : Member)
@@ -143,6 +163,12 @@ session_left before after plan (StoppedCall replies) step member among =
     by_opened before after plan (StoppedCall replies) step refl member among
 session_left before after plan (Broke replies) step member among =
     by_opened before after plan (Broke replies) step refl member among
+session_left before after plan (Grouped replies count) step member among =
+    by_opened before after plan (Grouped replies count) step refl member among
+session_left before after plan (StoppedGroup replies count) step member among =
+    by_opened before after plan (StoppedGroup replies count) step refl member among
+session_left before after plan (BrokeGroup replies count) step member among =
+    by_opened before after plan (BrokeGroup replies count) step refl member among
 
 pub one_in_doubt : OneInDoubt
 one_in_doubt plan (NotOpened fault) = opening_one plan.how
@@ -157,6 +183,9 @@ one_in_doubt plan (StoppedCall replies) =
 one_in_doubt plan (Broke replies) =
     one_behind (of_opening Acknowledged plan.how) (of_broken plan.calls replies)
     (opening_all plan.how) (broken_one plan.calls replies)
+one_in_doubt plan (Grouped replies count) = group_one Acknowledged plan replies count tt
+one_in_doubt plan (StoppedGroup replies count) = group_one InDoubt plan replies count refl
+one_in_doubt plan (BrokeGroup replies count) = group_one InDoubt plan replies count refl
 
 pub prefix_is_left : PrefixIsLeft
 prefix_is_left before after plan ending step member among =
@@ -186,6 +215,12 @@ takes_nothing before after plan (Rested replies) step is member among = absurd (
 takes_nothing before after plan (StoppedCall replies) step is member among =
     absurd (let x = is in cc)
 takes_nothing before after plan (Broke replies) step is member among = absurd (let x = is in cc)
+takes_nothing before after plan (Grouped replies count) step is member among =
+    absurd (let x = is in cc)
+takes_nothing before after plan (StoppedGroup replies count) step is member among =
+    absurd (let x = is in cc)
+takes_nothing before after plan (BrokeGroup replies count) step is member among =
+    absurd (let x = is in cc)
 
 broken_has : (first : Handle) (calls : List Call) (replies : List Reply) (after : Members)
     → Breaks first calls replies after → (member : Member)
@@ -212,6 +247,25 @@ leaves_both before after plan replies step = (
       (held step.0.state) member (opening_all plan.how)
       (begins_made before plan.how step.0 step.1) left),
 )
+
+cut_leaves_both : LeavesBoth StoppedGroup
+cut_leaves_both before after plan replies count step =
+    let group = take count plan.group in (
+      step.1.member,
+      step.1.among,
+      λ member left. group_cut_has step.0 plan.calls replies group after step.2 member
+          (left_rest (of_opening Acknowledged plan.how)
+          (of_calls plan.calls replies ++ InDoubt (PutsAll group) ∷ []) step.1.member
+          (held step.0.state) member (opening_all plan.how)
+          (begins_made before plan.how step.0 step.1) left),
+    )
+
+pub group_leaves_both : GroupCutShortLeavesBoth
+group_leaves_both = record {
+  stopped = cut_leaves_both;
+  broke = λ before after plan replies count step.
+      cut_leaves_both before after plan replies count step;
+}
 
 -- ---- all sessions
 

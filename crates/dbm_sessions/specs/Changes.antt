@@ -2,14 +2,16 @@
 use Rattle.std.specs.Prelude.{◌≡◌, ◌⊎◌, ℕ, Bool, true, false, ◌&&◌, ◌||◌, not, if◌then◌else◌, List, [], ◌∷◌, ◌++◌, take, drop, map, Contains}
 use Rattle.std.specs.FinMap.{insert, remove}
 use Rattle.dbm_model.specs.Calls.{Call, Store, Delete, Reply, Stored, Deleted, Refused, Device}
-use Rattle.dbm_model.specs.Pairs.{Key}
+use Rattle.dbm_model.specs.Pairs.{Key, Pair}
 use Rattle.dbm_sessions.specs.Members.{Member, NoDatabase, Holding, Members, Opening, opened}
-use Rattle.dbm_sessions.specs.Sessions.{Plan, Ending, NotOpened, StoppedOpening, Rested, StoppedCall, Broke, SessionStep, Sessions}
+use Rattle.dbm_sessions.specs.Sessions.{Plan, Ending, NotOpened, StoppedOpening, Rested, StoppedCall, Broke, Grouped, StoppedGroup, BrokeGroup, with_pairs, SessionStep, Sessions}
 
 -- a change, as a plain operation on the map
 pub data Change : Type 0 where
   Puts : Key → List ℕ → Change
   Removes : Key → Change
+  -- pairs stored in one commit
+  PutsAll : List Pair → Change
   -- an opening that creates or empties
   Opens : Opening → Change
 
@@ -17,11 +19,13 @@ abbrev pub applied : Change → Member → Member
 applied (Opens how) member = opened how member
 applied (Puts key content) (Holding map limit) = Holding (insert map key content) limit
 applied (Removes key) (Holding map limit) = Holding (remove map key) limit
+applied (PutsAll pairs) (Holding map limit) = Holding (with_pairs map pairs) limit
 applied (Puts key content) NoDatabase = NoDatabase
 applied (Removes key) NoDatabase = NoDatabase
+applied (PutsAll pairs) NoDatabase = NoDatabase
 
 pub data Marked : Type 0 where
-  -- it was answered by Stored, Deleted or a handle
+  -- it was answered by Stored, Deleted or a handle, or as a group that was stored
   Acknowledged : Change → Marked
   -- a stop or a fault of the device cut it short
   InDoubt : Change → Marked
@@ -67,6 +71,11 @@ of_broken (call ∷ calls) (reply ∷ replies) =
     else of_answer call reply ++ of_broken calls replies
 of_broken calls replies = []
 
+-- of the opening and the calls, and then of so many pairs of the group, in one commit
+abbrev pub of_group : (Change → Marked) → Plan → List Reply → ℕ → List Marked
+of_group mark plan replies count = of_opening Acknowledged plan.how
+    ++ (of_calls plan.calls replies ++ mark (PutsAll (take count plan.group)) ∷ [])
+
 abbrev pub changes_in : Plan → Ending → List Marked
 changes_in plan (NotOpened fault) = of_opening InDoubt plan.how
 changes_in plan StoppedOpening = of_opening InDoubt plan.how
@@ -76,6 +85,9 @@ changes_in plan (StoppedCall replies) =
     of_opening Acknowledged plan.how ++ of_stopped plan.calls replies
 changes_in plan (Broke replies) =
     of_opening Acknowledged plan.how ++ of_broken plan.calls replies
+changes_in plan (Grouped replies count) = of_group Acknowledged plan replies count
+changes_in plan (StoppedGroup replies count) = of_group InDoubt plan replies count
+changes_in plan (BrokeGroup replies count) = of_group InDoubt plan replies count
 
 abbrev pub changes_of : List Plan → List Ending → List Marked
 changes_of (plan ∷ plans) (ending ∷ endings) = changes_in plan ending ++ changes_of plans endings
@@ -144,6 +156,9 @@ is_opened StoppedOpening = false
 is_opened (Rested replies) = true
 is_opened (StoppedCall replies) = true
 is_opened (Broke replies) = true
+is_opened (Grouped replies count) = true
+is_opened (StoppedGroup replies count) = true
+is_opened (BrokeGroup replies count) = true
 
 -- A session that was opened ends all earlier doubt: what it leaves is left from one member alone.
 abbrev pub OpeningEndsDoubt : Type 0
@@ -164,3 +179,16 @@ BreakLeavesBoth = (before after : Members) (plan : Plan) (replies : List Reply)
     → SessionStep before plan (Broke replies) after → (start : Member) × Contains before start
     × ((member : Member) → LeftBy (changes_in plan (Broke replies)) start member
     → Contains after member)
+
+-- whatever the changes of a session that ended so may leave, it leaves
+abbrev pub LeavesBoth : (List Reply → ℕ → Ending) → Type 0
+LeavesBoth ends = (before after : Members) (plan : Plan) (replies : List Reply) (count : ℕ)
+    → SessionStep before plan (ends replies count) after → (start : Member) × Contains before start
+    × ((member : Member) → LeftBy (changes_in plan (ends replies count)) start member
+    → Contains after member)
+
+-- A group that was stopped, or that broke the handle, is left in doubt whole: with all of its pairs
+-- and with none.
+pub record GroupCutShortLeavesBoth : Type 0 where
+  pub stopped : LeavesBoth StoppedGroup
+  pub broke : LeavesBoth BrokeGroup

@@ -3,26 +3,34 @@ use Rattle.std.specs.Prelude.{◌≡◌, ◌⊎◌, ℕ, true, false, List, [], 
 use Rattle.std.specs.FinMap.{empty, insert}
 use Rattle.dbm_model.specs.Calls.{Replace, Call, Store, Fetch, Next, Stored, Bytes, NoRecord, Refused, Device}
 use Rattle.dbm_model.specs.Examples.{one}
+use Rattle.dbm_model.specs.Pairs.{Pair}
 use Rattle.dbm_sessions.specs.Members.{Member, NoDatabase, Holding, Members}
-use Rattle.dbm_sessions.specs.Sessions.{Plan, Ending, NotOpened, StoppedOpening, Rested, StoppedCall, Broke, Sessions}
+use Rattle.dbm_sessions.specs.Sessions.{Plan, Ending, NotOpened, StoppedOpening, Rested, StoppedCall, Broke, Grouped, StoppedGroup, BrokeGroup, Sessions}
 
 abbrev pub creates : ℕ → List Call → Plan
 creates limit calls = record {
   how = record { create = true; truncate = false; limit = limit };
   calls = calls;
+  group = [];
 }
 
 abbrev pub empties : ℕ → List Call → Plan
 empties limit calls = record {
   how = record { create = false; truncate = true; limit = limit };
   calls = calls;
+  group = [];
+}
+
+-- opens what is there, and stores a group behind the calls
+abbrev pub groups : List Call → List Pair → Plan
+groups calls group = record {
+  how = record { create = false; truncate = false; limit = 0 };
+  calls = calls;
+  group = group;
 }
 
 abbrev pub reopens : List Call → Plan
-reopens calls = record {
-  how = record { create = false; truncate = false; limit = 0 };
-  calls = calls;
-}
+reopens calls = groups calls []
 
 -- a, with the content 1
 abbrev pub store : Call
@@ -97,3 +105,54 @@ pub record WrongSessions : Type 0 where
       (Rested (Bytes (one 0x01) ∷ []) ∷ []) member → ⊥
   pub passes : (member : Member) → MayLeave (pair 9 ∷ []) (reopens (Next ∷ []) ∷ [])
       (Rested (Bytes (one 0x61) ∷ []) ∷ []) member → ⊥
+
+-- ---- groups
+
+-- a and b, with the content 1 each
+abbrev pub both : List Pair
+both = (one 0x61, one 0x01) ∷ (one 0x62, one 0x01) ∷ []
+
+-- a twice, with the content 1 and then with 2
+abbrev pub twice : List Pair
+twice = (one 0x61, one 0x01) ∷ (one 0x61, one 0x02) ∷ []
+
+-- a database with both pairs
+abbrev pub pairs : ℕ → Member
+pairs limit = Holding (insert (insert empty (one 0x61) (one 0x01)) (one 0x62) (one 0x01)) limit
+
+-- and one with a alone, with the content 2
+abbrev pub later : ℕ → Member
+later limit = Holding (insert empty (one 0x61) (one 0x02)) limit
+
+-- a group of two pairs was acknowledged and then came a stop: both are there, also after a
+-- reopening that was refused and one that was stopped; where it was acknowledged with its first
+-- pair only, that one is there
+pub record GroupAcknowledged : Type 0 where
+  pub may : MayLeave (nothing 9 ∷ []) (groups [] both ∷ []) (Grouped [] 2 ∷ []) (pairs 9)
+  pub stays : LeavesOnly (nothing 9 ∷ []) (groups [] both ∷ reopens [] ∷ reopens [] ∷ [])
+      (Grouped [] 2 ∷ NotOpened Device ∷ StoppedOpening ∷ []) (λ member. member ≡ pairs 9)
+  pub shorter : MayLeave (nothing 9 ∷ []) (groups [] both ∷ []) (Grouped [] 1 ∷ []) (pair 9)
+
+-- a stop fell in the commit of a group of two pairs, or the device failed in it: there is none of
+-- them, or both
+pub record GroupInDoubt : Type 0 where
+  pub none : MayLeave (nothing 9 ∷ []) (groups [] both ∷ []) (StoppedGroup [] 2 ∷ []) (nothing 9)
+  pub all : MayLeave (nothing 9 ∷ []) (groups [] both ∷ []) (StoppedGroup [] 2 ∷ []) (pairs 9)
+  pub only : LeavesOnly (nothing 9 ∷ []) (groups [] both ∷ []) (StoppedGroup [] 2 ∷ [])
+      (λ member. (member ≡ nothing 9) ⊎ (member ≡ pairs 9))
+  pub broken : MayLeave (nothing 9 ∷ []) (groups [] both ∷ []) (BrokeGroup [] 2 ∷ []) (pairs 9)
+
+-- a key stands twice in a group: the later content is left
+pub record GroupOfOneKey : Type 0 where
+  pub may : MayLeave (nothing 9 ∷ []) (groups [] twice ∷ []) (Grouped [] 2 ∷ []) (later 9)
+  pub only : LeavesOnly (nothing 9 ∷ []) (groups [] twice ∷ []) (Grouped [] 2 ∷ [])
+      (λ member. member ≡ later 9)
+
+-- no session ends so: the first pair of a group whose commit was stopped is there alone, a group is
+-- stored with a call still to come, or stopped
+pub record WrongGroups : Type 0 where
+  pub alone : MayLeave (nothing 9 ∷ []) (groups [] both ∷ []) (StoppedGroup [] 2 ∷ []) (pair 9) → ⊥
+  pub early : (member : Member) → MayLeave (nothing 9 ∷ []) (groups (store ∷ []) both ∷ [])
+      (Grouped [] 2 ∷ []) member → ⊥
+  pub stopped_early : (member : Member) → MayLeave (nothing 9 ∷ [])
+      (groups (store ∷ []) both ∷ []) (StoppedGroup [] 2 ∷ []) member → ⊥

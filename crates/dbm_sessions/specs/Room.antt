@@ -4,7 +4,7 @@ use Rattle.dbm_model.specs.Calls.{NoRoom}
 use Rattle.dbm_model.specs.Room.{AreNeverShort}
 use Rattle.dbm_model.specs.Sizes.{home}
 use Rattle.dbm_sessions.specs.Members.{Member, NoDatabase, Holding, Members}
-use Rattle.dbm_sessions.specs.Sessions.{Plan, Ending, NotOpened, StoppedOpening, Rested, StoppedCall, Broke, Sessions}
+use Rattle.dbm_sessions.specs.Sessions.{Plan, Ending, NotOpened, StoppedOpening, Rested, StoppedCall, Broke, Grouped, StoppedGroup, BrokeGroup, Sessions}
 
 -- so many pages are twice those that a database of its limit needs
 abbrev pub HasRoomFor : ℕ → Member → Type 0
@@ -33,3 +33,6 @@ IsNeverShort StoppedOpening = Unit {0}
 IsNeverShort (Rested replies) = AreNeverShort replies
 IsNeverShort (StoppedCall replies) = AreNeverShort replies
 IsNeverShort (Broke replies) = AreNeverShort replies
+IsNeverShort (Grouped replies count) = AreNeverShort replies
+IsNeverShort (StoppedGroup replies count) = AreNeverShort replies
+IsNeverShort (BrokeGroup replies count) = AreNeverShort replies

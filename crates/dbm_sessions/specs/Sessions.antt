@@ -1,6 +1,8 @@
 -- What a session leaves of what the file may stand for, and so a list of them.
-use Rattle.std.specs.Prelude.{◌≡◌, true, false, List, [], ◌∷◌, ◌++◌, map, Contains}
-use Rattle.dbm_model.specs.Calls.{Call, Reply, Refused, Fault, Device}
+use Rattle.std.specs.Prelude.{◌≡◌, ℕ, true, false, List, [], ◌∷◌, ◌++◌, take, map, Contains}
+use Rattle.std.specs.FinMap.{insert}
+use Rattle.dbm_model.specs.Calls.{Replace, Call, Store, Reply, Stored, Refused, Fault, Device}
+use Rattle.dbm_model.specs.Pairs.{Pair, Contents}
 use Rattle.dbm_model.specs.States.{State, Handle, fresh}
 use Rattle.dbm_model.specs.Steps.{Case, Changes, case_of, Step, Run}
 use Rattle.dbm_sessions.specs.Members.{Member, Members, held, Opening, opened}
@@ -9,6 +11,8 @@ use Rattle.dbm_sessions.specs.Members.{Member, Members, held, Opening, opened}
 pub record Plan : Type 0 where
   pub how : Opening
   pub calls : List Call
+  -- and then the pairs that it stores in one commit
+  pub group : List Pair
 
 -- how it ended
 pub data Ending : Type 0 where
@@ -22,6 +26,13 @@ pub data Ending : Type 0 where
   StoppedCall : List Reply → Ending
   -- and one of these calls broke the handle
   Broke : List Reply → Ending
+  -- all of its calls were given these replies, so many pairs of its group, from the first one on,
+  -- were then stored in one commit, and it was closed or stopped with nothing under way
+  Grouped : List Reply → ℕ → Ending
+  -- and it was stopped within the commit of so many pairs
+  StoppedGroup : List Reply → ℕ → Ending
+  -- and the device broke the handle in that commit
+  BrokeGroup : List Reply → ℕ → Ending
 
 -- an opening has answered this handle: at what it makes of a member
 pub record Begins (before : Members) (how : Opening) (first : Handle) : Type 0 where
@@ -77,9 +88,39 @@ pub record Breaks (first : Handle) (calls : List Call) (replies : List Reply) (a
   pub last : Handle
   pub run : Run broken then_made refused last
 
+-- the call that stores a pair, also where its key is there
+abbrev pub replacing : Pair → Call
+replacing pair = Store pair.0 pair.1 Replace
+
+-- the map with these pairs stored, one after another
+abbrev pub with_pairs : Contents → List Pair → Contents
+with_pairs contents [] = contents
+with_pairs contents (pair ∷ pairs) = with_pairs (insert contents pair.0 pair.1) pairs
+
+-- all of the calls were made, and then these pairs were stored, as by calls one after another; the
+-- device may have failed meanwhile
+pub record Groups (first : Handle) (calls : List Call) (replies : List Reply) (stored : List Pair)
+    (after : Members) : Type 0 where
+  pub goes : Goes first calls replies
+  pub all : goes.later ≡ []
+  pub last : Handle
+  pub run : Run (record goes.last { faults = last.faults }) (map replacing stored)
+      (map (λ _. Stored) stored) last
+  pub left : after ≡ held last.state ∷ []
+
+-- all of the calls were made, and then the commit of these pairs was cut short: none of them is
+-- left, or all
+pub record GroupCutShort (first : Handle) (calls : List Call) (replies : List Reply)
+    (asked : List Pair) (after : Members) : Type 0 where
+  pub goes : Goes first calls replies
+  pub all : goes.later ≡ []
+  pub left : after ≡ held goes.last.state
+      ∷ held (record goes.last.state { map = with_pairs goes.last.state.map asked }) ∷ []
+
 -- A session, from what the file may stand for at its start to what it may stand for at its end. An
 -- opening that answered no handle leaves what there was, or what it makes of that. One that
--- answered begins with one member alone, and its calls are steps of the model.
+-- answered begins with one member alone, and its calls are steps of the model, as are the stores of
+-- a group that was committed.
 abbrev pub SessionStep : Members → Plan → Ending → Members → Type 0
 SessionStep before plan (NotOpened fault) after = after ≡ before ++ map (opened plan.how) before
 SessionStep before plan StoppedOpening after = after ≡ before ++ map (opened plan.how) before
@@ -89,6 +130,15 @@ SessionStep before plan (StoppedCall replies) after =
     (first : Handle) × Begins before plan.how first × CutShort first plan.calls replies after
 SessionStep before plan (Broke replies) after =
     (first : Handle) × Begins before plan.how first × Breaks first plan.calls replies after
+SessionStep before plan (Grouped replies count) after =
+    (first : Handle) × Begins before plan.how first
+    × Groups first plan.calls replies (take count plan.group) after
+SessionStep before plan (StoppedGroup replies count) after =
+    (first : Handle) × Begins before plan.how first
+    × GroupCutShort first plan.calls replies (take count plan.group) after
+SessionStep before plan (BrokeGroup replies count) after =
+    (first : Handle) × Begins before plan.how first
+    × GroupCutShort first plan.calls replies (take count plan.group) after
 
 -- one session after another, each with its ending
 abbrev pub Sessions : Members → List Plan → List Ending → Members → Type 0

@@ -1,8 +1,8 @@
 // Laws of sessions. What each says stands in `specs/Changes.antt`, `specs/Room.antt` and
 // `specs/Examples.antt`.
-ghost use Rattle.dbm_sessions.specs.Changes.{AcknowledgedChangesStay, OneInDoubt, PrefixIsLeft, OpeningEndsDoubt, RefusalTakesNothing, BreakLeavesBoth};
+ghost use Rattle.dbm_sessions.specs.Changes.{AcknowledgedChangesStay, OneInDoubt, PrefixIsLeft, OpeningEndsDoubt, RefusalTakesNothing, BreakLeavesBoth, GroupCutShortLeavesBoth};
 ghost use Rattle.dbm_sessions.specs.Room.{SessionsKeepRoom};
-ghost use Rattle.dbm_sessions.specs.Examples.{StoreAcknowledged, StoreInDoubt, CreationInDoubt, EmptyingInDoubt, WrongSessions};
+ghost use Rattle.dbm_sessions.specs.Examples.{StoreAcknowledged, StoreInDoubt, CreationInDoubt, EmptyingInDoubt, WrongSessions, GroupAcknowledged, GroupInDoubt, GroupOfOneKey, WrongGroups};
 
 /// After any list of sessions, each stopped anywhere, what the file may stand for is left by their
 /// changes, every acknowledged one among them. What may be missing is in doubt, one at most of each
@@ -14,11 +14,12 @@ pub fn acknowledged_changes_stay()
 {}
 
 /// A session that was opened ends all earlier doubt, and leaves no more in doubt than its last
-/// change; one that wasn't opened takes nothing away.
+/// change; one that wasn't opened takes nothing away. A group that was cut short is in doubt whole.
 pub fn doubt_is_settled()
     ensures ends { OpeningEndsDoubt }
     ensures stays { RefusalTakesNothing }
     ensures both { BreakLeavesBoth }
+    ensures group { GroupCutShortLeavesBoth }
 {}
 
 /// Room is known beforehand: where there is enough for each limit, that is there or is asked for,
@@ -34,4 +35,8 @@ pub fn session_examples()
     ensures creation { CreationInDoubt }
     ensures emptying { EmptyingInDoubt }
     ensures never { WrongSessions }
+    ensures group { GroupAcknowledged }
+    ensures group_in_doubt { GroupInDoubt }
+    ensures one_key { GroupOfOneKey }
+    ensures never_group { WrongGroups }
 {}

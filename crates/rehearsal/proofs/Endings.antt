@@ -1,12 +1,12 @@
 -- How the calls of a session ended, as the definitions say it.
 use Rattle.std.proofs.Common.{◌≡◌, ◌≢◌, ◌⊎◌, ◌↔◌, inl, inr, ⊎_elim, ℕ, Bool, true, false, Result, Ok, Err, OnOk, IfErr, Vec, List, [], ◌∷◌, map, refl, sym, ◌∙◌, ap, subst, Contains}
 use Rattle.std.specs.Global.{Global}
-use Rattle.std.proofs.lemmas.Bool.{false≢true}
+use Rattle.std.proofs.lemmas.Bool.{cases_Bool, false≢true}
 use Rattle.std.proofs.lemmas.List.{append-nil}
 use Rattle.sect_dev.specs.Device.{Image, Candidates, IsImageOf}
 use Rattle.dbm_model.specs.Calls.{Call, Reply}
 use Rattle.dbm_model.specs.Changes.{map_asked}
-use Rattle.dbm_model.specs.Pairs.{Contents}
+use Rattle.dbm_model.specs.Pairs.{Pair, Contents}
 use Rattle.dbm_model.specs.States.{Handle}
 use Rattle.dbm_model.specs.Steps.{case_of, Run}
 use Rattle.page_io.specs.Store.{Settled}
@@ -15,7 +15,7 @@ use Rattle.page_io.specs.declared.store.PageStore.{Ghosts}
 use Rattle.redo_commit.specs.File.{settled}
 use Rattle.dbm_sessions.specs.Members.{Member, Holding, Members, held}
 use Rattle.dbm_sessions.specs.Sessions as model
-use Rattle.dbm_sessions.specs.Sessions.{Plan, StoppedOpening, StoppedCall, Begins, Rests, Breaks, left_by, SessionStep}
+use Rattle.dbm_sessions.specs.Sessions.{Plan, StoppedOpening, StoppedCall, StoppedGroup, Begins, Goes, Rests, Breaks, left_by, SessionStep}
 use Rattle.dbm_sessions.proofs.Cuts.{broken_leaves}
 use Rattle.dbm_sessions.proofs.Lists.{is_first, is_later}
 use Rattle.dbm_fault.specs.declared.fault.Fault.{Fault}
@@ -26,20 +26,24 @@ use Rattle.dbm_file.specs.Database.{store_of, meta_kept, page_state, IsAt}
 use Rattle.dbm_file.specs.Runs.{IsInDoubt, IsBreak, IsRun}
 use Rattle.dbm_file.specs.declared.database.Database.{Database}
 use Rattle.rehearsal.specs.Members.{StandsForOne}
-use Rattle.rehearsal.specs.Sessions.{ending_of, IfNotOpened, GoesOn, CallsLeave}
+use Rattle.rehearsal.specs.Sessions.{ending_of, stored_count, IfNotOpened, GoesOn, CallsLeave}
 use Rattle.rehearsal.specs.declared.sessions.Ending.{Ending}
-use Rattle.rehearsal.specs.declared.sessions.Ending.TheVariants.{NotOpened, NoMemory, Rested, Unsettled, Broke}
+use Rattle.rehearsal.specs.declared.sessions.Ending.TheVariants.{NotOpened, NoMemory, Rested, Unsettled, Broke, BrokeGroup}
 use Rattle.dbm_sessions.proofs.Rooms.{limit_stays}
 
 -- a session that an opening began
 pub step_of : (before : Members) (plan : Plan) (ending : model.Ending) (after : Members)
-    (first : Handle) → Begins before plan.how first → GoesOn first plan.calls ending after
-    → SessionStep before plan ending after
+    (first : Handle) → Begins before plan.how first
+    → GoesOn first plan.calls plan.group ending after → SessionStep before plan ending after
 step_of before plan (model.NotOpened fault) after first begins goes = absurd goes
 step_of before plan StoppedOpening after first begins goes = absurd goes
 step_of before plan (model.Rested replies) after first begins goes = (first, begins, goes)
 step_of before plan (StoppedCall replies) after first begins goes = (first, begins, goes)
 step_of before plan (model.Broke replies) after first begins goes = (first, begins, goes)
+step_of before plan (model.Grouped replies stored) after first begins goes = (first, begins, goes)
+step_of before plan (StoppedGroup replies count) after first begins goes = (first, begins, goes)
+step_of before plan (model.BrokeGroup replies count) after first begins goes =
+    (first, begins, goes)
 
 -- no call was made
 pub none_made : (first : Handle) (calls : List Call) → first.state.usable ≡ true
@@ -57,20 +61,22 @@ none_made first calls usable = record {
 }
 
 -- all were made
+abbrev pub all_go : (first last : Handle) (calls : List Call) (replies : List Reply)
+    → Run first calls replies last → last.state.usable ≡ true → Goes first calls replies
+all_go first last calls replies run usable = record {
+  made = calls;
+  later = [];
+  calls_are = sym (append-nil calls);
+  last = last;
+  run = run;
+  usable = usable;
+}
+
 pub all_made : (first last : Handle) (calls : List Call) (replies : List Reply)
     → Run first calls replies last → last.state.usable ≡ true
     → Rests first calls replies (held last.state ∷ [])
-all_made first last calls replies run usable = record {
-  goes = record {
-    made = calls;
-    later = [];
-    calls_are = sym (append-nil calls);
-    last = last;
-    run = run;
-    usable = usable;
-  };
-  left = refl;
-}
+all_made first last calls replies run usable =
+    record { goes = all_go first last calls replies run usable; left = refl }
 
 module _ {S : Type 0} {s : Ghosts S} (new : Database S s) (first last : Handle) (calls : List Call)
     (replies : List Reply) (b : IsBreak new first calls replies last) where
@@ -136,65 +142,61 @@ module _ {S : Type 0} {s : Ghosts S} (new : Database S s) (first last : Handle) 
         subst (λ (n : ℕ). ImageStandsFor y one.0 n) same one.2,
       )
 
--- it was usable when it was closed, or broken
-pub how_ended : (usable : Bool) {X : Type 0} (closed : Result X Fault) (ending : Ending)
-    (replies : Vec code.Reply Global) → (closed ≡ Err Broken ↔ (usable ≡ false))
-    → OnOk closed (ending ≡ Rested replies)
-    → IfErr closed (λ fault. fault ≢ Broken → ending ≡ Unsettled replies)
-    → (closed ≡ Err Broken → ending ≡ Broke replies)
-    → ((usable ≡ true) × ((ending ≡ Rested replies) ⊎ (ending ≡ Unsettled replies)))
-    ⊎ ((usable ≡ false) × (ending ≡ Broke replies))
-how_ended false closed ending replies broken rested failed broke =
-    inr (refl, broke (broken.1 refl))
-how_ended true (Ok x) ending replies broken rested failed broke = inl (refl, inl rested)
-how_ended true (Err fault) ending replies broken rested failed broke = inl (
-  refl,
-  inr (failed (λ is. false≢true (sym (broken.0 (ap Err is))))),
-)
+-- how a session ended whose database was usable or not behind its calls, and when it was closed
+module _ (mid new : Bool) {X : Type 0} (stored : Result ℕ Fault) (closed : Result X Fault)
+    (ending : Ending) (replies : Vec code.Reply Global)
+    (was : stored ≡ Err Broken ↔ (mid ≡ false)) (broken : closed ≡ Err Broken ↔ (new ≡ false))
+    (rested : stored ≢ Err Broken → OnOk closed (ending ≡ Rested replies (stored_count stored)))
+    (failed : stored ≢ Err Broken → IfErr closed (λ fault. fault ≢ Broken
+    → ending ≡ Unsettled replies (stored_count stored)))
+    (group : stored ≢ Err Broken → closed ≡ Err Broken → ending ≡ BrokeGroup replies)
+    (broke : stored ≡ Err Broken → ending ≡ Broke replies) where
+  told_rested : (r : Result X Fault) → closed ≡ r → mid ≡ true → new ≡ true
+      → (ending ≡ Rested replies (stored_count stored))
+      ⊎ (ending ≡ Unsettled replies (stored_count stored))
+  told_rested (Ok x) is sound now =
+      inl (subst (λ r. OnOk r (ending ≡ Rested replies (stored_count stored))) is
+      (rested (λ e. false≢true (sym (was.0 e) ∙ sound))))
+  told_rested (Err fault) is sound now =
+      inr (subst (λ r. IfErr r (λ f. f ≢ Broken → ending ≡ Unsettled replies (stored_count stored)))
+      is (failed (λ e. false≢true (sym (was.0 e) ∙ sound)))
+      (λ same. false≢true (sym (broken.0 (is ∙ ap Err same)) ∙ now)))
 
--- what holds of either way of ending
-pub by_ending : (usable : Bool) {X : Type 0} (closed : Result X Fault) (ending : Ending)
-    (replies : Vec code.Reply Global) → (closed ≡ Err Broken ↔ (usable ≡ false))
-    → OnOk closed (ending ≡ Rested replies)
-    → IfErr closed (λ fault. fault ≢ Broken → ending ≡ Unsettled replies)
-    → (closed ≡ Err Broken → ending ≡ Broke replies) → (P : model.Ending → Type 0)
-    → (usable ≡ true → P (model.Rested (map reply_of replies.items)))
-    → (usable ≡ false → P (model.Broke (map reply_of replies.items))) → P (ending_of ending)
-by_ending usable closed ending replies broken rested failed broke P sound doubt =
-    elim (how_ended usable closed ending replies broken rested failed broke) [
-      | inl was ↦ ⊎_elim
-          (λ is. subst (λ (e : Ending). P (ending_of e)) (sym is) (sound was.0))
-          (λ is. subst (λ (e : Ending). P (ending_of e)) (sym is) (sound was.0)) was.1
-      | inr was ↦ subst (λ (e : Ending). P (ending_of e)) (sym was.1) (doubt was.0)
+  -- it was usable to the end, the commit of its group broke it, or one of its calls had
+  pub which_ending : (P : Ending → Type 0)
+      → (mid ≡ true → new ≡ true → P (Rested replies (stored_count stored))
+      × P (Unsettled replies (stored_count stored)))
+      → (mid ≡ true → new ≡ false → P (BrokeGroup replies))
+      → (mid ≡ false → P (Broke replies)) → P ending
+  which_ending P sound cut doubt = elim (cases_Bool mid) [
+    | inl all ↦ elim (cases_Bool new) [
+      | inl now ↦ ⊎_elim (λ is. subst P (sym is) (sound all now).0)
+          (λ is. subst P (sym is) (sound all now).1) (told_rested closed refl all now)
+      | inr now ↦ subst P
+          (sym (group (λ e. false≢true (sym (was.0 e) ∙ all)) (broken.1 now))) (cut all now)
     ]
+    | inr none ↦ subst P (sym (broke (was.1 none))) (doubt none)
+  ]
+
+  pub by_ending : (P : model.Ending → Type 0)
+      → (mid ≡ true → new ≡ true
+      → P (model.Grouped (map reply_of replies.items) (stored_count stored)))
+      → (mid ≡ true → new ≡ false
+      → (count : ℕ) × P (model.BrokeGroup (map reply_of replies.items) count))
+      → (mid ≡ false → P (model.Broke (map reply_of replies.items)))
+      → (count : ℕ) × P (ending_of ending count)
+  by_ending P sound cut doubt = which_ending (λ e. (count : ℕ) × P (ending_of e count))
+      (λ all now. ((0, sound all now), (0, sound all now))) cut (λ none. (0, doubt none))
 
 -- ---- what is left of the device
 
 module _ {S : Type 0} {s : Ghosts S} (old new : Database S s) (h : Handle) (calls : List Call)
-    (replies : List Reply) (pages : ℕ) (candidate : Candidates) where
-  pub rested : IsRun old new h calls replies → (page_state new).usable ≡ true
-      → ((last : Handle) → IsAt new last → last.state.usable ≡ true → (image : Image)
-      → IsImageOf candidate image
-      → ImageStandsFor (settled pages image) last.state.map last.state.limit)
-      → CallsLeave h calls (model.Rested replies) pages candidate
-  rested run now stands =
-      let last = run.after in
-      let usable = ap (λ (x : Handle). x.state.usable) run.is_at.shows ∙ now in
-      record {
-        after = held last.state ∷ [];
-        goes = all_made h last calls replies run.run usable;
-        stand = λ image is. (
-          held last.state,
-          is_first (held last.state) [] (held last.state) refl,
-          stands last run.is_at usable image is,
-        );
-      }
-
+    (group : List Pair) (replies : List Reply) (pages : ℕ) (candidate : Candidates) where
   pub broke : IsAt old h → h.state.usable ≡ true → IsRun old new h calls replies
       → (meta_kept new).limit ≡ (meta_kept old).limit → (page_state new).usable ≡ false
       → ((image : Image) → IsImageOf candidate image
       → s.settles_to (store_of new) (settled pages image))
-      → CallsLeave h calls (model.Broke replies) pages candidate
+      → CallsLeave h calls group (model.Broke replies) pages candidate
   broke at usable run limit now settles =
       let was = sym (ap (λ (x : Handle). x.state.usable) at.shows) ∙ usable in
       let b = run.breaks was now in
@@ -214,6 +216,7 @@ pub none_refused : (ending : Ending) (P : Fault → Type 0) → IfNotOpened endi
     → IfNotOpened ending P
 none_refused (NotOpened fault) P is = absurd is
 none_refused NoMemory P is = tt
-none_refused (Rested replies) P is = tt
-none_refused (Unsettled replies) P is = tt
+none_refused (Rested replies stored) P is = tt
+none_refused (Unsettled replies stored) P is = tt
 none_refused (Broke replies) P is = tt
+none_refused (BrokeGroup replies) P is = tt

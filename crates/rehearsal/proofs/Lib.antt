@@ -1,4 +1,5 @@
 pub mod Endings
+pub mod Groups
 pub mod Lists
 pub mod Moments
 pub mod Openings

@@ -1,6 +1,5 @@
 -- Sessions one after another.
-use Rattle.std.proofs.Common.{◌≡◌, ℕ, List, [], ◌∷◌, ◌++◌, map, refl, sym, subst}
-use Rattle.std.proofs.lemmas.List.{map-append}
+use Rattle.std.proofs.Common.{◌≡◌, ℕ, List, [], ◌∷◌, ◌++◌, refl, sym, subst}
 use Rattle.sect_dev.specs.Device.{Image, Candidates, IsImageOf, IsStable}
 use Rattle.sect_dev.specs.Moments.{only_image}
 use Rattle.redo_commit.specs.File.{settled}
@@ -10,7 +9,7 @@ use Rattle.dbm_sessions.specs.Sessions.{Plan, SessionStep, Sessions}
 use Rattle.dbm_sessions.proofs.Ways.{changes_stay}
 use Rattle.rehearsal.specs.Members.{StandsForOne, AllStandFor}
 use Rattle.rehearsal.specs.Sessions.{ending_of, Leaves}
-use Rattle.rehearsal.specs.Rehearsals.{SessionsLeave, AreAllLeft}
+use Rattle.rehearsal.specs.Rehearsals.{AreTold, SessionsLeave, AreAllLeft}
 use Rattle.rehearsal.specs.declared.sessions.Ending.{Ending}
 
 -- one session more
@@ -27,20 +26,33 @@ sessions-push before mid after (one ∷ plans) (told ∷ endings) plan ending al
 
 pub none_yet : (before : Members) (pages : ℕ) (candidate : Candidates)
     → AllStandFor before pages candidate → SessionsLeave before [] [] pages candidate
-none_yet before pages candidate stand = record { after = before; sessions = refl; stand = stand }
+none_yet before pages candidate stand = record {
+  told = [];
+  are_told = tt;
+  after = before;
+  sessions = refl;
+  stand = stand;
+}
+
+told-push : (endings : List Ending) (told : List model.Ending) (ending : Ending) (count : ℕ)
+    → AreTold endings told → AreTold (endings ++ ending ∷ []) (told ++ ending_of ending count ∷ [])
+told-push [] [] ending count all = ((count, refl), tt)
+told-push [] (one ∷ told) ending count all = absurd all
+told-push (first ∷ endings) [] ending count all = absurd all
+told-push (first ∷ endings) (one ∷ told) ending count all =
+    (all.0, told-push endings told ending count all.1)
 
 pub one_more : (before : Members) (plans : List Plan) (endings : List Ending) (plan : Plan)
     (ending : Ending) (pages next : ℕ) (candidate now : Candidates)
     (so_far : SessionsLeave before plans endings pages candidate)
-    → Leaves so_far.after plan (ending_of ending) next now
+    → (count : ℕ) → Leaves so_far.after plan (ending_of ending count) next now
     → SessionsLeave before (plans ++ plan ∷ []) (endings ++ ending ∷ []) next now
-one_more before plans endings plan ending pages next candidate now so_far one = record {
+one_more before plans endings plan ending pages next candidate now so_far count one = record {
+  told = so_far.told ++ ending_of ending count ∷ [];
+  are_told = told-push endings so_far.told ending count so_far.are_told;
   after = one.after;
-  sessions = subst (λ (told : List model.Ending).
-      Sessions before (plans ++ plan ∷ []) told one.after)
-      (sym (map-append ending_of endings (ending ∷ [])))
-      (sessions-push before so_far.after one.after plans (map ending_of endings) plan
-      (ending_of ending) so_far.sessions one.step);
+  sessions = sessions-push before so_far.after one.after plans so_far.told plan
+      (ending_of ending count) so_far.sessions one.step;
   stand = one.stand;
 }
 
@@ -55,11 +67,14 @@ after_stop members pages before after image stand is stable other there =
 pub all_left : (before : Members) (plans : List Plan) (endings : List Ending) (pages : ℕ)
     (candidate : Candidates) → SessionsLeave before plans endings pages candidate
     → AreAllLeft before plans endings pages candidate
-all_left before plans endings pages candidate all image is =
-    let one = all.stand image is in
-    let way = changes_stay before all.after plans (map ending_of endings) all.sessions one.0
-    one.1 in
-    record { member = one.0; stands = one.2; start = way.0; among = way.1; left = way.2 }
+all_left before plans endings pages candidate all = (
+  all.told,
+  all.are_told,
+  λ image is.
+      let one = all.stand image is in
+      let way = changes_stay before all.after plans all.told all.sessions one.0 one.1 in
+      record { member = one.0; stands = one.2; start = way.0; among = way.1; left = way.2 },
+)
 
 -- the device that a stop left is as the session left it, or some of it
 pub stop_leaves : (before : Members) (plan : Plan) (ending : model.Ending) (pages next : ℕ)

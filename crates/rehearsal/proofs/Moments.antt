@@ -1,8 +1,9 @@
 -- What a stop within a session leaves.
-use Rattle.std.proofs.Common.{◌≡◌, ℕ, ◌/◌, true, List, [], ◌∷◌, ◌++◌, map, refl, sym, ◌∙◌, subst}
+use Rattle.std.proofs.Common.{◌≡◌, ⊎_elim, ℕ, ◌/◌, true, List, [], ◌∷◌, ◌++◌, map, refl, sym, ◌∙◌, subst}
 use Rattle.std.proofs.lemmas.List.{append-nil}
 use Rattle.sect_dev.specs.Device.{Candidates}
 use Rattle.dbm_model.specs.Calls.{Call, Reply}
+use Rattle.dbm_model.specs.Pairs.{Pair}
 use Rattle.dbm_model.specs.States.{Handle}
 use Rattle.dbm_model.specs.Steps.{Run}
 use Rattle.page_io.specs.Store.{Settled}
@@ -11,7 +12,7 @@ use Rattle.file_opening.specs.Opening.{MayRemain}
 use Rattle.file_opening.specs.declared.open_how.OpenHow.{OpenHow}
 use Rattle.dbm_sessions.specs.Members.{Holding, Members, held, opened}
 use Rattle.dbm_sessions.specs.Sessions as model
-use Rattle.dbm_sessions.specs.Sessions.{Plan, StoppedOpening, StoppedCall, Begins}
+use Rattle.dbm_sessions.specs.Sessions.{Plan, StoppedOpening, StoppedCall, StoppedGroup, Begins}
 use Rattle.dbm_sessions.proofs.Lists.{is_first}
 use Rattle.dbm_file.specs.Answers.{StandsForSome}
 use Rattle.dbm_file.specs.Runs.{MayBeLeftWithin}
@@ -32,20 +33,25 @@ stops_so ending replies StoppedOpening same is = tt
 stops_so ending replies (model.Rested first) same is = (is.0, same ∙ is.1)
 stops_so ending replies (StoppedCall first) same is = (is.0, same ∙ is.1)
 stops_so ending replies (model.Broke first) same is = absurd is
+stops_so ending replies (model.Grouped first stored) same is = absurd (let e = is in cc)
+stops_so ending replies (StoppedGroup first count) same is =
+    ⊎_elim (λ e. absurd (let f = e in cc)) (λ e. absurd (let f = e in cc)) is
+stops_so ending replies (model.BrokeGroup first count) same is = absurd is
 
 -- what a stop within them leaves
-pub left_within : (h after : Handle) (calls : List Call) (replies : List Reply) (limit : ℕ)
-    (ending : model.Ending) → replies_in ending ≡ replies → h.state.usable ≡ true
-    → h.state.limit ≡ limit → (y : Settled)
+pub left_within : (h after : Handle) (calls : List Call) (group : List Pair)
+    (replies : List Reply) (limit : ℕ) (ending : model.Ending) → replies_in ending ≡ replies
+    → h.state.usable ≡ true → h.state.limit ≡ limit → (y : Settled)
     → StandsForSome (MayBeLeftWithin h calls replies after) limit y
-    → IsLeftByCalls h calls ending y
-left_within h after calls replies limit ending same usable limit_is y (contents, left, stands) =
+    → IsLeftByCalls h calls group ending y
+left_within h after calls group replies limit ending same usable limit_is y
+    (contents, left, stands) =
     let found = within h after calls replies contents usable left in
     record {
       stop = found.stop;
       is_stop = stops_so ending replies found.stop same found.is_stop;
       after = found.after;
-      goes = found.goes;
+      goes = found.goes group;
       stands = (
         Holding contents h.state.limit,
         found.among,
@@ -54,9 +60,10 @@ left_within h after calls replies limit ending same usable limit_is y (contents,
     }
 
 -- none was made
-pub left_unmade : (h : Handle) (calls : List Call) → h.state.usable ≡ true → (y : Settled)
-    → ImageStandsFor y h.state.map h.state.limit → IsLeftByCalls h calls (model.Rested []) y
-left_unmade h calls usable y stands = record {
+pub left_unmade : (h : Handle) (calls : List Call) (group : List Pair) → h.state.usable ≡ true
+    → (y : Settled) → ImageStandsFor y h.state.map h.state.limit
+    → IsLeftByCalls h calls group (model.Rested []) y
+left_unmade h calls group usable y stands = record {
   stop = model.Rested [];
   is_stop = ([], refl);
   after = held h.state ∷ [];
@@ -65,11 +72,11 @@ left_unmade h calls usable y stands = record {
 }
 
 -- all were made
-pub left_made : (h last : Handle) (calls : List Call) (replies : List Reply)
+pub left_made : (h last : Handle) (calls : List Call) (group : List Pair) (replies : List Reply)
     (ending : model.Ending) → replies_in ending ≡ replies → Run h calls replies last
     → last.state.usable ≡ true → (y : Settled)
-    → ImageStandsFor y last.state.map last.state.limit → IsLeftByCalls h calls ending y
-left_made h last calls replies ending same run usable y stands = record {
+    → ImageStandsFor y last.state.map last.state.limit → IsLeftByCalls h calls group ending y
+left_made h last calls group replies ending same run usable y stands = record {
   stop = model.Rested replies;
   is_stop = stops_so ending replies (model.Rested replies) same ([], sym (append-nil replies));
   after = held last.state ∷ [];
@@ -80,10 +87,10 @@ left_made h last calls replies ending same run usable y stands = record {
 -- ---- a session
 
 pub left_in_opening : (before : Members) (how : Opening) (asked : OpenHow) (calls : List Call)
-    (sectors : ℕ) (start : Candidates) (ending : model.Ending) → asked ≡ for_writing how
-    → AllStandFor before (sectors / 4) start → (y : Settled) → MayRemain asked sectors start y
-    → IsLeftByStop before (record { how = opening_of how; calls = calls }) ending y
-left_in_opening before how asked calls sectors start ending is stand y remained = record {
+    (group : List Pair) (sectors : ℕ) (start : Candidates) (ending : model.Ending)
+    → asked ≡ for_writing how → AllStandFor before (sectors / 4) start → (y : Settled) → MayRemain asked sectors start y
+    → IsLeftByStop before (record { how = opening_of how; calls = calls; group = group }) ending y
+left_in_opening before how asked calls group sectors start ending is stand y remained = record {
   stop = StoppedOpening;
   is_stop = tt;
   after = before ++ map (opened (opening_of how)) before;
@@ -93,8 +100,8 @@ left_in_opening before how asked calls sectors start ending is stand y remained 
 }
 
 pub left_in_calls : (before : Members) (plan : Plan) (first : Handle) (ending : model.Ending)
-    → Begins before plan.how first → (y : Settled) → IsLeftByCalls first plan.calls ending y
-    → IsLeftByStop before plan ending y
+    → Begins before plan.how first → (y : Settled)
+    → IsLeftByCalls first plan.calls plan.group ending y → IsLeftByStop before plan ending y
 left_in_calls before plan first ending begins y left = record {
   stop = left.stop;
   is_stop = left.is_stop;

@@ -1,6 +1,5 @@
 -- Sessions on a device with enough room.
-use Rattle.std.proofs.Common.{◌≡◌, ◌≢◌, ◌⊎◌, inl, inr, ℕ, ◌*◌, ◌≤◌, List, [], ◌∷◌, ◌++◌, map, refl, sym, subst, All}
-use Rattle.std.proofs.lemmas.List.{map-append}
+use Rattle.std.proofs.Common.{◌≡◌, ◌≢◌, ◌⊎◌, inl, inr, ℕ, ◌*◌, ◌≤◌, List, [], ◌∷◌, ◌++◌, refl}
 use Rattle.std.proofs.lemmas.List.Elements.{All-nil, All-cons, All-append}
 use Rattle.sect_dev.specs.Device.{Candidates}
 use Rattle.dbm_model.specs.Calls as calls
@@ -68,8 +67,8 @@ members_have_room members pages start stand all image is =
 
 -- one session more
 pub short_no_more : (endings : List Ending) (ending : Ending) → AreNeverShort endings
-    → IsNeverShort (ending_of ending) → AreNeverShort (endings ++ ending ∷ [])
+    → ((count : ℕ) → IsNeverShort (ending_of ending count))
+    → AreNeverShort (endings ++ ending ∷ [])
 short_no_more endings ending all one =
-    subst (All IsNeverShort) (sym (map-append ending_of endings (ending ∷ [])))
-    (All-append IsNeverShort (map ending_of endings) (ending_of ending ∷ []) all
-    (All-cons IsNeverShort (ending_of ending) [] one (All-nil IsNeverShort)))
+    let Never = λ (e : Ending). (count : ℕ) → IsNeverShort (ending_of e count) in
+    All-append Never endings (ending ∷ []) all (All-cons Never ending [] one (All-nil Never))

@@ -2,7 +2,7 @@
 use Rattle.std.proofs.Common.{◌≡◌, inl, inr, ⊎_elim, ℕ, true, false, List, [], ◌∷◌, ◌++◌, refl, sym, ◌∙◌, ap, subst, append_assoc, Contains}
 use Rattle.std.proofs.lemmas.Bool.{cases_Bool}
 use Rattle.dbm_model.specs.Calls.{Call, Store, Fetch, Delete, First, Next, Error, Clear, Reply, Fault, Broken}
-use Rattle.dbm_model.specs.Pairs.{Contents}
+use Rattle.dbm_model.specs.Pairs.{Pair, Contents}
 use Rattle.dbm_model.specs.States.{State, Handle}
 use Rattle.dbm_model.specs.Steps.{Case, Tells, Refuses, Declines, Finds, Passes, Changes, broken_case, case_of, Step, Run}
 use Rattle.dbm_model.proofs.CaseLemmas.{Suits, suits}
@@ -174,7 +174,7 @@ pub record Found (first : Handle) (calls : List Call) (replies : List Reply) (me
   pub stop : model.Ending
   pub is_stop : IsStopOf (model.Rested replies) stop
   pub after : Members
-  pub goes : GoesOn first calls stop after
+  pub goes : (group : List Pair) → GoesOn first calls group stop after
   pub among : Contains after member
 
 -- the calls that were made, up to one that is cut short
@@ -187,7 +187,7 @@ cut_at first held_at made answered call calls reply replies member run usable am
   stop = StoppedCall answered;
   is_stop = (reply ∷ replies, refl);
   after = left_by held_at.state (case_of held_at.state call);
-  goes = record {
+  goes = λ group. record {
     goes = record {
       made = made;
       later = call ∷ calls;
@@ -211,7 +211,7 @@ all_made first held_at made answered member run usable is = record {
   stop = model.Rested answered;
   is_stop = ([], refl);
   after = held held_at.state ∷ [];
-  goes = record {
+  goes = λ group. record {
     goes = record {
       made = made;
       later = [];

@@ -1,14 +1,15 @@
 -- A session of the code as one of the definitions.
-use Rattle.std.specs.Prelude.{◌≡◌, ◌≢◌, ℕ, ◌/◌, false, List, [], ◌++◌, map, length, vec_len, None, IfSome}
+use Rattle.std.specs.Prelude.{◌≡◌, ◌≢◌, ◌⊎◌, ℕ, ◌/◌, false, List, [], ◌++◌, map, take, length, vec_len, None, IfSome, Result, Ok, Err}
 use Rattle.sect_dev.specs.Device.{Candidates, MoreFaults}
 use Rattle.sect_dev.specs.declared.device.SectorDev.{Ghosts}
 use Rattle.page_io.specs.Store.{Settled}
 use Rattle.dbm_model.specs.Calls as calls
+use Rattle.dbm_model.specs.Pairs as model_pairs
 use Rattle.dbm_model.specs.States.{Handle}
 use Rattle.dbm_sessions.specs.Members as members
 use Rattle.dbm_sessions.specs.Members.{Members}
 use Rattle.dbm_sessions.specs.Sessions as model
-use Rattle.dbm_sessions.specs.Sessions.{Plan, StoppedOpening, StoppedCall, Rests, CutShort, Breaks, SessionStep}
+use Rattle.dbm_sessions.specs.Sessions.{Plan, StoppedOpening, StoppedCall, StoppedGroup, Rests, CutShort, Breaks, Groups, GroupCutShort, SessionStep}
 use Rattle.redo_commit.specs.File.{IsAtRest}
 use Rattle.dbm_fault.specs.Faults.{fault_of}
 use Rattle.dbm_fault.specs.declared.fault.Fault.{Fault}
@@ -16,20 +17,31 @@ use Rattle.dbm_fault.specs.declared.fault.Fault.TheVariants.{Device}
 use Rattle.file_opening.specs.Opening.{early_fault, IsRefusedOpening}
 use Rattle.file_opening.specs.declared.open_how.Access.TheVariants.{ReadWrite}
 use Rattle.file_opening.specs.declared.open_how.OpenHow.{OpenHow}
+use Rattle.chain_walks.specs.Pairs.{pair_of}
+use Rattle.chain_walks.specs.declared.pair.Pair.{Pair}
 use Rattle.dbm_file.specs.Calls.{call_of, reply_of}
 use Rattle.dbm_file.specs.declared.calls.Call.{Call}
 use Rattle.rehearsal.specs.Members.{StandsForOne, AllStandFor}
 use Rattle.rehearsal.specs.declared.sessions.Opening.{Opening}
 use Rattle.rehearsal.specs.declared.sessions.Ending.{Ending}
-use Rattle.rehearsal.specs.declared.sessions.Ending.TheVariants.{NotOpened, NoMemory, Rested, Unsettled, Broke}
+use Rattle.rehearsal.specs.declared.sessions.Ending.TheVariants.{NotOpened, NoMemory, Rested, Unsettled, Broke, BrokeGroup}
 
 -- ---- what it is asked to do, and how it ended
 
 abbrev pub opening_of : Opening → members.Opening
 opening_of how = record { create = how.create; truncate = how.truncate; limit = how.limit }
 
-abbrev pub plan_of : Opening → List Call → Plan
-plan_of how calls = record { how = opening_of how; calls = map call_of calls }
+abbrev pub plan_of : Opening → List Call → List Pair → Plan
+plan_of how calls group = record {
+  how = opening_of how;
+  calls = map call_of calls;
+  group = map pair_of group;
+}
+
+-- how many pairs of a group were stored
+abbrev pub stored_count : Result ℕ Fault → ℕ
+stored_count (Ok count) = count
+stored_count (Err fault) = 0
 
 -- how the database is opened: for writing, and also where one is there
 abbrev pub for_writing : Opening → OpenHow
@@ -41,20 +53,23 @@ for_writing how = record {
   limit = how.limit;
 }
 
-abbrev pub ending_of : Ending → model.Ending
-ending_of (NotOpened fault) = model.NotOpened (fault_of fault)
-ending_of NoMemory = model.Rested []
-ending_of (Rested replies) = model.Rested (map reply_of replies.items)
-ending_of (Unsettled replies) = model.Rested (map reply_of replies.items)
-ending_of (Broke replies) = model.Broke (map reply_of replies.items)
+-- how it ended, where the commit of the group had so many pairs if it broke the database
+abbrev pub ending_of : Ending → ℕ → model.Ending
+ending_of (NotOpened fault) count = model.NotOpened (fault_of fault)
+ending_of NoMemory count = model.Rested []
+ending_of (Rested replies stored) count = model.Grouped (map reply_of replies.items) stored
+ending_of (Unsettled replies stored) count = model.Grouped (map reply_of replies.items) stored
+ending_of (Broke replies) count = model.Broke (map reply_of replies.items)
+ending_of (BrokeGroup replies) count = model.BrokeGroup (map reply_of replies.items) count
 
 -- there is one reply a call, where calls were made
 abbrev pub IsOneEach : List Call → Ending → Type 0
 IsOneEach calls (NotOpened fault) = Unit {0}
 IsOneEach calls NoMemory = Unit {0}
-IsOneEach calls (Rested replies) = vec_len replies ≡ length calls
-IsOneEach calls (Unsettled replies) = vec_len replies ≡ length calls
+IsOneEach calls (Rested replies stored) = vec_len replies ≡ length calls
+IsOneEach calls (Unsettled replies stored) = vec_len replies ≡ length calls
 IsOneEach calls (Broke replies) = vec_len replies ≡ length calls
+IsOneEach calls (BrokeGroup replies) = vec_len replies ≡ length calls
 
 abbrev pub IfNotOpened : Ending → (Fault → Type 0) → Type 0
 IfNotOpened (NotOpened fault) P = P fault
@@ -62,12 +77,12 @@ IfNotOpened ending P = Unit {0}
 
 -- it was closed
 abbrev pub IfRested : Ending → Type 0 → Type 0
-IfRested (Rested replies) P = P
+IfRested (Rested replies stored) P = P
 IfRested ending P = Unit {0}
 
 -- the closing failed
 abbrev pub IfUnsettled : Ending → Type 0 → Type 0
-IfUnsettled (Unsettled replies) P = P
+IfUnsettled (Unsettled replies stored) P = P
 IfUnsettled ending P = Unit {0}
 
 -- all is on the disk, and no commit on its way
@@ -102,19 +117,26 @@ replies_in StoppedOpening = []
 replies_in (model.Rested replies) = replies
 replies_in (StoppedCall replies) = replies
 replies_in (model.Broke replies) = replies
+replies_in (model.Grouped replies stored) = replies
+replies_in (StoppedGroup replies count) = replies
+replies_in (model.BrokeGroup replies count) = replies
 
 -- these are the first of those replies
 abbrev pub AreFirst : List calls.Reply → List calls.Reply → Type 0
 AreFirst first all = (later : List calls.Reply) × (all ≡ first ++ later)
 
--- a session that ended so ends that way where it is stopped: within its opening, or where some of
--- its calls have been answered, as they were
+-- a session that ended so ends that way where it is stopped: within its opening, where some of its
+-- calls have been answered, as they were, within the commit of its group, or behind it
 abbrev pub IsStopOf : model.Ending → model.Ending → Type 0
 IsStopOf ending StoppedOpening = Unit {0}
 IsStopOf ending (model.Rested replies) = AreFirst replies (replies_in ending)
 IsStopOf ending (StoppedCall replies) = AreFirst replies (replies_in ending)
 IsStopOf ending (model.NotOpened fault) = ⊥
 IsStopOf ending (model.Broke replies) = ⊥
+IsStopOf ending (model.Grouped replies stored) = ending ≡ model.Grouped replies stored
+IsStopOf ending (StoppedGroup replies count) =
+    (ending ≡ model.Grouped replies count) ⊎ (ending ≡ model.BrokeGroup replies count)
+IsStopOf ending (model.BrokeGroup replies count) = ⊥
 
 -- what an image settles to stands for a member of what such a stop leaves
 pub record IsLeftByStop (before : Members) (plan : Plan) (ending : model.Ending)
@@ -127,23 +149,30 @@ pub record IsLeftByStop (before : Members) (plan : Plan) (ending : model.Ending)
 
 -- ---- the same of the calls alone, from an open database on
 
-abbrev pub GoesOn : Handle → List calls.Call → model.Ending → Members → Type 0
-GoesOn first calls (model.NotOpened fault) after = ⊥
-GoesOn first calls StoppedOpening after = ⊥
-GoesOn first calls (model.Rested replies) after = Rests first calls replies after
-GoesOn first calls (StoppedCall replies) after = CutShort first calls replies after
-GoesOn first calls (model.Broke replies) after = Breaks first calls replies after
+abbrev pub GoesOn : Handle → List calls.Call → List model_pairs.Pair → model.Ending → Members
+    → Type 0
+GoesOn first calls group (model.NotOpened fault) after = ⊥
+GoesOn first calls group StoppedOpening after = ⊥
+GoesOn first calls group (model.Rested replies) after = Rests first calls replies after
+GoesOn first calls group (StoppedCall replies) after = CutShort first calls replies after
+GoesOn first calls group (model.Broke replies) after = Breaks first calls replies after
+GoesOn first calls group (model.Grouped replies stored) after =
+    Groups first calls replies (take stored group) after
+GoesOn first calls group (StoppedGroup replies count) after =
+    GroupCutShort first calls replies (take count group) after
+GoesOn first calls group (model.BrokeGroup replies count) after =
+    GroupCutShort first calls replies (take count group) after
 
-pub record CallsLeave (first : Handle) (calls : List calls.Call) (ending : model.Ending)
-    (pages : ℕ) (candidate : Candidates) : Type 0 where
+pub record CallsLeave (first : Handle) (calls : List calls.Call) (group : List model_pairs.Pair)
+    (ending : model.Ending) (pages : ℕ) (candidate : Candidates) : Type 0 where
   pub after : Members
-  pub goes : GoesOn first calls ending after
+  pub goes : GoesOn first calls group ending after
   pub stand : AllStandFor after pages candidate
 
-pub record IsLeftByCalls (first : Handle) (calls : List calls.Call) (ending : model.Ending)
-    (settled : Settled) : Type 0 where
+pub record IsLeftByCalls (first : Handle) (calls : List calls.Call)
+    (group : List model_pairs.Pair) (ending : model.Ending) (settled : Settled) : Type 0 where
   pub stop : model.Ending
   pub is_stop : IsStopOf ending stop
   pub after : Members
-  pub goes : GoesOn first calls stop after
+  pub goes : GoesOn first calls group stop after
   pub stands : StandsForOne after settled

@@ -7,7 +7,7 @@ ghost use Rattle.rehearsal.specs.Rehearsals.{planned, SessionLeaves, SessionsLea
 ghost use Rattle.rehearsal.specs.Sessions.{ending_of};
 
 use crate::{Ending, Opening, session};
-use dbm_file::Call;
+use dbm_file::{Call, Pair};
 use sect_dev::{Fuse, MemDev, SectorDev};
 use std::alloc::{AllocError, Global};
 
@@ -16,6 +16,8 @@ use std::alloc::{AllocError, Global};
 pub struct Stage {
     pub how: Opening,
     pub calls: Vec<Call>,
+    /// Pairs that are then stored in one commit, as far as they go into one.
+    pub group: Vec<Pair>,
     /// How many calls of the device there are before the stop.
     pub device_calls: u64,
     /// Which of the writes have happened that were not synced at the stop, the oldest first; a
@@ -75,12 +77,13 @@ fn stopped(alloc: Global, dev: MemDev, stage: &Stage) -> Result<(MemDev, Ending)
         → AllStandFor before (⟦<MemDev as SectorDev>⟧.sectors dev / 4)
         (⟦<MemDev as SectorDev>⟧.candidate dev)
         → AllHaveRoom (⟦<MemDev as SectorDev>⟧.sectors dev / 4) before
-        → IfOk result (λ r. IsNeverShort (ending_of r.1)) }
+        → IfOk result (λ r. (count : ℕ) → IsNeverShort (ending_of r.1 count)) }
     ensures size { IfOk result (λ r. ⟦<MemDev as SectorDev>⟧.sectors r.0 / 4
         ≡ ⟦<MemDev as SectorDev>⟧.sectors dev / 4) }
 {
     let fuse = Fuse::new(dev, stage.device_calls);
-    let (fuse, ending) = session(alloc, fuse, stage.how, stage.calls.as_slice());
+    let (calls, group) = (stage.calls.as_slice(), stage.group.as_slice());
+    let (fuse, ending) = session(alloc, fuse, stage.how, calls, group);
     let left = fuse.into_inner().crashed(alloc, stage.keep.as_slice())?;
     Ok((left, ending))
 }

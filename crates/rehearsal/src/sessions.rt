@@ -7,14 +7,15 @@ ghost use Rattle.dbm_model.specs.Room.{HasRoom};
 ghost use Rattle.dbm_model.specs.States.{Handle};
 ghost use Rattle.dbm_sessions.specs.Members.{Members};
 ghost use Rattle.dbm_sessions.specs.Room.{IsNeverShort};
+ghost use Rattle.chain_walks.specs.Pairs.{pair_of};
 ghost use Rattle.file_opening.specs.Opening.{early_fault, AllStand, AllAllow};
 ghost use Rattle.dbm_file.specs.Calls.{call_of};
 ghost use Rattle.dbm_file.specs.Database.{page_state, IsAt};
 ghost use Rattle.dbm_file.specs.Opened.{device_below, AllHaveRoom};
 ghost use Rattle.rehearsal.specs.Members.{AllStandFor};
-ghost use Rattle.rehearsal.specs.Sessions.{plan_of, for_writing, ending_of, IsOneEach, IfNotOpened, IfRested, IfUnsettled, IsSettled, WhyNotOpened, Leaves, IsLeftByStop, CallsLeave, IsLeftByCalls};
+ghost use Rattle.rehearsal.specs.Sessions.{plan_of, for_writing, ending_of, stored_count, IsOneEach, IfNotOpened, IfRested, IfUnsettled, IsSettled, WhyNotOpened, Leaves, IsLeftByStop, CallsLeave, IsLeftByCalls};
 
-use dbm_file::{Access, Call, Db, Fault, OpenHow, Reply, run};
+use dbm_file::{Access, Call, Db, Fault, OpenHow, Pair, Reply, run};
 use sect_dev::SectorDev;
 use std::alloc::Global;
 
@@ -52,28 +53,41 @@ pub enum Ending {
     NotOpened(Fault),
     /// There was no memory for the replies. No call was made, and the database was closed.
     NoMemory,
-    /// Each call was given its reply, and the database was closed.
-    Rested(Vec<Reply>),
-    /// The same, but the closing failed by a fault of the device. What the calls did stands.
-    Unsettled(Vec<Reply>),
+    /// Each call was given its reply, so many pairs of the group, from the first one on, were
+    /// stored in one commit, and the database was closed. None are where the group was refused.
+    Rested(Vec<Reply>, usize),
+    /// The same, but the closing failed by a fault of the device. What was done stands.
+    Unsettled(Vec<Reply>, usize),
     /// Each call was given its reply, and a fault of the device broke the database in one of them.
     Broke(Vec<Reply>),
+    /// Each call was given its reply, and a fault of the device broke the database in the commit of
+    /// the group.
+    BrokeGroup(Vec<Reply>),
 }
 
-/// Opens the device for writing, makes the calls in order, and closes it again.
-pub fn session<D: SectorDev>(alloc: Global, dev: D, how: Opening, calls: &[Call]) -> (D, Ending)
+/// Opens the device for writing, makes the calls in order, stores the pairs of the group in one
+/// commit, as far as they go into one, and closes it again.
+pub fn session<D: SectorDev>(
+    alloc: Global,
+    dev: D,
+    how: Opening,
+    calls: &[Call],
+    group: &[Pair],
+) -> (D, Ending)
     // Whatever each image at the start stands for, it is a session of the definitions, and each
-    // image that may be left at its end stands for a member of what that leaves.
+    // image that may be left at its end stands for a member of what that leaves. Where the commit
+    // of the group broke the database, `count` is how many pairs it had.
     ensures leaves { D.honest dev → (before : Members)
         → AllStandFor before (D.sectors dev / 4) (D.candidate dev)
-        → Leaves before (plan_of how calls.now) (ending_of result.1) (D.sectors result.0 / 4)
-        (D.candidate result.0) }
+        → (count : ℕ) × Leaves before (plan_of how calls.now group.now)
+        (ending_of result.1 count) (D.sectors result.0 / 4) (D.candidate result.0) }
 
     // Each image of each moment stands for a member of what a session leaves that is stopped there.
     ensures any_moment { D.honest dev → (before : Members)
         → AllStandFor before (D.sectors dev / 4) (D.candidate dev)
-        → LeavesOnly D.moment (IsOutcome D.left_since (settled (D.sectors dev / 4))) dev result.0
-        (IsLeftByStop before (plan_of how calls.now) (ending_of result.1)) }
+        → (count : ℕ)
+        × LeavesOnly D.moment (IsOutcome D.left_since (settled (D.sectors dev / 4))) dev result.0
+        (IsLeftByStop before (plan_of how calls.now group.now) (ending_of result.1 count)) }
     ensures one_each { IsOneEach calls.now result.1 }
 
     // The opening is refused where what is asked, or what the device holds, is a reason, and by a
@@ -92,7 +106,7 @@ pub fn session<D: SectorDev>(alloc: Global, dev: D, how: Opening, calls: &[Call]
     // Where the device has twice the pages that each map's limit needs, neither the opening nor a
     // call is refused for want of room.
     ensures room { D.honest dev → AllHaveRoom (D.sectors dev / 4) (D.candidate dev)
-        → IsNeverShort (ending_of result.1) }
+        → (count : ℕ) → IsNeverShort (ending_of result.1 count) }
 
     // Where it is told that the database was closed, nothing is on its way to the disk; where the
     // closing is told as failed, a call of the device was.
@@ -102,25 +116,26 @@ pub fn session<D: SectorDev>(alloc: Global, dev: D, how: Opening, calls: &[Call]
     ensures size { D.sectors result.0 / 4 ≡ D.sectors dev / 4 }
 {
     match Db::open(alloc, dev, how.for_writing()) {
-        Ok(db) => make_calls(alloc, db, calls),
+        Ok(db) => make_calls(alloc, db, calls, group),
         Err((dev, fault)) => (dev, Ending::NotOpened(fault)),
     }
 }
 
 // The rest of a session, from an open database on.
-fn make_calls<D: SectorDev>(alloc: Global, db: Db<D>, calls: &[Call]) -> (D, Ending)
+fn make_calls<D: SectorDev>(alloc: Global, db: Db<D>, calls: &[Call], group: &[Pair]) -> (D, Ending)
     ensures leaves { D.honest (device_below db) → (h : Handle) → IsAt db h
         → h.state.usable ≡ true
-        → CallsLeave h (map call_of calls.now) (ending_of result.1) (D.sectors result.0 / 4)
-        (D.candidate result.0) }
+        → (count : ℕ) × CallsLeave h (map call_of calls.now) (map pair_of group.now)
+        (ending_of result.1 count) (D.sectors result.0 / 4) (D.candidate result.0) }
     ensures any_moment { D.honest (device_below db) → (h : Handle) → IsAt db h
         → h.state.usable ≡ true
-        → LeavesOnly D.moment
+        → (count : ℕ) × LeavesOnly D.moment
         (IsOutcome D.left_since (settled (D.sectors (device_below db) / 4)))
         (device_below db) result.0
-        (IsLeftByCalls h (map call_of calls.now) (ending_of result.1)) }
+        (IsLeftByCalls h (map call_of calls.now) (map pair_of group.now)
+        (ending_of result.1 count)) }
     ensures room { D.honest (device_below db) → (h : Handle) → IsAt db h → HasRoom h
-        → IsNeverShort (ending_of result.1) }
+        → (count : ℕ) → IsNeverShort (ending_of result.1 count) }
     ensures closed { D.honest (device_below db) → (page_state db).writable ≡ true
         → IfRested result.1 (IsSettled D.SectorDev result.0) }
     ensures failed { IfUnsettled result.1
@@ -134,20 +149,25 @@ fn make_calls<D: SectorDev>(alloc: Global, db: Db<D>, calls: &[Call]) -> (D, End
     let Ok(replies) = run(alloc, &mut db, calls) else {
         return (db.close().0, Ending::NoMemory);
     };
+    let stored = db.store_many(group);
     let (dev, closed) = db.close();
-    (dev, ended(closed, replies))
+    (dev, ended(stored, closed, replies))
 }
 
-// How a session ended whose calls got these replies.
-fn ended(closed: Result<(), Fault>, replies: Vec<Reply>) -> Ending
-    ensures rested { OnOk closed (result ≡ Ending.Rested replies) }
-    ensures failed { IfErr closed
-        (λ fault. fault ≢ Fault.Broken → result ≡ Ending.Unsettled replies) }
-    ensures broke { closed ≡ Err Fault.Broken → result ≡ Ending.Broke replies }
+// How a session ended whose calls got these replies, and whose group was stored so.
+fn ended(stored: Result<usize, Fault>, closed: Result<(), Fault>, replies: Vec<Reply>) -> Ending
+    ensures rested { stored ≢ Err Fault.Broken
+        → OnOk closed (result ≡ Ending.Rested replies (stored_count stored)) }
+    ensures failed { stored ≢ Err Fault.Broken → IfErr closed (λ fault. fault ≢ Fault.Broken
+        → result ≡ Ending.Unsettled replies (stored_count stored)) }
+    ensures broke_group { stored ≢ Err Fault.Broken → closed ≡ Err Fault.Broken
+        → result ≡ Ending.BrokeGroup replies }
+    ensures broke { stored ≡ Err Fault.Broken → result ≡ Ending.Broke replies }
 {
-    match closed {
-        Ok(()) => Ending::Rested(replies),
-        Err(Fault::Broken) => Ending::Broke(replies),
-        Err(_) => Ending::Unsettled(replies),
+    match (stored, closed) {
+        (Err(Fault::Broken), _) => Ending::Broke(replies),
+        (_, Err(Fault::Broken)) => Ending::BrokeGroup(replies),
+        (stored, Ok(())) => Ending::Rested(replies, stored.unwrap_or(0)),
+        (stored, Err(_)) => Ending::Unsettled(replies, stored.unwrap_or(0)),
     }
 }

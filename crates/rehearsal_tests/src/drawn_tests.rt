@@ -1,7 +1,7 @@
 //! Drawn sessions one after another on a device, each stopped at a drawn place, beside a map of the
 //! tests' own.
 
-use dbm_file::{Call, Database, Fault, Octets, Reply, StoreMode};
+use dbm_file::{Call, Database, Fault, Octets, Pair, Reply, StoreMode};
 use page_io::PageStore;
 use rand_xoshiro::SplitMix64;
 use rand_xoshiro::rand_core::{Rng, SeedableRng};
@@ -40,20 +40,20 @@ fn draw(generator: &mut SplitMix64, most: u16) -> u64 {
     generator.next_u64() % (u64::from(most) + 1)
 }
 
-fn drawn_key(alloc: Global, generator: &mut SplitMix64) -> Result<Octets, Fail> {
+fn drawn_key(alloc: Global, generator: &mut SplitMix64) -> Result<Vec<u8>, Fail> {
     let number = (generator.next_u64() % 24) as u8;
-    Ok(Octets::from(Vec::from_slice(alloc, &[number])?))
+    Ok(Vec::from_slice(alloc, &[number])?)
 }
 
-fn drawn_content(alloc: Global, generator: &mut SplitMix64) -> Result<Octets, Fail> {
+fn drawn_content(alloc: Global, generator: &mut SplitMix64) -> Result<Vec<u8>, Fail> {
     let byte = (generator.next_u64() % 256) as u8;
     let length = (generator.next_u64() % 400) as usize;
-    Ok(Octets::from(vec![in alloc; byte; length]?))
+    Ok(vec![in alloc; byte; length]?)
 }
 
 fn drawn_store(alloc: Global, generator: &mut SplitMix64, mode: StoreMode) -> Result<Call, Fail> {
-    let key = drawn_key(alloc, generator)?;
-    let content = drawn_content(alloc, generator)?;
+    let key = Octets::from(drawn_key(alloc, generator)?);
+    let content = Octets::from(drawn_content(alloc, generator)?);
     Ok(Call::Store { key, content, mode })
 }
 
@@ -61,8 +61,8 @@ fn drawn_call(alloc: Global, generator: &mut SplitMix64) -> Result<Call, Fail> {
     match generator.next_u64() % 8 {
         0..=3 => drawn_store(alloc, generator, StoreMode::Replace),
         4 => drawn_store(alloc, generator, StoreMode::Insert),
-        5 | 6 => Ok(Call::Delete(drawn_key(alloc, generator)?)),
-        _ => Ok(Call::Fetch(drawn_key(alloc, generator)?)),
+        5 | 6 => Ok(Call::Delete(Octets::from(drawn_key(alloc, generator)?))),
+        _ => Ok(Call::Fetch(Octets::from(drawn_key(alloc, generator)?))),
     }
 }
 
@@ -72,6 +72,21 @@ fn drawn_calls(alloc: Global, generator: &mut SplitMix64, most: u16) -> Result<V
         calls.push(drawn_call(alloc, generator)?)?;
     }
     Ok(calls)
+}
+
+/// Every second session ends by a group.
+fn drawn_group(alloc: Global, generator: &mut SplitMix64, most: u16) -> Result<Vec<Pair>, Fail> {
+    let mut pairs = Vec::new(alloc);
+    if draw(generator, 1) == 0 {
+        return Ok(pairs);
+    }
+    for _ in 0..draw(generator, most) {
+        pairs.push(Pair {
+            key: drawn_key(alloc, generator)?,
+            content: drawn_content(alloc, generator)?,
+        })?;
+    }
+    Ok(pairs)
 }
 
 fn drawn_marks(alloc: Global, generator: &mut SplitMix64) -> Result<Vec<bool>, Fail> {
@@ -95,6 +110,7 @@ fn drawn_stage(alloc: Global, generator: &mut SplitMix64, most: Most) -> Result<
     Ok(Stage {
         how: drawn_opening(generator),
         calls: drawn_calls(alloc, generator, most.calls)?,
+        group: drawn_group(alloc, generator, most.calls)?,
         device_calls: draw(generator, most.device_calls),
         keep: drawn_marks(alloc, generator)?,
     })
@@ -169,7 +185,10 @@ fn states_of(
 /// How many changes of a session were acknowledged.
 fn acknowledged(before: &Option<Table>, how: Opening, ending: &Ending) -> usize {
     match ending {
-        Ending::Rested(replies) | Ending::Unsettled(replies) | Ending::Broke(replies) => replies
+        Ending::Rested(replies, _)
+        | Ending::Unsettled(replies, _)
+        | Ending::Broke(replies)
+        | Ending::BrokeGroup(replies) => replies
             .iter()
             .filter(|reply| matches!(reply, Reply::Stored | Reply::Deleted))
             .count()
@@ -223,6 +242,60 @@ fn is_left(states: &[Option<Table>], acknowledged: usize, found: &Option<Table>)
         .any(|state| state == found)
 }
 
+/// A table with the first so many of these pairs.
+fn with_first(alloc: Global, table: &Table, group: &[Pair], count: usize) -> Result<Table, Fail> {
+    let mut changed = table.clone()?;
+    for pair in group.iter().take(count) {
+        changed = with_pair(
+            alloc,
+            &changed,
+            pair.key.as_slice(),
+            pair.content.as_slice(),
+        )?;
+    }
+    Ok(changed)
+}
+
+/// Whether a table is left by the acknowledged changes and so many pairs of a group.
+fn is_left_with(
+    alloc: Global,
+    before: Option<&Option<Table>>,
+    group: &[Pair],
+    count: usize,
+    found: &Option<Table>,
+) -> Result<bool, Fail> {
+    let (Some(Some(table)), Some(found)) = (before, found) else {
+        return Ok(false);
+    };
+    Ok(with_first(alloc, table, group, count)? == *found)
+}
+
+/// Whether a session that ended so may leave this behind its acknowledged changes.
+fn may_be_left(
+    alloc: Global,
+    states: &[Option<Table>],
+    acknowledged: usize,
+    group: &[Pair],
+    ending: &Ending,
+    found: &Option<Table>,
+) -> Result<bool, Fail> {
+    let before = states.get(acknowledged);
+    match ending {
+        Ending::Rested(_, count) | Ending::Unsettled(_, count) if *count > 0 => {
+            is_left_with(alloc, before, group, *count, found)
+        }
+        Ending::BrokeGroup(_) => {
+            for count in 0..=group.len() {
+                if is_left_with(alloc, before, group, count, found)? {
+                    return Ok(true);
+                }
+            }
+            Ok(false)
+        }
+        _ => Ok(is_left(states, acknowledged, found)),
+    }
+}
+
 /// Makes a drawn session on a device, and gives what it leaves where that is right.
 fn after_session(
     alloc: Global,
@@ -231,14 +304,22 @@ fn after_session(
     dev: MemDev,
     before: &Option<Table>,
 ) -> Result<Option<(MemDev, Option<Table>)>, Fail> {
-    let stage = drawn_stage(alloc, generator, most)?;
-    let how = stage.how;
-    let states = states_of(alloc, before, &stage)?;
-    let (left, endings) = rehearse(alloc, dev, &[stage])?;
+    let stages = [drawn_stage(alloc, generator, most)?];
+    let [stage] = &stages;
+    let states = states_of(alloc, before, stage)?;
+    let (left, endings) = rehearse(alloc, dev, &stages)?;
     let ending = endings.as_slice().first().ok_or("an ending")?;
     let found = held_by(alloc, &left)?;
-    let acknowledged = acknowledged(before, how, ending);
-    if is_left(states.as_slice(), acknowledged, &found) {
+    let acknowledged = acknowledged(before, stage.how, ending);
+    let group = stage.group.as_slice();
+    if may_be_left(
+        alloc,
+        states.as_slice(),
+        acknowledged,
+        group,
+        ending,
+        &found,
+    )? {
         Ok(Some((left, found)))
     } else {
         Ok(None)

@@ -1,6 +1,6 @@
 //! Two sessions on a device, the first of which is stopped.
 
-use dbm_file::Reply;
+use dbm_file::{Pair, Reply};
 use rehearsal::{Ending, Opening, Stage, rehearse};
 use sect_dev::MemDev;
 use std::alloc::Global;
@@ -59,6 +59,7 @@ fn stage_of(
             limit,
         },
         calls: calls_of(alloc, text)?,
+        group: Vec::new(alloc),
         device_calls,
         keep: Vec::from_slice(alloc, marks)?,
     })
@@ -72,9 +73,10 @@ fn endings_of(alloc: Global, first: Stage, second: Stage) -> Result<Vec<Ending>,
 
 fn replies_of(ending: &Ending) -> &[Reply] {
     match ending {
-        Ending::Rested(replies) | Ending::Unsettled(replies) | Ending::Broke(replies) => {
-            replies.as_slice()
-        }
+        Ending::Rested(replies, _)
+        | Ending::Unsettled(replies, _)
+        | Ending::Broke(replies)
+        | Ending::BrokeGroup(replies) => replies.as_slice(),
         Ending::NotOpened(_) | Ending::NoMemory => &[],
     }
 }
@@ -118,12 +120,12 @@ struct Kept {
 
 /// The same of the first session, where the second finds what it has to.
 fn outcome(first: &Ending, second: &Ending) -> Option<Kept> {
-    let Ending::Rested(fetched) = second else {
+    let Ending::Rested(fetched, _) = second else {
         return None;
     };
     for stored in 0..10 {
         if are_stored(replies_of(first), stored) && are_found(fetched.as_slice(), stored) {
-            let closed = matches!(first, Ending::Rested(_));
+            let closed = matches!(first, Ending::Rested(..));
             return Some(Kept { stored, closed });
         }
     }
@@ -190,7 +192,7 @@ fn is_made_after_stop(alloc: Global, calls: u64) -> Result<bool, Fail> {
     let second = stage_of(alloc, 5, STORES, u64::MAX, &[])?;
     let endings = endings_of(alloc, first, second)?;
     Ok(match endings.as_slice() {
-        [Ending::NotOpened(_), Ending::Rested(replies)] => are_stored(replies.as_slice(), 5),
+        [Ending::NotOpened(_), Ending::Rested(replies, _)] => are_stored(replies.as_slice(), 5),
         _ => false,
     })
 }
@@ -201,5 +203,90 @@ fn a_stopped_making_may_be_made_with_another_limit(rt: HostRuntime) -> Result<()
         let right = is_made_after_stop(rt.alloc(), calls)?;
         assert!(rt; right, "after {calls} calls");
     }
+    Ok(())
+}
+
+/// The nine pairs.
+fn nine_pairs(alloc: Global) -> Result<Vec<Pair>, Fail> {
+    let mut pairs = Vec::new(alloc);
+    for (key, content) in PAIRS.iter() {
+        pairs.push(Pair {
+            key: Vec::from_slice(alloc, &[*key])?,
+            content: Vec::from_slice(alloc, &[*content])?,
+        })?;
+    }
+    Ok(pairs)
+}
+
+/// How many of the nine pairs are found, where that is none or all, each with its content.
+fn none_or_all(fetched: &[Reply]) -> Option<usize> {
+    let mut found = 0usize;
+    for (reply, (_, content)) in fetched.iter().zip(PAIRS.iter()) {
+        match reply {
+            Reply::Bytes(bytes) if bytes.as_slice() == [*content].as_slice() => {
+                found = found.saturating_add(1);
+            }
+            Reply::NoRecord => {}
+            _ => return None,
+        }
+    }
+    (fetched.len() == PAIRS.len() && (found == 0 || found == PAIRS.len())).then_some(found)
+}
+
+/// What became of the nine pairs as a group: how many were acknowledged, and how many were there.
+#[derive(Clone, Copy, PartialEq, Eq)]
+struct Grouped {
+    acknowledged: usize,
+    found: usize,
+    closed: bool,
+}
+
+/// The same of a session that stores them in one commit, and is stopped after so many calls of the
+/// device. A second one looks for them.
+fn group_stopped(alloc: Global, calls: u64, marks: &[bool]) -> Result<Option<Grouped>, Fail> {
+    let mut first = stage_of(alloc, 100, "", calls, marks)?;
+    first.group = nine_pairs(alloc)?;
+    let second = stage_of(alloc, 100, FETCHES, u64::MAX, &[])?;
+    let endings = endings_of(alloc, first, second)?;
+    let [first, Ending::Rested(fetched, 0)] = endings.as_slice() else {
+        return Ok(None);
+    };
+    let acknowledged = match first {
+        Ending::Rested(_, stored) | Ending::Unsettled(_, stored) => *stored,
+        _ => 0,
+    };
+    let closed = matches!(first, Ending::Rested(..));
+    Ok(none_or_all(fetched.as_slice()).map(|found| Grouped {
+        acknowledged,
+        found,
+        closed,
+    }))
+}
+
+/// Stops the group after more and more calls of the device, with each kind of marks, until it is
+/// acknowledged and the database closed, and gives how many stops left pairs that weren't
+/// acknowledged. They take under a hundred.
+fn unacknowledged_groups(alloc: Global) -> Result<u64, Fail> {
+    let mut doubted = 0u64;
+    for calls in 0..100 {
+        let mut closed = true;
+        for marks in MARKS.iter() {
+            let kept = group_stopped(alloc, calls, marks)?.ok_or("none of the pairs, or all")?;
+            if kept.found < kept.acknowledged {
+                return Err("an acknowledged group".into());
+            }
+            doubted = doubted.saturating_add(u64::from(kept.found > kept.acknowledged));
+            closed = closed && kept.closed && kept.acknowledged == PAIRS.len();
+        }
+        if closed {
+            return Ok(doubted);
+        }
+    }
+    Err("a stop behind the closing".into())
+}
+
+#[test]
+fn a_stop_keeps_a_group_or_none_of_it(rt: HostRuntime) -> Result<(), Fail> {
+    assert!(rt; unacknowledged_groups(rt.alloc())? > 0);
     Ok(())
 }

@@ -1,4 +1,4 @@
-use Rattle.dbm_sessions.proofs.Ways.{ends_doubt, takes_nothing, leaves_both}
+use Rattle.dbm_sessions.proofs.Ways.{ends_doubt, takes_nothing, leaves_both, group_leaves_both}
 use Rattle.dbm_sessions.proofs.session_laws.doubt_is_settled.Goals as goal
 
 pub returns : goal.returns
@@ -6,4 +6,5 @@ returns c = record {
   ends = ends_doubt;
   stays = takes_nothing;
   both = leaves_both;
+  group = group_leaves_both;
 }

@@ -1,4 +1,5 @@
 use Rattle.dbm_sessions.proofs.Examples.{acknowledged, store_in_doubt, creation_in_doubt, emptying_in_doubt, wrong_sessions}
+use Rattle.dbm_sessions.proofs.GroupExamples.{group_acknowledged, group_in_doubt, group_of_one_key, wrong_groups}
 use Rattle.dbm_sessions.proofs.session_laws.session_examples.Goals as goal
 
 pub returns : goal.returns
@@ -8,4 +9,8 @@ returns c = record {
   creation = creation_in_doubt;
   emptying = emptying_in_doubt;
   never = wrong_sessions;
+  group = group_acknowledged;
+  group_in_doubt = group_in_doubt;
+  one_key = group_of_one_key;
+  never_group = wrong_groups;
 }

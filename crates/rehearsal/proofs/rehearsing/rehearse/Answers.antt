@@ -23,7 +23,8 @@ loop-stage-init c = record {
       (sym c.new-endings.ensures.items) (none_yet before pages candidate stand);
   size = refl;
   short = λ before stand all asked.
-      subst AreNeverShort (sym c.new-endings.ensures.items) (All-nil IsNeverShort);
+      subst AreNeverShort (sym c.new-endings.ensures.items)
+      (All-nil (λ (e : Ending). (count : ℕ) → IsNeverShort (ending_of e count)));
 }
 
 pub loop-stage-preserved : goal.loop-stage-preserved
@@ -37,6 +38,7 @@ loop-stage-preserved c = record {
       let one = c.stage-item.result in
       let pages = MemDevGhosts.sectors new / 4 in
       let now = MemDevGhosts.candidate new in
+      let next = c.in_ok-left.ensures.leaves so_far.after so_far.stand in
       subst (λ (plans : List Plan). SessionsLeave before plans c.push.new.self.items pages now)
       (sym (seen_next planned stages i one c.loop-stage-test.true c.stage-item.is))
       (subst (λ (es : List Ending).
@@ -44,7 +46,7 @@ loop-stage-preserved c = record {
       (sym c.in_ok-push.ensures.items)
       (one_more before (map planned (take i stages)) c.loop-stage.endings.items (planned one)
       c.in_ok-left.ending (MemDevGhosts.sectors old / 4) pages (MemDevGhosts.candidate old) now
-      so_far (c.in_ok-left.ensures.leaves so_far.after so_far.stand)));
+      so_far next.0 next.1));
   size = c.in_ok-left.ensures.size ∙ c.loop-stage.invariant.size;
   short = λ before stand all asked.
       let so_far = c.loop-stage.invariant.left before stand in
@@ -54,7 +56,7 @@ loop-stage-preserved c = record {
       let first = subst (All (AsksForRoom pages)) (take-map planned i stages)
       (All-take (AsksForRoom pages) i (map planned stages) asked) in
       let room = sessions_keep_room pages before so_far.after (map planned (take i stages))
-      (map ending_of c.loop-stage.endings.items) all first so_far.sessions in
+      so_far.told all first so_far.sessions in
       let one = c.in_ok-left.ensures.room so_far.after so_far.stand
       (subst (λ (n : ℕ). AllHaveRoom n so_far.after) (sym c.loop-stage.invariant.size) room) in
       subst AreNeverShort (sym c.in_ok-push.ensures.items)

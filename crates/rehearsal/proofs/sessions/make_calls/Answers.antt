@@ -1,11 +1,14 @@
-use Rattle.std.proofs.Common.{◌≡◌, ◌≢◌, ◌/◌, ℕ, [], ◌∷◌, inl, map, refl, sym, ◌∙◌, ap, subst}
+use Rattle.std.proofs.Common.{◌≡◌, ◌≢◌, ◌/◌, ℕ, [], ◌∷◌, inl, ⊎_elim, map, refl, sym, ◌∙◌, ap, subst}
 use Rattle.std.proofs.lemmas.List.Elements.{All-nil}
 use Rattle.sect_dev.specs.Device.{LeavesOnly}
 use Rattle.sect_dev.specs.Moments.{IsOutcome, followed_by, weaker}
+use Rattle.chain_walks.specs.Pairs.{pair_of}
 use Rattle.dbm_model.specs.Calls.{Reply, Refused, NoRoom}
+use Rattle.dbm_model.specs.Pairs.{Contents}
 use Rattle.dbm_model.specs.States.{Handle}
 use Rattle.dbm_model.proofs.RoomLemmas.{room_is_known}
-use Rattle.dbm_sessions.specs.Sessions.{Ending, Rested, Broke}
+use Rattle.page_io.specs.Meaning.{ImageStandsFor}
+use Rattle.dbm_sessions.specs.Sessions.{Ending, Rested, Broke, Grouped, BrokeGroup}
 use Rattle.dbm_sessions.specs.Members.{held}
 use Rattle.dbm_sessions.specs.Room.{IsNeverShort}
 use Rattle.dbm_sessions.proofs.Lists.{is_first}
@@ -15,11 +18,13 @@ use Rattle.page_cache.specs.Stores.{store_below}
 use Rattle.dbm_file.specs.Calls.{call_of, reply_of}
 use Rattle.dbm_file.specs.Database.{meta_kept, page_state, IsAt}
 use Rattle.dbm_file.specs.Opened.{device_below}
-use Rattle.dbm_file.proofs.Closings.{lower}
+use Rattle.dbm_file.proofs.Closings.{lower, left_now}
 use Rattle.dbm_file.proofs.OpenedFiles.{stands_for}
-use Rattle.rehearsal.specs.Sessions.{replies_in, CallsLeave, IsLeftByCalls}
-use Rattle.rehearsal.proofs.Moments.{left_within, left_unmade, left_made}
-use Rattle.rehearsal.proofs.Endings.{none_made, by_ending, rested, broke}
+use Rattle.rehearsal.specs.Members.{StandsForOne, AllStandFor}
+use Rattle.rehearsal.specs.Sessions.{ending_of, stored_count, replies_in, CallsLeave, IsLeftByCalls}
+use Rattle.rehearsal.proofs.Moments.{left_within, left_unmade}
+use Rattle.rehearsal.proofs.Endings.{none_made, which_ending, by_ending, broke}
+use Rattle.rehearsal.proofs.Groups.{stored_group, broken_group, grouped, doubted, cut_short, doubted_one, left_in_group, left_grouped, group_moments, same_settles}
 use Rattle.rehearsal.proofs.sessions.make_calls.Goals as goal
 
 -- ---- no call was made
@@ -29,35 +34,41 @@ returns-in_default-clause-leaves g c honest h at usable =
     let same = c.in_default.ensures.memory.1 in
     let now = subst (λ db. IsAt db h) (sym same) at in
     let still = c.close.ensures.honesty.1 (subst g.D.SectorDev.honest
-    (sym (ap (λ db. device_below db) same)) honest) in
-    record {
-      after = held h.state ∷ [];
-      goes = none_made h (map call_of c.args.calls.now) usable;
-      stand = λ image is. (
-        held h.state,
-        is_first (held h.state) [] (held h.state) refl,
-        c.close.ensures.stands still h now usable image is,
-      );
-    }
+    (sym (ap (λ db. device_below db) same)) honest) in (
+      0,
+      record {
+        after = held h.state ∷ [];
+        goes = none_made h (map call_of c.args.calls.now) usable;
+        stand = λ image is. (
+          held h.state,
+          is_first (held h.state) [] (held h.state) refl,
+          c.close.ensures.stands still h now usable image is,
+        );
+      },
+    )
 
 pub returns-in_default-clause-any_moment : goal.returns-in_default-clause-any_moment
 returns-in_default-clause-any_moment g c honest h at usable =
     let dev = g.D.SectorDev in
     let calls = map call_of c.args.calls.now in
+    let group = map pair_of c.args.group.now in
     let same = c.in_default.ensures.memory.1 in
     let now = subst (λ db. IsAt db h) (sym same) at in
     let new = c.run.new.db in
-    let still = subst dev.honest (sym (ap (λ db. device_below db) same)) honest in
-    subst (λ db. LeavesOnly dev.moment
-    (IsOutcome dev.left_since (settled (dev.sectors (device_below db) / 4))) (device_below db)
-    c.close.result.0 (IsLeftByCalls h calls (Rested []))) same
-    (weaker dev.moment
-    (IsOutcome dev.left_since (settled (dev.sectors (device_below new) / 4))) (device_below new)
-    c.close.result.0 (IsLeftByCalls h calls (Rested [])) _ (c.close.ensures.any_moment still)
-    (λ y left. left_unmade h calls usable y (stands_for _ new h y now usable left)))
+    let still = subst dev.honest (sym (ap (λ db. device_below db) same)) honest in (
+      0,
+      subst (λ db. LeavesOnly dev.moment
+          (IsOutcome dev.left_since (settled (dev.sectors (device_below db) / 4))) (device_below db)
+          c.close.result.0 (IsLeftByCalls h calls group (Rested []))) same
+          (weaker dev.moment
+          (IsOutcome dev.left_since (settled (dev.sectors (device_below new) / 4)))
+          (device_below new) c.close.result.0 (IsLeftByCalls h calls group (Rested [])) _
+          (c.close.ensures.any_moment still)
+          (λ y left. left_unmade h calls group usable y (stands_for _ new h y now usable left))),
+    )
 
 pub returns-in_default-clause-room : goal.returns-in_default-clause-room
-returns-in_default-clause-room g c honest h at room =
+returns-in_default-clause-room g c honest h at room count =
     All-nil (λ (reply : Reply). reply ≢ Refused NoRoom)
 
 -- ---- all were made
@@ -67,18 +78,61 @@ returns-clause-leaves g c honest h at usable =
     let dev = g.D.SectorDev in
     let closed = c.close-dev.ensures in
     let left = c.close-dev.result.0 in
-    let new = c.run.new.db in
+    let mid = c.run.new.db in
+    let new = c.store_many-stored.new.self in
+    let stored = c.store_many-stored.result in
     let calls = map call_of c.args.calls.now in
+    let group = map pair_of c.args.group.now in
     let replies = map reply_of c.in-Ok.replies.items in
     let run = c.in-Ok.ensures.run honest h at in
     let still = c.in-Ok.ensures.goes.honesty.1 honest in
-    by_ending (page_state new).usable c.close-dev.result.1 c.ended.result c.in-Ok.replies
-    closed.broken c.ended.ensures.rested c.ended.ensures.failed c.ended.ensures.broke
-    (λ (e : Ending). CallsLeave h calls e (dev.sectors left / 4) (dev.candidate left))
-    (λ sound. rested c.args.db new h calls replies (dev.sectors left / 4) (dev.candidate left) run
-    sound (closed.stands (closed.honesty.1 still)))
-    (λ doubt. broke c.args.db new h calls replies (dev.sectors left / 4) (dev.candidate left) at
-    usable run c.in-Ok.ensures.goes.limit doubt (closed.settles still))
+    let more = c.store_many-stored.ensures in
+    let then = more.keeps.goes.honesty.1 still in
+    let last = run.after in
+    let ends = more.ends still last run.is_at in
+    let limit = ap (λ (x : Handle). x.state.limit) run.is_at.shows in
+    let all = ap (λ (x : Handle). x.state.usable) run.is_at.shows in
+    by_ending (page_state mid).usable (page_state new).usable stored c.close-dev.result.1
+    c.ended.result c.in-Ok.replies more.keeps.broken closed.broken c.ended.ensures.rested
+    c.ended.ensures.failed c.ended.ensures.broke_group c.ended.ensures.broke
+    (λ (e : Ending). CallsLeave h calls group e (dev.sectors left / 4) (dev.candidate left))
+    (λ was now. let one = stored_group _ mid new last group stored ends now in record {
+      after = held one.done.state ∷ [];
+      goes = grouped h last calls group replies run.run (all ∙ was) _ one.done one.run;
+      stand = λ image is. (
+        held one.done.state,
+        is_first (held one.done.state) [] (held one.done.state) refl,
+        subst (λ (m : Contents). ImageStandsFor (settled (dev.sectors left / 4) image) m
+            one.done.state.limit) one.same.0
+            (subst (λ (n : ℕ). ImageStandsFor (settled (dev.sectors left / 4) image)
+            one.shown.state.map n) one.same.1
+            (closed.stands (closed.honesty.1 then) one.shown one.is_at
+            (ap (λ (x : Handle). x.state.usable) one.is_at.shows ∙ now) image is)),
+      );
+    })
+    (λ was now.
+    let one = broken_group _ mid new last group stored ends more.keeps.breaks was now in
+    let members = doubted h last calls group replies run.run (all ∙ was) one.count in
+    let lowered = lower dev (λ cached. device_of (store_below cached)) mid.store new.store _
+    (StandsForOne members) more.keeps.goes.capacity one.survives
+    (λ y some. doubted_one h last calls group replies run.run (all ∙ was) one.count y
+    (meta_kept mid).limit limit some) in (
+      one.count,
+      record {
+        after = members;
+        goes = cut_short h last calls group replies run.run (all ∙ was) one.count;
+        stand = subst (λ d. AllStandFor members (dev.sectors d / 4) (dev.candidate d))
+            (sym (closed.untouched (inl now)))
+            (λ image is. left_now dev (device_below mid) (device_below new) (StandsForOne members)
+            image more.keeps.goes.capacity lowered
+            (λ later. g.met.D.SectorDev.counts_now (device_below new)
+            (dev.moment (device_below mid)) image then later is));
+      },
+    ))
+    (λ broken. broke c.args.db mid h calls group replies (dev.sectors left / 4) (dev.candidate left)
+    at usable run c.in-Ok.ensures.goes.limit broken
+    (λ image is. same_settles _ mid new (settled (dev.sectors left / 4) image)
+    (more.keeps.goes.still broken) (closed.settles then image is)))
 
 pub returns-clause-any_moment : goal.returns-clause-any_moment
 returns-clause-any_moment g c honest h at usable =
@@ -86,35 +140,77 @@ returns-clause-any_moment g c honest h at usable =
     let closed = c.close-dev.ensures in
     let left = c.close-dev.result.0 in
     let old = c.args.db in
-    let new = c.run.new.db in
+    let mid = c.run.new.db in
+    let new = c.store_many-stored.new.self in
+    let stored = c.store_many-stored.result in
     let calls = map call_of c.args.calls.now in
+    let group = map pair_of c.args.group.now in
     let replies = map reply_of c.in-Ok.replies.items in
     let run = c.in-Ok.ensures.run honest h at in
     let goes = c.in-Ok.ensures.goes in
+    let still = goes.honesty.1 honest in
+    let more = c.store_many-stored.ensures in
+    let then = more.keeps.goes.honesty.1 still in
+    let last = run.after in
+    let ends = more.ends still last run.is_at in
+    let limit = ap (λ (x : Handle). x.state.limit) run.is_at.shows in
+    let all = ap (λ (x : Handle). x.state.usable) run.is_at.shows in
+    let pages : ℕ = dev.sectors (device_below old) / 4 in
     let outcome = λ (n : ℕ). IsOutcome dev.left_since (settled n) in
+    let Left = IsLeftByCalls h calls group in
     let within = λ (e : Ending) (same : replies_in e ≡ replies).
-    lower dev (λ cached. device_of (store_below cached)) old.store new.store _
-    (IsLeftByCalls h calls e) goes.capacity
-    (run.survives (sym (ap (λ (x : Handle). x.state.usable) at.shows) ∙ usable))
-    (left_within h run.after calls replies (meta_kept old).limit e same usable
+    lower dev (λ cached. device_of (store_below cached)) old.store mid.store _ (Left e)
+    goes.capacity (run.survives (sym (ap (λ (x : Handle). x.state.usable) at.shows) ∙ usable))
+    (left_within h last calls group replies (meta_kept old).limit e same usable
     (ap (λ (x : Handle). x.state.limit) at.shows)) in
-    by_ending (page_state new).usable c.close-dev.result.1 c.ended.result c.in-Ok.replies
-    closed.broken c.ended.ensures.rested c.ended.ensures.failed c.ended.ensures.broke
-    (λ (e : Ending). LeavesOnly dev.moment (outcome (dev.sectors (device_below old) / 4))
-    (device_below old) left (IsLeftByCalls h calls e))
-    (λ sound.
-    let was = ap (λ (x : Handle). x.state.usable) run.is_at.shows ∙ sound in
-    let Left = IsLeftByCalls h calls (Rested replies) in
-    followed_by dev.moment (outcome (dev.sectors (device_below old) / 4)) (device_below old)
-    (device_below new) left Left Left (within (Rested replies) refl)
-    (subst (λ (n : ℕ). LeavesOnly dev.moment (outcome n) (device_below new) left Left) goes.capacity
-    (weaker dev.moment (outcome (dev.sectors (device_below new) / 4)) (device_below new) left Left
-    _ (closed.any_moment (goes.honesty.1 honest))
-    (λ y may. left_made h run.after calls replies (Rested replies) refl run.run was y
-    (stands_for _ new run.after y run.is_at was may)))) (λ y is. is))
-    (λ doubt. subst (λ d. LeavesOnly dev.moment (outcome (dev.sectors (device_below old) / 4))
-    (device_below old) d (IsLeftByCalls h calls (Broke replies)))
-    (sym (closed.untouched (inl doubt))) (within (Broke replies) refl))
+    by_ending (page_state mid).usable (page_state new).usable stored c.close-dev.result.1
+    c.ended.result c.in-Ok.replies more.keeps.broken closed.broken c.ended.ensures.rested
+    c.ended.ensures.failed c.ended.ensures.broke_group c.ended.ensures.broke
+    (λ (e : Ending). LeavesOnly dev.moment (outcome pages) (device_below old) left (Left e))
+    (λ was now.
+    let one = stored_group _ mid new last group stored ends now in
+    let told = Grouped replies (stored_count stored) in
+    let shown = ap (λ (x : Handle). x.state.usable) one.is_at.shows ∙ now in
+    followed_by dev.moment (outcome pages) (device_below old) (device_below new) left (Left told)
+    (Left told)
+    (followed_by dev.moment (outcome pages) (device_below old) (device_below mid) (device_below new)
+    (Left told) (Left told) (within told refl)
+    (subst (λ (n : ℕ). LeavesOnly dev.moment (outcome n) (device_below mid) (device_below new)
+    (Left told)) goes.capacity
+    (lower dev (λ cached. device_of (store_below cached)) mid.store new.store _ (Left told)
+    more.keeps.goes.capacity
+    (group_moments h last calls group replies run.run (all ∙ was) _ mid new stored ends was now
+    more.keeps.goes.limit limit) (λ y is. is))) (λ y is. is))
+    (subst (λ (n : ℕ). LeavesOnly dev.moment (outcome n) (device_below new) left (Left told))
+    (more.keeps.goes.capacity ∙ goes.capacity)
+    (weaker dev.moment (outcome (dev.sectors (device_below new) / 4)) (device_below new) left
+    (Left told) _ (closed.any_moment then)
+    (λ y may. left_grouped h last calls group replies run.run (all ∙ was) (stored_count stored)
+    one.done y one.run
+    (subst (λ (m : Contents). ImageStandsFor y m one.done.state.limit) one.same.0
+    (subst (λ (n : ℕ). ImageStandsFor y one.shown.state.map n) one.same.1
+    (stands_for _ new one.shown y one.is_at shown may)))))) (λ y is. is))
+    (λ was now.
+    let one = broken_group _ mid new last group stored ends more.keeps.breaks was now in
+    let told = BrokeGroup replies one.count in (
+      one.count,
+      subst (λ d. LeavesOnly dev.moment (outcome pages) (device_below old) d (Left told))
+          (sym (closed.untouched (inl now)))
+          (followed_by dev.moment (outcome pages) (device_below old) (device_below mid)
+          (device_below new) (Left told) (Left told) (within told refl)
+          (subst (λ (n : ℕ). LeavesOnly dev.moment (outcome n) (device_below mid) (device_below new)
+          (Left told)) goes.capacity
+          (lower dev (λ cached. device_of (store_below cached)) mid.store new.store _ (Left told)
+          more.keeps.goes.capacity one.survives
+          (λ y some. left_in_group h last calls group replies run.run (all ∙ was) one.count y
+          (meta_kept mid).limit limit some))) (λ y is. is)),
+    ))
+    (λ broken.
+    let now = ⊎_elim (λ same. same ∙ broken) (λ device. device.1) more.keeps.breaks in
+    subst (λ d. LeavesOnly dev.moment (outcome pages) (device_below old) d (Left (Broke replies)))
+    (sym (closed.untouched (inl now)
+    ∙ ap (λ store. device_of (store_below store)) (more.keeps.goes.still broken)))
+    (within (Broke replies) refl))
 
 -- no reply says that there is no room
 pub returns-clause-room : goal.returns-clause-room
@@ -122,6 +218,9 @@ returns-clause-room g c honest h at room =
     let run = c.in-Ok.ensures.run honest h at in
     let replies = map reply_of c.in-Ok.replies.items in
     let never = (room_is_known h run.after (map call_of c.args.calls.now) replies room run.run).0 in
-    by_ending (page_state c.run.new.db).usable c.close-dev.result.1 c.ended.result c.in-Ok.replies
-    c.close-dev.ensures.broken c.ended.ensures.rested c.ended.ensures.failed c.ended.ensures.broke
-    IsNeverShort (λ sound. never) (λ doubt. never)
+    which_ending (page_state c.run.new.db).usable (page_state c.store_many-stored.new.self).usable
+    c.store_many-stored.result c.close-dev.result.1 c.ended.result c.in-Ok.replies
+    c.store_many-stored.ensures.keeps.broken c.close-dev.ensures.broken c.ended.ensures.rested
+    c.ended.ensures.failed c.ended.ensures.broke_group c.ended.ensures.broke
+    (λ e. (count : ℕ) → IsNeverShort (ending_of e count))
+    (λ was now. (λ count. never, λ count. never)) (λ was now count. never) (λ broken count. never)

@@ -25,23 +25,25 @@ returns-in-Err-clause-leaves g c honest before stand =
     let how = c.args.how in
     let pages = dev.sectors old / 4 in
     let all = c.in-Err.ensures in
-    let within = all.any_moment honest in
-    record {
-      after = before ++ map (opened (opening_of how)) before;
-      step = refl;
-      stand = λ image is.
-          subst (λ (n : ℕ). StandsForOne (before ++ map (opened (opening_of how)) before)
-          (settled n image)) (sym all.size.0)
-          (remains before how (dev.sectors old) (dev.candidate old) stand (settled pages image)
-          (subst (λ (asked : OpenHow). MayRemain asked (dev.sectors old) (dev.candidate old)
-          (settled pages image)) c.for_writing.ensures
-          (within.each (settled pages image) (record {
-            left = image;
-            is_left = g.met.D.SectorDev.counts_now new (dev.moment old) image
-                (all.honesty.1 honest) within.later is;
-            reads = refl;
-          }))));
-    }
+    let within = all.any_moment honest in (
+      0,
+      record {
+        after = before ++ map (opened (opening_of how)) before;
+        step = refl;
+        stand = λ image is.
+            subst (λ (n : ℕ). StandsForOne (before ++ map (opened (opening_of how)) before)
+            (settled n image)) (sym all.size.0)
+            (remains before how (dev.sectors old) (dev.candidate old) stand (settled pages image)
+            (subst (λ (asked : OpenHow). MayRemain asked (dev.sectors old) (dev.candidate old)
+            (settled pages image)) c.for_writing.ensures
+            (within.each (settled pages image) (record {
+              left = image;
+              is_left = g.met.D.SectorDev.counts_now new (dev.moment old) image
+                  (all.honesty.1 honest) within.later is;
+              reads = refl;
+            }))));
+      },
+    )
 
 pub returns-in-Ok-clause-leaves : goal.returns-in-Ok-clause-leaves
 returns-in-Ok-clause-leaves g c honest before stand =
@@ -53,34 +55,38 @@ returns-in-Ok-clause-leaves g c honest before stand =
     (dev.candidate old) is_asked stand (c.in-Ok.ensures.stands honest
     (λ reads. absurd (never_reads how c.for_writing.result is_asked reads))
     (all_stand before (dev.sectors old / 4) (dev.candidate old) stand)) in
-    let rest = c.make_calls.ensures.leaves (c.in-Ok.ensures.honesty.1 honest) start.handle
+    let some = c.make_calls.ensures.leaves (c.in-Ok.ensures.honesty.1 honest) start.handle
     start.is_at start.usable in
-    record {
-      after = rest.after;
-      step = step_of before (plan_of how c.args.calls.now) (ending_of c.make_calls.result.1)
-          rest.after start.handle start.begins rest.goes;
-      stand = rest.stand;
-    }
+    let rest = some.1 in (
+      some.0,
+      record {
+        after = rest.after;
+        step = step_of before (plan_of how c.args.calls.now c.args.group.now)
+            (ending_of c.make_calls.result.1 some.0) rest.after start.handle start.begins rest.goes;
+        stand = rest.stand;
+      },
+    )
 
 pub returns-in-Err-clause-any_moment : goal.returns-in-Err-clause-any_moment
 returns-in-Err-clause-any_moment g c honest before stand =
     let dev = g.D.SectorDev in
     let old = c.args.dev in
     let how = c.args.how in
-    let plan = plan_of how c.args.calls.now in
-    let told = NotOpened (fault_of c.in-Err.fault) in
-    weaker dev.moment (IsOutcome dev.left_since (settled (dev.sectors old / 4))) old c.in-Err.dev
-    (IsLeftByStop before plan told) _ (c.in-Err.ensures.any_moment honest)
-    (left_in_opening before how c.for_writing.result plan.calls (dev.sectors old)
-    (dev.candidate old) told c.for_writing.ensures stand)
+    let plan = plan_of how c.args.calls.now c.args.group.now in
+    let told = NotOpened (fault_of c.in-Err.fault) in (
+      0,
+      weaker dev.moment (IsOutcome dev.left_since (settled (dev.sectors old / 4))) old c.in-Err.dev
+          (IsLeftByStop before plan told) _ (c.in-Err.ensures.any_moment honest)
+          (left_in_opening before how c.for_writing.result plan.calls plan.group (dev.sectors old)
+          (dev.candidate old) told c.for_writing.ensures stand),
+    )
 
 pub returns-in-Ok-clause-any_moment : goal.returns-in-Ok-clause-any_moment
 returns-in-Ok-clause-any_moment g c honest before stand =
     let dev = g.D.SectorDev in
     let old = c.args.dev in
     let how = c.args.how in
-    let plan = plan_of how c.args.calls.now in
-    let told = ending_of c.make_calls.result.1 in
+    let plan = plan_of how c.args.calls.now c.args.group.now in
     let is_asked = c.for_writing.ensures in
     let mid = device_below c.in-Ok.db in
     let start = begun c.in-Ok.db before how c.for_writing.result (dev.sectors old)
@@ -89,17 +95,20 @@ returns-in-Ok-clause-any_moment g c honest before stand =
     (all_stand before (dev.sectors old / 4) (dev.candidate old) stand)) in
     let later = c.make_calls.ensures.any_moment (c.in-Ok.ensures.honesty.1 honest) start.handle
     start.is_at start.usable in
-    followed_by dev.moment (IsOutcome dev.left_since (settled (dev.sectors old / 4))) old mid
-    c.make_calls.result.0 (IsLeftByStop before plan told)
-    (IsLeftByCalls start.handle plan.calls told)
-    (weaker dev.moment (IsOutcome dev.left_since (settled (dev.sectors old / 4))) old mid
-    (IsLeftByStop before plan told) _ (c.in-Ok.ensures.any_moment honest)
-    (left_in_opening before how c.for_writing.result plan.calls (dev.sectors old)
-    (dev.candidate old) told is_asked stand))
-    (subst (λ (n : ℕ). LeavesOnly dev.moment (IsOutcome dev.left_since (settled n)) mid
-    c.make_calls.result.0 (IsLeftByCalls start.handle plan.calls told))
-    c.in-Ok.ensures.size.0 later)
-    (left_in_calls before plan start.handle told start.begins)
+    let told = ending_of c.make_calls.result.1 later.0 in (
+      later.0,
+      followed_by dev.moment (IsOutcome dev.left_since (settled (dev.sectors old / 4))) old mid
+          c.make_calls.result.0 (IsLeftByStop before plan told)
+          (IsLeftByCalls start.handle plan.calls plan.group told)
+          (weaker dev.moment (IsOutcome dev.left_since (settled (dev.sectors old / 4))) old mid
+          (IsLeftByStop before plan told) _ (c.in-Ok.ensures.any_moment honest)
+          (left_in_opening before how c.for_writing.result plan.calls plan.group (dev.sectors old)
+          (dev.candidate old) told is_asked stand))
+          (subst (λ (n : ℕ). LeavesOnly dev.moment (IsOutcome dev.left_since (settled n)) mid
+          c.make_calls.result.0 (IsLeftByCalls start.handle plan.calls plan.group told))
+          c.in-Ok.ensures.size.0 later.1)
+          (left_in_calls before plan start.handle told start.begins),
+    )
 
 pub returns-in-Ok-clause-refused : goal.returns-in-Ok-clause-refused
 returns-in-Ok-clause-refused g c honest =
@@ -110,7 +119,7 @@ returns-in-Ok-clause-opens g c honest none stand allow =
     none_refused c.make_calls.result.1 _ c.make_calls.ensures.opened
 
 pub returns-in-Err-clause-room : goal.returns-in-Err-clause-room
-returns-in-Err-clause-room g c honest all =
+returns-in-Err-clause-room g c honest all count =
     not_short c.in-Err.fault (c.in-Err.ensures.room honest all).0
 
 pub returns-in-Ok-clause-room : goal.returns-in-Ok-clause-room

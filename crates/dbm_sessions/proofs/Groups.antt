@@ -1,0 +1,88 @@
+-- What is left by a group of pairs that was committed, or whose commit was cut short.
+use Rattle.std.proofs.Common.{◌≡◌, ⊎_elim, inl, inr, ℕ, true, false, List, [], ◌∷◌, ◌++◌, take, map, refl, sym, ◌∙◌, ap, ap₂, subst, Contains}
+use Rattle.dbm_model.specs.Calls.{Call, Reply, Stored}
+use Rattle.dbm_model.specs.Pairs.{Pair, Contents}
+use Rattle.dbm_model.specs.States.{Handle}
+use Rattle.dbm_model.specs.Steps.{Step, Run}
+use Rattle.dbm_model.proofs.CaseLemmas.{map_of_usable, breaks_by_change}
+use Rattle.dbm_model.proofs.StayLemmas.{settings_stay}
+use Rattle.dbm_sessions.specs.Members.{Member, Members, Holding, held}
+use Rattle.dbm_sessions.specs.Sessions.{Plan, replacing, with_pairs, Groups, GroupCutShort}
+use Rattle.dbm_sessions.specs.Changes.{Change, PutsAll, Marked, Acknowledged, InDoubt, of_opening, of_calls, of_group, LeftBy, OnlyLastInDoubt}
+use Rattle.dbm_sessions.proofs.Lists.{in_one, in_two, is_first, is_later}
+use Rattle.dbm_sessions.proofs.Leaving.{left_append, left_rest, one_behind, opening_all}
+use Rattle.dbm_sessions.proofs.Calls.{calls_all}
+use Rattle.dbm_sessions.proofs.Cuts.{goes_left}
+
+-- ---- stores one after another
+
+stays_usable : (before after : Handle) (call : Call) → Step before call Stored after
+    → before.state.usable ≡ true → after.state.usable ≡ true
+stays_usable before after call step usable = elim after.state.usable as
+    (λ b. after.state.usable ≡ b → b ≡ true) [
+      | true ↦ λ is. refl
+      | false ↦ λ is. absurd
+          (let never = (breaks_by_change before after call Stored step usable is).1 in cc)
+    ] refl
+
+stored_left : (first last : Handle) (pairs : List Pair)
+    → Run first (map replacing pairs) (map (λ _. Stored) pairs) last → first.state.usable ≡ true
+    → held last.state ≡ Holding (with_pairs first.state.map pairs) first.state.limit
+stored_left first last [] run usable = ap (λ (h : Handle). held h.state) run
+stored_left first last (pair ∷ pairs) run usable =
+    let now = stays_usable first run.0 (replacing pair) run.1 usable in
+    stored_left run.0 last pairs run.2 now
+    ∙ ap₂ Holding (ap (λ (map : Contents). with_pairs map pairs)
+    (map_of_usable first run.0 (replacing pair) Stored run.1 now))
+    (settings_stay first run.0 (replacing pair) Stored run.1).0
+
+-- ---- behind the calls
+
+pub group_left : (first : Handle) (calls : List Call) (replies : List Reply) (stored : List Pair)
+    (after : Members) → Groups first calls replies stored after → (member : Member)
+    → Contains after member
+    → LeftBy (of_calls calls replies ++ Acknowledged (PutsAll stored) ∷ []) (held first.state)
+    member
+group_left first calls replies stored after g member is =
+    left_append (of_calls calls replies) (Acknowledged (PutsAll stored) ∷ []) (held first.state)
+    (held g.goes.last.state) member (goes_left first calls replies g.goes)
+    (in_one (held g.last.state) member (subst (λ (ms : Members). Contains ms member) g.left is)
+    ∙ stored_left (record g.goes.last { faults = g.last.faults }) g.last stored g.run
+    g.goes.usable)
+
+-- cut short
+module _ (first : Handle) (calls : List Call) (replies : List Reply) (asked : List Pair)
+    (after : Members) (cut : GroupCutShort first calls replies asked after) where
+  abbrev without : Member
+  without = held cut.goes.last.state
+
+  abbrev whole : Member
+  whole = held (record cut.goes.last.state { map = with_pairs cut.goes.last.state.map asked })
+
+  pub group_cut_left : (member : Member) → Contains after member
+      → LeftBy (of_calls calls replies ++ InDoubt (PutsAll asked) ∷ []) (held first.state) member
+  group_cut_left member is =
+      left_append (of_calls calls replies) (InDoubt (PutsAll asked) ∷ []) (held first.state)
+      without member (goes_left first calls replies cut.goes)
+      (⊎_elim (λ e. inr e) (λ e. inl e)
+      (in_two without whole member (subst (λ (ms : Members). Contains ms member) cut.left is)))
+
+  pub group_cut_has : (member : Member)
+      → LeftBy (of_calls calls replies ++ InDoubt (PutsAll asked) ∷ []) (held first.state) member
+      → Contains after member
+  group_cut_has member left =
+      subst (λ (ms : Members). Contains ms member) (sym cut.left)
+      (⊎_elim (λ e. is_later without (whole ∷ []) member (is_first whole [] member e))
+      (λ e. is_first without (whole ∷ []) member e)
+      (left_rest (of_calls calls replies) (InDoubt (PutsAll asked) ∷ []) (held first.state) without
+      member (calls_all calls replies) (goes_left first calls replies cut.goes) left))
+
+-- one in doubt at most
+pub group_one : (mark : Change → Marked) (plan : Plan) (replies : List Reply) (count : ℕ)
+    → OnlyLastInDoubt (mark (PutsAll (take count plan.group)) ∷ [])
+    → OnlyLastInDoubt (of_group mark plan replies count)
+group_one mark plan replies count one =
+    let last = mark (PutsAll (take count plan.group)) ∷ [] in
+    one_behind (of_opening Acknowledged plan.how) (of_calls plan.calls replies ++ last)
+    (opening_all plan.how)
+    (one_behind (of_calls plan.calls replies) last (calls_all plan.calls replies) one)

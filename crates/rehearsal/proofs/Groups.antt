@@ -1,0 +1,209 @@
+-- A group that is stored behind the calls of a session, and what a stop within its commit leaves.
+use Rattle.std.proofs.Common.{◌≡◌, ◌⊎◌, inl, inr, ⊎_elim, ℕ, true, false, List, [], ◌∷◌, take, map, Result, Ok, Err, refl, sym, ◌∙◌, ap, subst, IsErrOf}
+use Rattle.std.specs.FinMap.{insert}
+use Rattle.std.proofs.lemmas.Bool.{false≢true}
+use Rattle.sect_dev.specs.Device.{LeavesOnly}
+use Rattle.sect_dev.specs.Moments.{weaker}
+use Rattle.dbm_model.specs.Calls.{Call, Reply, Stored}
+use Rattle.dbm_model.specs.Pairs.{Pair, Contents}
+use Rattle.dbm_model.specs.States.{State, Handle}
+use Rattle.dbm_model.specs.Steps.{Run}
+use Rattle.page_io.specs.Store.{Settled}
+use Rattle.page_io.specs.Meaning.{ImageStandsFor}
+use Rattle.page_io.specs.declared.store.PageStore.{Ghosts}
+use Rattle.dbm_sessions.specs.Members.{Member, Holding, Members, held}
+use Rattle.dbm_sessions.specs.Sessions as model
+use Rattle.dbm_sessions.specs.Sessions.{StoppedGroup, Groups, GroupCutShort, replacing, with_pairs}
+use Rattle.dbm_sessions.proofs.Lists.{is_first, is_later}
+use Rattle.dbm_fault.specs.declared.fault.Fault.{Fault}
+use Rattle.dbm_fault.specs.declared.fault.Fault.TheVariants.{Device}
+use Rattle.dbm_file.specs.Answers.{StandsForSome, Survives}
+use Rattle.dbm_file.specs.Database.{store_of, meta_kept, page_state, IsAt}
+use Rattle.dbm_file.specs.Groups as files
+use Rattle.dbm_file.specs.Groups.{GroupEnds}
+use Rattle.dbm_file.specs.declared.database.Database.{Database}
+use Rattle.rehearsal.specs.Members.{StandsForOne}
+use Rattle.rehearsal.specs.Sessions.{stored_count, IsLeftByCalls}
+use Rattle.rehearsal.proofs.Endings.{all_go}
+use Rattle.rehearsal.proofs.Moments.{left_made}
+
+-- both crates put pairs into a map alike
+same_pairs : (contents : Contents) (pairs : List Pair)
+    → files.with_pairs contents pairs ≡ with_pairs contents pairs
+same_pairs contents [] = refl
+same_pairs contents (pair ∷ pairs) = same_pairs (insert contents pair.0 pair.1) pairs
+
+-- ---- the group itself
+
+-- where the database is usable behind it, so many of its pairs are stored
+pub record IsStoredGroup {S : Type 0} {s : Ghosts S} (new : Database S s) (before : Handle)
+    (pairs : List Pair) : Type 0 where
+  pub done : Handle
+  pub run : Run (record before { faults = done.faults }) (map replacing pairs)
+      (map (λ _. Stored) pairs) done
+  pub shown : Handle
+  pub is_at : IsAt new shown
+  pub same : (shown.state.map ≡ done.state.map) × (shown.state.limit ≡ done.state.limit)
+
+-- where its commit broke the database, each image has none of the pairs or the first ones
+pub record IsBrokenGroup {S : Type 0} {s : Ghosts S} (old new : Database S s) (before : Handle)
+    (pairs : List Pair) : Type 0 where
+  pub count : ℕ
+  pub survives : Survives old new (λ left. (left ≡ before.state.map)
+      ⊎ (left ≡ with_pairs before.state.map (take count pairs)))
+
+module _ {S : Type 0} (s : Ghosts S) (old new : Database S s) (before : Handle)
+    (pairs : List Pair) where
+  pub stored_group : (stored : Result ℕ Fault) → GroupEnds old new before pairs stored
+      → (page_state new).usable ≡ true → IsStoredGroup new before (take (stored_count stored) pairs)
+  stored_group (Ok count) ends usable = record {
+    done = ends.after;
+    run = ends.run;
+    shown = ends.after;
+    is_at = ends.is_at;
+    same = (refl, refl);
+  }
+  stored_group (Err fault) ends usable = record {
+    done = before;
+    run = refl;
+    shown = ends.after;
+    is_at = ends.is_at;
+    same = ⊎_elim
+        (λ refused. (ap (λ (x : State). x.map) refused, ap (λ (x : State). x.limit) refused))
+        (λ breaks. absurd (false≢true (sym (ap (λ (x : State). x.usable) breaks.4)
+        ∙ ap (λ (x : Handle). x.state.usable) ends.is_at.shows ∙ usable))) ends.ends;
+  }
+
+  pub broken_group : (stored : Result ℕ Fault) → GroupEnds old new before pairs stored
+      → ((page_state new).usable ≡ (page_state old).usable)
+      ⊎ (IsErrOf stored Device × ((page_state new).usable ≡ false))
+      → (page_state old).usable ≡ true → (page_state new).usable ≡ false
+      → IsBrokenGroup old new before pairs
+  broken_group (Ok count) ends (inl still) was now = absurd (false≢true (sym now ∙ still ∙ was))
+  broken_group (Ok count) ends (inr device) was now = absurd (let e = device.0 in cc)
+  broken_group (Err fault) ends still was now = record {
+    count = ends.count;
+    survives = weaker s.moment s.settled_since (store_of old) (store_of new) _ _
+        (ends.survives was) (λ y some. (
+          some.0,
+          ⊎_elim (λ none. inl none)
+              (λ first. inr (first.1 ∙ same_pairs before.state.map (take ends.count pairs))) some.1,
+          some.2,
+        ));
+  }
+
+-- a store that is as it was settles as it did
+pub same_settles : {S : Type 0} (s : Ghosts S) (old new : Database S s) (y : Settled)
+    → store_of new ≡ store_of old → s.settles_to (store_of new) y → s.settles_to (store_of old) y
+same_settles s old new y same left = subst (λ store. s.settles_to store y) same left
+
+-- ---- behind the calls of a session
+
+module _ (first last : Handle) (calls : List Call) (group : List Pair) (replies : List Reply)
+    (run : Run first calls replies last) (usable : last.state.usable ≡ true) where
+  pub grouped : (stored : List Pair) (done : Handle)
+      → Run (record last { faults = done.faults }) (map replacing stored) (map (λ _. Stored) stored)
+      done → Groups first calls replies stored (held done.state ∷ [])
+  grouped stored done steps = record {
+    goes = all_go first last calls replies run usable;
+    all = refl;
+    last = done;
+    run = steps;
+    left = refl;
+  }
+
+  -- the map behind the calls, with the first pairs of the group
+  abbrev with_first : ℕ → Member
+  with_first count =
+      held (record last.state { map = with_pairs last.state.map (take count group) })
+
+  -- that one, or the one without them
+  abbrev pub doubted : ℕ → Members
+  doubted count = held last.state ∷ with_first count ∷ []
+
+  pub cut_short : (count : ℕ)
+      → GroupCutShort first calls replies (take count group) (doubted count)
+  cut_short count = record {
+    goes = all_go first last calls replies run usable;
+    all = refl;
+    left = refl;
+  }
+
+  -- an image that stands for one of them
+  pub doubted_one : (count : ℕ) (y : Settled) (limit : ℕ) → last.state.limit ≡ limit
+      → StandsForSome (λ left. (left ≡ last.state.map)
+      ⊎ (left ≡ with_pairs last.state.map (take count group))) limit y
+      → StandsForOne (doubted count) y
+  doubted_one count y limit same (contents, left, stands) = (
+    Holding contents last.state.limit,
+    ⊎_elim
+        (λ none. is_first (held last.state) (with_first count ∷ [])
+        (Holding contents last.state.limit)
+        (ap (λ (m : Contents). Holding m last.state.limit) none))
+        (λ some. is_later (held last.state) (with_first count ∷ [])
+        (Holding contents last.state.limit)
+        (is_first (with_first count) [] (Holding contents last.state.limit)
+        (ap (λ (m : Contents). Holding m last.state.limit) some))) left,
+    subst (λ (n : ℕ). ImageStandsFor y contents n) (sym same) stands,
+  )
+
+  -- a stop within a commit that broke the database
+  pub left_in_group : (count : ℕ) (y : Settled) (limit : ℕ) → last.state.limit ≡ limit
+      → StandsForSome (λ left. (left ≡ last.state.map)
+      ⊎ (left ≡ with_pairs last.state.map (take count group))) limit y
+      → IsLeftByCalls first calls group (model.BrokeGroup replies count) y
+  left_in_group count y limit limit_is some = record {
+    stop = StoppedGroup replies count;
+    is_stop = inr refl;
+    after = doubted count;
+    goes = cut_short count;
+    stands = doubted_one count y limit limit_is some;
+  }
+
+  -- a stop behind it
+  pub left_grouped : (stored : ℕ) (done : Handle) (y : Settled)
+      → Run (record last { faults = done.faults }) (map replacing (take stored group))
+      (map (λ _. Stored) (take stored group)) done
+      → ImageStandsFor y done.state.map done.state.limit
+      → IsLeftByCalls first calls group (model.Grouped replies stored) y
+  left_grouped stored done y steps stands = record {
+    stop = model.Grouped replies stored;
+    is_stop = refl;
+    after = held done.state ∷ [];
+    goes = grouped (take stored group) done steps;
+    stands = (held done.state, is_first (held done.state) [] (held done.state) refl, stands);
+  }
+
+  -- and a stop at any moment of a group that left the database usable
+  pub group_moments : {S : Type 0} (s : Ghosts S) (old new : Database S s)
+      (stored : Result ℕ Fault) → GroupEnds old new last group stored
+      → (page_state old).usable ≡ true → (page_state new).usable ≡ true
+      → (meta_kept new).limit ≡ (meta_kept old).limit
+      → last.state.limit ≡ (meta_kept old).limit
+      → LeavesOnly s.moment s.settled_since (store_of old) (store_of new)
+      (IsLeftByCalls first calls group (model.Grouped replies (stored_count stored)))
+  group_moments s old new (Ok count) ends was now kept limit =
+      weaker s.moment s.settled_since (store_of old) (store_of new) _ _ (ends.survives was)
+      (λ y some. ⊎_elim
+      (λ none. left_made first last calls group replies (model.Grouped replies count) refl run
+      usable y (stands y some none limit))
+      (λ all. left_grouped count ends.after y ends.run
+      (subst (λ (m : Contents). ImageStandsFor y m ends.after.state.limit) all
+      (subst (λ (n : ℕ). ImageStandsFor y some.0 n)
+      (sym (ap (λ (x : Handle). x.state.limit) ends.is_at.shows ∙ kept)) some.2)))
+      some.1)
+    where
+      stands : (y : Settled) (some : StandsForSome (λ left. (left ≡ last.state.map)
+          ⊎ (left ≡ ends.after.state.map)) (meta_kept old).limit y)
+          → some.0 ≡ last.state.map → last.state.limit ≡ (meta_kept old).limit
+          → ImageStandsFor y last.state.map last.state.limit
+      stands y some none same = subst (λ (m : Contents). ImageStandsFor y m last.state.limit) none
+          (subst (λ (n : ℕ). ImageStandsFor y some.0 n) (sym same) some.2)
+  group_moments s old new (Err fault) ends was now kept limit =
+      weaker s.moment s.settled_since (store_of old) (store_of new) _ _ (ends.survives was)
+      (λ y some. ⊎_elim
+      (λ none. left_made first last calls group replies (model.Grouped replies 0) refl run usable y
+      (subst (λ (m : Contents). ImageStandsFor y m last.state.limit) none
+      (subst (λ (n : ℕ). ImageStandsFor y some.0 n) (sym limit) some.2)))
+      (λ broken. absurd (false≢true (sym broken.0
+      ∙ ap (λ (x : Handle). x.state.usable) ends.is_at.shows ∙ now))) some.1)
