@@ -11,6 +11,7 @@ use Rattle.page_io.specs.declared.store.PageFault.TheVariants.{Broken, Device}
 use Rattle.page_io.specs.declared.store.PageStore.{Ghosts}
 use Rattle.page_io.proofs.Overlays.{overlaid-none, page_of-file}
 use Rattle.page_io.proofs.StagedPages.{has_page-put_other}
+use Rattle.std.specs.Global.{Box}
 use Rattle.std.specs.Map.{remove_entry}
 use Rattle.lru.specs.LruCache.{promoted}
 use Rattle.lru.proofs.CallerLemmas.{Contains-promoted, Contains-remove_entry}
@@ -25,14 +26,14 @@ usable_from broken false told not = absurd (false≢true (sym not ∙ told refl)
 
 module _ {S : Type 0} (s : Ghosts S) where
   -- a copy goes to the front
-  pub moved : (store : S) (old new : List (ℕ × Page)) (n : ℕ) → AreClean s store old
+  pub moved : (store : S) (old new : List (ℕ × Box Page)) (n : ℕ) → AreClean s store old
       → new ≡ promoted (nat_eq n) old → AreClean s store new
   moved store old new n clean same k page c =
       clean k page (Contains-promoted (nat_eq n) old (k, page)
       (subst (λ es. Contains es (k, page)) same c))
 
   -- a copy goes
-  pub fewer : (store : S) (old new : List (ℕ × Page)) (n : ℕ) → AreClean s store old
+  pub fewer : (store : S) (old new : List (ℕ × Box Page)) (n : ℕ) → AreClean s store old
       → new ≡ remove_entry (nat_eq n) old → AreClean s store new
   fewer store old new n clean same k page c =
       clean k page (Contains-remove_entry (nat_eq n) old (k, page)
@@ -46,16 +47,16 @@ module _ {S : Type 0} (s : Ghosts S) where
       ∙ sym (overlaid-none (s.state store).staged (page_of (s.committed store)) n clean.unstaged)
 
   -- a page that was read and is not staged is a clean copy
-  pub with_read : (store : S) (old new : List (ℕ × Page)) (n : ℕ) (page : Page)
+  pub with_read : (store : S) (old new : List (ℕ × Box Page)) (n : ℕ) (page : Page)
       → AreClean s store old → has_page (s.state store).staged n ≡ false
       → (s.honest store
       → page.bytes ≡ overlaid (s.state store).staged (page_of (s.committed store)) n)
-      → ((k : ℕ) (one : Page) → Contains new (k, one)
-      → Contains old (k, one) ⊎ ((k ≡ n) × (one ≡ page)))
+      → ((k : ℕ) (one : Box Page) → Contains new (k, one)
+      → Contains old (k, one) ⊎ ((k ≡ n) × (one.value ≡ page)))
       → AreClean s store new
   with_read store old new n page clean none found put k one c = elim (put k one c) [
     | inl before ↦ clean k one before
-    | inr same ↦ subst (λ m. IsClean s store m one) (sym same.0)
+    | inr same ↦ subst (λ m. IsClean s store m one.value) (sym same.0)
         (subst (λ p. IsClean s store n p) (sym same.1)
         (record {
           unstaged = none;
@@ -66,12 +67,12 @@ module _ {S : Type 0} (s : Ghosts S) where
 
   -- ---- the store below before a call and after it
 
-  module _ (old new : S) (copies : List (ℕ × Page)) (clean : AreClean s old copies)
+  module _ (old new : S) (copies : List (ℕ × Box Page)) (clean : AreClean s old copies)
       (was : s.honest new → s.honest old) where
     -- other pages are staged, none of which has a copy
     other_staged : (staged : Pages) → s.state new ≡ record (s.state old) { staged = staged }
         → (s.honest old → s.committed new ≡ s.committed old)
-        → ((n : ℕ) (page : Page) → Contains copies (n, page)
+        → ((n : ℕ) (page : Box Page) → Contains copies (n, page)
         → has_page (s.state old).staged n ≡ false → has_page staged n ≡ false)
         → AreClean s new copies
     other_staged staged same pages none n page c =
@@ -151,7 +152,7 @@ module _ {S : Type 0} (s : Ghosts S) where
           record {
             unstaged = ap (λ (st : StoreState). has_page st.staged n) same;
             same = λ h usable ge lt.
-                stays n page one.unstaged (one.same (was h)
+                stays n page.value one.unstaged (one.same (was h)
                 (ap (λ (st : StoreState). st.usable) (sym same) ∙ usable) ge) ge
                 (subst (λ (st : StoreState). n < st.end) same lt)
                 ∙ ap (λ (ps : Pages). page_of ps n) (sym (pages (was h)));

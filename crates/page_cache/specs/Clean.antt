@@ -1,5 +1,6 @@
 -- What is true of the copies of pages that are kept over a store.
 use Rattle.std.specs.Prelude.{◌≡◌, ◌<◌, ◌≤◌, ℕ, true, false, List, Contains}
+use Rattle.std.specs.Global.{Box}
 use Rattle.page_io.specs.Store.{StoreState, page_of, has_page}
 use Rattle.page_io.specs.declared.page.Page.{Page}
 use Rattle.page_io.specs.declared.store.PageStore.{Ghosts}
@@ -12,9 +13,9 @@ pub record IsClean {S : Type 0} (s : Ghosts S) (store : S) (n : ℕ) (page : Pag
       → page.bytes ≡ page_of (s.committed store) n
 
 -- each copy is clean
-abbrev pub AreClean : {S : Type 0} → Ghosts S → S → List (ℕ × Page) → Type 0
-AreClean s store copies = (n : ℕ) (page : Page) → Contains copies (n, page)
-    → IsClean s store n page
+abbrev pub AreClean : {S : Type 0} → Ghosts S → S → List (ℕ × Box Page) → Type 0
+AreClean s store copies = (n : ℕ) (copy : Box Page) → Contains copies (n, copy)
+    → IsClean s store n copy.value
 
 -- a read may answer a copy of page n: the store can be used, and the file has that page
 abbrev pub IsReadable : StoreState → ℕ → Type 0

@@ -1,5 +1,6 @@
 // Pages in memory by their numbers, of which the least recently used one goes.
 ghost use Rattle.std.specs.Prelude.{◌≡◌, ◌⊎◌, ℕ, [], Contains, IsTrue, nat_eq};
+ghost use Rattle.std.specs.Global.{Box};
 ghost use Rattle.std.specs.Map.{remove_entry};
 ghost use Rattle.lru.specs.LruCache.{promoted};
 ghost use Rattle.page_cache.specs.Room.{HasRoomFor};
@@ -13,10 +14,12 @@ use std::num::NonZeroUsize;
 /// How many pages are kept.
 const MOST: usize = 256;
 
-/// Copies of pages by their numbers. Where the room for them was refused there are none.
+/// Copies of pages by their numbers, each boxed, so that no whole page moves where one goes to the
+/// front. Where the room for them was refused there are none.
 #[derive(Drop)]
 pub struct CleanPages {
-    pages: Option<LruCache<u32, Page>>,
+    pages: Option<LruCache<u32, Box<Page>>>,
+    alloc: Global,
     ghost room: { HasRoomFor 256 pages },
 }
 
@@ -28,17 +31,19 @@ impl CleanPages {
         ensures { copies_of result ≡ [] }
     {
         let Some(most) = NonZeroUsize::new(MOST) else {
-            return CleanPages { pages: None };
+            return CleanPages { pages: None, alloc };
         };
         CleanPages {
             pages: LruCache::new(alloc, most).ok(),
+            alloc,
         }
     }
 
     /// Writes the copy of page n to `page`, and says whether there is one.
     pub fn find(&mut self, n: u32, page: &mut Page) -> bool
         ensures found { result ≡ has_copy (copies_of self.old) n }
-        ensures page { IsTrue result → Contains (copies_of self.old) (n, page.new) }
+        ensures page { IsTrue result → (copy : Box OnePage)
+            × Contains (copies_of self.old) (n, copy) × (copy.value ≡ page.new) }
         ensures copies { copies_of self.new ≡ promoted (nat_eq n) (copies_of self.old) }
     {
         let Some(pages) = &mut self.pages else {
@@ -46,7 +51,7 @@ impl CleanPages {
         };
         match pages.get(&n) {
             Some(found) => {
-                *page = *found;
+                *page = **found;
                 true
             }
             None => false,
@@ -55,11 +60,13 @@ impl CleanPages {
 
     /// Keeps a copy of page n where its room isn't refused.
     pub fn keep(&mut self, n: u32, page: &Page)
-        ensures { (k : ℕ) (one : OnePage) → Contains (copies_of self.new) (k, one)
-            → Contains (copies_of self.old) (k, one) ⊎ ((k ≡ n) × (one ≡ page.now)) }
+        ensures { (k : ℕ) (one : Box OnePage) → Contains (copies_of self.new) (k, one)
+            → Contains (copies_of self.old) (k, one) ⊎ ((k ≡ n) × (one.value ≡ page.now)) }
     {
-        if let Some(pages) = &mut self.pages {
-            let _ = pages.put(n, *page);
+        if let Some(pages) = &mut self.pages
+            && let Ok(copy) = Box::new(self.alloc, *page)
+        {
+            let _ = pages.put(n, copy);
         }
     }
 

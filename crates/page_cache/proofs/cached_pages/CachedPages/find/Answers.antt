@@ -1,4 +1,5 @@
-use Rattle.std.proofs.Common.{sym, ◌∙◌, arith}
+use Rattle.std.proofs.Common.{sym, ◌∙◌, subst, arith}
+use Rattle.page_cache.specs.Clean.{IsClean}
 use Rattle.page_cache.proofs.Cleanness.{usable_from, moved, clean_read}
 use Rattle.page_cache.specs.Copies.{copies_of}
 use Rattle.page_cache.proofs.cached_pages.CachedPages.find.Goals as goal
@@ -28,5 +29,7 @@ pub returns-clause-found : goal.returns-clause-found
 returns-clause-found g c h hit =
     let old = c.args.self.now in
     let can = ((returns-clause-hit g c).0 hit).0 in
+    let copy = c.find.ensures.page hit in
     clean_read g.S.PageStore old.store c.args.n c.find.new.page
-    (old.are_clean c.args.n c.find.new.page (c.find.ensures.page hit)) h can.0 can.1 can.2
+    (subst (IsClean g.S.PageStore old.store c.args.n) copy.2
+    (old.are_clean c.args.n copy.0 copy.1)) h can.0 can.1 can.2
