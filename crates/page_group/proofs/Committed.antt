@@ -3,11 +3,11 @@ use Rattle.std.proofs.Common.{◌≡◌, inl, inr, ℕ, suc, ◌+◌, ◌-◌, �
 use Rattle.std.proofs.lemmas.Bool.{cases_lt}
 use Rattle.page_io.specs.Store.{Pages, pages_from, page_of, overlaid, has_page, are_in_order, committed_with, AllBelow}
 use Rattle.page_io.proofs.Overlays.{same_file, page_of-file, overlaid-staged, overlaid-none}
-use Rattle.page_io.proofs.StagedPages.{order_below, in_range, replaced}
+use Rattle.page_io.proofs.StagedPages.{order_below, order_wider, in_range, replaced}
 use Rattle.page_group.specs.Changed.{put_all}
 use Rattle.page_group.specs.Whole.{IsWhole}
-use Rattle.page_group.specs.declared.clean_pages.CleanPages.{CleanPages}
-use Rattle.page_group.proofs.Putting.{AreWithin, order_more, order-put_all, has_page-put_all, overlaid-put_all}
+use Rattle.page_group.specs.declared.supplied_pages.SuppliedPages.{SuppliedPages}
+use Rattle.page_group.proofs.Putting.{AreWithin, order-put_all, has_page-put_all, overlaid-put_all}
 
 -- the pages of a list, one by one
 listed : (pages : Pages) (page : ℕ → List ℕ) (at : ℕ)
@@ -42,10 +42,10 @@ changed_one base changed end n bytes old some within has is =
     is ∙ overlaid-staged changed (page_of base) old n has
     ∙ sym (page_of-file (overlaid changed (page_of base)) end n some within)
 
-pub clean_one : (base changed : Pages) (end n : ℕ) (bytes : List ℕ) → 1 ≤ n → n < end
+pub supplied_one : (base changed : Pages) (end n : ℕ) (bytes : List ℕ) → 1 ≤ n → n < end
     → has_page changed n ≡ false → bytes ≡ page_of base n
     → bytes ≡ page_of (committed_with base changed end) n
-clean_one base changed end n bytes some within none is =
+supplied_one base changed end n bytes some within none is =
     is ∙ sym (overlaid-none changed (page_of base) n none)
     ∙ sym (page_of-file (overlaid changed (page_of base)) end n some within)
 
@@ -60,7 +60,7 @@ module _ (base changed staged : Pages) (high old_end new_end : ℕ)
 
   pub committed_order : are_in_order 1 new_end (put_all changed staged) ≡ true
   committed_order = order-put_all 1 new_end changed staged
-      (order_more 1 old_end new_end changed changed_order longer) within
+      (order_wider 1 old_end new_end changed longer changed_order) within
 
   -- what it makes of the committed pages
   pub committed_now : ((n : ℕ) → old_end ≤ n → n < new_end → has_page staged n ≡ true)
@@ -69,15 +69,15 @@ module _ (base changed staged : Pages) (high old_end new_end : ℕ)
   committed_now grown = let home = overlaid changed (page_of base) in
       same_file (overlaid (put_all changed staged) (page_of base)) (overlaid staged home) new_end
       (λ n ge lt. overlaid-put_all 1 new_end changed staged (page_of base) n
-      (order_more 1 old_end new_end changed changed_order longer) within)
+      (order_wider 1 old_end new_end changed longer changed_order) within)
       ∙ replaced home old_end new_end staged grown
 
   -- all is held of them that was held before
-  pub whole_now : (Honest : Type 0) (clean : CleanPages)
-      → IsWhole Honest base changed clean old_end
+  pub whole_now : (Honest : Type 0) (supplied : SuppliedPages)
+      → IsWhole Honest base changed supplied old_end
       → ((n : ℕ) → old_end ≤ n → n < new_end → has_page staged n ≡ true)
-      → IsWhole Honest base (put_all changed staged) clean new_end
-  whole_now Honest clean whole grown = record {
+      → IsWhole Honest base (put_all changed staged) supplied new_end
+  whole_now Honest supplied whole grown = record {
     same = whole.same;
     below = committed_order;
     grown = λ n ge lt. has_page-put_all changed staged n (elim (cases_lt n old_end) [

@@ -1,6 +1,6 @@
 -- Laws of pages that are put among others, each in the place of its number.
 use Rattle.std.proofs.Common.{◌≡◌, ◌⊎◌, inl, inr, ℕ, suc, ◌+◌, ◌<◌, ◌≤◌, List, [], ◌∷◌, ◌++◌, length, get_or, true, ◌&&◌, leb, ltb, refl, sym, ◌∙◌, ap, arith}
-use Rattle.std.proofs.lemmas.Bool.{cases_eq, and_from, and_parts, le-leb, lt-ltb, leb-true, ltb-true, false≢true}
+use Rattle.std.proofs.lemmas.Bool.{cases_eq, and_parts, leb-true, ltb-true, false≢true}
 use Rattle.page_io.specs.Page.{own_number}
 use Rattle.page_io.specs.Store.{Pages, with_page, overlaid, put_page, has_page, are_in_order, AllBelow}
 use Rattle.page_io.proofs.Overlays.{overlaid-over, has_page-skip, with_page-same, with_page-other}
@@ -19,24 +19,6 @@ order_parts least high page pages order =
     (are_in_order (own_number page + 1) high pages) order in
     let ends = and_parts (leb least (own_number page)) (ltb (own_number page) high) both.0 in
     (leb-true least (own_number page) ends.0, ltb-true (own_number page) high ends.1, both.1)
-
-order_from : (least high : ℕ) (page : List ℕ) (pages : Pages) → least ≤ own_number page
-    → own_number page < high → are_in_order (own_number page + 1) high pages ≡ true
-    → are_in_order least high (page ∷ pages) ≡ true
-order_from least high page pages low below rest =
-    and_from (leb least (own_number page) && ltb (own_number page) high)
-    (are_in_order (own_number page + 1) high pages)
-    (and_from (leb least (own_number page)) (ltb (own_number page) high)
-    (le-leb least (own_number page) low) (lt-ltb (own_number page) high below)) rest
-
--- it holds below a greater end
-pub order_more : (least high more : ℕ) (pages : Pages) → are_in_order least high pages ≡ true
-    → high ≤ more → are_in_order least more pages ≡ true
-order_more least high more [] order le = refl
-order_more least high more (page ∷ pages) order le =
-    let parts = order_parts least high page pages order in
-    order_from least more page pages parts.0 (omega (arith, parts.1, le))
-    (order_more (own_number page + 1) high more pages parts.2 le)
 
 -- each of them is below the end
 pub order_all_below : (least high : ℕ) (pages : Pages) → are_in_order least high pages ≡ true

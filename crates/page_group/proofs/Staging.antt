@@ -10,7 +10,7 @@ use Rattle.page_io.specs.declared.store.PageFault.TheVariants.{Memory, Broken}
 use Rattle.page_io.proofs.Exits.{came, if_exit}
 use Rattle.page_group.specs.Staging.{IsStagingAnswer}
 use Rattle.page_group.specs.Whole.{IsWhole}
-use Rattle.page_group.specs.declared.clean_pages.CleanPages.{CleanPages}
+use Rattle.page_group.specs.declared.supplied_pages.SuppliedPages.{SuppliedPages}
 use Rattle.page_group.proofs.Putting.{order_all_below}
 
 -- before the first page. `only` is the store's law `only_now`
@@ -35,12 +35,12 @@ none_yet s store only = record {
 
 -- once all are staged, a commit may end the file where the group's ends
 pub all_staged : {T E : Type 0} (result : Result T E) (old new : StoreState)
-    (Honest : Type 0) (base changed : Pages) (clean : CleanPages) (end : ℕ)
-    → IsWhole Honest base changed clean end
+    (Honest : Type 0) (base changed : Pages) (supplied : SuppliedPages) (end : ℕ)
+    → IsWhole Honest base changed supplied end
     → length base + 1 ≤ end → length base + 1 ≡ old.end
     → new ≡ record old { staged = new.staged } → OnOk result (new.staged ≡ changed)
     → OnOk result (MayEnd new end)
-all_staged (Ok x) old new Honest base changed clean end whole longer same stages staged =
+all_staged (Ok x) old new Honest base changed supplied end whole longer same stages staged =
     let ends = ap (λ (state : StoreState). state.end) stages in
     record {
       least = omega (arith, longer, same, ends);
@@ -48,7 +48,7 @@ all_staged (Ok x) old new Honest base changed clean end whole longer same stages
       grown = λ n ge lt. ap (λ (ps : Pages). has_page ps n) staged
           ∙ whole.grown n (omega (arith, same, ends, ge)) lt;
     }
-all_staged (Err e) old new Honest base changed clean end whole longer same stages staged = tt
+all_staged (Err e) old new Honest base changed supplied end whole longer same stages staged = tt
 
 -- where one is not staged
 pub not_staged : {T U : Type 0} (result : Result T PageFault) (e : PageFault) (reserved n : ℕ)

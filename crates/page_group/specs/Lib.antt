@@ -1,6 +1,6 @@
 pub mod Changed
-pub mod Clean
 pub mod Group
 pub mod Numbered
 pub mod Staging
+pub mod Supplied
 pub mod Whole

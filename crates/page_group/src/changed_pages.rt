@@ -1,5 +1,5 @@
 // Pages in memory by their own numbers.
-ghost use Rattle.std.specs.Prelude.{◌≡◌, ◌<◌, ◌≤◌, ◌^◌, true, [], length, OnOk};
+ghost use Rattle.std.specs.Prelude.{◌≡◌, ◌<◌, ◌≤◌, ◌^◌, true, [], length, OnOk, IfOk};
 ghost use Rattle.page_io.specs.Page.{own_number};
 ghost use Rattle.page_io.specs.Store.{bytes_of, overlaid, put_page, has_page, are_in_order};
 ghost use Rattle.page_group.specs.Numbered.{pages_in, AreNumbered};
@@ -13,9 +13,24 @@ use std::collections::BTreeMap;
 #[derive(Drop)]
 pub struct ChangedPages {
     pages: BTreeMap<u32, Box<Page>>,
+    // The box of a page that another one took the place of.
+    spare: Option<Box<Page>>,
     alloc: Global,
     ghost numbered: { AreNumbered pages.entries },
     ghost order: { are_in_order 1 (2 ^ 32) (pages_in pages.entries) ≡ true },
+}
+
+// A copy of a page in a box: the spare one, if there is one.
+fn boxed(alloc: Global, spare: Option<Box<Page>>, page: &Page) -> Result<Box<Page>, AllocError>
+    ensures { IfOk result (λ copy. copy.value ≡ page.now) }
+{
+    match spare {
+        Some(mut spare) => {
+            *spare = *page;
+            Ok(spare)
+        }
+        None => Ok(Box::new(alloc, *page)?),
+    }
 }
 
 impl ChangedPages {
@@ -30,6 +45,7 @@ impl ChangedPages {
     {
         ChangedPages {
             pages: BTreeMap::new(alloc),
+            spare: None,
             alloc,
         }
     }
@@ -62,8 +78,9 @@ impl ChangedPages {
         ensures { OnOk result (changed_pages self.new
             ≡ put_page (changed_pages self.old) page.now.bytes) }
     {
-        let one = Box::new(self.alloc, *page)?;
-        self.pages.insert(page.own(), one)?;
+        let one = boxed(self.alloc, self.spare.take(), page)?;
+        let replaced = self.pages.insert(page.own(), one)?;
+        self.spare = replaced;
         Ok(())
     }
 

@@ -2,14 +2,14 @@
 ghost use Rattle.std.specs.Prelude.{◌≡◌, ◌≤◌, ◌<◌, ◌+◌, ◌^◌, ℕ, true, length, Some, IfSome};
 ghost use Rattle.page_io.specs.Store.{bytes_of, are_in_order};
 ghost use Rattle.page_group.specs.Changed.{changed_pages};
-ghost use Rattle.page_group.specs.Clean.{IsBasePage};
+ghost use Rattle.page_group.specs.Supplied.{IsBasePage};
 ghost use Rattle.page_group.specs.Whole.{IsWhole};
 
 mod committing;
 mod page_store;
 
 use crate::changed_pages::ChangedPages;
-use crate::clean_pages::CleanPages;
+use crate::supplied_pages::SuppliedPages;
 use page_io::{Page, PageFault, PageStore, StagedPages};
 use std::alloc::{AllocError, Global};
 use std::snapshot::Snapshot;
@@ -21,7 +21,7 @@ pub struct GroupPages<S: PageStore> {
     // The base as it was when the group began.
     base: Snapshot<S>,
     changed: ChangedPages,
-    clean: CleanPages,
+    supplied: SuppliedPages,
     staged: StagedPages,
     end: u32,
     capacity: u32,
@@ -35,7 +35,7 @@ pub struct GroupPages<S: PageStore> {
     ghost longer: { length (S.committed base.value) + 1 ≤ end },
     ghost told: { (n : ℕ) → missed ≡ Some n → IsBasePage (S.committed base.value) n },
     ghost whole: { usable ≡ true
-        → IsWhole (S.honest base.value) (S.committed base.value) (changed_pages changed) clean
+        → IsWhole (S.honest base.value) (S.committed base.value) (changed_pages changed) supplied
         end },
 }
 
@@ -68,7 +68,7 @@ impl<S: PageStore> GroupPages<S> {
         GroupPages {
             base: Snapshot::of(store),
             changed: ChangedPages::new(alloc),
-            clean: CleanPages::new(alloc),
+            supplied: SuppliedPages::new(alloc),
             staged: StagedPages::new(alloc),
             end: store.end(),
             capacity: store.capacity(),
@@ -109,7 +109,7 @@ impl<S: PageStore> GroupPages<S> {
         ensures forgotten { missed_page self.new ≡ None }
     {
         self.missed = None;
-        self.clean.keep(n, page)
+        self.supplied.keep(n, page)
     }
 
     /// How many pages are held, the changed ones and those that were supplied. A page that is both
@@ -117,7 +117,7 @@ impl<S: PageStore> GroupPages<S> {
     pub fn held(&self) -> usize
         ensures { result ≡ held_count self.now }
     {
-        self.changed.count() + self.clean.count()
+        self.changed.count() + self.supplied.count()
     }
 
     /// Stages all changed pages in a store with none staged, in rising order of their numbers.

@@ -2,7 +2,7 @@
 #![tactic(auto)]
 
 mod changed_pages;
-mod clean_pages;
 mod group_pages;
+mod supplied_pages;
 
 pub use group_pages::GroupPages;

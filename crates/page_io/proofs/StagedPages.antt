@@ -1,5 +1,5 @@
 -- Laws of staged pages, for the stores.
-use Rattle.std.proofs.Common.{◌≡◌, ◌≢◌, inl, inr, ℕ, zero, suc, ◌+◌, ◌<◌, ◌≤◌, List, [], ◌∷◌, length, get_or, Bool, true, false, cond, ◌&&◌, eqb, leb, ltb, refl, sym, ◌∙◌, ap, subst, arith}
+use Rattle.std.proofs.Common.{◌≡◌, ◌≢◌, inl, inr, ℕ, zero, suc, ◌+◌, ◌<◌, ◌≤◌, List, [], ◌∷◌, ◌++◌, length, get_or, Bool, true, false, cond, ◌&&◌, eqb, leb, ltb, refl, sym, ◌∙◌, ap, subst, arith}
 use Rattle.std.proofs.lemmas.Bool.{cases_order, cases_lt, and_from, and_parts, le-leb, lt-ltb, le-ltb, leb-true, ltb-true, eq-eqb, ne_eqb, false≢true}
 use Rattle.page_io.specs.Page.{own_number}
 use Rattle.page_io.specs.Store.{Pages, file_pages, page_of, with_page, overlaid, are_in_order, put_page, has_page, committed_with, AllBelow}
@@ -296,6 +296,20 @@ length-put_again least high (page ∷ pages) new order has =
           ap (λ (ps : Pages). length ps) (put_page-behind page pages new above)
           ∙ omega (arith, rest)
     ]
+
+-- a bound on each number may be wider
+pub AllBelow-wider : (end high : ℕ) (pages : Pages) → end ≤ high → AllBelow end pages
+    → AllBelow high pages
+AllBelow-wider end high [] wide below = tt
+AllBelow-wider end high (page ∷ pages) wide below =
+    (omega (arith, below.0, wide), AllBelow-wider end high pages wide below.1)
+
+-- one page behind others that are below a lower bound
+pub AllBelow-push : (end high : ℕ) (pages : Pages) (page : List ℕ) → AllBelow end pages
+    → end ≤ high → own_number page < high → AllBelow high (pages ++ page ∷ [])
+AllBelow-push end high [] page below wide lt = (lt, tt)
+AllBelow-push end high (first ∷ pages) page below wide lt =
+    (omega (arith, below.0, wide), AllBelow-push end high pages page below.1 wide lt)
 
 -- a bound on each staged number holds afterwards
 pub AllBelow-put : (end : ℕ) (pages : Pages) (new : List ℕ) → AllBelow end pages

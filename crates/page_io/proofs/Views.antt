@@ -11,7 +11,7 @@ use Rattle.page_io.specs.Views.{visible_page, body_at, StagesOnly, ReadsOnly, Ma
 use Rattle.page_io.specs.declared.store.PageStore.{Ghosts}
 use Rattle.page_io.specs.declared.store.PageFault.{PageFault}
 use Rattle.page_io.proofs.Overlays.{overlaid-none, has_page-skip}
-use Rattle.page_io.proofs.StagedPages.{overlaid-put, overlaid-put_other, has_page-put, has_page-put_other, length-put_new, length-put_again, AllBelow-put}
+use Rattle.page_io.proofs.StagedPages.{overlaid-put, overlaid-put_other, has_page-put, has_page-put_other, length-put_new, length-put_again, AllBelow-wider, AllBelow-put}
 use Rattle.page_io.proofs.Runs.{kept_twice}
 use Rattle.page_io.proofs.Exits.{both_ways}
 
@@ -204,19 +204,14 @@ pub end_grows : (st : StoreState) (end : ℕ) (bytes : List ℕ) → MayEnd st e
     → own_number bytes ≡ end → MayEnd (record st { staged = put_page st.staged bytes }) (end + 1)
 end_grows st end bytes may is = record {
   least = omega (arith, may.least);
-  below = AllBelow-put (end + 1) st.staged bytes (AllBelow-more end st.staged may.below)
-      (omega (arith, is));
+  below = AllBelow-put (end + 1) st.staged bytes
+      (AllBelow-wider end (end + 1) st.staged (omega arith) may.below) (omega (arith, is));
   grown = λ n ge lt. elim (cases_eq (own_number bytes) n) [
     | inl same ↦ has_page-put st.staged bytes n same
     | inr other ↦ has_page-put_other st.staged bytes n other
         ∙ may.grown n ge (omega (arith, lt, is, other))
   ];
 }
-  where
-    AllBelow-more : (end : ℕ) (pages : Pages) → AllBelow end pages → AllBelow (end + 1) pages
-    AllBelow-more end [] below = tt
-    AllBelow-more end (page ∷ pages) below =
-        (omega (arith, below.0), AllBelow-more end pages below.1)
 
 -- at most one more page is staged
 pub length-put : (pages : Pages) (new : List ℕ) → are_in_order 1 (2 ^ 32) pages ≡ true

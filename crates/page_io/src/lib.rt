@@ -15,5 +15,5 @@ pub use laws::{commits_stand, images_have_one_meaning};
 pub use mem_pages::MemPages;
 pub use page::{PAGE_LEN, Page, SECTORS_PER_PAGE};
 pub use sectors::{read_page, write_page};
-pub use staged::{StagedPages, find_staged, is_among, put_staged};
+pub use staged::{StagedPages, find_staged, hand_over, is_among, put_staged};
 pub use store::{PageFault, PageStore};

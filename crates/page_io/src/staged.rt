@@ -6,6 +6,8 @@ ghost use Rattle.page_io.specs.Store.{bytes_of, overlaid, put_page, has_page, ar
 use crate::Page;
 use smallvec::SmallVec;
 use std::alloc::AllocError;
+use std::mem::swap;
+use std::slice::from_ref;
 
 /// Staged pages. The first five take no memory of their own: a store that splits no bucket changes
 /// at most two pages where an older pair leaves, two where the pair goes, and the meta page.
@@ -89,6 +91,21 @@ pub fn put_staged(staged: &mut StagedPages, page: &Page) -> Result<(), AllocErro
         staged[at] = *page;
         return Ok(());
     }
-    staged.insert(at, *page)?;
+    staged.insert_from_slice(at, from_ref(page))?;
     Ok(())
+}
+
+/// Hands all pages of `from` over to `to`, which has none. Few pages are copied, since a list of
+/// staged pages is longer than they are; many only change hands.
+pub fn hand_over(from: &mut StagedPages, to: &mut StagedPages)
+    requires { to.old.items ≡ [] }
+    ensures given { to.new.items ≡ from.old.items }
+    ensures none { from.new.items ≡ [] }
+{
+    let fit = from.len() <= to.capacity();
+    if fit && to.extend_from_slice(from.as_slice()).is_ok() {
+        from.clear();
+    } else {
+        swap(from, to);
+    }
 }

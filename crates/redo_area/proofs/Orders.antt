@@ -39,19 +39,6 @@ order_push least end (first ∷ pages) page order below low high =
     (are_in_order (own_number first + 1) end (pages ++ page ∷ [])) both.0
     (order_push (own_number first + 1) end pages page both.1 below.1 (omega (arith, below.0)) high)
 
-pub below_push : (least end : ℕ) (pages : Pages) (page : List ℕ) → AllBelow least pages
-    → least ≤ end → own_number page < end → AllBelow end (pages ++ page ∷ [])
-below_push least end [] page below le lt = (lt, tt)
-below_push least end (first ∷ pages) page below le lt =
-    (omega (arith, below.0, le), below_push least end pages page below.1 le lt)
-
--- a number above the least of those to come is above all that came
-pub below_more : (least most : ℕ) (pages : Pages) → least ≤ most → AllBelow least pages
-    → AllBelow most pages
-below_more least most [] le below = tt
-below_more least most (first ∷ pages) le below =
-    (omega (arith, below.0, le), below_more least most pages le below.1)
-
 -- all images were read
 pub all_read : (count i : ℕ) → count ≤ i → i ≤ count → i ≡ count
 all_read count i le most = omega (arith, le, most)

@@ -10,11 +10,11 @@ mod opening;
 
 use crate::settling::bring_home;
 use page_io::{
-    Page, PageFault, PageStore, StagedPages, find_staged, is_among, put_staged, read_page,
+    Page, PageFault, PageStore, StagedPages, find_staged, hand_over, is_among, put_staged,
+    read_page,
 };
 use redo_commit::arm;
 use sect_dev::SectorDev;
-use std::mem::swap;
 
 /// A store of pages over a device. A commit that a stop cuts short is whole or absent when the
 /// device is opened again. It answers once its redo images are armed; its pages then wait in memory
@@ -240,7 +240,7 @@ impl<D: SectorDev> PageStore for Pager<D> {
         if arm(&mut self.dev, start, old_end, new_end, pages).is_err() {
             return Err(PageFault::Device);
         }
-        swap(&mut self.staged, &mut self.waiting);
+        hand_over(&mut self.staged, &mut self.waiting);
         self.start = start;
         self.end = new_end;
         self.usable = true;

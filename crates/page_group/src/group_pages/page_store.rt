@@ -6,7 +6,7 @@ impl<S: PageStore> GroupPages<S> {
     ghost use Rattle.std.specs.Prelude.{◌≡◌, ◌≤◌, ◌<◌, true, IsTrue, IsFalse};
     ghost use Rattle.page_io.specs.Store.{page_of, committed_with};
     ghost use Rattle.page_group.specs.Changed.{changed_pages};
-    ghost use Rattle.page_group.specs.Clean.{IsBasePage};
+    ghost use Rattle.page_group.specs.Supplied.{IsBasePage};
     ghost use Rattle.page_group.specs.Group.{HasPage};
 
     // Gives the committed page n, if it is held.
@@ -23,7 +23,7 @@ impl<S: PageStore> GroupPages<S> {
         if self.changed.find(n, page) {
             return true;
         }
-        self.clean.find(n, page)
+        self.supplied.find(n, page)
     }
 }
 

@@ -1,5 +1,4 @@
-use Rattle.std.proofs.Common.{◌≡◌, true, sym, ◌∙◌}
-use Rattle.page_io.proofs.PageLists.{bytes_at}
+use Rattle.std.proofs.Common.{sym, ◌∙◌}
 use Rattle.page_io.proofs.Places.{found_at, given_at}
 use Rattle.page_io.proofs.Overlays.{overlaid-none}
 use Rattle.page_io.proofs.staged.find_staged.Goals as goal

@@ -1,6 +1,7 @@
-use Rattle.std.proofs.Common.{rules, ◌≡◌, ℕ, List, length, ◌∷◌, ◌++◌, set, take, drop, true, false, sym, ◌∙◌, ap, subst}
+use Rattle.std.proofs.Common.{rules, ◌≡◌, ℕ, List, length, ◌∷◌, ◌++◌, [], append_assoc, set, take, drop, true, false, sym, ◌∙◌, ap, subst}
 use Rattle.std.proofs.lemmas.List.{length-set}
 use Rattle.std.specs.Prelude.{IsFalse}
+use Rattle.std.specs.List.{insert_slice}
 use Rattle.smallvec.proofs.SmallVecLemmas.{items-with_items}
 use Rattle.page_io.specs.Page.{own_number}
 use Rattle.page_io.specs.Store.{Pages, bytes_of, put_page, has_page, are_in_order}
@@ -45,7 +46,9 @@ returns-clause-ok c =
     let is = subst (λ (n : ℕ). IsThere c.as_slice-pages.result.now at n c.is_at.result)
     c.own-own.ensures.number c.is_at.ensures in
     let other : IsFalse c.is_at.result = cc in
-    ap bytes_of c.in_ok-insert.ensures.ok
+    ap bytes_of (c.in_ok-insert_from_slice.ensures.ok
+    ∙ ap (insert_slice c.args.staged.now.items at) c.from_ref.ensures.value
+    ∙ append_assoc (take at c.args.staged.now.items) (page ∷ []) (drop at c.args.staged.now.items))
     ∙ subst (λ (ps : List Page). bytes_of (take at ps ++ page ∷ drop at ps)
     ≡ put_page (bytes_of ps) page.bytes) c.as_slice-pages.ensures
     (inserted_at c.as_slice-pages.result.now at page place.within place.before place.after
@@ -57,8 +60,8 @@ returns-clause-order c =
     (order_put 1 4294967296 (bytes_of c.args.staged.now.items) c.args.page.now.bytes
     c.requires.order c.requires.number.0 c.requires.number.1)
 
-pub returns-in_err-insert-clause-grown : goal.returns-in_err-insert-clause-grown
-returns-in_err-insert-clause-grown c =
+pub returns-in_err-insert_from_slice-clause-grown : goal.returns-in_err-insert_from_slice-clause-grown
+returns-in_err-insert_from_slice-clause-grown c =
     let at = c.place_of-at.result in
     let page = c.args.page.now in
     let place = subst (IsPlace c.as_slice-pages.result.now at) c.own-own.ensures.number
@@ -73,5 +76,5 @@ returns-in_err-insert-clause-grown c =
     → has_page (bytes_of ps) (own_number page.bytes) ≡ false)
     c.as_slice-pages.ensures absent c.requires.order)
 
-pub returns-in_err-insert-clause-full : goal.returns-in_err-insert-clause-full
-returns-in_err-insert-clause-full c = at_error c.from_residual.result _ (search rules)
+pub returns-in_err-insert_from_slice-clause-full : goal.returns-in_err-insert_from_slice-clause-full
+returns-in_err-insert_from_slice-clause-full c = at_error c.from_residual.result _ (search rules)

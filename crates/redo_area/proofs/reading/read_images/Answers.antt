@@ -5,8 +5,9 @@ use Rattle.page_io.specs.Page.{page_at, own_number}
 use Rattle.page_io.specs.Store.{Pages, bytes_of, pages_from, are_in_order, AllBelow}
 use Rattle.page_io.specs.declared.page.Page.{Page}
 use Rattle.page_io.proofs.Overlays.{pages_more}
+use Rattle.page_io.proofs.StagedPages.{AllBelow-push, AllBelow-wider}
 use Rattle.page_io.proofs.Exits.{no_err, later_then, more_later, both_ways}
-use Rattle.redo_area.proofs.Orders.{not_in_order, one_in_order, none_left, all_read, order_push, below_push, below_more}
+use Rattle.redo_area.proofs.Orders.{not_in_order, one_in_order, none_left, all_read, order_push}
 use Rattle.redo_area.proofs.ReadRuns.{none_yet, one_more}
 use Rattle.redo_area.specs.declared.open_fault.OpenFault.TheVariants.{Memory, Device, Damaged}
 use Rattle.redo_area.proofs.Results.{from_test, fault_from_test, other_fault}
@@ -182,12 +183,12 @@ loop-i-preserved g c =
           (omega (arith, c.if-from-own.false, c.from.ensures));
       rising = subst (λ (ps : Pages). are_in_order 1 c.args.end ps ≡ true) all
           (order_push 1 c.args.end items new inv.rising
-          (below_more c.loop-i.least (own_number new) items
+          (AllBelow-wider c.loop-i.least (own_number new) items
           (omega (arith, own, c.if-own-least.false)) inv.below)
           (omega (arith, own, c.if-own-least.false, inv.positive))
           (omega (arith, own, c.if-from-own.false, c.from.ensures)));
       below = subst (AllBelow (c.from-own.result + 1)) all
-          (below_push c.loop-i.least (c.from-own.result + 1) items new inv.below
+          (AllBelow-push c.loop-i.least (c.from-own.result + 1) items new inv.below
           (omega (arith, c.if-own-least.false)) (omega (arith, own)));
       positive = omega arith;
       images = λ h.

@@ -7,10 +7,10 @@ use Rattle.page_group.specs.Numbered.{pages_in}
 use Rattle.page_group.proofs.Entries.{put_entry, after_put}
 use Rattle.page_group.proofs.changed_pages.ChangedPages.put.Goals as goal
 
-pub invariant_of-self : goal.invariant_of-self
-invariant_of-self c =
+pub invariant_of-self-2 : goal.invariant_of-self-2
+invariant_of-self-2 c =
     let old = c.args.self.now in
-    let own = ap (λ (page : Page). own_number page.bytes) c.in_ok-one.ensures.ok
+    let own = ap (λ (page : Page). own_number page.bytes) c.in_ok-one.ensures
     ∙ sym c.own.ensures.number in
     let after = after_put c.insert.result old.pages.entries c.insert.new.self.entries c.own.result
     4294967296 c.in_ok-one.one old.numbered old.order own
@@ -21,8 +21,8 @@ invariant_of-self c =
 pub returns : goal.returns
 returns c =
     let old = c.args.self.now in
-    let own = ap (λ (page : Page). own_number page.bytes) c.in_ok-one.ensures.ok
+    let own = ap (λ (page : Page). own_number page.bytes) c.in_ok-one.ensures
     ∙ sym c.own.ensures.number in
-    ap pages_in c.in_ok-insert.ensures.entries
+    ap pages_in c.in_ok-replaced.ensures.entries
     ∙ put_entry old.pages.entries c.own.result c.in_ok-one.one old.numbered own
-    ∙ ap (λ (page : Page). put_page (changed_pages old) page.bytes) c.in_ok-one.ensures.ok
+    ∙ ap (λ (page : Page). put_page (changed_pages old) page.bytes) c.in_ok-one.ensures

@@ -1,6 +1,6 @@
 use Rattle.std.proofs.Common.{sym, ◌∙◌}
 use Rattle.page_group.specs.Changed.{changed_pages}
-use Rattle.page_group.proofs.Committed.{changed_one, clean_one}
+use Rattle.page_group.proofs.Committed.{changed_one, supplied_one}
 use Rattle.page_group.proofs.group_pages.GroupPages.find.Goals as goal
 
 pub returns-then-find-clause-found : goal.returns-then-find-clause-found
@@ -13,6 +13,6 @@ returns-then-find-clause-found g c honest found =
 pub returns-clause-found : goal.returns-clause-found
 returns-clause-found g c honest found =
     let group = c.args.self.now in
-    clean_one (g.S.PageStore.committed group.base.value) (changed_pages group.changed) group.end
+    supplied_one (g.S.PageStore.committed group.base.value) (changed_pages group.changed) group.end
     c.args.n _ c.requires.some c.requires.within (sym c.find.ensures.found ∙ c.if-find.false)
     (((group.whole c.requires.usable).same c.args.n _ (c.find-2.ensures.page found)).1 honest)

@@ -9,5 +9,5 @@ returns-clause-may_end g c =
     all_staged c.stage_into.result (store.state c.args.store.now)
     (store.state c.stage_into.new.store) (store.honest group.base.value)
     (store.committed group.base.value)
-    (changed_pages group.changed) group.clean group.end (group.whole c.requires.usable)
+    (changed_pages group.changed) group.supplied group.end (group.whole c.requires.usable)
     group.longer c.requires.same c.stage_into.ensures.stages.state c.stage_into.ensures.staged

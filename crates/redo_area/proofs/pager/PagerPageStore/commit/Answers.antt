@@ -64,8 +64,8 @@ invariant_of-self-2-clause-settles g c still usable =
     ap (λ (s : ℕ). s / 4) (sym c.arm.ensures.size) in
     let is_armed = from_test c.arm.result c.is_err-2.ensures.value c.if-is_err-2.false
     (c.arm.ensures.armed (c.arm.ensures.honesty.0 still)) in
-    subst (λ v. SettlesToPages old.writable (dev.sectors new / 4) c.args.new_end start
-    (bytes_of v.items) (dev.candidate new) (dev.seen new)) (sym c.swap.ensures.y_after)
+    subst (λ ps. SettlesToPages old.writable (dev.sectors new / 4) c.args.new_end start
+    (bytes_of ps) (dev.candidate new) (dev.seen new)) (sym c.hand_over.ensures.given)
     (waits_at old.writable (dev.sectors new / 4) c.args.new_end start (bytes_of old.staged.items)
     (dev.candidate new) (dev.seen new) c.requires.some
     (subst (λ (cap : ℕ). armed cap old.staged.items) same
@@ -73,7 +73,7 @@ invariant_of-self-2-clause-settles g c still usable =
 
 pub invariant_of-self-2-clause-rising : goal.invariant_of-self-2-clause-rising
 invariant_of-self-2-clause-rising g c =
-    ap (λ v. are_in_order 1 c.args.new_end (bytes_of v.items)) c.swap.ensures.y_after
+    ap (λ ps. are_in_order 1 c.args.new_end (bytes_of ps)) c.hand_over.ensures.given
     ∙ order_below 1 4294967296 c.args.new_end (bytes_of c.args.self.now.staged.items)
     c.args.self.now.order c.requires.below
 
@@ -103,8 +103,8 @@ returns-clause-committed g c honest =
     ∙ ap (λ (ps : List Page). file_pages (overlaid (bytes_of ps) home) old.end) c.as_slice.ensures in
     let others = from_test c.arm.result c.is_err-2.ensures.value c.if-is_err-2.false
     (c.arm.ensures.pages (c.bring_home.ensures.honesty.1 honest)) in
-    ap (λ v. file_pages (overlaid (bytes_of v.items) (page_at new)) c.args.new_end)
-    c.swap.ensures.y_after
+    ap (λ ps. file_pages (overlaid (bytes_of ps) (page_at new)) c.args.new_end)
+    c.hand_over.ensures.given
     ∙ same_new mid new staged c.args.new_end c.max-start.result
     (omega (arith, c.max-start.ensures)) others
     ∙ new_pages (pages_of dev old) (page_at mid) old.end at_home c.args.new_end staged staged refl

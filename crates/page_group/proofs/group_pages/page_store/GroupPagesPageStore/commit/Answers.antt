@@ -34,9 +34,9 @@ invariant_of-self-2 g c =
           c.clear.ensures.items;
       longer = omega (arith, old.longer, c.if-new_end-self.false);
       told = old.told;
-      whole = λ usable. subst (λ (ps : Pages). IsWhole (g.S.PageStore.honest old.base.value) base ps old.clean end) (sym put)
+      whole = λ usable. subst (λ (ps : Pages). IsWhole (g.S.PageStore.honest old.base.value) base ps old.supplied end) (sym put)
           (whole_now base changed staged 4294967296 old.end end whole.below old.order
-          c.requires.below c.if-new_end-self.false (g.S.PageStore.honest old.base.value) old.clean whole c.requires.grown);
+          c.requires.below c.if-new_end-self.false (g.S.PageStore.honest old.base.value) old.supplied whole c.requires.grown);
     }
 
 pub returns-clause-committed : goal.returns-clause-committed

@@ -8,20 +8,20 @@ use std::collections::BTreeMap;
 /// Pages by the numbers that they were supplied under. Each is boxed, so that no node of the map
 /// moves whole pages about.
 #[derive(Drop)]
-pub struct CleanPages {
+pub struct SuppliedPages {
     pages: BTreeMap<u32, Box<Page>>,
     alloc: Global,
 }
 
-impl CleanPages {
-    ghost use Rattle.page_group.specs.Clean.{copy_at, has_copy, copy_count};
+impl SuppliedPages {
+    ghost use Rattle.page_group.specs.Supplied.{copy_at, has_copy, copy_count};
 
     /// No page yet.
-    pub fn new(alloc: Global) -> CleanPages
+    pub fn new(alloc: Global) -> SuppliedPages
         ensures none { (n : ℕ) → copy_at result n ≡ None }
         ensures count { copy_count result ≡ 0 }
     {
-        CleanPages {
+        SuppliedPages {
             pages: BTreeMap::new(alloc),
             alloc,
         }
