@@ -1,13 +1,14 @@
 -- How a store of many pairs ends, on a database at a handle.
-use Rattle.std.proofs.Common.{◌≡◌, ◌⊎◌, inl, inr, ⊎_elim, ℕ, ◌+◌, ◌≤◌, List, [], length, take, map, Bool, true, false, cond, is_some, Option, Some, Result, Ok, Err, refl, sym, ◌∙◌, ap, subst, arith}
+use Rattle.std.proofs.Common.{◌≡◌, ◌⊎◌, inl, inr, ⊎_elim, ℕ, ◌≤◌, List, [], take, map, true, false, cond, is_some, Option, Some, Result, Ok, Err, refl, sym, ◌∙◌, ap, subst, arith}
 use Rattle.std.specs.Option.{option_map}
 use Rattle.std.specs.Prelude.{IsErrAnd}
 use Rattle.sect_dev.specs.Device.{LeavesOnly, MoreFaults}
 use Rattle.sect_dev.specs.Moments.{followed_by}
 use Rattle.dbm_model.specs.Calls as model
+use Rattle.dbm_model.specs.Changes.{replacing, with_pairs}
 use Rattle.dbm_model.specs.Pairs.{Pair, Contents}
-use Rattle.dbm_model.specs.States.{State, Pass, Handle, first_fault, flagged}
-use Rattle.dbm_model.specs.Steps.{Breaks, Run}
+use Rattle.dbm_model.specs.States.{State, Handle, flagged}
+use Rattle.dbm_model.specs.Steps.{Run}
 use Rattle.page_model.specs.Meaning.{said_by}
 use Rattle.page_model.specs.Pages.{Meta, MetaPage}
 use Rattle.page_model.specs.Valid.{IsMeta, meta_buckets}
@@ -20,14 +21,14 @@ use Rattle.dbm_fault.specs.Faults.{fault_of, fault_from}
 use Rattle.dbm_fault.specs.declared.fault.Fault.{Fault}
 use Rattle.dbm_fault.specs.declared.fault.Fault.TheVariants.{Device, Broken}
 use Rattle.dbm_file.specs.Answers.{StandsForSome, Survives}
-use Rattle.dbm_file.specs.Database.{store_of, meta_kept, page_state, error_of, handle_of, IsAt}
-use Rattle.dbm_file.specs.Grouping.{IsOver, handle_in, IsAlike, HasStored}
-use Rattle.dbm_file.specs.Groups.{replacing, with_pairs, IsGroup, IsGroupRefused, GroupEnds}
+use Rattle.dbm_file.specs.Database.{store_of, meta_kept, page_state, handle_of, IsAt}
+use Rattle.dbm_file.specs.Grouping.{handle_in, IsAlike, HasStored}
+use Rattle.dbm_file.specs.Groups.{IsGroup, IsGroupRefused, GroupEnds}
 use Rattle.dbm_file.specs.Passing.{pass_of}
 use Rattle.dbm_file.specs.Trying.{with_fault, with_error_of, IsRead}
 use Rattle.dbm_file.specs.declared.database.Database.{Database}
 use Rattle.dbm_file.proofs.Lends.{kept_error}
-use Rattle.dbm_file.proofs.ReadSteps.{same_parts, at_own, kept_first, same_state, flagged_is, still_meta, still_limit, still_buckets, still_capacity, still_end, still_writable, still_usable, still_holds, still_rests, still_survives}
+use Rattle.dbm_file.proofs.ReadSteps.{same_parts, at_own, kept_first, same_state, flagged_is, still_limit, still_buckets, still_capacity, still_end, still_writable, still_usable, still_holds, still_rests, still_survives}
 
 -- handles with equal parts
 same_handles : (h k : Handle) → h.state ≡ k.state → h.faults ≡ k.faults → h.pages ≡ k.pages

@@ -1,13 +1,14 @@
 -- Stores in a group, as steps of the database that it began from.
-use Rattle.std.proofs.Common.{◌≡◌, ◌⊎◌, inl, inr, ⊎_elim, ℕ, ◌+◌, ◌≤◌, List, [], ◌∷◌, ◌++◌, length, map, Bool, true, false, cond, not, Option, Some, None, Result, Ok, Err, refl, sym, ◌∙◌, ap, subst, arith}
-use Rattle.std.specs.Prelude.{◌↔◌, nat_le, IsErrOf}
+use Rattle.std.proofs.Common.{◌≡◌, ◌⊎◌, inl, inr, ⊎_elim, ℕ, ◌+◌, ◌≤◌, List, [], ◌∷◌, ◌++◌, length, map, Bool, true, false, cond, Option, Some, None, Ok, refl, sym, ◌∙◌, ap, subst, arith}
+use Rattle.std.specs.Prelude.{nat_le}
 use Rattle.std.specs.FinMap.{get, insert, len}
 use Rattle.std.proofs.lemmas.List.{map-append}
 use Rattle.dbm_model.specs.Calls as model
+use Rattle.dbm_model.specs.Changes.{replacing, with_pairs}
 use Rattle.dbm_model.specs.Pairs.{Pair, Contents}
 use Rattle.dbm_model.specs.Sizes.{home}
 use Rattle.dbm_model.specs.States.{State, Handle}
-use Rattle.dbm_model.specs.Steps.{Case, Tells, Refuses, Declines, Finds, Passes, Changes, stored, usable_case, broken_case, case_of, Answers, Suffers, Step, Run}
+use Rattle.dbm_model.specs.Steps.{Case, Tells, Refuses, Declines, Finds, Passes, Changes, stored, case_of, Answers, Suffers, Step, Run}
 use Rattle.dbm_model.proofs.CaseLemmas.{map_of_usable}
 use Rattle.dbm_model.proofs.Runs.{run-push}
 use Rattle.page_model.specs.Valid.{meta_buckets}
@@ -18,8 +19,7 @@ use Rattle.page_io.proofs.Views.{reads_then}
 use Rattle.dbm_file.specs.Answers.{IsStep, IsSameDatabase, IsCallEnded}
 use Rattle.dbm_file.specs.Calls.{store_reply}
 use Rattle.dbm_file.specs.Database.{store_of, meta_kept, page_state, handle_of, IsAt}
-use Rattle.dbm_file.specs.Grouping.{IsOver, IsSameGroup, handle_in, IsAlike, IsStoredIn, StoresOne, HasStored, StoresMany}
-use Rattle.dbm_file.specs.Groups.{replacing, with_pairs}
+use Rattle.dbm_file.specs.Grouping.{IsOver, IsSameGroup, handle_in, IsAlike, IsStoredIn, StoresOne, StoresMany}
 use Rattle.dbm_file.specs.Trying.{IsRead}
 use Rattle.dbm_file.specs.declared.calls.StoreReply.{StoreReply}
 use Rattle.dbm_file.specs.declared.calls.StoreReply.TheVariants.{Kept}

@@ -2,13 +2,13 @@
 use Rattle.std.specs.Prelude.{◌≡◌, ◌↔◌, ◌+◌, ℕ, true, false, Bool, List, Option, Some, None, length, map}
 use Rattle.std.specs.FinMap.{insert}
 use Rattle.dbm_model.specs.Calls.{Stored}
+use Rattle.dbm_model.specs.Changes.{replacing, with_pairs}
 use Rattle.dbm_model.specs.Pairs.{Pair, Contents}
 use Rattle.dbm_model.specs.States.{Handle}
 use Rattle.dbm_model.specs.Steps.{Step, Run}
 use Rattle.page_model.specs.Valid.{meta_buckets}
 use Rattle.page_io.specs.declared.store.PageStore.{Ghosts}
 use Rattle.dbm_file.specs.Database.{store_of, meta_kept, page_state, handle_of, IsAt}
-use Rattle.dbm_file.specs.Groups.{replacing, with_pairs}
 use Rattle.dbm_file.specs.declared.database.Database.{Database}
 
 -- it began as this one, whose committed pages are its base

@@ -1,8 +1,8 @@
 -- Stores of many pairs in one commit.
-use Rattle.std.specs.Prelude.{◌≡◌, ◌⊎◌, ◌≤◌, ℕ, true, false, List, [], ◌∷◌, take, map, Result, Ok, Err}
-use Rattle.std.specs.FinMap.{insert}
-use Rattle.dbm_model.specs.Calls.{Call, Store, Replace, Stored, Refused}
-use Rattle.dbm_model.specs.Pairs.{Pair, Contents}
+use Rattle.std.specs.Prelude.{◌≡◌, ◌⊎◌, ◌≤◌, ℕ, true, false, List, take, map, Result, Ok, Err}
+use Rattle.dbm_model.specs.Calls.{Stored, Refused}
+use Rattle.dbm_model.specs.Changes.{replacing, with_pairs}
+use Rattle.dbm_model.specs.Pairs.{Pair}
 use Rattle.dbm_model.specs.States.{Handle, flagged}
 use Rattle.dbm_model.specs.Steps.{Breaks, Run}
 use Rattle.page_io.specs.declared.store.PageStore.{Ghosts}
@@ -11,15 +11,6 @@ use Rattle.dbm_fault.specs.declared.fault.Fault.{Fault}
 use Rattle.dbm_file.specs.Answers.{Survives}
 use Rattle.dbm_file.specs.Database.{page_state, IsAt}
 use Rattle.dbm_file.specs.declared.database.Database.{Database}
-
--- the call that stores a pair, also where its key is there
-abbrev pub replacing : Pair → Call
-replacing pair = Store pair.0 pair.1 Replace
-
--- the map with these pairs stored, one after another
-abbrev pub with_pairs : Contents → List Pair → Contents
-with_pairs contents [] = contents
-with_pairs contents (pair ∷ pairs) = with_pairs (insert contents pair.0 pair.1) pairs
 
 -- These pairs were stored as by calls one after another, and at every moment a stop leaves none of
 -- them or all.

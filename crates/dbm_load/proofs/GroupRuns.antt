@@ -1,17 +1,18 @@
 -- A group of pairs that were stored, as stores one after another.
 use Rattle.std.proofs.Common.{◌≡◌, inl, inr, ⊎_elim, ℕ, ◌<◌, ◌≤◌, List, [], ◌∷◌, length, map, true, false, sym, ◌∙◌, ap, subst, arith}
 use Rattle.dbm_model.specs.Calls.{Call, Replace, Reply, Stored}
+use Rattle.dbm_model.specs.Changes.{replacing}
 use Rattle.dbm_model.specs.FaultCount.{MoreFaults}
 use Rattle.dbm_model.specs.Pairs.{Pair, Contents}
 use Rattle.dbm_model.specs.States.{Handle}
 use Rattle.dbm_model.specs.Steps.{Case, Tells, Refuses, Declines, Finds, Passes, Changes, case_of, Suffers, Step, Run}
+use Rattle.dbm_model.proofs.StoreLemmas.{stays_usable}
 use Rattle.page_io.specs.declared.store.PageStore.{Ghosts}
 use Rattle.dbm_file.specs.Answers.{MayBeLeft, IsStep}
 use Rattle.dbm_file.specs.Database.{meta_kept, page_state, IsAt}
-use Rattle.dbm_file.specs.Groups.{replacing, IsGroup}
+use Rattle.dbm_file.specs.Groups.{IsGroup}
 use Rattle.dbm_file.specs.Runs.{MayBeLeftWithin, IsRun}
 use Rattle.dbm_file.specs.declared.database.Database.{Database}
-use Rattle.dbm_load.proofs.LoadingRuns.{stays_usable}
 use Rattle.dbm_load.proofs.RunsOn.{left_first}
 use Rattle.dbm_load.proofs.Survivals.{survives_among, survives_then}
 

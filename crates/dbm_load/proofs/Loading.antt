@@ -3,6 +3,7 @@ use Rattle.std.proofs.Common.{◌≡◌, inl, ℕ, ◌+◌, true, List, [], ◌�
 use Rattle.std.specs.FinMap.{entries}
 use Rattle.std.proofs.lemmas.List.{map-append}
 use Rattle.dbm_model.specs.Calls.{Store, Replace, Stored, Refused, Fault}
+use Rattle.dbm_model.specs.Changes.{replacing}
 use Rattle.dbm_text.specs.Escapes.{pair_of_fields, fields_in}
 use Rattle.dbm_text.specs.Lines.{lines_of, words_in}
 use Rattle.dbm_model.specs.Pairs.{Pair}
@@ -23,7 +24,6 @@ use Rattle.dbm_lines.specs.Forms.{pair_in, dump_in}
 use Rattle.dbm_lines.specs.PairLines.{pair_of_words, Say}
 use Rattle.dbm_lines.specs.declared.forms.TextForm.{TextForm}
 use Rattle.dbm_lines.specs.declared.forms.TextForm.TheVariants.{Hexadecimal, Escaped}
-use Rattle.dbm_file.specs.Groups.{replacing}
 use Rattle.dbm_load.specs.Loading.{Loads, LoadsDump, LoadsLine}
 use Rattle.dbm_load.specs.Storing.{StoresAll, StoresBefore, StoresPair}
 use Rattle.dbm_lines.specs.Reading.{line_bytes, after_line, ReadsLine}

@@ -8,47 +8,12 @@ use Rattle.std.specs.FinMap.{empty, entries, entries_sorted, entries-insert, sam
 use Rattle.std.specs.FinMap.Entries.{is_sorted, below_all, put, by_order}
 use Rattle.std.proofs.lemmas.Cmp.{nat_list_cmp_total}
 use Rattle.std.proofs.lemmas.List.{nil_from_length}
-use Rattle.dbm_model.specs.Calls.{Mode, Replace, Store, Reply, Stored, Kept, Refused, Fault, Broken, Device, TooLong, ReadOnly, Full}
+use Rattle.dbm_model.specs.Calls.{Replace, Store, Stored, Kept, Refused, Fault, TooLong, ReadOnly, Full}
+use Rattle.dbm_model.specs.Changes.{replacing}
 use Rattle.dbm_model.specs.Pairs.{Key, Pair, Contents, key_cmp}
 use Rattle.dbm_model.specs.States.{State, Handle}
 use Rattle.dbm_model.specs.Steps.{Case, Tells, Refuses, Declines, Finds, Passes, Changes, stored, usable_case, broken_case, case_of, Answers, Suffers, Step, Run}
-use Rattle.dbm_model.proofs.CaseLemmas.{map_of_usable, breaks_by_change}
-use Rattle.dbm_file.specs.Groups.{replacing}
-
--- a broken handle refuses each store
-when_broken : (before after : Handle) (key content : List ℕ) (mode : Mode) (reply : Reply)
-    → Step before (Store key content mode) reply after → before.state.usable ≡ false
-    → reply ≡ Refused Broken
-when_broken before after key content mode reply step was =
-    let call = Store key content mode in
-    ⊎_elim (λ is. is.0) (λ bad. absurd bad)
-    (subst (λ (b : Bool). Answers before.state
-    (cond b (usable_case before.state call) (broken_case before.state call))
-    reply after.state
-    ⊎ Suffers before (cond b (usable_case before.state call) (broken_case before.state call)) reply
-    after) was step.answers)
-
--- after Stored the handle is usable
-pub stays_usable : (before after : Handle) (key content : List ℕ) (mode : Mode)
-    → Step before (Store key content mode) Stored after → after.state.usable ≡ false → ⊥
-stays_usable before after key content mode step now =
-    elim before.state.usable as (λ u. before.state.usable ≡ u → ⊥) [
-      | true ↦ λ was. let told : Stored ≡ Refused Device =
-          (breaks_by_change before after (Store key content mode) Stored step was now).1 in cc
-      | false ↦ λ was. let told : Stored ≡ Refused Broken =
-          when_broken before after key content mode Stored step was in cc
-    ] refl
-
--- what was stored is in the map
-stored_map : (before after : Handle) (key content : List ℕ) (mode : Mode)
-    → Step before (Store key content mode) Stored after
-    → after.state.map ≡ insert before.state.map key content
-stored_map before after key content mode step =
-    elim after.state.usable as (λ u.
-    after.state.usable ≡ u → after.state.map ≡ insert before.state.map key content) [
-      | true ↦ λ now. map_of_usable before after (Store key content mode) Stored step now
-      | false ↦ λ now. absurd (stays_usable before after key content mode step now)
-    ] refl
+use Rattle.dbm_model.proofs.StoreLemmas.{stored_map}
 
 -- the rule doesn't answer that an old content stays
 abbrev IsNoKept : Case → Type 0

@@ -3,6 +3,7 @@ use Rattle.std.proofs.Common.{◌≡◌, inl, inr, ◌+◌, ◌<◌, ◌≤◌, 
 use Rattle.std.proofs.lemmas.List.{map-append, length-take-le, drop-map, length-map, take_rest, take_all, take-append-drop}
 use Rattle.std.proofs.Math.Seq.{drop-cons, take-add}
 use Rattle.dbm_model.specs.Calls.{Call, Reply, Stored, Refused}
+use Rattle.dbm_model.specs.Changes.{replacing}
 use Rattle.dbm_model.specs.Pairs.{Pair}
 use Rattle.dbm_model.specs.States.{Handle}
 use Rattle.page_io.specs.Store.{Settled}
@@ -11,7 +12,7 @@ use Rattle.dbm_fault.specs.Faults.{fault_of}
 use Rattle.dbm_fault.specs.declared.fault.Fault.{Fault}
 use Rattle.dbm_file.specs.Answers.{IsStep, IsSameDatabase}
 use Rattle.dbm_file.specs.Database.{store_of, AtEachHandle}
-use Rattle.dbm_file.specs.Groups.{replacing, IsGroup, IsGroupRefused}
+use Rattle.dbm_file.specs.Groups.{IsGroup, IsGroupRefused}
 use Rattle.dbm_file.specs.Runs.{IsRun}
 use Rattle.dbm_file.specs.declared.database.Database.{Database}
 use Rattle.dbm_file.proofs.Breaks.{CountsNow}

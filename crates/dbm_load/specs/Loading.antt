@@ -3,6 +3,7 @@ use Rattle.std.specs.Prelude.{◌≡◌, ◌⊎◌, ◌<◌, ℕ, ◌+◌, List,
 use Rattle.std.specs.FinMap.{empty, entries}
 use Rattle.std.specs.List.{All}
 use Rattle.dbm_model.specs.Calls.{Stored, Refused}
+use Rattle.dbm_model.specs.Changes.{replacing}
 use Rattle.dbm_text.specs.Lines.{lines_of}
 use Rattle.page_model.specs.PairLists.{HasBytes}
 use Rattle.dbm_model.specs.Pairs.{Pair, Contents}
@@ -10,7 +11,6 @@ use Rattle.dbm_model.specs.States.{Handle}
 use Rattle.page_io.specs.declared.store.PageStore.{Ghosts}
 use Rattle.dbm_file.specs.Answers.{IsStep}
 use Rattle.dbm_file.specs.Database.{store_of, IsAt, AtEachHandle}
-use Rattle.dbm_file.specs.Groups.{replacing}
 use Rattle.dbm_fault.specs.Faults.{fault_of}
 use Rattle.dbm_file.specs.declared.database.Database.{Database}
 use Rattle.dbm_lines.specs.PairLines.{Say}

@@ -2,12 +2,13 @@
 use Rattle.std.specs.Prelude.{◌≡◌, ◌⊎◌, ◌<◌, ℕ, List, [], ◌∷◌, ◌++◌, length, map, take, Result, Ok, Err}
 use Rattle.dbm_model.specs.Calls.{Stored, Refused}
 use Rattle.dbm_model.specs.Calls as model
+use Rattle.dbm_model.specs.Changes.{replacing}
 use Rattle.dbm_model.specs.Pairs.{Pair}
 use Rattle.dbm_model.specs.States.{Handle}
 use Rattle.page_io.specs.declared.store.PageStore.{Ghosts}
 use Rattle.dbm_file.specs.Answers.{IsStep, IsSameDatabase}
 use Rattle.dbm_file.specs.Database.{AtEachHandle}
-use Rattle.dbm_file.specs.Groups.{replacing, IsGroupRefused}
+use Rattle.dbm_file.specs.Groups.{IsGroupRefused}
 use Rattle.dbm_file.specs.Runs.{IsRun}
 use Rattle.dbm_fault.specs.Faults.{fault_of}
 use Rattle.dbm_fault.specs.declared.fault.Fault.{Fault}

@@ -11,6 +11,7 @@ pub mod RuleLemmas
 pub mod RunLemmas
 pub mod Runs
 pub mod StayLemmas
+pub mod StoreLemmas
 pub mod TimesLemmas
 pub mod UseLemmas
 pub mod WrongRuns

@@ -1,10 +1,10 @@
 -- What calls do to the map, told from the replies alone.
-use Rattle.std.specs.Prelude.{◌≡◌, ◌⊎◌, true, false}
+use Rattle.std.specs.Prelude.{◌≡◌, ◌⊎◌, true, false, List, [], ◌∷◌, map}
 use Rattle.std.specs.FinMap.{insert, remove}
-use Rattle.dbm_model.specs.Calls.{Call, Store, Delete, Reply, Stored, Deleted, Refused, Device, is_changing}
-use Rattle.dbm_model.specs.Pairs.{Contents}
+use Rattle.dbm_model.specs.Calls.{Replace, Call, Store, Delete, Reply, Stored, Deleted, Refused, Device, is_changing}
+use Rattle.dbm_model.specs.Pairs.{Pair, Contents}
 use Rattle.dbm_model.specs.States.{Handle}
-use Rattle.dbm_model.specs.Steps.{Step}
+use Rattle.dbm_model.specs.Steps.{Step, Run}
 
 -- the map after a call that was answered so
 abbrev pub map_after : Contents → Call → Reply → Contents
@@ -17,6 +17,21 @@ abbrev pub map_asked : Contents → Call → Contents
 map_asked map (Store key content mode) = insert map key content
 map_asked map (Delete key) = remove map key
 map_asked map call = map
+
+-- the call that stores a pair, also where its key is there
+abbrev pub replacing : Pair → Call
+replacing pair = Store pair.0 pair.1 Replace
+
+-- the map with these pairs stored, one after another
+abbrev pub with_pairs : Contents → List Pair → Contents
+with_pairs contents [] = contents
+with_pairs contents (pair ∷ pairs) = with_pairs (insert contents pair.0 pair.1) pairs
+
+-- stores that were acknowledged, one after another, have put all of their pairs in
+abbrev pub StoresPutAll : Type 0
+StoresPutAll = (before after : Handle) (pairs : List Pair)
+    → Run before (map replacing pairs) (map (λ _. Stored) pairs) after
+    → after.state.map ≡ with_pairs before.state.map pairs
 
 -- only an acknowledged change changes the map of a handle that stays usable
 abbrev pub OnlyAcknowledgedChanges : Type 0

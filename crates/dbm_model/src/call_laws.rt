@@ -1,7 +1,7 @@
 // Laws of calls and runs. What each says stands in `specs/Changes.antt`, `specs/Refusals.antt`,
 // `specs/FaultNumbers.antt`, `specs/Passes.antt`, `specs/Room.antt`,
 // `specs/Sizes.antt` and `specs/Examples.antt`.
-ghost use Rattle.dbm_model.specs.Changes.{OnlyAcknowledgedChanges, OnlyChangesBreak, BrokenStays};
+ghost use Rattle.dbm_model.specs.Changes.{OnlyAcknowledgedChanges, StoresPutAll, OnlyChangesBreak, BrokenStays};
 ghost use Rattle.dbm_model.specs.Refusals.{RefusesOnlyWhereDue, BrokenRefuses, ReadingRefuses, ReadingKeeps, SettingsStay, TooLongIsRefused, InsertKeeps, FullIsRefused, AbsentIsTold, ErrorIsTold, ErrorIsCleared, FirstFaultIsKept};
 ghost use Rattle.dbm_model.specs.FaultNumbers.{FaultsAreNumbered, NumbersDiffer, NoFaultIsZero};
 ghost use Rattle.dbm_model.specs.Passes.{PassesAreComplete, LastingKeysAreGiven, PassesAscend, NoKeyIsGivenTwice, GivenKeysAreThere, RefusalsKeepPass, PassesStay};
@@ -12,6 +12,11 @@ ghost use Rattle.dbm_model.specs.Examples.{StoresAndDeletes, StopsAtLimit, Passe
 /// Only an acknowledged change changes the map of a handle that stays usable.
 pub fn only_acknowledged_changes()
     ensures { OnlyAcknowledgedChanges }
+{}
+
+/// Stores that were acknowledged, one after another, have put all of their pairs in the map.
+pub fn stores_put_all()
+    ensures { StoresPutAll }
 {}
 
 /// A handle breaks only by a fault of the device in a change.

@@ -4,13 +4,14 @@ use Rattle.std.specs.FinMap.{empty, get, insert, len, get-empty, get-insert, len
 use Rattle.std.specs.Ordering.{eq_by_cmp}
 use Rattle.std.specs.Prelude.{is_some, nat_le}
 use Rattle.dbm_model.specs.Calls.{Replace, Call, Stored, Device}
+use Rattle.dbm_model.specs.Changes.{replacing}
 use Rattle.dbm_model.specs.Examples.{one}
 use Rattle.dbm_model.specs.Pairs.{Pair, Contents, key_cmp}
 use Rattle.dbm_model.specs.States.{NotBegun, Handle, fresh}
 use Rattle.dbm_model.specs.Steps.{Changes, Step, Run, buckets_opened}
 use Rattle.dbm_model.proofs.RunLemmas.{order, adds, by_old, is_only, one_more}
 use Rattle.dbm_sessions.specs.Members.{Member, Holding, Members}
-use Rattle.dbm_sessions.specs.Sessions.{NotOpened, StoppedOpening, Grouped, StoppedGroup, Goes, replacing, SessionStep}
+use Rattle.dbm_sessions.specs.Sessions.{NotOpened, StoppedOpening, Grouped, StoppedGroup, Goes, SessionStep}
 use Rattle.dbm_sessions.specs.Examples.{groups, reopens, store, nothing, pair, both, twice, pairs, later, GroupAcknowledged, GroupInDoubt, GroupOfOneKey, WrongGroups}
 use Rattle.dbm_sessions.proofs.Lists.{is_first, is_later}
 use Rattle.dbm_sessions.proofs.Sample.{start, only, step, is_stored, has_pair, begins, map_of}

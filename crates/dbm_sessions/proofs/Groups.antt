@@ -1,40 +1,28 @@
 -- What is left by a group of pairs that was committed, or whose commit was cut short.
-use Rattle.std.proofs.Common.{◌≡◌, ⊎_elim, inl, inr, ℕ, true, false, List, [], ◌∷◌, ◌++◌, take, map, refl, sym, ◌∙◌, ap, ap₂, subst, Contains}
+use Rattle.std.proofs.Common.{◌≡◌, ⊎_elim, inl, inr, ℕ, List, [], ◌∷◌, ◌++◌, take, map, sym, ◌∙◌, ap₂, subst, Contains}
 use Rattle.dbm_model.specs.Calls.{Call, Reply, Stored}
-use Rattle.dbm_model.specs.Pairs.{Pair, Contents}
+use Rattle.dbm_model.specs.Changes.{replacing, with_pairs}
+use Rattle.dbm_model.specs.Pairs.{Pair}
 use Rattle.dbm_model.specs.States.{Handle}
-use Rattle.dbm_model.specs.Steps.{Step, Run}
-use Rattle.dbm_model.proofs.CaseLemmas.{map_of_usable, breaks_by_change}
-use Rattle.dbm_model.proofs.StayLemmas.{settings_stay}
+use Rattle.dbm_model.specs.Steps.{Run}
+use Rattle.dbm_model.proofs.StoreLemmas.{stores_put_all}
 use Rattle.dbm_sessions.specs.Members.{Member, Members, Holding, held}
-use Rattle.dbm_sessions.specs.Sessions.{Plan, replacing, with_pairs, Groups, GroupCutShort}
+use Rattle.dbm_sessions.specs.Sessions.{Plan, Groups, GroupCutShort}
 use Rattle.dbm_sessions.specs.Changes.{Change, PutsAll, Marked, Acknowledged, InDoubt, of_opening, of_calls, of_group, LeftBy, OnlyLastInDoubt}
 use Rattle.dbm_sessions.proofs.Lists.{in_one, in_two, is_first, is_later}
 use Rattle.dbm_sessions.proofs.Leaving.{left_append, left_rest, one_behind, opening_all}
 use Rattle.dbm_sessions.proofs.Calls.{calls_all}
 use Rattle.dbm_sessions.proofs.Cuts.{goes_left}
+use Rattle.dbm_sessions.proofs.Rooms.{limit_stays}
 
 -- ---- stores one after another
 
-stays_usable : (before after : Handle) (call : Call) → Step before call Stored after
-    → before.state.usable ≡ true → after.state.usable ≡ true
-stays_usable before after call step usable = elim after.state.usable as
-    (λ b. after.state.usable ≡ b → b ≡ true) [
-      | true ↦ λ is. refl
-      | false ↦ λ is. absurd
-          (let never = (breaks_by_change before after call Stored step usable is).1 in cc)
-    ] refl
-
 stored_left : (first last : Handle) (pairs : List Pair)
-    → Run first (map replacing pairs) (map (λ _. Stored) pairs) last → first.state.usable ≡ true
+    → Run first (map replacing pairs) (map (λ _. Stored) pairs) last
     → held last.state ≡ Holding (with_pairs first.state.map pairs) first.state.limit
-stored_left first last [] run usable = ap (λ (h : Handle). held h.state) run
-stored_left first last (pair ∷ pairs) run usable =
-    let now = stays_usable first run.0 (replacing pair) run.1 usable in
-    stored_left run.0 last pairs run.2 now
-    ∙ ap₂ Holding (ap (λ (map : Contents). with_pairs map pairs)
-    (map_of_usable first run.0 (replacing pair) Stored run.1 now))
-    (settings_stay first run.0 (replacing pair) Stored run.1).0
+stored_left first last pairs run =
+    ap₂ Holding (stores_put_all first last pairs run)
+    (limit_stays first last (map replacing pairs) (map (λ _. Stored) pairs) run)
 
 -- ---- behind the calls
 
@@ -47,8 +35,7 @@ group_left first calls replies stored after g member is =
     left_append (of_calls calls replies) (Acknowledged (PutsAll stored) ∷ []) (held first.state)
     (held g.goes.last.state) member (goes_left first calls replies g.goes)
     (in_one (held g.last.state) member (subst (λ (ms : Members). Contains ms member) g.left is)
-    ∙ stored_left (record g.goes.last { faults = g.last.faults }) g.last stored g.run
-    g.goes.usable)
+    ∙ stored_left (record g.goes.last { faults = g.last.faults }) g.last stored g.run)
 
 -- cut short
 module _ (first : Handle) (calls : List Call) (replies : List Reply) (asked : List Pair)

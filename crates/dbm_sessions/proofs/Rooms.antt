@@ -3,13 +3,14 @@ use Rattle.std.proofs.Common.{◌≡◌, ⊎_elim, ℕ, ◌*◌, ◌≤◌, true
 use Rattle.std.specs.FinMap.{empty}
 use Rattle.std.proofs.lemmas.List.Elements.{Contains-append_cases, All-head, All-tail}
 use Rattle.dbm_model.specs.Calls.{Call, Reply, Stored}
+use Rattle.dbm_model.specs.Changes.{replacing, with_pairs}
 use Rattle.dbm_model.specs.Pairs.{Pair}
 use Rattle.dbm_model.specs.Sizes.{home}
 use Rattle.dbm_model.specs.States.{State, Handle}
 use Rattle.dbm_model.specs.Steps.{Case, Tells, Refuses, Declines, Finds, Passes, Changes, case_of, Run}
 use Rattle.dbm_model.proofs.StayLemmas.{settings_stay}
 use Rattle.dbm_sessions.specs.Members.{Member, NoDatabase, Holding, Members, held, Opening, opened}
-use Rattle.dbm_sessions.specs.Sessions.{Plan, Ending, NotOpened, StoppedOpening, Rested, StoppedCall, Broke, Grouped, StoppedGroup, BrokeGroup, Begins, Goes, Rests, left_by, CutShort, replacing, with_pairs, Groups, GroupCutShort, SessionStep}
+use Rattle.dbm_sessions.specs.Sessions.{Plan, Ending, NotOpened, StoppedOpening, Rested, StoppedCall, Broke, Grouped, StoppedGroup, BrokeGroup, Begins, Goes, Rests, left_by, CutShort, Groups, GroupCutShort, SessionStep}
 use Rattle.dbm_sessions.specs.Room.{HasRoomFor, AllHaveRoom, AsksForRoom, SessionsKeepRoom}
 use Rattle.dbm_sessions.proofs.Lists.{in_one, in_two, in_map}
 

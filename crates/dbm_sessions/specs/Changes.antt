@@ -2,9 +2,10 @@
 use Rattle.std.specs.Prelude.{◌≡◌, ◌⊎◌, ℕ, Bool, true, false, ◌&&◌, ◌||◌, not, if◌then◌else◌, List, [], ◌∷◌, ◌++◌, take, drop, map, Contains}
 use Rattle.std.specs.FinMap.{insert, remove}
 use Rattle.dbm_model.specs.Calls.{Call, Store, Delete, Reply, Stored, Deleted, Refused, Device}
+use Rattle.dbm_model.specs.Changes.{with_pairs}
 use Rattle.dbm_model.specs.Pairs.{Key, Pair}
 use Rattle.dbm_sessions.specs.Members.{Member, NoDatabase, Holding, Members, Opening, opened}
-use Rattle.dbm_sessions.specs.Sessions.{Plan, Ending, NotOpened, StoppedOpening, Rested, StoppedCall, Broke, Grouped, StoppedGroup, BrokeGroup, with_pairs, SessionStep, Sessions}
+use Rattle.dbm_sessions.specs.Sessions.{Plan, Ending, NotOpened, StoppedOpening, Rested, StoppedCall, Broke, Grouped, StoppedGroup, BrokeGroup, SessionStep, Sessions}
 
 -- a change, as a plain operation on the map
 pub data Change : Type 0 where

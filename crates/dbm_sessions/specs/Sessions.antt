@@ -1,8 +1,8 @@
 -- What a session leaves of what the file may stand for, and so a list of them.
 use Rattle.std.specs.Prelude.{◌≡◌, ℕ, true, false, List, [], ◌∷◌, ◌++◌, take, map, Contains}
-use Rattle.std.specs.FinMap.{insert}
-use Rattle.dbm_model.specs.Calls.{Replace, Call, Store, Reply, Stored, Refused, Fault, Device}
-use Rattle.dbm_model.specs.Pairs.{Pair, Contents}
+use Rattle.dbm_model.specs.Calls.{Call, Reply, Stored, Refused, Fault, Device}
+use Rattle.dbm_model.specs.Changes.{replacing, with_pairs}
+use Rattle.dbm_model.specs.Pairs.{Pair}
 use Rattle.dbm_model.specs.States.{State, Handle, fresh}
 use Rattle.dbm_model.specs.Steps.{Case, Changes, case_of, Step, Run}
 use Rattle.dbm_sessions.specs.Members.{Member, Members, held, Opening, opened}
@@ -87,15 +87,6 @@ pub record Breaks (first : Handle) (calls : List Call) (replies : List Reply) (a
   pub rest_is : cut.rest ≡ then_made ++ never_made
   pub last : Handle
   pub run : Run broken then_made refused last
-
--- the call that stores a pair, also where its key is there
-abbrev pub replacing : Pair → Call
-replacing pair = Store pair.0 pair.1 Replace
-
--- the map with these pairs stored, one after another
-abbrev pub with_pairs : Contents → List Pair → Contents
-with_pairs contents [] = contents
-with_pairs contents (pair ∷ pairs) = with_pairs (insert contents pair.0 pair.1) pairs
 
 -- all of the calls were made, and then these pairs were stored, as by calls one after another; the
 -- device may have failed meanwhile

@@ -1,9 +1,9 @@
 use Rattle.std.proofs.Common.{◌≡◌, ◌+◌, ◌-◌, ◌<◌, List, ◌∷◌, length, map, take, drop, Err, subst, sym, ap, ◌∙◌, arith, rules}
 use Rattle.std.proofs.lemmas.List.{length-map}
 use Rattle.dbm_model.specs.Calls.{Stored}
+use Rattle.dbm_model.specs.Changes.{replacing}
 use Rattle.dbm_model.specs.Pairs.{Pair}
 use Rattle.dbm_file.specs.Database.{store_of}
-use Rattle.dbm_file.specs.Groups.{replacing}
 use Rattle.dbm_file.proofs.Runs.{still_goes}
 use Rattle.dbm_load.specs.Batches.{pair_of, pairs_in}
 use Rattle.dbm_load.specs.Storing.{StoresAll, StopsWithin}
