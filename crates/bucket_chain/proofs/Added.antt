@@ -165,27 +165,28 @@ added_under E F then old new before after head pair is = record {
 }
 
 pub all_under : (E F : Type 0) → (F → E)
-    → (head : ℕ) (old : ℕ → Body) (before : FreeState) (pairs : List Pair) (new : ℕ → Body)
+    → (head : Pair → ℕ) (old : ℕ → Body) (before : FreeState) (pairs : List Pair) (new : ℕ → Body)
     (after : FreeState) → AreAdded old new E before after head pairs
     → AreAdded old new F before after head pairs
 all_under E F then head old before [] new after all = all
 all_under E F then head old before (pair ∷ pairs) new after all = record {
   mid = all.mid;
   between = all.between;
-  first = added_under E F then old all.mid before all.between head pair all.first;
+  first = added_under E F then old all.mid before all.between (head pair) pair all.first;
   second = all_under E F then head all.mid all.between pairs new after all.second;
 }
 
 -- one more
-pub one_added : (Ends : Type 0) (head : ℕ) (old : ℕ → Body) (before : FreeState) (pairs : List Pair)
+pub one_added : (Ends : Type 0) (head : Pair → ℕ) (old : ℕ → Body) (before : FreeState) (pairs : List Pair)
     (mid : ℕ → Body) (between : FreeState) (pair : Pair) (new : ℕ → Body) (after : FreeState)
-    → AreAdded old mid Ends before between head pairs → IsAdded mid new Ends between after head pair
+    → AreAdded old mid Ends before between head pairs
+    → IsAdded mid new Ends between after (head pair) pair
     → AreAdded old new Ends before after head (pairs ++ pair ∷ [])
 one_added Ends head old before [] mid between pair new after none more = record {
   mid = new;
   between = after;
-  first = subst (λ (f : ℕ → Body). IsAdded f new Ends before after head pair) none.0
-      (subst (λ (s : FreeState). IsAdded mid new Ends s after head pair) none.1 more);
+  first = subst (λ (f : ℕ → Body). IsAdded f new Ends before after (head pair) pair) none.0
+      (subst (λ (s : FreeState). IsAdded mid new Ends s after (head pair) pair) none.1 more);
   second = (refl, refl);
 }
 one_added Ends head old before (p ∷ pairs) mid between pair new after all more = record {
@@ -204,7 +205,7 @@ one_grows Ends old new before after head pair is = ⊎_elim
     (λ last. omega (arith, ap (λ (s : FreeState). s.file_end) last.grown)) behind.is_taken)
     is.added
 
-pub all_grow : (Ends : Type 0) (head : ℕ) (old : ℕ → Body) (before : FreeState) (pairs : List Pair)
+pub all_grow : (Ends : Type 0) (head : Pair → ℕ) (old : ℕ → Body) (before : FreeState) (pairs : List Pair)
     (new : ℕ → Body) (after : FreeState) → AreAdded old new Ends before after head pairs
     → after.file_end ≤ before.file_end + length pairs
 all_grow Ends head old before [] new after none =
@@ -212,6 +213,6 @@ all_grow Ends head old before [] new after none =
 all_grow Ends head old before (pair ∷ pairs) new after all =
     omega (
       arith,
-      one_grows Ends old all.mid before all.between head pair all.first,
+      one_grows Ends old all.mid before all.between (head pair) pair all.first,
       all_grow Ends head all.mid all.between pairs new after all.second,
     )

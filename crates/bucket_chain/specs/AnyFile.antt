@@ -93,12 +93,12 @@ pub record AreInTurn (First Second : (ℕ → Body) → FreeState → Type 0) : 
   pub first : First mid between
   pub second : Second mid between
 
--- pairs were added one after the other
-abbrev pub AreAdded : (ℕ → Body) → (ℕ → Body) → Type 0 → FreeState → FreeState → ℕ
+-- pairs were added one after the other, each from its head page on
+abbrev pub AreAdded : (ℕ → Body) → (ℕ → Body) → Type 0 → FreeState → FreeState → (Pair → ℕ)
     → List Pair → Type 0
 AreAdded old new Ends before after head [] = (new ≡ old) × (after ≡ before)
 AreAdded old new Ends before after head (pair ∷ pairs) =
-    AreInTurn (λ mid between. IsAdded old mid Ends before between head pair)
+    AreInTurn (λ mid between. IsAdded old mid Ends before between (head pair) pair)
     (λ mid between. AreAdded mid new Ends between after head pairs)
 
 -- the chain was emptied, and the pairs were added to it
@@ -106,4 +106,4 @@ abbrev pub AreStored : (ℕ → Body) → (ℕ → Body) → Type 0 → FreeStat
     → List Pair → Type 0
 AreStored old new Ends before after head pairs =
     AreInTurn (λ mid between. IsEmptied old mid before between head)
-    (λ mid between. AreAdded mid new Ends between after head pairs)
+    (λ mid between. AreAdded mid new Ends between after (λ pair. head) pairs)

@@ -69,13 +69,14 @@ fn find_spot<S: PageStore>(
 /// else to a page that is taken and becomes the last. The key must not be in the chain already. At
 /// most two pages are staged: the one that gets the pair, and where a page was taken the old last
 /// one. After an `Err` the caller has to unstage and to go back to its old `FreeState`. Damaged is
-/// answered as by `lookup`.
+/// answered as by `lookup`. The pages of the chain are read into `page`.
 pub fn put<S: PageStore>(
     store: &mut S,
     space: &mut FreeState,
     head: u32,
     key: &[u8],
     content: &[u8],
+    page: &mut Page,
 ) -> Result<(), PageFault>
     requires { IsAllowed (key.now, content.now) }
     ensures stages { StagesOnly S.PageStore store.old store.new }
@@ -108,16 +109,15 @@ pub fn put<S: PageStore>(
     ensures room { ForEachPlaced S.PageStore store.old space.old head (λ chain s.
         has_room (key.now, content.now) chain ≡ true → IsErrOf result NoRoom → ⊥) }
 {
-    let mut page = Page::blank();
-    let spot = find_spot(store, head, space.file_end, key, content, &mut page)?;
+    let spot = find_spot(store, head, space.file_end, key, content, page)?;
     if spot.has_room {
-        add(&mut page, key, content);
-        return stage_page(store, &page);
+        add(page, key, content);
+        return stage_page(store, page);
     }
     let taken = take(store, space)?;
     let mut last = empty(taken, OVERFLOW, 0);
     add(&mut last, key, content);
     stage_page(store, &last)?;
-    set_next(&mut page, taken);
-    stage_page(store, &page)
+    set_next(page, taken);
+    stage_page(store, page)
 }

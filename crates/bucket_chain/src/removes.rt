@@ -116,12 +116,14 @@ fn relink<S: PageStore>(
 /// page that becomes empty leaves the chain and is given to the free list. At most two pages are
 /// staged: the page, or where it becomes empty the one before it and the page given. After an `Err`
 /// the caller has to unstage; the `FreeState` is the old one. Damaged is answered as by `lookup`,
-/// and where a page is to be given while as many are free as the file has.
+/// and where a page is to be given while as many are free as the file has. The pages of the chain
+/// are read into `page`.
 pub fn remove<S: PageStore>(
     store: &mut S,
     space: &mut FreeState,
     head: u32,
     key: &[u8],
+    page: &mut Page,
 ) -> Result<bool, PageFault>
     ensures stages { StagesOnly S.PageStore store.old store.new }
     ensures few { length (S.state store.new).staged ≤ length (S.state store.old).staged + 2 }
@@ -151,16 +153,15 @@ pub fn remove<S: PageStore>(
     ensures whole { ForEachPlaced S.PageStore store.old space.old head (λ chain s.
         times key.now (pairs_in chain) ≤ 1 → IsErrOf result Damaged → ⊥) }
 {
-    let mut page = Page::blank();
-    let Some(hit) = find_hit(store, head, space.file_end, key, &mut page)? else {
+    let Some(hit) = find_hit(store, head, space.file_end, key, page)? else {
         return Ok(false);
     };
     if hit.prior != 0 && page.slots() == 1 {
-        relink(store, hit.prior, hit.prior_kind, hit.next, &mut page)?;
+        relink(store, hit.prior, hit.prior_kind, hit.next, page)?;
         give(store, space, hit.page)?;
         return Ok(true);
     }
-    remove_pair(&mut page, hit.slot);
-    stage_page(store, &page)?;
+    remove_pair(page, hit.slot);
+    stage_page(store, page)?;
     Ok(true)
 }

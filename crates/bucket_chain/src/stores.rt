@@ -101,7 +101,7 @@ fn put_all<S: PageStore>(
         → (S.state store.old).capacity < space.old.file_end + length pairs.now }
     ensures added { S.honest store.old
         → OnOk result (AreAdded (body_at S.PageStore store.old) (body_at S.PageStore store.new)
-        (MayEnd (S.state store.old) space.old.file_end) space.old space.new head
+        (MayEnd (S.state store.old) space.old.file_end) space.old space.new (λ pair. head)
         (map pair_of pairs.now)) }
     ensures ends { HasEnds space.old → HasEnds space.new }
     ensures may_end { MayEnd (S.state store.old) space.old.file_end
@@ -115,8 +115,9 @@ fn put_all<S: PageStore>(
         → pairs_in placed.0 ≡ [] → HaveDistinctKeys (map pair_of pairs.now)
         → IsErrOf result Damaged → ⊥ }
 {
+    let mut page = Page::blank();
     for pair in pairs {
-        put(store, space, head, &pair.key, &pair.content)?;
+        put(store, space, head, &pair.key, &pair.content, &mut page)?;
     }
     Ok(())
 }

@@ -6,5 +6,6 @@ pub mod LeastWalks
 pub mod LinkBodies
 pub mod LoadedPairs
 pub mod ReadPages
+pub mod SoundLooks
 pub mod StepLemmas
 pub mod Walks

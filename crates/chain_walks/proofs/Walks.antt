@@ -147,18 +147,22 @@ chain_links at (leaf ∷ rest) read is distinct = (
   overflow_links at rest read.1 is.2 distinct.1,
 )
 
--- what a page says is one thing
-pub one_next : (at : ℕ → Body) (n kind next next' : ℕ) (pairs pairs' : List Pair)
-    → SaysLink at n kind next pairs → SaysLink at n kind next' pairs'
-    → (next ≡ next') × (pairs ≡ pairs')
-one_next at n kind next next' pairs pairs' link link' =
-    by_kind (kind == 3) (sym link.says ∙ link'.says)
+pub one_body : (kind next next' : ℕ) (pairs pairs' : List Pair)
+    → link_body kind next pairs ≡ link_body kind next' pairs' → (next ≡ next') × (pairs ≡ pairs')
+one_body kind next next' pairs pairs' = by_kind (kind == 3)
   where
     by_kind : (head : Bool) → cond head (HeadPage next pairs) (OverflowPage next pairs)
         ≡ cond head (HeadPage next' pairs') (OverflowPage next' pairs')
         → (next ≡ next') × (pairs ≡ pairs')
     by_kind true e = (cc, cc)
     by_kind false e = (cc, cc)
+
+-- what a page says is one thing
+pub one_next : (at : ℕ → Body) (n kind next next' : ℕ) (pairs pairs' : List Pair)
+    → SaysLink at n kind next pairs → SaysLink at n kind next' pairs'
+    → (next ≡ next') × (pairs ≡ pairs')
+one_next at n kind next next' pairs pairs' link link' =
+    one_body kind next next' pairs pairs' (sym link.says ∙ link'.says)
 
 -- The chain has these pages first, and page n is the next.
 pub record IsSplit (chain before : Chain) (n : ℕ) : Type 0 where
@@ -223,7 +227,7 @@ links_behind at kind (first ∷ before) later links =
     four [] = refl
     four (leaf ∷ before) = refl
 
-kind_same : (before : Chain) → kind_from 3 before ≡ kind_behind before
+pub kind_same : (before : Chain) → kind_from 3 before ≡ kind_behind before
 kind_same [] = refl
 kind_same (leaf ∷ before) = refl
 

@@ -1,5 +1,5 @@
 -- What a walk along a chain has read, on any file.
-use Rattle.std.specs.Prelude.{◌≡◌, ◌⊎◌, ℕ, ◌<◌, Bool, true, false, List, [], ◌∷◌, ◌++◌, Option, Some, None}
+use Rattle.std.specs.Prelude.{◌≡◌, ◌⊎◌, ℕ, ◌<◌, ◌≤◌, Bool, true, false, List, [], ◌∷◌, ◌++◌, length, Option, Some, None}
 use Rattle.std.specs.List.{AllByRecursion, HoldsAt}
 use Rattle.std.specs.FinMap.{find}
 use Rattle.dbm_model.specs.Pairs.{Key, Pair, key_cmp}
@@ -8,6 +8,7 @@ use Rattle.page_model.specs.Pages.{Body}
 use Rattle.page_model.specs.Chain.{Leaf, Chain, pairs_in, fits}
 use Rattle.slot_page.specs.Contents.{IsBucketPage, HasKeyAt, page_pairs}
 use Rattle.chain_walks.specs.Chains.{BeginsAt}
+use Rattle.chain_walks.specs.Links.{HaveDistinctKeys}
 use Rattle.chain_walks.specs.declared.place.Place.{Place}
 
 -- the pages up to one where the walk ended: each one before it was passed, and it is the last as
@@ -66,6 +67,14 @@ IsRoomWalk at head pair = IsWalk at head (IsFull pair) (FitsOrEnds pair)
 -- the last page has the key
 abbrev pub HasKey : Key → Leaf → ℕ → Type 0
 HasKey key leaf after = 0 < times key leaf.pairs
+
+-- The pages that a look for the key reads, up to the one that has it or names no next, are at most
+-- so many, none of them is page 0, and none has a key twice.
+pub record CanLook (at : ℕ → Body) (end head : ℕ) (key : Key) : Type 0 where
+  pub walk : IsWalk at head (LacksKey key) (λ leaf after. HasKey key leaf after ⊎ (after ≡ 0))
+  pub few : length walk.before < end
+  pub sound : AllByRecursion (λ leaf. (1 ≤ leaf.number) × HaveDistinctKeys leaf.pairs)
+      (walk.before ++ walk.leaf ∷ [])
 
 abbrev pub IsKeyWalk : (ℕ → Body) → ℕ → Key → Bool → Type 0
 IsKeyWalk at head key true = IsWalk at head (LacksKey key) (HasKey key)

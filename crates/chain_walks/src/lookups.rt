@@ -5,7 +5,7 @@ ghost use Rattle.page_io.specs.Answers.{HasDeviceCause};
 ghost use Rattle.page_io.specs.Views.{body_at, ReadsOnly};
 ghost use Rattle.page_io.specs.declared.store.PageFault.TheVariants.{Damaged};
 ghost use Rattle.chain_walks.specs.Chains.{ForEachChain};
-ghost use Rattle.chain_walks.specs.Walks.{IsLookup, IsLookedUp};
+ghost use Rattle.chain_walks.specs.Walks.{IsLookup, IsLookedUp, CanLook};
 ghost use Rattle.chain_walks.specs.Answers.{IsWalkAnswer};
 ghost use Rattle.slot_page.specs.Contents.{IsBucketPage, HasKeyAt, page_pairs};
 
@@ -37,6 +37,11 @@ pub fn lookup<S: PageStore>(
     ensures exact { ForEachChain S.PageStore store.old head (λ chain.
         IfOk result (λ place. IsLookedUp key.now chain page.new.bytes place)) }
     ensures whole { ForEachChain S.PageStore store.old head (λ chain. IsErrOf result Damaged → ⊥) }
+
+    // It is never Damaged either where only other pages are than those that it reads.
+    ensures readable { S.honest store.old
+        → CanLook (body_at S.PageStore store.old) (S.state store.old).end head key.now
+        → IsErrOf result Damaged → ⊥ }
 {
     let mut at = head;
     let mut kind = HEAD;

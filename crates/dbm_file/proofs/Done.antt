@@ -1,8 +1,7 @@
 -- What a change that was done has left, from before the look for its key.
-use Rattle.std.proofs.Common.{◌≡◌, ◌∙◌, ℕ, ◌+◌, ◌*◌, ◌≤◌, Bool, cond, ap, subst}
+use Rattle.std.proofs.Common.{◌≡◌, ◌∙◌, ℕ, ◌+◌, Bool, cond, ap, subst}
 use Rattle.dbm_model.specs.Pairs.{Key, Pair}
 use Rattle.page_model.specs.Pages.{Meta, Body}
-use Rattle.page_model.specs.Valid.{meta_buckets}
 use Rattle.page_io.specs.Store.{StoreState}
 use Rattle.page_io.specs.Views.{body_at}
 use Rattle.page_io.specs.declared.store.PageStore.{Ghosts}
@@ -41,16 +40,14 @@ module _ {S : Type 0} {s : Ghosts S} (old mid : Database S s) (read : IsRead old
   pub was_put : (new : Database S s) (pair : Pair) (there : Bool)
       → IsSearch (body_at s (store_of old)) (meta_kept old) pair.0 (EndsBy pair.0 there)
       → (meta_kept new).pairs ≡ cond there (meta_kept mid).pairs ((meta_kept mid).pairs + 1)
-      → ((meta_kept new).pairs ≤ 8 * meta_buckets (meta_kept mid)
       → IsStored there (body_at s (store_of mid)) (body_at s (store_of new)) (meta_kept mid)
-      (meta_kept new) (page_state mid).end (page_state new).end pair)
+      (meta_kept new) (page_state mid).end (page_state new).end pair
       → IsPut old new pair
   was_put new pair there searched counted stored = record {
     there = there;
     searched = searched;
     counted = counted
         ∙ ap (λ (m : Meta). cond there m.pairs (m.pairs + 1)) (still_meta s old mid read);
-    stored = from_read (λ at m end. (meta_kept new).pairs ≤ 8 * meta_buckets m
-        → IsStored there at (body_at s (store_of new)) m (meta_kept new) end
+    stored = from_read (λ at m end. IsStored there at (body_at s (store_of new)) m (meta_kept new) end
         (page_state new).end pair) stored;
   }

@@ -147,6 +147,21 @@ pub only_these : (r : Lent) (fault : Fault) → r ≡ Err fault
 only_these r fault is one = subst
     (λ (x : Lent). IfErr x (λ e. (e ≡ Broken) ⊎ ((e ≡ Device) ⊎ (e ≡ Damaged)))) (sym is) one
 
+-- a fetch told as damaged met a damaged page
+pub met_damage : (r : Lent) (e : PageFault) (fault : Fault) → r ≡ Err fault → fault ≡ fault_from e
+    → IsErrOf r Damaged → e ≡ page.Damaged
+met_damage r e fault is told_so damaged =
+    let told : fault_from e ≡ Damaged = cc in
+    of_page e told
+  where
+    of_page : (e : PageFault) → fault_from e ≡ Damaged → e ≡ page.Damaged
+    of_page page.Memory same = cc
+    of_page page.Device same = cc
+    of_page page.Broken same = cc
+    of_page page.ReadOnly same = cc
+    of_page page.NoRoom same = cc
+    of_page page.Damaged same = refl
+
 pub walk_faults : (e : PageFault) (fault : Fault) → fault ≡ fault_from e
     → (e ≡ page.Broken) ⊎ ((e ≡ page.Damaged) ⊎ (e ≡ page.Device))
     → (fault ≡ Broken) ⊎ ((fault ≡ Device) ⊎ (fault ≡ Damaged))

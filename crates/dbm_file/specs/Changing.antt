@@ -1,5 +1,5 @@
 -- What a store and a delete that were done have left in the pages, on any file.
-use Rattle.std.specs.Prelude.{◌≡◌, ◌+◌, ◌*◌, ◌≤◌, Bool, if◌then◌else◌}
+use Rattle.std.specs.Prelude.{◌≡◌, ◌+◌, ◌*◌, Bool, if◌then◌else◌}
 use Rattle.dbm_model.specs.Pairs.{Key, Pair}
 use Rattle.page_model.specs.Pages.{Meta}
 use Rattle.page_model.specs.Valid.{meta_buckets}
@@ -19,15 +19,14 @@ WasDeleted {S} {s} old new key =
     → IsDeleted (body_at s (store_of old)) (body_at s (store_of new)) (meta_kept old)
     (meta_kept new) (page_state old).end (page_state new).end key
 
--- The key's bucket was searched, and one pair more is counted where the key wasn't there. Where
--- that asks for no further bucket, the pair was put in, in the place of the key's.
+-- The key's bucket was searched, and one pair more is counted where the key wasn't there. The pair
+-- was put in, in the place of the key's, and a bucket was split where that is due.
 pub record IsPut {S : Type 0} {s : Ghosts S} (old new : Database S s) (pair : Pair) : Type 0 where
   pub there : Bool
   pub searched : IsSearch (body_at s (store_of old)) (meta_kept old) pair.0 (EndsBy pair.0 there)
   pub counted : (meta_kept new).pairs
       ≡ (if there then (meta_kept old).pairs else (meta_kept old).pairs + 1)
-  pub stored : (meta_kept new).pairs ≤ 8 * meta_buckets (meta_kept old)
-      → IsStored there (body_at s (store_of old)) (body_at s (store_of new)) (meta_kept old)
+  pub stored : IsStored there (body_at s (store_of old)) (body_at s (store_of new)) (meta_kept old)
       (meta_kept new) (page_state old).end (page_state new).end pair
 
 -- there are eight pairs to a bucket

@@ -9,7 +9,7 @@ use Rattle.slot_page.specs.Contents.{HasKeyAt, page_pairs}
 use Rattle.page_io.specs.Views.{body_at}
 use Rattle.page_io.specs.declared.store.PageStore.{Ghosts}
 use Rattle.chain_walks.specs.Walks.{EndsWithout}
-use Rattle.linear_hash.specs.Looking.{IsSearch}
+use Rattle.linear_hash.specs.Looking.{IsSearch, CanSearch}
 use Rattle.linear_hash.specs.Passing.{IsPassed}
 use Rattle.dbm_file.specs.Passing.{pass_of}
 use Rattle.dbm_file.specs.Database.{store_of, meta_kept, page_state}
@@ -21,6 +21,11 @@ abbrev pub Searched : {S : Type 0} {s : Ghosts S} → Database S s → Key
     → (Leaf → ℕ → Type 0) → Type 0
 Searched {S} {s} db key Last =
     s.honest (store_of db) → IsSearch (body_at s (store_of db)) (meta_kept db) key Last
+
+-- over an honest store: what a search for the key reads can be read, whatever other pages say
+abbrev pub CanFind : {S : Type 0} {s : Ghosts S} → Database S s → Key → Type 0
+CanFind {S} {s} db key = s.honest (store_of db)
+    × CanSearch (body_at s (store_of db)) (meta_kept db) (page_state db).end key
 
 -- the search ended at a page that has the key
 abbrev pub EndsWith : Key → Leaf → ℕ → Type 0

@@ -51,7 +51,7 @@ impl<S: PageStore> Database<S> {
     ghost use Rattle.dbm_file.specs.Lending.{Lends};
     ghost use Rattle.dbm_file.specs.Replies.{store_faults, delete_faults, read_faults, next_faults};
     ghost use Rattle.dbm_file.specs.Passing.{pass_of, pass_from, pass_at};
-    ghost use Rattle.dbm_file.specs.Searches.{Searched, EndsWith, EndsBy, EndsAtContent, Passed, WentOn, LacksPass};
+    ghost use Rattle.dbm_file.specs.Searches.{Searched, CanFind, EndsWith, EndsBy, EndsAtContent, Passed, WentOn, LacksPass};
     ghost use Rattle.dbm_file.specs.Ending.{EndsAs};
     ghost use Rattle.dbm_file.specs.Trying.{with_error_of, IsRead, IsStoreEnd, IsDeleteEnd, slot_reply};
     ghost use Rattle.page_commit.specs.Committing.{Holds};
@@ -74,6 +74,9 @@ impl<S: PageStore> Database<S> {
         // On any file the answer was read from the key's bucket, up to the key or to the end.
         ensures searched { IfOk result
             (λ found. Searched self.old key.now (EndsAtContent key.now (seen found))) }
+
+        // A damaged page is met only where the search reads it.
+        ensures readable { CanFind self.old key.now → IsErrOf result Fault.Damaged → ⊥ }
         ensures only { IsErrAmong result read_faults }
     {
         if self.store.is_broken() {
@@ -107,7 +110,7 @@ impl<S: PageStore> Database<S> {
         ensures kept { result ≡ Ok StoreReply.Kept
             → (mode ≡ StoreMode.Insert) × Searched self.old key.now (EndsWith key.now) }
 
-        // On any file, where no bucket is split, the pair was put into the key's bucket.
+        // On any file the pair was put into its bucket, and one was split where that is due.
         ensures stored { result ≡ Ok StoreReply.Stored
             → WasStored self.old self.new (key.now, content.now) }
         ensures too_long { (result ≡ Err Fault.TooLong)

@@ -13,6 +13,7 @@ pub mod Plans
 pub mod Refusals
 pub mod Searches
 pub mod SplitLemmas
+pub mod SplitPages
 pub mod Stagings
 pub mod StoredPairs
 pub mod TableChains

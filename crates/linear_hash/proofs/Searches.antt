@@ -1,12 +1,12 @@
 -- The search of a key's bucket, on any file.
-use Rattle.std.proofs.Common.{◌≡◌, ℕ, ◌/◌, ◌%◌, List, slice_index, Option, Some, None, Result, Ok, Err, IfOk, subst}
+use Rattle.std.proofs.Common.{◌≡◌, ℕ, ◌/◌, ◌%◌, List, slice_index, Option, Some, None, Result, Ok, Err, IfOk, subst, sym, ap, ◌∙◌}
 use Rattle.page_model.specs.Address.{address, hash_of}
 use Rattle.page_model.specs.Pages.{Meta, Body}
 use Rattle.dbm_model.specs.Pairs.{Key}
-use Rattle.seg_table.specs.Heads.{HasEntry}
-use Rattle.chain_walks.specs.Walks.{IsWalk, LacksKey, IsLookup}
+use Rattle.seg_table.specs.Heads.{HasEntry, SaysSegment}
+use Rattle.chain_walks.specs.Walks.{IsWalk, LacksKey, IsLookup, CanLook}
 use Rattle.chain_walks.specs.declared.place.Place.{Place}
-use Rattle.linear_hash.specs.Looking.{IsSearch, EndsAt}
+use Rattle.linear_hash.specs.Looking.{IsSearch, CanSearch, key_segment, key_entry, EndsAt}
 use Rattle.linear_hash.specs.Tables.{shape_in}
 
 -- a look along the chain, by how it ended
@@ -30,3 +30,27 @@ searched_from at at' m key bucket head bytes (Ok place) is entry same looked = r
       (walk_of at' head key bytes place looked);
 }
 searched_from at at' m key bucket head bytes (Err e) is entry same looked = tt
+
+-- what can be read at first: the segment's page, and from the head on that was read of it the chain
+pub segment_from : (at : ℕ → Body) (m : Meta) (end : ℕ) (key : Key) (bucket : ℕ)
+    → bucket ≡ address (shape_in m) (hash_of key) → CanSearch at m end key
+    → SaysSegment at m (bucket / 508)
+segment_from at m end key bucket is can =
+    subst (λ (b : ℕ). SaysSegment at m (b / 508)) (sym is) can.segment
+
+pub look_from : (at at' : ℕ → Body) (m : Meta) (end end' : ℕ) (key : Key) (bucket head : ℕ)
+    → bucket ≡ address (shape_in m) (hash_of key)
+    → HasEntry (at (slice_index m.segments (bucket / 508))) (bucket % 508) head → at' ≡ at
+    → end' ≡ end → CanSearch at m end key → CanLook at' end' head key
+look_from at at' m end end' key bucket head is entry same ends can =
+    let there : HasEntry (at (key_segment m key)) (key_entry m key) head =
+    subst (λ (b : ℕ). HasEntry (at (slice_index m.segments (b / 508))) (b % 508) head) is entry in
+    let heads : there.heads ≡ can.segment.heads =
+    let both = sym there.segment ∙ can.segment.says in cc in
+    let head_is : head ≡ slice_index can.segment.heads (key_entry m key) =
+    there.entry ∙ ap (λ (hs : List ℕ). slice_index hs (key_entry m key)) heads in
+    subst (λ (h : ℕ). CanLook at' end' h key) (sym head_is)
+    (subst (λ (f : ℕ → Body). CanLook f end' (slice_index can.segment.heads (key_entry m key)) key)
+    (sym same)
+    (subst (λ (e : ℕ). CanLook at e (slice_index can.segment.heads (key_entry m key)) key)
+    (sym ends) can.look))

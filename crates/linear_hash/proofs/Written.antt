@@ -1,7 +1,8 @@
 -- What a change leaves of the pages on any file, from its bucket to the commit.
-use Rattle.std.proofs.Common.{◌≡◌, ◌∙◌, inl, inr, ⊎_elim, ℕ, ◌<◌, ◌≤◌, ◌/◌, ◌%◌, Bool, true, false, [], Result, Ok, Err, IfOk, IfErr, OnOk, slice_index, sym, ap, subst, arith}
+use Rattle.std.proofs.Common.{◌≡◌, ◌∙◌, inl, inr, ⊎_elim, ℕ, ◌*◌, ◌<◌, ◌≤◌, nat_lt, ◌/◌, ◌%◌, Bool, true, false, [], Result, Ok, Err, IfOk, IfErr, OnOk, slice_index, sym, ap, subst, arith}
 use Rattle.page_model.specs.Address.{address, hash_of}
 use Rattle.page_model.specs.Pages.{Meta, Body, MetaPage}
+use Rattle.page_model.specs.Valid.{meta_buckets}
 use Rattle.page_model.specs.Reading.{body_of}
 use Rattle.dbm_model.specs.Pairs.{Key, Pair}
 use Rattle.page_io.specs.Store.{Pages, StoreState, AllBelow, page_of, overlaid, committed_with}
@@ -13,7 +14,8 @@ use Rattle.page_commit.specs.Committing.{MayCommit}
 use Rattle.free_pages.specs.declared.free_state.FreeState.{FreeState}
 use Rattle.seg_table.specs.Heads.{HasEntry}
 use Rattle.bucket_chain.specs.AnyFile.{IsAdded, IsTakenOut}
-use Rattle.linear_hash.specs.Changing.{InBucket, IsOutWhere, PutIn, IsWritten}
+use Rattle.linear_hash.specs.AnyFile.{IsSplitWhere}
+use Rattle.linear_hash.specs.Changing.{InBucket, IsOutWhere, PutIn, IsWritten, Stores, shaped_as}
 use Rattle.linear_hash.specs.Tables.{shape_in, space_in}
 
 -- the head was read from the pages as they were at first, and the chain was changed in pages that
@@ -82,22 +84,15 @@ put_under was_there Ends Other old new m before after pair then put = record {
   };
 }
 
--- and where no bucket was split thereafter
-pub put_after : {S : Type 0} (s : Ghosts S) (was_there : Bool) (old : ℕ → Body) (m : Meta)
-    (before : FreeState) (mid new : S) (pair : Pair) (between after : FreeState) → new ≡ mid
-    → after ≡ between → PutIn was_there (Unit {0}) old m before pair (body_at s mid) between
-    → PutIn was_there (Unit {0}) old m before pair (body_at s new) after
-put_after {S} s was_there old m before mid new pair between after store free put =
-    subst (λ (st : S). PutIn was_there (Unit {0}) old m before pair (body_at s st) after)
-    (sym store)
-    (subst (PutIn was_there (Unit {0}) old m before pair (body_at s mid)) (sym free) put)
-
--- only the count was changed
-pub counted_only : (before : Meta) (pairs : ℕ) (counted : Meta)
-    → counted ≡ record before { pairs = pairs }
-    → counted ≡ record before { pairs = counted.pairs }
-counted_only before pairs counted is =
-    is ∙ ap (λ (n : ℕ). record before { pairs = n }) (sym (ap (λ (m : Meta). m.pairs) is))
+-- and one was split thereafter, where that is due
+pub stored_then : (was_there : Bool) (old : ℕ → Body) (before after : Meta) (space : FreeState)
+    (pair : Pair) (mid new : ℕ → Body) (between left : FreeState)
+    → PutIn was_there (Unit {0}) old before space pair mid between
+    → IsSplitWhere (nat_lt (8 * meta_buckets before) after.pairs) (Unit {0}) mid new before
+    (shaped_as before after) between left
+    → Stores was_there old before after space pair new left
+stored_then was_there old before after space pair mid new between left put splits =
+    record { mid = mid; between = between; first = put; second = splits }
 
 -- where nothing is staged, a commit may end the file where it ends
 pub idle_end : (st : StoreState) → st.staged ≡ [] → MayEnd st st.end
@@ -108,47 +103,56 @@ idle_end st idle = record {
 }
 
 -- once the meta page is staged
-pub written_last : (Change : (ℕ → Body) → FreeState → Type 0) (mid new : ℕ → Body)
-    (before counted after : Meta) (space : FreeState) (end : ℕ) → Change mid space
-    → counted ≡ record before { pairs = counted.pairs }
-    → after ≡ record counted { free_head = space.head; free_count = space.count }
-    → end ≡ space.file_end → new 1 ≡ MetaPage after
-    → ((n : ℕ) → (n ≡ 1 → ⊥) → new n ≡ mid n) → IsWritten Change new before after end
-written_last Change mid new before counted after space end change count free last page others =
-    record {
-      mid = mid;
-      change = subst (Change mid) said change;
-      kept = λ i. record {
-        limit = (limit_is i);
-        pairs = after.pairs;
-        level = (level_is i);
-        split = (split_is i);
-        free_head = after.free_head;
-        free_count = after.free_count;
-        segments = (segments_are i);
-      };
-      meta = page;
-      others = λ n lt below. others n (λ same. absurd (omega (arith, lt, same)));
-    }
-  where
-    said : space ≡ space_in after end
-    said = λ i. record {
-      head = sym (ap (λ (m : Meta). m.free_head) free) i;
-      count = sym (ap (λ (m : Meta). m.free_count) free) i;
-      file_end = sym last i;
-    }
+module _ (Change : (ℕ → Body) → FreeState → Type 0) (mid new : ℕ → Body) (counted after : Meta)
+    (space : FreeState) (end : ℕ) (change : Change mid space)
+    (free : after ≡ record counted { free_head = space.head; free_count = space.count })
+    (last : end ≡ space.file_end) (page : new 1 ≡ MetaPage after)
+    (others : (n : ℕ) → (n ≡ 1 → ⊥) → new n ≡ mid n) where
+  said : space ≡ space_in after end
+  said = λ i. record {
+    head = sym (ap (λ (m : Meta). m.free_head) free) i;
+    count = sym (ap (λ (m : Meta). m.free_count) free) i;
+    file_end = sym last i;
+  }
 
-    limit_is : after.limit ≡ before.limit
-    limit_is = ap (λ (m : Meta). m.limit) free ∙ ap (λ (m : Meta). m.limit) count
+  pub written_so : (before : Meta) → after ≡ record before {
+    pairs = after.pairs;
+    free_head = after.free_head;
+    free_count = after.free_count;
+  } → IsWritten Change new before after end
+  written_so before kept = record {
+    mid = mid;
+    change = subst (Change mid) said change;
+    kept = kept;
+    meta = page;
+    others = λ n lt below. others n (λ same. absurd (omega (arith, lt, same)));
+  }
 
-    level_is : after.level ≡ before.level
-    level_is = ap (λ (m : Meta). m.level) free ∙ ap (λ (m : Meta). m.level) count
+  -- where only the count was changed before
+  pub written_last : (before : Meta) → counted ≡ record before { pairs = counted.pairs }
+      → IsWritten Change new before after end
+  written_last before count = written_so before (λ i. record {
+    limit = (ap (λ (m : Meta). m.limit) free ∙ ap (λ (m : Meta). m.limit) count) i;
+    pairs = after.pairs;
+    level = (ap (λ (m : Meta). m.level) free ∙ ap (λ (m : Meta). m.level) count) i;
+    split = (ap (λ (m : Meta). m.split) free ∙ ap (λ (m : Meta). m.split) count) i;
+    free_head = after.free_head;
+    free_count = after.free_count;
+    segments = (ap (λ (m : Meta). m.segments) free ∙ ap (λ (m : Meta). m.segments) count) i;
+  })
 
-    split_is : after.split ≡ before.split
-    split_is = ap (λ (m : Meta). m.split) free ∙ ap (λ (m : Meta). m.split) count
-
-    segments_are : after.segments ≡ before.segments
-    segments_are = ap (λ (m : Meta). m.segments) free ∙ ap (λ (m : Meta). m.segments) count
+  -- or the shape and the segments too
+  pub written_shaped : (before : Meta) → counted.limit ≡ before.limit
+      → IsWritten Change new (shaped_as before after) after end
+  written_shaped before limit = written_so (shaped_as before after) (λ i. record {
+    limit = (ap (λ (m : Meta). m.limit) free ∙ limit) i;
+    pairs = after.pairs;
+    level = after.level;
+    split = after.split;
+    free_head = after.free_head;
+    free_count = after.free_count;
+    segments = after.segments;
+  })
 
 -- once it is committed
 pub written_committed : {S : Type 0} (s : Ghosts S) (mid new : S)

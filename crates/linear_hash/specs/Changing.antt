@@ -1,10 +1,12 @@
 -- What a change of the pairs leaves in the pages, on any file.
-use Rattle.std.specs.Prelude.{◌≡◌, ℕ, ◌<◌, Bool, true, false}
+use Rattle.std.specs.Prelude.{◌≡◌, ℕ, ◌*◌, ◌<◌, nat_lt, Bool, true, false}
 use Rattle.dbm_model.specs.Pairs.{Key, Pair}
 use Rattle.page_model.specs.Pages.{Meta, Body, MetaPage}
+use Rattle.page_model.specs.Valid.{meta_buckets}
 use Rattle.free_pages.specs.declared.free_state.FreeState.{FreeState}
 use Rattle.seg_table.specs.Heads.{HasEntry}
 use Rattle.bucket_chain.specs.AnyFile.{AreInTurn, IsAdded, IsTakenOut}
+use Rattle.linear_hash.specs.AnyFile.{IsSplitWhere}
 use Rattle.linear_hash.specs.Looking.{key_segment, key_entry}
 use Rattle.linear_hash.specs.Tables.{space_in}
 
@@ -51,7 +53,20 @@ abbrev pub IsDeleted : (ℕ → Body) → (ℕ → Body) → Meta → Meta → �
 IsDeleted old new before after start end key =
     IsWritten (TookOut old before (space_in before start) key) new before after end
 
+-- with the shape and the segments of another one
+abbrev pub shaped_as : Meta → Meta → Meta
+shaped_as m n = record m { level = n.level; split = n.split; segments = n.segments }
+
+-- The pair was put into its bucket, and where there are then more than eight pairs to a bucket, one
+-- was split.
+abbrev pub Stores : Bool → (ℕ → Body) → Meta → Meta → FreeState → Pair → (ℕ → Body) → FreeState
+    → Type 0
+Stores was_there old before after space pair new left =
+    AreInTurn (PutIn was_there (Unit {0}) old before space pair) (λ mid between.
+    IsSplitWhere (nat_lt (8 * meta_buckets before) after.pairs) (Unit {0}) mid new before
+    (shaped_as before after) between left)
+
 abbrev pub IsStored : Bool → (ℕ → Body) → (ℕ → Body) → Meta → Meta → ℕ → ℕ → Pair → Type 0
 IsStored was_there old new before after start end pair =
-    IsWritten (PutIn was_there (Unit {0}) old before (space_in before start) pair)
-    new before after end
+    IsWritten (Stores was_there old before after (space_in before start) pair)
+    new (shaped_as before after) after end

@@ -1,3 +1,4 @@
+pub mod AnyFile
 pub mod Changing
 pub mod Holding
 pub mod Looking

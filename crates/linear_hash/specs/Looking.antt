@@ -5,9 +5,9 @@ use Rattle.dbm_model.specs.Pairs.{Key}
 use Rattle.page_model.specs.Chain.{Leaf}
 use Rattle.page_model.specs.Pages.{Meta, Body}
 use Rattle.page_model.specs.Placement.{key_bucket}
-use Rattle.seg_table.specs.Heads.{HasEntry}
+use Rattle.seg_table.specs.Heads.{HasEntry, SaysSegment}
 use Rattle.slot_page.specs.Contents.{IsBucketPage, HasKeyAt, page_pairs}
-use Rattle.chain_walks.specs.Walks.{IsWalk, LacksKey, EndsWithout, IsPairAt}
+use Rattle.chain_walks.specs.Walks.{IsWalk, LacksKey, EndsWithout, IsPairAt, CanLook}
 use Rattle.chain_walks.specs.declared.place.Place.{Place}
 use Rattle.linear_hash.specs.Tables.{shape_in}
 
@@ -29,6 +29,12 @@ pub record IsSearch (at : ℕ → Body) (m : Meta) (key : Key) (Last : Leaf → 
   pub head : ℕ
   pub segment : HasEntry (at (key_segment m key)) (key_entry m key) head
   pub walk : IsWalk at head (LacksKey key) Last
+
+-- What a search reads can be read: the page of the segment of the key's bucket says its heads, and
+-- from the bucket's head page on the pages up to the one with the key, or the last, are a chain's.
+pub record CanSearch (at : ℕ → Body) (m : Meta) (end : ℕ) (key : Key) : Type 0 where
+  pub segment : SaysSegment at m (key_bucket (shape_in m) key / 508)
+  pub look : CanLook at end (slice_index segment.heads (key_entry m key)) key
 
 -- the search ended at the key's pair, which stands at the place in the page, which the bytes are;
 -- or behind all pages

@@ -1,9 +1,9 @@
 //! Changes of the file, each in one commit.
 
-ghost use Rattle.std.specs.Prelude.{◌≡◌, ◌↔◌, ◌+◌, ◌*◌, ◌<◌, ◌≤◌, [], true, false, is_some, IfErr, OnOk, IsErrOf, if◌then◌else◌};
+ghost use Rattle.std.specs.Prelude.{◌≡◌, ◌↔◌, ◌+◌, ◌<◌, [], true, false, is_some, IfErr, OnOk, IsErrOf, if◌then◌else◌};
 ghost use Rattle.std.specs.FinMap.{get, insert, remove};
 ghost use Rattle.dbm_model.specs.Pairs.{Contents, IsAllowed};
-ghost use Rattle.page_model.specs.Valid.{IsMeta, meta_buckets};
+ghost use Rattle.page_model.specs.Valid.{IsMeta};
 ghost use Rattle.page_io.specs.Answers.{HasDeviceCause};
 ghost use Rattle.page_io.specs.Views.{body_at};
 ghost use Rattle.page_io.specs.declared.store.PageFault.TheVariants.{Memory};
@@ -49,7 +49,6 @@ fn commit_store<S: PageStore>(
     ensures answer { IsChangeAnswer (S.state store.old) result }
     ensures memory { IsErrOf result Memory → WouldSplit (model_meta meta.old) was_there }
     ensures stored { S.honest store.old
-        → meta.new.pairs ≤ 8 * meta_buckets (model_meta meta.old)
         → OnOk result (IsStored was_there (body_at S.PageStore store.old)
         (body_at S.PageStore store.new) (model_meta meta.old) (model_meta meta.new)
         (S.state store.old).end (S.state store.new).end (key.now, content.now)) }
@@ -87,9 +86,8 @@ pub fn store_pair<S: PageStore>(
     ensures shape { OnOk result (shape_in (model_meta meta.new)
         ≡ shape_for meta.new.pairs (shape_in (model_meta meta.old))) }
 
-    // On any file, where no bucket is split, the pair is put into its bucket.
+    // On any file the pair is put into its bucket, and one is split where that is due.
     ensures stored { S.honest store.old
-        → meta.new.pairs ≤ 8 * meta_buckets (model_meta meta.old)
         → OnOk result (IsStored was_there (body_at S.PageStore store.old)
         (body_at S.PageStore store.new) (model_meta meta.old) (model_meta meta.new)
         (S.state store.old).end (S.state store.new).end (key.now, content.now)) }

@@ -10,7 +10,7 @@ ghost use Rattle.page_io.specs.declared.store.PageFault.TheVariants.{Damaged};
 ghost use Rattle.seg_table.specs.MetaPages.{model_meta};
 ghost use Rattle.chain_walks.specs.Answers.{IsWalkAnswer};
 ghost use Rattle.linear_hash.specs.Tables.{ForEachTable};
-ghost use Rattle.linear_hash.specs.Looking.{IsHeld, IsFound, IsSearch, EndsAt};
+ghost use Rattle.linear_hash.specs.Looking.{IsHeld, IsFound, IsSearch, CanSearch, EndsAt};
 
 use bucket_chain::{Place, lookup};
 use lin_addr::hash;
@@ -38,7 +38,12 @@ pub fn find_pair<S: PageStore>(
         IfOk result (λ place. IsFound key.now (get (contents p) key.now) page.new.bytes place)) }
     ensures whole { ForEachTable S.PageStore store.old (model_meta meta.now) (λ p.
         IsErrOf result Damaged → ⊥) }
+
+    // Nor is it Damaged where only other pages are than those that it reads.
+    ensures readable { S.honest store.old
+        → CanSearch (body_at S.PageStore store.old) (model_meta meta.now) (S.state store.old).end key.now
+        → IsErrOf result Damaged → ⊥ }
 {
-    let head = head_of(store, meta, meta.shape.bucket(hash(key)))?;
+    let head = head_of(store, meta, meta.shape.bucket(hash(key)), page)?;
     lookup(store, head, key, page)
 }

@@ -51,7 +51,7 @@ pub fn next_pair<S: PageStore>(
 {
     let mut bucket = last.map_or(0, |key| meta.shape.bucket(hash(key)));
     loop {
-        let head = head_of(store, meta, bucket)?;
+        let head = head_of(store, meta, bucket, page)?;
         if let Some(slot) = least_behind(store, head, last, page)? {
             return Ok(Some(slot));
         }

@@ -16,13 +16,15 @@ ghost use Rattle.seg_table.specs.Heads.{AddsSegment};
 ghost use Rattle.linear_hash.specs.Staging.{IsMidway, IsChangeAnswer, IsGrown, ForEachMidway};
 ghost use Rattle.lin_addr.specs.Shapes.{shape_of};
 ghost use Rattle.chain_walks.specs.Pairs.{pair_of};
+ghost use Rattle.bucket_chain.specs.AnyFile.{AreAdded};
 ghost use Rattle.bucket_chain.specs.Placements.{IsBelow};
+ghost use Rattle.linear_hash.specs.AnyFile.{IsOpened, IsSplit, head_for};
 ghost use Rattle.linear_hash.specs.Splitting.{IsBucketOpened, IsRefilled};
 
 use bucket_chain::{Pair, load_all, put, store_all};
 use free_pages::{FreeState, take};
 use lin_addr::{Shape, hash};
-use page_io::{PageFault, PageStore};
+use page_io::{Page, PageFault, PageStore};
 use seg_table::{Meta, head_of, set_head};
 use slot_page::empty;
 use std::alloc::Global;
@@ -48,6 +50,12 @@ pub fn split_bucket<S: PageStore>(
     ensures may_end { MayEnd (S.state store.old) space.old.file_end
         → OnOk result (MayEnd (S.state store.new) space.new.file_end) }
 
+    // On any file the bucket is read to its end, and its pairs are in two buckets thereafter.
+    ensures splits { S.honest store.old
+        → OnOk result (IsSplit (MayEnd (S.state store.old) space.old.file_end)
+        (body_at S.PageStore store.old) (body_at S.PageStore store.new) (model_meta meta.old)
+        (model_meta meta.new) space.old space.new) }
+
     // Where at most one page was taken since the last commit, it leaves the model's placement, is
     // never Damaged, and lacks room only on a device that is no larger than that placement.
     ensures exact { ForEachMidway S.PageStore store.old (model_meta meta.old) space.old (λ p.
@@ -62,7 +70,8 @@ pub fn split_bucket<S: PageStore>(
 {
     // Every page has a number of four bytes.
     prove!(space.file_end <= u32::MAX);
-    let head = head_of(store, meta, meta.shape.split)?;
+    let mut page = Page::blank();
+    let head = head_of(store, meta, meta.shape.split, &mut page)?;
     let pairs = load_all(alloc, store, head)?;
     let new_head = open_bucket(store, meta, space, head)?;
     refill(store, space, meta.shape, head, new_head, pairs.as_slice())?;
@@ -90,6 +99,11 @@ fn open_bucket<S: PageStore>(
     ensures ends { HasEnds space.old → HasEnds space.new }
     ensures may_end { MayEnd (S.state store.old) space.old.file_end
         → OnOk result (MayEnd (S.state store.new) space.new.file_end) }
+
+    // On any file the chain is emptied, and a head page that is taken is the next bucket's.
+    ensures opens { S.honest store.old
+        → IfOk result (IsOpened (body_at S.PageStore store.old) (body_at S.PageStore store.new)
+        (model_meta meta.old) (model_meta meta.new) space.old space.new head) }
 
     // It leaves the model's placement with no pair in either bucket, is never Damaged, and lacks
     // room only on a device that is no larger than that placement.
@@ -128,6 +142,12 @@ fn refill<S: PageStore>(
     ensures may_end { MayEnd (S.state store.old) space.old.file_end
         → OnOk result (MayEnd (S.state store.new) space.new.file_end) }
 
+    // On any file the pairs are added in order, each by one bit of its key's hash.
+    ensures added { S.honest store.old
+        → OnOk result (AreAdded (body_at S.PageStore store.old) (body_at S.PageStore store.new)
+        (MayEnd (S.state store.old) space.old.file_end) space.old space.new
+        (head_for shape.level head new_head) (map pair_of pairs.now)) }
+
     // From the opened placement it leaves the split one, is never Damaged, and lacks room only on a
     // device that is no larger than that one.
     ensures exact { S.honest store.old → (p : Placement)
@@ -142,10 +162,11 @@ fn refill<S: PageStore>(
         (map pair_of pairs.now) p → IsErrOf result NoRoom
         → (S.state store.old).capacity ≤ (split p).space.end }
 {
+    let mut page = Page::blank();
     for pair in pairs {
         let goes_up = shape.split_goes_up(hash(&pair.key));
         let to = if goes_up { new_head } else { head };
-        put(store, space, to, &pair.key, &pair.content)?;
+        put(store, space, to, &pair.key, &pair.content, &mut page)?;
     }
     Ok(())
 }

@@ -1,6 +1,6 @@
 //! The pages that a store or a delete changes.
 
-ghost use Rattle.std.specs.Prelude.{◌≡◌, ◌+◌, ◌-◌, ◌*◌, ◌<◌, ◌≤◌, ℕ, [], true, false, is_some, IfOk, OnOk, IsErrOf, length, if◌then◌else◌};
+ghost use Rattle.std.specs.Prelude.{◌≡◌, ◌+◌, ◌-◌, ◌*◌, ◌<◌, ◌≤◌, ℕ, [], true, false, is_some, IfOk, OnOk, IsErrOf, length, nat_lt, if◌then◌else◌};
 ghost use Rattle.std.specs.FinMap.{get};
 ghost use Rattle.dbm_model.specs.Pairs.{IsAllowed};
 ghost use Rattle.page_model.specs.PairLists.{times};
@@ -16,6 +16,7 @@ ghost use Rattle.seg_table.specs.MetaPages.{model_meta};
 ghost use Rattle.bucket_chain.specs.Answers.{IsRemoveAnswer};
 ghost use Rattle.bucket_chain.specs.AnyFile.{IsTakenOut};
 ghost use Rattle.bucket_chain.specs.Changes.{BecomesPlaced, ForEachPlaced, remove_from};
+ghost use Rattle.linear_hash.specs.AnyFile.{IsSplitWhere};
 ghost use Rattle.linear_hash.specs.Changing.{IsDeleted, IsStored, PutIn, TookOut};
 ghost use Rattle.linear_hash.specs.Tables.{space_in, shape_in, shape_for, split_where_full, ForEachTable};
 ghost use Rattle.page_commit.specs.Committing.{MayCommit};
@@ -49,6 +50,7 @@ fn take_out<S: PageStore>(
     space: &mut FreeState,
     head: u32,
     key: &[u8],
+    page: &mut Page,
 ) -> Result<(), PageFault>
     ensures stages { StagesOnly S.PageStore store.old store.new }
     ensures few { length (S.state store.new).staged ≤ length (S.state store.old).staged + 2 }
@@ -68,7 +70,7 @@ fn take_out<S: PageStore>(
     ensures whole { ForEachPlaced S.PageStore store.old space.old head (λ chain s.
         times key.now (pairs_in chain) ≡ 1 → IsErrOf result Damaged → ⊥) }
 {
-    if remove(store, space, head, key)? {
+    if remove(store, space, head, key, page)? {
         Ok(())
     } else {
         Err(PageFault::Damaged)
@@ -109,11 +111,12 @@ fn replace_pair<S: PageStore>(
     ensures whole { ForEachMidway S.PageStore store.old (model_meta meta.now) space.old (λ p.
         was_there ≡ is_some (get (contents p) key.now) → IsErrOf result Damaged → ⊥) }
 {
-    let head = head_of(store, meta, meta.shape.bucket(hash(key)))?;
+    let mut page = Page::blank();
+    let head = head_of(store, meta, meta.shape.bucket(hash(key)), &mut page)?;
     if was_there {
-        take_out(store, space, head, key)?;
+        take_out(store, space, head, key, &mut page)?;
     }
-    put(store, space, head, key, content)
+    put(store, space, head, key, content, &mut page)
 }
 
 /// Splits one bucket where there are too many pairs.
@@ -141,6 +144,12 @@ fn split_if_full<S: PageStore>(
     ensures still { meta.old.pairs ≤ 8 * meta_buckets (model_meta meta.old)
         → (store.new ≡ store.old) × (model_meta meta.new ≡ model_meta meta.old)
         × (space.new ≡ space.old) }
+    ensures splits { S.honest store.old
+        → OnOk result (IsSplitWhere
+        (nat_lt (8 * meta_buckets (model_meta meta.old)) meta.old.pairs)
+        (MayEnd (S.state store.old) space.old.file_end) (body_at S.PageStore store.old)
+        (body_at S.PageStore store.new) (model_meta meta.old) (model_meta meta.new) space.old
+        space.new) }
     ensures ends { HasEnds space.old → HasEnds space.new }
     ensures may_end { MayEnd (S.state store.old) space.old.file_end
         → OnOk result (MayEnd (S.state store.new) space.new.file_end) }
@@ -226,9 +235,8 @@ pub fn stage_store<S: PageStore>(
     ensures may_commit { IfOk result (MayCommit (S.state store.new)) }
     ensures grows { IfOk result (λ end. (S.state store.old).end ≤ end) }
 
-    // On any file, where no bucket is split, the pair is put into its bucket.
+    // On any file the pair is put into its bucket, and one is split where that is due.
     ensures stored { S.honest store.old
-        → meta.new.pairs ≤ 8 * meta_buckets (model_meta meta.old)
         → IfOk result (λ end. IsStored was_there (body_at S.PageStore store.old)
         (body_at S.PageStore store.new) (model_meta meta.old) (model_meta meta.new)
         (S.state store.old).end end (key.now, content.now)) }
@@ -275,8 +283,9 @@ fn remove_key<S: PageStore>(
     ensures whole { ForEachMidway S.PageStore store.old (model_meta meta.now) space.old (λ p.
         is_some (get (contents p) key.now) ≡ true → IsErrOf result Damaged → ⊥) }
 {
-    let head = head_of(store, meta, meta.shape.bucket(hash(key)))?;
-    take_out(store, space, head, key)
+    let mut page = Page::blank();
+    let head = head_of(store, meta, meta.shape.bucket(hash(key)), &mut page)?;
+    take_out(store, space, head, key, &mut page)
 }
 
 /// Stages what the delete of a key that is there changes, and answers where the file then ends.

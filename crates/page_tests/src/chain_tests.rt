@@ -201,7 +201,14 @@ fn is_damaged_to_change(alloc: Global, case: usize) -> Result<bool, Fail> {
     let mut store = file_of(alloc, &three, &four)?;
     let put = put_pair(&mut store, &mut space_of(0, 0, 5), b'd', &[0; 2025]);
     store.unstage();
-    let removed = remove(&mut store, &mut space_of(0, 0, 5), 3, b"d").err();
+    let removed = remove(
+        &mut store,
+        &mut space_of(0, 0, 5),
+        3,
+        b"d",
+        &mut Page::blank(),
+    )
+    .err();
     store.unstage();
     let stored = store_all(&mut store, &mut space_of(0, 0, 5), 3, &[]);
     store.unstage();

@@ -61,7 +61,7 @@ fn removes(
     key: u8,
     wanted: bool,
 ) -> Result<bool, PageFault> {
-    Ok(remove(store, space, 3, &[key])? == wanted)
+    Ok(remove(store, space, 3, &[key], &mut Page::blank())? == wanted)
 }
 
 /// Whether removing key 62 gives page 4.
@@ -113,7 +113,7 @@ fn an_absent_key_changes_nothing(rt: HostRuntime) -> Result<(), Fail> {
 fn is_damaged(alloc: Global, last: u32, key: u8, before: FreeState) -> Result<bool, Fail> {
     let mut store = two_pages(alloc, last)?;
     let mut space = before;
-    let answer = remove(&mut store, &mut space, 3, &[key]);
+    let answer = remove(&mut store, &mut space, 3, &[key], &mut Page::blank());
     store.unstage();
     let [_, _, third, fourth] = staged(&store);
     let told = answer == Err(PageFault::Damaged) && space == before && !third && !fourth;

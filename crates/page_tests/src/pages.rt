@@ -73,5 +73,5 @@ pub fn put_pair(
     if content.len() > 2025 {
         return Err(PageFault::Memory);
     }
-    put(store, space, 3, &[key], content)
+    put(store, space, 3, &[key], content, &mut Page::blank())
 }

@@ -155,7 +155,7 @@ fn three_pages(alloc: Global) -> Result<MemPages, AllocError> {
 /// The head of a bucket, NoRoom where its segment isn't there.
 fn head(store: &mut MemPages, meta: &Meta, bucket: u32) -> Result<u32, PageFault> {
     if bucket as usize / 508 < meta.segments.len() {
-        head_of(store, meta, bucket)
+        head_of(store, meta, bucket, &mut Page::blank())
     } else {
         Err(PageFault::NoRoom)
     }

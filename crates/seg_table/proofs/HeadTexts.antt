@@ -54,7 +54,7 @@ front_spelled n z (m ∷ ms) =
     (let count : z ≡ z + 4 * (suc (length ms) + 1) - 4 * suc (suc (length ms)) =
     omega arith in count)
 
-trimmed_spelled : (z : ℕ) (ns : List ℕ)
+pub trimmed_spelled : (z : ℕ) (ns : List ℕ)
     → numbers_bytes ns ++ replicate z 0 ≡ numbers_bytes (trimmed ns)
     ++ replicate (z + 4 * length ns - 4 * length (trimmed ns)) 0
 trimmed_spelled z [] = ap (λ (k : ℕ). replicate k 0)
@@ -134,7 +134,7 @@ spelled_bytes own heads =
     (zeros_are_bytes (2032 - 4 * length heads))))
 
 -- a page that says heads is spelled with them
-said_spelled : (bytes : List ℕ) (own : ℕ) (heads : List ℕ) → body_of own bytes ≡ SegmentPage heads
+pub said_spelled : (bytes : List ℕ) (own : ℕ) (heads : List ℕ) → body_of own bytes ≡ SegmentPage heads
     → bytes ≡ segment_spelling own heads
 said_spelled bytes own heads e =
     body_spelled own bytes (λ other. absurd (cc (e, other))) ∙ ap (spelling_of own) e
@@ -177,7 +177,7 @@ said_segment bytes own count heads len many e =
 
 -- one head set
 
-numbers_put : (ns front : List ℕ) (i at to z head : ℕ) → length front ≡ at → i ≤ length ns
+pub numbers_put : (ns front : List ℕ) (i at to z head : ℕ) → length front ≡ at → i ≤ length ns
     → (i ≡ length ns → 4 ≤ z) → at + 4 * i ≡ to
     → overwrite (front ++ (numbers_bytes ns ++ replicate z 0)) to (u32_bytes head) ≡ front
     ++ (numbers_bytes (put ns i head)

@@ -1,4 +1,5 @@
 pub mod Entries
+pub mod EntryTexts
 pub mod HeadLists
 pub mod HeadSets
 pub mod HeadTexts

@@ -1,10 +1,11 @@
 -- Segment pages as a map from bucket to head.
 use Rattle.std.proofs.Common.{◌≡◌, ℕ, zero, suc, ◌+◌, ◌-◌, ◌*◌, ◌/◌, ◌%◌, ◌<◌, ◌≤◌, List, [], ◌∷◌, ◌++◌, length, get_or, take, drop, min, refl, sym, ap, subst, ◌∙◌, arith}
 use Rattle.std.proofs.lemmas.List.{drop-drop, get_or-take, get_or-drop, take-append-le, drop-append-le, length-take, length-drop}
-use Rattle.page_model.specs.Pages.{Body, SegmentPage}
+use Rattle.page_model.specs.Pages.{Meta, Body, SegmentPage}
 use Rattle.page_model.specs.PageBodies.{segment_bodies, AreRead}
 use Rattle.page_model.specs.Space.{times_of}
 use Rattle.page_model.proofs.Spaces.{times_head, times_tail}
+use Rattle.seg_table.specs.Heads.{AreHeads, SaysSegment}
 use Rattle.seg_table.proofs.HeadLists.{put, take-put, drop-put, take-put_behind, drop-put_behind}
 
 -- the heads of segment s
@@ -21,6 +22,24 @@ part_read at (n ∷ ns) heads (suc s) read lt =
     ∙ ap (λ (xs : List ℕ). SegmentPage (take 508 xs))
     (drop-drop (508 * s) 508 heads
     ∙ ap (λ (k : ℕ). drop k heads) (let k : 508 + 508 * s ≡ 508 * suc s = omega arith in k))
+
+pub length-part : (heads : List ℕ) (s : ℕ)
+    → length (part heads s) ≡ min (length heads - 508 * s) 508
+length-part heads s = omega (
+  arith,
+  length-take 508 (drop (508 * s) heads),
+  length-drop (508 * s) heads,
+)
+
+-- where the segment pages say heads, so does that of segment s
+pub part_said : (at : ℕ → Body) (m : Meta) (heads : List ℕ) (s : ℕ) → AreHeads at m heads
+    → s < length m.segments → SaysSegment at m s
+part_said at m heads s are lt = record {
+  heads = part heads s;
+  says = part_read at m.segments heads s are.are_read lt;
+  many = omega (arith, length-part heads s, are.many);
+  some = (are.used s 0 lt).0;
+}
 
 -- the head of a bucket, by its place in its segment
 pub get_or-part : (heads : List ℕ) (b : ℕ)
@@ -111,11 +130,3 @@ added_read at at' (m ∷ ns) heads n head none full read new others =
     let rest = added_read at at' ns (drop 508 heads) n head (omega (arith, none, times_tail n m ns))
     (omega (arith, length-drop 508 heads)) read.1 new others in
     (first, subst (λ (xs : List ℕ). AreRead at' (segment_bodies (ns ++ n ∷ []) xs)) later rest)
-
-pub length-part : (heads : List ℕ) (s : ℕ)
-    → length (part heads s) ≡ min (length heads - 508 * s) 508
-length-part heads s = omega (
-  arith,
-  length-take 508 (drop (508 * s) heads),
-  length-drop (508 * s) heads,
-)

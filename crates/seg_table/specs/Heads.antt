@@ -8,12 +8,20 @@ use Rattle.page_model.specs.Space.{Space, next_page, after_take}
 use Rattle.page_model.specs.PageBodies.{segment_bodies, AreRead}
 use Rattle.free_pages.specs.declared.free_state.FreeState.{FreeState}
 use Rattle.free_pages.specs.FreeList.{state_of, IsFreeList, IsApart}
+use Rattle.seg_table.specs.Segments.{heads_in}
 
 -- the segment pages of this meta page say these heads, one for each bucket
 pub record AreHeads (at : ℕ → Body) (m : model.Meta) (heads : List ℕ) : Type 0 where
   pub are_read : AreRead at (segment_bodies m.segments heads)
   pub many : length heads ≡ meta_buckets m
   pub used : All (λ n. (0 < n) × IsNumber n) m.segments
+
+-- the page of segment s says a head for each of its buckets that there is
+pub record SaysSegment (at : ℕ → Body) (m : model.Meta) (s : ℕ) : Type 0 where
+  pub heads : List ℕ
+  pub says : at (slice_index m.segments s) ≡ SegmentPage heads
+  pub many : length heads ≡ heads_in m s
+  pub some : 0 < slice_index m.segments s
 
 -- what is read is a segment page with this number at a place, 0 behind the last head
 pub record HasEntry (body : Body) (i head : ℕ) : Type 0 where

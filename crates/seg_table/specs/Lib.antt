@@ -3,3 +3,4 @@ pub mod Heads
 pub mod MetaPages
 pub mod Placements
 pub mod Segments
+pub mod Setting

@@ -9,7 +9,8 @@ ghost use Rattle.page_io.specs.declared.store.PageFault.TheVariants.{Damaged};
 ghost use Rattle.free_pages.specs.FreeList.{HasEnds};
 ghost use Rattle.seg_table.specs.MetaPages.{model_meta};
 ghost use Rattle.seg_table.specs.Segments.{IsSpelledSegment};
-ghost use Rattle.seg_table.specs.Heads.{AreHeads, HasEntry, CanSet, IsHeadSet, AddsSegment};
+ghost use Rattle.seg_table.specs.Heads.{AreHeads, SaysSegment, HasEntry, CanSet, IsHeadSet, AddsSegment};
+ghost use Rattle.seg_table.specs.Setting.{IsEntrySet};
 ghost use Rattle.seg_table.specs.Answers.{IsHeadAnswer, IsSetAnswer};
 
 use crate::Meta;
@@ -35,8 +36,8 @@ fn read_segment<S: PageStore>(
     ensures found { S.honest store.old
         → OnOk result (page.new.bytes
         ≡ visible_page S.PageStore store.old (slice_index meta.now.segments.items s)) }
-    ensures whole { S.honest store.old → (heads : List ℕ)
-        → AreHeads (body_at S.PageStore store.old) (model_meta meta.now) heads
+    ensures readable { S.honest store.old
+        → SaysSegment (body_at S.PageStore store.old) (model_meta meta.now) s
         → IsErrOf result Damaged → ⊥ }
 {
     store.read(meta.segments[s], page)?;
@@ -47,8 +48,14 @@ fn read_segment<S: PageStore>(
     }
 }
 
-/// The head page of a bucket. Damaged is answered where the bucket's segment page is none.
-pub fn head_of<S: PageStore>(store: &mut S, meta: &Meta, bucket: u32) -> Result<u32, PageFault>
+/// The head page of a bucket. Damaged is answered where the bucket's segment page is none. It is
+/// read into `page`.
+pub fn head_of<S: PageStore>(
+    store: &mut S,
+    meta: &Meta,
+    bucket: u32,
+    page: &mut Page,
+) -> Result<u32, PageFault>
     requires { bucket / 508 < length meta.now.segments.items }
     ensures reads { ReadsOnly S.PageStore store.old store.new }
     ensures cause { HasDeviceCause (S.faults store.old) (S.faults store.new) result }
@@ -65,9 +72,13 @@ pub fn head_of<S: PageStore>(store: &mut S, meta: &Meta, bucket: u32) -> Result<
     ensures whole { S.honest store.old → (heads : List ℕ)
         → AreHeads (body_at S.PageStore store.old) (model_meta meta.now) heads
         → IsErrOf result Damaged → ⊥ }
+
+    // Nor is it where only other segments are damaged.
+    ensures readable { S.honest store.old
+        → SaysSegment (body_at S.PageStore store.old) (model_meta meta.now) (bucket / 508)
+        → IsErrOf result Damaged → ⊥ }
 {
-    let mut page = Page::blank();
-    read_segment(store, meta, bucket as usize / PER_SEGMENT, &mut page)?;
+    read_segment(store, meta, bucket as usize / PER_SEGMENT, page)?;
     Ok(page.u32_at(HEADS_AT + 4 * (bucket as usize % PER_SEGMENT)))
 }
 
@@ -96,6 +107,11 @@ pub fn set_head<S: PageStore>(
     ensures ends { HasEnds space.old → HasEnds space.new }
     ensures may_end { MayEnd (S.state store.old) space.old.file_end
         → OnOk result (MayEnd (S.state store.new) space.new.file_end) }
+
+    // On any file the head is set in the bucket's segment alone, and that is read or taken.
+    ensures set { S.honest store.old
+        → OnOk result (IsEntrySet (body_at S.PageStore store.old) (body_at S.PageStore store.new)
+        meta.old.segments.items meta.new.segments.items space.old space.new bucket head) }
 
     // Where the segment pages say the heads, they then say them with this one, and it is never
     // Damaged.

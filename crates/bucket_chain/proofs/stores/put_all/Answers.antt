@@ -35,7 +35,7 @@ returns-in_err-put g c =
       no_room = λ honest fails.
           let i = c.loop-pair.pair-index in
           let full = (told.answer.no_room (came _ _ exit NoRoom fails)).1 in
-          let grown = all_grow _ _ _ _ (take i (map pair_of c.args.pairs.now)) _ _
+          let grown = all_grow _ (λ pair. c.args.head) _ _ (take i (map pair_of c.args.pairs.now)) _ _
           (so_far.added honest) in
           omega (
             arith,
@@ -88,9 +88,9 @@ loop-pair-preserved g c =
           c.loop-pair.space c.put.new.space c.args.head p) one
           (c.in_ok-put.ensures.added (c.loop-pair.invariant.stages.honesty.1 honest)) in
           subst (λ (ps : List Pair). AreAdded (body_at st c.args.store.now) at' Start
-          c.args.space.now c.put.new.space c.args.head ps)
+          c.args.space.now c.put.new.space (λ pair. c.args.head) ps)
           (sym (next_pair pairs i item c.loop-pair-test.true (sym c.pair-item.is)))
-          (one_added Start c.args.head _ c.args.space.now (take i (map pair_of pairs)) at
+          (one_added Start (λ pair. c.args.head) _ c.args.space.now (take i (map pair_of pairs)) at
           c.loop-pair.space (pair_of item) at' c.put.new.space
           (c.loop-pair.invariant.added honest)
           (added_under _ Start c.loop-pair.invariant.may_end at at' c.loop-pair.space
@@ -139,7 +139,7 @@ returns g c =
       added = λ honest.
           subst (AreAdded (body_at st c.args.store.now) (body_at st c.loop-pair.store)
           (MayEnd (st.state c.args.store.now) c.args.space.now.file_end)
-          c.args.space.now c.loop-pair.space c.args.head) all (so_far.added honest);
+          c.args.space.now c.loop-pair.space (λ pair. c.args.head)) all (so_far.added honest);
       ends = so_far.ends;
       may_end = so_far.may_end;
       exact = λ honest placed is empty distinct. record {

@@ -17,8 +17,8 @@ invariant-loop-pair g l = record {
       → MayEnd (g.S.PageStore.state l.store) l.space.file_end;
   added : g.S.PageStore.honest l.fn.store
       → AreAdded (body_at g.S.PageStore l.fn.store) (body_at g.S.PageStore l.store)
-      (MayEnd (g.S.PageStore.state l.fn.store) l.fn.space.file_end) l.fn.space l.space l.fn.head
-      (take l.pair-index (map pair_of l.fn.pairs));
+      (MayEnd (g.S.PageStore.state l.fn.store) l.fn.space.file_end) l.fn.space l.space
+      (λ pair. l.fn.head) (take l.pair-index (map pair_of l.fn.pairs));
   put : g.S.PageStore.honest l.fn.store → (placed : Placed)
       → IsPlaced (body_at g.S.PageStore l.fn.store) l.fn.space l.fn.head placed.0 placed.1
       → pairs_in placed.0 ≡ [] → HaveDistinctKeys (map pair_of l.fn.pairs)

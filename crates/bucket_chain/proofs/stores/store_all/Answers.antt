@@ -63,7 +63,7 @@ returns g c =
             mid = body_at st c.clear.new.store;
             between = c.clear.new.space;
             first = cleared.emptied honest;
-            second = all_under _ _ cleared.may_end _ _ _ (map pair_of c.args.pairs.now) _ _ all;
+            second = all_under _ _ cleared.may_end (λ pair. c.args.head) _ _ (map pair_of c.args.pairs.now) _ _ all;
           });
       exact = λ honest chain s placed distinct.
           let empty = cleared.exact honest chain s placed in

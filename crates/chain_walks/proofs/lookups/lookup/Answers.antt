@@ -7,6 +7,7 @@ use Rattle.chain_walks.specs.Places.{place}
 use Rattle.chain_walks.specs.Walks.{EndsWithout, IsPairAt}
 use Rattle.chain_walks.proofs.ReadPages.{still_honest, link_before, link_after}
 use Rattle.chain_walks.proofs.Walks.{walk_ends, walk_goes_on, walk_is_here, some_page, not_too_long}
+use Rattle.chain_walks.proofs.SoundLooks.{stands_at, not_over}
 use Rattle.chain_walks.proofs.KeyWalks.{looked_up, not_there, absent_times}
 use Rattle.chain_walks.proofs.lookups.lookup.Goals as goal
 
@@ -19,6 +20,15 @@ returns-in_err-next-clause-whole g c honest chain is damaged =
     let p = err_from_is_err_and c.from_residual.result c.from_residual.ensures.1 in
     let fault : c.in_err-next.field-0.0 ≡ Damaged = let e = rw (p.1, p.2) at damaged in cc in
     c.in_err-next.ensures.whole (still_honest g.S.PageStore _ _ reads honest) _ _ some
+    (link_after g.S.PageStore _ _ reads honest _ _ _ _ here.link) (ap Err fault)
+
+pub returns-in_err-next-clause-readable : goal.returns-in_err-next-clause-readable
+returns-in_err-next-clause-readable g c honest can damaged =
+    let reads = c.loop-step.invariant.reads in
+    let here = stands_at _ _ _ _ _ _ _ can (c.loop-step.invariant.walked honest) in
+    let p = err_from_is_err_and c.from_residual.result c.from_residual.ensures.1 in
+    let fault : c.in_err-next.field-0.0 ≡ Damaged = let e = rw (p.1, p.2) at damaged in cc in
+    c.in_err-next.ensures.whole (still_honest g.S.PageStore _ _ reads honest) _ _ here.some
     (link_after g.S.PageStore _ _ reads honest _ _ _ _ here.link) (ap Err fault)
 
 pub returns-in-Some-clause-walked : goal.returns-in-Some-clause-walked
@@ -75,3 +85,7 @@ loop-step-preserved g c = record {
 pub returns-clause-whole : goal.returns-clause-whole
 returns-clause-whole g c honest chain is damaged =
     not_too_long _ _ _ _ _ _ _ chain is (c.loop-step.invariant.walked honest) (omega arith)
+
+pub returns-clause-readable : goal.returns-clause-readable
+returns-clause-readable g c honest can damaged =
+    not_over _ _ _ _ _ _ _ can (c.loop-step.invariant.walked honest) (omega arith)

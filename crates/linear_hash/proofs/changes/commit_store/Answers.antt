@@ -191,9 +191,9 @@ returns-clause-turns g c honest usable map holds was =
     }
 
 pub returns-clause-stored : goal.returns-clause-stored
-returns-clause-stored g c honest few =
+returns-clause-stored g c honest =
     let staged = c.stage_store-staged.ensures in
     let h1 = staged.stages.honesty.1 honest in
     written_committed g.S.PageStore c.stage_store-staged.new.store c.finish.new.store _ _ _ _
     c.stage_store-staged.result c.finish.result c.finish.ensures.refused staged.may_commit
-    (c.finish.ensures.committed h1) c.finish.ensures.ok (staged.stored honest few)
+    (c.finish.ensures.committed h1) c.finish.ensures.ok (staged.stored honest)

@@ -1,9 +1,8 @@
-use Rattle.std.proofs.Common.{◌∙◌, ◌+◌, ◌*◌, ◌≤◌, ap, subst}
+use Rattle.std.proofs.Common.{◌∙◌, ◌+◌, ap, subst}
 use Rattle.std.specs.Prelude.{if◌then◌else◌}
 use Rattle.std.specs.FinMap.{insert}
 use Rattle.std.proofs.lemmas.Result.{IfOk-from_err}
 use Rattle.page_model.specs.Pages.{Meta}
-use Rattle.page_model.specs.Valid.{meta_buckets}
 use Rattle.dbm_model.specs.Pairs.{Pair}
 use Rattle.page_io.specs.Views.{body_at}
 use Rattle.page_io.specs.declared.store.PageFault.TheVariants.{Memory}
@@ -29,7 +28,7 @@ returns-in_err-commit_store g c =
       memory = λ is. subst (λ (m : Meta). WouldSplit m c.args.was_there) c.copied-changed.ensures
           (told.memory (came _ _ exit Memory is));
       shape = IfOk-from_err _ _ result.ensures.0;
-      stored = λ honest few. IfOk-from_err _ _ result.ensures.0;
+      stored = λ honest. IfOk-from_err _ _ result.ensures.0;
       turns = λ honest usable map holds was.
           refused_turn g.S.PageStore _ _ before _ _ exit _ _ _ _
           (turned g.S.PageStore _ _ before _ (model_meta c.commit_store.new.meta) map
@@ -58,13 +57,12 @@ returns g c =
       memory = λ is. absurd (let x = is in cc);
       shape = told.shape ∙ ap (λ (m : Meta). shape_for c.commit_store.new.meta.pairs (shape_in m))
           same;
-      stored = λ honest few.
+      stored = λ honest.
           let pair : Pair = (c.args.key.now, c.args.content.now) in
-          subst (λ (m : Meta). c.commit_store.new.meta.pairs ≤ 8 * meta_buckets m
-          → IsStored c.args.was_there (body_at g.S.PageStore c.args.store.now)
+          subst (λ (m : Meta). IsStored c.args.was_there (body_at g.S.PageStore c.args.store.now)
           (body_at g.S.PageStore c.commit_store.new.store) m
           (model_meta c.commit_store.new.meta) (g.S.PageStore.state c.args.store.now).end
-          (g.S.PageStore.state c.commit_store.new.store).end pair) same (told.stored honest) few;
+          (g.S.PageStore.state c.commit_store.new.store).end pair) same (told.stored honest);
       turns = λ honest usable map holds was.
           turned g.S.PageStore _ _ (model_meta c.args.meta.now) _ _ map
           (insert map c.args.key.now c.args.content.now) (λ (m : Meta). m.pairs + 4) _ same

@@ -15,7 +15,7 @@ use Rattle.chain_walks.specs.Chains.{IsChainAt}
 use Rattle.linear_hash.specs.Tables.{shape_in, IsTable}
 use Rattle.linear_hash.proofs.Buckets.{table_heads, table_below, table_chain, found_in}
 use Rattle.linear_hash.proofs.Refusals.{head_of_walk}
-use Rattle.linear_hash.proofs.Searches.{searched_from}
+use Rattle.linear_hash.proofs.Searches.{searched_from, segment_from, look_from}
 use Rattle.linear_hash.proofs.looking.find_pair.Given.{Over}
 use Rattle.linear_hash.proofs.looking.find_pair.Goals as goal
 
@@ -34,6 +34,10 @@ returns-in_err-head g c =
       exact = λ honest p table. IfOk-from_err _ _ result.ensures.0;
       whole = λ honest p table damaged.
           told.whole honest (heads_of p.chains) (table_heads _ _ _ p table)
+          (came _ _ exit Damaged damaged);
+      readable = λ honest can damaged.
+          told.readable honest (segment_from _ _ _ _ c.bucket.result (c.bucket.ensures.address
+          ∙ ap (address (shape_in (model_meta c.args.meta.now))) c.hash.ensures) can)
           (came _ _ exit Damaged damaged);
     }
 
@@ -97,3 +101,11 @@ pub returns-clause-whole : goal.returns-clause-whole
 returns-clause-whole g c honest p table =
     c.lookup.ensures.whole (c.in_ok-head.ensures.reads.stages_only.honesty.1 honest) _
     (chain_there g c honest p table)
+
+pub returns-clause-readable : goal.returns-clause-readable
+returns-clause-readable g c honest can =
+    let reads = c.in_ok-head.ensures.reads in
+    c.lookup.ensures.readable (reads.stages_only.honesty.1 honest)
+    (look_from _ _ (model_meta c.args.meta.now) _ _ c.args.key.now c.bucket.result
+    c.in_ok-head.head (bucket_is g c) (c.in_ok-head.ensures.entry honest)
+    (same_said g.S.PageStore _ _ reads honest) (ap (λ (st : StoreState). st.end) reads.same) can)

@@ -1,4 +1,4 @@
-use Rattle.std.proofs.Common.{ℕ, ◌-◌, ◌^◌, ◌<◌, option_copied}
+use Rattle.std.proofs.Common.{◌-◌, ◌^◌, ◌<◌, option_copied}
 use Rattle.dbm_model.specs.KeyOrder.{rank}
 use Rattle.page_model.specs.Valid.{meta_buckets}
 use Rattle.page_io.specs.Views.{body_at, ReadsOnly}

@@ -1,4 +1,4 @@
-use Rattle.std.proofs.Common.{refl, sym, ap, ◌∙◌, subst, arith}
+use Rattle.std.proofs.Common.{ℕ, refl, sym, ap, ◌∙◌, subst, arith}
 use Rattle.std.proofs.lemmas.Result.{IfOk-from_err}
 use Rattle.page_model.specs.PageBodies.{heads_of}
 use Rattle.page_model.proofs.Ends.{kept_taken, kept_opened}
@@ -10,9 +10,11 @@ use Rattle.page_io.proofs.Views.{after_stage, stages_then}
 use Rattle.page_io.proofs.Exits.{exit_is, came, cause_first, cause_then, cause_stage, cause_ok, later_then, stage_not_damaged, stage_has_room}
 use Rattle.seg_table.specs.MetaPages.{model_meta}
 use Rattle.seg_table.specs.Heads.{AddsSegment}
+use Rattle.seg_table.specs.Setting.{IsEntrySet}
 use Rattle.seg_table.proofs.Stagings.{then_said, others_stay}
 use Rattle.page_io.proofs.OwnNumbers.{own_of_head}
 use Rattle.linear_hash.proofs.Openings.{split_placed, no_keys, midway_heads, next_bucket, says_head, given_free, given_apart, given_space, headed_space, can_set, opened_now}
+use Rattle.linear_hash.proofs.SplitPages.{emptied_alone}
 use Rattle.linear_hash.proofs.Refusals.{store_refused, take_refused, stage_refused, set_refused, no_refusal}
 use Rattle.linear_hash.proofs.splitting.open_bucket.Goals as goal
 
@@ -29,6 +31,7 @@ returns-in_err-store_all g c =
       added = IfOk-from_err _ _ c.from_residual.ensures.0;
       ends = told.ends;
       may_end = λ may. IfOk-from_err _ _ c.from_residual.ensures.0;
+      opens = λ honest. IfOk-from_err _ _ c.from_residual.ensures.0;
       exact = λ honest p midway from. IfOk-from_err _ _ c.from_residual.ensures.0;
       whole = λ honest p midway from damaged.
           told.whole honest _ _ (split_placed _ _ _ p _ midway from) no_keys
@@ -52,6 +55,7 @@ returns-in_err-new_head g c =
       added = IfOk-from_err _ _ result.ensures.0;
       ends = λ e. told.ends (ok1.ends e);
       may_end = λ may. IfOk-from_err _ _ result.ensures.0;
+      opens = λ honest. IfOk-from_err _ _ result.ensures.0;
       exact = λ honest p midway from. IfOk-from_err _ _ result.ensures.0;
       whole = λ honest p midway from damaged.
           let placed = split_placed _ _ _ p _ midway from in
@@ -98,6 +102,7 @@ returns-in_err-stage g c =
       added = IfOk-from_err _ _ result.ensures.0;
       ends = λ e. ok2.ends (ok1.ends e);
       may_end = λ may. IfOk-from_err _ _ result.ensures.0;
+      opens = λ honest. IfOk-from_err _ _ result.ensures.0;
       exact = λ honest p midway from. IfOk-from_err _ _ result.ensures.0;
       whole = λ honest p midway from damaged.
           absurd (stage_not_damaged _ _ _ _ told.answer (came _ _ exit Damaged damaged));
@@ -130,6 +135,7 @@ returns-in_err-set_head g c =
       added = IfOk-from_err _ _ result.ensures.0;
       ends = λ e. told.ends (ok2.ends (ok1.ends e));
       may_end = λ may. IfOk-from_err _ _ result.ensures.0;
+      opens = λ honest. IfOk-from_err _ _ result.ensures.0;
       exact = λ honest p midway from. IfOk-from_err _ _ result.ensures.0;
       whole = λ honest p midway from damaged.
           let at0 = body_at st c.args.store.now in
@@ -219,6 +225,40 @@ returns g c =
           (own_of_head c.empty.result.bytes _ c.empty.ensures.says) in
           c.in_ok-set_head.ensures.may_end
           (subst (λ (s : StoreState). MayEnd s c.take.new.space.file_end) (sym put) staged);
+      opens = λ honest.
+          let at0 = body_at st c.args.store.now in
+          let at1 = body_at st c.store_all.new.store in
+          let at2 = body_at st c.stage.new.self in
+          let n = c.in_ok-new_head.new_head in
+          let h1 = ok1.stages.honesty.1 honest in
+          let h2 = ok2.reads.stages_only.honesty.1 h1 in
+          let h3 = c.in_ok-stage.ensures.honesty.1 h2 in
+          let order = g.met.S.PageStore.in_order c.store_all.new.store in
+          let own = own_of_head c.empty.result.bytes n c.empty.ensures.says in
+          record {
+            mid = at1;
+            between = c.store_all.new.space;
+            first = emptied_alone at0 at1
+                (MayEnd (st.state c.args.store.now) c.args.space.now.file_end) _ _ _
+                (ok1.stored honest);
+            second = record {
+              mid = at2;
+              between = c.take.new.space;
+              first = record {
+                is_taken = ok2.taken h1;
+                says = says_head at2 c.empty.result.bytes n
+                    (then_said st c.store_all.new.store c.take.new.store c.stage.new.self n
+                    c.empty.result.bytes ok2.reads staged h1 order c.in_ok-stage.ensures.ok own)
+                    c.empty.ensures.page c.empty.ensures.says;
+                others = others_stay st c.store_all.new.store c.take.new.store c.stage.new.self n
+                    c.empty.result.bytes ok2.reads staged h1 order c.in_ok-stage.ensures.ok own;
+              };
+              second = subst (λ (b : ℕ). IsEntrySet at2 (body_at st c.set_head.new.store)
+                  c.args.meta.now.segments.items c.set_head.new.meta.segments.items
+                  c.take.new.space c.set_head.new.space b n) c.buckets-bucket.ensures
+                  (ok3.set h3);
+            };
+          };
       exact = λ honest p midway from.
           let at0 = body_at st c.args.store.now in
           let at1 = body_at st c.store_all.new.store in

@@ -1,11 +1,20 @@
-use Rattle.std.proofs.Common.{◌≡◌, cond, sym, ap, ◌∙◌, arith, rules}
+use Rattle.std.proofs.Common.{◌≡◌, ℕ, List, map, take, cond, refl, sym, subst, ap, ◌∙◌, arith}
+use Rattle.std.proofs.lemmas.List.{length-map, take_all}
+use Rattle.dbm_model.specs.Pairs.{Pair}
 use Rattle.std.proofs.lemmas.Result.{IfOk-from_err}
 use Rattle.page_model.specs.Address.{hash_of}
 use Rattle.page_io.specs.Store.{StoreState}
-use Rattle.page_io.specs.Views.{body_at}
+use Rattle.page_io.specs.Views.{body_at, MayEnd}
 use Rattle.page_io.specs.declared.store.PageFault.TheVariants.{NoRoom, Damaged}
 use Rattle.page_io.proofs.Views.{stages_then}
 use Rattle.page_io.proofs.Exits.{exit_is, came, cause_then}
+use Rattle.chain_walks.specs.Pairs.{pair_of}
+use Rattle.chain_walks.proofs.ReadPages.{reads_none}
+use Rattle.bucket_chain.specs.AnyFile.{IsAdded, AreAdded}
+use Rattle.bucket_chain.proofs.Added.{added_under, one_added}
+use Rattle.bucket_chain.proofs.Storing.{next_pair}
+use Rattle.linear_hash.specs.AnyFile.{head_for}
+use Rattle.linear_hash.proofs.SplitPages.{chosen_head}
 use Rattle.linear_hash.proofs.Fillings.{filling_starts, filling_ends, filling_room, refill_length, refill_placed, refill_absent, refill_goes_on}
 use Rattle.linear_hash.proofs.Refusals.{put_refused}
 use Rattle.linear_hash.proofs.splitting.refill.Goals as goal
@@ -13,9 +22,11 @@ use Rattle.linear_hash.proofs.splitting.refill.Goals.{then-goes_up, else-goes_up
 
 pub loop-pair-init : goal.loop-pair-init
 loop-pair-init g c = record {
-  stages = search rules;
+  stages = (reads_none g.S.PageStore c.args.store.now
+      (g.met.S.PageStore.only_now c.args.store.now)).stages_only;
   ends = λ e. e;
   may_end = λ may. may;
+  added = λ honest. (refl, refl);
   filling = λ honest p from. filling_starts p from.sound _ _ from.below;
 }
 
@@ -34,6 +45,7 @@ returns-in_err-put g c =
           _ _ told.answer;
       ends = λ e. told.ends (so_far.ends e);
       may_end = λ may. IfOk-from_err _ _ result.ensures.0;
+      added = λ honest. IfOk-from_err _ _ result.ensures.0;
       exact = λ honest p from. IfOk-from_err _ _ result.ensures.0;
       whole = λ honest p from damaged.
           let i = c.loop-pair.pair-index in
@@ -72,6 +84,39 @@ loop-pair-preserved g c =
           c.loop-pair.invariant.stages c.in_ok-put.ensures.stages;
       ends = λ e. c.in_ok-put.ensures.ends (c.loop-pair.invariant.ends e);
       may_end = λ may. c.in_ok-put.ensures.may_end (c.loop-pair.invariant.may_end may);
+      added = λ honest.
+          let i = c.loop-pair.pair-index in
+          let item = c.pair-item.result in
+          let pair = pair_of item in
+          let Start = MayEnd (st.state c.args.store.now) c.args.space.now.file_end in
+          let Now = MayEnd (st.state c.loop-pair.store) c.loop-pair.space.file_end in
+          let at = body_at st c.loop-pair.store in
+          let at' = body_at st c.put.new.store in
+          let n = c.args.new_head in
+          let head = c.args.head in
+          let heads = head_for c.args.shape.level head n in
+          let up = c.split_goes_up-goes_up.result in
+          let goes : c.if-goes_up.to ≡ cond up n head = elim c.if-goes_up.branch [
+            | then-goes_up w ↦ w.to-is ∙ sym (ap (λ b. cond b n head) w.if-goes_up.true)
+            | else-goes_up w ↦ w.to-is ∙ sym (ap (λ b. cond b n head) w.if-goes_up.false)
+          ] in
+          let to : c.if-goes_up.to ≡ heads pair = chosen_head up c.args.shape.level n head
+          c.if-goes_up.to c.hash.result (hash_of item.key.items)
+          c.split_goes_up-goes_up.ensures.bit
+          (c.hash.ensures ∙ ap hash_of c.deref.ensures.value) goes in
+          let one : (c.deref-in-loop-pair.result.now, c.deref-in-loop-pair-2.result.now) ≡ pair =
+          (λ j. (c.deref-in-loop-pair.ensures.value j, c.deref-in-loop-pair-2.ensures.value j)) in
+          let added = subst (λ (h : ℕ). IsAdded at at' Now c.loop-pair.space c.put.new.space h pair)
+          to (subst (λ (p : Pair).
+          IsAdded at at' Now c.loop-pair.space c.put.new.space c.if-goes_up.to p) one
+          (c.in_ok-put.ensures.added (c.loop-pair.invariant.stages.honesty.1 honest))) in
+          subst (λ (ps : List Pair). AreAdded (body_at st c.args.store.now) at' Start
+          c.args.space.now c.put.new.space heads ps)
+          (sym (next_pair c.args.pairs.now i item c.loop-pair-test.true (sym c.pair-item.is)))
+          (one_added Start heads _ c.args.space.now (take i (map pair_of c.args.pairs.now)) at
+          c.loop-pair.space pair at' c.put.new.space (c.loop-pair.invariant.added honest)
+          (added_under Now Start c.loop-pair.invariant.may_end at at' c.loop-pair.space
+          c.put.new.space (heads pair) pair added));
       filling = λ honest p from.
           let i = c.loop-pair.pair-index in
           let item = c.pair-item.result in
@@ -97,6 +142,17 @@ loop-pair-preserved g c =
           (λ j. (c.deref-in-loop-pair.ensures.value j, c.deref-in-loop-pair-2.ensures.value j))
           becomes;
     }
+
+pub returns-clause-added : goal.returns-clause-added
+returns-clause-added g c honest =
+    let st = g.S.PageStore in
+    let pairs = map pair_of c.args.pairs.now in
+    let all = take_all c.loop-pair.pair-index pairs
+    (omega (arith, c.loop-pair-test.false, length-map c.args.pairs.now pair_of)) in
+    subst (AreAdded (body_at st c.args.store.now) (body_at st c.loop-pair.store)
+    (MayEnd (st.state c.args.store.now) c.args.space.now.file_end) c.args.space.now
+    c.loop-pair.space (head_for c.args.shape.level c.args.head c.args.new_head)) all
+    (c.loop-pair.invariant.added honest)
 
 pub returns-clause-exact : goal.returns-clause-exact
 returns-clause-exact g c honest p from =

@@ -1,9 +1,11 @@
-use Rattle.std.proofs.Common.{map}
+use Rattle.std.proofs.Common.{map, take}
 use Rattle.page_model.specs.Placement.{Placement}
 use Rattle.page_io.specs.Views.{body_at, StagesOnly, MayEnd}
 use Rattle.free_pages.specs.FreeList.{HasEnds}
 use Rattle.lin_addr.specs.Shapes.{shape_of}
 use Rattle.chain_walks.specs.Pairs.{pair_of}
+use Rattle.bucket_chain.specs.AnyFile.{AreAdded}
+use Rattle.linear_hash.specs.AnyFile.{head_for}
 use Rattle.linear_hash.specs.Splitting.{IsRefilled}
 use Rattle.linear_hash.proofs.Fillings.{IsFilling}
 use Rattle.linear_hash.proofs.splitting.refill.Given as goal
@@ -14,6 +16,10 @@ invariant-loop-pair g l = record {
   ends : HasEnds l.fn.space → HasEnds l.space;
   may_end : MayEnd (g.S.PageStore.state l.fn.store) l.fn.space.file_end
       → MayEnd (g.S.PageStore.state l.store) l.space.file_end;
+  added : g.S.PageStore.honest l.fn.store
+      → AreAdded (body_at g.S.PageStore l.fn.store) (body_at g.S.PageStore l.store)
+      (MayEnd (g.S.PageStore.state l.fn.store) l.fn.space.file_end) l.fn.space l.space
+      (head_for l.fn.shape.level l.fn.head l.fn.new_head) (take l.pair-index (map pair_of l.fn.pairs));
   filling : g.S.PageStore.honest l.fn.store → (p : Placement)
       → IsRefilled (body_at g.S.PageStore l.fn.store) l.fn.space (shape_of l.fn.shape) l.fn.head
       l.fn.new_head (map pair_of l.fn.pairs) p

@@ -1,13 +1,20 @@
-use Rattle.std.proofs.Common.{◌^◌, ◌<◌, map, refl, sym, ap, subst, ◌∙◌, arith}
+use Rattle.std.proofs.Common.{ℕ, ◌^◌, ◌<◌, List, map, refl, sym, ap, subst, ◌∙◌, arith}
 use Rattle.std.proofs.lemmas.Result.{IfOk-from_err}
+use Rattle.dbm_model.specs.Pairs.{Pair}
+use Rattle.page_model.specs.Pages.{Meta, Body}
 use Rattle.page_model.specs.PageBodies.{heads_of}
 use Rattle.page_model.proofs.Ends.{kept_split}
 use Rattle.page_io.specs.Store.{StoreState}
 use Rattle.page_io.specs.declared.store.PageFault.TheVariants.{NoRoom, Damaged}
-use Rattle.page_io.specs.Views.{MayEnd}
-use Rattle.page_io.proofs.Views.{stages_then}
+use Rattle.page_io.specs.Views.{body_at, MayEnd}
+use Rattle.page_io.proofs.Views.{stages_then, same_said}
 use Rattle.page_io.proofs.Exits.{exit_is, came, cause_first, cause_then, cause_ok}
+use Rattle.seg_table.specs.MetaPages.{model_meta}
 use Rattle.chain_walks.specs.Pairs.{pair_of}
+use Rattle.chain_walks.specs.Walks.{SaysAll}
+use Rattle.bucket_chain.specs.AnyFile.{AreAdded}
+use Rattle.bucket_chain.proofs.Added.{all_under}
+use Rattle.linear_hash.specs.AnyFile.{IsOpened, head_for}
 use Rattle.linear_hash.proofs.Refusals.{head_refused, load_refused, change_refused, no_refusal, head_has_room, load_has_room}
 use Rattle.linear_hash.proofs.SplitLemmas.{heads_read, split_head, chain_then, honest_later, midway_later, refilled_later, midway_split, is_grown}
 use Rattle.linear_hash.proofs.splitting.split_bucket.Goals as goal
@@ -27,6 +34,7 @@ returns-in_err-head g c =
       grown = IfOk-from_err _ _ result.ensures.0;
       ends = λ e. e;
       may_end = λ may. IfOk-from_err _ _ result.ensures.0;
+      splits = λ honest. IfOk-from_err _ _ result.ensures.0;
       exact = λ honest p midway near. IfOk-from_err _ _ result.ensures.0;
       whole = λ honest p midway near damaged.
           c.in_err-head.ensures.whole honest (heads_of p.chains) (heads_read _ _ _ p midway small)
@@ -52,6 +60,7 @@ returns-in_err-pairs g c =
       grown = IfOk-from_err _ _ result.ensures.0;
       ends = λ e. e;
       may_end = λ may. IfOk-from_err _ _ result.ensures.0;
+      splits = λ honest. IfOk-from_err _ _ result.ensures.0;
       exact = λ honest p midway near. IfOk-from_err _ _ result.ensures.0;
       whole = λ honest p midway near damaged.
           let from = split_head _ _ _ p midway small _
@@ -84,6 +93,7 @@ returns-in_err-new_head g c =
       grown = IfOk-from_err _ _ result.ensures.0;
       ends = told.ends;
       may_end = λ may. IfOk-from_err _ _ result.ensures.0;
+      splits = λ honest. IfOk-from_err _ _ result.ensures.0;
       exact = λ honest p midway near. IfOk-from_err _ _ result.ensures.0;
       whole = λ honest p midway near damaged.
           let from = split_head _ _ _ p midway small _
@@ -130,6 +140,7 @@ returns-in_err-refill g c =
       grown = IfOk-from_err _ _ result.ensures.0;
       ends = λ e. told.ends (c.in_ok-new_head.ensures.ends e);
       may_end = λ may. IfOk-from_err _ _ result.ensures.0;
+      splits = λ honest. IfOk-from_err _ _ result.ensures.0;
       exact = λ honest p midway near. IfOk-from_err _ _ result.ensures.0;
       whole = λ honest p midway near damaged.
           let from = split_head _ _ _ p midway small _
@@ -181,6 +192,47 @@ returns g c =
           (c.in_ok-new_head.ensures.may_end
           (subst (λ (s : StoreState). MayEnd s c.args.space.now.file_end)
           (sym (two.same ∙ one.same)) may));
+      splits = λ honest.
+          let h1 = one.stages_only.honesty.1 honest in
+          let h2 = two.stages_only.honesty.1 h1 in
+          let same1 = same_said st c.args.store.now c.head_of.new.store one honest in
+          let same2 = same_said st c.head_of.new.store c.load_all.new.store two h1 in
+          let m = model_meta c.args.meta.now in
+          let opened = c.in_ok-new_head.ensures in
+          let head = c.in_ok-head.head in
+          let n = c.in_ok-new_head.new_head in
+          let pairs = map pair_of c.in_ok-pairs.pairs.items in
+          let at2 = body_at st c.open_bucket.new.store in
+          let at3 = body_at st c.refill.new.store in
+          let middle = c.open_bucket.new.space in
+          let Start = MayEnd (st.state c.args.store.now) c.args.space.now.file_end in
+          let Now = MayEnd (st.state c.open_bucket.new.store) middle.file_end in
+          let added = subst (λ (ps : List Pair).
+          AreAdded at2 at3 Now middle c.refill.new.space (head_for m.level head n) ps)
+          (ap (map pair_of) c.as_slice.ensures.value)
+          (subst (λ (l : ℕ).
+          AreAdded at2 at3 Now middle c.refill.new.space (head_for l head n)
+          (map pair_of c.as_slice.result.now)) (ap (λ (x : Meta). x.level) opened.added.rest)
+          (four.added (opened.stages.honesty.1 h2))) in
+          record {
+            head = head;
+            taken = n;
+            pairs = pairs;
+            entry = c.in_ok-head.ensures.entry honest;
+            says = subst (λ (f : ℕ → Body). SaysAll f head pairs) same1
+                (c.in_ok-pairs.ensures.walked h1);
+            change = record {
+              mid = at2;
+              between = middle;
+              first = subst (λ (f : ℕ → Body). IsOpened f at2 m (model_meta c.open_bucket.new.meta)
+                  c.args.space.now middle head n) (same2 ∙ same1) (opened.opens h2);
+              second = all_under Now Start (λ may. opened.may_end
+                  (subst (λ (s : StoreState). MayEnd s c.args.space.now.file_end)
+                  (sym (two.same ∙ one.same)) may)) (head_for m.level head n) at2 middle pairs at3
+                  c.refill.new.space added;
+            };
+            grown = is_grown _ _ _ opened.added c.grown-meta.ensures.grown refl refl;
+          };
       exact = λ honest p midway near.
           let from = split_head _ _ _ p midway small _
           (c.in_ok-head.ensures.exact honest (heads_of p.chains)) in

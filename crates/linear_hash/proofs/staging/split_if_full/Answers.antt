@@ -1,8 +1,9 @@
 use Rattle.std.proofs.Common.{◌≡◌, ℕ, ◌*◌, ◌<◌, ◌≤◌, refl, sym, ap, subst, arith}
+use Rattle.std.proofs.lemmas.Bool.{lt-ltb, le-ltb}
 use Rattle.std.proofs.lemmas.Result.{IfOk-from_err}
 use Rattle.page_model.specs.Pages.{Meta}
 use Rattle.page_model.specs.Placement.{Placement}
-use Rattle.page_io.specs.Views.{body_at}
+use Rattle.page_io.specs.Views.{body_at, MayEnd}
 use Rattle.page_io.specs.declared.store.PageFault.TheVariants.{NoRoom, Damaged}
 use Rattle.page_io.proofs.Exits.{exit_is, came, cause_first, cause_ok}
 use Rattle.seg_table.specs.MetaPages.{model_meta}
@@ -10,6 +11,7 @@ use Rattle.chain_walks.proofs.ReadPages.{reads_none}
 use Rattle.linear_hash.specs.Tables.{shape_in, shape_for}
 use Rattle.linear_hash.specs.Staging.{IsMidway}
 use Rattle.linear_hash.proofs.Fullness.{few_where_full, counted_valid, grown_valid, grown_shape, same_shape, full_is_split, few_is_same}
+use Rattle.linear_hash.proofs.SplitPages.{where_many, where_few}
 use Rattle.linear_hash.proofs.Refusals.{change_refused, no_refusal}
 use Rattle.linear_hash.proofs.staging.split_if_full.Goals as goal
 
@@ -46,6 +48,7 @@ returns-in_err-split_bucket g c =
           absurd (omega (arith, few, full));
       ends = told.ends;
       may_end = λ may. IfOk-from_err _ _ result.ensures.0;
+      splits = λ honest. IfOk-from_err _ _ result.ensures.0;
       exact = λ honest p mid near counted. IfOk-from_err _ _ result.ensures.0;
       whole = λ honest p mid near damaged.
           told.whole honest p mid near (came _ _ exit Damaged damaged);
@@ -110,6 +113,13 @@ returns-in_ok-split_bucket-clause-shape g c =
     (sym (ap (λ (m : Meta). m.pairs) grows.rest))
     (grown_shape c.args.meta.now.pairs _ _ full grows.shape)
 
+pub returns-in_ok-split_bucket-clause-splits : goal.returns-in_ok-split_bucket-clause-splits
+returns-in_ok-split_bucket-clause-splits g c honest =
+    let full = subst (λ (b : ℕ). 8 * b < c.args.meta.now.pairs) c.buckets.ensures
+    c.if-meta-buckets.true in
+    where_many (MayEnd (g.S.PageStore.state c.args.store.now) c.args.space.now.file_end)
+    (lt-ltb _ _ full) (c.in_ok-split_bucket.ensures.splits honest)
+
 pub returns-in_ok-split_bucket-clause-exact : goal.returns-in_ok-split_bucket-clause-exact
 returns-in_ok-split_bucket-clause-exact g c honest p mid near counted =
     let full = subst (λ (b : ℕ). 8 * b < c.args.meta.now.pairs) c.buckets.ensures
@@ -162,6 +172,13 @@ returns-else-meta-buckets-clause-shape g c =
     let few = subst (λ (b : ℕ). c.args.meta.now.pairs ≤ 8 * b) c.buckets.ensures
     c.if-meta-buckets.false in
     same_shape c.args.meta.now.pairs (shape_in (model_meta c.args.meta.now)) few
+
+pub returns-else-meta-buckets-clause-splits : goal.returns-else-meta-buckets-clause-splits
+returns-else-meta-buckets-clause-splits g c honest =
+    let few = subst (λ (b : ℕ). c.args.meta.now.pairs ≤ 8 * b) c.buckets.ensures
+    c.if-meta-buckets.false in
+    where_few (MayEnd (g.S.PageStore.state c.args.store.now) c.args.space.now.file_end)
+    (le-ltb _ _ few) (refl, refl, refl)
 
 pub returns-else-meta-buckets-clause-exact : goal.returns-else-meta-buckets-clause-exact
 returns-else-meta-buckets-clause-exact g c honest p mid near counted =

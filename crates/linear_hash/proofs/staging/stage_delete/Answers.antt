@@ -15,7 +15,6 @@ use Rattle.linear_hash.proofs.Midway.{midway_same}
 use Rattle.linear_hash.proofs.Refusals.{remove_refused, remove_has_room, stage_answers}
 use Rattle.linear_hash.proofs.Stagings.{table_midway, midway_pairs, deleted_count, staged_at_last, staged_ok}
 use Rattle.linear_hash.proofs.Written.{written_last}
-use Rattle.linear_hash.proofs.staging.stage_delete.Goals.{After-remove_key}
 use Rattle.linear_hash.proofs.staging.stage_delete.Goals as goal
 
 -- the key is not taken out
@@ -110,7 +109,7 @@ returns-clause-deleted g c honest =
     staged_ok c.stage_meta.result
     (λ page end last. written_last
     (TookOut (body_at g.S.PageStore c.args.store.now) before
-    (space_in before (g.S.PageStore.state c.args.store.now).end) c.args.key.now) _ _ before
-    (record before { pairs = c.args.meta.now.pairs - 1 }) _ _ end out refl
-    c.stage_meta.ensures.meta last page (c.stage_meta.ensures.others h1))
+    (space_in before (g.S.PageStore.state c.args.store.now).end) c.args.key.now) _ _
+    (record before { pairs = c.args.meta.now.pairs - 1 }) _ _ end out c.stage_meta.ensures.meta last
+    page (c.stage_meta.ensures.others h1) before refl)
     (c.stage_meta.ensures.page h1) c.stage_meta.ensures.end

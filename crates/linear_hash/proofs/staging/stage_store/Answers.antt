@@ -1,4 +1,4 @@
-use Rattle.std.proofs.Common.{◌≡◌, ◌∙◌, ⊎_elim, ℕ, ◌+◌, ◌*◌, ◌≤◌, Bool, true, false, cond, IfOk, length, refl, sym, ap, subst, arith}
+use Rattle.std.proofs.Common.{◌≡◌, ◌∙◌, ⊎_elim, ℕ, ◌+◌, ◌*◌, ◌≤◌, Bool, true, false, cond, nat_lt, IfOk, length, refl, sym, ap, subst, arith}
 use Rattle.std.proofs.lemmas.Bool.{cases_lt}
 use Rattle.std.proofs.lemmas.Result.{IfOk-from_err}
 use Rattle.page_model.specs.Valid.{meta_buckets}
@@ -15,11 +15,13 @@ use Rattle.free_pages.specs.declared.free_state.FreeState.{FreeState}
 use Rattle.seg_table.specs.MetaPages.{model_meta}
 use Rattle.linear_hash.specs.Tables.{space_in, split_where_full}
 use Rattle.linear_hash.specs.Staging.{IsStaged}
-use Rattle.linear_hash.specs.Changing.{PutIn}
+use Rattle.linear_hash.specs.AnyFile.{IsSplitWhere}
+use Rattle.linear_hash.specs.Changing.{PutIn, Stores, shaped_as}
 use Rattle.linear_hash.proofs.Midway.{midway_same}
 use Rattle.linear_hash.proofs.Stagings.{table_midway, midway_pairs, staged_at_last, staged_ok}
 use Rattle.linear_hash.proofs.StoredPairs.{replaced_end, counted_more, where_full, full_count}
-use Rattle.linear_hash.proofs.Written.{put_under, put_after, idle_end, counted_only, written_last}
+use Rattle.linear_hash.proofs.SplitPages.{split_shaped}
+use Rattle.linear_hash.proofs.Written.{put_under, idle_end, written_shaped, stored_then}
 use Rattle.linear_hash.proofs.staging.stage_store.Given.{Over}
 use Rattle.linear_hash.proofs.staging.stage_store.Goals.{After-stage_meta}
 use Rattle.linear_hash.proofs.Refusals.{change_refused, stage_answers}
@@ -53,7 +55,7 @@ returns-in_err-replace_pair g c =
       shape = IfOk-from_err _ _ result.ensures.0;
       may_commit = IfOk-from_err _ _ result.ensures.0;
       grows = IfOk-from_err _ _ result.ensures.0;
-      stored = λ honest few. IfOk-from_err _ _ result.ensures.0;
+      stored = λ honest. IfOk-from_err _ _ result.ensures.0;
       exact = λ honest p table may was. IfOk-from_err _ _ result.ensures.0;
       whole = λ honest p table was damaged.
           let start = midway_same g.S.PageStore _ _ _ _ c.space_of-space.result p refl
@@ -95,7 +97,7 @@ returns-in_err-split_if_full g c =
       shape = IfOk-from_err _ _ result.ensures.0;
       may_commit = IfOk-from_err _ _ result.ensures.0;
       grows = IfOk-from_err _ _ result.ensures.0;
-      stored = λ honest few. IfOk-from_err _ _ result.ensures.0;
+      stored = λ honest. IfOk-from_err _ _ result.ensures.0;
       exact = λ honest p table may was. IfOk-from_err _ _ result.ensures.0;
       whole = λ honest p table was damaged.
           let pair : Pair = (c.args.key.now, c.args.content.now) in
@@ -211,34 +213,43 @@ returns-clause-exact g c honest p table may was =
     c.stage_meta.ensures.meta last page (c.stage_meta.ensures.others h2))
     (c.stage_meta.ensures.page h2) c.stage_meta.ensures.end)
 
--- on any file: the pair is put into its bucket, none is split, and then the meta page is written
+-- on any file: the pair is put into its bucket, one is split where that is due, and then the meta
+-- page is written
 pub returns-clause-stored : goal.returns-clause-stored
-returns-clause-stored g c honest few =
+returns-clause-stored g c honest =
     let st = g.S.PageStore in
     let before = model_meta c.args.meta.now in
     let pair : Pair = (c.args.key.now, c.args.content.now) in
     let old = body_at st c.args.store.now in
+    let at1 = body_at st c.replace_pair.new.store in
+    let at2 = body_at st c.split_if_full.new.store in
     let end = (st.state c.args.store.now).end in
     let replaced = c.in_ok-replace_pair.ensures in
     let split = c.in_ok-split_if_full.ensures in
-    let h2 = split.stages.honesty.1 (replaced.stages.honesty.1 honest) in
+    let grown = model_meta c.split_if_full.new.meta in
+    let after = model_meta c.stage_meta.new.meta in
+    let pairs = c.args.meta.now.pairs + c.added.result in
+    let h1 = replaced.stages.honesty.1 honest in
+    let h2 = split.stages.honesty.1 h1 in
     let start = c.space_of-space.ensures ∙ ap (space_in before) c.end.ensures in
     let ends = subst (λ (f : FreeState). MayEnd (st.state c.args.store.now) f.file_end) (sym start)
     (idle_end (st.state c.args.store.now) c.requires.idle) in
-    let counted : c.split_if_full.new.meta.pairs ≡ c.args.meta.now.pairs + c.added.result =
-    split.kept.1 in
-    let final : c.stage_meta.new.meta.pairs ≡ c.split_if_full.new.meta.pairs =
-    ap (λ (m : Meta). m.pairs) c.stage_meta.ensures.meta in
-    let still = split.still (omega (arith, few, final, counted)) in
-    let put = put_after st c.args.was_there old before (space_in before end) _ _ pair _ _ still.0
-    still.2 (subst (λ (f : FreeState). PutIn c.args.was_there (Unit {0}) old before f pair
-    (body_at st c.replace_pair.new.store) c.replace_pair.new.space) start
-    (put_under c.args.was_there _ (Unit {0}) old _ before _ _ pair (λ u. ends)
-    (replaced.put_in honest))) in
+    let put = subst (λ (f : FreeState). PutIn c.args.was_there (Unit {0}) old before f pair at1
+    c.replace_pair.new.space) start
+    (put_under c.args.was_there _ (Unit {0}) old at1 before _ _ pair (λ u. ends)
+    (replaced.put_in honest)) in
+    let free = c.stage_meta.ensures.meta in
+    let counted : after.pairs ≡ pairs = ap (λ (m : Meta). m.pairs) free ∙ split.kept.1 in
+    let shaped = split_shaped before grown after pairs _ _ free
+    (nat_lt (8 * meta_buckets before) pairs) _ (replaced.may_end ends) at1 at2
+    c.replace_pair.new.space c.split_if_full.new.space (split.splits h1) in
+    let splits = subst (λ (n : ℕ). IsSplitWhere (nat_lt (8 * meta_buckets before) n) (Unit {0}) at1
+    at2 before (shaped_as before after) c.replace_pair.new.space c.split_if_full.new.space)
+    (sym counted) shaped in
+    let change = stored_then c.args.was_there old before after (space_in before end) pair at1 at2
+    c.replace_pair.new.space c.split_if_full.new.space put splits in
     staged_ok c.stage_meta.result
-    (λ page last is. written_last
-    (PutIn c.args.was_there (Unit {0}) old before (space_in before end) pair) _ _ before
-    (model_meta c.split_if_full.new.meta) _ _ last put
-    (counted_only before (c.args.meta.now.pairs + c.added.result) _ still.1)
-    c.stage_meta.ensures.meta is page (c.stage_meta.ensures.others h2))
+    (λ page last is. written_shaped
+    (Stores c.args.was_there old before after (space_in before end) pair) _ _ grown after _ last
+    change free is page (c.stage_meta.ensures.others h2) before split.kept.0)
     (c.stage_meta.ensures.page h2) c.stage_meta.ensures.end

@@ -6,7 +6,7 @@ use Rattle.page_io.specs.declared.store.PageFault.TheVariants.{Damaged}
 use Rattle.page_io.proofs.Exits.{exit_is, came, cause_first, cause_ok}
 use Rattle.seg_table.proofs.HeadTexts.{entry_is, heads_said, heads_of_said}
 use Rattle.seg_table.proofs.Refusals.{head_heads, no_head_refusal}
-use Rattle.seg_table.proofs.Tables.{part, part_read, get_or-part}
+use Rattle.seg_table.proofs.Tables.{part, part_read, part_said, get_or-part}
 use Rattle.seg_table.proofs.table.head_of.Goals as goal
 
 -- its segment page is not read
@@ -22,7 +22,8 @@ returns-in_err-read_segment g c =
       entry = λ honest. IfOk-from_err _ _ result.ensures.0;
       exact = λ honest heads are lt. IfOk-from_err _ _ result.ensures.0;
       whole = λ honest heads are damaged.
-          told.whole honest heads are (came _ _ exit Damaged damaged);
+          told.readable honest (part_said _ _ heads _ are c.requires) (came _ _ exit Damaged damaged);
+      readable = λ honest says damaged. told.readable honest says (came _ _ exit Damaged damaged);
     }
 
 -- the head stands in it
@@ -37,6 +38,9 @@ returns-clause-answer g c = no_head_refusal _ _
 
 pub returns-clause-whole : goal.returns-clause-whole
 returns-clause-whole g c honest heads are damaged = cc
+
+pub returns-clause-readable : goal.returns-clause-readable
+returns-clause-readable g c honest says damaged = cc
 
 pub returns-clause-entry : goal.returns-clause-entry
 returns-clause-entry g c honest =

@@ -1,9 +1,9 @@
-use Rattle.std.proofs.Common.{◌≡◌, ◌∙◌, ℕ, List, length, get_or, ap, subst, rules, arith, refl}
+use Rattle.std.proofs.Common.{◌≡◌, ◌∙◌, ℕ, List, get_or, ap, subst, rules, arith, refl}
 use Rattle.std.proofs.lemmas.Result.{IfOk-from_err}
 use Rattle.page_model.specs.Numbers.{IsNumber}
 use Rattle.page_model.specs.Reading.{body_of}
 use Rattle.page_io.specs.Store.{IsKnown}
-use Rattle.page_io.specs.Views.{visible_page, body_at}
+use Rattle.page_io.specs.Views.{visible_page}
 use Rattle.page_io.specs.declared.store.PageFault.TheVariants.{Damaged}
 use Rattle.page_io.proofs.Views.{unknown_said, after_read}
 use Rattle.page_io.proofs.Exits.{exit_is, came, cause_first, cause_ok}
@@ -11,7 +11,6 @@ use Rattle.seg_table.specs.MetaPages.{model_meta}
 use Rattle.seg_table.specs.Segments.{heads_in}
 use Rattle.seg_table.proofs.HeadTexts.{heads_spelled, said_segment}
 use Rattle.seg_table.proofs.Refusals.{read_heads, no_head_refusal, damaged_heads, cause_damaged}
-use Rattle.seg_table.proofs.Tables.{part, part_read, length-part}
 use Rattle.seg_table.proofs.table.read_segment.Goals as goal
 
 -- the page is not read
@@ -29,7 +28,7 @@ returns-in_err-read g c =
       known = IfOk-from_err _ _ result.ensures.0;
       segment = IfOk-from_err _ _ result.ensures.0;
       found = λ honest. IfOk-from_err _ _ result.ensures.0;
-      whole = λ honest heads are damaged.
+      readable = λ honest are damaged.
           let old = c.args.store.now in
           let ns = c.args.meta.now.segments.items in
           let own : get_or c.deref.result.now c.args.s 0 ≡ get_or ns c.args.s 0 =
@@ -37,12 +36,8 @@ returns-in_err-read g c =
           let unknown = subst (λ (n : ℕ). IsKnown (g.S.PageStore.state old) n → ⊥) own
           (c.in_err-read.ensures.answer.damaged.0 (came _ _ exit Damaged damaged)).1 in
           let other = unknown_said g.S.PageStore old (get_or ns c.args.s 0)
-          (g.met.S.PageStore.ends old) (are.used c.args.s 0 c.requires).0 unknown in
-          absurd (cc (
-            other,
-            part_read (body_at g.S.PageStore old) ns heads c.args.s
-                are.are_read c.requires,
-          ));
+          (g.met.S.PageStore.ends old) are.some unknown in
+          absurd (cc (other, are.says));
     }
 
 -- the page is a segment
@@ -58,8 +53,8 @@ returns-then-segment_ok-clause-cause g c = cause_ok _ _ _ c.in_ok-read.ensures.c
 pub returns-then-segment_ok-clause-answer : goal.returns-then-segment_ok-clause-answer
 returns-then-segment_ok-clause-answer g c = no_head_refusal _ _
 
-pub returns-then-segment_ok-clause-whole : goal.returns-then-segment_ok-clause-whole
-returns-then-segment_ok-clause-whole g c honest heads are damaged = cc
+pub returns-then-segment_ok-clause-readable : goal.returns-then-segment_ok-clause-readable
+returns-then-segment_ok-clause-readable g c honest are damaged = cc
 
 pub returns-then-segment_ok-clause-segment : goal.returns-then-segment_ok-clause-segment
 returns-then-segment_ok-clause-segment g c =
@@ -93,8 +88,8 @@ returns-else-segment_ok-clause-segment g c = tt
 pub returns-else-segment_ok-clause-found : goal.returns-else-segment_ok-clause-found
 returns-else-segment_ok-clause-found g c honest = tt
 
-pub returns-else-segment_ok-clause-whole : goal.returns-else-segment_ok-clause-whole
-returns-else-segment_ok-clause-whole g c honest heads are damaged =
+pub returns-else-segment_ok-clause-readable : goal.returns-else-segment_ok-clause-readable
+returns-else-segment_ok-clause-readable g c honest are damaged =
     let old = c.args.store.now in
     let ns = c.args.meta.now.segments.items in
     let n = get_or ns c.args.s 0 in
@@ -102,12 +97,8 @@ returns-else-segment_ok-clause-whole g c honest heads are damaged =
     ap (λ (xs : List ℕ). get_or xs c.args.s 0) c.deref.ensures.0 in
     let bytes = c.read.new.page.bytes in
     let found = c.in_ok-read.ensures.found honest in
-    let says_part = part_read (body_at g.S.PageStore old) ns heads c.args.s
-    are.are_read c.requires in
-    let count : length (part heads c.args.s) ≡ heads_in (model_meta c.args.meta.now) c.args.s =
-    omega (arith, length-part heads c.args.s, are.many) in
     let yes = c.segment_ok.ensures.1
-    (said_segment bytes n (heads_in (model_meta c.args.meta.now) c.args.s) (part heads c.args.s)
-    c.read.new.page.whole count (ap (body_of n)
-    (found ∙ ap (visible_page g.S.PageStore old) own) ∙ says_part)) in
+    (said_segment bytes n (heads_in (model_meta c.args.meta.now) c.args.s) are.heads
+    c.read.new.page.whole are.many (ap (body_of n)
+    (found ∙ ap (visible_page g.S.PageStore old) own) ∙ are.says)) in
     absurd (cc)

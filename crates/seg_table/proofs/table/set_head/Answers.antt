@@ -1,7 +1,7 @@
-use Rattle.std.proofs.Common.{◌≡◌, ◌<◌, ◌≤◌, ◌+◌, ◌*◌, ◌/◌, ◌%◌, ℕ, List, length, get_or, ap, sym, subst, ◌∙◌, arith, refl, replicate}
+use Rattle.std.proofs.Common.{inl, inr, [], ◌≡◌, ◌<◌, ◌≤◌, ◌+◌, ◌*◌, ◌/◌, ◌%◌, ℕ, List, length, get_or, ap, sym, subst, ◌∙◌, arith, refl, replicate}
 use Rattle.std.proofs.lemmas.Result.{IfOk-from_err, on_ok_weaker, on_err_weaker}
 use Rattle.page_model.specs.Bytes.{u32_bytes, overwrite}
-use Rattle.page_model.specs.Reading.{body_of}
+use Rattle.page_model.specs.Reading.{heads_on, body_of}
 use Rattle.page_io.specs.Page.{own_number}
 use Rattle.page_io.specs.Store.{StoreState, IsKnown, put_page}
 use Rattle.page_io.specs.Views.{body_at, MayEnd}
@@ -9,11 +9,13 @@ use Rattle.page_io.specs.declared.store.PageFault.TheVariants.{Damaged}
 use Rattle.page_io.proofs.Views.{after_stage, stages_then}
 use Rattle.page_io.proofs.Exits.{exit_is, came, if_exit, cause_first, cause_stage, cause_stage_last, cause_ok, stage_not_damaged, last_not_damaged}
 use Rattle.seg_table.specs.MetaPages.{model_meta}
-use Rattle.seg_table.proofs.HeadTexts.{own_kept, own_of_segment, fresh_said, head_said}
+use Rattle.seg_table.specs.Setting.{SaysEntry}
+use Rattle.seg_table.proofs.EntryTexts.{entry_set, entry_alone}
+use Rattle.seg_table.proofs.HeadTexts.{own_kept, own_of_segment, fresh_said, head_said, heads_said}
 use Rattle.seg_table.proofs.HeadSets.{still_apart, set_there, set_added, adds, adds_none}
 use Rattle.seg_table.proofs.Refusals.{take_sets, head_sets, stage_sets, stage_sets_last, no_set_refusal, few_same}
 use Rattle.seg_table.proofs.Stagings.{known_some, few_after, known_may_end, then_said, others_stay}
-use Rattle.seg_table.proofs.Tables.{part, part_read, length-part}
+use Rattle.seg_table.proofs.Tables.{part, part_read, part_said, length-part}
 use Rattle.seg_table.proofs.table.set_head.Given.{Over}
 use Rattle.seg_table.proofs.table.set_head.Goals as goal
 
@@ -36,6 +38,7 @@ returns-in_err-n g c =
       ok = IfOk-from_err _ _ result.ensures.0;
       ends = told.ends;
       may_end = λ may. IfOk-from_err _ _ result.ensures.0;
+      set = λ honest. IfOk-from_err _ _ result.ensures.0;
       exact = λ honest heads s can. IfOk-from_err _ _ result.ensures.0;
       whole = λ honest heads s can damaged.
           told.whole honest s can.free_is (still_apart c.args.meta.now.segments.items s can.apart)
@@ -65,6 +68,7 @@ returns-in_err-stage g c =
       ok = IfOk-from_err _ _ result.ensures.0;
       ends = one.ends;
       may_end = λ may. IfOk-from_err _ _ result.ensures.0;
+      set = λ honest. IfOk-from_err _ _ result.ensures.0;
       exact = λ honest heads s can. IfOk-from_err _ _ result.ensures.0;
       whole = λ honest heads s can damaged.
           absurd (stage_not_damaged _ _ _ _ told.answer (came _ _ exit Damaged damaged));
@@ -133,6 +137,36 @@ returns-then-s-len-clause-exact g c honest heads s can =
     c.push.ensures.items taken.1 page
     (others_stay store old mid new n bytes reads stages honest order put (fresh_number g c))
 
+-- on any file the page that was taken says the head alone
+pub returns-then-s-len-clause-set : goal.returns-then-s-len-clause-set
+returns-then-s-len-clause-set g c honest =
+    let store = g.S.PageStore in
+    let old = c.args.store.now in
+    let mid = c.take.new.store in
+    let new = c.stage.new.self in
+    let n = c.in_ok-n.n in
+    let i = c.args.bucket % 508 in
+    let bytes = c.set_u32_at.new.self.bytes in
+    let done = c.stage.ensures in
+    let reads = c.in_ok-n.ensures.reads in
+    let put = c.in_ok-stage.ensures.ok in
+    let order = g.met.S.PageStore.in_order old in
+    let stages = after_stage store mid new bytes c.stage.result (g.met.S.PageStore.counts_now new)
+    done.ok done.err done.honesty done.faults done.kept in
+    inr (record {
+      none = omega arith;
+      taken = n;
+      is_taken = c.in_ok-n.ensures.taken honest;
+      says = subst (λ body. SaysEntry body [] i c.args.head)
+          (sym (then_said store old mid new n bytes reads stages honest order put
+          (fresh_number g c)))
+          (entry_alone c.plain-page.result.bytes bytes n i c.args.head (omega arith) (omega arith)
+          (omega arith) c.plain-page.ensures c.set_u32_at.ensures);
+      kept = others_stay store old mid new n bytes reads stages honest order put
+          (fresh_number g c);
+      behind = c.push.ensures.items;
+    })
+
 pub returns-then-s-len-clause-stages : goal.returns-then-s-len-clause-stages
 returns-then-s-len-clause-stages g c =
     let done = c.stage.ensures in
@@ -175,9 +209,11 @@ returns-in_err-read_segment g c =
       ok = IfOk-from_err _ _ result.ensures.0;
       ends = λ e. e;
       may_end = λ may. IfOk-from_err _ _ result.ensures.0;
+      set = λ honest. IfOk-from_err _ _ result.ensures.0;
       exact = λ honest heads s can. IfOk-from_err _ _ result.ensures.0;
       whole = λ honest heads s can damaged.
-          told.whole honest heads can.heads_are (came _ _ exit Damaged damaged);
+          told.readable honest (part_said _ _ heads _ can.heads_are (omega arith))
+          (came _ _ exit Damaged damaged);
     }
 
 pub stage-requires-2-clause-number : goal.stage-requires-2-clause-number
@@ -260,6 +296,41 @@ returns-clause-exact g c honest heads s can =
     (then_said store old mid new n bytes reads stages honest order put (segment_number g c) ∙ now)
     (others_stay store old mid new n bytes reads stages honest order put (segment_number g c)))
     done.ok
+
+-- on any file the page that was read says the head among its others
+pub returns-clause-set : goal.returns-clause-set
+returns-clause-set g c honest =
+    let store = g.S.PageStore in
+    let old = c.args.store.now in
+    let mid = c.read_segment.new.store in
+    let new = c.stage-2.new.self in
+    let ns = c.args.meta.now.segments.items in
+    let b = c.args.bucket in
+    let n = get_or ns (b / 508) 0 in
+    let before = c.read_segment.new.page.bytes in
+    let bytes = c.set_u32_at-2.new.self.bytes in
+    let done = c.stage-2.ensures in
+    let reads = c.in_ok-read_segment.ensures.reads in
+    let order = g.met.S.PageStore.in_order old in
+    let stages = after_stage store mid new bytes c.stage-2.result (g.met.S.PageStore.counts_now new)
+    done.ok done.err done.honesty done.faults done.kept in
+    on_ok_weaker c.stage-2.result (λ put. inl (
+      record {
+        there = omega arith;
+        others = heads_on before;
+        segment = ap (body_of n) (sym (c.in_ok-read_segment.ensures.found honest))
+            ∙ heads_said before n c.in_ok-read_segment.ensures.segment;
+        says = subst (λ body. SaysEntry body (heads_on before) (b % 508) c.args.head)
+            (sym (then_said store old mid new n bytes reads stages honest order put
+            (segment_number g c)))
+            (entry_set before bytes n (b % 508) c.args.head (omega arith) (omega arith)
+            c.in_ok-read_segment.ensures.segment c.set_u32_at-2.ensures);
+        kept = others_stay store old mid new n bytes reads stages honest order put
+            (segment_number g c);
+      },
+      refl,
+      refl,
+    )) done.ok
 
 pub returns-clause-stages : goal.returns-clause-stages
 returns-clause-stages g c =

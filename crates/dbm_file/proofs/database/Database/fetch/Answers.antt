@@ -1,9 +1,9 @@
-use Rattle.std.proofs.Common.{None, Some, inl, refl, ap, ◌∙◌}
+use Rattle.std.proofs.Common.{None, Some, Err, inl, refl, sym, ap, ◌∙◌}
 use Rattle.std.specs.FinMap.{get}
 use Rattle.dbm_model.specs.Calls.{Fetch, NoRecord}
 use Rattle.dbm_model.specs.Pairs.{Contents}
 use Rattle.dbm_file.proofs.Cases.{broken_fetch}
-use Rattle.dbm_file.proofs.FetchSteps.{short_content, same_content, no_content, fetched_well, fetch_failed, only_these, walk_faults}
+use Rattle.dbm_file.proofs.FetchSteps.{short_content, same_content, no_content, fetched_well, fetch_failed, met_damage, only_these, walk_faults}
 use Rattle.dbm_file.proofs.Lends.{lends_broken, lends_nothing}
 use Rattle.dbm_file.proofs.ReadSteps.{not_broken, after_reads}
 use Rattle.dbm_file.proofs.Searches.{nothing_searched, found_nothing, found_content}
@@ -26,6 +26,7 @@ returns-then-is_broken g c =
         short = lends_nothing c.refuse.result _ answer;
         searched =
             nothing_searched _ c.refuse.result _ answer;
+        readable = λ can damaged. let both = sym answer ∙ damaged in cc;
         only =
             only_these c.refuse.result _ answer (inl refl);
       },
@@ -58,6 +59,7 @@ returns-in-Ok-None g c =
         searched = λ honest.
             found_nothing _ _ key _ _ c.in-Ok-None.field-0-is
             (c.in-Ok-None.ensures.searched honest);
+        readable = λ can damaged. cc;
         only = tt;
       },
     )
@@ -92,6 +94,7 @@ returns-in-Ok-Some g c =
         searched = λ honest.
             found_content _ _ key _ _ _ c.pair_at.result c.in-Ok-Some.field-0-is c.pair_at.ensures
             (c.in-Ok-Some.ensures.searched honest);
+        readable = λ can damaged. cc;
         only = tt;
       },
     )
@@ -118,6 +121,9 @@ returns-in-Err g c =
         after = tt;
         short = lends_nothing c.refuse-in-Err.result c.from.result answer;
         searched = nothing_searched _ c.refuse-in-Err.result c.from.result answer;
+        readable = λ can damaged. all.readable can.0 can.1
+            (ap Err (met_damage c.refuse-in-Err.result c.in-Err.fault c.from.result answer
+            c.from.ensures damaged));
         only =
             only_these c.refuse-in-Err.result c.from.result answer
             (walk_faults c.in-Err.fault c.from.result c.from.ensures all.answer.only);
