@@ -2,7 +2,7 @@
 use Rattle.std.proofs.Common.{◌≡◌, ◌⊎◌, inl, inr, ⊎_elim, ℕ, List, true, false, cond, Option, Some, None, Result, Ok, Err, MatchResult, OnOk, IfErr, IsErrOf, refl, sym, ◌∙◌, ap, subst}
 use Rattle.std.specs.Global.{Vec}
 use Rattle.sect_dev.specs.Device.{LeavesOnly}
-use Rattle.sect_dev.specs.Moments.{started, followed_by, weaker}
+use Rattle.sect_dev.specs.Moments.{followed_by, weaker}
 use Rattle.dbm_model.specs.Calls.{Call, Reply, Fetch, First, Next}
 use Rattle.dbm_model.specs.Calls as model
 use Rattle.dbm_model.specs.Pairs.{Key, Contents}
@@ -16,13 +16,13 @@ use Rattle.page_io.specs.declared.store.PageStore.{Ghosts}
 use Rattle.page_io.proofs.Exits.{no_err, more_later}
 use Rattle.dbm_file.specs.Answers.{MayBeLeft, StandsForSome, Survives, IsStep, IsSameDatabase}
 use Rattle.dbm_file.specs.Calls.{Lent}
-use Rattle.dbm_file.specs.Database.{store_of, meta_kept, page_state, error_of, IsAt}
+use Rattle.dbm_file.specs.Database.{store_of, meta_kept, page_state, error_of}
 use Rattle.dbm_fault.specs.Faults.{fault_of}
 use Rattle.dbm_file.specs.Lending.{Lends}
 use Rattle.dbm_file.specs.declared.database.Database.{Database}
 use Rattle.dbm_fault.specs.declared.fault.Fault.{Fault}
 use Rattle.dbm_fault.specs.declared.fault.Fault.TheVariants.{Device, Broken, Damaged}
-use Rattle.dbm_file.proofs.Runs.{goes_nowhere, still_goes}
+use Rattle.dbm_file.proofs.Runs.{still_goes}
 use Rattle.dbm_dump.specs.Dumping.{KeepsMap, Stays, Reads, IsChance, IsCopied}
 use Rattle.dbm_fault.specs.declared.engine_fault.EngineFault.{EngineFault}
 use Rattle.dbm_fault.specs.declared.engine_fault.EngineFault.TheVariants.{Memory, Db}
@@ -143,20 +143,6 @@ module _ {S : Type 0} (s : Ghosts S) where
             (λ x is. (is.0, left_is before step.after call is.0 reads keeps is.1, is.2));
       }
 
-  -- no call
-  stays_there : (db : Database S s) (h : Handle) → IsAt db h
-      → ((x : Settled) → s.settled_since (store_of db) (s.moment (store_of db)) x
-      → s.settles_to (store_of db) x) → Stays db db h
-  stays_there db h at now = record {
-    after = h;
-    is_at = at;
-    keeps = keeps_all h.state h.state refl;
-    survives = λ usable.
-        started s.moment s.settled_since (store_of db)
-        (StandsForSome (λ map. map ≡ h.state.map) (meta_kept db).limit)
-        (λ x left. (h.state.map, refl, at.rests usable x (now x left)));
-  }
-
   -- some calls after others
   module _ (old mid new : Database S s) (before : Handle) (first : IsSameDatabase old mid)
       (second : IsSameDatabase mid new) (earlier : Stays old mid before)
@@ -260,20 +246,6 @@ module _ {S : Type 0} (s : Ghosts S) where
     error = errors lent result _ (λ fault.
         error_of new ≡ first_fault (error_of old) (fault_of fault)) copied lends.keeps.no_error
         lends.keeps.error;
-  }
-
-  -- nothing is read yet
-  pub reads_nothing : (db : Database S s)
-      → (s.honest (store_of db) → (x : Settled)
-      → s.settled_since (store_of db) (s.moment (store_of db)) x → s.settles_to (store_of db) x)
-      → Reads {T = Unit {0}} db db (Ok (tt {0}))
-  reads_nothing db now = record {
-    stays = λ honest h at. stays_there db h at (now honest);
-    goes = goes_nowhere db;
-    device = λ is. cc;
-    broken = λ is. cc;
-    usable = refl;
-    error = inl refl;
   }
 
   -- more is read after what was read well

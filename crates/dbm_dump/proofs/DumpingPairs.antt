@@ -1,35 +1,37 @@
--- The contents of gathered keys.
-use Rattle.std.proofs.Common.{◌≡◌, ◌⊎◌, inl, ⊎_elim, T, ℕ, Bool, true, false, cond, ◌||◌, ◌&&◌, List, [], ◌∷◌, ◌++◌, map, Option, Some, None, is_some, Result, Ok, Err, refl, sym, ◌∙◌, ap, subst, append-nil, append_assoc}
+-- Pairs gathered by a pass, with the content of each key.
+use Rattle.std.proofs.Common.{◌≡◌, ◌⊎◌, inl, ⊎_elim, T, ℕ, ◌+◌, ◌≤◌, Bool, true, false, cond, ◌||◌, ◌&&◌, List, [], ◌∷◌, map, length, Option, Some, None, is_some, Result, Ok, Err, refl, sym, ◌∙◌, ap, subst, arith}
 use Rattle.std.specs.Global.{Vec}
+use Rattle.std.specs.BTreeMap.{insert_entry}
 use Rattle.std.specs.Cmp.{tied_itself}
-use Rattle.std.specs.FinMap.{entries, keys, get, contains_key-keys, get-entries, entries_sorted, find, is_sorted}
-use Rattle.std.specs.FinMap.Entries.{below_all}
-use Rattle.std.specs.List.{list_any, AllByRecursion}
-use Rattle.std.specs.Ordering.{eq_by_cmp, is_lt, is_eq, ordering_reverse}
+use Rattle.std.specs.Cmp.Lexicographic.{slice_cmp}
+use Rattle.std.specs.FinMap.{entries, keys, get, contains_key, get-entries, entries_sorted, find, is_sorted, put, slice_cmp-IsAntisymmetric, nat_cmp-IsAntisymmetric}
+use Rattle.std.specs.FinMap.Entries.{below_all, by_order}
+use Rattle.std.specs.FinSet as set
+use Rattle.std.specs.List.{All, AllByRecursion}
+use Rattle.std.specs.Ordering.{eq_by_cmp, is_lt, is_eq, ordering_reverse, nat_cmp, match_ordering}
 use Rattle.std.specs.declared.cmp.Ordering.{Ordering}
 use Rattle.std.specs.declared.cmp.Ordering.TheVariants.{Less, Equal, Greater}
 use Rattle.std.proofs.lemmas.Cmp.{nat_list_cmp_total}
-use Rattle.std.proofs.lemmas.List.{map-append}
+use Rattle.std.proofs.lemmas.List.Elements.{All-nil, All-cons, All-head, All-tail}
 use Rattle.dbm_model.specs.Calls as model
-use Rattle.dbm_model.specs.Calls.{Fetch, NoRecord, Bytes}
+use Rattle.dbm_model.specs.Calls.{Fetch, NoRecord, Bytes, Next, End}
 use Rattle.dbm_model.specs.Pairs.{Key, Pair, Contents, key_cmp}
-use Rattle.dbm_model.specs.States.{Handle}
-use Rattle.dbm_model.specs.Steps.{case_of, fetched, Answers, Suffers}
+use Rattle.dbm_model.specs.States.{State, Pass, Handle}
+use Rattle.dbm_model.specs.Steps.{fetched, Answers, Suffers}
 use Rattle.page_io.specs.declared.store.PageStore.{Ghosts}
 use Rattle.dbm_file.specs.Calls.{Lent, lent_reply}
-use Rattle.dbm_file.specs.Database.{IsAt}
 use Rattle.dbm_fault.specs.Faults.{fault_of}
 use Rattle.dbm_file.specs.declared.database.Database.{Database}
-use Rattle.dbm_dump.specs.Dumping.{IsChance, IsCopied, CopiesStep}
+use Rattle.dbm_dump.specs.Dumping.{IsChance, IsCopied, IsShort, IsShortPair, CopiesStep}
 use Rattle.dbm_fault.specs.declared.engine_fault.EngineFault.{EngineFault}
-use Rattle.dbm_dump.proofs.Dumping.{keeps_map, reads_content}
-use Rattle.dbm_dump.proofs.DumpingKeys.{on_usable, by_chance}
+use Rattle.dbm_dump.proofs.DumpingKeys.{HasGathered, IsPassing, on_usable, by_chance, pass_goes_on, pass_ends}
+use Rattle.dbm_dump.proofs.KeySets.{key_put}
 
--- what a fetch gives of a key that has this
-abbrev FetchGives : Option (List ℕ) → Result (Option (Vec ℕ)) EngineFault → Type 0
-FetchGives found (Ok None) = found ≡ None
-FetchGives found (Ok (Some copy)) = found ≡ Some copy.items
-FetchGives found (Err fault) = IsChance fault
+-- what a fetch gives of a key that has this, and what it leaves where it gives something
+abbrev FetchGives : State → State → Option (List ℕ) → Result (Option (Vec ℕ)) EngineFault → Type 0
+FetchGives before after found (Ok None) = (found ≡ None) × (after ≡ before)
+FetchGives before after found (Ok (Some copy)) = (found ≡ Some copy.items) × (after ≡ before)
+FetchGives before after found (Err fault) = IsChance fault
 
 no_bytes : (bytes : List ℕ) → Bytes bytes ≡ NoRecord → ⊥
 no_bytes bytes e = cc
@@ -46,8 +48,10 @@ same_bytes a b e = cc
 fetch_gives : (before after : Handle) (found : Option (List ℕ)) (lent : Lent)
     (result : Result (Option (Vec ℕ)) EngineFault) → IsCopied lent result
     → Answers before.state (fetched found) (lent_reply NoRecord lent) after.state
-    ⊎ Suffers before (fetched found) (lent_reply NoRecord lent) after → FetchGives found result
-fetch_gives before after None (Ok None) (Ok None) copied h = refl
+    ⊎ Suffers before (fetched found) (lent_reply NoRecord lent) after
+    → FetchGives before.state after.state found result
+fetch_gives before after None (Ok None) (Ok None) copied h =
+    ⊎_elim (λ x. (refl, x.1)) (λ x. absurd (no_refusal model.Device (sym x.0))) h
 fetch_gives before after (Some content) (Ok None) (Ok None) copied h =
     ⊎_elim (λ x. absurd (no_bytes content (sym x.0)))
     (λ x. absurd (no_refusal model.Device (sym x.0))) h
@@ -58,7 +62,7 @@ fetch_gives before after None (Ok (Some bytes)) (Ok (Some copy)) copied h =
     ⊎_elim (λ x. absurd (no_bytes bytes.now x.0))
     (λ x. absurd (no_fault bytes.now model.Device x.0)) h
 fetch_gives before after (Some content) (Ok (Some bytes)) (Ok (Some copy)) copied h =
-    ⊎_elim (λ x. ap Some (same_bytes bytes.now content x.0 ∙ sym copied))
+    ⊎_elim (λ x. (ap Some (same_bytes bytes.now content x.0 ∙ sym copied), x.1))
     (λ x. absurd (no_fault bytes.now model.Device x.0)) h
 fetch_gives before after found (Ok (Some bytes)) (Err told) copied h = inl copied
 fetch_gives before after found (Err why) (Ok None) copied h = absurd copied
@@ -125,127 +129,198 @@ pub all_pairs : (m : Contents) (ps : List Pair) → map (λ (x : Pair). x.0) ps 
 all_pairs m ps e all = same_pairs m ps (entries m) e all
     (found_there (entries m) (entries_sorted m))
 
+-- ---- a pair put among others
+
+-- what holds of the others and of it holds of all
+all_put : (P : Pair → Type 0) (key : Key) (content : List ℕ) (es : List Pair)
+    → AllByRecursion P es → P (key, content) → AllByRecursion P (put key_cmp key content es)
+all_put P key content [] all is = (is, tt)
+all_put P key content (e ∷ es) all is =
+    by_place _ (key_cmp key e.0) refl (all_put P key content es all.1 is)
+  where
+    by_place : (more : List Pair) (r : Ordering) → key_cmp key e.0 ≡ r → AllByRecursion P more
+        → AllByRecursion P (by_order r ((key, content) ∷ e ∷ es) ((e.0, content) ∷ es) (e ∷ more))
+    by_place more Less place rest = (is, all)
+    by_place more Equal place rest = (
+      subst (λ (k : Key). P (k, content))
+          (slice_cmp-IsAntisymmetric nat_cmp-IsAntisymmetric key e.0 place) is,
+      all.1,
+    )
+    by_place more Greater place rest = (all.0, rest)
+
+-- the order of owned keys
+abbrev pub vec_cmp : Vec ℕ → Vec ℕ → Ordering
+vec_cmp x y = slice_cmp nat_cmp x.items y.items
+
+abbrev pub Owned : Type 0
+Owned = Vec ℕ × Vec ℕ
+
+abbrev pub bytes_of : List Owned → List Pair
+bytes_of pairs = map (λ (x : Owned). (x.0.items, x.1.items)) pairs
+
+bytes_inserted : (es : List Owned) (key content : Vec ℕ)
+    → bytes_of (insert_entry vec_cmp es key content)
+    ≡ put key_cmp key.items content.items (bytes_of es)
+bytes_inserted [] key content = refl
+bytes_inserted (e ∷ es) key content =
+    seen _ _ (vec_cmp key e.0) (bytes_inserted es key content)
+  where
+    seen : (more : List Owned) (rest : List Pair) (r : Ordering) → bytes_of more ≡ rest
+        → bytes_of (match_ordering r ((key, content) ∷ e ∷ es) ((e.0, content) ∷ es) (e ∷ more))
+        ≡ by_order r ((key.items, content.items) ∷ bytes_of (e ∷ es))
+        ((e.0.items, content.items) ∷ bytes_of es) ((e.0.items, e.1.items) ∷ rest)
+    seen more rest Less h = refl
+    seen more rest Equal h = refl
+    seen more rest Greater h = ap (λ (xs : List Pair). (e.0.items, e.1.items) ∷ xs) h
+
+pub pair_put : (old new : List Owned) (key content : Vec ℕ)
+    → new ≡ insert_entry vec_cmp old key content
+    → bytes_of new ≡ put key_cmp key.items content.items (bytes_of old)
+pair_put old new key content inserted = ap bytes_of inserted ∙ bytes_inserted old key content
+
+-- at most one pair more
+inserted_length : (es : List Owned) (key content : Vec ℕ)
+    → length (insert_entry vec_cmp es key content) ≤ length es + 1
+inserted_length [] key content = omega arith
+inserted_length (e ∷ es) key content =
+    by_place _ (vec_cmp key e.0) (inserted_length es key content)
+  where
+    by_place : (more : List Owned) (r : Ordering) → length more ≤ length es + 1
+        → length (match_ordering r ((key, content) ∷ e ∷ es) ((e.0, content) ∷ es) (e ∷ more))
+        ≤ length (e ∷ es) + 1
+    by_place more Less le = omega arith
+    by_place more Equal le = omega arith
+    by_place more Greater le = omega (arith, le)
+
+pub one_pair_more : (old new : List Owned) (key content : Vec ℕ) (count : ℕ)
+    → new ≡ insert_entry vec_cmp old key content → length old ≤ count → length new ≤ count + 1
+one_pair_more old new key content count inserted le =
+    omega (arith, ap length inserted, inserted_length old key content, le)
+
+short_inserted : (es : List Owned) (key content : Vec ℕ) → All IsShortPair es
+    → IsShortPair (key, content) → All IsShortPair (insert_entry vec_cmp es key content)
+short_inserted [] key content all is =
+    All-cons IsShortPair (key, content) [] is (All-nil IsShortPair)
+short_inserted (e ∷ es) key content all is =
+    by_place _ (vec_cmp key e.0)
+    (short_inserted es key content (All-tail IsShortPair e es all) is)
+  where
+    by_place : (more : List Owned) (r : Ordering) → All IsShortPair more
+        → All IsShortPair
+        (match_ordering r ((key, content) ∷ e ∷ es) ((e.0, content) ∷ es) (e ∷ more))
+    by_place more Less rest = All-cons IsShortPair (key, content) (e ∷ es) is all
+    by_place more Equal rest =
+        All-cons IsShortPair (e.0, content) es ((All-head IsShortPair e es all).0, is.1)
+        (All-tail IsShortPair e es all)
+    by_place more Greater rest =
+        All-cons IsShortPair e more (All-head IsShortPair e es all) rest
+
+pub short_put : (old new : List Owned) (key content : Vec ℕ)
+    → new ≡ insert_entry vec_cmp old key content → All IsShortPair old
+    → IsShort key.items → IsShort content.items → All IsShortPair new
+short_put old new key content inserted all short_key short_content =
+    subst (λ (es : List Owned). All IsShortPair es) (sym inserted)
+    (short_inserted old key content all (short_key, short_content))
+
+-- ---- a pass with the contents of its keys
+
+abbrev pub keys_of : List Pair → List Key
+keys_of pairs = map (λ (x : Pair). x.0) pairs
+
+-- a pass over a database of the map, as far as it has come, and the content of each key that it gave
+-- before the last one
+pub record IsFetching {S : Type 0} {s : Ghosts S} (db : Database S s) (m : Contents)
+    (done : List Pair) (given : Option (Vec ℕ)) (count : ℕ) : Type 0 where
+  pub pass : IsPassing db m (keys_of done) given count
+  pub found : AllByRecursion (IsOf m) done
+
 or_true : (b : Bool) → (b || true) ≡ true
 or_true true = refl
 or_true false = refl
 
-any_there : (done : List Key) (key : Key) (rest : List Key)
-    → list_any (eq_by_cmp key_cmp key) (done ++ key ∷ rest) ≡ true
-any_there [] key rest = ap (λ r. is_eq r || list_any (eq_by_cmp key_cmp key) rest)
-    (tied_itself nat_list_cmp_total key)
-any_there (x ∷ done) key rest =
-    ap (λ b. eq_by_cmp key_cmp key x || b) (any_there done key rest)
-    ∙ or_true (eq_by_cmp key_cmp key x)
-
--- a key of the map has a content
-has_content : (m : Contents) (done : List Key) (key : Key) (rest : List Key)
-    → done ++ key ∷ rest ≡ keys m → get m key ≡ None → ⊥
-has_content m done key rest parts none =
-    let e : true ≡ false = sym (any_there done key rest)
-    ∙ ap (list_any (eq_by_cmp key_cmp key)) parts ∙ sym (contains_key-keys m key)
+-- a key that the pass gave has a content
+has_content : (m : Contents) (done : List Key) (given : Option (Vec ℕ)) (key : Vec ℕ) (count : ℕ)
+    (pass : Pass) → HasGathered m done given count pass → given ≡ Some key
+    → get m key.items ≡ None → ⊥
+has_content m done None key count pass held is none = cc
+has_content m done (Some given) key count pass held is none =
+    let same : given.items ≡ key.items = cc in
+    let there : contains_key m given.items ≡ true = held.whole given.items
+    ∙ ap (λ r. contains_key held.some given.items
+    || (is_eq r || set.contains held.left given.items)) (tied_itself nat_list_cmp_total given.items)
+    ∙ or_true (contains_key held.some given.items) in
+    let e : true ≡ false = sym there ∙ ap (λ (k : Key). contains_key m k) same
     ∙ ap is_some none in
     cc
 
-all_more : (m : Contents) (ps : List Pair) (pair : Pair) → AllByRecursion (IsOf m) ps → IsOf m pair
-    → AllByRecursion (IsOf m) (ps ++ pair ∷ [])
-all_more m [] pair all is = (is, tt)
-all_more m (p ∷ ps) pair all is = (all.0, all_more m ps pair all.1 is)
-
--- ---- fetching all
-
--- each of these pairs is of the map of the database
-pub record IsFetching {S : Type 0} {s : Ghosts S} (db : Database S s) (m : Contents)
-    (done : List Pair) : Type 0 where
-  pub now : Handle
-  pub is_at : IsAt db now
-  pub map_is : now.state.map ≡ m
-  pub usable : now.state.usable ≡ true
-  pub found : AllByRecursion (IsOf m) done
-
--- the keys of pairs, and the bytes of keys that are left
-abbrev pub keys_of : List Pair → List Key
-keys_of pairs = map (λ (x : Pair). x.0) pairs
-
-abbrev pub bytes_of : List (Vec ℕ) → List Key
-bytes_of keys = map (λ (x : Vec ℕ). x.items) keys
-
--- one more is fetched of those that are left
-pub parts_go_on : (all : List Key) (done more : List Pair) (left : List (Vec ℕ)) (key : Vec ℕ)
-    (content : List ℕ) (rest : List (Vec ℕ)) → keys_of done ++ bytes_of left ≡ all
-    → left ≡ key ∷ rest → more ≡ done ++ (key.items, content) ∷ []
-    → keys_of more ++ bytes_of rest ≡ all
-parts_go_on all done more left key content rest parts turn push =
-    ap (λ (ps : List Pair). keys_of ps ++ bytes_of rest) push
-    ∙ ap (λ (ks : List Key). ks ++ bytes_of rest)
-    (map-append (λ (x : Pair). x.0) done ((key.items, content) ∷ []))
-    ∙ append_assoc (keys_of done) (key.items ∷ []) (bytes_of rest)
-    ∙ ap (λ (ks : List (Vec ℕ)). keys_of done ++ bytes_of ks) (sym turn) ∙ parts
-
-pub parts_end : (all : List Key) (done : List Pair) (left : List (Vec ℕ))
-    → keys_of done ++ bytes_of left ≡ all → left ≡ [] → keys_of done ≡ all
-parts_end all done left parts none =
-    sym (append-nil (keys_of done))
-    ∙ ap (λ (ks : List (Vec ℕ)). keys_of done ++ bytes_of ks) (sym none) ∙ parts
-
--- the key of this turn is one of all
-pub key_among : (all : List Key) (done : List Key) (left : List (Vec ℕ)) (key : Vec ℕ)
-    (rest : List (Vec ℕ)) (bytes : List ℕ) → done ++ bytes_of left ≡ all → left ≡ key ∷ rest
-    → bytes ≡ key.items → done ++ bytes ∷ bytes_of rest ≡ all
-key_among all done left key rest bytes parts turn same =
-    ap (λ (k : Key). done ++ k ∷ bytes_of rest) same
-    ∙ ap (λ (ks : List (Vec ℕ)). done ++ bytes_of ks) (sym turn) ∙ parts
-
 module _ {S : Type 0} {s : Ghosts S} where
-  -- nothing is fetched yet
-  pub fetch_begins : (db : Database S s) (h : Handle) (done : List Pair) → IsAt db h
-      → h.state.usable ≡ true → done ≡ [] → IsFetching db h.state.map done
-  fetch_begins db h done at usable none =
-      subst (λ (ps : List Pair). IsFetching db h.state.map ps) (sym none)
-      (record { now = h; is_at = at; map_is = refl; usable = usable; found = tt })
+  -- it is begun with nothing
+  pub fetch_begins : (db : Database S s) (m : Contents) (done : List Pair) (given : Option (Vec ℕ))
+      → done ≡ [] → IsPassing db m [] given 0 → IsFetching db m done given 0
+  fetch_begins db m done given none begun =
+      subst (λ (ps : List Pair). IsFetching db m ps given 0) (sym none)
+      (record { pass = begun; found = tt })
 
-  module _ (old new : Database S s) (m : Contents) (done : List Pair) (key : Key)
-      (result : Result (Option (Vec ℕ)) EngineFault) (so_far : IsFetching old m done)
-      (step : CopiesStep old new so_far.now (Fetch key) NoRecord result) where
-    gives : FetchGives (get m key) result
-    gives =
-        subst (λ (c : Contents). FetchGives (get c key) result) so_far.map_is
-        (fetch_gives so_far.now step.2.after (get so_far.now.state.map key) step.0 result step.1
-        (on_usable so_far.now step.2.after (Fetch key) (lent_reply NoRecord step.0)
-        so_far.usable step.2.step))
+  -- and ends, where no key came
+  pub fetch_ends : (db : Database S s) (m : Contents) (done : List Pair) (given : Option (Vec ℕ))
+      (count : ℕ) → IsFetching db m done given count → given ≡ None → done ≡ entries m
+  fetch_ends db m done given count so_far none =
+      all_pairs m done (pass_ends db m (keys_of done) given count so_far.pass none) so_far.found
 
-    -- one more is fetched
-    pub fetch_goes_on : (copy : Vec ℕ) (more : List Pair) → result ≡ Ok (Some copy)
-        → more ≡ done ++ (key, copy.items) ∷ [] → IsFetching new m more
-    fetch_goes_on copy more well push =
-        let made = step.2 in
-        let keeps = keeps_map so_far.now made.after (case_of so_far.now.state (Fetch key))
-        (lent_reply NoRecord step.0) (reads_content key so_far.now.state) made.step.answers in
-        let found = subst (λ (r : Result (Option (Vec ℕ)) EngineFault). FetchGives (get m key) r)
-        well gives in
-        subst (λ (ps : List Pair). IsFetching new m ps) (sym push)
-        (record {
-          now = made.after;
-          is_at = made.is_at;
-          map_is = keeps.map ∙ so_far.map_is;
-          usable =
-              keeps.usable ∙ so_far.usable;
-          found =
-              all_more m done (key, copy.items) so_far.found found;
-        })
+  -- the content of a key
+  module _ (old mid : Database S s) (m : Contents) (done : List Pair) (given : Option (Vec ℕ))
+      (count : ℕ) (key : Vec ℕ) (bytes : Key) (result : Result (Option (Vec ℕ)) EngineFault)
+      (so_far : IsFetching old m done given count) (is : given ≡ Some key)
+      (asked : bytes ≡ key.items)
+      (step : CopiesStep old mid so_far.pass.now (Fetch bytes) NoRecord result) where
+    abbrev Gives : Result (Option (Vec ℕ)) EngineFault → Type 0
+    Gives told = FetchGives so_far.pass.now.state step.2.after.state (get m key.items) told
+
+    gives : Gives result
+    gives = subst (λ (k : Key).
+        FetchGives so_far.pass.now.state step.2.after.state (get m k) result) asked
+        (subst (λ (all : Contents).
+        FetchGives so_far.pass.now.state step.2.after.state (get all bytes) result)
+        so_far.pass.map_is
+        (fetch_gives so_far.pass.now step.2.after (get so_far.pass.now.state.map bytes) step.0
+        result step.1 (on_usable so_far.pass.now step.2.after (Fetch bytes)
+        (lent_reply NoRecord step.0) so_far.pass.usable step.2.step)))
 
     pub fetch_goes_on_not : (fault : EngineFault) → result ≡ Err fault → IsChance fault
-    fetch_goes_on_not fault badly =
-        subst (λ (r : Result (Option (Vec ℕ)) EngineFault). FetchGives (get m key) r) badly gives
+    fetch_goes_on_not fault badly = subst Gives badly gives
 
-    -- none of the map's keys is not found
-    pub none_missing : (before after : List Key) → before ++ key ∷ after ≡ keys m
-        → result ≡ Ok None → ⊥
-    none_missing before after there missing =
-        has_content m before key after there
-        (subst (λ (r : Result (Option (Vec ℕ)) EngineFault). FetchGives (get m key) r) missing
-        gives)
+    -- is not missing
+    pub none_missing : result ≡ Ok None → ⊥
+    none_missing missing =
+        let given_none : Gives (Ok None) = subst Gives missing gives in
+        has_content m (keys_of done) given key count so_far.pass.now.state.pass so_far.pass.held is
+        given_none.0
 
-  -- all are fetched
-  pub fetch_ends : (db : Database S s) (m : Contents) (done : List Pair) → IsFetching db m done
-      → keys_of done ≡ keys m → done ≡ entries m
-  fetch_ends db m done so_far all = all_pairs m done all so_far.found
+    module _ (copy : Vec ℕ) (well : result ≡ Ok (Some copy)) where
+      found_is : Gives (Ok (Some copy))
+      found_is = subst Gives well gives
+
+      -- a fetch leaves the pass where it was
+      pub pass_stays : IsPassing mid m (keys_of done) given count
+      pass_stays = record {
+        now = step.2.after;
+        is_at = step.2.is_at;
+        map_is = ap (λ (x : State). x.map) found_is.1 ∙ so_far.pass.map_is;
+        usable = ap (λ (x : State). x.usable) found_is.1 ∙ so_far.pass.usable;
+        held = subst (λ (p : Pass). HasGathered m (keys_of done) given count p)
+            (sym (ap (λ (x : State). x.pass) found_is.1)) so_far.pass.held;
+      }
+
+      -- which then goes on
+      pub fetch_goes_on : (new : Database S s) (again : Result (Option (Vec ℕ)) EngineFault)
+          (next : Option (Vec ℕ)) (more : List Pair)
+          → CopiesStep mid new step.2.after Next End again → again ≡ Ok next
+          → more ≡ put key_cmp key.items copy.items done → IsFetching new m more next (count + 1)
+      unfolding pass_stays
+      fetch_goes_on new again next more made told inserted = record {
+        pass = pass_goes_on mid new m (keys_of done) given key count again pass_stays is made next
+            (keys_of more) told
+            (ap keys_of inserted ∙ sym (key_put key.items copy.items done));
+        found = subst (λ (ps : List Pair). AllByRecursion (IsOf m) ps) (sym inserted)
+            (all_put (IsOf m) key.items copy.items done so_far.found found_is.0);
+      }

@@ -1,6 +1,7 @@
 -- What is said where reading or writing ends.
-use Rattle.std.proofs.Common.{◌≡◌, ◌⊎◌, inl, inr, ⊎_elim, ℕ, ◌≤◌, List, [], ◌∷◌, length, flat_map, map, Option, Result, Ok, Err, OnOk, IfErr, IsErrOf, refl, sym, ◌∙◌, ap, arith}
+use Rattle.std.proofs.Common.{◌≡◌, ◌⊎◌, inl, inr, ⊎_elim, ℕ, ◌≤◌, List, [], ◌∷◌, length, flat_map, Option, Result, Ok, Err, OnOk, IfErr, IsErrOf, refl, ◌∙◌, arith}
 use Rattle.std.specs.Global.{Vec}
+use Rattle.std.specs.BTreeMap.{BTreeMap}
 use Rattle.std.specs.BTreeSet.{BTreeSet}
 use Rattle.std.specs.Io.KnownBytes.{Appends}
 use Rattle.std.specs.Result.{is_ok}
@@ -12,7 +13,7 @@ use Rattle.dbm_fault.specs.declared.engine_fault.EngineFault.TheVariants.{Memory
 use Rattle.dbm_fault.specs.declared.fault.Fault.{Fault}
 use Rattle.dbm_fault.specs.declared.fault.Fault.TheVariants.{Device, Broken, NoPass, Damaged}
 use Rattle.page_io.proofs.Exits.{came}
-use Rattle.dbm_dump.specs.Dumping.{bytes_of_keys, key_lines, WritesPairs, WritesKeys}
+use Rattle.dbm_dump.specs.Dumping.{bytes_of_keys, bytes_of_pairs, key_lines, WritesPairs, WritesKeys}
 
 -- the fault is the one that the callee was bound to answer
 pub same_exit : {T U : Type 0} (result : Result T EngineFault) (e f : EngineFault) → result ≡ Err e
@@ -27,12 +28,6 @@ AnyOf f = IsAmong f (Memory ∷ Write ∷ Db Broken ∷ Db NoPass ∷ Db Device 
 pub of_gathering : (f : EngineFault)
     → IsAmong f (Memory ∷ Db Broken ∷ Db NoPass ∷ Db Device ∷ Db Damaged ∷ []) → AnyOf f
 of_gathering f is = ⊎_elim (λ memory. inl memory) (λ other. inr (inr other)) is
-
-pub of_fetching : (f : EngineFault)
-    → IsAmong f (Memory ∷ Db Broken ∷ Db Device ∷ Db Damaged ∷ []) → AnyOf f
-of_fetching f is = ⊎_elim (λ memory. inl memory)
-    (λ other. ⊎_elim (λ broken. inr (inr (inl broken))) (λ last. inr (inr (inr (inr last)))) other)
-    is
 
 pub of_beginning : (f : EngineFault) → IsAmong f (Memory ∷ Db Broken ∷ Db Device ∷ Db Damaged ∷ [])
     → IsAmong f (Memory ∷ Db Broken ∷ Db NoPass ∷ Db Device ∷ Db Damaged ∷ [])
@@ -60,21 +55,20 @@ write_among (Err f) is = inr (inl is)
 
 -- the lines of these pairs, and of these keys
 pub writes_pairs : {E : Type 0} (line_of : Pair → List ℕ) (wrote : Result Unit E)
-    (pairs : List Pair) (keys : BTreeSet (Vec ℕ)) (most : ℕ) (before after : Option (List ℕ))
-    → map (λ (pair : Pair). pair.0) pairs ≡ bytes_of_keys keys → length keys.keys ≤ most
-    → OnOk wrote (Appends before after (flat_map line_of pairs))
+    (pairs : BTreeMap (Vec ℕ) (Vec ℕ)) (most : ℕ) (before after : Option (List ℕ))
+    → length pairs.entries ≤ most
+    → OnOk wrote (Appends before after (flat_map line_of (bytes_of_pairs pairs)))
     → OnOk wrote (WritesPairs line_of most before after)
-writes_pairs line_of (Ok x) pairs keys most before after same bound written = (
-  pairs,
+writes_pairs line_of (Ok x) pairs most before after bound written = (
+  bytes_of_pairs pairs,
   omega (
     arith,
-    sym (length-map pairs (λ (pair : Pair). pair.0)) ∙ ap length same
-        ∙ length-map keys.keys (λ (key : Vec ℕ). key.items),
+    length-map {B = Pair} pairs.entries (λ (pair : Vec ℕ × Vec ℕ). (pair.0.items, pair.1.items)),
     bound,
   ),
   written,
 )
-writes_pairs line_of (Err e) pairs keys most before after same bound written = tt
+writes_pairs line_of (Err e) pairs most before after bound written = tt
 
 pub writes_keys : {E : Type 0} (wrote : Result Unit E) (keys : BTreeSet (Vec ℕ)) (most : ℕ)
     (before after : Option (List ℕ)) → length keys.keys ≤ most

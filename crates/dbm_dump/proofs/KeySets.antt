@@ -30,7 +30,8 @@ turned Less e k v es more ks h = refl
 turned Equal e k v es more ks h = refl
 turned Greater e k v es more ks h = ap (λ rest. e.0 ∷ rest) h
 
-key_put : {X : Type 0} (k : Key) (v : X) (es : List (Key × X))
+-- the keys, where a value is put at one
+pub key_put : {X : Type 0} (k : Key) (v : X) (es : List (Key × X))
     → insert_key key_cmp (map (λ (x : Key × X). x.0) es) k
     ≡ map (λ (x : Key × X). x.0) (put key_cmp k v es)
 key_put k v [] = refl

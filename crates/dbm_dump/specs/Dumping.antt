@@ -1,6 +1,7 @@
 -- What reading a whole database gives and leaves.
 use Rattle.std.specs.Prelude.{◌≡◌, ◌⊎◌, ◌≤◌, ℕ, true, false, List, length, map, flat_map, Option, Some, None, Result, Ok, Err, OnOk, IsErrOf}
 use Rattle.std.specs.Global.{Vec}
+use Rattle.std.specs.BTreeMap.{BTreeMap}
 use Rattle.std.specs.BTreeSet.{BTreeSet}
 use Rattle.std.specs.Io.KnownBytes.{Appends}
 use Rattle.sect_dev.specs.Device.{MoreFaults}
@@ -58,9 +59,16 @@ IsChance fault = (fault ≡ Memory) ⊎ (fault ≡ Db Device)
 abbrev pub bytes_of_keys : BTreeSet (Vec ℕ) → List Key
 bytes_of_keys keys = map (λ key. key.items) keys.keys
 
+-- the bytes of pairs
+abbrev pub bytes_of_pairs : BTreeMap (Vec ℕ) (Vec ℕ) → List Pair
+bytes_of_pairs pairs = map (λ pair. (pair.0.items, pair.1.items)) pairs.entries
+
 -- no longer than a key or a content may be
 abbrev pub IsShort : List ℕ → Type 0
 IsShort bytes = length bytes ≤ 2026
+
+abbrev pub IsShortPair : Vec ℕ × Vec ℕ → Type 0
+IsShortPair pair = IsShort pair.0.items × IsShort pair.1.items
 
 -- the lent bytes are copied, where there are some
 abbrev pub IsCopied : Lent → Result (Option (Vec ℕ)) EngineFault → Type 0

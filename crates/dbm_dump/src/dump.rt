@@ -6,24 +6,25 @@ ghost use Rattle.std.specs.Io.KnownBytes.{Appends};
 ghost use Rattle.dbm_text.specs.Dumps.{dump_line, dump_of, listing_of, text_dump_of, text_line};
 ghost use Rattle.dbm_lines.specs.Forms.{line_in, dump_in};
 ghost use Rattle.dbm_file.specs.Database.{meta_kept, page_state, AtEachHandle};
-ghost use Rattle.dbm_dump.specs.Dumping.{Reads, IsChance, bytes_of_keys, IsShort, WritesPairs, WritesKeys, key_lines};
+ghost use Rattle.dbm_dump.specs.Dumping.{Reads, IsChance, bytes_of_keys, bytes_of_pairs, IsShort, IsShortPair, WritesPairs, WritesKeys, key_lines};
 
-use crate::gather::{fetch_pairs, gather_keys};
+use crate::gather::gather_keys;
+use crate::pairs::gather_pairs;
 use dbm_fault::EngineFault;
-use dbm_file::{Database, Fault, Octets};
+use dbm_file::{Database, Fault};
 use dbm_lines::{DIGITS, TextForm, write_bytes, write_escaped, write_word};
 use dbm_progress::{Progress, Work};
 use page_io::PageStore;
 use std::alloc::Global;
-use std::collections::BTreeSet;
+use std::collections::{BTreeMap, BTreeSet};
 use std::io::{self, Write};
 
 /// Writes each pair as `key content` in a line, in ascending byte order of keys. It reads
-/// everything before it writes, by a pass and a fetch of each key, and keeps the keys and the
-/// contents in memory until it ends. `Db(Damaged)` comes where the pass gives more keys than the
-/// file counts pairs, or a key that fetch doesn't find. After `Write` some of the text may be out.
-/// Each key and content that was read, and each pair that was written, is a step of `progress`,
-/// which is cleared before the first one is written.
+/// everything before it writes, by a pass and a fetch of each key behind the step that gave it, and
+/// keeps the pairs in memory until it ends. `Db(Damaged)` comes where the pass gives more keys than
+/// the file counts pairs, or a key that fetch doesn't find. After `Write` some of the text may be
+/// out. Each pair that was read or written is a step of `progress`, which is cleared before the
+/// first one is written.
 pub fn dump_engine<S: PageStore, W: Write, P: Progress>(
     alloc: Global,
     db: &mut Database<S>,
@@ -147,8 +148,7 @@ fn dump_in_form<S: PageStore, W: Write, P: Progress>(
         ∷ EngineFault.Db Fault.NoPass ∷ EngineFault.Db Fault.Device
         ∷ EngineFault.Db Fault.Damaged ∷ []) }
 {
-    let keys = gather_keys(alloc, db, progress)?;
-    let pairs = fetch_pairs(alloc, db, keys, progress)?;
+    let pairs = gather_pairs(alloc, db, progress)?;
     progress.clear();
     write_pairs(writer, &pairs, form, progress).map_err(|_| EngineFault::Write)
 }
@@ -156,23 +156,17 @@ fn dump_in_form<S: PageStore, W: Write, P: Progress>(
 /// Writes the line of each pair.
 fn write_pairs<W: Write, P: Progress>(
     writer: &mut W,
-    pairs: &[(Octets, Octets)],
+    pairs: &BTreeMap<Vec<u8>, Vec<u8>>,
     form: TextForm,
     progress: &mut P,
 ) -> io::Result<()>
-    requires { All (λ pair. IsShort pair.0 × IsShort pair.1) pairs.now }
+    requires { All IsShortPair pairs.now.entries }
     ensures { OnOk result (Appends (W.contents writer.old) (W.contents writer.new)
-        (flat_map (line_in form) pairs.now)) }
+        (flat_map (line_in form) (bytes_of_pairs pairs.now))) }
 {
     let mut digits = [0; DIGITS];
     for (key, content) in pairs {
-        write_pair(
-            writer,
-            key.as_slice(),
-            content.as_slice(),
-            form,
-            &mut digits,
-        )?;
+        write_pair(writer, key, content, form, &mut digits)?;
         progress.step(Work::PairsWritten);
     }
     Ok(())

@@ -1,15 +1,15 @@
-// What a whole database has: its keys, and their contents.
-ghost use Rattle.std.specs.Prelude.{◌≡◌, ◌≤◌, true, false, IfOk, IfSome, MatchResult, Err, map, ◌∷◌, []};
+// The keys of a whole database, and copies of what its calls lend.
+ghost use Rattle.std.specs.Prelude.{◌≡◌, ◌≤◌, true, false, IfOk, IfSome, MatchResult, Err, ◌∷◌, []};
 ghost use Rattle.dbm_fault.specs.Among.{IsErrAmong};
 ghost use Rattle.std.specs.BTreeSet.{btree_set_len};
-ghost use Rattle.std.specs.FinMap.{entries, keys as map_keys};
+ghost use Rattle.std.specs.FinMap.{keys as map_keys};
 ghost use Rattle.std.specs.List.{All};
 ghost use Rattle.dbm_model.specs.Calls.{Fetch, First, Next, NoRecord, End};
 ghost use Rattle.dbm_file.specs.Database.{meta_kept, page_state, AtEachHandle};
 ghost use Rattle.dbm_dump.specs.Dumping.{Reads, IsChance, bytes_of_keys, IsShort, IsCopied, CopiesStep};
 
 use dbm_fault::EngineFault;
-use dbm_file::{Database, Fault, Octets};
+use dbm_file::{Database, Fault};
 use dbm_progress::{Progress, Work};
 use page_io::PageStore;
 use std::alloc::Global;
@@ -51,39 +51,8 @@ pub fn gather_keys<S: PageStore, P: Progress>(
     Ok(keys)
 }
 
-/// The keys with their contents, in the order of the keys. `Damaged` where a key has none.
-pub fn fetch_pairs<S: PageStore, P: Progress>(
-    alloc: Global,
-    db: &mut Database<S>,
-    keys: BTreeSet<Vec<u8>>,
-    progress: &mut P,
-) -> Result<Vec<(Octets, Octets)>, EngineFault>
-    requires { All (λ key. IsShort key.items) keys.keys }
-    ensures pairs { AtEachHandle db.old (λ h.
-        h.state.usable ≡ true → bytes_of_keys keys ≡ map_keys h.state.map
-        → MatchResult result (λ pairs. pairs.items ≡ entries h.state.map) IsChance) }
-    ensures keys { IfOk result (λ pairs. map (λ pair. pair.0) pairs.items ≡ bytes_of_keys keys) }
-    ensures short { IfOk result (λ pairs.
-        All (λ pair. IsShort pair.0 × IsShort pair.1) pairs.items) }
-    ensures reads { Reads db.old db.new result }
-    ensures only { IsErrAmong result
-        (EngineFault.Memory ∷ EngineFault.Db Fault.Broken ∷ EngineFault.Db Fault.Device
-        ∷ EngineFault.Db Fault.Damaged ∷ []) }
-{
-    let mut pairs = Vec::new(alloc);
-    for key in keys {
-        let Some(content) = copy_content(alloc, db, &key)? else {
-            return Err(EngineFault::Db(Fault::Damaged));
-        };
-        let pair = (Octets::from(key), Octets::from(content));
-        pairs.push(pair).map_err(|_| EngineFault::Memory)?;
-        progress.step(Work::ContentsRead);
-    }
-    Ok(pairs)
-}
-
 /// The first key of a new pass.
-fn copy_first<S: PageStore>(
+pub fn copy_first<S: PageStore>(
     alloc: Global,
     db: &mut Database<S>,
 ) -> Result<Option<Vec<u8>>, EngineFault>
@@ -100,7 +69,7 @@ fn copy_first<S: PageStore>(
 }
 
 /// The next key of the pass.
-fn copy_next<S: PageStore>(
+pub fn copy_next<S: PageStore>(
     alloc: Global,
     db: &mut Database<S>,
 ) -> Result<Option<Vec<u8>>, EngineFault>
@@ -115,7 +84,7 @@ fn copy_next<S: PageStore>(
 }
 
 /// The content of the key.
-fn copy_content<S: PageStore>(
+pub fn copy_content<S: PageStore>(
     alloc: Global,
     db: &mut Database<S>,
     key: &[u8],

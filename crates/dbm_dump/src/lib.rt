@@ -3,5 +3,6 @@
 
 mod dump;
 mod gather;
+mod pairs;
 
 pub use dump::{dump_engine, dump_text_engine, list_engine};

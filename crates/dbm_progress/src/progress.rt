@@ -5,10 +5,10 @@
 pub enum Work {
     /// A load stores the pairs of its lines.
     LinesLoaded,
-    /// A dump or a list reads the keys.
+    /// A list reads the keys.
     KeysRead,
-    /// A dump reads the contents of the keys.
-    ContentsRead,
+    /// A dump reads the pairs.
+    PairsRead,
     /// A list writes the keys.
     KeysWritten,
     /// A dump writes the pairs.
@@ -25,7 +25,7 @@ impl Work {
         match self {
             Work::LinesLoaded => "lines loaded",
             Work::KeysRead => "keys read",
-            Work::ContentsRead => "contents read",
+            Work::PairsRead => "pairs read",
             Work::KeysWritten => "keys written",
             Work::PairsWritten => "pairs written",
             Work::StopsMade => "stops made",

@@ -62,7 +62,7 @@ impl<'a, C: Clock, W: Write> Terminal<'a, C, W> {
         match work {
             Work::LinesLoaded => self.terminals.input,
             Work::KeysWritten | Work::PairsWritten => self.terminals.output,
-            Work::KeysRead | Work::ContentsRead | Work::StopsMade | Work::BucketsVerified => false,
+            Work::KeysRead | Work::PairsRead | Work::StopsMade | Work::BucketsVerified => false,
         }
     }
 

@@ -24,7 +24,7 @@ impl Progress for Recorder {
         self.keep(match work {
             Work::LinesLoaded => b'l',
             Work::KeysRead => b'k',
-            Work::ContentsRead => b'c',
+            Work::PairsRead => b'p',
             Work::KeysWritten => b'K',
             Work::PairsWritten => b'P',
             Work::StopsMade => b's',
@@ -62,7 +62,7 @@ fn a_step_is_told_once_it_is_done(rt: HostRuntime) -> Result<(), Fail> {
     for group in 0..5 {
         assert_eq!(rt;
             told(rt.alloc(), group)?.as_slice(),
-            b"ll kkccxPP kkxKK".as_slice(),
+            b"ll ppxPP kkxKK".as_slice(),
             "in groups of {group}"
         );
     }

@@ -52,7 +52,7 @@ fn work_of(letter: &str) -> Option<Work> {
     match letter {
         "l" => Some(Work::LinesLoaded),
         "k" => Some(Work::KeysRead),
-        "c" => Some(Work::ContentsRead),
+        "p" => Some(Work::PairsRead),
         "K" => Some(Work::KeysWritten),
         "P" => Some(Work::PairsWritten),
         "s" => Some(Work::StopsMade),
@@ -118,15 +118,15 @@ fn a_line_comes_each_second_and_none_before_the_first(rt: HostRuntime) {
 
 #[test]
 fn each_work_is_counted_by_itself(rt: HostRuntime) {
-    let text = "k 6000 k k 7000 c x 8000 c P 9000 P x";
-    let expected = "~2 keys read~1 contents read~~2 contents read~2 pairs written~";
+    let text = "k 6000 k k 7000 p x 8000 p P 9000 P x";
+    let expected = "~2 keys read~1 pairs read~~2 pairs read~2 pairs written~";
     assert!(rt; shows(rt.alloc(), text, expected));
     assert!(rt; shows(rt.alloc(), "6000 K 7000 s", "~1 keys written~1 stops made"));
 }
 
 /// Whether nothing is in the way of another terminal.
 fn leaves_other_terminals(alloc: Global) -> bool {
-    let text = "6000 l k 7000 s c 8000 K P";
+    let text = "6000 l k 7000 s p 8000 K P";
     let input = Terminals {
         input: true,
         ..ERROR
