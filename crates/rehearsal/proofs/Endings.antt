@@ -1,9 +1,10 @@
 -- How the calls of a session ended, as the definitions say it.
-use Rattle.std.proofs.Common.{◌≡◌, ◌≢◌, ◌⊎◌, ◌↔◌, inl, inr, ⊎_elim, ℕ, Bool, true, false, Result, Ok, Err, OnOk, IfErr, Vec, List, [], ◌∷◌, map, refl, sym, ◌∙◌, ap, subst, Contains}
+use Rattle.std.proofs.Common.{◌≡◌, ◌≢◌, ◌⊎◌, ◌↔◌, ◌≤◌, inl, inr, ⊎_elim, ℕ, Bool, true, false, Result, Ok, Err, OnOk, IfErr, Vec, List, [], ◌∷◌, map, refl, sym, ◌∙◌, ap, subst, Contains}
+use Rattle.std.specs.Result.{result_unwrap_or}
 use Rattle.std.specs.Global.{Global}
 use Rattle.std.proofs.lemmas.Bool.{cases_Bool, false≢true}
 use Rattle.std.proofs.lemmas.List.{append-nil}
-use Rattle.sect_dev.specs.Device.{Image, Candidates, IsImageOf}
+use Rattle.sect_dev.specs.Device.{Image, Candidates, IsImageOf, MoreFaults}
 use Rattle.dbm_model.specs.Calls.{Call, Reply}
 use Rattle.dbm_model.specs.Changes.{map_asked}
 use Rattle.dbm_model.specs.Pairs.{Pair, Contents}
@@ -11,6 +12,7 @@ use Rattle.dbm_model.specs.States.{Handle}
 use Rattle.dbm_model.specs.Steps.{case_of, Run}
 use Rattle.page_io.specs.Store.{Settled}
 use Rattle.page_io.specs.Meaning.{ImageStandsFor}
+use Rattle.page_io.proofs.Exits.{more_later}
 use Rattle.page_io.specs.declared.store.PageStore.{Ghosts}
 use Rattle.redo_commit.specs.File.{settled}
 use Rattle.dbm_sessions.specs.Members.{Member, Holding, Members, held}
@@ -19,14 +21,14 @@ use Rattle.dbm_sessions.specs.Sessions.{Plan, StoppedOpening, StoppedCall, Stopp
 use Rattle.dbm_sessions.proofs.Cuts.{broken_leaves}
 use Rattle.dbm_sessions.proofs.Lists.{is_first, is_later}
 use Rattle.dbm_fault.specs.declared.fault.Fault.{Fault}
-use Rattle.dbm_fault.specs.declared.fault.Fault.TheVariants.{Broken}
+use Rattle.dbm_fault.specs.declared.fault.Fault.TheVariants.{Device, Broken}
 use Rattle.dbm_file.specs.Calls.{reply_of}
 use Rattle.dbm_file.specs.declared.calls.Reply as code
 use Rattle.dbm_file.specs.Database.{store_of, meta_kept, page_state, IsAt}
 use Rattle.dbm_file.specs.Runs.{IsInDoubt, IsBreak, IsRun}
 use Rattle.dbm_file.specs.declared.database.Database.{Database}
 use Rattle.rehearsal.specs.Members.{StandsForOne}
-use Rattle.rehearsal.specs.Sessions.{ending_of, stored_count, IfNotOpened, GoesOn, CallsLeave}
+use Rattle.rehearsal.specs.Sessions.{ending_of, IfNotOpened, IfGrouped, GoesOn, CallsLeave}
 use Rattle.rehearsal.specs.declared.sessions.Ending.{Ending}
 use Rattle.rehearsal.specs.declared.sessions.Ending.TheVariants.{NotOpened, NoMemory, Rested, Unsettled, Broke, BrokeGroup}
 use Rattle.dbm_sessions.proofs.Rooms.{limit_stays}
@@ -146,26 +148,24 @@ module _ {S : Type 0} {s : Ghosts S} (new : Database S s) (first last : Handle) 
 module _ (mid new : Bool) {X : Type 0} (stored : Result ℕ Fault) (closed : Result X Fault)
     (ending : Ending) (replies : Vec code.Reply Global)
     (was : stored ≡ Err Broken ↔ (mid ≡ false)) (broken : closed ≡ Err Broken ↔ (new ≡ false))
-    (rested : stored ≢ Err Broken → OnOk closed (ending ≡ Rested replies (stored_count stored)))
+    (rested : stored ≢ Err Broken → OnOk closed (ending ≡ Rested replies stored))
     (failed : stored ≢ Err Broken → IfErr closed (λ fault. fault ≢ Broken
-    → ending ≡ Unsettled replies (stored_count stored)))
+    → ending ≡ Unsettled replies stored))
     (group : stored ≢ Err Broken → closed ≡ Err Broken → ending ≡ BrokeGroup replies)
     (broke : stored ≡ Err Broken → ending ≡ Broke replies) where
   told_rested : (r : Result X Fault) → closed ≡ r → mid ≡ true → new ≡ true
-      → (ending ≡ Rested replies (stored_count stored))
-      ⊎ (ending ≡ Unsettled replies (stored_count stored))
+      → (ending ≡ Rested replies stored) ⊎ (ending ≡ Unsettled replies stored)
   told_rested (Ok x) is sound now =
-      inl (subst (λ r. OnOk r (ending ≡ Rested replies (stored_count stored))) is
+      inl (subst (λ r. OnOk r (ending ≡ Rested replies stored)) is
       (rested (λ e. false≢true (sym (was.0 e) ∙ sound))))
   told_rested (Err fault) is sound now =
-      inr (subst (λ r. IfErr r (λ f. f ≢ Broken → ending ≡ Unsettled replies (stored_count stored)))
+      inr (subst (λ r. IfErr r (λ f. f ≢ Broken → ending ≡ Unsettled replies stored))
       is (failed (λ e. false≢true (sym (was.0 e) ∙ sound)))
       (λ same. false≢true (sym (broken.0 (is ∙ ap Err same)) ∙ now)))
 
   -- it was usable to the end, the commit of its group broke it, or one of its calls had
   pub which_ending : (P : Ending → Type 0)
-      → (mid ≡ true → new ≡ true → P (Rested replies (stored_count stored))
-      × P (Unsettled replies (stored_count stored)))
+      → (mid ≡ true → new ≡ true → P (Rested replies stored) × P (Unsettled replies stored))
       → (mid ≡ true → new ≡ false → P (BrokeGroup replies))
       → (mid ≡ false → P (Broke replies)) → P ending
   which_ending P sound cut doubt = elim (cases_Bool mid) [
@@ -180,7 +180,7 @@ module _ (mid new : Bool) {X : Type 0} (stored : Result ℕ Fault) (closed : Res
 
   pub by_ending : (P : model.Ending → Type 0)
       → (mid ≡ true → new ≡ true
-      → P (model.Grouped (map reply_of replies.items) (stored_count stored)))
+      → P (model.Grouped (map reply_of replies.items) (result_unwrap_or stored 0)))
       → (mid ≡ true → new ≡ false
       → (count : ℕ) × P (model.BrokeGroup (map reply_of replies.items) count))
       → (mid ≡ false → P (model.Broke (map reply_of replies.items)))
@@ -220,3 +220,18 @@ none_refused (Rested replies stored) P is = tt
 none_refused (Unsettled replies stored) P is = tt
 none_refused (Broke replies) P is = tt
 none_refused (BrokeGroup replies) P is = tt
+
+-- a group that a later fault refused was refused by one since an earlier moment
+pub refused_since : (ending : Ending) (first old new : ℕ) → first ≤ old
+    → IfGrouped ending (λ stored. IfErr stored (λ fault. (fault ≡ Device) × MoreFaults old new))
+    → IfGrouped ending (λ stored. IfErr stored (λ fault. (fault ≡ Device) × MoreFaults first new))
+refused_since (NotOpened fault) first old new le is = tt
+refused_since NoMemory first old new le is = tt
+refused_since (Rested replies (Ok count)) first old new le is = tt
+refused_since (Rested replies (Err fault)) first old new le is =
+    (is.0, more_later first old new le is.1)
+refused_since (Unsettled replies (Ok count)) first old new le is = tt
+refused_since (Unsettled replies (Err fault)) first old new le is =
+    (is.0, more_later first old new le is.1)
+refused_since (Broke replies) first old new le is = tt
+refused_since (BrokeGroup replies) first old new le is = tt

@@ -1,10 +1,11 @@
 -- A group that is stored behind the calls of a session, and what a stop within its commit leaves.
-use Rattle.std.proofs.Common.{◌≡◌, ◌⊎◌, inl, inr, ⊎_elim, ℕ, true, false, List, [], ◌∷◌, take, map, Result, Ok, Err, refl, sym, ◌∙◌, ap, subst, IsErrOf}
-use Rattle.std.specs.FinMap.{insert}
+use Rattle.std.proofs.Common.{◌≡◌, ◌≢◌, ◌⊎◌, inl, inr, ⊎_elim, ℕ, true, false, List, [], ◌∷◌, take, map, Result, Ok, Err, refl, sym, ◌∙◌, ap, subst, IfErr, IsErrOf}
+use Rattle.std.specs.Result.{result_unwrap_or}
 use Rattle.std.proofs.lemmas.Bool.{false≢true}
 use Rattle.sect_dev.specs.Device.{LeavesOnly}
 use Rattle.sect_dev.specs.Moments.{weaker}
 use Rattle.dbm_model.specs.Calls.{Call, Reply, Stored}
+use Rattle.dbm_model.specs.Changes.{replacing, with_pairs}
 use Rattle.dbm_model.specs.Pairs.{Pair, Contents}
 use Rattle.dbm_model.specs.States.{State, Handle}
 use Rattle.dbm_model.specs.Steps.{Run}
@@ -13,25 +14,19 @@ use Rattle.page_io.specs.Meaning.{ImageStandsFor}
 use Rattle.page_io.specs.declared.store.PageStore.{Ghosts}
 use Rattle.dbm_sessions.specs.Members.{Member, Holding, Members, held}
 use Rattle.dbm_sessions.specs.Sessions as model
-use Rattle.dbm_sessions.specs.Sessions.{StoppedGroup, Groups, GroupCutShort, replacing, with_pairs}
+use Rattle.dbm_sessions.specs.Sessions.{StoppedGroup, Groups, GroupCutShort}
 use Rattle.dbm_sessions.proofs.Lists.{is_first, is_later}
+use Rattle.dbm_fault.specs.Among.{IsErrAmong}
 use Rattle.dbm_fault.specs.declared.fault.Fault.{Fault}
-use Rattle.dbm_fault.specs.declared.fault.Fault.TheVariants.{Device}
+use Rattle.dbm_fault.specs.declared.fault.Fault.TheVariants.{Device, Broken, ReadOnly}
 use Rattle.dbm_file.specs.Answers.{StandsForSome, Survives}
 use Rattle.dbm_file.specs.Database.{store_of, meta_kept, page_state, IsAt}
-use Rattle.dbm_file.specs.Groups as files
 use Rattle.dbm_file.specs.Groups.{GroupEnds}
 use Rattle.dbm_file.specs.declared.database.Database.{Database}
 use Rattle.rehearsal.specs.Members.{StandsForOne}
-use Rattle.rehearsal.specs.Sessions.{stored_count, IsLeftByCalls}
+use Rattle.rehearsal.specs.Sessions.{IsLeftByCalls}
 use Rattle.rehearsal.proofs.Endings.{all_go}
 use Rattle.rehearsal.proofs.Moments.{left_made}
-
--- both crates put pairs into a map alike
-same_pairs : (contents : Contents) (pairs : List Pair)
-    → files.with_pairs contents pairs ≡ with_pairs contents pairs
-same_pairs contents [] = refl
-same_pairs contents (pair ∷ pairs) = same_pairs (insert contents pair.0 pair.1) pairs
 
 -- ---- the group itself
 
@@ -55,7 +50,7 @@ pub record IsBrokenGroup {S : Type 0} {s : Ghosts S} (old new : Database S s) (b
 module _ {S : Type 0} (s : Ghosts S) (old new : Database S s) (before : Handle)
     (pairs : List Pair) where
   pub stored_group : (stored : Result ℕ Fault) → GroupEnds old new before pairs stored
-      → (page_state new).usable ≡ true → IsStoredGroup new before (take (stored_count stored) pairs)
+      → (page_state new).usable ≡ true → IsStoredGroup new before (take (result_unwrap_or stored 0) pairs)
   stored_group (Ok count) ends usable = record {
     done = ends.after;
     run = ends.run;
@@ -87,10 +82,20 @@ module _ {S : Type 0} (s : Ghosts S) (old new : Database S s) (before : Handle)
         (ends.survives was) (λ y some. (
           some.0,
           ⊎_elim (λ none. inl none)
-              (λ first. inr (first.1 ∙ same_pairs before.state.map (take ends.count pairs))) some.1,
+              (λ first. inr first.1) some.1,
           some.2,
         ));
   }
+
+-- a usable database for writing refuses a group only by a fault of the device
+pub by_device : {X : Type 0} (stored : Result ℕ Fault)
+    → IsErrAmong stored (Broken ∷ ReadOnly ∷ Device ∷ []) → stored ≢ Err Broken
+    → stored ≢ Err ReadOnly → (IsErrOf stored Device → X)
+    → IfErr stored (λ fault. (fault ≡ Device) × X)
+by_device (Ok count) only sound written cause = tt
+by_device (Err fault) (inl is) sound written cause = absurd (sound (ap Err is))
+by_device (Err fault) (inr (inl is)) sound written cause = absurd (written (ap Err is))
+by_device (Err fault) (inr (inr is)) sound written cause = (is, cause (ap Err is))
 
 -- a store that is as it was settles as it did
 pub same_settles : {S : Type 0} (s : Ghosts S) (old new : Database S s) (y : Settled)
@@ -181,7 +186,7 @@ module _ (first last : Handle) (calls : List Call) (group : List Pair) (replies 
       → (meta_kept new).limit ≡ (meta_kept old).limit
       → last.state.limit ≡ (meta_kept old).limit
       → LeavesOnly s.moment s.settled_since (store_of old) (store_of new)
-      (IsLeftByCalls first calls group (model.Grouped replies (stored_count stored)))
+      (IsLeftByCalls first calls group (model.Grouped replies (result_unwrap_or stored 0)))
   group_moments s old new (Ok count) ends was now kept limit =
       weaker s.moment s.settled_since (store_of old) (store_of new) _ _ (ends.survives was)
       (λ y some. ⊎_elim

@@ -1,5 +1,6 @@
 -- A session of the code as one of the definitions.
-use Rattle.std.specs.Prelude.{◌≡◌, ◌≢◌, ◌⊎◌, ℕ, ◌/◌, false, List, [], ◌++◌, map, take, length, vec_len, None, IfSome, Result, Ok, Err}
+use Rattle.std.specs.Prelude.{◌≡◌, ◌≢◌, ◌⊎◌, ℕ, ◌/◌, false, List, [], ◌++◌, map, take, length, vec_len, None, IfSome, Result}
+use Rattle.std.specs.Result.{result_unwrap_or}
 use Rattle.sect_dev.specs.Device.{Candidates, MoreFaults}
 use Rattle.sect_dev.specs.declared.device.SectorDev.{Ghosts}
 use Rattle.page_io.specs.Store.{Settled}
@@ -38,11 +39,6 @@ plan_of how calls group = record {
   group = map pair_of group;
 }
 
--- how many pairs of a group were stored
-abbrev pub stored_count : Result ℕ Fault → ℕ
-stored_count (Ok count) = count
-stored_count (Err fault) = 0
-
 -- how the database is opened: for writing, and also where one is there
 abbrev pub for_writing : Opening → OpenHow
 for_writing how = record {
@@ -57,8 +53,10 @@ for_writing how = record {
 abbrev pub ending_of : Ending → ℕ → model.Ending
 ending_of (NotOpened fault) count = model.NotOpened (fault_of fault)
 ending_of NoMemory count = model.Rested []
-ending_of (Rested replies stored) count = model.Grouped (map reply_of replies.items) stored
-ending_of (Unsettled replies stored) count = model.Grouped (map reply_of replies.items) stored
+ending_of (Rested replies stored) count =
+    model.Grouped (map reply_of replies.items) (result_unwrap_or stored 0)
+ending_of (Unsettled replies stored) count =
+    model.Grouped (map reply_of replies.items) (result_unwrap_or stored 0)
 ending_of (Broke replies) count = model.Broke (map reply_of replies.items)
 ending_of (BrokeGroup replies) count = model.BrokeGroup (map reply_of replies.items) count
 
@@ -84,6 +82,12 @@ IfRested ending P = Unit {0}
 abbrev pub IfUnsettled : Ending → Type 0 → Type 0
 IfUnsettled (Unsettled replies stored) P = P
 IfUnsettled ending P = Unit {0}
+
+-- how the group was stored, where the database was whole behind it
+abbrev pub IfGrouped : Ending → (Result ℕ Fault → Type 0) → Type 0
+IfGrouped (Rested replies stored) P = P stored
+IfGrouped (Unsettled replies stored) P = P stored
+IfGrouped ending P = Unit {0}
 
 -- all is on the disk, and no commit on its way
 abbrev pub IsSettled : {D : Type 0} → Ghosts D → D → Type 0

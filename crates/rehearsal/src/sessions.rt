@@ -1,5 +1,5 @@
 // A session on a device, from its opening to its end.
-ghost use Rattle.std.specs.Prelude.{◌≡◌, ◌≢◌, ◌⊎◌, ◌↔◌, ◌≤◌, ◌/◌, ℕ, None, true, map, Err, IfErr, OnOk};
+ghost use Rattle.std.specs.Prelude.{◌≡◌, ◌≢◌, ◌⊎◌, ◌↔◌, ◌≤◌, ◌/◌, ℕ, None, true, length, map, Err, IfOk, IfErr, OnOk};
 ghost use Rattle.sect_dev.specs.Device.{Image, IsImageOf, LeavesOnly, MoreFaults};
 ghost use Rattle.sect_dev.specs.Moments.{IsOutcome};
 ghost use Rattle.redo_commit.specs.File.{settled};
@@ -13,7 +13,7 @@ ghost use Rattle.dbm_file.specs.Calls.{call_of};
 ghost use Rattle.dbm_file.specs.Database.{page_state, IsAt};
 ghost use Rattle.dbm_file.specs.Opened.{device_below, AllHaveRoom};
 ghost use Rattle.rehearsal.specs.Members.{AllStandFor};
-ghost use Rattle.rehearsal.specs.Sessions.{plan_of, for_writing, ending_of, stored_count, IsOneEach, IfNotOpened, IfRested, IfUnsettled, IsSettled, WhyNotOpened, Leaves, IsLeftByStop, CallsLeave, IsLeftByCalls};
+ghost use Rattle.rehearsal.specs.Sessions.{plan_of, for_writing, ending_of, IsOneEach, IfNotOpened, IfRested, IfUnsettled, IfGrouped, IsSettled, WhyNotOpened, Leaves, IsLeftByStop, CallsLeave, IsLeftByCalls};
 
 use dbm_file::{Access, Call, Db, Fault, OpenHow, Pair, Reply, run};
 use sect_dev::SectorDev;
@@ -54,10 +54,11 @@ pub enum Ending {
     /// There was no memory for the replies. No call was made, and the database was closed.
     NoMemory,
     /// Each call was given its reply, so many pairs of the group, from the first one on, were
-    /// stored in one commit, and the database was closed. None are where the group was refused.
-    Rested(Vec<Reply>, usize),
+    /// stored in one commit, and the database was closed. None are where the group was refused by
+    /// a fault.
+    Rested(Vec<Reply>, Result<usize, Fault>),
     /// The same, but the closing failed by a fault of the device. What was done stands.
-    Unsettled(Vec<Reply>, usize),
+    Unsettled(Vec<Reply>, Result<usize, Fault>),
     /// Each call was given its reply, and a fault of the device broke the database in one of them.
     Broke(Vec<Reply>),
     /// Each call was given its reply, and a fault of the device broke the database in the commit of
@@ -89,6 +90,11 @@ pub fn session<D: SectorDev>(
         × LeavesOnly D.moment (IsOutcome D.left_since (settled (D.sectors dev / 4))) dev result.0
         (IsLeftByStop before (plan_of how calls.now group.now) (ending_of result.1 count)) }
     ensures one_each { IsOneEach calls.now result.1 }
+
+    // No more pairs of the group are stored than it has, and only a fault of the device refuses it.
+    ensures within { IfGrouped result.1 (λ stored. IfOk stored (λ n. n ≤ length group.now)) }
+    ensures group_refused { IfGrouped result.1 (λ stored. IfErr stored (λ fault.
+        (fault ≡ Fault.Device) × MoreFaults (D.faults dev) (D.faults result.0))) }
 
     // The opening is refused where what is asked, or what the device holds, is a reason, and by a
     // fault of the device.
@@ -142,6 +148,10 @@ fn make_calls<D: SectorDev>(alloc: Global, db: Db<D>, calls: &[Call], group: &[P
         (MoreFaults (D.faults (device_below db)) (D.faults result.0)) }
     ensures opened { IfNotOpened result.1 (λ fault. ⊥) }
     ensures one_each { IsOneEach calls.now result.1 }
+    ensures within { IfGrouped result.1 (λ stored. IfOk stored (λ n. n ≤ length group.now)) }
+    ensures group_refused { (page_state db).writable ≡ true
+        → IfGrouped result.1 (λ stored. IfErr stored (λ fault. (fault ≡ Fault.Device)
+        × MoreFaults (D.faults (device_below db)) (D.faults result.0))) }
     ensures honesty { D.honest result.0 ↔ D.honest (device_below db) }
     ensures size { D.sectors result.0 / 4 ≡ D.sectors (device_below db) / 4 }
 {
@@ -157,9 +167,9 @@ fn make_calls<D: SectorDev>(alloc: Global, db: Db<D>, calls: &[Call], group: &[P
 // How a session ended whose calls got these replies, and whose group was stored so.
 fn ended(stored: Result<usize, Fault>, closed: Result<(), Fault>, replies: Vec<Reply>) -> Ending
     ensures rested { stored ≢ Err Fault.Broken
-        → OnOk closed (result ≡ Ending.Rested replies (stored_count stored)) }
+        → OnOk closed (result ≡ Ending.Rested replies stored) }
     ensures failed { stored ≢ Err Fault.Broken → IfErr closed (λ fault. fault ≢ Fault.Broken
-        → result ≡ Ending.Unsettled replies (stored_count stored)) }
+        → result ≡ Ending.Unsettled replies stored) }
     ensures broke_group { stored ≢ Err Fault.Broken → closed ≡ Err Fault.Broken
         → result ≡ Ending.BrokeGroup replies }
     ensures broke { stored ≡ Err Fault.Broken → result ≡ Ending.Broke replies }
@@ -167,7 +177,7 @@ fn ended(stored: Result<usize, Fault>, closed: Result<(), Fault>, replies: Vec<R
     match (stored, closed) {
         (Err(Fault::Broken), _) => Ending::Broke(replies),
         (_, Err(Fault::Broken)) => Ending::BrokeGroup(replies),
-        (stored, Ok(())) => Ending::Rested(replies, stored.unwrap_or(0)),
-        (stored, Err(_)) => Ending::Unsettled(replies, stored.unwrap_or(0)),
+        (stored, Ok(())) => Ending::Rested(replies, stored),
+        (stored, Err(_)) => Ending::Unsettled(replies, stored),
     }
 }

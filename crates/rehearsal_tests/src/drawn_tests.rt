@@ -281,7 +281,7 @@ fn may_be_left(
 ) -> Result<bool, Fail> {
     let before = states.get(acknowledged);
     match ending {
-        Ending::Rested(_, count) | Ending::Unsettled(_, count) if *count > 0 => {
+        Ending::Rested(_, Ok(count)) | Ending::Unsettled(_, Ok(count)) if *count > 0 => {
             is_left_with(alloc, before, group, *count, found)
         }
         Ending::BrokeGroup(_) => {

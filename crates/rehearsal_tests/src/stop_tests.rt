@@ -248,11 +248,11 @@ fn group_stopped(alloc: Global, calls: u64, marks: &[bool]) -> Result<Option<Gro
     first.group = nine_pairs(alloc)?;
     let second = stage_of(alloc, 100, FETCHES, u64::MAX, &[])?;
     let endings = endings_of(alloc, first, second)?;
-    let [first, Ending::Rested(fetched, 0)] = endings.as_slice() else {
+    let [first, Ending::Rested(fetched, Ok(0))] = endings.as_slice() else {
         return Ok(None);
     };
     let acknowledged = match first {
-        Ending::Rested(_, stored) | Ending::Unsettled(_, stored) => *stored,
+        Ending::Rested(_, Ok(stored)) | Ending::Unsettled(_, Ok(stored)) => *stored,
         _ => 0,
     };
     let closed = matches!(first, Ending::Rested(..));

@@ -1,6 +1,8 @@
-use Rattle.std.proofs.Common.{◌≡◌, ◌≢◌, ◌/◌, ℕ, [], ◌∷◌, inl, ⊎_elim, map, refl, sym, ◌∙◌, ap, subst}
+use Rattle.std.proofs.Common.{◌≡◌, ◌≢◌, ◌≤◌, ◌/◌, ℕ, true, [], ◌∷◌, inl, ⊎_elim, length, map, Result, IfOk, IfErr, refl, sym, ◌∙◌, ap, subst, arith}
+use Rattle.std.proofs.lemmas.Bool.{false≢true}
 use Rattle.std.proofs.lemmas.List.Elements.{All-nil}
-use Rattle.sect_dev.specs.Device.{LeavesOnly}
+use Rattle.std.specs.Result.{result_unwrap_or}
+use Rattle.sect_dev.specs.Device.{LeavesOnly, MoreFaults}
 use Rattle.sect_dev.specs.Moments.{IsOutcome, followed_by, weaker}
 use Rattle.chain_walks.specs.Pairs.{pair_of}
 use Rattle.dbm_model.specs.Calls.{Reply, Refused, NoRoom}
@@ -15,16 +17,18 @@ use Rattle.dbm_sessions.proofs.Lists.{is_first}
 use Rattle.redo_commit.specs.File.{settled}
 use Rattle.redo_area.specs.Pagers.{device_of}
 use Rattle.page_cache.specs.Stores.{store_below}
+use Rattle.dbm_fault.specs.declared.fault.Fault.{Fault}
+use Rattle.dbm_fault.specs.declared.fault.Fault.TheVariants.{Device}
 use Rattle.dbm_file.specs.Calls.{call_of, reply_of}
 use Rattle.dbm_file.specs.Database.{meta_kept, page_state, IsAt}
 use Rattle.dbm_file.specs.Opened.{device_below}
 use Rattle.dbm_file.proofs.Closings.{lower, left_now}
 use Rattle.dbm_file.proofs.OpenedFiles.{stands_for}
 use Rattle.rehearsal.specs.Members.{StandsForOne, AllStandFor}
-use Rattle.rehearsal.specs.Sessions.{ending_of, stored_count, replies_in, CallsLeave, IsLeftByCalls}
+use Rattle.rehearsal.specs.Sessions.{ending_of, IsOneEach, IfGrouped, replies_in, CallsLeave, IsLeftByCalls}
 use Rattle.rehearsal.proofs.Moments.{left_within, left_unmade}
 use Rattle.rehearsal.proofs.Endings.{none_made, which_ending, by_ending, broke}
-use Rattle.rehearsal.proofs.Groups.{stored_group, broken_group, grouped, doubted, cut_short, doubted_one, left_in_group, left_grouped, group_moments, same_settles}
+use Rattle.rehearsal.proofs.Groups.{by_device, stored_group, broken_group, grouped, doubted, cut_short, doubted_one, left_in_group, left_grouped, group_moments, same_settles}
 use Rattle.rehearsal.proofs.sessions.make_calls.Goals as goal
 
 -- ---- no call was made
@@ -169,7 +173,7 @@ returns-clause-any_moment g c honest h at usable =
     (λ (e : Ending). LeavesOnly dev.moment (outcome pages) (device_below old) left (Left e))
     (λ was now.
     let one = stored_group _ mid new last group stored ends now in
-    let told = Grouped replies (stored_count stored) in
+    let told = Grouped replies (result_unwrap_or stored 0) in
     let shown = ap (λ (x : Handle). x.state.usable) one.is_at.shows ∙ now in
     followed_by dev.moment (outcome pages) (device_below old) (device_below new) left (Left told)
     (Left told)
@@ -185,7 +189,7 @@ returns-clause-any_moment g c honest h at usable =
     (more.keeps.goes.capacity ∙ goes.capacity)
     (weaker dev.moment (outcome (dev.sectors (device_below new) / 4)) (device_below new) left
     (Left told) _ (closed.any_moment then)
-    (λ y may. left_grouped h last calls group replies run.run (all ∙ was) (stored_count stored)
+    (λ y may. left_grouped h last calls group replies run.run (all ∙ was) (result_unwrap_or stored 0)
     one.done y one.run
     (subst (λ (m : Contents). ImageStandsFor y m one.done.state.limit) one.same.0
     (subst (λ (n : ℕ). ImageStandsFor y one.shown.state.map n) one.same.1
@@ -224,3 +228,48 @@ returns-clause-room g c honest h at room =
     c.ended.ensures.failed c.ended.ensures.broke_group c.ended.ensures.broke
     (λ e. (count : ℕ) → IsNeverShort (ending_of e count))
     (λ was now. (λ count. never, λ count. never)) (λ was now count. never) (λ broken count. never)
+
+-- one reply a call
+pub returns-clause-one_each : goal.returns-clause-one_each
+returns-clause-one_each g c =
+    let each = c.in-Ok.ensures.one_each in
+    which_ending (page_state c.run.new.db).usable (page_state c.store_many-stored.new.self).usable
+    c.store_many-stored.result c.close-dev.result.1 c.ended.result c.in-Ok.replies
+    c.store_many-stored.ensures.keeps.broken c.close-dev.ensures.broken c.ended.ensures.rested
+    c.ended.ensures.failed c.ended.ensures.broke_group c.ended.ensures.broke
+    (IsOneEach c.args.calls.now) (λ was now. (each, each)) (λ was now. each) (λ broken. each)
+
+-- ---- how the group was stored
+
+pub returns-clause-within : goal.returns-clause-within
+returns-clause-within g c =
+    let within = c.store_many-stored.ensures.within in
+    which_ending (page_state c.run.new.db).usable (page_state c.store_many-stored.new.self).usable
+    c.store_many-stored.result c.close-dev.result.1 c.ended.result c.in-Ok.replies
+    c.store_many-stored.ensures.keeps.broken c.close-dev.ensures.broken c.ended.ensures.rested
+    c.ended.ensures.failed c.ended.ensures.broke_group c.ended.ensures.broke
+    (λ e. IfGrouped e (λ (stored : Result ℕ Fault).
+    IfOk stored (λ n. n ≤ length c.args.group.now)))
+    (λ was now. (within, within)) (λ was now. tt) (λ broken. tt)
+
+pub returns-clause-group_refused : goal.returns-clause-group_refused
+returns-clause-group_refused g c writable =
+    let dev = g.D.SectorDev in
+    let old = device_below c.args.db in
+    let mid = c.run.new.db in
+    let left = c.close-dev.result.0 in
+    let more = c.store_many-stored.ensures in
+    let goes = c.in-Ok.ensures.goes in
+    let refused = λ (was : (page_state mid).usable ≡ true).
+    by_device c.store_many-stored.result more.only
+    (λ e. false≢true (sym (more.keeps.broken.0 e) ∙ was))
+    (λ e. false≢true (sym (more.read_only.0 e).1 ∙ (goes.writable ∙ writable)))
+    (λ device. let rises : MoreFaults (dev.faults old) (dev.faults left) =
+    omega (arith, goes.later, more.keeps.fault device, c.close-dev.ensures.later) in rises) in
+    which_ending (page_state mid).usable (page_state c.store_many-stored.new.self).usable
+    c.store_many-stored.result c.close-dev.result.1 c.ended.result c.in-Ok.replies
+    more.keeps.broken c.close-dev.ensures.broken c.ended.ensures.rested
+    c.ended.ensures.failed c.ended.ensures.broke_group c.ended.ensures.broke
+    (λ e. IfGrouped e (λ (stored : Result ℕ Fault). IfErr stored (λ fault. (fault ≡ Device)
+    × MoreFaults (dev.faults old) (dev.faults left))))
+    (λ was now. (refused was, refused was)) (λ was now. tt) (λ broken. tt)

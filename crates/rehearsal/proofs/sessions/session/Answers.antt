@@ -7,13 +7,13 @@ use Rattle.dbm_fault.specs.Faults.{fault_of}
 use Rattle.dbm_file.specs.Opened.{device_below}
 use Rattle.dbm_file.proofs.EnoughRoom.{room_at}
 use Rattle.redo_commit.specs.File.{settled}
-use Rattle.file_opening.specs.Opening.{early_fault, AllAllow, MayRemain}
+use Rattle.file_opening.specs.Opening.{writes, early_fault, AllAllow, MayRemain}
 use Rattle.file_opening.specs.declared.open_how.OpenHow.{OpenHow}
 use Rattle.rehearsal.specs.Members.{StandsForOne}
 use Rattle.rehearsal.specs.Sessions.{plan_of, opening_of, ending_of, IsLeftByStop, IsLeftByCalls}
 use Rattle.rehearsal.proofs.Moments.{left_in_opening, left_in_calls}
 use Rattle.rehearsal.proofs.Openings.{all_stand, remains, never_reads, begun}
-use Rattle.rehearsal.proofs.Endings.{step_of, none_refused}
+use Rattle.rehearsal.proofs.Endings.{step_of, none_refused, refused_since}
 use Rattle.rehearsal.proofs.Rooms.{not_short, are_maps}
 use Rattle.rehearsal.proofs.sessions.session.Goals as goal
 
@@ -151,3 +151,12 @@ returns-in-Err-clause-opens g c honest none stand allow =
     (subst (λ (asked : OpenHow). early_fault asked (dev.sectors old) ≡ None) (sym is) none) stand
     (subst (λ (asked : OpenHow). AllAllow asked (dev.sectors old) (dev.candidate old))
     (sym is) allow))
+
+pub returns-in-Ok-clause-group_refused : goal.returns-in-Ok-clause-group_refused
+returns-in-Ok-clause-group_refused g c =
+    let dev = g.D.SectorDev in
+    let asked = ap (λ (how : OpenHow). writes how.access) c.for_writing.ensures in
+    refused_since c.make_calls.result.1 (dev.faults c.args.dev)
+    (dev.faults (device_below c.in-Ok.db)) (dev.faults c.make_calls.result.0)
+    c.in-Ok.ensures.later
+    (c.make_calls.ensures.group_refused (c.in-Ok.ensures.fresh.writable ∙ asked))
