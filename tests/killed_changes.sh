@@ -59,6 +59,9 @@ may_be() {
 # worker: so many rounds on a database of its own
 worker() {
   local kinds=(stores deletes loads grouped) kind round group
+  # the latest moment of a kill, in milliseconds: later where nothing was done by then, since a change takes longer on
+  # another disk, and beside other work
+  local -A latest=([stores]=30 [deletes]=30 [loads]=30 [grouped]=30)
   set -m   # each round is a process group of its own, which is killed whole
   "$program" create t --limit 100000 || return 1
   : > map
@@ -68,7 +71,7 @@ worker() {
     for n in $(seq 1 40); do line "$round" "$n"; done > lines
     "$kind" "$round" 2> err &
     group=$!
-    sleep "0.$(printf '%03d' $((4 + round * 7 % 30)))"
+    sleep "0.$(printf '%03d' $((4 + round * 7 % latest[$kind])))"
     kill -9 -- -"$group" 2> /dev/null
     wait "$group" 2> /dev/null
     flock -x -w 20 t.db true || return 1   # till the program that was killed is gone, and its lock with it
@@ -76,6 +79,11 @@ worker() {
     may_be "$kind" "$round"
     cmp -s found one || cmp -s found two || { echo "round $round of $kind left another map"; return 1; }
     cmp -s found one || echo "$kind" >> more
+    if [ -s done ]; then
+      latest[$kind]=$((latest[$kind] > 30 ? latest[$kind] - 5 : 30))
+    else
+      latest[$kind]=$((latest[$kind] < 900 ? latest[$kind] + 5 : 900))
+    fi
     sed "s/^/$kind /" done >> acknowledged
     cp found map
   done
