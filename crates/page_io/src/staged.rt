@@ -13,6 +13,9 @@ use std::slice::from_ref;
 /// at most two pages where an older pair leaves, two where the pair goes, and the meta page.
 pub type StagedPages = SmallVec<Page, 5>;
 
+// Lists change places by three moves, each of the five places that a list has in itself.
+const MOST_COPIED: usize = 15;
+
 // The place of the first page whose number isn't below n, found by halves.
 fn place_of(staged: &[Page], n: u32) -> usize
     requires order { are_in_order 1 (2 ^ 32) (bytes_of staged.now) ≡ true }
@@ -95,15 +98,15 @@ pub fn put_staged(staged: &mut StagedPages, page: &Page) -> Result<(), AllocErro
     Ok(())
 }
 
-/// Hands all pages of `from` over to `to`, which has none. Few pages are copied, since a list of
-/// staged pages is longer than they are; many only change hands.
+/// Hands all pages of `from` over to `to`, which has none. Few pages are copied, where `to` has room
+/// for them; else the two lists change places.
 pub fn hand_over(from: &mut StagedPages, to: &mut StagedPages)
     requires { to.old.items ≡ [] }
     ensures given { to.new.items ≡ from.old.items }
     ensures none { from.new.items ≡ [] }
 {
-    let fit = from.len() <= to.capacity();
-    if fit && to.extend_from_slice(from.as_slice()).is_ok() {
+    let are_few = from.len() <= MOST_COPIED && from.len() <= to.capacity();
+    if are_few && to.extend_from_slice(from.as_slice()).is_ok() {
         from.clear();
     } else {
         swap(from, to);
