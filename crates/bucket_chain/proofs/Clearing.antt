@@ -1,9 +1,9 @@
 -- A chain whose overflow pages were given and whose head page was emptied.
-use Rattle.std.proofs.Common.{◌≡◌, ℕ, ◌+◌, ◌≤◌, ◌==◌, Bool, true, false, cond, List, [], ◌∷◌, ◌++◌, length, reverse, append-nil, refl, sym, ap, ◌∙◌, subst, arith}
+use Rattle.std.proofs.Common.{◌≡◌, ℕ, ◌+◌, ◌≤◌, ◌==◌, Bool, true, false, cond, List, [], ◌∷◌, ◌++◌, length, reverse, append-nil, ne_eqb, refl, sym, ap, ◌∙◌, subst, arith}
 use Rattle.std.proofs.lemmas.List.{length-append, length-reverse}
-use Rattle.std.proofs.lemmas.List.Sums.{sum_by-append}
+use Rattle.std.proofs.lemmas.List.Sums.{sum_by-append, sum_by-cons}
 use Rattle.dbm_model.specs.Pairs.{Pair}
-use Rattle.page_model.specs.Pages.{Body, HeadPage}
+use Rattle.page_model.specs.Pages.{Body, HeadPage, OverflowPage}
 use Rattle.page_model.specs.Chain.{Leaf, Chain, numbers}
 use Rattle.page_model.specs.Space.{Space, give, is_page, times_of}
 use Rattle.page_model.specs.PageBodies.{first_of, free_bodies, AreRead}
@@ -12,6 +12,7 @@ use Rattle.page_model.proofs.Spaces.{times_head}
 use Rattle.free_pages.specs.declared.free_state.FreeState.{FreeState}
 use Rattle.free_pages.specs.FreeList.{IsFreeList}
 use Rattle.chain_walks.specs.Links.{HaveDistinctKeys, SaysLink}
+use Rattle.chain_walks.specs.Chains.{AreLinked, number_or}
 use Rattle.chain_walks.specs.Walks.{IsReadToEnd}
 use Rattle.bucket_chain.specs.Giving.{IsFree, AreGiven}
 use Rattle.bucket_chain.specs.AnyFile.{IsEmptied}
@@ -19,7 +20,7 @@ use Rattle.bucket_chain.specs.Changes.{IsPlaced, IsCleared, store_in}
 use Rattle.chain_walks.proofs.Walks.{leaf_of, AreNumbered, one_next}
 use Rattle.chain_walks.proofs.KeyWalks.{none_later}
 use Rattle.bucket_chain.proofs.Rewriting.{free_kept, not_there, not_here}
-use Rattle.bucket_chain.proofs.Givings.{AreGivenIn, given_split, still_free, times_given}
+use Rattle.bucket_chain.proofs.Givings.{AreGivenIn, in_front_kept, given_split, still_free, times_given}
 
 -- all pages were given
 abbrev pub all_given : (old mid : ℕ → Body) (state state' : FreeState) (first n : ℕ)
@@ -35,6 +36,23 @@ was_read old mid state state' head first pairs link given = record {
   are_read = (refl, link.says ∙ ap (λ (n : ℕ). HeadPage n pairs) given.first_is, given.linked);
 }
 
+-- a head page is none of the overflow pages behind it
+head_is_none : (old : ℕ → Body) (head next n : ℕ) (pairs : List Pair) (pages : Chain)
+    → old head ≡ HeadPage next pairs → AreLinked old pages n → times_of head (numbers pages) ≡ 0
+head_is_none old head next n pairs [] says linked = refl
+head_is_none old head next n pairs (leaf ∷ pages) says linked =
+    let other : head ≡ leaf.number → ⊥ = λ same.
+    let over : old head ≡ OverflowPage (number_or pages n) leaf.pairs = ap old same ∙ linked.0 in
+    let both = sym says ∙ over in absurd (cc) in
+    let not_it : cond {A = ℕ} (leaf.number == head) 1 0 ≡ 0 =
+    ap (λ (b : Bool). cond b 1 0) (ne_eqb leaf.number head (λ same. other (sym same))) in
+    omega (
+      arith,
+      not_it,
+      sum_by-cons (λ (k : ℕ). cond (k == head) 1 0) leaf.number (numbers pages),
+      head_is_none old head next n pairs pages says linked.2,
+    )
+
 -- on any file: it was, its overflow pages were given, and its head page was emptied
 pub emptied : (old mid new : ℕ → Body) (before after : FreeState) (head first : ℕ)
     (pairs : List Pair) → SaysLink old head 3 first pairs → AreGiven old mid before after first 0
@@ -48,6 +66,13 @@ emptied old mid new before after head first pairs link given end here others = r
   empty = here;
   free = λ m other stands. subst IsFree (sym (others m other)) (given.given m stands);
   others = λ m other none. others m other ∙ given.others m none;
+  in_front = in_front_kept mid new before.head after.head (numbers given.pages)
+      (λ m stands. others m (λ same. omega (
+        arith,
+        head_is_none old head first 0 pairs given.pages link.says given.linked,
+        subst (λ (k : ℕ). 1 ≤ times_of k (numbers given.pages)) same stands,
+      ))) given.in_front;
+  more = given.more;
   end = end;
 }
 

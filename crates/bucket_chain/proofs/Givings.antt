@@ -16,7 +16,7 @@ use Rattle.free_pages.specs.declared.free_state.FreeState.{FreeState}
 use Rattle.free_pages.specs.FreeList.{IsFreeList, IsApart}
 use Rattle.chain_walks.specs.Links.{SaysLink}
 use Rattle.chain_walks.specs.Chains.{BeginsAt}
-use Rattle.bucket_chain.specs.Giving.{IsFree, AreGiven}
+use Rattle.bucket_chain.specs.Giving.{IsFree, AreInFront, AreGiven}
 use Rattle.bucket_chain.specs.Changes.{IsPlaced}
 use Rattle.chain_walks.proofs.Walks.{leaf_of, number_more, linked_more, IsSplit, begins_same, IsHere, walk_is_here}
 use Rattle.bucket_chain.proofs.Rewriting.{times_in}
@@ -37,10 +37,32 @@ giving_starts at state first = record {
     numbered = tt;
     given = λ m stands. absurd (omega arith);
     others = λ m none. refl;
+    in_front = refl;
+    more = omega arith;
     list = λ s list apart. list;
   };
   count = refl;
 }
+
+-- they stay in front while none of them is changed
+pub in_front_kept : (at at' : ℕ → Body) (old_head new_head : ℕ) (pages : List ℕ)
+    → ((n : ℕ) → 1 ≤ times_of n pages → at' n ≡ at n) → AreInFront at old_head pages new_head
+    → AreInFront at' old_head pages new_head
+in_front_kept at at' old_head new_head [] same are = are
+in_front_kept at at' old_head new_head (n ∷ pages) same are = (
+  same n (omega (arith, times_head n pages)) ∙ are.0,
+  in_front_kept at at' n new_head pages
+      (λ m stands. same m (omega (arith, stands, times_tail m n pages))) are.1,
+)
+
+-- and one more is put in front of them
+in_front_more : (at : ℕ → Body) (old_head new_head : ℕ) (pages : List ℕ) (n : ℕ)
+    → AreInFront at old_head pages new_head → at n ≡ FreePage new_head
+    → AreInFront at old_head (pages ++ n ∷ []) n
+in_front_more at old_head new_head [] n are free =
+    (subst (λ (k : ℕ). at n ≡ FreePage k) are free, refl)
+in_front_more at old_head new_head (m ∷ pages) n are free =
+    (are.0, in_front_more at m new_head pages n are.1 free)
 
 -- as many of each page in the free list and among those given
 pub times_given : (n : ℕ) (pages : List ℕ) (s : Space)
@@ -87,10 +109,11 @@ module _ (old mid new : ℕ → Body) (before after after' : FreeState) (first n
 
   -- the page is given too
   pub giving_goes_on : 1 ≤ n → new n ≡ FreePage after.head → ((m : ℕ) → (m ≡ n → ⊥) → new m ≡ mid m)
+      → after' ≡ record { head = n; count = after.count + 1; file_end = after.file_end }
       → ((s : Space) → IsFreeList mid after s → IsApart (n ∷ []) s
       → IsFreeList new after' (give (n ∷ []) s))
       → AreGivenIn old new before after' first next (step + 1)
-  giving_goes_on some free others list = record {
+  giving_goes_on some free others is list = record {
     are = record {
       pages = more;
       linked = linked_more old pages n next pairs so_far.are.linked
@@ -114,6 +137,23 @@ module _ (old mid new : ℕ → Body) (before after after' : FreeState) (first n
                 (omega (arith, times_head n [])),
           ) in
           others m other ∙ so_far.are.others m (omega (arith, none, counted m));
+      in_front = subst (AreInFront new before.head (numbers more))
+          (sym (ap (λ (f : FreeState). f.head) is))
+          (subst (λ (ns : List ℕ). AreInFront new before.head ns n)
+          (sym (numbers_more pages n pairs))
+          (in_front_more new before.head after.head (numbers pages) n
+          (in_front_kept mid new before.head after.head (numbers pages)
+          (λ m stands. others m (λ same. omega (
+            arith,
+            apart,
+            subst (λ (k : ℕ). 1 ≤ times_of k (numbers pages)) same stands,
+          ))) so_far.are.in_front) free));
+      more = omega (
+        arith,
+        so_far.are.more,
+        ap (λ (f : FreeState). f.count) is,
+        length-append pages (leaf_of n pairs ∷ []),
+      );
       list = λ s is stands.
           let own : (m : ℕ) → times_of m (numbers pages) + times_of m s.free
           ≤ cond (is_page m s.end) 1 0 = λ m. omega (arith, stands m, counted m) in

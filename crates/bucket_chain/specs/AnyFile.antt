@@ -11,7 +11,7 @@ use Rattle.slot_page.specs.Contents.{HasKeyAt}
 use Rattle.chain_walks.specs.Links.{link_body, SaysLink}
 use Rattle.chain_walks.specs.Chains.{BeginsAt, kind_behind}
 use Rattle.chain_walks.specs.Walks.{IsWalk, LacksKey, HasKey, IsFull, FitsOrEnds}
-use Rattle.bucket_chain.specs.Giving.{IsFree}
+use Rattle.bucket_chain.specs.Giving.{IsFree, AreInFront}
 
 -- the pair fits the page, which now says it behind its own; no other page was changed
 pub record IsAddedTo (old new : ℕ → Body) (pair : Pair) (passed : Chain) (leaf : Leaf)
@@ -75,8 +75,8 @@ pub record IsTakenOut (old new : ℕ → Body) (before after : FreeState) (head 
   pub out : (IsTakenFrom old new key walk.before walk.leaf walk.after × (after ≡ before))
       ⊎ IsTakenWith old new before after walk.before walk.leaf walk.after
 
--- the chain was read to its end, its overflow pages are free, and its head page has no pair; no
--- other page was changed
+-- the chain was read to its end, its overflow pages are in front of the free list, and its head page
+-- has no pair; no other page was changed
 pub record IsEmptied (old new : ℕ → Body) (before after : FreeState) (head : ℕ) : Type 0 where
   pub leaf : Leaf
   pub overflow : Chain
@@ -84,6 +84,8 @@ pub record IsEmptied (old new : ℕ → Body) (before after : FreeState) (head :
   pub empty : new head ≡ HeadPage 0 []
   pub free : (m : ℕ) → m ≢ head → 1 ≤ times_of m (numbers overflow) → IsFree (new m)
   pub others : (m : ℕ) → m ≢ head → times_of m (numbers overflow) ≡ 0 → new m ≡ old m
+  pub in_front : AreInFront new before.head (numbers overflow) after.head
+  pub more : after.count ≡ before.count + length overflow
   pub end : after.file_end ≡ before.file_end
 
 -- one change after another

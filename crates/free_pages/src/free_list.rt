@@ -87,6 +87,11 @@ pub fn take<S: PageStore>(store: &mut S, space: &mut FreeState) -> Result<u32, P
     ensures whole { S.honest store.old → (s : Space)
         → IsFreeList (body_at S.PageStore store.old) space.old s → IsApart [] s
         → IsErrOf result Damaged → ⊥ }
+
+    // It is never Damaged either where only pages behind the first free one are.
+    ensures readable { S.honest store.old → (n : ℕ) (rest : FreeState) → 1 ≤ n
+        → IsTaken (body_at S.PageStore store.old) space.old n rest
+        → IsErrOf result Damaged → ⊥ }
 {
     if (space.head == 0) != (space.count == 0) {
         return Err(PageFault::Damaged);

@@ -56,7 +56,7 @@ loop-step-preserved g c =
           (c.loop-step.invariant.given honest) (c.in_ok-next.ensures.says h1)
           c.in_ok-next.ensures.known.0 (c.in_ok-give.ensures.free h2)
           (λ m other. c.in_ok-give.ensures.others h2 m other ∙ ap (λ (f : ℕ → Body). f m) same)
-          (λ s is apart. c.in_ok-give.ensures.exact h2 s
+          ok (λ s is apart. c.in_ok-give.ensures.exact h2 s
           (subst (λ (f : ℕ → Body). IsFreeList f c.loop-step.space s) (sym same) is) apart);
     }
 
