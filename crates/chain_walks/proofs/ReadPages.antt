@@ -18,7 +18,7 @@ use Rattle.chain_walks.specs.Links.{SaysLink}
 
 -- before the first call; `only` is the store's law `only_now`
 pub reads_none : {S : Type 0} (s : Ghosts S) (store : S)
-    → ((y : Settled) → s.honest store → s.settled_since store (s.moment store) y
+    → ((y : Settled) → s.honest store → s.settled_since store (s.moment store).at y
     → s.settles_to store y) → ReadsOnly s store store
 reads_none s store only = record {
   same = refl;
@@ -31,6 +31,7 @@ reads_none s store only = record {
       any_moment =
           record {
             later = omega arith;
+            until = omega arith;
             each = λ y left. only y h left;
             before =
                 λ t y le left. inl left;

@@ -16,7 +16,7 @@ use Rattle.dbm_file.specs.declared.database.Database.{Database}
 
 -- an image that a stop may leave now counts among those since any moment before
 abbrev pub CountsNow : {S : Type 0} {s : Ghosts S} → Database S s → Type 0
-CountsNow {S} {s} db = (t : ℕ) (x : Settled) → t ≤ s.moment (store_of db)
+CountsNow {S} {s} db = (t : ℕ) (x : Settled) → t ≤ (s.moment (store_of db)).at
     → s.settles_to (store_of db) x → s.settled_since (store_of db) t x
 
 -- what a stop may leave of a call that broke its handle
@@ -69,7 +69,7 @@ module _ {S : Type 0} (s : Ghosts S) (old mid new : Database S s) (start held : 
     rest = refl;
     in_doubt = λ x left.
         let within = step.survives was in
-        let is = within.each x (counts (s.moment (store_of mid)) x within.later left) in (
+        let is = within.each x (counts (s.moment (store_of mid)).at x within.later left) in (
           is.0,
           doubted held step.after call reply is.0 step.step usable broken is.1,
           subst (λ (n : ℕ). ImageStandsFor x is.0 n) (sym limit) is.2,

@@ -1,5 +1,5 @@
 -- Calls that change the file, as steps.
-use Rattle.std.proofs.Common.{◌≡◌, ◌⊎◌, inl, inr, ⊎_elim, ℕ, ◌+◌, ◌*◌, ◌<◌, ◌≤◌, true, false, cond, Option, Some, None, is_some, Result, Ok, Err, OnOk, OnErr, refl, sym, ◌∙◌, ap, subst, arith}
+use Rattle.std.proofs.Common.{◌≡◌, ◌⊎◌, inl, inr, ⊎_elim, ℕ, ◌+◌, ◌*◌, ◌<◌, ◌≤◌, true, false, cond, Option, Some, is_some, Result, Ok, Err, refl, sym, ◌∙◌, ap, subst, arith}
 use Rattle.std.specs.Prelude.{IsErrAnd}
 use Rattle.std.specs.FinMap.{len}
 use Rattle.std.specs.Option.{option_map}
@@ -179,7 +179,7 @@ module _ {S : Type 0} (s : Ghosts S) {old mid : Database S s} {map changed : Con
     module _ (e : PageFault) (ended : IsDone s mid new (Err e)) {most : ℕ}
         (turns : ChangesMap s (store_of mid) (store_of new) (meta_kept mid) (meta_kept new) map
         changed most (Err e))
-        (counts : (t : ℕ) (x : Settled) → t ≤ s.moment (store_of new)
+        (counts : (t : ℕ) (x : Settled) → t ≤ (s.moment (store_of new)).at
         → s.settles_to (store_of new) x → s.settled_since (store_of new) t x) where
       abbrev after : Handle
       after = handle_of (with_fault new (fault_from e)) map
@@ -268,7 +268,7 @@ module _ {S : Type 0} (s : Ghosts S) {old mid : Database S s} {map changed : Con
         rests_on is x left =
             let run = turns.unchanged is in
             subst (λ (n : ℕ). ImageStandsFor x map n) (sym ended.ends.limit)
-            (run.each x (counts (s.moment (store_of mid)) x run.later left))
+            (run.each x (counts (s.moment (store_of mid)).at x run.later left))
 
         unchanged_step : IsStep old (with_fault new (fault_from e)) before call reply
         unchanged_step = record {

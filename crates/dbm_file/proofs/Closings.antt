@@ -25,7 +25,8 @@ lower dev below old new P Q same run weaker =
     subst (λ (n : ℕ). IsOutcome dev.left_since (settled n) (below new) t y) (sym same) is in
     record {
       later = run.later;
-      each = λ y is. weaker y (run.each y (at_own (dev.moment (below old)) y is));
+      until = run.until;
+      each = λ y is. weaker y (run.each y (at_own (dev.moment (below old)).at y is));
       before = λ t y le is. ⊎_elim (λ past. inl past) (λ p. inr (weaker y p))
           (run.before t y le (at_own t y is));
     }
@@ -34,7 +35,7 @@ lower dev below old new P Q same run weaker =
 pub left_now : {D : Type 0} (dev : device.Ghosts D) (old new : D) (P : Settled → Type 0)
     (image : Image) → dev.sectors new / 4 ≡ dev.sectors old / 4
     → LeavesOnly dev.moment (IsOutcome dev.left_since (settled (dev.sectors old / 4))) old new P
-    → (dev.moment old ≤ dev.moment new → dev.left_since new (dev.moment old) image)
+    → ((dev.moment old).at ≤ (dev.moment new).at → dev.left_since new (dev.moment old).at image)
     → P (settled (dev.sectors new / 4) image)
 left_now dev old new P image same run counts =
     subst (λ (n : ℕ). P (settled n image)) (sym same)

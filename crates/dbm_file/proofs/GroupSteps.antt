@@ -181,7 +181,7 @@ module _ {G : Type 0} {g : Ghosts G} (old new : Database G g) where
 
 -- reads one after another; `counts` is the store's law `counts_now`
 pub read_on : {S : Type 0} (s : Ghosts S) (old mid new : Database S s)
-    → ((t : ℕ) (y : Settled) → s.honest (store_of mid) → t ≤ s.moment (store_of mid)
+    → ((t : ℕ) (y : Settled) → s.honest (store_of mid) → t ≤ (s.moment (store_of mid)).at
     → s.settles_to (store_of mid) y → s.settled_since (store_of mid) t y)
     → IsRead old mid → IsRead mid new → IsRead old new
 read_on s old mid new counts first second = record {

@@ -266,7 +266,7 @@ lent_key bytes slot pair read = ap (λ (p : Pair). model.Bytes p.0) (read ([], [
 
 -- what needs no page: the error number is told, or cleared
 module _ {S : Type 0} (s : Ghosts S) (old : Database S s) (h : Handle) (at : IsAt old h)
-    (now : (x : Settled) → s.settled_since (store_of old) (s.moment (store_of old)) x
+    (now : (x : Settled) → s.settled_since (store_of old) (s.moment (store_of old)).at x
     → s.settles_to (store_of old) x) where
   -- no device call is made
   stays : (Left : Contents → Type 0) → Left h.state.map → (page_state old).usable ≡ true
@@ -391,7 +391,7 @@ was_not_begun (Behind last) test exact is =
 pub no_pass_lends : {S : Type 0} (s : Ghosts S) (db : Database S s) → pass_of db ≡ NotBegun
     → (page_state db).usable ≡ true
     → ((y : Settled) → s.honest (store_of db)
-    → s.settled_since (store_of db) (s.moment (store_of db)) y → s.settles_to (store_of db) y)
+    → s.settled_since (store_of db) (s.moment (store_of db)).at y → s.settles_to (store_of db) y)
     → Lends model.Next (lent_reply model.End) db (Err NoPass) (with_fault db NoPass)
 no_pass_lends s db off usable now = record {
   step = λ honest h at.

@@ -12,7 +12,7 @@ use Rattle.dbm_model.specs.Pairs.{Contents}
 use Rattle.dbm_model.specs.States.{State, Pass, Handle, first_fault, flagged}
 use Rattle.dbm_model.specs.Steps.{Case, Refuses, Declines, Finds, case_of, Answers, Suffers, Fails, growth, buckets_opened, Step}
 use Rattle.page_model.specs.Meaning.{said_by}
-use Rattle.page_io.specs.Store.{Pages, Settled, file_of, page_of}
+use Rattle.page_io.specs.Store.{Pages, Settled, page_of}
 use Rattle.page_io.specs.Store as store
 use Rattle.page_io.specs.Meaning.{FileStandsFor, ImageStandsFor}
 use Rattle.page_io.specs.Views.{ReadsOnly}
@@ -80,7 +80,7 @@ from_own {S} {s} {old} {new} {h} {call} {reply} at step =
 -- with no call of the store; `only` is its law `only_now`
 pub no_read : {S : Type 0} (s : Ghosts S) (db : Database S s)
     → ((y : Settled) → s.honest (store_of db)
-    → s.settled_since (store_of db) (s.moment (store_of db)) y → s.settles_to (store_of db) y)
+    → s.settled_since (store_of db) (s.moment (store_of db)).at y → s.settles_to (store_of db) y)
     → IsRead db db
 no_read s db only = record {
   reads = reads_none s (store_of db) only;

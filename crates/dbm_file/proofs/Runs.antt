@@ -89,7 +89,7 @@ module _ (call : Call) (reply : Reply) where
 
 -- no call made
 pub no_run : {S : Type 0} (s : Ghosts S) (db : Database S s) (h : Handle) → IsAt db h
-    → ((x : Settled) → s.settled_since (store_of db) (s.moment (store_of db)) x
+    → ((x : Settled) → s.settled_since (store_of db) (s.moment (store_of db)).at x
     → s.settles_to (store_of db) x)
     → IsRun db db h [] []
 no_run s db h at now = record {

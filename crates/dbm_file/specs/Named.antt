@@ -23,7 +23,7 @@ pub record OpensFile {D : Type 0} {bound : device.Ghosts D} {p : store.Ghosts (P
     {s : store.Ghosts (CachedPages (Pager D bound) p)} (how : OpenHow)
     (db : Database (CachedPages (Pager D bound) p) s) : Type 0 where
   pub first : D
-  pub begins : bound.moment first ≡ 0
+  pub begins : (bound.moment first).at ≡ 0
   pub size : bound.sectors first ≡ 9001992
   pub stands : bound.honest first
       → (writes how.access ≡ false → IsStable (bound.candidate first) (bound.seen first))
@@ -40,7 +40,7 @@ pub record OpensFile {D : Type 0} {bound : device.Ghosts D} {p : store.Ghosts (P
 pub record RefusesFile {D : Type 0} (bound : device.Ghosts D) (how : OpenHow)
     (fault : Fault) : Type 0 where
   pub first : D
-  pub begins : bound.moment first ≡ 0
+  pub begins : (bound.moment first).at ≡ 0
   pub size : bound.sectors first ≡ 9001992
   pub left : D
   pub refused : bound.honest first

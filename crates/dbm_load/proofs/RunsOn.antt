@@ -135,7 +135,7 @@ told_so s old new h calls calls' replies replies' c r run = record {
 
 -- no call made
 pub no_calls : {S : Type 0} (s : Ghosts S) (db : Database S s) (h : Handle) → IsAt db h
-    → ((x : Settled) → s.settled_since (store_of db) (s.moment (store_of db)) x
+    → ((x : Settled) → s.settled_since (store_of db) (s.moment (store_of db)).at x
     → s.settles_to (store_of db) x) → (run : IsRun db db h [] []) × (run.after ≡ h)
 no_calls s db h at now = (none, refl)
   where
@@ -146,6 +146,7 @@ no_calls s db h at now = (none, refl)
       is_at = at;
       survives = λ usable. record {
         later = omega arith;
+        until = omega arith;
         each = λ x left. (h.state.map, (refl, refl), at.rests usable x (now x left));
         before = λ t x le left. inl left;
       };

@@ -24,7 +24,7 @@ use Rattle.dbm_load.proofs.RunsOn.{no_calls, runs_as}
 -- since this moment there is no other
 abbrev pub OnlyNow : {S : Type 0} {s : Ghosts S} → Database S s → Type 0
 OnlyNow {S} {s} db = (x : Settled) → s.honest (store_of db)
-    → s.settled_since (store_of db) (s.moment (store_of db)) x → s.settles_to (store_of db) x
+    → s.settled_since (store_of db) (s.moment (store_of db)).at x → s.settles_to (store_of db) x
 
 -- an image that a stop may leave of an honest store counts
 abbrev pub Counts : {S : Type 0} {s : Ghosts S} → Database S s → Type 0

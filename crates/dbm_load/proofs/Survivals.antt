@@ -13,6 +13,7 @@ pub survives_among : {S : Type 0} (s : Ghosts S) (old new : Database S s) (P Q :
     → Survives old new Q → ((map : Contents) → Q map → P map) → Survives old new P
 survives_among s old new P Q run more = record {
   later = run.later;
+  until = run.until;
   each = λ x left. let is = run.each x left in (is.0, more is.0 is.1, is.2);
   before = λ t x le left. ⊎_elim (λ past. inl past) (λ is. inr (is.0, more is.0 is.1, is.2))
       (run.before t x le left);
@@ -25,8 +26,9 @@ pub survives_then : {S : Type 0} (s : Ghosts S) (old mid new : Database S s)
     → Survives old new P
 survives_then s old mid new P Q first second limit more = record {
   later = omega (arith, first.later, second.later);
+  until = omega (arith, first.until, second.until);
   each = λ x left. ⊎_elim (λ past. first.each x past) (λ is. now x is)
-      (second.before (s.moment (store_of old)) x first.later left);
+      (second.before (s.moment (store_of old)).at x first.later left);
   before = λ t x le left. ⊎_elim (λ past. first.before t x le past) (λ is. inr (now x is))
       (second.before t x (omega (arith, le, first.later)) left);
 }
@@ -41,9 +43,11 @@ pub survives_still : {S : Type 0} (s : Ghosts S) (old mid new : Database S s)
     (P : Contents → Type 0) → Survives old mid P → store_of new ≡ store_of mid
     → Survives old new P
 survives_still {S} s old mid new P run still = record {
-  later = subst (λ (d : S). s.moment (store_of old) ≤ s.moment d) (sym still) run.later;
+  later = subst (λ (d : S). (s.moment (store_of old)).at ≤ (s.moment d).at) (sym still) run.later;
+  until = subst (λ (d : S). (s.moment d).until ≤ (s.moment (store_of old)).until) (sym still)
+      run.until;
   each = λ x left. run.each x
-      (subst (λ (d : S). s.settled_since d (s.moment (store_of old)) x) still left);
+      (subst (λ (d : S). s.settled_since d (s.moment (store_of old)).at x) still left);
   before = λ t x le left. run.before t x le
       (subst (λ (d : S). s.settled_since d t x) still left);
 }

@@ -36,9 +36,9 @@ module _ {S : Type 0} (s : Ghosts S) (old mid : S) (reads : ReadsOnly s old mid)
 
 -- two reads, of which the second is of one page
 pub read_then : {S : Type 0} (s : Ghosts S) (old mid new : S)
-    → ((t : ℕ) (y : Settled) → s.honest mid → t ≤ s.moment mid → s.settles_to mid y
+    → ((t : ℕ) (y : Settled) → s.honest mid → t ≤ (s.moment mid).at → s.settles_to mid y
     → s.settled_since mid t y)
-    → ((t : ℕ) (y : Settled) → s.honest new → t ≤ s.moment new → s.settles_to new y
+    → ((t : ℕ) (y : Settled) → s.honest new → t ≤ (s.moment new).at → s.settles_to new y
     → s.settled_since new t y) → ReadsOnly s old mid
     → s.state new ≡ s.state mid → (s.honest new ↔ s.honest mid) → s.faults mid ≤ s.faults new
     → (s.honest mid → KeepsPages s.committed s.moment s.settled_since s.settles_to mid new)

@@ -2,7 +2,7 @@
 use Rattle.std.proofs.Common.{◌≡◌, ◌≢◌, ◌∙◌, inl, inr, ⊎_elim, ◌⊎◌, ℕ, ◌/◌, [], ◌∷◌, map, Result, Ok, Err, IfOk, sym, ap, subst, refl}
 use Rattle.std.specs.Prelude.{IsOkAnd}
 use Rattle.std.specs.FinMap.{empty}
-use Rattle.sect_dev.specs.Device.{Image, Candidates, IsImageOf, LeavesOnly, NoNewCandidate}
+use Rattle.sect_dev.specs.Device.{Image, Candidates, IsImageOf, LeavesOnly, NoNewCandidate, Moment}
 use Rattle.sect_dev.specs.Moments.{IsOutcome, followed_by, weaker, started, lifted}
 use Rattle.sect_dev.specs.declared.device.SectorDev as device
 use Rattle.page_model.specs.Pages.{Meta, MetaPage}
@@ -80,17 +80,17 @@ module _ {S : Type 0} (s : Ghosts S) (old mid new : S) (m : Meta) (pages : Pages
 -- ---- what is read of a device, as it settles
 
 -- a run of a device, seen as what it leaves settles
-pub settles_run : {D : Type 0} (moment : D → ℕ) (left_since : D → ℕ → Image → Type 0) (old new : D)
-    (cap : ℕ) (P : Settled → Type 0)
+pub settles_run : {D : Type 0} (moment : D → Moment) (left_since : D → ℕ → Image → Type 0)
+    (old new : D) (cap : ℕ) (P : Settled → Type 0)
     → LeavesOnly moment left_since old new (λ image. P (settled cap image))
     → LeavesOnly moment (IsOutcome left_since (settled cap)) old new P
 settles_run {D} moment left_since old new cap P run =
     lifted moment left_since (λ (d : D). d) (λ (d : D). settled cap) old new P refl run
 
 -- with no call: `now` is the device's law `only_now`
-pub settles_still : {D : Type 0} (moment : D → ℕ) (left_since : D → ℕ → Image → Type 0)
+pub settles_still : {D : Type 0} (moment : D → Moment) (left_since : D → ℕ → Image → Type 0)
     (candidate : D → Candidates) (d : D) (cap : ℕ) (P : Settled → Type 0)
-    → ((image : Image) → left_since d (moment d) image → IsImageOf (candidate d) image)
+    → ((image : Image) → left_since d (moment d).at image → IsImageOf (candidate d) image)
     → ((y : Settled) → SettlesTo cap (candidate d) y → P y)
     → LeavesOnly moment (IsOutcome left_since (settled cap)) d d P
 settles_still moment left_since candidate d cap P now holds =
@@ -111,7 +111,7 @@ settles_before cap cap' old new y same fewer s =
     }
 
 -- one run after another, seen so
-pub settles_on : {D : Type 0} (moment : D → ℕ) (left_since : D → ℕ → Image → Type 0)
+pub settles_on : {D : Type 0} (moment : D → Moment) (left_since : D → ℕ → Image → Type 0)
     (old mid new : D) (cap cap' : ℕ) (P Q : Settled → Type 0) → cap' ≡ cap
     → LeavesOnly moment (IsOutcome left_since (settled cap)) old mid P
     → LeavesOnly moment (IsOutcome left_since (settled cap')) mid new Q
@@ -124,7 +124,8 @@ settles_on moment left_since old mid new cap cap' P Q same first second implies 
 
 -- no device call is made
 pub reads_nothing : {D : Type 0} (dev : device.Ghosts D) (d : D)
-    → ((image : Image) → dev.left_since d (dev.moment d) image → IsImageOf (dev.candidate d) image)
+    → ((image : Image) → dev.left_since d (dev.moment d).at image
+    → IsImageOf (dev.candidate d) image)
     → OnlyReads dev d d
 reads_nothing dev d now = record {
   seen = refl;
@@ -171,15 +172,16 @@ still_capacity old new e (inl same) = ap (λ (st : StoreState). st.capacity) sam
 still_capacity old new e (inr broke) = ap (λ (st : StoreState). st.capacity) broke.1
 
 -- a run of a store over a device, as one of the device
-pub below_run : {S D : Type 0} (moment : D → ℕ) (left_since : D → ℕ → Image → Type 0)
+pub below_run : {S D : Type 0} (moment : D → Moment) (left_since : D → ℕ → Image → Type 0)
     (below : S → D) (cap : S → ℕ) (old new : S) (P : Settled → Type 0) → cap new ≡ cap old
     → LeavesOnly (λ s. moment (below s)) (λ s. IsOutcome left_since (settled (cap s)) (below s)) old
     new P → LeavesOnly moment (IsOutcome left_since (settled (cap old)))
     (below old) (below new) P
 below_run moment left_since below cap old new P same run = record {
   later = run.later;
+  until = run.until;
   each = λ y left. run.each y (subst
-      (λ (n : ℕ). IsOutcome left_since (settled n) (below new) (moment (below old)) y)
+      (λ (n : ℕ). IsOutcome left_since (settled n) (below new) (moment (below old)).at y)
       (sym same) left);
   before = λ t y le left. run.before t y le
       (subst (λ (n : ℕ). IsOutcome left_since (settled n) (below new) t y) (sym same) left);

@@ -15,7 +15,7 @@ use Rattle.page_group.proofs.Putting.{order_all_below}
 
 -- before the first page. `only` is the store's law `only_now`
 pub none_yet : {S : Type 0} (s : Ghosts S) (store : S)
-    → ((y : Settled) → s.honest store → s.settled_since store (s.moment store) y
+    → ((y : Settled) → s.honest store → s.settled_since store (s.moment store).at y
     → s.settles_to store y)
     → StagesOnly s store store
 none_yet s store only = record {
@@ -26,6 +26,7 @@ none_yet s store only = record {
     committed = refl;
     any_moment = record {
       later = omega arith;
+      until = omega arith;
       each = λ y since. only y h since;
       before = λ t y le since. inl since;
     };

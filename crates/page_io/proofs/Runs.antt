@@ -1,15 +1,15 @@
 -- Runs of calls of a store, for its callers.
 use Rattle.std.proofs.Common.{◌≡◌, ◌≤◌, ℕ, inl, inr, ⊎_elim, ◌∙◌, ap}
-use Rattle.sect_dev.specs.Device.{LeavesOnly}
+use Rattle.sect_dev.specs.Device.{Moment, LeavesOnly}
 use Rattle.sect_dev.specs.Moments.{followed_by, weaker}
 use Rattle.page_io.specs.Store.{Pages, Settled, file_of, IsEither}
 use Rattle.page_io.specs.Kept.{KeepsPages}
 
-module _ {S : Type 0} (committed : S → Pages) (moment : S → ℕ)
+module _ {S : Type 0} (committed : S → Pages) (moment : S → Moment)
     (settled_since : S → ℕ → Settled → Type 0) (settles_to : S → Settled → Type 0) where
   -- Two calls that keep the pages keep them together. `counts` is the store's law `counts_now`.
   pub kept_twice : (old mid new : S)
-      → ((t : ℕ) (y : Settled) → t ≤ moment mid → settles_to mid y → settled_since mid t y)
+      → ((t : ℕ) (y : Settled) → t ≤ (moment mid).at → settles_to mid y → settled_since mid t y)
       → KeepsPages committed moment settled_since settles_to old mid
       → KeepsPages committed moment settled_since settles_to mid new
       → KeepsPages committed moment settled_since settles_to old new
@@ -17,7 +17,7 @@ module _ {S : Type 0} (committed : S → Pages) (moment : S → ℕ)
     committed = second.committed ∙ first.committed;
     any_moment = followed_by moment settled_since old mid new (settles_to old) (settles_to mid)
         first.any_moment second.any_moment
-        (λ y is. first.any_moment.each y (counts (moment old) y first.any_moment.later is));
+        (λ y is. first.any_moment.each y (counts (moment old).at y first.any_moment.later is));
   }
 
   -- Where only the committed pages may be left, such calls leave those. `only` is the law

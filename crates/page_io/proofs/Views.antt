@@ -17,18 +17,18 @@ use Rattle.page_io.proofs.Exits.{both_ways}
 
 module _ {S : Type 0} (s : Ghosts S) where
   -- `counts` is the store's law `counts_now`
-  now_from : (old new : S) → ((t : ℕ) (y : Settled) → s.honest new → t ≤ s.moment new
+  now_from : (old new : S) → ((t : ℕ) (y : Settled) → s.honest new → t ≤ (s.moment new).at
       → s.settles_to new y → s.settled_since new t y)
       → (s.honest new ↔ s.honest old)
       → (s.honest old → KeepsPages s.committed s.moment s.settled_since s.settles_to old new)
       → s.honest old → (y : Settled) → s.settles_to new y → s.settles_to old y
   now_from old new counts honesty kept h y is =
       let run = (kept h).any_moment in
-      run.each y (counts (s.moment old) y (honesty.1 h) run.later is)
+      run.each y (counts (s.moment old).at y (honesty.1 h) run.later is)
 
   -- what a read does
   pub after_read : (old new : S)
-      → ((t : ℕ) (y : Settled) → s.honest new → t ≤ s.moment new → s.settles_to new y
+      → ((t : ℕ) (y : Settled) → s.honest new → t ≤ (s.moment new).at → s.settles_to new y
       → s.settled_since new t y)
       → s.state new ≡ s.state old → (s.honest new ↔ s.honest old) → s.faults old ≤ s.faults new
       → (s.honest old → KeepsPages s.committed s.moment s.settled_since s.settles_to old new)
@@ -47,7 +47,7 @@ module _ {S : Type 0} (s : Ghosts S) where
 
   -- two calls that stage pages at most
   pub stages_then : (old mid new : S)
-      → ((t : ℕ) (y : Settled) → s.honest mid → t ≤ s.moment mid → s.settles_to mid y
+      → ((t : ℕ) (y : Settled) → s.honest mid → t ≤ (s.moment mid).at → s.settles_to mid y
       → s.settled_since mid t y)
       → StagesOnly s old mid → StagesOnly s mid new → StagesOnly s old new
   stages_then old mid new counts first second = record {
@@ -63,7 +63,7 @@ module _ {S : Type 0} (s : Ghosts S) where
 
   -- two that read pages at most
   pub reads_then : (old mid new : S)
-      → ((t : ℕ) (y : Settled) → s.honest mid → t ≤ s.moment mid → s.settles_to mid y
+      → ((t : ℕ) (y : Settled) → s.honest mid → t ≤ (s.moment mid).at → s.settles_to mid y
       → s.settled_since mid t y)
       → ReadsOnly s old mid → ReadsOnly s mid new → ReadsOnly s old new
   reads_then old mid new counts first second = record {
@@ -73,7 +73,7 @@ module _ {S : Type 0} (s : Ghosts S) where
 
   -- what a stage does
   pub after_stage : {T : Type 0} (old new : S) (bytes : List ℕ) (result : Result T PageFault)
-      → ((t : ℕ) (y : Settled) → s.honest new → t ≤ s.moment new → s.settles_to new y
+      → ((t : ℕ) (y : Settled) → s.honest new → t ≤ (s.moment new).at → s.settles_to new y
       → s.settled_since new t y)
       → OnOk result (s.state new ≡ record (s.state old) {
         staged =

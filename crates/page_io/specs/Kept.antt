@@ -1,10 +1,10 @@
 -- What a call that changes no committed page keeps.
 use Rattle.std.specs.Prelude.{◌≡◌, ℕ}
-use Rattle.sect_dev.specs.Device.{LeavesOnly}
+use Rattle.sect_dev.specs.Device.{Moment, LeavesOnly}
 use Rattle.page_io.specs.Store.{Pages, Settled}
 
 -- the committed pages stay, and at every moment a stop leaves what one could leave before
-pub record KeepsPages {S : Type 0} (pages : S → Pages) (moment : S → ℕ)
+pub record KeepsPages {S : Type 0} (pages : S → Pages) (moment : S → Moment)
     (settled_since : S → ℕ → Settled → Type 0) (settles_to : S → Settled → Type 0)
     (old new : S) : Type 0 where
   pub committed : pages new ≡ pages old

@@ -68,6 +68,7 @@ impl MemPages {
 impl PageStore for MemPages {
     ghost use Rattle.std.proofs.Common.{refl};
     ghost use Rattle.std.proofs.Math.Nat.{le_refl};
+    ghost use Rattle.sect_dev.specs.Device.{endless};
     ghost use Rattle.page_io.specs.Counts.{counts_end};
     ghost use Rattle.page_io.specs.MemPages.{OnlySettled};
 
@@ -89,7 +90,7 @@ impl PageStore for MemPages {
 
     ghost settles_to = { λ p. OnlySettled (file_pages (page_of (bytes_of p.pages.items)) p.end) };
 
-    ghost moment = { λ _. 0 };
+    ghost moment = { λ _. endless 0 };
 
     ghost settled_since = { λ p _.
         OnlySettled (file_pages (page_of (bytes_of p.pages.items)) p.end) };

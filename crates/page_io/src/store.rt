@@ -1,6 +1,6 @@
 // A store of pages as the layers above see it.
 ghost use Rattle.std.specs.Prelude.{◌≡◌, ◌⊎◌, ◌<◌, ◌≤◌, ◌+◌, ◌^◌, ◌↔◌, ℕ, [], true, false, length, IfErr, OnOk, OnErr, IsErrOf, IsTrue};
-ghost use Rattle.sect_dev.specs.Device.{LeavesOnly};
+ghost use Rattle.sect_dev.specs.Device.{Moment, LeavesOnly};
 ghost use Rattle.page_io.specs.Page.{own_number};
 ghost use Rattle.page_io.specs.Store.{Pages, Settled, file_of, StoreState, IsEither, page_of, overlaid, put_page, has_page, are_in_order, committed_with, AllBelow};
 ghost use Rattle.page_io.specs.Kept.{KeepsPages};
@@ -47,8 +47,8 @@ pub trait PageStore {
     /// What an image that a stop may leave now settles to.
     ghost settles_to: { Self → Settled → Type 0 };
 
-    /// The moment, as a number that doesn't fall.
-    ghost moment: { Self → ℕ };
+    /// The moment, and up to which one the device below may go that stops for good.
+    ghost moment: { Self → Moment };
 
     /// What an image that a stop at some moment from that one on may have left settles to.
     ghost settled_since: { Self → ℕ → Settled → Type 0 };
@@ -176,11 +176,11 @@ pub trait PageStore {
 
     /// Since this moment there is no other.
     ghost only_now: { (store : Self) (settled : Settled) → honest store
-        → settled_since store (moment store) settled → settles_to store settled };
+        → settled_since store (moment store).at settled → settles_to store settled };
 
     /// This moment is one of those since an earlier one.
-    ghost counts_now: { (store : Self) (t : ℕ) (settled : Settled) → honest store → t ≤ moment store
-        → settles_to store settled → settled_since store t settled };
+    ghost counts_now: { (store : Self) (t : ℕ) (settled : Settled) → honest store
+        → t ≤ (moment store).at → settles_to store settled → settled_since store t settled };
 
     /// The committed pages are those before the end.
     ghost ends: { (store : Self) → length (committed store) + 1 ≡ (state store).end };

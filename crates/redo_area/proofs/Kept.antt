@@ -82,7 +82,7 @@ read_leaves dev old new size run =
 -- what a call that asks the device for nothing keeps
 pub unasked : {D : Type 0} (dev : Ghosts D) (old new : Pager D dev) → new.dev ≡ old.dev
     → pages_of dev new ≡ pages_of dev old
-    → ((image : Image) → dev.left_since old.dev (dev.moment old.dev) image
+    → ((image : Image) → dev.left_since old.dev (dev.moment old.dev).at image
     → IsImageOf (dev.candidate old.dev) image)
     → KeepsPages (pages_of dev) (λ (p : Pager D dev). dev.moment p.dev)
     (λ (p : Pager D dev). IsOutcome dev.left_since (settled (dev.sectors p.dev / 4)) p.dev)

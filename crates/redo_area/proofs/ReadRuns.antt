@@ -9,7 +9,7 @@ use Rattle.redo_area.specs.Reading.{OnlyReads}
 
 module _ {D : Type 0} (dev : Ghosts D) where
   -- before the first
-  pub none_yet : (old : D) → ((image : Image) → dev.left_since old (dev.moment old) image
+  pub none_yet : (old : D) → ((image : Image) → dev.left_since old (dev.moment old).at image
       → IsImageOf (dev.candidate old) image) → OnlyReads dev old old
   none_yet old only_now = record {
     seen = refl;
@@ -20,7 +20,7 @@ module _ {D : Type 0} (dev : Ghosts D) where
 
   -- the read of a sector
   pub sector_read : (old new : D)
-      → ((image : Image) → dev.left_since old (dev.moment old) image
+      → ((image : Image) → dev.left_since old (dev.moment old).at image
       → IsImageOf (dev.candidate old) image)
       → dev.seen new ≡ dev.seen old → NoNewCandidate (dev.candidate old) (dev.candidate new)
       → NoNewCandidate (dev.candidate new) (dev.candidate old)

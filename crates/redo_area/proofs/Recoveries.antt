@@ -24,7 +24,7 @@ as_before dev first new run =
 
 -- a sync
 module _ {D : Type 0} (dev : Ghosts D) (first mid : D)
-    (only_now : (image : Image) → dev.left_since first (dev.moment first) image
+    (only_now : (image : Image) → dev.left_since first (dev.moment first).at image
     → IsImageOf (dev.candidate first) image)
     (time : Elapses (dev.moment first) (dev.moment mid) (dev.left_since first) (dev.left_since mid)
     (IsImageOf (dev.candidate mid)))

@@ -25,7 +25,7 @@ pub record Keeps {D : Type 0} (dev : Ghosts D) (Kept : ℕ → Type 0) (old new 
 module _ {D : Type 0} (dev : Ghosts D) (Kept : ℕ → Type 0) where
   -- before the first
   pub none_written : (old : D) → ((image : Image) → dev.honest old
-      → dev.left_since old (dev.moment old) image → IsImageOf (dev.candidate old) image)
+      → dev.left_since old (dev.moment old).at image → IsImageOf (dev.candidate old) image)
       → Keeps dev Kept old old
   none_written old only_now = record {
     size = refl;

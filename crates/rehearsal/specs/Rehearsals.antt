@@ -1,5 +1,5 @@
 -- What sessions leave that are made one after another, each with its ending.
-use Rattle.std.specs.Prelude.{◌≡◌, ℕ, All, List, [], ◌∷◌, Contains}
+use Rattle.std.specs.Prelude.{◌≡◌, ◌+◌, ℕ, All, List, [], ◌∷◌, Contains, sum_by}
 use Rattle.sect_dev.specs.Device.{Image, Candidates, IsImageOf}
 use Rattle.redo_commit.specs.File.{settled}
 use Rattle.dbm_sessions.specs.Members.{Member, Members}
@@ -53,6 +53,11 @@ abbrev pub AreAllLeft : Members → List Plan → List Ending → ℕ → Candid
 AreAllLeft before plans endings pages candidate =
     (told : List model.Ending) × AreTold endings told
     × ((image : Image) → IsImageOf candidate image → IsLeft before plans told pages image)
+
+-- how many writes and syncs sessions ask a device for at most that are stopped after so many of its
+-- calls, where the stop itself counts as one
+abbrev pub most_changes : List Stage → ℕ
+most_changes stages = sum_by (λ stage. stage.device_calls + 1) stages
 
 -- nothing was refused for want of room in any of the sessions
 abbrev pub AreNeverShort : List Ending → Type 0

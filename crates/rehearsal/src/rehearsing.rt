@@ -1,9 +1,9 @@
 // Sessions on a device in memory, each of them stopped.
-ghost use Rattle.std.specs.Prelude.{◌≡◌, ◌/◌, ℕ, All, IfOk, map};
+ghost use Rattle.std.specs.Prelude.{◌≡◌, ◌≤◌, ◌+◌, ◌/◌, ℕ, All, IfOk, map};
 ghost use Rattle.dbm_sessions.specs.Members.{Members};
 ghost use Rattle.dbm_sessions.specs.Room.{AllHaveRoom, AsksForRoom, IsNeverShort};
 ghost use Rattle.rehearsal.specs.Members.{AllStandFor};
-ghost use Rattle.rehearsal.specs.Rehearsals.{planned, SessionLeaves, SessionsLeave, AreAllLeft, AreNeverShort};
+ghost use Rattle.rehearsal.specs.Rehearsals.{planned, SessionLeaves, SessionsLeave, AreAllLeft, AreNeverShort, most_changes};
 ghost use Rattle.rehearsal.specs.Sessions.{ending_of};
 
 use crate::{Ending, Opening, session};
@@ -55,6 +55,14 @@ pub fn rehearse(
         → AllHaveRoom (⟦<MemDev as SectorDev>⟧.sectors dev / 4) before
         → All (AsksForRoom (⟦<MemDev as SectorDev>⟧.sectors dev / 4)) (map planned stages.now)
         → IfOk result (λ r. AreNeverShort r.1.items) }
+
+    // Each session is stopped by then at the latest: the device, whose moments are its writes and
+    // syncs, goes no further than the calls of it that there were to be, and the stops.
+    ensures stops { (before : Members)
+        → AllStandFor before (⟦<MemDev as SectorDev>⟧.sectors dev / 4)
+        (⟦<MemDev as SectorDev>⟧.candidate dev)
+        → IfOk result (λ r. (⟦<MemDev as SectorDev>⟧.moment r.0).at
+        ≤ (⟦<MemDev as SectorDev>⟧.moment dev).at + most_changes stages.now) }
 {
     let mut dev = dev;
     let mut endings = Vec::new(alloc);
@@ -78,6 +86,11 @@ fn stopped(alloc: Global, dev: MemDev, stage: &Stage) -> Result<(MemDev, Ending)
         (⟦<MemDev as SectorDev>⟧.candidate dev)
         → AllHaveRoom (⟦<MemDev as SectorDev>⟧.sectors dev / 4) before
         → IfOk result (λ r. (count : ℕ) → IsNeverShort (ending_of r.1 count)) }
+    ensures stops { (before : Members)
+        → AllStandFor before (⟦<MemDev as SectorDev>⟧.sectors dev / 4)
+        (⟦<MemDev as SectorDev>⟧.candidate dev)
+        → IfOk result (λ r. (⟦<MemDev as SectorDev>⟧.moment r.0).at
+        ≤ (⟦<MemDev as SectorDev>⟧.moment dev).at + (stage.now.device_calls + 1)) }
     ensures size { IfOk result (λ r. ⟦<MemDev as SectorDev>⟧.sectors r.0 / 4
         ≡ ⟦<MemDev as SectorDev>⟧.sectors dev / 4) }
 {

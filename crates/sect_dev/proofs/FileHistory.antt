@@ -1,19 +1,20 @@
 -- What a call of a device over a file does, by the file_history of what happens under the file.
-use Rattle.std.proofs.Common.{◌≡◌, ◌⊎◌, ◌+◌, ◌*◌, ◌%◌, ℕ, false, Result, is_ok, OnOk, OnErr, List, length, ⊎_elim, inl, inr, refl, sym, subst, arith, ◌↔◌}
+use Rattle.std.proofs.Common.{◌≡◌, ◌⊎◌, ◌+◌, ◌*◌, ◌%◌, ◌≤◌, ℕ, false, Result, is_ok, OnOk, OnErr, List, length, ⊎_elim, inl, inr, refl, sym, subst, arith, ◌↔◌}
 use Rattle.std.proofs.lemmas.Bool.{cases_lt}
 use Rattle.std.proofs.lemmas.Nat.{div-add-mod'}
 use Rattle.std.specs.declared.fs.File.{File}
-use Rattle.sect_dev.specs.Device.{Image, Candidates, IsImageOf, IsStable, NoNewCandidate, Elapses, sector_count, IsRunWritten, IsRunPartlyWritten, with_run_candidates}
+use Rattle.sect_dev.specs.Device.{Image, Candidates, IsImageOf, IsStable, NoNewCandidate, Elapses, endless, sector_count, IsRunWritten, IsRunPartlyWritten, with_run_candidates}
 use Rattle.sect_dev.specs.FileHistory.{Change, history_of, RecordsCalls, IsHonest, KeepsWrite, KeepsSync, KeepsChange, LeftFrom}
 use Rattle.sect_dev.specs.FileHistory.Change.{Writes, Syncs}
 use Rattle.sect_dev.proofs.Results.{on_ok, on_err, not_ok}
 
 -- one moment more, of which the images of now may be left, or none
 elapses : (candidate : ℕ → Candidates) (before now : ℕ) → (now ≡ before + 1) ⊎ (now ≡ before)
-    → Elapses before now (LeftFrom candidate before) (LeftFrom candidate now)
+    → Elapses (endless before) (endless now) (LeftFrom candidate before) (LeftFrom candidate now)
     (IsImageOf (candidate now))
 elapses candidate before now (inl one) = record {
   later = omega (arith, one);
+  until = omega arith;
   nothing_else = λ t image le left. elim (cases_lt before left.0) [
     | inr past ↦ inl (left.0, left.1, past, left.3)
     | inl last ↦ inr (subst (λ k. IsImageOf (candidate k) image)
@@ -23,6 +24,7 @@ elapses candidate before now (inl one) = record {
 }
 elapses candidate before now (inr none) = record {
   later = omega (arith, none);
+  until = omega arith;
   nothing_else = λ t image le left. inl (left.0, left.1, omega (arith, left.2, none), left.3);
   keeps = λ t image le past. (past.0, past.1, omega (arith, past.2, none), past.3);
 }
@@ -38,11 +40,11 @@ module _ (file now_file : File) (before now : ℕ) (same : now_file ≡ file) wh
   honesty = (subst IsHonest same, subst IsHonest (sym same))
 
   pub time : (now ≡ before + 1) ⊎ (now ≡ before)
-      → Elapses before now (LeftFrom (history_of file).candidate before)
+      → Elapses (endless before) (endless now) (LeftFrom (history_of file).candidate before)
       (LeftFrom (history_of now_file).candidate now)
       (IsImageOf ((history_of now_file).candidate now))
-  time later = subst (λ f. Elapses before now (LeftFrom (history_of file).candidate before)
-      (LeftFrom (history_of f).candidate now) (IsImageOf ((history_of f).candidate now)))
+  time later = subst (λ f. Elapses (endless before) (endless now)
+      (LeftFrom (history_of file).candidate before) (LeftFrom (history_of f).candidate now) (IsImageOf ((history_of f).candidate now)))
       (sym same) (elapses (history_of file).candidate before now later)
 
   -- no change
@@ -78,8 +80,8 @@ module _ {T E F : Type 0} (r : Result T E) (file now_file : File) (before now : 
   abbrev candidates : Candidates
   candidates = (history_of file).candidate before
 
-  pub change_time : Elapses before now (LeftFrom (history_of file).candidate before)
-      (LeftFrom (history_of now_file).candidate now)
+  pub change_time : Elapses (endless before) (endless now)
+      (LeftFrom (history_of file).candidate before) (LeftFrom (history_of now_file).candidate now)
       (IsImageOf ((history_of now_file).candidate now))
   change_time = time file now_file before now same
       (⊎_elim (λ asked. inl asked.0) (λ refused. inr refused.0) answered)
@@ -101,6 +103,12 @@ module _ {T E F : Type 0} (r : Result T E) (file now_file : File) (before now : 
         | inr refused ↦ subst (λ t. P ((history_of file).seen t) ((history_of file).candidate t))
             (sym refused.0) (failed refused.1)
       ])
+
+-- a call asks for one change at most
+pub one_change_more : {A B F : Type 0} (before now : ℕ)
+    → ((now ≡ before + 1) × A) ⊎ ((now ≡ before) × B × F) → now ≤ before + 1
+one_change_more before now (inl asked) = omega (arith, asked.0)
+one_change_more before now (inr refused) = omega (arith, refused.0)
 
 -- the clauses of a write of a run
 module _ {T E F : Type 0} (r : Result T E) (file now_file : File) (before now n : ℕ) (from : List ℕ)

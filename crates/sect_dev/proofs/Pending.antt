@@ -5,7 +5,7 @@ use Rattle.std.specs.Prelude.{slice_index_or}
 use Rattle.sect_dev.specs.declared.past.Event.{Event}
 use Rattle.sect_dev.specs.declared.past.Event.TheVariants.{Wrote, Synced}
 use Rattle.sect_dev.specs.Device.{Image, with_sector}
-use Rattle.sect_dev.specs.History.{content_after, pending_of, kept}
+use Rattle.sect_dev.specs.History.{content_after, at_last_sync, pending_of, kept}
 
 -- where all of these are unsettled writes, so are all of the older ones
 all_pending : (newer mid settled : List Event)
@@ -15,6 +15,13 @@ all_pending [] mid settled all = all
 all_pending (Wrote n bytes ∷ newer) mid settled all =
     all_pending newer mid settled (omega (arith, all))
 all_pending (Synced ∷ newer) mid settled all = absurd (omega (arith, all))
+
+-- the record of the last sync lacks what is pending, and nothing else
+pub last_and_pending : (events : List Event)
+    → length (at_last_sync events) + pending_of events ≡ length events
+last_and_pending [] = refl
+last_and_pending (Wrote n bytes ∷ earlier) = omega (arith, last_and_pending earlier)
+last_and_pending (Synced ∷ earlier) = omega arith
 
 -- with none pending, all is kept
 pub none_pending : (events : List Event) (marks : List Bool) → pending_of events ≡ 0

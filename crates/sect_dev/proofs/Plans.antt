@@ -1,8 +1,10 @@
 -- Which of the calls to come fail, as the plans count them.
-use Rattle.std.proofs.Common.{◌≡◌, ◌+◌, ℕ, leb, eqb, true, false, IsTrue, Option, Some, sym, ap, subst, ◌∙◌, arith, rules, ◌↔◌}
+use Rattle.std.proofs.Common.{◌≡◌, ◌≤◌, ◌+◌, ℕ, leb, eqb, true, false, IsTrue, Option, Some, sym, ap, subst, ◌∙◌, arith, rules, ◌↔◌}
 use Rattle.std.proofs.lemmas.Bool.{le-leb}
 use Rattle.std.proofs.lemmas.Bool.Decides.{nat_tests, Decides-eqb}
 use Rattle.sect_dev.specs.Plan.{fails_once}
+use Rattle.sect_dev.specs.declared.fuse.AllAfter.{AllAfter}
+use Rattle.sect_dev.specs.contracts.fuse.AllAfterPlan.TheImpl.{ghosts as AllAfterGhosts}
 
 -- the one call that fails is the next one
 module _ (plan : Option ℕ) (k : ℕ) (is : plan ≡ Some k) (first : k ≡ 0) where
@@ -19,6 +21,10 @@ pub fails_at : (plan : Option ℕ) (k : ℕ) → plan ≡ Some k → (i : ℕ)
     → IsTrue (fails_once plan i) ↔ (i ≡ k)
 fails_at plan k is i = subst (λ (p : Option ℕ). IsTrue (fails_once p i) ↔ (i ≡ k)) (sym is)
     (Decides-eqb i k)
+
+-- a moment is none behind that up to which calls are passed on
+pub goes_until : (plan : AllAfter) (now : ℕ) → now ≤ AllAfterGhosts.until plan now
+goes_until plan now = omega arith
 
 -- no call is left that passes
 module _ (calls_left : ℕ) (none : calls_left ≡ 0) where

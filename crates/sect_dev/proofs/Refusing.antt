@@ -2,7 +2,7 @@
 use Rattle.std.proofs.Common.{inl, ◌≡◌, ◌∙◌, ◌+◌, ◌-◌, ◌^◌, ℕ, Bool, true, min, cond, IsErr, Result, Ok, Err, OnOk, sym, ap, arith}
 use Rattle.std.proofs.lemmas.Bool.{true≢false}
 use Rattle.sect_dev.specs.declared.failing.Failing.{Failing}
-use Rattle.sect_dev.specs.Device.{HasCause, Elapses}
+use Rattle.sect_dev.specs.Device.{HasCause, Moment, Elapses}
 use Rattle.sect_dev.specs.Failing.{plan_of, own_faults, FollowsPlan}
 
 pub no_ok : {T E : Type 0} (r : Result T E) (P : Type 0) → IsErr r → OnOk r P
@@ -10,10 +10,11 @@ no_ok (Ok x) P err = absurd (true≢false (sym err))
 no_ok (Err e) P err = tt
 
 -- no time goes by
-pub no_time : {X : Type 0} (now : ℕ) (left : ℕ → X → Type 0) (may_leave : X → Type 0)
+pub no_time : {X : Type 0} (now : Moment) (left : ℕ → X → Type 0) (may_leave : X → Type 0)
     → Elapses now now left left may_leave
 no_time now left may_leave = record {
   later = omega arith;
+  until = omega arith;
   nothing_else = λ t x le is. inl is;
   keeps = λ t x le is. is;
 }

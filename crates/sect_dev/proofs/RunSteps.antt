@@ -1,17 +1,18 @@
 -- Calls on adjacent sectors, one after the other.
 use Rattle.std.proofs.Common.{◌≡◌, ◌≢◌, ◌⊎◌, ◌∙◌, ◌↔◌, ⊎_elim, inl, inr, refl, sym, ap, subst, ℕ, ◌+◌, ◌<◌, ◌≤◌, List, Result, below_more, arith}
 use Rattle.std.proofs.lemmas.Bool.{cases_eq}
-use Rattle.sect_dev.specs.Device.{Image, Candidates, with_sector, with_candidate, IsImageOf, NoNewCandidate, IsWrittenOrNot, Elapses, HasCause, MoreFaults, sector_count, part_of, IsPart, IsRunPartlyWritten, with_run_candidates}
+use Rattle.sect_dev.specs.Device.{Image, Candidates, with_sector, with_candidate, IsImageOf, NoNewCandidate, IsWrittenOrNot, Moment, Elapses, HasCause, MoreFaults, sector_count, part_of, IsPart, IsRunPartlyWritten, with_run_candidates}
 use Rattle.sect_dev.specs.Moments.{fewer_images, at_same, at_other}
 use Rattle.sect_dev.proofs.Refusing.{no_time}
 use Rattle.sect_dev.proofs.Results.{on_err}
 
-elapses_then : {X : Type 0} (before mid now : ℕ) (past since left : ℕ → X → Type 0)
+elapses_then : {X : Type 0} (before mid now : Moment) (past since left : ℕ → X → Type 0)
     (may_first may_leave : X → Type 0)
     → Elapses before mid past since may_first → Elapses mid now since left may_leave
     → ((x : X) → may_first x → may_leave x) → Elapses before now past left may_leave
 elapses_then before mid now past since left may_first may_leave first second stays = record {
   later = omega (arith, first.later, second.later);
+  until = omega (arith, first.until, second.until);
   nothing_else = λ t x le is. ⊎_elim
       (λ earlier. ⊎_elim (λ old. inl old) (λ may. inr (stays x may))
       (first.nothing_else t x le earlier))
@@ -20,8 +21,8 @@ elapses_then before mid now past since left may_first may_leave first second sta
 }
 
 -- what holds after any reads and writes of a device
-pub record WentOn {D : Type 0} (sectors faults moment : D → ℕ) (honest : D → Type 0)
-    (candidate : D → Candidates) (left_since : D → ℕ → Image → Type 0)
+pub record WentOn {D : Type 0} (sectors faults : D → ℕ) (moment : D → Moment)
+    (honest : D → Type 0) (candidate : D → Candidates) (left_since : D → ℕ → Image → Type 0)
     (first now : D) : Type 0 where
   pub size : sectors now ≡ sectors first
   pub honesty : honest now ↔ honest first
@@ -30,8 +31,8 @@ pub record WentOn {D : Type 0} (sectors faults moment : D → ℕ) (honest : D �
   pub time : honest first → Elapses (moment first) (moment now) (left_since first)
       (left_since now) (IsImageOf (candidate now))
 
-module _ {D : Type 0} (sectors faults moment : D → ℕ) (honest : D → Type 0)
-    (candidate : D → Candidates) (left_since : D → ℕ → Image → Type 0) where
+module _ {D : Type 0} (sectors faults : D → ℕ) (moment : D → Moment)
+    (honest : D → Type 0) (candidate : D → Candidates) (left_since : D → ℕ → Image → Type 0) where
   pub before_all : (first : D)
       → WentOn sectors faults moment honest candidate left_since first first
   before_all first = record {

@@ -34,13 +34,24 @@ IsStable candidate image = (m : ℕ) (c : List ℕ) → candidate m c → c ≡ 
 abbrev pub IsWrittenOrNot : Image → ℕ → List ℕ → Image → Type 0
 IsWrittenOrNot old n content new = (new ≡ old) ⊎ (new ≡ with_sector old n content)
 
+-- A moment of a device, as a number that doesn't fall, and as one that doesn't rise the moment up to
+-- which it may go, where it is to stop for good.
+pub record Moment : Type 0 where
+  pub at : ℕ
+  pub until : ℕ
+
+-- a moment of a device that goes on for ever
+abbrev pub endless : ℕ → Moment
+endless at = record { at = at; until = 0 }
+
 -- Time goes on: a stop since t may have left what it may have left before, or what it may leave
 -- now. X is what is left: an image, or what the layers above read in one.
-pub record Elapses {X : Type 0} (before now : ℕ) (past since : ℕ → X → Type 0)
+pub record Elapses {X : Type 0} (before now : Moment) (past since : ℕ → X → Type 0)
     (may_leave : X → Type 0) : Type 0 where
-  pub later : before ≤ now
-  pub nothing_else : (t : ℕ) (x : X) → t ≤ before → since t x → past t x ⊎ may_leave x
-  pub keeps : (t : ℕ) (x : X) → t ≤ before → past t x → since t x
+  pub later : before.at ≤ now.at
+  pub until : now.until ≤ before.until
+  pub nothing_else : (t : ℕ) (x : X) → t ≤ before.at → since t x → past t x ⊎ may_leave x
+  pub keeps : (t : ℕ) (x : X) → t ≤ before.at → past t x → since t x
 
 -- an `Err` comes only with a fault
 pub record HasCause {T E : Type 0} (before now : ℕ) (result : Result T E) : Type 0 where
@@ -48,12 +59,13 @@ pub record HasCause {T E : Type 0} (before now : ℕ) (result : Result T E) : Ty
   pub fault : OnErr result (MoreFaults before now)
 
 -- Whatever a stop at some moment since old may leave has P.
-pub record LeavesOnly {D X : Type 0} (moment : D → ℕ) (left_since : D → ℕ → X → Type 0)
+pub record LeavesOnly {D X : Type 0} (moment : D → Moment) (left_since : D → ℕ → X → Type 0)
     (old new : D) (P : X → Type 0) : Type 0 where
-  pub later : moment old ≤ moment new
-  pub each : (x : X) → left_since new (moment old) x → P x
+  pub later : (moment old).at ≤ (moment new).at
+  pub until : (moment new).until ≤ (moment old).until
+  pub each : (x : X) → left_since new (moment old).at x → P x
   -- for a run that began earlier
-  pub before : (t : ℕ) (x : X) → t ≤ moment old → left_since new t x → left_since old t x ⊎ P x
+  pub before : (t : ℕ) (x : X) → t ≤ (moment old).at → left_since new t x → left_since old t x ⊎ P x
 
 -- ---- runs of adjacent sectors
 

@@ -1,7 +1,7 @@
 -- What devices that fail on purpose show.
 use Rattle.std.specs.Prelude.{◌≡◌, ◌+◌, ◌-◌, ◌^◌, ℕ, Bool, false, if◌then◌else◌, min, IsTrue, IsErr, Result}
 use Rattle.sect_dev.specs.declared.failing.Failing.{Failing}
-use Rattle.sect_dev.specs.Device.{HasCause}
+use Rattle.sect_dev.specs.Device.{Moment, HasCause}
 
 -- the device that calls are passed on to
 abbrev pub inner_of : {D P : Type 0} → Failing D P → D
@@ -10,6 +10,13 @@ inner_of f = f.inner
 -- which of the calls to come fail
 abbrev pub plan_of : {D P : Type 0} → Failing D P → P
 plan_of f = f.plan
+
+-- the moment of the device inside, and up to which one the plan lets it go
+abbrev pub moment_of : {D P : Type 0} → (D → Moment) → (P → ℕ → ℕ) → Failing D P → Moment
+moment_of moment until f = record {
+  at = (moment f.inner).at;
+  until = until f.plan (moment f.inner).at;
+}
 
 -- how many calls it failed on purpose
 abbrev pub own_faults : {D P : Type 0} → Failing D P → ℕ

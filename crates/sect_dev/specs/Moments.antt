@@ -4,7 +4,7 @@ use mathlib.Core.Logic.{inl, inr}
 use Rattle.std.proofs.Common.{⊎_elim, sym, ◌∙◌, ap, subst, arith, rules}
 use Rattle.std.proofs.lemmas.Bool.{cases_eq}
 use Rattle.std.proofs.lemmas.Bool.Decides.{nat_tests}
-use Rattle.sect_dev.specs.Device.{Image, Candidates, IsImageOf, IsStable, NoNewCandidate, with_sector, with_candidate, Elapses, LeavesOnly, sector_count, IsOutsideRun, IsPart, IsRunPartlyWritten}
+use Rattle.sect_dev.specs.Device.{Image, Candidates, IsImageOf, IsStable, NoNewCandidate, with_sector, with_candidate, Moment, Elapses, LeavesOnly, sector_count, IsOutsideRun, IsPart, IsRunPartlyWritten}
 
 -- with fewer candidates there are no other images
 pub fewer_images : (old new : Candidates) (image : Image) → NoNewCandidate old new
@@ -12,61 +12,70 @@ pub fewer_images : (old new : Candidates) (image : Image) → NoNewCandidate old
 fewer_images old new image fewer is n = fewer n (image n) (is n)
 
 -- before the first call
-pub started : {D X : Type 0} (moment : D → ℕ) (left_since : D → ℕ → X → Type 0) (old : D)
+pub started : {D X : Type 0} (moment : D → Moment) (left_since : D → ℕ → X → Type 0) (old : D)
     (P : X → Type 0)
-    → ((x : X) → left_since old (moment old) x → P x) → LeavesOnly moment left_since old old P
+    → ((x : X) → left_since old (moment old).at x → P x) → LeavesOnly moment left_since old old P
 started moment left_since old P here =
-    record { later = omega arith; each = here; before = λ t image le left. inl left }
+    record {
+      later = omega arith;
+      until = omega arith;
+      each = here;
+      before = λ t image le left. inl left;
+    }
 
 -- one call
-pub by_call : {D X : Type 0} (moment : D → ℕ) (left_since : D → ℕ → X → Type 0) (old new : D)
+pub by_call : {D X : Type 0} (moment : D → Moment) (left_since : D → ℕ → X → Type 0) (old new : D)
     (P may_leave : X → Type 0)
-    → ((x : X) → left_since old (moment old) x → P x)
+    → ((x : X) → left_since old (moment old).at x → P x)
     → Elapses (moment old) (moment new) (left_since old) (left_since new) may_leave
     → ((x : X) → may_leave x → P x) → LeavesOnly moment left_since old new P
 by_call moment left_since old new P may_leave here time now = record {
   later = time.later;
+  until = time.until;
   each = λ image left. ⊎_elim (here image) (now image)
-      (time.nothing_else (moment old) image (omega arith) left);
+      (time.nothing_else (moment old).at image (omega arith) left);
   before = λ t image le left. ⊎_elim (λ past. inl past) (λ is. inr (now image is))
       (time.nothing_else t image le left);
 }
 
 -- one run after another
-pub followed_by : {D X : Type 0} (moment : D → ℕ) (left_since : D → ℕ → X → Type 0)
+pub followed_by : {D X : Type 0} (moment : D → Moment) (left_since : D → ℕ → X → Type 0)
     (old mid new : D) (P Q : X → Type 0)
     → LeavesOnly moment left_since old mid P → LeavesOnly moment left_since mid new Q
     → ((x : X) → Q x → P x)
     → LeavesOnly moment left_since old new P
 followed_by moment left_since old mid new P Q first second weaker = record {
   later = omega (arith, first.later, second.later);
+  until = omega (arith, first.until, second.until);
   each = λ image left. ⊎_elim (first.each image) (weaker image)
-      (second.before (moment old) image first.later left);
+      (second.before (moment old).at image first.later left);
   before = λ t image le left. ⊎_elim (λ past. first.before t image le past)
       (λ q. inr (weaker image q)) (second.before t image (omega (arith, le, first.later)) left);
 }
 
-pub weaker : {D X : Type 0} (moment : D → ℕ) (left_since : D → ℕ → X → Type 0) (old new : D)
+pub weaker : {D X : Type 0} (moment : D → Moment) (left_since : D → ℕ → X → Type 0) (old new : D)
     (P Q : X → Type 0)
     → LeavesOnly moment left_since old new Q → ((x : X) → Q x → P x)
     → LeavesOnly moment left_since old new P
 weaker moment left_since old new P Q run implies = record {
   later = run.later;
+  until = run.until;
   each = λ image left. implies image (run.each image left);
   before = λ t image le left. ⊎_elim (λ past. inl past) (λ q. inr (implies image q))
       (run.before t image le left);
 }
 
 -- one call more
-pub goes_on : {D X : Type 0} (moment : D → ℕ) (left_since : D → ℕ → X → Type 0) (old mid new : D)
-    (P may_leave : X → Type 0)
+pub goes_on : {D X : Type 0} (moment : D → Moment) (left_since : D → ℕ → X → Type 0)
+    (old mid new : D) (P may_leave : X → Type 0)
     → LeavesOnly moment left_since old mid P
     → Elapses (moment mid) (moment new) (left_since mid) (left_since new) may_leave
     → ((x : X) → may_leave x → P x) → LeavesOnly moment left_since old new P
 goes_on moment left_since old mid new P may_leave run time now = record {
   later = omega (arith, run.later, time.later);
+  until = omega (arith, run.until, time.until);
   each = λ image left. ⊎_elim (run.each image) (now image)
-      (time.nothing_else (moment old) image run.later left);
+      (time.nothing_else (moment old).at image run.later left);
   before = λ t image le left. ⊎_elim (run.before t image le) (λ is. inr (now image is))
       (time.nothing_else t image (omega (arith, le, run.later)) left);
 }
@@ -136,13 +145,14 @@ pub record IsOutcome {D X Y : Type 0} (left_since : D → ℕ → X → Type 0) 
   pub is_left : left_since d t left
   pub reads : read left ≡ y
 
-pub lifted : {S D X Y : Type 0} (moment : D → ℕ) (left_since : D → ℕ → X → Type 0) (below : S → D)
-    (read : S → X → Y) (old new : S) (P : Y → Type 0)
+pub lifted : {S D X Y : Type 0} (moment : D → Moment) (left_since : D → ℕ → X → Type 0)
+    (below : S → D) (read : S → X → Y) (old new : S) (P : Y → Type 0)
     → read new ≡ read old → LeavesOnly moment left_since (below old) (below new)
     (λ x. P (read old x))
     → LeavesOnly (λ s. moment (below s)) (λ s. IsOutcome left_since (read s) (below s)) old new P
 lifted {S} {D} {X} {Y} moment left_since below read old new P same run = record {
   later = run.later;
+  until = run.until;
   each = λ y r. subst P (ap (λ (f : X → Y). f r.left) (sym same) ∙ r.reads)
       (run.each r.left r.is_left);
   before = λ t y le r.

@@ -1,6 +1,6 @@
 //! A device as the layers above see it.
 ghost use Rattle.std.specs.Prelude.{◌≡◌, ◌+◌, ◌%◌, ◌^◌, ◌≤◌, ◌<◌, ◌↔◌, ℕ, OnOk, OnErr, length};
-ghost use Rattle.sect_dev.specs.Device.{Image, Candidates, with_sector, IsImageOf, NoNewCandidate, with_candidate, IsStable, IsWrittenOrNot, Elapses, HasCause, sector_count, part_of, HasRun, IsRunWritten, IsRunPartlyWritten, with_run_candidates};
+ghost use Rattle.sect_dev.specs.Device.{Image, Candidates, with_sector, IsImageOf, NoNewCandidate, with_candidate, IsStable, IsWrittenOrNot, Moment, Elapses, HasCause, sector_count, part_of, HasRun, IsRunWritten, IsRunPartlyWritten, with_run_candidates};
 
 use thiserror::Error;
 
@@ -45,8 +45,8 @@ pub trait SectorDev {
     /// others.
     ghost candidate: { Self → Candidates };
 
-    /// The moment, as a number that doesn't fall.
-    ghost moment: { Self → ℕ };
+    /// The moment, and up to which one a device may go that stops for good after so many calls.
+    ghost moment: { Self → Moment };
 
     /// The images that a stop at some moment from that one on may have left, during a call or
     /// between two.
@@ -70,6 +70,7 @@ pub trait SectorDev {
         ensures time { honest self.old
             → Elapses (moment self.old) (moment self.new) (left_since self.old)
             (left_since self.new) (IsImageOf (candidate self.new)) }
+        ensures step { (moment self.new).at ≤ (moment self.old).at + 1 }
         ensures honesty { honest self.new ↔ honest self.old }
         ensures cause { HasCause (faults self.old) (faults self.new) result }
         ensures size { sectors self.new ≡ sectors self.old };
@@ -88,6 +89,7 @@ pub trait SectorDev {
         ensures time { honest self.old
             → Elapses (moment self.old) (moment self.new) (left_since self.old)
             (left_since self.new) (IsImageOf (candidate self.new)) }
+        ensures step { (moment self.new).at ≤ (moment self.old).at + 1 }
         ensures honesty { honest self.new ↔ honest self.old }
         ensures cause { HasCause (faults self.old) (faults self.new) result }
         ensures size { sectors self.new ≡ sectors self.old };
@@ -159,6 +161,7 @@ pub trait SectorDev {
         ensures time { honest self.old
             → Elapses (moment self.old) (moment self.new) (left_since self.old)
             (left_since self.new) (IsImageOf (candidate self.new)) }
+        ensures step { (moment self.new).at ≤ (moment self.old).at + 1 }
         ensures honesty { honest self.new ↔ honest self.old }
         ensures cause { HasCause (faults self.old) (faults self.new) result }
         ensures size { sectors self.new ≡ sectors self.old };
@@ -170,10 +173,10 @@ pub trait SectorDev {
     ghost seen_may_stay: { (dev : Self) → honest dev → IsImageOf (candidate dev) (seen dev) };
 
     /// This moment is one of those since an earlier one.
-    ghost counts_now: { (dev : Self) (t : ℕ) (image : Image) → honest dev → t ≤ moment dev
+    ghost counts_now: { (dev : Self) (t : ℕ) (image : Image) → honest dev → t ≤ (moment dev).at
         → IsImageOf (candidate dev) image → left_since dev t image };
 
     /// Since this moment there is no other.
-    ghost only_now: { (dev : Self) (image : Image) → honest dev → left_since dev (moment dev) image
-        → IsImageOf (candidate dev) image };
+    ghost only_now: { (dev : Self) (image : Image) → honest dev
+        → left_since dev (moment dev).at image → IsImageOf (candidate dev) image };
 }

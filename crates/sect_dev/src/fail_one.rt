@@ -46,6 +46,8 @@ impl Plan for One {
 
     ghost fails = { λ p. fails_once p.0 };
 
+    ghost until = { λ _ _. 0 };
+
     fn count(&mut self) -> bool {
         count_down(&mut self.0)
     }
@@ -59,6 +61,8 @@ impl Plan for OneLate {
     ghost LATE = { true };
 
     ghost fails = { λ p. fails_once p.0 };
+
+    ghost until = { λ _ _. 0 };
 
     fn count(&mut self) -> bool {
         count_down(&mut self.0)

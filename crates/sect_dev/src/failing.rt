@@ -1,5 +1,5 @@
 //! A device that fails some calls on purpose.
-ghost use Rattle.std.specs.Prelude.{◌≡◌, ◌⊎◌, ◌+◌, ◌-◌, ◌^◌, ◌<◌, min, ◌↔◌, ℕ, Bool, IsTrue, IsErr, OnOk, OnErr, true, false};
+ghost use Rattle.std.specs.Prelude.{◌≡◌, ◌⊎◌, ◌+◌, ◌-◌, ◌^◌, ◌<◌, ◌≤◌, min, ◌↔◌, ℕ, Bool, IsTrue, IsErr, OnOk, OnErr, true, false};
 ghost use Rattle.sect_dev.specs.Device.{with_sector, IsImageOf, NoNewCandidate, with_candidate, IsStable, IsWrittenOrNot, Elapses, HasCause, MoreFaults};
 
 use crate::{DevFault, SectorDev};
@@ -13,10 +13,17 @@ pub trait Plan: Drop {
 
     ghost fails: { Self → ℕ → Bool };
 
+    /// Up to which moment the device inside may go where this is the moment, or 0 where the plan
+    /// doesn't end.
+    ghost until: { Self → ℕ → ℕ };
+
     /// Counts a call, and says whether it fails.
     fn count(&mut self) -> bool
         ensures now { result ≡ fails self.old 0 }
-        ensures next { (i : ℕ) → fails self.new i ≡ fails self.old (i + 1) };
+        ensures next { (i : ℕ) → fails self.new i ≡ fails self.old (i + 1) }
+        ensures until { (before now : ℕ) → now ≤ before + 1
+            → (IsTrue result → LATE ≡ false → now ≤ before)
+            → until self.new now ≤ until self.old before };
 }
 
 /// A device that fails calls of read, write and sync by a plan, and counts each as a fault. A run is
@@ -67,7 +74,7 @@ impl<D: SectorDev, P: Plan> Failing<D, P> {
 }
 
 impl<D: SectorDev, P: Plan> SectorDev for Failing<D, P> {
-    ghost use Rattle.sect_dev.specs.Failing.{inner_of, plan_of, all_faults, FollowsPlan};
+    ghost use Rattle.sect_dev.specs.Failing.{inner_of, plan_of, moment_of, all_faults, FollowsPlan};
 
     ghost sectors = { λ f. D.sectors f.inner };
 
@@ -77,7 +84,7 @@ impl<D: SectorDev, P: Plan> SectorDev for Failing<D, P> {
 
     ghost candidate = { λ f. D.candidate f.inner };
 
-    ghost moment = { λ f. D.moment f.inner };
+    ghost moment = { moment_of D.moment P.until };
 
     ghost left_since = { λ f. D.left_since f.inner };
 
@@ -106,9 +113,10 @@ impl<D: SectorDev, P: Plan> SectorDev for Failing<D, P> {
         ensures keeps { D.honest (inner_of self.old)
             → NoNewCandidate (D.candidate (inner_of self.new)) (D.candidate (inner_of self.old)) }
         ensures time { D.honest (inner_of self.old)
-            → Elapses (D.moment (inner_of self.old)) (D.moment (inner_of self.new))
+            → Elapses (moment_of D.moment P.until self.old) (moment_of D.moment P.until self.new)
             (D.left_since (inner_of self.old)) (D.left_since (inner_of self.new))
             (IsImageOf (D.candidate (inner_of self.new))) }
+        ensures step { (D.moment (inner_of self.new)).at ≤ (D.moment (inner_of self.old)).at + 1 }
         ensures honesty { D.honest (inner_of self.new) ↔ D.honest (inner_of self.old) }
         ensures cause { HasCause (all_faults D.faults self.old)
             (all_faults D.faults self.new) result }
@@ -146,9 +154,10 @@ impl<D: SectorDev, P: Plan> SectorDev for Failing<D, P> {
         ensures keeps { D.honest (inner_of self.old)
             → NoNewCandidate (D.candidate (inner_of self.new)) (D.candidate (inner_of self.old)) }
         ensures time { D.honest (inner_of self.old)
-            → Elapses (D.moment (inner_of self.old)) (D.moment (inner_of self.new))
+            → Elapses (moment_of D.moment P.until self.old) (moment_of D.moment P.until self.new)
             (D.left_since (inner_of self.old)) (D.left_since (inner_of self.new))
             (IsImageOf (D.candidate (inner_of self.new))) }
+        ensures step { (D.moment (inner_of self.new)).at ≤ (D.moment (inner_of self.old)).at + 1 }
         ensures honesty { D.honest (inner_of self.new) ↔ D.honest (inner_of self.old) }
         ensures cause { HasCause (all_faults D.faults self.old)
             (all_faults D.faults self.new) result }
@@ -185,9 +194,10 @@ impl<D: SectorDev, P: Plan> SectorDev for Failing<D, P> {
             → OnErr result (NoNewCandidate (D.candidate (inner_of self.new))
             (D.candidate (inner_of self.old))) }
         ensures time { D.honest (inner_of self.old)
-            → Elapses (D.moment (inner_of self.old)) (D.moment (inner_of self.new))
+            → Elapses (moment_of D.moment P.until self.old) (moment_of D.moment P.until self.new)
             (D.left_since (inner_of self.old)) (D.left_since (inner_of self.new))
             (IsImageOf (D.candidate (inner_of self.new))) }
+        ensures step { (D.moment (inner_of self.new)).at ≤ (D.moment (inner_of self.old)).at + 1 }
         ensures honesty { D.honest (inner_of self.new) ↔ D.honest (inner_of self.old) }
         ensures cause { HasCause (all_faults D.faults self.old)
             (all_faults D.faults self.new) result }

@@ -1,6 +1,6 @@
 //! A device over a file.
 ghost use Rattle.std.specs.Prelude.{◌≡◌, ◌↔◌, ◌+◌, ◌-◌, ◌*◌, ◌%◌, ◌^◌, ◌<◌, ◌≤◌, ◌&&◌, false, is_ok, is_some, IsSome, IsErr, IfOk, IfErr, OnOk, length, take};
-ghost use Rattle.sect_dev.specs.Device.{HasCause, HasRun, sector_count};
+ghost use Rattle.sect_dev.specs.Device.{HasCause, HasRun, sector_count, endless};
 ghost use Rattle.sect_dev.specs.FileHistory.{HasBytes, IsHonest, LeftFrom};
 ghost use Rattle.sect_dev.specs.FileHistory.Change.{Writes, Syncs};
 
@@ -153,7 +153,7 @@ impl FileDev {
     ) -> Result<FileDev, FileFault>
         ensures size { IfOk result (λ dev. ⟦<FileDev as SectorDev>⟧.sectors dev ≡ capacity) }
         ensures faults { IfOk result (λ dev. ⟦<FileDev as SectorDev>⟧.faults dev ≡ 0) }
-        ensures begins { IfOk result (λ dev. ⟦<FileDev as SectorDev>⟧.moment dev ≡ 0) }
+        ensures begins { IfOk result (λ dev. (⟦<FileDev as SectorDev>⟧.moment dev).at ≡ 0) }
         ensures missing { IfErr result
             (λ fault. fault ≡ FileFault.Missing → (write && create) ≡ false) }
     {
@@ -264,7 +264,7 @@ impl SectorDev for FileDev {
 
     ghost candidate = { λ d. (history_of d.file).candidate d.changes };
 
-    ghost moment = { λ d. d.changes };
+    ghost moment = { λ d. endless d.changes };
 
     ghost left_since = { λ d. LeftFrom (history_of d.file).candidate d.changes };
 

@@ -1,5 +1,5 @@
 //! A device that fails from some call on.
-ghost use Rattle.std.specs.Prelude.{◌≡◌, ◌≤◌, ◌↔◌, ℕ, IsTrue};
+ghost use Rattle.std.specs.Prelude.{◌≡◌, ◌+◌, ◌≤◌, ◌↔◌, ℕ, IsTrue};
 
 use crate::SectorDev;
 use crate::failing::{Failing, Plan};
@@ -14,13 +14,15 @@ pub struct AllAfter {
 }
 
 impl Plan for AllAfter {
-    ghost use Rattle.std.specs.Prelude.{leb, false};
+    ghost use Rattle.std.specs.Prelude.{leb, false, ◌+◌};
 
     const LATE: bool = false;
 
     ghost LATE = { false };
 
     ghost fails = { λ p i. leb p.calls_left i };
+
+    ghost until = { λ p now. now + p.calls_left };
 
     fn count(&mut self) -> bool {
         if self.calls_left == 0 {
@@ -39,6 +41,7 @@ impl<D: SectorDev> Failing<D, AllAfter> {
         ensures inner { inner_of result ≡ dev }
         ensures faults { all_faults D.faults result ≡ D.faults dev }
         ensures fails { (i : ℕ) → IsTrue (⟦<AllAfter as Plan>⟧.fails (plan_of result) i) ↔ (k ≤ i) }
+        ensures until { (now : ℕ) → ⟦<AllAfter as Plan>⟧.until (plan_of result) now ≡ now + k }
     {
         Failing::with_plan(dev, AllAfter { calls_left: k })
     }

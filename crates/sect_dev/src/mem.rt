@@ -1,7 +1,7 @@
 //! A device in memory.
-ghost use Rattle.std.specs.Prelude.{◌≡◌, ◌+◌, ◌^◌, ◌<◌, [], ◌∷◌, ◌++◌, ℕ, reverse, map, length, OnOk, OnErr, IfOk, slice_index_or, false};
+ghost use Rattle.std.specs.Prelude.{◌≡◌, ◌+◌, ◌^◌, ◌<◌, ◌≤◌, [], ◌∷◌, ◌++◌, ℕ, reverse, map, length, OnOk, OnErr, IfOk, slice_index_or, false};
 ghost use Rattle.sect_dev.specs.Sector.{zeros};
-ghost use Rattle.sect_dev.specs.Device.{HasCause, IsImageOf, IsStable, NoNewCandidate};
+ghost use Rattle.sect_dev.specs.Device.{HasCause, IsImageOf, IsStable, NoNewCandidate, endless};
 ghost use Rattle.sect_dev.specs.History.{content_after, pending_of, kept, content_in, at_last_sync};
 ghost use Rattle.sect_dev.specs.Unsynced.{event_of, before_of, unsynced_of, overwritten};
 
@@ -97,6 +97,10 @@ impl MemDev {
             ⟦<MemDev as SectorDev>⟧.sectors after ≡ ⟦<MemDev as SectorDev>⟧.sectors self.now) }
         ensures faults { IfOk result (λ after. ⟦<MemDev as SectorDev>⟧.faults after ≡ 0) }
         ensures pending { IfOk result (λ after. pending_of (history after) ≡ 0) }
+
+        // Of its past it has no more than there was, and a sync.
+        ensures moment { IfOk result (λ after. (⟦<MemDev as SectorDev>⟧.moment after).at
+            ≤ (⟦<MemDev as SectorDev>⟧.moment self.now).at + 1) }
     {
         let mut after = self.at_last_sync(alloc)?;
         after.add_marked(self.unsynced.as_slice(), keep)?;
@@ -165,6 +169,7 @@ impl MemDev {
             ≡ length writes.now }
         ensures ok { OnOk result (content_after (history self.new)
             ≡ kept (reverse (map event_of writes.now) ++ history self.old) keep.now) }
+        ensures most { length (history self.new) ≤ length (history self.old) + length writes.now }
         ensures rest { IsSameButRecord self.old self.new }
     {
         for (i, write) in writes.iter().enumerate() {
@@ -189,7 +194,7 @@ impl SectorDev for MemDev {
 
     ghost candidate = { λ d. IsCandidate (history d) };
 
-    ghost moment = { λ d. length (history d) };
+    ghost moment = { λ d. endless (length (history d)) };
 
     ghost left_since = { λ d. LeftSince (history d) };
 

@@ -31,6 +31,7 @@ impl<S: PageStore> PageStore for GroupPages<S> {
     ghost use Rattle.std.specs.Prelude.{◌≡◌, ◌↔◌, OnOk, IsErrOf, true, Some};
     ghost use Rattle.std.proofs.Common.{refl};
     ghost use Rattle.std.proofs.Math.Nat.{le_refl};
+    ghost use Rattle.sect_dev.specs.Device.{endless};
     ghost use Rattle.page_io.specs.Answers.{HasDeviceCause, IsReadAnswer};
     ghost use Rattle.page_io.specs.Counts.{counts_end};
     ghost use Rattle.page_io.specs.Kept.{KeepsPages};
@@ -58,7 +59,7 @@ impl<S: PageStore> PageStore for GroupPages<S> {
     ghost settles_to = { λ g. SettlesTo g.usable
         (committed_with (S.committed g.base.value) (changed_pages g.changed) g.end) };
 
-    ghost moment = { λ _. 0 };
+    ghost moment = { λ _. endless 0 };
 
     ghost settled_since = { λ g _. SettlesTo g.usable
         (committed_with (S.committed g.base.value) (changed_pages g.changed) g.end) };

@@ -64,10 +64,10 @@ returns-in-Err-clause-left g c honest other after left =
     let usable = still_good (state_of old) (state_of new) c.in-Err.fault c.from.result all.err
     c.from.ensures other ∙ c.requires.fresh.usable in
     let run = all.unchanged honest usable in
-    left_as_before dev.left_since dev.candidate new.dev (dev.moment old.dev)
+    left_as_before dev.left_since dev.candidate new.dev (dev.moment old.dev).at
     (dev.sectors old.dev / 4) (dev.sectors new.dev / 4) _
     (still_capacity (state_of old) (state_of new) c.in-Err.fault all.err) run.each
-    (λ image is. g.met.D.SectorDev.counts_now new.dev (dev.moment old.dev) image
+    (λ image is. g.met.D.SectorDev.counts_now new.dev (dev.moment old.dev).at image
     (c.commit_empty.ensures.honesty.1 honest) run.later is) after
     (subst (λ d. IsImageOf (dev.candidate d) after) c.into_dev-in-Err.ensures left)
 

@@ -48,7 +48,7 @@ returns-in-Ok-clause-any_moment g c honest =
     (λ y. ⊎_elim
     (λ was. inl (settles_from cap (dev.sectors mid / 4) (dev.candidate old) (dev.candidate mid) y
     size (λ image is. run.each image
-    (g.met.D.SectorDev.counts_now mid (dev.moment old) image h1 run.later is)) was))
+    (g.met.D.SectorDev.counts_now mid (dev.moment old).at image h1 run.later is)) was))
     (λ new. inr (
       inr (record {
         file = file;

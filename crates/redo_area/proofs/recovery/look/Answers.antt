@@ -37,7 +37,8 @@ returns-in_err-read g c =
     let new = c.read.new.self in
     let synced = c.sync.ensures in
     let told = c.read.ensures in
-    let only_now = λ (h : dev.honest first) (image : Image) (left : dev.left_since first (dev.moment first) image).
+    let only_now = λ (h : dev.honest first) (image : Image)
+    (left : dev.left_since first (dev.moment first).at image).
     g.met.D.SectorDev.only_now first image h left in
     let stays = g.met.D.SectorDev.seen_may_stay new in
     let result = c.from_residual-in_err-read in
@@ -64,7 +65,8 @@ returns g c =
     let new = c.read.new.self in
     let synced = c.sync.ensures in
     let told = c.read.ensures in
-    let only_now = λ (h : dev.honest first) (image : Image) (left : dev.left_since first (dev.moment first) image).
+    let only_now = λ (h : dev.honest first) (image : Image)
+    (left : dev.left_since first (dev.moment first).at image).
     g.met.D.SectorDev.only_now first image h left in
     let stays = g.met.D.SectorDev.seen_may_stay new in
     record {

@@ -1,12 +1,13 @@
-use Rattle.std.proofs.Common.{ℕ, ◌/◌, List, [], ◌∷◌, ◌++◌, All, map, take, refl, sym, ◌∙◌, subst, arith}
+use Rattle.std.proofs.Common.{ℕ, ◌≤◌, ◌+◌, ◌/◌, List, [], ◌∷◌, ◌++◌, All, map, take, refl, sym, ap, ◌∙◌, subst, arith}
 use Rattle.std.proofs.lemmas.List.{take-map}
 use Rattle.std.proofs.lemmas.List.Elements.{All-nil, All-take}
+use Rattle.std.proofs.lemmas.List.Sums.{sum_by-append}
 use Rattle.sect_dev.specs.contracts.mem.MemDevSectorDev.TheImpl.{ghosts as MemDevGhosts}
 use Rattle.dbm_sessions.specs.Room.{AllHaveRoom, AsksForRoom, IsNeverShort}
 use Rattle.dbm_sessions.specs.Sessions.{Plan}
 use Rattle.dbm_sessions.proofs.Rooms.{sessions_keep_room}
-use Rattle.dbm_file.proofs.Runs.{all_taken, seen_next}
-use Rattle.rehearsal.specs.Rehearsals.{planned, SessionsLeave, AreNeverShort}
+use Rattle.dbm_file.proofs.Runs.{all_taken, taken_next, seen_next}
+use Rattle.rehearsal.specs.Rehearsals.{planned, SessionsLeave, AreNeverShort, most_changes}
 use Rattle.rehearsal.specs.Sessions.{ending_of}
 use Rattle.rehearsal.specs.declared.sessions.Ending.{Ending}
 use Rattle.rehearsal.specs.declared.rehearsing.Stage.{Stage}
@@ -25,6 +26,7 @@ loop-stage-init c = record {
   short = λ before stand all asked.
       subst AreNeverShort (sym c.new-endings.ensures.items)
       (All-nil (λ (e : Ending). (count : ℕ) → IsNeverShort (ending_of e count)));
+  stops = λ before stand. omega arith;
 }
 
 pub loop-stage-preserved : goal.loop-stage-preserved
@@ -62,6 +64,18 @@ loop-stage-preserved c = record {
       subst AreNeverShort (sym c.in_ok-push.ensures.items)
       (short_no_more c.loop-stage.endings.items c.in_ok-left.ending
       (c.loop-stage.invariant.short before stand all asked) one);
+  stops = λ before stand.
+      let so_far = c.loop-stage.invariant.left before stand in
+      let stages = c.args.stages.now in
+      let i = c.loop-stage.stage-index in
+      let one = c.stage-item.result in
+      omega (
+        arith,
+        c.loop-stage.invariant.stops before stand,
+        c.in_ok-left.ensures.stops so_far.after so_far.stand,
+        ap most_changes (taken_next stages i one c.loop-stage-test.true c.stage-item.is),
+        sum_by-append (λ (stage : Stage). stage.device_calls + 1) (take i stages) (one ∷ []),
+      );
 }
 
 pub returns-clause-leaves : goal.returns-clause-leaves
@@ -79,3 +93,10 @@ returns-clause-stays c before stand =
     all_left before (map planned c.args.stages.now) c.loop-stage.endings.items
     (MemDevGhosts.sectors left / 4) (MemDevGhosts.candidate left)
     (returns-clause-leaves c before stand)
+
+pub returns-clause-stops : goal.returns-clause-stops
+returns-clause-stops c before stand =
+    subst (λ (stages : List Stage). (MemDevGhosts.moment c.loop-stage.dev).at
+    ≤ (MemDevGhosts.moment c.args.dev).at + most_changes stages)
+    (all_taken c.args.stages.now c.loop-stage.stage-index (omega (arith, c.loop-stage-test.false)))
+    (c.loop-stage.invariant.stops before stand)

@@ -1,9 +1,9 @@
-use Rattle.std.proofs.Common.{◌≡◌, ◌/◌, All, map, take}
+use Rattle.std.proofs.Common.{◌≡◌, ◌≤◌, ◌+◌, ◌/◌, All, map, take}
 use Rattle.sect_dev.specs.contracts.mem.MemDevSectorDev.TheImpl.{ghosts as MemDevGhosts}
 use Rattle.dbm_sessions.specs.Members.{Members}
 use Rattle.dbm_sessions.specs.Room.{AllHaveRoom, AsksForRoom}
 use Rattle.rehearsal.specs.Members.{AllStandFor}
-use Rattle.rehearsal.specs.Rehearsals.{planned, SessionsLeave, AreNeverShort}
+use Rattle.rehearsal.specs.Rehearsals.{planned, SessionsLeave, AreNeverShort, most_changes}
 use Rattle.rehearsal.proofs.rehearsing.rehearse.Given as goal
 
 abbrev pub invariant-loop-stage : goal.invariant-loop-stage
@@ -20,4 +20,9 @@ invariant-loop-stage l = record {
       → AllHaveRoom (MemDevGhosts.sectors l.initial.dev / 4) before
       → All (AsksForRoom (MemDevGhosts.sectors l.initial.dev / 4)) (map planned l.stages)
       → AreNeverShort l.endings.items;
+  stops : (before : Members)
+      → AllStandFor before (MemDevGhosts.sectors l.initial.dev / 4)
+      (MemDevGhosts.candidate l.initial.dev)
+      → (MemDevGhosts.moment l.dev).at
+      ≤ (MemDevGhosts.moment l.initial.dev).at + most_changes (take l.stage-index l.stages);
 }

@@ -1,5 +1,6 @@
-use Rattle.std.proofs.Common.{ℕ, ◌/◌, List, sym, ap, ◌∙◌, subst}
+use Rattle.std.proofs.Common.{ℕ, ◌/◌, List, sym, ap, ◌∙◌, subst, arith}
 use Rattle.sect_dev.specs.contracts.mem.MemDevSectorDev.TheImpl.{ghosts as MemDevGhosts}
+use Rattle.sect_dev.proofs.Plans.{goes_until}
 use Rattle.dbm_file.specs.Opened as files
 use Rattle.chain_walks.specs.declared.pair.Pair.{Pair}
 use Rattle.dbm_file.specs.declared.calls.Call.{Call}
@@ -50,3 +51,20 @@ returns-clause-size c =
     ∙ ap (λ d. MemDevGhosts.sectors d / 4) c.into_inner.ensures
     ∙ c.session-fuse.ensures.size
     ∙ ap (λ d. MemDevGhosts.sectors d / 4) c.new-fuse.ensures.inner
+
+pub returns-clause-stops : goal.returns-clause-stops
+returns-clause-stops c before stand =
+    let there = subst (λ d. AllStandFor before (MemDevGhosts.sectors d / 4)
+    (MemDevGhosts.candidate d)) (sym c.new-fuse.ensures.inner) stand in
+    let run = (c.session-fuse.ensures.any_moment tt before there).1 in
+    let first = c.new-fuse.result in
+    let last = c.session-fuse.result.0 in
+    omega (
+      arith,
+      run.until,
+      c.new-fuse.ensures.until (MemDevGhosts.moment first.inner).at,
+      ap (λ d. (MemDevGhosts.moment d).at) c.new-fuse.ensures.inner,
+      goes_until last.plan (MemDevGhosts.moment last.inner).at,
+      ap (λ d. (MemDevGhosts.moment d).at) c.into_inner.ensures,
+      c.in_ok-left.ensures.moment,
+    )

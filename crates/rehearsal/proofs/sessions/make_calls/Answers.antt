@@ -130,7 +130,7 @@ returns-clause-leaves g c honest h at usable =
             (λ image is. left_now dev (device_below mid) (device_below new) (StandsForOne members)
             image more.keeps.goes.capacity lowered
             (λ later. g.met.D.SectorDev.counts_now (device_below new)
-            (dev.moment (device_below mid)) image then later is));
+            (dev.moment (device_below mid)).at image then later is));
       },
     ))
     (λ broken. broke c.args.db mid h calls group replies (dev.sectors left / 4) (dev.candidate left)

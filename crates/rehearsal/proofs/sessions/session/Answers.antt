@@ -38,7 +38,7 @@ returns-in-Err-clause-leaves g c honest before stand =
             (settled pages image)) c.for_writing.ensures
             (within.each (settled pages image) (record {
               left = image;
-              is_left = g.met.D.SectorDev.counts_now new (dev.moment old) image
+              is_left = g.met.D.SectorDev.counts_now new (dev.moment old).at image
                   (all.honesty.1 honest) within.later is;
               reads = refl;
             }))));

@@ -45,5 +45,5 @@ returns-clause-stands g c still h at usable image is =
     stands_for _ c.args.self h (settled (dev.sectors c.into_dev-dev.result / 4) image) at usable
     (left_now dev old.store.dev c.into_dev-dev.result P image
     (ap (λ d. dev.sectors d / 4) same ∙ capacity) run
-    (λ later. g.met.D.SectorDev.counts_now c.into_dev-dev.result (dev.moment old.store.dev) image
+    (λ later. g.met.D.SectorDev.counts_now c.into_dev-dev.result (dev.moment old.store.dev).at image
     still later is))

@@ -63,6 +63,7 @@ returns-clause-any_moment c honest usable writable =
     let same = returns-clause-committed c honest in
     record {
       later = omega arith;
+      until = omega arith;
       each = λ y s. inr (s ∙ ap file_of same);
       before = λ t y le s. inr (inr (s ∙ ap file_of same));
     }

@@ -30,7 +30,7 @@ returns-in-Ok-clause-committed g c honest =
     let h1 = c.recover.ensures.honesty.1 honest in
     let run = c.recover.ensures.any_moment honest in
     let now = run.each (dev.seen new)
-    (met.counts_now new (dev.moment first) (dev.seen new) h1 run.later
+    (met.counts_now new (dev.moment first).at (dev.seen new) h1 run.later
     (met.seen_may_stay new h1)) in
     let rests = rests_at true cap c.in-Ok.end c.in-Ok.end (bytes_of kept) (dev.candidate new) (dev.seen new)
     (ap bytes_of none) (c.in-Ok.ensures.rest honest) in

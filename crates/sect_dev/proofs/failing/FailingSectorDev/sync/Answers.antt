@@ -1,8 +1,7 @@
-use Rattle.std.proofs.Common.{refl, sym, ◌∙◌}
-use Rattle.sect_dev.specs.Device.{IsImageOf}
+use Rattle.std.proofs.Common.{refl, sym, inl, ◌∙◌, arith}
 use Rattle.sect_dev.specs.Failing.{inner_of}
 use Rattle.sect_dev.proofs.Results.{on_err}
-use Rattle.sect_dev.proofs.Refusing.{no_ok, no_time, cause_beside, refused_by_plan}
+use Rattle.sect_dev.proofs.Refusing.{no_ok, cause_beside, refused_by_plan}
 use Rattle.sect_dev.proofs.failing.FailingSectorDev.sync.Goals as goal
 
 pub returns-then-count : goal.returns-then-count
@@ -15,7 +14,14 @@ returns-then-count g c =
       seen = λ _. no_ok c.refuse.result _ refused.fails;
       candidates = λ _ _ _ is. is;
       keeps = λ _. on_err c.refuse.result _ (λ _ _ _ is. is);
-      time = λ _. no_time (D.moment dev) (D.left_since dev) (IsImageOf (D.candidate dev));
+      time = λ _. record {
+        later = omega arith;
+        until = c.count.ensures.until (D.moment dev).at (D.moment dev).at (omega arith)
+            (λ _ _. omega arith);
+        nothing_else = λ t x le is. inl is;
+        keeps = λ t x le is. is;
+      };
+      step = omega arith;
       honesty = (λ is. is, λ is. is);
       cause = cause_beside (D.faults dev) c.args.self.now.refused c.refuse.new.refused
           c.refuse.result refused.cause;

@@ -1,8 +1,8 @@
-use Rattle.std.proofs.Common.{◌*◌, ◌%◌, ℕ, is_ok, inr, ap}
+use Rattle.std.proofs.Common.{◌*◌, ◌%◌, ℕ, is_ok, inr, ap, arith}
 use Rattle.std.proofs.lemmas.Result.{on_ok_weaker, on_err_weaker}
 use Rattle.sect_dev.specs.FileHistory.{history_of}
 use Rattle.sect_dev.specs.FileHistory.Change.{Writes, Syncs}
-use Rattle.sect_dev.proofs.FileHistory.{honesty, time, same_seen, none_added, none_removed, change_time, run_seen, run_failed, run_adds, run_removes_none, sync_settles, sync_seen, sync_adds_none, sync_failed}
+use Rattle.sect_dev.proofs.FileHistory.{honesty, time, same_seen, none_added, none_removed, change_time, one_change_more, run_seen, run_failed, run_adds, run_removes_none, sync_settles, sync_seen, sync_adds_none, sync_failed}
 use Rattle.sect_dev.proofs.OneSector.{one_candidate, one_written, one_failed}
 use Rattle.sect_dev.proofs.file_dev.FileDevSectorDev.TheImpl.Goals as goal
 
@@ -19,6 +19,7 @@ read-tells c =
       keeps = λ honest. none_removed old.file new.file old.changes new.changes
           same.file same.changes;
       time = λ honest. time old.file new.file old.changes new.changes same.file (inr same.changes);
+      step = omega (arith, same.changes);
       honesty = honesty old.file new.file old.changes new.changes same.file;
       cause = c.ensures.cause;
       size = same.capacity;
@@ -51,6 +52,7 @@ write-tells c =
           goes.file goes.answered;
       time = λ honest. change_time c.result old.file new.file old.changes new.changes
           (Writes (n * 512) from (is_ok c.result)) goes.file goes.answered;
+      step = one_change_more old.changes new.changes goes.answered;
       honesty = honesty old.file new.file old.changes new.changes goes.file;
       cause = c.ensures.cause;
       size = c.ensures.size;
@@ -113,6 +115,7 @@ sync-tells c =
           goes.file goes.answered;
       time = λ honest. change_time c.result old.file new.file old.changes new.changes
           (Syncs (is_ok c.result)) goes.file goes.answered;
+      step = one_change_more old.changes new.changes goes.answered;
       honesty = honesty old.file new.file old.changes new.changes goes.file;
       cause = c.ensures.cause;
       size = c.ensures.size;

@@ -1,5 +1,6 @@
-use Rattle.std.proofs.Common.{◌≡◌, ◌∙◌, ◌<◌, ◌++◌, ◌+◌, refl, sym, ap, [], ◌∷◌, length, map, take, get_or, cond, false, arith, rules}
+use Rattle.std.proofs.Common.{List, ◌≡◌, ◌∙◌, ◌<◌, ◌++◌, ◌+◌, refl, sym, ap, [], ◌∷◌, length, map, take, get_or, cond, false, arith, rules}
 use Rattle.std.proofs.lemmas.List.{take_more, length-map, get_or-map}
+use Rattle.sect_dev.specs.declared.mem.MemDev.{MemDev}
 use Rattle.sect_dev.specs.declared.mem.Write.{Write}
 use Rattle.sect_dev.specs.declared.past.Event.{Event}
 use Rattle.sect_dev.specs.declared.past.Event.TheVariants.{Wrote}
@@ -13,6 +14,7 @@ pub loop-i-init : goal.loop-i-init
 loop-i-init c = record {
   kept_so_far = first (map event_of c.args.writes.now) (history c.args.self.now)
       (c.requires ∙ sym (length-map c.args.writes.now event_of)) c.args.keep.now;
+  most = omega arith;
   rest = record { capacity = refl; faults = refl };
 }
 
@@ -39,11 +41,22 @@ loop-i-preserved c =
       | then-is_marked+in_ok-add w ↦ record {
         kept_so_far = step (ap history w.self-is ∙ w.in_ok-add.ensures.ok
             ∙ ap (λ b. cond b (event ∷ old) old) w.if-is_marked.ensures);
+        most = omega (
+          arith,
+          c.loop-i.invariant.most,
+          ap (λ (events : List Event). length events)
+              (ap history w.self-is ∙ w.in_ok-add.ensures.ok),
+        );
         rest = search rules;
       }
       | else-is_marked w ↦ record {
         kept_so_far = step (ap history w.self-is
             ∙ ap (λ b. cond b (event ∷ old) old) w.if-is_marked.ensures);
+        most = omega (
+          arith,
+          c.loop-i.invariant.most,
+          ap (λ (dev : MemDev). length (history dev)) w.self-is,
+        );
         rest = search rules;
       }
     ]

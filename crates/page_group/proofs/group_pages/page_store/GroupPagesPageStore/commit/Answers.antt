@@ -59,6 +59,7 @@ returns-clause-any_moment g c honest usable writable =
     let same = returns-clause-committed g c honest in
     record {
       later = omega arith;
+      until = omega arith;
       each = λ y left. inr (left.1 ∙ ap file_of same);
       before = λ t y le left. inr (inr (left.1 ∙ ap file_of same));
     }
