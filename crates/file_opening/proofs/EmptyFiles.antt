@@ -131,6 +131,7 @@ reads_nothing dev d now = record {
   seen = refl;
   no_new = λ m c is. is;
   no_lost = λ m c is. is;
+  still = refl;
   any_moment = started dev.moment dev.left_since d (IsImageOf (dev.candidate d)) now;
 }
 

@@ -44,6 +44,7 @@ pub fn read_page<D: SectorDev>(dev: &mut D, n: u32, page: &mut Page) -> Result<(
     ensures keeps { D.honest dev.old → NoNewCandidate (D.candidate dev.new) (D.candidate dev.old) }
     ensures any_moment { D.honest dev.old
         → LeavesOnly D.moment D.left_since dev.old dev.new (IsImageOf (D.candidate dev.old)) }
+    ensures still { (D.moment dev.new).at ≡ (D.moment dev.old).at }
     ensures honesty { D.honest dev.new ↔ D.honest dev.old }
     ensures cause { HasCause (D.faults dev.old) (D.faults dev.new) result }
     ensures size { D.sectors dev.new ≡ D.sectors dev.old }

@@ -15,6 +15,7 @@ module _ {D : Type 0} (dev : Ghosts D) where
     seen = refl;
     no_new = λ m c may. may;
     no_lost = λ m c may. may;
+    still = refl;
     any_moment = started dev.moment dev.left_since old (IsImageOf (dev.candidate old)) only_now;
   }
 
@@ -24,13 +25,15 @@ module _ {D : Type 0} (dev : Ghosts D) where
       → IsImageOf (dev.candidate old) image)
       → dev.seen new ≡ dev.seen old → NoNewCandidate (dev.candidate old) (dev.candidate new)
       → NoNewCandidate (dev.candidate new) (dev.candidate old)
+      → (dev.moment new).at ≡ (dev.moment old).at
       → Elapses (dev.moment old) (dev.moment new) (dev.left_since old) (dev.left_since new)
       (IsImageOf (dev.candidate new))
       → OnlyReads dev old new
-  sector_read old new only_now seen no_new no_lost time = record {
+  sector_read old new only_now seen no_new no_lost still time = record {
     seen = seen;
     no_new = no_new;
     no_lost = no_lost;
+    still = still;
     any_moment = by_call dev.moment dev.left_since old new (IsImageOf (dev.candidate old))
         (IsImageOf (dev.candidate new)) only_now time
         (λ image is. fewer_images (dev.candidate old) (dev.candidate new) image no_new is);
@@ -43,6 +46,7 @@ module _ {D : Type 0} (dev : Ghosts D) where
     seen = second.seen ∙ first.seen;
     no_new = λ m c may. first.no_new m c (second.no_new m c may);
     no_lost = λ m c may. second.no_lost m c (first.no_lost m c may);
+    still = second.still ∙ first.still;
     any_moment = followed_by dev.moment dev.left_since old mid new (IsImageOf (dev.candidate old))
         (IsImageOf (dev.candidate mid)) first.any_moment second.any_moment
         (λ image is. fewer_images (dev.candidate old) (dev.candidate mid) image first.no_new is);
@@ -52,11 +56,17 @@ module _ {D : Type 0} (dev : Ghosts D) where
   pub one_more : (old mid new : D) → OnlyReads dev old mid → dev.seen new ≡ dev.seen mid
       → NoNewCandidate (dev.candidate mid) (dev.candidate new)
       → NoNewCandidate (dev.candidate new) (dev.candidate mid)
+      → (dev.moment new).at ≡ (dev.moment mid).at
       → LeavesOnly dev.moment dev.left_since mid new (IsImageOf (dev.candidate mid))
       → OnlyReads dev old new
-  one_more old mid new before seen no_new no_lost any_moment =
-      more_reads old mid new before
-      (record { seen = seen; no_new = no_new; no_lost = no_lost; any_moment = any_moment })
+  one_more old mid new before seen no_new no_lost still any_moment =
+      more_reads old mid new before (record {
+        seen = seen;
+        no_new = no_new;
+        no_lost = no_lost;
+        still = still;
+        any_moment = any_moment;
+      })
 
   -- writes that leave some sectors alone, and then a read
   pub read_on : {Kept : ℕ → Type 0} {old mid : D} (new : D) → Keeps dev Kept old mid

@@ -1,5 +1,5 @@
 -- What the calls of a sector device do, and what a stop may leave.
-use Rattle.std.specs.Prelude.{◌≡◌, ◌⊎◌, ◌+◌, ◌*◌, ◌/◌, ◌<◌, ◌≤◌, ℕ, ◌==◌, if◌then◌else◌, List, length, take, drop, Result, OnErr}
+use Rattle.std.specs.Prelude.{◌≡◌, ◌⊎◌, ◌+◌, ◌*◌, ◌/◌, ◌<◌, ◌≤◌, ℕ, ◌==◌, if◌then◌else◌, List, length, take, drop, Result, OnErr, ◌-◌, ◌^◌, min, OnOk}
 pub use Rattle.dbm_model.specs.FaultCount.{MoreFaults}
 
 -- the content of each sector
@@ -57,6 +57,11 @@ pub record Elapses {X : Type 0} (before now : Moment) (past since : ℕ → X �
 pub record HasCause {T E : Type 0} (before now : ℕ) (result : Result T E) : Type 0 where
   pub later : before ≤ now
   pub fault : OnErr result (MoreFaults before now)
+
+-- a call is counted as a fault exactly where it answers `Err`, up to the greatest count
+pub record IsCounted {T E : Type 0} (before now : ℕ) (result : Result T E) : Type 0 where
+  pub quiet : OnOk result (now ≡ before)
+  pub counted : OnErr result (now ≡ min (before + 1) (2 ^ 64 - 1))
 
 -- Whatever a stop at some moment since old may leave has P.
 pub record LeavesOnly {D X : Type 0} (moment : D → Moment) (left_since : D → ℕ → X → Type 0)

@@ -70,9 +70,10 @@ pub trait SectorDev {
         ensures time { honest self.old
             → Elapses (moment self.old) (moment self.new) (left_since self.old)
             (left_since self.new) (IsImageOf (candidate self.new)) }
-        ensures step { (moment self.new).at ≤ (moment self.old).at + 1 }
+        ensures still { (moment self.new).at ≡ (moment self.old).at }
         ensures honesty { honest self.new ↔ honest self.old }
         ensures cause { HasCause (faults self.old) (faults self.new) result }
+        ensures quiet { OnOk result (faults self.new ≡ faults self.old) }
         ensures size { sectors self.new ≡ sectors self.old };
 
     /// Writes a sector. Until the next successful sync a stop may leave it or not. A failed write
@@ -92,6 +93,7 @@ pub trait SectorDev {
         ensures step { (moment self.new).at ≤ (moment self.old).at + 1 }
         ensures honesty { honest self.new ↔ honest self.old }
         ensures cause { HasCause (faults self.old) (faults self.new) result }
+        ensures quiet { OnOk result (faults self.new ≡ faults self.old) }
         ensures size { sectors self.new ≡ sectors self.old };
 
     /// Reads adjacent sectors from sector n on, as many as `out` holds: each by a call of `read`, in
@@ -108,8 +110,10 @@ pub trait SectorDev {
         ensures time { honest self.old
             → Elapses (moment self.old) (moment self.new) (left_since self.old)
             (left_since self.new) (IsImageOf (candidate self.new)) }
+        ensures still { (moment self.new).at ≡ (moment self.old).at }
         ensures honesty { honest self.new ↔ honest self.old }
         ensures cause { HasCause (faults self.old) (faults self.new) result }
+        ensures quiet { OnOk result (faults self.new ≡ faults self.old) }
         ensures size { sectors self.new ≡ sectors self.old }
     {
         let mut content = [0; 512];
@@ -140,6 +144,7 @@ pub trait SectorDev {
             (left_since self.new) (IsImageOf (candidate self.new)) }
         ensures honesty { honest self.new ↔ honest self.old }
         ensures cause { HasCause (faults self.old) (faults self.new) result }
+        ensures quiet { OnOk result (faults self.new ≡ faults self.old) }
         ensures size { sectors self.new ≡ sectors self.old }
     {
         for k in 0..from.len() / 512 {
@@ -164,6 +169,7 @@ pub trait SectorDev {
         ensures step { (moment self.new).at ≤ (moment self.old).at + 1 }
         ensures honesty { honest self.new ↔ honest self.old }
         ensures cause { HasCause (faults self.old) (faults self.new) result }
+        ensures quiet { OnOk result (faults self.new ≡ faults self.old) }
         ensures size { sectors self.new ≡ sectors self.old };
 
     /// A sector's number is a u32.

@@ -116,10 +116,11 @@ impl<D: SectorDev, P: Plan> SectorDev for Failing<D, P> {
             → Elapses (moment_of D.moment P.until self.old) (moment_of D.moment P.until self.new)
             (D.left_since (inner_of self.old)) (D.left_since (inner_of self.new))
             (IsImageOf (D.candidate (inner_of self.new))) }
-        ensures step { (D.moment (inner_of self.new)).at ≤ (D.moment (inner_of self.old)).at + 1 }
+        ensures still { (D.moment (inner_of self.new)).at ≡ (D.moment (inner_of self.old)).at }
         ensures honesty { D.honest (inner_of self.new) ↔ D.honest (inner_of self.old) }
         ensures cause { HasCause (all_faults D.faults self.old)
             (all_faults D.faults self.new) result }
+        ensures quiet { OnOk result (all_faults D.faults self.new ≡ all_faults D.faults self.old) }
         ensures size { D.sectors (inner_of self.new) ≡ D.sectors (inner_of self.old) }
 
         ensures plan { FollowsPlan P.fails D.faults self.old self.new result }
@@ -161,6 +162,7 @@ impl<D: SectorDev, P: Plan> SectorDev for Failing<D, P> {
         ensures honesty { D.honest (inner_of self.new) ↔ D.honest (inner_of self.old) }
         ensures cause { HasCause (all_faults D.faults self.old)
             (all_faults D.faults self.new) result }
+        ensures quiet { OnOk result (all_faults D.faults self.new ≡ all_faults D.faults self.old) }
         ensures size { D.sectors (inner_of self.new) ≡ D.sectors (inner_of self.old) }
 
         ensures plan { FollowsPlan P.fails D.faults self.old self.new result }
@@ -201,6 +203,7 @@ impl<D: SectorDev, P: Plan> SectorDev for Failing<D, P> {
         ensures honesty { D.honest (inner_of self.new) ↔ D.honest (inner_of self.old) }
         ensures cause { HasCause (all_faults D.faults self.old)
             (all_faults D.faults self.new) result }
+        ensures quiet { OnOk result (all_faults D.faults self.new ≡ all_faults D.faults self.old) }
         ensures size { D.sectors (inner_of self.new) ≡ D.sectors (inner_of self.old) }
 
         ensures plan { FollowsPlan P.fails D.faults self.old self.new result }

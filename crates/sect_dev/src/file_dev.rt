@@ -1,6 +1,6 @@
 //! A device over a file.
 ghost use Rattle.std.specs.Prelude.{◌≡◌, ◌↔◌, ◌+◌, ◌-◌, ◌*◌, ◌%◌, ◌^◌, ◌<◌, ◌≤◌, ◌&&◌, false, is_ok, is_some, IsSome, IsErr, IfOk, IfErr, OnOk, length, take};
-ghost use Rattle.sect_dev.specs.Device.{HasCause, HasRun, sector_count, endless};
+ghost use Rattle.sect_dev.specs.Device.{HasCause, HasRun, sector_count, IsCounted, endless};
 ghost use Rattle.sect_dev.specs.FileHistory.{HasBytes, IsHonest, LeftFrom};
 ghost use Rattle.sect_dev.specs.FileHistory.Change.{Writes, Syncs};
 
@@ -233,6 +233,7 @@ impl FileDev {
         ensures fails { IsErr result }
         ensures same { IsSame self.old self.new }
         ensures cause { HasCause self.old.faults self.new.faults result }
+        ensures count { IsCounted self.old.faults self.new.faults result }
     {
         self.faults = self.faults.saturating_add(1);
         self.last = Some(error);
@@ -244,6 +245,7 @@ impl FileDev {
         ensures answer { is_ok result ≡ is_ok answer }
         ensures same { IsSame self.old self.new }
         ensures cause { HasCause self.old.faults self.new.faults result }
+        ensures count { IsCounted self.old.faults self.new.faults result }
     {
         match answer {
             Ok(()) => Ok(()),
@@ -291,6 +293,8 @@ impl SectorDev for FileDev {
         ensures same { IsSame self.old self.new }
         ensures cause { HasCause (⟦<FileDev as SectorDev>⟧.faults self.old)
             (⟦<FileDev as SectorDev>⟧.faults self.new) result }
+        ensures count { IsCounted (⟦<FileDev as SectorDev>⟧.faults self.old)
+            (⟦<FileDev as SectorDev>⟧.faults self.new) result }
     {
         self.read_run(n, out)
     }
@@ -301,6 +305,8 @@ impl SectorDev for FileDev {
             (is_ok result) }
         ensures whole { length from.now ≡ 512 }
         ensures cause { HasCause (⟦<FileDev as SectorDev>⟧.faults self.old)
+            (⟦<FileDev as SectorDev>⟧.faults self.new) result }
+        ensures count { IsCounted (⟦<FileDev as SectorDev>⟧.faults self.old)
             (⟦<FileDev as SectorDev>⟧.faults self.new) result }
         ensures size { ⟦<FileDev as SectorDev>⟧.sectors self.new
             ≡ ⟦<FileDev as SectorDev>⟧.sectors self.old }
@@ -315,6 +321,8 @@ impl SectorDev for FileDev {
             → OnOk result (HasRun (⟦<FileDev as SectorDev>⟧.seen self.old) n out.new) }
         ensures same { IsSame self.old self.new }
         ensures cause { HasCause (⟦<FileDev as SectorDev>⟧.faults self.old)
+            (⟦<FileDev as SectorDev>⟧.faults self.new) result }
+        ensures count { IsCounted (⟦<FileDev as SectorDev>⟧.faults self.old)
             (⟦<FileDev as SectorDev>⟧.faults self.new) result }
     {
         match self.fill(offset_of(n), out) {
@@ -331,6 +339,8 @@ impl SectorDev for FileDev {
         ensures whole { length from.now % 512 ≡ 0 }
         ensures cause { HasCause (⟦<FileDev as SectorDev>⟧.faults self.old)
             (⟦<FileDev as SectorDev>⟧.faults self.new) result }
+        ensures count { IsCounted (⟦<FileDev as SectorDev>⟧.faults self.old)
+            (⟦<FileDev as SectorDev>⟧.faults self.new) result }
         ensures size { ⟦<FileDev as SectorDev>⟧.sectors self.new
             ≡ ⟦<FileDev as SectorDev>⟧.sectors self.old }
     {
@@ -344,6 +354,8 @@ impl SectorDev for FileDev {
     fn sync(&mut self) -> Result<(), DevFault>
         ensures goes { AsksSystem self.old self.new (Syncs (is_ok result)) (is_ok result) }
         ensures cause { HasCause (⟦<FileDev as SectorDev>⟧.faults self.old)
+            (⟦<FileDev as SectorDev>⟧.faults self.new) result }
+        ensures count { IsCounted (⟦<FileDev as SectorDev>⟧.faults self.old)
             (⟦<FileDev as SectorDev>⟧.faults self.new) result }
         ensures size { ⟦<FileDev as SectorDev>⟧.sectors self.new
             ≡ ⟦<FileDev as SectorDev>⟧.sectors self.old }

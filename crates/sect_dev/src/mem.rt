@@ -1,7 +1,7 @@
 //! A device in memory.
 ghost use Rattle.std.specs.Prelude.{◌≡◌, ◌+◌, ◌^◌, ◌<◌, ◌≤◌, [], ◌∷◌, ◌++◌, ℕ, reverse, map, length, OnOk, OnErr, IfOk, slice_index_or, false};
 ghost use Rattle.sect_dev.specs.Sector.{zeros};
-ghost use Rattle.sect_dev.specs.Device.{HasCause, IsImageOf, IsStable, NoNewCandidate, endless};
+ghost use Rattle.sect_dev.specs.Device.{HasCause, IsCounted, IsImageOf, IsStable, NoNewCandidate, endless};
 ghost use Rattle.sect_dev.specs.History.{content_after, pending_of, kept, content_in, at_last_sync};
 ghost use Rattle.sect_dev.specs.Unsynced.{event_of, before_of, unsynced_of, overwritten};
 
@@ -231,6 +231,8 @@ impl SectorDev for MemDev {
         ensures err { OnErr result (IsSameRecord self.old self.new) }
         ensures cause { HasCause (⟦<MemDev as SectorDev>⟧.faults self.old)
             (⟦<MemDev as SectorDev>⟧.faults self.new) result }
+        ensures count { IsCounted (⟦<MemDev as SectorDev>⟧.faults self.old)
+            (⟦<MemDev as SectorDev>⟧.faults self.new) result }
         ensures size { ⟦<MemDev as SectorDev>⟧.sectors self.new
             ≡ ⟦<MemDev as SectorDev>⟧.sectors self.old }
     {
@@ -248,6 +250,8 @@ impl SectorDev for MemDev {
         ensures candidates { NoNewCandidate (⟦<MemDev as SectorDev>⟧.candidate self.old)
             (⟦<MemDev as SectorDev>⟧.candidate self.new) }
         ensures cause { HasCause (⟦<MemDev as SectorDev>⟧.faults self.old)
+            (⟦<MemDev as SectorDev>⟧.faults self.new) result }
+        ensures count { IsCounted (⟦<MemDev as SectorDev>⟧.faults self.old)
             (⟦<MemDev as SectorDev>⟧.faults self.new) result }
         ensures size { ⟦<MemDev as SectorDev>⟧.sectors self.new
             ≡ ⟦<MemDev as SectorDev>⟧.sectors self.old }

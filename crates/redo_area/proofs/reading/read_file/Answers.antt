@@ -25,7 +25,7 @@ returns-then-is_err g c =
       memory = λ honest is. other_fault Device Memory refl is;
       only_reads = λ honest. sector_read g.D.SectorDev c.args.dev.now c.read.new.self
           (λ image left. g.met.D.SectorDev.only_now c.args.dev.now image honest left)
-          (told.seen honest) (told.candidates honest) (told.keeps honest) (told.time honest);
+          (told.seen honest) (told.candidates honest) (told.keeps honest) told.still (told.time honest);
       later = told.cause.later;
       cause = λ is. fault_from_test c.read.result c.is_err.ensures.value c.if-is_err.true
           told.cause.fault;
@@ -49,7 +49,7 @@ returns-in-Blank g c =
       memory = λ honest is. other_fault Blank Memory refl is;
       only_reads = λ honest. sector_read g.D.SectorDev c.args.dev.now c.read.new.self
           (λ image left. g.met.D.SectorDev.only_now c.args.dev.now image honest left)
-          (told.seen honest) (told.candidates honest) (told.keeps honest) (told.time honest);
+          (told.seen honest) (told.candidates honest) (told.keeps honest) told.still (told.time honest);
       later = told.cause.later;
       cause = λ is. other_fault Blank Device refl is;
       honesty = told.honesty;
@@ -72,7 +72,7 @@ returns-in-NotOurs g c =
       memory = λ honest is. other_fault NotOurs Memory refl is;
       only_reads = λ honest. sector_read g.D.SectorDev c.args.dev.now c.read.new.self
           (λ image left. g.met.D.SectorDev.only_now c.args.dev.now image honest left)
-          (told.seen honest) (told.candidates honest) (told.keeps honest) (told.time honest);
+          (told.seen honest) (told.candidates honest) (told.keeps honest) told.still (told.time honest);
       later = told.cause.later;
       cause = λ is. other_fault NotOurs Device refl is;
       honesty = told.honesty;
@@ -95,7 +95,7 @@ returns-in-Damaged g c =
       memory = λ honest is. other_fault Damaged Memory refl is;
       only_reads = λ honest. sector_read g.D.SectorDev c.args.dev.now c.read.new.self
           (λ image left. g.met.D.SectorDev.only_now c.args.dev.now image honest left)
-          (told.seen honest) (told.candidates honest) (told.keeps honest) (told.time honest);
+          (told.seen honest) (told.candidates honest) (told.keeps honest) told.still (told.time honest);
       later = told.cause.later;
       cause = λ is. other_fault Damaged Device refl is;
       honesty = told.honesty;
@@ -127,7 +127,7 @@ returns-in-Clear g c =
       memory = λ honest is. no_err _ _ is;
       only_reads = λ honest. sector_read g.D.SectorDev c.args.dev.now c.read.new.self
           (λ image left. g.met.D.SectorDev.only_now c.args.dev.now image honest left)
-          (told.seen honest) (told.candidates honest) (told.keeps honest) (told.time honest);
+          (told.seen honest) (told.candidates honest) (told.keeps honest) told.still (told.time honest);
       later = told.cause.later;
       cause = λ is. no_err _ _ is;
       honesty = told.honesty;
@@ -167,7 +167,7 @@ returns-in_ok-redo-in-Armed g c =
           more_reads dev first c.read.new.self c.read_images.new.dev
           (sector_read dev first c.read.new.self
           (λ image left. g.met.D.SectorDev.only_now first image honest left)
-          (told.seen honest) (told.candidates honest) (told.keeps honest) (told.time honest))
+          (told.seen honest) (told.candidates honest) (told.keeps honest) told.still (told.time honest))
           (more.only_reads (told.honesty.1 honest));
       later = later_then _ _ _ told.cause.later more.later;
       cause = λ is. no_err _ _ is;
@@ -211,7 +211,7 @@ returns-in_err-redo-in-Armed g c =
           more_reads dev first c.read.new.self c.read_images.new.dev
           (sector_read dev first c.read.new.self
           (λ image left. g.met.D.SectorDev.only_now first image honest left)
-          (told.seen honest) (told.candidates honest) (told.keeps honest) (told.time honest))
+          (told.seen honest) (told.candidates honest) (told.keeps honest) told.still (told.time honest))
           (more.only_reads (told.honesty.1 honest));
       later = later_then _ _ _ told.cause.later more.later;
       cause = λ is. more_later _ _ _ told.cause.later (more.cause (came _ _ exit Device is));

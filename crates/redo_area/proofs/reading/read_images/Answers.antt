@@ -51,7 +51,7 @@ returns-then-is_err g c =
       only_reads = λ h.
           let h1 = inv.honesty.1 h in
           one_more g.D.SectorDev c.args.dev.now c.loop-i.dev c.read_page.new.dev (inv.only_reads h)
-          (page.seen h1) (page.candidates h1) (page.keeps h1) (page.any_moment h1);
+          (page.seen h1) (page.candidates h1) (page.keeps h1) page.still (page.any_moment h1);
       later = later_then _ _ _ inv.faults page.cause.later;
       cause = λ _. more_later _ _ _ inv.faults
           (fault_from_test c.read_page.result c.is_err.ensures.value c.if-is_err.true
@@ -89,7 +89,7 @@ returns-then-own-least g c =
       only_reads = λ h.
           let h1 = inv.honesty.1 h in
           one_more g.D.SectorDev c.args.dev.now c.loop-i.dev c.read_page.new.dev (inv.only_reads h)
-          (page.seen h1) (page.candidates h1) (page.keeps h1) (page.any_moment h1);
+          (page.seen h1) (page.candidates h1) (page.keeps h1) page.still (page.any_moment h1);
       later = later_then _ _ _ inv.faults page.cause.later;
       cause = λ is. other_fault Damaged Device refl is;
       honesty = both_ways page.honesty inv.honesty;
@@ -110,7 +110,7 @@ returns-then-is_err-2 g c =
       only_reads = λ h.
           let h1 = inv.honesty.1 h in
           one_more g.D.SectorDev c.args.dev.now c.loop-i.dev c.read_page.new.dev (inv.only_reads h)
-          (page.seen h1) (page.candidates h1) (page.keeps h1) (page.any_moment h1);
+          (page.seen h1) (page.candidates h1) (page.keeps h1) page.still (page.any_moment h1);
       later = later_then _ _ _ inv.faults page.cause.later;
       cause = λ is. other_fault Memory Device refl is;
       honesty = both_ways page.honesty inv.honesty;
@@ -175,7 +175,7 @@ loop-i-preserved g c =
       honesty = both_ways page.honesty inv.honesty;
       faults = omega (arith, page.cause.later, inv.faults);
       only_reads = λ h. one_more dev first c.loop-i.dev c.read_page.new.dev (inv.only_reads h)
-          (page.seen (h1 h)) (page.candidates (h1 h)) (page.keeps (h1 h)) (page.any_moment (h1 h));
+          (page.seen (h1 h)) (page.candidates (h1 h)) (page.keeps (h1 h)) page.still (page.any_moment (h1 h));
       checked = λ h. inv.checked h ∙ one_in_order at c.args.start c.args.count c.args.end c.loop-i.i
           c.loop-i.least c.from-own.result c.loop-i-test.true
           (c.from-own.ensures ∙ c.own.ensures.number ∙ ap own_number (bytes h))

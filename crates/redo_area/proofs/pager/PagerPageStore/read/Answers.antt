@@ -122,6 +122,7 @@ returns-then-is_err-clause-only_reads g c honest =
       seen = page.seen honest;
       no_new = page.candidates honest;
       no_lost = page.keeps honest;
+      still = page.still;
       any_moment = page.any_moment honest;
     }
 
@@ -143,5 +144,6 @@ returns-clause-only_reads g c honest =
       seen = page.seen honest;
       no_new = page.candidates honest;
       no_lost = page.keeps honest;
+      still = page.still;
       any_moment = page.any_moment honest;
     }

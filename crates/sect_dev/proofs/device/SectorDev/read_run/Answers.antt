@@ -10,6 +10,8 @@ loop-k-init g c =
     record {
       went = before_all dev.sectors dev.faults dev.moment dev.honest dev.candidate dev.left_since
           c.args.self.now;
+      quiet = refl;
+      still = refl;
       seen = λ h. refl;
       candidates = λ h m x may. may;
       read = λ h j less. absurd (omega (arith, less));
@@ -38,6 +40,8 @@ loop-k-preserved g c =
     record {
       went = one_more dev.sectors dev.faults dev.moment dev.honest dev.candidate dev.left_since
           first mid new inv.went done.size done.honesty done.cause.later done.keeps done.time;
+      quiet = c.in_ok-read.ensures.quiet ∙ inv.quiet;
+      still = done.still ∙ inv.still;
       seen = λ h. done.seen (still h) ∙ inv.seen h;
       candidates = λ h m x may. inv.candidates h m x (done.candidates (still h) m x may);
       read = λ h. below_more (λ j. dev.seen first (c.args.n + j)
@@ -64,6 +68,8 @@ returns-in_err-read g c =
       candidates = λ h m x may. inv.candidates h m x (done.candidates (still h) m x may);
       keeps = went.keeps;
       time = went.time;
+      still = done.still ∙ inv.still;
+      quiet = IfOk-from_err _ _ c.from_residual.ensures.0;
       honesty = went.honesty;
       cause = cause_after (dev.faults first) (dev.faults mid) (dev.faults new)
           c.from_residual.result inv.went.later done.cause.later c.in_err-read.ensures.cause.fault;
@@ -81,6 +87,8 @@ returns g c =
       candidates = inv.candidates;
       keeps = inv.went.keeps;
       time = inv.went.time;
+      still = inv.still;
+      quiet = inv.quiet;
       honesty = inv.went.honesty;
       cause = record { later = inv.went.later; fault = tt };
       size = inv.went.size;

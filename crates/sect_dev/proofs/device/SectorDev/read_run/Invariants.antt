@@ -11,6 +11,8 @@ invariant-loop-k g l =
     record {
       went : WentOn dev.sectors dev.faults dev.moment dev.honest dev.candidate dev.left_since
           first l.self;
+      quiet : dev.faults l.self ≡ dev.faults first;
+      still : (dev.moment l.self).at ≡ (dev.moment first).at;
       seen : dev.honest first → dev.seen l.self ≡ dev.seen first;
       candidates : dev.honest first → NoNewCandidate (dev.candidate first) (dev.candidate l.self);
       read : dev.honest first → (j : ℕ) → j < l.k → dev.seen first (l.n + j) ≡ part_of l.out j;

@@ -1,4 +1,4 @@
-use Rattle.std.proofs.Common.{inl, inr, arith}
+use Rattle.std.proofs.Common.{inl, inr, arith, refl, ◌∙◌}
 use Rattle.std.proofs.lemmas.Result.{IfOk-from_err}
 use Rattle.sect_dev.specs.Moments.{outside_run}
 use Rattle.sect_dev.proofs.Results.{on_err}
@@ -11,6 +11,7 @@ loop-k-init g c =
     record {
       went = before_all dev.sectors dev.faults dev.moment dev.honest dev.candidate dev.left_since
           c.args.self.now;
+      quiet = refl;
       written = λ h j less. absurd (omega (arith, less));
       partly = λ h m. inl (λ i. dev.seen c.args.self.now m);
       candidates = λ h m x may. inl may;
@@ -33,6 +34,7 @@ loop-k-preserved g c =
     record {
       went = one_more dev.sectors dev.faults dev.moment dev.honest dev.candidate dev.left_since
           first mid new inv.went done.size done.honesty done.cause.later done.keeps done.time;
+      quiet = c.in_ok-write.ensures.quiet ∙ inv.quiet;
       written = λ h. written_more c.args.n c.loop-k.k c.args.from.now c.sector_of.result
           c.loop-k-test.true c.sector_of.ensures (dev.seen first) (dev.seen mid) (dev.seen new)
           (inv.written h) (written (still h));
@@ -66,6 +68,7 @@ returns-in_err-write g c =
           (dev.candidate new) (inv.candidates h) (done.candidates (still h));
       keeps = went.keeps;
       time = went.time;
+      quiet = IfOk-from_err _ _ c.from_residual.ensures.0;
       honesty = went.honesty;
       cause = cause_after (dev.faults first) (dev.faults mid) (dev.faults new)
           c.from_residual.result inv.went.later done.cause.later
@@ -87,6 +90,7 @@ returns g c =
       candidates = inv.candidates;
       keeps = inv.went.keeps;
       time = inv.went.time;
+      quiet = inv.quiet;
       honesty = inv.went.honesty;
       cause = record { later = inv.went.later; fault = tt };
       size = inv.went.size;

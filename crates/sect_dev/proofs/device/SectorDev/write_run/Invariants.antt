@@ -11,6 +11,7 @@ invariant-loop-k g l =
     record {
       went : WentOn dev.sectors dev.faults dev.moment dev.honest dev.candidate dev.left_since
           first l.self;
+      quiet : dev.faults l.self ≡ dev.faults first;
       written : dev.honest first → (j : ℕ) → j < l.k
           → dev.seen l.self (l.n + j) ≡ part_of l.from j;
       partly : dev.honest first

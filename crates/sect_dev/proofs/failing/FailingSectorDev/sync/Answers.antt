@@ -25,6 +25,7 @@ returns-then-count g c =
       honesty = (λ is. is, λ is. is);
       cause = cause_beside (D.faults dev) c.args.self.now.refused c.refuse.new.refused
           c.refuse.result refused.cause;
+      quiet = no_ok c.refuse.result _ refused.fails;
       size = refl;
       plan = refused_by_plan g.P.Plan.fails D.faults c.args.self.now _ c.refuse.result
           (sym c.if-count.true ∙ c.count.ensures.now) refused.fails refused.count

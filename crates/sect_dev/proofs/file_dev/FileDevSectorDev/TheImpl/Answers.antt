@@ -19,9 +19,10 @@ read-tells c =
       keeps = λ honest. none_removed old.file new.file old.changes new.changes
           same.file same.changes;
       time = λ honest. time old.file new.file old.changes new.changes same.file (inr same.changes);
-      step = omega (arith, same.changes);
+      still = same.changes;
       honesty = honesty old.file new.file old.changes new.changes same.file;
       cause = c.ensures.cause;
+      quiet = c.ensures.count.quiet;
       size = same.capacity;
     }
 
@@ -55,6 +56,7 @@ write-tells c =
       step = one_change_more old.changes new.changes goes.answered;
       honesty = honesty old.file new.file old.changes new.changes goes.file;
       cause = c.ensures.cause;
+      quiet = c.ensures.count.quiet;
       size = c.ensures.size;
     }
 
@@ -71,8 +73,10 @@ read_run-tells c =
       keeps = λ honest. none_removed old.file new.file old.changes new.changes
           same.file same.changes;
       time = λ honest. time old.file new.file old.changes new.changes same.file (inr same.changes);
+      still = same.changes;
       honesty = honesty old.file new.file old.changes new.changes same.file;
       cause = c.ensures.cause;
+      quiet = c.ensures.count.quiet;
       size = same.capacity;
     }
 
@@ -97,6 +101,7 @@ write_run-tells c =
           (Writes (n * 512) from (is_ok c.result)) goes.file goes.answered;
       honesty = honesty old.file new.file old.changes new.changes goes.file;
       cause = c.ensures.cause;
+      quiet = c.ensures.count.quiet;
       size = c.ensures.size;
     }
 
@@ -118,5 +123,6 @@ sync-tells c =
       step = one_change_more old.changes new.changes goes.answered;
       honesty = honesty old.file new.file old.changes new.changes goes.file;
       cause = c.ensures.cause;
+      quiet = c.ensures.count.quiet;
       size = c.ensures.size;
     }

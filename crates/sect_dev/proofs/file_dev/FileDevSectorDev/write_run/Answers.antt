@@ -1,4 +1,5 @@
-use Rattle.std.proofs.Common.{◌*◌, ◌∙◌, is_ok}
+use Rattle.std.proofs.Common.{◌*◌, ◌∙◌, ℕ, is_ok, subst}
+use Rattle.sect_dev.specs.Device.{IsCounted}
 use Rattle.sect_dev.proofs.Asking.{asked_to_write, cause_since}
 use Rattle.sect_dev.proofs.file_dev.FileDevSectorDev.write_run.Goals as goal
 
@@ -15,5 +16,7 @@ returns c =
       whole = c.requires.whole;
       cause = cause_since c.note.result old.faults mid.faults c.note.new.self.faults
           done.faults told.cause;
+      count = subst (λ (n : ℕ). IsCounted n c.note.new.self.faults c.note.result) done.faults
+          told.count;
       size = told.same.capacity ∙ done.capacity;
     }
