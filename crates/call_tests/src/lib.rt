@@ -6,6 +6,12 @@ mod cache_tests;
 #[cfg(test)]
 mod call_tests;
 #[cfg(test)]
+mod failing_tests;
+#[cfg(test)]
 mod file_tests;
 #[cfg(test)]
+mod group_tests;
+#[cfg(test)]
 mod passing_tests;
+#[cfg(test)]
+mod room_tests;

@@ -1,4 +1,4 @@
-//! Tests of the engines of scripts, loads, dumps and lists.
+//! Tests of the engines of scripts, loads, dumps, lists and rehearsals.
 #![tactic(auto)]
 
 #[cfg(test)]
@@ -6,7 +6,11 @@ mod dump_tests;
 #[cfg(test)]
 mod engines;
 #[cfg(test)]
+mod kept_tests;
+#[cfg(test)]
 mod load_tests;
+#[cfg(test)]
+mod rehearse_tests;
 #[cfg(test)]
 mod script_tests;
 #[cfg(test)]
