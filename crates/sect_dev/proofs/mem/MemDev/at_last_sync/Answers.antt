@@ -1,4 +1,4 @@
-use Rattle.std.proofs.Common.{◌∙◌, List, map, reverse, sym, ap}
+use Rattle.std.proofs.Common.{rules, ◌∙◌, List, map, reverse, sym, ap}
 use Rattle.sect_dev.specs.declared.mem.Write.{Write}
 use Rattle.sect_dev.specs.declared.past.Event.{Event}
 use Rattle.sect_dev.specs.History.{content_after}
@@ -21,3 +21,6 @@ invariant_of-result-clause-before_are c =
 pub invariant_of-result-clause-indexed : goal.invariant_of-result-clause-indexed
 invariant_of-result-clause-indexed c = λ n.
     c.in_ok-undone.ensures n ∙ sym (ap (λ (l : List Event). content_after l n) c.synced.ensures)
+
+pub returns-clause-size : goal.returns-clause-size
+returns-clause-size c = search rules
