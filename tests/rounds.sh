@@ -1,6 +1,6 @@
 #!/usr/bin/env bash
 # What tests/rounds tells of edits that it has to tell apart, in a small crate of its own: refused ones, of functions of which one calls the
-# other too, and those that mean the same, can't be read, or can't be applied.
+# other too, in files; and in waiting.md those that mean the same, can't be read, or can't be applied.
 set -u
 top=$(cd "$(dirname "$0")/.." && pwd)
 work=$(mktemp -d)
@@ -38,19 +38,19 @@ pub fn twice(n: u8) -> u8
     2 * n
 }
 R
-file=crates/sums/must-fail/waiting.md
-edit() { printf '\n## %s\n\n    file: src/lib.rt\n    old: %s\n    new: %s\n' "$1" "$2" "$3" >> $file; }
-: > $file
-edit 'next: one too many' '    n + 1' '    n + 2'
-edit 'next: stays' '    n + 1' '    n'
-edit 'behind_next: one too few' 'next(n) + 1' 'next(n)'
-edit 'twice: once' '    2 * n' '    n'
-edit 'alone: nothing is said of the sum' '    2 * n' '    3 * n'
-tests/rounds > out 2>&1 || { wrong "edits that are refused are told as not refused:"; cat out; }
+edit_file() { printf 'file: src/lib.rt\nold: %s\nnew: %s\n' "$2" "$3" > "crates/sums/must-fail/$1.edit"; }
+edit_file next-one_too_many '    n + 1' '    n + 2'
+edit_file next-stays '    n + 1' '    n'
+edit_file behind_next-one_too_few 'next(n) + 1' 'next(n)'
+edit_file twice-once '    2 * n' '    n'
+edit_file sum-another_one_is_said 'result ≡ n + 2' 'result ≡ n + 3'
+tests/rounds --edits > out 2>&1 || { wrong "edits that are refused are told as not refused:"; cat out; }
 [ "$(tail -n 1 out)" = '5 passed, 0 failed' ] || { wrong "five edits are refused:"; cat out; }
 # one check of the crate as it stands, three rounds at most, and the one alone
 grep -qE '^sums: 5 of 5 edits refused, in [45] checks' out || { wrong "the edits were not tried together:"; cat out; }
 
+file=crates/sums/must-fail/waiting.md
+edit() { printf '\n## %s\n\n    file: src/lib.rt\n    old: %s\n    new: %s\n' "$1" "$2" "$3" >> $file; }
 : > $file
 edit 'next: one too many' '    n + 1' '    n + 2'
 edit 'behind_next: the same in another order' 'next(n) + 1' '1 + next(n)'

@@ -10,3 +10,6 @@ loop-preserved g c =
     search rules in
     with_line _ _ _ _ _ _ c.read_line-read.new.line.items _ _ read c.loop.invariant
     c.in_ok-keep_call.ensures.line
+
+pub returns-then-not-is_line-clause-calls : goal.returns-then-not-is_line-clause-calls
+returns-then-not-is_line-clause-calls g c = search rules

@@ -1,10 +1,13 @@
-use Rattle.std.proofs.Common.{◌∙◌, sym, arith}
+use Rattle.std.proofs.Common.{◌∙◌, sym, arith, rules}
 use Rattle.linear_hash.proofs.staging.take_out.Goals as goal
 
 -- the key was there
 pub returns-then-branch-clause-taken_out : goal.returns-then-branch-clause-taken_out
 returns-then-branch-clause-taken_out g c honest =
     c.in_ok-remove.ensures.taken_out honest c.if-branch.true
+
+pub returns-else-branch-clause-taken_out : goal.returns-else-branch-clause-taken_out
+returns-else-branch-clause-taken_out g c = search rules
 
 -- it was not, which a chain with the key is not told of
 pub returns-else-branch-clause-whole : goal.returns-else-branch-clause-whole

@@ -1,4 +1,4 @@
-use Rattle.std.proofs.Common.{◌/◌, inl, sym, ◌∙◌, ap, subst}
+use Rattle.std.proofs.Common.{rules, ◌/◌, inl, sym, ◌∙◌, ap, subst}
 use Rattle.sect_dev.specs.Device.{LeavesOnly}
 use Rattle.sect_dev.specs.Moments.{IsOutcome}
 use Rattle.redo_commit.specs.File.{settled}
@@ -47,3 +47,9 @@ returns-clause-stands g c still h at usable image is =
     (ap (λ d. dev.sectors d / 4) same ∙ capacity) run
     (λ later. g.met.D.SectorDev.counts_now c.into_dev-dev.result (dev.moment old.store.dev).at image
     still later is))
+
+pub returns-clause-rests : goal.returns-clause-rests
+returns-clause-rests g c = search rules
+
+pub returns-clause-broken : goal.returns-clause-broken
+returns-clause-broken g c = search rules
