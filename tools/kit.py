@@ -80,8 +80,13 @@ def words(verb, name, made):
     return [*said, "--links", f"{name}="]
 
 
-def lanes():
-    """How many checks run at one time: one a processor, as many as memory holds."""
+def room():
+    """For how many checks there is memory."""
     with open("/proc/meminfo", encoding="utf-8") as file:
         free = next(int(line.split()[1]) for line in file if line.startswith("MemAvailable:"))
-    return max(1, min(len(os.sched_getaffinity(0)), free // ONE_CHECK))
+    return free // ONE_CHECK
+
+
+def lanes():
+    """How many checks run at one time: one a processor, as many as memory holds."""
+    return max(1, min(len(os.sched_getaffinity(0)), room()))
