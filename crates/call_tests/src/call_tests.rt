@@ -6,6 +6,7 @@ use sect_dev::MemDev;
 use std::alloc::Global;
 use std::test::Fail;
 use test_databases::asking::{calls_of, first_wrong};
+use test_databases::calls::{delete, fetch};
 use test_databases::databases::{new_database, opened, put, wrong_when_new};
 
 #[test]
@@ -88,7 +89,7 @@ fn key_of(n: u16) -> [u8; 2] {
 /// The first of so many keys that isn't there with an empty content.
 fn first_not_empty<S: PageStore>(db: &mut Database<S>, keys: u16) -> Result<Option<u16>, Fault> {
     for n in 0..keys {
-        if db.fetch(&key_of(n))? != Some(b"".as_slice()) {
+        if fetch(db, &key_of(n))? != Some(b"".as_slice()) {
             return Ok(Some(n));
         }
     }
@@ -98,7 +99,7 @@ fn first_not_empty<S: PageStore>(db: &mut Database<S>, keys: u16) -> Result<Opti
 /// Deletes the odd ones of so many keys, and answers the first that wasn't there.
 fn first_odd_absent<S: PageStore>(db: &mut Database<S>, keys: u16) -> Result<Option<u16>, Fault> {
     for n in 0..keys / 2 {
-        if db.delete(&key_of(2 * n + 1))? != DeleteReply::Deleted {
+        if delete(db, &key_of(2 * n + 1))? != DeleteReply::Deleted {
             return Ok(Some(2 * n + 1));
         }
     }
@@ -108,7 +109,7 @@ fn first_odd_absent<S: PageStore>(db: &mut Database<S>, keys: u16) -> Result<Opt
 /// The first of so many keys that is there though odd, or isn't there though even.
 fn first_not_even<S: PageStore>(db: &mut Database<S>, keys: u16) -> Result<Option<u16>, Fault> {
     for n in 0..keys {
-        if db.fetch(&key_of(n))?.is_some() != (n % 2 == 0) {
+        if fetch(db, &key_of(n))?.is_some() != (n % 2 == 0) {
             return Ok(Some(n));
         }
     }
@@ -136,19 +137,33 @@ fn first_astray<S: PageStore>(db: &mut Database<S>, keys: u16) -> Result<Option<
 }
 
 // There are page 0, the meta page, two segments and a page for each bucket.
+const FULL: &str = "
+    stat -> 4065 pairs of 5000, 509 buckets (8 253), 513 pages, 0 free
+    fetch #0fe1 -> nothing
+";
+
+const HALVED: &str = "stat -> 2033 pairs of 5000, 509 buckets (8 253), 513 pages, 0 free";
+
+/// The first line that is answered otherwise where so many keys are stored that there is a second
+/// segment, and half of them then deleted.
+fn first_wrong_halved<S: PageStore>(
+    alloc: Global,
+    db: &mut Database<S>,
+) -> Result<Option<&'static str>, Fail> {
+    store_empty(db, 4_065)?;
+    if let Some(line) = first_wrong(alloc, db, FULL)? {
+        return Ok(Some(line));
+    }
+    if first_astray(db, 4_065)?.is_some() {
+        return Ok(Some("each key as it has to be"));
+    }
+    first_wrong(alloc, db, HALVED)
+}
+
 #[test]
 fn a_second_segment_is_taken(rt: HostRuntime) -> Result<(), Fail> {
-    let alloc = rt.alloc();
-    let mut db = new_database(alloc, 5_000)?;
-    store_empty(&mut db, 4_065)?;
-    let full = "
-        stat -> 4065 pairs of 5000, 509 buckets (8 253), 513 pages, 0 free
-        fetch #0fe1 -> nothing
-    ";
-    assert_eq!(rt; first_wrong(alloc, &mut db, full)?, None);
-    assert_eq!(rt; first_astray(&mut db, 4_065)?, None);
-    let halved = "stat -> 2033 pairs of 5000, 509 buckets (8 253), 513 pages, 0 free";
-    assert_eq!(rt; first_wrong(alloc, &mut db, halved)?, None);
+    let wrong = first_wrong_halved(rt.alloc(), &mut new_database(rt.alloc(), 5_000)?)?;
+    assert_eq!(rt; wrong, None);
     Ok(())
 }
 

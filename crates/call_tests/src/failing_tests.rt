@@ -5,6 +5,7 @@ use page_io::PageStore;
 use sect_dev::{FailLate, FailOnce, Failing, Fuse, MemDev, Plan};
 use std::alloc::Global;
 use std::test::Fail;
+use test_databases::calls::fetch;
 use test_databases::databases::{PAIRS, closed, new_database, opened, opening, put};
 
 /// The calls of the device in the closing, which brings four pages home: four sectors of each page,
@@ -61,7 +62,7 @@ fn store_pairs<S: PageStore>(db: &mut Database<S>, answers: &mut Answers) {
 fn fetch_pairs<S: PageStore>(db: &mut Database<S>, answers: &mut Answers) {
     for (i, (key, content)) in PAIRS.iter().enumerate() {
         let stored = answers.stored[i];
-        match db.fetch(&[*key]) {
+        match fetch(db, &[*key]) {
             Ok(Some(found)) => accept(answers, stored && found == [*content].as_slice()),
             Ok(None) => accept(answers, !stored),
             Err(fault) => refuse(answers, fault),
@@ -93,7 +94,7 @@ fn are_right(answers: &Answers, goes_on: bool) -> bool {
 fn is_kept<S: PageStore>(db: &mut Database<S>, answers: &Answers) -> Result<bool, Fault> {
     let mut more: u32 = 0;
     for (i, (key, content)) in PAIRS.iter().enumerate() {
-        match db.fetch(&[*key])? {
+        match fetch(db, &[*key])? {
             Some(found) if found != [*content].as_slice() => return Ok(false),
             Some(_) if !answers.stored[i] => more = more.wrapping_add(1),
             None if answers.stored[i] => return Ok(false),

@@ -1,10 +1,11 @@
 //! Stores of many pairs in one commit.
 
-use dbm_file::{Access, Database, Db, Fault, OpenHow, Pair, Unwatched};
+use dbm_file::{Access, Database, Db, Fault, OpenHow, Pair};
 use page_io::PageStore;
 use sect_dev::{Fuse, MemDev};
 use std::alloc::{AllocError, Global};
 use std::test::Fail;
+use test_databases::calls::{fetch, open, store_many, verify};
 use test_databases::databases::{PAIRS, closed, has_first, new_database, opened, put, with_first};
 
 /// The calls of the device in a commit of the nine pairs into an empty database: four sectors of
@@ -47,66 +48,122 @@ fn found<S: PageStore>(db: &mut Database<S>, end: u32) -> Result<u32, Fault> {
     let mut count: u32 = 0;
     for number in 0..end {
         let bytes = number.to_be_bytes();
-        if db.fetch(&bytes)? == Some(bytes.as_slice()) {
+        if fetch(db, &bytes)? == Some(bytes.as_slice()) {
             count = count.wrapping_add(1);
         }
     }
     Ok(count)
 }
 
-#[test]
-fn a_thousand_pairs_are_stored_in_ten_groups(rt: HostRuntime) -> Result<(), Fail> {
-    let mut db = new_database(rt.alloc(), 1_000)?;
+/// Stores the pairs of these numbers in one group, and answers how many were stored.
+fn store_numbered<S: PageStore>(
+    alloc: Global,
+    db: &mut Database<S>,
+    first: u32,
+    end: u32,
+) -> Result<usize, Fail> {
+    Ok(store_many(db, &numbered(alloc, first, end)?)?)
+}
+
+/// Stores a thousand pairs in ten groups, and answers how many were stored.
+fn store_ten_groups<S: PageStore>(alloc: Global, db: &mut Database<S>) -> Result<usize, Fail> {
+    let mut stored: usize = 0;
     for group in 0..10 {
         let first = 100u32.wrapping_mul(group);
-        let pairs = numbered(rt.alloc(), first, first.wrapping_add(100))?;
-        assert_eq!(rt; db.store_many(&pairs)?, 100);
+        let count = store_numbered(alloc, db, first, first.wrapping_add(100))?;
+        stored = stored.wrapping_add(count);
     }
-    assert_eq!(rt; found(&mut db, 1_000)?, 1_000);
-    let mut marks = [false; 1_128];
-    assert!(rt; db.stat().pages as usize <= marks.len());
-    assert_eq!(rt; db.verify(&mut marks, &mut Unwatched)?, 1_000);
+    Ok(stored)
+}
+
+/// How many pairs a good database has, of at most 1,128 pages.
+fn verified<S: PageStore>(db: &mut Database<S>) -> Result<u32, Fail> {
+    Ok(verify(db, &mut [false; 1_128])?.ok_or("at most 1,128 pages")?)
+}
+
+/// How many pairs are stored in ten groups, found and verified.
+fn counts_of_ten_groups<S: PageStore>(
+    alloc: Global,
+    db: &mut Database<S>,
+) -> Result<(usize, u32, u32), Fail> {
+    let stored = store_ten_groups(alloc, db)?;
+    Ok((stored, found(db, 1_000)?, verified(db)?))
+}
+
+#[test]
+fn a_thousand_pairs_are_stored_in_ten_groups(rt: HostRuntime) -> Result<(), Fail> {
+    let counts = counts_of_ten_groups(rt.alloc(), &mut new_database(rt.alloc(), 1_000)?)?;
+    assert_eq!(rt; counts, (1_000, 1_000, 1_000));
     Ok(())
+}
+
+/// How many pairs a group of five and one of two store in a database of limit 3, and how many are
+/// there then.
+fn counts_at_limit<S: PageStore>(
+    alloc: Global,
+    db: &mut Database<S>,
+) -> Result<(usize, usize, u32), Fail> {
+    let first = store_numbered(alloc, db, 0, 5)?;
+    let rest = store_numbered(alloc, db, 3, 5)?;
+    if put(db, &3u32.to_be_bytes(), b"") != Err(Fault::Full) {
+        return Err("a fourth pair that is refused".into());
+    }
+    Ok((first, rest, found(db, 5)?))
 }
 
 #[test]
 fn a_group_ends_at_the_limit(rt: HostRuntime) -> Result<(), Fail> {
-    let mut db = new_database(rt.alloc(), 3)?;
-    let pairs = numbered(rt.alloc(), 0, 5)?;
-    assert_eq!(rt; db.store_many(&pairs)?, 3);
-    let rest = numbered(rt.alloc(), 3, 5)?;
-    assert_eq!(rt; db.store_many(&rest)?, 0);
-    assert_eq!(rt; put(&mut db, &3u32.to_be_bytes(), b""), Err(Fault::Full));
-    assert_eq!(rt; found(&mut db, 5)?, 3);
+    let counts = counts_at_limit(rt.alloc(), &mut new_database(rt.alloc(), 3)?)?;
+    assert_eq!(rt; counts, (3, 0, 3));
     Ok(())
+}
+
+/// Two pairs, one that is too long, and another.
+fn with_one_too_long(alloc: Global) -> Result<Vec<Pair>, AllocError> {
+    let mut pairs = numbered(alloc, 0, 2)?;
+    pairs.push(pair(alloc, b"k", &[0; 2_026])?)?;
+    pairs.push(pair(alloc, b"l", b"v")?)?;
+    Ok(pairs)
+}
+
+/// How many of some pairs a group stores, and how many are there then.
+fn counts_of<S: PageStore>(db: &mut Database<S>, pairs: &[Pair]) -> Result<(usize, u32), Fault> {
+    let stored = store_many(db, pairs)?;
+    Ok((stored, db.stat().pairs))
 }
 
 #[test]
 fn a_group_ends_at_a_pair_that_is_too_long(rt: HostRuntime) -> Result<(), Fail> {
-    let mut db = new_database(rt.alloc(), 100)?;
-    let mut pairs = numbered(rt.alloc(), 0, 2)?;
-    pairs.push(pair(rt.alloc(), b"k", &[0; 2_026])?)?;
-    pairs.push(pair(rt.alloc(), b"l", b"v")?)?;
-    assert_eq!(rt; db.store_many(&pairs)?, 2);
-    assert_eq!(rt; db.stat().pairs, 2);
+    let pairs = with_one_too_long(rt.alloc())?;
+    let counts = counts_of(&mut new_database(rt.alloc(), 100)?, &pairs)?;
+    assert_eq!(rt; counts, (2, 2));
     Ok(())
+}
+
+/// Three pairs of the key `a`.
+fn thrice(alloc: Global) -> Result<Vec<Pair>, AllocError> {
+    let mut pairs = Vec::new(alloc);
+    for content in [b"1", b"2", b"3"].iter() {
+        pairs.push(pair(alloc, b"a", *content)?)?;
+    }
+    Ok(pairs)
+}
+
+/// Whether the last of these stays where they are stored in one group.
+fn keeps_the_last<S: PageStore>(db: &mut Database<S>, pairs: &[Pair]) -> Result<bool, Fault> {
+    let counts = counts_of(db, pairs)?;
+    Ok(counts == (3, 9) && fetch(db, b"a")? == Some(b"3".as_slice()))
 }
 
 #[test]
 fn the_last_pair_of_a_key_stays(rt: HostRuntime) -> Result<(), Fail> {
-    let mut db = with_first(rt.alloc(), 9)?;
-    let mut pairs = Vec::new(rt.alloc());
-    for content in [b"1", b"2", b"3"].iter() {
-        pairs.push(pair(rt.alloc(), b"a", *content)?)?;
-    }
-    assert_eq!(rt; db.store_many(&pairs)?, 3);
-    assert_eq!(rt; db.fetch(b"a")?, Some(b"3".as_slice()));
-    assert_eq!(rt; db.stat().pairs, 9);
+    let pairs = thrice(rt.alloc())?;
+    assert!(rt; keeps_the_last(&mut with_first(rt.alloc(), 9)?, &pairs)?);
     Ok(())
 }
 
-#[test]
-fn a_database_opened_for_reading_refuses_a_group(rt: HostRuntime) -> Result<(), Fail> {
+/// The nine pairs, opened for reading.
+fn opened_for_reading(alloc: Global) -> Result<Db<MemDev>, Fault> {
     let how = OpenHow {
         access: Access::ReadOnly,
         create: false,
@@ -114,10 +171,20 @@ fn a_database_opened_for_reading_refuses_a_group(rt: HostRuntime) -> Result<(), 
         truncate: false,
         limit: 0,
     };
-    let dev = closed(with_first(rt.alloc(), 9)?)?;
-    let mut db = Db::open(rt.alloc(), dev, how).map_err(|(_, fault)| fault)?;
-    assert_eq!(rt; db.store_many(&nine(rt.alloc())?), Err(Fault::ReadOnly));
-    assert_eq!(rt; db.error(), 4);
+    open(alloc, closed(with_first(alloc, 9)?)?, how)
+}
+
+/// The fault of a group, and the number of the error that is kept of it.
+fn refusal<S: PageStore>(db: &mut Database<S>, pairs: &[Pair]) -> (Option<Fault>, i32) {
+    let fault = store_many(db, pairs).err();
+    (fault, db.error())
+}
+
+#[test]
+fn a_database_opened_for_reading_refuses_a_group(rt: HostRuntime) -> Result<(), Fail> {
+    let pairs = nine(rt.alloc())?;
+    let refused = refusal(&mut opened_for_reading(rt.alloc())?, &pairs);
+    assert_eq!(rt; refused, (Some(Fault::ReadOnly), 4));
     Ok(())
 }
 
@@ -157,7 +224,7 @@ fn run_of(alloc: Global, k: u64) -> Result<Run, Fail> {
     let Ok(mut db) = opened(alloc, Fuse::new(dev, k), false, 0) else {
         return Ok(Run::Unopened);
     };
-    let answer = db.store_many(&nine(alloc)?);
+    let answer = store_many(&mut db, &nine(alloc)?);
     let (dev, ended) = db.close();
     if !survives(alloc, &dev.into_inner(), answer == Ok(9))? {
         return Ok(Run::Wrong);

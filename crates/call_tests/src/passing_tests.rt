@@ -6,6 +6,7 @@ use sect_dev::FailOnce;
 use std::alloc::Global;
 use std::test::Fail;
 use test_databases::asking::first_wrong;
+use test_databases::calls::{firstkey, nextkey};
 use test_databases::databases::{closed, new_database, opened, put, with_first, wrong_with_nine};
 
 #[test]
@@ -79,31 +80,34 @@ fn mark(given: &mut [bool], key: Option<&[u8]>) -> bool {
 
 /// Whether a pass gives each of the keys once, in as many calls, and then none.
 fn passes_each_once<S: PageStore>(db: &mut Database<S>, given: &mut [bool]) -> Result<bool, Fault> {
-    if !mark(given, db.firstkey()?) {
+    if !mark(given, firstkey(db)?) {
         return Ok(false);
     }
     for _ in 1..given.len() {
-        if !mark(given, db.nextkey()?) {
+        if !mark(given, nextkey(db)?) {
             return Ok(false);
         }
     }
-    Ok(db.nextkey()?.is_none() && db.nextkey()?.is_none())
+    Ok(nextkey(db)?.is_none() && nextkey(db)?.is_none())
+}
+
+/// Whether there are 300 buckets, and an overflow page for each.
+fn has_overflow_pages<S: PageStore>(db: &Database<S>) -> bool {
+    let stat = db.stat();
+    stat.buckets == 300 && stat.pages > 2 * 300
+}
+
+/// Whether a pass over many pairs in such buckets gives each key once.
+fn passes_many<S: PageStore>(db: &mut Database<S>, given: &mut [bool]) -> Result<bool, Fail> {
+    store_many(db)?;
+    let right = has_overflow_pages(db) && passes_each_once(db, given)?;
+    Ok(right && given.iter().all(|once| *once))
 }
 
 #[test]
 fn a_pass_over_300_buckets_gives_each_key_once(rt: HostRuntime) -> Result<(), Fail> {
-    let alloc = rt.alloc();
-    let mut db = new_database(alloc, 3_000)?;
-    store_many(&mut db)?;
-    let stat = db.stat();
-    assert!(rt;
-        stat.buckets == 300 && stat.pages > 2 * 300,
-        "overflow pages"
-    );
-
-    let mut given = vec![in alloc; false; usize::from(MANY)]?;
-    assert!(rt; passes_each_once(&mut db, &mut given)?);
-    assert!(rt; given.iter().all(|once| *once));
+    let mut given = vec![in rt.alloc(); false; usize::from(MANY)]?;
+    assert!(rt; passes_many(&mut new_database(rt.alloc(), 3_000)?, &mut given)?);
     Ok(())
 }
 

@@ -1,10 +1,11 @@
 //! Databases on devices that just suffice for their limits.
 
-use dbm_file::{Access, Database, Db, Fault, OpenHow, Unwatched};
+use dbm_file::{Access, Database, Db, Fault, OpenHow};
 use page_io::PageStore;
 use sect_dev::MemDev;
 use std::alloc::Global;
 use std::test::Fail;
+use test_databases::calls::{delete, open, verify};
 use test_databases::databases::{closed, new_database, put, wrong_when_new};
 
 /// With a key of one byte, the longest content.
@@ -39,7 +40,7 @@ fn fill<S: PageStore>(db: &mut Database<S>, count: u8) -> Result<(), Fault> {
 /// Deletes them again.
 fn clear<S: PageStore>(db: &mut Database<S>, count: u8) -> Result<(), Fault> {
     for key in 0..count {
-        db.delete(&[key])?;
+        delete(db, &[key])?;
     }
     Ok(())
 }
@@ -53,7 +54,7 @@ fn emptied(alloc: Global, dev: MemDev, limit: u8) -> Result<Db<MemDev>, Fault> {
         truncate: true,
         limit: u32::from(limit),
     };
-    Db::open(alloc, dev, how).map_err(|(_, fault)| fault)
+    open(alloc, dev, how)
 }
 
 /// Fills, clears and fills again a database of a limit, makes it empty and fills it once more, on a
@@ -81,7 +82,7 @@ fn each_limit_has_room_to_be_filled_cleared_and_emptied(rt: HostRuntime) -> Resu
 fn take_turn<S: PageStore>(db: &mut Database<S>, turn: u32) -> Result<(), Fault> {
     let key = [(turn.wrapping_mul(37) % 100) as u8];
     if turn % 5 == 4 {
-        db.delete(&key)?;
+        delete(db, &key)?;
         return Ok(());
     }
     let length = turn.wrapping_mul(263) % 2026;
@@ -91,11 +92,7 @@ fn take_turn<S: PageStore>(db: &mut Database<S>, turn: u32) -> Result<(), Fault>
 
 /// How many pairs a good database has, of no more pages than a hundred pairs need.
 fn verified<S: PageStore>(db: &mut Database<S>) -> Result<u32, Fail> {
-    let mut marks = [false; 116];
-    if db.stat().pages as usize > marks.len() {
-        return Err("at most 116 pages".into());
-    }
-    Ok(db.verify(&mut marks, &mut Unwatched)?)
+    Ok(verify(db, &mut [false; 116])?.ok_or("at most 116 pages")?)
 }
 
 #[test]

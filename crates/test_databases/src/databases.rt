@@ -1,6 +1,7 @@
 //! Databases to test with: how they are opened, filled and looked through.
 
 use crate::asking::first_wrong;
+use crate::calls::open;
 use dbm_file::{Access, Database, Db, Fault, OpenHow, Stat, StoreMode, StoreReply, needed_sectors};
 use page_io::PageStore;
 use sect_dev::{MemDev, SectorDev};
@@ -25,7 +26,7 @@ pub fn opened<D: SectorDev + Drop>(
     create: bool,
     limit: u32,
 ) -> Result<Db<D>, Fault> {
-    Db::open(alloc, dev, opening(create, limit)).map_err(|(_, fault)| fault)
+    open(alloc, dev, opening(create, limit))
 }
 
 /// A new database of a limit, on a device that just suffices.

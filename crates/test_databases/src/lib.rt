@@ -4,5 +4,6 @@
 #![tactic(auto)]
 
 pub mod asking;
+pub mod calls;
 pub mod databases;
 pub mod pages;

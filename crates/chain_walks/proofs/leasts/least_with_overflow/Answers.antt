@@ -1,4 +1,4 @@
-use Rattle.std.proofs.Common.{◌≡◌, ap, Err, arith}
+use Rattle.std.proofs.Common.{◌≡◌, ap, Err, arith, rules}
 use Rattle.std.proofs.lemmas.Result.{err_from_is_err_and}
 use Rattle.page_io.specs.Views.{body_at}
 use Rattle.page_io.specs.declared.store.PageFault.TheVariants.{Damaged}
@@ -73,3 +73,12 @@ pub returns-clause-whole : goal.returns-clause-whole
 returns-clause-whole g c head pairs read least honest chain is damaged =
     let so_far = c.loop-step.invariant.so_far head pairs least in
     not_too_long _ _ _ _ _ _ _ chain is (so_far.loaded (honest, read)).walk (omega arith)
+
+pub returns-clause-ahead : goal.returns-clause-ahead
+returns-clause-ahead g c = search rules
+
+pub returns-clause-walked : goal.returns-clause-walked
+returns-clause-walked g c = search rules
+
+pub returns-clause-exact : goal.returns-clause-exact
+returns-clause-exact g c = search rules

@@ -1,4 +1,4 @@
-use Rattle.std.proofs.Common.{◌++◌, ◌<◌, ◌≤◌, List, length, map, ap, ◌∙◌, arith}
+use Rattle.std.proofs.Common.{◌++◌, ◌<◌, ◌≤◌, List, length, map, ap, ◌∙◌, arith, rules}
 use Rattle.std.proofs.lemmas.List.{take_all}
 use Rattle.dbm_model.specs.Pairs.{Pair}
 use Rattle.slot_page.specs.Contents.{page_pairs}
@@ -32,3 +32,6 @@ returns c =
     ) in
     c.loop-slot.invariant ∙ ap (λ (xs : List Pair). map pair_of c.args.pairs.now.items ++ xs)
     (take_all c.loop-slot.slot (page_pairs c.args.page.now.bytes) all)
+
+pub loop-slot-init : goal.loop-slot-init
+loop-slot-init c = search rules

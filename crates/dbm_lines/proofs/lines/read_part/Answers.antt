@@ -1,4 +1,5 @@
-use Rattle.std.proofs.Common.{subst}
+use Rattle.std.proofs.Common.{subst, arith}
+use Rattle.std.proofs.lemmas.Grind.{common_steps}
 use Rattle.std.specs.Io.BufRead.{FillKeeps}
 use Rattle.dbm_lines.proofs.Reading.{takes_part}
 use Rattle.dbm_lines.proofs.lines.read_part.Goals as goal
@@ -11,3 +12,6 @@ returns-clause-part g c =
     takes_part 8193 _ _ _ (g.R.BufRead.consumable_len rested) c.in_ok-bytes.bytes.now _ _ _ _
     c.in_ok-bytes.ensures.front c.in_ok-bytes.ensures.end filled.0 filled.1 c.consume.ensures.bytes
     c.keep_part-part.ensures
+
+pub returns-clause-counted : goal.returns-clause-counted
+returns-clause-counted g c = grind (arith, common_steps)

@@ -1,4 +1,4 @@
-use Rattle.std.proofs.Common.{◌∙◌, ap}
+use Rattle.std.proofs.Common.{◌∙◌, ap, rules}
 use Rattle.dbm_lines.specs.Forms.{pair_in}
 use Rattle.dbm_load.proofs.Loading.{stored_line, refused_line}
 use Rattle.dbm_load.proofs.load.load_line.Goals as goal
@@ -15,3 +15,6 @@ returns-in-Err-clause-line g c =
     c.in-Some.content.now c.in-Err.fault c.args.number c.args.db.now c.store_pair.new.db
     (c.in-Some.ensures ∙ ap (pair_in c.args.form) c.as_slice-line.ensures.value)
     c.in-Err.ensures.stores
+
+pub returns-in_default-clause-line : goal.returns-in_default-clause-line
+returns-in_default-clause-line g c = search rules

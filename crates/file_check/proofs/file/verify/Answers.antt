@@ -1,4 +1,4 @@
-use Rattle.std.proofs.Common.{◌≡◌, Err, sym, ap, ◌∙◌, subst, arith}
+use Rattle.std.proofs.Common.{◌≡◌, Err, sym, ap, ◌∙◌, subst, arith, rules}
 use Rattle.std.proofs.lemmas.Result.{err_from_is_err_and}
 use Rattle.page_model.specs.PageBodies.{meta_of}
 use Rattle.page_io.specs.Views.{body_at}
@@ -41,3 +41,6 @@ returns-clause-good g c honest =
     (c.in_ok-meta.ensures.says honest)
     (from_mid g.S.PageStore _ _ reads honest (λ at end. IsFilled at end m)
     (c.in_ok-check_pages.ensures.sound (still_honest g.S.PageStore _ _ reads honest)))
+
+pub check_pages-requires-clause-none : goal.check_pages-requires-clause-none
+check_pages-requires-clause-none g c = search rules

@@ -1,4 +1,4 @@
-use Rattle.std.proofs.Common.{inl, ◌+◌, ◌*◌}
+use Rattle.std.proofs.Common.{rules, inl, ◌+◌, ◌*◌}
 use Rattle.std.proofs.lemmas.Result.{on_ok_weaker}
 use Rattle.sect_dev.specs.Moments.{by_call}
 use Rattle.page_io.specs.Page.{IsPartlyWritten}
@@ -25,3 +25,6 @@ returns-clause-mid_write g c honest =
     (done.time honest)
     (λ image is. partly_written (dev.candidate first) c.args.n bytes image
     (λ m. done.candidates honest m (image m) (is m)))
+
+pub returns-clause-any_moment : goal.returns-clause-any_moment
+returns-clause-any_moment g c = search rules

@@ -1,9 +1,12 @@
-use Rattle.std.proofs.Common.{◌≡◌, ◌+◌, ◌-◌, ◌/◌, ◌<◌, ◌≤◌, ℕ, length, get_or, [], subst, ap, sym, ◌∙◌, arith}
+use Rattle.std.proofs.Common.{◌≡◌, ◌+◌, ◌-◌, ◌/◌, ◌<◌, ◌≤◌, ℕ, length, get_or, [], subst, ap, sym, ◌∙◌, arith, rules}
 use Rattle.page_io.specs.Page.{own_number}
 use Rattle.page_io.specs.Store.{bytes_of}
 use Rattle.page_io.proofs.PageLists.{bytes_at}
 use Rattle.page_io.proofs.Places.{below_place}
 use Rattle.page_io.proofs.staged.place_of.Goals as goal
+
+pub loop-low-init : goal.loop-low-init
+loop-low-init c = search rules
 
 pub bounds-staged-middle : goal.bounds-staged-middle
 bounds-staged-middle c = omega (arith, c.loop-low-test.true, c.loop-low.invariant.high)

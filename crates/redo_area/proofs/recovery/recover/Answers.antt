@@ -1,3 +1,4 @@
+use Rattle.std.proofs.Common.{rules}
 use Rattle.redo_area.proofs.Openings.{refused-blank, refused-not_ours, refused-damaged}
 use Rattle.redo_area.proofs.Recoveries.{as_before}
 use Rattle.redo_area.proofs.recovery.recover.Goals as goal
@@ -51,3 +52,6 @@ returns-in-Damaged-clause-refused g c honest other =
       at_start = c.look.ensures.start honest;
       fault = fault;
     }
+
+pub returns-in-Clear-clause-refused : goal.returns-in-Clear-clause-refused
+returns-in-Clear-clause-refused g c = search rules

@@ -1,4 +1,4 @@
-use Rattle.std.proofs.Common.{Err, refl, ap, ◌∙◌}
+use Rattle.std.proofs.Common.{rules, Err, refl, ap, ◌∙◌}
 use Rattle.std.proofs.lemmas.Result.{IfOk-from_err}
 use Rattle.std.specs.FinMap.{len}
 use Rattle.page_io.specs.Store.{StoreState}
@@ -79,3 +79,9 @@ returns-clause-begins g c honest writable =
     (ap (λ (st : StoreState). st.usable) reads.same
     ∙ not_broken _ _ c.is_broken.ensures c.if-is_broken.false)
     (ap (λ (st : StoreState). st.writable) reads.same ∙ writable) left)
+
+pub returns-then-is_broken-clause-damaged : goal.returns-then-is_broken-clause-damaged
+returns-then-is_broken-clause-damaged g c = search rules
+
+pub returns-then-is_broken-clause-broken : goal.returns-then-is_broken-clause-broken
+returns-then-is_broken-clause-broken g c = search rules

@@ -11,3 +11,6 @@ pub returns-clause-cuts : goal.returns-clause-cuts
 returns-clause-cuts c =
     cut (shape_of c.args.self.now) _ c.args.self.now.split_in c.args.self.now.low_level
     (search rules)
+
+pub invariant_of-result : goal.invariant_of-result
+invariant_of-result c = search rules

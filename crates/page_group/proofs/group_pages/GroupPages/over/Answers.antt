@@ -1,4 +1,4 @@
-use Rattle.std.proofs.Common.{sym, ◌∙◌, ap}
+use Rattle.std.proofs.Common.{sym, ◌∙◌, ap, rules}
 use Rattle.page_io.specs.Store.{committed_with}
 use Rattle.page_group.specs.Changed.{changed_pages}
 use Rattle.page_group.proofs.Committed.{none_changed}
@@ -11,3 +11,6 @@ returns-clause-committed g c =
     (changed_pages c.new.result) c.end.result) c.of.ensures
     ∙ none_changed base (changed_pages c.new.result) c.end.result c.new.ensures
     (g.met.S.PageStore.ends c.args.store.now ∙ sym c.end.ensures)
+
+pub returns-clause-state : goal.returns-clause-state
+returns-clause-state g c = search rules

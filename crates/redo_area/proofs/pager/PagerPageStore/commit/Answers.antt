@@ -1,4 +1,5 @@
-use Rattle.std.proofs.Common.{◌≡◌, ◌/◌, ℕ, List, inl, true, refl, sym, ◌∙◌, ap, subst, arith}
+use Rattle.std.proofs.Common.{rules, ◌≡◌, ◌/◌, ℕ, List, inl, true, refl, sym, ◌∙◌, ap, subst, arith}
+use Rattle.std.proofs.lemmas.Grind.{common_steps}
 use Rattle.sect_dev.specs.Moments.{started}
 use Rattle.page_io.specs.Page.{page_at}
 use Rattle.page_io.specs.Store.{file_of, IsEither, bytes_of, file_pages, overlaid, are_in_order, committed_with}
@@ -109,3 +110,12 @@ returns-clause-committed g c honest =
     (omega (arith, c.max-start.ensures)) others
     ∙ new_pages (pages_of dev old) (page_at mid) old.end at_home c.args.new_end staged staged refl
     c.requires.grown
+
+pub arm-requires-clause-room : goal.arm-requires-clause-room
+arm-requires-clause-room g c = grind (arith, common_steps)
+
+pub invariant_of-self-then-is_err-2 : goal.invariant_of-self-then-is_err-2
+invariant_of-self-then-is_err-2 g c = search rules
+
+pub returns-then-is_err-2-clause-breaks : goal.returns-then-is_err-2-clause-breaks
+returns-then-is_err-2-clause-breaks g c = search rules

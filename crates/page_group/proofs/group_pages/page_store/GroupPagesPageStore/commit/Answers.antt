@@ -1,4 +1,4 @@
-use Rattle.std.proofs.Common.{◌≡◌, inr, List, false, Result, Ok, Err, OnOk, sym, subst, ◌∙◌, ap, arith}
+use Rattle.std.proofs.Common.{◌≡◌, inr, List, false, Result, Ok, Err, OnOk, sym, subst, ◌∙◌, ap, arith, rules}
 use Rattle.std.proofs.lemmas.Bool.{false≢true}
 use Rattle.std.proofs.lemmas.List.{length-map}
 use Rattle.std.specs.Result.{is_err}
@@ -63,3 +63,18 @@ returns-clause-any_moment g c honest usable writable =
       each = λ y left. inr (left.1 ∙ ap file_of same);
       before = λ t y le left. inr (inr (left.1 ∙ ap file_of same));
     }
+
+pub returns-then-new_end-self-clause-committed : goal.returns-then-new_end-self-clause-committed
+returns-then-new_end-self-clause-committed g c = search rules
+
+pub returns-then-new_end-self-clause-ok : goal.returns-then-new_end-self-clause-ok
+returns-then-new_end-self-clause-ok g c = search rules
+
+pub returns-then-new_end-self-clause-breaks : goal.returns-then-new_end-self-clause-breaks
+returns-then-new_end-self-clause-breaks g c = search rules
+
+pub returns-then-new_end-self-clause-any_moment : goal.returns-then-new_end-self-clause-any_moment
+returns-then-new_end-self-clause-any_moment g c = search rules
+
+pub invariant_of-self-then-new_end-self : goal.invariant_of-self-then-new_end-self
+invariant_of-self-then-new_end-self g c = search rules

@@ -1,4 +1,4 @@
-use Rattle.std.proofs.Common.{◌≡◌, List, false, sym, ◌∙◌, ap}
+use Rattle.std.proofs.Common.{◌≡◌, List, false, sym, ◌∙◌, ap, rules}
 use Rattle.page_io.specs.Store.{bytes_of, page_of, overlaid, has_page, committed_with}
 use Rattle.page_io.specs.declared.page.Page.{Page}
 use Rattle.page_io.proofs.Overlays.{overlaid-staged, overlaid-none}
@@ -25,3 +25,15 @@ returns-then-find-clause-found g c honest =
     ∙ sym c.find_staged.ensures.found ∙ c.if-find_staged.false in
     c.find.ensures.found honest c.if-find.true
     ∙ sym (overlaid-none (bytes_of old.staged.items) home c.args.n none)
+
+pub returns-clause-answer : goal.returns-clause-answer
+returns-clause-answer g c = search rules
+
+pub returns-clause-missed : goal.returns-clause-missed
+returns-clause-missed g c = search rules
+
+pub find-requires-clause-within : goal.find-requires-clause-within
+find-requires-clause-within g c = search rules
+
+pub returns-then-find-clause-answer : goal.returns-then-find-clause-answer
+returns-then-find-clause-answer g c = search rules
