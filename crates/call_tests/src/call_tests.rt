@@ -136,12 +136,14 @@ fn first_astray<S: PageStore>(db: &mut Database<S>, keys: u16) -> Result<Option<
     first_not_even(db, keys)
 }
 
-// There are page 0, the meta page, two segments and a page for each bucket.
+/// What so many keys leave that there is a second segment: page 0, the meta page, two segments and
+/// a page for each bucket.
 const FULL: &str = "
     stat -> 4065 pairs of 5000, 509 buckets (8 253), 513 pages, 0 free
     fetch #0fe1 -> nothing
 ";
 
+/// The same with half of them deleted.
 const HALVED: &str = "stat -> 2033 pairs of 5000, 509 buckets (8 253), 513 pages, 0 free";
 
 /// The first line that is answered otherwise where so many keys are stored that there is a second
@@ -155,7 +157,7 @@ fn first_wrong_halved<S: PageStore>(
         return Ok(Some(line));
     }
     if first_astray(db, 4_065)?.is_some() {
-        return Ok(Some("each key as it has to be"));
+        return Ok(Some("each key is as it has to be"));
     }
     first_wrong(alloc, db, HALVED)
 }

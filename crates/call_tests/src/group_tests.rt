@@ -76,18 +76,13 @@ fn store_ten_groups<S: PageStore>(alloc: Global, db: &mut Database<S>) -> Result
     Ok(stored)
 }
 
-/// How many pairs a good database has, of at most 1,128 pages.
-fn verified<S: PageStore>(db: &mut Database<S>) -> Result<u32, Fail> {
-    Ok(verify(db, &mut [false; 1_128])?.ok_or("at most 1,128 pages")?)
-}
-
 /// How many pairs are stored in ten groups, found and verified.
 fn counts_of_ten_groups<S: PageStore>(
     alloc: Global,
     db: &mut Database<S>,
 ) -> Result<(usize, u32, u32), Fail> {
     let stored = store_ten_groups(alloc, db)?;
-    Ok((stored, found(db, 1_000)?, verified(db)?))
+    Ok((stored, found(db, 1_000)?, verify(db, &mut [false; 1_128])?))
 }
 
 #[test]

@@ -1,118 +1,141 @@
 //! How many pages a change commits, by the redo images that an armed commit sector names.
 
-use dbm_file::{Access, Database, Db, Fault, OpenHow, StoreReply};
-use page_io::PageStore;
-use sect_dev::{Fuse, MemDev};
+use crate::stopping::{Stopped, crashed, pending, run_stopped, stat};
+use dbm_file::{Access, Database, Fault, OpenHow};
+use page_io::{Page, PageStore};
+use sect_dev::{DevFault, MemDev};
 use std::alloc::Global;
 use std::test::Fail;
-use test_databases::databases::{closed, new_database, opened, opening, put};
+use test_databases::asking::row_of;
+use test_databases::calls::{fetch, open};
+use test_databases::databases::{closed, new_database, opening};
 use test_databases::pages::page_at;
 
 /// More device calls than a change makes here before its commit sector is armed.
 const MOST: u64 = 100;
 
-#[derive(Clone, Copy)]
-enum Change<'a> {
-    Put(&'a [u8], &'a [u8]),
-    Delete(&'a [u8]),
+/// The device with a call made, whatever it is answered.
+fn changed(alloc: Global, dev: MemDev, call: &str) -> Result<MemDev, Fail> {
+    let left = run_stopped(alloc, dev, u64::MAX, opening(false, 0), call)?;
+    left.closed?;
+    Ok(left.dev)
 }
 
-/// Makes a change, whatever it is answered.
-fn make<S: PageStore>(db: &mut Database<S>, change: Change<'_>) {
-    match change {
-        Change::Put(key, content) => {
-            let _ = put(db, key, content);
-        }
-        Change::Delete(key) => {
-            let _ = db.delete(key);
-        }
-    }
+/// What is left of a copy of the device where the calls of a table are cut short after so many
+/// device calls.
+fn cut(alloc: Global, dev: &MemDev, calls: u64, table: &str) -> Result<Stopped, Fail> {
+    let copy = crashed(alloc, dev, &[])?;
+    run_stopped(alloc, copy, calls, opening(false, 0), table)
 }
 
-/// The device with the change made.
-fn changed(alloc: Global, dev: MemDev, change: Change<'_>) -> Result<MemDev, Fail> {
-    let mut db = opened(alloc, dev, false, 0)?;
-    make(&mut db, change);
-    Ok(closed(db)?)
+/// The pages of the redo images that a sector names: the first one, and how many.
+fn images_of(sector: &Page) -> (u32, u32) {
+    (sector.u32_at(16), sector.u32_at(20))
 }
 
-/// What is left of the device where the change is cut short after so many device calls.
-fn cut(alloc: Global, dev: MemDev, calls: u64, change: Change<'_>) -> MemDev {
-    match Db::open(alloc, Fuse::new(dev, calls), opening(false, 0)) {
-        Ok(mut db) => {
-            make(&mut db, change);
-            db.close().0.into_inner()
-        }
-        Err((fuse, _)) => fuse.into_inner(),
-    }
+/// The own number of page n of a device.
+fn own_number(dev: &mut MemDev, n: u32) -> Result<u32, DevFault> {
+    Ok(page_at(dev, n)?.own())
 }
 
 /// The own numbers of the redo images, none where the commit sector is clear.
 fn images(alloc: Global, dev: &mut MemDev) -> Result<Vec<u32>, Fail> {
-    let sector = page_at(dev, 0)?;
-    let (start, count) = (sector.u32_at(16), sector.u32_at(20));
+    let (start, count) = images_of(&page_at(dev, 0)?);
     let mut numbers = Vec::new(alloc);
     for n in start..start.saturating_add(count) {
-        numbers.push(page_at(dev, n)?.own())?;
+        numbers.push(own_number(dev, n)?)?;
     }
     Ok(numbers)
 }
 
-/// Whether the change commits exactly these pages: it is cut short after more and more device
-/// calls, up to one that leaves the commit sector armed.
-fn commits(alloc: Global, dev: &MemDev, change: Change<'_>, pages: &[u32]) -> Result<bool, Fail> {
+/// The numbers of some words.
+fn numbers_of(alloc: Global, text: &str) -> Result<Vec<u32>, Fail> {
+    let mut numbers = Vec::new(alloc);
+    for word in text.split_whitespace() {
+        numbers.push(word.parse()?)?;
+    }
+    Ok(numbers)
+}
+
+/// The pages that a call commits: it is cut short after more and more device calls, up to one that
+/// leaves the commit sector armed.
+fn committed(alloc: Global, dev: &MemDev, call: &str) -> Result<Vec<u32>, Fail> {
     for calls in 0..MOST {
-        let mut left = cut(alloc, dev.crashed(alloc, &[])?, calls, change);
-        let found = images(alloc, &mut left)?;
+        let mut left = cut(alloc, dev, calls, call)?;
+        let found = images(alloc, &mut left.dev)?;
         if !found.is_empty() {
-            return Ok(found.as_slice() == pages);
+            return Ok(found);
         }
     }
-    Ok(false)
+    Ok(Vec::new(alloc))
+}
+
+/// Whether a call commits exactly these pages.
+fn commits(alloc: Global, dev: &MemDev, call: &str, pages: &str) -> Result<bool, Fail> {
+    let found = committed(alloc, dev, call)?;
+    Ok(found.as_slice() == numbers_of(alloc, pages)?.as_slice())
+}
+
+/// Makes the calls of a table one after another, up to the first that doesn't commit exactly the
+/// pages behind its arrow, whose line it gives.
+fn first_other_commit<'a>(
+    alloc: Global,
+    mut dev: MemDev,
+    table: &'a str,
+) -> Result<Option<&'a str>, Fail> {
+    for line in table.lines() {
+        if let Some((call, pages)) = row_of(line) {
+            if !commits(alloc, &dev, call, pages)? {
+                return Ok(Some(line));
+            }
+            dev = changed(alloc, dev, call)?;
+        }
+    }
+    Ok(None)
+}
+
+/// The device of a new database.
+fn new_device(alloc: Global) -> Result<MemDev, Fault> {
+    closed(new_database(alloc, 100)?)
+}
+
+/// The first line of a table that commits other pages, once a long pair was stored.
+fn first_other_behind_long<'a>(alloc: Global, table: &'a str) -> Result<Option<&'a str>, Fail> {
+    let dev = changed(alloc, new_device(alloc)?, "put a #07*1499")?;
+    first_other_commit(alloc, dev, table)
 }
 
 #[test]
 fn a_change_commits_the_pages_of_its_bucket(rt: HostRuntime) -> Result<(), Fail> {
     let alloc = rt.alloc();
-    let dev = closed(new_database(alloc, 100)?)?;
-    assert!(rt; commits(alloc, &dev, Change::Put(&[0x6b], &[0x76]), &[1, 3])?);
+    assert!(rt; commits(alloc, &new_device(alloc)?, "put k v", "1 3")?);
 
     // Two pairs, of which each fills most of a page, so the second one has an overflow page.
-    let long = [7; 1499];
-    let dev = changed(alloc, dev, Change::Put(&[0x61], &long))?;
-    assert!(rt; commits(alloc, &dev, Change::Put(&[0x62], &long), &[1, 3, 4])?);
-    let dev = changed(alloc, dev, Change::Put(&[0x62], &long))?;
-    assert!(rt; commits(alloc, &dev, Change::Put(&[0x63], &[1]), &[1, 3])?);
-    let dev = changed(alloc, dev, Change::Put(&[0x63], &[1]))?;
-    assert!(rt; commits(alloc, &dev, Change::Delete(&[0x62]), &[1, 3, 4])?);
-    let dev = changed(alloc, dev, Change::Delete(&[0x62]))?;
-    assert!(rt; commits(alloc, &dev, Change::Put(&[0x62], &long), &[1, 3, 4])?);
+    let table = "
+        put b #07*1499 -> 1 3 4
+        put c #01 -> 1 3
+        delete b -> 1 3 4
+        put b #07*1499 -> 1 3 4
+    ";
+    assert_eq!(rt; first_other_behind_long(alloc, table)?, None);
     Ok(())
 }
 
-/// What is left of the device where the store was just acknowledged, with what the closing behind
-/// it answered.
-type Acknowledged = Option<(MemDev, Result<(), Fault>)>;
-
-/// The same where the store has so many device calls, if they suffice.
-fn acknowledged_in(alloc: Global, dev: MemDev, calls: u64) -> Acknowledged {
-    let mut db = Db::open(alloc, Fuse::new(dev, calls), opening(false, 0)).ok()?;
-    if put(&mut db, &[0x6b], &[0x76]) != Ok(StoreReply::Stored) {
-        return None;
-    }
-    let (fuse, answer) = db.close();
-    Some((fuse.into_inner(), answer))
-}
-
-/// The same with the least calls that suffice.
-fn just_acknowledged(alloc: Global, dev: &MemDev) -> Result<Acknowledged, Fail> {
+/// What is left of the device where the store was just acknowledged, with the least calls that
+/// suffice, and what the closing behind it answered.
+fn just_acknowledged(alloc: Global, dev: &MemDev) -> Result<Option<Stopped>, Fail> {
     for calls in 0..MOST {
-        let left = acknowledged_in(alloc, dev.crashed(alloc, &[])?, calls);
-        if left.is_some() {
-            return Ok(left);
+        let left = cut(alloc, dev, calls, "put k v -> stored")?;
+        if left.done {
+            return Ok(Some(left));
         }
     }
     Ok(None)
+}
+
+/// Whether a database has the pair, and no other.
+fn is_only_pair<S: PageStore>(db: &mut Database<S>) -> Result<bool, Fault> {
+    Ok(stat(db).pairs == 1 && fetch(db, &[0x6b])? == Some(&[0x76]))
 }
 
 /// Whether the device opens with the pair, for writing or for reading.
@@ -121,30 +144,24 @@ fn has_pair(alloc: Global, dev: MemDev, access: Access) -> Result<bool, Fault> {
         access,
         ..opening(false, 0)
     };
-    let mut db = match Db::open(alloc, dev, how) {
-        Ok(db) => db,
-        Err((_, fault)) => return Err(fault),
-    };
-    let pairs = db.stat().pairs;
-    Ok(pairs == 1 && db.fetch(&[0x6b])? == Some(&[0x76]))
+    is_only_pair(&mut open(alloc, dev, how)?)
 }
 
 #[test]
 fn an_acknowledged_store_waits_for_the_closing(rt: HostRuntime) -> Result<(), Fail> {
     let alloc = rt.alloc();
-    let empty = closed(new_database(alloc, 100)?)?;
-    let Some((mut dev, answer)) = just_acknowledged(alloc, &empty)? else {
+    let Some(mut left) = just_acknowledged(alloc, &new_device(alloc)?)? else {
         return Err("a store that is acknowledged".into());
     };
-    assert!(rt; answer == Err(Fault::Device) && dev.pending() == 0);
+    assert!(rt; left.closed == Err(Fault::Device) && pending(&left.dev) == 0);
 
     // `DBMREDO1`; armed, end 4, two redo images from page 4 on.
-    let sector = page_at(&mut dev, 0)?;
+    let sector = page_at(&mut left.dev, 0)?;
     let fields = [0x4442_4d52, 0x4544_4f31, 1, 4, 4, 2];
     for (i, field) in fields.iter().enumerate() {
         assert!(rt; sector.u32_at(4 * i) == *field, "field {i}");
     }
-    assert!(rt; has_pair(alloc, dev.crashed(alloc, &[])?, Access::ReadOnly)?);
-    assert!(rt; has_pair(alloc, dev, Access::ReadWrite)?);
+    assert!(rt; has_pair(alloc, crashed(alloc, &left.dev, &[])?, Access::ReadOnly)?);
+    assert!(rt; has_pair(alloc, left.dev, Access::ReadWrite)?);
     Ok(())
 }

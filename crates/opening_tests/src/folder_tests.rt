@@ -1,22 +1,45 @@
 //! Databases in real files, in the folder that the tests run in.
 
 use crate::hows::how_of;
-use dbm_file::{Db, Fault, dbm_open};
+use dbm_file::{Database, Db, Fault, dbm_open};
+use page_io::PageStore;
 use sect_dev::FileDev;
 use std::alloc::Global;
 use std::fs::{self, File};
 use std::rt::Files;
 use std::test::Fail;
 use test_databases::asking::{first_wrong, is_fault, row_of};
+use test_databases::calls::open;
 use test_databases::databases::{PAIRS, is_nine, put};
+
+/// Opens the database of a file as some words say.
+fn open_named<R: Files<File = File>>(
+    rt: &R,
+    alloc: Global,
+    name: &str,
+    how: &str,
+) -> Result<Db<FileDev>, Fail> {
+    Ok(dbm_open(rt, alloc, name, how_of(how)?)?)
+}
+
+/// Stores the nine pairs.
+fn put_nine<S: PageStore>(db: &mut Database<S>) -> Result<(), Fault> {
+    for (key, content) in PAIRS {
+        put(db, &[key], &[content])?;
+    }
+    Ok(())
+}
+
+/// What closing a database answers.
+fn answer_of_closing(db: Db<FileDev>) -> Result<(), Fault> {
+    db.close().1
+}
 
 /// Makes the database of the nine pairs.
 fn make_nine<R: Files<File = File>>(rt: &R, alloc: Global, name: &str) -> Result<(), Fail> {
-    let mut db = dbm_open(rt, alloc, name, how_of("create exclusive 100")?)?;
-    for (key, content) in PAIRS {
-        put(&mut db, &[key], &[content])?;
-    }
-    db.close().1?;
+    let mut db = open_named(rt, alloc, name, "create exclusive 100")?;
+    put_nine(&mut db)?;
+    answer_of_closing(db)?;
     Ok(())
 }
 
@@ -55,7 +78,7 @@ fn opens_with_nine<R: Files<File = File>>(
     name: &str,
     how: &str,
 ) -> Result<bool, Fail> {
-    Ok(is_nine(&mut dbm_open(rt, alloc, name, how_of(how)?)?)?)
+    Ok(is_nine(&mut open_named(rt, alloc, name, how)?)?)
 }
 
 #[test]
@@ -114,13 +137,22 @@ fn a_file_of_something_else_is_no_database(rt: HostRuntime) -> Result<(), Fail> 
     Ok(())
 }
 
+/// The first three pages of a file.
+fn first_three(whole: &[u8]) -> &[u8] {
+    whole.get(..6144).unwrap_or_default()
+}
+
+/// Cuts a file behind the third page.
+fn cut_behind_three<R: Files<File = File> + Alloc>(rt: &R, name: &str) -> Result<(), Fail> {
+    let whole = fs::read(rt, name)?;
+    fs::write(rt, name, first_three(&whole))?;
+    Ok(())
+}
+
 /// Makes a new database, and cuts its file behind the third page.
 fn make_cut<R: Files<File = File> + Alloc>(rt: &R, alloc: Global) -> Result<(), Fail> {
-    drop(dbm_open(rt, alloc, "cut", how_of("create exclusive 100")?)?);
-    let whole = fs::read(rt, "cut.db")?;
-    let first = whole.as_slice().get(..6144).unwrap_or_default();
-    fs::write(rt, "cut.db", first)?;
-    Ok(())
+    drop(open_named(rt, alloc, "cut", "create exclusive 100")?);
+    cut_behind_three(rt, "cut.db")
 }
 
 /// The first line that a database of a file that was cut answers otherwise.
@@ -130,8 +162,11 @@ fn first_wrong_when_cut<'a, R: Files<File = File> + Alloc>(
     table: &'a str,
 ) -> Result<Option<&'a str>, Fail> {
     make_cut(rt, alloc)?;
-    let mut db = dbm_open(rt, alloc, "cut", how_of("reading 100")?)?;
-    first_wrong(alloc, &mut db, table)
+    first_wrong(
+        alloc,
+        &mut open_named(rt, alloc, "cut", "reading 100")?,
+        table,
+    )
 }
 
 #[test]
@@ -160,10 +195,9 @@ fn what_the_system_refuses_is_a_device_fault(rt: HostRuntime) -> Result<(), Fail
 
 #[test]
 fn a_full_device_is_a_device_fault(rt: HostRuntime) -> Result<(), Fail> {
+    let how = how_of("create exclusive 100")?;
     let dev = FileDev::open(&rt, "/dev/full", true, false, 928)?;
-    let fault = Db::open(rt.alloc(), dev, how_of("create exclusive 100")?)
-        .map_err(|(_, fault)| fault)
-        .err();
+    let fault = open(rt.alloc(), dev, how).err();
     assert_eq!(rt; fault, Some(Fault::Device));
     Ok(())
 }

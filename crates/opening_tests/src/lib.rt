@@ -6,6 +6,8 @@ mod commit_tests;
 #[cfg(test)]
 mod folder_tests;
 #[cfg(test)]
+mod held;
+#[cfg(test)]
 mod hows;
 #[cfg(test)]
 mod marks;
@@ -13,3 +15,5 @@ mod marks;
 mod opening_tests;
 #[cfg(test)]
 mod stop_tests;
+#[cfg(test)]
+mod stopping;

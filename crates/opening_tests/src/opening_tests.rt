@@ -1,14 +1,21 @@
 //! Openings with each flag: what they refuse, what they leave alone, and what they make empty.
 
+use crate::held::{Held, damaged, nearly_full, nine_pairs};
 use crate::hows::{PLAIN, how_of};
 use crate::marks::MARKS;
-use dbm_file::{Db, Fault, OpenHow, Stat};
-use sect_dev::{DevFault, Fuse, MemDev, SectorDev};
+use crate::stopping::{
+    Stopped, blank_device, closes_as, crashed, has_pages, pending, run_stopped, stat,
+    stopping_after,
+};
+use dbm_file::{Database, Db, Fault, OpenHow, Stat};
+use page_io::{Page, PageStore};
+use sect_dev::{DevFault, MemDev, SectorDev};
 use std::alloc::Global;
 use std::test::Fail;
 use test_databases::asking::{first_wrong, is_fault, row_of};
-use test_databases::databases::{PAIRS, closed, has_first, is_nine, opened, put, with_first};
-use test_databases::pages::{first_other, new_file, nine_file, page_at, set_page};
+use test_databases::calls::open;
+use test_databases::databases::{closed, has_first, is_nine, opened, with_first};
+use test_databases::pages::{first_other, new_file, nine_file, page_at};
 
 /// The numbers of an empty database of limit 5.
 const EMPTY: Stat = Stat {
@@ -21,60 +28,32 @@ const EMPTY: Stat = Stat {
     free: 0,
 };
 
-/// What a device holds.
-#[derive(Clone, Copy)]
-enum Held {
-    /// The nine pairs, which an opening that is refused has to leave.
-    Nine,
-    Nothing,
-    /// The nine pairs with another first sector.
-    OtherSector,
-    /// The nine pairs with another meta page.
-    OtherMeta,
-}
-
-/// A device with the nine pairs and so many sectors, which keeps a short record: it is often
-/// copied.
-fn nine_pairs(alloc: Global, sectors: u32) -> Result<MemDev, DevFault> {
-    let mut dev = MemDev::new(alloc, sectors);
-    for (page, n) in nine_file().iter().zip(0..) {
-        set_page(&mut dev, n, page)?;
-    }
-    Ok(dev)
-}
-
-/// A device with the nine pairs whose page n begins with something else.
-fn damaged(alloc: Global, n: u32) -> Result<MemDev, DevFault> {
-    let mut dev = nine_pairs(alloc, 928)?;
-    let mut page = page_at(&mut dev, n)?;
-    page.put(0, b"hello");
-    set_page(&mut dev, n, &page)?;
-    Ok(dev)
-}
-
-/// Opens a device, which is lost where it is refused.
-fn open_so<D: SectorDev + Drop>(alloc: Global, dev: D, how: OpenHow) -> Result<Db<D>, Fault> {
-    Db::open(alloc, dev, how).map_err(|(_, fault)| fault)
+/// The device of an opening that is refused, with the fault.
+fn refused(alloc: Global, dev: MemDev, how: OpenHow) -> Option<(MemDev, Fault)> {
+    Db::open(alloc, dev, how).err()
 }
 
 /// The fault of an opening, where the device that it hands back is still this file of nine pairs.
 fn refused_with_nine(alloc: Global, how: OpenHow) -> Result<Option<Fault>, DevFault> {
-    match Db::open(alloc, nine_pairs(alloc, 928)?, how) {
-        Ok(_) => Ok(None),
-        Err((mut dev, fault)) => {
-            let stays = first_other(&mut dev, &nine_file())?.is_none();
-            Ok(if stays { Some(fault) } else { None })
-        }
-    }
+    let Some((mut dev, fault)) = refused(alloc, nine_pairs(alloc)?, how) else {
+        return Ok(None);
+    };
+    let stays = has_pages(&mut dev, &nine_file())?;
+    Ok(if stays { Some(fault) } else { None })
+}
+
+/// The fault of opening a device.
+fn fault_with<D: SectorDev + Drop>(alloc: Global, dev: D, how: OpenHow) -> Option<Fault> {
+    open(alloc, dev, how).err()
 }
 
 /// The fault of an opening of such a device.
 fn fault_of(alloc: Global, held: Held, how: OpenHow) -> Result<Option<Fault>, DevFault> {
     match held {
         Held::Nine => refused_with_nine(alloc, how),
-        Held::Nothing => Ok(open_so(alloc, MemDev::new(alloc, 928), how).err()),
-        Held::OtherSector => Ok(open_so(alloc, damaged(alloc, 0)?, how).err()),
-        Held::OtherMeta => Ok(open_so(alloc, damaged(alloc, 1)?, how).err()),
+        Held::Nothing => Ok(fault_with(alloc, blank_device(alloc, 928), how)),
+        Held::OtherSector => Ok(fault_with(alloc, damaged(alloc, 0)?, how)),
+        Held::OtherMeta => Ok(fault_with(alloc, damaged(alloc, 1)?, how)),
     }
 }
 
@@ -111,8 +90,9 @@ fn a_refused_opening_leaves_the_pairs(rt: HostRuntime) -> Result<(), Fail> {
 
 /// The fault of opening a device of so many sectors of which each call fails.
 fn fault_with_no_call(alloc: Global, sectors: u32, how: &str) -> Result<Option<Fault>, Fail> {
-    let dev = Fuse::new(MemDev::new(alloc, sectors), 0);
-    Ok(open_so(alloc, dev, how_of(how)?).err())
+    let how = how_of(how)?;
+    let dev = stopping_after(blank_device(alloc, sectors), 0);
+    Ok(fault_with(alloc, dev, how))
 }
 
 #[test]
@@ -129,7 +109,8 @@ fn an_emptying_is_refused_with_no_device_call(rt: HostRuntime) -> Result<(), Fai
 
 /// A database of the nine pairs, opened as these words say.
 fn nine_opened(alloc: Global, how: &str) -> Result<Db<MemDev>, Fail> {
-    Ok(open_so(alloc, nine_pairs(alloc, 928)?, how_of(how)?)?)
+    let how = how_of(how)?;
+    Ok(open(alloc, nine_pairs(alloc)?, how)?)
 }
 
 /// The first line that is answered otherwise once the nine pairs are emptied to a limit of 5, or
@@ -140,17 +121,17 @@ fn first_wrong_when_emptied(alloc: Global) -> Result<Option<&'static str>, Fail>
         first -> nothing
         put a #01 -> stored
     ";
-    let mut db = nine_opened(alloc, "truncate 5")?;
-    if let Some(line) = first_wrong(alloc, &mut db, emptied)? {
-        return Ok(Some(line));
-    }
     let reopened = "
         stat -> 1 pairs of 5, 1 buckets (0 0), 4 pages, 0 free
         first -> bytes a
         next -> nothing
         fetch a -> bytes #01
     ";
-    first_wrong(alloc, &mut opened(alloc, closed(db)?, false, 0)?, reopened)
+    let mut db = nine_opened(alloc, "truncate 5")?;
+    match first_wrong(alloc, &mut db, emptied) {
+        Ok(None) => first_wrong(alloc, &mut opened(alloc, closed(db)?, false, 0)?, reopened),
+        wrong => wrong,
+    }
 }
 
 #[test]
@@ -168,13 +149,17 @@ const EMPTYING: u64 = 6 + 13 + 2 + 13 + 2;
 const EMPTIED: u64 = 6 + 13 + 1;
 
 /// Whether there are all of the nine pairs, or none where they were emptied.
-fn has_left(alloc: Global, dev: MemDev, emptied: bool) -> Result<bool, Fault> {
-    let mut db = opened(alloc, dev, false, 0)?;
+fn has_left<S: PageStore>(db: &mut Database<S>, emptied: bool) -> Result<bool, Fault> {
     if emptied {
-        Ok(db.stat() == EMPTY && has_first(&mut db, 0)?)
+        Ok(stat(db) == EMPTY && has_first(db, 0)?)
     } else {
-        is_nine(&mut db)
+        is_nine(db)
     }
+}
+
+/// Whether a device opens with all of the nine pairs, or with none where they were emptied.
+fn opens_with_left(alloc: Global, dev: MemDev, emptied: bool) -> Result<bool, Fault> {
+    has_left(&mut opened(alloc, dev, false, 0)?, emptied)
 }
 
 /// Whether an emptying of so many device calls leaves all pairs or none, as it has to, with each
@@ -182,35 +167,29 @@ fn has_left(alloc: Global, dev: MemDev, emptied: bool) -> Result<bool, Fault> {
 fn leaves_all_or_none(alloc: Global, dev: &MemDev, calls: u64) -> Result<bool, Fail> {
     for marks in MARKS.iter() {
         let emptied = calls > EMPTIED || calls == EMPTIED && marks[0];
-        if !has_left(alloc, dev.crashed(alloc, marks)?, emptied)? {
+        if !opens_with_left(alloc, crashed(alloc, dev, marks)?, emptied)? {
             return Ok(false);
         }
     }
     Ok(true)
 }
 
-/// What an emptying leaves that has so many device calls, and whether it was opened, and closed.
-fn emptied_in(alloc: Global, dev: MemDev, calls: u64, how: OpenHow) -> (MemDev, bool, bool) {
-    match Db::open(alloc, Fuse::new(dev, calls), how) {
-        Ok(db) => {
-            let (fuse, closed) = db.close();
-            (fuse.into_inner(), true, closed.is_ok())
-        }
-        Err((fuse, _)) => (fuse.into_inner(), false, false),
-    }
+/// Empties a copy of a device and closes the database, with so many device calls.
+fn emptied_in(alloc: Global, dev: &MemDev, calls: u64) -> Result<Stopped, Fail> {
+    let how = how_of("truncate 5")?;
+    run_stopped(alloc, crashed(alloc, dev, &[])?, calls, how, "")
 }
 
 /// Whether an emptying of the nine pairs that is stopped after so many calls ends as it has to.
 fn is_emptied_so(alloc: Global, nine: &MemDev, calls: u64) -> Result<bool, Fail> {
-    let copy = nine.crashed(alloc, &[])?;
-    let (dev, opened, closed) = emptied_in(alloc, copy, calls, how_of("truncate 5")?);
-    let answers = opened == (calls > EMPTIED) && closed == (calls == EMPTYING);
-    Ok(answers && leaves_all_or_none(alloc, &dev, calls)?)
+    let left = emptied_in(alloc, nine, calls)?;
+    let answers = left.done == (calls > EMPTIED) && left.closed.is_ok() == (calls == EMPTYING);
+    Ok(answers && leaves_all_or_none(alloc, &left.dev, calls)?)
 }
 
 #[test]
 fn a_stopped_emptying_leaves_all_pairs_or_none(rt: HostRuntime) -> Result<(), Fail> {
-    let nine = nine_pairs(rt.alloc(), 928)?;
+    let nine = nine_pairs(rt.alloc())?;
     for calls in 0..EMPTYING + 1 {
         let right = is_emptied_so(rt.alloc(), &nine, calls)?;
         assert!(rt; right, "after {calls} calls");
@@ -226,21 +205,24 @@ const ARMED: u64 = 6 + 8 + 17 + 2;
 /// The device after an opening and a ninth store that had so many device calls.
 fn armed(alloc: Global, calls: u64) -> Result<MemDev, Fail> {
     let eight = closed(with_first(alloc, 8)?)?;
-    let mut db = open_so(alloc, Fuse::new(eight, calls), PLAIN)?;
-    let _ = put(&mut db, &[0x69], &[9]);
-    Ok(db.close().0.into_inner().crashed(alloc, &[true; 16])?)
+    let left = run_stopped(alloc, eight, calls, PLAIN, "put i #09 -> stored")?;
+    Ok(crashed(alloc, &left.dev, &[true; 16])?)
+}
+
+/// Whether no write of a device is pending, and its page 0 is so.
+fn is_unwritten(dev: &mut MemDev, first: &Page) -> Result<bool, DevFault> {
+    Ok(pending(dev) == 0 && page_at(dev, 0)? == *first)
 }
 
 /// Whether an opening for reading has the nine pairs, and writes nothing: page 0 stays, and no
 /// write is pending.
 fn is_read_as_nine(alloc: Global, mut dev: MemDev) -> Result<bool, Fail> {
+    let how = how_of("reading")?;
     let first = page_at(&mut dev, 0)?;
-    let mut db = open_so(alloc, dev, how_of("reading")?)?;
-    if !is_nine(&mut db)? {
-        return Ok(false);
-    }
-    let mut after = closed(db)?;
-    Ok(after.pending() == 0 && page_at(&mut after, 0)? == first)
+    let mut db = open(alloc, dev, how)?;
+    let nine = is_nine(&mut db);
+    let unwritten = is_unwritten(&mut closed(db)?, &first)?;
+    Ok(nine? && unwritten)
 }
 
 #[test]
@@ -257,7 +239,8 @@ fn an_armed_file_is_read_with_its_images(rt: HostRuntime) -> Result<(), Fail> {
 fn first_wrong_for_reading<'a>(alloc: Global, table: &'a str) -> Result<Option<&'a str>, Fail> {
     let mut db = nine_opened(alloc, "reading")?;
     let wrong = first_wrong(alloc, &mut db, table)?;
-    let stays = has_first(&mut db, 9)? && first_other(&mut closed(db)?, &nine_file())?.is_none();
+    let kept = has_first(&mut db, 9);
+    let stays = closes_as(db, &nine_file())? && kept?;
     Ok(if stays {
         wrong
     } else {
@@ -301,14 +284,15 @@ fn one_for_writing_only_reads_too(rt: HostRuntime) -> Result<(), Fail> {
     Ok(())
 }
 
+/// A database that is made by `create` and `exclusive`.
+fn made(alloc: Global) -> Result<Db<MemDev>, Fail> {
+    let how = how_of("create exclusive 100")?;
+    Ok(open(alloc, blank_device(alloc, 928), how)?)
+}
+
 /// The first page that differs from a new file's, of one that is made by `create` and `exclusive`.
 fn first_other_when_made(alloc: Global) -> Result<Option<u32>, Fail> {
-    let made = open_so(
-        alloc,
-        MemDev::new(alloc, 928),
-        how_of("create exclusive 100")?,
-    )?;
-    Ok(first_other(&mut closed(made)?, &new_file())?)
+    Ok(first_other(&mut closed(made(alloc)?)?, &new_file())?)
 }
 
 #[test]
@@ -363,25 +347,11 @@ fn a_damaged_file_is_not_emptied(rt: HostRuntime) -> Result<(), Fail> {
     Ok(())
 }
 
-/// A device of ten pages with a file of eight: one pair of 2,001 bytes fills a page, so four of
-/// five stand in pages of their own behind the first.
-fn nearly_full(alloc: Global) -> Result<MemDev, Fail> {
-    let mut db = with_first(alloc, 0)?;
-    for (key, _) in PAIRS.iter().take(5) {
-        put(&mut db, &[*key], &[0; 2_000])?;
-    }
-    let mut whole = closed(db)?;
-    let mut dev = MemDev::new(alloc, 40);
-    for n in 0..8 {
-        set_page(&mut dev, n, &page_at(&mut whole, n)?)?;
-    }
-    Ok(dev)
-}
-
 /// The pages of a file that nearly fills its device, as it is opened, and the fault of emptying it.
 fn emptied_when_nearly_full(alloc: Global) -> Result<(u32, Option<Fault>), Fail> {
     let pages = opened(alloc, nearly_full(alloc)?, false, 0)?.stat().pages;
-    let fault = open_so(alloc, nearly_full(alloc)?, how_of("truncate 1")?).err();
+    let how = how_of("truncate 1")?;
+    let fault = fault_with(alloc, nearly_full(alloc)?, how);
     Ok((pages, fault))
 }
 

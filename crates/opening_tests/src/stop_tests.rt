@@ -1,14 +1,18 @@
 //! Stops and failed calls of the device, while a database is made, changed and opened.
 
 use crate::marks::MARKS;
-use dbm_file::{Db, Fault, StoreReply};
-use page_io::Page;
-use sect_dev::{DevFault, FailOnce, Fuse, MemDev, SectorDev};
+use crate::stopping::{
+    Stopped, answers, blank_device, closed_below, closes_as, copied, crashed, opens_with_nine,
+    pending, run_stopped, stat,
+};
+use dbm_file::{Database, Db, Fault};
+use page_io::{Page, PageStore};
+use sect_dev::{DevFault, FailOnce, MemDev};
 use std::alloc::Global;
 use std::test::Fail;
 use test_databases::asking::first_wrong;
-use test_databases::databases::{closed, has_first, is_nine, opened, opening, put, with_first};
-use test_databases::pages::{eight_file, first_other, new_file, nine_file, page_at, set_page};
+use test_databases::databases::{closed, has_first, is_nine, opened, opening, with_first};
+use test_databases::pages::{eight_file, new_file, nine_file, page_at};
 
 /// The device calls of an opening with no commit on its way: a sync, a read of sector 0, and four
 /// of page 1.
@@ -34,42 +38,21 @@ const STORED: u64 = ARMING + 1;
 /// and its sync.
 const CLOSED: u64 = STORED + 19;
 
+/// A device on which the first eight pairs were stored.
+fn eight_stored(alloc: Global) -> Result<MemDev, Fault> {
+    closed(with_first(alloc, 8)?)
+}
+
 /// A device with the first eight pairs, which keeps a short record: it is often copied.
 fn eight_pairs(alloc: Global) -> Result<MemDev, Fail> {
-    let mut stored = closed(with_first(alloc, 8)?)?;
-    let mut dev = MemDev::new(alloc, 928);
-    for n in 0..4 {
-        set_page(&mut dev, n, &page_at(&mut stored, n)?)?;
-    }
-    Ok(dev)
+    Ok(copied(alloc, &mut eight_stored(alloc)?, 928, 4)?)
 }
 
-/// What is left after so many calls of a device.
-#[derive(Drop)]
-struct Stopped {
-    dev: MemDev,
-    done: bool,
-    closed: Result<(), Fault>,
-}
-
-/// Opens a device, stores the ninth pair and closes the database, with so many device calls.
-fn store_stopped(alloc: Global, dev: MemDev, calls: u64) -> Stopped {
-    match Db::open(alloc, Fuse::new(dev, calls), opening(false, 0)) {
-        Ok(mut db) => {
-            let answer = put(&mut db, &[0x69], &[9]);
-            let (fuse, closed) = db.close();
-            Stopped {
-                dev: fuse.into_inner(),
-                done: answer == Ok(StoreReply::Stored),
-                closed,
-            }
-        }
-        Err((fuse, fault)) => Stopped {
-            dev: fuse.into_inner(),
-            done: false,
-            closed: Err(fault),
-        },
-    }
+/// Opens a copy of a device, stores the ninth pair and closes the database, with so many device
+/// calls.
+fn store_stopped(alloc: Global, dev: &MemDev, calls: u64) -> Result<Stopped, Fail> {
+    let copy = crashed(alloc, dev, &[])?;
+    run_stopped(alloc, copy, calls, opening(false, 0), "put i #09 -> stored")
 }
 
 /// How many pairs there are after so many calls, where the first of the unsynced writes happened or
@@ -82,12 +65,17 @@ fn pairs_after(calls: u64, first: bool) -> usize {
     }
 }
 
+/// Whether a device opens with the first so many of the nine pairs.
+fn opens_with_first(alloc: Global, dev: MemDev, count: usize) -> Result<bool, Fault> {
+    has_first(&mut opened(alloc, dev, false, 0)?, count)
+}
+
 /// Whether what a store of so many device calls leaves opens with the pairs that it has to, with
 /// each kind of marks.
 fn leaves_pairs(alloc: Global, dev: &MemDev, calls: u64) -> Result<bool, Fail> {
     for marks in MARKS.iter() {
-        let mut db = opened(alloc, dev.crashed(alloc, marks)?, false, 0)?;
-        if !has_first(&mut db, pairs_after(calls, marks[0]))? {
+        let left = crashed(alloc, dev, marks)?;
+        if !opens_with_first(alloc, left, pairs_after(calls, marks[0]))? {
             return Ok(false);
         }
     }
@@ -96,10 +84,14 @@ fn leaves_pairs(alloc: Global, dev: &MemDev, calls: u64) -> Result<bool, Fail> {
 
 /// What the closing answers, or the opening where that is stopped.
 fn closed_after(calls: u64) -> Result<(), Fault> {
-    if calls < OPENING || STORED <= calls && calls < CLOSED {
+    if calls < OPENING {
         Err(Fault::Device)
-    } else if COMMIT <= calls && calls < STORED {
+    } else if calls < COMMIT {
+        Ok(())
+    } else if calls < STORED {
         Err(Fault::Broken)
+    } else if calls < CLOSED {
+        Err(Fault::Device)
     } else {
         Ok(())
     }
@@ -107,7 +99,7 @@ fn closed_after(calls: u64) -> Result<(), Fault> {
 
 /// Whether a ninth store that is stopped after so many calls ends as it has to, and its closing.
 fn is_stored_so(alloc: Global, eight: &MemDev, calls: u64) -> Result<bool, Fail> {
-    let stopped = store_stopped(alloc, eight.crashed(alloc, &[])?, calls);
+    let stopped = store_stopped(alloc, eight, calls)?;
     Ok(
         stopped.done == (STORED <= calls)
             && stopped.closed == closed_after(calls)
@@ -125,51 +117,47 @@ fn a_stopped_store_is_whole_or_absent(rt: HostRuntime) -> Result<(), Fail> {
     Ok(())
 }
 
-/// Opens a device, with so many device calls.
-fn open_stopped(alloc: Global, dev: MemDev, calls: u64, create: bool) -> Stopped {
-    match Db::open(alloc, Fuse::new(dev, calls), opening(create, 100)) {
-        Ok(db) => {
-            let (fuse, closed) = db.close();
-            Stopped {
-                dev: fuse.into_inner(),
-                done: true,
-                closed,
-            }
-        }
-        Err((fuse, fault)) => Stopped {
-            dev: fuse.into_inner(),
-            done: false,
-            closed: Err(fault),
-        },
-    }
+/// Opens a device and closes the database, with so many device calls.
+fn open_stopped(alloc: Global, dev: MemDev, calls: u64, create: bool) -> Result<Stopped, Fail> {
+    run_stopped(alloc, dev, calls, opening(create, 100), "")
 }
 
 /// How many of the four kinds of marks differ for the writes of a device that aren't synced.
 fn kinds(dev: &MemDev) -> usize {
-    match dev.pending() {
+    match pending(dev) {
         0 => 1,
         1 => 2,
         _ => 4,
     }
 }
 
-/// The first page of a device that doesn't begin and end as these do. Between their first 96 and
-/// last 32 bytes these have zeros; a look at each byte would take too long here.
-fn first_with_other_ends(dev: &mut MemDev, pages: &[Page]) -> Result<Option<u32>, DevFault> {
+/// The first 96 and the last 32 bytes of a page.
+fn ends_of(page: &Page) -> (&[u8], &[u8]) {
+    (&page.bytes[..96], &page.bytes[2016..])
+}
+
+/// Whether the first pages of a device begin and end as these do. Between their first 96 and last
+/// 32 bytes these have zeros; a look at each byte would take too long here.
+fn has_ends(dev: &mut MemDev, pages: &[Page]) -> Result<bool, DevFault> {
     for (page, n) in pages.iter().zip(0..) {
-        let found = page_at(dev, n)?;
-        if found.bytes[..96] != page.bytes[..96] || found.bytes[2016..] != page.bytes[2016..] {
-            return Ok(Some(n));
+        if ends_of(&page_at(dev, n)?) != ends_of(page) {
+            return Ok(false);
         }
     }
-    Ok(None)
+    Ok(true)
+}
+
+/// Whether a database closes as this file of so many pairs.
+fn closes_with(db: Db<MemDev>, pairs: u32, file: &[Page]) -> Result<bool, Fail> {
+    let counted = stat(&db).pairs == pairs;
+    Ok(has_ends(&mut closed(db)?, file)? && counted)
 }
 
 /// Whether what each kind of marks leaves of a device opens as this file of so many pairs.
 fn opens_as(alloc: Global, dev: &MemDev, pairs: u32, file: &[Page]) -> Result<bool, Fail> {
     for marks in MARKS.iter().take(kinds(dev)) {
-        let db = opened(alloc, dev.crashed(alloc, marks)?, false, 0)?;
-        if db.stat().pairs != pairs || first_with_other_ends(&mut closed(db)?, file)?.is_some() {
+        let db = opened(alloc, crashed(alloc, dev, marks)?, false, 0)?;
+        if !closes_with(db, pairs, file)? {
             return Ok(false);
         }
     }
@@ -187,17 +175,17 @@ fn stop_each_opening(
 ) -> Result<Option<u64>, Fail> {
     let mut before = None;
     for calls in 0..RECOVERY {
-        let stopped = open_stopped(alloc, dev.crashed(alloc, &[])?, calls, false);
+        let stopped = open_stopped(alloc, crashed(alloc, dev, &[])?, calls, false)?;
         if stopped.done {
             return Ok(Some(calls));
         }
         // Where there are as many unsynced writes as before, the call between was a read, and what
         // is left is the same.
-        let pending = Some(stopped.dev.pending());
-        if pending != before && !opens_as(alloc, &stopped.dev, pairs, file)? {
+        let unsynced = Some(pending(&stopped.dev));
+        if unsynced != before && !opens_as(alloc, &stopped.dev, pairs, file)? {
             return Ok(None);
         }
-        before = pending;
+        before = unsynced;
     }
     Ok(Some(RECOVERY))
 }
@@ -215,7 +203,7 @@ fn calls_to_open(calls: u64, first: bool) -> u64 {
 /// marks.
 fn opens_again(alloc: Global, left: &MemDev, calls: u64) -> Result<bool, Fail> {
     for marks in MARKS.iter().take(kinds(left)) {
-        let dev = left.crashed(alloc, marks)?;
+        let dev = crashed(alloc, left, marks)?;
         let needed = if pairs_after(calls, marks[0]) == 9 {
             stop_each_opening(alloc, &dev, 9, &nine_file())?
         } else {
@@ -230,7 +218,7 @@ fn opens_again(alloc: Global, left: &MemDev, calls: u64) -> Result<bool, Fail> {
 
 /// Whether what a store of the ninth pair leaves after so many calls may be opened again and again.
 fn opens_again_after(alloc: Global, eight: &MemDev, calls: u64) -> Result<bool, Fail> {
-    let stopped = store_stopped(alloc, eight.crashed(alloc, &[])?, calls);
+    let stopped = store_stopped(alloc, eight, calls)?;
     opens_again(alloc, &stopped.dev, calls)
 }
 
@@ -247,9 +235,8 @@ fn a_stopped_opening_may_be_made_again(rt: HostRuntime) -> Result<(), Fail> {
 
 /// Whether closing what was left in doubt says Broken, and there are nine pairs then.
 fn is_left_in_doubt(alloc: Global, db: Db<FailOnce<MemDev>>) -> Result<bool, Fail> {
-    let (dev, answer) = db.close();
-    let left = dev.into_inner();
-    Ok(answer == Err(Fault::Broken) && is_nine(&mut opened(alloc, left, false, 0)?)?)
+    let (left, answer) = closed_below(db);
+    Ok(opens_with_nine(alloc, left)? && answer == Err(Fault::Broken))
 }
 
 /// The first line that eight pairs answer otherwise where the sync behind a commit's armed sector
@@ -283,10 +270,10 @@ fn a_failed_sync_leaves_a_change_in_doubt(rt: HostRuntime) -> Result<(), Fail> {
 
 /// Whether the store of a ninth pair is refused by a failed call, which leaves the pairs, and is
 /// done then.
-fn stores_at_last(alloc: Global, db: &mut Db<FailOnce<MemDev>>) -> Result<bool, Fail> {
-    let refused = first_wrong(alloc, db, "put i #09 -> refused Device")?.is_none();
+fn stores_at_last<S: PageStore>(alloc: Global, db: &mut Database<S>) -> Result<bool, Fail> {
+    let refused = answers(alloc, db, "put i #09 -> refused Device")?;
     let kept = refused && has_first(db, 8)?;
-    let stored = kept && first_wrong(alloc, db, "put i #09 -> stored")?.is_none();
+    let stored = kept && answers(alloc, db, "put i #09 -> stored")?;
     Ok(stored && is_nine(db)?)
 }
 
@@ -311,25 +298,28 @@ const MAKING: u64 = 2 + 13 + 2;
 /// Whether a device opens as a new database where it may be made, as every device here.
 fn opens_as_new(alloc: Global, dev: MemDev) -> Result<bool, Fail> {
     let mut db = opened(alloc, dev, true, 100)?;
-    if !has_first(&mut db, 0)? {
-        return Ok(false);
-    }
-    Ok(first_other(&mut closed(db)?, &new_file())?.is_none())
+    let empty = has_first(&mut db, 0);
+    let new = closes_as(db, &new_file())?;
+    Ok(empty? && new)
+}
+
+/// The fault of opening a copy of a device, where it may not be made.
+fn fault_of(alloc: Global, dev: &MemDev) -> Result<Option<Fault>, Fail> {
+    Ok(opened(alloc, crashed(alloc, dev, &[])?, false, 100).err())
 }
 
 /// Whether a making of so many device calls leaves a blank device or a new database, as it has to,
 /// with each kind of marks.
 fn leaves_blank_or_new(alloc: Global, left: &MemDev, calls: u64) -> Result<bool, Fail> {
     for marks in MARKS.iter() {
-        let dev = left.crashed(alloc, marks)?;
+        let dev = crashed(alloc, left, marks)?;
         let blank = calls < MAKING - 1 || calls == MAKING - 1 && !marks[0];
         let wanted = if blank {
             Some(Fault::NotADatabase)
         } else {
             None
         };
-        let fault = opened(alloc, dev.crashed(alloc, &[])?, false, 100).err();
-        if fault != wanted || !opens_as_new(alloc, dev)? {
+        if fault_of(alloc, &dev)? != wanted || !opens_as_new(alloc, dev)? {
             return Ok(false);
         }
     }
@@ -338,7 +328,7 @@ fn leaves_blank_or_new(alloc: Global, left: &MemDev, calls: u64) -> Result<bool,
 
 /// Whether a making that is stopped after so many calls ends as it has to.
 fn is_made_so(alloc: Global, calls: u64) -> Result<bool, Fail> {
-    let stopped = open_stopped(alloc, MemDev::new(alloc, 928), calls, true);
+    let stopped = open_stopped(alloc, blank_device(alloc, 928), calls, true)?;
     Ok(stopped.done == (calls == MAKING) && leaves_blank_or_new(alloc, &stopped.dev, calls)?)
 }
 

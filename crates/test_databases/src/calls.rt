@@ -5,12 +5,14 @@ use dbm_file::{Database, Db, DeleteReply, Fault, OpenHow, Pair, Unwatched};
 use page_io::PageStore;
 use sect_dev::SectorDev;
 use std::alloc::Global;
+use std::test::Fail;
 
 /// Opens a device, which is lost where it is refused.
 pub fn open<D: SectorDev + Drop>(alloc: Global, dev: D, how: OpenHow) -> Result<Db<D>, Fault> {
     Db::open(alloc, dev, how).map_err(|(_, fault)| fault)
 }
 
+/// The content of a key, if it is there.
 pub fn fetch<'a, S: PageStore>(
     db: &'a mut Database<S>,
     key: &[u8],
@@ -18,29 +20,30 @@ pub fn fetch<'a, S: PageStore>(
     db.fetch(key)
 }
 
+/// Deletes the pair of a key, or answers that there is none.
 pub fn delete<S: PageStore>(db: &mut Database<S>, key: &[u8]) -> Result<DeleteReply, Fault> {
     db.delete(key)
 }
 
+/// The first key of a pass, if there is one.
 pub fn firstkey<S: PageStore>(db: &mut Database<S>) -> Result<Option<&[u8]>, Fault> {
     db.firstkey()
 }
 
+/// The next key of a pass, if there is a further one.
 pub fn nextkey<S: PageStore>(db: &mut Database<S>) -> Result<Option<&[u8]>, Fault> {
     db.nextkey()
 }
 
+/// Stores pairs in one commit, and answers how many of them.
 pub fn store_many<S: PageStore>(db: &mut Database<S>, pairs: &[Pair]) -> Result<usize, Fault> {
     db.store_many(pairs)
 }
 
-/// How many pairs there are, where the database is a good one and has no more pages than marks.
-pub fn verify<S: PageStore>(
-    db: &mut Database<S>,
-    marks: &mut [bool],
-) -> Result<Option<u32>, Fault> {
+/// How many pairs a good database has. A fault, or more pages than marks, fails the test.
+pub fn verify<S: PageStore>(db: &mut Database<S>, marks: &mut [bool]) -> Result<u32, Fail> {
     if db.stat().pages as usize > marks.len() {
-        return Ok(None);
+        return Err("no more pages than marks".into());
     }
-    Ok(Some(db.verify(marks, &mut Unwatched)?))
+    Ok(db.verify(marks, &mut Unwatched)?)
 }

@@ -1,4 +1,4 @@
-use Rattle.std.proofs.Common.{◌≡◌, ◌≤◌, ℕ, Some, Err, sym, ap, ◌∙◌, arith}
+use Rattle.std.proofs.Common.{◌≡◌, ◌≤◌, ℕ, Some, Err, sym, ap, ◌∙◌, arith, rules}
 use Rattle.std.proofs.lemmas.Result.{err_from_is_err_and}
 use Rattle.page_model.specs.Reading.{body_of}
 use Rattle.page_io.specs.Store.{IsKnown}
@@ -51,3 +51,6 @@ returns-clause-whole g c honest next pairs some link damaged =
     let value = c.ok_or.ensures.value in
     let same = rw is at value in
     cc
+
+pub returns-clause-link : goal.returns-clause-link
+returns-clause-link g c = search rules

@@ -1,4 +1,4 @@
-use Rattle.std.proofs.Common.{◌≡◌, inr, refl, ap, Err, arith}
+use Rattle.std.proofs.Common.{◌≡◌, inr, refl, ap, Err, arith, rules}
 use Rattle.std.proofs.lemmas.Result.{err_from_is_err_and}
 use Rattle.page_io.specs.declared.store.PageFault.TheVariants.{Damaged}
 use Rattle.page_io.proofs.Views.{reads_then}
@@ -89,3 +89,6 @@ returns-clause-whole g c honest chain is damaged =
 pub returns-clause-readable : goal.returns-clause-readable
 returns-clause-readable g c honest can damaged =
     not_over _ _ _ _ _ _ _ can (c.loop-step.invariant.walked honest) (omega arith)
+
+pub returns-in-Some-clause-held : goal.returns-in-Some-clause-held
+returns-in-Some-clause-held g c = search rules

@@ -1,4 +1,4 @@
-use Rattle.std.proofs.Common.{◌≡◌, Err, ap, arith}
+use Rattle.std.proofs.Common.{◌≡◌, Err, ap, arith, rules}
 use Rattle.std.proofs.lemmas.Result.{err_from_is_err_and}
 use Rattle.page_io.specs.declared.store.PageFault.TheVariants.{Damaged}
 use Rattle.slot_page.proofs.Pages.{counted}
@@ -97,3 +97,6 @@ returns-clause-exact g c honest chain passed left is split from =
     left (left_at _ _ _ _ _ looks _ chain passed left is split from) (omega arith)
     c.if-next-eq0.false in
     first_of_next _ _ _ _ left next more c.in_ok-read_link.ensures.link.page
+
+pub returns-clause-held : goal.returns-clause-held
+returns-clause-held g c = search rules

@@ -1,4 +1,4 @@
-use Rattle.std.proofs.Common.{ℕ, ◌/◌, Bool, ◌&&◌, ap, subst, sym, ◌∙◌, arith}
+use Rattle.std.proofs.Common.{ℕ, ◌/◌, Bool, ◌&&◌, ap, subst, sym, ◌∙◌, arith, rules}
 use Rattle.dbm_fault.specs.declared.fault.Fault.{Fault}
 use Rattle.dbm_file.specs.Named.{RefusesFile}
 use Rattle.sect_dev.specs.contracts.file_dev.FileDevSectorDev.TheImpl.{ghosts as FileDevGhosts}
@@ -42,3 +42,6 @@ returns-in-Ok-open-2-clause-room g c =
     let db = c.in-Ok-open-2.db in
     file_has_room db db.valid (c.in-Ok-open-2.ensures.fresh.capacity
     ∙ ap (λ (n : ℕ). n / 4) c.in-Ok-open.ensures.size)
+
+pub returns-in-Ok-open-2-clause-fresh : goal.returns-in-Ok-open-2-clause-fresh
+returns-in-Ok-open-2-clause-fresh g c = search rules

@@ -1,4 +1,4 @@
-use Rattle.std.proofs.Common.{◌≡◌, ◌+◌, ◌++◌, ◌∷◌, [], sym, ◌∙◌, ap, subst, arith, List, map, drop, take, refl, cond, is_ok, vec_len, ℕ}
+use Rattle.std.proofs.Common.{◌≡◌, ◌+◌, ◌++◌, ◌∷◌, [], sym, ◌∙◌, ap, subst, arith, List, map, drop, take, refl, cond, is_ok, vec_len, ℕ, rules}
 use Rattle.std.proofs.lemmas.List.{drop_more}
 use Rattle.std.proofs.lemmas.List.Sums.{sum_by-append}
 use Rattle.dbm_model.specs.Calls as model
@@ -100,3 +100,6 @@ returns-clause-answers g c =
     AreAnswered c.args.db.now c.loop-call.db calls c.loop-call.replies.items)
     (all_taken c.args.calls.now c.loop-call.call-index (omega (arith, c.loop-call-test.false)))
     c.loop-call.invariant.answered
+
+pub returns-clause-one_each : goal.returns-clause-one_each
+returns-clause-one_each g c = search rules

@@ -181,3 +181,12 @@ returns-in-None-clause-exact g c honest p table =
     nothing_left _ _ _ p table c.args.meta.now.shape.low_level (from_of c.args.last)
     c.loop-head.bucket (c.loop-head.invariant.left honest p table)
     (least_here g c.before.before.before honest p table None c.in_default.is) c.in-None.ensures.last
+
+pub returns-in-None-clause-reads : goal.returns-in-None-clause-reads
+returns-in-None-clause-reads g c = search rules
+
+pub returns-in-Some-clause-ahead : goal.returns-in-Some-clause-ahead
+returns-in-Some-clause-ahead g c = search rules
+
+pub returns-in_err-slot-clause-reads : goal.returns-in_err-slot-clause-reads
+returns-in_err-slot-clause-reads g c = search rules

@@ -1,4 +1,4 @@
-use Rattle.std.proofs.Common.{◌∙◌, ◌-◌, length, refl, sym, ap, subst, arith}
+use Rattle.std.proofs.Common.{◌∙◌, ◌-◌, length, refl, sym, ap, subst, arith, rules}
 use Rattle.page_model.specs.Pages.{Meta}
 use Rattle.page_model.specs.Placement.{delete}
 use Rattle.std.proofs.lemmas.Result.{IfOk-from_err}
@@ -113,3 +113,6 @@ returns-clause-deleted g c honest =
     (record before { pairs = c.args.meta.now.pairs - 1 }) _ _ end out c.stage_meta.ensures.meta last
     page (c.stage_meta.ensures.others h1) before refl)
     (c.stage_meta.ensures.page h1) c.stage_meta.ensures.end
+
+pub returns-clause-pairs : goal.returns-clause-pairs
+returns-clause-pairs g c = search rules

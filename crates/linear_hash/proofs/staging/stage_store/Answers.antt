@@ -1,4 +1,4 @@
-use Rattle.std.proofs.Common.{◌≡◌, ◌∙◌, ⊎_elim, ℕ, ◌+◌, ◌*◌, ◌≤◌, Bool, true, false, cond, nat_lt, IfOk, length, refl, sym, ap, subst, arith}
+use Rattle.std.proofs.Common.{◌≡◌, ◌∙◌, ⊎_elim, ℕ, ◌+◌, ◌*◌, ◌≤◌, Bool, true, false, cond, nat_lt, IfOk, length, refl, sym, ap, subst, arith, rules}
 use Rattle.std.proofs.lemmas.Bool.{cases_lt}
 use Rattle.std.proofs.lemmas.Result.{IfOk-from_err}
 use Rattle.page_model.specs.Valid.{meta_buckets}
@@ -253,3 +253,6 @@ returns-clause-stored g c honest =
     (Stores c.args.was_there old before after (space_in before end) pair) _ _ grown after _ last
     change free is page (c.stage_meta.ensures.others h2) before split.kept.0)
     (c.stage_meta.ensures.page h2) c.stage_meta.ensures.end
+
+pub stage_meta-requires-clause-valid : goal.stage_meta-requires-clause-valid
+stage_meta-requires-clause-valid g c = search rules

@@ -1,4 +1,4 @@
-use Rattle.std.proofs.Common.{◌∙◌, ℕ, List, [], Option, Some, IfSome, refl, sym, ap, subst}
+use Rattle.std.proofs.Common.{◌∙◌, ℕ, List, [], Option, Some, IfSome, refl, sym, ap, subst, rules}
 use Rattle.std.specs.Borrow.{Bor}
 use Rattle.std.specs.Option.{option_map}
 use Rattle.dbm_model.specs.Pairs.{Pair}
@@ -96,3 +96,6 @@ returns-in-Ok-None-clause-stands g c = begins_so c.args.begins c.args.self.now c
 
 pub returns-in-Ok-None-2-clause-stands : goal.returns-in-Ok-None-2-clause-stands
 returns-in-Ok-None-2-clause-stands g c = goes_on_so c.args.begins c.args.self.now c.if-begins.false
+
+pub returns-in-Err-clause-keeps : goal.returns-in-Err-clause-keeps
+returns-in-Err-clause-keeps g c = search rules

@@ -1,4 +1,4 @@
-use Rattle.std.proofs.Common.{◌∙◌, ℕ, true, false, Option, Some, None, IfSome, Ok, Err, refl, inl, inr, subst, ap}
+use Rattle.std.proofs.Common.{◌∙◌, ℕ, true, false, Option, Some, None, IfSome, Ok, Err, refl, inl, inr, subst, ap, rules}
 use Rattle.dbm_model.specs.Calls.{First, End}
 use Rattle.chain_walks.specs.Leasts.{IsAheadAt}
 use Rattle.dbm_file.specs.Passing.{pass_from}
@@ -104,3 +104,6 @@ returns-in-Err g c =
       ),
       record { after = tt; short = tt; passed = tt; only = inr all.only },
     )
+
+pub advance-requires-clause-begun : goal.advance-requires-clause-begun
+advance-requires-clause-begun g c = search rules

@@ -1,4 +1,4 @@
-use Rattle.std.proofs.Common.{◌∙◌, map, take, Ok, Err, refl, sym, ap}
+use Rattle.std.proofs.Common.{◌∙◌, map, take, Ok, Err, refl, sym, ap, rules}
 use Rattle.std.proofs.lemmas.List.{take-map}
 use Rattle.page_io.specs.Store.{StoreState}
 use Rattle.page_io.proofs.Exits.{more_later}
@@ -101,3 +101,6 @@ returns-clause-ends g c honest h at =
     (map pair_of c.args.pairs.now) c.in_ok-stored.stored
     (sym (take-map pair_of c.in_ok-stored.stored c.args.pairs.now)) c.from.result
     (c.from.ensures ∙ ap fault_from all.broke.0)
+
+pub returns-in-Ok-true-clause-keeps : goal.returns-in-Ok-true-clause-keeps
+returns-in-Ok-true-clause-keeps g c = search rules

@@ -1,3 +1,4 @@
+use Rattle.std.proofs.Common.{rules}
 use Rattle.dbm_file.proofs.GroupEnds.{broken_refuses, group_refused, group_flagged}
 use Rattle.dbm_file.proofs.ReadSteps.{no_read, not_broken}
 use Rattle.dbm_fault.specs.declared.fault.Fault.TheVariants.{Broken, ReadOnly}
@@ -27,3 +28,12 @@ returns-in-Err-clause-ends g c honest h at =
     group_flagged g.S.PageStore c.args.self.now c.store_group.new.self h _ _ _
     c.refuse-in-Err.new.error c.in-Err.fault c.refuse-in-Err.ensures.flag _
     c.refuse-in-Err.result c.refuse-in-Err.ensures.answer (c.in-Err.ensures.ends honest h at)
+
+pub returns-in-Err-clause-read_only : goal.returns-in-Err-clause-read_only
+returns-in-Err-clause-read_only g c = search rules
+
+pub returns-in-Ok-clause-read_only : goal.returns-in-Ok-clause-read_only
+returns-in-Ok-clause-read_only g c = search rules
+
+pub store_group-requires-clause-writable : goal.store_group-requires-clause-writable
+store_group-requires-clause-writable g c = search rules

@@ -1,4 +1,4 @@
-use Rattle.std.proofs.Common.{◌≡◌, ◌<◌, ◌≤◌, ◌∙◌, ap, sym, subst, refl, true, false, Err, arith}
+use Rattle.std.proofs.Common.{◌≡◌, ◌<◌, ◌≤◌, ◌∙◌, ap, sym, subst, refl, true, false, Err, arith, rules}
 use Rattle.std.specs.FinMap.{get, insert, len}
 use Rattle.dbm_model.specs.Calls as model
 use Rattle.dbm_model.specs.Steps.{Case, Suffers}
@@ -297,3 +297,9 @@ returns g c =
           (all.stored (read.reads.stages_only.honesty.1 honest))) keeps;
       pass = ap model_pass c.in_ok-was_there.ensures.reads.pass_is;
     }
+
+pub store_pair-requires-clause-allowed : goal.store_pair-requires-clause-allowed
+store_pair-requires-clause-allowed g c = search rules
+
+pub store_pair-requires-clause-room : goal.store_pair-requires-clause-room
+store_pair-requires-clause-room g c = search rules

@@ -119,3 +119,45 @@ invariant_of-self-then-is_err-2 g c = search rules
 
 pub returns-then-is_err-2-clause-breaks : goal.returns-then-is_err-2-clause-breaks
 returns-then-is_err-2-clause-breaks g c = search rules
+
+pub arm-requires-clause-old : goal.arm-requires-clause-old
+arm-requires-clause-old g c = search rules
+
+pub arm-requires-clause-rest : goal.arm-requires-clause-rest
+arm-requires-clause-rest g c = search rules
+
+pub arm-requires-clause-some : goal.arm-requires-clause-some
+arm-requires-clause-some g c = grind (arith, common_steps)
+
+pub invariant_of-self-2-clause-fits : goal.invariant_of-self-2-clause-fits
+invariant_of-self-2-clause-fits g c = grind (arith, common_steps)
+
+pub invariant_of-self-2-clause-within : goal.invariant_of-self-2-clause-within
+invariant_of-self-2-clause-within g c = grind (arith, common_steps)
+
+pub returns-clause-answer : goal.returns-clause-answer
+returns-clause-answer g c = grind (arith, common_steps)
+
+pub returns-clause-ok : goal.returns-clause-ok
+returns-clause-ok g c = search rules
+
+pub returns-then-is_err-2-clause-answer : goal.returns-then-is_err-2-clause-answer
+returns-then-is_err-2-clause-answer g c = grind (arith, common_steps)
+
+pub returns-then-is_err-clause-answer : goal.returns-then-is_err-clause-answer
+returns-then-is_err-clause-answer g c = grind (arith, common_steps)
+
+pub returns-then-len-room-clause-answer : goal.returns-then-len-room-clause-answer
+returns-then-len-room-clause-answer g c = grind (arith, common_steps)
+
+pub returns-then-len-room-clause-refused : goal.returns-then-len-room-clause-refused
+returns-then-len-room-clause-refused g c = search rules
+
+pub returns-then-len-room-clause-untouched : goal.returns-then-len-room-clause-untouched
+returns-then-len-room-clause-untouched g c = search rules
+
+pub returns-then-not-self-2-clause-refused : goal.returns-then-not-self-2-clause-refused
+returns-then-not-self-2-clause-refused g c = search rules
+
+pub returns-then-not-self-2-clause-untouched : goal.returns-then-not-self-2-clause-untouched
+returns-then-not-self-2-clause-untouched g c = search rules

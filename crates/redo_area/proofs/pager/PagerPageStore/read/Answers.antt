@@ -1,4 +1,4 @@
-use Rattle.std.proofs.Common.{◌≡◌, List, true, refl, sym, ◌∙◌, ap, subst, arith}
+use Rattle.std.proofs.Common.{◌≡◌, List, true, refl, sym, ◌∙◌, ap, subst, arith, rules}
 use Rattle.sect_dev.specs.Device.{Image}
 use Rattle.page_io.specs.Page.{page_at}
 use Rattle.page_io.specs.Store.{bytes_of, file_pages, overlaid, page_of, are_in_order}
@@ -147,3 +147,15 @@ returns-clause-only_reads g c honest =
       still = page.still;
       any_moment = page.any_moment honest;
     }
+
+pub returns-clause-answer : goal.returns-clause-answer
+returns-clause-answer g c = search rules
+
+pub returns-then-find_staged-2-clause-answer : goal.returns-then-find_staged-2-clause-answer
+returns-then-find_staged-2-clause-answer g c = search rules
+
+pub returns-then-is_err-clause-answer : goal.returns-then-is_err-clause-answer
+returns-then-is_err-clause-answer g c = search rules
+
+pub returns-then-n-lt1-clause-answer : goal.returns-then-n-lt1-clause-answer
+returns-then-n-lt1-clause-answer g c = search rules

@@ -3,6 +3,3 @@ use Rattle.sect_dev.proofs.mem.MemDevSectorDev.write.Goals as goal
 
 pub returns-clause-count : goal.returns-clause-count
 returns-clause-count c = search rules
-
-pub returns-clause-ok : goal.returns-clause-ok
-returns-clause-ok c = search rules

@@ -78,3 +78,6 @@ returns-then-new_end-self-clause-any_moment g c = search rules
 
 pub invariant_of-self-then-new_end-self : goal.invariant_of-self-then-new_end-self
 invariant_of-self-then-new_end-self g c = search rules
+
+pub returns-clause-ok : goal.returns-clause-ok
+returns-clause-ok g c = search rules

@@ -1,0 +1,148 @@
+//! Devices in memory and databases over them that stop: calls without the contracts of what they
+//! call, which no test needs and which would stand in each of its goals.
+
+use dbm_file::{Database, Db, Fault, OpenHow, Stat};
+use page_io::{Page, PageStore};
+use sect_dev::{DevFault, Failing, Fuse, MemDev, Plan};
+use std::alloc::{AllocError, Global};
+use std::test::Fail;
+use test_databases::asking::first_wrong;
+use test_databases::databases::{closed, is_nine, opened};
+use test_databases::pages::{first_other, page_at, set_page};
+
+/// A blank device of so many sectors.
+pub fn blank_device(alloc: Global, sectors: u32) -> MemDev {
+    MemDev::new(alloc, sectors)
+}
+
+/// What a stop leaves of a device where the unsynced writes happened that are marked.
+pub fn crashed(alloc: Global, dev: &MemDev, marks: &[bool]) -> Result<MemDev, AllocError> {
+    dev.crashed(alloc, marks)
+}
+
+/// How many writes of a device aren't synced.
+pub fn pending(dev: &MemDev) -> usize {
+    dev.pending()
+}
+
+/// The numbers of a database.
+pub fn stat<S: PageStore>(db: &Database<S>) -> Stat {
+    db.stat()
+}
+
+/// Whether a database answers each call of a table so.
+pub fn answers<S: PageStore>(
+    alloc: Global,
+    db: &mut Database<S>,
+    table: &str,
+) -> Result<bool, Fail> {
+    Ok(first_wrong(alloc, db, table)?.is_none())
+}
+
+/// Writes these pages, from page 0 on.
+pub fn write_pages(dev: &mut MemDev, pages: &[Page]) -> Result<(), DevFault> {
+    for (page, n) in pages.iter().zip(0..) {
+        set_page(dev, n, page)?;
+    }
+    Ok(())
+}
+
+/// Copies so many pages, from page 0 on.
+fn copy_pages(from: &mut MemDev, into: &mut MemDev, count: u32) -> Result<(), DevFault> {
+    for n in 0..count {
+        set_page(into, n, &page_at(from, n)?)?;
+    }
+    Ok(())
+}
+
+/// A device of so many sectors with so many pages of another one, and a shorter record.
+pub fn copied(
+    alloc: Global,
+    from: &mut MemDev,
+    sectors: u32,
+    count: u32,
+) -> Result<MemDev, DevFault> {
+    let mut dev = blank_device(alloc, sectors);
+    copy_pages(from, &mut dev, count)?;
+    Ok(dev)
+}
+
+/// Whether the first pages of a device are these.
+pub fn has_pages(dev: &mut MemDev, pages: &[Page]) -> Result<bool, DevFault> {
+    Ok(first_other(dev, pages)?.is_none())
+}
+
+/// Whether the file of a database that is closed begins with these pages.
+pub fn closes_as(db: Db<MemDev>, pages: &[Page]) -> Result<bool, Fail> {
+    Ok(has_pages(&mut closed(db)?, pages)?)
+}
+
+/// Whether a device opens with the nine pairs.
+pub fn opens_with_nine(alloc: Global, dev: MemDev) -> Result<bool, Fault> {
+    is_nine(&mut opened(alloc, dev, false, 0)?)
+}
+
+/// A device that stops after so many calls.
+pub fn stopping_after(dev: MemDev, calls: u64) -> Fuse<MemDev> {
+    Fuse::new(dev, calls)
+}
+
+/// Opens a device that stops, or hands it back with the fault.
+fn open_stopping(
+    alloc: Global,
+    dev: Fuse<MemDev>,
+    how: OpenHow,
+) -> Result<Db<Fuse<MemDev>>, (Fuse<MemDev>, Fault)> {
+    Db::open(alloc, dev, how)
+}
+
+/// The device in memory below one whose calls fail.
+fn below<P: Plan + Drop>(dev: Failing<MemDev, P>) -> MemDev {
+    dev.into_inner()
+}
+
+/// The device in memory below a database that is closed, with what the closing answers.
+pub fn closed_below<P: Plan + Drop>(db: Db<Failing<MemDev, P>>) -> (MemDev, Result<(), Fault>) {
+    let (dev, answer) = db.close();
+    (below(dev), answer)
+}
+
+/// What is left after so many calls of a device.
+#[derive(Drop)]
+pub struct Stopped {
+    pub dev: MemDev,
+    /// Whether it was opened, and each call of the table answered so.
+    pub done: bool,
+    /// What the closing answered, or the opening where that was refused.
+    pub closed: Result<(), Fault>,
+}
+
+/// Makes the calls of a table up to the first that isn't answered so, and closes the database.
+fn ended(alloc: Global, mut db: Db<Fuse<MemDev>>, table: &str) -> Result<Stopped, Fail> {
+    let answered = answers(alloc, &mut db, table);
+    let (dev, closed) = closed_below(db);
+    Ok(Stopped {
+        dev,
+        done: answered?,
+        closed,
+    })
+}
+
+/// Opens a device, makes the calls of a table up to the first that isn't answered so, and closes
+/// the database, with so many device calls.
+pub fn run_stopped(
+    alloc: Global,
+    dev: MemDev,
+    calls: u64,
+    how: OpenHow,
+    table: &str,
+) -> Result<Stopped, Fail> {
+    match open_stopping(alloc, stopping_after(dev, calls), how) {
+        Ok(db) => ended(alloc, db, table),
+        Err((fuse, fault)) => Ok(Stopped {
+            dev: below(fuse),
+            done: false,
+            closed: Err(fault),
+        }),
+    }
+}
