@@ -136,14 +136,14 @@ fn first_astray<S: PageStore>(db: &mut Database<S>, keys: u16) -> Result<Option<
     first_not_even(db, keys)
 }
 
-/// What so many keys leave that there is a second segment: page 0, the meta page, two segments and
-/// a page for each bucket.
+/// The answers of a database with a second segment: it has page 0, the meta page, two segments and a
+/// page for each bucket.
 const FULL: &str = "
     stat -> 4065 pairs of 5000, 509 buckets (8 253), 513 pages, 0 free
     fetch #0fe1 -> nothing
 ";
 
-/// The same with half of them deleted.
+/// The numbers of the same with half of its pairs deleted.
 const HALVED: &str = "stat -> 2033 pairs of 5000, 509 buckets (8 253), 513 pages, 0 free";
 
 /// The first line that is answered otherwise where so many keys are stored that there is a second

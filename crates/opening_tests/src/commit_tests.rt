@@ -1,6 +1,7 @@
 //! How many pages a change commits, by the redo images that an armed commit sector names.
 
-use crate::stopping::{Stopped, crashed, pending, run_stopped, stat};
+use crate::devices::{crashed, pending};
+use crate::stopping::{Stopped, run_stopped, stat};
 use dbm_file::{Access, Database, Fault, OpenHow};
 use page_io::{Page, PageStore};
 use sect_dev::{DevFault, MemDev};

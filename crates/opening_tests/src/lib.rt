@@ -4,9 +4,9 @@
 #[cfg(test)]
 mod commit_tests;
 #[cfg(test)]
-mod folder_tests;
+mod devices;
 #[cfg(test)]
-mod held;
+mod folder_tests;
 #[cfg(test)]
 mod hows;
 #[cfg(test)]

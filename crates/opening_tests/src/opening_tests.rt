@@ -1,12 +1,11 @@
 //! Openings with each flag: what they refuse, what they leave alone, and what they make empty.
 
-use crate::held::{Held, damaged, nearly_full, nine_pairs};
+use crate::devices::{
+    Held, blank_device, crashed, damaged, has_pages, nearly_full, nine_pairs, pending,
+};
 use crate::hows::{PLAIN, how_of};
 use crate::marks::MARKS;
-use crate::stopping::{
-    Stopped, blank_device, closes_as, crashed, has_pages, pending, run_stopped, stat,
-    stopping_after,
-};
+use crate::stopping::{Stopped, closes_as, run_stopped, stat, stopping_after};
 use dbm_file::{Database, Db, Fault, OpenHow, Stat};
 use page_io::{Page, PageStore};
 use sect_dev::{DevFault, MemDev, SectorDev};

@@ -1,10 +1,8 @@
 //! Stops and failed calls of the device, while a database is made, changed and opened.
 
+use crate::devices::{blank_device, copied, crashed, pending};
 use crate::marks::MARKS;
-use crate::stopping::{
-    Stopped, answers, blank_device, closed_below, closes_as, copied, crashed, opens_with_nine,
-    pending, run_stopped, stat,
-};
+use crate::stopping::{Stopped, answers, closed_below, closes_as, run_stopped, stat};
 use dbm_file::{Database, Db, Fault};
 use page_io::{Page, PageStore};
 use sect_dev::{DevFault, FailOnce, MemDev};
@@ -231,6 +229,11 @@ fn a_stopped_opening_may_be_made_again(rt: HostRuntime) -> Result<(), Fail> {
         assert!(rt; right, "after {calls} calls");
     }
     Ok(())
+}
+
+/// Whether a device opens with the nine pairs.
+fn opens_with_nine(alloc: Global, dev: MemDev) -> Result<bool, Fault> {
+    is_nine(&mut opened(alloc, dev, false, 0)?)
 }
 
 /// Whether closing what was left in doubt says Broken, and there are nine pairs then.

@@ -1,29 +1,14 @@
-//! Devices in memory and databases over them that stop: calls without the contracts of what they
-//! call, which no test needs and which would stand in each of its goals.
+//! Databases over devices that stop: functions without clauses around calls with long contracts,
+//! which no test needs and which would stand in each of its goals.
 
+use crate::devices::has_pages;
 use dbm_file::{Database, Db, Fault, OpenHow, Stat};
 use page_io::{Page, PageStore};
-use sect_dev::{DevFault, Failing, Fuse, MemDev, Plan};
-use std::alloc::{AllocError, Global};
+use sect_dev::{Failing, Fuse, MemDev, Plan};
+use std::alloc::Global;
 use std::test::Fail;
 use test_databases::asking::first_wrong;
-use test_databases::databases::{closed, is_nine, opened};
-use test_databases::pages::{first_other, page_at, set_page};
-
-/// A blank device of so many sectors.
-pub fn blank_device(alloc: Global, sectors: u32) -> MemDev {
-    MemDev::new(alloc, sectors)
-}
-
-/// What a stop leaves of a device where the unsynced writes happened that are marked.
-pub fn crashed(alloc: Global, dev: &MemDev, marks: &[bool]) -> Result<MemDev, AllocError> {
-    dev.crashed(alloc, marks)
-}
-
-/// How many writes of a device aren't synced.
-pub fn pending(dev: &MemDev) -> usize {
-    dev.pending()
-}
+use test_databases::databases::closed;
 
 /// The numbers of a database.
 pub fn stat<S: PageStore>(db: &Database<S>) -> Stat {
@@ -39,47 +24,9 @@ pub fn answers<S: PageStore>(
     Ok(first_wrong(alloc, db, table)?.is_none())
 }
 
-/// Writes these pages, from page 0 on.
-pub fn write_pages(dev: &mut MemDev, pages: &[Page]) -> Result<(), DevFault> {
-    for (page, n) in pages.iter().zip(0..) {
-        set_page(dev, n, page)?;
-    }
-    Ok(())
-}
-
-/// Copies so many pages, from page 0 on.
-fn copy_pages(from: &mut MemDev, into: &mut MemDev, count: u32) -> Result<(), DevFault> {
-    for n in 0..count {
-        set_page(into, n, &page_at(from, n)?)?;
-    }
-    Ok(())
-}
-
-/// A device of so many sectors with so many pages of another one, and a shorter record.
-pub fn copied(
-    alloc: Global,
-    from: &mut MemDev,
-    sectors: u32,
-    count: u32,
-) -> Result<MemDev, DevFault> {
-    let mut dev = blank_device(alloc, sectors);
-    copy_pages(from, &mut dev, count)?;
-    Ok(dev)
-}
-
-/// Whether the first pages of a device are these.
-pub fn has_pages(dev: &mut MemDev, pages: &[Page]) -> Result<bool, DevFault> {
-    Ok(first_other(dev, pages)?.is_none())
-}
-
 /// Whether the file of a database that is closed begins with these pages.
 pub fn closes_as(db: Db<MemDev>, pages: &[Page]) -> Result<bool, Fail> {
     Ok(has_pages(&mut closed(db)?, pages)?)
-}
-
-/// Whether a device opens with the nine pairs.
-pub fn opens_with_nine(alloc: Global, dev: MemDev) -> Result<bool, Fault> {
-    is_nine(&mut opened(alloc, dev, false, 0)?)
 }
 
 /// A device that stops after so many calls.

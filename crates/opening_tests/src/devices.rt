@@ -1,13 +1,60 @@
-//! Devices by what they hold.
+//! Devices in memory, by what they hold.
 
-use crate::stopping::{blank_device, copied, write_pages};
 use dbm_file::{Database, Fault};
-use page_io::PageStore;
+use page_io::{Page, PageStore};
 use sect_dev::{DevFault, MemDev};
-use std::alloc::Global;
+use std::alloc::{AllocError, Global};
 use std::test::Fail;
 use test_databases::databases::{PAIRS, closed, put, with_first};
-use test_databases::pages::{nine_file, page_at, set_page};
+use test_databases::pages::{first_other, nine_file, page_at, set_page};
+
+/// A blank device of so many sectors.
+pub fn blank_device(alloc: Global, sectors: u32) -> MemDev {
+    MemDev::new(alloc, sectors)
+}
+
+/// What a stop leaves of a device where the unsynced writes happened that are marked.
+pub fn crashed(alloc: Global, dev: &MemDev, marks: &[bool]) -> Result<MemDev, AllocError> {
+    dev.crashed(alloc, marks)
+}
+
+/// How many writes of a device aren't synced.
+pub fn pending(dev: &MemDev) -> usize {
+    dev.pending()
+}
+
+/// Writes these pages, from page 0 on.
+fn write_pages(dev: &mut MemDev, pages: &[Page]) -> Result<(), DevFault> {
+    for (page, n) in pages.iter().zip(0..) {
+        set_page(dev, n, page)?;
+    }
+    Ok(())
+}
+
+/// Copies so many pages, from page 0 on.
+fn copy_pages(from: &mut MemDev, into: &mut MemDev, count: u32) -> Result<(), DevFault> {
+    for n in 0..count {
+        set_page(into, n, &page_at(from, n)?)?;
+    }
+    Ok(())
+}
+
+/// A device of so many sectors with so many pages of another one, and a shorter record.
+pub fn copied(
+    alloc: Global,
+    from: &mut MemDev,
+    sectors: u32,
+    count: u32,
+) -> Result<MemDev, DevFault> {
+    let mut dev = blank_device(alloc, sectors);
+    copy_pages(from, &mut dev, count)?;
+    Ok(dev)
+}
+
+/// Whether the first pages of a device are these.
+pub fn has_pages(dev: &mut MemDev, pages: &[Page]) -> Result<bool, DevFault> {
+    Ok(first_other(dev, pages)?.is_none())
+}
 
 /// What a device holds.
 #[derive(Clone, Copy)]
