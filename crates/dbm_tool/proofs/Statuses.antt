@@ -2,7 +2,7 @@
 use Rattle.std.proofs.Common.{◌≡◌, ◌⊎◌, inl, inr, refl, ◌∙◌, sym, ap, subst, append-nil, ℕ, List, [], ◌++◌, Bool, Option, Result, Ok, Err, is_ok, OnOk, IfErr, true, false}
 use Rattle.std.proofs.KnownBytes.{Appends-trans}
 use Rattle.std.specs.Io.KnownBytes.{Appends}
-use Rattle.dbm_words.specs.CommandLine.{AreVerbose, IsPlan}
+use Rattle.dbm_words.specs.Asking.{AreVerbose, IsPlan}
 use Rattle.dbm_plan.specs.declared.plan.Plan.{Plan}
 use Rattle.dbm_commands.specs.declared.outcomes.Outcome.{Outcome}
 use Rattle.dbm_commands.specs.declared.outcomes.Outcome.TheVariants.{Done, Nothing}

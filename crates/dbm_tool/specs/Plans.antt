@@ -1,7 +1,7 @@
 -- What is proved of a plan that was carried out.
 use Rattle.std.specs.Prelude.{◌≡◌, ◌++◌, ℕ, List, Option, None, Some, IfSome, length}
 use Rattle.std.specs.Io.KnownBytes.{Appends}
-use Rattle.dbm_words.specs.CommandLine.{IsPlan}
+use Rattle.dbm_words.specs.Asking.{IsPlan}
 use Rattle.dbm_plan.specs.declared.help_text.TheConstants.{FAULT_TABLE}
 use Rattle.dbm_plan.specs.declared.plan.Plan.{Plan}
 use Rattle.dbm_plan.specs.declared.plan.Plan.TheVariants.{Script, Rehearse, Faults}

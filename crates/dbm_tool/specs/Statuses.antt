@@ -1,7 +1,7 @@
 -- What the exit statuses tell of the words.
 use Rattle.std.specs.Prelude.{◌≡◌, ◌⊎◌, ℕ, List, [], ◌++◌, Bool, true, Option, Result, Ok, Err, codes}
 use Rattle.std.specs.Io.KnownBytes.{Appends}
-use Rattle.dbm_words.specs.CommandLine.{AreTaken, AreVerbose, IsPlan, IsWithoutSource}
+use Rattle.dbm_words.specs.Asking.{AreTaken, AreVerbose, IsPlan, IsWithoutSource}
 use Rattle.dbm_plan.specs.declared.plan.Plan.{Plan}
 use Rattle.dbm_commands.specs.declared.outcomes.Outcome.{Outcome}
 use Rattle.dbm_commands.specs.declared.outcomes.Outcome.TheVariants.{Done, Nothing}

@@ -1,7 +1,7 @@
 // The program over its words.
 ghost use Rattle.std.specs.Prelude.{◌≡◌, ◌⊎◌, OnErr, OnOk, IfErr, Err, is_some, map, true, codes};
 ghost use Rattle.std.specs.Io.KnownBytes.{Appends};
-ghost use Rattle.dbm_words.specs.CommandLine.{AreTaken};
+ghost use Rattle.dbm_words.specs.Asking.{AreTaken};
 ghost use Rattle.dbm_tool.specs.Endings.{looks_for_a_key, prints, reads};
 ghost use Rattle.dbm_tool.specs.Faults.{failure_line, fault_line};
 ghost use Rattle.dbm_tool.specs.Plans.{DoesWords};

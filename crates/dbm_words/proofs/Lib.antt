@@ -1,4 +1,3 @@
-pub mod Building
 pub mod Naming
 pub mod Reading
 pub mod Refusing

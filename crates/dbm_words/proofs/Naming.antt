@@ -11,7 +11,7 @@ use Rattle.clap.specs.declared.parser.matches.ArgMatches.{ArgMatches}
 use Rattle.clap.specs.declared.parser.matches.Found.{Found}
 use Rattle.clap.proofs.WalkLemmas.{first_value-rows, one_text-rows}
 use lib.Pointwise.{pointwise}
-use Rattle.dbm_words.specs.CommandLine.{Asks, IsNumberText, IsText, LacksSource, Names, NamesNoSource}
+use Rattle.dbm_words.specs.Asking.{Asks, IsNumberText, IsText, LacksSource, Names, NamesNoSource}
 use Rattle.dbm_plan.specs.declared.plan.Plan.{Plan}
 use Rattle.dbm_words.specs.declared.words.WordsError.{WordsError}
 use Rattle.dbm_words.specs.declared.words.WordsError.TheVariants.{NoPlan}

@@ -2,7 +2,7 @@
 use Rattle.std.proofs.Common.{◌≡◌, ◌∙◌, true, refl, ap, subst, List, Option}
 use Rattle.clap.specs.Words.{App, HasMatchesOf, Row, Text, found_of, is_simple, matches_of, rows_of, subcommand_of, subcommand_rows_of}
 use Rattle.clap.specs.declared.parser.matches.ArgMatches.{ArgMatches}
-use Rattle.dbm_words.specs.CommandLine.{command_line}
+use Rattle.dbm_command_line.specs.CommandLine.{command_line}
 
 -- the parser's definitions give the matches of the command line
 line_is_simple : is_simple command_line ≡ true

@@ -1,8 +1,6 @@
 //! The words of the program's command line, read into a plan.
 #![tactic(auto)]
 
-mod arguments;
-mod commands;
 mod options;
 mod words;
 

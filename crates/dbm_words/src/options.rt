@@ -1,15 +1,15 @@
 // The plan that a parse entered.
 ghost use Rattle.std.specs.Prelude.{◌≡◌, ◌⊎◌, IfErr, IfOk, IfSome, MatchOption, None, Some, codes};
 ghost use Rattle.clap.specs.Words.{first_of, found_of, one_of, rows_of, subcommand_rows_of};
-ghost use Rattle.dbm_words.specs.CommandLine.{Asks, IsGroup, IsNumberText, IsOptional, IsSource, IsText, IsVerbose, LacksSource, Names, NamesNoSource, flag_text, text_flag};
+ghost use Rattle.dbm_words.specs.Asking.{Asks, IsGroup, IsNumberText, IsOptional, IsSource, IsText, IsVerbose, LacksSource, Names, NamesNoSource, flag_text, text_flag};
 ghost use Rattle.dbm_words.specs.Sorting.{IsOfChoice};
 
 use crate::WordsError;
-use crate::commands::{
+use clap::ArgMatches;
+use dbm_command_line::names::{
     CONTENT, CREATE, DELETE, DUMP, FAULTS, FETCH, FILE, GROUP, HEXADECIMAL, INSERT, KEY, LIMIT,
     LIST, LOAD, MEMORY, MOST_LINES, REHEARSE, SCRIPT, STAT, STOPS, STORE, TEXT, VERBOSE, VERIFY,
 };
-use clap::ArgMatches;
 use dbm_plan::{Plan, Request, Source, Spelling};
 
 /// What the words ask for.
@@ -22,11 +22,9 @@ pub fn requested<'a>(matches: &ArgMatches<'a>) -> Result<Request<'a>, WordsError
         → NamesNoSource (codes "rehearse") (subcommand_rows_of matches.now)) }
     ensures others { IfErr result IsOfChoice }
 {
-    match (chosen(matches), verbose(matches)) {
-        (Ok(plan), Some(verbose)) => Ok(Request { plan, verbose }),
-        (Err(error), _) => Err(error),
-        (Ok(_), None) => Err(WordsError::NoPlan),
-    }
+    let plan = chosen(matches)?;
+    let verbose = verbose(matches).ok_or(WordsError::NoPlan)?;
+    Ok(Request { plan, verbose })
 }
 
 /// Whether the system's own words are to be told.
@@ -72,10 +70,13 @@ fn rehearsal<'a>(options: &ArgMatches<'a>) -> Result<Plan<'a>, WordsError>
     ensures others { IfErr result
         (λ e. (e ≡ WordsError.NoPlan) ⊎ (e ≡ WordsError.RehearsalSource)) }
 {
-    match (source(options), stops(options)) {
-        (Ok(source), Some(stops)) => Ok(Plan::Rehearse { source, stops }),
-        (Err(WordsError::ScriptSource), _) => Err(WordsError::RehearsalSource),
-        _ => Err(WordsError::NoPlan),
+    match source(options) {
+        Ok(source) => {
+            let stops = stops(options).ok_or(WordsError::NoPlan)?;
+            Ok(Plan::Rehearse { source, stops })
+        }
+        Err(WordsError::ScriptSource) => Err(WordsError::RehearsalSource),
+        Err(_) => Err(WordsError::NoPlan),
     }
 }
 

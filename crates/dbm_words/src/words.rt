@@ -1,13 +1,13 @@
 // The words after the program's name.
 ghost use Rattle.std.specs.Prelude.{◌≡◌, ◌≢◌, ◌⊎◌, IfErr, IfOk, map, codes};
 ghost use Rattle.clap.specs.Words.{kind_of};
-ghost use Rattle.dbm_words.specs.CommandLine.{AreTaken, AreVerbose, IsPlan, IsWithoutSource};
+ghost use Rattle.dbm_words.specs.Asking.{AreTaken, AreVerbose, IsPlan, IsWithoutSource};
 ghost use Rattle.dbm_words.specs.Sorting.{IsOfChoice, IsSorted};
 
-use crate::commands::command;
 use crate::options::requested;
 use clap::Error as Refusal;
 use clap::error::ErrorKind;
+use dbm_command_line::command;
 use dbm_plan::Request;
 use std::alloc::Global;
 use thiserror::Error;

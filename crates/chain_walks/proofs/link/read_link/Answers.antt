@@ -4,7 +4,7 @@ use Rattle.page_model.specs.Reading.{body_of}
 use Rattle.page_io.specs.Store.{IsKnown}
 use Rattle.page_io.specs.Views.{body_at}
 use Rattle.page_io.specs.declared.store.PageFault.TheVariants.{Damaged}
-use Rattle.page_io.proofs.Views.{unknown_said}
+use Rattle.page_io.proofs.Views.{after_read, unknown_said}
 use Rattle.slot_page.specs.Contents.{page_pairs}
 use Rattle.chain_walks.specs.Links.{SaysLink}
 use Rattle.chain_walks.proofs.LinkBodies.{says_link, is_link, not_other}
@@ -54,3 +54,9 @@ returns-clause-whole g c honest next pairs some link damaged =
 
 pub returns-clause-link : goal.returns-clause-link
 returns-clause-link g c = search rules
+
+pub returns-clause-reads : goal.returns-clause-reads
+returns-clause-reads g c =
+    after_read g.S.PageStore c.args.store.now c.read.new.self
+    (g.met.S.PageStore.counts_now c.read.new.self) c.read.ensures.state c.read.ensures.honesty
+    c.read.ensures.cause.later c.read.ensures.kept

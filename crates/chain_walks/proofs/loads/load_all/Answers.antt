@@ -76,3 +76,18 @@ loop-step-preserved g c = record {
 pub returns-clause-whole : goal.returns-clause-whole
 returns-clause-whole g c honest chain is damaged =
     not_too_long _ _ _ _ _ _ _ chain is (c.loop-step.invariant.loaded honest).walk (omega arith)
+
+pub returns-in_err-next-clause-reads : goal.returns-in_err-next-clause-reads
+returns-in_err-next-clause-reads g c =
+    reads_then g.S.PageStore _ _ _ (g.met.S.PageStore.counts_now c.loop-step.store)
+    c.loop-step.invariant.reads c.in_err-next.ensures.reads
+
+pub returns-in_err-map_err-clause-reads : goal.returns-in_err-map_err-clause-reads
+returns-in_err-map_err-clause-reads g c =
+    reads_then g.S.PageStore _ _ _ (g.met.S.PageStore.counts_now c.loop-step.store)
+    c.loop-step.invariant.reads c.in_ok-next.ensures.reads
+
+pub returns-then-next-eq0-clause-reads : goal.returns-then-next-eq0-clause-reads
+returns-then-next-eq0-clause-reads g c =
+    reads_then g.S.PageStore _ _ _ (g.met.S.PageStore.counts_now c.loop-step.store)
+    c.loop-step.invariant.reads c.in_ok-next.ensures.reads

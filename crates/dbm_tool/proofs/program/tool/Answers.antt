@@ -1,5 +1,5 @@
 use Rattle.std.proofs.Common.{inl, inr, ⊎_elim, map, refl, subst, Bool}
-use Rattle.dbm_words.specs.CommandLine.{AreVerbose}
+use Rattle.dbm_words.specs.Asking.{AreVerbose}
 use Rattle.dbm_fault.specs.declared.engine_fault.EngineFault.TheVariants.{Write}
 use Rattle.dbm_tool.proofs.Statuses.{done_at_zero, plain_lines, prints_or_stays, reads_or_stays, tells_fault, tells_misuse}
 use Rattle.dbm_tool.proofs.program.tool.Goals as goal

@@ -1,7 +1,7 @@
 use Rattle.std.proofs.Common.{◌≡◌, inl, codes, refl}
 use Rattle.std.proofs.lemmas.Result.{IfOk-from_err}
 use Rattle.clap.specs.Words.{found_of, rows_of, subcommand_rows_of}
-use Rattle.dbm_words.specs.CommandLine.{Names, NamesNoSource}
+use Rattle.dbm_words.specs.Asking.{Names, NamesNoSource}
 use Rattle.dbm_plan.specs.declared.plan.Plan.TheVariants.{Faults, Script}
 use Rattle.dbm_words.specs.Sorting.{IsOfChoice}
 use Rattle.dbm_words.specs.declared.words.WordsError.TheVariants.{RehearsalSource, ScriptSource}

@@ -1,6 +1,6 @@
 use Rattle.std.proofs.Common.{◌≡◌, Some, codes, false, true}
 use Rattle.clap.specs.Words.{found_of, one_of, rows_of}
-use Rattle.dbm_words.specs.CommandLine.{text_flag}
+use Rattle.dbm_words.specs.Asking.{text_flag}
 use Rattle.dbm_words.proofs.Naming.{flag_read, if_none}
 use Rattle.dbm_words.proofs.options.form.Goals as goal
 

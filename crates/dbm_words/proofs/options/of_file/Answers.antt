@@ -1,5 +1,5 @@
 use Rattle.clap.specs.Words.{found_of, rows_of}
-use Rattle.dbm_words.specs.CommandLine.{Asks}
+use Rattle.dbm_words.specs.Asking.{Asks}
 use Rattle.dbm_words.proofs.Naming.{if_none}
 use Rattle.dbm_words.proofs.options.of_file.Goals as goal
 

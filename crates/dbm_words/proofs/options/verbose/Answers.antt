@@ -1,6 +1,6 @@
 use Rattle.std.proofs.Common.{codes, false, true}
 use Rattle.clap.specs.Words.{found_of, rows_of}
-use Rattle.dbm_words.specs.CommandLine.{IsVerbose}
+use Rattle.dbm_words.specs.Asking.{IsVerbose}
 use Rattle.dbm_words.proofs.Naming.{flag_read, if_none}
 use Rattle.dbm_words.proofs.options.verbose.Goals as goal
 

@@ -1,6 +1,6 @@
 use Rattle.std.proofs.Common.{◌≡◌, ◌∙◌, IfErr, IfOk, inl, map, ap, refl, codes}
 use Rattle.clap.specs.Words.{app_of, takes}
-use Rattle.dbm_words.specs.CommandLine.{IsVerbose, Names, NamesNoSource}
+use Rattle.dbm_words.specs.Asking.{IsVerbose, Names, NamesNoSource}
 use Rattle.dbm_words.specs.declared.words.WordsError.TheVariants.{RehearsalSource, ScriptSource}
 use Rattle.dbm_words.proofs.Reading.{of_words, rows_of_words}
 use Rattle.dbm_words.proofs.Refusing.{choice_is_sorted, choice_passes, memory_is_other}

@@ -1,10 +1,11 @@
-use Rattle.std.proofs.Common.{◌≡◌, ◌+◌, ◌++◌, ◌∷◌, [], ℕ, List, take, get_or, Err, Some, sym, ap, ◌∙◌, subst, arith}
+use Rattle.std.proofs.Common.{◌≡◌, ◌+◌, ◌++◌, ◌∷◌, [], ℕ, List, take, get_or, Err, Some, append-nil, refl, sym, ap, ◌∙◌, subst, arith}
 use Rattle.std.proofs.lemmas.Result.{err_from_is_err_and}
 use Rattle.page_model.specs.Pages.{FreePage}
 use Rattle.page_io.specs.declared.store.PageFault.TheVariants.{Damaged}
 use Rattle.page_marks.specs.Marks.{AreMarked, MayBeSeen}
 use Rattle.free_pages.proofs.FreeLists.{none_read as no_next}
-use Rattle.file_check.proofs.FreeReads.{more_read, all_read, says_free, may_next, next_marked, none_behind, all_marked, is_some}
+use Rattle.chain_walks.proofs.ReadPages.{reads_none}
+use Rattle.file_check.proofs.FreeReads.{none_read, starts_there, more_read, all_read, says_free, may_next, next_marked, none_behind, all_marked, is_some}
 use Rattle.file_check.proofs.OneRead.{said_before, said_after, must_be_known, read_then}
 use Rattle.file_check.proofs.free.check_free.Goals as goal
 
@@ -92,3 +93,34 @@ pub returns-else-at-eq0-clause-whole : goal.returns-else-at-eq0-clause-whole
 returns-else-at-eq0-clause-whole g c honest seen free are is may damaged =
     let here = c.loop.invariant.exact honest seen free are is may in
     c.if-at-eq0.false (none_behind _ _ _ free c.loop.counter c.loop.at is (omega arith) here.0)
+
+pub loop-init : goal.loop-init
+loop-init g c = record {
+  length = refl;
+  reads = reads_none g.S.PageStore c.args.store.now
+      (λ y h left. g.met.S.PageStore.only_now c.args.store.now y h left);
+  sound = λ honest seen are. none_read _ _ _ _ seen are;
+  exact = λ honest seen free are is may. (
+    starts_there _ _ _ free is,
+    subst (AreMarked c.args.marks.now (g.S.PageStore.state c.args.store.now).end)
+        (sym (append-nil seen)) are,
+  );
+}
+
+pub returns-in_err-read-clause-reads : goal.returns-in_err-read-clause-reads
+returns-in_err-read-clause-reads g c =
+    read_then g.S.PageStore _ _ _ (g.met.S.PageStore.counts_now c.loop.store)
+    (g.met.S.PageStore.counts_now c.read.new.self) c.loop.invariant.reads
+    c.read.ensures.state c.read.ensures.honesty c.read.ensures.cause.later c.read.ensures.kept
+
+pub returns-in_err-next-clause-reads : goal.returns-in_err-next-clause-reads
+returns-in_err-next-clause-reads g c =
+    read_then g.S.PageStore _ _ _ (g.met.S.PageStore.counts_now c.loop.store)
+    (g.met.S.PageStore.counts_now c.read.new.self) c.loop.invariant.reads
+    c.read.ensures.state c.read.ensures.honesty c.read.ensures.cause.later c.read.ensures.kept
+
+pub returns-then-not-mark-clause-reads : goal.returns-then-not-mark-clause-reads
+returns-then-not-mark-clause-reads g c =
+    read_then g.S.PageStore _ _ _ (g.met.S.PageStore.counts_now c.loop.store)
+    (g.met.S.PageStore.counts_now c.read.new.self) c.loop.invariant.reads
+    c.read.ensures.state c.read.ensures.honesty c.read.ensures.cause.later c.read.ensures.kept

@@ -145,3 +145,9 @@ returns-clause-whole g c honest seen chains are is may damaged =
     chains is c.read.new.page.whole read many refl))
     (to_mid g.S.PageStore old mid first-read honest
     (λ at end. MayBeSeen end (seen ++ flat_map numbers chains)) may) damaged
+
+pub returns-then-not-segment_ok-clause-reads : goal.returns-then-not-segment_ok-clause-reads
+returns-then-not-segment_ok-clause-reads g c =
+    after_read g.S.PageStore c.args.store.now c.read.new.self
+    (g.met.S.PageStore.counts_now c.read.new.self) c.read.ensures.state c.read.ensures.honesty
+    c.read.ensures.cause.later c.read.ensures.kept

@@ -1,0 +1,26 @@
+use Rattle.std.proofs.Common.{[], ◌∷◌, codes}
+use Rattle.std.proofs.lemmas.Result.{IfOk-from_err}
+use Rattle.clap.specs.Words.{Rule}
+use Rattle.dbm_command_line.specs.Building.{IsApp, IsRule, alone}
+use Rattle.dbm_command_line.specs.CommandLine.{create_line, file_line, number_rule}
+use Rattle.dbm_command_line.proofs.Building.{option_added, with_default}
+use Rattle.dbm_command_line.proofs.commands.create_command.Goals as goal
+
+pub returns-in_err-file_command : goal.returns-in_err-file_command
+returns-in_err-file_command c =
+    IfOk-from_err c.from_residual.result (λ made. IsApp made (alone create_line))
+    c.from_residual.ensures.0
+
+pub returns : goal.returns
+returns c =
+    let with_value : Rule = record (number_rule (codes "limit")) {
+      defaults =
+          codes "1000000" ∷ [];
+    } in
+    let limit : IsRule c.default_value.result with_value =
+    with_default (codes "1000000") c.number-limit.result c.default_value.result
+    (number_rule (codes "limit")) (rw c.default_value.ensures) (rw c.default_value.ensures)
+    c.number-limit.ensures in
+    option_added c.in_ok-file_command.field-0 c.default_value.result c.arg.result
+    (alone (file_line (codes "create"))) with_value c.in_ok-file_command.ensures
+    limit c.arg.ensures

@@ -1,0 +1,4 @@
+use Rattle.dbm_command_line.proofs.commands.store_command.Goals as goal
+
+pub returns : goal.returns
+returns c = c.pair_command.ensures

@@ -1,0 +1,112 @@
+-- The program's command line in the parser's words.
+use Rattle.std.specs.Prelude.{List, [], ◌∷◌, Some, pos, true, false, codes}
+use Rattle.clap.specs.Words.{App, Rule, Shape, Text, new_app, new_rule}
+use Rattle.clap.specs.declared.builder.action.ArgAction.TheVariants.{SetTrue}
+use Rattle.clap.specs.declared.builder.value_parser.ValueParser.TheVariants as parser
+
+-- a word in its place, which is required
+abbrev pub word_rule : Text → Rule
+word_rule id = record (new_rule id) { value_names = 1; required = true }
+
+-- `--NAME N`, and N a `u32`
+abbrev pub number_rule : Text → Rule
+number_rule name = record (new_rule name) {
+  long = Some name;
+  value_names = 1;
+  parser =
+      Some (parser.Signed (pos 0) (pos 4294967295));
+}
+
+-- `--group N`, and N from 1 to 100000
+abbrev pub group_rule : Rule
+group_rule = record (number_rule (codes "group")) {
+  parser =
+      Some (parser.Signed (pos 1) (pos 100000));
+}
+
+-- `-x`
+abbrev pub hexadecimal_rule : Rule
+hexadecimal_rule = record (new_rule (codes "hexadecimal")) {
+  short = Some 120;
+  action = Some SetTrue;
+}
+
+-- `--text`
+abbrev pub text_rule : Rule
+text_rule = record (new_rule (codes "text")) {
+  long = Some (codes "text");
+  action = Some SetTrue;
+}
+
+-- `--verbose`
+abbrev pub verbose_rule : Rule
+verbose_rule = record (new_rule (codes "verbose")) {
+  long = Some (codes "verbose");
+  action = Some SetTrue;
+}
+
+abbrev pub line : Text → List Rule → Shape
+line name rules = record (new_app name).top { rules = rules }
+
+-- `NAME FILE`
+abbrev pub file_line : Text → Shape
+file_line name = line name (word_rule (codes "file") ∷ [])
+
+-- `NAME FILE [--text]`
+abbrev pub pairs_line : Text → Shape
+pairs_line name = line name (word_rule (codes "file") ∷ text_rule ∷ [])
+
+-- `load FILE [--text] [--group N]`
+abbrev pub load_line : Shape
+load_line = line (codes "load") (word_rule (codes "file") ∷ text_rule ∷ group_rule ∷ [])
+
+-- `NAME FILE KEY [-x]`
+abbrev pub key_line : Text → Shape
+key_line name = line name (word_rule (codes "file") ∷ word_rule (codes "key")
+    ∷ hexadecimal_rule ∷ [])
+
+-- `NAME FILE KEY CONTENT [-x]`
+abbrev pub pair_line : Text → Shape
+pair_line name = line name (word_rule (codes "file") ∷ word_rule (codes "key") ∷ hexadecimal_rule
+    ∷ word_rule (codes "content") ∷ [])
+
+-- `create FILE [--limit N]`
+abbrev pub create_line : Shape
+create_line = line (codes "create")
+    (word_rule (codes "file") ∷ record (number_rule (codes "limit")) {
+      defaults =
+          codes "1000000" ∷ [];
+    } ∷ [])
+
+-- `script [FILE] [--memory N]`
+abbrev pub script_line : Shape
+script_line = line (codes "script")
+    (record (word_rule (codes "file")) { required = false } ∷ number_rule (codes "memory") ∷ [])
+
+-- `rehearse [FILE] [--memory N] [--stops N]`
+abbrev pub rehearse_line : Shape
+rehearse_line = line (codes "rehearse")
+    (record (word_rule (codes "file")) { required = false } ∷ number_rule (codes "memory")
+    ∷ number_rule (codes "stops") ∷ [])
+
+-- `faults`
+abbrev pub faults_line : Shape
+faults_line = line (codes "faults") []
+
+-- `dbmtool [--verbose] [--version]`, whose name is none of the words that are read
+abbrev pub program_line : Shape
+program_line = record (line (codes "dbmtool") (verbose_rule ∷ [])) {
+  has_version = true;
+  no_binary_name = true;
+  subcommand_required = true;
+}
+
+-- `dbmtool`, and then one of the lines
+unfoldable pub command_line : App
+command_line = record {
+  top = record program_line { is_leaf = false };
+  subs = create_line ∷ pair_line (codes "store") ∷ pair_line (codes "insert")
+      ∷ key_line (codes "fetch") ∷ key_line (codes "delete")
+      ∷ file_line (codes "list") ∷ pairs_line (codes "dump") ∷ load_line
+      ∷ file_line (codes "stat") ∷ file_line (codes "verify") ∷ script_line ∷ rehearse_line ∷ faults_line ∷ [];
+}

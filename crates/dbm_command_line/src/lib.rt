@@ -1,0 +1,9 @@
+//! The program's command line, in the parser's definitions: its commands, and their words and
+//! options.
+#![tactic(auto)]
+
+mod arguments;
+mod commands;
+pub mod names;
+
+pub use commands::command;

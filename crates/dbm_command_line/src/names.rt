@@ -1,0 +1,55 @@
+//! The names of the commands, the names under which the parser keeps what was given for a word or
+//! an option, and the most lines of a load that may share a commit.
+
+// The commands by their names.
+
+pub const CREATE: &str = "create";
+
+pub const STORE: &str = "store";
+
+pub const INSERT: &str = "insert";
+
+pub const FETCH: &str = "fetch";
+
+pub const DELETE: &str = "delete";
+
+pub const LIST: &str = "list";
+
+pub const DUMP: &str = "dump";
+
+pub const LOAD: &str = "load";
+
+pub const STAT: &str = "stat";
+
+pub const VERIFY: &str = "verify";
+
+pub const SCRIPT: &str = "script";
+
+pub const REHEARSE: &str = "rehearse";
+
+pub const FAULTS: &str = "faults";
+
+// Their words and options, as the parser keeps what was given for each.
+
+pub const FILE: &str = "file";
+
+pub const KEY: &str = "key";
+
+pub const CONTENT: &str = "content";
+
+pub const HEXADECIMAL: &str = "hexadecimal";
+
+pub const TEXT: &str = "text";
+
+pub const LIMIT: &str = "limit";
+
+pub const MEMORY: &str = "memory";
+
+pub const STOPS: &str = "stops";
+
+pub const GROUP: &str = "group";
+
+pub const VERBOSE: &str = "verbose";
+
+/// The most lines of a load that may share a commit.
+pub const MOST_LINES: u32 = 100_000;

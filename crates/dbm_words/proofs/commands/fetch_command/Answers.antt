@@ -1,4 +1,0 @@
-use Rattle.dbm_words.proofs.commands.fetch_command.Goals as goal
-
-pub returns : goal.returns
-returns c = c.key_command.ensures

@@ -1,4 +1,0 @@
-use Rattle.dbm_words.proofs.commands.verify_command.Goals as goal
-
-pub returns : goal.returns
-returns c = c.file_command.ensures
