@@ -80,6 +80,32 @@ changed 'a state that is none' nine.db 8 00000002
 refused 9
 changed 'the magic of something else' nine.db 0 47
 refused 10
+changed 'a first sector of something else' nine.db 0 00010001000100016b76
+refused 10
+changed 'an end below four' nine.db 12 00000003
+refused 9
+changed 'another version and a limit of 0' nine.db 2048+16 0000000200000000
+refused 11
+changed 'a limit of 0' nine.db 2048+20 00000000
+refused 9
+changed 'a limit above a million' nine.db 2048+20 000f4241
+refused 9
+zeros=$(printf '%04096d' 0)
+changed 'a meta page of zeros' nine.db 2048 "$zeros"
+refused 9
+
+# A head page of zeros is told by each call, and a key where no pair is counted by a delete.
+changed 'a head page of zeros' nine.db 3*2048 "$zeros"
+for words in 'fetch t a' 'fetch t y' 'insert t a v' 'store t a v' 'delete t y' 'list t'; do
+  # shellcheck disable=SC2086
+  run 2 '' 'dbmtool: fault 9' $words
+done
+cmp -s t.db damaged.db || { echo "$rule: a refused command changed the file"; wrong=1; }
+"$program" create none --limit 100 || exit 1
+changed 'a pair where none is counted' none.db 3*2048 00000003030000010000000007fe000007fe00010001 4*2048-2 6b76
+run 2 '' 'dbmtool: fault 9' delete t k
+run 0 v '' fetch t k
+run 1 '' '' insert t k w
 
 # An armed file is settled by the commands that may write, and read as it will be settled by those that may not.
 armed=(8 00000001000000050000000500000004)
@@ -110,6 +136,18 @@ run 0 "$long" '' fetch t a
 run 2 '' 'dbmtool: fault 9' fetch t b
 run 2 '' 'dbmtool: fault 9' list t
 run 2 '' 'dbmtool: fault 9' verify t
+
+# The same with both pairs there, of which the second is on an overflow page.
+cp chain.db both.db && "$program" store both b "$long" || exit 1
+changed 'an overflow page whose next page is itself' both.db 4*2048+8 00000004
+for words in 'fetch t c' 'store t c v' 'delete t c' 'dump t' 'list t'; do
+  # shellcheck disable=SC2086
+  run 2 '' 'dbmtool: fault 9' $words
+done
+cmp -s t.db damaged.db || { echo "$rule: a refused command changed the file"; wrong=1; }
+run 0 "$long" '' fetch t a
+run 0 "$long" '' fetch t b
+run 0 $'pairs 2\nlimit 100\nbuckets 1\nlevel 0\nsplit 0\npages 5\nfree 0' '' stat t
 
 { sed -n 's/ .*//; s/^/F /p' nine.text; echo 1; for _ in 1 2 3 4 5 6 7 8 9; do echo N; done; echo S 62 ff; echo D 61; } > lines
 ./each_byte "$program" t nine.db $((20 * 512)) lines || wrong=1

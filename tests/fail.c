@@ -1,61 +1,134 @@
 // Calls of the system to preload. The one whose number FAIL_CALL gives, counted from 1 among reads, writes and syncs of the file at a
 // place of their own, fails with EIO; with FAIL_CALL=0 none does, and how many there were is written to standard error at the end.
+// With FAIL_HOW=from each call after it fails too. With FAIL_HOW=late a read or a write is made before it fails. What no sync came behind
+// is taken back at the end, as a power cut may: with FAIL_LOSE=lost each sector, with odd the first, the third and so on, with even the others.
 #define _GNU_SOURCE
 #include <dlfcn.h>
 #include <errno.h>
 #include <stdio.h>
 #include <stdlib.h>
+#include <string.h>
+#include <sys/stat.h>
 #include <sys/types.h>
+#include <unistd.h>
 
 static long failing = -1;
 static long made = 0;
+static int from, late, lose_odd, lose_even;
+
+#define SECTOR 512
+
+// A sector that was written and no sync came behind: its number since then, from 1, what it took the place of, and how long the file was.
+struct written {
+    struct written *before;
+    long number;
+    int file;
+    off_t at, length;
+    char bytes[SECTOR];
+};
+
+static struct written *unsynced;
+
+static int is_set(const char *name, const char *word) {
+    const char *value = getenv(name);
+    return value && !strcmp(value, word);
+}
 
 static int fails(void) {
     if (failing < 0) {
         const char *number = getenv("FAIL_CALL");
         failing = number ? atol(number) : 0;
+        from = is_set("FAIL_HOW", "from");
+        late = is_set("FAIL_HOW", "late");
+        lose_odd = is_set("FAIL_LOSE", "lost") || is_set("FAIL_LOSE", "odd");
+        lose_even = is_set("FAIL_LOSE", "lost") || is_set("FAIL_LOSE", "even");
     }
     made++;
-    if (made == failing) errno = EIO;
-    return made == failing;
+    if (failing == 0 || (from ? made < failing : made != failing)) return 0;
+    errno = EIO;
+    return 1;
 }
 
-ssize_t pread(int file, void *bytes, size_t size, off_t at) {
+static ssize_t read_at(int file, void *bytes, size_t size, off_t at) {
     static ssize_t (*next)(int, void *, size_t, off_t);
-    if (!next) next = dlsym(RTLD_NEXT, "pread");
-    return fails() ? -1 : next(file, bytes, size, at);
+    if (!next) next = dlsym(RTLD_NEXT, "pread64");
+    return next(file, bytes, size, at);
+}
+
+static ssize_t write_at(int file, const void *bytes, size_t size, off_t at) {
+    static ssize_t (*next)(int, const void *, size_t, off_t);
+    if (!next) next = dlsym(RTLD_NEXT, "pwrite64");
+    return next(file, bytes, size, at);
+}
+
+static void note(int file, off_t at) {
+    struct stat now;
+    struct written *one = calloc(1, sizeof *one);
+    if (!one || fstat(file, &now) < 0 || read_at(file, one->bytes, SECTOR, at) < 0) abort();
+    one->before = unsynced;
+    one->number = unsynced ? unsynced->number + 1 : 1;
+    // the program may have closed its own descriptor before the end
+    one->file = dup(file);
+    one->at = at;
+    one->length = now.st_size;
+    unsynced = one;
+}
+
+static void take_back(const struct written *one) {
+    if (write_at(one->file, one->bytes, SECTOR, one->at) != SECTOR) abort();
+    if (lose_odd && lose_even && ftruncate(one->file, one->length) < 0) abort();
+}
+
+static void forget(int back) {
+    while (unsynced) {
+        struct written *one = unsynced;
+        if (back && (one->number % 2 ? lose_odd : lose_even)) take_back(one);
+        unsynced = one->before;
+        close(one->file);
+        free(one);
+    }
 }
 
 ssize_t pread64(int file, void *bytes, size_t size, off_t at) {
-    static ssize_t (*next)(int, void *, size_t, off_t);
-    if (!next) next = dlsym(RTLD_NEXT, "pread64");
-    return fails() ? -1 : next(file, bytes, size, at);
+    if (fails()) {
+        if (late) read_at(file, bytes, size, at);
+        errno = EIO;
+        return -1;
+    }
+    return read_at(file, bytes, size, at);
 }
 
-ssize_t pwrite(int file, const void *bytes, size_t size, off_t at) {
-    static ssize_t (*next)(int, const void *, size_t, off_t);
-    if (!next) next = dlsym(RTLD_NEXT, "pwrite");
-    return fails() ? -1 : next(file, bytes, size, at);
-}
+ssize_t pread(int file, void *bytes, size_t size, off_t at) { return pread64(file, bytes, size, at); }
 
 ssize_t pwrite64(int file, const void *bytes, size_t size, off_t at) {
-    static ssize_t (*next)(int, const void *, size_t, off_t);
-    if (!next) next = dlsym(RTLD_NEXT, "pwrite64");
-    return fails() ? -1 : next(file, bytes, size, at);
+    int failed = fails();
+    if (failed && !late) return -1;
+    for (size_t sector = 0; (lose_odd || lose_even) && sector < size; sector += SECTOR) note(file, at + (off_t)sector);
+    ssize_t done = write_at(file, bytes, size, at);
+    if (failed) errno = EIO;
+    return failed ? -1 : done;
+}
+
+ssize_t pwrite(int file, const void *bytes, size_t size, off_t at) { return pwrite64(file, bytes, size, at); }
+
+static int synced(int answer) {
+    if (answer == 0) forget(0);
+    return answer;
 }
 
 int fsync(int file) {
     static int (*next)(int);
     if (!next) next = dlsym(RTLD_NEXT, "fsync");
-    return fails() ? -1 : next(file);
+    return fails() ? -1 : synced(next(file));
 }
 
 int fdatasync(int file) {
     static int (*next)(int);
     if (!next) next = dlsym(RTLD_NEXT, "fdatasync");
-    return fails() ? -1 : next(file);
+    return fails() ? -1 : synced(next(file));
 }
 
 __attribute__((destructor)) static void report(void) {
+    forget(1);
     if (failing == 0) fprintf(stderr, "calls %ld\n", made);
 }

@@ -1,6 +1,7 @@
 #!/usr/bin/env bash
-# Commands on a real file in which one read, write or sync fails, each in turn: the command is fault 2, and the file then verifies and has
-# the pairs from before the change that was under way, or from after it, and can be changed. A create may leave no database at all.
+# Commands on a real file in which a read, a write or a sync fails, each in turn: once, made before it fails, or with all behind it, and what
+# wasn't synced is kept or lost. The command is fault 2, and the file then verifies and has the pairs from before the change that was under
+# way, or from after it, and can be changed. A create may leave no database at all, as it does where its one commit isn't synced.
 set -u
 top=$(cd "$(dirname "$0")/.." && pwd)
 program=$top/crates/dbmtool/out/dbmtool
@@ -14,11 +15,11 @@ cc -shared -fPIC -O1 -o fail.so "$top/tests/fail.c" -ldl || exit 1
 for digit in 1 2 3 4 5 6 7 8; do echo "6$digit 0$digit"; done | "$program" load first || exit 1
 for digit in 9 a b; do echo "6$digit 0$digit"; done > further
 
-# run N WORD..: the command with call N failed, on a copy of the first file
+# run N WORD..: the command with call N failed as $how and $lose say, on a copy of the first file
 run() {
   rm -f t.db
   [ "$2" = create ] || cp first.db t.db
-  FAIL_CALL=$1 LD_PRELOAD=./fail.so "$program" "${@:2}" < further > out 2> err
+  FAIL_CALL=$1 FAIL_HOW=$how FAIL_LOSE=$lose LD_PRELOAD=./fail.so "$program" "${@:2}" < further > out 2> err
 }
 
 # is_left FILE: the pairs that the database has are those of the file
@@ -29,15 +30,16 @@ is_left() {
 
 # failed DUMPS WORD..: each call of the command failed in turn, which leaves the pairs of one of these dumps; each of them is left by some
 failed() {
-  local dumps=$1 calls none=0 left status
+  local dumps=$1 calls none=0 left status case
   local -A times=()
   shift
+  case="$*, failed $how, unsynced sectors $lose"
   run 0 "$@" || { echo "$*: it fails with no failed call"; exit 1; }
   calls=$(sed -n 's/^calls //p' err)
   for n in $(seq 1 "${calls:-0}"); do
     run "$n" "$@"
     status=$?
-    [ "$status" = 2 ] && [ "$(cat err)" = 'dbmtool: fault 2' ] || { echo "$*, call $n of $calls failed: status $status, $(cat err)"; exit 1; }
+    [ "$status" = 2 ] && [ "$(cat err)" = 'dbmtool: fault 2' ] || { echo "$case, call $n of $calls: status $status, $(cat err)"; exit 1; }
     left=
     for dump in $dumps; do
       if is_left "$dump"; then left=$dump; break; fi
@@ -46,13 +48,14 @@ failed() {
       none=$((none + 1))
       continue
     fi
-    [ -n "$left" ] || { echo "$*, call $n of $calls failed: other pairs are left"; exit 1; }
+    [ -n "$left" ] || { echo "$case, call $n of $calls: other pairs are left"; exit 1; }
     times[$left]=$((${times[$left]:-0} + 1))
-    "$program" store t later 1 && [ "$("$program" fetch t later)" = 1 ] || { echo "$*, call $n of $calls failed: the file can't be changed"; exit 1; }
+    "$program" store t later 1 && [ "$("$program" fetch t later)" = 1 ] ||
+      { echo "$case, call $n of $calls: the file can't be changed"; exit 1; }
   done
-  echo "$*: $calls calls failed in turn;$(for dump in $dumps; do echo -n " ${times[$dump]:-0} left $dump,"; done) $none nothing"
+  echo "$case, $calls calls in turn:$(for dump in $dumps; do echo -n " ${times[$dump]:-0} left $dump,"; done) $none nothing"
   for dump in $dumps; do
-    [ "${times[$dump]:-0}" -gt 0 ] || { echo "$*: no failed call left $dump"; exit 1; }
+    [ "${times[$dump]:-0}" -gt 0 ] || [ "$1 $lose" = 'create lost' ] || { echo "$case: no failed call left $dump"; exit 1; }
   done
 }
 
@@ -63,12 +66,16 @@ done
 sed 's/^64 .*/64 ff/' before > changed
 grep -v '^65' before > deleted
 : > empty
-failed 'before before+1' store t 69 09 -x
-failed 'before changed' store t 64 ff -x
-failed 'before deleted' delete t 65 -x
-failed 'before before+1 before+2 before+3' load t
-failed 'before before+2 before+3' load t --group 2
-failed 'before before+3' load t --group 100
-failed before verify t
-failed before dump t
-failed empty create t --limit 100
+for how in once late from; do
+  for lose in kept lost; do
+    failed 'before before+1' store t 69 09 -x
+    failed 'before changed' store t 64 ff -x
+    failed 'before deleted' delete t 65 -x
+    failed 'before before+1 before+2 before+3' load t
+    failed 'before before+2 before+3' load t --group 2
+    failed 'before before+3' load t --group 100
+    failed before verify t
+    failed before dump t
+    failed empty create t --limit 100
+  done
+done

@@ -56,6 +56,11 @@ run 2 '' 'dbmtool: fault 15\n' create other < /dev/null
 run 2 '' 'dbmtool: fault 14\n' fetch missing x < /dev/null
 [ ! -e missing.db ] || { echo "a fetch made a file"; wrong=1; }
 run 2 '' 'dbmtool: fault 13\n' create zero --limit 0 < /dev/null
+run 0 '' '' create zero --limit 100 < /dev/null
+run 2 '' 'dbmtool: fault 15\n' create zero --limit 100 < /dev/null
+: > plain
+for name in plain/below none/below; do run 2 '' 'dbmtool: fault 2\n' create "$name" < /dev/null; done
+[ "$(($(stat -c %s nine.db) % 512))" = 0 ] || { echo "a file isn't of whole sectors"; wrong=1; }
 run 2 '' 'dbmtool: fault 15\n' create t < /dev/null
 
 # a new file that was cut

@@ -22,9 +22,20 @@ says() { lines "$2" | cmp -s - "$1"; }
 # told ROW: a row of a table that isn't so
 told() { wrong "row $1: status $status"; head -c 300 out err; }
 
+# repeated TEXT: it, with each `09*3` in it replaced by as many digits in pairs, `090909`
+repeated() {
+  local text=$1 many
+  while [[ $text =~ ([0-9a-f]{2})\*([0-9]+) ]]; do
+    printf -v many '%*s' "${BASH_REMATCH[2]}" ''
+    text=${text/"${BASH_REMATCH[0]}"/${many// /${BASH_REMATCH[1]}}}
+  done
+  printf '%s' "$text"
+}
+
 # fields ROW: its words in front of the first bracket in $before, the texts in brackets in $texts, what stands behind in $behind
 fields() {
-  local rest=$1
+  local rest
+  rest=$(repeated "$1")
   before=${rest%%[*} texts=()
   rest=${rest#"$before"}
   while [ "${rest:0:1}" = '[' ]; do
@@ -62,6 +73,7 @@ done <<'ROWS'
 100 [1 /N 61/e/C/I 61/D 61 62/ 1/] [-1 line/-1 line/-1 line/0/-1 line/-1 line/-1 line/]
 100 [F  61/F 61 /S 61 01 /s 61 01/F 6g/] [-1 line/-1 line/-1 line/-1 line/-1 line/]
 100 [] []
+2 [S 61 01*2025/S 62 02*2025/S 62 03*2025/D 61/S 61 04*2025/D 62/] [0/0/0/0/0/0/]
 ROWS
 
 # LIMIT [lines to load] [faults] [dump] STATUS, whatever number of lines shares a commit
@@ -173,6 +185,40 @@ stat most [] [pairs 0/limit 1000000/buckets 1/level 0/split 0/pages 4/free 0/] [
 fetch absent x [] [] [dbmtool: fault 14/] 2
 load absent [] [] [dbmtool: fault 14/] 2
 verify absent [] [] [dbmtool: fault 14/] 2
+create calls --limit 100 [] [] [] 0
+script calls [I 61 01/I 61 02/F 61/S 61 02/F 61/] [0/1/01/0/02/] [] 0
+stat calls [] [pairs 1/limit 100/buckets 1/level 0/split 0/pages 4/free 0/] [] 0
+script calls [D 61/F 61/D 61/] [0/none/-1 absent/] [] 0
+stat calls [] [pairs 0/limit 100/buckets 1/level 0/split 0/pages 4/free 0/] [] 0
+script calls [F ./S . ./S 61 ./F ./S . 01/F ./D ./F ./] [none/0/0/./0/01/0/none/] [] 0
+stat calls [] [pairs 1/limit 100/buckets 1/level 0/split 0/pages 4/free 0/] [] 0
+create split --limit 100 [] [] [] 0
+script split [S 61 9e/S 62 9d/S 63 9c/S 64 9b/S 65 9a/S 66 99/S 67 98/S 68 97/S 69 96/] [0/0/0/0/0/0/0/0/0/] [] 0
+script split [S 6a 95/S 6b 94/S 6c 93/S 6d 92/S 6e 91/S 6f 90/S 70 8f/S 71 8e/] [0/0/0/0/0/0/0/0/] [] 0
+stat split [] [pairs 17/limit 100/buckets 3/level 1/split 1/pages 6/free 0/] [] 0
+script split [F 61/F 62/F 63/F 64/F 65/F 66/F 67/F 68/F 69/] [9e/9d/9c/9b/9a/99/98/97/96/] [] 0
+script split [F 6a/F 6b/F 6c/F 6d/F 6e/F 6f/F 70/F 71/] [95/94/93/92/91/90/8f/8e/] [] 0
+create full --limit 1 [] [] [] 0
+script full [S 61 01/S 62 01/I 62 01/I 61 02/F 61/S 61 02/F 61/] [0/-1 fault 6/-1 fault 6/1/01/0/02/] [] 0
+script full [D 61/S 62 01/F 61/F 62/] [0/0/none/01/] [] 0
+create long --limit 1 [] [] [] 0
+script long [S 61 09*2026/S 61 09*2025/F 61/I 61 09*2026/S 09*2027 ./S 09*2026 ./] [-1 fault 5/0/09*2025/-1 fault 5/-1 fault 5/-1 fault 6/] [] 0
+script long [F 09*3000/D 09*3000/D 61/S 09*2026 ./F 09*2026/] [none/-1 absent/0/0/./] [] 0
+create two --limit 2 [] [] [] 0
+script two [S 61 01*2025/S 62 02*2025/] [0/0/] [] 0
+stat two [] [pairs 2/limit 2/buckets 1/level 0/split 0/pages 5/free 0/] [] 0
+script two [S 62 03*2025/] [0/] [] 0
+stat two [] [pairs 2/limit 2/buckets 1/level 0/split 0/pages 5/free 0/] [] 0
+script two [D 61/S 61 04*2025/] [0/0/] [] 0
+stat two [] [pairs 2/limit 2/buckets 1/level 0/split 0/pages 5/free 0/] [] 0
+script two [D 62/] [0/] [] 0
+stat two [] [pairs 1/limit 2/buckets 1/level 0/split 0/pages 5/free 1/] [] 0
+create pass --limit 100 [] [] [] 0
+load pass [61 01/62 02/63 03/64 04/65 05/66 06/67 07/68 08/69 09/] [] [] 0
+script pass [1/N/N/N/N/N/N/N/N/N/] [65/69/61/63/67/66/62/64/68/end/] [] 0
+script pass [1/F 62/D 7a/N/F 62/D 7a/N/F 62/D 7a/N/F 62/D 7a/N/F 62/D 7a/N/F 62/D 7a/N/F 62/D 7a/N/F 62/D 7a/N/N/N/1/] [65/02/-1 absent/69/02/-1 absent/61/02/-1 absent/63/02/-1 absent/67/02/-1 absent/66/02/-1 absent/62/02/-1 absent/64/02/-1 absent/68/end/end/65/] [] 0
+script pass [N/E/S 6b 00*2026/E/C/E/1/D 69/N/D 61/S 65 00/S 63 00/N/S 61 00/N/S 69 00/S 6b 00*2026/N/] [-1 fault 7/7/-1 fault 5/7/0/0/65/0/61/0/0/0/63/0/67/0/-1 fault 5/66/] [] 0
+script pass [D 61/D 63/D 65/D 67/D 69/1/N/N/N/N/] [0/0/0/0/0/66/62/64/68/end/] [] 0
 create fields --limit 10 [] [] [] 0
 load --text fields [sky	blue/a\tb	\\/\x00	/	z/] [] [] 0
 dump fields [] [. 7a/00 ./610962 5c/736b79 626c7565/] [] 0
@@ -240,5 +286,5 @@ for line in 'S KEY CONTENT' 'I KEY CONTENT' 'F KEY' 'D KEY' 1 N E C; do
 done
 
 echo "$rows rows"
-[ "$rows" = 106 ] || wrong "not each row was read"
+[ "$rows" = 141 ] || wrong "not each row was read"
 exit $bad

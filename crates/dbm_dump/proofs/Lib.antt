@@ -4,3 +4,4 @@ pub mod DumpingPairs
 pub mod Exits
 pub mod KeySets
 pub mod PassSets
+pub mod Writing

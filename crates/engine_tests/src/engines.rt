@@ -6,7 +6,6 @@ use dbm_fault::EngineFault;
 use dbm_file::{Db, Fault};
 use dbm_load::load_engine;
 use dbm_progress::Progress;
-use dbm_script::script_engine;
 use sect_dev::MemDev;
 use std::alloc::Global;
 use std::io::{BufRead, Write};
@@ -15,16 +14,6 @@ use test_databases::databases::opened;
 /// A new database in memory.
 pub fn new_db(alloc: Global, limit: u32) -> Result<Db<MemDev>, Fault> {
     opened(alloc, MemDev::new(alloc, 8000), true, limit)
-}
-
-/// Answers a script.
-pub fn script<R: BufRead, W: Write>(
-    alloc: Global,
-    db: &mut Db<MemDev>,
-    reader: &mut R,
-    writer: &mut W,
-) -> Result<(), EngineFault> {
-    script_engine(alloc, db, reader, writer)
 }
 
 /// Loads the pairs of a text, of which so many lines may share a commit.

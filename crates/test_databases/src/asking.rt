@@ -76,7 +76,7 @@ fn repeated(alloc: Global, digits: &str, times: usize) -> Result<Vec<u8>, Fail> 
 }
 
 /// The bytes of a word.
-pub fn bytes_of(alloc: Global, word: &str) -> Result<Vec<u8>, Fail> {
+fn bytes_of(alloc: Global, word: &str) -> Result<Vec<u8>, Fail> {
     if word == "." {
         return Ok(Vec::new(alloc));
     }

@@ -12,27 +12,9 @@ pub fn open<D: SectorDev + Drop>(alloc: Global, dev: D, how: OpenHow) -> Result<
     Db::open(alloc, dev, how).map_err(|(_, fault)| fault)
 }
 
-/// The content of a key, if it is there.
-pub fn fetch<'a, S: PageStore>(
-    db: &'a mut Database<S>,
-    key: &[u8],
-) -> Result<Option<&'a [u8]>, Fault> {
-    db.fetch(key)
-}
-
 /// Deletes the pair of a key, or answers that there is none.
 pub fn delete<S: PageStore>(db: &mut Database<S>, key: &[u8]) -> Result<DeleteReply, Fault> {
     db.delete(key)
-}
-
-/// The first key of a pass, if there is one.
-pub fn firstkey<S: PageStore>(db: &mut Database<S>) -> Result<Option<&[u8]>, Fault> {
-    db.firstkey()
-}
-
-/// The next key of a pass, if there is a further one.
-pub fn nextkey<S: PageStore>(db: &mut Database<S>) -> Result<Option<&[u8]>, Fault> {
-    db.nextkey()
 }
 
 /// Stores pairs in one commit, and answers how many of them.

@@ -1,12 +1,10 @@
 //! Databases to test with: how they are opened, filled and looked through.
 
-use crate::asking::first_wrong;
 use crate::calls::open;
 use dbm_file::{Access, Database, Db, Fault, OpenHow, Stat, StoreMode, StoreReply, needed_sectors};
 use page_io::PageStore;
 use sect_dev::{MemDev, SectorDev};
 use std::alloc::Global;
-use std::test::Fail;
 
 /// How a database is opened, and made where the device is blank and `create` says so.
 pub fn opening(create: bool, limit: u32) -> OpenHow {
@@ -75,7 +73,7 @@ pub fn with_first(alloc: Global, count: usize) -> Result<Db<MemDev>, Fault> {
 }
 
 /// The numbers of a database of limit 100 with the nine pairs.
-pub const NINE: Stat = Stat {
+const NINE: Stat = Stat {
     pairs: 9,
     limit: 100,
     buckets: 2,
@@ -97,20 +95,6 @@ pub fn has_first<S: PageStore>(db: &mut Database<S>, count: usize) -> Result<boo
         }
     }
     Ok(db.stat().pairs as usize == count)
-}
-
-/// The first line of a table that a new database of a limit doesn't answer so.
-pub fn wrong_when_new<'a>(
-    alloc: Global,
-    limit: u32,
-    table: &'a str,
-) -> Result<Option<&'a str>, Fail> {
-    first_wrong(alloc, &mut new_database(alloc, limit)?, table)
-}
-
-/// The first line of a table that the database of the nine pairs doesn't answer so.
-pub fn wrong_with_nine<'a>(alloc: Global, table: &'a str) -> Result<Option<&'a str>, Fail> {
-    first_wrong(alloc, &mut with_first(alloc, 9)?, table)
 }
 
 /// Whether a database has the nine pairs and no other, and the numbers that they give.

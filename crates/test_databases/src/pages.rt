@@ -33,7 +33,7 @@ pub fn first_other(dev: &mut MemDev, pages: &[Page]) -> Result<Option<u32>, DevF
 }
 
 /// A page of these first and last bytes, with zeros between.
-pub fn page_of(first: &[u8], last: &[u8]) -> Page {
+fn page_of(first: &[u8], last: &[u8]) -> Page {
     let mut page = Page::blank();
     if first.len() <= 2048 && last.len() <= 2048 {
         page.put(0, first);
@@ -43,7 +43,7 @@ pub fn page_of(first: &[u8], last: &[u8]) -> Page {
 }
 
 /// Page 0 of a file of so many pages with no commit on its way.
-pub fn clear_page(end: u8) -> Page {
+fn clear_page(end: u8) -> Page {
     page_of(
         &[
             0x44, 0x42, 0x4d, 0x52, 0x45, 0x44, 0x4f, 0x31, 0, 0, 0, 0, 0, 0, 0, end,
@@ -53,7 +53,7 @@ pub fn clear_page(end: u8) -> Page {
 }
 
 /// The meta page of a database of one segment, which is page 2.
-pub fn meta_page(counts: &[u32; 8]) -> Page {
+fn meta_page(counts: &[u32; 8]) -> Page {
     let mut page = page_of(&[0, 0, 0, 1, 1], &[]);
     page.set_numbers(16, counts);
     page.set_u32_at(64, 2);
@@ -61,14 +61,14 @@ pub fn meta_page(counts: &[u32; 8]) -> Page {
 }
 
 /// Page 2 as the segment of these heads.
-pub fn segment_page(heads: &[u8; 8]) -> Page {
+fn segment_page(heads: &[u8; 8]) -> Page {
     let mut page = page_of(&[0, 0, 0, 2, 2], &[]);
     page.put(16, heads);
     page
 }
 
 /// A page of a bucket with pairs of one byte each, whose records begin at 07fe, 07fc, and so on.
-pub fn bucket_page(header: &[u8; 16], pairs: usize, last: &[u8]) -> Page {
+fn bucket_page(header: &[u8; 16], pairs: usize, last: &[u8]) -> Page {
     let mut page = page_of(header, last);
     let lows = [0xfe, 0xfc, 0xfa, 0xf8, 0xf6, 0xf4, 0xf2, 0xf0];
     for (i, low) in lows.iter().take(pairs).enumerate() {
@@ -85,22 +85,6 @@ pub fn new_file() -> [Page; 4] {
         meta_page(&[1, 100, 0, 0, 0, 0, 0, 1]),
         segment_page(&[0, 0, 0, 3, 0, 0, 0, 0]),
         bucket_page(&[0, 0, 0, 3, 3, 0, 0, 0, 0, 0, 0, 0, 8, 0, 0, 0], 0, &[]),
-    ]
-}
-
-/// The file of the first eight pairs, in one bucket.
-pub fn eight_file() -> [Page; 4] {
-    [
-        clear_page(4),
-        meta_page(&[1, 100, 8, 0, 0, 0, 0, 1]),
-        segment_page(&[0, 0, 0, 3, 0, 0, 0, 0]),
-        bucket_page(
-            &[0, 0, 0, 3, 3, 0, 0, 8, 0, 0, 0, 0, 0x07, 0xf0, 0, 0],
-            8,
-            &[
-                0x68, 8, 0x67, 7, 0x66, 6, 0x65, 5, 0x64, 4, 0x63, 3, 0x62, 2, 0x61, 1,
-            ],
-        ),
     ]
 }
 

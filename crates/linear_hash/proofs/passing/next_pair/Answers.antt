@@ -190,3 +190,8 @@ returns-in-Some-clause-ahead g c = search rules
 
 pub returns-in_err-slot-clause-reads : goal.returns-in_err-slot-clause-reads
 returns-in_err-slot-clause-reads g c = search rules
+
+pub returns-in_err-head-clause-reads : goal.returns-in_err-head-clause-reads
+returns-in_err-head-clause-reads g c =
+    reads_then g.S.PageStore _ _ _ (g.met.S.PageStore.counts_now c.loop-head.store)
+    c.loop-head.invariant.reads c.in_err-head.ensures.reads

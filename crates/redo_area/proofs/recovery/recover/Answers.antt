@@ -1,4 +1,6 @@
-use Rattle.std.proofs.Common.{rules}
+use Rattle.std.proofs.Common.{◌≡◌, ◌/◌, ℕ, subst, rules}
+use Rattle.sect_dev.specs.Moments.{followed_by}
+use Rattle.redo_commit.specs.File.{settled, SettlesAsBefore}
 use Rattle.redo_area.proofs.Openings.{refused-blank, refused-not_ours, refused-damaged}
 use Rattle.redo_area.proofs.Recoveries.{as_before}
 use Rattle.redo_area.proofs.recovery.recover.Goals as goal
@@ -55,3 +57,19 @@ returns-in-Damaged-clause-refused g c honest other =
 
 pub returns-in-Clear-clause-refused : goal.returns-in-Clear-clause-refused
 returns-in-Clear-clause-refused g c = search rules
+
+pub returns-in-Ok-true-clause-any_moment : goal.returns-in-Ok-true-clause-any_moment
+returns-in-Ok-true-clause-any_moment g c honest =
+    let dev = g.D.SectorDev in
+    let first = c.args.dev.now in
+    let mid = c.look.new.dev in
+    followed_by dev.moment dev.left_since first mid c.finish_armed.new.dev
+    (SettlesAsBefore (dev.sectors first / 4) (dev.candidate first)) _
+    (as_before dev first mid (c.look.ensures.any_moment honest))
+    (c.finish_armed.ensures.any_moment (c.look.ensures.honesty.1 honest))
+    (λ image is. (
+      dev.seen mid,
+      c.look.ensures.start honest,
+      subst (λ (s : ℕ). settled (s / 4) image ≡ settled (s / 4) (dev.seen mid))
+          c.look.ensures.size is,
+    ))

@@ -37,3 +37,6 @@ returns-in-Ok-clause-read_only g c = search rules
 
 pub store_group-requires-clause-writable : goal.store_group-requires-clause-writable
 store_group-requires-clause-writable g c = search rules
+
+pub returns-in-Ok-clause-ends : goal.returns-in-Ok-clause-ends
+returns-in-Ok-clause-ends g c honest h at = c.in-Ok.ensures.ends honest h at

@@ -54,3 +54,6 @@ returns-in-Err-clause-room g c honest enough =
           (early_or _ due e.1 old e.0 all.early (λ none. all.refused honest none other)),
       tt,
     )
+
+pub returns-in-Ok-clause-opened : goal.returns-in-Ok-clause-opened
+returns-in-Ok-clause-opened g c honest = c.in-Ok.ensures.opened honest

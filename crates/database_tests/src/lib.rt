@@ -1,8 +1,6 @@
-//! Tests of openings, of stops and failed calls of the device, and of databases in real files.
+//! Tests of a database, of what the built program doesn't show.
 #![tactic(auto)]
 
-#[cfg(test)]
-mod commit_tests;
 #[cfg(test)]
 mod devices;
 #[cfg(test)]
@@ -10,10 +8,14 @@ mod folder_tests;
 #[cfg(test)]
 mod hows;
 #[cfg(test)]
+mod making_tests;
+#[cfg(test)]
 mod marks;
 #[cfg(test)]
 mod opening_tests;
 #[cfg(test)]
-mod stop_tests;
+mod room_tests;
+#[cfg(test)]
+mod run_tests;
 #[cfg(test)]
 mod stopping;

@@ -16,11 +16,7 @@ pub fn stat<S: PageStore>(db: &Database<S>) -> Stat {
 }
 
 /// Whether a database answers each call of a table so.
-pub fn answers<S: PageStore>(
-    alloc: Global,
-    db: &mut Database<S>,
-    table: &str,
-) -> Result<bool, Fail> {
+fn answers<S: PageStore>(alloc: Global, db: &mut Database<S>, table: &str) -> Result<bool, Fail> {
     Ok(first_wrong(alloc, db, table)?.is_none())
 }
 
@@ -49,7 +45,7 @@ fn below<P: Plan + Drop>(dev: Failing<MemDev, P>) -> MemDev {
 }
 
 /// The device in memory below a database that is closed, with what the closing answers.
-pub fn closed_below<P: Plan + Drop>(db: Db<Failing<MemDev, P>>) -> (MemDev, Result<(), Fault>) {
+fn closed_below<P: Plan + Drop>(db: Db<Failing<MemDev, P>>) -> (MemDev, Result<(), Fault>) {
     let (dev, answer) = db.close();
     (below(dev), answer)
 }

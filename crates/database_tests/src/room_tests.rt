@@ -6,28 +6,10 @@ use sect_dev::MemDev;
 use std::alloc::Global;
 use std::test::Fail;
 use test_databases::calls::{delete, open, verify};
-use test_databases::databases::{closed, new_database, put, wrong_when_new};
+use test_databases::databases::{closed, new_database, put};
 
 /// With a key of one byte, the longest content.
 const LONG: [u8; 2025] = [0; 2025];
-
-#[test]
-fn a_full_table_of_two_pairs_takes_no_further_page(rt: HostRuntime) -> Result<(), Fail> {
-    let table = "
-        put a #01*2025 -> stored
-        put b #02*2025 -> stored
-        stat -> 2 pairs of 2, 1 buckets (0 0), 5 pages, 0 free
-        put b #03*2025 -> stored
-        stat -> 2 pairs of 2, 1 buckets (0 0), 5 pages, 0 free
-        delete a -> deleted
-        put a #04*2025 -> stored
-        stat -> 2 pairs of 2, 1 buckets (0 0), 5 pages, 0 free
-        delete b -> deleted
-        stat -> 1 pairs of 2, 1 buckets (0 0), 5 pages, 1 free
-    ";
-    assert_eq!(rt; wrong_when_new(rt.alloc(), 2, table)?, None);
-    Ok(())
-}
 
 /// Stores a long pair under each of the first so many keys.
 fn fill<S: PageStore>(db: &mut Database<S>, count: u8) -> Result<(), Fault> {

@@ -40,12 +40,7 @@ fn copy_pages(from: &mut MemDev, into: &mut MemDev, count: u32) -> Result<(), De
 }
 
 /// A device of so many sectors with so many pages of another one, and a shorter record.
-pub fn copied(
-    alloc: Global,
-    from: &mut MemDev,
-    sectors: u32,
-    count: u32,
-) -> Result<MemDev, DevFault> {
+fn copied(alloc: Global, from: &mut MemDev, sectors: u32, count: u32) -> Result<MemDev, DevFault> {
     let mut dev = blank_device(alloc, sectors);
     copy_pages(from, &mut dev, count)?;
     Ok(dev)

@@ -106,6 +106,23 @@ fn an_emptying_is_refused_with_no_device_call(rt: HostRuntime) -> Result<(), Fai
     Ok(())
 }
 
+#[test]
+fn an_opening_is_refused_in_order(rt: HostRuntime) -> Result<(), Fail> {
+    for (sectors, how, wanted) in [
+        (15, "create 0", Fault::TooSmall),
+        (16, "plain", Fault::NotADatabase),
+        (16, "create 0", Fault::BadLimit),
+        (16, "create 1000001", Fault::BadLimit),
+        (39, "create 1", Fault::TooSmall),
+        (927, "create 100", Fault::TooSmall),
+    ] {
+        let how = how_of(how)?;
+        let fault = fault_with(rt.alloc(), blank_device(rt.alloc(), sectors), how);
+        assert_eq!(rt; fault, Some(wanted), "{sectors} sectors");
+    }
+    Ok(())
+}
+
 /// A database of the nine pairs, opened as these words say.
 fn nine_opened(alloc: Global, how: &str) -> Result<Db<MemDev>, Fail> {
     let how = how_of(how)?;

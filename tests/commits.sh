@@ -1,0 +1,61 @@
+#!/usr/bin/env bash
+# Which pages a change commits, by the redo images that the armed commit sector of a file names once the change is cut short; and a store
+# that is acknowledged and waits for the closing: its commit sector is the armed one to the byte, and the pair is there for reading and writing.
+set -u
+top=$(cd "$(dirname "$0")/.." && pwd)
+program=$top/crates/dbmtool/out/dbmtool
+work=$(mktemp -d)
+trap 'rm -rf "$work"' EXIT
+cd "$work" || exit 1
+cc -shared -fPIC -O1 -o fail.so "$top/tests/fail.c" -ldl || exit 1
+wrong=0
+
+# numbers PLACE COUNT: so many numbers of t.db from that place on
+numbers() { od -An -tu4 --endian=big -j "$1" -N $((4 * $2)) t.db | xargs; }
+
+# cut CALL NAME LINE: the line on a copy of a file, of which that call of the system and all behind it fail
+cut() {
+  cp "$2.db" t.db
+  FAIL_CALL=$1 FAIL_HOW=from LD_PRELOAD=./fail.so "$program" script t <<< "$3" > out 2> err
+}
+
+# commits NAME LINE PAGES: cut short where it just leaves the commit sector armed, the call has redo images of exactly these pages; then it is
+# made on the file itself
+commits() {
+  local n state start count pages=
+  for ((n = 1; n < 100; n++)); do
+    cut "$n" "$1" "$2"
+    read -r state _ start count <<< "$(numbers 8 4)"
+    if [ "$state" = 1 ]; then
+      for ((i = start; i < start + count; i++)); do pages="$pages $(numbers $((i * 2048)) 1)"; done
+      break
+    fi
+  done
+  [ "$pages" = " $3" ] || { echo "${2:0:8} commits other pages than $3:$pages"; wrong=1; }
+  [ "$("$program" script "$1" <<< "$2")" = 0 ] || { echo "${2:0:8} is refused"; wrong=1; }
+}
+
+"$program" create new --limit 100 && cp new.db t2.db || exit 1
+commits t2 'S 6b 76' '1 3'
+
+# Two pairs, of which each fills most of a page, so that the second one has an overflow page.
+long=$(printf '07%.0s' $(seq 1499))
+cp new.db t3.db && [ "$("$program" script t3 <<< "S 61 $long")" = 0 ] || exit 1
+commits t3 "S 62 $long" '1 3 4'
+commits t3 'S 63 01' '1 3'
+commits t3 'D 62' '1 3 4'
+commits t3 "S 62 $long" '1 3 4'
+
+# The least calls with which a store is acknowledged: `DBMREDO1`, armed, end 4, two redo images from page 4 on.
+for ((n = 1; n < 100; n++)); do
+  cut "$n" new 'S 6b 76'
+  [ "$(cat out)" != 0 ] || break
+done
+[ "$(cat err)" = 'dbmtool: fault 2' ] || { echo "a closing that fails tells $(cat err)"; wrong=1; }
+[ "$(head -c 512 t.db | od -An -v -tx1 | tr -d ' \n')" = "44424d5245444f3100000001000000040000000400000002$(printf '%0976d' 0)" ] ||
+  { echo "another commit sector waits for the closing"; wrong=1; }
+cp t.db armed.db
+[ "$("$program" dump t)" = '6b 76' ] && cmp -s t.db armed.db || { echo "a dump of an armed file changes it, or lacks the pair"; wrong=1; }
+"$program" store t other 1 && [ "$("$program" fetch t k)" = v ] && [ "$("$program" stat t | head -n 1)" = 'pairs 2' ] ||
+  { echo "a store on an armed file loses the pair"; wrong=1; }
+exit $wrong
