@@ -23,6 +23,9 @@ LC_ALL=C sort -k1,1 pairs > sorted
 cmp sorted dumped || { echo "the dump isn't the pairs in order"; exit 1; }
 "$program" list first > listed && cut -d' ' -f1 dumped | cmp - listed || { echo "the list isn't the keys of the dump"; exit 1; }
 "$program" create second && "$program" load second < dumped && "$program" dump second | cmp - dumped || { echo "the dump doesn't load back"; exit 1; }
+# the same in commits of a hundred lines
+"$program" create grouped && "$program" load grouped --group 100 < pairs && [ "$("$program" verify grouped)" = "$(wc -l < pairs)" ] &&
+  "$program" dump grouped | cmp - dumped || { echo "pairs that share commits are others"; exit 1; }
 # fields, of the first thousand
 head -n 1000 dumped > some
 "$program" create third && "$program" load third < some && "$program" dump --text third > fields || exit 1

@@ -95,6 +95,8 @@ done <<'ROWS'
 100 [zz/61 01/] [dbmtool: line 1/] [] 2
 1 [61 01/62 02/61 03/] [dbmtool: fault 6/] [61 01/] 2
 1 [61 01/61 aBcD/] [] [61 abcd/] 0
+3 [61 01/62 02/63 03/64 04/65 05/] [dbmtool: fault 6/] [61 01/62 02/63 03/] 2
+100 [61 01/62 02/6b 09*2026/6c 01/] [dbmtool: fault 5/] [61 01/62 02/] 2
 100 [61 01//62 02/] [dbmtool: line 2/] [61 01/] 2
 100 [61] [dbmtool: line 1/] [] 2
 100 [61 ] [dbmtool: line 1/] [] 2
@@ -286,5 +288,5 @@ for line in 'S KEY CONTENT' 'I KEY CONTENT' 'F KEY' 'D KEY' 1 N E C; do
 done
 
 echo "$rows rows"
-[ "$rows" = 141 ] || wrong "not each row was read"
+[ "$rows" = 143 ] || wrong "not each row was read"
 exit $bad
