@@ -1,6 +1,7 @@
 #!/usr/bin/env bash
-# Which pages a change commits, by the redo images that the armed commit sector of a file names once the change is cut short; and a store
-# that is acknowledged and waits for the closing: its commit sector is the armed one to the byte, and the pair is there for reading and writing.
+# Which pages a change commits, by the redo images that the armed commit sector of a file names once the change is cut short; a store that is
+# acknowledged and waits for the closing: its commit sector is the armed one to the byte, and the pair is there for reading and writing; and
+# each call of the system of a store that opens a bucket, of its closing, and of the opening that settles it, in their order.
 set -u
 top=$(cd "$(dirname "$0")/.." && pwd)
 program=$top/crates/dbmtool/out/dbmtool
@@ -58,4 +59,32 @@ cp t.db armed.db
 [ "$("$program" dump t)" = '6b 76' ] && cmp -s t.db armed.db || { echo "a dump of an armed file changes it, or lacks the pair"; wrong=1; }
 "$program" store t other 1 && [ "$("$program" fetch t k)" = v ] && [ "$("$program" stat t | head -n 1)" = 'pairs 2' ] ||
   { echo "a store on an armed file loses the pair"; wrong=1; }
+
+# traced NAME LINES WANTED: the calls of the system of a script on a copy of a file; a place and a size are in bytes
+traced() {
+  cp "$1.db" t.db && rm -f trace
+  FAIL_TRACE=trace LD_PRELOAD=./fail.so "$program" script t <<< "$2" > out 2> err
+  cmp trace - <<< "$3" || { echo "$1: other calls of the system"; wrong=1; }
+}
+
+# pages READ|WRITE N..: a call for each of these pages
+pages() {
+  local page
+  for page in "${@:2}"; do echo "$1 $((page * 2048)) 2048"; done
+}
+
+# Eight pairs; the ninth opens a bucket, which is page 4, so that the images of pages 1 to 4 stand from page 5 on.
+"$program" create t8 --limit 100 || exit 1
+for digit in 1 2 3 4 5 6 7 8; do echo "6$digit 0$digit"; done | "$program" load t8 || exit 1
+opening=$(printf 'sync\nread 0 512\n'; pages read 1)
+store=$(pages read 2 3; pages write 5 6 7 8; printf 'sync\nwrite 0 512\nsync')
+closing=$(pages write 1 2 3 4; printf 'sync\nwrite 0 512\nsync')
+traced t8 'S 69 09' "$opening"$'\n'"$store"$'\n'"$closing"
+
+# The same store without its closing: the next opening reads the commit sector, and each image to check it; it reads each again and writes its
+# page, and clears the sector.
+cut 13 t8 'S 69 09'
+cp t.db armed.db
+settling=$(pages read 5 6 7 8; for n in 1 2 3 4; do pages read $((n + 4)); pages write "$n"; done; printf 'sync\nwrite 0 512\nsync')
+traced armed '' "$(printf 'sync\nread 0 512')"$'\n'"$settling"$'\n'"$(pages read 1)"
 exit $wrong

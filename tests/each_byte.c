@@ -1,6 +1,6 @@
 // Runs a program on copies of a file in which one byte is changed: each byte, to 00 and to ff. Its words are the program, the name of
-// the copy without .db, the good file, how many bytes of it are changed, and the lines of a script, which is run after a dump and a
-// `verify`.
+// the copy without .db, the good file, the first of its bytes to change and the one behind the last, and the lines of a script, which is
+// run after a dump and a `verify`. It prints how many files there were, and how many of the scripts were refused at opening.
 #define _GNU_SOURCE
 #include "plain_check.h"
 #include <fcntl.h>
@@ -75,13 +75,13 @@ static int is_verified(const char *program, const char *name, size_t size) {
 }
 
 int main(int count, char **words) {
-    if (count != 6) return 2;
-    const char *program = words[1], *name = words[2], *script = words[5];
-    size_t size = slurp(words[3], good), changed = strtoul(words[4], NULL, 10);
+    if (count != 7) return 2;
+    const char *program = words[1], *name = words[2], *script = words[6];
+    size_t size = slurp(words[3], good), first = strtoul(words[4], NULL, 10), end = strtoul(words[5], NULL, 10);
     int asked = lines_of(script), files = 0, refused = 0;
     char file[256];
     snprintf(file, sizeof file, "%s.db", name);
-    for (size_t at = 0; at < changed && at < size; at++) {
+    for (size_t at = first; at < end && at < size; at++) {
         char before = good[at], values[] = {0, (char)0xff};
         for (int i = 0; i < 2; i++) {
             if (values[i] == before) continue;
@@ -108,6 +108,6 @@ int main(int count, char **words) {
         }
         good[at] = before;
     }
-    printf("%d files with one byte changed: %d refused at opening\n", files, refused);
-    return refused > 0 && refused < files ? 0 : 1;
+    printf("%d %d\n", files, refused);
+    return 0;
 }

@@ -2,6 +2,7 @@
 // place of their own, fails with EIO; with FAIL_CALL=0 none does, and how many there were is written to standard error at the end.
 // With FAIL_HOW=from each call after it fails too. With FAIL_HOW=late a read or a write is made before it fails. What no sync came behind
 // is taken back at the end, as a power cut may: with FAIL_LOSE=lost each sector, with odd the first, the third and so on, with even the others.
+// Each call is appended to the file that FAIL_TRACE names: `read` or `write`, its place and its size in bytes, or `sync`.
 #define _GNU_SOURCE
 #include <dlfcn.h>
 #include <errno.h>
@@ -32,6 +33,15 @@ static struct written *unsynced;
 static int is_set(const char *name, const char *word) {
     const char *value = getenv(name);
     return value && !strcmp(value, word);
+}
+
+static void trace(const char *call, off_t at, size_t size) {
+    const char *name = getenv("FAIL_TRACE");
+    FILE *file = name ? fopen(name, "a") : NULL;
+    if (!file) return;
+    if (size) fprintf(file, "%s %lld %zu\n", call, (long long)at, size);
+    else fprintf(file, "%s\n", call);
+    fclose(file);
 }
 
 static int fails(void) {
@@ -90,6 +100,7 @@ static void forget(int back) {
 }
 
 ssize_t pread64(int file, void *bytes, size_t size, off_t at) {
+    trace("read", at, size);
     if (fails()) {
         if (late) read_at(file, bytes, size, at);
         errno = EIO;
@@ -101,6 +112,7 @@ ssize_t pread64(int file, void *bytes, size_t size, off_t at) {
 ssize_t pread(int file, void *bytes, size_t size, off_t at) { return pread64(file, bytes, size, at); }
 
 ssize_t pwrite64(int file, const void *bytes, size_t size, off_t at) {
+    trace("write", at, size);
     int failed = fails();
     if (failed && !late) return -1;
     for (size_t sector = 0; (lose_odd || lose_even) && sector < size; sector += SECTOR) note(file, at + (off_t)sector);
@@ -119,12 +131,14 @@ static int synced(int answer) {
 int fsync(int file) {
     static int (*next)(int);
     if (!next) next = dlsym(RTLD_NEXT, "fsync");
+    trace("sync", 0, 0);
     return fails() ? -1 : synced(next(file));
 }
 
 int fdatasync(int file) {
     static int (*next)(int);
     if (!next) next = dlsym(RTLD_NEXT, "fdatasync");
+    trace("sync", 0, 0);
     return fails() ? -1 : synced(next(file));
 }
 

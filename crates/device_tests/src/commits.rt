@@ -85,9 +85,9 @@ fn commit_four<S: PageStore>(
 
 /// The device calls of a commit of four pages, and of its settling: the images, a sync, the armed
 /// sector, a sync; the pages at their own numbers, a sync, the clear sector, a sync.
-pub const COMMIT: u64 = 16 + 1 + 1 + 1;
+const COMMIT: u64 = 16 + 1 + 1 + 1;
 
-pub const SETTLING: u64 = 16 + 1 + 1 + 1;
+const SETTLING: u64 = 16 + 1 + 1 + 1;
 
 /// A commit of new pages 1 to 4 to a new file of old ones, and its settling, stopped after so many
 /// of their device calls.
@@ -124,21 +124,6 @@ fn answer_of_settling(calls: u64) -> Result<(), PageFault> {
     }
 }
 
-/// Which of the unsynced writes happened: none, all, and each second one. There are at most 16 of
-/// them.
-pub const MARKS: [[bool; 16]; 4] = [
-    [false; 16],
-    [true; 16],
-    [
-        true, false, true, false, true, false, true, false, true, false, true, false, true, false,
-        true, false,
-    ],
-    [
-        false, true, false, true, false, true, false, true, false, true, false, true, false, true,
-        false, true,
-    ],
-];
-
 /// Which pages a file has.
 #[derive(Clone, Copy, PartialEq, Eq)]
 pub enum Found {
@@ -160,18 +145,6 @@ pub fn pages_of<S: PageStore>(
         return Ok(Found::Old);
     }
     Ok(Found::Neither)
-}
-
-/// Which pages a stop with these marks leaves on a device.
-pub fn found_after(
-    alloc: Global,
-    dev: &MemDev,
-    marks: &[bool],
-    old: &[Page; 3],
-    new: &[Page; 4],
-) -> Result<Found, Fail> {
-    let mut pager = store_on(alloc, dev.crashed(alloc, marks)?, true)?;
-    Ok(pages_of(&mut pager, old, new)?)
 }
 
 /// Which sector alone differs, 64 where none or more than one does.

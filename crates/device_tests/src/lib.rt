@@ -14,8 +14,6 @@ mod sector_tests;
 #[cfg(test)]
 mod sectors;
 #[cfg(test)]
-mod stop_tests;
-#[cfg(test)]
 mod store_tests;
 #[cfg(test)]
 mod stores;
