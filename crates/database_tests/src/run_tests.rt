@@ -32,7 +32,8 @@ fn each_call_of_a_run_has_its_reply(rt: HostRuntime) -> Result<(), Fail> {
     ";
     assert_eq!(rt;
         replies(rt.alloc(), 1, calls)?.as_str(),
-        "[NoRecord, Absent, Stored, Refused(Full), Kept, Bytes(Octets { bytes: [1] }), Stored, Bytes(Octets { bytes: [3] }), Deleted, NoRecord]"
+        "[NoRecord, Absent, Stored, Refused(Full), Kept, Bytes(Octets { bytes: [1] }), Stored, \
+            Bytes(Octets { bytes: [3] }), Deleted, NoRecord]"
     );
     Ok(())
 }
@@ -58,7 +59,8 @@ fn a_pass_and_the_error_number_are_asked_in_a_run(rt: HostRuntime) -> Result<(),
     ";
     assert_eq!(rt;
         replies(rt.alloc(), 100, calls)?.as_str(),
-        "[Number(0), Refused(NoPass), Number(7), Stored, Bytes(Octets { bytes: [97] }), End, End, Kept, End, Stored, End, Bytes(Octets { bytes: [97] }), Number(0), End, Number(0)]"
+        "[Number(0), Refused(NoPass), Number(7), Stored, Bytes(Octets { bytes: [97] }), End, End, \
+            Kept, End, Stored, End, Bytes(Octets { bytes: [97] }), Number(0), End, Number(0)]"
     );
     Ok(())
 }
