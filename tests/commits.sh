@@ -1,7 +1,8 @@
 #!/usr/bin/env bash
 # Which pages a change commits, by the redo images that the armed commit sector of a file names once the change is cut short; a store that is
 # acknowledged and waits for the closing: its commit sector is the armed one to the byte, and the pair is there for reading and writing; and
-# each call of the system of a store that opens a bucket, of its closing, and of the opening that settles it, in their order.
+# each call of the system of a store that opens a bucket, of its closing, of the opening that settles it, of one that reads it, and of two stores
+# in a row, in their order.
 set -u
 top=$(cd "$(dirname "$0")/.." && pwd)
 program=$top/crates/dbmtool/out/dbmtool
@@ -87,4 +88,21 @@ cut 13 t8 'S 69 09'
 cp t.db armed.db
 settling=$(pages read 5 6 7 8; for n in 1 2 3 4; do pages read $((n + 4)); pages write "$n"; done; printf 'sync\nwrite 0 512\nsync')
 traced armed '' "$(printf 'sync\nread 0 512')"$'\n'"$settling"$'\n'"$(pages read 1)"
+
+# Opened for reading, the commit sector and each image are read once, and with each page in an image no other. Cut short before any of these
+# nothing is printed. The file stays as it was.
+cp armed.db t.db && rm -f trace
+FAIL_TRACE=trace LD_PRELOAD=./fail.so "$program" dump t > out 2> err && [ "$(tail -n 1 out)" = '69 09' ] || { echo "an armed file is not read: $(cat err)"; wrong=1; }
+cmp trace - <<< "$(printf 'read 0 512\n'; pages read 5 6 7 8)" || { echo "an armed file is read by other calls"; wrong=1; }
+for n in 1 2 3 4 5; do
+  status=0
+  FAIL_CALL=$n FAIL_HOW=from LD_PRELOAD=./fail.so "$program" dump t > out 2> err || status=$?
+  [ "$status $(cat out err)" = '2 dbmtool: fault 2' ] || { echo "an armed file, read $n cut short: status $status, $(cat out err)"; wrong=1; }
+done
+cmp -s t.db armed.db || { echo "a dump changes an armed file"; wrong=1; }
+
+# Of two stores in a row the second one brings the pages of the first to their places before it writes its own redo images, and reads nothing.
+both=$(pages read 2 3; pages write 4 5; printf 'sync\nwrite 0 512\nsync\n'; pages write 1 3; printf 'sync\nwrite 0 512\nsync\n'
+  pages write 4 5; printf 'sync\nwrite 0 512\nsync\n'; pages write 1 3; printf 'sync\nwrite 0 512\nsync')
+traced new $'S 61 01\nS 62 02' "$opening"$'\n'"$both"
 exit $wrong

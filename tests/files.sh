@@ -68,6 +68,13 @@ run 0 '' '' create cut --limit 100 < /dev/null
 head -c 6144 cut.db > short && cp short cut.db
 run 0 'pairs 0\nlimit 100\nbuckets 1\nlevel 0\nsplit 0\npages 4\nfree 0\n' '' stat cut < /dev/null
 run 2 '' 'dbmtool: fault 9\n' fetch cut k < /dev/null
+# Past its length a file reads as zeros, also within a sector: page 3 has 14 bytes, and zeros behind them.
+run 0 '' '' create zeros --limit 100 < /dev/null
+head -c 6158 zeros.db > short && cp short zeros.db
+run 1 '' '' fetch zeros k < /dev/null
+run 0 '0\n' '' verify zeros < /dev/null
+run 0 '' '' store zeros k v < /dev/null
+run 0 'v\n' '' fetch zeros k < /dev/null
 
 # a bad line stops a load, with the earlier lines kept
 run 0 '' '' create few --limit 100 < /dev/null

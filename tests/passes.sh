@@ -1,6 +1,7 @@
 #!/usr/bin/env bash
-# A pass over 300 buckets of more than one page each gives each key once. Of a pass on a device of which a read fails, the key behind it
-# comes at the next call. A page that was read is answered from memory where each further read fails.
+# A pass over 300 buckets of more than one page each gives each key once, and one over eight keys in an order worked out by hand. Of a pass on
+# a device of which a read fails, the key behind it comes at the next call. A page that was read is answered from memory where each further
+# read fails.
 set -u
 top=$(cd "$(dirname "$0")/.." && pwd)
 program=$top/crates/dbmtool/out/dbmtool
@@ -20,6 +21,17 @@ sed "s/$/ $long/" keys | "$program" load many || exit 1
 [ "$("$program" stat many | sed -n 's/^pages //p')" -gt 600 ] || wrong 'there are not more overflow pages than buckets'
 { echo 1; for ((n = 1; n < 2402; n++)); do echo N; done; } | "$program" script many > given
 [ "$(tail -n 2 given)" = $'end\nend' ] && head -n 2400 given | sort | cmp -s - keys || wrong 'a pass does not give each of 2,400 keys once'
+
+# Eight keys of one bucket, on three pages, by the reversed bits of their hashes (FNV-1a, 32 bits), then by their bytes. Worked out apart from
+# this repository: `a` 34943027, `c` 4a343067, `altarage` and `zinke` 6d1b0627, no bytes a3b93881, `b` a7b430e7, `costarring` and `liquid` b955b27a.
+"$program" create order --limit 100 || exit 1
+for key in 6c6971756964 . 7a696e6b65 62 616c746172616765 61 636f7374617272696e67 63; do echo "$key $long"; done | "$program" load order
+[ "$("$program" stat order | cut -d' ' -f2 | xargs)" = '8 100 1 0 0 6 0' ] || wrong 'eight keys are not on three pages of one bucket'
+given=$({ echo 1; for _ in 1 2 3 4 5 6 7 8; do echo N; done; } | "$program" script order | xargs)
+[ "$given" = '61 63 616c746172616765 7a696e6b65 . 62 636f7374617272696e67 6c6971756964 end' ] || wrong "eight keys in another order: $given"
+# The last one given need not be there any more, and may be new: the reversed hash of `f` is 99e430c7.
+given=$(tr / '\n' <<< '1/D 61/N/N/N/S 66 ./N/D 66/N/N/D 62/N/N/N' | "$program" script order | xargs)
+[ "$given" = '61 0 63 616c746172616765 7a696e6b65 0 66 0 . 62 0 636f7374617272696e67 6c6971756964 end' ] || wrong "a pass with changes gives $given"
 
 # A second segment: page 0, the meta page, two segments and a page for each of 509 buckets. Then the odd keys are deleted.
 "$program" create segments --limit 5000 || exit 1

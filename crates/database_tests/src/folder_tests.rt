@@ -1,13 +1,12 @@
 //! Openings of files, in the folder that the tests run in.
 
-use crate::hows::how_of;
+use crate::hows::{how_of, is_fault, row_of};
 use dbm_file::{Fault, dbm_open};
 use sect_dev::FileDev;
 use std::alloc::Global;
 use std::fs::{self, File};
 use std::rt::Files;
 use std::test::Fail;
-use test_databases::asking::{is_fault, row_of};
 use test_databases::calls::open;
 
 /// The fault of opening a file, as some words say.

@@ -1,6 +1,8 @@
-//! How a database is opened, as text.
+//! How a database is opened, as text, and tables of openings that are refused: a line is an opening,
+//! an arrow and its fault, as `truncate 0 -> BadLimit`.
 
-use dbm_file::{Access, OpenHow};
+use dbm_file::{Access, Fault, OpenHow};
+use std::alloc::{AllocError, Global};
 use std::test::Fail;
 
 /// How a database that is there is opened, with no flag.
@@ -27,4 +29,21 @@ pub fn how_of(text: &str) -> Result<OpenHow, Fail> {
         }
     }
     Ok(how)
+}
+
+/// What a line of a table has in front of its arrow and behind it. A line without a word is none of
+/// the table.
+pub fn row_of(line: &str) -> Option<(&str, &str)> {
+    if line.trim().is_empty() {
+        return None;
+    }
+    let (before, behind) = line.split_once("->").unwrap_or((line, ""));
+    Some((before.trim(), behind.trim()))
+}
+
+/// Whether there is a fault, of this name.
+pub fn is_fault(alloc: Global, fault: Option<Fault>, name: &str) -> Result<bool, AllocError> {
+    let told = format!(in alloc; "{fault:?}")?;
+    let wanted = format!(in alloc; "Some({name})")?;
+    Ok(told.as_str() == wanted.as_str())
 }

@@ -54,7 +54,8 @@ fn is_made_so(alloc: Global, calls: u64) -> Result<bool, Fail> {
         opening(true, 100),
         "",
     )?;
-    Ok(stopped.done == (calls == MAKING) && leaves_blank_or_new(alloc, &stopped.dev, calls)?)
+    let made = stopped.replies.as_str() == "[]";
+    Ok(made == (calls == MAKING) && leaves_blank_or_new(alloc, &stopped.dev, calls)?)
 }
 
 #[test]

@@ -3,7 +3,7 @@
 use crate::devices::{
     Held, blank_device, crashed, damaged, has_pages, nearly_full, nine_pairs, pending,
 };
-use crate::hows::{PLAIN, how_of};
+use crate::hows::{PLAIN, how_of, is_fault, row_of};
 use crate::marks::MARKS;
 use crate::stopping::{Stopped, closes_as, run_stopped, stat, stopping_after};
 use dbm_file::{Database, Db, Fault, OpenHow, Stat};
@@ -11,10 +11,10 @@ use page_io::{Page, PageStore};
 use sect_dev::{DevFault, MemDev, SectorDev};
 use std::alloc::Global;
 use std::test::Fail;
-use test_databases::asking::{first_wrong, is_fault, row_of};
 use test_databases::calls::open;
 use test_databases::databases::{closed, has_first, is_nine, opened, with_first};
-use test_databases::pages::{first_other, new_file, nine_file, page_at};
+use test_databases::lists::replies_to;
+use test_databases::pages::{nine_file, page_at};
 
 /// The numbers of an empty database of limit 5.
 const EMPTY: Stat = Stat {
@@ -129,30 +129,34 @@ fn nine_opened(alloc: Global, how: &str) -> Result<Db<MemDev>, Fail> {
     Ok(open(alloc, nine_pairs(alloc)?, how)?)
 }
 
-/// The first line that is answered otherwise once the nine pairs are emptied to a limit of 5, or
-/// when what that leaves is opened again.
-fn first_wrong_when_emptied(alloc: Global) -> Result<Option<&'static str>, Fail> {
-    let emptied = "
-        stat -> 0 pairs of 5, 1 buckets (0 0), 4 pages, 0 free
-        first -> nothing
-        put a #01 -> stored
-    ";
-    let reopened = "
-        stat -> 1 pairs of 5, 1 buckets (0 0), 4 pages, 0 free
-        first -> bytes a
-        next -> nothing
-        fetch a -> bytes #01
-    ";
+/// What the nine pairs, opened as these words say, reply to the calls of some lines.
+fn replies_opened(alloc: Global, how: &str, calls: &str) -> Result<String, Fail> {
+    replies_to(alloc, &mut nine_opened(alloc, how)?, calls)
+}
+
+/// What is replied to these calls once the nine pairs are emptied and the database is opened again.
+fn replies_reopened(alloc: Global, emptied: &str, reopened: &str) -> Result<String, Fail> {
     let mut db = nine_opened(alloc, "truncate 5")?;
-    match first_wrong(alloc, &mut db, emptied) {
-        Ok(None) => first_wrong(alloc, &mut opened(alloc, closed(db)?, false, 0)?, reopened),
-        wrong => wrong,
-    }
+    let first = replies_to(alloc, &mut db, emptied)?;
+    let second = replies_to(alloc, &mut opened(alloc, closed(db)?, false, 0)?, reopened)?;
+    Ok(format!(in alloc; "{first} {second}")?)
 }
 
 #[test]
-fn an_emptied_database_has_the_new_limit(rt: HostRuntime) -> Result<(), Fail> {
-    assert_eq!(rt; first_wrong_when_emptied(rt.alloc())?, None);
+fn an_emptied_database_is_a_new_one(rt: HostRuntime) -> Result<(), Fail> {
+    let emptied = "
+        first
+        put a #01
+    ";
+    let reopened = "
+        first
+        next
+        fetch a
+    ";
+    assert_eq!(rt;
+        replies_reopened(rt.alloc(), emptied, reopened)?.as_str(),
+        "[End, Stored] [Bytes(Octets { bytes: [97] }), End, Bytes(Octets { bytes: [1] })]"
+    );
     Ok(())
 }
 
@@ -199,7 +203,8 @@ fn emptied_in(alloc: Global, dev: &MemDev, calls: u64) -> Result<Stopped, Fail> 
 /// Whether an emptying of the nine pairs that is stopped after so many calls ends as it has to.
 fn is_emptied_so(alloc: Global, nine: &MemDev, calls: u64) -> Result<bool, Fail> {
     let left = emptied_in(alloc, nine, calls)?;
-    let answers = left.done == (calls > EMPTIED) && left.closed.is_ok() == (calls == EMPTYING);
+    let emptied = left.replies.as_str() == "[]";
+    let answers = emptied == (calls > EMPTIED) && left.closed.is_ok() == (calls == EMPTYING);
     Ok(answers && leaves_all_or_none(alloc, &left.dev, calls)?)
 }
 
@@ -221,7 +226,7 @@ const ARMED: u64 = 6 + 8 + 17 + 2;
 /// The device after an opening and a ninth store that had so many device calls.
 fn armed(alloc: Global, calls: u64) -> Result<MemDev, Fail> {
     let eight = closed(with_first(alloc, 8)?)?;
-    let left = run_stopped(alloc, eight, calls, PLAIN, "put i #09 -> stored")?;
+    let left = run_stopped(alloc, eight, calls, PLAIN, "put i #09")?;
     Ok(crashed(alloc, &left.dev, &[true; 16])?)
 }
 
@@ -250,70 +255,49 @@ fn an_armed_file_is_read_with_its_images(rt: HostRuntime) -> Result<(), Fail> {
     Ok(())
 }
 
-/// The first line that a database for reading answers otherwise. It is none only where the nine
-/// pairs stay, too.
-fn first_wrong_for_reading<'a>(alloc: Global, table: &'a str) -> Result<Option<&'a str>, Fail> {
+/// What a database for reading replies to the calls of some lines, where the nine pairs stay.
+fn replies_for_reading(alloc: Global, calls: &str) -> Result<String, Fail> {
     let mut db = nine_opened(alloc, "reading")?;
-    let wrong = first_wrong(alloc, &mut db, table)?;
-    let kept = has_first(&mut db, 9);
-    let stays = closes_as(db, &nine_file())? && kept?;
-    Ok(if stays {
-        wrong
+    let replies = replies_to(alloc, &mut db, calls)?;
+    let kept = has_first(&mut db, 9)?;
+    if closes_as(db, &nine_file())? && kept {
+        Ok(replies)
     } else {
-        Some("the nine pairs stay")
-    })
+        Err("the nine pairs stay".into())
+    }
 }
 
 #[test]
 fn a_database_for_reading_refuses_changes(rt: HostRuntime) -> Result<(), Fail> {
-    let table = "
-        put a #07 -> refused ReadOnly
-        insert a #07 -> refused ReadOnly
-        put z #00*2027 -> refused ReadOnly
-        delete z -> refused ReadOnly
-        delete a -> refused ReadOnly
-        fetch z -> nothing
-        fetch a -> bytes #01
-        error -> number 4
+    let calls = "
+        put a #07
+        insert a #07
+        put z #00*2027
+        delete z
+        delete a
+        fetch z
+        fetch a
+        error
     ";
-    assert_eq!(rt; first_wrong_for_reading(rt.alloc(), table)?, None);
+    assert_eq!(rt;
+        replies_for_reading(rt.alloc(), calls)?.as_str(),
+        "[Refused(ReadOnly), Refused(ReadOnly), Refused(ReadOnly), Refused(ReadOnly), \
+            Refused(ReadOnly), NoRecord, Bytes(Octets { bytes: [1] }), Number(4)]"
+    );
     Ok(())
-}
-
-/// The first line that the nine pairs, opened as these words say, answer otherwise.
-fn first_wrong_opened<'a>(
-    alloc: Global,
-    how: &str,
-    table: &'a str,
-) -> Result<Option<&'a str>, Fail> {
-    first_wrong(alloc, &mut nine_opened(alloc, how)?, table)
 }
 
 #[test]
 fn one_for_writing_only_reads_too(rt: HostRuntime) -> Result<(), Fail> {
-    let table = "
-        put a #07 -> stored
-        fetch a -> bytes #07
-        delete a -> deleted
+    let calls = "
+        put a #07
+        fetch a
+        delete a
     ";
-    assert_eq!(rt; first_wrong_opened(rt.alloc(), "writing", table)?, None);
-    Ok(())
-}
-
-/// A database that is made by `create` and `exclusive`.
-fn made(alloc: Global) -> Result<Db<MemDev>, Fail> {
-    let how = how_of("create exclusive 100")?;
-    Ok(open(alloc, blank_device(alloc, 928), how)?)
-}
-
-/// The first page that differs from a new file's, of one that is made by `create` and `exclusive`.
-fn first_other_when_made(alloc: Global) -> Result<Option<u32>, Fail> {
-    Ok(first_other(&mut closed(made(alloc)?)?, &new_file())?)
-}
-
-#[test]
-fn a_database_is_made_as_its_format_says(rt: HostRuntime) -> Result<(), Fail> {
-    assert_eq!(rt; first_other_when_made(rt.alloc())?, None);
+    assert_eq!(rt;
+        replies_opened(rt.alloc(), "writing", calls)?.as_str(),
+        "[Stored, Bytes(Octets { bytes: [7] }), Deleted]"
+    );
     Ok(())
 }
 

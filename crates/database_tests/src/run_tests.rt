@@ -1,19 +1,17 @@
 //! Lists of calls, and a group of pairs that is refused.
 
 use crate::hows::how_of;
-use dbm_file::{Db, Fault, Pair, run};
+use dbm_file::{Db, Fault, Pair};
 use sect_dev::MemDev;
 use std::alloc::{AllocError, Global};
 use std::test::Fail;
-use test_databases::asking::calls_of;
 use test_databases::calls::{open, store_many};
 use test_databases::databases::{closed, new_database, with_first};
+use test_databases::lists::replies_to;
 
 /// The replies to a run of these calls on a new database of a limit, as text.
 fn replies(alloc: Global, limit: u32, calls: &str) -> Result<String, Fail> {
-    let mut db = new_database(alloc, limit)?;
-    let replies = run(alloc, &mut db, &calls_of(alloc, calls)?)?;
-    Ok(format!(in alloc; "{replies:?}")?)
+    replies_to(alloc, &mut new_database(alloc, limit)?, calls)
 }
 
 #[test]

@@ -7,17 +7,12 @@ use page_io::{Page, PageStore};
 use sect_dev::{Failing, Fuse, MemDev, Plan};
 use std::alloc::Global;
 use std::test::Fail;
-use test_databases::asking::first_wrong;
 use test_databases::databases::closed;
+use test_databases::lists::replies_to;
 
 /// The numbers of a database.
 pub fn stat<S: PageStore>(db: &Database<S>) -> Stat {
     db.stat()
-}
-
-/// Whether a database answers each call of a table so.
-fn answers<S: PageStore>(alloc: Global, db: &mut Database<S>, table: &str) -> Result<bool, Fail> {
-    Ok(first_wrong(alloc, db, table)?.is_none())
 }
 
 /// Whether the file of a database that is closed begins with these pages.
@@ -54,37 +49,37 @@ fn closed_below<P: Plan + Drop>(db: Db<Failing<MemDev, P>>) -> (MemDev, Result<(
 #[derive(Drop)]
 pub struct Stopped {
     pub dev: MemDev,
-    /// Whether it was opened, and each call of the table answered so.
-    pub done: bool,
+    /// What was replied to the calls, nothing where it wasn't opened.
+    pub replies: String,
     /// What the closing answered, or the opening where that was refused.
     pub closed: Result<(), Fault>,
 }
 
-/// Makes the calls of a table up to the first that isn't answered so, and closes the database.
-fn ended(alloc: Global, mut db: Db<Fuse<MemDev>>, table: &str) -> Result<Stopped, Fail> {
-    let answered = answers(alloc, &mut db, table);
+/// Makes the calls of some lines, and closes the database.
+fn ended(alloc: Global, mut db: Db<Fuse<MemDev>>, lines: &str) -> Result<Stopped, Fail> {
+    let replies = replies_to(alloc, &mut db, lines);
     let (dev, closed) = closed_below(db);
     Ok(Stopped {
         dev,
-        done: answered?,
+        replies: replies?,
         closed,
     })
 }
 
-/// Opens a device, makes the calls of a table up to the first that isn't answered so, and closes
-/// the database, with so many device calls.
+/// Opens a device, makes the calls of some lines, and closes the database, with so many device
+/// calls.
 pub fn run_stopped(
     alloc: Global,
     dev: MemDev,
     calls: u64,
     how: OpenHow,
-    table: &str,
+    lines: &str,
 ) -> Result<Stopped, Fail> {
     match open_stopping(alloc, stopping_after(dev, calls), how) {
-        Ok(db) => ended(alloc, db, table),
+        Ok(db) => ended(alloc, db, lines),
         Err((fuse, fault)) => Ok(Stopped {
             dev: below(fuse),
-            done: false,
+            replies: String::new(alloc),
             closed: Err(fault),
         }),
     }

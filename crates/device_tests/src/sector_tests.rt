@@ -1,6 +1,6 @@
 //! Sectors in memory, and devices that fail.
 
-use crate::sectors::{ends, first_bytes, sector_of, set_sector};
+use crate::sectors::{ends, first_bytes, four_from, sector_of, set_four, set_sector};
 use sect_dev::{DevFault, FailLate, FailOnce, Failing, Fuse, MemDev, Plan, SectorDev};
 use std::alloc::Global;
 use std::test::Fail;
@@ -30,6 +30,25 @@ fn is_pending_until_a_sync(dev: &mut MemDev) -> Result<bool, DevFault> {
 #[test]
 fn a_write_is_read_back_and_pending_until_a_sync(rt: HostRuntime) -> Result<(), Fail> {
     assert!(rt; is_pending_until_a_sync(&mut MemDev::new(rt.alloc(), 3))?);
+    Ok(())
+}
+
+/// Whether four sectors are written as one run, sector by sector, and read as one, with zeros behind
+/// them.
+fn moves_a_run(dev: &mut MemDev) -> Result<bool, DevFault> {
+    let mut run = [5; 2048];
+    run[512] = 6;
+    run[2047] = 7;
+    set_four(dev, 1, &run)?;
+    let apart = [ends(dev, 0)?, ends(dev, 1)?, ends(dev, 2)?, ends(dev, 4)?];
+    let after = four_from(dev, 3)?;
+    let zeros = after[1023] == 7 && after[1024..].iter().all(|byte| *byte == 0);
+    Ok(apart == [[0, 0], [5, 5], [6, 5], [5, 7]] && zeros && four_from(dev, 1)? == run)
+}
+
+#[test]
+fn a_run_is_as_its_sectors(rt: HostRuntime) -> Result<(), Fail> {
+    assert!(rt; moves_a_run(&mut MemDev::new(rt.alloc(), 8))?);
     Ok(())
 }
 

@@ -17,13 +17,6 @@ pub fn numbered(n: u32, fill: u8) -> Page
     page
 }
 
-/// Page n of a store.
-pub fn page_of(store: &mut impl PageStore, n: u32) -> Result<Page, PageFault> {
-    let mut page = Page::blank();
-    store.read(n, &mut page)?;
-    Ok(page)
-}
-
 /// Whether a commit may end the file before page 5: it ends there, or page 4 is staged behind it.
 pub fn may_end_at_5<S: PageStore>(store: &S) -> bool
     ensures { IsTrue result → (n : ℕ) → (S.state store.now).end ≤ n → n < 5
@@ -42,14 +35,4 @@ pub fn stage<S: PageStore>(store: &mut S, page: &Page) -> Result<(), PageFault>
         return Err(PageFault::Damaged);
     }
     store.stage(n, page)
-}
-
-/// Whether a store has exactly these pages.
-pub fn has_pages<S: PageStore>(store: &mut S, pages: &[Page]) -> Result<bool, PageFault> {
-    for (page, n) in pages.iter().zip(1..) {
-        if page_of(store, n)? != *page {
-            return Ok(false);
-        }
-    }
-    Ok(store.end() as usize == pages.len().saturating_add(1))
 }

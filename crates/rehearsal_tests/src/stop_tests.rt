@@ -5,8 +5,8 @@ use rehearsal::{Ending, Opening, Stage, rehearse};
 use sect_dev::MemDev;
 use std::alloc::Global;
 use std::test::Fail;
-use test_databases::asking::calls_of;
 use test_databases::databases::PAIRS;
+use test_databases::lists::calls_of;
 
 /// Stores the nine pairs.
 const STORES: &str = "
