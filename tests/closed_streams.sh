@@ -1,14 +1,7 @@
 #!/usr/bin/env bash
 # The program where its caller has closed standard input, output or the stream of errors: the database's file never takes their
 # place, so nothing that is printed gets into it.
-set -u
-top=$(cd "$(dirname "$0")/.." && pwd)
-program=$top/crates/dbmtool/out/dbmtool
-work=$(mktemp -d)
-trap 'rm -rf "$work"' EXIT
-cd "$work" || exit 1
-bad=0
-wrong() { echo "$1"; bad=1; }
+. "$(dirname "$0")/common"
 
 "$program" create t --limit 100 && "$program" store t key content || exit 1
 cp t.db before

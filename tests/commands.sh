@@ -1,13 +1,6 @@
 #!/usr/bin/env bash
 # Cases of the commands that no other check has, each on a real file: what they print on both streams, and their status.
-set -u
-top=$(cd "$(dirname "$0")/.." && pwd)
-program=$top/crates/dbmtool/out/dbmtool
-work=$(mktemp -d)
-trap 'rm -rf "$work"' EXIT
-cd "$work" || exit 1
-bad=0
-wrong() { echo "$1"; bad=1; }
+. "$(dirname "$0")/common"
 
 # run STATUS OUTPUT FAULTS WORD..
 run() {
@@ -64,7 +57,7 @@ run 0 '2\n' '' verify pages
 
 # A script in which the device fails within a change goes on, each later change is refused as that of a broken database, and
 # the fault of closing is told: one that an earlier change left, or its own, and then each change is there.
-cc -shared -fPIC -O1 -o fail.so "$top/tests/fail.c" -ldl || exit 1
+preloadable fail
 cp t.db first.db
 # failing CALL REPLIES FAULT: the script with that call of the system on the file failed
 failing() {

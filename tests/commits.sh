@@ -3,14 +3,8 @@
 # acknowledged and waits for the closing: its commit sector is the armed one to the byte, and the pair is there for reading and writing; and
 # each call of the system of a store that opens a bucket, of its closing, of the opening that settles it, of one that reads it, and of two stores
 # in a row, in their order.
-set -u
-top=$(cd "$(dirname "$0")/.." && pwd)
-program=$top/crates/dbmtool/out/dbmtool
-work=$(mktemp -d)
-trap 'rm -rf "$work"' EXIT
-cd "$work" || exit 1
-cc -shared -fPIC -O1 -o fail.so "$top/tests/fail.c" -ldl || exit 1
-wrong=0
+. "$(dirname "$0")/common"
+preloadable fail
 
 # numbers PLACE COUNT: so many numbers of t.db from that place on
 numbers() { od -An -tu4 --endian=big -j "$1" -N $((4 * $2)) t.db | xargs; }
@@ -33,8 +27,8 @@ commits() {
       break
     fi
   done
-  [ "$pages" = " $3" ] || { echo "${2:0:8} commits other pages than $3:$pages"; wrong=1; }
-  [ "$("$program" script "$1" <<< "$2")" = 0 ] || { echo "${2:0:8} is refused"; wrong=1; }
+  [ "$pages" = " $3" ] || wrong "${2:0:8} commits other pages than $3:$pages"
+  [ "$("$program" script "$1" <<< "$2")" = 0 ] || wrong "${2:0:8} is refused"
 }
 
 "$program" create new --limit 100 && cp new.db t2.db || exit 1
@@ -53,19 +47,19 @@ for ((n = 1; n < 100; n++)); do
   cut "$n" new 'S 6b 76'
   [ "$(cat out)" != 0 ] || break
 done
-[ "$(cat err)" = 'dbmtool: fault 2' ] || { echo "a closing that fails tells $(cat err)"; wrong=1; }
+[ "$(cat err)" = 'dbmtool: fault 2' ] || wrong "a closing that fails tells $(cat err)"
 [ "$(head -c 512 t.db | od -An -v -tx1 | tr -d ' \n')" = "44424d5245444f3100000001000000040000000400000002$(printf '%0976d' 0)" ] ||
-  { echo "another commit sector waits for the closing"; wrong=1; }
+  wrong "another commit sector waits for the closing"
 cp t.db armed.db
-[ "$("$program" dump t)" = '6b 76' ] && cmp -s t.db armed.db || { echo "a dump of an armed file changes it, or lacks the pair"; wrong=1; }
+[ "$("$program" dump t)" = '6b 76' ] && cmp -s t.db armed.db || wrong "a dump of an armed file changes it, or lacks the pair"
 "$program" store t other 1 && [ "$("$program" fetch t k)" = v ] && [ "$("$program" stat t | head -n 1)" = 'pairs 2' ] ||
-  { echo "a store on an armed file loses the pair"; wrong=1; }
+  wrong "a store on an armed file loses the pair"
 
 # traced NAME LINES WANTED: the calls of the system of a script on a copy of a file; a place and a size are in bytes
 traced() {
   cp "$1.db" t.db && rm -f trace
   FAIL_TRACE=trace LD_PRELOAD=./fail.so "$program" script t <<< "$2" > out 2> err
-  cmp trace - <<< "$3" || { echo "$1: other calls of the system"; wrong=1; }
+  cmp trace - <<< "$3" || wrong "$1: other calls of the system"
 }
 
 # pages READ|WRITE N..: a call for each of these pages
@@ -92,17 +86,17 @@ traced armed '' "$(printf 'sync\nread 0 512')"$'\n'"$settling"$'\n'"$(pages read
 # Opened for reading, the commit sector and each image are read once, and with each page in an image no other. Cut short before any of these
 # nothing is printed. The file stays as it was.
 cp armed.db t.db && rm -f trace
-FAIL_TRACE=trace LD_PRELOAD=./fail.so "$program" dump t > out 2> err && [ "$(tail -n 1 out)" = '69 09' ] || { echo "an armed file is not read: $(cat err)"; wrong=1; }
-cmp trace - <<< "$(printf 'read 0 512\n'; pages read 5 6 7 8)" || { echo "an armed file is read by other calls"; wrong=1; }
+FAIL_TRACE=trace LD_PRELOAD=./fail.so "$program" dump t > out 2> err && [ "$(tail -n 1 out)" = '69 09' ] || wrong "an armed file is not read: $(cat err)"
+cmp trace - <<< "$(printf 'read 0 512\n'; pages read 5 6 7 8)" || wrong "an armed file is read by other calls"
 for n in 1 2 3 4 5; do
   status=0
   FAIL_CALL=$n FAIL_HOW=from LD_PRELOAD=./fail.so "$program" dump t > out 2> err || status=$?
-  [ "$status $(cat out err)" = '2 dbmtool: fault 2' ] || { echo "an armed file, read $n cut short: status $status, $(cat out err)"; wrong=1; }
+  [ "$status $(cat out err)" = '2 dbmtool: fault 2' ] || wrong "an armed file, read $n cut short: status $status, $(cat out err)"
 done
-cmp -s t.db armed.db || { echo "a dump changes an armed file"; wrong=1; }
+cmp -s t.db armed.db || wrong "a dump changes an armed file"
 
 # Of two stores in a row the second one brings the pages of the first to their places before it writes its own redo images, and reads nothing.
 both=$(pages read 2 3; pages write 4 5; printf 'sync\nwrite 0 512\nsync\n'; pages write 1 3; printf 'sync\nwrite 0 512\nsync\n'
   pages write 4 5; printf 'sync\nwrite 0 512\nsync\n'; pages write 1 3; printf 'sync\nwrite 0 512\nsync')
 traced new $'S 61 01\nS 62 02' "$opening"$'\n'"$both"
-exit $wrong
+exit $bad

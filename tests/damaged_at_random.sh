@@ -1,12 +1,7 @@
 #!/usr/bin/env bash
 # Larger files that are damaged at random: what `verify` says of each is compared with a plain look at the file. One has three levels, long
 # chains and a free list, the other two segments.
-set -u
-top=$(cd "$(dirname "$0")/.." && pwd)
-program=$top/crates/dbmtool/out/dbmtool
-work=$(mktemp -d)
-trap 'rm -rf "$work"' EXIT
-cd "$work" || exit 1
+. "$(dirname "$0")/common"
 cc -O1 -o hostile "$top/tests/hostile.c" "$top/tests/plain_check.c" || exit 1
 
 # pairs COUNT MOST: so many pairs, of contents of up to that many bytes
@@ -19,9 +14,8 @@ pairs() {
 "$program" create segments --limit 10000 && pairs 4200 40 | "$program" load segments || exit 1
 [ "$("$program" verify levels) $("$program" verify segments)" = '40 4200' ] || { echo "the good files have other pairs"; exit 1; }
 
-wrong=0
 for seed in 1 2; do
-  ./hostile "$program" t levels.db 1500 "$seed" || wrong=1
-  ./hostile "$program" t segments.db 150 "$seed" || wrong=1
+  ./hostile "$program" t levels.db 1500 "$seed" || bad=1
+  ./hostile "$program" t segments.db 150 "$seed" || bad=1
 done
-exit $wrong
+exit $bad

@@ -1,12 +1,6 @@
 #!/usr/bin/env bash
 # Damaged files: what the commands answer where a field breaks a rule of docs/FORMAT.md. A refused command leaves the file as it is.
-set -u
-top=$(cd "$(dirname "$0")/.." && pwd)
-program=$top/crates/dbmtool/out/dbmtool
-work=$(mktemp -d)
-trap 'rm -rf "$work"' EXIT
-cd "$work" || exit 1
-wrong=0
+. "$(dirname "$0")/common"
 
 # run STATUS OUTPUT FAULTS WORD..
 run() {
@@ -15,7 +9,7 @@ run() {
   "$program" "$@" < /dev/null > out 2> err || status=$?
   if [ "$status" != "$wanted" ] || [ "$(cat out)" != "$output" ] || [ "$(cat err)" != "$faults" ]; then
     echo "$rule: dbmtool ${words:0:60}: status $status and not $wanted, or another text: $(head -c 200 out) $(head -c 200 err)"
-    wrong=1
+    bad=1
   fi
 }
 
@@ -31,7 +25,7 @@ changed() {
   cp t.db damaged.db
 }
 
-stays() { cmp -s t.db damaged.db || { echo "$rule: a refused command changed the file"; wrong=1; }; }
+stays() { cmp -s t.db damaged.db || wrong "$rule: a refused command changed the file"; }
 
 # are FAULT COMMAND..: each is refused by this fault, and the file stays as it is
 are() {
@@ -57,6 +51,8 @@ refused 10
 changed 'the last letter of the magic' nine.db 7 32
 refused 10
 changed 'a first sector of something else' nine.db 0 00010001000100016b76
+refused 10
+changed 'a commit sector of zeros' nine.db 0 "$(printf '%01024d' 0)"
 refused 10
 changed 'a state that is none' nine.db 8 00000002
 refused 9
@@ -228,4 +224,4 @@ listed 'a free page less than is counted' 2048+40 00000002
 changed 'as many free pages as the file has' both.db 2048+36 0000000200000005
 are 9 'delete t b' 'verify t'
 run 0 "$long" '' fetch t b
-exit $wrong
+exit $bad

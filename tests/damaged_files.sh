@@ -1,14 +1,8 @@
 #!/usr/bin/env bash
 # Files with any one byte changed: each command ends, with replies or the one line of a fault, and a refused one leaves the file as it is.
 # What `verify` says there is compared with a plain look at the file.
-set -u
-top=$(cd "$(dirname "$0")/.." && pwd)
-program=$top/crates/dbmtool/out/dbmtool
-work=$(mktemp -d)
-trap 'rm -rf "$work"' EXIT
-cd "$work" || exit 1
+. "$(dirname "$0")/common"
 cc -O1 -o each_byte "$top/tests/each_byte.c" "$top/tests/plain_check.c" || exit 1
-wrong=0
 
 "$program" create nine --limit 100 || exit 1
 for digit in 1 2 3 4 5 6 7 8 9; do echo "6$digit 0$digit"; done > nine.text
@@ -22,7 +16,7 @@ for half in 0 1; do
   halves+=($!)
   cd ..
 done
-for half in "${halves[@]}"; do wait "$half" || wrong=1; done
+for half in "${halves[@]}"; do wait "$half" || bad=1; done
 read -r files refused <<< "$(awk '{ files += $1; refused += $2 } END { print files, refused }' told.0 told.1)"
 echo "$files files with one byte changed: $refused refused at opening"
-if [ "$wrong" != 0 ] || [ "$refused" = 0 ] || [ "$refused" = "$files" ]; then cat told.0 told.1; exit 1; fi
+if [ "$bad" != 0 ] || [ "$refused" = 0 ] || [ "$refused" = "$files" ]; then cat told.0 told.1; exit 1; fi

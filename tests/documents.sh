@@ -1,15 +1,8 @@
 #!/usr/bin/env bash
 # The manual page and the completions name the commands and options that the help names, each command's its own, and no other. What is
 # installed runs, and all of it is taken away again.
-set -u
-top=$(cd "$(dirname "$0")/.." && pwd)
-program=$top/crates/dbmtool/out/dbmtool
+. "$(dirname "$0")/common"
 page=$top/docs/dbmtool.1
-work=$(mktemp -d)
-trap 'rm -rf "$work"' EXIT
-cd "$work" || exit 1
-bad=0
-wrong() { echo "$1"; bad=1; }
 
 # agrees WHERE FOUND WANTED: two lists of words are one, whatever their order
 agrees() {

@@ -1,12 +1,7 @@
 #!/usr/bin/env bash
 # 10,000 pairs with keys of every length, and one with every byte value, in a real file: they are dumped in order, and the dump
 # loads back to the same dump.
-set -u
-top=$(cd "$(dirname "$0")/.." && pwd)
-program=$top/crates/dbmtool/out/dbmtool
-work=$(mktemp -d)
-trap 'rm -rf "$work"' EXIT
-cd "$work" || exit 1
+. "$(dirname "$0")/common"
 bytes=$(printf '%02x' $(seq 0 255))
 {
   echo "$bytes $(printf '%02x' $(seq 255 -1 0))"

@@ -2,13 +2,8 @@
 # Commands on a real file in which a read, a write or a sync fails, each in turn: once, made before it fails, or with all behind it, and what
 # wasn't synced is kept or lost. The command is fault 2, and the file then verifies and has the pairs from before the change that was under
 # way, or from after it, and can be changed. A create may leave no database at all, as it does where its one commit isn't synced.
-set -u
-top=$(cd "$(dirname "$0")/.." && pwd)
-program=$top/crates/dbmtool/out/dbmtool
-work=$(mktemp -d)
-trap 'rm -rf "$work"' EXIT
-cd "$work" || exit 1
-cc -shared -fPIC -O1 -o fail.so "$top/tests/fail.c" -ldl || exit 1
+. "$(dirname "$0")/common"
+preloadable fail
 
 # Eight pairs, so that one more opens a bucket.
 "$program" create first --limit 100 || exit 1

@@ -4,13 +4,8 @@
 # failed before; each other reply is right. The file then has each acknowledged pair, and one more at most, whether the sectors that no sync
 # came behind are kept or lost, or each second one is. How many failed calls break the database, and how many only its closing, is as the
 # format has it.
-set -u
-top=$(cd "$(dirname "$0")/.." && pwd)
-program=$top/crates/dbmtool/out/dbmtool
-work=$(mktemp -d)
-trap 'rm -rf "$work"' EXIT
-cd "$work" || exit 1
-cc -shared -fPIC -O1 -o fail.so "$top/tests/fail.c" -ldl || exit 1
+. "$(dirname "$0")/common"
+preloadable fail
 
 "$program" create empty --limit 100 || exit 1
 for digit in 1 2 3 4 5 6 7 8 9; do echo "F 6$digit"; done > fetches
@@ -61,20 +56,19 @@ runs() {
   fi
 }
 
-wrong=0
 for how in once late from; do
   for lose in kept lost odd even; do
     declare -A times=([broken]=0 [unclosed]=0)
     for ((n = 1; n < 1000; n++)); do
       runs "$n" "$how" "$lose"
       [ "$went" != whole ] || break
-      [ "${went#wrong}" = "$went" ] || { echo "call $n fails $how, unsynced sectors $lose: $went"; wrong=1; }
+      [ "${went#wrong}" = "$went" ] || wrong "call $n fails $how, unsynced sectors $lose: $went"
       times[$went]=$((${times[$went]:-0} + 1))
     done
-    [ "$went" = whole ] || { echo "fails $how: no run in which no call fails"; wrong=1; }
+    [ "$went" = whole ] || wrong "fails $how: no run in which no call fails"
     [ "${times[broken]}" = "$in_commits" ] && [ "${times[unclosed]}" = "$in_closing" ] ||
-      { echo "fails $how: ${times[broken]} calls break the database, and ${times[unclosed]} its closing alone"; wrong=1; }
+      wrong "fails $how: ${times[broken]} calls break the database, and ${times[unclosed]} its closing alone"
     echo "fails $how, unsynced sectors $lose: $n calls"
   done
 done
-exit $wrong
+exit $bad

@@ -1,14 +1,8 @@
 #!/usr/bin/env bash
 # Scripts, loads, dumps and lists whose input or output fails behind each number of bytes, which come and go one at a time: what is told, what
 # was written, and which calls were made.
-set -u
-top=$(cd "$(dirname "$0")/.." && pwd)
-program=$top/crates/dbmtool/out/dbmtool
-work=$(mktemp -d)
-trap 'rm -rf "$work"' EXIT
-cd "$work" || exit 1
-cc -shared -fPIC -O1 -o streams.so "$top/tests/streams.c" -ldl || exit 1
-wrong=0
+. "$(dirname "$0")/common"
+preloadable streams
 
 # fails INPUT|OUTPUT COUNT WORD..: the command on the file `in`, with that stream failed behind so many bytes, tells so
 fails() {
@@ -17,13 +11,13 @@ fails() {
   if [ "$stream" = OUTPUT ]; then told=write; export WRITE_FAILS=$count; else export READ_FAILS=$count; fi
   LD_PRELOAD=./streams.so "$program" "$@" < in > out 2> err || status=$?
   unset READ_FAILS WRITE_FAILS
-  [ "$status" = 2 ] && [ "$(cat err)" = "dbmtool: $told" ] || { echo "$*, $stream failed behind $count bytes: status $status, $(cat err)"; wrong=1; }
+  [ "$status" = 2 ] && [ "$(cat err)" = "dbmtool: $told" ] || wrong "$*, $stream failed behind $count bytes: status $status, $(cat err)"
 }
 
 # holds PAIRS TEXT: t.db has these pairs, and this was written; `/` stands for the end of a line
 holds() {
-  [ "$("$program" dump t < /dev/null | tr '\n' /)" = "$1" ] || { echo "there are other pairs than $1 at $n"; wrong=1; }
-  [ "$(tr '\n' / < out)" = "$2" ] || { echo "another text than $2 was written at $n"; wrong=1; }
+  [ "$("$program" dump t < /dev/null | tr '\n' /)" = "$1" ] || wrong "there are other pairs than $1 at $n"
+  [ "$(tr '\n' / < out)" = "$2" ] || wrong "another text than $2 was written at $n"
 }
 
 # The calls of the whole lines are made and answered, and no other.
@@ -61,4 +55,4 @@ pairs='61 ff/62 ./'
 keys='61/62/'
 for ((n = 0; n < ${#pairs}; n++)); do fails OUTPUT "$n" dump t; holds "$pairs" "${pairs:0:n}"; done
 for ((n = 0; n < ${#keys}; n++)); do fails OUTPUT "$n" list t; holds "$pairs" "${keys:0:n}"; done
-exit $wrong
+exit $bad

@@ -1,12 +1,6 @@
 #!/usr/bin/env bash
 # The program on real files: what each command prints on both streams, and its status.
-set -u
-top=$(cd "$(dirname "$0")/.." && pwd)
-program=$top/crates/dbmtool/out/dbmtool
-work=$(mktemp -d)
-trap 'rm -rf "$work"' EXIT
-cd "$work" || exit 1
-wrong=0
+. "$(dirname "$0")/common"
 
 # run STATUS OUTPUT FAULTS WORD..: standard input is the program's
 run() {
@@ -18,7 +12,7 @@ run() {
   if [ "$status" != "$wanted" ] || ! cmp -s out right.out || ! cmp -s err right.err; then
     echo "dbmtool $*: status $status and not $wanted, or another text:"
     head -c 400 out; head -c 400 err
-    wrong=1
+    bad=1
   fi
 }
 
@@ -46,21 +40,21 @@ run 0 '' '' create nine --limit 100 < /dev/null
 for digit in 1 2 3 4 5 6 7 8 9; do echo "6$digit 0$digit"; done > nine.text
 run 0 '' '' load nine < nine.text
 run 0 'pairs 9\nlimit 100\nbuckets 2\nlevel 1\nsplit 0\npages 5\nfree 0\n' '' stat nine < /dev/null
-"$program" dump nine > nine.again && cmp -s nine.text nine.again || { echo "a dump isn't what was loaded"; wrong=1; }
+"$program" dump nine > nine.again && cmp -s nine.text nine.again || wrong "a dump isn't what was loaded"
 
 # what is no database, and what is there or isn't
 printf 'hello' > other.db
 run 2 '' 'dbmtool: fault 10\n' fetch other a < /dev/null
 run 2 '' 'dbmtool: fault 15\n' create other < /dev/null
-[ "$(cat other.db)" = hello ] || { echo "a file of something else was changed"; wrong=1; }
+[ "$(cat other.db)" = hello ] || wrong "a file of something else was changed"
 run 2 '' 'dbmtool: fault 14\n' fetch missing x < /dev/null
-[ ! -e missing.db ] || { echo "a fetch made a file"; wrong=1; }
+[ ! -e missing.db ] || wrong "a fetch made a file"
 run 2 '' 'dbmtool: fault 13\n' create zero --limit 0 < /dev/null
 run 0 '' '' create zero --limit 100 < /dev/null
 run 2 '' 'dbmtool: fault 15\n' create zero --limit 100 < /dev/null
 : > plain
 for name in plain/below none/below; do run 2 '' 'dbmtool: fault 2\n' create "$name" < /dev/null; done
-[ "$(($(stat -c %s nine.db) % 512))" = 0 ] || { echo "a file isn't of whole sectors"; wrong=1; }
+[ "$(($(stat -c %s nine.db) % 512))" = 0 ] || wrong "a file isn't of whole sectors"
 run 2 '' 'dbmtool: fault 15\n' create t < /dev/null
 
 # a new file that was cut
@@ -94,29 +88,29 @@ run 0 '0\n76\n-1 line\n0\n' '' script t < lines
 for words in 'store t' 'verify' 'check t' 'fetch t k v' 'create t --limit x' '--unknown' ''; do
   # shellcheck disable=SC2086
   "$program" $words > out 2> err < /dev/null
-  [ $? = 3 ] && [ ! -s out ] && [ -s err ] || { echo "dbmtool $words: no usage"; wrong=1; }
+  [ $? = 3 ] && [ ! -s out ] && [ -s err ] || wrong "dbmtool $words: no usage"
 done
-grep -q -- '--unknown' <("$program" --unknown 2>&1) || { echo "usage doesn't name the wrong word"; wrong=1; }
+grep -q -- '--unknown' <("$program" --unknown 2>&1) || wrong "usage doesn't name the wrong word"
 
 # help names each command, and ends with an example
-"$program" --help > out || wrong=1
+"$program" --help > out || bad=1
 for command in create store insert fetch delete list dump load stat verify script rehearse faults; do
-  grep -qw "$command" out || { echo "the help has no $command"; wrong=1; }
-  "$program" "$command" --help > command.out || { echo "no help of $command"; wrong=1; }
-  grep -q "dbmtool $command" command.out || { echo "the help of $command has no example"; wrong=1; }
+  grep -qw "$command" out || wrong "the help has no $command"
+  "$program" "$command" --help > command.out || wrong "no help of $command"
+  grep -q "dbmtool $command" command.out || wrong "the help of $command has no example"
 done
 
 # a file that may be read and not written, for somebody who isn't root
 as=()
 [ "$(id -u)" != 0 ] || as=(setpriv --reuid=65534 --regid=65534 --clear-groups)
 chmod 755 . && cp "$program" dbmtool && chmod 755 dbmtool && chmod 444 nine.db
-"${as[@]}" ./dbmtool fetch nine 61 -x > out 2> err && [ "$(cat out)" = 01 ] || { echo "a file that may be read isn't: $(cat err)"; wrong=1; }
-"${as[@]}" ./dbmtool store nine 61 02 -x > out 2> err; [ $? = 2 ] && [ "$(cat err)" = 'dbmtool: fault 2' ] || { echo "a file that may not be written: $(cat err)"; wrong=1; }
+"${as[@]}" ./dbmtool fetch nine 61 -x > out 2> err && [ "$(cat out)" = 01 ] || wrong "a file that may be read isn't: $(cat err)"
+"${as[@]}" ./dbmtool store nine 61 02 -x > out 2> err; [ $? = 2 ] && [ "$(cat err)" = 'dbmtool: fault 2' ] || wrong "a file that may not be written: $(cat err)"
 mkdir closed && chmod 555 closed
-"${as[@]}" ./dbmtool create closed/t > out 2> err; [ $? = 2 ] && [ "$(cat err)" = 'dbmtool: fault 2' ] || { echo "a folder that may not be written: $(cat err)"; wrong=1; }
+"${as[@]}" ./dbmtool create closed/t > out 2> err; [ $? = 2 ] && [ "$(cat err)" = 'dbmtool: fault 2' ] || wrong "a folder that may not be written: $(cat err)"
 run 0 '01\n' '' fetch nine 61 -x < /dev/null
 
 # output that can't be written, and input that can't be read
-"$program" dump nine > /dev/full 2> err; [ $? = 2 ] && [ "$(cat err)" = 'dbmtool: write' ] || { echo "a full output isn't told"; wrong=1; }
+"$program" dump nine > /dev/full 2> err; [ $? = 2 ] && [ "$(cat err)" = 'dbmtool: write' ] || wrong "a full output isn't told"
 run 2 '' 'dbmtool: read\n' load nine < .
-exit $wrong
+exit $bad

@@ -1,11 +1,6 @@
 #!/usr/bin/env bash
 # The first session of README.md, and its rehearsal, line by line: each command prints what stands below it.
-set -u
-top=$(cd "$(dirname "$0")/.." && pwd)
-program=$top/crates/dbmtool/out/dbmtool
-work=$(mktemp -d)
-trap 'rm -rf "$work"' EXIT
-cd "$work" || exit 1
+. "$(dirname "$0")/common"
 ln -s "$program" dbmtool
 for part in 'A first session' 'See it stopped'; do
   sed -n "/^## $part\$/,/^## /p" "$top/README.md" | sed -n 's/^    //p' >> session

@@ -1,13 +1,7 @@
 #!/usr/bin/env bash
 # Whole files, byte by byte, against bytes worked out by hand from docs/FORMAT.md: a new one, one with a pair, eight pairs in one bucket and
 # nine in two; overflow pages that are taken, given back and taken again; pages that a pair fits just so.
-set -u
-top=$(cd "$(dirname "$0")/.." && pwd)
-program=$top/crates/dbmtool/out/dbmtool
-work=$(mktemp -d)
-trap 'rm -rf "$work"' EXIT
-cd "$work" || exit 1
-wrong=0
+. "$(dirname "$0")/common"
 
 # put PLACE HEX: the bytes from that place on in the file `wanted`
 put() { printf '%b' "$(sed 's/../\\x&/g' <<< "$2")" | dd of=wanted bs=1 seek=$(($1)) conv=notrunc status=none; }
@@ -18,14 +12,14 @@ spelled() {
   head -c $((pages * 2048)) /dev/zero > wanted
   shift 2
   while [ $# -gt 0 ]; do put "$1" "$2"; shift 2; done
-  cmp <(head -c $((pages * 2048)) "$name.db") wanted || { echo "$name: another file"; wrong=1; }
+  cmp <(head -c $((pages * 2048)) "$name.db") wanted || wrong "$name: another file"
 }
 
 # said NAME INPUT OUTPUT: a script's replies; `/` stands for the end of a line
-said() { [ "$(tr / '\n' <<< "$2" | "$program" script "$1" | tr '\n' /)" = "$3" ] || { echo "$1: another reply to $2"; wrong=1; }; }
+said() { [ "$(tr / '\n' <<< "$2" | "$program" script "$1" | tr '\n' /)" = "$3" ] || wrong "$1: another reply to $2"; }
 
 # counted NAME NUMBERS: what stat tells
-counted() { [ "$("$program" stat "$1" | cut -d' ' -f2 | xargs)" = "$2" ] || { echo "$1: other numbers"; wrong=1; }; }
+counted() { [ "$("$program" stat "$1" | cut -d' ' -f2 | xargs)" = "$2" ] || wrong "$1: other numbers"; }
 
 magic=44424d5245444f31
 # meta PAIRS LEVEL FREE_HEAD FREE_COUNT: the numbers of a meta page, from its byte 16 on: version, limit, pairs, level, split, the first free
@@ -38,7 +32,7 @@ spelled new 4 \
   2048 0000000101 2064 "$(meta 0 0 0 0)" 2112 00000002 \
   4096 0000000202 4112 00000003 \
   6144 00000003030000000000000008000000
-[ "$(tail -c +8193 new.db | tr -d '\0' | wc -c)" = 0 ] || { echo "there is something behind a new file's pages"; wrong=1; }
+[ "$(tail -c +8193 new.db | tr -d '\0' | wc -c)" = 0 ] || wrong "there is something behind a new file's pages"
 
 # The pair `k` and `v`.
 cp new.db pair.db
@@ -132,4 +126,4 @@ said four "S 65 $long/S 66 $long/S 67 $long" '0/0/0/'
 counted four '5 100 1 0 0 8 0'
 # shellcheck disable=SC2046
 longs four 8 "$(meta 5 0 0 0)" $(page 3 03 6 61) $(page 6 04 5 64) $(page 5 04 4 65) $(page 4 04 7 66) $(page 7 04 0 67)
-exit $wrong
+exit $bad

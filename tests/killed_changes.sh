@@ -2,12 +2,7 @@
 # Changes of a real file that are killed at some moment, a thousand times over: stores one after another, deletes one after another, and
 # loads, in turn, line by line and in groups. Each change that had ended with status 0 is there afterwards, of the others one a round at
 # most, and of a load as many lines as were stored, the first ones, and whole groups of them.
-set -u
-top=$(cd "$(dirname "$0")/.." && pwd)
-program=$top/crates/dbmtool/out/dbmtool
-work=$(mktemp -d)
-trap 'rm -rf "$work"' EXIT
-cd "$work" || exit 1
+. "$(dirname "$0")/common"
 workers=4
 rounds=250
 

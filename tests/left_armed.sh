@@ -1,12 +1,7 @@
 #!/usr/bin/env bash
 # A program that is killed with its last change acknowledged and not yet at home: the file is left with an armed commit sector. It is
 # read as it is, which changes no byte of it, has the change, and verifies; the next change brings it home, and a closing does.
-set -u
-top=$(cd "$(dirname "$0")/.." && pwd)
-program=$top/crates/dbmtool/out/dbmtool
-work=$(mktemp -d)
-trap 'rm -rf "$work"' EXIT
-cd "$work" || exit 1
+. "$(dirname "$0")/common"
 
 wrong() { echo "$1"; exit 1; }
 # state: the second field of the commit sector, 1 where it is armed

@@ -1,15 +1,9 @@
 #!/usr/bin/env bash
 # Programs side by side at one file: while one has it open for writing no other opens it, and those that only read have it open
 # together. What is refused is fault 2 and changes nothing, and a lock ends with its program, however that ends.
-set -u
-top=$(cd "$(dirname "$0")/.." && pwd)
-program=$top/crates/dbmtool/out/dbmtool
-work=$(mktemp -d)
+. "$(dirname "$0")/common"
 pid=
 trap '[ -z "$pid" ] || kill -9 "$pid" 2> /dev/null; rm -rf "$work"' EXIT
-cd "$work" || exit 1
-bad=0
-wrong() { echo "$1"; bad=1; }
 
 # writes_on: a script has the file open for writing, and has stored a pair
 writes_on() {

@@ -1,16 +1,9 @@
 #!/usr/bin/env bash
 # The recipes of docs/MIGRATING.md, as they stand there: what another program keeps comes over and goes back whole. A program that isn't
 # installed is named, and its recipes are left out.
-set -u
-top=$(cd "$(dirname "$0")/.." && pwd)
-program=$top/crates/dbmtool/out/dbmtool
-work=$(mktemp -d)
-trap 'rm -rf "$work"' EXIT
-cd "$work" || exit 1
+. "$(dirname "$0")/common"
 mkdir bin && ln -s "$program" bin/dbmtool
 PATH=$work/bin:$PATH
-bad=0
-wrong() { echo "$1"; bad=1; }
 
 # follows HEADING: the commands below this heading are run, one after another
 follows() {

@@ -2,15 +2,8 @@
 # A pass over 300 buckets of more than one page each gives each key once, and one over eight keys in an order worked out by hand. Of a pass on
 # a device of which a read fails, the key behind it comes at the next call. A page that was read is answered from memory where each further
 # read fails.
-set -u
-top=$(cd "$(dirname "$0")/.." && pwd)
-program=$top/crates/dbmtool/out/dbmtool
-work=$(mktemp -d)
-trap 'rm -rf "$work"' EXIT
-cd "$work" || exit 1
-cc -shared -fPIC -O1 -o fail.so "$top/tests/fail.c" -ldl || exit 1
-bad=0
-wrong() { echo "$1"; bad=1; }
+. "$(dirname "$0")/common"
+preloadable fail
 
 # Contents of 500 bytes, so that few pairs fit a page.
 long=$(printf '07%.0s' $(seq 500))

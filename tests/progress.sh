@@ -1,16 +1,9 @@
 #!/usr/bin/env bash
 # Progress: a load, a dump, a list, a verify and a rehearsal of more than a second count their steps on a terminal, in one line, which is written anew
 # once a second at most and taken away before anything else is written there. No byte of it goes elsewhere, nor in the first second.
-set -u
-top=$(cd "$(dirname "$0")/.." && pwd)
-program=$top/crates/dbmtool/out/dbmtool
-work=$(mktemp -d)
-trap 'rm -rf "$work"' EXIT
-cd "$work" || exit 1
-bad=0
-wrong() { echo "$1"; bad=1; }
+. "$(dirname "$0")/common"
 command -v script > out || { echo "script, which gives a terminal, is needed (Debian: bsdutils)"; exit 1; }
-cc -shared -fPIC -O1 -o slow.so "$top/tests/slow.c" -ldl || exit 1
+preloadable slow
 slow="LD_PRELOAD=./slow.so SLOW_CALLS=4 $program"
 printf -v erased '\r%34s\r' ''
 

@@ -2,13 +2,8 @@
 # One growth refused in the built program, each in turn, over scripts on a new database in memory and on one in a file, and over a
 # verify. The program then ends with fault 1, or it gives the full right answer; a store is refused by fault 1, and changes nothing, only
 # where it opens a bucket.
-set -u
-top=$(cd "$(dirname "$0")/.." && pwd)
-program=$top/crates/dbmtool/out/dbmtool
-work=$(mktemp -d)
-trap 'rm -rf "$work"' EXIT
-cd "$work" || exit 1
-cc -shared -fPIC -O1 -o refuse.so "$top/tests/refuse.c" -ldl || exit 1
+. "$(dirname "$0")/common"
+preloadable refuse
 printf 'dbmtool: fault 1\n' > memory
 
 # calls of which no store opens a bucket

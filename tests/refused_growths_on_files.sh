@@ -1,13 +1,8 @@
 #!/usr/bin/env bash
 # One growth refused in the built program on a real file, each in turn, for each command that takes memory. It then ends with
 # fault 1 and has changed nothing, or it has done all.
-set -u
-top=$(cd "$(dirname "$0")/.." && pwd)
-program=$top/crates/dbmtool/out/dbmtool
-work=$(mktemp -d)
-trap 'rm -rf "$work"' EXIT
-cd "$work" || exit 1
-cc -shared -fPIC -O1 -o refuse.so "$top/tests/refuse.c" -ldl || exit 1
+. "$(dirname "$0")/common"
+preloadable refuse
 printf 'dbmtool: fault 1\n' > memory
 "$program" create t --limit 100 && "$program" store t key old && "$program" store t other 1 || exit 1
 cp t.db first.db

@@ -2,13 +2,8 @@
 # One growth refused in a rehearsal, each in turn, on a new database and on a copy of a file. It then ends with fault 1, or it gives the
 # right counts, and its file stays as it is. It may have made more device calls: where there is no memory for a page's copy, the page is
 # read once more.
-set -u
-top=$(cd "$(dirname "$0")/.." && pwd)
-program=$top/crates/dbmtool/out/dbmtool
-work=$(mktemp -d)
-trap 'rm -rf "$work"' EXIT
-cd "$work" || exit 1
-cc -shared -fPIC -O1 -o refuse.so "$top/tests/refuse.c" -ldl || exit 1
+. "$(dirname "$0")/common"
+preloadable refuse
 printf 'dbmtool: fault 1\n' > memory
 printf 'S 61 01\nS 62 02\nD 61\n' > script
 "$program" create t --limit 100 && "$program" store t key old || exit 1

@@ -1,12 +1,6 @@
 #!/usr/bin/env bash
 # Rehearsals, on new databases and on copies of files: each stop is kept, the counts agree, and the file stays as it is.
-set -u
-top=$(cd "$(dirname "$0")/.." && pwd)
-program=$top/crates/dbmtool/out/dbmtool
-work=$(mktemp -d)
-trap 'rm -rf "$work"' EXIT
-cd "$work" || exit 1
-bad=0
+. "$(dirname "$0")/common"
 wrong() { echo "$1"; cat out err; bad=1; }
 
 # count NAME: what was printed behind this name
@@ -54,7 +48,7 @@ cmp -s t.db before || wrong "a rehearsal changed the file"
 [ "$("$program" stat t | head -n 1)" = 'pairs 8' ] || wrong "the file has other pairs"
 
 # one of which a commit was cut short, so that its first sector is another
-cc -shared -fPIC -O1 -o fail.so "$top/tests/fail.c" -ldl || exit 1
+preloadable fail
 FAIL_CALL=0 LD_PRELOAD=./fail.so "$program" store t 69 09 -x 2> err || wrong "a store failed with no failed call"
 armed=
 for n in $(seq 1 "$(sed -n 's/^calls //p' err)"); do

@@ -1,14 +1,7 @@
 #!/usr/bin/env bash
 # Scripts, loads, dumps, lists and whole commands on real files, worked out by hand, in tables: in a text, `/` stands for the end of a line.
-set -u
-top=$(cd "$(dirname "$0")/.." && pwd)
-program=$top/crates/dbmtool/out/dbmtool
-work=$(mktemp -d)
-trap 'rm -rf "$work"' EXIT
-cd "$work" || exit 1
-bad=0
+. "$(dirname "$0")/common"
 rows=0
-wrong() { echo "$1"; bad=1; }
 
 # runs WORD..: over the input in the file `in`; what it prints is in the files out and err, its status in $status
 runs() { "$program" "$@" < in > out 2> err; status=$?; }

@@ -2,15 +2,8 @@
 # A store that opens a bucket, cut short behind each call of the system, where the sectors that no sync came behind are kept or lost, or each
 # second one is: the file then has the old pairs or the new ones, as the format has it. The opening that settles it is cut short likewise,
 # again and again, and the file then is the whole one, byte by byte. A sync that fails leaves the change in doubt, and a read nothing.
-set -u
-top=$(cd "$(dirname "$0")/.." && pwd)
-program=$top/crates/dbmtool/out/dbmtool
-work=$(mktemp -d)
-trap 'rm -rf "$work"' EXIT
-cd "$work" || exit 1
-cc -shared -fPIC -O1 -o fail.so "$top/tests/fail.c" -ldl || exit 1
-bad=0
-wrong() { echo "$1"; bad=1; }
+. "$(dirname "$0")/common"
+preloadable fail
 
 # An opening that settles nothing: a sync, and reads of the commit sector and of the meta page. The store looks its key up in two pages, and
 # commits four: their redo images, a sync, the commit sector, a sync. The closing writes as much again.

@@ -2,12 +2,7 @@
 # Passes over a table that changes: each third key of a thousand deleted as it comes, ten stores between any two of a thousand keys, so
 # that buckets are split, and keys of one hash, of no bytes and of 2,026 bytes deleted as the last one given. A key that is there
 # throughout comes once, none twice, and all in the order of their hashes' bits from the lowest up, then of their bytes.
-set -u
-top=$(cd "$(dirname "$0")/.." && pwd)
-program=$top/crates/dbmtool/out/dbmtool
-work=$(mktemp -d)
-trap 'rm -rf "$work"' EXIT
-cd "$work" || exit 1
+. "$(dirname "$0")/common"
 cc -O1 -o ranks "$top/tests/ranks.c" || exit 1
 export LC_ALL=C
 

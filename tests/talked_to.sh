@@ -1,16 +1,10 @@
 #!/usr/bin/env bash
 # A script that is talked to through two pipes: each line's reply comes before the next line is sent, a line in two halves is answered
 # after the second, and a store whose reply was seen is there after a kill. A text in a file is answered in large writes.
-set -u
-top=$(cd "$(dirname "$0")/.." && pwd)
-program=$top/crates/dbmtool/out/dbmtool
-work=$(mktemp -d)
+. "$(dirname "$0")/common"
 pid=
 trap '[ -z "$pid" ] || kill -9 "$pid" 2> /dev/null; rm -rf "$work"' EXIT
 trap 'echo "the program reads no more"; exit 1' PIPE
-cd "$work" || exit 1
-bad=0
-wrong() { echo "$1"; bad=1; }
 
 # starts WORDS..: the program that is talked to from now on
 starts() {

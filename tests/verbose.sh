@@ -1,14 +1,8 @@
 #!/usr/bin/env bash
 # With --verbose in front of the command the cause of fault 2 is told in a second line, in the system's own words; of another fault, and
 # without it, there is one line.
-set -u
-top=$(cd "$(dirname "$0")/.." && pwd)
-program=$top/crates/dbmtool/out/dbmtool
-work=$(mktemp -d)
-trap 'rm -rf "$work"' EXIT
-cd "$work" || exit 1
-cc -shared -fPIC -O1 -o fail.so "$top/tests/fail.c" -ldl || exit 1
-bad=0
+. "$(dirname "$0")/common"
+preloadable fail
 export LC_ALL=C
 
 # tells STATUS LINES COMMAND..: the program ends so, and says exactly this on standard error
@@ -17,7 +11,7 @@ tells() {
   shift 2
   "$@" > out 2> err
   status=$?
-  [ "$status" = "$wanted" ] && [ "$(cat err)" = "$lines" ] && [ ! -s out ] || { echo "$*: status $status, $(cat err)"; bad=1; }
+  [ "$status" = "$wanted" ] && [ "$(cat err)" = "$lines" ] && [ ! -s out ] || wrong "$*: status $status, $(cat err)"
 }
 
 "$program" create t --limit 100 && "$program" store t key old || exit 1
@@ -40,7 +34,7 @@ exec 9>&-
 # each read, write and sync of a store fails in turn
 FAIL_CALL=0 LD_PRELOAD=./fail.so "$program" store t key new 2> err || exit 1
 calls=$(sed -n 's/^calls //p' err)
-[ "${calls:-0}" -gt 10 ] || { echo "no call was counted"; bad=1; }
+[ "${calls:-0}" -gt 10 ] || wrong "no call was counted"
 for n in $(seq 1 "${calls:-0}"); do
   tells 2 $'dbmtool: fault 2\ndbmtool: Input/output error (os error 5)' \
     env FAIL_CALL="$n" LD_PRELOAD=./fail.so "$program" --verbose store t key new
@@ -56,6 +50,6 @@ tells 3 'dbmtool: not hex' "$program" --verbose store t key x -x
 
 # it stands in front of the command alone
 "$program" fetch --verbose t key 2> err
-[ $? = 3 ] && grep -q verbose err || { echo "--verbose behind the command: $(cat err)"; bad=1; }
-[ "$("$program" --verbose fetch t key)" = new ] || { echo "--verbose changes a fetch"; bad=1; }
-exit "$bad"
+[ $? = 3 ] && grep -q verbose err || wrong "--verbose behind the command: $(cat err)"
+[ "$("$program" --verbose fetch t key)" = new ] || wrong "--verbose changes a fetch"
+exit $bad

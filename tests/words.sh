@@ -1,13 +1,6 @@
 #!/usr/bin/env bash
 # The program's words that no command gets: those that are not UTF-8, the version, the faults, and -x where it isn't needed.
-set -u
-top=$(cd "$(dirname "$0")/.." && pwd)
-program=$top/crates/dbmtool/out/dbmtool
-work=$(mktemp -d)
-trap 'rm -rf "$work"' EXIT
-cd "$work" || exit 1
-bad=0
-wrong() { echo "$1"; bad=1; }
+. "$(dirname "$0")/common"
 
 # run STATUS WORD..: what it prints is in the files out and err
 run() {
