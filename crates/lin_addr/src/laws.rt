@@ -1,7 +1,5 @@
-//! The order of the buckets, and examples. What each law says stands in `specs/Intervals.antt` and
-//! `specs/Examples.antt`.
+//! The order of the buckets. What each law says stands in `specs/Intervals.antt`.
 
-ghost use Rattle.lin_addr.specs.Examples.{PublishedHashes, BucketsByHand};
 ghost use Rattle.lin_addr.specs.Intervals.{AreIntervals, BeginsWithZero};
 ghost use Rattle.lin_addr.specs.Shapes.{shape_of};
 ghost use Rattle.lin_addr.specs.declared.growth.Shape.{Shape};
@@ -10,10 +8,4 @@ ghost use Rattle.lin_addr.specs.declared.growth.Shape.{Shape};
 pub fn buckets_are_intervals()
     ensures intervals { (shape : Shape) → AreIntervals (shape_of shape) }
     ensures from_zero { (shape : Shape) → BeginsWithZero (shape_of shape) }
-{}
-
-/// Hashes that were published with FNV-1a, and buckets that were worked out by hand.
-pub fn examples()
-    ensures hashes { PublishedHashes }
-    ensures buckets { BucketsByHand }
 {}

@@ -9,5 +9,5 @@ mod order;
 
 pub use fnv::hash;
 pub use growth::Shape;
-pub use laws::{buckets_are_intervals, examples};
+pub use laws::buckets_are_intervals;
 pub use order::{Ranked, comes_before, rank};
