@@ -139,7 +139,7 @@ for place in 0 4 5 8 12 15 24 2047; do damaged "byte $place of the segment page"
 changed 'a segment names a head twice' nine.db 2*2048+20 00000003
 run 0 01 '' fetch t 61 -x
 run 1 '' '' fetch t 62 -x
-run 2 '' 'dbmtool: fault 9' verify t
+are 9 'list t' 'dump t' 'verify t'
 for head in 00000000 00000005; do
   changed "the head page $head" nine.db 2*2048+20 "$head"
   run 0 01 '' fetch t 61 -x
@@ -147,10 +147,12 @@ for head in 00000000 00000005; do
 done
 
 # ---- head pages
-changed 'a pair more than is counted' nine.db 2048+24 00000008
-run 0 01 '' fetch t 61 -x
-run 0 09 '' fetch t 69 -x
-run 2 '' 'dbmtool: fault 9' verify t
+for count in 00000000 00000008 0000000a 00000010; do
+  changed "nine pairs, and counted are $count" nine.db 2048+24 "$count"
+  run 0 01 '' fetch t 61 -x
+  run 0 09 '' fetch t 69 -x
+  are 9 'list t' 'dump t' 'dump --text t' 'verify t'
+done
 changed 'a page with the number of another' nine.db 4*2048 00000003
 run 0 01 '' fetch t 61 -x
 are 9 'fetch t 62 -x' 'store t 62 02 -x' 'dump t' 'verify t'

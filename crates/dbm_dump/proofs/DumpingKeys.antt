@@ -1,15 +1,16 @@
 -- What a pass has given, and what is gathered of it.
-use Rattle.std.proofs.Common.{◌≡◌, ◌≢◌, ◌⊎◌, inl, inr, ⊎_elim, ℕ, ◌+◌, ◌≤◌, Bool, true, false, cond, ◌||◌, List, [], ◌∷◌, map, length, Option, Some, None, is_some, Result, Ok, Err, MatchResult, refl, sym, ◌∙◌, ap, subst, arith}
+use Rattle.std.proofs.Common.{◌≡◌, ◌≢◌, ◌⊎◌, inl, inr, ⊎_elim, ℕ, ◌+◌, ◌≤◌, ◌<◌, Bool, true, false, cond, ◌||◌, List, [], ◌∷◌, map, length, Option, Some, None, is_some, Result, Ok, Err, MatchResult, refl, sym, ◌∙◌, ap, subst, arith}
 use Rattle.std.specs.Global.{Vec}
 use Rattle.std.specs.BTreeSet.{insert_key}
 use Rattle.std.specs.Cmp.Lexicographic.{slice_cmp}
 use Rattle.std.specs.FinMap as finite
-use Rattle.std.specs.FinMap.{keys, contains_key, put}
+use Rattle.std.specs.FinMap.{entries, keys, contains_key, put}
 use Rattle.std.specs.FinSet as set
 use Rattle.std.specs.Ordering.{eq_by_cmp, nat_cmp, match_ordering}
 use Rattle.std.specs.declared.cmp.Ordering.{Ordering}
 use Rattle.std.specs.declared.cmp.Ordering.TheVariants.{Less, Equal, Greater}
 use Rattle.std.proofs.lemmas.Cmp.{nat_list_cmp_total}
+use Rattle.std.proofs.lemmas.List.{length-map}
 use Rattle.dbm_model.specs.Calls as model
 use Rattle.dbm_model.specs.Calls.{Call, First, Next, End, Bytes}
 use Rattle.dbm_model.specs.Pairs.{Key, Contents, key_cmp}
@@ -322,6 +323,19 @@ module _ {S : Type 0} {s : Ghosts S} (db : Database S s) (m : Contents) (done : 
   pass_ends given count so_far none =
       subst (λ (g : Option (Vec ℕ)). HasGathered m done g count so_far.now.state.pass)
       none so_far.held
+
+  many_keys : (given : Option (Vec ℕ)) (count : ℕ) → IsPassing db m done given count
+      → given ≡ None → length done ≡ finite.len m
+  many_keys given count so_far none = ap length (pass_ends given count so_far none)
+      ∙ length-map (entries m) (λ entry. entry.0) ∙ sym (finite.len-entries m)
+
+  -- not before it has given as many keys as the map has
+  pub pass_too_short : (P : Type 0) (given : Option (Vec ℕ)) (count held most : ℕ)
+      → IsPassing db m done given count → given ≡ None → length done ≡ held → most ≡ finite.len m
+      → held < most → P
+  pass_too_short P given count held most so_far none is all less =
+      let many = many_keys given count so_far none in
+      absurd (omega (arith, many, is, all, less))
 
   -- before it has given as many keys as the map has
   pub pass_too_long : (P : Type 0) (given : Option (Vec ℕ)) (count most : ℕ)

@@ -12,6 +12,7 @@ use Rattle.std.specs.Ordering.{eq_by_cmp, is_lt, is_eq, ordering_reverse, nat_cm
 use Rattle.std.specs.declared.cmp.Ordering.{Ordering}
 use Rattle.std.specs.declared.cmp.Ordering.TheVariants.{Less, Equal, Greater}
 use Rattle.std.proofs.lemmas.Cmp.{nat_list_cmp_total}
+use Rattle.std.proofs.lemmas.List.{length-map}
 use Rattle.std.proofs.lemmas.List.Elements.{All-nil, All-cons, All-head, All-tail}
 use Rattle.dbm_model.specs.Calls as model
 use Rattle.dbm_model.specs.Calls.{Fetch, NoRecord, Bytes, Next, End}
@@ -226,6 +227,10 @@ short_put old new key content inserted all short_key short_content =
 
 abbrev pub keys_of : List Pair → List Key
 keys_of pairs = map (λ (x : Pair). x.0) pairs
+
+pub many_bytes : (pairs : List Owned) → length (keys_of (bytes_of pairs)) ≡ length pairs
+many_bytes pairs = length-map (bytes_of pairs) (λ (x : Pair). x.0)
+    ∙ length-map pairs (λ (x : Owned). (x.0.items, x.1.items))
 
 -- a pass over a database of the map, as far as it has come, and the content of each key that it gave
 -- before the last one

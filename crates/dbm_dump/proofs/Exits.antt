@@ -56,7 +56,7 @@ write_among (Err f) is = inr (inl is)
 -- the lines of these pairs, and of these keys
 pub writes_pairs : {E : Type 0} (line_of : Pair → List ℕ) (wrote : Result Unit E)
     (pairs : BTreeMap (Vec ℕ) (Vec ℕ)) (most : ℕ) (before after : Option (List ℕ))
-    → length pairs.entries ≤ most
+    → length pairs.entries ≡ most
     → OnOk wrote (Appends before after (flat_map line_of (bytes_of_pairs pairs)))
     → OnOk wrote (WritesPairs line_of most before after)
 writes_pairs line_of (Ok x) pairs most before after bound written = (
@@ -71,7 +71,7 @@ writes_pairs line_of (Ok x) pairs most before after bound written = (
 writes_pairs line_of (Err e) pairs most before after bound written = tt
 
 pub writes_keys : {E : Type 0} (wrote : Result Unit E) (keys : BTreeSet (Vec ℕ)) (most : ℕ)
-    (before after : Option (List ℕ)) → length keys.keys ≤ most
+    (before after : Option (List ℕ)) → length keys.keys ≡ most
     → OnOk wrote (Appends before after (key_lines (bytes_of_keys keys)))
     → OnOk wrote (WritesKeys most before after)
 writes_keys (Ok x) keys most before after bound written = (
@@ -87,6 +87,6 @@ pub no_call_refused : (result : Result Unit EngineFault) (fault : Fault)
 no_call_refused (Ok done) fault write is = cc
 no_call_refused (Err e) fault write is = cc
 
--- no more than are counted
-pub within : (n step most pairs : ℕ) → n ≤ step → step ≤ most → most ≡ pairs → n ≤ pairs
-within n step most pairs one two is = omega (arith, one, two, is)
+-- as many as are counted
+pub as_many : (n step most pairs : ℕ) → n ≤ step → step ≤ most → most ≤ n → most ≡ pairs → n ≡ pairs
+as_many n step most pairs one two three is = omega (arith, one, two, three, is)

@@ -87,12 +87,12 @@ CopiesStep old new start call none result =
 abbrev pub key_lines : List Key → List ℕ
 key_lines keys = flat_map (λ key. with_line_feed (word_of key)) keys
 
--- the lines of some pairs were written, at most as many as the number
+-- the lines of so many pairs were written
 abbrev pub WritesPairs : (Pair → List ℕ) → ℕ → Option (List ℕ) → Option (List ℕ) → Type 0
-WritesPairs line_of most before after =
-    (pairs : List Pair) × (length pairs ≤ most) × Appends before after (flat_map line_of pairs)
+WritesPairs line_of count before after =
+    (pairs : List Pair) × (length pairs ≡ count) × Appends before after (flat_map line_of pairs)
 
 -- the same of keys
 abbrev pub WritesKeys : ℕ → Option (List ℕ) → Option (List ℕ) → Type 0
-WritesKeys most before after =
-    (keys : List Key) × (length keys ≤ most) × Appends before after (key_lines keys)
+WritesKeys count before after =
+    (keys : List Key) × (length keys ≡ count) × Appends before after (key_lines keys)

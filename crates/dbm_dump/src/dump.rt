@@ -22,9 +22,9 @@ use std::io::{self, Write};
 /// Writes each pair as `key content` in a line, in ascending byte order of keys. It reads
 /// everything before it writes, by a pass and a fetch of each key behind the step that gave it, and
 /// keeps the pairs in memory until it ends. `Db(Damaged)` comes where the pass gives more keys than
-/// the file counts pairs, or a key that fetch doesn't find. After `Write` some of the text may be
-/// out. Each pair that was read or written is a step of `progress`, which is cleared before the
-/// first one is written.
+/// the file counts pairs, or fewer, or a key that fetch doesn't find. After `Write` some of the text
+/// may be out. Each pair that was read or written is a step of `progress`, which is cleared before
+/// the first one is written.
 pub fn dump_engine<S: PageStore, W: Write, P: Progress>(
     alloc: Global,
     db: &mut Database<S>,
@@ -87,8 +87,8 @@ pub fn dump_text_engine<S: PageStore, W: Write, P: Progress>(
 
 /// Writes each key in a line, in ascending byte order. It reads all keys before it writes, by a
 /// pass, and keeps them in memory until it ends. `Db(Damaged)` comes where the pass gives more keys
-/// than the file counts pairs. After `Write` some of the text may be out. Each key that was read or
-/// written is a step of `progress`, which is cleared before the first one is written.
+/// than the file counts pairs, or fewer. After `Write` some of the text may be out. Each key that
+/// was read or written is a step of `progress`, which is cleared before the first one is written.
 pub fn list_engine<S: PageStore, W: Write, P: Progress>(
     alloc: Global,
     db: &mut Database<S>,

@@ -1,5 +1,5 @@
 // The keys of a whole database, and copies of what its calls lend.
-ghost use Rattle.std.specs.Prelude.{◌≡◌, ◌≤◌, true, false, IfOk, IfSome, MatchResult, Err, ◌∷◌, []};
+ghost use Rattle.std.specs.Prelude.{◌≡◌, true, false, IfOk, IfSome, MatchResult, Err, ◌∷◌, []};
 ghost use Rattle.dbm_fault.specs.Among.{IsErrAmong};
 ghost use Rattle.std.specs.BTreeSet.{btree_set_len};
 ghost use Rattle.std.specs.FinMap.{keys as map_keys};
@@ -16,7 +16,7 @@ use std::alloc::Global;
 use std::collections::BTreeSet;
 
 /// The keys of the database, by a pass. `Damaged` where the pass gives more keys than the file
-/// counts pairs.
+/// counts pairs, or fewer.
 pub fn gather_keys<S: PageStore, P: Progress>(
     alloc: Global,
     db: &mut Database<S>,
@@ -25,7 +25,7 @@ pub fn gather_keys<S: PageStore, P: Progress>(
     ensures keys { AtEachHandle db.old (λ h.
         h.state.usable ≡ true → MatchResult result
         (λ keys. bytes_of_keys keys ≡ map_keys h.state.map) IsChance) }
-    ensures bound { IfOk result (λ keys. btree_set_len keys ≤ (meta_kept db.old).pairs) }
+    ensures counted { IfOk result (λ keys. btree_set_len keys ≡ (meta_kept db.old).pairs) }
     ensures short { IfOk result (λ keys. All (λ key. IsShort key.items) keys.keys) }
     ensures reads { Reads db.old db.new result }
     ensures broken { (page_state db.old).usable ≡ false
@@ -39,13 +39,13 @@ pub fn gather_keys<S: PageStore, P: Progress>(
     let mut given = copy_first(alloc, db)?;
     for _step in 0..most {
         let Some(key) = given else {
-            return Ok(keys);
+            return Err(EngineFault::Db(Fault::Damaged));
         };
         keys.insert(key).map_err(|_| EngineFault::Memory)?;
         progress.step(Work::KeysRead);
         given = copy_next(alloc, db)?;
     }
-    if given.is_some() {
+    if given.is_some() || keys.len() < most as usize {
         return Err(EngineFault::Db(Fault::Damaged));
     }
     Ok(keys)

@@ -1,5 +1,5 @@
 // The pairs of a whole database.
-ghost use Rattle.std.specs.Prelude.{◌≡◌, ◌≤◌, true, false, IfOk, MatchResult, Err, ◌∷◌, []};
+ghost use Rattle.std.specs.Prelude.{◌≡◌, true, false, IfOk, MatchResult, Err, ◌∷◌, []};
 ghost use Rattle.dbm_fault.specs.Among.{IsErrAmong};
 ghost use Rattle.std.specs.BTreeMap.{btree_map_len};
 ghost use Rattle.std.specs.FinMap.{entries};
@@ -17,7 +17,7 @@ use std::collections::BTreeMap;
 
 /// The pairs of the database, by a pass. Each content is fetched right behind the step that gave its
 /// key, while their page is in memory. `Damaged` where the pass gives more keys than the file counts
-/// pairs, or a key that has no content.
+/// pairs, or fewer, or a key that has no content.
 pub fn gather_pairs<S: PageStore, P: Progress>(
     alloc: Global,
     db: &mut Database<S>,
@@ -26,7 +26,7 @@ pub fn gather_pairs<S: PageStore, P: Progress>(
     ensures pairs { AtEachHandle db.old (λ h.
         h.state.usable ≡ true → MatchResult result
         (λ pairs. bytes_of_pairs pairs ≡ entries h.state.map) IsChance) }
-    ensures bound { IfOk result (λ pairs. btree_map_len pairs ≤ (meta_kept db.old).pairs) }
+    ensures counted { IfOk result (λ pairs. btree_map_len pairs ≡ (meta_kept db.old).pairs) }
     ensures short { IfOk result (λ pairs. All IsShortPair pairs.entries) }
     ensures reads { Reads db.old db.new result }
     ensures broken { (page_state db.old).usable ≡ false
@@ -40,7 +40,7 @@ pub fn gather_pairs<S: PageStore, P: Progress>(
     let mut given = copy_first(alloc, db)?;
     for _step in 0..most {
         let Some(key) = given else {
-            return Ok(pairs);
+            return Err(EngineFault::Db(Fault::Damaged));
         };
         let Some(content) = copy_content(alloc, db, &key)? else {
             return Err(EngineFault::Db(Fault::Damaged));
@@ -49,7 +49,7 @@ pub fn gather_pairs<S: PageStore, P: Progress>(
         progress.step(Work::PairsRead);
         given = copy_next(alloc, db)?;
     }
-    if given.is_some() {
+    if given.is_some() || pairs.len() < most as usize {
         return Err(EngineFault::Db(Fault::Damaged));
     }
     Ok(pairs)

@@ -74,7 +74,7 @@ pub returns-clause-lines : goal.returns-clause-lines
 returns-clause-lines g c =
     wrote_well _ c.write_pairs.result _ c.map_err.ensures.variant
     (writes_pairs (line_in c.args.form) c.write_pairs.result c.in_ok-pairs.pairs _ (g.W.Write.contents c.args.writer.now)
-    (g.W.Write.contents c.write_pairs.new.writer) c.in_ok-pairs.ensures.bound
+    (g.W.Write.contents c.write_pairs.new.writer) c.in_ok-pairs.ensures.counted
     c.write_pairs.ensures)
 
 pub returns-clause-broken : goal.returns-clause-broken

@@ -63,7 +63,7 @@ pub returns-clause-lines : goal.returns-clause-lines
 returns-clause-lines g c =
     wrote_well _ c.write_keys.result _ c.map_err.ensures.variant
     (writes_keys c.write_keys.result c.in_ok-keys.keys _ (g.W.Write.contents c.args.writer.now)
-    (g.W.Write.contents c.write_keys.new.writer) c.in_ok-keys.ensures.bound
+    (g.W.Write.contents c.write_keys.new.writer) c.in_ok-keys.ensures.counted
     c.write_keys.ensures)
 
 pub returns-clause-broken : goal.returns-clause-broken

@@ -5,17 +5,18 @@ use Rattle.std.specs.Global.{Vec}
 use Rattle.std.specs.List.{All}
 use Rattle.std.specs.Cmp.Lexicographic.{slice_cmp}
 use Rattle.std.specs.Ordering.{nat_cmp}
+use Rattle.std.proofs.lemmas.List.{length-map}
 use Rattle.std.proofs.lemmas.Map.Views.{All-insert_key}
 use Rattle.dbm_dump.specs.Dumping.{IsShort}
-use Rattle.dbm_file.specs.declared.calls.Stat.{Stat}
 use Rattle.dbm_fault.specs.declared.fault.Fault.TheVariants.{Broken}
 use Rattle.dbm_fault.specs.declared.engine_fault.EngineFault.TheVariants.{Memory, Db}
 use Rattle.dbm_dump.proofs.Dumping.{reads_on, reads_well, reads_gave, reads_damaged, reads_no_memory, reads_refused, chance_told}
 use Rattle.page_io.proofs.Exits.{exit_is, if_exit, no_err}
-use Rattle.dbm_dump.proofs.Exits.{same_exit, of_beginning, within}
-use Rattle.dbm_dump.proofs.DumpingKeys.{pass_begins, pass_begins_not, pass_ends, pass_too_long, none_left, pass_goes_on, pass_goes_on_not, bytes_put, one_more_at_most}
+use Rattle.dbm_dump.proofs.Exits.{same_exit, of_beginning, as_many}
+use Rattle.dbm_dump.proofs.DumpingKeys.{pass_begins, pass_begins_not, pass_ends, pass_too_short, pass_too_long, none_left, pass_goes_on, pass_goes_on_not, bytes_put, one_more_at_most}
 use Rattle.dbm_dump.proofs.gather.gather_keys.Given.{Over}
 use Rattle.dbm_dump.proofs.gather.gather_keys.Goals as goal
+use Rattle.dbm_dump.proofs.gather.gather_keys.Goals.{then-is_some-via-then-is_some, then-is_some-via-else-is_some+then-len-most}
 
 none_yet : (keys : List (Vec ℕ)) (n : ℕ) → keys ≡ [] → length keys ≤ n
 none_yet keys n none = rw none (omega arith)
@@ -92,8 +93,8 @@ returns-in_err-given-clause-keys g c honest h at usable =
     (pass_begins_not _ _ h c.copy_first.result _ usable (c.copy_first.ensures.step honest h at)
     c.in_err-given.was)
 
-pub returns-in_err-given-clause-bound : goal.returns-in_err-given-clause-bound
-returns-in_err-given-clause-bound g c = IfOk-from_err _ _ c.from_residual.ensures.0
+pub returns-in_err-given-clause-counted : goal.returns-in_err-given-clause-counted
+returns-in_err-given-clause-counted g c = IfOk-from_err _ _ c.from_residual.ensures.0
 
 pub returns-in_err-given-clause-short : goal.returns-in_err-given-clause-short
 returns-in_err-given-clause-short g c = IfOk-from_err _ _ c.from_residual.ensures.0
@@ -113,28 +114,25 @@ returns-in_err-given-clause-only g c =
     if_exit _ _ c.in_err-given.field-0.0 (exit_is _ _ c.from_residual.ensures.1)
     (of_beginning _ c.in_err-given.ensures.only)
 
--- ---- all keys are there
+-- ---- fewer keys than are counted
 
 pub returns-in_default-clause-keys : goal.returns-in_default-clause-keys
 returns-in_default-clause-keys g c honest h at usable =
-    pass_ends _ _ _ c.loop-step.given _ (c.loop-step.invariant.passing honest h at usable)
-    c.in_default.is
-
-pub returns-in_default-clause-bound : goal.returns-in_default-clause-bound
-returns-in_default-clause-bound g c =
-    within _ _ c.stat-most.result.pairs _ c.loop-step.invariant.many c.loop-step.auto._step-end
-    (ap (λ (stat : Stat). stat.pairs) c.stat-most.ensures.shown)
-
-pub returns-in_default-clause-short : goal.returns-in_default-clause-short
-returns-in_default-clause-short g c = c.loop-step.invariant.short
+    let counts = c.stat-most.ensures.counts h at usable in
+    let so_far = c.loop-step.invariant.passing honest h at usable in
+    pass_too_short _ _ _ _ c.loop-step.given c.loop-step._step (length c.loop-step.keys.keys)
+    c.stat-most.result.pairs so_far c.in_default.is
+    (length-map c.loop-step.keys.keys (λ key. key.items)) counts.0
+    (omega (arith, c.loop-step.invariant.many, c.loop-step-test.true))
 
 pub returns-in_default-clause-reads : goal.returns-in_default-clause-reads
-returns-in_default-clause-reads g c =
-    reads_gave g.S.PageStore _ _ c.loop-step.keys c.loop-step.invariant.reads
+returns-in_default-clause-reads g c = reads_damaged g.S.PageStore _ _ c.loop-step.invariant.reads
 
 pub returns-in_default-clause-broken : goal.returns-in_default-clause-broken
 returns-in_default-clause-broken g c broken =
     no_err c.in_ok-given.given (Db Broken) (c.in_ok-given.ensures.broken broken)
+
+-- ---- all keys are there
 
 pub returns-clause-keys : goal.returns-clause-keys
 returns-clause-keys g c honest h at usable =
@@ -143,9 +141,9 @@ returns-clause-keys g c honest h at usable =
 
 -- that the loop ends at the counted number is searched, so that an edit of its end leaves this goal
 -- open
-pub returns-clause-bound : goal.returns-clause-bound
-returns-clause-bound g c = within _ _ _ _ c.loop-step.invariant.many
-    c.loop-step.auto._step-end (search rules)
+pub returns-clause-counted : goal.returns-clause-counted
+returns-clause-counted g c = as_many _ _ _ _ c.loop-step.invariant.many
+    c.loop-step.auto._step-end (omega (arith, c.len.ensures, c.if-len-most.false)) (search rules)
 
 pub returns-clause-short : goal.returns-clause-short
 returns-clause-short g c = c.loop-step.invariant.short
@@ -163,8 +161,8 @@ pub returns-in_err-map_err-clause-keys : goal.returns-in_err-map_err-clause-keys
 returns-in_err-map_err-clause-keys g c honest h at usable =
     chance_told _ Memory _ (no_memory g c) (inl refl)
 
-pub returns-in_err-map_err-clause-bound : goal.returns-in_err-map_err-clause-bound
-returns-in_err-map_err-clause-bound g c = IfOk-from_err _ _ c.from_residual-in_err-map_err.ensures.0
+pub returns-in_err-map_err-clause-counted : goal.returns-in_err-map_err-clause-counted
+returns-in_err-map_err-clause-counted g c = IfOk-from_err _ _ c.from_residual-in_err-map_err.ensures.0
 
 pub returns-in_err-map_err-clause-short : goal.returns-in_err-map_err-clause-short
 returns-in_err-map_err-clause-short g c = IfOk-from_err _ _ c.from_residual-in_err-map_err.ensures.0
@@ -183,8 +181,8 @@ returns-in_err-map_err-clause-only g c = if_exit _ _ Memory (no_memory g c) (inl
 
 -- ---- a later key is not read
 
-pub returns-in_err-given-2-clause-bound : goal.returns-in_err-given-2-clause-bound
-returns-in_err-given-2-clause-bound g c = IfOk-from_err _ _ c.from_residual-in_err-given-2.ensures.0
+pub returns-in_err-given-2-clause-counted : goal.returns-in_err-given-2-clause-counted
+returns-in_err-given-2-clause-counted g c = IfOk-from_err _ _ c.from_residual-in_err-given-2.ensures.0
 
 pub returns-in_err-given-2-clause-short : goal.returns-in_err-given-2-clause-short
 returns-in_err-given-2-clause-short g c = IfOk-from_err _ _ c.from_residual-in_err-given-2.ensures.0
@@ -198,14 +196,23 @@ returns-in_err-given-2-clause-only g c =
     if_exit _ _ c.in_err-given-2.field-0.0 (exit_is _ _ c.from_residual-in_err-given-2.ensures.1)
     c.in_err-given-2.ensures.only
 
--- ---- more keys than are counted
+-- ---- more or fewer keys than are counted
 
 pub returns-then-is_some-clause-keys : goal.returns-then-is_some-clause-keys
 returns-then-is_some-clause-keys g c honest h at usable =
     let counts = c.stat-most.ensures.counts h at usable in
-    pass_too_long _ _ _ _ c.loop-step.given c.loop-step._step c.stat-most.result.pairs
-    (c.loop-step.invariant.passing honest h at usable)
-    (sym c.is_some.ensures ∙ c.if-is_some.true) counts.0 c.loop-step-test.false
+    let so_far = c.loop-step.invariant.passing honest h at usable in
+    elim c.then-is_some.branch [
+      | then-is_some-via-then-is_some w ↦
+          pass_too_long _ _ _ _ c.loop-step.given c.loop-step._step c.stat-most.result.pairs so_far
+          (sym c.is_some.ensures ∙ w.if-is_some.true) counts.0 c.loop-step-test.false
+      | then-is_some-via-else-is_some+then-len-most w ↦
+          pass_too_short _ _ _ _ c.loop-step.given c.loop-step._step (length c.loop-step.keys.keys)
+          c.stat-most.result.pairs so_far
+          (none_left c.loop-step.given (sym c.is_some.ensures ∙ w.if-is_some.false))
+          (length-map c.loop-step.keys.keys (λ key. key.items)) counts.0
+          (omega (arith, w.len.ensures, w.if-len-most.true))
+    ]
 
 pub returns-then-is_some-clause-reads : goal.returns-then-is_some-clause-reads
 returns-then-is_some-clause-reads g c = reads_damaged g.S.PageStore _ _ c.loop-step.invariant.reads
