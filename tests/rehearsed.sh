@@ -62,6 +62,11 @@ is_kept 4 t
 stops_everywhere
 cmp -s t.db cut || wrong "a rehearsal settled the file"
 
+# one that counts a pair more than it has
+cp before t.db && "$program" delete t 61 -x || wrong "no pair was deleted"
+printf '\10' | dd of=t.db bs=1 seek=$((2048 + 27)) conv=notrunc status=none
+"$program" rehearse t < in > out 2> err; [ $? = 2 ] && [ ! -s out ] && [ "$(cat err)" = 'dbmtool: fault 9' ] || wrong "a file that lacks a pair is rehearsed"
+
 # what is no database, or isn't there
 printf hello > text.db
 for row in 'text 10' 'absent 14'; do

@@ -33,7 +33,7 @@ pub fn open_device(
 }
 
 /// The pairs of a database, by a pass and a fetch of each key. `Damaged` where the pass gives a key
-/// twice, one that fetch doesn't find, or more than the file counts.
+/// twice, one that fetch doesn't find, or more keys than the file counts pairs, or fewer.
 pub fn pairs_in<S: PageStore>(alloc: Global, db: &mut Database<S>) -> Result<Pairs, EngineFault>
     ensures { IsErrAmong result database_faults }
 {
@@ -42,6 +42,9 @@ pub fn pairs_in<S: PageStore>(alloc: Global, db: &mut Database<S>) -> Result<Pai
     let mut key = copied(alloc, db.firstkey())?;
     for _ in 0..=most {
         let Some(found) = key else {
+            if pairs.len() < most as usize {
+                return Err(EngineFault::Db(Fault::Damaged));
+            }
             return Ok(pairs);
         };
         let Some(content) = copied(alloc, db.fetch(found.as_slice()))? else {
