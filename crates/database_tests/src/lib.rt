@@ -2,6 +2,8 @@
 #![tactic(auto)]
 
 #[cfg(test)]
+mod address_tests;
+#[cfg(test)]
 mod devices;
 #[cfg(test)]
 mod folder_tests;
