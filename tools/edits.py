@@ -1,7 +1,16 @@
-"""The edits of the crates that the prover has to refuse, and the texts that they make."""
+"""The edits of the crates that the prover has to refuse, and the texts that they make.
+
+An edit is a file FUNCTION-MISTAKE.edit of lines 'file: PATH', 'old: TEXT' and 'new: TEXT', where TEXT stands once in that file of the crate.
+Where more functions than one have the name in the files that are changed, a line 'function: PATH' says which, as a check prints it. A wrapper
+has lines 'file:', 'wrap: FUNCTION' and 'body: TEXT' (see wrappers.py).
+"""
+import dataclasses
 import glob
 import os
 from dataclasses import dataclass
+
+# where a crate's edits are that rounds try; those that rt ci tries are in the folder above
+OF_ROUNDS, OF_GATE = "must-fail/rounds", "must-fail"
 
 
 class Failed(Exception):
@@ -9,57 +18,68 @@ class Failed(Exception):
 
 
 @dataclass(frozen=True)
+class Wrapper:
+    """A wrong body over a function that is left as it is."""
+
+    file: str
+    function: str
+    body: str
+
+
+@dataclass(frozen=True)
 class Edit:
+    # the file's name, and its bytes
+    title: str
+    text: str
     # the function's path below its crate, as a check prints it; none for an edit that is tried alone
     function: str
-    name: str
     # what stands once in a file of the crate, and what takes its place
     pairs: tuple
+    wrapper: Wrapper | None
 
     def __str__(self):
-        return f"{self.function or 'alone'}: {self.name}"
+        return self.title
 
 
-def edits_in(text):
-    """The edits of a file waiting.md: a heading of the function and what is wrong, and lines 'file:', 'old:', 'new:' behind four spaces."""
-    found, file, old = [], None, None
+def edit_in(title, text):
+    """The edit of a file with that name and text."""
+    function, file, old, wrapped, pairs, wrapper = "", None, None, None, [], None
     for line in text.split("\n"):
-        if line.startswith("## "):
-            function, _, name = line[3:].partition(": ")
-            found.append(Edit("" if function == "alone" else function, name, ()))
-        elif line.startswith("    file: "):
-            file = line.removeprefix("    file: ")
-        elif line.startswith("    old: "):
-            old = line.removeprefix("    old: ")
-        elif line.startswith("    new:"):
-            new = line.removeprefix("    new:").removeprefix(" ")
-            last = found.pop()
-            found.append(Edit(last.function, last.name, (*last.pairs, (file, old, new))))
-    return found
+        key, _, value = line.partition(":")
+        value = value.removeprefix(" ")
+        match key:
+            case "file":
+                file = value
+            case "old":
+                old = value
+            case "new":
+                pairs.append((file, old, value))
+            case "function":
+                function = value
+            case "wrap":
+                wrapped = value
+            case "body":
+                wrapper = Wrapper(file, wrapped, value)
+    return Edit(title, text, function, tuple(pairs), wrapper)
 
 
-def waiting(crate, _functions):
-    """The edits of a crate that wait, whose headings name their functions."""
-    file = f"{crate.folder}/must-fail/waiting.md"
-    if not os.path.isfile(file):
-        return []
-    with open(file, encoding="utf-8") as it:
-        return edits_in(it.read())
-
-
-def in_files(crate, functions):
-    """The edits of a crate's files *.edit. A file's name begins with its function's, which is one of these in the module that the edit changes."""
+def edits_of(crate, folder):
+    """The edits of a crate's files in that folder of it, whose functions aren't looked for yet."""
     found = []
-    for file in sorted(glob.glob(f"{crate.folder}/must-fail/*.edit")):
+    for file in sorted(glob.glob(f"{crate.folder}/{folder}/*.edit")):
         with open(file, encoding="utf-8") as it:
-            lines = it.read().split("\n")
-        title = os.path.basename(file).removesuffix(".edit")
-        name, _, wrong = title.partition("-")
-        modules = {it.removeprefix("file: src/").removesuffix(".rt").removesuffix("/mod") for it in lines if it.startswith("file: ")}
-        paths = [it for it in functions if it.split("::")[-1] == name and any(is_within(it, module) for module in modules)]
-        text = "\n".join(f"    {it}" for it in lines)
-        found += edits_in(f"## {paths[0]}: {wrong}\n{text}" if len(paths) == 1 else f"## alone: {title}\n{text}")
+            found.append(edit_in(os.path.basename(file).removesuffix(".edit"), it.read()))
     return found
+
+
+def with_function(edit, functions):
+    """The edit with its function's path, which is one of these, in a module that the edit changes."""
+    if edit.wrapper or edit.function in functions:
+        return edit
+    name = edit.title.partition("-")[0]
+    modules = {file.removeprefix("src/").removesuffix(".rt").removesuffix("/mod") for file, _, _ in edit.pairs}
+    paths = [it for it in functions if it.split("::")[-1] == name and any(is_within(it, module) for module in modules)]
+    return dataclasses.replace(edit, function=paths[0] if len(paths) == 1 and not edit.function else "")
 
 
 def is_within(path, module):
@@ -67,17 +87,25 @@ def is_within(path, module):
     return module == "lib" or path.startswith(f"{module.replace('/', '::')}::")
 
 
-def with_edits(crate, edits):
-    """The texts of the files that these edits change, by their paths in the crate."""
+def with_edits(folder, edits):
+    """The texts of the files that these edits change, by their paths in the crate, whose text stands in that folder."""
     texts = {}
     for edit in edits:
         for file, old, new in edit.pairs:
             if file not in texts:
-                with open(f"{crate.folder}/{file}", encoding="utf-8") as it:
-                    texts[file] = it.read()
+                texts[file] = text_of(folder, file, edit)
             if texts[file].count(old) != 1:
                 raise Failed(f"{edit}: BAD EDIT: its old text is in {file} {texts[file].count(old)} times, and not once")
             texts[file] = texts[file].replace(old, new)
         if not edit.pairs:
             raise Failed(f"{edit}: BAD EDIT: it changes nothing")
     return texts
+
+
+def text_of(folder, file, edit):
+    """The text of a file that an edit changes."""
+    try:
+        with open(f"{folder}/{file}", encoding="utf-8") as it:
+            return it.read()
+    except OSError as error:
+        raise Failed(f"{edit}: BAD EDIT: there is no file {file}") from error

@@ -1,7 +1,7 @@
 """The crates of crates.txt, and how the kit's compiler is called over them."""
 import functools
 import os
-import subprocess
+import shutil
 from dataclasses import dataclass
 
 TOP = os.path.dirname(os.path.dirname(os.path.realpath(__file__)))
@@ -61,9 +61,21 @@ def below(name):
 
 @functools.cache
 def home():
-    """The kit's folder."""
-    page = subprocess.run(["rt", "doc"], stdout=subprocess.PIPE, check=True, text=True).stdout.strip()
-    return os.path.dirname(page)
+    """The kit's folder, or None where rt isn't on PATH."""
+    rt = shutil.which("rt")
+    return os.path.dirname(os.path.dirname(os.path.realpath(rt))) if rt else None
+
+
+@functools.cache
+def version():
+    """The kit's folder and version in one line, or None where rt isn't on PATH."""
+    if not home():
+        return None
+    try:
+        with open(f"{home()}/KIT-ID", encoding="utf-8") as file:
+            return " ".join([home(), *file.read().split()])
+    except FileNotFoundError:
+        return home()
 
 
 def words(verb, name, made):
