@@ -98,11 +98,9 @@ says '^sums: 6 of 6 edits refused, in 5 checks' "the edits were not tried togeth
 try
 ends '6 passed, 0 failed' "what was refused is refused"
 says '^sums: 6 of 6 edits were refused by an earlier run$' "what was refused is tried again"
-try --only twice- --anew
-says '^sums: 1 of 1 edits refused' "those of one name are not tried anew"
 edit twice-once '    2 * n' '    3 * n'
-try
-says '5 of 6 edits were refused by an earlier run; 1 of 1 edits refused' "an edit that changed isn't tried"
+try --only twice-
+says '^sums: 1 of 1 edits refused' "an edit that changed isn't tried, or others are"
 
 # an entry counts while it is whole, and this user's, and of this state
 kept=$(ls cache/kumquatfen/edits/sums-*.json)
@@ -126,32 +124,33 @@ for file in crates/sums/src/lib.rt crates/sums/proofs/with_answers/Answers.antt 
 done
 [ "$(state)" = "$was" ] || wrong "the same texts have another state"
 
-# what shows nothing, or little; of next and behind_next, which calls it, one means the same: it waits, and isn't refused for that
+# What shows nothing, or little. Of next and behind_next, which calls it, one means the same: it waits, and isn't refused for that.
 rm "$rounds"/*
 edit next-one_too_many '    n + 1' '    n + 2'
 edit behind_next-the_same 'next(n) + 1 // of behind_next' 'let m = next(n); m + 1'
 edit with_answers-without_what_its_answer_names 'next(n) // of with_answers' 'n + 1'
 edit halves-not_covered 'let n = s.len() / 2; s.split_at_mut(n)' 's.split_at_mut(s.len() / 2)'
-wrapper next-wrapped_the_same next 'let m = n; next(m)'
-try --anew && wrong "edits that show nothing pass"
-ends '2 passed, 3 failed' "two edits of five are refused"
-says 'behind_next-the_same: NOT REFUSED' "a caller is refused for its callee"
-says 'with_answers-without_what_its_answer_names: refused only because a proof file' "a refusal for a name alone isn't told"
-says 'halves-not_covered: BAD EDIT: the borrow checker' "an edit that isn't covered is no bad one"
-says 'next-wrapped_the_same: NOT REFUSED' "a wrapper that means the same is refused"
-
-rm "$rounds"/*
+edit halves-a_bracket_is_not_closed 'let n = s.len() / 2;' 'let n = (s.len() / 2;'
 edit twice-of_another_type '    2 * n' '    "n"'
+edit twice-of_a_clause_that_names_nothing 'result ≡ 2 * n' 'result ≡ 2 * nothing'
 edit twice-not_there '    3 * n' '    n'
 edit absent-of_no_such_function '    2 * n' '    n + n'
+wrapper next-wrapped_the_same next 'let m = n; next(m)'
 wrapper twice-wrapped_of_another_type twice '"n"'
 wrapper twice-wrapped_beyond_what_is_required twice 'twice(200)'
 wrapper absent-wrapped absent 'n'
-try && wrong "edits that can't be read or applied pass"
-ends '0 passed, 6 failed' "no edit of six is refused"
+try --anew && wrong "edits that show nothing pass"
+ends '2 passed, 11 failed' "two edits of thirteen are refused"
+says '^sums: 2 of 13 edits refused, in' "what an earlier run refused isn't tried anew"
+says 'behind_next-the_same: NOT REFUSED' "a caller is refused for its callee"
+says 'with_answers-without_what_its_answer_names: refused only because a proof file' "a refusal for a name alone isn't told"
+says 'halves-not_covered: BAD EDIT: the borrow checker' "an edit that isn't covered is no bad one"
+says 'halves-a_bracket_is_not_closed: BAD EDIT: the prover cannot read it' "an edit that leaves a bracket open is no bad one"
 says 'twice-of_another_type: BAD EDIT: the prover cannot read it' "an edit that can't be read is no bad one"
+says 'twice-of_a_clause_that_names_nothing: BAD EDIT: the prover cannot read it' "a clause that can't be read is no bad edit"
 says 'twice-not_there: BAD EDIT' "an edit that can't be applied is no bad one"
 says 'absent-of_no_such_function: NOT REFUSED' "an edit of no function is refused"
+says 'next-wrapped_the_same: NOT REFUSED' "a wrapper that means the same is refused"
 says 'twice-wrapped_of_another_type: BAD EDIT: the prover cannot read it' "a wrapper that can't be read is no bad one"
 says 'twice-wrapped_beyond_what_is_required: BAD EDIT: no clause' "a wrapper that breaks no clause is refused"
 says 'absent-wrapped: BAD EDIT' "a wrapper of no function is no bad one"

@@ -115,12 +115,12 @@ class Checks:
 
     def is_of_body(self, edit):
         """Whether the edit changes the body of its function and nothing else."""
+        name = edit.function.split("::")[-1]
         try:
             texts = with_edits(f"{self.room}/text", [edit])
+            return len(texts) == 1 and all(changes_body_alone(self.tokens(file), tokens_of_text(text), name) for file, text in texts.items())
         except Failed:
             return False
-        name = edit.function.split("::")[-1]
-        return len(texts) == 1 and all(changes_body_alone(self.tokens(file), tokens_of_text(text), name) for file, text in texts.items())
 
     def tokens(self, file):
         if file not in self.of_files:

@@ -5,6 +5,7 @@ import tempfile
 from dataclasses import dataclass
 
 import kit
+from edits import Failed
 
 OPENS, CLOSES = "([{", ")]}"
 
@@ -39,14 +40,16 @@ def closing(row, at):
             depth += (row[place].text in OPENS) - (row[place].text in CLOSES)
             if not depth:
                 return place
-    raise ValueError("a bracket is not closed")
+    raise Failed("a bracket is not closed")
 
 
 def opening(row, at):
     """The place of the first brace from here on that isn't inside brackets."""
-    while row[at].text != "{":
-        at = closing(row, at) + 1 if row[at].text in "([" else at + 1
-    return at
+    while at < len(row):
+        if row[at].text == "{":
+            return at
+        at = closing(row, at) + 1 if row[at].text in ("(", "[") else at + 1
+    raise Failed("there is no body")
 
 
 def tokens_of_text(text):

@@ -72,13 +72,15 @@ class Tried:
         """What was said of an edit that was refused, if anything was."""
         return self.refused[word_of(edit)]
 
-    def keep(self, refused):
-        """Keeps what is said of each of these edits, unless a text changed meanwhile."""
+    def keep(self, edits, refused):
+        """Keeps what is said of those of these edits that were refused, unless a text changed meanwhile."""
         with contextlib.suppress(OSError):
             if state_of(self.crate) != self.state:
                 return
             os.makedirs(folder(), 0o700, exist_ok=True)
-            known = {**read(self.file), **{word_of(edit): said for edit, said in refused.items()}}
+            tried = {word_of(edit) for edit in edits}
+            known = {word: said for word, said in read(self.file).items() if word not in tried}
+            known |= {word_of(edit): said for edit, said in refused.items()}
             with tempfile.NamedTemporaryFile("w", dir=folder(), delete=False, encoding="utf-8") as it:
                 json.dump({"state": self.state, "refused": known}, it)
             os.replace(it.name, self.file)
