@@ -6,7 +6,7 @@
 run() {
   local wanted=$1 output=$2 faults=$3 words=${*:4} status=0
   shift 3
-  "$program" "$@" < /dev/null > out 2> err || status=$?
+  "$program" "$@" < "${input:-/dev/null}" > out 2> err || status=$?
   if [ "$status" != "$wanted" ] || [ "$(cat out)" != "$output" ] || [ "$(cat err)" != "$faults" ]; then
     echo "$rule: dbmtool ${words:0:60}: status $status and not $wanted, or another text: $(head -c 200 out) $(head -c 200 err)"
     bad=1
@@ -226,4 +226,19 @@ listed 'a free page less than is counted' 2048+40 00000002
 changed 'as many free pages as the file has' both.db 2048+36 0000000200000005
 are 9 'delete t b' 'verify t'
 run 0 "$long" '' fetch t b
+# ---- scripts and loads answer each line as the command of its call does
+changed 'a head page of another kind' nine.db $((3 * 2048 + 4)) 05
+input=$work/input
+printf 'S 61 02\nI 61 02\nI 6b 02\nF 61\nD 61\nF 62\nS 6b 02\n' > "$input"
+run 0 $'-1 fault 9\n-1 fault 9\n-1 fault 9\n-1 fault 9\n-1 fault 9\n02\n-1 fault 9' '' script t
+stays
+for line in '61 02' '6b 02'; do
+  echo "$line" > "$input"
+  run 2 '' 'dbmtool: fault 9' load t
+  run 2 '' 'dbmtool: fault 9' load t --group 10
+  stays
+done
+printf 'a\t2\n' > "$input"
+run 2 '' 'dbmtool: fault 9' load --text t
+stays
 exit $bad
