@@ -95,8 +95,24 @@ for n in 1 2 3 4 5; do
 done
 cmp -s t.db armed.db || wrong "a dump changes an armed file"
 
-# Of two stores in a row the second one brings the pages of the first to their places before it writes its own redo images, and reads nothing.
-both=$(pages read 2 3; pages write 4 5; printf 'sync\nwrite 0 512\nsync\n'; pages write 1 3; printf 'sync\nwrite 0 512\nsync\n'
-  pages write 4 5; printf 'sync\nwrite 0 512\nsync\n'; pages write 1 3; printf 'sync\nwrite 0 512\nsync')
-traced new $'S 61 01\nS 62 02' "$opening"$'\n'"$both"
+# Of three stores in a row the second one writes its redo images behind those of the first, and with the same sync brings the pages of the first
+# to their places; so does the third, in the place of the first one's images. Each takes two syncs, and reads nothing.
+all=$(pages read 2 3; pages write 4 5; printf 'sync\nwrite 0 512\nsync\n'
+  pages write 6 7 1 3; printf 'sync\nwrite 0 512\nsync\n'; pages write 4 5 1 3; printf 'sync\nwrite 0 512\nsync\n'
+  pages write 1 3; printf 'sync\nwrite 0 512\nsync')
+traced new $'S 61 01\nS 62 02\nS 63 03' "$opening"$'\n'"$all"
+
+# A file that leaves its device room for two pages alone: the second store brings the pages of the first to their places before it writes its own
+# images over those. With room for four it does not. The device has 2,250,498 pages.
+for left in 2 3 4; do
+  end=$((2250498 - left)) next=$((2250498 - left))
+  cp new.db full.db
+  printf '%08x' $end | xxd -r -p | dd of=full.db bs=1 seek=12 conv=notrunc status=none
+  home="$(pages write 1 3)"$'\n'"$(printf 'sync\nwrite 0 512\nsync')" between=$'\n'
+  if [ $left = 4 ]; then next=$((end + 2)) between=; else between="$home"$'\n'; fi
+  armed=$(printf 'sync\nwrite 0 512\nsync')
+  second="$between$(pages write $next $((next + 1)))"$'\n'
+  [ $left != 4 ] || second="$second$(pages write 1 3)"$'\n'
+  traced full $'S 61 01\nS 62 02' "$opening"$'\n'"$(pages read 2 3; pages write $end $((end + 1)))"$'\n'"$armed"$'\n'"$second$armed"$'\n'"$home"
+done
 exit $bad

@@ -38,10 +38,11 @@ are() {
 
 refused() { are "$1" 'verify t' 'fetch t a' 'store t a new' 'dump t'; }
 
-# Nine keys: the odd ones stay in bucket 0, which is page 3, and the others go to bucket 1, which is page 4.
+# Nine keys: the odd ones stay in bucket 0, which is page 3, and the others go to bucket 1, which is page 4. The ninth one's redo images are
+# those of pages 1 to 4, from page 5 on, since no pages wait when it comes.
 "$program" create nine --limit 100 || exit 1
 for digit in 1 2 3 4 5 6 7 8 9; do echo "6$digit 0$digit"; done > nine.text
-"$program" load nine < nine.text || exit 1
+head -n 8 nine.text | "$program" load nine && tail -n 1 nine.text | "$program" load nine || exit 1
 rule='a good file'
 run 0 9 '' verify nine
 

@@ -407,6 +407,9 @@ module _ {S : Type 0} (s : Ghosts S) (old mid new : Database S s) (read : IsRead
           was.end,
           ap model_pass (ended.pass_is ∙ read.pass_is),
         );
+        kept = λ honest usable_now.
+            ended.ends.kept (read.reads.stages_only.honesty.1 honest) usable_now
+            ∙ (read.reads.stages_only.kept honest).committed;
         breaks = ⊎_elim (λ same. inl same)
             (λ broke. inr (ap Err (ap fault_from broke.0), broke.1)) was.breaks;
         broken = (

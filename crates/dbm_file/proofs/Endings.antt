@@ -306,6 +306,7 @@ module _ {S : Type 0} {s : Ghosts S} where
           no_error = k.no_error;
           error = k.error;
           refused = k.refused;
+          kept = λ honest usable. k.kept honest usable;
           breaks = k.breaks;
           broken = k.broken;
         }
@@ -367,6 +368,7 @@ module _ {S : Type 0} {s : Ghosts S} where
     no_error = ap (λ (o : Option Fault). option_map fault_of o) (done.error_is ∙ read.error_is);
     error = tt;
     refused = tt;
+    kept = λ honest. tt;
     breaks = inl (ap (λ (st : StoreState). st.usable) done.ends.ok ∙ still_usable s old mid read);
     broken = neither (λ is. absurd (let x = is in cc))
         (λ broken. absurd (let x = sym usable ∙ broken in cc));

@@ -89,6 +89,7 @@ module _ {S : Type 0} (s : Ghosts S) (db : Database S s) (call : model.Call) (no
           no_error = f.keeps.no_error;
           error = f.keeps.error;
           refused = f.keeps.refused;
+          kept = λ honest usable. f.keeps.kept honest usable;
           breaks = f.keeps.breaks;
           broken = f.keeps.broken;
         };

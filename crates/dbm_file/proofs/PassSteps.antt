@@ -209,6 +209,7 @@ keeps_as value other k = record {
   no_error = k.no_error;
   error = tt;
   refused = tt;
+  kept = λ honest. tt;
   breaks = ⊎_elim (λ same. inl same)
       (λ broke. let e = broke.0 in absurd (let x = e in cc)) k.breaks;
   broken = (
@@ -226,6 +227,7 @@ keeps_err fault k = record {
   no_error = tt;
   error = k.error;
   refused = k.refused;
+  kept = k.kept;
   breaks = ⊎_elim (λ same. inl same)
       (λ broke. inr (let e = broke.0 in ap Err (let f : fault ≡ Device = cc in f), broke.1))
       k.breaks;
@@ -254,6 +256,7 @@ keeps_passed old new value k = record {
   no_error = k.no_error;
   error = tt;
   refused = tt;
+  kept = λ honest. tt;
   breaks = k.breaks;
   broken = k.broken;
 }

@@ -386,6 +386,7 @@ module _ {S : Type 0} (s : Ghosts S) (old new : Database S s) (read : IsRead old
     no_error = ap (λ (e : Option Fault). option_map fault_of e) read.error_is;
     error = tt;
     refused = tt;
+    kept = λ honest. tt;
     breaks = inl (still_usable s old new read);
     broken = (λ is. absurd (let e = is in cc), λ broken. absurd (let e = broken in cc));
   }
@@ -413,6 +414,7 @@ module _ {S : Type 0} (s : Ghosts S) (old new : Database S s) (read : IsRead old
       ap (λ (st : store.StoreState). st.end) read.reads.same,
       ap model_pass read.pass_is,
     );
+    kept = λ honest usable_now. (read.reads.stages_only.kept honest).committed;
     breaks = inl (still_usable s old new read);
     broken = (λ is. absurd (sound (let e = is in cc)), λ broken. absurd (let e = broken in cc));
   }
@@ -433,6 +435,7 @@ broken_keeps T s old broken = record {
   no_error = tt;
   error = kept_first old.error Broken;
   refused = (refl, refl, refl);
+  kept = λ honest usable. refl;
   breaks = inl refl;
   broken = (λ is. broken, λ is. refl);
 }

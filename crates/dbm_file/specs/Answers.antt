@@ -67,6 +67,10 @@ pub record IsCallEnded {S T : Type 0} {s : Ghosts S} (old new : Database S s)
   -- a refusal changes nothing, but that a fault of the device may break the database
   pub refused : OnErr result ((meta_kept new ≡ meta_kept old)
       × ((page_state new).end ≡ (page_state old).end) × (pass_of new ≡ pass_of old))
+  -- and commits nothing
+  pub kept : s.honest (store_of old)
+      → OnErr result ((page_state new).usable ≡ true
+      → s.committed (store_of new) ≡ s.committed (store_of old))
   pub breaks : ((page_state new).usable ≡ (page_state old).usable)
       ⊎ (IsErrOf result Device × ((page_state new).usable ≡ false))
   pub broken : IsErrOf result Broken ↔ ((page_state old).usable ≡ false)

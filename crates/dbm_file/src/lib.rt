@@ -17,6 +17,6 @@ pub use chain_walks::Pair;
 pub use database::{Database, Db};
 pub use file_check::{Unwatched, Watch};
 pub use file_opening::{Access, Fault, OpenHow, needed_sectors};
-pub use named::{Refusal, dbm_open, open_named};
+pub use named::{FILE_SECTORS, Refusal, dbm_open, open_named};
 pub use octets::Octets;
 pub use running::run;

@@ -17,7 +17,7 @@ use thiserror::Error;
 
 /// How many sectors a file has room for: what a database of 1,000,000 pairs needs, 4.6 GB. A file
 /// grows as it is written.
-const FILE_SECTORS: u32 = 9_001_992;
+pub const FILE_SECTORS: u32 = 9_001_992;
 
 /// Why the database of a name was not opened.
 #[derive(Clone, Copy, Debug, Error)]

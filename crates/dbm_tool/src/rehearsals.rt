@@ -6,7 +6,7 @@ ghost use Rattle.dbm_tool.specs.Plans.{Loses, Rehearses};
 use crate::commands::unwritten;
 use crate::host::Host;
 use dbm_commands::{Failure, Outcome};
-use dbm_file::{Fault, needed_sectors};
+use dbm_file::{FILE_SECTORS, Fault, needed_sectors};
 use dbm_plan::{Plan, Source};
 use dbm_progress::Progress;
 use dbm_rehearse::{Rehearsed, device_with, rehearse_script};
@@ -15,9 +15,6 @@ use std::alloc::Global;
 use std::fs::File;
 use std::io::{self, BufRead, ErrorKind, Read, Write};
 use std::rt::Files;
-
-/// As many sectors as a file has room for.
-const FILE_SECTORS: u32 = 9_001_992;
 
 /// Rehearses the script on a copy in memory of a database's file, which is locked (flock) while it
 /// is read, and shared with others that read it.

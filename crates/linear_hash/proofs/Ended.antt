@@ -1,5 +1,5 @@
 -- A change that was made with a copy of what is kept of the meta page.
-use Rattle.std.proofs.Common.{◌≡◌, ◌↔◌, ℕ, Result, Err, refl, sym, subst}
+use Rattle.std.proofs.Common.{◌≡◌, ◌↔◌, ℕ, true, Result, Err, refl, sym, subst}
 use Rattle.dbm_model.specs.Pairs.{Contents}
 use Rattle.page_model.specs.Pages.{Meta}
 use Rattle.page_model.specs.Valid.{IsMeta}
@@ -24,14 +24,16 @@ module _ {S : Type 0} (s : Ghosts S) (old new : S) (before : Meta) where
   -- where it was refused, nothing of the copy is kept
   module _ (result : Result Unit PageFault) (e : PageFault) (exit : result ≡ Err e) where
     pub refused_ends : IsMeta before → IsForgotten (s.state old) (s.state new) e
+        → (s.honest old → (s.state new).usable ≡ true → s.committed new ≡ s.committed old)
         → HasDeviceCause {T = Unit} (s.faults old) (s.faults new) (Err e)
         → (s.honest new ↔ s.honest old)
         → IsChangeAnswer {T = Unit} (s.state old) (Err e) → IsEnded s old new before before result
-    refused_ends valid forgotten cause honesty answer =
+    refused_ends valid forgotten kept cause honesty answer =
         subst (IsEnded s old new before before) (sym exit)
         (record {
           ok = tt;
           err = (forgotten, refl);
+          kept = kept;
           valid = valid;
           limit = refl;
           cause = cause;

@@ -25,6 +25,9 @@ pub record IsEnded {S : Type 0} (s : Ghosts S) (old new : S) (before after : Met
     (result : Result Unit PageFault) : Type 0 where
   pub ok : OnOk result (s.state new ≡ record (s.state old) { end = (s.state new).end })
   pub err : IfErr result (λ e. IsForgotten (s.state old) (s.state new) e × (after ≡ before))
+  -- on any bytes a refusal commits nothing
+  pub kept : s.honest old
+      → OnErr result ((s.state new).usable ≡ true → s.committed new ≡ s.committed old)
   pub valid : IsMeta after
   pub limit : after.limit ≡ before.limit
   pub cause : HasDeviceCause (s.faults old) (s.faults new) result

@@ -1,6 +1,6 @@
 //! Changes of the file, each in one commit.
 
-ghost use Rattle.std.specs.Prelude.{◌≡◌, ◌↔◌, ◌+◌, ◌<◌, [], true, false, is_some, IfErr, OnOk, IsErrOf, if◌then◌else◌};
+ghost use Rattle.std.specs.Prelude.{◌≡◌, ◌↔◌, ◌+◌, ◌<◌, [], true, false, is_some, IfErr, OnOk, OnErr, IsErrOf, if◌then◌else◌};
 ghost use Rattle.std.specs.FinMap.{get, insert, remove};
 ghost use Rattle.dbm_model.specs.Pairs.{Contents, IsAllowed};
 ghost use Rattle.page_model.specs.Valid.{IsMeta};
@@ -38,6 +38,9 @@ fn commit_store<S: PageStore>(
     ensures ok { OnOk result (S.state store.new
         ≡ record (S.state store.old) { end = (S.state store.new).end }) }
     ensures err { IfErr result (IsForgotten (S.state store.old) (S.state store.new)) }
+    ensures kept { S.honest store.old
+        → OnErr result ((S.state store.new).usable ≡ true
+        → S.committed store.new ≡ S.committed store.old) }
     ensures valid { OnOk result (IsMeta (model_meta meta.new)) }
     ensures limit { OnOk result (meta.new.limit ≡ meta.old.limit) }
     ensures pairs { OnOk result (meta.new.pairs
@@ -116,6 +119,9 @@ fn commit_delete<S: PageStore>(store: &mut S, meta: &mut Meta, key: &[u8]) -> Re
     ensures ok { OnOk result (S.state store.new
         ≡ record (S.state store.old) { end = (S.state store.new).end }) }
     ensures err { IfErr result (IsForgotten (S.state store.old) (S.state store.new)) }
+    ensures kept { S.honest store.old
+        → OnErr result ((S.state store.new).usable ≡ true
+        → S.committed store.new ≡ S.committed store.old) }
     ensures valid { OnOk result (IsMeta (model_meta meta.new)) }
     ensures limit { OnOk result (meta.new.limit ≡ meta.old.limit) }
     ensures pairs { OnOk result (meta.new.pairs + 1 ≡ meta.old.pairs) }

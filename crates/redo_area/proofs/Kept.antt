@@ -1,7 +1,7 @@
 -- Pages that wait over the device's, and what calls leave of both.
 use Rattle.std.proofs.Common.{◌≡◌, inl, inr, ⊎_elim, ℕ, ◌<◌, ◌≤◌, ◌/◌, Bool, List, true, false, refl, sym, ◌∙◌, ap, subst}
 use Rattle.sect_dev.specs.Device.{Image, IsImageOf, LeavesOnly}
-use Rattle.sect_dev.specs.Moments.{IsOutcome, weaker, followed_by, lifted}
+use Rattle.sect_dev.specs.Moments.{IsOutcome, weaker, lifted}
 use Rattle.sect_dev.specs.declared.device.SectorDev.{Ghosts}
 use Rattle.page_io.specs.Kept.{KeepsPages}
 use Rattle.page_io.specs.Page.{page_at}
@@ -114,49 +114,28 @@ module _ {D : Type 0} (dev : Ghosts D) (old new : Pager D dev)
       (λ image is.
       record { image = dev.seen old.dev; is_image = may_stay; reads = settles ∙ sym is }))
 
-  -- at the beginning of a commit
-  pub commit_begins : (after : Pages)
-      → LeavesOnly (λ (p : Pager D dev). dev.moment p.dev)
-      (λ (p : Pager D dev). IsOutcome dev.left_since (settled (dev.sectors p.dev / 4)) p.dev) old
-      new (IsEither (pages_of dev old) after)
-  commit_begins after =
-      let P = IsEither (pages_of dev old) after in
-      as_read dev old new P size
-      (weaker dev.moment dev.left_since old.dev new.dev
-      (λ image. P (settled (dev.sectors old.dev / 4) image)) _ run (λ image is. inl is))
-
--- what a stop leaves in a commit, whose device had all pages at home in between
-pub commit_leaves : {D : Type 0} (dev : Ghosts D) (old new : Pager D dev) (mid : D) (new_end : ℕ)
-    (waiting pages : List Page) → dev.sectors mid ≡ dev.sectors old.dev
-    → dev.sectors new.dev ≡ dev.sectors mid → waiting ≡ old.waiting.items
-    → pages ≡ old.staged.items
-    → ((n : ℕ) → old.end ≤ n → n < new_end → has_page (bytes_of old.staged.items) n ≡ true)
-    → LeavesOnly dev.moment dev.left_since old.dev mid
-    (λ image. settled (dev.sectors old.dev / 4) image
-    ≡ file_of (file_pages (overlaid (bytes_of waiting) (page_at (dev.seen old.dev))) old.end))
-    → file_pages (page_at (dev.seen mid)) old.end ≡ pages_of dev old
-    → LeavesOnly dev.moment dev.left_since mid new.dev
-    (λ image. IsEither (file_pages (page_at (dev.seen mid)) old.end)
-    (file_pages (overlaid (bytes_of pages) (page_at (dev.seen mid))) new_end)
-    (settled (dev.sectors mid / 4) image))
+-- what a stop leaves in a commit, whose device was given what the pager has
+pub commit_leaves : {D : Type 0} (dev : Ghosts D) (old new : Pager D dev) (new_end : ℕ)
+    (waiting pages : List Page) → dev.sectors new.dev ≡ dev.sectors old.dev
+    → waiting ≡ old.waiting.items → pages ≡ old.staged.items
+    → LeavesOnly dev.moment dev.left_since old.dev new.dev
+    (λ image. IsEither
+    (file_pages (overlaid (bytes_of waiting) (page_at (dev.seen old.dev))) old.end)
+    (committed_with
+    (file_pages (overlaid (bytes_of waiting) (page_at (dev.seen old.dev))) old.end)
+    (bytes_of pages) new_end) (settled (dev.sectors old.dev / 4) image))
     → LeavesOnly (λ (p : Pager D dev). dev.moment p.dev)
     (λ (p : Pager D dev). IsOutcome dev.left_since (settled (dev.sectors p.dev / 4)) p.dev) old
     new
     (IsEither (pages_of dev old)
     (committed_with (pages_of dev old) (bytes_of old.staged.items) new_end))
-commit_leaves dev old new mid new_end waiting pages first_size size kept same grown settled_run
-    at_home run =
-    let cap : ℕ = dev.sectors old.dev / 4 in
-    let before = pages_of dev old in
-    let P = IsEither before (committed_with before (bytes_of old.staged.items) new_end) in
-    let were : file_pages (overlaid (bytes_of waiting) (page_at (dev.seen old.dev))) old.end ≡ before =
-    ap (λ (ps : List Page). file_pages (overlaid (bytes_of ps) (page_at (dev.seen old.dev)))
-    old.end) kept in
-    as_read dev old new P (size ∙ first_size)
-    (followed_by dev.moment dev.left_since old.dev mid new.dev (λ image. P (settled cap image)) _
-    (weaker dev.moment dev.left_since old.dev mid (λ image. P (settled cap image)) _ settled_run
-    (λ image is. inl (is ∙ ap file_of were))) run
-    (λ image is. subst (λ (s : ℕ). P (settled (s / 4) image)) first_size
-    (either before (page_at (dev.seen mid)) old.end at_home new_end (bytes_of pages)
-    (bytes_of old.staged.items) (settled (dev.sectors mid / 4) image) (ap bytes_of same) grown
-    is)))
+commit_leaves dev old new new_end waiting pages size kept same run =
+    let before = λ (ps : List Page). file_pages
+    (overlaid (bytes_of ps) (page_at (dev.seen old.dev))) old.end in
+    let Leaves = λ (ws ps : List Page). LeavesOnly dev.moment dev.left_since old.dev new.dev
+    (λ image. IsEither (before ws) (committed_with (before ws) (bytes_of ps) new_end)
+    (settled (dev.sectors old.dev / 4) image)) in
+    as_read dev old new
+    (IsEither (pages_of dev old)
+    (committed_with (pages_of dev old) (bytes_of old.staged.items) new_end)) size
+    (subst (λ ws. Leaves ws old.staged.items) kept (subst (Leaves waiting) same run))

@@ -1,3 +1,4 @@
+mod Armings
 mod Kept
 mod Openings
 mod Orders

@@ -1,3 +1,4 @@
+pub mod Arming
 pub mod Opening
 pub mod Pagers
 pub mod Reading

@@ -1,6 +1,7 @@
 //! A store of pages over a device, whose commits are whole or absent.
 #![tactic(auto)]
 
+mod arming;
 mod open_fault;
 mod pager;
 mod reading;

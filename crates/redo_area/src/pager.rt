@@ -8,12 +8,12 @@ ghost use Rattle.redo_area.specs.Settling.{SettlesIfUsable, SettlesTo};
 
 mod opening;
 
+use crate::arming::arm_over;
 use crate::settling::bring_home;
 use page_io::{
     Page, PageFault, PageStore, StagedPages, find_staged, hand_over, is_among, put_staged,
     read_page,
 };
-use redo_commit::arm;
 use sect_dev::SectorDev;
 
 /// A store of pages over a device. A commit that a stop cuts short is whole or absent when the
@@ -175,7 +175,7 @@ impl<D: SectorDev> PageStore for Pager<D> {
     }
 
     /// As the trait says, and a refusal makes no device call. Pages of the last commit that still
-    /// wait are brought home first.
+    /// wait are brought home on the way.
     fn commit(&mut self, new_end: u32) -> Result<(), PageFault>
         requires some { 0 < length (⟦<Pager<D> as PageStore>⟧.state self.old).staged }
         requires least { 4 ≤ new_end }
@@ -229,17 +229,14 @@ impl<D: SectorDev> PageStore for Pager<D> {
         if self.staged.len() > room as usize {
             return Err(PageFault::NoRoom);
         }
-        let old_end = self.end;
         self.usable = false;
-        if bring_home(&mut self.dev, self.start, old_end, self.waiting.as_slice()).is_err() {
-            return Err(PageFault::Device);
-        }
-        self.waiting.clear();
-        let start = old_end.max(new_end);
+        let waiting = self.waiting.as_slice();
         let pages = self.staged.as_slice();
-        if arm(&mut self.dev, start, old_end, new_end, pages).is_err() {
+        let armed = arm_over(&mut self.dev, self.start, self.end, waiting, new_end, pages);
+        let Ok(start) = armed else {
             return Err(PageFault::Device);
-        }
+        };
+        self.waiting.clear();
         hand_over(&mut self.staged, &mut self.waiting);
         self.start = start;
         self.end = new_end;

@@ -1,8 +1,8 @@
 -- What the images of each step of a commit settle to.
-use Rattle.std.proofs.Common.{◌≡◌, inl, inr, ℕ, zero, suc, ◌+◌, ◌*◌, ◌<◌, ◌≤◌, List, [], ◌∷◌, length, get_or, Bool, true, false, cond, ◌&&◌, leb, ltb, refl, sym, ◌∙◌, ap, arith}
+use Rattle.std.proofs.Common.{◌≡◌, ◌⊎◌, inl, inr, ℕ, zero, suc, ◌+◌, ◌*◌, ◌<◌, ◌≤◌, List, [], ◌∷◌, length, get_or, Bool, true, false, cond, ◌&&◌, leb, ltb, refl, sym, ◌∙◌, ap, arith}
 use Rattle.std.proofs.lemmas.Bool.{cases_lt, and_parts, leb-true, ltb-true}
 use Rattle.sect_dev.specs.Device.{Image, Candidates, IsStable, with_sector}
-use Rattle.page_io.specs.Page.{page_at, own_number, IsOutsidePage}
+use Rattle.page_io.specs.Page.{page_at, own_number, IsOutside, IsOutsidePage}
 use Rattle.page_io.proofs.PageLaws.{same_page, at_same, at_other}
 use Rattle.page_io.specs.Store.{Pages, blank, file_of, nothing, pages_from, file_pages, overlaid, are_in_order}
 use Rattle.page_io.proofs.Overlays.{same_pages, same_file, IsApart, overlaid-over}
@@ -80,6 +80,33 @@ same_new first mid redo end start le same =
     (λ n ge lt. overlaid-over redo (page_at first) (page_at mid) n
     (λ apart. same_page mid first n
     (λ m ge4 lt4. same m (omega (arith, ge, ge4)) (omega (arith, lt, le, lt4)))))
+
+-- a sector of redo images is none of those that are written beside them
+beside : (start long from count n m : ℕ) → (from + count ≤ start) ⊎ (start + long ≤ from)
+    → start ≤ n → n < start + long → 4 * n ≤ m → m < 4 * n + 4
+    → IsOutside (4 * from) (4 * (from + count)) m
+beside start long from count n m (inl below) ge lt ge4 lt4 = inr (omega (arith, below, ge, ge4))
+beside start long from count n m (inr above) ge lt ge4 lt4 = inl (omega (arith, above, lt, lt4))
+
+-- pages came to their own numbers, and what else was written stands behind
+pub now_home : (first written mid : Image) (from : ℕ) (redo : Pages)
+    → ((n : ℕ) → page_at mid n ≡ overlaid redo (page_at written) n)
+    → ((m : ℕ) → m < 4 * from → written m ≡ first m)
+    → (n : ℕ) → n < from → page_at mid n ≡ overlaid redo (page_at first) n
+now_home first written mid from redo home same n lt =
+    home n ∙ overlaid-over redo (page_at first) (page_at written) n
+    (λ apart. same_page written first n (λ m ge4 lt4. same m (omega (arith, lt, lt4))))
+
+-- images stay behind pages that come to their own numbers
+pub images_stay : (written mid : Image) (end start count : ℕ) (redo pages : Pages)
+    → are_in_order 1 end redo ≡ true → end ≤ start
+    → ((m : ℕ) → IsOutsideAll redo m → mid m ≡ written m)
+    → pages_from (page_at written) start count ≡ pages
+    → pages_from (page_at mid) start count ≡ pages
+images_stay written mid end start count redo pages order le others is =
+    same_pages (page_at mid) (page_at written) start count
+    (λ n ge lt. same_page mid written n
+    (λ m ge4 lt4. others m (outside-above 1 end redo m order (omega (arith, ge, ge4, le))))) ∙ is
 
 module _ (capacity : ℕ) where
   pub settled-clear : (image : Image) (end : ℕ) → header_of capacity (image 0) ≡ Clear end
@@ -163,6 +190,29 @@ module _ (capacity : ℕ) where
       (λ n ge lt. overlaid-over redo (page_at seen) (page_at image) n
       (λ apart. same_page image seen n
       (λ m ge4 lt4. same m (outside-apart redo n m apart ge4 lt4)))))
+
+  -- steps 3 and 1: home pages are written under the images, and further images beside these
+  pub going_on : (candidate : Candidates) (seen image : Image) (end start from count : ℕ)
+      (redo : Pages) → IsArmed capacity end start redo candidate seen → end ≤ start → end ≤ from
+      → 1 ≤ from → (from + count ≤ start) ⊎ (start + length redo ≤ from)
+      → ((m : ℕ) → IsOutsideAll redo m → IsOutside (4 * from) (4 * (from + count)) m
+      → image m ≡ seen m)
+      → settled capacity image ≡ file_of (file_pages (overlaid redo (page_at seen)) end)
+  going_on candidate seen image end start from count redo is le low some far same =
+      settled-armed image end start redo
+      (ap (header_of capacity) (same 0 (outside-below 1 end redo 0 is.in_order (omega arith))
+      (inl (omega (arith, some)))) ∙ is.header)
+      (same_pages (page_at image) (page_at seen) start (length redo)
+      (λ n ge lt. same_page image seen n
+      (λ m ge4 lt4. same m (outside-above 1 end redo m is.in_order
+      (omega (arith, ge, le, ge4)))
+      (beside start (length redo) from count n m far ge lt ge4 lt4))) ∙ is.images)
+      is.in_order
+      ∙ ap file_of (same_file (overlaid redo (page_at image)) (overlaid redo (page_at seen)) end
+      (λ n ge lt. overlaid-over redo (page_at seen) (page_at image) n
+      (λ apart. same_page image seen n
+      (λ m ge4 lt4. same m (outside-apart redo n m apart ge4 lt4)
+      (inl (omega (arith, lt, low, lt4)))))))
 
   -- after step 2
   pub now_armed : (mid : Image) (content : List ℕ) (end start count : ℕ) (redo : Pages)

@@ -1,7 +1,7 @@
 // The steps of a commit.
-ghost use Rattle.std.specs.Prelude.{◌≡◌, ◌≤◌, ◌<◌, ◌+◌, ◌*◌, ◌/◌, ◌↔◌, ℕ, List, length, true, OnOk, slice_index_or, []};
+ghost use Rattle.std.specs.Prelude.{◌≡◌, ◌⊎◌, ◌≤◌, ◌<◌, ◌+◌, ◌*◌, ◌/◌, ◌↔◌, ℕ, List, length, true, OnOk, slice_index_or, []};
 ghost use Rattle.sect_dev.specs.Device.{IsImageOf, IsStable, with_sector, with_candidate, HasCause, LeavesOnly};
-ghost use Rattle.page_io.specs.Page.{page_at, own_number, KeepsWhere};
+ghost use Rattle.page_io.specs.Page.{page_at, own_number, IsOutside, KeepsWhere};
 ghost use Rattle.page_io.specs.Store.{file_of, pages_from, file_pages, overlaid, are_in_order, bytes_of, IsEither};
 ghost use Rattle.redo_commit.specs.File.{settled, IsOutsideAll, IsAtRest, IsArmed};
 
@@ -14,11 +14,14 @@ fn write_images<D: SectorDev>(dev: &mut D, start: u32, pages: &[Page]) -> Result
     requires { 4 * (start + length pages.now) ≤ D.sectors dev.old }
     ensures any_moment { D.honest dev.old
         → LeavesOnly D.moment D.left_since dev.old dev.new
-        (KeepsWhere (D.candidate dev.old) (λ m. m < 4 * start)) }
-    ensures candidates { D.honest dev.old → (m : ℕ) (c : List ℕ) → m < 4 * start
+        (KeepsWhere (D.candidate dev.old)
+        (IsOutside (4 * start) (4 * (start + length pages.now)))) }
+    ensures candidates { D.honest dev.old → (m : ℕ) (c : List ℕ)
+        → IsOutside (4 * start) (4 * (start + length pages.now)) m
         → D.candidate dev.new m c → D.candidate dev.old m c }
     ensures others { D.honest dev.old
-        → OnOk result ((m : ℕ) → m < 4 * start → D.seen dev.new m ≡ D.seen dev.old m) }
+        → OnOk result ((m : ℕ) → IsOutside (4 * start) (4 * (start + length pages.now)) m
+        → D.seen dev.new m ≡ D.seen dev.old m) }
     ensures written { D.honest dev.old
         → OnOk result (pages_from (page_at (D.seen dev.new)) start (length pages.now)
         ≡ bytes_of pages.now) }
@@ -190,5 +193,56 @@ pub fn finish<D: SectorDev>(
 {
     put_homes(dev, pages)?;
     put_header(dev, &clear_sector(end))?;
+    Ok(())
+}
+
+/// Steps 3 and 1 with one sync, then step 2: the pages that wait since the last commit are on the
+/// disk at their own numbers, those of the next one as redo images beside theirs, and the commit
+/// sector is armed over the new images.
+pub fn arm_next<D: SectorDev>(
+    dev: &mut D,
+    start: u32,
+    old_end: u32,
+    waiting: &[Page],
+    place: u32,
+    new_end: u32,
+    pages: &[Page],
+) -> Result<(), DevFault>
+    requires armed { D.honest dev.old
+        → IsArmed (D.sectors dev.old / 4) old_end start (bytes_of waiting.now)
+        (D.candidate dev.old) (D.seen dev.old) }
+    requires rising { are_in_order 1 old_end (bytes_of waiting.now) ≡ true }
+    requires behind { old_end ≤ start }
+    requires apart { (place + length pages.now ≤ start)
+        ⊎ (start + length waiting.now ≤ place) }
+    requires some { 0 < length pages.now }
+    requires old { old_end ≤ place }
+    requires new { new_end ≤ place }
+    requires least { 4 ≤ new_end }
+    requires room { place + length pages.now ≤ D.sectors dev.old / 4 }
+    requires in_order { are_in_order 1 new_end (bytes_of pages.now) ≡ true }
+
+    // Every image of every moment since the start settles to the old pages, those that waited among
+    // them, or to the new.
+    ensures any_moment { D.honest dev.old → LeavesOnly D.moment D.left_since dev.old dev.new
+        (λ image. IsEither
+        (file_pages (overlaid (bytes_of waiting.now) (page_at (D.seen dev.old))) old_end)
+        (file_pages (overlaid (bytes_of pages.now)
+        (overlaid (bytes_of waiting.now) (page_at (D.seen dev.old)))) new_end)
+        (settled (D.sectors dev.old / 4) image)) }
+    ensures armed { D.honest dev.old
+        → OnOk result (IsArmed (D.sectors dev.old / 4) new_end place (bytes_of pages.now)
+        (D.candidate dev.new) (D.seen dev.new)) }
+    ensures pages { D.honest dev.old
+        → OnOk result ((n : ℕ) → 0 < n → n < place → page_at (D.seen dev.new) n
+        ≡ overlaid (bytes_of waiting.now) (page_at (D.seen dev.old)) n) }
+    ensures honesty { D.honest dev.new ↔ D.honest dev.old }
+    ensures cause { HasCause (D.faults dev.old) (D.faults dev.new) result }
+    ensures size { D.sectors dev.new ≡ D.sectors dev.old }
+{
+    let count = pages.len() as u32;
+    write_images(dev, place, pages)?;
+    put_homes(dev, waiting)?;
+    put_header(dev, &armed_sector(new_end, place, count))?;
     Ok(())
 }

@@ -79,6 +79,14 @@ module _ (g : Over) (c : After-finish g) (map : Contents)
       (ap (λ (st : StoreState). st.usable) staged.stages.state ∙ usable)
       (ap (λ (st : StoreState). st.writable) staged.stages.state ∙ c.requires.writable))
 
+-- a refusal commits nothing
+pub returns-clause-kept : goal.returns-clause-kept
+returns-clause-kept g c honest =
+    let stages = c.stage_store-staged.ensures.stages in
+    on_err_weaker c.finish.result
+    (λ same usable_now. same usable_now ∙ (stages.kept honest).committed)
+    (c.finish.ensures.kept (stages.honesty.1 honest))
+
 pub returns-clause-answer : goal.returns-clause-answer
 returns-clause-answer g c =
     change_answer g.S.PageStore _ _ c.finish.new.store c.stage_store-staged.result c.finish.result
@@ -111,9 +119,7 @@ returns-clause-turns g c honest usable map holds was =
           (c.finish.ensures.committed (staged.stages.honesty.1 honest))
           (λ end body_at committed. commit_holds g.S.PageStore c.stage_store-staged.new.store _
           end q good body_at c.finish.new.store committed));
-      kept = on_err_weaker c.finish.result
-          (λ same usable_now. same usable_now ∙ (staged.stages.kept honest).committed)
-          (c.finish.ensures.kept (staged.stages.honesty.1 honest));
+      kept = returns-clause-kept g c honest;
       any_moment = moments g c map holds was honest usable;
       unchanged =
           on_err_weaker c.finish.result

@@ -22,8 +22,8 @@ returns-in_err-commit_store g c =
     let exit = exit_is result.result c.in_err-commit_store.field-0.0 result.ensures.1 in
     let before = model_meta c.args.meta.now in
     record {
-      ends = refused_ends g.S.PageStore _ _ before _ _ exit c.requires.valid told.err told.cause
-          told.honesty told.answer;
+      ends = refused_ends g.S.PageStore _ _ before _ _ exit c.requires.valid told.err told.kept
+          told.cause told.honesty told.answer;
       pairs = IfOk-from_err _ _ result.ensures.0;
       memory = λ is. subst (λ (m : Meta). WouldSplit m c.args.was_there) c.copied-changed.ensures
           (told.memory (came _ _ exit Memory is));
@@ -46,6 +46,7 @@ returns g c =
       ends = record {
         ok = told.ok;
         err = tt;
+        kept = λ honest. tt;
         valid = told.valid;
         limit = told.limit ∙ ap (λ (m : Meta). m.limit) same;
         cause = told.cause;

@@ -1,5 +1,5 @@
-use Rattle.std.proofs.Common.{◌≡◌, ◌<◌, ◌+◌, ◌*◌, ℕ, List, [], ◌∷◌, ◌++◌, take, inl, refl, ◌∙◌, sym, ap, arith}
-use Rattle.page_io.specs.Page.{page_at, IsOutsidePage}
+use Rattle.std.proofs.Common.{◌≡◌, ◌<◌, ◌+◌, ◌*◌, ℕ, List, [], ◌∷◌, ◌++◌, take, length, inl, inr, refl, ◌∙◌, sym, ap, arith}
+use Rattle.page_io.specs.Page.{page_at, IsOutside, IsOutsidePage}
 use Rattle.page_io.proofs.PageLaws.{same_page}
 use Rattle.page_io.specs.Store.{Pages, bytes_of}
 use Rattle.page_io.proofs.Overlays.{same_pages, pages_more}
@@ -7,13 +7,19 @@ use Rattle.page_io.proofs.PageLists.{bytes_more}
 use Rattle.redo_commit.proofs.WriteRuns.{none_written, keeps_on}
 use Rattle.redo_commit.proofs.steps.write_images.Goals as goal
 
+-- a sector of none of the pages in a row is none of the page at an index
+behind : (n start idx count m : ℕ) → n ≡ start + idx → idx < count
+    → IsOutside (4 * start) (4 * (start + count)) m → IsOutsidePage n m
+behind n start idx count m place lt (inl low) = inl (omega (arith, place, low))
+behind n start idx count m place lt (inr high) = inr (omega (arith, place, lt, high))
+
 pub loop-page-init : goal.loop-page-init
 loop-page-init g c =
     let first = c.args.dev.now in
     record {
       place = omega arith;
       keeps =
-          none_written g.D.SectorDev (λ m. m < 4 * c.args.start) first
+          none_written g.D.SectorDev (IsOutside (4 * c.args.start) (4 * (c.args.start + length c.args.pages.now))) first
           (g.met.D.SectorDev.only_now first);
       written = λ h. refl;
     }
@@ -21,7 +27,7 @@ loop-page-init g c =
 pub returns-in_err-write_page-clause-any_moment : goal.returns-in_err-write_page-clause-any_moment
 returns-in_err-write_page-clause-any_moment g c =
     let w = c.write_page.ensures in
-    (keeps_on g.D.SectorDev (λ m. m < 4 * c.args.start) (IsOutsidePage c.loop-page.n) c.args.dev.now
+    (keeps_on g.D.SectorDev (IsOutside (4 * c.args.start) (4 * (c.args.start + length c.args.pages.now))) (IsOutsidePage c.loop-page.n) c.args.dev.now
     c.loop-page.dev c.write_page.new.dev c.loop-page.invariant.keeps
     (record {
       size = w.size;
@@ -31,12 +37,13 @@ returns-in_err-write_page-clause-any_moment g c =
       candidates = w.candidates;
       others = w.others;
     })
-    (λ h m lt. inl (omega (arith, lt, c.loop-page.invariant.place)))).any_moment
+    (λ h m out. behind c.loop-page.n c.args.start c.loop-page.page-index (length c.args.pages.now) m
+    c.loop-page.invariant.place c.loop-page-test.true out)).any_moment
 
 pub returns-in_err-write_page-clause-candidates : goal.returns-in_err-write_page-clause-candidates
 returns-in_err-write_page-clause-candidates g c =
     let w = c.write_page.ensures in
-    (keeps_on g.D.SectorDev (λ m. m < 4 * c.args.start) (IsOutsidePage c.loop-page.n) c.args.dev.now
+    (keeps_on g.D.SectorDev (IsOutside (4 * c.args.start) (4 * (c.args.start + length c.args.pages.now))) (IsOutsidePage c.loop-page.n) c.args.dev.now
     c.loop-page.dev c.write_page.new.dev c.loop-page.invariant.keeps
     (record {
       size = w.size;
@@ -46,7 +53,8 @@ returns-in_err-write_page-clause-candidates g c =
       candidates = w.candidates;
       others = w.others;
     })
-    (λ h m lt. inl (omega (arith, lt, c.loop-page.invariant.place)))).candidates
+    (λ h m out. behind c.loop-page.n c.args.start c.loop-page.page-index (length c.args.pages.now) m
+    c.loop-page.invariant.place c.loop-page-test.true out)).candidates
 
 pub loop-page-preserved : goal.loop-page-preserved
 loop-page-preserved g c =
@@ -59,7 +67,7 @@ loop-page-preserved g c =
     let w = c.write_page.ensures in
     record {
       place = omega arith;
-      keeps = keeps_on g.D.SectorDev (λ m. m < 4 * c.args.start) (IsOutsidePage c.loop-page.n)
+      keeps = keeps_on g.D.SectorDev (IsOutside (4 * c.args.start) (4 * (c.args.start + length c.args.pages.now))) (IsOutsidePage c.loop-page.n)
           c.args.dev.now c.loop-page.dev c.write_page.new.dev c.loop-page.invariant.keeps
           (record {
             size = w.size;
@@ -70,7 +78,8 @@ loop-page-preserved g c =
             candidates = w.candidates;
             others = w.others;
           })
-          (λ h m lt. inl (omega (arith, lt, c.loop-page.invariant.place)));
+          (λ h m out. behind c.loop-page.n c.args.start c.loop-page.page-index (length c.args.pages.now) m
+          c.loop-page.invariant.place c.loop-page-test.true out);
       written = λ h.
           let now = page_at after in
           let h1 = inv.keeps.honesty.1 h in

@@ -1,5 +1,5 @@
-use Rattle.std.proofs.Common.{◌≡◌, ◌<◌, ◌+◌, ◌*◌, take}
-use Rattle.page_io.specs.Page.{page_at}
+use Rattle.std.proofs.Common.{◌≡◌, ◌+◌, ◌*◌, length, take}
+use Rattle.page_io.specs.Page.{page_at, IsOutside}
 use Rattle.page_io.specs.Store.{pages_from, bytes_of}
 use Rattle.redo_commit.proofs.WriteRuns.{Keeps}
 use Rattle.redo_commit.proofs.steps.write_images.Given as goal
@@ -10,7 +10,7 @@ invariant-loop-page g l =
     let first = l.fn.dev in
     record {
       place : l.n ≡ l.start + l.page-index;
-      keeps : Keeps dev (λ m. m < 4 * l.start) first l.dev;
+      keeps : Keeps dev (IsOutside (4 * l.start) (4 * (l.start + length l.pages))) first l.dev;
       written : dev.honest first → pages_from (page_at (dev.seen l.dev)) l.start l.page-index
           ≡ bytes_of (take l.page-index l.pages);
     }

@@ -1,4 +1,4 @@
-use Rattle.std.proofs.Common.{◌∙◌, ℕ, List, [], Option, Some, IfSome, refl, sym, ap, subst, rules}
+use Rattle.std.proofs.Common.{◌∙◌, ℕ, List, [], Option, IfSome, refl, sym, ap, subst, rules}
 use Rattle.std.specs.Borrow.{Bor}
 use Rattle.std.specs.Option.{option_map}
 use Rattle.dbm_model.specs.Pairs.{Pair}

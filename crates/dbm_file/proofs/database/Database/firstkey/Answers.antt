@@ -1,4 +1,4 @@
-use Rattle.std.proofs.Common.{◌∙◌, ℕ, true, false, Option, Some, None, IfSome, Ok, Err, refl, inl, inr, subst, ap, rules}
+use Rattle.std.proofs.Common.{◌∙◌, ℕ, true, Option, Some, None, IfSome, Ok, Err, refl, inl, inr, subst, ap, rules}
 use Rattle.dbm_model.specs.Calls.{First, End}
 use Rattle.chain_walks.specs.Leasts.{IsAheadAt}
 use Rattle.dbm_file.specs.Passing.{pass_from}

@@ -1,4 +1,4 @@
-use Rattle.std.proofs.Common.{◌∙◌, ℕ, true, false, Option, Some, None, IfSome, Ok, Err, refl, inl, inr, subst, ap}
+use Rattle.std.proofs.Common.{◌∙◌, ℕ, false, Option, Some, None, IfSome, Ok, Err, refl, inl, inr, subst, ap}
 use Rattle.dbm_model.specs.Calls.{Next, End}
 use Rattle.chain_walks.specs.Leasts.{IsAheadAt}
 use Rattle.dbm_file.specs.Passing.{pass_of, pass_from}

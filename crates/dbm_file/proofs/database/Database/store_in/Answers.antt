@@ -1,7 +1,7 @@
-use Rattle.std.proofs.Common.{◌≡◌, ◌∙◌, Bool, true, false, Option, Some, None, subst, sym, arith}
+use Rattle.std.proofs.Common.{◌∙◌, subst, arith}
 use Rattle.chain_walks.specs.Pairs.{pair_of}
 use Rattle.dbm_file.specs.Database.{store_of}
-use Rattle.dbm_file.specs.Grouping.{StoresOne, StoresTried}
+use Rattle.dbm_file.specs.Grouping.{StoresTried}
 use Rattle.page_io.proofs.Exits.{exit_is, cause_then, cause_ok}
 use Rattle.dbm_file.proofs.GroupSteps.{read_on, same_group, same_twice, after_same, group_honest, group_capacity}
 use Rattle.dbm_file.proofs.ReadSteps.{no_read, still_usable}

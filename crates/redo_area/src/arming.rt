@@ -1,0 +1,96 @@
+// The first half of a commit, where pages of the last one may still wait.
+ghost use Rattle.std.specs.Prelude.{◌≡◌, ◌≤◌, ◌<◌, ◌+◌, ◌/◌, ◌↔◌, ℕ, true, length, max, OnOk, IfOk, IfSome, IfNone};
+ghost use Rattle.sect_dev.specs.Device.{HasCause, LeavesOnly};
+ghost use Rattle.page_io.specs.Page.{page_at};
+ghost use Rattle.page_io.specs.Store.{bytes_of, file_pages, overlaid, are_in_order, has_page, committed_with, IsEither};
+ghost use Rattle.redo_commit.specs.File.{settled, IsArmed};
+ghost use Rattle.redo_area.specs.Arming.{IsBeside};
+ghost use Rattle.redo_area.specs.Settling.{MayWait};
+
+use crate::settling::bring_home;
+use page_io::Page;
+use redo_commit::{arm, arm_next};
+use sect_dev::{DevFault, SectorDev};
+
+/// The first page from `least` on where `count` redo images fit beside those of pages that wait,
+/// which are `waiting` from page `start` on. There is none where no page waits.
+fn place_beside(least: u32, count: usize, start: u32, waiting: usize, capacity: u32) -> Option<u32>
+    requires some { 0 < count }
+    requires within { start ≤ capacity }
+    ensures some { IfSome result (λ place. IsBeside least count start waiting capacity place) }
+    ensures first { IfSome result (λ place. (other : ℕ)
+        → IsBeside least count start waiting capacity other → place ≤ other) }
+    ensures none { IfNone result ((other : ℕ)
+        → IsBeside least count start waiting capacity other → ⊥) }
+{
+    if waiting == 0 {
+        return None;
+    }
+    if count <= start.saturating_sub(least) as usize {
+        return Some(least);
+    }
+    if waiting > (capacity - start) as usize {
+        return None;
+    }
+    let place = least.max(start + waiting as u32);
+    if count > capacity.saturating_sub(place) as usize {
+        return None;
+    }
+    Some(place)
+}
+
+/// Arms the commit sector over redo images of these pages, and answers where the first one stands.
+/// Pages of the last commit that still wait are brought home: while the images are written, where
+/// there is room for them beside those of the last commit; else before.
+pub fn arm_over<D: SectorDev>(
+    dev: &mut D,
+    start: u32,
+    old_end: u32,
+    waiting: &[Page],
+    new_end: u32,
+    pages: &[Page],
+) -> Result<u32, DevFault>
+    requires waits { D.honest dev.old
+        → MayWait (D.sectors dev.old / 4) old_end start (bytes_of waiting.now)
+        (D.candidate dev.old) (D.seen dev.old) }
+    requires old_least { 4 ≤ old_end }
+    requires behind { old_end ≤ start }
+    requires within { start ≤ D.sectors dev.old / 4 }
+    requires rising { are_in_order 1 old_end (bytes_of waiting.now) ≡ true }
+    requires some { 0 < length pages.now }
+    requires least { 4 ≤ new_end }
+    requires room { max old_end new_end + length pages.now ≤ D.sectors dev.old / 4 }
+    requires in_order { are_in_order 1 new_end (bytes_of pages.now) ≡ true }
+    requires grown { (n : ℕ) → old_end ≤ n → n < new_end → has_page (bytes_of pages.now) n ≡ true }
+
+    // Every image of every moment since the start settles to the old pages, those that waited among
+    // them, or to the new.
+    ensures any_moment { D.honest dev.old
+        → let before = file_pages (overlaid (bytes_of waiting.now) (page_at (D.seen dev.old)))
+        old_end in
+        LeavesOnly D.moment D.left_since dev.old dev.new
+        (λ image. IsEither before (committed_with before (bytes_of pages.now) new_end)
+        (settled (D.sectors dev.old / 4) image)) }
+    ensures armed { D.honest dev.old → IfOk result (λ place.
+        IsArmed (D.sectors dev.old / 4) new_end place (bytes_of pages.now)
+        (D.candidate dev.new) (D.seen dev.new)) }
+    ensures pages { D.honest dev.old
+        → OnOk result (file_pages (overlaid (bytes_of pages.now) (page_at (D.seen dev.new))) new_end
+        ≡ committed_with
+        (file_pages (overlaid (bytes_of waiting.now) (page_at (D.seen dev.old))) old_end)
+        (bytes_of pages.now) new_end) }
+    ensures place { IfOk result (λ place. (new_end ≤ place) × (place ≤ D.sectors dev.old / 4)) }
+    ensures honesty { D.honest dev.new ↔ D.honest dev.old }
+    ensures cause { HasCause (D.faults dev.old) (D.faults dev.new) result }
+    ensures size { D.sectors dev.new ≡ D.sectors dev.old }
+{
+    let least = old_end.max(new_end);
+    let capacity = dev.capacity() / 4;
+    if let Some(place) = place_beside(least, pages.len(), start, waiting.len(), capacity) {
+        arm_next(dev, start, old_end, waiting, place, new_end, pages)?;
+        return Ok(place);
+    }
+    bring_home(dev, start, old_end, waiting)?;
+    arm(dev, least, old_end, new_end, pages)?;
+    Ok(least)
+}
