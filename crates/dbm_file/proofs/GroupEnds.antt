@@ -255,6 +255,11 @@ module _ {S G : Type 0} (s : Ghosts S) (g : Ghosts G) (old mid new : Database S 
     capacity = ap (λ (x : Handle). x.capacity) at.shows ∙ sym capacity;
   }
 
+  stored_so : Run (record h { faults = rises }) (map replacing pairs) (map (λ _. model.Stored) pairs)
+      (handle_in h rises last grouped)
+  stored_so = subst (λ (x : Handle). Run x (map replacing pairs) (map (λ _. model.Stored) pairs)
+      (handle_in h rises last grouped)) begins_so (stored.run h rises alike)
+
   -- all of them are committed
   module _ (state : page_state new ≡ record (page_state old) { end = (page_state last).end })
       (meta_is : meta_kept new ≡ meta_kept last)
@@ -293,10 +298,8 @@ module _ {S G : Type 0} (s : Ghosts S) (g : Ghosts G) (old mid new : Database S 
     all_grouped all count is = subst (λ (ps : List Pair). IsGroup old new h ps) is record {
       after = handle_of new grouped;
       counts = faults_so;
-      run = subst (λ (x : Handle). Run x (map replacing pairs) (map (λ _. model.Stored) pairs)
-          (handle_of new grouped)) begins_so
-          (subst (λ (x : Handle). Run (handle_in h rises first before) (map replacing pairs)
-          (map (λ _. model.Stored) pairs) x) ends_so (stored.run h rises alike));
+      run = subst (λ (x : Handle). Run (record h { faults = rises }) (map replacing pairs)
+          (map (λ _. model.Stored) pairs) x) ends_so stored_so;
       is_at = at_own new grouped (λ u. holds_so)
           (λ u x left. subst (λ (y : Settled). ImageStandsFor y grouped (meta_kept new).limit)
           (sym (only x left)) holds_so.stands);
@@ -328,14 +331,21 @@ module _ {S G : Type 0} (s : Ghosts S) (g : Ghosts G) (old mid new : Database S 
           after = handle_of told before;
           count = count;
           counts = faults_so;
-          ends = inr (
-            refl,
-            subst (λ (n : ℕ). MoreFaults n (s.faults (store_of new)))
-                (ap (λ (x : Handle). x.faults) (sym at.shows)) more,
-            before,
-            inl refl,
-            state_so,
-          );
+          ends = inr record {
+            breaks = (
+              refl,
+              subst (λ (n : ℕ). MoreFaults n (s.faults (store_of new)))
+                  (ap (λ (x : Handle). x.faults) (sym at.shows)) more,
+              before,
+              inl refl,
+              state_so,
+            );
+            stored = handle_in h rises last grouped;
+            run = subst (λ (ps : List Pair). Run (record h { faults = rises })
+                (map replacing ps) (map (λ _. model.Stored) ps)
+                (handle_in h rises last grouped)) is stored_so;
+            counts = omega arith;
+          };
           is_at = at_own told before (λ u. absurd (let e = sym broken ∙ u in cc))
               (λ u. absurd (let e = sym broken ∙ u in cc));
           survives = λ u. survives_so (λ left. (left ≡ before)

@@ -25,7 +25,6 @@ use Rattle.dbm_file.specs.declared.calls.StoreReply.{StoreReply}
 use Rattle.dbm_file.specs.declared.calls.StoreReply.TheVariants.{Kept}
 use Rattle.dbm_file.specs.declared.calls.StoreReply.TheVariants as done
 use Rattle.dbm_file.specs.declared.database.Database.{Database}
-use Rattle.dbm_fault.specs.declared.fault.Fault.{Fault}
 use Rattle.dbm_file.proofs.Cases.{by_length}
 use Rattle.dbm_file.proofs.ReadSteps.{at_own, still_capacity, still_limit}
 

@@ -1,5 +1,5 @@
 -- A database whose pages were read, and nothing else.
-use Rattle.std.proofs.Common.{◌≡◌, ◌∙◌, Option, true, refl, sym, ap, subst}
+use Rattle.std.proofs.Common.{◌≡◌, ◌∙◌, true, refl, sym, ap, subst}
 use Rattle.dbm_model.specs.Pairs.{Contents}
 use Rattle.dbm_model.specs.States.{Handle}
 use Rattle.page_io.specs.declared.store.PageStore.{Ghosts}

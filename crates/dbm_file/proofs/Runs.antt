@@ -19,7 +19,7 @@ use Rattle.page_io.proofs.Exits.{both_ways}
 use Rattle.dbm_file.specs.Calls.{bits_of}
 use Rattle.dbm_file.specs.Database.{store_of, meta_kept, page_state, IsAt}
 use Rattle.dbm_file.specs.Answers.{MayBeLeft, StandsForSome, Survives, IsStep, IsSameDatabase}
-use Rattle.dbm_file.specs.Runs.{MayBeLeftWithin, IsBreak, IsRun}
+use Rattle.dbm_file.specs.Runs.{MayBeLeftWithin, IsBreak, IsRun, AreSteps, IsMadeInSteps}
 use Rattle.dbm_file.specs.declared.database.Database.{Database}
 use Rattle.dbm_file.proofs.Breaks.{CountsNow, breaks_now, breaks_before}
 
@@ -86,6 +86,21 @@ module _ (call : Call) (reply : Reply) where
   left_within before mid after (c ∷ calls) [] map run step left = absurd run
   left_within before mid after (c ∷ calls) (r ∷ replies) map (next, first, run) step left =
       (next, first, inr (left_within next mid after calls replies map run step left))
+
+-- steps behind steps
+pub steps_append : {S : Type 0} {s : Ghosts S} (old mid new : Database S s)
+    (before then after : Handle) (calls later : List Call) (replies told : List Reply)
+    → AreSteps old mid before calls replies then → AreSteps mid new then later told after
+    → AreSteps old new before (calls ++ later) (replies ++ told) after
+steps_append old mid new before then after [] later [] told first more =
+    subst (λ d. AreSteps d new before later told after) first.0
+    (subst (λ (h : Handle). AreSteps mid new h later told after) first.1 more)
+steps_append old mid new before then after [] later (reply ∷ replies) told first more =
+    absurd first
+steps_append old mid new before then after (call ∷ calls) later [] told first more = absurd first
+steps_append old mid new before then after (call ∷ calls) later (reply ∷ replies) told
+    (next, step, rest) more =
+    (next, step, steps_append next mid new step.after then after calls later replies told rest more)
 
 -- no call made
 pub no_run : {S : Type 0} (s : Ghosts S) (db : Database S s) (h : Handle) → IsAt db h
@@ -173,6 +188,21 @@ module _ {S : Type 0} (s : Ghosts S) (old mid new : Database S s) (h : Handle) (
   goes_on_with calls' replies' c r =
       subst (λ (cs : List Call). IsRun old new h cs replies') (sym c)
       (subst (λ (rs : List Reply). IsRun old new h (calls ++ call ∷ []) rs) (sym r) one_more)
+
+-- one step more
+pub step_more : {S : Type 0} (s : Ghosts S) (old mid new : Database S s) (h : Handle)
+    (calls calls' : List Call) (replies replies' : List Reply) (call : Call) (reply : Reply)
+    (made : IsMadeInSteps old mid h calls replies) → IsStep mid new made.after call reply
+    → calls' ≡ calls ++ call ∷ [] → replies' ≡ replies ++ reply ∷ []
+    → IsMadeInSteps old new h calls' replies'
+step_more s old mid new h calls calls' replies replies' call reply made step c r = record {
+  after = step.after;
+  is_at = step.is_at;
+  steps = subst (λ (cs : List Call). AreSteps old new h cs replies' step.after) (sym c)
+      (subst (λ (rs : List Reply). AreSteps old new h (calls ++ call ∷ []) rs step.after) (sym r)
+      (steps_append old mid new h made.after step.after calls (call ∷ []) replies (reply ∷ [])
+      made.steps (new, step, (refl, refl))));
+}
 
 -- the first elements with the next one
 pub taken_next : {X : Type 0} (xs : List X) (i : ℕ) (x : X) → i < length xs

@@ -24,6 +24,15 @@ pub record IsGroup {S : Type 0} {s : Ghosts S} (old new : Database S s) (before 
   pub survives : (page_state old).usable ≡ true
       → Survives old new (λ left. (left ≡ before.state.map) ⊎ (left ≡ after.state.map))
 
+-- The device broke the database in the commit of these pairs, which would have been stored as by
+-- calls one after another.
+pub record IsCommitBroken (before after : Handle) (pairs : List Pair) (fault : Fault) : Type 0 where
+  pub breaks : Breaks before (with_pairs before.state.map pairs) (Refused (fault_of fault)) after
+  pub stored : Handle
+  pub run : Run (record before { faults = stored.faults }) (map replacing pairs)
+      (map (λ _. Stored) pairs) stored
+  pub counts : stored.faults ≤ after.faults
+
 -- They were refused: nothing has changed, but that a fault of the device in the commit of the first
 -- `count` of them breaks the database, and each image then has none of them or those.
 pub record IsGroupRefused {S : Type 0} {s : Ghosts S} (old new : Database S s) (before : Handle)
@@ -32,8 +41,7 @@ pub record IsGroupRefused {S : Type 0} {s : Ghosts S} (old new : Database S s) (
   pub count : ℕ
   pub counts : before.faults ≤ after.faults
   pub ends : (after.state ≡ flagged (fault_of fault) before.state)
-      ⊎ Breaks before (with_pairs before.state.map (take count pairs)) (Refused (fault_of fault))
-      after
+      ⊎ IsCommitBroken before after (take count pairs) fault
   pub is_at : IsAt new after
   pub survives : (page_state old).usable ≡ true
       → Survives old new (λ left. (left ≡ before.state.map)

@@ -1,5 +1,5 @@
 -- Where the pass of a database stands.
-use Rattle.std.specs.Prelude.{◌≡◌, ℕ, Bool, if◌then◌else◌, List, [], Option, Some, None, slice_index_or}
+use Rattle.std.specs.Prelude.{ℕ, Bool, if◌then◌else◌, List, [], Option, Some, None, slice_index_or}
 use Rattle.std.specs.Borrow.{Bor}
 use Rattle.dbm_model.specs.Calls.{Call, First, Next}
 use Rattle.dbm_model.specs.States as model

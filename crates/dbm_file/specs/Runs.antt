@@ -7,7 +7,7 @@ use Rattle.dbm_model.specs.States.{Handle}
 use Rattle.dbm_model.specs.Steps.{Step, Run}
 use Rattle.page_io.specs.Store.{Settled}
 use Rattle.page_io.specs.declared.store.PageStore.{Ghosts}
-use Rattle.dbm_file.specs.Answers.{MayBeLeft, StandsForSome, Survives}
+use Rattle.dbm_file.specs.Answers.{MayBeLeft, StandsForSome, Survives, IsStep}
 use Rattle.dbm_file.specs.Database.{store_of, meta_kept, page_state, IsAt}
 use Rattle.dbm_file.specs.declared.database.Database.{Database}
 
@@ -60,3 +60,22 @@ pub record IsRun {S : Type 0} {s : Ghosts S} (old new : Database S s) (before : 
       → Survives old new (MayBeLeftWithin before calls replies after)
   pub breaks : (page_state old).usable ≡ true → (page_state new).usable ≡ false
       → IsBreak new before calls replies after
+
+-- The databases between the calls: each call is a step on the one that the call before it left, so
+-- from the moment on at which it began, and until it has answered, a stop leaves what one within it
+-- may.
+abbrev pub AreSteps : {S : Type 0} {s : Ghosts S} → Database S s → Database S s → Handle → List Call
+    → List Reply → Handle → Type 0
+AreSteps old new before [] [] after = (new ≡ old) × (after ≡ before)
+AreSteps {S} {s} old new before (call ∷ calls) (reply ∷ replies) after =
+    (mid : Database S s) × (step : IsStep old mid before call reply)
+    × AreSteps mid new step.after calls replies after
+AreSteps old new before [] (reply ∷ replies) after = ⊥
+AreSteps old new before (call ∷ calls) [] after = ⊥
+
+-- A list of calls made one after another, each in a commit of its own.
+pub record IsMadeInSteps {S : Type 0} {s : Ghosts S} (old new : Database S s) (before : Handle)
+    (calls : List Call) (replies : List Reply) : Type 0 where
+  pub after : Handle
+  pub is_at : IsAt new after
+  pub steps : AreSteps old new before calls replies after

@@ -5,7 +5,7 @@ ghost use Rattle.dbm_file.specs.Database.{AtEachHandle};
 ghost use Rattle.dbm_file.specs.Answers.{IsStep, IsSameDatabase};
 ghost use Rattle.dbm_file.specs.Replies.{IsAnswered, AreAnswered, told_of_store, told_of_delete, told_of_bytes};
 ghost use Rattle.dbm_file.specs.Rooms.{IsRoom, AreRooms, rooms_in, gives_bytes as call_gives_bytes};
-ghost use Rattle.dbm_file.specs.Runs.{IsRun};
+ghost use Rattle.dbm_file.specs.Runs.{IsRun, IsMadeInSteps};
 
 use crate::{Call, Database, DeleteReply, Fault, Octets, Reply, StoreReply};
 use page_io::PageStore;
@@ -24,6 +24,12 @@ pub fn run<S: PageStore>(
 ) -> Result<Vec<Reply>, Fault>
     ensures run { AtEachHandle db.old (λ h.
         IfOk result (λ replies. IsRun db.old db.new h (map call_of calls.now)
+        (map reply_of replies.items))) }
+
+    // A stop from the moment on at which a call began, and until it answered, leaves what one within
+    // that call may.
+    ensures steps { AtEachHandle db.old (λ h.
+        IfOk result (λ replies. IsMadeInSteps db.old db.new h (map call_of calls.now)
         (map reply_of replies.items))) }
 
     // On any device each reply is one to its own call, and each call leaves what it leaves alone.

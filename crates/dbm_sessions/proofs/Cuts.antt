@@ -143,10 +143,10 @@ rested_changes first last (one ∷ made) (reply ∷ replies) later run =
     ap (λ (changes : List Marked). of_answer one reply ++ changes)
     (rested_changes run.0 last made replies later run.2)
 
-pub goes_left : (first : Handle) (calls : List Call) (replies : List Reply)
-    (goes : Goes first calls replies)
+pub goes_left : (most : ℕ) (first : Handle) (calls : List Call) (replies : List Reply)
+    (goes : Goes most first calls replies)
     → LeftBy (of_calls calls replies) (held first.state) (held goes.last.state)
-goes_left first calls replies goes =
+goes_left most first calls replies goes =
     let changes = ap (λ (cs : List Call). of_calls cs replies) goes.calls_are
     ∙ rested_changes first goes.last goes.made replies goes.later goes.run in
     subst (λ (xs : List Marked). LeftBy xs (held first.state) (held goes.last.state)) (sym changes)

@@ -1,5 +1,5 @@
 -- Sessions with a group that are worked out by hand.
-use Rattle.std.proofs.Common.{◌≡◌, inl, inr, ⊎_elim, ℕ, ◌+◌, Bool, true, false, cond, List, [], ◌∷◌, ◌++◌, Option, Some, None, take, map, refl, sym, ◌∙◌, ap, Contains}
+use Rattle.std.proofs.Common.{◌≡◌, inl, inr, ⊎_elim, ℕ, ◌+◌, Bool, true, false, cond, List, [], ◌∷◌, ◌++◌, Option, Some, None, take, map, refl, sym, ◌∙◌, ap, arith, Contains}
 use Rattle.std.specs.FinMap.{empty, get, insert, len, get-empty, get-insert, len-insert, same_map, nat_cmp-IsAntisymmetric, slice_cmp-IsAntisymmetric}
 use Rattle.std.specs.Ordering.{eq_by_cmp}
 use Rattle.std.specs.Prelude.{is_some, nat_le}
@@ -11,10 +11,10 @@ use Rattle.dbm_model.specs.States.{NotBegun, Handle, fresh}
 use Rattle.dbm_model.specs.Steps.{Changes, Step, Run, buckets_opened}
 use Rattle.dbm_model.proofs.RunLemmas.{order, adds, by_old, is_only, one_more}
 use Rattle.dbm_sessions.specs.Members.{Member, Holding, Members}
-use Rattle.dbm_sessions.specs.Sessions.{NotOpened, StoppedOpening, Grouped, StoppedGroup, Goes, SessionStep}
+use Rattle.dbm_sessions.specs.Sessions.{NotOpened, StoppedOpening, Grouped, StoppedGroup, BrokeGroup, Goes, SessionStep}
 use Rattle.dbm_sessions.specs.Examples.{groups, reopens, store, nothing, pair, both, twice, pairs, later, GroupAcknowledged, GroupInDoubt, GroupOfOneKey, WrongGroups}
 use Rattle.dbm_sessions.proofs.Lists.{is_first, is_later}
-use Rattle.dbm_sessions.proofs.Sample.{start, only, step, is_stored, has_pair, begins, map_of}
+use Rattle.dbm_sessions.proofs.Sample.{disk, nine, no_pair, start, only, step, is_stored, has_pair, begins, map_of}
 use Rattle.dbm_sessions.proofs.Examples.{left_of}
 
 -- ---- the second store
@@ -71,7 +71,7 @@ is_later_one = same_map order (slice_cmp-IsAntisymmetric nat_cmp-IsAntisymmetric
 
 -- ---- sessions of a group alone
 
-no_call : (map : Contents) → Goes (start map) [] []
+no_call : (map : Contents) → Goes 1 (start map) [] []
 no_call map = record {
   made = [];
   later = [];
@@ -79,31 +79,49 @@ no_call map = record {
   last = start map;
   run = refl;
   usable = refl;
+  counts = omega arith;
 }
 
 acknowledges : (group : List Pair) (count : ℕ) (left : Contents)
     → Run (start empty) (map replacing (take count group)) (map (λ _. Stored) (take count group))
     (start left)
-    → SessionStep (nothing 9 ∷ []) (groups [] group) (Grouped [] count) (Holding left 9 ∷ [])
+    → SessionStep disk (nothing 9 ∷ []) (groups [] group) (Grouped [] count) (Holding left 9 ∷ [])
 unfolding no_call
 acknowledges group count left run = (
   start empty,
-  begins (nothing 9 ∷ []) (reopens []).how (nothing 9) empty 9
+  begins (nothing 9 ∷ []) (reopens []).how (nothing 9) empty 9 nine no_pair
       (is_first (nothing 9) [] (nothing 9) refl) refl,
-  record { goes = no_call empty; all = refl; last = start left; run = run; left = refl },
+  record {
+    goes = no_call empty;
+    all = refl;
+    last = start left;
+    run = run;
+    counts = omega arith;
+    left = refl;
+  },
 )
 
 abbrev either : Members
 either = nothing 9 ∷ pairs 9 ∷ []
 
-stops : SessionStep (nothing 9 ∷ []) (groups [] both) (StoppedGroup [] 2) either
+stops : SessionStep disk (nothing 9 ∷ []) (groups [] both) (StoppedGroup [] 2) either
 unfolding no_call
 stops = (
   start empty,
-  begins (nothing 9 ∷ []) (reopens []).how (nothing 9) empty 9
+  begins (nothing 9 ∷ []) (reopens []).how (nothing 9) empty 9 nine no_pair
       (is_first (nothing 9) [] (nothing 9) refl) refl,
-  record { goes = no_call empty; all = refl; left = refl },
+  record {
+    goes = no_call empty;
+    all = refl;
+    stored = start two;
+    run = (start only, is_stored, (start two, second, refl));
+    counts = omega arith;
+    left = refl;
+  },
 )
+
+breaks : SessionStep disk (nothing 9 ∷ []) (groups [] both) (BrokeGroup [] 2) either
+breaks = (stops.0, stops.1, stops.2, omega arith)
 
 has_pairs : Contains either (pairs 9)
 has_pairs = is_later (nothing 9) (pairs 9 ∷ []) (pairs 9) (is_first (pairs 9) [] (pairs 9) refl)
@@ -113,8 +131,11 @@ has_pairs = is_later (nothing 9) (pairs 9 ∷ []) (pairs 9) (is_first (pairs 9) 
 pub group_acknowledged : GroupAcknowledged
 group_acknowledged = record {
   may = record {
+    pages = 8;
     after = pairs 9 ∷ [];
     sessions = (
+      disk,
+      refl,
       pairs 9 ∷ [],
       acknowledges both 2 two (start only, is_stored, (start two, second, refl)),
       refl,
@@ -124,8 +145,15 @@ group_acknowledged = record {
   stays = λ member m. left_of (nothing 9) (groups [] both ∷ reopens [] ∷ reopens [] ∷ [])
       (Grouped [] 2 ∷ NotOpened Device ∷ StoppedOpening ∷ []) member m;
   shorter = record {
+    pages = 8;
     after = pair 9 ∷ [];
-    sessions = (pair 9 ∷ [], acknowledges both 1 only (start only, is_stored, refl), refl);
+    sessions = (
+      disk,
+      refl,
+      pair 9 ∷ [],
+      acknowledges both 1 only (start only, is_stored, refl),
+      refl,
+    );
     among = is_first (pair 9) [] (pair 9) refl;
   };
 }
@@ -133,22 +161,36 @@ group_acknowledged = record {
 pub group_in_doubt : GroupInDoubt
 group_in_doubt = record {
   none = record {
+    pages = 8;
     after = either;
-    sessions = (either, stops, refl);
+    sessions = (disk, refl, either, stops, refl);
     among = is_first (nothing 9) (pairs 9 ∷ []) (nothing 9) refl;
   };
-  all = record { after = either; sessions = (either, stops, refl); among = has_pairs };
+  all = record {
+    pages = 8;
+    after = either;
+    sessions = (disk, refl, either, stops, refl);
+    among = has_pairs;
+  };
   only = λ member m. ⊎_elim (λ e. inr e) (λ e. inl e)
       (left_of (nothing 9) (groups [] both ∷ []) (StoppedGroup [] 2 ∷ []) member m);
-  broken = record { after = either; sessions = (either, stops, refl); among = has_pairs };
+  broken = record {
+    pages = 8;
+    after = either;
+    sessions = (disk, refl, either, breaks, refl);
+    among = has_pairs;
+  };
 }
 
 pub group_of_one_key : GroupOfOneKey
 group_of_one_key =
     let same = ap (λ (map : Contents). Holding map 9) is_later_one in record {
       may = record {
+        pages = 8;
         after = Holding again 9 ∷ [];
         sessions = (
+          disk,
+          refl,
           Holding again 9 ∷ [],
           acknowledges twice 2 again (start only, is_stored, (start again, second_again, refl)),
           refl,
@@ -171,8 +213,9 @@ none_made : (first last : Handle) (call : Call) (made rest : List Call)
 none_made first last call [] rest is none run = absurd (let x = is ∙ none in cc)
 none_made first last call (other ∷ made) rest is none run = absurd run
 
-too_early : (first : Handle) (goes : Goes first (store ∷ []) []) → goes.later ≡ [] → ⊥
-too_early first goes none =
+too_early : (most : ℕ) (first : Handle) (goes : Goes most first (store ∷ []) [])
+    → goes.later ≡ [] → ⊥
+too_early most first goes none =
     none_made first goes.last store goes.made goes.later goes.calls_are none goes.run
 
 pub wrong_groups : WrongGroups
@@ -182,8 +225,8 @@ wrong_groups = record {
       (λ is. none_there (nothing 9) (pair 9) (one 0x61) (one 0x01) (sym is)
       (get-empty key_cmp (one 0x61)) has_pair)
       (left_of (nothing 9) (groups [] both ∷ []) (StoppedGroup [] 2 ∷ []) (pair 9) m);
-  early = λ member m. let session = m.sessions.1 in
-      too_early session.0 session.2.goes session.2.all;
-  stopped_early = λ member m. let session = m.sessions.1 in
-      too_early session.0 session.2.goes session.2.all;
+  early = λ member m. let session = m.sessions.3 in
+      too_early m.sessions.0.at_end session.0 session.2.goes session.2.all;
+  stopped_early = λ member m. let session = m.sessions.3 in
+      too_early m.sessions.0.at_end session.0 session.2.goes session.2.all;
 }

@@ -26,32 +26,37 @@ stored_left first last pairs run =
 
 -- ---- behind the calls
 
-pub group_left : (first : Handle) (calls : List Call) (replies : List Reply) (stored : List Pair)
-    (after : Members) → Groups first calls replies stored after → (member : Member)
+pub group_left : (most : ℕ) (first : Handle) (calls : List Call) (replies : List Reply)
+    (stored : List Pair) (after : Members) → Groups most first calls replies stored after → (member : Member)
     → Contains after member
     → LeftBy (of_calls calls replies ++ Acknowledged (PutsAll stored) ∷ []) (held first.state)
     member
-group_left first calls replies stored after g member is =
+group_left most first calls replies stored after g member is =
     left_append (of_calls calls replies) (Acknowledged (PutsAll stored) ∷ []) (held first.state)
-    (held g.goes.last.state) member (goes_left first calls replies g.goes)
+    (held g.goes.last.state) member (goes_left most first calls replies g.goes)
     (in_one (held g.last.state) member (subst (λ (ms : Members). Contains ms member) g.left is)
     ∙ stored_left (record g.goes.last { faults = g.last.faults }) g.last stored g.run)
 
 -- cut short
-module _ (first : Handle) (calls : List Call) (replies : List Reply) (asked : List Pair)
-    (after : Members) (cut : GroupCutShort first calls replies asked after) where
+module _ (most : ℕ) (first : Handle) (calls : List Call) (replies : List Reply) (asked : List Pair)
+    (after : Members) (cut : GroupCutShort most first calls replies asked after) where
   abbrev without : Member
   without = held cut.goes.last.state
 
   abbrev whole : Member
-  whole = held (record cut.goes.last.state { map = with_pairs cut.goes.last.state.map asked })
+  whole = held cut.stored.state
+
+  -- the member with all of the pairs
+  whole_is : whole
+      ≡ Holding (with_pairs cut.goes.last.state.map asked) cut.goes.last.state.limit
+  whole_is = stored_left (record cut.goes.last { faults = cut.stored.faults }) cut.stored asked cut.run
 
   pub group_cut_left : (member : Member) → Contains after member
       → LeftBy (of_calls calls replies ++ InDoubt (PutsAll asked) ∷ []) (held first.state) member
   group_cut_left member is =
       left_append (of_calls calls replies) (InDoubt (PutsAll asked) ∷ []) (held first.state)
-      without member (goes_left first calls replies cut.goes)
-      (⊎_elim (λ e. inr e) (λ e. inl e)
+      without member (goes_left most first calls replies cut.goes)
+      (⊎_elim (λ e. inr e) (λ e. inl (e ∙ whole_is))
       (in_two without whole member (subst (λ (ms : Members). Contains ms member) cut.left is)))
 
   pub group_cut_has : (member : Member)
@@ -59,10 +64,11 @@ module _ (first : Handle) (calls : List Call) (replies : List Reply) (asked : Li
       → Contains after member
   group_cut_has member left =
       subst (λ (ms : Members). Contains ms member) (sym cut.left)
-      (⊎_elim (λ e. is_later without (whole ∷ []) member (is_first whole [] member e))
+      (⊎_elim (λ e. is_later without (whole ∷ []) member (is_first whole [] member
+      (e ∙ sym whole_is)))
       (λ e. is_first without (whole ∷ []) member e)
       (left_rest (of_calls calls replies) (InDoubt (PutsAll asked) ∷ []) (held first.state) without
-      member (calls_all calls replies) (goes_left first calls replies cut.goes) left))
+      member (calls_all calls replies) (goes_left most first calls replies cut.goes) left))
 
 -- one in doubt at most
 pub group_one : (mark : Change → Marked) (plan : Plan) (replies : List Reply) (count : ℕ)

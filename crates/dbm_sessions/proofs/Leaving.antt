@@ -1,7 +1,8 @@
 -- What is left by lists of changes.
 use Rattle.std.proofs.Common.{◌≡◌, ◌⊎◌, inl, inr, ⊎_elim, ℕ, suc, Bool, true, false, ◌||◌, cond, List, [], ◌∷◌, ◌++◌, map, refl, sym, ◌∙◌, subst}
 use Rattle.dbm_sessions.specs.Members.{Member, NoDatabase, Holding, Opening, opened}
-use Rattle.dbm_sessions.specs.Changes.{Opens, applied, Marked, Acknowledged, InDoubt, of_opening, LeftBy, OnlyLastInDoubt, IsLeftByPrefix}
+use Rattle.dbm_model.specs.Calls.{Fault, Device}
+use Rattle.dbm_sessions.specs.Changes.{Opens, applied, Marked, Acknowledged, InDoubt, of_opening, of_refused, LeftBy, OnlyLastInDoubt, IsLeftByPrefix}
 
 -- one list behind another
 pub left_append : (xs ys : List Marked) (a b c : Member) → LeftBy xs a b → LeftBy ys b c
@@ -88,6 +89,17 @@ opening_all how = elim (how.create || how.truncate) as
 pub opening_one : (how : Opening) → OnlyLastInDoubt (of_opening InDoubt how)
 opening_one how = elim (how.create || how.truncate) as
     (λ b. OnlyLastInDoubt (cond b (InDoubt (Opens how) ∷ []) [])) [ true ↦ refl | false ↦ tt ]
+
+-- a refusal that is none of the device leaves nothing in doubt
+pub refused_for_good : (fault : Fault) (how : Opening) → (fault ≡ Device → ⊥)
+    → of_refused fault how ≡ []
+refused_for_good Device how other = absurd (other refl)
+refused_for_good fault how other = refl
+
+-- none but the opening is
+pub refused_one : (fault : Fault) (how : Opening) → OnlyLastInDoubt (of_refused fault how)
+refused_one Device how = opening_one how
+refused_one fault how = tt
 
 -- what those behind acknowledged ones leave
 pub left_rest : (xs ys : List Marked) (a b c : Member) → AllMade xs → LeftBy xs a b

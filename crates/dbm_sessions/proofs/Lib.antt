@@ -1,6 +1,7 @@
 pub mod Calls
 pub mod Cuts
 pub mod Examples
+pub mod Failures
 pub mod GroupExamples
 pub mod Groups
 pub mod Leaving

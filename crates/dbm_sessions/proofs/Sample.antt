@@ -1,16 +1,17 @@
 -- Small sessions: handles, a store that was stored, stopped or broken, and what a fetch tells.
-use Rattle.std.proofs.Common.{◌≡◌, ◌⊎◌, inl, inr, ℕ, ◌+◌, true, false, List, [], ◌∷◌, ◌++◌, Option, Some, None, refl, sym, ◌∙◌, ap, subst, arith, Contains}
-use Rattle.std.specs.FinMap.{empty, get, insert, len, get-empty, get-insert}
+use Rattle.std.proofs.Common.{◌≡◌, ◌⊎◌, inl, inr, ℕ, ◌+◌, ◌≤◌, true, false, List, [], ◌∷◌, ◌++◌, Option, Some, None, refl, sym, ◌∙◌, ap, subst, arith, Contains}
+use Rattle.std.specs.FinMap.{empty, get, insert, len, len-empty, get-empty, get-insert}
 use Rattle.std.specs.Cmp.Lexicographic.{nat_list_cmp_total}
 use Rattle.dbm_model.specs.Calls.{Call, Reply, Stored, Refused, Device}
 use Rattle.dbm_model.specs.Examples.{one}
 use Rattle.dbm_model.specs.Pairs.{Contents, key_cmp}
+use Rattle.dbm_model.specs.Sizes.{home}
 use Rattle.dbm_model.specs.States.{NotBegun, State, Handle, fresh, flagged}
 use Rattle.dbm_model.specs.Steps.{Case, Finds, Changes, fetched, case_of, Answers, Suffers, Step, Run, buckets_opened}
 use Rattle.dbm_model.proofs.RunLemmas.{adds, none_yet, one_more}
 use Rattle.dbm_model.proofs.RuleLemmas.{ByCase, falls}
 use Rattle.dbm_sessions.specs.Members.{Member, NoDatabase, Holding, Members, held, Opening, opened}
-use Rattle.dbm_sessions.specs.Sessions.{Rested, StoppedCall, Broke, Begins, Rests, left_by, CutShort, SessionStep}
+use Rattle.dbm_sessions.specs.Sessions.{Disk, Rested, StoppedCall, Broke, Begins, Rests, left_by, CutShort, SessionStep}
 use Rattle.dbm_sessions.specs.Examples.{reopens, store, fetch, nothing, pair}
 use Rattle.dbm_sessions.proofs.Lists.{is_first, is_later}
 
@@ -54,21 +55,52 @@ has_pair = get-insert nat_list_cmp_total empty (one 0x61) (one 0x01) (one 0x61)
 
 -- ---- sessions
 
+-- on a device of eight pages that may fail once
+abbrev pub disk : Disk
+disk = record { pages = 8; at_start = 0; at_end = 1 }
+
+-- limits of the examples
+pub record IsSmall (limit : ℕ) : Type 0 where
+  pub some : 1 ≤ limit
+  pub most : limit ≤ 1000000
+  pub pages : 4 ≤ home limit
+
+pub nine : IsSmall 9
+nine = record { some = omega arith; most = omega arith; pages = omega arith }
+
+pub five : IsSmall 5
+five = record { some = omega arith; most = omega arith; pages = omega arith }
+
+-- how many pairs the examples have
+pub no_pair : len (empty {X = List ℕ} {R = key_cmp}) ≤ 1
+no_pair = omega (arith, len-empty key_cmp (List ℕ))
+
+pub one_pair : len only ≤ 1
+one_pair = omega (arith, one_more (one 0x61) (one 0x01))
+
 pub begins : (before : Members) (how : Opening) (member : Member) (map : Contents) (limit : ℕ)
-    → Contains before member → opened how member ≡ Holding map limit
-    → Begins before how (at (fresh map limit true))
-begins before how member map limit among is = record {
+    → IsSmall limit → len map ≤ 1 → Contains before member
+    → opened how member ≡ Holding map limit → Begins disk before how (at (fresh map limit true))
+begins before how member map limit small few among is = record {
   member = member;
   among = among;
   begins = is;
   is_fresh = refl;
+  is_on = record {
+    capacity = refl;
+    counts = omega arith;
+    limited = (small.some, small.most);
+    few_pairs = omega (arith, few, small.some);
+    light = omega (arith, few);
+    few_pages = small.pages;
+  };
 }
 
 -- one whose calls were all answered
 pub all_answered : (first last : Handle) (calls : List Call) (replies : List Reply)
     → calls ≡ calls ++ [] → Run first calls replies last → last.state.usable ≡ true
-    → Rests first calls replies (held last.state ∷ [])
-all_answered first last calls replies whole run usable = record {
+    → last.faults ≤ 1 → Rests 1 first calls replies (held last.state ∷ [])
+all_answered first last calls replies whole run usable few = record {
   goes = record {
     made = calls;
     later = [];
@@ -76,14 +108,15 @@ all_answered first last calls replies whole run usable = record {
     last = last;
     run = run;
     usable = usable;
+    counts = few;
   };
   left = refl;
 }
 
 -- one that was stopped within its first call
-first_stopped : (first : Handle) (call : Call) → first.state.usable ≡ true
-    → CutShort first (call ∷ []) [] (left_by first.state (case_of first.state call))
-first_stopped first call usable = record {
+first_stopped : (first : Handle) (call : Call) → first.state.usable ≡ true → first.faults ≤ 1
+    → CutShort 1 first (call ∷ []) [] (left_by first.state (case_of first.state call))
+first_stopped first call usable few = record {
   goes = record {
     made = [];
     later = call ∷ [];
@@ -91,6 +124,7 @@ first_stopped first call usable = record {
     last = first;
     run = refl;
     usable = usable;
+    counts = few;
   };
   call = call;
   rest = [];
@@ -115,26 +149,26 @@ pair_in_doubt = in_doubt (pair 9) (is_later (nothing 9) (pair 9 ∷ []) (pair 9)
 pub nothing_in_doubt : Contains doubt (nothing 9)
 nothing_in_doubt = in_doubt (nothing 9) (is_first (nothing 9) (pair 9 ∷ []) (nothing 9) refl)
 
-pub stopped_store : SessionStep (nothing 9 ∷ []) (reopens (store ∷ [])) (StoppedCall []) doubt
+pub stopped_store : SessionStep disk (nothing 9 ∷ []) (reopens (store ∷ [])) (StoppedCall []) doubt
 stopped_store = (
   start empty,
-  begins (nothing 9 ∷ []) (reopens []).how (nothing 9) empty 9
+  begins (nothing 9 ∷ []) (reopens []).how (nothing 9) empty 9 nine no_pair
       (is_first (nothing 9) [] (nothing 9) refl) refl,
-  first_stopped (start empty) store refl,
+  first_stopped (start empty) store refl (omega arith),
 )
 
-pub fetches : (map : Contents) (reply : Reply) → Contains doubt (Holding map 9)
+pub fetches : (map : Contents) (reply : Reply) → len map ≤ 1 → Contains doubt (Holding map 9)
     → buckets_opened (start map) reply (len map) ≡ 0 → case_of (fresh map 9 true) fetch ≡ Finds reply
-    → SessionStep doubt (reopens (fetch ∷ [])) (Rested (reply ∷ [])) (Holding map 9 ∷ [])
-fetches map reply among none rule = (
+    → SessionStep disk doubt (reopens (fetch ∷ [])) (Rested (reply ∷ [])) (Holding map 9 ∷ [])
+fetches map reply few among none rule = (
   start map,
-  begins doubt (reopens []).how (Holding map 9) map 9 among refl,
+  begins doubt (reopens []).how (Holding map 9) map 9 nine few among refl,
   all_answered (start map) (start map) (fetch ∷ []) (reply ∷ []) refl (
     start map,
     step (fresh map 9 true) (fresh map 9 true) fetch (Finds reply) reply none rule
         (refl, refl),
     refl,
-  ) refl,
+  ) refl (omega arith),
 )
 
 -- the device fails in the store
@@ -160,18 +194,18 @@ breaks_store = record {
       (inr (inl (refl, omega arith, empty, inl refl, refl))));
 }
 
-pub broken_session : SessionStep (nothing 9 ∷ []) (reopens (store ∷ [])) (Broke (Refused Device ∷ []))
+pub broken_session : SessionStep disk (nothing 9 ∷ []) (reopens (store ∷ [])) (Broke (Refused Device ∷ []))
     doubt
 unfolding broken_store first_stopped
 broken_session = (
   start empty,
-  begins (nothing 9 ∷ []) (reopens []).how (nothing 9) empty 9
+  begins (nothing 9 ∷ []) (reopens []).how (nothing 9) empty 9 nine no_pair
       (is_first (nothing 9) [] (nothing 9) refl) refl,
   record {
     answered = [];
     refused = [];
     replies_are = refl;
-    cut = first_stopped (start empty) store refl;
+    cut = first_stopped (start empty) store refl (omega arith);
     broken = broken_store;
     step = breaks_store;
     breaks = refl;
@@ -180,6 +214,7 @@ broken_session = (
     rest_is = refl;
     last = broken_store;
     run = refl;
+    counts = omega arith;
   },
 )
 
@@ -226,21 +261,21 @@ one_call s c call first last (other ∷ made) later reply at_first rule is run =
 }
 
 -- a session of one call, which begins with this map
-pub told_at : (before after : Members) (map : Contents) (c : Case) (call : Call) (reply : Reply)
-    (session : SessionStep before (reopens (call ∷ [])) (Rested (reply ∷ [])) after)
+pub told_at : (on : Disk) (before after : Members) (map : Contents) (c : Case) (call : Call)
+    (reply : Reply) (session : SessionStep on before (reopens (call ∷ [])) (Rested (reply ∷ [])) after)
     → session.1.member ≡ Holding map 9 → case_of (fresh map 9 true) call ≡ c → OneCall c reply
-told_at before after map c call reply session is rule =
+told_at on before after map c call reply session is rule =
     let goes = session.2.goes in
     one_call (fresh map 9 true) c call session.0 goes.last goes.made goes.later reply
     (began map 9 session.0.state (sym (ap (opened (reopens []).how) is) ∙ session.1.begins)
     session.1.is_fresh) rule goes.calls_are goes.run
 
 -- one that fetches tells what the member has that it began with
-pub told_by : (before after : Members) (map : Contents) (reply found : Reply) (old : Option (List ℕ))
-    (session : SessionStep before (reopens (fetch ∷ [])) (Rested (reply ∷ [])) after)
+pub told_by : (on : Disk) (before after : Members) (map : Contents) (reply found : Reply)
+    (old : Option (List ℕ)) (session : SessionStep on before (reopens (fetch ∷ [])) (Rested (reply ∷ [])) after)
     → session.1.member ≡ Holding map 9 → get map (one 0x61) ≡ old → fetched old ≡ Finds found
     → (reply ≡ found) ⊎ (reply ≡ Refused Device)
-told_by before after map reply found old session is has rule =
-    let one = told_at before after map (Finds found) fetch reply session is
+told_by on before after map reply found old session is has rule =
+    let one = told_at on before after map (Finds found) fetch reply session is
     (ap fetched has ∙ rule) in
     found_or_failed one.first one.after reply found one.told

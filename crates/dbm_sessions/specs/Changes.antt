@@ -1,11 +1,12 @@
 -- The changes that sessions ask for, told from their plans and endings, and what is left by them.
-use Rattle.std.specs.Prelude.{◌≡◌, ◌⊎◌, ℕ, Bool, true, false, ◌&&◌, ◌||◌, not, if◌then◌else◌, List, [], ◌∷◌, ◌++◌, take, drop, map, Contains}
+use Rattle.std.specs.Prelude.{◌≡◌, ◌≢◌, ◌⊎◌, ℕ, Bool, true, false, ◌&&◌, ◌||◌, not, if◌then◌else◌, List, [], ◌∷◌, ◌++◌, take, drop, map, Contains}
 use Rattle.std.specs.FinMap.{insert, remove}
-use Rattle.dbm_model.specs.Calls.{Call, Store, Delete, Reply, Stored, Deleted, Refused, Device}
+use Rattle.dbm_model.specs.Calls.{Call, Store, Delete, Reply, Stored, Deleted, Refused, Fault, Device}
 use Rattle.dbm_model.specs.Changes.{with_pairs}
+use Rattle.dbm_model.specs.FaultCount.{MoreFaults}
 use Rattle.dbm_model.specs.Pairs.{Key, Pair}
 use Rattle.dbm_sessions.specs.Members.{Member, NoDatabase, Holding, Members, Opening, opened}
-use Rattle.dbm_sessions.specs.Sessions.{Plan, Ending, NotOpened, StoppedOpening, Rested, StoppedCall, Broke, Grouped, StoppedGroup, BrokeGroup, SessionStep, Sessions}
+use Rattle.dbm_sessions.specs.Sessions.{Disk, Plan, Ending, NotOpened, StoppedOpening, Rested, StoppedCall, Broke, Grouped, StoppedGroup, BrokeGroup, SessionStep, Sessions}
 
 -- a change, as a plain operation on the map
 pub data Change : Type 0 where
@@ -35,6 +36,11 @@ pub data Marked : Type 0 where
 
 abbrev pub of_opening : (Change → Marked) → Opening → List Marked
 of_opening mark how = if how.create || how.truncate then mark (Opens how) ∷ [] else []
+
+-- of one that was refused by the fault
+abbrev pub of_refused : Fault → Opening → List Marked
+of_refused Device how = of_opening InDoubt how
+of_refused fault how = []
 
 abbrev pub of_answer : Call → Reply → List Marked
 of_answer (Store key content mode) Stored = Acknowledged (Puts key content) ∷ []
@@ -78,7 +84,7 @@ of_group mark plan replies count = of_opening Acknowledged plan.how
     ++ (of_calls plan.calls replies ++ mark (PutsAll (take count plan.group)) ∷ [])
 
 abbrev pub changes_in : Plan → Ending → List Marked
-changes_in plan (NotOpened fault) = of_opening InDoubt plan.how
+changes_in plan (NotOpened fault) = of_refused fault plan.how
 changes_in plan StoppedOpening = of_opening InDoubt plan.how
 changes_in plan (Rested replies) =
     of_opening Acknowledged plan.how ++ of_calls plan.calls replies
@@ -106,8 +112,8 @@ LeftBy (InDoubt change ∷ changes) before after =
 -- After any list of sessions, each stopped anywhere, whatever the file may stand for is left by
 -- their changes, with every acknowledged one among those that were made.
 abbrev pub AcknowledgedChangesStay : Type 0
-AcknowledgedChangesStay = (before after : Members) (plans : List Plan) (endings : List Ending)
-    → Sessions before plans endings after → (member : Member) → Contains after member
+AcknowledgedChangesStay = (pages : ℕ) (before after : Members) (plans : List Plan)
+    (endings : List Ending) → Sessions pages before plans endings after → (member : Member) → Contains after member
     → (start : Member) × Contains before start × LeftBy (changes_of plans endings) start member
 
 -- none is in doubt but the last one
@@ -144,8 +150,8 @@ pub record IsLeftByPrefix (changes : List Marked) (before after : Member) : Type
 
 -- what a session leaves is left by a prefix of its changes that contains every acknowledged one
 abbrev pub PrefixIsLeft : Type 0
-PrefixIsLeft = (before after : Members) (plan : Plan) (ending : Ending)
-    → SessionStep before plan ending after → (member : Member) → Contains after member
+PrefixIsLeft = (disk : Disk) (before after : Members) (plan : Plan) (ending : Ending)
+    → SessionStep disk before plan ending after → (member : Member) → Contains after member
     → (start : Member) × Contains before start
     × IsLeftByPrefix (changes_in plan ending) start member
 
@@ -163,28 +169,38 @@ is_opened (BrokeGroup replies count) = true
 
 -- A session that was opened ends all earlier doubt: what it leaves is left from one member alone.
 abbrev pub OpeningEndsDoubt : Type 0
-OpeningEndsDoubt = (before after : Members) (plan : Plan) (ending : Ending)
-    → SessionStep before plan ending after → is_opened ending ≡ true → (start : Member)
+OpeningEndsDoubt = (disk : Disk) (before after : Members) (plan : Plan) (ending : Ending)
+    → SessionStep disk before plan ending after → is_opened ending ≡ true → (start : Member)
     × Contains before start
     × ((member : Member) → Contains after member → LeftBy (changes_in plan ending) start member)
 
--- An opening that answered no handle adds what it makes of each member, and takes none away.
-abbrev pub RefusalTakesNothing : Type 0
-RefusalTakesNothing = (before after : Members) (plan : Plan) (ending : Ending)
-    → SessionStep before plan ending after → is_opened ending ≡ false → (member : Member)
-    → Contains before member → Contains after member × Contains after (opened plan.how member)
+-- a stop or a fault of the device cut the opening short
+abbrev pub is_cut : Ending → Bool
+is_cut (NotOpened Device) = true
+is_cut StoppedOpening = true
+is_cut ending = false
+
+-- An opening that answered no handle takes no member away. Where it was cut short it adds what it
+-- makes of each, and where it was refused it adds none.
+pub record RefusalTakesNothing : Type 0 where
+  pub cut : (disk : Disk) (before after : Members) (plan : Plan) (ending : Ending)
+      → SessionStep disk before plan ending after → is_cut ending ≡ true → (member : Member)
+      → Contains before member → Contains after member × Contains after (opened plan.how member)
+  pub refused : (disk : Disk) (before after : Members) (plan : Plan) (ending : Ending)
+      → SessionStep disk before plan ending after → is_opened ending ≡ false
+      → is_cut ending ≡ false → after ≡ before
 
 -- A broken handle leaves the call that broke it in doubt: with it and without it.
 abbrev pub BreakLeavesBoth : Type 0
-BreakLeavesBoth = (before after : Members) (plan : Plan) (replies : List Reply)
-    → SessionStep before plan (Broke replies) after → (start : Member) × Contains before start
+BreakLeavesBoth = (disk : Disk) (before after : Members) (plan : Plan) (replies : List Reply)
+    → SessionStep disk before plan (Broke replies) after → (start : Member) × Contains before start
     × ((member : Member) → LeftBy (changes_in plan (Broke replies)) start member
     → Contains after member)
 
 -- whatever the changes of a session that ended so may leave, it leaves
 abbrev pub LeavesBoth : (List Reply → ℕ → Ending) → Type 0
-LeavesBoth ends = (before after : Members) (plan : Plan) (replies : List Reply) (count : ℕ)
-    → SessionStep before plan (ends replies count) after → (start : Member) × Contains before start
+LeavesBoth ends = (disk : Disk) (before after : Members) (plan : Plan) (replies : List Reply)
+    (count : ℕ) → SessionStep disk before plan (ends replies count) after → (start : Member) × Contains before start
     × ((member : Member) → LeftBy (changes_in plan (ends replies count)) start member
     → Contains after member)
 
@@ -193,3 +209,22 @@ LeavesBoth ends = (before after : Members) (plan : Plan) (replies : List Reply) 
 pub record GroupCutShortLeavesBoth : Type 0 where
   pub stopped : LeavesBoth StoppedGroup
   pub broke : LeavesBoth BrokeGroup
+
+-- ---- what a device that didn't fail leaves out
+
+-- no reply, and no opening, was a refusal by the device
+abbrev pub IsNeverFailed : Ending → Type 0
+IsNeverFailed (NotOpened fault) = fault ≢ Device
+IsNeverFailed StoppedOpening = Unit {0}
+IsNeverFailed (Rested replies) = has_device replies ≡ false
+IsNeverFailed (StoppedCall replies) = has_device replies ≡ false
+IsNeverFailed (Broke replies) = ⊥
+IsNeverFailed (Grouped replies count) = has_device replies ≡ false
+IsNeverFailed (StoppedGroup replies count) = has_device replies ≡ false
+IsNeverFailed (BrokeGroup replies count) = ⊥
+
+-- Where the device didn't fail in a session, it refused nothing.
+abbrev pub DeviceIsTheCause : Type 0
+DeviceIsTheCause = (disk : Disk) (before after : Members) (plan : Plan) (ending : Ending)
+    → SessionStep disk before plan ending after → (MoreFaults disk.at_start disk.at_end → ⊥)
+    → IsNeverFailed ending

@@ -1,7 +1,7 @@
 -- Small lists of sessions, worked out by hand.
 use Rattle.std.specs.Prelude.{◌≡◌, ◌⊎◌, ℕ, true, false, List, [], ◌∷◌, Contains}
 use Rattle.std.specs.FinMap.{empty, insert}
-use Rattle.dbm_model.specs.Calls.{Replace, Call, Store, Fetch, Next, Stored, Bytes, NoRecord, Refused, Device}
+use Rattle.dbm_model.specs.Calls.{Replace, Call, Store, Fetch, Next, Stored, Bytes, NoRecord, Refused, Device, BadLimit}
 use Rattle.dbm_model.specs.Examples.{one}
 use Rattle.dbm_model.specs.Pairs.{Pair}
 use Rattle.dbm_sessions.specs.Members.{Member, NoDatabase, Holding, Members}
@@ -49,8 +49,9 @@ pair limit = Holding (insert empty (one 0x61) (one 0x01)) limit
 -- these sessions may end so, and the file may then stand for this member
 pub record MayLeave (before : Members) (plans : List Plan) (endings : List Ending) (member : Member)
     : Type 0 where
+  pub pages : ℕ
   pub after : Members
-  pub sessions : Sessions before plans endings after
+  pub sessions : Sessions pages before plans endings after
   pub among : Contains after member
 
 -- where these sessions end so, the file stands for this member and no other
@@ -89,12 +90,15 @@ pub record CreationInDoubt : Type 0 where
   pub only : LeavesOnly (NoDatabase ∷ []) (creates 9 [] ∷ creates 5 [] ∷ [])
       (StoppedOpening ∷ Rested [] ∷ []) (λ member. (member ≡ nothing 9) ⊎ (member ≡ nothing 5))
 
--- an emptying was cut short: what there was, or nothing with the limit that was asked for
+-- an emptying was cut short: what there was, or nothing with the limit that was asked for; it was
+-- refused by that limit: what there was
 pub record EmptyingInDoubt : Type 0 where
   pub kept : MayLeave (pair 9 ∷ []) (empties 5 [] ∷ []) (NotOpened Device ∷ []) (pair 9)
   pub emptied : MayLeave (pair 9 ∷ []) (empties 5 [] ∷ []) (NotOpened Device ∷ []) (nothing 5)
   pub only : LeavesOnly (pair 9 ∷ []) (empties 5 [] ∷ []) (NotOpened Device ∷ [])
       (λ member. (member ≡ pair 9) ⊎ (member ≡ nothing 5))
+  pub refused : LeavesOnly (pair 9 ∷ []) (empties 5 [] ∷ []) (NotOpened BadLimit ∷ [])
+      (λ member. member ≡ pair 9)
 
 -- sessions that never end so: a database is opened that is not there, a pair is found that was
 -- never stored, a pass is on at the start

@@ -1,7 +1,8 @@
 -- What the file of a database may stand for, and what an opening makes of it.
-use Rattle.std.specs.Prelude.{ℕ, Bool, if◌then◌else◌, List}
+use Rattle.std.specs.Prelude.{ℕ, ◌*◌, ◌≤◌, Bool, if◌then◌else◌, List, Contains}
 use Rattle.std.specs.FinMap.{empty}
 use Rattle.dbm_model.specs.Pairs.{Contents}
+use Rattle.dbm_model.specs.Sizes.{home}
 use Rattle.dbm_model.specs.States.{State}
 
 pub data Member : Type 0 where
@@ -12,6 +13,15 @@ pub data Member : Type 0 where
 -- what the file may stand for where a stop may have left one or another: a set, written as a list
 abbrev pub Members : Type 0
 Members = List Member
+
+-- so many pages are twice those that a database of its limit needs
+abbrev pub HasRoomFor : ℕ → Member → Type 0
+HasRoomFor pages NoDatabase = Unit {0}
+HasRoomFor pages (Holding map limit) = 2 * home limit ≤ pages
+
+abbrev pub AllHaveRoom : ℕ → Members → Type 0
+AllHaveRoom pages members =
+    (member : Member) → Contains members member → HasRoomFor pages member
 
 -- what the file of an open database stands for
 abbrev pub held : State → Member

@@ -1,30 +1,14 @@
 -- That there is room for every list of sessions is known beforehand.
-use Rattle.std.specs.Prelude.{◌≢◌, ◌*◌, ◌≤◌, ℕ, All, List, Contains}
+use Rattle.std.specs.Prelude.{◌≢◌, ◌*◌, ◌≤◌, ℕ, All, List}
 use Rattle.dbm_model.specs.Calls.{NoRoom}
 use Rattle.dbm_model.specs.Room.{AreNeverShort}
 use Rattle.dbm_model.specs.Sizes.{home}
-use Rattle.dbm_sessions.specs.Members.{Member, NoDatabase, Holding, Members}
+use Rattle.dbm_sessions.specs.Members.{Members, AllHaveRoom}
 use Rattle.dbm_sessions.specs.Sessions.{Plan, Ending, NotOpened, StoppedOpening, Rested, StoppedCall, Broke, Grouped, StoppedGroup, BrokeGroup, Sessions}
 
--- so many pages are twice those that a database of its limit needs
-abbrev pub HasRoomFor : ℕ → Member → Type 0
-HasRoomFor pages NoDatabase = Unit {0}
-HasRoomFor pages (Holding map limit) = 2 * home limit ≤ pages
-
-abbrev pub AllHaveRoom : ℕ → Members → Type 0
-AllHaveRoom pages members =
-    (member : Member) → Contains members member → HasRoomFor pages member
-
--- so it is with the limit that a session asks for
+-- so many pages are twice those that a database of the limit needs which a session asks for
 abbrev pub AsksForRoom : ℕ → Plan → Type 0
 AsksForRoom pages plan = 2 * home plan.how.limit ≤ pages
-
--- where there is room for what the file may stand for, and for each limit that is asked for, there
--- is room for whatever sessions leave
-abbrev pub SessionsKeepRoom : Type 0
-SessionsKeepRoom = (pages : ℕ) (before after : Members) (plans : List Plan) (endings : List Ending)
-    → AllHaveRoom pages before → All (AsksForRoom pages) plans
-    → Sessions before plans endings after → AllHaveRoom pages after
 
 -- neither the opening nor a call was refused for want of room
 abbrev pub IsNeverShort : Ending → Type 0
@@ -36,3 +20,16 @@ IsNeverShort (Broke replies) = AreNeverShort replies
 IsNeverShort (Grouped replies count) = AreNeverShort replies
 IsNeverShort (StoppedGroup replies count) = AreNeverShort replies
 IsNeverShort (BrokeGroup replies count) = AreNeverShort replies
+
+-- where there is room for what the file may stand for, and for each limit that is asked for, there
+-- is room for whatever sessions leave
+abbrev pub SessionsKeepRoom : Type 0
+SessionsKeepRoom = (pages : ℕ) (before after : Members) (plans : List Plan) (endings : List Ending)
+    → AllHaveRoom pages before → All (AsksForRoom pages) plans
+    → Sessions pages before plans endings after → AllHaveRoom pages after
+
+-- and nothing was refused for want of it
+abbrev pub SessionsAreNeverShort : Type 0
+SessionsAreNeverShort = (pages : ℕ) (before after : Members) (plans : List Plan)
+    (endings : List Ending) → AllHaveRoom pages before → All (AsksForRoom pages) plans
+    → Sessions pages before plans endings after → All IsNeverShort endings

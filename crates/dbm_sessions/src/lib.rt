@@ -6,5 +6,6 @@
 mod session_laws;
 
 pub use session_laws::{
-    acknowledged_changes_stay, doubt_is_settled, session_examples, sessions_keep_room,
+    acknowledged_changes_stay, device_is_the_cause, doubt_is_settled, session_examples,
+    sessions_keep_room,
 };

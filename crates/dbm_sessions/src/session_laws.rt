@@ -1,7 +1,7 @@
 // Laws of sessions. What each says stands in `specs/Changes.antt`, `specs/Room.antt` and
 // `specs/Examples.antt`.
-ghost use Rattle.dbm_sessions.specs.Changes.{AcknowledgedChangesStay, OneInDoubt, PrefixIsLeft, OpeningEndsDoubt, RefusalTakesNothing, BreakLeavesBoth, GroupCutShortLeavesBoth};
-ghost use Rattle.dbm_sessions.specs.Room.{SessionsKeepRoom};
+ghost use Rattle.dbm_sessions.specs.Changes.{AcknowledgedChangesStay, OneInDoubt, PrefixIsLeft, OpeningEndsDoubt, RefusalTakesNothing, BreakLeavesBoth, GroupCutShortLeavesBoth, DeviceIsTheCause};
+ghost use Rattle.dbm_sessions.specs.Room.{SessionsKeepRoom, SessionsAreNeverShort};
 ghost use Rattle.dbm_sessions.specs.Examples.{StoreAcknowledged, StoreInDoubt, CreationInDoubt, EmptyingInDoubt, WrongSessions, GroupAcknowledged, GroupInDoubt, GroupOfOneKey, WrongGroups};
 
 /// After any list of sessions, each stopped anywhere, what the file may stand for is left by their
@@ -23,9 +23,15 @@ pub fn doubt_is_settled()
 {}
 
 /// Room is known beforehand: where there is enough for each limit, that is there or is asked for,
-/// there is enough for whatever sessions leave.
+/// there is enough for whatever sessions leave, and nothing is refused for want of it.
 pub fn sessions_keep_room()
-    ensures { SessionsKeepRoom }
+    ensures keep { SessionsKeepRoom }
+    ensures short { SessionsAreNeverShort }
+{}
+
+/// A device that didn't fail in a session refused nothing in it, and left nothing in doubt.
+pub fn device_is_the_cause()
+    ensures { DeviceIsTheCause }
 {}
 
 /// Sessions that are worked out by hand, and some that never end so.

@@ -1,5 +1,5 @@
 -- How the calls of a session ended, as the definitions say it.
-use Rattle.std.proofs.Common.{◌≡◌, ◌≢◌, ◌⊎◌, ◌↔◌, ◌≤◌, inl, inr, ⊎_elim, ℕ, Bool, true, false, Result, Ok, Err, OnOk, IfErr, Vec, List, [], ◌∷◌, map, refl, sym, ◌∙◌, ap, subst, Contains}
+use Rattle.std.proofs.Common.{◌≡◌, ◌≢◌, ◌⊎◌, ◌↔◌, ◌≤◌, inl, inr, ⊎_elim, ℕ, Bool, true, false, Result, Ok, Err, OnOk, IfErr, Vec, List, [], ◌∷◌, map, refl, sym, ◌∙◌, ap, subst, arith, Contains}
 use Rattle.std.specs.Result.{result_unwrap_or}
 use Rattle.std.specs.Global.{Global}
 use Rattle.std.proofs.lemmas.Bool.{cases_Bool, false≢true}
@@ -17,8 +17,9 @@ use Rattle.page_io.specs.declared.store.PageStore.{Ghosts}
 use Rattle.redo_commit.specs.File.{settled}
 use Rattle.dbm_sessions.specs.Members.{Member, Holding, Members, held}
 use Rattle.dbm_sessions.specs.Sessions as model
-use Rattle.dbm_sessions.specs.Sessions.{Plan, StoppedOpening, StoppedCall, StoppedGroup, Begins, Goes, Rests, Breaks, left_by, SessionStep}
+use Rattle.dbm_sessions.specs.Sessions.{Disk, Plan, StoppedOpening, StoppedCall, StoppedGroup, Begins, Goes, Rests, Breaks, left_by, SessionStep}
 use Rattle.dbm_sessions.proofs.Cuts.{broken_leaves}
+use Rattle.dbm_sessions.proofs.Failures.{counts_up}
 use Rattle.dbm_sessions.proofs.Lists.{is_first, is_later}
 use Rattle.dbm_fault.specs.declared.fault.Fault.{Fault}
 use Rattle.dbm_fault.specs.declared.fault.Fault.TheVariants.{Device, Broken}
@@ -34,23 +35,26 @@ use Rattle.rehearsal.specs.declared.sessions.Ending.TheVariants.{NotOpened, NoMe
 use Rattle.dbm_sessions.proofs.Rooms.{limit_stays}
 
 -- a session that an opening began
-pub step_of : (before : Members) (plan : Plan) (ending : model.Ending) (after : Members)
-    (first : Handle) → Begins before plan.how first
-    → GoesOn first plan.calls plan.group ending after → SessionStep before plan ending after
-step_of before plan (model.NotOpened fault) after first begins goes = absurd goes
-step_of before plan StoppedOpening after first begins goes = absurd goes
-step_of before plan (model.Rested replies) after first begins goes = (first, begins, goes)
-step_of before plan (StoppedCall replies) after first begins goes = (first, begins, goes)
-step_of before plan (model.Broke replies) after first begins goes = (first, begins, goes)
-step_of before plan (model.Grouped replies stored) after first begins goes = (first, begins, goes)
-step_of before plan (StoppedGroup replies count) after first begins goes = (first, begins, goes)
-step_of before plan (model.BrokeGroup replies count) after first begins goes =
+pub step_of : (disk : Disk) (before : Members) (plan : Plan) (ending : model.Ending)
+    (after : Members) (first : Handle) → Begins disk before plan.how first
+    → GoesOn disk.at_end first plan.calls plan.group ending after
+    → SessionStep disk before plan ending after
+step_of disk before plan (model.NotOpened fault) after first begins goes = absurd goes
+step_of disk before plan StoppedOpening after first begins goes = absurd goes
+step_of disk before plan (model.Rested replies) after first begins goes = (first, begins, goes)
+step_of disk before plan (StoppedCall replies) after first begins goes = (first, begins, goes)
+step_of disk before plan (model.Broke replies) after first begins goes = (first, begins, goes)
+step_of disk before plan (model.Grouped replies stored) after first begins goes =
     (first, begins, goes)
+step_of disk before plan (StoppedGroup replies count) after first begins goes =
+    (first, begins, goes)
+step_of disk before plan (model.BrokeGroup replies count) after first begins (cut, more) =
+    (first, begins, cut, omega (arith, begins.is_on.counts, more))
 
 -- no call was made
-pub none_made : (first : Handle) (calls : List Call) → first.state.usable ≡ true
-    → Rests first calls [] (held first.state ∷ [])
-none_made first calls usable = record {
+pub none_made : (most : ℕ) (first : Handle) (calls : List Call) → first.state.usable ≡ true
+    → first.faults ≤ most → Rests most first calls [] (held first.state ∷ [])
+none_made most first calls usable counts = record {
   goes = record {
     made = [];
     later = calls;
@@ -58,27 +62,30 @@ none_made first calls usable = record {
     last = first;
     run = refl;
     usable = usable;
+    counts = counts;
   };
   left = refl;
 }
 
 -- all were made
-abbrev pub all_go : (first last : Handle) (calls : List Call) (replies : List Reply)
-    → Run first calls replies last → last.state.usable ≡ true → Goes first calls replies
-all_go first last calls replies run usable = record {
+abbrev pub all_go : (most : ℕ) (first last : Handle) (calls : List Call) (replies : List Reply)
+    → Run first calls replies last → last.state.usable ≡ true → last.faults ≤ most
+    → Goes most first calls replies
+all_go most first last calls replies run usable counts = record {
   made = calls;
   later = [];
   calls_are = sym (append-nil calls);
   last = last;
   run = run;
   usable = usable;
+  counts = counts;
 }
 
-pub all_made : (first last : Handle) (calls : List Call) (replies : List Reply)
-    → Run first calls replies last → last.state.usable ≡ true
-    → Rests first calls replies (held last.state ∷ [])
-all_made first last calls replies run usable =
-    record { goes = all_go first last calls replies run usable; left = refl }
+pub all_made : (most : ℕ) (first last : Handle) (calls : List Call) (replies : List Reply)
+    → Run first calls replies last → last.state.usable ≡ true → last.faults ≤ most
+    → Rests most first calls replies (held last.state ∷ [])
+all_made most first last calls replies run usable counts =
+    record { goes = all_go most first last calls replies run usable counts; left = refl }
 
 module _ {S : Type 0} {s : Ghosts S} (new : Database S s) (first last : Handle) (calls : List Call)
     (replies : List Reply) (b : IsBreak new first calls replies last) where
@@ -86,8 +93,8 @@ module _ {S : Type 0} {s : Ghosts S} (new : Database S s) (first last : Handle) 
   abbrev pub in_doubt : Members
   in_doubt = left_by b.sound.state (case_of b.sound.state b.call)
 
-  pub breaks : Breaks first calls replies in_doubt
-  breaks = record {
+  pub breaks : (most : ℕ) → last.faults ≤ most → Breaks most first calls replies in_doubt
+  breaks most counts = record {
     answered = b.answered;
     refused = b.refused;
     replies_are = b.replies_are;
@@ -99,6 +106,12 @@ module _ {S : Type 0} {s : Ghosts S} (new : Database S s) (first last : Handle) 
         last = b.sound;
         run = b.run;
         usable = b.usable;
+        counts = omega (
+          arith,
+          b.step.counts,
+          counts_up b.broken last b.later b.refused b.rest,
+          counts,
+        );
       };
       call = b.call;
       rest = b.later;
@@ -113,6 +126,7 @@ module _ {S : Type 0} {s : Ghosts S} (new : Database S s) (first last : Handle) 
     rest_is = sym (append-nil b.later);
     last = last;
     run = b.rest;
+    counts = counts;
   }
 
   abbrev asked : Member
@@ -191,19 +205,19 @@ module _ (mid new : Bool) {X : Type 0} (stored : Result ℕ Fault) (closed : Res
 -- ---- what is left of the device
 
 module _ {S : Type 0} {s : Ghosts S} (old new : Database S s) (h : Handle) (calls : List Call)
-    (group : List Pair) (replies : List Reply) (pages : ℕ) (candidate : Candidates) where
-  pub broke : IsAt old h → h.state.usable ≡ true → IsRun old new h calls replies
+    (group : List Pair) (replies : List Reply) (pages : ℕ) (candidate : Candidates) (most : ℕ) where
+  pub broke : IsAt old h → h.state.usable ≡ true → (run : IsRun old new h calls replies) → run.after.faults ≤ most
       → (meta_kept new).limit ≡ (meta_kept old).limit → (page_state new).usable ≡ false
       → ((image : Image) → IsImageOf candidate image
       → s.settles_to (store_of new) (settled pages image))
-      → CallsLeave h calls group (model.Broke replies) pages candidate
-  broke at usable run limit now settles =
+      → CallsLeave most h calls group (model.Broke replies) pages candidate
+  broke at usable run counts limit now settles =
       let was = sym (ap (λ (x : Handle). x.state.usable) at.shows) ∙ usable in
       let b = run.breaks was now in
       let same = limit ∙ sym (ap (λ (x : Handle). x.state.limit) at.shows) in
       record {
         after = in_doubt new h run.after calls replies b;
-        goes = breaks new h run.after calls replies b;
+        goes = breaks new h run.after calls replies b most counts;
         stand = λ image is.
             stands_in_doubt new h run.after calls replies b (settled pages image) same
             (settles image is);

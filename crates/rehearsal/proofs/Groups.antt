@@ -1,5 +1,5 @@
 -- A group that is stored behind the calls of a session, and what a stop within its commit leaves.
-use Rattle.std.proofs.Common.{◌≡◌, ◌≢◌, ◌⊎◌, inl, inr, ⊎_elim, ℕ, true, false, List, [], ◌∷◌, take, map, Result, Ok, Err, refl, sym, ◌∙◌, ap, subst, IfErr, IsErrOf}
+use Rattle.std.proofs.Common.{◌≡◌, ◌≢◌, ◌⊎◌, inl, inr, ⊎_elim, ℕ, ◌≤◌, true, false, List, [], ◌∷◌, take, map, Result, Ok, Err, refl, sym, ◌∙◌, ap, ap₂, subst, arith, IfErr, IsErrOf}
 use Rattle.std.specs.Result.{result_unwrap_or}
 use Rattle.std.proofs.lemmas.Bool.{false≢true}
 use Rattle.sect_dev.specs.Device.{LeavesOnly}
@@ -9,19 +9,21 @@ use Rattle.dbm_model.specs.Changes.{replacing, with_pairs}
 use Rattle.dbm_model.specs.Pairs.{Pair, Contents}
 use Rattle.dbm_model.specs.States.{State, Handle}
 use Rattle.dbm_model.specs.Steps.{Run}
+use Rattle.dbm_model.proofs.StoreLemmas.{stores_put_all}
 use Rattle.page_io.specs.Store.{Settled}
 use Rattle.page_io.specs.Meaning.{ImageStandsFor}
 use Rattle.page_io.specs.declared.store.PageStore.{Ghosts}
-use Rattle.dbm_sessions.specs.Members.{Member, Holding, Members, held}
+use Rattle.dbm_sessions.specs.Members.{Holding, Members, held}
 use Rattle.dbm_sessions.specs.Sessions as model
 use Rattle.dbm_sessions.specs.Sessions.{StoppedGroup, Groups, GroupCutShort}
 use Rattle.dbm_sessions.proofs.Lists.{is_first, is_later}
+use Rattle.dbm_sessions.proofs.Rooms.{limit_stays}
 use Rattle.dbm_fault.specs.Among.{IsErrAmong}
 use Rattle.dbm_fault.specs.declared.fault.Fault.{Fault}
 use Rattle.dbm_fault.specs.declared.fault.Fault.TheVariants.{Device, Broken, ReadOnly}
 use Rattle.dbm_file.specs.Answers.{StandsForSome, Survives}
 use Rattle.dbm_file.specs.Database.{store_of, meta_kept, page_state, IsAt}
-use Rattle.dbm_file.specs.Groups.{GroupEnds}
+use Rattle.dbm_file.specs.Groups.{IsCommitBroken, GroupEnds}
 use Rattle.dbm_file.specs.declared.database.Database.{Database}
 use Rattle.rehearsal.specs.Members.{StandsForOne}
 use Rattle.rehearsal.specs.Sessions.{IsLeftByCalls}
@@ -39,11 +41,15 @@ pub record IsStoredGroup {S : Type 0} {s : Ghosts S} (new : Database S s) (befor
   pub shown : Handle
   pub is_at : IsAt new shown
   pub same : (shown.state.map ≡ done.state.map) × (shown.state.limit ≡ done.state.limit)
+  pub counts : (before.faults ≤ shown.faults) × (done.faults ≤ shown.faults)
 
 -- where its commit broke the database, each image has none of the pairs or the first ones
 pub record IsBrokenGroup {S : Type 0} {s : Ghosts S} (old new : Database S s) (before : Handle)
     (pairs : List Pair) : Type 0 where
   pub count : ℕ
+  pub after : Handle
+  pub is_at : IsAt new after
+  pub broken : IsCommitBroken before after (take count pairs) Device
   pub survives : Survives old new (λ left. (left ≡ before.state.map)
       ⊎ (left ≡ with_pairs before.state.map (take count pairs)))
 
@@ -57,6 +63,7 @@ module _ {S : Type 0} (s : Ghosts S) (old new : Database S s) (before : Handle)
     shown = ends.after;
     is_at = ends.is_at;
     same = (refl, refl);
+    counts = (ends.counts, omega arith);
   }
   stored_group (Err fault) ends usable = record {
     done = before;
@@ -65,19 +72,31 @@ module _ {S : Type 0} (s : Ghosts S) (old new : Database S s) (before : Handle)
     is_at = ends.is_at;
     same = ⊎_elim
         (λ refused. (ap (λ (x : State). x.map) refused, ap (λ (x : State). x.limit) refused))
-        (λ breaks. absurd (false≢true (sym (ap (λ (x : State). x.usable) breaks.4)
+        (λ broken. absurd (false≢true (sym (ap (λ (x : State). x.usable) broken.breaks.4)
         ∙ ap (λ (x : Handle). x.state.usable) ends.is_at.shows ∙ usable))) ends.ends;
+    counts = (ends.counts, ends.counts);
   }
 
   pub broken_group : (stored : Result ℕ Fault) → GroupEnds old new before pairs stored
       → ((page_state new).usable ≡ (page_state old).usable)
       ⊎ (IsErrOf stored Device × ((page_state new).usable ≡ false))
-      → (page_state old).usable ≡ true → (page_state new).usable ≡ false
-      → IsBrokenGroup old new before pairs
-  broken_group (Ok count) ends (inl still) was now = absurd (false≢true (sym now ∙ still ∙ was))
-  broken_group (Ok count) ends (inr device) was now = absurd (let e = device.0 in cc)
-  broken_group (Err fault) ends still was now = record {
+      → (page_state old).usable ≡ true → before.state.usable ≡ true
+      → (page_state new).usable ≡ false → IsBrokenGroup old new before pairs
+  broken_group (Ok count) ends (inl still) was sound now =
+      absurd (false≢true (sym now ∙ still ∙ was))
+  broken_group (Ok count) ends (inr device) was sound now = absurd (let e = device.0 in cc)
+  broken_group (Err fault) ends (inl still) was sound now =
+      absurd (false≢true (sym now ∙ still ∙ was))
+  broken_group (Err fault) ends (inr device) was sound now = record {
     count = ends.count;
+    after = ends.after;
+    is_at = ends.is_at;
+    broken = ⊎_elim
+        (λ refused. absurd (false≢true (sym now
+        ∙ sym (ap (λ (x : Handle). x.state.usable) ends.is_at.shows)
+        ∙ ap (λ (x : State). x.usable) refused ∙ sound)))
+        (λ broken. subst (λ (f : Fault). IsCommitBroken before ends.after (take ends.count pairs) f)
+        (let e = device.0 in cc) broken) ends.ends;
     survives = weaker s.moment s.settled_since (store_of old) (store_of new) _ _
         (ends.survives was) (λ y some. (
           some.0,
@@ -104,78 +123,88 @@ same_settles s old new y same left = subst (λ store. s.settles_to store y) same
 
 -- ---- behind the calls of a session
 
-module _ (first last : Handle) (calls : List Call) (group : List Pair) (replies : List Reply)
-    (run : Run first calls replies last) (usable : last.state.usable ≡ true) where
+module _ (most : ℕ) (first last : Handle) (calls : List Call) (group : List Pair)
+    (replies : List Reply) (run : Run first calls replies last)
+    (usable : last.state.usable ≡ true) (counts : last.faults ≤ most) where
   pub grouped : (stored : List Pair) (done : Handle)
       → Run (record last { faults = done.faults }) (map replacing stored) (map (λ _. Stored) stored)
-      done → Groups first calls replies stored (held done.state ∷ [])
-  grouped stored done steps = record {
-    goes = all_go first last calls replies run usable;
+      done → done.faults ≤ most → Groups most first calls replies stored (held done.state ∷ [])
+  grouped stored done steps few = record {
+    goes = all_go most first last calls replies run usable counts;
     all = refl;
     last = done;
     run = steps;
+    counts = few;
     left = refl;
   }
 
-  -- the map behind the calls, with the first pairs of the group
-  abbrev with_first : ℕ → Member
-  with_first count =
-      held (record last.state { map = with_pairs last.state.map (take count group) })
+  -- the commit of the first pairs of the group was cut short, which would have left this handle
+  module _ (count : ℕ) (stored : Handle)
+      (steps : Run (record last { faults = stored.faults }) (map replacing (take count group))
+      (map (λ _. Stored) (take count group)) stored) (few : stored.faults ≤ most) where
+    -- what there was, or that with these pairs
+    abbrev pub doubted : Members
+    doubted = held last.state ∷ held stored.state ∷ []
 
-  -- that one, or the one without them
-  abbrev pub doubted : ℕ → Members
-  doubted count = held last.state ∷ with_first count ∷ []
+    pub cut_short : GroupCutShort most first calls replies (take count group) doubted
+    cut_short = record {
+      goes = all_go most first last calls replies run usable counts;
+      all = refl;
+      stored = stored;
+      run = steps;
+      counts = few;
+      left = refl;
+    }
 
-  pub cut_short : (count : ℕ)
-      → GroupCutShort first calls replies (take count group) (doubted count)
-  cut_short count = record {
-    goes = all_go first last calls replies run usable;
-    all = refl;
-    left = refl;
-  }
+    with_first : held stored.state
+        ≡ Holding (with_pairs last.state.map (take count group)) last.state.limit
+    with_first = ap₂ Holding
+        (stores_put_all (record last { faults = stored.faults }) stored (take count group) steps)
+        (limit_stays (record last { faults = stored.faults }) stored
+        (map replacing (take count group)) (map (λ _. Stored) (take count group)) steps)
 
-  -- an image that stands for one of them
-  pub doubted_one : (count : ℕ) (y : Settled) (limit : ℕ) → last.state.limit ≡ limit
-      → StandsForSome (λ left. (left ≡ last.state.map)
-      ⊎ (left ≡ with_pairs last.state.map (take count group))) limit y
-      → StandsForOne (doubted count) y
-  doubted_one count y limit same (contents, left, stands) = (
-    Holding contents last.state.limit,
-    ⊎_elim
-        (λ none. is_first (held last.state) (with_first count ∷ [])
-        (Holding contents last.state.limit)
-        (ap (λ (m : Contents). Holding m last.state.limit) none))
-        (λ some. is_later (held last.state) (with_first count ∷ [])
-        (Holding contents last.state.limit)
-        (is_first (with_first count) [] (Holding contents last.state.limit)
-        (ap (λ (m : Contents). Holding m last.state.limit) some))) left,
-    subst (λ (n : ℕ). ImageStandsFor y contents n) (sym same) stands,
-  )
+    -- an image that stands for one of them
+    pub doubted_one : (y : Settled) (limit : ℕ) → last.state.limit ≡ limit
+        → StandsForSome (λ left. (left ≡ last.state.map)
+        ⊎ (left ≡ with_pairs last.state.map (take count group))) limit y
+        → StandsForOne doubted y
+    doubted_one y limit same (contents, left, stands) = (
+      Holding contents last.state.limit,
+      ⊎_elim
+          (λ none. is_first (held last.state) (held stored.state ∷ [])
+          (Holding contents last.state.limit)
+          (ap (λ (m : Contents). Holding m last.state.limit) none))
+          (λ some. is_later (held last.state) (held stored.state ∷ [])
+          (Holding contents last.state.limit)
+          (is_first (held stored.state) [] (Holding contents last.state.limit)
+          (ap (λ (m : Contents). Holding m last.state.limit) some ∙ sym with_first))) left,
+      subst (λ (n : ℕ). ImageStandsFor y contents n) (sym same) stands,
+    )
 
-  -- a stop within a commit that broke the database
-  pub left_in_group : (count : ℕ) (y : Settled) (limit : ℕ) → last.state.limit ≡ limit
-      → StandsForSome (λ left. (left ≡ last.state.map)
-      ⊎ (left ≡ with_pairs last.state.map (take count group))) limit y
-      → IsLeftByCalls first calls group (model.BrokeGroup replies count) y
-  left_in_group count y limit limit_is some = record {
-    stop = StoppedGroup replies count;
-    is_stop = inr refl;
-    after = doubted count;
-    goes = cut_short count;
-    stands = doubted_one count y limit limit_is some;
-  }
+    -- a stop within a commit that broke the database
+    pub left_in_group : (y : Settled) (limit : ℕ) → last.state.limit ≡ limit
+        → StandsForSome (λ left. (left ≡ last.state.map)
+        ⊎ (left ≡ with_pairs last.state.map (take count group))) limit y
+        → IsLeftByCalls most first calls group (model.BrokeGroup replies count) y
+    left_in_group y limit limit_is some = record {
+      stop = StoppedGroup replies count;
+      is_stop = inr refl;
+      after = doubted;
+      goes = cut_short;
+      stands = doubted_one y limit limit_is some;
+    }
 
   -- a stop behind it
   pub left_grouped : (stored : ℕ) (done : Handle) (y : Settled)
       → Run (record last { faults = done.faults }) (map replacing (take stored group))
-      (map (λ _. Stored) (take stored group)) done
+      (map (λ _. Stored) (take stored group)) done → done.faults ≤ most
       → ImageStandsFor y done.state.map done.state.limit
-      → IsLeftByCalls first calls group (model.Grouped replies stored) y
-  left_grouped stored done y steps stands = record {
+      → IsLeftByCalls most first calls group (model.Grouped replies stored) y
+  left_grouped stored done y steps few stands = record {
     stop = model.Grouped replies stored;
     is_stop = refl;
     after = held done.state ∷ [];
-    goes = grouped (take stored group) done steps;
+    goes = grouped (take stored group) done steps few;
     stands = (held done.state, is_first (held done.state) [] (held done.state) refl, stands);
   }
 
@@ -183,16 +212,17 @@ module _ (first last : Handle) (calls : List Call) (group : List Pair) (replies 
   pub group_moments : {S : Type 0} (s : Ghosts S) (old new : Database S s)
       (stored : Result ℕ Fault) → GroupEnds old new last group stored
       → (page_state old).usable ≡ true → (page_state new).usable ≡ true
-      → (meta_kept new).limit ≡ (meta_kept old).limit
+      → s.faults (store_of new) ≤ most → (meta_kept new).limit ≡ (meta_kept old).limit
       → last.state.limit ≡ (meta_kept old).limit
       → LeavesOnly s.moment s.settled_since (store_of old) (store_of new)
-      (IsLeftByCalls first calls group (model.Grouped replies (result_unwrap_or stored 0)))
-  group_moments s old new (Ok count) ends was now kept limit =
+      (IsLeftByCalls most first calls group (model.Grouped replies (result_unwrap_or stored 0)))
+  group_moments s old new (Ok count) ends was now few kept limit =
       weaker s.moment s.settled_since (store_of old) (store_of new) _ _ (ends.survives was)
       (λ y some. ⊎_elim
-      (λ none. left_made first last calls group replies (model.Grouped replies count) refl run
-      usable y (stands y some none limit))
+      (λ none. left_made most first last calls group replies (model.Grouped replies count) refl run
+      usable counts y (stands y some none limit))
       (λ all. left_grouped count ends.after y ends.run
+      (omega (arith, few, ap (λ (x : Handle). x.faults) ends.is_at.shows))
       (subst (λ (m : Contents). ImageStandsFor y m ends.after.state.limit) all
       (subst (λ (n : ℕ). ImageStandsFor y some.0 n)
       (sym (ap (λ (x : Handle). x.state.limit) ends.is_at.shows ∙ kept)) some.2)))
@@ -204,10 +234,11 @@ module _ (first last : Handle) (calls : List Call) (group : List Pair) (replies 
           → ImageStandsFor y last.state.map last.state.limit
       stands y some none same = subst (λ (m : Contents). ImageStandsFor y m last.state.limit) none
           (subst (λ (n : ℕ). ImageStandsFor y some.0 n) (sym same) some.2)
-  group_moments s old new (Err fault) ends was now kept limit =
+  group_moments s old new (Err fault) ends was now few kept limit =
       weaker s.moment s.settled_since (store_of old) (store_of new) _ _ (ends.survives was)
       (λ y some. ⊎_elim
-      (λ none. left_made first last calls group replies (model.Grouped replies 0) refl run usable y
+      (λ none. left_made most first last calls group replies (model.Grouped replies 0) refl run
+      usable counts y
       (subst (λ (m : Contents). ImageStandsFor y m last.state.limit) none
       (subst (λ (n : ℕ). ImageStandsFor y some.0 n) (sym limit) some.2)))
       (λ broken. absurd (false≢true (sym broken.0

@@ -5,24 +5,36 @@ use Rattle.sect_dev.specs.Moments.{only_image}
 use Rattle.redo_commit.specs.File.{settled}
 use Rattle.dbm_sessions.specs.Members.{Members}
 use Rattle.dbm_sessions.specs.Sessions as model
-use Rattle.dbm_sessions.specs.Sessions.{Plan, SessionStep, Sessions}
+use Rattle.dbm_sessions.specs.Sessions.{Disk, Plan, SessionStep, Sessions}
 use Rattle.dbm_sessions.proofs.Ways.{changes_stay}
 use Rattle.rehearsal.specs.Members.{StandsForOne, AllStandFor}
 use Rattle.rehearsal.specs.Sessions.{ending_of, Leaves}
-use Rattle.rehearsal.specs.Rehearsals.{AreTold, SessionsLeave, AreAllLeft}
+use Rattle.rehearsal.specs.Rehearsals.{AreTold, SessionLeaves, SessionsLeave, AreAllLeft}
 use Rattle.rehearsal.specs.declared.sessions.Ending.{Ending}
 
 -- one session more
-sessions-push : (before mid after : Members) (plans : List Plan) (endings : List model.Ending)
-    (plan : Plan) (ending : model.Ending) → Sessions before plans endings mid
-    → SessionStep mid plan ending after
-    → Sessions before (plans ++ plan ∷ []) (endings ++ ending ∷ []) after
-sessions-push before mid after [] [] plan ending all step =
-    (after, subst (λ (ms : Members). SessionStep ms plan ending after) all step, refl)
-sessions-push before mid after [] (one ∷ endings) plan ending all step = absurd all
-sessions-push before mid after (one ∷ plans) [] plan ending all step = absurd all
-sessions-push before mid after (one ∷ plans) (told ∷ endings) plan ending all step =
-    (all.0, all.1, sessions-push all.0 mid after plans endings plan ending all.2 step)
+sessions-push : (pages : ℕ) (before mid after : Members) (plans : List Plan)
+    (endings : List model.Ending) (disk : Disk) (plan : Plan) (ending : model.Ending)
+    → disk.pages ≡ pages → Sessions pages before plans endings mid
+    → SessionStep disk mid plan ending after
+    → Sessions pages before (plans ++ plan ∷ []) (endings ++ ending ∷ []) after
+sessions-push pages before mid after [] [] disk plan ending of_pages all step = (
+  disk,
+  of_pages,
+  after,
+  subst (λ (ms : Members). SessionStep disk ms plan ending after) all step,
+  refl,
+)
+sessions-push pages before mid after [] (one ∷ endings) disk plan ending of_pages all step = absurd all
+sessions-push pages before mid after (one ∷ plans) [] disk plan ending of_pages all step = absurd all
+sessions-push pages before mid after (one ∷ plans) (told ∷ endings) disk plan ending of_pages
+    (first, first_pages, then, first_step, rest) step = (
+      first,
+      first_pages,
+      then,
+      first_step,
+      sessions-push pages then mid after plans endings disk plan ending of_pages rest step,
+    )
 
 pub none_yet : (before : Members) (pages : ℕ) (candidate : Candidates)
     → AllStandFor before pages candidate → SessionsLeave before [] [] pages candidate
@@ -44,17 +56,20 @@ told-push (first ∷ endings) (one ∷ told) ending count all =
 
 pub one_more : (before : Members) (plans : List Plan) (endings : List Ending) (plan : Plan)
     (ending : Ending) (pages next : ℕ) (candidate now : Candidates)
-    (so_far : SessionsLeave before plans endings pages candidate)
-    → (count : ℕ) → Leaves so_far.after plan (ending_of ending count) next now
+    (so_far : SessionsLeave before plans endings pages candidate) → next ≡ pages
+    → SessionLeaves so_far.after plan ending next now
     → SessionsLeave before (plans ++ plan ∷ []) (endings ++ ending ∷ []) next now
-one_more before plans endings plan ending pages next candidate now so_far count one = record {
-  told = so_far.told ++ ending_of ending count ∷ [];
-  are_told = told-push endings so_far.told ending count so_far.are_told;
-  after = one.after;
-  sessions = sessions-push before so_far.after one.after plans so_far.told plan
-      (ending_of ending count) so_far.sessions one.step;
-  stand = one.stand;
-}
+one_more before plans endings plan ending pages next candidate now so_far same
+    (disk, of_pages, count, one) = record {
+      told = so_far.told ++ ending_of ending count ∷ [];
+      are_told = told-push endings so_far.told ending count so_far.are_told;
+      after = one.after;
+      sessions = sessions-push next before so_far.after one.after plans so_far.told disk plan
+          (ending_of ending count) of_pages
+          (subst (λ (n : ℕ). Sessions n before plans so_far.told so_far.after) (sym same)
+          so_far.sessions) one.step;
+      stand = one.stand;
+    }
 
 -- of the images that might have been left, the stop left this one
 pub after_stop : (members : Members) (pages : ℕ) (before after : Candidates) (image : Image)
@@ -72,16 +87,16 @@ all_left before plans endings pages candidate all = (
   all.are_told,
   λ image is.
       let one = all.stand image is in
-      let way = changes_stay before all.after plans all.told all.sessions one.0 one.1 in
+      let way = changes_stay pages before all.after plans all.told all.sessions one.0 one.1 in
       record { member = one.0; stands = one.2; start = way.0; among = way.1; left = way.2 },
 )
 
 -- the device that a stop left is as the session left it, or some of it
-pub stop_leaves : (before : Members) (plan : Plan) (ending : model.Ending) (pages next : ℕ)
-    (candidate now : Candidates) (image : Image) → Leaves before plan ending pages candidate
-    → IsImageOf candidate image → IsStable now image → next ≡ pages
-    → Leaves before plan ending next now
-stop_leaves before plan ending pages next candidate now image one is stable same = record {
+pub stop_leaves : (disk : Disk) (before : Members) (plan : Plan) (ending : model.Ending)
+    (pages next : ℕ) (candidate now : Candidates) (image : Image)
+    → Leaves disk before plan ending pages candidate → IsImageOf candidate image
+    → IsStable now image → next ≡ pages → Leaves disk before plan ending next now
+stop_leaves disk before plan ending pages next candidate now image one is stable same = record {
   after = one.after;
   step = one.step;
   stand = subst (λ (n : ℕ). AllStandFor one.after n now) (sym same)

@@ -1,5 +1,5 @@
 -- What an opening leaves of the members that the images stood for, and with which it begins.
-use Rattle.std.proofs.Common.{◌≡◌, ◌⊎◌, inl, inr, ℕ, ◌/◌, Bool, true, false, cond, not, ◌++◌, map, None, Some, refl, sym, ◌∙◌, ap, subst, Contains}
+use Rattle.std.proofs.Common.{◌≡◌, ◌⊎◌, inl, inr, ℕ, ◌+◌, ◌/◌, ◌≤◌, Bool, true, false, cond, not, ◌++◌, length, map, None, Some, refl, sym, ◌∙◌, ap, subst, arith, Contains}
 use Rattle.std.specs.FinMap.{empty}
 use Rattle.std.proofs.lemmas.List.Elements.{Contains-append_left, Contains-append_right}
 use Rattle.sect_dev.specs.Device.{Candidates}
@@ -11,14 +11,16 @@ use Rattle.page_io.proofs.Meanings.{one_meaning}
 use Rattle.redo_commit.specs.File.{settled}
 use Rattle.redo_area.specs.Settling.{SettlesTo}
 use Rattle.dbm_sessions.specs.Members.{Member, NoDatabase, Holding, Members, held, opened}
-use Rattle.dbm_sessions.specs.Sessions.{Begins}
+use Rattle.dbm_sessions.specs.Sessions.{Disk, IsOn, Begins}
 use Rattle.dbm_sessions.proofs.Lists.{map_has}
-use Rattle.file_opening.specs.Opening.{writes, making_fault, room_fault, BeginsEmpty, MayRemain, AllStand, IsOpened}
+use Rattle.file_opening.specs.Opening.{writes, making_fault, room_fault, BeginsEmpty, IsRefusedOpening, MayRemain, AllStand, IsOpened}
+use Rattle.dbm_fault.specs.declared.fault.Fault.{Fault}
 use Rattle.dbm_fault.specs.declared.fault.Fault.TheVariants.{NotADatabase}
 use Rattle.dbm_model.specs.Sizes.{sectors_for}
 use Rattle.page_io.specs.declared.store.PageStore.{Ghosts}
 use Rattle.file_opening.specs.declared.open_how.OpenHow.{OpenHow}
-use Rattle.dbm_file.specs.Database.{IsAt}
+use Rattle.dbm_file.specs.Database.{store_of, page_state, IsAt}
+use Rattle.dbm_file.proofs.OpenedFiles.{counts_pairs, few_pages}
 use Rattle.dbm_file.specs.Opened.{IsOpenedAt}
 use Rattle.dbm_file.specs.declared.database.Database.{Database}
 use Rattle.rehearsal.specs.Members.{StandsFor, StandsForOne, AllStandFor}
@@ -140,11 +142,11 @@ module _ (before : Members) (how : Opening) (sectors : ℕ) (start : Candidates)
       )
 
   -- a database that was just opened begins with one of the members
-  pub begins : (contents : Contents) (limit : ℕ) (first : Handle)
+  pub begins : (disk : Disk) (contents : Contents) (limit : ℕ) (first : Handle)
       → first.state ≡ fresh contents limit true
-      → IsOpened (for_writing how) sectors start contents limit
-      → Begins before (opening_of how) first
-  begins contents limit first is opens =
+      → IsOpened (for_writing how) sectors start contents limit → IsOn disk first
+      → Begins disk before (opening_of how) first
+  begins disk contents limit first is opens on =
       let one = begins_at contents limit opens in
       record {
         member = one.0;
@@ -153,35 +155,77 @@ module _ (before : Members) (how : Opening) (sectors : ℕ) (start : Candidates)
         is_fresh = is
             ∙ ap (λ (m : Contents). fresh m limit true) (sym (ap (λ (s : State). s.map) is))
             ∙ ap (λ (n : ℕ). fresh first.state.map n true) (sym (ap (λ (s : State). s.limit) is));
+        is_on = on;
       }
+
+  -- an image that a refused opening leaves settles as one at the start did
+  pub stays_refused : (now : Candidates) (fault : Fault)
+      → IsRefusedOpening (for_writing how) sectors start now fault
+      → AllStandFor before (sectors / 4) now
+  stays_refused now fault refused image is =
+      subst (StandsForOne before) (sym (refused.left refl image is))
+      (stand refused.image refused.at_start)
 
 -- ---- a database that was opened so
 
+-- its handle, where its device had failed so often before; `ends` is the law of its store
+pub on_device : {S : Type 0} (s : Ghosts S) (db : Database S s) (disk : Disk) (h : Handle)
+    → IsAt db h → h.state.usable ≡ true → (page_state db).capacity ≡ disk.pages
+    → disk.at_start ≤ s.faults (store_of db)
+    → length (s.committed (store_of db)) + 1 ≡ (page_state db).end → IsOn disk h
+on_device s db disk h at usable capacity later ends =
+    let counted = counts_pairs s db h at usable in
+    record {
+      capacity = ap (λ (x : Handle). x.capacity) at.shows ∙ capacity;
+      counts = omega (arith, later, ap (λ (x : Handle). x.faults) at.shows);
+      limited = (
+        omega (arith, db.valid.limited.0, counted.1),
+        omega (arith, db.valid.limited.1, counted.1),
+      );
+      few_pairs = omega (arith, db.valid.few_pairs.0, counted.0, counted.1);
+      light = omega (
+        arith,
+        db.valid.few_pairs.1,
+        counted.0,
+        ap (λ (x : Handle). x.buckets) at.shows,
+      );
+      few_pages = omega (
+        arith,
+        few_pages s db h at usable ends,
+        ap (λ (x : Handle). x.pages) at.shows,
+      );
+    }
+
 -- it is at a handle with which a session begins
-pub record IsBegun {S : Type 0} {s : Ghosts S} (db : Database S s) (before : Members)
-    (how : Opening) : Type 0 where
+pub record IsBegun {S : Type 0} {s : Ghosts S} (db : Database S s) (disk : Disk)
+    (before : Members) (how : Opening) : Type 0 where
   pub handle : Handle
   pub is_at : IsAt db handle
   pub usable : handle.state.usable ≡ true
-  pub begins : Begins before (opening_of how) handle
+  pub begins : Begins disk before (opening_of how) handle
 
 pub never_reads : (how : Opening) (asked : OpenHow) → asked ≡ for_writing how
     → writes asked.access ≡ false → ⊥
 never_reads how asked is reads =
     absurd (let x = sym (ap (λ (h : OpenHow). writes h.access) is) ∙ reads in cc)
 
-pub begun : {S : Type 0} {s : Ghosts S} (db : Database S s) (before : Members) (how : Opening)
-    (asked : OpenHow) (sectors : ℕ) (start : Candidates) → asked ≡ for_writing how
-    → AllStandFor before (sectors / 4) start
+pub begun : {S : Type 0} {s : Ghosts S} (db : Database S s) (disk : Disk) (before : Members)
+    (how : Opening) (asked : OpenHow) (sectors : ℕ) (start : Candidates)
+    → asked ≡ for_writing how → AllStandFor before (sectors / 4) start
+    → (page_state db).capacity ≡ disk.pages → disk.at_start ≤ s.faults (store_of db)
+    → length (s.committed (store_of db)) + 1 ≡ (page_state db).end
     → (contents : Contents) × (limit : ℕ) × IsOpenedAt (writes asked.access) db contents limit
-    × IsOpened asked sectors start contents limit → IsBegun db before how
-begun db before how asked sectors start is stand (contents, limit, opens, holds) =
+    × IsOpened asked sectors start contents limit → IsBegun db disk before how
+begun {S} {s} db disk before how asked sectors start is stand capacity later ends
+    (contents, limit, opens, holds) =
     let fresh_so = opens.is_fresh
     ∙ ap (λ (h : OpenHow). fresh contents limit (writes h.access)) is in
     record {
       handle = opens.handle;
       is_at = opens.is_at;
-      usable = ap (λ (s : State). s.usable) fresh_so;
-      begins = begins before how sectors start stand contents limit opens.handle fresh_so
-          (subst (λ (h : OpenHow). IsOpened h sectors start contents limit) is holds);
+      usable = ap (λ (x : State). x.usable) fresh_so;
+      begins = begins before how sectors start stand disk contents limit opens.handle fresh_so
+          (subst (λ (h : OpenHow). IsOpened h sectors start contents limit) is holds)
+          (on_device s db disk opens.handle opens.is_at (ap (λ (x : State). x.usable) fresh_so)
+          capacity later ends);
     }

@@ -1,5 +1,5 @@
 -- What a stop within a list of calls leaves.
-use Rattle.std.proofs.Common.{◌≡◌, inl, inr, ⊎_elim, ℕ, true, false, List, [], ◌∷◌, ◌++◌, refl, sym, ◌∙◌, ap, subst, append_assoc, Contains}
+use Rattle.std.proofs.Common.{◌≡◌, inl, inr, ⊎_elim, ℕ, ◌≤◌, true, false, List, [], ◌∷◌, ◌++◌, refl, sym, ◌∙◌, ap, subst, arith, append_assoc, Contains}
 use Rattle.std.proofs.lemmas.Bool.{cases_Bool}
 use Rattle.dbm_model.specs.Calls.{Call, Store, Fetch, Delete, First, Next, Error, Clear, Reply, Fault, Broken}
 use Rattle.dbm_model.specs.Pairs.{Pair, Contents}
@@ -12,6 +12,7 @@ use Rattle.dbm_model.proofs.Runs.{run-push}
 use Rattle.dbm_sessions.specs.Members.{Member, Holding, Members, held}
 use Rattle.dbm_sessions.specs.Sessions as model
 use Rattle.dbm_sessions.specs.Sessions.{StoppedCall, left_by}
+use Rattle.dbm_sessions.proofs.Failures.{counts_up}
 use Rattle.dbm_sessions.proofs.Lists.{is_first, is_later}
 use Rattle.dbm_file.specs.Answers.{MayBeLeft}
 use Rattle.dbm_file.specs.Runs.{MayBeLeftWithin}
@@ -168,46 +169,62 @@ broken_within before after (call ∷ calls) (reply ∷ replies) contents broken
 
 -- ---- a list of calls
 
+-- the device fails no less often behind them
+counts_within : (before after : Handle) (calls : List Call) (replies : List Reply)
+    (contents : Contents) → MayBeLeftWithin before calls replies after contents
+    → before.faults ≤ after.faults
+counts_within before after [] [] contents left =
+    omega (arith, ap (λ (h : Handle). h.faults) left.0)
+counts_within before after [] (reply ∷ replies) contents left = absurd left
+counts_within before after (call ∷ calls) [] contents left = absurd left
+counts_within before after (call ∷ calls) (reply ∷ replies) contents (mid, step, inl (here, run)) =
+    omega (arith, step.counts, counts_up mid after calls replies run)
+counts_within before after (call ∷ calls) (reply ∷ replies) contents (mid, step, inr later) =
+    omega (arith, step.counts, counts_within mid after calls replies contents later)
+
 -- a stop of a session that answered so leaves this member
-pub record Found (first : Handle) (calls : List Call) (replies : List Reply) (member : Member)
-    : Type 0 where
+pub record Found (most : ℕ) (first : Handle) (calls : List Call) (replies : List Reply)
+    (member : Member) : Type 0 where
   pub stop : model.Ending
   pub is_stop : IsStopOf (model.Rested replies) stop
   pub after : Members
-  pub goes : (group : List Pair) → GoesOn first calls group stop after
+  pub goes : (group : List Pair) → GoesOn most first calls group stop after
   pub among : Contains after member
 
 -- the calls that were made, up to one that is cut short
-cut_at : (first held_at : Handle) (made : List Call) (answered : List Reply) (call : Call)
+cut_at : (most : ℕ) (first held_at : Handle) (made : List Call) (answered : List Reply) (call : Call)
     (calls : List Call) (reply : Reply) (replies : List Reply) (member : Member)
-    → Run first made answered held_at → held_at.state.usable ≡ true
+    → Run first made answered held_at → held_at.state.usable ≡ true → held_at.faults ≤ most
     → Contains (left_by held_at.state (case_of held_at.state call)) member
-    → Found first (made ++ call ∷ calls) (answered ++ reply ∷ replies) member
-cut_at first held_at made answered call calls reply replies member run usable among = record {
-  stop = StoppedCall answered;
-  is_stop = (reply ∷ replies, refl);
-  after = left_by held_at.state (case_of held_at.state call);
-  goes = λ group. record {
-    goes = record {
-      made = made;
-      later = call ∷ calls;
-      calls_are = refl;
-      last = held_at;
-      run = run;
-      usable = usable;
-    };
-    call = call;
-    rest = calls;
-    next = refl;
-    left = refl;
-  };
-  among = among;
-}
+    → Found most first (made ++ call ∷ calls) (answered ++ reply ∷ replies) member
+cut_at most first held_at made answered call calls reply replies member run usable counts among =
+    record {
+      stop = StoppedCall answered;
+      is_stop = (reply, replies, refl);
+      after = left_by held_at.state (case_of held_at.state call);
+      goes = λ group. record {
+        goes = record {
+          made = made;
+          later = call ∷ calls;
+          calls_are = refl;
+          last = held_at;
+          run = run;
+          usable = usable;
+          counts = counts;
+        };
+        call = call;
+        rest = calls;
+        next = refl;
+        left = refl;
+      };
+      among = among;
+    }
 
-all_made : (first held_at : Handle) (made : List Call) (answered : List Reply) (member : Member)
-    → Run first made answered held_at → held_at.state.usable ≡ true → member ≡ held held_at.state
-    → Found first (made ++ []) (answered ++ []) member
-all_made first held_at made answered member run usable is = record {
+all_made : (most : ℕ) (first held_at : Handle) (made : List Call) (answered : List Reply)
+    (member : Member) → Run first made answered held_at → held_at.state.usable ≡ true
+    → held_at.faults ≤ most → member ≡ held held_at.state
+    → Found most first (made ++ []) (answered ++ []) member
+all_made most first held_at made answered member run usable counts is = record {
   stop = model.Rested answered;
   is_stop = ([], refl);
   after = held held_at.state ∷ [];
@@ -219,6 +236,7 @@ all_made first held_at made answered member run usable is = record {
       last = held_at;
       run = run;
       usable = usable;
+      counts = counts;
     };
     left = refl;
   };
@@ -226,45 +244,49 @@ all_made first held_at made answered member run usable is = record {
 }
 
 -- of the calls made so far, and of those that came then
-within_from : (first now after : Handle) (made calls : List Call) (answered replies : List Reply)
-    (contents : Contents) (limit : ℕ) → Run first made answered now → now.state.usable ≡ true
+within_from : (most : ℕ) (first now after : Handle) (made calls : List Call)
+    (answered replies : List Reply) (contents : Contents) (limit : ℕ)
+    → Run first made answered now → now.state.usable ≡ true → after.faults ≤ most
     → now.state.limit ≡ limit → MayBeLeftWithin now calls replies after contents
-    → Found first (made ++ calls) (answered ++ replies) (Holding contents limit)
-within_from first now after made [] answered [] contents limit run usable same left =
-    all_made first now made answered (Holding contents limit) run usable
+    → Found most first (made ++ calls) (answered ++ replies) (Holding contents limit)
+within_from most first now after made [] answered [] contents limit run usable counts same left =
+    all_made most first now made answered (Holding contents limit) run usable
+    (omega (arith, counts_within now after [] [] contents left, counts))
     (ap (λ (m : Contents). Holding m limit) left.1 ∙ ap (Holding now.state.map) (sym same))
-within_from first now after made [] answered (reply ∷ replies) contents limit run usable same
-    left = absurd left
-within_from first now after made (call ∷ calls) answered [] contents limit run usable same left =
-    absurd left
-within_from first now after made (call ∷ calls) answered (reply ∷ replies) contents limit run usable
-    same (mid, step, inl (here, rest)) =
-    cut_at first now made answered call calls reply replies (Holding contents limit) run usable
+within_from most first now after made [] answered (reply ∷ replies) contents limit run usable counts
+    same left = absurd left
+within_from most first now after made (call ∷ calls) answered [] contents limit run usable counts
+    same left = absurd left
+within_from most first now after made (call ∷ calls) answered (reply ∷ replies) contents limit run
+    usable counts same (mid, step, inl (here, rest)) =
+    cut_at most first now made answered call calls reply replies (Holding contents limit) run usable
+    (omega (arith, step.counts, counts_up mid after calls replies rest, counts))
     (subst (λ (n : ℕ). Contains (left_by now.state (case_of now.state call)) (Holding contents n))
     same (may_left now mid call reply contents step here))
-within_from first now after made (call ∷ calls) answered (reply ∷ replies) contents limit run usable
-    same (mid, step, inr later) = ⊎_elim
+within_from most first now after made (call ∷ calls) answered (reply ∷ replies) contents limit run
+    usable counts same (mid, step, inr later) = ⊎_elim
     (λ on.
     subst (λ (cs : List Call).
-    Found first cs (answered ++ reply ∷ replies) (Holding contents limit))
+    Found most first cs (answered ++ reply ∷ replies) (Holding contents limit))
     (append_assoc made (call ∷ []) calls)
-    (subst (λ (rs : List Reply). Found first ((made ++ call ∷ []) ++ calls) rs
+    (subst (λ (rs : List Reply). Found most first ((made ++ call ∷ []) ++ calls) rs
     (Holding contents limit)) (append_assoc answered (reply ∷ []) replies)
-    (within_from first mid after (made ++ call ∷ []) calls (answered ++ reply ∷ []) replies
-    contents limit (run-push first now mid made answered call reply run step) on
+    (within_from most first mid after (made ++ call ∷ []) calls (answered ++ reply ∷ []) replies
+    contents limit (run-push first now mid made answered call reply run step) on counts
     ((settings_stay now mid call reply step).0 ∙ same) later)))
     (λ broken.
-    cut_at first now made answered call calls reply replies (Holding contents limit) run usable
+    cut_at most first now made answered call calls reply replies (Holding contents limit) run usable
+    (omega (arith, step.counts, counts_within mid after calls replies contents later, counts))
     (subst (λ (n : ℕ). Contains (left_by now.state (case_of now.state call)) (Holding contents n))
     same (subst (λ (m : Contents). Contains (left_by now.state (case_of now.state call))
     (Holding m now.state.limit)) (sym (broken_within mid after calls replies contents broken later))
     (step_left now mid call reply step))))
     (cases_Bool mid.state.usable)
 
-pub within : (first after : Handle) (calls : List Call) (replies : List Reply)
-    (contents : Contents) → first.state.usable ≡ true
+pub within : (most : ℕ) (first after : Handle) (calls : List Call) (replies : List Reply)
+    (contents : Contents) → first.state.usable ≡ true → after.faults ≤ most
     → MayBeLeftWithin first calls replies after contents
-    → Found first calls replies (Holding contents first.state.limit)
-within first after calls replies contents usable left =
-    within_from first first after [] calls [] replies contents first.state.limit refl usable refl
-    left
+    → Found most first calls replies (Holding contents first.state.limit)
+within most first after calls replies contents usable counts left =
+    within_from most first first after [] calls [] replies contents first.state.limit refl usable
+    counts refl left

@@ -4,7 +4,7 @@ use Rattle.sect_dev.specs.Device.{Image, Candidates, IsImageOf}
 use Rattle.redo_commit.specs.File.{settled}
 use Rattle.dbm_sessions.specs.Members.{Member, Members}
 use Rattle.dbm_sessions.specs.Sessions as model
-use Rattle.dbm_sessions.specs.Sessions.{Plan, Sessions}
+use Rattle.dbm_sessions.specs.Sessions.{Disk, Plan, Sessions}
 use Rattle.dbm_sessions.specs.Changes.{changes_of, LeftBy}
 use Rattle.dbm_sessions.specs.Room.{IsNeverShort}
 use Rattle.rehearsal.specs.Members.{StandsFor, AllStandFor}
@@ -16,9 +16,11 @@ use Rattle.rehearsal.specs.declared.rehearsing.Stage.{Stage}
 abbrev pub planned : Stage → Plan
 planned stage = plan_of stage.how stage.calls.items stage.group.items
 
+-- a session may end so on a device of so many pages
 abbrev pub SessionLeaves : Members → Plan → Ending → ℕ → Candidates → Type 0
 SessionLeaves before plan ending pages candidate =
-    (count : ℕ) × Leaves before plan (ending_of ending count) pages candidate
+    (disk : Disk) × (disk.pages ≡ pages)
+    × (count : ℕ) × Leaves disk before plan (ending_of ending count) pages candidate
 
 -- endings of the definitions, each as one of the code is told
 abbrev pub AreTold : List Ending → List model.Ending → Type 0
@@ -35,7 +37,7 @@ pub record SessionsLeave (before : Members) (plans : List Plan) (endings : List 
   pub told : List model.Ending
   pub are_told : AreTold endings told
   pub after : Members
-  pub sessions : Sessions before plans told after
+  pub sessions : Sessions pages before plans told after
   pub stand : AllStandFor after pages candidate
 
 -- an image stands for what is left of one of the members by the changes of the sessions, with every

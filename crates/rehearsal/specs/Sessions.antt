@@ -1,5 +1,5 @@
 -- A session of the code as one of the definitions.
-use Rattle.std.specs.Prelude.{◌≡◌, ◌≢◌, ◌⊎◌, ℕ, ◌/◌, false, List, [], ◌++◌, map, take, length, vec_len, None, IfSome, Result}
+use Rattle.std.specs.Prelude.{◌≡◌, ◌≢◌, ◌⊎◌, ℕ, ◌/◌, false, List, [], ◌∷◌, ◌++◌, map, take, length, vec_len, None, IfSome, Result}
 use Rattle.std.specs.Result.{result_unwrap_or}
 use Rattle.sect_dev.specs.Device.{Candidates, MoreFaults}
 use Rattle.sect_dev.specs.declared.device.SectorDev.{Ghosts}
@@ -10,7 +10,7 @@ use Rattle.dbm_model.specs.States.{Handle}
 use Rattle.dbm_sessions.specs.Members as members
 use Rattle.dbm_sessions.specs.Members.{Members}
 use Rattle.dbm_sessions.specs.Sessions as model
-use Rattle.dbm_sessions.specs.Sessions.{Plan, StoppedOpening, StoppedCall, StoppedGroup, Rests, CutShort, Breaks, Groups, GroupCutShort, SessionStep}
+use Rattle.dbm_sessions.specs.Sessions.{Disk, Plan, StoppedOpening, StoppedCall, StoppedGroup, Rests, CutShort, Breaks, Groups, GroupCutShort, SessionStep}
 use Rattle.redo_commit.specs.File.{IsAtRest}
 use Rattle.dbm_fault.specs.Faults.{fault_of}
 use Rattle.dbm_fault.specs.declared.fault.Fault.{Fault}
@@ -105,12 +105,20 @@ pub record WhyNotOpened {D : Type 0} (bound : Ghosts D) (how : OpenHow) (old new
 
 -- ---- what it leaves
 
--- The session may end so, and each image of the device that may then be left stands for a member
--- of what it leaves.
-pub record Leaves (before : Members) (plan : Plan) (ending : model.Ending) (pages : ℕ)
-    (candidate : Candidates) : Type 0 where
+-- the device as the definitions see it, from what it was at the start to what it is at the end
+abbrev pub disk_of : {D : Type 0} → Ghosts D → D → D → Disk
+disk_of bound old new = record {
+  pages = bound.sectors old / 4;
+  at_start = bound.faults old;
+  at_end = bound.faults new;
+}
+
+-- The session may end so on that device, and each image of it that may then be left stands for a
+-- member of what it leaves.
+pub record Leaves (disk : Disk) (before : Members) (plan : Plan) (ending : model.Ending)
+    (pages : ℕ) (candidate : Candidates) : Type 0 where
   pub after : Members
-  pub step : SessionStep before plan ending after
+  pub step : SessionStep disk before plan ending after
   pub stand : AllStandFor after pages candidate
 
 -- ---- what a stop within it leaves
@@ -129,12 +137,18 @@ replies_in (model.BrokeGroup replies count) = replies
 abbrev pub AreFirst : List calls.Reply → List calls.Reply → Type 0
 AreFirst first all = (later : List calls.Reply) × (all ≡ first ++ later)
 
+-- and there is one more of them
+abbrev pub AreBefore : List calls.Reply → List calls.Reply → Type 0
+AreBefore first all =
+    (next : calls.Reply) × (later : List calls.Reply) × (all ≡ first ++ next ∷ later)
+
 -- a session that ended so ends that way where it is stopped: within its opening, where some of its
--- calls have been answered, as they were, within the commit of its group, or behind it
+-- calls have been answered, as they were, within the next one, within the commit of its group, or
+-- behind it
 abbrev pub IsStopOf : model.Ending → model.Ending → Type 0
 IsStopOf ending StoppedOpening = Unit {0}
 IsStopOf ending (model.Rested replies) = AreFirst replies (replies_in ending)
-IsStopOf ending (StoppedCall replies) = AreFirst replies (replies_in ending)
+IsStopOf ending (StoppedCall replies) = AreBefore replies (replies_in ending)
 IsStopOf ending (model.NotOpened fault) = ⊥
 IsStopOf ending (model.Broke replies) = ⊥
 IsStopOf ending (model.Grouped replies stored) = ending ≡ model.Grouped replies stored
@@ -143,40 +157,44 @@ IsStopOf ending (StoppedGroup replies count) =
 IsStopOf ending (model.BrokeGroup replies count) = ⊥
 
 -- what an image settles to stands for a member of what such a stop leaves
-pub record IsLeftByStop (before : Members) (plan : Plan) (ending : model.Ending)
+pub record IsLeftByStop (disk : Disk) (before : Members) (plan : Plan) (ending : model.Ending)
     (settled : Settled) : Type 0 where
   pub stop : model.Ending
   pub is_stop : IsStopOf ending stop
   pub after : Members
-  pub step : SessionStep before plan stop after
+  pub step : SessionStep disk before plan stop after
   pub stands : StandsForOne after settled
 
--- ---- the same of the calls alone, from an open database on
+-- ---- the same of the calls alone, from an open database on, on a device that has failed so often at
+-- the end
 
-abbrev pub GoesOn : Handle → List calls.Call → List model_pairs.Pair → model.Ending → Members
+abbrev pub GoesOn : ℕ → Handle → List calls.Call → List model_pairs.Pair → model.Ending → Members
     → Type 0
-GoesOn first calls group (model.NotOpened fault) after = ⊥
-GoesOn first calls group StoppedOpening after = ⊥
-GoesOn first calls group (model.Rested replies) after = Rests first calls replies after
-GoesOn first calls group (StoppedCall replies) after = CutShort first calls replies after
-GoesOn first calls group (model.Broke replies) after = Breaks first calls replies after
-GoesOn first calls group (model.Grouped replies stored) after =
-    Groups first calls replies (take stored group) after
-GoesOn first calls group (StoppedGroup replies count) after =
-    GroupCutShort first calls replies (take count group) after
-GoesOn first calls group (model.BrokeGroup replies count) after =
-    GroupCutShort first calls replies (take count group) after
+GoesOn most first calls group (model.NotOpened fault) after = ⊥
+GoesOn most first calls group StoppedOpening after = ⊥
+GoesOn most first calls group (model.Rested replies) after = Rests most first calls replies after
+GoesOn most first calls group (StoppedCall replies) after =
+    CutShort most first calls replies after
+GoesOn most first calls group (model.Broke replies) after = Breaks most first calls replies after
+GoesOn most first calls group (model.Grouped replies stored) after =
+    Groups most first calls replies (take stored group) after
+GoesOn most first calls group (StoppedGroup replies count) after =
+    GroupCutShort most first calls replies (take count group) after
+GoesOn most first calls group (model.BrokeGroup replies count) after =
+    GroupCutShort most first calls replies (take count group) after
+    × MoreFaults first.faults most
 
-pub record CallsLeave (first : Handle) (calls : List calls.Call) (group : List model_pairs.Pair)
-    (ending : model.Ending) (pages : ℕ) (candidate : Candidates) : Type 0 where
+pub record CallsLeave (most : ℕ) (first : Handle) (calls : List calls.Call)
+    (group : List model_pairs.Pair) (ending : model.Ending) (pages : ℕ)
+    (candidate : Candidates) : Type 0 where
   pub after : Members
-  pub goes : GoesOn first calls group ending after
+  pub goes : GoesOn most first calls group ending after
   pub stand : AllStandFor after pages candidate
 
-pub record IsLeftByCalls (first : Handle) (calls : List calls.Call)
+pub record IsLeftByCalls (most : ℕ) (first : Handle) (calls : List calls.Call)
     (group : List model_pairs.Pair) (ending : model.Ending) (settled : Settled) : Type 0 where
   pub stop : model.Ending
   pub is_stop : IsStopOf ending stop
   pub after : Members
-  pub goes : GoesOn first calls group stop after
+  pub goes : GoesOn most first calls group stop after
   pub stands : StandsForOne after settled

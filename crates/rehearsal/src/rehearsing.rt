@@ -1,7 +1,7 @@
 // Sessions on a device in memory, each of them stopped.
 ghost use Rattle.std.specs.Prelude.{◌≡◌, ◌≤◌, ◌+◌, ◌/◌, ℕ, All, IfOk, map};
-ghost use Rattle.dbm_sessions.specs.Members.{Members};
-ghost use Rattle.dbm_sessions.specs.Room.{AllHaveRoom, AsksForRoom, IsNeverShort};
+ghost use Rattle.dbm_sessions.specs.Members.{Members, AllHaveRoom};
+ghost use Rattle.dbm_sessions.specs.Room.{AsksForRoom, IsNeverShort};
 ghost use Rattle.rehearsal.specs.Members.{AllStandFor};
 ghost use Rattle.rehearsal.specs.Rehearsals.{planned, SessionLeaves, SessionsLeave, AreAllLeft, AreNeverShort, most_changes};
 ghost use Rattle.rehearsal.specs.Sessions.{ending_of};

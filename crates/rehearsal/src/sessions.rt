@@ -13,7 +13,7 @@ ghost use Rattle.dbm_file.specs.Calls.{call_of};
 ghost use Rattle.dbm_file.specs.Database.{page_state, IsAt};
 ghost use Rattle.dbm_file.specs.Opened.{device_below, AllHaveRoom};
 ghost use Rattle.rehearsal.specs.Members.{AllStandFor};
-ghost use Rattle.rehearsal.specs.Sessions.{plan_of, for_writing, ending_of, IsOneEach, IfNotOpened, IfRested, IfUnsettled, IfGrouped, IsSettled, WhyNotOpened, Leaves, IsLeftByStop, CallsLeave, IsLeftByCalls};
+ghost use Rattle.rehearsal.specs.Sessions.{plan_of, for_writing, ending_of, disk_of, IsOneEach, IfNotOpened, IfRested, IfUnsettled, IfGrouped, IsSettled, WhyNotOpened, Leaves, IsLeftByStop, CallsLeave, IsLeftByCalls};
 
 use dbm_file::{Access, Call, Db, Fault, OpenHow, Pair, Reply, run};
 use sect_dev::SectorDev;
@@ -80,15 +80,17 @@ pub fn session<D: SectorDev>(
     // of the group broke the database, `count` is how many pairs it had.
     ensures leaves { D.honest dev → (before : Members)
         → AllStandFor before (D.sectors dev / 4) (D.candidate dev)
-        → (count : ℕ) × Leaves before (plan_of how calls.now group.now)
-        (ending_of result.1 count) (D.sectors result.0 / 4) (D.candidate result.0) }
+        → (count : ℕ) × Leaves (disk_of D.SectorDev dev result.0) before
+        (plan_of how calls.now group.now) (ending_of result.1 count)
+        (D.sectors result.0 / 4) (D.candidate result.0) }
 
     // Each image of each moment stands for a member of what a session leaves that is stopped there.
     ensures any_moment { D.honest dev → (before : Members)
         → AllStandFor before (D.sectors dev / 4) (D.candidate dev)
         → (count : ℕ)
         × LeavesOnly D.moment (IsOutcome D.left_since (settled (D.sectors dev / 4))) dev result.0
-        (IsLeftByStop before (plan_of how calls.now group.now) (ending_of result.1 count)) }
+        (IsLeftByStop (disk_of D.SectorDev dev result.0) before
+        (plan_of how calls.now group.now) (ending_of result.1 count)) }
     ensures one_each { IsOneEach calls.now result.1 }
 
     // No more pairs of the group are stored than it has, and only a fault of the device refuses it.
@@ -131,14 +133,15 @@ pub fn session<D: SectorDev>(
 fn make_calls<D: SectorDev>(alloc: Global, db: Db<D>, calls: &[Call], group: &[Pair]) -> (D, Ending)
     ensures leaves { D.honest (device_below db) → (h : Handle) → IsAt db h
         → h.state.usable ≡ true
-        → (count : ℕ) × CallsLeave h (map call_of calls.now) (map pair_of group.now)
-        (ending_of result.1 count) (D.sectors result.0 / 4) (D.candidate result.0) }
+        → (count : ℕ) × CallsLeave (D.faults result.0) h (map call_of calls.now)
+        (map pair_of group.now) (ending_of result.1 count) (D.sectors result.0 / 4)
+        (D.candidate result.0) }
     ensures any_moment { D.honest (device_below db) → (h : Handle) → IsAt db h
         → h.state.usable ≡ true
         → (count : ℕ) × LeavesOnly D.moment
         (IsOutcome D.left_since (settled (D.sectors (device_below db) / 4)))
         (device_below db) result.0
-        (IsLeftByCalls h (map call_of calls.now) (map pair_of group.now)
+        (IsLeftByCalls (D.faults result.0) h (map call_of calls.now) (map pair_of group.now)
         (ending_of result.1 count)) }
     ensures room { D.honest (device_below db) → (h : Handle) → IsAt db h → HasRoom h
         → (count : ℕ) → IsNeverShort (ending_of result.1 count) }
@@ -152,6 +155,7 @@ fn make_calls<D: SectorDev>(alloc: Global, db: Db<D>, calls: &[Call], group: &[P
     ensures group_refused { (page_state db).writable ≡ true
         → IfGrouped result.1 (λ stored. IfErr stored (λ fault. (fault ≡ Fault.Device)
         × MoreFaults (D.faults (device_below db)) (D.faults result.0))) }
+    ensures later { D.faults (device_below db) ≤ D.faults result.0 }
     ensures honesty { D.honest result.0 ↔ D.honest (device_below db) }
     ensures size { D.sectors result.0 / 4 ≡ D.sectors (device_below db) / 4 }
 {

@@ -6,11 +6,11 @@ use Rattle.dbm_file.specs.Calls.{call_of, reply_of}
 use Rattle.dbm_file.specs.Database.{store_of}
 use Rattle.dbm_file.specs.Replies.{AreAnswered}
 use Rattle.dbm_file.specs.Rooms.{rooms_in, gives_bytes}
-use Rattle.dbm_file.specs.Runs.{IsRun}
+use Rattle.dbm_file.specs.Runs.{IsRun, IsMadeInSteps}
 use Rattle.dbm_file.specs.declared.calls.Call.{Call}
 use Rattle.dbm_file.specs.declared.calls.Reply.{Reply}
 use Rattle.dbm_file.proofs.Answered.{answered_next}
-use Rattle.dbm_file.proofs.Runs.{all_taken, no_run, goes_on_with, taken_next, seen_next, seen_last, goes_nowhere, still_goes}
+use Rattle.dbm_file.proofs.Runs.{all_taken, no_run, goes_on_with, step_more, taken_next, seen_next, seen_last, goes_nowhere, still_goes}
 use Rattle.dbm_file.proofs.running.run.Goals as goal
 
 -- the rooms of a call and those of the later ones
@@ -25,6 +25,11 @@ loop-call-init g c = record {
       subst (λ (replies : List model.Reply). IsRun db db h [] replies)
       (sym (ap (map reply_of) c.in-Ok.ensures.items))
       (no_run g.S.PageStore db h at (λ x left. g.met.S.PageStore.only_now db.store x honest left));
+  stepped = λ honest h at.
+      let db = c.args.db.now in
+      subst (λ (replies : List model.Reply). IsMadeInSteps db db h [] replies)
+      (sym (ap (map reply_of) c.in-Ok.ensures.items))
+      (record { after = h; is_at = at; steps = (refl, refl) });
   answered = subst (λ (replies : List Reply). AreAnswered c.args.db.now c.args.db.now [] replies)
       (sym c.in-Ok.ensures.items) refl;
   goes = goes_nowhere c.args.db.now;
@@ -56,6 +61,14 @@ loop-call-preserved g c =
           (λ t x le left. g.met.S.PageStore.counts_now (store_of c.answer-reply.new.db) t x
           (c.answer-reply.ensures.goes.honesty.1 (so_far.goes.honesty.1 honest)) le left) _
           _
+          (seen_next call_of calls i call c.loop-call-test.true c.call-item.is)
+          (seen_last reply_of c.loop-call.replies.items c.push.new.self.items
+          c.answer-reply.result items);
+      stepped = λ honest h at.
+          let made = so_far.stepped honest h at in
+          step_more g.S.PageStore c.args.db.now c.loop-call.db c.answer-reply.new.db h _ _ _ _
+          (call_of call) (reply_of c.answer-reply.result) made
+          (c.answer-reply.ensures.step (so_far.goes.honesty.1 honest) made.after made.is_at)
           (seen_next call_of calls i call c.loop-call-test.true c.call-item.is)
           (seen_last reply_of c.loop-call.replies.items c.push.new.self.items
           c.answer-reply.result items);
@@ -93,6 +106,14 @@ returns-clause-run g c honest h at =
     (map reply_of c.loop-call.replies.items))
     (all_taken c.args.calls.now c.loop-call.call-index (omega (arith, c.loop-call-test.false)))
     (c.loop-call.invariant.ran honest h at)
+
+pub returns-clause-steps : goal.returns-clause-steps
+returns-clause-steps g c honest h at =
+    subst (λ (calls : List Call).
+    IsMadeInSteps c.args.db.now c.loop-call.db h (map call_of calls)
+    (map reply_of c.loop-call.replies.items))
+    (all_taken c.args.calls.now c.loop-call.call-index (omega (arith, c.loop-call-test.false)))
+    (c.loop-call.invariant.stepped honest h at)
 
 pub returns-clause-answers : goal.returns-clause-answers
 returns-clause-answers g c =

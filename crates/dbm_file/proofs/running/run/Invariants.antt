@@ -5,13 +5,16 @@ use Rattle.dbm_file.specs.Calls.{call_of, reply_of}
 use Rattle.dbm_file.specs.Database.{store_of, IsAt}
 use Rattle.dbm_file.specs.Replies.{AreAnswered}
 use Rattle.dbm_file.specs.Rooms.{AreRooms, rooms_in}
-use Rattle.dbm_file.specs.Runs.{IsRun}
+use Rattle.dbm_file.specs.Runs.{IsRun, IsMadeInSteps}
 use Rattle.dbm_file.proofs.running.run.Given as goal
 
 abbrev pub invariant-loop-call : goal.invariant-loop-call
 invariant-loop-call g l = record {
   ran : g.S.PageStore.honest (store_of l.initial.db) → (h : Handle) → IsAt l.initial.db h
       → IsRun l.initial.db l.db h (map call_of (take l.call-index l.calls))
+      (map reply_of l.replies.items);
+  stepped : g.S.PageStore.honest (store_of l.initial.db) → (h : Handle) → IsAt l.initial.db h
+      → IsMadeInSteps l.initial.db l.db h (map call_of (take l.call-index l.calls))
       (map reply_of l.replies.items);
   answered : AreAnswered l.initial.db l.db (take l.call-index l.calls) l.replies.items;
   goes : IsSameDatabase l.initial.db l.db;

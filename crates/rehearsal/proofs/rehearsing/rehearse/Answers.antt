@@ -3,8 +3,9 @@ use Rattle.std.proofs.lemmas.List.{take-map}
 use Rattle.std.proofs.lemmas.List.Elements.{All-nil, All-take}
 use Rattle.std.proofs.lemmas.List.Sums.{sum_by-append}
 use Rattle.sect_dev.specs.contracts.mem.MemDevSectorDev.TheImpl.{ghosts as MemDevGhosts}
-use Rattle.dbm_sessions.specs.Room.{AllHaveRoom, AsksForRoom, IsNeverShort}
-use Rattle.dbm_sessions.specs.Sessions.{Plan}
+use Rattle.dbm_sessions.specs.Members.{AllHaveRoom}
+use Rattle.dbm_sessions.specs.Room.{AsksForRoom, IsNeverShort}
+use Rattle.dbm_sessions.specs.Sessions.{Plan, Sessions}
 use Rattle.dbm_sessions.proofs.Rooms.{sessions_keep_room}
 use Rattle.dbm_file.proofs.Runs.{all_taken, taken_next, seen_next}
 use Rattle.rehearsal.specs.Rehearsals.{planned, SessionsLeave, AreNeverShort, most_changes}
@@ -48,7 +49,7 @@ loop-stage-preserved c = record {
       (sym c.in_ok-push.ensures.items)
       (one_more before (map planned (take i stages)) c.loop-stage.endings.items (planned one)
       c.in_ok-left.ending (MemDevGhosts.sectors old / 4) pages (MemDevGhosts.candidate old) now
-      so_far next.0 next.1));
+      so_far c.in_ok-left.ensures.size next));
   size = c.in_ok-left.ensures.size ∙ c.loop-stage.invariant.size;
   short = λ before stand all asked.
       let so_far = c.loop-stage.invariant.left before stand in
@@ -58,7 +59,9 @@ loop-stage-preserved c = record {
       let first = subst (All (AsksForRoom pages)) (take-map planned i stages)
       (All-take (AsksForRoom pages) i (map planned stages) asked) in
       let room = sessions_keep_room pages before so_far.after (map planned (take i stages))
-      so_far.told all first so_far.sessions in
+      so_far.told all first
+      (subst (λ (n : ℕ). Sessions n before (map planned (take i stages)) so_far.told so_far.after)
+      c.loop-stage.invariant.size so_far.sessions) in
       let one = c.in_ok-left.ensures.room so_far.after so_far.stand
       (subst (λ (n : ℕ). AllHaveRoom n so_far.after) (sym c.loop-stage.invariant.size) room) in
       subst AreNeverShort (sym c.in_ok-push.ensures.items)

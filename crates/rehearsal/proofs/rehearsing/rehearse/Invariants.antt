@@ -1,7 +1,7 @@
 use Rattle.std.proofs.Common.{◌≡◌, ◌≤◌, ◌+◌, ◌/◌, All, map, take}
 use Rattle.sect_dev.specs.contracts.mem.MemDevSectorDev.TheImpl.{ghosts as MemDevGhosts}
-use Rattle.dbm_sessions.specs.Members.{Members}
-use Rattle.dbm_sessions.specs.Room.{AllHaveRoom, AsksForRoom}
+use Rattle.dbm_sessions.specs.Members.{Members, AllHaveRoom}
+use Rattle.dbm_sessions.specs.Room.{AsksForRoom}
 use Rattle.rehearsal.specs.Members.{AllStandFor}
 use Rattle.rehearsal.specs.Rehearsals.{planned, SessionsLeave, AreNeverShort, most_changes}
 use Rattle.rehearsal.proofs.rehearsing.rehearse.Given as goal

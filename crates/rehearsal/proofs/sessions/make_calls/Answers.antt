@@ -13,6 +13,7 @@ use Rattle.page_io.specs.Meaning.{ImageStandsFor}
 use Rattle.dbm_sessions.specs.Sessions.{Ending, Rested, Broke, Grouped, BrokeGroup}
 use Rattle.dbm_sessions.specs.Members.{held}
 use Rattle.dbm_sessions.specs.Room.{IsNeverShort}
+use Rattle.dbm_sessions.proofs.Failures.{counts_up}
 use Rattle.dbm_sessions.proofs.Lists.{is_first}
 use Rattle.redo_commit.specs.File.{settled}
 use Rattle.redo_area.specs.Pagers.{device_of}
@@ -35,14 +36,18 @@ use Rattle.rehearsal.proofs.sessions.make_calls.Goals as goal
 
 pub returns-in_default-clause-leaves : goal.returns-in_default-clause-leaves
 returns-in_default-clause-leaves g c honest h at usable =
+    let dev = g.D.SectorDev in
     let same = c.in_default.ensures.memory.1 in
     let now = subst (λ db. IsAt db h) (sym same) at in
+    let told : h.faults ≡ dev.faults (device_below c.run.new.db) =
+    ap (λ (x : Handle). x.faults) now.shows in
     let still = c.close.ensures.honesty.1 (subst g.D.SectorDev.honest
     (sym (ap (λ db. device_below db) same)) honest) in (
       0,
       record {
         after = held h.state ∷ [];
-        goes = none_made h (map call_of c.args.calls.now) usable;
+        goes = none_made (dev.faults c.close.result.0) h (map call_of c.args.calls.now) usable
+            (omega (arith, told, c.close.ensures.later));
         stand = λ image is. (
           held h.state,
           is_first (held h.state) [] (held h.state) refl,
@@ -59,17 +64,29 @@ returns-in_default-clause-any_moment g c honest h at usable =
     let same = c.in_default.ensures.memory.1 in
     let now = subst (λ db. IsAt db h) (sym same) at in
     let new = c.run.new.db in
+    let most = dev.faults c.close.result.0 in
+    let told : h.faults ≡ dev.faults (device_below new) =
+    ap (λ (x : Handle). x.faults) now.shows in
+    let few : h.faults ≤ most = omega (arith, told, c.close.ensures.later) in
     let still = subst dev.honest (sym (ap (λ db. device_below db) same)) honest in (
       0,
       subst (λ db. LeavesOnly dev.moment
           (IsOutcome dev.left_since (settled (dev.sectors (device_below db) / 4))) (device_below db)
-          c.close.result.0 (IsLeftByCalls h calls group (Rested []))) same
+          c.close.result.0 (IsLeftByCalls most h calls group (Rested []))) same
           (weaker dev.moment
           (IsOutcome dev.left_since (settled (dev.sectors (device_below new) / 4)))
-          (device_below new) c.close.result.0 (IsLeftByCalls h calls group (Rested [])) _
+          (device_below new) c.close.result.0 (IsLeftByCalls most h calls group (Rested [])) _
           (c.close.ensures.any_moment still)
-          (λ y left. left_unmade h calls group usable y (stands_for _ new h y now usable left))),
+          (λ y left. left_unmade most h calls group usable few y
+          (stands_for _ new h y now usable left))),
     )
+
+pub returns-in_default-clause-later : goal.returns-in_default-clause-later
+returns-in_default-clause-later g c =
+    let dev = g.D.SectorDev in
+    let same : dev.faults (device_below c.args.db) ≡ dev.faults (device_below c.run.new.db) =
+    sym (ap (λ db. dev.faults (device_below db)) c.in_default.ensures.memory.1) in
+    omega (arith, same, c.close.ensures.later)
 
 pub returns-in_default-clause-room : goal.returns-in_default-clause-room
 returns-in_default-clause-room g c honest h at room count =
@@ -96,13 +113,22 @@ returns-clause-leaves g c honest h at usable =
     let ends = more.ends still last run.is_at in
     let limit = ap (λ (x : Handle). x.state.limit) run.is_at.shows in
     let all = ap (λ (x : Handle). x.state.usable) run.is_at.shows in
+    let most = dev.faults left in
+    let told : last.faults ≡ dev.faults (device_below mid) =
+    ap (λ (x : Handle). x.faults) run.is_at.shows in
+    let then_more : dev.faults (device_below mid) ≤ dev.faults (device_below new) =
+    more.keeps.goes.later in
+    let few : last.faults ≤ most = omega (arith, told, then_more, closed.later) in
     by_ending (page_state mid).usable (page_state new).usable stored c.close-dev.result.1
     c.ended.result c.in-Ok.replies more.keeps.broken closed.broken c.ended.ensures.rested
     c.ended.ensures.failed c.ended.ensures.broke_group c.ended.ensures.broke
-    (λ (e : Ending). CallsLeave h calls group e (dev.sectors left / 4) (dev.candidate left))
-    (λ was now. let one = stored_group _ mid new last group stored ends now in record {
+    (λ (e : Ending). CallsLeave most h calls group e (dev.sectors left / 4) (dev.candidate left))
+    (λ was now. let one = stored_group _ mid new last group stored ends now in
+    let shown : one.shown.faults ≡ dev.faults (device_below new) =
+    ap (λ (x : Handle). x.faults) one.is_at.shows in record {
       after = held one.done.state ∷ [];
-      goes = grouped h last calls group replies run.run (all ∙ was) _ one.done one.run;
+      goes = grouped most h last calls group replies run.run (all ∙ was) few _ one.done one.run
+          (omega (arith, one.counts.1, shown, closed.later));
       stand = λ image is. (
         held one.done.state,
         is_first (held one.done.state) [] (held one.done.state) refl,
@@ -115,16 +141,32 @@ returns-clause-leaves g c honest h at usable =
       );
     })
     (λ was now.
-    let one = broken_group _ mid new last group stored ends more.keeps.breaks was now in
-    let members = doubted h last calls group replies run.run (all ∙ was) one.count in
+    let one = broken_group _ mid new last group stored ends more.keeps.breaks was (all ∙ was) now in
+    let shown : one.after.faults ≡ dev.faults (device_below new) =
+    ap (λ (x : Handle). x.faults) one.is_at.shows in
+    let asked : one.broken.stored.faults ≤ most =
+    omega (arith, one.broken.counts, shown, closed.later) in
+    let rises : MoreFaults h.faults most = omega (
+      arith,
+      counts_up h last calls replies run.run,
+      one.broken.breaks.1,
+      shown,
+      closed.later,
+    ) in
+    let members = doubted most h last calls group replies run.run (all ∙ was) few one.count
+    one.broken.stored one.broken.run asked in
     let lowered = lower dev (λ cached. device_of (store_below cached)) mid.store new.store _
     (StandsForOne members) more.keeps.goes.capacity one.survives
-    (λ y some. doubted_one h last calls group replies run.run (all ∙ was) one.count y
-    (meta_kept mid).limit limit some) in (
+    (λ y some. doubted_one most h last calls group replies run.run (all ∙ was) few one.count
+    one.broken.stored one.broken.run asked y (meta_kept mid).limit limit some) in (
       one.count,
       record {
         after = members;
-        goes = cut_short h last calls group replies run.run (all ∙ was) one.count;
+        goes = (
+          cut_short most h last calls group replies run.run (all ∙ was) few one.count
+              one.broken.stored one.broken.run asked,
+          rises,
+        );
         stand = subst (λ d. AllStandFor members (dev.sectors d / 4) (dev.candidate d))
             (sym (closed.untouched (inl now)))
             (λ image is. left_now dev (device_below mid) (device_below new) (StandsForOne members)
@@ -134,7 +176,7 @@ returns-clause-leaves g c honest h at usable =
       },
     ))
     (λ broken. broke c.args.db mid h calls group replies (dev.sectors left / 4) (dev.candidate left)
-    at usable run c.in-Ok.ensures.goes.limit broken
+    most at usable run few c.in-Ok.ensures.goes.limit broken
     (λ image is. same_settles _ mid new (settled (dev.sectors left / 4) image)
     (more.keeps.goes.still broken) (closed.settles then image is)))
 
@@ -159,13 +201,19 @@ returns-clause-any_moment g c honest h at usable =
     let ends = more.ends still last run.is_at in
     let limit = ap (λ (x : Handle). x.state.limit) run.is_at.shows in
     let all = ap (λ (x : Handle). x.state.usable) run.is_at.shows in
+    let most = dev.faults left in
+    let told : last.faults ≡ dev.faults (device_below mid) =
+    ap (λ (x : Handle). x.faults) run.is_at.shows in
+    let then_more : dev.faults (device_below mid) ≤ dev.faults (device_below new) =
+    more.keeps.goes.later in
+    let few : last.faults ≤ most = omega (arith, told, then_more, closed.later) in
+    let Left = IsLeftByCalls most h calls group in
     let pages : ℕ = dev.sectors (device_below old) / 4 in
     let outcome = λ (n : ℕ). IsOutcome dev.left_since (settled n) in
-    let Left = IsLeftByCalls h calls group in
     let within = λ (e : Ending) (same : replies_in e ≡ replies).
     lower dev (λ cached. device_of (store_below cached)) old.store mid.store _ (Left e)
     goes.capacity (run.survives (sym (ap (λ (x : Handle). x.state.usable) at.shows) ∙ usable))
-    (left_within h last calls group replies (meta_kept old).limit e same usable
+    (left_within most h last calls group replies (meta_kept old).limit e same usable few
     (ap (λ (x : Handle). x.state.limit) at.shows)) in
     by_ending (page_state mid).usable (page_state new).usable stored c.close-dev.result.1
     c.ended.result c.in-Ok.replies more.keeps.broken closed.broken c.ended.ensures.rested
@@ -175,6 +223,8 @@ returns-clause-any_moment g c honest h at usable =
     let one = stored_group _ mid new last group stored ends now in
     let told = Grouped replies (result_unwrap_or stored 0) in
     let shown = ap (λ (x : Handle). x.state.usable) one.is_at.shows ∙ now in
+    let rose : one.shown.faults ≡ dev.faults (device_below new) =
+    ap (λ (x : Handle). x.faults) one.is_at.shows in
     followed_by dev.moment (outcome pages) (device_below old) (device_below new) left (Left told)
     (Left told)
     (followed_by dev.moment (outcome pages) (device_below old) (device_below mid) (device_below new)
@@ -183,19 +233,21 @@ returns-clause-any_moment g c honest h at usable =
     (Left told)) goes.capacity
     (lower dev (λ cached. device_of (store_below cached)) mid.store new.store _ (Left told)
     more.keeps.goes.capacity
-    (group_moments h last calls group replies run.run (all ∙ was) _ mid new stored ends was now
-    more.keeps.goes.limit limit) (λ y is. is))) (λ y is. is))
+    (group_moments most h last calls group replies run.run (all ∙ was) few _ mid new stored ends was
+    now closed.later more.keeps.goes.limit limit) (λ y is. is))) (λ y is. is))
     (subst (λ (n : ℕ). LeavesOnly dev.moment (outcome n) (device_below new) left (Left told))
     (more.keeps.goes.capacity ∙ goes.capacity)
     (weaker dev.moment (outcome (dev.sectors (device_below new) / 4)) (device_below new) left
     (Left told) _ (closed.any_moment then)
-    (λ y may. left_grouped h last calls group replies run.run (all ∙ was) (result_unwrap_or stored 0)
-    one.done y one.run
+    (λ y may. left_grouped most h last calls group replies run.run (all ∙ was) few
+    (result_unwrap_or stored 0) one.done y one.run (omega (arith, one.counts.1, rose, closed.later))
     (subst (λ (m : Contents). ImageStandsFor y m one.done.state.limit) one.same.0
     (subst (λ (n : ℕ). ImageStandsFor y one.shown.state.map n) one.same.1
     (stands_for _ new one.shown y one.is_at shown may)))))) (λ y is. is))
     (λ was now.
-    let one = broken_group _ mid new last group stored ends more.keeps.breaks was now in
+    let one = broken_group _ mid new last group stored ends more.keeps.breaks was (all ∙ was) now in
+    let shown : one.after.faults ≡ dev.faults (device_below new) =
+    ap (λ (x : Handle). x.faults) one.is_at.shows in
     let told = BrokeGroup replies one.count in (
       one.count,
       subst (λ d. LeavesOnly dev.moment (outcome pages) (device_below old) d (Left told))
@@ -206,7 +258,8 @@ returns-clause-any_moment g c honest h at usable =
           (Left told)) goes.capacity
           (lower dev (λ cached. device_of (store_below cached)) mid.store new.store _ (Left told)
           more.keeps.goes.capacity one.survives
-          (λ y some. left_in_group h last calls group replies run.run (all ∙ was) one.count y
+          (λ y some. left_in_group most h last calls group replies run.run (all ∙ was) few one.count
+          one.broken.stored one.broken.run (omega (arith, one.broken.counts, shown, closed.later)) y
           (meta_kept mid).limit limit some))) (λ y is. is)),
     ))
     (λ broken.
@@ -215,6 +268,16 @@ returns-clause-any_moment g c honest h at usable =
     (sym (closed.untouched (inl now)
     ∙ ap (λ store. device_of (store_below store)) (more.keeps.goes.still broken)))
     (within (Broke replies) refl))
+
+pub returns-clause-later : goal.returns-clause-later
+returns-clause-later g c =
+    let dev = g.D.SectorDev in
+    let first : dev.faults (device_below c.args.db) ≤ dev.faults (device_below c.run.new.db) =
+    c.in-Ok.ensures.goes.later in
+    let then : dev.faults (device_below c.run.new.db)
+    ≤ dev.faults (device_below c.store_many-stored.new.self) =
+    c.store_many-stored.ensures.keeps.goes.later in
+    omega (arith, first, then, c.close-dev.ensures.later)
 
 -- no reply says that there is no room
 pub returns-clause-room : goal.returns-clause-room

@@ -1,4 +1,4 @@
-use Rattle.std.proofs.Common.{◌≡◌, ⊎_elim, inl, inr, ℕ, ◌/◌, ◌++◌, map, None, refl, sym, ap, ◌∙◌, subst}
+use Rattle.std.proofs.Common.{◌≡◌, ⊎_elim, inl, inr, ℕ, ◌/◌, ◌≤◌, ◌++◌, map, None, refl, sym, ap, ◌∙◌, subst}
 use Rattle.sect_dev.specs.Device.{LeavesOnly}
 use Rattle.sect_dev.specs.Moments.{IsOutcome, weaker, followed_by}
 use Rattle.dbm_sessions.specs.Members.{opened}
@@ -9,12 +9,16 @@ use Rattle.dbm_file.proofs.EnoughRoom.{room_at}
 use Rattle.redo_commit.specs.File.{settled}
 use Rattle.file_opening.specs.Opening.{writes, early_fault, AllAllow, MayRemain}
 use Rattle.file_opening.specs.declared.open_how.OpenHow.{OpenHow}
-use Rattle.rehearsal.specs.Members.{StandsForOne}
-use Rattle.rehearsal.specs.Sessions.{plan_of, opening_of, ending_of, IsLeftByStop, IsLeftByCalls}
+use Rattle.page_cache.specs.Stores.{store_below}
+use Rattle.page_io.specs.Counts.{counts_end}
+use Rattle.dbm_file.specs.Database.{store_of}
+use Rattle.rehearsal.specs.Members.{StandsForOne, AllStandFor}
+use Rattle.rehearsal.specs.Sessions.{disk_of, plan_of, opening_of, ending_of, IsLeftByStop, IsLeftByCalls}
 use Rattle.rehearsal.proofs.Moments.{left_in_opening, left_in_calls}
 use Rattle.rehearsal.proofs.Openings.{all_stand, remains, never_reads, begun}
+use Rattle.rehearsal.proofs.Refusals.{refused_leaves, early_stays, refused_stays}
 use Rattle.rehearsal.proofs.Endings.{step_of, none_refused, refused_since}
-use Rattle.rehearsal.proofs.Rooms.{not_short, are_maps}
+use Rattle.rehearsal.proofs.Rooms.{not_short, are_maps, members_have_room}
 use Rattle.rehearsal.proofs.sessions.session.Goals as goal
 
 pub returns-in-Err-clause-leaves : goal.returns-in-Err-clause-leaves
@@ -25,24 +29,31 @@ returns-in-Err-clause-leaves g c honest before stand =
     let how = c.args.how in
     let pages = dev.sectors old / 4 in
     let all = c.in-Err.ensures in
-    let within = all.any_moment honest in (
+    let within = all.any_moment honest in
+    let fault = c.in-Err.fault in (
       0,
-      record {
-        after = before ++ map (opened (opening_of how)) before;
-        step = refl;
-        stand = λ image is.
-            subst (λ (n : ℕ). StandsForOne (before ++ map (opened (opening_of how)) before)
-            (settled n image)) (sym all.size.0)
-            (remains before how (dev.sectors old) (dev.candidate old) stand (settled pages image)
-            (subst (λ (asked : OpenHow). MayRemain asked (dev.sectors old) (dev.candidate old)
-            (settled pages image)) c.for_writing.ensures
-            (within.each (settled pages image) (record {
-              left = image;
-              is_left = g.met.D.SectorDev.counts_now new (dev.moment old).at image
-                  (all.honesty.1 honest) within.later is;
-              reads = refl;
-            }))));
-      },
+      refused_leaves (disk_of dev old new) before (plan_of how c.args.calls.now c.args.group.now)
+          fault (dev.sectors new / 4) (dev.candidate new)
+          (λ device. all.device device)
+          (λ room. (all.room honest (members_have_room before pages (dev.candidate old) stand room)).0)
+          (λ image is.
+          subst (λ (n : ℕ). StandsForOne (before ++ map (opened (opening_of how)) before)
+          (settled n image)) (sym all.size.0)
+          (remains before how (dev.sectors old) (dev.candidate old) stand (settled pages image)
+          (subst (λ (asked : OpenHow). MayRemain asked (dev.sectors old) (dev.candidate old)
+          (settled pages image)) c.for_writing.ensures
+          (within.each (settled pages image) (record {
+            left = image;
+            is_left = g.met.D.SectorDev.counts_now new (dev.moment old).at image
+                (all.honesty.1 honest) within.later is;
+            reads = refl;
+          })))))
+          (λ other. subst (λ (n : ℕ). AllStandFor before n (dev.candidate new)) (sym all.size.0)
+          (refused_stays before how (dev.sectors old) (dev.candidate old) (dev.candidate new) fault
+          c.for_writing.result c.for_writing.ensures stand
+          (λ none. all.refused honest none other)
+          (early_stays _ before pages (early_fault c.for_writing.result (dev.sectors old)) fault
+          old new dev.candidate all.early stand))),
     )
 
 pub returns-in-Ok-clause-leaves : goal.returns-in-Ok-clause-leaves
@@ -51,8 +62,11 @@ returns-in-Ok-clause-leaves g c honest before stand =
     let old = c.args.dev in
     let how = c.args.how in
     let is_asked = c.for_writing.ensures in
-    let start = begun c.in-Ok.db before how c.for_writing.result (dev.sectors old)
-    (dev.candidate old) is_asked stand (c.in-Ok.ensures.stands honest
+    let disk = disk_of dev old c.make_calls.result.0 in
+    let rose : dev.faults old ≤ dev.faults (device_below c.in-Ok.db) = c.in-Ok.ensures.later in
+    let start = begun c.in-Ok.db disk before how c.for_writing.result (dev.sectors old)
+    (dev.candidate old) is_asked stand c.in-Ok.ensures.fresh.capacity rose
+    (counts_end _ _ (store_below (store_of c.in-Ok.db)).least) (c.in-Ok.ensures.stands honest
     (λ reads. absurd (never_reads how c.for_writing.result is_asked reads))
     (all_stand before (dev.sectors old / 4) (dev.candidate old) stand)) in
     let some = c.make_calls.ensures.leaves (c.in-Ok.ensures.honesty.1 honest) start.handle
@@ -61,7 +75,7 @@ returns-in-Ok-clause-leaves g c honest before stand =
       some.0,
       record {
         after = rest.after;
-        step = step_of before (plan_of how c.args.calls.now c.args.group.now)
+        step = step_of disk before (plan_of how c.args.calls.now c.args.group.now)
             (ending_of c.make_calls.result.1 some.0) rest.after start.handle start.begins rest.goes;
         stand = rest.stand;
       },
@@ -73,11 +87,12 @@ returns-in-Err-clause-any_moment g c honest before stand =
     let old = c.args.dev in
     let how = c.args.how in
     let plan = plan_of how c.args.calls.now c.args.group.now in
+    let disk = disk_of dev old c.in-Err.dev in
     let told = NotOpened (fault_of c.in-Err.fault) in (
       0,
       weaker dev.moment (IsOutcome dev.left_since (settled (dev.sectors old / 4))) old c.in-Err.dev
-          (IsLeftByStop before plan told) _ (c.in-Err.ensures.any_moment honest)
-          (left_in_opening before how c.for_writing.result plan.calls plan.group (dev.sectors old)
+          (IsLeftByStop disk before plan told) _ (c.in-Err.ensures.any_moment honest)
+          (left_in_opening disk before how c.for_writing.result plan.calls plan.group (dev.sectors old)
           (dev.candidate old) told c.for_writing.ensures stand),
     )
 
@@ -89,8 +104,11 @@ returns-in-Ok-clause-any_moment g c honest before stand =
     let plan = plan_of how c.args.calls.now c.args.group.now in
     let is_asked = c.for_writing.ensures in
     let mid = device_below c.in-Ok.db in
-    let start = begun c.in-Ok.db before how c.for_writing.result (dev.sectors old)
-    (dev.candidate old) is_asked stand (c.in-Ok.ensures.stands honest
+    let disk = disk_of dev old c.make_calls.result.0 in
+    let rose : dev.faults old ≤ dev.faults (device_below c.in-Ok.db) = c.in-Ok.ensures.later in
+    let start = begun c.in-Ok.db disk before how c.for_writing.result (dev.sectors old)
+    (dev.candidate old) is_asked stand c.in-Ok.ensures.fresh.capacity rose
+    (counts_end _ _ (store_below (store_of c.in-Ok.db)).least) (c.in-Ok.ensures.stands honest
     (λ reads. absurd (never_reads how c.for_writing.result is_asked reads))
     (all_stand before (dev.sectors old / 4) (dev.candidate old) stand)) in
     let later = c.make_calls.ensures.any_moment (c.in-Ok.ensures.honesty.1 honest) start.handle
@@ -98,16 +116,16 @@ returns-in-Ok-clause-any_moment g c honest before stand =
     let told = ending_of c.make_calls.result.1 later.0 in (
       later.0,
       followed_by dev.moment (IsOutcome dev.left_since (settled (dev.sectors old / 4))) old mid
-          c.make_calls.result.0 (IsLeftByStop before plan told)
-          (IsLeftByCalls start.handle plan.calls plan.group told)
+          c.make_calls.result.0 (IsLeftByStop disk before plan told)
+          (IsLeftByCalls disk.at_end start.handle plan.calls plan.group told)
           (weaker dev.moment (IsOutcome dev.left_since (settled (dev.sectors old / 4))) old mid
-          (IsLeftByStop before plan told) _ (c.in-Ok.ensures.any_moment honest)
-          (left_in_opening before how c.for_writing.result plan.calls plan.group (dev.sectors old)
-          (dev.candidate old) told is_asked stand))
+          (IsLeftByStop disk before plan told) _ (c.in-Ok.ensures.any_moment honest)
+          (left_in_opening disk before how c.for_writing.result plan.calls plan.group
+          (dev.sectors old) (dev.candidate old) told is_asked stand))
           (subst (λ (n : ℕ). LeavesOnly dev.moment (IsOutcome dev.left_since (settled n)) mid
-          c.make_calls.result.0 (IsLeftByCalls start.handle plan.calls plan.group told))
+          c.make_calls.result.0 (IsLeftByCalls disk.at_end start.handle plan.calls plan.group told))
           c.in-Ok.ensures.size.0 later.1)
-          (left_in_calls before plan start.handle told start.begins),
+          (left_in_calls disk before plan start.handle told start.begins),
     )
 
 pub returns-in-Ok-clause-refused : goal.returns-in-Ok-clause-refused
