@@ -1,36 +1,92 @@
 #!/usr/bin/env bash
-# Stores in a row, of which one opens a bucket, cut short behind each call of the system, where the sectors that no sync came behind are kept or
-# lost, or each second one is: the file then has the pairs that were acknowledged, and of the others at most the one that was on its way.
+# Stores in a row, cut short behind each call of the system, where the sectors that no sync came behind are kept or lost, or each second one is:
+# the file then has the pairs that were acknowledged, and of the others at most the one that was on its way. So it has where the opening that
+# settles it is cut short as well. One row opens a bucket and has its redo images by turns in two places; one is on a file that leaves its device
+# room for the images of one commit alone, so that each store brings the pages of the one before to their places first.
 . "$(dirname "$0")/common"
 preloadable fail
+# count FILE: how many pairs a reader that shares no code with the program finds in it
+cat > count.c <<'END'
+#include "plain_check.h"
+#include <stdio.h>
+static unsigned char file[1 << 20];
+int main(int words, char **word) {
+    FILE *it = words == 2 ? fopen(word[1], "rb") : NULL;
+    if (!it) return 2;
+    printf("%ld\n", plain_pairs(file, fread(file, 1, sizeof file, it)));
+    return 0;
+}
+END
+cc -O1 -I "$top/tests" -o count count.c "$top/tests/plain_check.c" || exit 1
+
+# cut CALLS LOSE LINES: a script on t.db of which each call behind so many fails
+cut() {
+  status=0
+  FAIL_CALL=$(($1 + 1)) FAIL_HOW=from FAIL_LOSE=$2 LD_PRELOAD=./fail.so "$program" script t <<< "$3" > out 2> err || status=$?
+}
+
+# is_one_of PAIRS: t.db has, for a reader, the pairs of so many stores, or of one more
+is_one_of() { "$program" dump t 2> /dev/null > seen && { cmp -s seen "$1.text" || cmp -s seen $(($1 + 1)).text; }; }
+
+# opens_again PAIRS: cut short behind each call, with each second sector lost, the opening of left.db leaves the same pairs, and the last one ends
+opens_again() {
+  local lose calls sum
+  local -A known=()
+  cp seen wanted
+  for ((calls = 0; calls < 100; calls++)); do
+    for lose in odd even; do
+      cp left.db t.db
+      cut "$calls" "$lose" ''
+      [ "$status" != 0 ] || return 0
+      sum=$(cksum < t.db)
+      [ -z "${known[$sum]:-}" ] || continue
+      known[$sum]=1
+      "$program" dump t 2> /dev/null | cmp -s - wanted || { wrong "an opening cut short behind $calls calls, $lose, leaves other pairs"; return 1; }
+    done
+  done
+}
+
+# row LEAST KEY..: first.db, to which these keys are stored in a row, cut short behind each of its calls, which are so many at least
+row() {
+  local least=$1 lines count=0 stop lose ended answered
+  lines=$(for key in "${@:2}"; do echo "S $key 09"; done)
+  cp first.db t.db && "$program" dump t > 0.text || exit 1
+  for key in "${@:2}"; do
+    "$program" store t "$key" 09 -x || exit 1
+    count=$((count + 1))
+    "$program" dump t > $count.text
+  done
+  for ((stop = 0; stop < 200; stop++)); do
+    ended=
+    for lose in kept lost odd even; do
+      cp first.db t.db
+      cut "$stop" "$lose" "$lines"
+      answered=$(grep -cx 0 out)
+      [ "$answered $status" != "$count 0" ] || ended=1
+      is_one_of "$answered" || wrong "behind $stop calls, $lose, a reader finds other pairs than the $answered that were told"
+      cp t.db left.db
+      if [ "$is_good" = 1 ]; then
+        [ "$(./count t.db)" = "$(wc -l < seen)" ] || wrong "behind $stop calls, $lose, the file says something else by the format"
+        "$program" script t < /dev/null && "$program" verify t > /dev/null || wrong "behind $stop calls, $lose, the file is no good one"
+        "$program" dump t | cmp -s - seen || wrong "behind $stop calls, $lose, an opening gives other pairs than a reader finds"
+      fi
+      [[ $lose == k* || $lose == l* ]] || opens_again
+    done
+    [ -z "$ended" ] || break
+  done
+  [ "$answered" = "$count" ] && ((stop > least)) || wrong "only $stop calls were cut short"
+}
 
 "$program" create t --limit 100 || exit 1
 for digit in 1 2 3 4 5 6; do echo "6$digit 0$digit"; done | "$program" load t || exit 1
 cp t.db first.db
-keys='67 68 69 6a 6b'
-lines=$(for key in $keys; do echo "S $key 09"; done)
-"$program" dump t > 0.text && count=0
-for key in $keys; do
-  "$program" store t "$key" 09 -x || exit 1
-  count=$((count + 1))
-  "$program" dump t > $count.text
-done
+is_good=1
+row 40 67 68 69 6a 6b
 
-for ((stop = 0; stop < 200; stop++)); do
-  ended=
-  for lose in kept lost odd even; do
-    cp first.db t.db
-    status=0
-    FAIL_CALL=$((stop + 1)) FAIL_HOW=from FAIL_LOSE=$lose LD_PRELOAD=./fail.so "$program" script t <<< "$lines" > out 2> err || status=$?
-    answered=$(grep -cx 0 out)
-    [ "$answered $status" != '5 0' ] || ended=1
-    "$program" dump t > seen 2> /dev/null || wrong "behind $stop calls, $lose, a reader is refused"
-    cmp -s seen $answered.text || cmp -s seen $((answered + 1)).text || wrong "behind $stop calls, $lose, a reader finds other pairs than the $answered that were told"
-    "$program" script t < /dev/null || wrong "behind $stop calls, $lose, the file does not open"
-    "$program" verify t > /dev/null || wrong "behind $stop calls, $lose, the file is no good one"
-    "$program" dump t | cmp -s - seen || wrong "behind $stop calls, $lose, an opening gives other pairs than a reader finds"
-  done
-  [ -z "$ended" ] || break
-done
-[ "$answered" = 5 ] && ((stop > 40)) || wrong "only $stop calls were cut short"
+# The end is set to two pages before the device's 2,250,498, which is more than a good file of this limit has.
+"$program" create t2 --limit 100 && printf '61 01\n62 02\n' | "$program" load t2 || exit 1
+printf '%08x' $((2250498 - 2)) | xxd -r -p | dd of=t2.db bs=1 seek=12 conv=notrunc status=none
+cp t2.db first.db
+is_good=0
+row 30 63 64 65
 exit $bad

@@ -27,7 +27,7 @@ first_call x xs line h = ap (map call_in_line) (first_line x xs)
     ∙ ap (λ call. call ∷ script_of (after_line (x ∷ xs)))
     (sym (ap call_in_line h ∙ call_of-take (line_bytes (x ∷ xs))))
 
-calls_in-push : (script : List (Option Call)) (call : Option Call)
+pub calls_in-push : (script : List (Option Call)) (call : Option Call)
     → calls_in (script ++ call ∷ []) ≡ calls_in script ++ calls_in (call ∷ [])
 calls_in-push [] call = refl
 calls_in-push (None ∷ script) call = calls_in-push script call
@@ -61,7 +61,7 @@ answer_of-call before after (Some earlier ∷ script) (other ∷ replies) call r
     (answer_of-call run.0 after script replies call reply run.2)
     ∙ sym (append_assoc (reply_line other) (answer_of script replies) (reply_line reply))
 
-joined : (a b c : Option (List ℕ)) (first second : List ℕ) → Appends a b first → Appends b c second
+pub joined : (a b c : Option (List ℕ)) (first second : List ℕ) → Appends a b first → Appends b c second
     → Appends a c (first ++ second)
 joined None b c first second p q = tt
 joined (Some x) None c first second p q = absurd p
@@ -126,7 +126,7 @@ module _ {S : Type 0} (s : Ghosts S) (old mid new : Database S s) (start : Handl
         h.written answer.2);
   }
 
-left_after : (first now next : Option (List ℕ)) (line : List ℕ) (done : List (Option Call))
+pub left_after : (first now next : Option (List ℕ)) (line : List ℕ) (done : List (Option Call))
     → IsLeft first now done → IfSome now (λ text. ReadsLine 8193 text true line next)
     → IsLeft first next (done ++ call_in_line line ∷ [])
 left_after None now next line done h r = tt
@@ -166,6 +166,13 @@ pub was_read : (now next : Option (List ℕ)) (line : List ℕ) (more : Bool) �
     → IfSome now (λ text. ReadsLine 8193 text more line next)
     → IfSome now (λ text. ReadsLine 8193 text true line next)
 was_read now next line more is read =
+    subst (λ (b : Bool). IfSome now (λ text. ReadsLine 8193 text b line next)) is read
+
+-- the text was at its end
+pub was_none : (now next : Option (List ℕ)) (line : List ℕ) (more : Bool) → more ≡ false
+    → IfSome now (λ text. ReadsLine 8193 text more line next)
+    → IfSome now (λ text. ReadsLine 8193 text false line next)
+was_none now next line more is read =
     subst (λ (b : Bool). IfSome now (λ text. ReadsLine 8193 text b line next)) is read
 
 -- no call was made

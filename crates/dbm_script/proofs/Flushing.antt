@@ -20,7 +20,7 @@ kept (Some xs) None new text wrote keeps = absurd wrote
 kept (Some xs) (Some ys) None text wrote keeps = absurd keeps
 kept (Some xs) (Some ys) (Some zs) text wrote keeps = keeps ∙ wrote
 
-on_ok : {E : Type 0} (r : Result Unit E) (old mid new : Option (List ℕ)) (text : List ℕ)
+pub on_ok : {E : Type 0} (r : Result Unit E) (old mid new : Option (List ℕ)) (text : List ℕ)
     → Appends old mid text → Keeps mid new → OnOk r (Appends old new text)
 on_ok (Ok u) old mid new text wrote keeps = kept old mid new text wrote keeps
 on_ok (Err e) old mid new text wrote keeps = tt

@@ -1,3 +1,4 @@
 pub mod Answering
 pub mod Flushing
 pub mod Rooms
+pub mod Telling

@@ -10,6 +10,7 @@ ghost use Rattle.dbm_file.specs.Calls.{mode_of};
 ghost use Rattle.dbm_file.specs.Database.{AtEachHandle};
 ghost use Rattle.dbm_lines.specs.Reading.{is_line, ReadsLine, IsCounted};
 ghost use Rattle.dbm_script.specs.Scripts.{MakesFirst, AnswersFirst, AnswersScript, AnswersLine};
+ghost use Rattle.dbm_script.specs.Tellings.{TellsLine, TellsScript};
 
 use crate::replies::{write_fault, write_fetched, write_passed};
 use dbm_fault::EngineFault;
@@ -51,6 +52,12 @@ pub fn script_engine<S: PageStore, R: BufRead, W: Write>(
         result ≡ Err EngineFault.Read
         → AnswersFirst (R.remaining reader.old) db.old db.new h (W.contents writer.old)
         (W.contents writer.new)) }
+
+    // On any device, whatever its bytes: each line that is written tells a reply that the database
+    // gave to its own call.
+    ensures tells { OnOk result (IfSome (R.remaining reader.old)
+        (λ text. TellsScript (script_of text) db.old db.new (W.contents writer.old)
+        (W.contents writer.new))) }
     ensures goes { IsSameDatabase db.old db.new }
     ensures memory { result ≡ Err EngineFault.Memory
         → (db.new ≡ db.old) × ((reader.new ≡ reader.old) × (writer.new ≡ writer.old)) }
@@ -84,6 +91,9 @@ fn run_lines<S: PageStore, R: BufRead, W: Write>(
         result ≡ Err EngineFault.Read
         → AnswersFirst (R.remaining reader.old) db.old db.new h (W.contents writer.old)
         (W.contents writer.new)) }
+    ensures tells { OnOk result (IfSome (R.remaining reader.old)
+        (λ text. TellsScript (script_of text) db.old db.new (W.contents writer.old)
+        (W.contents writer.new))) }
     ensures goes { IsSameDatabase db.old db.new }
     ensures only { IsErrAmong result (EngineFault.Read ∷ EngineFault.Write ∷ []) }
 {
@@ -125,6 +135,8 @@ fn answer_and_flush<S: PageStore, W: Write>(
     ensures line { AtEachHandle db.old (λ h.
         AnswersLine (call_in_line buffers.old.line.items) db.old db.new h
         (λ text. OnOk result (Appends (W.contents writer.old) (W.contents writer.new) text))) }
+    ensures tells { TellsLine (call_in_line buffers.old.line.items) db.old db.new
+        (λ text. OnOk result (Appends (W.contents writer.old) (W.contents writer.new) text)) }
     ensures goes { IsSameDatabase db.old db.new }
 {
     answer_line(db, buffers, writer)?;
@@ -143,6 +155,8 @@ fn answer_line<S: PageStore, W: Write>(
     ensures line { AtEachHandle db.old (λ h.
         AnswersLine (call_in_line buffers.old.line.items) db.old db.new h
         (λ text. OnOk result (Appends (W.contents writer.old) (W.contents writer.new) text))) }
+    ensures tells { TellsLine (call_in_line buffers.old.line.items) db.old db.new
+        (λ text. OnOk result (Appends (W.contents writer.old) (W.contents writer.new) text)) }
     ensures goes { IsSameDatabase db.old db.new }
 {
     let line = buffers.line.as_slice();
@@ -174,6 +188,8 @@ fn answer_store<S: PageStore, W: Write>(
     ensures line { AtEachHandle db.old (λ h.
         AnswersLine (Some (Store key.now content.now (mode_of mode))) db.old db.new h
         (λ text. OnOk result (Appends (W.contents writer.old) (W.contents writer.new) text))) }
+    ensures tells { TellsLine (Some (Store key.now content.now (mode_of mode))) db.old db.new
+        (λ text. OnOk result (Appends (W.contents writer.old) (W.contents writer.new) text)) }
     ensures goes { IsSameDatabase db.old db.new }
 {
     match db.store(key, content, mode) {
@@ -193,6 +209,8 @@ fn answer_fetch<S: PageStore, W: Write>(
     ensures line { AtEachHandle db.old (λ h.
         AnswersLine (Some (Fetch key.now)) db.old db.new h
         (λ text. OnOk result (Appends (W.contents writer.old) (W.contents writer.new) text))) }
+    ensures tells { TellsLine (Some (Fetch key.now)) db.old db.new
+        (λ text. OnOk result (Appends (W.contents writer.old) (W.contents writer.new) text)) }
     ensures goes { IsSameDatabase db.old db.new }
 {
     write_fetched(writer, db.fetch(key), digits)
@@ -207,6 +225,8 @@ fn answer_delete<S: PageStore, W: Write>(
     ensures line { AtEachHandle db.old (λ h.
         AnswersLine (Some (Delete key.now)) db.old db.new h
         (λ text. OnOk result (Appends (W.contents writer.old) (W.contents writer.new) text))) }
+    ensures tells { TellsLine (Some (Delete key.now)) db.old db.new
+        (λ text. OnOk result (Appends (W.contents writer.old) (W.contents writer.new) text)) }
     ensures goes { IsSameDatabase db.old db.new }
 {
     match db.delete(key) {
@@ -225,6 +245,8 @@ fn answer_first<S: PageStore, W: Write>(
     ensures line { AtEachHandle db.old (λ h.
         AnswersLine (Some First) db.old db.new h
         (λ text. OnOk result (Appends (W.contents writer.old) (W.contents writer.new) text))) }
+    ensures tells { TellsLine (Some First) db.old db.new
+        (λ text. OnOk result (Appends (W.contents writer.old) (W.contents writer.new) text)) }
     ensures goes { IsSameDatabase db.old db.new }
 {
     write_passed(writer, db.firstkey(), digits)
@@ -239,6 +261,8 @@ fn answer_next<S: PageStore, W: Write>(
     ensures line { AtEachHandle db.old (λ h.
         AnswersLine (Some Next) db.old db.new h
         (λ text. OnOk result (Appends (W.contents writer.old) (W.contents writer.new) text))) }
+    ensures tells { TellsLine (Some Next) db.old db.new
+        (λ text. OnOk result (Appends (W.contents writer.old) (W.contents writer.new) text)) }
     ensures goes { IsSameDatabase db.old db.new }
 {
     write_passed(writer, db.nextkey(), digits)
@@ -249,6 +273,8 @@ fn answer_error<S: PageStore, W: Write>(db: &mut Database<S>, writer: &mut W) ->
     ensures line { AtEachHandle db.old (λ h.
         AnswersLine (Some Error) db.old db.new h
         (λ text. OnOk result (Appends (W.contents writer.old) (W.contents writer.new) text))) }
+    ensures tells { TellsLine (Some Error) db.old db.new
+        (λ text. OnOk result (Appends (W.contents writer.old) (W.contents writer.new) text)) }
     ensures goes { IsSameDatabase db.old db.new }
 {
     write_number(writer, db.error())
@@ -259,6 +285,8 @@ fn answer_clear<S: PageStore, W: Write>(db: &mut Database<S>, writer: &mut W) ->
     ensures line { AtEachHandle db.old (λ h.
         AnswersLine (Some Clear) db.old db.new h
         (λ text. OnOk result (Appends (W.contents writer.old) (W.contents writer.new) text))) }
+    ensures tells { TellsLine (Some Clear) db.old db.new
+        (λ text. OnOk result (Appends (W.contents writer.old) (W.contents writer.new) text)) }
     ensures goes { IsSameDatabase db.old db.new }
 {
     write_number(writer, db.clearerr())

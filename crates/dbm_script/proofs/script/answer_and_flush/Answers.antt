@@ -2,6 +2,7 @@ use Rattle.std.proofs.Common.{◌≡◌, true, is_ok, rules}
 use Rattle.std.specs.Io.KnownBytes.{Appends}
 use Rattle.dbm_script.proofs.Answering.{said}
 use Rattle.dbm_script.proofs.Flushing.{line_flushed}
+use Rattle.dbm_script.proofs.Telling.{told_well, told_flushed}
 use Rattle.dbm_script.proofs.script.answer_and_flush.Goals as goal
 
 pub returns-in-End : goal.returns-in-End
@@ -15,5 +16,8 @@ returns-in-End g c =
           let line =
           said c.answer_line.result _ _ _ h (λ text. Appends before mid text) wrote answer in
           line_flushed c.flush.result _ _ _ h before mid _ line c.flush.ensures.bytes;
+      tells = told_flushed c.flush.result _ _ _ before mid _ c.flush.ensures.bytes
+          (told_well c.answer_line.result _ _ _ (λ text. Appends before mid text) wrote
+          c.answer_line.ensures.tells);
       goes = c.answer_line.ensures.goes;
     }

@@ -1,5 +1,37 @@
-use Rattle.std.proofs.Common.{rules}
+use Rattle.std.proofs.Common.{ap, refl, ◌∙◌, Ok, rules}
+use Rattle.dbm_file.specs.Calls.{delete_reply}
+use Rattle.dbm_file.specs.Replies.{told_of_delete}
+use Rattle.dbm_file.proofs.Answered.{delete_answered, delete_is_told}
+use Rattle.dbm_script.proofs.script.answer_delete.Goals.{After-delete}
 use Rattle.dbm_script.proofs.script.answer_delete.Goals as goal
 
 pub returns-in-Ok-Absent-clause-line : goal.returns-in-Ok-Absent-clause-line
 returns-in-Ok-Absent-clause-line g c = search rules
+
+-- on any device
+pub returns-in-Ok-Deleted-clause-tells : goal.returns-in-Ok-Deleted-clause-tells
+returns-in-Ok-Deleted-clause-tells g c = (
+  told_of_delete c.delete.result,
+  delete_answered c.delete.result _ c.args.key.now c.args.key.now refl refl
+      c.delete.ensures.absent c.delete.ensures.deleted c.delete.ensures.only c.delete.ensures.keeps,
+  rw (delete_is_told c.delete.result _ refl ∙ ap delete_reply (c.in-Ok-Deleted.is ∙ ap Ok c.in-Ok-Deleted.field-0-is))
+      c.write_deleted.ensures,
+)
+
+pub returns-in-Ok-Absent-clause-tells : goal.returns-in-Ok-Absent-clause-tells
+returns-in-Ok-Absent-clause-tells g c = (
+  told_of_delete c.delete.result,
+  delete_answered c.delete.result _ c.args.key.now c.args.key.now refl refl
+      c.delete.ensures.absent c.delete.ensures.deleted c.delete.ensures.only c.delete.ensures.keeps,
+  rw (delete_is_told c.delete.result _ refl ∙ ap delete_reply (c.in-Ok-Absent.is ∙ ap Ok c.in-Ok-Absent.field-0-is))
+      c.write_absent.ensures,
+)
+
+pub returns-in-Err-clause-tells : goal.returns-in-Err-clause-tells
+returns-in-Err-clause-tells g c = (
+  told_of_delete c.delete.result,
+  delete_answered c.delete.result _ c.args.key.now c.args.key.now refl refl
+      c.delete.ensures.absent c.delete.ensures.deleted c.delete.ensures.only c.delete.ensures.keeps,
+  rw (delete_is_told c.delete.result _ refl ∙ ap delete_reply c.in-Err.is)
+      c.write_fault.ensures,
+)

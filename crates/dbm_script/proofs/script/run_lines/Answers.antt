@@ -2,7 +2,8 @@ use Rattle.std.proofs.Common.{◌≡◌, ◌∙◌, sym, true, is_ok, rules}
 use Rattle.dbm_file.specs.Database.{store_of}
 use Rattle.dbm_file.proofs.Runs.{no_run, goes_nowhere, still_goes}
 use Rattle.dbm_lines.proofs.TextLines.{counted_first, counted_on}
-use Rattle.dbm_script.proofs.Answering.{at_start, go_on, stand, stand_with, answered_first, said, was_read}
+use Rattle.dbm_script.proofs.Answering.{at_start, go_on, stand, stand_with, answered_first, said, was_read, was_none}
+use Rattle.dbm_script.proofs.Telling.{told_none, tell_on, told_well, told_whole}
 use Rattle.dbm_script.proofs.script.run_lines.Goals as goal
 
 pub loop-init : goal.loop-init
@@ -11,6 +12,7 @@ loop-init g c = record {
       let db = c.args.db.now in
       at_start db start _ _ (no_run g.S.PageStore db start at
       (λ x left. g.met.S.PageStore.only_now db.store x honest left));
+  told = told_none c.args.db.now _ _;
   goes = goes_nowhere c.args.db.now;
   counted = counted_first (g.R.Read.remaining c.args.reader.now) 4294967295;
 }
@@ -42,6 +44,11 @@ pub returns-then-not-is_line-clause-stands : goal.returns-then-not-is_line-claus
 returns-then-not-is_line-clause-stands g c honest start at =
     stand _ _ start _ _ _ _ (c.loop.invariant.answered honest start at)
 
+pub returns-then-not-is_line-clause-tells : goal.returns-then-not-is_line-clause-tells
+returns-then-not-is_line-clause-tells g c =
+    told_whole _ _ _ _ _ _ _ c.next_line.new.buffers.line.items c.loop.invariant.told
+    (was_none _ _ _ _ (sym c.is_line.ensures ∙ c.if-not-is_line.true) c.in_ok-read.ensures.line)
+
 -- after as many lines as can be counted
 pub returns-clause-stands : goal.returns-clause-stands
 returns-clause-stands g c honest start at =
@@ -67,6 +74,10 @@ loop-preserved g c =
           c.in_ok-read.ensures.line)
           (said c.answer_and_flush.result _ _ _ h.answered.run.after _ wrote
           (c.answer_and_flush.ensures.line mid h.answered.run.after h.answered.run.is_at));
+      told = tell_on _ _ _ _ _ _ _ _ _ c.next_line.new.buffers.line.items so_far.told
+          (was_read _ _ _ _ (sym c.is_line.ensures ∙ c.if-not-is_line.false)
+          c.in_ok-read.ensures.line)
+          (told_well c.answer_and_flush.result _ _ _ _ wrote c.answer_and_flush.ensures.tells);
       goes = still_goes _ _ _ so_far.goes c.answer_and_flush.ensures.goes;
       counted = counted_on _ _ _ _ _ _ so_far.counted c.in_ok-read.ensures.counted;
     }

@@ -3,12 +3,16 @@ use Rattle.dbm_file.specs.Answers.{IsSameDatabase}
 use Rattle.dbm_file.specs.Database.{store_of, IsAt}
 use Rattle.dbm_lines.specs.Reading.{IsCounted}
 use Rattle.dbm_script.proofs.Answering.{IsAnswered}
+use Rattle.dbm_script.proofs.Telling.{IsTold}
 use Rattle.dbm_script.proofs.script.run_lines.Given as goal
 
 abbrev pub invariant-loop : goal.invariant-loop
 invariant-loop g l = record {
   answered : g.S.PageStore.honest (store_of l.initial.db) → (h : Handle) → IsAt l.initial.db h
       → IsAnswered l.initial.db l.db h (g.R.Read.remaining l.initial.reader)
+      (g.R.Read.remaining l.reader) (g.W.Write.contents l.initial.writer)
+      (g.W.Write.contents l.writer);
+  told : IsTold l.initial.db l.db (g.R.Read.remaining l.initial.reader)
       (g.R.Read.remaining l.reader) (g.W.Write.contents l.initial.writer)
       (g.W.Write.contents l.writer);
   goes : IsSameDatabase l.initial.db l.db;

@@ -1,0 +1,188 @@
+-- How far a script has been told, on any device.
+use Rattle.std.proofs.Common.{◌≡◌, ℕ, true, false, List, [], ◌∷◌, ◌++◌, map, Option, Some, None, IfSome, Result, Ok, Err, OnOk, is_ok, refl, sym, ap, subst, ◌∙◌, append-nil, append_assoc}
+use Rattle.std.proofs.lemmas.List.{map-append}
+use Rattle.std.specs.Io.KnownBytes.{Appends, Keeps}
+use Rattle.dbm_model.specs.Calls as model
+use Rattle.dbm_text.specs.Lines.{call_in_line, reply_line, bad_line}
+use Rattle.dbm_text.specs.Scripts.{script_of, calls_in, answer_of}
+use Rattle.page_io.specs.declared.store.PageStore.{Ghosts}
+use Rattle.dbm_file.specs.Calls.{mode_of, reply_of}
+use Rattle.dbm_file.specs.Replies.{IsAnswered, IsCallAnswered, AreAnswered, store_faults, told_of_store}
+use Rattle.dbm_file.specs.declared.calls.Call.TheVariants.{Store}
+use Rattle.dbm_file.specs.declared.calls.Reply.{Reply}
+use Rattle.dbm_file.specs.declared.calls.StoreMode.{StoreMode}
+use Rattle.dbm_file.specs.declared.calls.StoreMode.TheVariants.{Insert, Replace}
+use Rattle.dbm_file.specs.declared.database.Database.{Database}
+use Rattle.dbm_file.specs.Answers.{IsCallEnded}
+use Rattle.dbm_file.specs.Changing.{WasStored}
+use Rattle.dbm_file.specs.Searches.{Searched, EndsWith}
+use Rattle.dbm_file.specs.declared.calls.StoreReply.{StoreReply}
+use Rattle.dbm_file.specs.declared.calls.StoreReply.TheVariants as stored
+use Rattle.dbm_fault.specs.Among.{IsErrAmong}
+use Rattle.dbm_fault.specs.declared.fault.Fault.{Fault}
+use Rattle.dbm_file.proofs.Answered.{answered_next, store_answered}
+use Rattle.dbm_lines.specs.Reading.{ReadsLine}
+use Rattle.dbm_script.specs.Tellings.{mode_as, call_as, TellsLine, TellsScript}
+use Rattle.dbm_script.proofs.Flushing.{on_ok}
+use Rattle.dbm_script.proofs.Answering.{IsLeft, left_after, calls_in-push, joined}
+
+-- ---- one line
+
+same_mode : (mode : StoreMode) → mode_as (mode_of mode) ≡ mode
+same_mode Insert = refl
+same_mode Replace = refl
+
+-- a store was answered, whose mode is the definitions'
+pub told_store : {S : Type 0} {s : Ghosts S} (old new : Database S s) (key content : List ℕ)
+    (mode : StoreMode) (ended : Result StoreReply Fault)
+    → (ended ≡ Ok stored.Kept → (mode ≡ Insert) × Searched old key (EndsWith key))
+    → (ended ≡ Ok stored.Stored → WasStored old new (key, content))
+    → IsErrAmong ended store_faults → IsCallEnded old new ended
+    → IsAnswered old new (call_as (model.Store key content (mode_of mode))) (told_of_store ended)
+told_store old new key content mode ended kept stored only keeps =
+    subst (λ (m : StoreMode). IsCallAnswered old new (Store key content m) (told_of_store ended))
+    (sym (same_mode mode))
+    (store_answered ended _ key key content content mode refl refl refl kept stored only keeps)
+
+-- the line says what the reply is
+pub told_line : {S : Type 0} {s : Ghosts S} (old new : Database S s) (call : model.Call)
+    (reply : Reply) (said : model.Reply) (Says : List ℕ → Type 0)
+    → IsAnswered old new (call_as call) reply → reply_of reply ≡ said → Says (reply_line said)
+    → TellsLine (Some call) old new Says
+told_line old new call reply said Says answered same says =
+    (reply, answered, subst (λ (r : model.Reply). Says (reply_line r)) (sym same) says)
+
+-- what is said where the writing went well
+pub told_well : {S E : Type 0} {s : Ghosts S} (r : Result Unit E) (call : Option model.Call)
+    (old new : Database S s) (Says : List ℕ → Type 0) → is_ok r ≡ true
+    → TellsLine call old new (λ text. OnOk r (Says text)) → TellsLine call old new Says
+told_well (Ok u) None old new Says ok telling = telling
+told_well (Ok u) (Some call) old new Says ok telling = telling
+told_well (Err e) call old new Says ok telling = cc
+
+-- one that was flushed
+pub told_flushed : {S E : Type 0} {s : Ghosts S} (r : Result Unit E) (call : Option model.Call)
+    (old new : Database S s) (before mid after : Option (List ℕ)) → Keeps mid after
+    → TellsLine call old new (λ text. Appends before mid text)
+    → TellsLine call old new (λ text. OnOk r (Appends before after text))
+told_flushed r None old new before mid after keeps telling =
+    (telling.0, on_ok r before mid after bad_line telling.1 keeps)
+told_flushed r (Some call) old new before mid after keeps telling = (
+  telling.0,
+  telling.1,
+  on_ok r before mid after (reply_line (reply_of telling.0)) telling.2 keeps,
+)
+
+-- ---- a script
+
+answer-bad : {S : Type 0} {s : Ghosts S} (old new : Database S s) (script : List (Option model.Call))
+    (replies : List Reply) → AreAnswered old new (map call_as (calls_in script)) replies
+    → answer_of (script ++ None ∷ []) (map reply_of replies)
+    ≡ answer_of script (map reply_of replies) ++ bad_line
+answer-bad old new [] replies answered = refl
+answer-bad old new (None ∷ script) replies answered =
+    ap (λ text. bad_line ++ text) (answer-bad old new script replies answered)
+    ∙ sym (append_assoc bad_line (answer_of script (map reply_of replies)) bad_line)
+answer-bad old new (Some call ∷ script) [] answered = absurd answered
+answer-bad old new (Some call ∷ script) (reply ∷ replies) answered =
+    ap (λ text. reply_line (reply_of reply) ++ text)
+    (answer-bad answered.0 new script replies answered.2)
+    ∙ sym (append_assoc (reply_line (reply_of reply)) (answer_of script (map reply_of replies))
+    bad_line)
+
+answer-call : {S : Type 0} {s : Ghosts S} (old new : Database S s)
+    (script : List (Option model.Call)) (replies : List Reply) (call : model.Call) (reply : Reply)
+    → AreAnswered old new (map call_as (calls_in script)) replies
+    → answer_of (script ++ Some call ∷ []) (map reply_of (replies ++ reply ∷ []))
+    ≡ answer_of script (map reply_of replies) ++ reply_line (reply_of reply)
+answer-call old new [] [] call reply answered = append-nil (reply_line (reply_of reply))
+answer-call old new [] (other ∷ replies) call reply answered = absurd answered
+answer-call old new (None ∷ script) replies call reply answered =
+    ap (λ text. bad_line ++ text) (answer-call old new script replies call reply answered)
+    ∙ sym (append_assoc bad_line (answer_of script (map reply_of replies))
+    (reply_line (reply_of reply)))
+answer-call old new (Some earlier ∷ script) [] call reply answered = absurd answered
+answer-call old new (Some earlier ∷ script) (other ∷ replies) call reply answered =
+    ap (λ text. reply_line (reply_of other) ++ text)
+    (answer-call answered.0 new script replies call reply answered.2)
+    ∙ sym (append_assoc (reply_line (reply_of other)) (answer_of script (map reply_of replies))
+    (reply_line (reply_of reply)))
+
+-- how far it has been told
+pub record IsTold {S : Type 0} {s : Ghosts S} (old new : Database S s)
+    (first now before after : Option (List ℕ)) : Type 0 where
+  pub done : List (Option model.Call)
+  pub tells : TellsScript done old new before after
+  pub left : IsLeft first now done
+
+nothing_written : (before : Option (List ℕ)) → Appends before before []
+nothing_written None = tt
+nothing_written (Some text) = sym (append-nil text)
+
+nothing_read : (first : Option (List ℕ)) → IsLeft first first []
+nothing_read None = tt
+nothing_read (Some text) = refl
+
+pub told_none : {S : Type 0} {s : Ghosts S} (db : Database S s) (first before : Option (List ℕ))
+    → IsTold db db first first before before
+told_none db first before = record {
+  done = [];
+  tells = record { replies = []; answered = refl; written = nothing_written before };
+  left = nothing_read first;
+}
+
+one_more : {S : Type 0} {s : Ghosts S} (old mid new : Database S s)
+    (before now after : Option (List ℕ)) (done : List (Option model.Call)) (call : Option model.Call)
+    → TellsScript done old mid before now → TellsLine call mid new (λ text. Appends now after text)
+    → TellsScript (done ++ call ∷ []) old new before after
+one_more old mid new before now after done None h telling = record {
+  replies = h.replies;
+  answered = rw (calls_in-push done None, append-nil (calls_in done), telling.0) h.answered;
+  written = rw (answer-bad old mid done h.replies h.answered)
+      (joined before now after (answer_of done (map reply_of h.replies)) bad_line h.written
+      telling.1);
+}
+one_more old mid new before now after done (Some call) h (reply, answered, says) = record {
+  replies = h.replies ++ reply ∷ [];
+  answered = rw (calls_in-push done (Some call), map-append call_as (calls_in done) (call ∷ []))
+      (answered_next old mid new (map call_as (calls_in done)) h.replies (call_as call) reply
+      h.answered answered);
+  written = rw (answer-call old mid done h.replies call reply h.answered)
+      (joined before now after (answer_of done (map reply_of h.replies))
+      (reply_line (reply_of reply)) h.written says);
+}
+
+-- a line was read and told
+pub tell_on : {S : Type 0} {s : Ghosts S} (old mid new : Database S s)
+    (first now next before written after : Option (List ℕ)) (line : List ℕ)
+    → IsTold old mid first now before written
+    → IfSome now (λ text. ReadsLine 8193 text true line next)
+    → TellsLine (call_in_line line) mid new (λ text. Appends written after text)
+    → IsTold old new first next before after
+tell_on old mid new first now next before written after line h read telling = record {
+  done = h.done ++ call_in_line line ∷ [];
+  tells = one_more old mid new before written after h.done (call_in_line line) h.tells telling;
+  left = left_after first now next line h.done h.left read;
+}
+
+whole : {S : Type 0} {s : Ghosts S} (old new : Database S s) (text : List ℕ)
+    (now next before after : Option (List ℕ)) (line : List ℕ) (done : List (Option model.Call))
+    → IsLeft (Some text) now done → TellsScript done old new before after
+    → IfSome now (λ text. ReadsLine 8193 text false line next)
+    → TellsScript (script_of text) old new before after
+whole old new text None next before after line done left h read = absurd left
+whole old new text (Some []) next before after line done left h read =
+    subst (λ (script : List (Option model.Call)). TellsScript script old new before after)
+    (sym (append-nil done) ∙ left) h
+whole old new text (Some (x ∷ xs)) next before after line done left h read =
+    let e = read.0 in cc
+
+-- at the end of the text the whole script is told
+pub told_whole : {S : Type 0} {s : Ghosts S} (old new : Database S s)
+    (first now next before after : Option (List ℕ)) (line : List ℕ)
+    → IsTold old new first now before after
+    → IfSome now (λ text. ReadsLine 8193 text false line next)
+    → IfSome first (λ text. TellsScript (script_of text) old new before after)
+told_whole old new None now next before after line h read = tt
+told_whole old new (Some text) now next before after line h read =
+    whole old new text now next before after line h.done h.left h.tells read
