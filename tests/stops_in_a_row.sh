@@ -28,27 +28,27 @@ cut() {
 # is_one_of PAIRS: t.db has, for a reader, the pairs of so many stores, or of one more
 is_one_of() { "$program" dump t 2> /dev/null > seen && { cmp -s seen "$1.text" || cmp -s seen $(($1 + 1)).text; }; }
 
-# opens_again PAIRS: cut short behind each call, with each second sector lost, the opening of left.db leaves the same pairs, and the last one ends
+# state_of FILE: one word for the bytes of a file whose pages stand near its two ends, between which there may be gigabytes of nothing
+state_of() { { stat -c %s "$1" && head -c 65536 "$1" && tail -c 65536 "$1"; } | cksum; }
+
+# opens_again: cut short behind each call, with one half of the sectors lost, the opening of left.db leaves the same pairs, and the last one ends
 opens_again() {
-  local lose calls sum
-  local -A known=()
+  local calls
   cp seen wanted
   for ((calls = 0; calls < 100; calls++)); do
-    for lose in odd even; do
-      cp left.db t.db
-      cut "$calls" "$lose" ''
-      [ "$status" != 0 ] || return 0
-      sum=$(cksum < t.db)
-      [ -z "${known[$sum]:-}" ] || continue
-      known[$sum]=1
-      "$program" dump t 2> /dev/null | cmp -s - wanted || { wrong "an opening cut short behind $calls calls, $lose, leaves other pairs"; return 1; }
-    done
+    cp left.db t.db
+    if ((calls % 2)); then cut "$calls" odd ''; else cut "$calls" even ''; fi
+    [ "$status" != 0 ] || return 0
+    [ "$(state_of t.db)" = "$sum" ] || "$program" dump t 2> /dev/null | cmp -s - wanted ||
+      { wrong "an opening cut short behind $calls calls leaves other pairs"; return 1; }
   done
+  wrong "an opening makes 100 calls"
 }
 
 # row LEAST KEY..: first.db, to which these keys are stored in a row, cut short behind each of its calls, which are so many at least
 row() {
-  local least=$1 lines count=0 stop lose ended answered
+  local least=$1 lines count=0 stop lose ended answered sum
+  local -A known=()
   lines=$(for key in "${@:2}"; do echo "S $key 09"; done)
   cp first.db t.db && "$program" dump t > 0.text || exit 1
   for key in "${@:2}"; do
@@ -64,13 +64,16 @@ row() {
       answered=$(grep -cx 0 out)
       [ "$answered $status" != "$count 0" ] || ended=1
       is_one_of "$answered" || wrong "behind $stop calls, $lose, a reader finds other pairs than the $answered that were told"
+      sum=$(state_of t.db)
+      [ -z "${known[$sum]:-}" ] || continue
+      known[$sum]=1
       cp t.db left.db
       if [ "$is_good" = 1 ]; then
         [ "$(./count t.db)" = "$(wc -l < seen)" ] || wrong "behind $stop calls, $lose, the file says something else by the format"
         "$program" script t < /dev/null && "$program" verify t > /dev/null || wrong "behind $stop calls, $lose, the file is no good one"
         "$program" dump t | cmp -s - seen || wrong "behind $stop calls, $lose, an opening gives other pairs than a reader finds"
       fi
-      [[ $lose == k* || $lose == l* ]] || opens_again
+      opens_again
     done
     [ -z "$ended" ] || break
   done
