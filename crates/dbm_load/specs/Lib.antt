@@ -1,4 +1,5 @@
 pub use Rattle.dbm_lines.specs.PairLines
 pub mod Batches
 pub mod Loading
+pub mod Refusals
 pub mod Storing

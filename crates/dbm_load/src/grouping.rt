@@ -3,6 +3,7 @@ ghost use Rattle.std.specs.Prelude.{◌≡◌, ◌≤◌, Err, OnOk, IfSome, Som
 ghost use Rattle.dbm_file.specs.Answers.{IsSameDatabase};
 ghost use Rattle.dbm_lines.specs.Forms.{pair_in};
 ghost use Rattle.dbm_load.specs.Batches.{pairs_in, GroupsPair, GroupsLine};
+ghost use Rattle.dbm_load.specs.Refusals.{StopsByFault};
 ghost use Rattle.dbm_load.specs.Loading.{Loads};
 
 use crate::batch::Batch;
@@ -29,6 +30,7 @@ pub fn load_groups<S: PageStore, R: BufRead, P: Progress>(
         (λ text. R.remaining reader.new ≡ Some [])) }
     ensures size { OnOk result (IfSome (R.remaining reader.old)
         (λ text. length text ≤ 4294967295)) }
+    ensures faults { StopsByFault result }
     ensures goes { IsSameDatabase db.old db.new }
     ensures no_memory { result ≡ Err EngineFault.Memory → ⊥ }
     ensures no_write { result ≡ Err EngineFault.Write → ⊥ }
@@ -60,6 +62,7 @@ fn group_line<S: PageStore, P: Progress>(
 ) -> Result<(), EngineFault>
     ensures line { GroupsLine result (pair_in form buffers.old.line.items) number db.old db.new
         (pairs_in batch.old) (pairs_in batch.new) }
+    ensures faults { StopsByFault result }
     ensures goes { IsSameDatabase db.old db.new }
 {
     let line = buffers.line.as_slice();
@@ -82,6 +85,7 @@ fn group_pair<S: PageStore, P: Progress>(
 ) -> Result<(), EngineFault>
     ensures pair { GroupsPair result (key.now, content.now) db.old db.new
         (pairs_in batch.old) (pairs_in batch.new) }
+    ensures faults { StopsByFault result }
     ensures goes { IsSameDatabase db.old db.new }
 {
     let Ok(()) = batch.keep(key, content) else {

@@ -5,6 +5,7 @@ ghost use Rattle.dbm_text.specs.Dumps.{dump_of, text_dump_of};
 ghost use Rattle.dbm_text.specs.Escapes.{pair_of_text_line};
 ghost use Rattle.dbm_lines.specs.Forms.{pair_in, dump_in};
 ghost use Rattle.dbm_lines.specs.PairLines.{pair_of_line};
+ghost use Rattle.dbm_load.specs.Refusals.{StopsByFault};
 ghost use Rattle.dbm_load.specs.Loading.{Loads, LoadsDump, LoadsLine};
 
 use crate::batch::Batch;
@@ -43,6 +44,10 @@ pub fn load_engine<S: PageStore, R: BufRead, P: Progress>(
 
     // A dump is loaded back.
     ensures dump { OnOk result (LoadsDump dump_of (R.remaining reader.old) db.old db.new) }
+
+    // On any device it is refused by no other fault than those of a store, of a line, of reading
+    // and of memory.
+    ensures faults { StopsByFault result }
     ensures goes { IsSameDatabase db.old db.new }
     ensures memory { result ≡ Err EngineFault.Memory
         → (db.new ≡ db.old) × (reader.new ≡ reader.old) }
@@ -69,6 +74,10 @@ pub fn load_text_engine<S: PageStore, R: BufRead, P: Progress>(
 
     // A dump is loaded back.
     ensures dump { OnOk result (LoadsDump text_dump_of (R.remaining reader.old) db.old db.new) }
+
+    // On any device it is refused by no other fault than those of a store, of a line, of reading
+    // and of memory.
+    ensures faults { StopsByFault result }
     ensures goes { IsSameDatabase db.old db.new }
     ensures memory { result ≡ Err EngineFault.Memory
         → (db.new ≡ db.old) × (reader.new ≡ reader.old) }
@@ -94,6 +103,7 @@ fn load_in_form<S: PageStore, R: BufRead, P: Progress>(
 
     // A dump is loaded back.
     ensures dump { OnOk result (LoadsDump (dump_in form) (R.remaining reader.old) db.old db.new) }
+    ensures faults { StopsByFault result }
     ensures goes { IsSameDatabase db.old db.new }
     ensures memory { result ≡ Err EngineFault.Memory
         → (db.new ≡ db.old) × (reader.new ≡ reader.old) }
@@ -122,6 +132,7 @@ fn load_lines<S: PageStore, R: BufRead, P: Progress>(
         (λ text. R.remaining reader.new ≡ Some [])) }
     ensures size { OnOk result (IfSome (R.remaining reader.old)
         (λ text. length text ≤ 4294967295)) }
+    ensures faults { StopsByFault result }
     ensures goes { IsSameDatabase db.old db.new }
     ensures no_memory { result ≡ Err EngineFault.Memory → ⊥ }
     ensures no_write { result ≡ Err EngineFault.Write → ⊥ }
@@ -146,6 +157,7 @@ fn load_line<S: PageStore>(
     form: TextForm,
 ) -> Result<(), EngineFault>
     ensures line { LoadsLine result (pair_in form buffers.old.line.items) number db.old db.new }
+    ensures faults { StopsByFault result }
     ensures goes { IsSameDatabase db.old db.new }
 {
     let line = buffers.line.as_slice();

@@ -1,6 +1,9 @@
 //! Stores of the pairs of lines, alone and many in one commit.
 ghost use Rattle.std.specs.Prelude.{◌≡◌, ◌+◌, ◌≤◌, ◌<◌, OnOk, IfOk, [], drop, vec_len};
+ghost use Rattle.dbm_fault.specs.Among.{IsErrAmong};
 ghost use Rattle.dbm_file.specs.Answers.{IsSameDatabase};
+ghost use Rattle.dbm_file.specs.Replies.{store_faults};
+ghost use Rattle.dbm_load.specs.Refusals.{StopsByFault};
 ghost use Rattle.dbm_load.specs.Batches.{pairs_in};
 ghost use Rattle.dbm_load.specs.Storing.{StoresPair, StoresAlone, StoresSome, StoresEach, StoresBatch};
 
@@ -17,6 +20,7 @@ pub fn store_pair<S: PageStore>(
     content: &[u8],
 ) -> Result<(), Fault>
     ensures stores { StoresPair result db.old db.new (key.now, content.now) }
+    ensures only { IsErrAmong result store_faults }
     ensures goes { IsSameDatabase db.old db.new }
 {
     match db.store(key, content, StoreMode::Replace) {
@@ -33,6 +37,7 @@ pub fn store_alone<S: PageStore, P: Progress>(
     progress: &mut P,
 ) -> Result<(), EngineFault>
     ensures stores { StoresAlone result db.old db.new (key.now, content.now) }
+    ensures faults { StopsByFault result }
     ensures goes { IsSameDatabase db.old db.new }
 {
     match store_pair(db, key, content) {
@@ -52,6 +57,7 @@ pub fn store_batch<S: PageStore, P: Progress>(
 ) -> Result<(), EngineFault>
     ensures stores { StoresBatch result db.old db.new (pairs_in batch.old) }
     ensures none { OnOk result (pairs_in batch.new ≡ []) }
+    ensures faults { StopsByFault result }
     ensures goes { IsSameDatabase db.old db.new }
 {
     match store_pairs(db, batch, progress) {
@@ -70,6 +76,7 @@ fn store_pairs<S: PageStore, P: Progress>(
     progress: &mut P,
 ) -> Result<(), Fault>
     ensures stores { StoresEach result db.old db.new (pairs_in batch.now) }
+    ensures only { IsErrAmong result store_faults }
     ensures goes { IsSameDatabase db.old db.new }
 {
     let mut done = 0;
@@ -102,6 +109,7 @@ fn store_some<S: PageStore>(
     ensures stores { StoresSome result db.old db.new (drop done (pairs_in batch.now)) }
     ensures within { IfOk result (λ stored.
         (0 < stored) × (done + stored ≤ vec_len batch.now.pairs)) }
+    ensures only { IsErrAmong result store_faults }
     ensures goes { IsSameDatabase db.old db.new }
 {
     let stored = db.store_many(&batch.pairs[done..])?;
