@@ -17,6 +17,8 @@ class Crate:
     # what it uses of the kit and of the repository
     of_kit: tuple
     uses: tuple
+    # a library for C
+    is_static: bool
 
     @property
     def folder(self):
@@ -41,13 +43,20 @@ class Crate:
         return total
 
 
+def crate_of(name, *kind, uses, names):
+    """A crate of crates.txt, by what stands in front of the colon and behind it."""
+    return Crate(name, tuple(it for it in uses if it not in names), tuple(it for it in uses if it in names), kind == ("staticlib",))
+
+
 @functools.cache
 def crates():
     """The repository's crates by name, as crates.txt has them."""
     with open(f"{TOP}/crates.txt", encoding="utf-8") as file:
         lines = [line.partition("#")[0] for line in file]
-    rows = {line.partition(":")[0].strip(): line.partition(":")[2].split() for line in lines if ":" in line}
-    return {name: Crate(name, tuple(it for it in words if it not in rows), tuple(it for it in words if it in rows)) for name, words in rows.items()}
+    rows = [line.partition(":") for line in lines if ":" in line]
+    names = {head.split()[0] for head, _, _ in rows}
+    made = (crate_of(*head.split(), uses=uses.split(), names=names) for head, _, uses in rows)
+    return {it.name: it for it in made}
 
 
 @functools.cache
@@ -82,6 +91,8 @@ def words(verb, name, made):
     """The words by which the compiler is called at a crate, over libraries that stand in the folders `made`, each in its crate's."""
     crate = crates()[name]
     said = [f"{home()}/bin/rattle", verb, "--crate-name", name, crate.root]
+    if crate.is_static:
+        said += ["--crate-type", "staticlib"]
     for it in ("std", *crate.of_kit):
         said += ["--extern", f"{it}={home()}/rlibs/{it}.rlib"]
     for it in crate.uses:

@@ -20,4 +20,5 @@ pub mod ReadThrough
 pub mod Refused
 pub mod Runs
 pub mod Searches
+pub mod Settled
 pub mod StoreSteps

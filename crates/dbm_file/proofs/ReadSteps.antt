@@ -69,6 +69,18 @@ pub at_own : {S : Type 0} {s : Ghosts S} (db : Database S s) (map : Contents)
     → HoldsMap db map → StandsAfterStop db map → IsAt db (handle_of db map)
 at_own db map held rests = record { shows = refl; map = held; rests = rests }
 
+-- the same pages stand for the same map
+pub holds_as : {S : Type 0} (s : Ghosts S) (old new : S) (before after : Meta) (map : Contents)
+    → s.committed new ≡ s.committed old → after ≡ before → Holds s old before map
+    → Holds s new after map
+holds_as s old new before after map pages meta h =
+    record {
+      stands = subst (λ (m : Meta). FileStandsFor (s.committed new) map m.limit) (sym meta)
+          (subst (λ (ps : Pages). FileStandsFor ps map before.limit) (sym pages) h.stands);
+      meta_is = subst (λ (m : Meta). said_by (page_of (s.committed new)) 1 ≡ MetaPage m) (sym meta)
+          (subst (λ (ps : Pages). said_by (page_of ps) 1 ≡ MetaPage before) (sym pages) h.meta_is);
+    }
+
 -- a step from there is one from the handle that it is at
 pub from_own : {S : Type 0} {s : Ghosts S} {old new : Database S s} {h : Handle} {call : model.Call}
     {reply : model.Reply} → IsAt old h
@@ -166,17 +178,9 @@ module _ {S : Type 0} (s : Ghosts S) (old new : Database S s) (map : Contents) w
     -- the committed pages and the meta page stay
     pub still_holds : s.honest (store_of old) → Holds s (store_of old) (meta_kept old) map
         → Holds s (store_of new) (meta_kept new) map
-    still_holds honest h =
-        let pages = sym (read.reads.stages_only.kept honest).committed in
-        let meta = sym (still_meta s old new read) in
-        record {
-          stands = subst (λ (m : Meta). FileStandsFor (s.committed (store_of new)) map m.limit) meta
-              (subst (λ (ps : Pages). FileStandsFor ps map (meta_kept old).limit) pages h.stands);
-          meta_is = subst (λ (m : Meta).
-              said_by (page_of (s.committed (store_of new))) 1 ≡ MetaPage m) meta
-              (subst (λ (ps : Pages). said_by (page_of ps) 1 ≡ MetaPage (meta_kept old))
-              pages h.meta_is);
-        }
+    still_holds honest =
+        holds_as s (store_of old) (store_of new) (meta_kept old) (meta_kept new) map
+        (read.reads.stages_only.kept honest).committed (still_meta s old new read)
 
     pub still_rests : s.honest (store_of old)
         → ((x : Settled) → s.settles_to (store_of old) x

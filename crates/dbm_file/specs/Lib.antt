@@ -13,5 +13,6 @@ pub mod Replies
 pub mod Rooms
 pub mod Runs
 pub mod Searches
+pub mod Syncing
 pub mod Trying
 pub mod Verifying

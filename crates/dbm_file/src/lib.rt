@@ -10,6 +10,8 @@ mod octets;
 mod opening;
 mod pass;
 mod running;
+mod serving;
+mod syncing;
 mod verifying;
 
 pub use calls::{Call, DeleteReply, Reply, Stat, StoreMode, StoreReply};

@@ -8,7 +8,7 @@ ghost use Rattle.dbm_model.specs.Pairs.{Contents};
 ghost use Rattle.page_io.specs.Meaning.{ImageStandsFor};
 ghost use Rattle.redo_commit.specs.File.{settled, IsAtRest};
 ghost use Rattle.dbm_fault.specs.Among.{IsErrAmong};
-ghost use Rattle.redo_area.specs.Reading.{OnlyReads};
+ghost use Rattle.sect_dev.specs.Reads.{OnlyReads};
 ghost use Rattle.dbm_model.specs.States.{Handle};
 ghost use Rattle.dbm_file.specs.Database.{store_of, meta_kept, page_state, IsAt};
 ghost use Rattle.file_opening.specs.Opening.{writes, early_fault, IsRefusedOpening, AllAllow, MayRemain, AllStand, KeepsMeta, IsOpened};
@@ -110,6 +110,13 @@ impl<D: SectorDev> Database<CachedPages<Pager<D>>> {
             }),
             Err(refused) => Err(refused),
         }
+    }
+
+    /// The device below.
+    pub fn dev(&self) -> &D
+        ensures { result.now ≡ device_below self.now }
+    {
+        self.store.inner().dev()
     }
 
     /// Closes a database, and gives the device back (POSIX: `dbm_close`). Pages of the last commit

@@ -13,7 +13,7 @@ use Rattle.page_io.specs.declared.store.PageFault.TheVariants as page
 use Rattle.page_io.specs.declared.store.PageStore as store
 use Rattle.redo_commit.specs.File.{settled, SettlesAsBefore}
 use Rattle.redo_area.specs.Opening.{IsFresh as IsFreshStore}
-use Rattle.redo_area.specs.Reading.{OnlyReads}
+use Rattle.sect_dev.specs.Reads.{OnlyReads}
 use Rattle.redo_area.specs.Settling.{SettlesTo, only_seen}
 use Rattle.file_opening.specs.Opening.{writes, is_exclusive, early_fault}
 use Rattle.file_opening.specs.OpenFiles.{StandsAs, OpensAs, IsJustOpened}

@@ -16,7 +16,7 @@ use Rattle.redo_commit.specs.File.{settled}
 use Rattle.redo_commit.specs.Header.{has_magic}
 use Rattle.redo_area.specs.Opening.{refusal_by, refusal_of, IsRefused, SaysArmed}
 use Rattle.page_io.specs.declared.store.PageStore as store
-use Rattle.redo_area.specs.Reading.{OnlyReads}
+use Rattle.sect_dev.specs.Reads.{OnlyReads}
 use Rattle.redo_area.specs.Settling.{SettlesTo}
 use Rattle.redo_area.specs.declared.pager.Pager.{Pager}
 use Rattle.redo_area.specs.declared.open_fault.OpenFault.{OpenFault}

@@ -13,7 +13,7 @@ ghost use Rattle.page_io.specs.Store.{Settled, blank, file_of, page_of};
 ghost use Rattle.redo_commit.specs.File.{settled};
 ghost use Rattle.redo_area.specs.Opening.{IsFresh as IsFreshStore};
 ghost use Rattle.redo_area.specs.Pagers.{device_of};
-ghost use Rattle.redo_area.specs.Reading.{OnlyReads};
+ghost use Rattle.sect_dev.specs.Reads.{OnlyReads};
 ghost use Rattle.redo_area.specs.Settling.{SettlesTo};
 ghost use Rattle.file_opening.specs.Opening.{writes, is_exclusive, early_fault, emptying_fault, RefusesMeta, RefusesOpened, IsRefusedOpening, AllAllow, EmptiesFile, MayRemain, AllStand, KeepsMetaOf, KeepsMeta, IsOpened};
 ghost use Rattle.file_opening.specs.OpenFiles.{device_left, IsJustOpened, StandsAs, OpensAs};

@@ -4,8 +4,9 @@ ghost use Rattle.page_cache.specs.Clean.{AreClean};
 ghost use Rattle.page_cache.specs.Copies.{copies_of};
 
 use crate::clean_pages::CleanPages;
-use page_io::{Page, PageFault, PageStore};
-use std::alloc::Global;
+use page_io::{Page, PageFault, PageStore, ServedStore};
+use sect_dev::Told;
+use std::alloc::{AllocError, Global};
 
 /// A store of pages over another one. It keeps copies of up to 256 committed pages that were read,
 /// and reads them there.
@@ -30,6 +31,13 @@ impl<S: PageStore> CachedPages<S> {
             store,
             clean: CleanPages::new(alloc),
         }
+    }
+
+    /// The store below.
+    pub fn inner(&self) -> &S
+        ensures { result.now ≡ store_below self.now }
+    {
+        &self.store
     }
 
     /// The store below as it is.
@@ -163,5 +171,16 @@ impl<S: PageStore> PageStore for CachedPages<S> {
 
     fn is_broken(&self) -> bool {
         self.store.is_broken()
+    }
+}
+
+impl<S: ServedStore> ServedStore for CachedPages<S> {
+    ghost shows = { λ c. S.shows c.store };
+
+    ghost listed = { λ c. S.listed c.store };
+
+    // Copies of committed pages stay true.
+    fn tell(&mut self, told: &Told) -> Result<(), AllocError> {
+        self.store.tell(told)
     }
 }

@@ -7,6 +7,7 @@ mod mem_pages;
 mod page;
 mod plain;
 mod sectors;
+mod served;
 mod staged;
 mod store;
 
@@ -15,5 +16,6 @@ pub use laws::{commits_stand, images_have_one_meaning};
 pub use mem_pages::MemPages;
 pub use page::{PAGE_LEN, Page, SECTORS_PER_PAGE};
 pub use sectors::{read_page, write_page};
+pub use served::ServedStore;
 pub use staged::{StagedPages, find_staged, hand_over, is_among, put_staged};
 pub use store::{PageFault, PageStore};

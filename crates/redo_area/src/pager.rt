@@ -7,6 +7,7 @@ ghost use Rattle.redo_commit.specs.File.{settled};
 ghost use Rattle.redo_area.specs.Settling.{SettlesIfUsable, SettlesTo};
 
 mod opening;
+mod serving;
 
 use crate::arming::arm_over;
 use crate::settling::bring_home;
@@ -52,7 +53,7 @@ impl<D: SectorDev> PageStore for Pager<D> {
     ghost use Rattle.page_io.specs.Store.{IsEither, page_of, has_page, committed_with, AllBelow};
     ghost use Rattle.page_io.specs.declared.store.PageFault.TheVariants.{Device};
     ghost use Rattle.redo_area.specs.Pagers.{device_of};
-    ghost use Rattle.redo_area.specs.Reading.{OnlyReads};
+    ghost use Rattle.sect_dev.specs.Reads.{OnlyReads};
     ghost use Rattle.redo_area.specs.Settling.{only_seen, quarter_fits};
     ghost use Rattle.redo_commit.specs.File.{IsAtRest};
 

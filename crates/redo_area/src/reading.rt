@@ -5,7 +5,7 @@ ghost use Rattle.page_io.specs.Page.{page_at};
 ghost use Rattle.page_io.specs.Store.{bytes_of, file_of, file_pages, overlaid, are_in_order};
 ghost use Rattle.redo_commit.specs.File.{settled, redo_images};
 ghost use Rattle.redo_area.specs.Opening.{refusal_of, SaysArmed};
-ghost use Rattle.redo_area.specs.Reading.{OnlyReads};
+ghost use Rattle.sect_dev.specs.Reads.{OnlyReads};
 
 use crate::OpenFault;
 use page_io::{Page, StagedPages, read_page};

@@ -7,5 +7,7 @@ pub mod Kept
 pub mod Mem
 pub mod Moments
 pub mod Plan
+pub mod Reads
 pub mod Sector
+pub mod Serving
 pub mod Unsynced

@@ -46,7 +46,7 @@ fn refuse(refused: &mut u64) -> Result<(), DevFault>
 }
 
 impl<D: SectorDev, P: Plan> Failing<D, P> {
-    ghost use Rattle.sect_dev.specs.Failing.{inner_of, plan_of, all_faults};
+    ghost use Rattle.sect_dev.specs.Failing.{inner_of, plan_of, own_faults, all_faults};
 
     pub(crate) fn with_plan(inner: D, plan: P) -> Failing<D, P>
         ensures inner { inner_of result ≡ inner }
@@ -58,6 +58,13 @@ impl<D: SectorDev, P: Plan> Failing<D, P> {
             plan,
             refused: 0,
         }
+    }
+
+    /// How many calls it failed on purpose, up to 2^64 - 1.
+    pub fn failed_on_purpose(&self) -> u64
+        ensures { result ≡ own_faults self.now }
+    {
+        self.refused
     }
 
     /// Gives the device back.

@@ -75,19 +75,22 @@ fn above_standard(file: File) -> io::Result<File> {
     file.try_clone()
 }
 
-// Makes a file, and syncs its folder, so that a stop leaves the file's name.
+// Makes a file.
 fn make<R: Files<File = File>>(rt: &R, path: &str) -> io::Result<File> {
-    let file = OpenOptions::new()
+    OpenOptions::new()
         .read(true)
         .write(true)
         .create(true)
-        .open(rt, path)?;
+        .open(rt, path)
+}
+
+// Syncs the folder of a file, so that a stop leaves the file's name.
+fn sync_folder<R: Files<File = File>>(rt: &R, path: &str) -> io::Result<()> {
     let folder = match Path::new(path).parent() {
         Some(parent) if !parent.as_str().is_empty() => parent.as_str(),
         _ => ".",
     };
-    File::open(rt, folder)?.sync_all()?;
-    Ok(file)
+    File::open(rt, folder)?.sync_all()
 }
 
 // Opens a file, or makes it where it is to be made. None where it isn't there.
@@ -109,6 +112,10 @@ fn find<R: Files<File = File>>(
         }
         opened => opened?,
     };
+    // One of no bytes may have been made by an opening that ended before its folder was synced.
+    if write && create && file.metadata()?.len() == 0 {
+        sync_folder(rt, path)?;
+    }
     let file = above_standard(file)?;
     lock(&file, write)?;
     Ok(Some(file))
@@ -137,8 +144,8 @@ impl FileDev {
 
     /// Opens a file as a device of so many sectors, whatever its length: for reading and writing
     /// with `write`, else for reading alone, and then each write fails. With `write` and `create` a
-    /// file that isn't there is made, and its folder is synced. The file is locked (flock) till the
-    /// device is dropped: no other opening has it beside one with `write`.
+    /// file that isn't there is made, and the folder of one that has no bytes is synced. The file is
+    /// locked (flock) till the device is dropped: no other opening has it beside one with `write`.
     ///
     /// `Missing` where the file isn't there and `write` and `create` aren't both set, `Memory`
     /// where the system has no memory for it, and `Device` where the system refuses it, the sync of

@@ -9,6 +9,7 @@ mod fuse;
 mod laws;
 mod mem;
 mod past;
+mod served;
 
 pub use device::{DevFault, SectorDev};
 pub use fail_one::{FailLate, FailOnce};
@@ -17,3 +18,5 @@ pub use file_dev::{FileDev, FileFault};
 pub use fuse::Fuse;
 pub use laws::premise_can_be_met;
 pub use mem::MemDev;
+pub use past::{Event, Past};
+pub use served::{ServedDev, Told};

@@ -1,20 +1,23 @@
-// The writes and syncs of a device in memory, as clauses see them. They take no memory.
+//! The writes and syncs of a device, as clauses see them. They take no memory.
 ghost use Rattle.std.specs.Prelude.{◌≡◌, List, [], ◌∷◌};
 ghost use Rattle.std.specs.Borrow.{ftrue};
 ghost use Rattle.sect_dev.specs.declared.past.Event.{Event};
 
 use std::marker::Model;
 
-/// What a device was asked to do.
+/// What a device did.
 #[derive(Clone, Copy)]
-pub(crate) enum Event {
+pub enum Event {
+    /// It wrote a sector.
     Wrote(u32, [u8; 512]),
+    /// It synced all that it wrote before.
     Synced,
 }
 
-/// Events, the newest first.
+/// Events, the newest first. They exist for clauses alone: a program keeps none of them.
+#[repr(C)]
 #[derive(Drop)]
-pub(crate) struct Past {
+pub struct Past {
     pub ghost events: { List Event },
 }
 
@@ -25,23 +28,24 @@ impl Model for Past {
 impl Past {
     ghost use Rattle.sect_dev.specs.History.{at_last_sync};
 
-    pub(crate) fn none() -> Past
+    /// No event.
+    pub fn none() -> Past
         ensures { result.events ≡ [] }
     {
         Past {}
     }
 
-    // One more.
+    /// One more.
     #[inline(always)]
-    pub(crate) fn then(&self, _event: &Event) -> Past
+    pub fn then(&self, _event: &Event) -> Past
         ensures { result.events ≡ _event.now ∷ self.now.events }
     {
         Past {}
     }
 
-    // Those up to the last sync.
+    /// Those up to the last sync.
     #[inline(always)]
-    pub(crate) fn synced(&self) -> Past
+    pub fn synced(&self) -> Past
         ensures { result.events ≡ at_last_sync self.now.events }
     {
         Past {}

@@ -6,7 +6,7 @@ ghost use Rattle.redo_commit.specs.File.{settled, SettlesAsBefore, IsBlankOr};
 ghost use Rattle.redo_area.specs.Settling.{SettlesTo};
 ghost use Rattle.redo_area.specs.Opening.{refusal_of, SaysArmed, IsFresh, IsRefused, HasOpenCause};
 ghost use Rattle.redo_area.specs.Pagers.{device_of, device_after};
-ghost use Rattle.redo_area.specs.Reading.{OnlyReads};
+ghost use Rattle.sect_dev.specs.Reads.{OnlyReads};
 
 use crate::reading::read_file;
 use crate::recovery::recover;
@@ -134,6 +134,13 @@ impl<D: SectorDev> Pager<D> {
             }),
             Err(fault) => Err((dev, fault)),
         }
+    }
+
+    /// The device.
+    pub fn dev(&self) -> &D
+        ensures { result.now ≡ device_of self.now }
+    {
+        &self.dev
     }
 
     /// The device as it is. Staged pages are lost; those that wait are brought home by the next

@@ -7,7 +7,7 @@ use Rattle.redo_commit.specs.File.{settled}
 use Rattle.page_io.specs.Meaning.{ImageStandsFor}
 use Rattle.page_io.specs.Store.{Settled, StoreState, bytes_of, file_pages, overlaid}
 use Rattle.page_io.specs.Page.{page_at}
-use Rattle.redo_area.specs.Reading.{OnlyReads}
+use Rattle.sect_dev.specs.Reads.{OnlyReads}
 use Rattle.redo_area.specs.Settling.{only_seen}
 use Rattle.page_model.specs.Pages.{Meta}
 use Rattle.dbm_model.specs.Sizes.{sectors_for}

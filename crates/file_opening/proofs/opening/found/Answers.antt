@@ -9,7 +9,7 @@ use Rattle.page_model.proofs.GoodBodies.{bodies_valid}
 use Rattle.page_io.specs.Meaning.{FileStandsFor, ImageStandsFor}
 use Rattle.page_io.specs.Page.{page_at}
 use Rattle.page_io.specs.Store.{Pages, Settled, StoreState, bytes_of, file_pages, overlaid, page_of}
-use Rattle.redo_area.specs.Reading.{OnlyReads}
+use Rattle.sect_dev.specs.Reads.{OnlyReads}
 use Rattle.seg_table.specs.MetaPages.{model_meta}
 use Rattle.dbm_fault.specs.Faults.{fault_from}
 use Rattle.dbm_fault.specs.declared.fault.Fault.TheVariants.{Device, Damaged, Version}

@@ -7,7 +7,7 @@ use Rattle.page_io.specs.Page.{page_at}
 use Rattle.page_io.specs.Store.{Pages, Settled, bytes_of, file_of, file_pages, overlaid, page_of}
 use Rattle.redo_commit.specs.File.{settled}
 use Rattle.redo_area.specs.Opening.{IsFresh as IsFreshStore}
-use Rattle.redo_area.specs.Reading.{OnlyReads}
+use Rattle.sect_dev.specs.Reads.{OnlyReads}
 use Rattle.redo_area.specs.Settling.{SettlesTo}
 use Rattle.file_opening.specs.OpenFiles.{device_left}
 use Rattle.seg_table.specs.MetaPages.{model_meta}

@@ -7,7 +7,7 @@ use Rattle.sect_dev.specs.Moments.{IsOutcome}
 use Rattle.page_io.specs.Page.{page_at}
 use Rattle.page_io.specs.Store.{Settled, bytes_of, file_pages, overlaid}
 use Rattle.redo_commit.specs.File.{settled}
-use Rattle.redo_area.specs.Reading.{OnlyReads}
+use Rattle.sect_dev.specs.Reads.{OnlyReads}
 use Rattle.redo_area.specs.Settling.{SettlesTo, only_seen}
 use Rattle.redo_area.proofs.ReadRuns.{more_reads}
 use Rattle.redo_area.specs.declared.open_fault.OpenFault.TheVariants as redo

@@ -1,6 +1,6 @@
 use Rattle.std.proofs.Common.{inl, ◌/◌, refl, sym, ap, ◌∙◌, subst}
 use denote.Enum.Bare.{same_false}
-use Rattle.redo_area.specs.Reading.{OnlyReads}
+use Rattle.sect_dev.specs.Reads.{OnlyReads}
 use Rattle.file_opening.proofs.EmptyFiles.{reads_nothing}
 use Rattle.dbm_fault.specs.declared.fault.Fault.TheVariants.{Device, Exists}
 use Rattle.dbm_fault.specs.contracts.fault.Fault.{the_type}
