@@ -1,8 +1,8 @@
 #!/usr/bin/env bash
 # A file that two programs make at once: one of them alone is answered that it is made, the other one that it is there or locked, and the file is that
 # of the first one, with its limit and the pair that it then stores; also where the second one found no file and goes on once that pair is there. And
-# the sync of the folder: a create makes it of the folder that the name says, before it ends; where that sync fails, so does the create; and a command
-# on a file that is there makes none.
+# the sync of the folder: a create makes it of the folder that the name says, before it ends; where that sync fails, so does the create, and the
+# next one makes it; and a command on a file that is there makes none.
 . "$(dirname "$0")/common"
 preloadable syncs
 cat > meet.c <<'END'
@@ -142,6 +142,13 @@ syncs 2 "$(inode .)" create t --limit 100
 "$program" fetch t key > out 2> err
 [ $? = 2 ] && [ ! -s out ] || wrong "there is a database whose folder was not synced"
 unset SYNCS_FAILS
-"$program" create t --limit 100 && "$program" store t key content && [ "$("$program" fetch t key)" = content ] ||
+
+# the empty file that it has left, and one that was made by hand: whoever makes a database of it syncs the folder
+[ -e t.db ] && [ ! -s t.db ] || wrong "a create whose folder could not be synced has left no empty file"
+syncs 0 "$(inode .)" create t --limit 100
+"$program" store t key content && [ "$("$program" fetch t key)" = content ] ||
   wrong "no database can be made where the folder could not be synced once"
+: > sub/empty.db
+syncs 0 "$(inode sub)" create sub/empty --limit 100
+syncs 0 '' store sub/empty key content
 exit $bad

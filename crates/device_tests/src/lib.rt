@@ -4,6 +4,8 @@
 #[cfg(test)]
 mod file_tests;
 #[cfg(test)]
+mod listed_tests;
+#[cfg(test)]
 mod page_tests;
 #[cfg(test)]
 mod sector_tests;

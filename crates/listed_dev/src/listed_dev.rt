@@ -10,9 +10,12 @@ use sect_dev::{DevFault, Event, Past, SectorDev, ServedDev, Told};
 use std::alloc::{AllocError, Global};
 use std::collections::HashMap;
 
+// For how many sectors room is kept once all is carried out: those of 4 MB.
+const MOST_KEPT: usize = 8_192;
+
 /// A device that lists its writes and syncs, and reads those sectors that it was told or has
-/// written. It uses 520 bytes and more for each of these, and 520 for each write that is listed,
-/// until it is told that all is carried out.
+/// written. It uses some 600 bytes for each of these, and 516 for each change that is listed, until
+/// it is told that all is carried out; the room of the list is kept, and that of up to 8,192 sectors.
 #[derive(Drop)]
 pub struct ListedDev {
     sectors: u32,
@@ -110,8 +113,13 @@ impl ListedDev {
         ensures listed { list_of self.new ≡ [] }
         ensures rest { IsSameBeside self.old self.new }
     {
-        self.listed = Vec::new(self.alloc);
-        self.known = HashMap::new(self.alloc);
+        // Their room is kept, so that a commit finds it, but that of very many sectors.
+        self.listed.clear();
+        if self.known.len() > MOST_KEPT {
+            self.known = HashMap::new(self.alloc);
+        } else {
+            self.known.clear();
+        }
     }
 
     // Counts a fault.

@@ -1,0 +1,105 @@
+/* Opens, makes and locks the file of a database. */
+#define _GNU_SOURCE
+#include <errno.h>
+#include <fcntl.h>
+#include <stdlib.h>
+#include <string.h>
+#include <sys/file.h>
+#include <sys/stat.h>
+#include <time.h>
+#include <unistd.h>
+
+#include "parts.h"
+
+/* Closes a descriptor, and keeps errno. */
+static int give_up(int fd) {
+    int error = errno;
+    close(fd);
+    errno = error;
+    return -1;
+}
+
+bool ndbm_file_is_written(int flags) {
+    return (flags & O_ACCMODE) != O_RDONLY;
+}
+
+/* Syncs the folder of a file, so that a stop leaves the file's name. */
+static int sync_folder(const char *path) {
+    const char *slash = strrchr(path, '/');
+    char *folder = slash ? strndup(path, slash == path ? 1 : (size_t)(slash - path)) : strdup(".");
+    if (!folder) return -1;
+    int fd = open(folder, O_RDONLY | O_DIRECTORY | O_CLOEXEC);
+    free(folder);
+    if (fd < 0) return -1;
+    int status = fsync(fd);
+    give_up(fd);
+    return status;
+}
+
+static bool is_blank(const struct stat *it) {
+    return S_ISREG(it->st_mode) && !it->st_size;
+}
+
+/* Makes a file that isn't there. One of no bytes is taken too, since a stop behind its making leaves it so, where it is a plain
+ * file of this user and no link. */
+static int make_alone(const char *path, int flags, mode_t mode) {
+    int fd = open(path, flags | O_CREAT | O_EXCL, mode);
+    if (fd >= 0 || errno != EEXIST) return fd;
+    struct stat it;
+    fd = open(path, flags | O_NOFOLLOW | O_NONBLOCK);
+    if (fd >= 0 && !fstat(fd, &it) && is_blank(&it) && it.st_uid == geteuid()) return fd;
+    if (fd >= 0) close(fd);
+    errno = EEXIST;
+    return -1;
+}
+
+static int find_or_make(const char *path, int flags, mode_t mode) {
+    int fd = open(path, flags);
+    return fd < 0 && errno == ENOENT ? open(path, flags | O_CREAT, mode) : fd;
+}
+
+/* The descriptor of a file that may have to be made. Where it has no bytes its folder is synced, whoever made the file: its
+ * maker may have been stopped before that. */
+static int make_file(const char *path, int flags, mode_t mode, bool alone) {
+    int fd = alone ? make_alone(path, flags, mode) : find_or_make(path, flags, mode);
+    struct stat it;
+    if (fd < 0) return fd;
+    return fstat(fd, &it) || (is_blank(&it) && sync_folder(path)) ? give_up(fd) : fd;
+}
+
+static int find_file(const char *path, int flags, mode_t mode) {
+    bool writes = ndbm_file_is_written(flags), creates = flags & O_CREAT, alone = creates && (flags & O_EXCL);
+    int passed = flags & (O_NOFOLLOW | O_SYNC | O_DSYNC | O_NONBLOCK | O_NOCTTY | O_NOATIME);
+    passed |= O_CLOEXEC | (writes ? O_RDWR : O_RDONLY);
+    if (creates && writes) return make_file(path, passed, mode, alone);
+    int fd = open(path, passed);
+    if (fd < 0 || !alone) return fd;
+    errno = EEXIST;
+    return give_up(fd);
+}
+
+/* What is meant for a standard stream that was closed must not land in the file. */
+static int above_standard(int fd) {
+    if (fd < 0 || fd > STDERR_FILENO) return fd;
+    int above = fcntl(fd, F_DUPFD_CLOEXEC, STDERR_FILENO + 1);
+    give_up(fd);
+    return above;
+}
+
+static void wait_shortly(void) {
+    struct timespec left = {0, 100000000};
+    while (nanosleep(&left, &left) && errno == EINTR) {
+    }
+}
+
+/* The file is opened anew at each try, since another one may have got its name. */
+int ndbm_file_open(const char *path, int flags, mode_t mode, const dbmx_how *how) {
+    for (uint64_t tries = 0;; tries++) {
+        int fd = above_standard(find_file(path, flags, mode));
+        if (fd < 0 || (how->options & DBMX_UNLOCKED)) return fd;
+        if (!flock(fd, (ndbm_file_is_written(flags) ? LOCK_EX : LOCK_SH) | LOCK_NB)) return fd;
+        give_up(fd);
+        if (errno != EWOULDBLOCK || tries >= (uint64_t)how->wait * 10) return -1;
+        wait_shortly();
+    }
+}

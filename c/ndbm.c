@@ -1,0 +1,307 @@
+/* The functions of ndbm.h, over those that the crate ndbm_c exports. No proof covers what is here: it looks at the arguments,
+ * and keeps the bytes that a caller is given. */
+#define _GNU_SOURCE
+#include "ndbm.h"
+
+#include <errno.h>
+#include <fcntl.h>
+#include <stdalign.h>
+#include <stdlib.h>
+#include <string.h>
+
+#include "parts.h"
+
+enum { ROOM = 2048, LIMIT = 1000000, GROUP_PAIRS = 8192, GROUP_BYTES = 1 << 20 };
+
+struct ndbm_database {
+    struct served served;
+    bool writable;
+    /* what was given last by dbm_firstkey or dbm_nextkey, and by dbm_fetch */
+    alignas(max_align_t) unsigned char key[ROOM];
+    alignas(max_align_t) unsigned char content[ROOM];
+};
+
+static int misuse(void) {
+    errno = EINVAL;
+    return -1;
+}
+
+static bool is_datum(datum it) {
+    return (it.dptr || !it.dsize) && it.dsize <= PTRDIFF_MAX;
+}
+
+/* a pointer to the bytes that is never null */
+static const unsigned char *bytes_of(datum it) {
+    return it.dptr ? it.dptr : (const unsigned char *)"";
+}
+
+/* the number of the fault where the system refused a file */
+static int fault_of(int error, int flags) {
+    if (error == ENOMEM) return MEMORY;
+    if (error == EEXIST) return EXISTS;
+    return error == ENOENT && !(ndbm_file_is_written(flags) && (flags & O_CREAT)) ? MISSING : DEVICE;
+}
+
+/* the number of the fault, or 0; errno says the same */
+static int open_database(DBM *db, const char *file, int flags, mode_t mode, const dbmx_how *how) {
+    size_t length = strlen(file);
+    char *path = malloc(length + sizeof ".db");
+    if (!path) return MEMORY;
+    memcpy(path, file, length);
+    memcpy(path + length, ".db", sizeof ".db");
+    int fd = ndbm_file_open(path, flags, mode, how), error = errno;
+    free(path);
+    errno = error;
+    if (fd < 0) return fault_of(error, flags);
+    struct how asked = {.writable = ndbm_file_is_written(flags),
+                        .create = flags & O_CREAT,
+                        .exclusive = flags & O_EXCL,
+                        .truncate = flags & O_TRUNC,
+                        .limit = how->limit ? how->limit : LIMIT};
+    db->writable = asked.writable;
+    return ndbm_served_open(&db->served, fd, &asked);
+}
+
+static DBM *opened(const char *file, int flags, mode_t mode, const dbmx_how *how, int *fault) {
+    static const dbmx_how plain = {0, 0, 0};
+    static const int known = O_ACCMODE | O_CREAT | O_EXCL | O_TRUNC | O_APPEND | O_CLOEXEC | O_LARGEFILE | O_NOFOLLOW | O_SYNC |
+                             O_DSYNC | O_NONBLOCK | O_NOCTTY | O_NOATIME;
+    if (!how) how = &plain;
+    *fault = 0;
+    if (!file || (flags & ~known) || (flags & O_ACCMODE) == O_ACCMODE || (how->options & ~DBMX_UNLOCKED)) {
+        misuse();
+        return NULL;
+    }
+    int before = errno;
+    DBM *db = malloc(sizeof *db);
+    *fault = db ? open_database(db, file, flags, mode, how) : MEMORY;
+    if (!*fault) {
+        errno = before;
+        return db;
+    }
+    int error = errno;
+    free(db);
+    errno = error;
+    return NULL;
+}
+
+DBM *dbm_open(const char *file, int flags, mode_t mode) {
+    int fault;
+    return opened(file, flags, mode, NULL, &fault);
+}
+
+DBM *dbmx_open(const char *file, int flags, mode_t mode, const dbmx_how *how, int *fault) {
+    int number;
+    return opened(file, flags, mode, how, fault ? fault : &number);
+}
+
+void dbm_close(DBM *db) {
+    if (!db) {
+        misuse();
+        return;
+    }
+    ndbm_served_close(&db->served);
+    int error = errno;
+    free(db);
+    errno = error;
+}
+
+static datum given(int32_t status, void *at, size_t length) {
+    return status ? (datum){NULL, 0} : (datum){at, length};
+}
+
+datum dbm_fetch(DBM *db, datum key) {
+    /* the key may lie in the bytes of the last content */
+    unsigned char out[ROOM];
+    size_t length = 0;
+    int32_t status;
+    if (!db || !is_datum(key)) return given(misuse(), NULL, 0);
+    if (!ndbm_served_begins(&db->served)) return given(-1, NULL, 0);
+    do {
+        status = ndbm_c_fetch(&db->served.handle, bytes_of(key), key.dsize, out, &length);
+    } while (ndbm_served_again(&db->served, status));
+    status = ndbm_served_ends(&db->served, status);
+    if (!status) memcpy(db->content, out, length);
+    return given(status, db->content, length);
+}
+
+/* the key that this export gives */
+static datum next_of_pass(DBM *db, int32_t (*export)(struct handle *, unsigned char *, size_t *)) {
+    size_t length = 0;
+    int32_t status;
+    if (!db) return given(misuse(), NULL, 0);
+    if (!ndbm_served_begins(&db->served)) return given(-1, NULL, 0);
+    do {
+        status = export(&db->served.handle, db->key, &length);
+    } while (ndbm_served_again(&db->served, status));
+    return given(ndbm_served_ends(&db->served, status), db->key, length);
+}
+
+datum dbm_firstkey(DBM *db) {
+    return next_of_pass(db, ndbm_c_firstkey);
+}
+
+datum dbm_nextkey(DBM *db) {
+    return next_of_pass(db, ndbm_c_nextkey);
+}
+
+static int store(DBM *db, datum key, datum content, bool replace) {
+    const unsigned char *bytes = bytes_of(content);
+    int32_t status;
+    if (!is_datum(key) || !is_datum(content)) return misuse();
+    if (!ndbm_served_begins(&db->served)) return -1;
+    do {
+        status = ndbm_c_store(&db->served.handle, bytes_of(key), key.dsize, bytes, content.dsize, replace);
+    } while (ndbm_served_again(&db->served, status));
+    status = ndbm_served_ends(&db->served, status);
+    return status < 0 ? -1 : status;
+}
+
+int dbm_store(DBM *db, datum key, datum content, int store_mode) {
+    if (!db || (store_mode != DBM_INSERT && store_mode != DBM_REPLACE)) return misuse();
+    return store(db, key, content, store_mode == DBM_REPLACE);
+}
+
+int dbm_delete(DBM *db, datum key) {
+    int32_t status;
+    if (!db || !is_datum(key)) return misuse();
+    if (!ndbm_served_begins(&db->served)) return -1;
+    do {
+        status = ndbm_c_delete(&db->served.handle, bytes_of(key), key.dsize);
+    } while (ndbm_served_again(&db->served, status));
+    status = ndbm_served_ends(&db->served, status);
+    if (status > 0) errno = ENOENT;
+    return status ? -1 : 0;
+}
+
+int dbm_error(DBM *db) {
+    return db ? ndbm_served_error(&db->served) : misuse();
+}
+
+int dbm_clearerr(DBM *db) {
+    return db ? ndbm_served_clearerr(&db->served) : misuse();
+}
+
+int dbm_pagfno(DBM *db) {
+    return db ? db->served.fd : misuse();
+}
+
+int dbm_dirfno(DBM *db) {
+    return db ? db->served.fd : misuse();
+}
+
+int dbm_rdonly(DBM *db) {
+    return db ? !db->writable : misuse();
+}
+
+/* a call by an export that has no arguments */
+static int call(DBM *db, int32_t (*export)(struct handle *)) {
+    int32_t status;
+    if (!db) return misuse();
+    if (!ndbm_served_begins(&db->served)) return -1;
+    do {
+        status = export(&db->served.handle);
+    } while (ndbm_served_again(&db->served, status));
+    return ndbm_served_ends(&db->served, status) ? -1 : 0;
+}
+
+int dbmx_sync(DBM *db) {
+    return call(db, ndbm_c_sync);
+}
+
+/* How many of the pairs go into a group. One that is too long to be stored ends them. */
+static size_t size_of_group(const dbmx_pair *pairs, size_t count) {
+    size_t n = 0, size = 0;
+    for (; n < count && n < GROUP_PAIRS; n++) {
+        datum key = pairs[n].key, content = pairs[n].content;
+        if (!is_datum(key) || !is_datum(content)) break;
+        if (key.dsize > DBMX_PAIR_MAX || content.dsize > DBMX_PAIR_MAX - key.dsize) break;
+        if (key.dsize + content.dsize > GROUP_BYTES - size) break;
+        size += key.dsize + content.dsize;
+    }
+    return n;
+}
+
+/* Looks each key up, so that the device is given the pages where they are. It answers 0, or a status where the system refused
+ * to read one. */
+static int32_t look_up(struct served *served, const dbmx_pair *pairs, size_t count) {
+    unsigned char out[ROOM];
+    size_t length;
+    int32_t status = 0;
+    for (size_t i = 0; i < count && !served->system; i++) {
+        datum key = pairs[i].key;
+        do {
+            status = ndbm_c_fetch(&served->handle, bytes_of(key), key.dsize, out, &length);
+        } while (ndbm_served_again(served, status));
+        if (status < 0 && !served->system) ndbm_served_forgets(served);
+    }
+    return served->system ? status : 0;
+}
+
+/* Keeps the pairs, up to the first that there is no memory for, and stores them in one commit. */
+static int32_t store_kept(struct served *served, const dbmx_pair *pairs, size_t count, size_t *stored) {
+    size_t n = 0;
+    for (; n < count; n++) {
+        datum key = pairs[n].key, content = pairs[n].content;
+        if (ndbm_c_add(&served->handle, bytes_of(key), key.dsize, bytes_of(content), content.dsize)) break;
+    }
+    *stored = 0;
+    return ndbm_c_store_added(&served->handle, stored);
+}
+
+static int32_t store_group(struct served *served, const dbmx_pair *pairs, size_t count, size_t *stored) {
+    int32_t status = look_up(served, pairs, count);
+    if (status) return status;
+    do {
+        status = store_kept(served, pairs, count, stored);
+    } while (ndbm_served_again(served, status));
+    return status;
+}
+
+/* Stores the first of the pairs, in one commit, and adds how many to `done`. */
+static int store_some(DBM *db, const dbmx_pair *pairs, size_t count, size_t *done) {
+    size_t n = size_of_group(pairs, count), stored = 0;
+    if (n) {
+        if (!ndbm_served_begins(&db->served)) return -1;
+        if (ndbm_served_ends(&db->served, store_group(&db->served, pairs, n, &stored))) return -1;
+    }
+    *done += stored;
+    if (stored) return 0;
+    int status = store(db, pairs->key, pairs->content, true);
+    *done += !status;
+    return status;
+}
+
+int dbmx_store_many(DBM *db, const dbmx_pair *pairs, size_t count, size_t *stored) {
+    size_t done = 0;
+    int status = 0;
+    if (stored) *stored = 0;
+    if (!db || (!pairs && count)) return misuse();
+    while (!status && done < count) status = store_some(db, pairs + done, count - done, &done);
+    if (stored) *stored = done;
+    return status ? -1 : 0;
+}
+
+int dbmx_stat(DBM *db, dbmx_numbers *numbers) {
+    int32_t status;
+    if (!db || !numbers) return misuse();
+    if (!ndbm_served_begins(&db->served)) return -1;
+    do {
+        status = ndbm_c_stat(&db->served.handle, numbers);
+    } while (ndbm_served_again(&db->served, status));
+    return ndbm_served_ends(&db->served, status) ? -1 : 0;
+}
+
+int dbmx_verify(DBM *db) {
+    return call(db, ndbm_c_verify);
+}
+
+const char *dbmx_error_text(int fault) {
+    static const char *const texts[] = {
+        "no fault", "out of memory", "the device failed", "a change is in doubt",
+        "opened for reading only", "the pair is too long", "the database is full", "no pass was begun",
+        "no room in the file", "the file is damaged", "not a database", "unknown version",
+        "the device is too small", "the limit is out of range", "no such database", "the database exists",
+    };
+    return fault >= 0 && fault < (int)(sizeof texts / sizeof *texts) ? texts[fault] : "unknown fault";
+}

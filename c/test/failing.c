@@ -1,0 +1,267 @@
+/* What fails below the library: memory that is refused, a file that can't grow, a folder that can't be synced, and what the file
+ * keeps then. The system's functions that it calls are those here: they change errno also where they succeed, as they may. */
+#include <signal.h>
+#include <sys/file.h>
+#include <sys/resource.h>
+#include <sys/syscall.h>
+
+#include "check.h"
+
+void *__libc_malloc(size_t size);
+
+/* the malloc that is refused, counted from now on; 0: none */
+static long refused;
+static bool was_refused;
+
+void *malloc(size_t size) {
+    if (refused && !--refused) {
+        was_refused = true;
+        errno = ENOMEM;
+        return NULL;
+    }
+    errno = ENOTTY;
+    return __libc_malloc(size);
+}
+
+static long noted(long answer) {
+    if (answer >= 0) errno = ENOTTY;
+    return answer;
+}
+
+ssize_t pread(int fd, void *to, size_t size, off_t at) {
+    return noted(syscall(SYS_pread64, fd, to, size, at));
+}
+
+ssize_t pread64(int fd, void *to, size_t size, off_t at) {
+    return noted(syscall(SYS_pread64, fd, to, size, at));
+}
+
+ssize_t pwrite(int fd, const void *from, size_t size, off_t at) {
+    return noted(syscall(SYS_pwrite64, fd, from, size, at));
+}
+
+ssize_t pwrite64(int fd, const void *from, size_t size, off_t at) {
+    return noted(syscall(SYS_pwrite64, fd, from, size, at));
+}
+
+int fdatasync(int fd) {
+    return (int)noted(syscall(SYS_fdatasync, fd));
+}
+
+/* the folder that was synced last, and whether one can't be */
+static ino_t synced;
+static bool is_unsyncable;
+
+int fsync(int fd) {
+    struct stat it;
+    if (!fstat(fd, &it) && S_ISDIR(it.st_mode)) {
+        synced = it.st_ino;
+        if (is_unsyncable) {
+            errno = EDQUOT;
+            return -1;
+        }
+    }
+    return (int)noted(syscall(SYS_fsync, fd));
+}
+
+int flock(int fd, int operation) {
+    return (int)noted(syscall(SYS_flock, fd, operation));
+}
+
+int close(int fd) {
+    return (int)noted(syscall(SYS_close, fd));
+}
+
+/* Refuses the n-th malloc from now on. */
+static void refuse(long n) {
+    refused = n;
+    was_refused = false;
+}
+
+/* an opening opens, or tells of memory and leaves nothing open */
+static void openings(int flags) {
+    long n = 0;
+    do {
+        int fault = 99;
+        refuse(++n);
+        errno = 77;
+        DBM *db = dbmx_open("memory", flags, 0644, NULL, &fault);
+        int error = errno;
+        refused = 0;
+        if (!db) CHECK(was_refused && error == ENOMEM && fault == 1);
+        if (db) CHECK(error == 77 && fault == 0);
+        if (db) dbm_close(db);
+        /* what was refused holds no lock */
+        db = dbm_open("memory", O_RDWR | O_CREAT, 0644);
+        CHECK(db != NULL);
+        if (db) dbm_close(db);
+        if (flags & O_EXCL) unlink("memory.db");
+    } while (was_refused);
+    CHECK(n > 2);
+}
+
+/* a list of one pair is stored, or tells of memory and isn't there */
+static void lists(DBM *db) {
+    const dbmx_pair pair = {of("a"), of("1")};
+    long n = 0;
+    do {
+        size_t count = 77;
+        refuse(++n);
+        errno = 77;
+        int status = dbmx_store_many(db, &pair, 1, &count), error = errno;
+        refused = 0;
+        CHECK(status ? status == -1 && was_refused && error == ENOMEM && count == 0 : error == 77 && count == 1);
+        CHECK(!dbm_clearerr(db) && (status != 0) == !dbm_fetch(db, of("a")).dptr);
+        if (!status) CHECK(dbm_delete(db, of("a")) == 0);
+    } while (was_refused);
+}
+
+/* A store stores, or tells of memory and changes nothing. Where there is no memory for pages of the file, the fault is the
+ * device's. */
+static void stores(void) {
+    DBM *db = open_or_end("memory", O_RDWR | O_CREAT | O_TRUNC);
+    int stored = 0;
+    for (int i = 0; i < 2000; i++) {
+        datum pair = {&i, sizeof i};
+        refuse(1);
+        errno = 77;
+        int status = dbm_store(db, pair, pair, DBM_INSERT), error = errno, fault = dbm_error(db);
+        refused = 0;
+        stored += status == 0;
+        if (status) CHECK(status == -1 && was_refused && error == ENOMEM && (fault == 1 || fault == 2));
+        CHECK(dbm_clearerr(db) == 0);
+        if (!status) CHECK(error == 77);
+    }
+    dbmx_numbers numbers;
+    CHECK(dbmx_stat(db, &numbers) == 0 && numbers.pairs == (uint32_t)stored && dbmx_verify(db) == 0);
+    lists(db);
+    dbm_close(db);
+}
+
+/* A file of at most so many bytes: the system's own number is told, and what was answered is there afterwards. */
+static void growths(void) {
+    static char bytes[1500];
+    struct rlimit was, low;
+    int stored = 0;
+    memset(bytes, 'x', sizeof bytes);
+    signal(SIGXFSZ, SIG_IGN);
+    DBM *db = open_or_end("grown", O_RDWR | O_CREAT | O_EXCL);
+    CHECK(!getrlimit(RLIMIT_FSIZE, &was));
+    low = was;
+    low.rlim_cur = 40000;
+    CHECK(!setrlimit(RLIMIT_FSIZE, &low));
+    for (;;) {
+        char key[16];
+        datum content = {bytes, sizeof bytes};
+        snprintf(key, sizeof key, "key %d", stored);
+        errno = 77;
+        if (dbm_store(db, of(key), content, DBM_INSERT)) break;
+        CHECK(errno == 77);
+        if (!CHECK(++stored < 100)) return;
+    }
+    CHECK(errno == EFBIG && dbm_error(db) == 2);
+    CHECK(stored > 0);
+    CHECK(dbm_store(db, of("another"), (datum){bytes, sizeof bytes}, DBM_INSERT) == -1 && (errno == EIO || errno == EFBIG));
+    CHECK(dbm_error(db) == 2);
+    dbm_close(db);
+    CHECK(!setrlimit(RLIMIT_FSIZE, &was));
+
+    db = open_or_end("grown", O_RDWR);
+    for (int i = 0; i < stored; i++) {
+        char key[16];
+        snprintf(key, sizeof key, "key %d", i);
+        CHECK(dbm_fetch(db, of(key)).dsize == sizeof bytes);
+    }
+    CHECK(dbmx_verify(db) == 0 && dbm_store(db, of("another"), of("x"), DBM_INSERT) == 0);
+    dbm_close(db);
+}
+
+/* a file that can't be made at all */
+static void makings(void) {
+    struct rlimit none = {0, 0};
+    int fault = 0;
+    signal(SIGXFSZ, SIG_IGN);
+    CHECK(!setrlimit(RLIMIT_FSIZE, &none));
+    FAILS(EFBIG, !dbmx_open("unmade", O_RDWR | O_CREAT, 0644, NULL, &fault));
+    CHECK(fault == 2 && size_of("unmade.db") == 0);
+    struct rlimit files = {3, 3};
+    CHECK(!setrlimit(RLIMIT_NOFILE, &files));
+    FAILS(EMFILE, !dbmx_open("memory", O_RDONLY, 0, NULL, &fault));
+    CHECK(fault == 2);
+}
+
+/* a call that succeeds leaves errno, whatever the system did to it */
+static void quiet(void) {
+    dbmx_pair pairs[] = {{of("a"), of("1")}, {of("b"), of("2")}, {of("c"), of("3")}};
+    dbmx_numbers numbers;
+    DBM *db = NULL;
+    unlink("quiet.db");
+    WORKS((db = dbm_open("quiet", O_RDWR | O_CREAT | O_EXCL, 0644)) != NULL);
+    if (!db) return;
+    WORKS(dbmx_store_many(db, pairs, 3, NULL) == 0);
+    WORKS(dbm_store(db, of("d"), of("4"), DBM_INSERT) == 0);
+    WORKS(dbm_store(db, of("d"), of("4"), DBM_INSERT) == 1);
+    WORKS(is(dbm_fetch(db, of("a")), "1"));
+    WORKS(!dbm_fetch(db, of("e")).dptr);
+    WORKS(dbm_delete(db, of("d")) == 0);
+    WORKS(dbm_firstkey(db).dptr != NULL);
+    WORKS(dbm_nextkey(db).dptr != NULL);
+    WORKS(dbm_nextkey(db).dptr != NULL);
+    WORKS(!dbm_nextkey(db).dptr);
+    WORKS(dbmx_stat(db, &numbers) == 0 && numbers.pairs == 3);
+    WORKS(dbmx_verify(db) == 0);
+    WORKS(dbmx_sync(db) == 0);
+    WORKS(dbm_error(db) == 0);
+    WORKS(dbm_clearerr(db) == 0);
+    WORKS((dbm_close(db), true));
+    WORKS((db = dbm_open("quiet", O_RDONLY, 0)) != NULL);
+    if (!db) return;
+    WORKS(is(dbm_fetch(db, of("c")), "3"));
+    WORKS((dbm_close(db), true));
+}
+
+static ino_t inode_of(const char *path) {
+    struct stat it;
+    return stat(path, &it) ? 0 : it.st_ino;
+}
+
+/* the folder of a file that is made is synced, and where it can't be the opening is refused and the file stays */
+static void folders(void) {
+    char here[4000], path[4100];
+    int fault = 0;
+    CHECK(!mkdir("folder", 0755) && !mkdir("folder/below", 0755) && getcwd(here, sizeof here));
+    snprintf(path, sizeof path, "%s/folder/absolute", here);
+    const struct {
+        const char *file, *folder;
+    } each[] = {
+        {"plain", "."}, {"./dotted", "."}, {"folder/one", "folder"}, {"folder/below/two", "folder/below"}, {path, "folder"},
+    };
+    for (size_t i = 0; i < sizeof each / sizeof *each; i++) {
+        synced = 0;
+        dbm_close(open_or_end(each[i].file, i % 2 ? O_RDWR | O_CREAT : O_RDWR | O_CREAT | O_EXCL));
+        CHECK(synced && synced == inode_of(each[i].folder));
+        synced = 0;
+        dbm_close(open_or_end(each[i].file, O_RDWR | O_CREAT));
+        CHECK(!synced);
+    }
+    is_unsyncable = true;
+    FAILS(EDQUOT, !dbmx_open("folder/three", O_RDWR | O_CREAT, 0644, NULL, &fault));
+    CHECK(fault == 2 && size_of("folder/three.db") == 0);
+    is_unsyncable = false;
+    dbm_close(open_or_end("folder/three", O_RDWR | O_CREAT | O_EXCL));
+}
+
+int main(void) {
+    int before = open_descriptors();
+    quiet();
+    folders();
+    openings(O_RDWR | O_CREAT | O_EXCL);
+    openings(O_RDWR | O_CREAT);
+    openings(O_RDONLY);
+    openings(O_RDWR | O_TRUNC);
+    stores();
+    apart(growths);
+    apart(makings);
+    CHECK(open_descriptors() == before);
+    return bad;
+}

@@ -1,0 +1,184 @@
+/* Openings beside one another: locks, waits for them, openings without; threads with a small stack; programs that are begun. */
+#include <pthread.h>
+#include <signal.h>
+#include <sys/file.h>
+#include <time.h>
+
+#include "check.h"
+
+enum { STACK = 384 * 1024, STORES = 2000 };
+
+static double now(void) {
+    struct timespec it;
+    clock_gettime(CLOCK_MONOTONIC, &it);
+    return (double)it.tv_sec + (double)it.tv_nsec / 1e9;
+}
+
+static void locks(void) {
+    int fault = 0;
+    DBM *writer = open_or_end("t", O_RDWR | O_CREAT), *reader, *another;
+    FAILS(EAGAIN, !dbm_open("t", O_RDONLY, 0));
+    FAILS(EAGAIN, !dbmx_open("t", O_RDWR, 0, NULL, &fault));
+    CHECK(fault == 2);
+    FAILS(EAGAIN, !dbmx_open("t", O_RDWR | O_TRUNC, 0, NULL, &fault));
+    CHECK(dbm_store(writer, of("a"), of("1"), DBM_INSERT) == 0);
+    dbm_close(writer);
+    reader = open_or_end("t", O_RDONLY);
+    another = open_or_end("t", O_RDONLY);
+    CHECK(is(dbm_fetch(reader, of("a")), "1") && is(dbm_fetch(another, of("a")), "1"));
+    FAILS(EAGAIN, !dbm_open("t", O_RDWR, 0));
+    dbm_close(reader);
+    FAILS(EAGAIN, !dbm_open("t", O_RDWR, 0));
+    dbm_close(another);
+    dbm_close(open_or_end("t", O_RDWR));
+}
+
+/* the system's lock, by whoever has it */
+static void foreign(void) {
+    int fd = open("t.db", O_RDONLY);
+    CHECK(!flock(fd, LOCK_SH | LOCK_NB));
+    FAILS(EAGAIN, !dbm_open("t", O_RDWR, 0));
+    dbm_close(open_or_end("t", O_RDONLY));
+    CHECK(!flock(fd, LOCK_EX | LOCK_NB));
+    FAILS(EAGAIN, !dbm_open("t", O_RDONLY, 0));
+    CHECK(!flock(fd, LOCK_UN));
+    DBM *db = open_or_end("t", O_RDONLY);
+    CHECK(flock(fd, LOCK_EX | LOCK_NB) == -1 && !flock(fd, LOCK_SH | LOCK_NB) && !flock(fd, LOCK_UN));
+    dbm_close(db);
+    db = open_or_end("t", O_RDWR);
+    CHECK(flock(fd, LOCK_SH | LOCK_NB) == -1);
+    dbm_close(db);
+    CHECK(!flock(fd, LOCK_EX | LOCK_NB));
+    close(fd);
+}
+
+/* A child has the file open for so long. */
+static pid_t held_for(long milliseconds) {
+    int ready[2];
+    char byte = 0;
+    if (pipe(ready)) exit(2);
+    pid_t child = fork();
+    if (!child) {
+        DBM *db = open_or_end("t", O_RDWR);
+        struct timespec time = {milliseconds / 1000, milliseconds % 1000 * 1000000};
+        if (write(ready[1], &byte, 1) != 1) _exit(2);
+        nanosleep(&time, NULL);
+        dbm_close(db);
+        _exit(0);
+    }
+    if (read(ready[0], &byte, 1) != 1) exit(2);
+    close(ready[0]);
+    close(ready[1]);
+    return child;
+}
+
+static void waiting(void) {
+    dbmx_how how = {.wait = 20};
+    int fault = 99;
+    double began = now();
+    DBM *db = NULL;
+    pid_t child = held_for(500);
+    WORKS((db = dbmx_open("t", O_RDWR, 0, &how, &fault)) && fault == 0);
+    CHECK(now() - began >= 0.4 && now() - began < 19);
+    if (db) dbm_close(db);
+    waitpid(child, NULL, 0);
+
+    /* a second passes, and the file is still held */
+    db = open_or_end("t", O_RDWR);
+    how.wait = 1;
+    began = now();
+    FAILS(EAGAIN, !dbmx_open("t", O_RDONLY, 0, &how, &fault));
+    CHECK(fault == 2 && now() - began >= 0.9);
+    /* what a wait is not for */
+    how.wait = 30;
+    began = now();
+    FAILS(ENOENT, !dbmx_open("none", O_RDONLY, 0, &how, &fault));
+    FAILS(EEXIST, !dbmx_open("t", O_RDWR | O_CREAT | O_EXCL, 0, &how, &fault));
+    CHECK(now() - began < 20);
+    dbm_close(db);
+}
+
+static void unlocked(void) {
+    dbmx_how how = {.options = DBMX_UNLOCKED};
+    DBM *db = open_or_end("t", O_RDWR), *beside = NULL;
+    CHECK(dbm_store(db, of("b"), of("2"), DBM_REPLACE) == 0 && dbmx_sync(db) == 0);
+    WORKS((beside = dbmx_open("t", O_RDONLY, 0, &how, NULL)) != NULL);
+    if (beside) {
+        CHECK(is(dbm_fetch(beside, of("b")), "2"));
+        dbm_close(beside);
+    }
+    dbm_close(db);
+    beside = dbmx_open("t", O_RDWR, 0, &how, NULL);
+    CHECK(beside != NULL);
+    dbm_close(open_or_end("t", O_RDWR));
+    if (beside) dbm_close(beside);
+}
+
+static void *work(void *name) {
+    DBM *db = dbm_open(name, O_RDWR | O_CREAT, 0644);
+    long keys = 0;
+    if (!db) return NULL;
+    for (int i = 0; i < STORES; i++) {
+        if (dbm_store(db, (datum){&i, sizeof i}, (datum){&i, sizeof i}, DBM_INSERT)) return NULL;
+    }
+    for (datum key = dbm_firstkey(db); key.dptr; key = dbm_nextkey(db)) {
+        int i = 0, content = -1;
+        datum found = dbm_fetch(db, key);
+        if (key.dsize != sizeof i || found.dsize != sizeof content) return NULL;
+        memcpy(&i, key.dptr, sizeof i);
+        memcpy(&content, found.dptr, sizeof content);
+        keys += i == content;
+    }
+    dbmx_pair pair = {of("a"), of("1")};
+    bool good = keys == STORES && !dbmx_store_many(db, &pair, 1, NULL) && !dbm_delete(db, of("a")) && !dbmx_verify(db);
+    dbm_close(db);
+    db = dbm_open(name, O_RDWR | O_TRUNC, 0);
+    good = good && db && !dbm_firstkey(db).dptr;
+    if (db) dbm_close(db);
+    return good ? name : NULL;
+}
+
+/* threads with a database each, at once */
+static void threads(void) {
+    static char names[3][2] = {"x", "y", "z"};
+    pthread_t them[3];
+    pthread_attr_t how;
+    if (pthread_attr_init(&how) || pthread_attr_setstacksize(&how, STACK)) exit(2);
+    for (int i = 0; i < 3; i++) {
+        if (pthread_create(&them[i], &how, work, names[i])) exit(2);
+    }
+    for (int i = 0; i < 3; i++) {
+        void *answer = NULL;
+        CHECK(!pthread_join(them[i], &answer) && answer == names[i]);
+    }
+    pthread_attr_destroy(&how);
+}
+
+/* a program that is begun doesn't get the file, nor its lock */
+static void programs(void) {
+    DBM *db = open_or_end("t", O_RDWR);
+    pid_t child = fork();
+    if (!child) {
+        execl("/bin/sleep", "sleep", "30", (char *)NULL);
+        _exit(2);
+    }
+    char path[64], name[64];
+    snprintf(path, sizeof path, "/proc/%d/fd/%d", (int)child, dbm_pagfno(db));
+    for (int i = 0; i < 200 && readlink(path, name, sizeof name) > 0; i++) nanosleep(&(struct timespec){0, 50000000}, NULL);
+    dbm_close(db);
+    dbm_close(open_or_end("t", O_RDWR));
+    kill(child, 9);
+    waitpid(child, NULL, 0);
+}
+
+int main(void) {
+    int before = open_descriptors();
+    locks();
+    foreign();
+    waiting();
+    unlocked();
+    threads();
+    programs();
+    CHECK(open_descriptors() == before);
+    return bad;
+}

@@ -1,0 +1,65 @@
+-- A call by way of a handle.
+use Rattle.std.specs.Prelude.{◌≡◌, ℕ, ℤ, pos, List, Option, Some, None}
+use Rattle.std.specs.Borrow.{Bor}
+use Rattle.dbm_model.specs.Calls.{Broken, Call}
+use Rattle.dbm_model.specs.Pairs.{Pair}
+use Rattle.dbm_file.specs.Changing.{WasStored, WasDeleted}
+use Rattle.dbm_file.specs.Opened.{device_below}
+use Rattle.listed_dev.specs.declared.listed_dev.ListedDev.{ListedDev}
+use Rattle.ndbm_calls.specs.Statuses.{refusal_of, IsAnswered}
+use Rattle.ndbm_c.specs.declared.handle.Open.{Open}
+use Rattle.ndbm_c.specs.declared.handle.Open.TheVariants.{Nothing, Device, Database}
+use Rattle.ndbm_c.specs.declared.handle.Opened.{Opened}
+
+-- What a handle holds goes from the old one to the new one so, with this status. One that holds none
+-- stays so, and the status is that of Broken.
+abbrev pub OnHandle : Option Open → Option Open → ℤ → (Open → Open → ℤ → Type 0) → Type 0
+OnHandle (Some old) (Some new) status Goes = Goes old new status
+OnHandle (Some old) None status Goes = ⊥
+OnHandle None new status Goes = (status ≡ refusal_of Broken) × (new ≡ None)
+
+-- The database goes from the old one to the new one so. What is none stays as it is, and the status is
+-- that of Broken.
+abbrev pub OnOpen : Open → Open → ℤ → (Opened → Opened → Type 0) → Type 0
+OnOpen (Database old) (Database new) status Goes = Goes old new
+OnOpen (Database old) other status Goes = ⊥
+OnOpen old new status Goes = (status ≡ refusal_of Broken) × (new ≡ old)
+
+abbrev pub OnDatabase : Option Open → Option Open → ℤ → (Opened → Opened → Type 0) → Type 0
+OnDatabase old new status Goes = OnHandle old new status (λ o n s. OnOpen o n s Goes)
+
+-- by a call
+pub record Calls (call : Call) (status : ℤ) (bytes : List ℕ) (old new : Opened) : Type 0 where
+  pub answered : IsAnswered old.db new.db call status bytes
+  pub group : new.group ≡ old.group
+
+-- on any file: where it is done, the pair was put into its bucket, and the key was taken out of it
+abbrev pub StoresIn : Pair → ℤ → Opened → Opened → Type 0
+StoresIn pair status old new = status ≡ pos 0 → WasStored old.db new.db pair
+
+abbrev pub DeletesIn : List ℕ → ℤ → Opened → Opened → Type 0
+DeletesIn key status old new = status ≡ pos 0 → WasDeleted old.db new.db key
+
+-- the device, or the one below the database
+abbrev pub device_of : Open → Option ListedDev
+device_of (Device dev) = Some dev
+device_of (Database opened) = Some (device_below opened.db)
+device_of Nothing = None
+
+abbrev pub device_in : Option Open → Option ListedDev
+device_in (Some held) = device_of held
+device_in None = None
+
+-- a device with no database on it, and a database
+abbrev pub device_alone : Open → Option ListedDev
+device_alone (Device dev) = Some dev
+device_alone other = None
+
+abbrev pub database_alone : Open → Option Opened
+database_alone (Database opened) = Some opened
+database_alone other = None
+
+-- a device that is lent, or none
+abbrev pub lent : Option (Bor ListedDev) → Option ListedDev
+lent (Some dev) = Some dev.now
+lent None = None

@@ -1,0 +1,5 @@
+// Calls on what a handle holds.
+mod changes;
+mod looks;
+mod opening;
+mod reads;

@@ -1,0 +1,44 @@
+// What C asks for when it opens a database.
+ghost use Rattle.std.specs.Prelude.{◌≡◌};
+ghost use Rattle.ndbm_c.specs.Opening.{how_of};
+
+use dbm_file::{Access, OpenHow};
+use sect_dev::Past;
+
+/// A file that C serves.
+#[repr(C)]
+pub struct ServedFile {
+    /// How many sectors its device has.
+    pub sectors: u32,
+    /// What was done to it before, for clauses alone.
+    pub past: Past,
+}
+
+/// How C asks for a database to be opened, as `OpenHow` of `dbm_file` has it.
+#[repr(C)]
+#[derive(Clone, Copy)]
+pub struct How {
+    pub writable: bool,
+    pub create: bool,
+    pub exclusive: bool,
+    pub truncate: bool,
+    pub limit: u32,
+}
+
+impl How {
+    pub(crate) fn open_how(self) -> OpenHow
+        ensures { result ≡ how_of self }
+    {
+        OpenHow {
+            access: if self.writable {
+                Access::ReadWrite
+            } else {
+                Access::ReadOnly
+            },
+            create: self.create,
+            exclusive: self.exclusive,
+            truncate: self.truncate,
+            limit: self.limit,
+        }
+    }
+}

@@ -1,0 +1,36 @@
+// The numbers of a database, as C gets them.
+ghost use Rattle.std.specs.Prelude.{◌≡◌};
+ghost use Rattle.ndbm_c.specs.Looks.{HasNumbers};
+
+use crate::handle::Opened;
+
+/// As `Stat` of `dbm_file` has them.
+#[repr(C)]
+#[derive(Clone, Copy)]
+pub struct Numbers {
+    pub pairs: u32,
+    pub limit: u32,
+    pub buckets: u32,
+    pub level: u32,
+    pub split: u32,
+    pub pages: u32,
+    pub free: u32,
+}
+
+impl Opened {
+    /// The numbers.
+    pub(crate) fn numbers(&self) -> Numbers
+        ensures { HasNumbers self.now result }
+    {
+        let stat = self.db.stat();
+        Numbers {
+            pairs: stat.pairs,
+            limit: stat.limit,
+            buckets: stat.buckets,
+            level: stat.level,
+            split: stat.split,
+            pages: stat.pages,
+            free: stat.free,
+        }
+    }
+}

@@ -1,0 +1,73 @@
+// Calls that give bytes.
+ghost use Rattle.std.specs.Prelude.{◌≡◌, ◌≢◌, ◌≤◌, pos, take};
+ghost use Rattle.dbm_model.specs.Calls.{Fetch, First, Next};
+ghost use Rattle.ndbm_c.specs.Held.{OnDatabase, Calls};
+
+use crate::handle::Handle;
+use dbm_file::Fault;
+use ndbm_calls::{ROOM, refusal};
+use std::alloc::Global;
+
+/// The content of a key: 0, or 1 where the key isn't there.
+#[unsafe(no_mangle)]
+pub extern "C" fn ndbm_c_fetch(
+    alloc: Global,
+    handle: &mut Handle,
+    key: &[u8],
+    out: &mut [u8; ROOM],
+    length: &mut usize,
+) -> i32
+    ensures answered { OnDatabase handle.old.held handle.new.held result
+        (Calls (Fetch key.now) result (take length.new out.new)) }
+    ensures same { result ≢ pos 0 → (out.new ≡ out.old) × (length.new ≡ length.old) }
+    ensures short { result ≡ pos 0 → length.new ≤ 2026 }
+{
+    let Some(mut held) = handle.take(alloc) else {
+        return refusal(Fault::Broken);
+    };
+    let status = held.fetch(key, out, length);
+    handle.put(held);
+    status
+}
+
+/// The first key of a new pass: 0, or 1 where there is none.
+#[unsafe(no_mangle)]
+pub extern "C" fn ndbm_c_firstkey(
+    alloc: Global,
+    handle: &mut Handle,
+    out: &mut [u8; ROOM],
+    length: &mut usize,
+) -> i32
+    ensures answered { OnDatabase handle.old.held handle.new.held result
+        (Calls First result (take length.new out.new)) }
+    ensures same { result ≢ pos 0 → (out.new ≡ out.old) × (length.new ≡ length.old) }
+    ensures short { result ≡ pos 0 → length.new ≤ 2026 }
+{
+    let Some(mut held) = handle.take(alloc) else {
+        return refusal(Fault::Broken);
+    };
+    let status = held.firstkey(out, length);
+    handle.put(held);
+    status
+}
+
+/// The next key of the pass: 0, or 1 where there is none.
+#[unsafe(no_mangle)]
+pub extern "C" fn ndbm_c_nextkey(
+    alloc: Global,
+    handle: &mut Handle,
+    out: &mut [u8; ROOM],
+    length: &mut usize,
+) -> i32
+    ensures answered { OnDatabase handle.old.held handle.new.held result
+        (Calls Next result (take length.new out.new)) }
+    ensures same { result ≢ pos 0 → (out.new ≡ out.old) × (length.new ≡ length.old) }
+    ensures short { result ≡ pos 0 → length.new ≤ 2026 }
+{
+    let Some(mut held) = handle.take(alloc) else {
+        return refusal(Fault::Broken);
+    };
+    let status = held.nextkey(out, length);
+    handle.put(held);
+    status
+}

@@ -1,0 +1,4 @@
+pub mod Closing
+pub mod Groups
+pub mod Statuses
+pub mod Verdicts
