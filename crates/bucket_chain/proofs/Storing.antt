@@ -5,6 +5,7 @@ use Rattle.std.proofs.lemmas.Bool.Decides.{nat_tests}
 use Rattle.std.proofs.lemmas.List.{append-nil, length-append, length-map, length-take-le, get_or-take, get_or-map, get_or_default, take_more}
 use Rattle.std.proofs.lemmas.List.Quantifiers.{all_pairs_push}
 use Rattle.std.proofs.lemmas.List.Sums.{sum_by-append, sum_by-cons, fold-append}
+use Rattle.dbm_model.specs.Bounds.{V1}
 use Rattle.dbm_model.specs.Pairs.{Key, Pair, IsAllowed}
 use Rattle.page_model.specs.PairLists.{has_key, times}
 use Rattle.page_model.specs.Pages.{Body}
@@ -141,7 +142,7 @@ by_room P pair chain s here taken =
     ] refl
 
 pub put_keeps : (at at' : ℕ → Body) (state state' : FreeState) (head : ℕ) (chain : Chain)
-    (s : Space) (pair : Pair) → IsPlaced at state head chain s → IsAllowed pair
+    (s : Space) (pair : Pair) → IsPlaced at state head chain s → IsAllowed V1 pair
     → times pair.0 (pairs_in chain) ≡ 0
     → BecomesPlaced at at' state' (put_in (chain, s) pair)
     → IsPlaced at' state' head (put_in (chain, s) pair).0 (put_in (chain, s) pair).1
@@ -263,7 +264,7 @@ not_put old now before state head placed pairs key so_far none = so_far.counted 
 -- one more
 pub one_put : (old mid new : ℕ → Body) (before state state' : FreeState) (head : ℕ)
     (placed : Placed) (pairs : List Pair) (pair : Pair)
-    → HavePut old mid before state head placed pairs → IsAllowed pair → times pair.0 pairs ≡ 0
+    → HavePut old mid before state head placed pairs → IsAllowed V1 pair → times pair.0 pairs ≡ 0
     → BecomesPlaced mid new state' (put_in (fold put_in placed pairs) pair)
     → HavePut old new before state' head placed (pairs ++ pair ∷ [])
 one_put old mid new before state state' head placed pairs pair so_far allowed none becomes =

@@ -1,6 +1,7 @@
 //! One more pair in a chain.
 
 ghost use Rattle.std.specs.Prelude.{◌≡◌, ◌+◌, ◌≤◌, ◌<◌, true, IfOk, OnOk, IsErrOf, length};
+ghost use Rattle.dbm_model.specs.Bounds.{V1};
 ghost use Rattle.dbm_model.specs.Pairs.{IsAllowed};
 ghost use Rattle.page_model.specs.PairLists.{times};
 ghost use Rattle.page_model.specs.Chain.{Chain, pairs_in, has_room};
@@ -78,7 +79,7 @@ pub fn put<S: PageStore>(
     content: &[u8],
     page: &mut Page,
 ) -> Result<(), PageFault>
-    requires { IsAllowed (key.now, content.now) }
+    requires { IsAllowed V1 (key.now, content.now) }
     ensures stages { StagesOnly S.PageStore store.old store.new }
     ensures few { length (S.state store.new).staged ≤ length (S.state store.old).staged + 2 }
     ensures cause { HasDeviceCause (S.faults store.old) (S.faults store.new) result }

@@ -1,6 +1,7 @@
 //! All pairs of a chain, stored anew.
 
 ghost use Rattle.std.specs.Prelude.{◌≡◌, ◌+◌, ◌<◌, ◌∷◌, [], ℕ, All, length, map, OnOk, IsErrOf};
+ghost use Rattle.dbm_model.specs.Bounds.{V1};
 ghost use Rattle.dbm_model.specs.Pairs.{IsAllowed};
 ghost use Rattle.page_model.specs.Chain.{Chain, Leaf, numbers, pairs_in};
 ghost use Rattle.page_model.specs.PageBodies.{first_of};
@@ -92,7 +93,7 @@ fn put_all<S: PageStore>(
     head: u32,
     pairs: &[Pair],
 ) -> Result<(), PageFault>
-    requires { All (λ pair. IsAllowed (pair_of pair)) pairs.now }
+    requires { All (λ pair. IsAllowed V1 (pair_of pair)) pairs.now }
     ensures stages { StagesOnly S.PageStore store.old store.new }
     ensures cause { HasDeviceCause (S.faults store.old) (S.faults store.new) result }
     ensures answer { IsStoreAnswer (S.state store.old) result }
@@ -132,7 +133,7 @@ pub fn store_all<S: PageStore>(
     head: u32,
     pairs: &[Pair],
 ) -> Result<(), PageFault>
-    requires { All (λ pair. IsAllowed (pair_of pair)) pairs.now }
+    requires { All (λ pair. IsAllowed V1 (pair_of pair)) pairs.now }
     ensures stages { StagesOnly S.PageStore store.old store.new }
     ensures cause { HasDeviceCause (S.faults store.old) (S.faults store.new) result }
     ensures answer { IsStoreAnswer (S.state store.old) result }

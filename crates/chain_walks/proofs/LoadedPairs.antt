@@ -1,10 +1,12 @@
 -- The pairs that were copied.
 use Rattle.std.proofs.Common.{◌≡◌, ◌≢◌, ℕ, zero, suc, ◌+◌, ◌<◌, ◌≤◌, List, [], ◌∷◌, ◌++◌, length, map, take, true, Result, Ok, Err, OnOk, sym, ap, ◌∙◌, subst, append_assoc, append-nil, arith}
 use Rattle.std.specs.Result.{is_ok}
+use Rattle.std.proofs.lemmas.Bool.{le-leb}
 use Rattle.std.proofs.lemmas.List.{map-append, take_more}
 use Rattle.std.proofs.lemmas.List.Concat.{flat_map-append}
 use Rattle.std.specs.Prelude.{All}
 use Rattle.std.specs.List.{HoldsAt, AllByRecursion}
+use Rattle.dbm_model.specs.Bounds.{V1}
 use Rattle.dbm_model.specs.Pairs.{Pair, IsAllowed}
 use Rattle.page_model.specs.Slots.{taken}
 use Rattle.page_model.specs.Pages.{Body}
@@ -96,21 +98,22 @@ module _ (at : ℕ → Body) (head n kind step next : ℕ) (old new here : List 
 -- ---- each pair of a page is small, on any file
 
 -- of pairs that fit a page
-small_in : (pairs : List Pair) → taken pairs ≤ 2032 → AllByRecursion IsAllowed pairs
+small_in : (pairs : List Pair) → taken pairs ≤ 2032 → AllByRecursion (IsAllowed V1) pairs
 small_in [] fit = tt
-small_in (pair ∷ pairs) fit = (omega arith, small_in pairs (omega arith))
+small_in (pair ∷ pairs) fit =
+    (le-leb (length pair.0 + length pair.1) 2026 (omega arith), small_in pairs (omega arith))
 
 -- one page more
 pub more_small : (bytes : List ℕ) (old new : List Pair) → IsBucketPage bytes
-    → new ≡ old ++ page_pairs bytes → AllByRecursion IsAllowed old → AllByRecursion IsAllowed new
+    → new ≡ old ++ page_pairs bytes → AllByRecursion (IsAllowed V1) old → AllByRecursion (IsAllowed V1) new
 more_small bytes old new page appended small =
-    subst (AllByRecursion IsAllowed) (sym appended)
-    (AllByRecursion-append IsAllowed old (page_pairs bytes) small
+    subst (AllByRecursion (IsAllowed V1)) (sym appended)
+    (AllByRecursion-append (IsAllowed V1) old (page_pairs bytes) small
     (small_in (page_pairs bytes) page.sound.fits))
 
 -- pair by pair
-pub each_small : (pairs : List code.Pair) → AllByRecursion IsAllowed (map pair_of pairs)
-    → All (λ pair. IsAllowed (pair_of pair)) pairs
+pub each_small : (pairs : List code.Pair) → AllByRecursion (IsAllowed V1) (map pair_of pairs)
+    → All (λ pair. IsAllowed V1 (pair_of pair)) pairs
 each_small [] small i d within = absurd (omega (arith, within))
 each_small (pair ∷ pairs) small zero d within = small.0
 each_small (pair ∷ pairs) small (suc i) d within =

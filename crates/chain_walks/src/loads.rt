@@ -2,6 +2,7 @@
 
 ghost use Rattle.std.specs.Prelude.{◌≡◌, ◌++◌, ◌<◌, All, length, map, IfOk, OnOk, IsErrOf};
 ghost use Rattle.std.specs.List.{HoldsAt};
+ghost use Rattle.dbm_model.specs.Bounds.{V1};
 ghost use Rattle.dbm_model.specs.Pairs.{IsAllowed};
 ghost use Rattle.page_model.specs.Chain.{pairs_in};
 ghost use Rattle.page_io.specs.Answers.{HasDeviceCause};
@@ -55,7 +56,7 @@ pub fn load_all<S: PageStore>(
     ensures reads { ReadsOnly S.PageStore store.old store.new }
     ensures cause { HasDeviceCause (S.faults store.old) (S.faults store.new) result }
     ensures answer { IsLoadAnswer (S.state store.old) result }
-    ensures small { IfOk result (λ pairs. All (λ pair. IsAllowed (pair_of pair)) pairs.items) }
+    ensures small { IfOk result (λ pairs. All (λ pair. IsAllowed V1 (pair_of pair)) pairs.items) }
     ensures walked { S.honest store.old
         → IfOk result (λ pairs. SaysAll (body_at S.PageStore store.old) head
         (map pair_of pairs.items)) }

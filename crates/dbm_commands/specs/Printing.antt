@@ -37,7 +37,7 @@ IsFetched spelling old new result reply = IsTold result reply
 abbrev pub stat_of : {S : Type 0} {s : Ghosts S} → Database S s → Stat
 stat_of db = record {
   pairs = (meta_kept db).pairs;
-  limit = (meta_kept db).limit;
+  limit = (meta_kept db).bounds.limit;
   buckets = meta_buckets (meta_kept db);
   level = (meta_kept db).level;
   split = (meta_kept db).split;

@@ -21,7 +21,7 @@ pub fn stat<S: PageStore, W: Write>(db: &Database<S>, output: &mut W) -> Result<
     ensures printed { OnOk result
         (Appends (W.contents output.old) (W.contents output.new) (stat_text (stat_of db.now))) }
     ensures counts { (h : Handle) → IsAt db.now h → h.state.usable ≡ true
-        → ((stat_of db.now).pairs ≡ len h.state.map) × ((stat_of db.now).limit ≡ h.state.limit) }
+        → ((stat_of db.now).pairs ≡ len h.state.map) × ((stat_of db.now).limit ≡ h.state.bounds.limit) }
     ensures only { (result ≡ Ok Outcome.Done) ⊎ (result ≡ Err (Failure.Fault EngineFault.Write)) }
 {
     match print_stat(&db.stat(), output) {

@@ -5,23 +5,23 @@ use Rattle.sect_dev.specs.Device.{LeavesOnly}
 use Rattle.sect_dev.specs.Moments.{followed_by, weaker}
 use Rattle.dbm_model.specs.Calls.{Call, Reply, Fetch, First, Next}
 use Rattle.dbm_model.specs.Calls as model
-use Rattle.dbm_model.specs.Pairs.{Key, Contents}
+use Rattle.dbm_model.specs.Pairs.{Key}
 use Rattle.dbm_model.specs.States.{State, Pass, NotBegun, Begun, Behind, Handle, flagged, first_fault}
 use Rattle.dbm_model.specs.Steps.{Case, Tells, Refuses, Declines, Finds, Passes, Changes, usable_case, broken_case, case_of, Answers, Suffers}
 use Rattle.dbm_model.specs.Steps.{fetched, passed}
 use Rattle.std.specs.FinMap.{get}
-use Rattle.page_io.specs.Store.{Settled}
-use Rattle.page_io.specs.Meaning.{ImageStandsFor}
 use Rattle.page_io.specs.declared.store.PageStore.{Ghosts}
 use Rattle.page_io.proofs.Exits.{no_err, more_later}
 use Rattle.dbm_file.specs.Answers.{MayBeLeft, StandsForSome, Survives, IsStep, IsSameDatabase}
 use Rattle.dbm_file.specs.Calls.{Lent}
-use Rattle.dbm_file.specs.Database.{store_of, meta_kept, page_state, error_of}
+use Rattle.dbm_file.specs.Held.{Held, held_by}
+use Rattle.dbm_file.specs.Database.{store_of, page_state, error_of}
 use Rattle.dbm_fault.specs.Faults.{fault_of}
 use Rattle.dbm_file.specs.Lending.{Lends}
 use Rattle.dbm_file.specs.declared.database.Database.{Database}
 use Rattle.dbm_fault.specs.declared.fault.Fault.{Fault}
 use Rattle.dbm_fault.specs.declared.fault.Fault.TheVariants.{Device, Broken, Damaged}
+use Rattle.dbm_file.proofs.Breaks.{alike}
 use Rattle.dbm_file.proofs.Runs.{still_goes}
 use Rattle.dbm_dump.specs.Dumping.{KeepsMap, Stays, Reads, IsChance, IsCopied}
 use Rattle.dbm_fault.specs.declared.engine_fault.EngineFault.{EngineFault}
@@ -34,22 +34,22 @@ IsReading (Refuses fault) = Unit {0}
 IsReading (Declines fault) = Unit {0}
 IsReading (Finds found) = Unit {0}
 IsReading (Passes left) = Unit {0}
-IsReading (Changes said map) = ⊥
+IsReading (Changes said next) = ⊥
 
-pub reads_first : (s : State) → IsReading (case_of s First)
-reads_first s = elim s.usable as
-    (λ b. IsReading (cond b (usable_case s First) (broken_case s First))) [ true ↦ tt | false ↦ tt ]
+pub reads_first : (h : Handle) → IsReading (case_of h First)
+reads_first h = elim h.state.usable as
+    (λ b. IsReading (cond b (usable_case h.capacity h.state First) (broken_case h.capacity h.state First))) [ true ↦ tt | false ↦ tt ]
 
 reads_passed : (pass : Pass) → IsReading (passed pass)
 reads_passed NotBegun = tt
 reads_passed Begun = tt
 reads_passed (Behind last) = tt
 
-pub reads_next : (s : State) → IsReading (case_of s Next)
-reads_next s = elim s.usable as
-    (λ b. IsReading (cond b (usable_case s Next) (broken_case s Next))) [
+pub reads_next : (h : Handle) → IsReading (case_of h Next)
+reads_next h = elim h.state.usable as
+    (λ b. IsReading (cond b (usable_case h.capacity h.state Next) (broken_case h.capacity h.state Next))) [
       | true ↦
-          reads_passed s.pass
+          reads_passed h.state.pass
       | false ↦ tt
     ]
 
@@ -57,19 +57,19 @@ reads_fetched : (found : Option (List ℕ)) → IsReading (fetched found)
 reads_fetched None = tt
 reads_fetched (Some content) = tt
 
-pub reads_content : (key : Key) (s : State) → IsReading (case_of s (Fetch key))
-reads_content key s = elim s.usable as
-    (λ b. IsReading (cond b (usable_case s (Fetch key)) (broken_case s (Fetch key)))) [
+pub reads_content : (key : Key) (h : Handle) → IsReading (case_of h (Fetch key))
+reads_content key h = elim h.state.usable as
+    (λ b. IsReading (cond b (usable_case h.capacity h.state (Fetch key))
+    (broken_case h.capacity h.state (Fetch key)))) [
       | true ↦
-          reads_fetched (get s.map key)
+          reads_fetched (get h.state.map key)
       | false ↦ tt
     ]
 
 keeps_all : (s after : State) → after ≡ s → KeepsMap s after
 keeps_all s after is = record {
   map = ap (λ (x : State). x.map) is;
-  limit =
-      ap (λ (x : State). x.limit) is;
+  bounds = ap (λ (x : State). x.bounds) is;
   writable = ap (λ (x : State). x.writable) is;
   usable =
       ap (λ (x : State). x.usable) is;
@@ -79,7 +79,7 @@ keeps_flagged : (s after : State) (fault : model.Fault) → after ≡ flagged fa
 keeps_flagged s after fault is =
     record {
       map = ap (λ (x : State). x.map) is;
-      limit = ap (λ (x : State). x.limit) is;
+      bounds = ap (λ (x : State). x.bounds) is;
       writable =
           ap (λ (x : State). x.writable) is;
       usable = ap (λ (x : State). x.usable) is;
@@ -90,46 +90,48 @@ keeps_passed : (s after : State) (pass : Pass) → after ≡ record s { pass = p
 keeps_passed s after pass is =
     record {
       map = ap (λ (x : State). x.map) is;
-      limit = ap (λ (x : State). x.limit) is;
+      bounds = ap (λ (x : State). x.bounds) is;
       writable =
           ap (λ (x : State). x.writable) is;
       usable = ap (λ (x : State). x.usable) is;
     }
 
 -- a step of such a rule keeps the map
-pub keeps_map : (before after : Handle) (case : Case) (reply : Reply)
-    → IsReading case → Answers before.state case reply after.state ⊎ Suffers before case reply after
+pub keeps_map : (before after : Handle) (call : Call) (case : Case) (reply : Reply)
+    → IsReading case
+    → Answers before.state case reply after.state ⊎ Suffers before call case reply after
     → KeepsMap before.state after.state
-keeps_map before after (Tells said told) reply reads h = absurd reads
-keeps_map before after (Refuses fault) reply reads h =
+keeps_map before after call (Tells said told) reply reads h = absurd reads
+keeps_map before after call (Refuses fault) reply reads h =
     ⊎_elim (λ x. keeps_flagged before.state after.state fault x.1) (λ x. absurd x) h
-keeps_map before after (Declines fault) reply reads h =
+keeps_map before after call (Declines fault) reply reads h =
     ⊎_elim (λ x. keeps_flagged before.state after.state fault x.1)
     (λ x. keeps_flagged before.state after.state model.Device x.2) h
-keeps_map before after (Finds found) reply reads h =
+keeps_map before after call (Finds found) reply reads h =
     ⊎_elim (λ x. keeps_all before.state after.state x.1)
-    (λ x. keeps_flagged before.state after.state model.Device x.2) h
-keeps_map before after (Passes left) reply reads h = ⊎_elim
+    (⊎_elim (λ x. keeps_flagged before.state after.state model.Device x.2)
+    (λ x. keeps_flagged before.state after.state model.Memory x.1)) h
+keeps_map before after call (Passes left) reply reads h = ⊎_elim
     (λ given. ⊎_elim (λ x. keeps_passed before.state after.state _ x.2)
     (λ x. keeps_passed before.state after.state _ x.3) given)
     (λ x. keeps_flagged before.state after.state model.Device x.2) h
-keeps_map before after (Changes said map) reply reads h = absurd reads
+keeps_map before after call (Changes said next) reply reads h = absurd reads
 
--- what a stop within it may leave is the map
-left_is : (before after : Handle) (call : Call) (map : Contents)
-    → IsReading (case_of before.state call) → KeepsMap before.state after.state
-    → MayBeLeft before after call map → map ≡ before.state.map
-left_is before after call map reads keeps left =
-    ⊎_elim (λ is. is) (λ other. ⊎_elim (λ is. is ∙ keeps.map)
-    (λ asked. absurd (subst IsReading asked.1.1 reads)) other) left
+-- what a stop within it may leave is what was held
+left_is : (before after : Handle) (call : Call) (held : Held)
+    → IsReading (case_of before call) → KeepsMap before.state after.state
+    → MayBeLeft before after call held → held ≡ held_by before.state
+left_is before after call held reads keeps left =
+    ⊎_elim (λ is. is) (λ other. ⊎_elim (λ is. is ∙ alike keeps.map keeps.bounds)
+    (λ asked. absurd (subst IsReading asked.1.2 reads)) other) left
 
 module _ {S : Type 0} (s : Ghosts S) where
   -- one call
   pub stays_by : (old new : Database S s) (before : Handle) (call : Call) (reply : Reply)
-      → IsReading (case_of before.state call) → IsStep old new before call reply
+      → IsReading (case_of before call) → IsStep old new before call reply
       → Stays old new before
   stays_by old new before call reply reads step =
-      let keeps = keeps_map before step.after (case_of before.state call) reply reads
+      let keeps = keeps_map before step.after call (case_of before call) reply reads
       step.step.answers in
       record {
         after = step.after;
@@ -137,8 +139,8 @@ module _ {S : Type 0} (s : Ghosts S) where
         keeps = keeps;
         survives = λ usable.
             weaker s.moment s.settled_since (store_of old) (store_of new)
-            (StandsForSome (λ map. map ≡ before.state.map) (meta_kept old).limit)
-            (StandsForSome (MayBeLeft before step.after call) (meta_kept old).limit)
+            (StandsForSome (λ left. left ≡ held_by before.state))
+            (StandsForSome (MayBeLeft before step.after call))
             (step.survives usable)
             (λ x is. (is.0, left_is before step.after call is.0 reads keeps is.1, is.2));
       }
@@ -147,28 +149,25 @@ module _ {S : Type 0} (s : Ghosts S) where
   module _ (old mid new : Database S s) (before : Handle) (first : IsSameDatabase old mid)
       (second : IsSameDatabase mid new) (earlier : Stays old mid before)
       (later : Stays mid new earlier.after) where
-    Kept : Settled → Type 0
-    Kept = StandsForSome (λ map. map ≡ before.state.map) (meta_kept old).limit
-
     goes_on : (page_state old).usable ≡ true → (page_state mid).usable ≡ true
-        → Survives old new (λ map. map ≡ before.state.map)
+        → Survives old new (λ left. left ≡ held_by before.state)
     goes_on was usable =
         followed_by s.moment s.settled_since (store_of old) (store_of mid) (store_of new)
-        (StandsForSome (λ map. map ≡ before.state.map) (meta_kept old).limit)
-        (StandsForSome (λ map. map ≡ earlier.after.state.map) (meta_kept mid).limit)
+        (StandsForSome (λ left. left ≡ held_by before.state))
+        (StandsForSome (λ left. left ≡ held_by earlier.after.state))
         (earlier.survives was) (later.survives usable)
         (λ x is. (
           is.0,
-          is.1 ∙ earlier.keeps.map,
-          subst (λ (n : ℕ). ImageStandsFor x is.0 n) first.limit is.2,
+          is.1 ∙ alike earlier.keeps.map earlier.keeps.bounds,
+          is.2,
         ))
 
     -- a broken one makes no device call
     stays_broken : (page_state old).usable ≡ true → (page_state mid).usable ≡ false
-        → Survives old new (λ map. map ≡ before.state.map)
+        → Survives old new (λ left. left ≡ held_by before.state)
     stays_broken was broken =
         subst (λ (store : S). LeavesOnly s.moment s.settled_since (store_of old) store
-        (StandsForSome (λ map. map ≡ before.state.map) (meta_kept old).limit))
+        (StandsForSome (λ left. left ≡ held_by before.state)))
         (sym (second.still broken)) (earlier.survives was)
 
     stays_on : Stays old new before
@@ -177,12 +176,12 @@ module _ {S : Type 0} (s : Ghosts S) where
       is_at = later.is_at;
       keeps = record {
         map = later.keeps.map ∙ earlier.keeps.map;
-        limit = later.keeps.limit ∙ earlier.keeps.limit;
+        bounds = later.keeps.bounds ∙ earlier.keeps.bounds;
         writable = later.keeps.writable ∙ earlier.keeps.writable;
         usable = later.keeps.usable ∙ earlier.keeps.usable;
       };
       survives = λ was. elim (page_state mid).usable as
-          (λ u. (page_state mid).usable ≡ u → Survives old new (λ map. map ≡ before.state.map)) [
+          (λ u. (page_state mid).usable ≡ u → Survives old new (λ left. left ≡ held_by before.state)) [
             | true ↦ goes_on was
             | false ↦ stays_broken was
           ] refl;
@@ -233,10 +232,10 @@ module _ {S : Type 0} (s : Ghosts S) where
   -- a call whose bytes are copied
   pub reads_by : (call : Call) (reply_of : Lent → Reply) (old new : Database S s) (lent : Lent)
       (result : Result (Option (Vec ℕ)) EngineFault)
-      → ((state : State) → IsReading (case_of state call)) → Lends call reply_of old lent new
+      → ((h : Handle) → IsReading (case_of h call)) → Lends call reply_of old lent new
       → IsCopied lent result → Reads old new result
   reads_by call reply_of old new lent result reads lends copied = record {
-    stays = λ honest h at. stays_by old new h call (reply_of lent) (reads h.state)
+    stays = λ honest h at. stays_by old new h call (reply_of lent) (reads h)
         (lends.step honest h at);
     goes = lends.keeps.goes;
     device = λ is. lends.keeps.fault (refused lent result Device copied is);

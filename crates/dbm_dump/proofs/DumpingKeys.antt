@@ -50,6 +50,28 @@ device_only fault.BadLimit e = cc
 device_only fault.Missing e = cc
 device_only fault.Exists e = cc
 
+memory_only : (why : Fault) → fault_of why ≡ model.Memory → why ≡ fault.Memory
+memory_only fault.Memory e = refl
+memory_only fault.Device e = cc
+memory_only fault.Broken e = cc
+memory_only fault.ReadOnly e = cc
+memory_only fault.TooLong e = cc
+memory_only fault.Full e = cc
+memory_only fault.NoPass e = cc
+memory_only fault.NoRoom e = cc
+memory_only fault.Damaged e = cc
+memory_only fault.NotADatabase e = cc
+memory_only fault.Version e = cc
+memory_only fault.TooSmall e = cc
+memory_only fault.BadLimit e = cc
+memory_only fault.Missing e = cc
+memory_only fault.Exists e = cc
+
+pub by_memory : (why : Fault) (told : EngineFault) → told ≡ Db why
+    → model.Refused (fault_of why) ≡ model.Refused model.Memory → told ≡ Db fault.Memory
+by_memory why told is refused =
+    let e : fault_of why ≡ model.Memory = cc in is ∙ ap Db (memory_only why e)
+
 -- what refuses a call that is answered from the file
 pub by_chance : (why : Fault) (told : EngineFault) → told ≡ Db why
     → model.Refused (fault_of why) ≡ model.Refused model.Device → IsChance told
@@ -63,21 +85,21 @@ PassGives m from pass (Ok None) = IsOver m from
 PassGives m from pass (Ok (Some key)) = IsNextKey m from key.items × (pass ≡ Behind key.items)
 PassGives m from pass (Err fault) = IsChance fault
 
-pass_gives : (before after : Handle) (from : Pass) (lent : Lent)
+pass_gives : (before after : Handle) (call : Call) (from : Pass) (lent : Lent)
     (result : Result (Option (Vec ℕ)) EngineFault) → IsCopied lent result
     → Answers before.state (Passes from) (lent_reply End lent) after.state
-    ⊎ Suffers before (Passes from) (lent_reply End lent) after
+    ⊎ Suffers before call (Passes from) (lent_reply End lent) after
     → PassGives before.state.map from after.state.pass result
-pass_gives before after from (Ok None) (Ok None) copied h =
+pass_gives before after call from (Ok None) (Ok None) copied h =
     ⊎_elim (λ given. ⊎_elim (λ x. x.0) (λ x. let e = x.2 in absurd (no_key x.0 e)) given)
     (λ x. let e = x.0 in cc) h
   where
     no_key : (key : Key) → End ≡ Bytes key → ⊥
     no_key key e = cc
-pass_gives before after from (Ok None) (Ok (Some copy)) copied h = absurd copied
-pass_gives before after from (Ok None) (Err told) copied h = absurd copied
-pass_gives before after from (Ok (Some bytes)) (Ok None) copied h = absurd copied
-pass_gives before after from (Ok (Some bytes)) (Ok (Some copy)) copied h = ⊎_elim
+pass_gives before after call from (Ok None) (Ok (Some copy)) copied h = absurd copied
+pass_gives before after call from (Ok None) (Err told) copied h = absurd copied
+pass_gives before after call from (Ok (Some bytes)) (Ok None) copied h = absurd copied
+pass_gives before after call from (Ok (Some bytes)) (Ok (Some copy)) copied h = ⊎_elim
     (λ given. ⊎_elim (λ x. absurd (no_end x.1)) (λ x.
     let same : x.0 ≡ copy.items = sym (one_key x.0 x.2) ∙ sym copied in (
       subst (IsNextKey before.state.map from) same x.1,
@@ -94,10 +116,10 @@ pass_gives before after from (Ok (Some bytes)) (Ok (Some copy)) copied h = ⊎_e
 
     no_fault : Bytes bytes.now ≡ model.Refused model.Device → ⊥
     no_fault e = cc
-pass_gives before after from (Ok (Some bytes)) (Err told) copied h = inl copied
-pass_gives before after from (Err why) (Ok None) copied h = absurd copied
-pass_gives before after from (Err why) (Ok (Some copy)) copied h = absurd copied
-pass_gives before after from (Err why) (Err told) copied h = ⊎_elim
+pass_gives before after call from (Ok (Some bytes)) (Err told) copied h = inl copied
+pass_gives before after call from (Err why) (Ok None) copied h = absurd copied
+pass_gives before after call from (Err why) (Ok (Some copy)) copied h = absurd copied
+pass_gives before after call from (Err why) (Err told) copied h = ⊎_elim
     (λ given. ⊎_elim (λ x. absurd (no_end x.1)) (λ x. absurd (no_bytes x.0 x.2)) given)
     (λ x. by_chance why told copied x.0) h
   where
@@ -203,12 +225,13 @@ goes_on m done key count before pass held (Err fault) chance = chance
 -- the rule of a call on a usable handle
 pub on_usable : (before after : Handle) (call : Call) (reply : model.Reply)
     → before.state.usable ≡ true → Step before call reply after
-    → Answers before.state (usable_case before.state call) reply after.state
-    ⊎ Suffers before (usable_case before.state call) reply after
+    → Answers before.state (usable_case before.capacity before.state call) reply after.state
+    ⊎ Suffers before call (usable_case before.capacity before.state call) reply after
 on_usable before after call reply usable step =
     subst (λ (rule : Case). Answers before.state rule reply after.state
-    ⊎ Suffers before rule reply after)
-    (ap (λ b. cond b (usable_case before.state call) (broken_case before.state call)) usable)
+    ⊎ Suffers before call rule reply after)
+    (ap (λ b. cond b (usable_case before.capacity before.state call)
+    (broken_case before.capacity before.state call)) usable)
     step.answers
 
 -- that of a pass which was begun
@@ -241,9 +264,9 @@ module _ {S : Type 0} {s : Ghosts S} where
       → start.state.usable ≡ true → CopiesStep old new start First End result
       → MatchResult result (λ given. IsPassing new start.state.map [] given 0) IsChance
   begun old new start result usable (lent, copied, made) =
-      let keeps = keeps_map start made.after (case_of start.state First) (lent_reply End lent)
-      (reads_first start.state) made.step.answers in
-      let gives = pass_gives start made.after Begun lent result
+      let keeps = keeps_map start made.after First (case_of start First) (lent_reply End lent)
+      (reads_first start) made.step.answers in
+      let gives = pass_gives start made.after First Begun lent result
       copied (on_usable start made.after First (lent_reply End lent) usable made.step) in
       passing new start.state.map made.after [] 0 result made.is_at keeps.map
       (keeps.usable ∙ usable) (begins start.state.map made.after.state.pass result gives)
@@ -278,16 +301,16 @@ module _ {S : Type 0} {s : Ghosts S} where
   gone_on old new m done (Some given) key count result so_far is (lent, copied, made) =
       let start = so_far.now in
       let same : given ≡ key = cc in
-      let keeps = keeps_map start made.after (case_of start.state Next) (lent_reply End lent)
-      (reads_next start.state) made.step.answers in
+      let keeps = keeps_map start made.after Next (case_of start Next) (lent_reply End lent)
+      (reads_next start) made.step.answers in
       let step = on_usable start made.after Next (lent_reply End lent) so_far.usable made.step in
       let from = start.state.pass in
       let rule = subst (λ (c : Case).
       Answers start.state c (lent_reply End lent) made.after.state
-      ⊎ Suffers start c (lent_reply End lent) made.after)
+      ⊎ Suffers start Next c (lent_reply End lent) made.after)
       (goes_by from so_far.held.begun) step in
       let gives = subst (λ (all : Contents). PassGives all from made.after.state.pass result)
-      so_far.map_is (pass_gives start made.after from lent result copied rule) in
+      so_far.map_is (pass_gives start made.after Next from lent result copied rule) in
       subst (λ (k : Vec ℕ). MatchResult result
       (λ next. IsPassing new m (insert_key key_cmp done k.items) next (count + 1)) IsChance)
       same

@@ -1,5 +1,5 @@
 -- Pairs gathered by a pass, with the content of each key.
-use Rattle.std.proofs.Common.{◌≡◌, ◌⊎◌, inl, ⊎_elim, T, ℕ, ◌+◌, ◌≤◌, Bool, true, false, cond, ◌||◌, ◌&&◌, List, [], ◌∷◌, map, length, Option, Some, None, is_some, Result, Ok, Err, refl, sym, ◌∙◌, ap, subst, arith}
+use Rattle.std.proofs.Common.{◌≡◌, ◌⊎◌, inl, inr, ⊎_elim, T, ℕ, ◌+◌, ◌≤◌, Bool, true, false, cond, ◌||◌, ◌&&◌, List, [], ◌∷◌, map, length, Option, Some, None, is_some, Result, Ok, Err, refl, sym, ◌∙◌, ap, subst, arith}
 use Rattle.std.specs.Global.{Vec}
 use Rattle.std.specs.BTreeMap.{insert_entry}
 use Rattle.std.specs.Cmp.{tied_itself}
@@ -15,7 +15,7 @@ use Rattle.std.proofs.lemmas.Cmp.{nat_list_cmp_total}
 use Rattle.std.proofs.lemmas.List.{length-map}
 use Rattle.std.proofs.lemmas.List.Elements.{All-nil, All-cons, All-head, All-tail}
 use Rattle.dbm_model.specs.Calls as model
-use Rattle.dbm_model.specs.Calls.{Fetch, NoRecord, Bytes, Next, End}
+use Rattle.dbm_model.specs.Calls.{Call, Fetch, NoRecord, Bytes, Next, End}
 use Rattle.dbm_model.specs.Pairs.{Key, Pair, Contents, key_cmp}
 use Rattle.dbm_model.specs.States.{State, Pass, Handle}
 use Rattle.dbm_model.specs.Steps.{fetched, Answers, Suffers}
@@ -25,14 +25,16 @@ use Rattle.dbm_fault.specs.Faults.{fault_of}
 use Rattle.dbm_file.specs.declared.database.Database.{Database}
 use Rattle.dbm_dump.specs.Dumping.{IsChance, IsCopied, IsShort, IsShortPair, CopiesStep}
 use Rattle.dbm_fault.specs.declared.engine_fault.EngineFault.{EngineFault}
-use Rattle.dbm_dump.proofs.DumpingKeys.{HasGathered, IsPassing, on_usable, by_chance, pass_goes_on, pass_ends}
+use Rattle.dbm_fault.specs.declared.engine_fault.EngineFault.TheVariants.{Db}
+use Rattle.dbm_fault.specs.declared.fault.Fault.TheVariants as of_call
+use Rattle.dbm_dump.proofs.DumpingKeys.{HasGathered, IsPassing, on_usable, by_chance, by_memory, pass_goes_on, pass_ends}
 use Rattle.dbm_dump.proofs.KeySets.{key_put}
 
 -- what a fetch gives of a key that has this, and what it leaves where it gives something
 abbrev FetchGives : State → State → Option (List ℕ) → Result (Option (Vec ℕ)) EngineFault → Type 0
 FetchGives before after found (Ok None) = (found ≡ None) × (after ≡ before)
 FetchGives before after found (Ok (Some copy)) = (found ≡ Some copy.items) × (after ≡ before)
-FetchGives before after found (Err fault) = IsChance fault
+FetchGives before after found (Err fault) = IsChance fault ⊎ (fault ≡ Db of_call.Memory)
 
 no_bytes : (bytes : List ℕ) → Bytes bytes ≡ NoRecord → ⊥
 no_bytes bytes e = cc
@@ -46,33 +48,38 @@ no_refusal fault e = cc
 same_bytes : (a b : List ℕ) → Bytes a ≡ Bytes b → b ≡ a
 same_bytes a b e = cc
 
-fetch_gives : (before after : Handle) (found : Option (List ℕ)) (lent : Lent)
+fetch_gives : (before after : Handle) (call : Call) (found : Option (List ℕ)) (lent : Lent)
     (result : Result (Option (Vec ℕ)) EngineFault) → IsCopied lent result
     → Answers before.state (fetched found) (lent_reply NoRecord lent) after.state
-    ⊎ Suffers before (fetched found) (lent_reply NoRecord lent) after
+    ⊎ Suffers before call (fetched found) (lent_reply NoRecord lent) after
     → FetchGives before.state after.state found result
-fetch_gives before after None (Ok None) (Ok None) copied h =
-    ⊎_elim (λ x. (refl, x.1)) (λ x. absurd (no_refusal model.Device (sym x.0))) h
-fetch_gives before after (Some content) (Ok None) (Ok None) copied h =
+fetch_gives before after call None (Ok None) (Ok None) copied h =
+    ⊎_elim (λ x. (refl, x.1)) (⊎_elim (λ x. absurd (no_refusal model.Device (sym x.0)))
+    (λ x. absurd (no_refusal model.Memory (sym x.0)))) h
+fetch_gives before after call (Some content) (Ok None) (Ok None) copied h =
     ⊎_elim (λ x. absurd (no_bytes content (sym x.0)))
-    (λ x. absurd (no_refusal model.Device (sym x.0))) h
-fetch_gives before after found (Ok None) (Ok (Some copy)) copied h = absurd copied
-fetch_gives before after found (Ok None) (Err told) copied h = absurd copied
-fetch_gives before after found (Ok (Some bytes)) (Ok None) copied h = absurd copied
-fetch_gives before after None (Ok (Some bytes)) (Ok (Some copy)) copied h =
+    (⊎_elim (λ x. absurd (no_refusal model.Device (sym x.0)))
+    (λ x. absurd (no_refusal model.Memory (sym x.0)))) h
+fetch_gives before after call found (Ok None) (Ok (Some copy)) copied h = absurd copied
+fetch_gives before after call found (Ok None) (Err told) copied h = absurd copied
+fetch_gives before after call found (Ok (Some bytes)) (Ok None) copied h = absurd copied
+fetch_gives before after call None (Ok (Some bytes)) (Ok (Some copy)) copied h =
     ⊎_elim (λ x. absurd (no_bytes bytes.now x.0))
-    (λ x. absurd (no_fault bytes.now model.Device x.0)) h
-fetch_gives before after (Some content) (Ok (Some bytes)) (Ok (Some copy)) copied h =
+    (⊎_elim (λ x. absurd (no_fault bytes.now model.Device x.0))
+    (λ x. absurd (no_fault bytes.now model.Memory x.0))) h
+fetch_gives before after call (Some content) (Ok (Some bytes)) (Ok (Some copy)) copied h =
     ⊎_elim (λ x. (ap Some (same_bytes bytes.now content x.0 ∙ sym copied), x.1))
-    (λ x. absurd (no_fault bytes.now model.Device x.0)) h
-fetch_gives before after found (Ok (Some bytes)) (Err told) copied h = inl copied
-fetch_gives before after found (Err why) (Ok None) copied h = absurd copied
-fetch_gives before after found (Err why) (Ok (Some copy)) copied h = absurd copied
-fetch_gives before after None (Err why) (Err told) copied h =
-    ⊎_elim (λ x. absurd (no_refusal (fault_of why) x.0)) (λ x. by_chance why told copied x.0) h
-fetch_gives before after (Some content) (Err why) (Err told) copied h =
+    (⊎_elim (λ x. absurd (no_fault bytes.now model.Device x.0))
+    (λ x. absurd (no_fault bytes.now model.Memory x.0))) h
+fetch_gives before after call found (Ok (Some bytes)) (Err told) copied h = inl (inl copied)
+fetch_gives before after call found (Err why) (Ok None) copied h = absurd copied
+fetch_gives before after call found (Err why) (Ok (Some copy)) copied h = absurd copied
+fetch_gives before after call None (Err why) (Err told) copied h =
+    ⊎_elim (λ x. absurd (no_refusal (fault_of why) x.0))
+    (⊎_elim (λ x. inl (by_chance why told copied x.0)) (λ x. inr (by_memory why told copied x.0))) h
+fetch_gives before after call (Some content) (Err why) (Err told) copied h =
     ⊎_elim (λ x. absurd (no_fault content (fault_of why) (sym x.0)))
-    (λ x. by_chance why told copied x.0) h
+    (⊎_elim (λ x. inl (by_chance why told copied x.0)) (λ x. inr (by_memory why told copied x.0))) h
 
 -- ---- pairs with the contents of a map
 
@@ -287,12 +294,14 @@ module _ {S : Type 0} {s : Ghosts S} where
         (subst (λ (all : Contents).
         FetchGives so_far.pass.now.state step.2.after.state (get all bytes) result)
         so_far.pass.map_is
-        (fetch_gives so_far.pass.now step.2.after (get so_far.pass.now.state.map bytes) step.0
+        (fetch_gives so_far.pass.now step.2.after (Fetch bytes) (get so_far.pass.now.state.map bytes) step.0
         result step.1 (on_usable so_far.pass.now step.2.after (Fetch bytes)
         (lent_reply NoRecord step.0) so_far.pass.usable step.2.step)))
 
-    pub fetch_goes_on_not : (fault : EngineFault) → result ≡ Err fault → IsChance fault
-    fetch_goes_on_not fault badly = subst Gives badly gives
+    pub fetch_goes_on_not : (fault : EngineFault) → result ≡ Err fault
+        → (fault ≡ Db of_call.Memory → ⊥) → IsChance fault
+    fetch_goes_on_not fault badly never =
+        ⊎_elim (λ chance. chance) (λ lacks. absurd (never lacks)) (subst Gives badly gives)
 
     -- is not missing
     pub none_missing : result ≡ Ok None → ⊥

@@ -13,6 +13,7 @@ use Rattle.dbm_text.specs.Words.{word_of}
 use Rattle.page_io.specs.declared.store.PageStore.{Ghosts}
 use Rattle.dbm_file.specs.Answers.{IsStep, Survives, IsSameDatabase}
 use Rattle.dbm_file.specs.Calls.{Lent, lent_reply}
+use Rattle.dbm_file.specs.Held.{held_by}
 use Rattle.dbm_file.specs.Database.{store_of, page_state, error_of, IsAt}
 use Rattle.dbm_fault.specs.Faults.{fault_of}
 use Rattle.dbm_file.specs.declared.database.Database.{Database}
@@ -21,10 +22,10 @@ use Rattle.dbm_fault.specs.declared.fault.Fault.TheVariants.{Device, Broken}
 use Rattle.dbm_fault.specs.declared.engine_fault.EngineFault.{EngineFault}
 use Rattle.dbm_fault.specs.declared.engine_fault.EngineFault.TheVariants.{Memory, Db}
 
--- the same map, limit and marks: the error number and the pass may differ
+-- the same map, bounds and marks: the error number and the pass may differ
 pub record KeepsMap (before after : State) : Type 0 where
   pub map : after.map ≡ before.map
-  pub limit : after.limit ≡ before.limit
+  pub bounds : after.bounds ≡ before.bounds
   pub writable : after.writable ≡ before.writable
   pub usable : after.usable ≡ before.usable
 
@@ -35,7 +36,7 @@ pub record Stays {S : Type 0} {s : Ghosts S} (old new : Database S s)
   pub after : Handle
   pub is_at : IsAt new after
   pub keeps : KeepsMap before.state after.state
-  pub survives : (page_state old).usable ≡ true → Survives old new (λ map. map ≡ before.state.map)
+  pub survives : (page_state old).usable ≡ true → Survives old new (λ left. left ≡ held_by before.state)
 
 -- What any number of calls that read leave on any device, and on an honest one.
 pub record Reads {S T : Type 0} {s : Ghosts S} (old new : Database S s)

@@ -197,7 +197,7 @@ pub same_goes : {S : Type 0} {s : Ghosts S} (old new : Database S s) → store_o
 same_goes {S} {s} old new store meta = record {
   honesty = (λ h. subst s.honest store h, λ h. subst s.honest (sym store) h);
   later = omega (arith, ap s.faults store);
-  limit = ap (λ m. m.limit) meta;
+  bounds = ap (λ m. m.bounds) meta;
   capacity = ap (λ (x : S). (s.state x).capacity) store;
   writable = ap (λ (x : S). (s.state x).writable) store;
   base = ap (λ (x : S). (s.state x).base) store;

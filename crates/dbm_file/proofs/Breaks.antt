@@ -1,5 +1,6 @@
 -- What is left in doubt where a list of calls broke a database.
 use Rattle.std.proofs.Common.{◌≡◌, inl, inr, ⊎_elim, ℕ, ◌≤◌, List, [], ◌∷◌, ◌++◌, true, false, refl, sym, ◌∙◌, ap, subst, append_assoc}
+use Rattle.dbm_model.specs.Bounds.{Bounds}
 use Rattle.dbm_model.specs.Calls.{Call, Reply, Refused, Device}
 use Rattle.dbm_model.specs.Pairs.{Contents}
 use Rattle.dbm_model.specs.States.{Handle}
@@ -10,7 +11,8 @@ use Rattle.page_io.specs.Store.{Settled}
 use Rattle.page_io.specs.Meaning.{ImageStandsFor}
 use Rattle.page_io.specs.declared.store.PageStore.{Ghosts}
 use Rattle.dbm_file.specs.Answers.{MayBeLeft, IsStep}
-use Rattle.dbm_file.specs.Database.{store_of, meta_kept, page_state, IsAt}
+use Rattle.dbm_file.specs.Held.{Held, held_by}
+use Rattle.dbm_file.specs.Database.{store_of, meta_kept, page_state, handle_of, IsAt}
 use Rattle.dbm_file.specs.Runs.{IsInDoubt, IsBreak}
 use Rattle.dbm_file.specs.declared.database.Database.{Database}
 
@@ -19,16 +21,39 @@ abbrev pub CountsNow : {S : Type 0} {s : Ghosts S} → Database S s → Type 0
 CountsNow {S} {s} db = (t : ℕ) (x : Settled) → t ≤ (s.moment (store_of db)).at
     → s.settles_to (store_of db) x → s.settled_since (store_of db) t x
 
+-- one map and one bounds
+pub alike : {m n : Contents} {b c : Bounds} → m ≡ n → b ≡ c
+    → ◌≡◌ {A = Held} (record { map = m; bounds = b }) (record { map = n; bounds = c })
+alike map bounds = λ i. record { map = map i; bounds = bounds i }
+
+-- what is kept of the meta page of a database has the bounds of its handle
+pub bounds_shown : {S : Type 0} {s : Ghosts S} (db : Database S s) (h : Handle) → IsAt db h
+    → h.state.bounds ≡ (meta_kept db).bounds
+bounds_shown db h at = ap (λ (x : Handle). x.state.bounds) at.shows
+
+pub held_shown : {S : Type 0} {s : Ghosts S} (db : Database S s) (h : Handle) → IsAt db h
+    → held_by (handle_of db h.state.map).state ≡ held_by h.state
+held_shown db h at = ap (λ (x : Handle). held_by x.state) (sym at.shows)
+
+-- each image that a stop may leave now stands for what its handle holds
+pub rests_shown : {S : Type 0} {s : Ghosts S} (db : Database S s) (h : Handle) → IsAt db h
+    → (page_state db).usable ≡ true → (x : Settled) → s.settles_to (store_of db) x
+    → ImageStandsFor x h.state.map h.state.bounds
+rests_shown db h at usable x left =
+    subst (λ (b : Bounds). ImageStandsFor x h.state.map b) (sym (bounds_shown db h at))
+    (at.rests usable x left)
+
 -- what a stop may leave of a call that broke its handle
-doubted : (before after : Handle) (call : Call) (reply : Reply) (map : Contents)
+doubted : (before after : Handle) (call : Call) (reply : Reply) (left : Held)
     → Step before call reply after → before.state.usable ≡ true → after.state.usable ≡ false
-    → MayBeLeft before after call map → IsInDoubt before.state.map call map
-doubted before after call reply map step was now (inl same) = inl same
-doubted before after call reply map step was now (inr (inl left)) =
-    ⊎_elim (λ old. inl (left ∙ old)) (λ new. inr (left ∙ new))
+    → MayBeLeft before after call left → IsInDoubt before.state call left
+doubted before after call reply left step was now (inl same) = inl same
+doubted before after call reply left step was now (inr (inl is)) =
+    ⊎_elim (λ old. inl (is ∙ alike old.0 old.1)) (λ new. inr (is ∙ alike new.0 new.1))
     (breaks_by_change before after call reply step was now).2
-doubted before after call reply map step was now (inr (inr (broken, asks))) =
-    inr (subst (λ (c : Case). Suits before.state call c) asks.1 (suits before.state call)).1
+doubted before after call reply left step was now (inr (inr (broken, (said, next, falls, is)))) =
+    let change = subst (λ (c : Case). Suits before.state call c) falls (suits before call) in
+    inr (is ∙ alike change.map_was_asked change.bounds_were_asked)
 
 -- whether it is usable is as its handle says
 shown : {S : Type 0} {s : Ghosts S} (db : Database S s) (h : Handle) → IsAt db h
@@ -41,7 +66,7 @@ module _ {S : Type 0} (s : Ghosts S) (old mid new : Database S s) (start held : 
     (run : Run start calls replies held) (at : IsAt mid held)
     (step : IsStep mid new held call reply) (was : (page_state mid).usable ≡ true)
     (now : (page_state new).usable ≡ false)
-    (counts : CountsNow new) (limit : (meta_kept new).limit ≡ (meta_kept mid).limit) where
+    (counts : CountsNow new) where
   abbrev usable : held.state.usable ≡ true
   usable = shown mid held at ∙ was
 
@@ -72,7 +97,7 @@ module _ {S : Type 0} (s : Ghosts S) (old mid new : Database S s) (start held : 
         let is = within.each x (counts (s.moment (store_of mid)).at x within.later left) in (
           is.0,
           doubted held step.after call reply is.0 step.step usable broken is.1,
-          subst (λ (n : ℕ). ImageStandsFor x is.0 n) (sym limit) is.2,
+          is.2,
         );
   }
 
@@ -80,9 +105,9 @@ module _ {S : Type 0} (s : Ghosts S) (old mid new : Database S s) (start held : 
 pub breaks_before : {S : Type 0} (s : Ghosts S) (mid new : Database S s) (start held after : Handle)
     (calls : List Call) (replies : List Reply) (call : Call) (reply : Reply)
     → IsBreak mid start calls replies held → Step held call reply after
-    → store_of new ≡ store_of mid → (meta_kept new).limit ≡ (meta_kept mid).limit
+    → store_of new ≡ store_of mid
     → IsBreak new start (calls ++ call ∷ []) (replies ++ reply ∷ []) after
-breaks_before {S} s mid new start held after calls replies call reply b step still limit = record {
+breaks_before {S} s mid new start held after calls replies call reply b step still = record {
   earlier = b.earlier;
   answered = b.answered;
   call = b.call;
@@ -100,6 +125,5 @@ breaks_before {S} s mid new start held after calls replies call reply b step sti
   breaks = b.breaks;
   rest = run-push b.broken held after b.later b.refused call reply b.rest step;
   in_doubt = λ x left.
-      let is = b.in_doubt x (subst (λ (store : S). s.settles_to store x) still left) in
-      (is.0, is.1, subst (λ (n : ℕ). ImageStandsFor x is.0 n) (sym limit) is.2);
+      b.in_doubt x (subst (λ (store : S). s.settles_to store x) still left);
 }

@@ -1,12 +1,12 @@
 -- How many buckets a change leaves, and which store opens one.
-use Rattle.std.proofs.Common.{◌≡◌, ℕ, ◌+◌, ◌*◌, ◌<◌, List, Bool, true, false, cond, is_some, sym, ◌∙◌, ap, ap₂, subst, arith}
-use Rattle.std.specs.Prelude.{nat_lt}
-use Rattle.std.specs.FinMap.{get, insert, len, len-insert}
-use Rattle.std.specs.Cmp.Lexicographic.{nat_list_cmp_total}
+use Rattle.std.proofs.Common.{◌≡◌, ℕ, ◌+◌, ◌*◌, ◌≤◌, List, Bool, true, false, cond, Option, Some, None, is_some, sym, ◌∙◌, ap, ap₂, subst, arith}
+use Rattle.std.specs.Prelude.{nat_lt, ◌||◌}
+use Rattle.std.specs.FinMap.{get, len}
+use Rattle.std.proofs.lemmas.Bool.{le-leb}
 use Rattle.dbm_model.specs.Calls as model
-use Rattle.dbm_model.specs.Pairs.{Contents}
+use Rattle.dbm_model.specs.Pairs.{is_far}
 use Rattle.dbm_model.specs.States.{Handle}
-use Rattle.dbm_model.specs.Steps.{buckets_opened}
+use Rattle.dbm_model.specs.Steps.{buckets_opened, store_takes, takes_memory}
 use Rattle.page_model.specs.Address.{Shape, buckets, grown}
 use Rattle.page_model.specs.Pages.{Meta}
 use Rattle.page_model.specs.Valid.{IsMeta, meta_buckets}
@@ -51,20 +51,29 @@ full_buckets old mid there valid same would =
     by_case true full = absurd (omega (arith, full, valid.few_pairs.1))
     by_case false full = omega (arith, full, valid.few_pairs.1)
 
--- a store that found no memory would have opened one
-pub would_open : (map : Contents) (key content : List ℕ) (there : Bool) (kept : Meta)
-    (before : ℕ) → there ≡ is_some (get map key) → kept.pairs ≡ len map
-    → meta_buckets kept ≡ before
-    → 8 * meta_buckets kept < cond there kept.pairs (kept.pairs + 1)
-    → 8 * before < len (insert map key content)
-would_open map key content there kept before is counted same full =
-    let after : len (insert map key content) ≡ cond there (len map) (len map + 1) =
-    len-insert nat_list_cmp_total map key content
-    ∙ ap (λ (b : Bool). cond b (len map) (len map + 1)) (sym is) in
-    by_case there after full
+-- a store of a new key where there are eight pairs to a bucket takes memory
+full_takes : (h : Handle) (key content : List ℕ) (mode : model.Mode) (old : Option (List ℕ))
+    → is_some old ≡ false → 8 * h.buckets ≤ len h.state.map
+    → store_takes h key content mode old ≡ true
+full_takes h key content mode (Some earlier) absent full = absurd (let e = absent in cc)
+full_takes h key content model.Insert None absent full =
+    ap (λ (b : Bool). b || is_far (key, content)) (le-leb (8 * h.buckets) (len h.state.map) full)
+full_takes h key content model.Replace None absent full =
+    ap (λ (b : Bool). b || is_far (key, content)) (le-leb (8 * h.buckets) (len h.state.map) full)
+
+-- a store that found no memory would have opened a bucket
+pub would_take : (h : Handle) (key content : List ℕ) (mode : model.Mode) (there : Bool)
+    (old kept : Meta) → there ≡ is_some (get h.state.map key) → IsMeta old → kept ≡ old
+    → kept.pairs ≡ len h.state.map → meta_buckets kept ≡ h.buckets → WouldSplit kept there
+    → takes_memory h (model.Store key content mode) ≡ true
+would_take h key content mode there old kept is valid still counted same would =
+    by_case there is would
   where
-    by_case : (b : Bool) → len (insert map key content) ≡ cond b (len map) (len map + 1)
-        → 8 * meta_buckets kept < cond b kept.pairs (kept.pairs + 1)
-        → 8 * before < len (insert map key content)
-    by_case true after full = omega (arith, after, counted, same, full)
-    by_case false after full = omega (arith, after, counted, same, full)
+    few : kept.pairs ≤ 8 * meta_buckets kept
+    few = subst (λ (m : Meta). m.pairs ≤ 8 * meta_buckets m) (sym still) valid.few_pairs.1
+
+    by_case : (b : Bool) → b ≡ is_some (get h.state.map key) → WouldSplit kept b
+        → takes_memory h (model.Store key content mode) ≡ true
+    by_case true found full = absurd (omega (arith, full, few))
+    by_case false absent full = full_takes h key content mode (get h.state.map key) (sym absent)
+        (omega (arith, full, counted, same))

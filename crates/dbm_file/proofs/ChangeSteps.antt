@@ -3,6 +3,7 @@ use Rattle.std.proofs.Common.{◌≡◌, ◌⊎◌, inl, inr, ⊎_elim, ℕ, ◌
 use Rattle.std.specs.Prelude.{IsErrAnd}
 use Rattle.std.specs.FinMap.{len}
 use Rattle.std.specs.Option.{option_map}
+use Rattle.dbm_model.specs.Bounds.{Bounds}
 use Rattle.sect_dev.specs.Device.{LeavesOnly}
 use Rattle.sect_dev.specs.Moments.{followed_by}
 use Rattle.dbm_model.specs.Calls as model
@@ -11,7 +12,7 @@ use Rattle.page_model.specs.Pages.{Meta, MetaPage}
 use Rattle.dbm_model.specs.Pairs.{Contents}
 use Rattle.dbm_model.specs.States.{Handle, first_fault, flagged}
 use Rattle.dbm_model.specs.Sizes.{home}
-use Rattle.dbm_model.specs.Steps.{Case, Changes, case_of, Answers, Suffers, IsShort, OpensBucket, growth, buckets_opened}
+use Rattle.dbm_model.specs.Steps.{Case, Changes, case_of, Answers, Suffers, IsShort, with_map, takes_memory, growth, buckets_opened}
 use Rattle.page_model.specs.Meaning.{said_by}
 use Rattle.page_io.specs.Store.{Settled, Pages, file_of, page_of}
 use Rattle.page_io.specs.Store as store
@@ -23,6 +24,7 @@ use Rattle.page_io.proofs.Exits.{more_later, both_ways}
 use Rattle.dbm_fault.specs.Faults.{fault_of, fault_from}
 use Rattle.page_commit.specs.Committing.{Holds, IsForgotten}
 use Rattle.linear_hash.specs.Holding.{StandsForEither, IsEnded, ChangesMap}
+use Rattle.dbm_file.specs.Held.{Held, held_by}
 use Rattle.dbm_file.specs.Passing.{model_pass}
 use Rattle.dbm_file.specs.Database.{store_of, meta_kept, page_state, error_of, handle_of}
 use Rattle.dbm_file.specs.Answers.{MayBeLeft, StandsForSome, Survives, IsStep, IsCallEnded}
@@ -30,7 +32,7 @@ use Rattle.dbm_file.specs.Trying.{with_fault, with_error_of, IsRead}
 use Rattle.dbm_fault.specs.declared.fault.Fault.{Fault}
 use Rattle.dbm_fault.specs.declared.fault.Fault.TheVariants.{Device, Broken}
 use Rattle.dbm_file.specs.declared.database.Database.{Database}
-use Rattle.dbm_file.proofs.ReadSteps.{kept_first, same_parts, at_own, no_more_pages, no_more_buckets, still_buckets, still_meta, still_limit, still_writable, still_usable, still_capacity, still_end, still_holds, still_survives, flagged_is}
+use Rattle.dbm_file.proofs.ReadSteps.{kept_first, same_parts, at_own, no_more_pages, no_more_buckets, still_buckets, still_meta, still_bounds, still_writable, still_usable, still_capacity, still_end, still_holds, still_survives, flagged_is}
 use Rattle.linear_hash.proofs.Tables.{counted}
 
 -- how a change of the file ended, with what it leaves of the error; the pass stays
@@ -70,8 +72,9 @@ pub record IsAsked {S : Type 0} (s : Ghosts S) (old mid : Database S s) (map cha
   pub honest : s.honest (store_of old)
   pub holds : Holds s (store_of old) (meta_kept old) map
   pub rests : (x : Settled) → s.settles_to (store_of old) x
-      → ImageStandsFor x map (meta_kept old).limit
-  pub falls : case_of (handle_of old map).state call ≡ Changes said changed
+      → ImageStandsFor x map (meta_kept old).bounds
+  pub falls : case_of (handle_of old map) call
+      ≡ Changes said (with_map (handle_of old map).state changed)
 
 module _ {S : Type 0} (s : Ghosts S) {old mid : Database S s} {map changed : Contents}
     {call : model.Call} {said : model.Reply}
@@ -102,9 +105,9 @@ module _ {S : Type 0} (s : Ghosts S) {old mid : Database S s} {map changed : Con
   before = handle_of old map
 
   -- the pages that a database of its limit needs
-  of_limit : (Says : ℕ → Type 0) → Says (home (meta_kept mid).limit)
-      → Says (home (meta_kept old).limit)
-  of_limit Says = subst (λ (limit : ℕ). Says (home limit)) (still_limit s old mid asked.read)
+  of_limit : (Says : ℕ → Type 0) → Says (home (meta_kept mid).bounds)
+      → Says (home (meta_kept old).bounds)
+  of_limit Says = subst (λ (bounds : Bounds). Says (home bounds)) (still_bounds s old mid asked.read)
 
   -- the pages that a store adds are those of the definitions
   pub store_growth : said ≡ model.Stored → (meta_kept mid).pairs + 4 ≤ growth before said
@@ -115,22 +118,25 @@ module _ {S : Type 0} (s : Ghosts S) {old mid : Database S s} {map changed : Con
   no_growth = omega arith
 
   module _ (new : Database S s) where
-    stands_still : (x : Settled) (m : Contents) → ImageStandsFor x m (meta_kept mid).limit
-        → ImageStandsFor x m (meta_kept old).limit
-    stands_still x m is = subst (λ (n : ℕ). ImageStandsFor x m n)
-        (still_limit s old mid asked.read) is
+    stands_still : (x : Settled) (m : Contents) → ImageStandsFor x m (meta_kept mid).bounds
+        → ImageStandsFor x m (meta_kept old).bounds
+    stands_still x m is = subst (λ (n : Bounds). ImageStandsFor x m n)
+        (still_bounds s old mid asked.read) is
+
+    abbrev held_after : Held
+    held_after = held_by (with_map before.state changed)
 
     -- what a stop leaves is one of the two maps
-    survives_change : (Left : Contents → Type 0) → Left map → Left changed
+    survives_change : (Left : Held → Type 0) → Left (held_by before.state) → Left held_after
         → LeavesOnly s.moment s.settled_since (store_of mid) (store_of new)
-        (StandsForEither map changed (meta_kept mid).limit) → Survives old new Left
+        (StandsForEither map changed (meta_kept mid).bounds) → Survives old new Left
     survives_change Left left also change =
         followed_by s.moment s.settled_since (store_of old) (store_of mid) (store_of new)
-        (StandsForSome Left (meta_kept old).limit)
-        (StandsForEither map changed (meta_kept mid).limit)
+        (StandsForSome Left)
+        (StandsForEither map changed (meta_kept mid).bounds)
         (still_survives s old mid map asked.read asked.honest asked.rests Left left) change
-        (λ x. ⊎_elim (λ is. (map, left, stands_still x map is))
-        (λ is. (changed, also, stands_still x changed is)))
+        (λ x. ⊎_elim (λ is. (held_by before.state, left, stands_still x map is))
+        (λ is. (held_after, also, stands_still x changed is)))
 
     -- `only` is the store's law `only_committed`
     pub changed_step : IsDone s mid new (Ok tt) → {most : ℕ} → most ≤ growth before said
@@ -162,17 +168,18 @@ module _ {S : Type 0} (s : Ghosts S) {old mid : Database S s} {map changed : Con
                   refl,
                   same_parts changed _ _ _ _ _ _ _ _ _ _
                       (ap model_pass (ended.pass_is ∙ asked.read.pass_is))
-                      (ended.ends.limit ∙ still_limit s old mid asked.read)
+                      (ended.ends.bounds ∙ still_bounds s old mid asked.read)
                       (ap (λ (o : Option Fault). option_map fault_of o)
                       (ended.error_is ∙ asked.read.error_is)) writable_is usable_is,
                 ));
           };
           is_at = at_own new changed (λ usable. turns.done)
               (λ usable x left. subst (λ (y : Settled).
-              ImageStandsFor y changed (meta_kept new).limit) (sym (only x left))
+              ImageStandsFor y changed (meta_kept new).bounds) (sym (only x left))
               turns.done.stands);
           survives = λ usable. survives_change (MayBeLeft before (handle_of new changed) call)
-              (inl refl) (inr (inl refl)) turns.any_moment;
+              (inl refl) (inr (inl (ap (λ (b : Bounds). record { map = changed; bounds = b })
+              (sym (ended.ends.bounds ∙ still_bounds s old mid asked.read))))) turns.any_moment;
         }
 
     -- `counts` is the store's law `counts_now`
@@ -203,11 +210,11 @@ module _ {S : Type 0} (s : Ghosts S) {old mid : Database S s} {map changed : Con
 
       -- the store is as usable as before
       module _ (same : (page_state new).usable ≡ (page_state old).usable)
-          (opens : e ≡ page.Memory → (said ≡ model.Stored) × OpensBucket before changed) where
+          (takes : e ≡ page.Memory → takes_memory before call ≡ true) where
         state_is : after.state ≡ flagged (fault_of (fault_from e)) before.state
         state_is = flagged_is s old new map (fault_from e)
             (ended.pass_is ∙ asked.read.pass_is)
-            (ended.ends.limit ∙ still_limit s old mid asked.read)
+            (ended.ends.bounds ∙ still_bounds s old mid asked.read)
             (ended.error_is ∙ asked.read.error_is)
             (forgotten_writable (page_state mid) (page_state new) e ended.ends.err.0
             ∙ still_writable s old mid asked.read) same
@@ -221,7 +228,7 @@ module _ {S : Type 0} (s : Ghosts S) {old mid : Database S s} {map changed : Con
 
         suffers : (e ≡ page.Broken) ⊎ ((e ≡ page.Memory)
             ⊎ ((e ≡ page.NoRoom) ⊎ ((e ≡ page.Damaged) ⊎ (e ≡ page.Device))))
-            → Suffers before (Changes said changed) reply after
+            → Suffers before call (Changes said (with_map before.state changed)) reply after
         suffers (inl is) = let broken = ended.ends.answer.broken (ap Err is) in let was =
             mid_usable in absurd (cc)
         suffers (inr (inl is)) = inr (inr
@@ -229,8 +236,7 @@ module _ {S : Type 0} (s : Ghosts S) {old mid : Database S s} {map changed : Con
               ap (λ (f : PageFault). model.Refused (fault_of (fault_from f))) is,
               state_is ∙ ap (λ (f : PageFault).
                   flagged (fault_of (fault_from f)) before.state) is,
-              (opens is).0,
-              (opens is).1,
+              takes is,
             )))
         suffers (inr (inr (inl is))) =
             inr (inr (inr (
@@ -254,8 +260,8 @@ module _ {S : Type 0} (s : Ghosts S) {old mid : Database S s} {map changed : Con
             let pages = sym (turns.kept is) in
             let m = sym ended.ends.err.1 in
             record {
-              stands = subst (λ (n : Meta). FileStandsFor (s.committed (store_of new)) map n.limit)
-                  m (subst (λ (ps : Pages). FileStandsFor ps map (meta_kept mid).limit) pages
+              stands = subst (λ (n : Meta). FileStandsFor (s.committed (store_of new)) map n.bounds)
+                  m (subst (λ (ps : Pages). FileStandsFor ps map (meta_kept mid).bounds) pages
                   mid_holds.stands);
               meta_is = subst (λ (n : Meta).
                   said_by (page_of (s.committed (store_of new))) 1 ≡ MetaPage n) m
@@ -264,10 +270,10 @@ module _ {S : Type 0} (s : Ghosts S) {old mid : Database S s} {map changed : Con
             }
 
         rests_on : (page_state new).usable ≡ true → (x : Settled) → s.settles_to (store_of new) x
-            → ImageStandsFor x map (meta_kept new).limit
+            → ImageStandsFor x map (meta_kept new).bounds
         rests_on is x left =
             let run = turns.unchanged is in
-            subst (λ (n : ℕ). ImageStandsFor x map n) (sym ended.ends.limit)
+            subst (λ (n : Bounds). ImageStandsFor x map n) (sym ended.ends.bounds)
             (run.each x (counts (s.moment (store_of mid)).at x run.later left))
 
         unchanged_step : IsStep old (with_fault new (fault_from e)) before call reply
@@ -279,19 +285,19 @@ module _ {S : Type 0} (s : Ghosts S) {old mid : Database S s} {map changed : Con
             pages = no_more_pages before after reply room_is.1;
             bounded = inl room_is.1;
             buckets = no_more_buckets before after reply (len map) after_buckets refl;
-            answers = inr (subst (λ (c : Case). Suffers before c reply after) (sym asked.falls)
+            answers = inr (subst (λ (c : Case). Suffers before call c reply after) (sym asked.falls)
                 (suffers ended.ends.answer.only));
           };
           is_at = at_own (with_fault new (fault_from e)) map (λ is. holds_on is)
               (λ is. rests_on is);
           survives = λ was.
               followed_by s.moment s.settled_since (store_of old) (store_of mid) (store_of new)
-              (StandsForSome (MayBeLeft before after call) (meta_kept old).limit)
-              (λ x. ImageStandsFor x map (meta_kept mid).limit)
+              (StandsForSome (MayBeLeft before after call))
+              (λ x. ImageStandsFor x map (meta_kept mid).bounds)
               (still_survives s old mid map asked.read asked.honest asked.rests
               (MayBeLeft before after call) (inl refl))
               (turns.unchanged (same ∙ asked.usable))
-              (λ x is. (map, inl refl, stands_still x map is));
+              (λ x is. (held_by before.state, inl refl, stands_still x map is));
         }
 
       -- the device broke it
@@ -305,16 +311,16 @@ module _ {S : Type 0} (s : Ghosts S) {old mid : Database S s} {map changed : Con
           pages = no_more_pages before after reply room_is.1;
           bounded = inl room_is.1;
           buckets = no_more_buckets before after reply (len map) after_buckets refl;
-          answers = inr (subst (λ (c : Case). Suffers before c reply after)
+          answers = inr (subst (λ (c : Case). Suffers before call c reply after)
               (sym asked.falls) (inr (inl (
                 ap (λ (f : PageFault). model.Refused (fault_of (fault_from f))) is,
                 more_later _ _ _ asked.read.reads.stages_only.later
                     (ended.ends.cause.fault (ap Err is)),
-                map,
+                before.state,
                 inl refl,
                 same_parts map _ _ _ _ _ _ _ _ _ _
                     (ap model_pass (ended.pass_is ∙ asked.read.pass_is))
-                    (ended.ends.limit ∙ still_limit s old mid asked.read)
+                    (ended.ends.bounds ∙ still_bounds s old mid asked.read)
                     (error_is ∙ ap (λ (f : PageFault).
                     first_fault (error_of old) (fault_of (fault_from f))) is)
                     (forgotten_writable (page_state mid) (page_state new) e ended.ends.err.0
@@ -324,14 +330,15 @@ module _ {S : Type 0} (s : Ghosts S) {old mid : Database S s} {map changed : Con
         is_at = at_own (with_fault new (fault_from e)) map (λ now. absurd (let x = now in cc))
             (λ now. absurd (let x = now in cc));
         survives = λ was. survives_change (MayBeLeft before after call) (inl refl)
-            (inr (inr (broken, (said, asked.falls)))) turns.any_moment;
+            (inr (inr (broken, (said, with_map before.state changed, asked.falls, refl))))
+            turns.any_moment;
       }
 
-      pub refused_step : (e ≡ page.Memory → (said ≡ model.Stored) × OpensBucket before changed)
+      pub refused_step : (e ≡ page.Memory → takes_memory before call ≡ true)
           → IsStep old (with_fault new (fault_from e)) before call reply
-      refused_step opens = ⊎_elim (λ same.
+      refused_step takes = ⊎_elim (λ same.
           unchanged_step (ap (λ (st : store.StoreState). st.usable) same
-          ∙ still_usable s old mid asked.read) opens)
+          ∙ still_usable s old mid asked.read) takes)
           (λ broke. broken_step broke.0 (ap (λ (st : store.StoreState). st.usable) broke.1))
           ended.ends.err.0
 
@@ -388,7 +395,7 @@ module _ {S : Type 0} (s : Ghosts S) (old mid new : Database S s) (read : IsRead
         goes = record {
           honesty = both_ways ended.ends.honesty read.reads.stages_only.honesty;
           later = omega (arith, read.reads.stages_only.later, ended.ends.cause.later);
-          limit = ended.ends.limit ∙ still_limit s old mid read;
+          bounds = ended.ends.bounds ∙ still_bounds s old mid read;
           capacity = was.capacity;
           writable = forgotten_writable (page_state mid) (page_state new) e ended.ends.err.0
               ∙ still_writable s old mid read;

@@ -35,7 +35,7 @@ use Rattle.dbm_file.specs.declared.database.Database.{Database}
 use Rattle.dbm_file.proofs.ChangeSteps.{IsDone, told_device, told_broken}
 use Rattle.dbm_file.proofs.Lends.{kept_error}
 use Rattle.dbm_file.proofs.Refused.{IsOfChange, told_other, told_by, told_is, told_memory, told_no_value, among_store, among_delete, not_read_only, never_too_long}
-use Rattle.dbm_file.proofs.ReadSteps.{broken_keeps, read_keeps, refused_keeps, still_meta, still_limit, still_writable, still_usable}
+use Rattle.dbm_file.proofs.ReadSteps.{broken_keeps, read_keeps, refused_keeps, still_meta, still_bounds, still_writable, still_usable}
 
 -- neither of two things holds, or both do
 neither : {A B : Type 0} → (A → ⊥) → (B → ⊥) → A ↔ B
@@ -296,7 +296,7 @@ module _ {S : Type 0} {s : Ghosts S} where
           goes = record {
             honesty = k.goes.honesty;
             later = k.goes.later;
-            limit = k.goes.limit;
+            bounds = k.goes.bounds;
             capacity = k.goes.capacity;
             writable = k.goes.writable;
             base = k.goes.base;
@@ -356,7 +356,7 @@ module _ {S : Type 0} {s : Ghosts S} where
     goes = record {
       honesty = both_ways done.ends.honesty read.reads.stages_only.honesty;
       later = omega (arith, read.reads.stages_only.later, done.ends.cause.later);
-      limit = done.ends.limit ∙ still_limit s old mid read;
+      bounds = done.ends.bounds ∙ still_bounds s old mid read;
       capacity = ap (λ (st : StoreState). st.capacity) done.ends.ok
           ∙ ap (λ (st : StoreState). st.capacity) read.reads.same;
       writable = ap (λ (st : StoreState). st.writable) done.ends.ok ∙ still_writable s old mid read;

@@ -101,7 +101,7 @@ fetched_well s old new key found read usable is = record {
       from_own at (found_step s old new map (model.Fetch key) read honest (at.map usable)
       (at.rests usable) (lent_reply model.NoRecord (Ok found))
       (fetch_opens_none (handle_of old map) (len map) found)
-      (fetch_rule (handle_of old map).state key (option_map (λ b. b.now) found) usable
+      (fetch_rule (handle_of old map) key (option_map (λ b. b.now) found) usable
       (sym (is honest map (at.map usable))) ∙ finds found));
   keeps = read_keeps s old new read usable found;
   stands = ap model_pass read.pass_is;
@@ -128,13 +128,13 @@ module _ {S : Type 0} (s : Ghosts S) (db : Database S s) (key : Key)
       (subst (λ (f : Fault). IsFetched old key (Err f) (with_fault db f)) (sym told_so) record {
         step = λ honest h at.
             let map = h.state.map in
-            let falls = fetch_rule (handle_of old map).state key (get map key) usable refl in
+            let falls = fetch_rule (handle_of old map) key (get map key) usable refl in
             from_own at (walk_failed_step s old db map (model.Fetch key) read honest
             (at.map usable) (at.rests usable) (Option Place) e usable
             answer cause (whole honest map (at.map usable))
             (λ reply after fails. subst (λ (rule : Case).
-            Suffers (handle_of old map) rule reply after) (sym falls)
-            (fetch_fails (handle_of old map) reply after fails (get map key))));
+            Suffers (handle_of old map) (model.Fetch key) rule reply after) (sym falls)
+            (fetch_fails (handle_of old map) (model.Fetch key) reply after fails (get map key))));
         keeps = refused_keeps s old db read usable (Option (Bor (List ℕ))) (fault_from e)
             (walk_more s old db e answer cause) (walk_sound s old e usable answer);
         stands = tt;

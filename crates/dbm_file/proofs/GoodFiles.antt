@@ -2,8 +2,9 @@
 use Rattle.std.proofs.Common.{◌≡◌, ℕ, ◌+◌, [], length, Result, Err, IsErrAnd, refl, sym, ap, ◌∙◌, subst}
 use Rattle.std.proofs.lemmas.Result.{err_from_is_err_and}
 use Rattle.std.specs.FinMap.{len}
+use Rattle.dbm_model.specs.Bounds.{Bounds}
 use Rattle.dbm_model.specs.Pairs.{Contents, contents_of}
-use Rattle.page_model.specs.Placement.{pairs_of}
+use Rattle.page_model.specs.Placement.{pairs_of, contents}
 use Rattle.page_model.specs.Meaning.{said_by, flat_pairs}
 use Rattle.page_model.specs.Pages.{Body, Meta}
 use Rattle.page_model.proofs.Flat.{flat_is_contents}
@@ -25,16 +26,20 @@ use Rattle.dbm_file.specs.Database.{store_of}
 use Rattle.dbm_file.specs.Verifying.{IsFileOf, StandsWith}
 use Rattle.dbm_file.specs.declared.database.Database.{Database}
 
--- the map of a file has as many keys as its placement has pairs
-many_of : (pages : Pages) (map : Contents) (limit : ℕ) (stands : FileStandsFor pages map limit)
-    → len map ≡ length (pairs_of stands.placement)
-many_of pages map limit stands =
+-- the map of a file is that of its placement
+pub contents_are : (pages : Pages) (map : Contents) (bounds : Bounds)
+    (stands : FileStandsFor pages map bounds) → contents stands.placement ≡ map
+contents_are pages map bounds stands =
     let at = said_by (page_of pages) in
-    let p = stands.placement in
-    ap (λ (m : Contents). len m) (sym stands.holds)
-    ∙ ap (λ (end : ℕ). len (contents_of (flat_pairs at end))) (sym stands.ends)
-    ∙ ap (λ (m : Contents). len m) (flat_is_contents p at stands.good.sound stands.spelled)
-    ∙ counts_keys p stands.good.sound
+    sym (flat_is_contents stands.placement at stands.good.sound stands.spelled)
+    ∙ ap (λ (end : ℕ). contents_of (flat_pairs at end)) stands.ends ∙ stands.holds
+
+-- it has as many keys as the placement has pairs
+many_of : (pages : Pages) (map : Contents) (bounds : Bounds) (stands : FileStandsFor pages map bounds)
+    → len map ≡ length (pairs_of stands.placement)
+many_of pages map bounds stands =
+    ap (λ (m : Contents). len m) (sym (contents_are pages map bounds stands))
+    ∙ counts_keys stands.placement stands.good.sound
 
 module _ (pages : Pages) (pairs : ℕ) where
   pub file_of_good : IsGoodFile (said_by (page_of pages)) (length pages + 1) pairs
@@ -42,17 +47,17 @@ module _ (pages : Pages) (pairs : ℕ) where
   file_of_good file =
       let at = said_by (page_of pages) in
       let stands : FileStandsFor pages (contents_of (flat_pairs at (length pages + 1)))
-      file.placement.limit = record {
+      file.placement.bounds = record {
         placement = file.placement;
         good = file.good;
         spelled = file.spelled;
         ends = file.ends;
-        limited = refl;
+        bounded = refl;
         holds = refl;
       } in
       record {
         map = contents_of (flat_pairs at (length pages + 1));
-        limit = file.placement.limit;
+        bounds = file.placement.bounds;
         stands = stands;
         many = many_of pages _ _ stands ∙ file.counted;
       }
@@ -64,15 +69,15 @@ module _ (pages : Pages) (pairs : ℕ) where
     good = file.stands.good;
     spelled = file.stands.spelled;
     ends = file.stands.ends;
-    counted = sym (many_of pages file.map file.limit file.stands) ∙ file.many;
+    counted = sym (many_of pages file.map file.bounds file.stands) ∙ file.many;
   }
 
   -- its pairs are those of the map that it stands for
-  pub pairs_of_map : (map : Contents) (limit : ℕ) → FileStandsFor pages map limit
+  pub pairs_of_map : (map : Contents) (bounds : Bounds) → FileStandsFor pages map bounds
       → IsFileOf pages pairs → pairs ≡ len map
-  pairs_of_map map limit stands file =
+  pairs_of_map map bounds stands file =
       sym file.many ∙ ap (λ (m : Contents). len m)
-      (one_meaning (said_by (page_of pages)) (length pages + 1) file.map map file.limit limit
+      (one_meaning (said_by (page_of pages)) (length pages + 1) file.map map file.bounds bounds
       file.stands stands).0
 
 -- of a store with nothing staged; `ends` is its law
@@ -97,7 +102,7 @@ pub held_file : {S : Type 0} (s : Ghosts S) (store : S) (m : Meta) (map : Conten
     → Holds s store m map → IsFileOf (s.committed store) (len map)
 held_file s store m map held = record {
   map = map;
-  limit = m.limit;
+  bounds = m.bounds;
   stands = held.stands;
   many = refl;
 }
@@ -125,8 +130,8 @@ pub stands_with : {S : Type 0} (s : Ghosts S) (old new : Database S s) (pairs : 
     → StandsWith new pairs
 stands_with s old new pairs reads honest file only = record {
   map = file.map;
-  limit = file.limit;
+  bounds = file.bounds;
   many = file.many;
-  stands = λ y left. subst (λ (z : Settled). ImageStandsFor z file.map file.limit)
+  stands = λ y left. subst (λ (z : Settled). ImageStandsFor z file.map file.bounds)
       (sym (only y left ∙ ap file_of (reads.stages_only.kept honest).committed)) file.stands;
 }

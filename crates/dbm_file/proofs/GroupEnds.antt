@@ -2,13 +2,14 @@
 use Rattle.std.proofs.Common.{◌≡◌, ◌⊎◌, inl, inr, ⊎_elim, ℕ, ◌≤◌, List, [], take, map, true, false, cond, is_some, Option, Some, Result, Ok, Err, refl, sym, ◌∙◌, ap, subst, arith}
 use Rattle.std.specs.Option.{option_map}
 use Rattle.std.specs.Prelude.{IsErrAnd}
+use Rattle.dbm_model.specs.Bounds.{Bounds}
 use Rattle.sect_dev.specs.Device.{LeavesOnly, MoreFaults}
 use Rattle.sect_dev.specs.Moments.{followed_by}
 use Rattle.dbm_model.specs.Calls as model
 use Rattle.dbm_model.specs.Changes.{replacing, with_pairs}
 use Rattle.dbm_model.specs.Pairs.{Pair, Contents}
 use Rattle.dbm_model.specs.States.{State, Handle, flagged}
-use Rattle.dbm_model.specs.Steps.{Run}
+use Rattle.dbm_model.specs.Steps.{with_map, Run}
 use Rattle.page_model.specs.Meaning.{said_by}
 use Rattle.page_model.specs.Pages.{Meta, MetaPage}
 use Rattle.page_model.specs.Valid.{IsMeta, meta_buckets}
@@ -20,6 +21,7 @@ use Rattle.page_commit.specs.Committing.{Holds}
 use Rattle.dbm_fault.specs.Faults.{fault_of, fault_from}
 use Rattle.dbm_fault.specs.declared.fault.Fault.{Fault}
 use Rattle.dbm_fault.specs.declared.fault.Fault.TheVariants.{Device, Broken}
+use Rattle.dbm_file.specs.Held.{Held, held_by}
 use Rattle.dbm_file.specs.Answers.{StandsForSome, Survives}
 use Rattle.dbm_file.specs.Database.{store_of, meta_kept, page_state, handle_of, IsAt}
 use Rattle.dbm_file.specs.Grouping.{handle_in, IsAlike, HasStored}
@@ -27,8 +29,9 @@ use Rattle.dbm_file.specs.Groups.{IsGroup, IsGroupRefused, GroupEnds}
 use Rattle.dbm_file.specs.Passing.{pass_of}
 use Rattle.dbm_file.specs.Trying.{with_fault, with_error_of, IsRead}
 use Rattle.dbm_file.specs.declared.database.Database.{Database}
+use Rattle.dbm_file.proofs.Breaks.{bounds_shown, held_shown}
 use Rattle.dbm_file.proofs.Lends.{kept_error}
-use Rattle.dbm_file.proofs.ReadSteps.{same_parts, at_own, kept_first, same_state, flagged_is, still_limit, still_buckets, still_capacity, still_end, still_writable, still_usable, still_holds, still_rests, still_survives}
+use Rattle.dbm_file.proofs.ReadSteps.{same_parts, at_own, kept_first, same_state, flagged_is, still_bounds, still_buckets, still_capacity, still_end, still_writable, still_usable, still_holds, still_rests, still_survives}
 
 -- handles with equal parts
 same_handles : (h k : Handle) → h.state ≡ k.state → h.faults ≡ k.faults → h.pages ≡ k.pages
@@ -99,14 +102,14 @@ pub group_at : {S G : Type 0} (s : Ghosts S) (g : Ghosts G) (db : Database S s)
     → IsAt group (handle_of group h.state.map)
 group_at s g db group h at usable committed meta only =
     at_own group h.state.map (λ u. holds) (λ u x left.
-    subst (λ (y : Settled). ImageStandsFor y h.state.map (meta_kept group).limit)
+    subst (λ (y : Settled). ImageStandsFor y h.state.map (meta_kept group).bounds)
     (sym (only x left)) holds.stands)
   where
     holds : Holds g (store_of group) (meta_kept group) h.state.map
     holds = record {
-      stands = subst (λ (m : Meta). FileStandsFor (g.committed (store_of group)) h.state.map m.limit)
+      stands = subst (λ (m : Meta). FileStandsFor (g.committed (store_of group)) h.state.map m.bounds)
           (sym meta) (subst (λ (ps : Pages).
-          FileStandsFor ps h.state.map (meta_kept db).limit) (sym committed)
+          FileStandsFor ps h.state.map (meta_kept db).bounds) (sym committed)
           (at.map usable).stands);
       meta_is = subst (λ (m : Meta).
           said_by (page_of (g.committed (store_of group))) 1 ≡ MetaPage m) (sym meta)
@@ -126,7 +129,7 @@ module _ {S : Type 0} (s : Ghosts S) (old new : Database S s) (h : Handle) (at :
   module _ (read : IsRead old new) where
     same_again : handle_of new contents ≡ record h { faults = now }
     same_again = same_handles (handle_of new contents) (record h { faults = now })
-        (same_state s old new contents read.pass_is (still_limit s old new read) read.error_is
+        (same_state s old new contents read.pass_is (still_bounds s old new read) read.error_is
         (still_writable s old new read) (still_usable s old new read)
         ∙ ap (λ (x : Handle). x.state) (sym at.shows))
         refl
@@ -153,7 +156,8 @@ module _ {S : Type 0} (s : Ghosts S) (old new : Database S s) (h : Handle) (at :
       run = same_again;
       is_at = is_still_at;
       survives = λ u. still_survives s old new contents read honest (at.rests usable)
-          (λ left. (left ≡ contents) ⊎ (left ≡ contents)) (inl refl);
+          (λ left. (left ≡ held_by h.state) ⊎ (left ≡ held_by (handle_of new contents).state))
+          (inl (held_shown old h at));
     }
 
     -- they were refused, and nothing has changed
@@ -163,15 +167,16 @@ module _ {S : Type 0} (s : Ghosts S) (old new : Database S s) (h : Handle) (at :
       after = handle_of (with_fault new fault) contents;
       count = 0;
       counts = faults_rise;
-      ends = inl (flagged_is s old new contents fault read.pass_is (still_limit s old new read)
+      ends = inl (flagged_is s old new contents fault read.pass_is (still_bounds s old new read)
           read.error_is (still_writable s old new read) (still_usable s old new read)
           ∙ ap (λ (x : Handle). flagged (fault_of fault) x.state) (sym at.shows));
       is_at = at_own (with_fault new fault) contents
           (λ u. still_holds s old new contents read honest (at.map usable))
           (λ u. still_rests s old new contents read honest (at.rests usable));
       survives = λ u. still_survives s old new contents read honest (at.rests usable)
-          (λ left. (left ≡ contents) ⊎ (((page_state new).usable ≡ false)
-          × (left ≡ with_pairs contents (take 0 pairs)))) (inl refl);
+          (λ left. (left ≡ held_by h.state) ⊎ (((page_state new).usable ≡ false)
+          × (left ≡ held_by (with_map h.state (with_pairs contents (take 0 pairs))))))
+          (inl (held_shown old h at));
     }
 
 -- what a commit leaves where it follows reads
@@ -193,7 +198,7 @@ module _ {S G : Type 0} (s : Ghosts S) (g : Ghosts G) (old mid new : Database S 
     (end : (page_state first).end ≡ (page_state old).end)
     (meta : meta_kept first ≡ meta_kept old)
     (capacity : (page_state first).capacity ≡ (page_state old).capacity)
-    (limit : (meta_kept last).limit ≡ (meta_kept old).limit)
+    (bounds : (meta_kept last).bounds ≡ (meta_kept old).bounds)
     (done : IsCommitted s old mid new (g.committed (store_of last))) where
   abbrev before : Contents
   before = h.state.map
@@ -213,24 +218,27 @@ module _ {S G : Type 0} (s : Ghosts S) (g : Ghosts G) (old mid new : Database S 
   -- each image at any moment stands for the map before or the one after
   each_either : (x : Settled)
       → IsEither (s.committed (store_of mid)) (g.committed (store_of last)) x
-      → ImageStandsFor x before (meta_kept old).limit
-      ⊎ ImageStandsFor x grouped (meta_kept old).limit
+      → ImageStandsFor x before h.state.bounds ⊎ ImageStandsFor x grouped h.state.bounds
   each_either x (inl is) = inl (subst (λ (y : Settled).
-      ImageStandsFor y before (meta_kept old).limit) (sym is)
-      (subst (λ (n : ℕ). FileStandsFor (s.committed (store_of mid)) before n)
-      (still_limit s old mid done.read) mid_holds.stands))
+      ImageStandsFor y before h.state.bounds) (sym is)
+      (subst (λ (n : Bounds). FileStandsFor (s.committed (store_of mid)) before n)
+      (still_bounds s old mid done.read ∙ sym (bounds_shown old h at)) mid_holds.stands))
   each_either x (inr is) = inr (subst (λ (y : Settled).
-      ImageStandsFor y grouped (meta_kept old).limit) (sym is)
-      (subst (λ (n : ℕ). FileStandsFor (g.committed (store_of last)) grouped n) limit held.stands))
+      ImageStandsFor y grouped h.state.bounds) (sym is)
+      (subst (λ (n : Bounds). FileStandsFor (g.committed (store_of last)) grouped n)
+      (bounds ∙ sym (bounds_shown old h at)) held.stands))
 
-  survives_so : (Left : Contents → Type 0) → Left before → Left grouped → Survives old new Left
+  survives_so : (Left : Held → Type 0) → Left (held_by h.state)
+      → Left (held_by (with_map h.state grouped)) → Survives old new Left
   survives_so Left left also =
       followed_by s.moment s.settled_since (store_of old) (store_of mid) (store_of new)
-      (StandsForSome Left (meta_kept old).limit)
+      (StandsForSome Left)
       (IsEither (s.committed (store_of mid)) (g.committed (store_of last)))
-      (still_survives s old mid before done.read honest (at.rests usable) Left left)
+      (still_survives s old mid before done.read honest (at.rests usable) Left
+      (subst Left (sym (held_shown old h at)) left))
       done.any_moment
-      (λ x is. ⊎_elim (λ stands. (before, left, stands)) (λ stands. (grouped, also, stands))
+      (λ x is. ⊎_elim (λ stands. (held_by h.state, left, stands))
+      (λ stands. (held_by (with_map h.state grouped), also, stands))
       (each_either x is))
 
   faults_so : h.faults ≤ rises
@@ -251,7 +259,7 @@ module _ {S G : Type 0} (s : Ghosts S) (g : Ghosts G) (old mid new : Database S 
   alike = record {
     usable = ap (λ (x : Handle). x.state.usable) at.shows ∙ usable;
     writable = ap (λ (x : Handle). x.state.writable) at.shows ∙ writable;
-    limit = ap (λ (x : Handle). x.state.limit) at.shows ∙ sym (ap (λ (m : Meta). m.limit) meta);
+    bounds = ap (λ (x : Handle). x.state.bounds) at.shows ∙ sym (ap (λ (m : Meta). m.bounds) meta);
     capacity = ap (λ (x : Handle). x.capacity) at.shows ∙ sym capacity;
   }
 
@@ -266,14 +274,14 @@ module _ {S G : Type 0} (s : Ghosts S) (g : Ghosts G) (old mid new : Database S 
       (committed : s.committed (store_of new) ≡ g.committed (store_of last))
       (only : (x : Settled) → s.settles_to (store_of new) x
       → x ≡ file_of (s.committed (store_of new))) where
-    new_limit : (meta_kept new).limit ≡ (meta_kept old).limit
-    new_limit = ap (λ (m : Meta). m.limit) meta_is ∙ limit
+    new_bounds : (meta_kept new).bounds ≡ (meta_kept old).bounds
+    new_bounds = ap (λ (m : Meta). m.bounds) meta_is ∙ bounds
 
     ends_so : handle_in h rises last grouped ≡ handle_of new grouped
     ends_so = same_handles (handle_in h rises last grouped) (handle_of new grouped)
         (ap (λ (x : Handle). record x.state { map = grouped }) at.shows
         ∙ sym (same_parts grouped _ _ _ _ _ _ _ _ _ _
-        (ap (λ p. pass_of (record old { pass = p })) done.pass_is) new_limit
+        (ap (λ p. pass_of (record old { pass = p })) done.pass_is) new_bounds
         (ap (λ (e : Option Fault). option_map fault_of e) done.error_is)
         (ap (λ (st : StoreState). st.writable) state)
         (ap (λ (st : StoreState). st.usable) state)))
@@ -284,8 +292,8 @@ module _ {S G : Type 0} (s : Ghosts S) (g : Ghosts G) (old mid new : Database S 
 
     holds_so : Holds s (store_of new) (meta_kept new) grouped
     holds_so = record {
-      stands = subst (λ (m : Meta). FileStandsFor (s.committed (store_of new)) grouped m.limit)
-          (sym meta_is) (subst (λ (ps : Pages). FileStandsFor ps grouped (meta_kept last).limit)
+      stands = subst (λ (m : Meta). FileStandsFor (s.committed (store_of new)) grouped m.bounds)
+          (sym meta_is) (subst (λ (ps : Pages). FileStandsFor ps grouped (meta_kept last).bounds)
           (sym committed) held.stands);
       meta_is = subst (λ (m : Meta).
           said_by (page_of (s.committed (store_of new))) 1 ≡ MetaPage m) (sym meta_is)
@@ -301,16 +309,17 @@ module _ {S G : Type 0} (s : Ghosts S) (g : Ghosts G) (old mid new : Database S 
       run = subst (λ (x : Handle). Run (record h { faults = rises }) (map replacing pairs)
           (map (λ _. model.Stored) pairs) x) ends_so stored_so;
       is_at = at_own new grouped (λ u. holds_so)
-          (λ u x left. subst (λ (y : Settled). ImageStandsFor y grouped (meta_kept new).limit)
+          (λ u x left. subst (λ (y : Settled). ImageStandsFor y grouped (meta_kept new).bounds)
           (sym (only x left)) holds_so.stands);
-      survives = λ u. survives_so (λ left. (left ≡ before) ⊎ (left ≡ grouped)) (inl refl)
-          (inr refl);
+      survives = λ u. survives_so (λ left. (left ≡ held_by h.state)
+          ⊎ (left ≡ held_by (handle_of new grouped).state)) (inl refl)
+          (inr (ap (λ (x : Handle). held_by x.state) ends_so));
     }
 
   -- the device broke the database in their commit
   module _ (more : MoreFaults (s.faults (store_of old)) (s.faults (store_of new)))
       (broken : (page_state new).usable ≡ false)
-      (same_limit : (meta_kept new).limit ≡ (meta_kept old).limit)
+      (same_bounds : (meta_kept new).bounds ≡ (meta_kept old).bounds)
       (same_writable : (page_state new).writable ≡ (page_state old).writable) where
     abbrev told : Database S s
     told = with_fault new Device
@@ -318,7 +327,7 @@ module _ {S G : Type 0} (s : Ghosts S) (g : Ghosts G) (old mid new : Database S 
     state_so : (handle_of told before).state
         ≡ record (flagged model.Device h.state) { map = before; usable = false }
     state_so = same_parts before _ _ _ _ _ _ _ _ _ _
-        (ap (λ p. pass_of (record old { pass = p })) done.pass_is) same_limit
+        (ap (λ p. pass_of (record old { pass = p })) done.pass_is) same_bounds
         (ap (λ (e : Option Fault). option_map fault_of (cond (is_some e) e (Some Device)))
         done.error_is ∙ kept_first old.error Device) same_writable broken
         ∙ ap (λ (x : Handle). record (flagged model.Device x.state) { map = before; usable = false })
@@ -336,7 +345,7 @@ module _ {S G : Type 0} (s : Ghosts S) (g : Ghosts G) (old mid new : Database S 
               refl,
               subst (λ (n : ℕ). MoreFaults n (s.faults (store_of new)))
                   (ap (λ (x : Handle). x.faults) (sym at.shows)) more,
-              before,
+              h.state,
               inl refl,
               state_so,
             );
@@ -348,8 +357,12 @@ module _ {S G : Type 0} (s : Ghosts S) (g : Ghosts G) (old mid new : Database S 
           };
           is_at = at_own told before (λ u. absurd (let e = sym broken ∙ u in cc))
               (λ u. absurd (let e = sym broken ∙ u in cc));
-          survives = λ u. survives_so (λ left. (left ≡ before)
+          survives = λ u. survives_so (λ left. (left ≡ held_by h.state)
               ⊎ (((page_state new).usable ≡ false)
-              × (left ≡ with_pairs before (take count all)))) (inl refl)
-              (inr (broken, ap (with_pairs before) is));
+              × (left ≡ held_by (with_map h.state (with_pairs before (take count all)))))) (inl refl)
+              (inr (
+                broken,
+                ap (λ (ps : List Pair). held_by (with_map h.state (with_pairs before ps)))
+                    is,
+              ));
         }

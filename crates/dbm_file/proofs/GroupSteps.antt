@@ -3,12 +3,13 @@ use Rattle.std.proofs.Common.{◌≡◌, ◌⊎◌, inl, inr, ⊎_elim, ℕ, ◌
 use Rattle.std.specs.Prelude.{nat_le}
 use Rattle.std.specs.FinMap.{get, insert, len}
 use Rattle.std.proofs.lemmas.List.{map-append}
+use Rattle.dbm_model.specs.Bounds.{Bounds}
 use Rattle.dbm_model.specs.Calls as model
 use Rattle.dbm_model.specs.Changes.{replacing, with_pairs}
-use Rattle.dbm_model.specs.Pairs.{Pair, Contents}
-use Rattle.dbm_model.specs.Sizes.{home}
+use Rattle.dbm_model.specs.Pairs.{Pair, Contents, is_allowed}
+use Rattle.dbm_model.specs.Sizes.{home, most_taken}
 use Rattle.dbm_model.specs.States.{State, Handle}
-use Rattle.dbm_model.specs.Steps.{Case, Tells, Refuses, Declines, Finds, Passes, Changes, stored, case_of, Answers, Suffers, Step, Run}
+use Rattle.dbm_model.specs.Steps.{Case, Tells, Refuses, Declines, Finds, Passes, Changes, stored, with_map, case_of, Answers, Suffers, Step, Run}
 use Rattle.dbm_model.proofs.CaseLemmas.{map_of_usable}
 use Rattle.dbm_model.proofs.Runs.{run-push}
 use Rattle.page_model.specs.Valid.{meta_buckets}
@@ -26,22 +27,24 @@ use Rattle.dbm_file.specs.declared.calls.StoreReply.TheVariants.{Kept}
 use Rattle.dbm_file.specs.declared.calls.StoreReply.TheVariants as done
 use Rattle.dbm_file.specs.declared.database.Database.{Database}
 use Rattle.dbm_file.proofs.Cases.{by_length}
-use Rattle.dbm_file.proofs.ReadSteps.{at_own, still_capacity, still_limit}
+use Rattle.dbm_file.proofs.ReadSteps.{at_own, still_capacity, still_bounds}
 
 -- a store that was acknowledged changed the map
+abbrev inserted : State → List ℕ → List ℕ → State
+inserted s key content = with_map s (insert s.map key content)
+
 module _ (s : State) (key content : List ℕ) (after : State) where
   abbrev IsChange : Case → Type 0
-  IsChange c = (c ≡ Changes model.Stored (insert s.map key content))
-      × (after ≡ record s { map = insert s.map key content })
+  IsChange c = (c ≡ Changes model.Stored (inserted s key content)) × (after ≡ inserted s key content)
 
-  by_old : (old : Option (List ℕ)) → Answers s (stored s key content model.Replace old) model.Stored after
+  by_old : (old : Option (List ℕ))
+      → Answers s (stored s key content model.Replace old) model.Stored after
       → IsChange (stored s key content model.Replace old)
   by_old (Some earlier) is = (refl, is.1)
-  by_old None is = elim (nat_le s.limit (len s.map)) as
+  by_old None is = elim (nat_le s.bounds.limit (len s.map)) as
       (λ b. Answers s (cond b (Declines model.Full)
-      (Changes model.Stored (insert s.map key content))) model.Stored after
-      → IsChange (cond b (Declines model.Full)
-      (Changes model.Stored (insert s.map key content)))) [
+      (Changes model.Stored (inserted s key content))) model.Stored after
+      → IsChange (cond b (Declines model.Full) (Changes model.Stored (inserted s key content)))) [
         | true ↦ λ full. absurd (let e = full.0 in cc)
         | false ↦ λ done. (refl, done.1)
       ] is
@@ -53,48 +56,75 @@ module _ (s : State) (key content : List ℕ) (after : State) where
   by_size true is = by_old (get s.map key) is
   by_size false is = absurd (let e = is.0 in cc)
 
-  changed : s.usable ≡ true → s.writable ≡ true
-      → Answers s (case_of s (model.Store key content model.Replace)) model.Stored after
-      → IsChange (case_of s (model.Store key content model.Replace))
-  changed usable writable is =
-      let rule = by_length s key content model.Replace usable writable in
-      subst IsChange (sym rule) (by_size (nat_le (length key + length content) 2026)
-      (subst (λ (c : Case). Answers s c model.Stored after) rule is))
+changed : (h : Handle) (key content : List ℕ) (after : State) → h.state.usable ≡ true
+    → h.state.writable ≡ true
+    → Answers h.state (case_of h (model.Store key content model.Replace)) model.Stored after
+    → IsChange h.state key content after (case_of h (model.Store key content model.Replace))
+changed h key content after usable writable is =
+    let rule = by_length h key content model.Replace usable writable in
+    subst (IsChange h.state key content after) (sym rule)
+    (by_size h.state key content after (is_allowed h.state.bounds.version (key, content))
+    (subst (λ (c : Case). Answers h.state c model.Stored after) rule is))
 
 -- it wasn't refused
-unrefused : (before : Handle) (c : Case) (after : Handle) → Suffers before c model.Stored after → ⊥
-unrefused before (Tells said told) after is = is
-unrefused before (Refuses fault) after is = is
-unrefused before (Declines fault) after is = let e = is.0 in cc
-unrefused before (Finds found) after is = let e = is.0 in cc
-unrefused before (Passes from) after is = let e = is.0 in cc
-unrefused before (Changes said contents) after (inl fails) = let e = fails.0 in cc
-unrefused before (Changes said contents) after (inr (inl breaks)) = let e = breaks.0 in cc
-unrefused before (Changes said contents) after (inr (inr (inl memory))) = let e = memory.0 in cc
-unrefused before (Changes said contents) after (inr (inr (inr room))) = let e = room.0 in cc
+unrefused : (before : Handle) (call : model.Call) (c : Case) (after : Handle)
+    → Suffers before call c model.Stored after → ⊥
+unrefused before call (Tells said told) after is = is
+unrefused before call (Refuses fault) after is = is
+unrefused before call (Declines fault) after is = let e = is.0 in cc
+unrefused before call (Finds found) after (inl fails) = let e = fails.0 in cc
+unrefused before call (Finds found) after (inr memory) = let e = memory.0 in cc
+unrefused before call (Passes from) after is = let e = is.0 in cc
+unrefused before call (Changes said next) after (inl fails) = let e = fails.0 in cc
+unrefused before call (Changes said next) after (inr (inl breaks)) = let e = breaks.0 in cc
+unrefused before call (Changes said next) after (inr (inr (inl memory))) = let e = memory.0 in cc
+unrefused before call (Changes said next) after (inr (inr (inr room))) = let e = room.0 in cc
 
--- the rule that it falls under depends on no error and no pass
-same_rule : (s t : State) (key content : List ℕ) (old : Option (List ℕ)) → t.map ≡ s.map
-    → t.limit ≡ s.limit
-    → stored t key content model.Replace old ≡ stored s key content model.Replace old
-same_rule s t key content (Some earlier) contents limit =
-    ap (λ (m : Contents). Changes model.Stored (insert m key content)) contents
-same_rule s t key content None contents limit =
-    ap (λ (m : Contents). cond (nat_le t.limit (len m)) (Declines model.Full)
-    (Changes model.Stored (insert m key content))) contents
-    ∙ ap (λ (n : ℕ). cond (nat_le n (len s.map)) (Declines model.Full)
-    (Changes model.Stored (insert s.map key content))) limit
+-- where it changes the map at one handle, it changes that at each with the same map and bounds
+module _ (h k : Handle) (key content : List ℕ) (map_is : k.state.map ≡ h.state.map)
+    (bounds_are : k.state.bounds ≡ h.state.bounds) (next : State) where
+  has_place : (b : Bool)
+      → cond b (Declines model.Full) (Changes model.Stored (inserted h.state key content))
+      ≡ Changes model.Stored next → b ≡ false
+  has_place true is = absurd (let e = is in cc)
+  has_place false is = refl
 
-same_case : (s t : State) (key content : List ℕ) → s.usable ≡ true → s.writable ≡ true
-    → t.usable ≡ true → t.writable ≡ true → t.map ≡ s.map → t.limit ≡ s.limit
-    → case_of t (model.Store key content model.Replace)
-    ≡ case_of s (model.Store key content model.Replace)
-same_case s t key content usable writable also too contents limit =
-    by_length t key content model.Replace also too
-    ∙ ap (λ (c : Case). cond (nat_le (length key + length content) 2026) c (Refuses model.TooLong))
-    (ap (λ (m : Contents). stored t key content model.Replace (get m key)) contents
-    ∙ same_rule s t key content (get s.map key) contents limit)
-    ∙ sym (by_length s key content model.Replace usable writable)
+  same_test : nat_le k.state.bounds.limit (len k.state.map)
+      ≡ nat_le h.state.bounds.limit (len h.state.map)
+  same_test = ap (λ (b : Bounds). nat_le b.limit (len k.state.map)) bounds_are
+      ∙ ap (λ (m : Contents). nat_le h.state.bounds.limit (len m)) map_is
+
+  same_rule : (old : Option (List ℕ))
+      → stored h.state key content model.Replace old ≡ Changes model.Stored next
+      → stored k.state key content model.Replace old
+      ≡ Changes model.Stored (inserted k.state key content)
+  same_rule (Some earlier) is = refl
+  same_rule None is =
+      ap (λ (b : Bool).
+      cond b (Declines model.Full) (Changes model.Stored (inserted k.state key content)))
+      (same_test ∙ has_place (nat_le h.state.bounds.limit (len h.state.map)) is)
+
+  allows : (b : Bool) (rule : Case)
+      → cond b rule (Refuses model.TooLong) ≡ Changes model.Stored next
+      → (b ≡ true) × (rule ≡ Changes model.Stored next)
+  allows true rule is = (refl, is)
+  allows false rule is = absurd (let e = is in cc)
+
+  same_case : h.state.usable ≡ true → h.state.writable ≡ true → k.state.usable ≡ true
+      → k.state.writable ≡ true
+      → case_of h (model.Store key content model.Replace) ≡ Changes model.Stored next
+      → case_of k (model.Store key content model.Replace)
+      ≡ Changes model.Stored (inserted k.state key content)
+  same_case usable writable also too is =
+      let found = allows (is_allowed h.state.bounds.version (key, content))
+      (stored h.state key content model.Replace (get h.state.map key))
+      (sym (by_length h key content model.Replace usable writable) ∙ is) in
+      by_length k key content model.Replace also too
+      ∙ ap (λ (b : Bool). cond b (stored k.state key content model.Replace (get k.state.map key))
+      (Refuses model.TooLong))
+      (ap (λ (b : Bounds). is_allowed b.version (key, content)) bounds_are ∙ found.0)
+      ∙ same_rule (get k.state.map key)
+      (ap (λ (x : Contents). stored h.state key content model.Replace (get x key)) map_is ∙ found.1)
 
 module _ {G : Type 0} {g : Ghosts G} (old new : Database G g) where
   -- the step of a store in the group, from a handle that is like the group's
@@ -111,11 +141,11 @@ module _ {G : Type 0} {g : Ghosts G} (old new : Database G g) where
     own_step : Step own (replacing pair) model.Stored left
     own_step = subst (λ (h : Handle). Step own (replacing pair) model.Stored h) is step
 
-    falls : case_of own.state (replacing pair)
-        ≡ Changes model.Stored (insert contents pair.0 pair.1)
+    falls : case_of own (replacing pair)
+        ≡ Changes model.Stored (inserted own.state pair.0 pair.1)
     falls = ⊎_elim
-        (λ answers. (changed own.state pair.0 pair.1 left.state usable writable answers).0)
-        (λ suffers. absurd (unrefused own (case_of own.state (replacing pair)) left suffers))
+        (λ answers. (changed own pair.0 pair.1 left.state usable writable answers).0)
+        (λ suffers. absurd (unrefused own (replacing pair) (case_of own (replacing pair)) left suffers))
         own_step.answers
 
     pub stored_step : (before : Handle) (faults : ℕ) → IsAlike before old
@@ -124,15 +154,17 @@ module _ {G : Type 0} {g : Ghosts G} (old new : Database G g) where
     stored_step before faults alike = record {
       counts = omega arith;
       capacity = refl;
-      pages = own_step.pages;
-      bounded = subst (λ (n : ℕ). ((page_state new).end ≡ (page_state old).end)
-          ⊎ ((page_state new).end ≤ home n)) (sym alike.limit) own_step.bounded;
+      pages = subst (λ (b : Bounds). ((page_state old).end ≤ (page_state new).end)
+          × ((page_state new).end ≤ (page_state old).end + (len contents + most_taken b.version)))
+          (sym alike.bounds) own_step.pages;
+      bounded = subst (λ (n : Bounds). ((page_state new).end ≡ (page_state old).end)
+          ⊎ ((page_state new).end ≤ home n)) (sym alike.bounds) own_step.bounded;
       buckets = own_step.buckets;
       answers = inl (subst (λ (c : Case).
           Answers (handle_in before faults old contents).state c model.Stored
           (handle_in before faults new (insert contents pair.0 pair.1)).state)
-          (sym (same_case own.state (handle_in before faults old contents).state pair.0 pair.1
-          usable writable alike.usable alike.writable refl alike.limit ∙ falls)) (refl, refl));
+          (sym (same_case own (handle_in before faults old contents) pair.0 pair.1 refl
+          alike.bounds _ usable writable alike.usable alike.writable falls)) (refl, refl));
     }
 
   -- what a store in the group that was answered leaves there
@@ -198,7 +230,7 @@ module _ {S G : Type 0} {s : Ghosts S} {g : Ghosts G} where
     ends = ap (λ (ps : Pages). length ps + 1) goes.base ∙ over.ends;
     same = λ honest. goes.base ∙ over.same honest;
     honesty = both_ways goes.honesty over.honesty;
-    limit = goes.limit ∙ over.limit;
+    bounds = goes.bounds ∙ over.bounds;
     capacity = goes.capacity ∙ over.capacity;
     writable = goes.writable ∙ over.writable;
   }
@@ -212,8 +244,8 @@ module _ {S G : Type 0} {s : Ghosts S} {g : Ghosts G} where
     pub group_capacity : (page_state last).capacity ≡ (page_state first).capacity
     group_capacity = over.capacity ∙ still_capacity s old new read ∙ sym begins.capacity
 
-    pub group_limit : (meta_kept last).limit ≡ (meta_kept first).limit
-    group_limit = over.limit ∙ still_limit s old new read ∙ sym begins.limit
+    pub group_limit : (meta_kept last).bounds ≡ (meta_kept first).bounds
+    group_limit = over.bounds ∙ still_bounds s old new read ∙ sym begins.bounds
 
 -- a replacing store that is answered has stored its pair
 pub is_stored : (reply : StoreReply) → (reply ≡ Kept → ⊥) → reply ≡ done.Stored
@@ -286,13 +318,13 @@ module _ {G : Type 0} {g : Ghosts G} where
       }) same.meta
 
   pub alike_still : (old new : Database G g) (before : Handle)
-      → (meta_kept new).limit ≡ (meta_kept old).limit
+      → (meta_kept new).bounds ≡ (meta_kept old).bounds
       → (page_state new).capacity ≡ (page_state old).capacity → IsAlike before old
       → IsAlike before new
-  alike_still old new before limit capacity alike = record {
+  alike_still old new before bounds capacity alike = record {
     usable = alike.usable;
     writable = alike.writable;
-    limit = alike.limit ∙ sym limit;
+    bounds = alike.bounds ∙ sym bounds;
     capacity = alike.capacity ∙ sym capacity;
   }
 
@@ -308,7 +340,7 @@ module _ {G : Type 0} {g : Ghosts G} where
             subst (λ (h : Handle). Step h (replacing pair) model.Stored
             (handle_in before faults new (insert contents pair.0 pair.1)))
             (same_handle old mid same before faults contents)
-            (done.step before faults (alike_still old mid before (ap (λ m. m.limit) same.meta)
+            (done.step before faults (alike_still old mid before (ap (λ m. m.bounds) same.meta)
             capacity alike));
         is_at = done.is_at;
       }
@@ -330,12 +362,12 @@ module _ {G : Type 0} {g : Ghosts G} where
   }
 
   pub one_more_stored : (old mid new : Database G g) (pairs : List Pair) (pair : Pair)
-      → (meta_kept mid).limit ≡ (meta_kept old).limit
+      → (meta_kept mid).bounds ≡ (meta_kept old).bounds
       → (page_state mid).capacity ≡ (page_state old).capacity
       → (g.honest (store_of old) → g.honest (store_of mid))
       → StoresMany old mid pairs → StoresOne mid new pair true
       → StoresMany old new (pairs ++ pair ∷ [])
-  one_more_stored old mid new pairs pair limit capacity honesty many one honest contents at =
+  one_more_stored old mid new pairs pair bounds capacity honesty many one honest contents at =
       let earlier = many honest contents at in
       let last = one (honesty honest) (with_pairs contents pairs) earlier.is_at in
       let is = sym (last_pair contents pairs pair) in
@@ -355,7 +387,7 @@ module _ {G : Type 0} {g : Ghosts G} where
             (handle_in before faults new m)) is
             (run-push _ _ _ (map replacing pairs) (map (λ _. model.Stored) pairs)
             (replacing pair) model.Stored (earlier.run before faults alike)
-            (last.step before faults (alike_still old mid before limit capacity alike)))));
+            (last.step before faults (alike_still old mid before bounds capacity alike)))));
         is_at = subst (λ m. IsAt new (handle_of new m)) is last.is_at;
       }
 

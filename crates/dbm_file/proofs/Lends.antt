@@ -77,8 +77,8 @@ module _ {S : Type 0} (s : Ghosts S) (db : Database S s) (call : model.Call) (no
           goes = record {
             honesty = f.keeps.goes.honesty;
             later = f.keeps.goes.later;
-            limit =
-                f.keeps.goes.limit;
+            bounds =
+                f.keeps.goes.bounds;
             capacity = f.keeps.goes.capacity;
             writable =
                 f.keeps.goes.writable;
@@ -98,7 +98,7 @@ module _ {S : Type 0} (s : Ghosts S) (db : Database S s) (call : model.Call) (no
 
   -- the database was broken
   pub lends_broken : fault ≡ Broken → (page_state db).usable ≡ false
-      → ((h : Handle) → h.state.usable ≡ false → case_of h.state call ≡ Refuses model.Broken)
+      → ((h : Handle) → h.state.usable ≡ false → case_of h call ≡ Refuses model.Broken)
       → Lends call (lent_reply none) db r (new error)
   lends_broken told_so broken rule =
       flagged_lends db (subst (λ (f : Fault).

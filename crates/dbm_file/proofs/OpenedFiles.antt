@@ -1,11 +1,14 @@
 -- A database as it was just opened, and what its images stand for.
 use Rattle.std.proofs.Common.{◌≡◌, ◌⊎◌, inl, inr, ℕ, ◌+◌, ◌≤◌, length, Bool, true, Option, Some, None, Result, Ok, Err, refl, sym, ap, subst, ◌∙◌, arith}
 use Rattle.std.specs.Prelude.{IfSome}
-use Rattle.std.specs.FinMap.{len}
+use Rattle.std.specs.FinMap.{get, len}
+use Rattle.dbm_model.specs.Bounds.{Bounds}
 use Rattle.sect_dev.specs.declared.device.SectorDev as device
-use Rattle.dbm_model.specs.Pairs.{Contents}
+use Rattle.dbm_model.specs.Pairs.{Contents, IsAllowed}
+use Rattle.dbm_model.specs.Holding.{IsWithin}
 use Rattle.dbm_model.specs.Sizes.{home}
 use Rattle.dbm_model.specs.States.{NotBegun, Handle}
+use Rattle.page_model.proofs.Members.{map_is_allowed}
 use Rattle.page_model.specs.Meaning.{said_by}
 use Rattle.page_io.specs.Store.{Settled, StoreState, page_of}
 use Rattle.page_io.specs.Meaning.{FileStandsFor, ImageStandsFor}
@@ -21,18 +24,19 @@ use Rattle.file_opening.specs.Opening.{early_fault, IsRefusedOpening}
 use Rattle.file_opening.specs.declared.open_how.OpenHow.{OpenHow}
 use Rattle.dbm_fault.specs.declared.fault.Fault.{Fault}
 use Rattle.dbm_file.specs.declared.database.Database.{Database}
+use Rattle.dbm_file.proofs.GoodFiles.{contents_are}
 use Rattle.dbm_file.proofs.ReadSteps.{at_own, same_parts}
 use Rattle.linear_hash.proofs.Tables.{counted}
 
 -- a database that was just opened is at a fresh handle
 pub opened_at : {S : Type 0} {s : store.Ghosts S} (writable : Bool) (pages : ℕ) (db : Database S s)
-    (map : Contents) (limit : ℕ) → HoldsMap db map → StandsAfterStop db map
-    → (meta_kept db).limit ≡ limit → IsNewlyOpened writable pages db
-    → IsOpenedAt writable db map limit
-opened_at {S} {s} writable pages db map limit held rests limit_is fresh = record {
+    (map : Contents) (bounds : Bounds) → HoldsMap db map → StandsAfterStop db map
+    → (meta_kept db).bounds ≡ bounds → IsNewlyOpened writable pages db
+    → IsOpenedAt writable db map bounds
+opened_at {S} {s} writable pages db map bounds held rests bounds_are fresh = record {
   handle = handle_of db map;
   is_at = at_own db map held rests;
-  is_fresh = same_parts map _ _ _ _ _ _ _ _ _ _ fresh.no_pass limit_is fresh.no_error
+  is_fresh = same_parts map _ _ _ _ _ _ _ _ _ _ fresh.no_pass bounds_are fresh.no_error
       fresh.writable fresh.usable;
 }
 
@@ -46,28 +50,28 @@ pub record ShowsBelow {S : Type 0} {s : store.Ghosts S} (t : store.Ghosts (Cache
 -- one over a store that was just opened holds what its file stands for
 pub opened_over : {S : Type 0} {s : store.Ghosts S} (t : store.Ghosts (CachedPages S s))
     (writable : Bool) (pages : ℕ) (db : Database (CachedPages S s) t) (file : S) (map : Contents)
-    (limit : ℕ) → ((cached : CachedPages S s) → ShowsBelow t cached)
+    (bounds : Bounds) → ((cached : CachedPages S s) → ShowsBelow t cached)
     → store_below (store_of db) ≡ file
     → ((s.state file).usable ≡ true → Holds s file (meta_kept db) map)
     → ((s.state file).usable ≡ true → (y : Settled) → s.settles_to file y
-    → ImageStandsFor y map (meta_kept db).limit)
-    → (meta_kept db).limit ≡ limit → (s.state file).usable ≡ true
+    → ImageStandsFor y map (meta_kept db).bounds)
+    → (meta_kept db).bounds ≡ bounds → (s.state file).usable ≡ true
     → (s.state file).writable ≡ writable → (s.state file).capacity ≡ pages
-    → error_of db ≡ None → pass_of db ≡ NotBegun → IsOpenedAt writable db map limit
-opened_over {S} {s} t writable pages db file map limit shows same held rests limit_is usable
+    → error_of db ≡ None → pass_of db ≡ NotBegun → IsOpenedAt writable db map bounds
+opened_over {S} {s} t writable pages db file map bounds shows same held rests bounds_are usable
     writes_so capacity no_error no_pass =
     let here = shows (store_of db) in
     let committed = here.committed ∙ ap s.committed same in
     let state = here.state ∙ ap s.state same in
-    opened_at writable pages db map limit
+    opened_at writable pages db map bounds
     (λ is. record {
-      stands = subst (λ all. FileStandsFor all map (meta_kept db).limit) (sym committed)
+      stands = subst (λ all. FileStandsFor all map (meta_kept db).bounds) (sym committed)
           (held usable).stands;
       meta_is = ap (λ all. said_by (page_of all) 1) committed ∙ (held usable).meta_is;
     })
     (λ is y left. rests usable y (subst (λ below. s.settles_to below y) same
     (here.settles y left)))
-    limit_is
+    bounds_are
     (record {
       usable = ap (λ (x : StoreState). x.usable) state ∙ usable;
       writable = ap (λ (x : StoreState). x.writable) state ∙ writes_so;
@@ -86,32 +90,48 @@ early_again dev (Some fault) file db told = absurd (cc told)
 -- a usable one holds a map that its file stands for, and its meta page counts the pairs
 pub counts_pairs : {S : Type 0} (s : store.Ghosts S) (db : Database S s) (h : Handle) → IsAt db h
     → h.state.usable ≡ true → ((meta_kept db).pairs ≡ len h.state.map)
-    × ((meta_kept db).limit ≡ h.state.limit)
+    × ((meta_kept db).bounds.limit ≡ h.state.bounds.limit)
 counts_pairs s db h at usable =
     let is_usable = sym (ap (λ (x : Handle). x.state.usable) at.shows) ∙ usable in (
       sym (counted s (store_of db) (meta_kept db) h.state.map (at.map is_usable)),
-      sym (ap (λ (x : Handle). x.state.limit) at.shows),
+      sym (ap (λ (x : Handle). x.state.bounds.limit) at.shows),
     )
 
--- nor has it more pages than a database of its limit needs; `ends` is the store's law
+-- the pairs of that map are as many and as long as its bounds allow
+pub within_at : {S : Type 0} (s : store.Ghosts S) (db : Database S s) (h : Handle) → IsAt db h
+    → h.state.usable ≡ true → IsWithin h.state
+within_at s db h at usable =
+    let counted = counts_pairs s db h at usable in
+    let held = at.map (sym (ap (λ (x : Handle). x.state.usable) at.shows) ∙ usable) in
+    let same = contents_are (s.committed (store_of db)) h.state.map (meta_kept db).bounds held.stands in
+    record {
+      few = omega (arith, db.valid.few_pairs.0, counted.0, counted.1);
+      allowed = λ key content has.
+          subst (λ (b : Bounds). IsAllowed b.version (key, content))
+          (held.stands.bounded ∙ sym (ap (λ (x : Handle). x.state.bounds) at.shows))
+          (map_is_allowed held.stands.placement key content held.stands.good
+          (ap (λ (m : Contents). get m key) same ∙ has));
+    }
+
+-- nor has it more pages than a database of its bounds needs; `ends` is the store's law
 pub few_pages : {S : Type 0} (s : store.Ghosts S) (db : Database S s) (h : Handle) → IsAt db h
     → h.state.usable ≡ true
     → length (s.committed (store_of db)) + 1 ≡ (s.state (store_of db)).end
-    → (s.state (store_of db)).end ≤ home h.state.limit
+    → (s.state (store_of db)).end ≤ home h.state.bounds
 few_pages s db h at usable ends =
     let held = at.map (sym (ap (λ (x : Handle). x.state.usable) at.shows) ∙ usable) in
-    subst (λ (limit : ℕ). (s.state (store_of db)).end ≤ home limit)
-    (held.stands.limited ∙ sym (ap (λ (x : Handle). x.state.limit) at.shows))
+    subst (λ (bounds : Bounds). (s.state (store_of db)).end ≤ home bounds)
+    (held.stands.bounded ∙ sym (ap (λ (x : Handle). x.state.bounds) at.shows))
     (omega (arith, held.stands.good.bounded, held.stands.ends, ends))
 
 -- every image that is left of it stands for the map
 pub stands_for : {S : Type 0} (s : store.Ghosts S) (db : Database S s) (h : Handle) (y : Settled)
     → IsAt db h → h.state.usable ≡ true → s.settles_to (store_of db) y
-    → ImageStandsFor y h.state.map h.state.limit
+    → ImageStandsFor y h.state.map h.state.bounds
 stands_for s db h y at usable left =
     let is_usable = sym (ap (λ (x : Handle). x.state.usable) at.shows) ∙ usable in
-    subst (λ (n : ℕ). ImageStandsFor y h.state.map n)
-    (sym (ap (λ (x : Handle). x.state.limit) at.shows)) (at.rests is_usable y left)
+    subst (λ (n : Bounds). ImageStandsFor y h.state.map n)
+    (sym (ap (λ (x : Handle). x.state.bounds) at.shows)) (at.rests is_usable y left)
 
 -- the fault of a refusal
 abbrev fault_in : {T D : Type 0} → Fault → Result T (D × Fault) → Fault

@@ -27,6 +27,7 @@ use Rattle.linear_hash.proofs.Tables.{placed, is_table, map_placed}
 use Rattle.dbm_fault.specs.Faults.{fault_of, fault_from}
 use Rattle.dbm_fault.specs.declared.fault.Fault.{Fault}
 use Rattle.dbm_fault.specs.declared.fault.Fault.TheVariants.{Device, Broken, NoPass}
+use Rattle.dbm_file.specs.Held.{Held, held_by}
 use Rattle.dbm_file.specs.Answers.{MayBeLeft, StandsForSome, Survives, IsStep, IsCallEnded}
 use Rattle.dbm_file.specs.Calls.{Lent, lent_reply}
 use Rattle.dbm_file.specs.Database.{store_of, meta_kept, page_state, error_of, handle_of, IsAt}
@@ -38,7 +39,7 @@ use Rattle.dbm_file.specs.declared.pass.Pass as code
 use Rattle.dbm_file.proofs.Cases.{first_rule, next_rule, no_pass_rule, passes_fail, error_rule, clear_rule}
 use Rattle.dbm_file.proofs.Lends.{kept_error, flagged_step}
 use Rattle.dbm_file.proofs.PassKeys.{next_of_map, over_the_map}
-use Rattle.dbm_file.proofs.ReadSteps.{at_own, from_own, same_state, no_more_pages, no_more_buckets, still_buckets, still_limit, still_capacity, still_end, still_writable, still_usable, still_holds, still_rests, still_survives, no_read, rejected_step, refused_keeps, walk_failed_step}
+use Rattle.dbm_file.proofs.ReadSteps.{at_own, from_own, same_state, no_more_pages, no_more_buckets, still_buckets, still_bounds, still_capacity, still_end, still_writable, still_usable, still_holds, still_rests, still_survives, no_read, rejected_step, refused_keeps, walk_failed_step}
 
 -- the same database with its pass elsewhere
 abbrev pub with_pass : {S : Type 0} {s : Ghosts S} → Database S s → code.Pass → Database S s
@@ -56,7 +57,7 @@ none_opened before from reply after pairs (inr given) =
 module _ {S : Type 0} (s : Ghosts S) (old new : Database S s) (h : Handle) (at : IsAt old h)
     (call : model.Call) (from : Pass) (read : IsRead old (with_pass new old.pass))
     (honest : s.honest (store_of old)) (usable : (page_state old).usable ≡ true)
-    (falls : case_of h.state call ≡ Passes from) where
+    (falls : case_of h call ≡ Passes from) where
   abbrev map : Contents
   map = h.state.map
 
@@ -66,12 +67,12 @@ module _ {S : Type 0} (s : Ghosts S) (old new : Database S s) (h : Handle) (at :
   abbrev mid : Database S s
   mid = with_pass new old.pass
 
-  falls_own : case_of before.state call ≡ Passes from
-  falls_own = ap (λ (x : Handle). case_of x.state call) (sym at.shows) ∙ falls
+  falls_own : case_of before call ≡ Passes from
+  falls_own = ap (λ (x : Handle). case_of x call) (sym at.shows) ∙ falls
 
   state_after : (handle_of new map).state ≡ record before.state { pass = pass_of new }
   state_after = ap (λ (x : State). record x { pass = pass_of new })
-      (same_state s old mid map read.pass_is (still_limit s old mid read) read.error_is
+      (same_state s old mid map read.pass_is (still_bounds s old mid read) read.error_is
       (still_writable s old mid read) (still_usable s old mid read))
 
   moved : (reply : model.Reply)
@@ -167,7 +168,7 @@ goes_on_so begins db is = sym (ap (λ (b : Bool). pass_from b db) is)
 
 -- a pass that failed
 pub pass_failed : {S : Type 0} (s : Ghosts S) (old new : Database S s) (h : Handle) → IsAt old h
-    → (call : model.Call) (from : Pass) → case_of h.state call ≡ Passes from → IsRead old new
+    → (call : model.Call) (from : Pass) → case_of h call ≡ Passes from → IsRead old new
     → s.honest (store_of old) → (page_state old).usable ≡ true
     → (T : Type 0) (e : PageFault) → IsWalkAnswer {T = T} (page_state old) (Err e)
     → HasDeviceCause {T = T} (s.faults (store_of old)) (s.faults (store_of new)) (Err e)
@@ -176,11 +177,11 @@ pub pass_failed : {S : Type 0} (s : Ghosts S) (old new : Database S s) (h : Hand
     (model.Refused (fault_of (fault_from e)))
 pass_failed s old new h at call from falls read honest usable T e answer cause whole =
     let map = h.state.map in
-    let falls_own = ap (λ (x : Handle). case_of x.state call) (sym at.shows) ∙ falls in
+    let falls_own = ap (λ (x : Handle). case_of x call) (sym at.shows) ∙ falls in
     from_own at (walk_failed_step s old new map call read honest (at.map usable)
     (at.rests usable) T e usable answer cause whole
-    (λ reply after fails. subst (λ (rule : Case). Suffers (handle_of old map) rule reply after)
-    (sym falls_own) (passes_fail (handle_of old map) reply after fails from)))
+    (λ reply after fails. subst (λ (rule : Case). Suffers (handle_of old map) call rule reply after)
+    (sym falls_own) (passes_fail (handle_of old map) call reply after fails from)))
 
 -- and whose fault was then kept as the first one
 pub pass_flagged : {S : Type 0} (s : Ghosts S) (old db : Database S s) (h : Handle)
@@ -245,7 +246,7 @@ keeps_passed old new value k = record {
   goes = record {
     honesty = k.goes.honesty;
     later = k.goes.later;
-    limit = k.goes.limit;
+    bounds = k.goes.bounds;
     capacity =
         k.goes.capacity;
     writable = k.goes.writable;
@@ -272,11 +273,12 @@ module _ {S : Type 0} (s : Ghosts S) (old : Database S s) (h : Handle) (at : IsA
     (now : (x : Settled) → s.settled_since (store_of old) (s.moment (store_of old)).at x
     → s.settles_to (store_of old) x) where
   -- no device call is made
-  stays : (Left : Contents → Type 0) → Left h.state.map → (page_state old).usable ≡ true
+  stays : (Left : Held → Type 0) → Left (held_by (handle_of old h.state.map).state)
+      → (page_state old).usable ≡ true
       → Survives old old Left
   stays Left left usable = started s.moment s.settled_since (store_of old)
-      (StandsForSome Left (meta_kept old).limit)
-      (λ x is. (h.state.map, left, at.rests usable x (now x is)))
+      (StandsForSome Left)
+      (λ x is. (held_by (handle_of old h.state.map).state, left, at.rests usable x (now x is)))
 
   pub error_step : IsStep old old h model.Error (model.Number (error_number (error_of old)))
   error_step =
@@ -292,7 +294,7 @@ module _ {S : Type 0} (s : Ghosts S) (old : Database S s) (h : Handle) (at : IsA
               (finmap.len h.state.map) refl refl;
           answers = inl (subst (λ (c : Case).
               Answers own.state c (model.Number (error_number (error_of old))) own.state)
-              (sym (error_rule own.state)) (refl, refl));
+              (sym (error_rule own)) (refl, refl));
         };
         is_at = at_own old h.state.map at.map at.rests;
         survives = λ usable. stays (MayBeLeft own own model.Error) (inl refl) usable;
@@ -316,7 +318,7 @@ module _ {S : Type 0} (s : Ghosts S) (old : Database S s) (h : Handle) (at : IsA
           answers = inl (subst (λ (c : Case).
               Answers own.state c (model.Number 0)
               (handle_of new h.state.map).state)
-              (sym (clear_rule own.state)) (refl, refl));
+              (sym (clear_rule own)) (refl, refl));
         };
         is_at = at_own new h.state.map (λ usable. at.map usable)
             (λ usable. at.rests usable);
@@ -361,20 +363,20 @@ stands_still new from bytes found stands none = stands ∙ ap (pass_at from byte
 -- a first key, by the step of a pass that begins
 pub first_step : {S : Type 0} (s : Ghosts S) (db new : Database S s) (reply : model.Reply)
     → (page_state db).usable ≡ true → (h : Handle) → IsAt db h
-    → ((call : model.Call) → case_of h.state call ≡ Passes (pass_from true db)
+    → ((call : model.Call) → case_of h call ≡ Passes (pass_from true db)
     → IsStep db new h call reply)
     → IsStep db new h model.First reply
 first_step s db new reply usable h at step =
-    step model.First (first_rule h.state (own_usable db h at usable))
+    step model.First (first_rule h (own_usable db h at usable))
 
 -- a next key, by the step of the pass that was begun
 pub next_step : {S : Type 0} (s : Ghosts S) (db new : Database S s) (reply : model.Reply)
     → (pass_of db ≢ NotBegun) → (page_state db).usable ≡ true → (h : Handle) → IsAt db h
-    → ((call : model.Call) → case_of h.state call ≡ Passes (pass_from false db)
+    → ((call : model.Call) → case_of h call ≡ Passes (pass_from false db)
     → IsStep db new h call reply) → IsStep db new h model.Next reply
 next_step s db new reply begun usable h at step =
     let shown : h.state.pass ≡ pass_of db = ap (λ (x : Handle). x.state.pass) at.shows in
-    step model.Next (next_rule h.state (own_usable db h at usable)
+    step model.Next (next_rule h (own_usable db h at usable)
     (λ none. begun (sym shown ∙ none)) ∙ ap Passes shown)
 
 -- whether one was begun, by a test of it
@@ -401,7 +403,7 @@ no_pass_lends s db off usable now = record {
       let map = h.state.map in
       from_own at (rejected_step s db db map model.Next (no_read s db now) honest
       (at.map usable) (at.rests usable) NoPass
-      (no_pass_rule (handle_of db map).state usable off));
+      (no_pass_rule (handle_of db map) usable off));
   keeps = refused_keeps s db db (no_read s db now) usable (Option (Bor (List ℕ))) NoPass
       (λ is. absurd (let e = is in cc)) (λ is. absurd (let e = is in cc));
   stands = tt;

@@ -3,6 +3,7 @@ use Rattle.std.proofs.Common.{◌≡◌, ◌⊎◌, ◌↔◌, inl, inr, ℕ, �
 use Rattle.std.specs.Prelude.{IsTrue}
 use Rattle.std.specs.Option.{option_map}
 use Rattle.std.specs.FinMap.{len}
+use Rattle.dbm_model.specs.Bounds.{Bounds}
 use Rattle.sect_dev.specs.Device.{MoreFaults}
 use Rattle.sect_dev.specs.Moments.{weaker}
 use Rattle.dbm_model.specs.Calls as model
@@ -25,6 +26,7 @@ use Rattle.seg_table.specs.MetaPages.{model_meta}
 use Rattle.chain_walks.specs.Answers.{IsWalkAnswer}
 use Rattle.dbm_fault.specs.Faults.{fault_of, fault_from}
 use Rattle.page_commit.specs.Committing.{Holds}
+use Rattle.dbm_file.specs.Held.{Held, held_by}
 use Rattle.dbm_file.specs.Database.{store_of, meta_kept, page_state, HoldsMap, StandsAfterStop, handle_of, IsAt}
 use Rattle.dbm_file.specs.Passing.{model_pass}
 use Rattle.dbm_file.specs.Answers.{MayBeLeft, StandsForSome, Survives, IsStep, IsSameDatabase, IsCallEnded}
@@ -41,28 +43,28 @@ pub kept_first : (old : Option Fault) (fault : Fault)
 kept_first None fault = refl
 kept_first (Some earlier) fault = refl
 
-abbrev state_with : Contents → Pass → ℕ → Option model.Fault → Bool → Bool → State
-state_with map pass limit error writable usable =
+abbrev state_with : Contents → Pass → Bounds → Option model.Fault → Bool → Bool → State
+state_with map pass bounds error writable usable =
     record {
       map = map;
-      limit = limit;
+      bounds = bounds;
       error = error;
       pass = pass;
       writable = writable;
       usable = usable;
     }
 
-pub same_parts : (map : Contents) (pass pass' : Pass) (limit limit' : ℕ)
+pub same_parts : (map : Contents) (pass pass' : Pass) (bounds bounds' : Bounds)
     (error error' : Option model.Fault) (writable writable' usable usable' : Bool) → pass ≡ pass'
-    → limit ≡ limit' → error ≡ error' → writable ≡ writable' → usable ≡ usable'
-    → state_with map pass limit error writable usable
-    ≡ state_with map pass' limit' error' writable' usable'
-same_parts map pass pass' limit limit' error error' writable writable' usable usable' p l e w u =
-    ap (λ (x : Pass). state_with map x limit error writable usable) p
-    ∙ ap (λ (n : ℕ). state_with map pass' n error writable usable) l
-    ∙ ap (λ (f : Option model.Fault). state_with map pass' limit' f writable usable) e
-    ∙ ap (λ (b : Bool). state_with map pass' limit' error' b usable) w
-    ∙ ap (state_with map pass' limit' error' writable') u
+    → bounds ≡ bounds' → error ≡ error' → writable ≡ writable' → usable ≡ usable'
+    → state_with map pass bounds error writable usable
+    ≡ state_with map pass' bounds' error' writable' usable'
+same_parts map pass pass' bounds bounds' error error' writable writable' usable usable' p l e w u =
+    ap (λ (x : Pass). state_with map x bounds error writable usable) p
+    ∙ ap (λ (n : Bounds). state_with map pass' n error writable usable) l
+    ∙ ap (λ (f : Option model.Fault). state_with map pass' bounds' f writable usable) e
+    ∙ ap (λ (b : Bool). state_with map pass' bounds' error' b usable) w
+    ∙ ap (state_with map pass' bounds' error' writable') u
 
 -- a database at its own map
 pub at_own : {S : Type 0} {s : Ghosts S} (db : Database S s) (map : Contents)
@@ -75,8 +77,8 @@ pub holds_as : {S : Type 0} (s : Ghosts S) (old new : S) (before after : Meta) (
     → Holds s new after map
 holds_as s old new before after map pages meta h =
     record {
-      stands = subst (λ (m : Meta). FileStandsFor (s.committed new) map m.limit) (sym meta)
-          (subst (λ (ps : Pages). FileStandsFor ps map before.limit) (sym pages) h.stands);
+      stands = subst (λ (m : Meta). FileStandsFor (s.committed new) map m.bounds) (sym meta)
+          (subst (λ (ps : Pages). FileStandsFor ps map before.bounds) (sym pages) h.stands);
       meta_is = subst (λ (m : Meta). said_by (page_of (s.committed new)) 1 ≡ MetaPage m) (sym meta)
           (subst (λ (ps : Pages). said_by (page_of ps) 1 ≡ MetaPage before) (sym pages) h.meta_is);
     }
@@ -123,8 +125,8 @@ module _ {S : Type 0} (s : Ghosts S) (old new : Database S s) (read : IsRead old
   pub still_meta : meta_kept new ≡ meta_kept old
   still_meta = ap model_meta read.meta_is
 
-  pub still_limit : (meta_kept new).limit ≡ (meta_kept old).limit
-  still_limit = ap (λ (m : Meta). m.limit) still_meta
+  pub still_bounds : (meta_kept new).bounds ≡ (meta_kept old).bounds
+  still_bounds = ap (λ (m : Meta). m.bounds) still_meta
 
   pub still_usable : (page_state new).usable ≡ (page_state old).usable
   still_usable = ap (λ (st : store.StoreState). st.usable) read.reads.same
@@ -155,22 +157,22 @@ no_more_buckets before after reply pairs same none = omega (arith, same, none)
 module _ {S : Type 0} (s : Ghosts S) (old new : Database S s) (map : Contents)
   where
     -- the state of a database with this fault
-    pub flagged_is : (fault : Fault) → new.pass ≡ old.pass → (meta_kept new).limit ≡ (meta_kept old).limit
+    pub flagged_is : (fault : Fault) → new.pass ≡ old.pass → (meta_kept new).bounds ≡ (meta_kept old).bounds
         → new.error ≡ old.error → (page_state new).writable ≡ (page_state old).writable
         → (page_state new).usable ≡ (page_state old).usable
         → (handle_of (with_fault new fault) map).state
         ≡ flagged (fault_of fault) (handle_of old map).state
-    flagged_is fault pass limit error writable usable =
-        same_parts map _ _ _ _ _ _ _ _ _ _ (ap model_pass pass) limit
+    flagged_is fault pass bounds error writable usable =
+        same_parts map _ _ _ _ _ _ _ _ _ _ (ap model_pass pass) bounds
         (ap (λ (e : Option Fault). option_map fault_of (cond (is_some e) e (Some fault))) error
         ∙ kept_first old.error fault) writable usable
 
-    pub same_state : new.pass ≡ old.pass → (meta_kept new).limit ≡ (meta_kept old).limit → new.error ≡ old.error
+    pub same_state : new.pass ≡ old.pass → (meta_kept new).bounds ≡ (meta_kept old).bounds → new.error ≡ old.error
         → (page_state new).writable ≡ (page_state old).writable
         → (page_state new).usable ≡ (page_state old).usable
         → (handle_of new map).state ≡ (handle_of old map).state
-    same_state pass limit error writable usable =
-        same_parts map _ _ _ _ _ _ _ _ _ _ (ap model_pass pass) limit
+    same_state pass bounds error writable usable =
+        same_parts map _ _ _ _ _ _ _ _ _ _ (ap model_pass pass) bounds
         (ap (λ (e : Option Fault). option_map fault_of e) error) writable usable
 
 module _ {S : Type 0} (s : Ghosts S) (old new : Database S s) (map : Contents) where
@@ -184,32 +186,33 @@ module _ {S : Type 0} (s : Ghosts S) (old new : Database S s) (map : Contents) w
 
     pub still_rests : s.honest (store_of old)
         → ((x : Settled) → s.settles_to (store_of old) x
-        → ImageStandsFor x map (meta_kept old).limit) → (x : Settled)
-        → s.settles_to (store_of new) x → ImageStandsFor x map (meta_kept new).limit
+        → ImageStandsFor x map (meta_kept old).bounds) → (x : Settled)
+        → s.settles_to (store_of new) x → ImageStandsFor x map (meta_kept new).bounds
     still_rests honest rests x left =
-        subst (λ (n : ℕ). ImageStandsFor x map n) (sym (still_limit s old new read))
+        subst (λ (n : Bounds). ImageStandsFor x map n) (sym (still_bounds s old new read))
         (rests x (read.reads.stages_only.now honest x left))
 
     pub still_survives : s.honest (store_of old)
         → ((x : Settled) → s.settles_to (store_of old) x
-        → ImageStandsFor x map (meta_kept old).limit) → (Left : Contents → Type 0) → Left map
+        → ImageStandsFor x map (meta_kept old).bounds) → (Left : Held → Type 0)
+        → Left (held_by (handle_of old map).state)
         → Survives old new Left
     still_survives honest rests Left left =
         weaker s.moment s.settled_since (store_of old) (store_of new)
-        (StandsForSome Left (meta_kept old).limit) (s.settles_to (store_of old))
+        (StandsForSome Left) (s.settles_to (store_of old))
         (read.reads.stages_only.kept honest).any_moment
-        (λ x is. (map, left, rests x is))
+        (λ x is. (held_by (handle_of old map).state, left, rests x is))
 
 module _ {S : Type 0} (s : Ghosts S) (old new : Database S s) (map : Contents)
     (call : model.Call) (read : IsRead old new) (honest : s.honest (store_of old))
     (h : Holds s (store_of old) (meta_kept old) map)
     (rests : (x : Settled) → s.settles_to (store_of old) x
-    → ImageStandsFor x map (meta_kept old).limit) where
+    → ImageStandsFor x map (meta_kept old).bounds) where
   abbrev before : Handle
   before = handle_of old map
 
   pub found_step : (reply : model.Reply) → buckets_opened before reply (len map) ≡ 0
-      → case_of before.state call ≡ Finds reply → IsStep old new before call reply
+      → case_of before call ≡ Finds reply → IsStep old new before call reply
   found_step reply none falls = record {
     after = handle_of new map;
     step = record {
@@ -222,7 +225,7 @@ module _ {S : Type 0} (s : Ghosts S) (old new : Database S s) (map : Contents)
       answers = inl (subst (λ (c : Case).
           Answers before.state c reply (handle_of new map).state) (sym falls) (
             refl,
-            same_state s old new map read.pass_is (still_limit s old new read) read.error_is
+            same_state s old new map read.pass_is (still_bounds s old new read) read.error_is
                 (still_writable s old new read) (still_usable s old new read),
           ));
     };
@@ -237,7 +240,7 @@ module _ {S : Type 0} (s : Ghosts S) (old new : Database S s) (map : Contents)
     refused = with_fault new fault
 
     refused_state : (handle_of refused map).state ≡ flagged (fault_of fault) before.state
-    refused_state = flagged_is s old new map fault read.pass_is (still_limit s old new read) read.error_is
+    refused_state = flagged_is s old new map fault read.pass_is (still_bounds s old new read) read.error_is
         (still_writable s old new read) (still_usable s old new read)
 
     still_pages : (before.pages ≤ (page_state new).end)
@@ -256,7 +259,7 @@ module _ {S : Type 0} (s : Ghosts S) (old new : Database S s) (map : Contents)
           (MayBeLeft before (handle_of refused map) call) (inl refl);
     }
 
-    told_step : (rule : Case) → case_of before.state call ≡ rule
+    told_step : (rule : Case) → case_of before call ≡ rule
         → Answers before.state rule (model.Refused (fault_of fault))
         (handle_of refused map).state
         → IsStep old refused before call (model.Refused (fault_of fault))
@@ -272,18 +275,18 @@ module _ {S : Type 0} (s : Ghosts S) (old new : Database S s) (map : Contents)
           (handle_of refused map).state) (sym falls) is);
     }
 
-    pub rejected_step : case_of before.state call ≡ Refuses (fault_of fault)
+    pub rejected_step : case_of before call ≡ Refuses (fault_of fault)
         → IsStep old refused before call (model.Refused (fault_of fault))
     rejected_step falls = told_step (Refuses (fault_of fault)) falls (refl, refused_state)
 
-    pub declined_step : case_of before.state call ≡ Declines (fault_of fault)
+    pub declined_step : case_of before call ≡ Declines (fault_of fault)
         → IsStep old refused before call (model.Refused (fault_of fault))
     declined_step falls = told_step (Declines (fault_of fault)) falls (refl, refused_state)
 
     pub failed_step : fault ≡ Device
         → MoreFaults (s.faults (store_of old)) (s.faults (store_of new))
         → ((reply : model.Reply) (after : Handle) → Fails before reply after
-        → Suffers before (case_of before.state call) reply after)
+        → Suffers before call (case_of before call) reply after)
         → IsStep old refused before call (model.Refused (fault_of fault))
     failed_step is more may = refused_step record {
       counts = read.reads.stages_only.later;
@@ -305,7 +308,7 @@ module _ {S : Type 0} (s : Ghosts S) (old new : Database S s) (map : Contents)
       → HasDeviceCause {T = T} (s.faults (store_of old)) (s.faults (store_of new)) (Err e)
       → (IsErrOf {T = T} (Err e) page.Damaged → ⊥)
       → ((reply : model.Reply) (after : Handle) → Fails before reply after
-      → Suffers before (case_of before.state call) reply after)
+      → Suffers before call (case_of before call) reply after)
       → IsStep old (with_fault new (fault_from e)) before call
       (model.Refused (fault_of (fault_from e)))
   walk_failed_step T e usable answer cause whole may = device answer.only
@@ -346,7 +349,7 @@ walk_sound s old e usable answer same = by_case answer.only
 -- what a broken database answers
 pub broken_step : {S : Type 0} (s : Ghosts S) (old : Database S s) (map : Contents)
     (call : model.Call) → (page_state old).usable ≡ false
-    → case_of (handle_of old map).state call ≡ Refuses model.Broken
+    → case_of (handle_of old map) call ≡ Refuses model.Broken
     → IsStep old (with_fault old Broken) (handle_of old map) call
     (model.Refused model.Broken)
 broken_step s old map call broken falls = record {
@@ -376,7 +379,7 @@ module _ {S : Type 0} (s : Ghosts S) (old new : Database S s) (read : IsRead old
   read_goes = record {
     honesty = read.reads.stages_only.honesty;
     later = read.reads.stages_only.later;
-    limit = still_limit s old new read;
+    bounds = still_bounds s old new read;
     capacity = still_capacity s old new read;
     writable = still_writable s old new read;
     base = ap (λ (st : store.StoreState). st.base) read.reads.same;
@@ -403,7 +406,7 @@ module _ {S : Type 0} (s : Ghosts S) (old new : Database S s) (read : IsRead old
     goes = record {
       honesty = read_goes.honesty;
       later = read_goes.later;
-      limit = read_goes.limit;
+      bounds = read_goes.bounds;
       capacity = read_goes.capacity;
       writable = read_goes.writable;
       base = read_goes.base;
@@ -429,7 +432,7 @@ broken_keeps T s old broken = record {
   goes = record {
     honesty = (λ h. h, λ h. h);
     later = omega arith;
-    limit = refl;
+    bounds = refl;
     capacity = refl;
     writable = refl;
     base = refl;

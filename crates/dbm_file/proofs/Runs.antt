@@ -8,20 +8,19 @@ use Rattle.sect_dev.specs.Device.{LeavesOnly}
 use Rattle.sect_dev.specs.Moments.{started, followed_by, weaker}
 use Rattle.dbm_model.specs.Calls as model
 use Rattle.dbm_model.specs.Calls.{Call, Reply}
-use Rattle.dbm_model.specs.Pairs.{Contents}
 use Rattle.dbm_model.specs.States.{Handle}
 use Rattle.dbm_model.specs.Steps.{Step, Run}
 use Rattle.dbm_model.proofs.Runs.{run-push}
 use Rattle.page_io.specs.Store.{Settled}
-use Rattle.page_io.specs.Meaning.{ImageStandsFor}
 use Rattle.page_io.specs.declared.store.PageStore.{Ghosts}
 use Rattle.page_io.proofs.Exits.{both_ways}
 use Rattle.dbm_file.specs.Calls.{bits_of}
-use Rattle.dbm_file.specs.Database.{store_of, meta_kept, page_state, IsAt}
+use Rattle.dbm_file.specs.Held.{Held, held_by}
+use Rattle.dbm_file.specs.Database.{store_of, page_state, IsAt}
 use Rattle.dbm_file.specs.Answers.{MayBeLeft, StandsForSome, Survives, IsStep, IsSameDatabase}
 use Rattle.dbm_file.specs.Runs.{MayBeLeftWithin, IsBreak, IsRun, AreSteps, IsMadeInSteps}
 use Rattle.dbm_file.specs.declared.database.Database.{Database}
-use Rattle.dbm_file.proofs.Breaks.{CountsNow, breaks_now, breaks_before}
+use Rattle.dbm_file.proofs.Breaks.{rests_shown, CountsNow, breaks_now, breaks_before}
 
 module _ {S : Type 0} {s : Ghosts S} {old new : Database S s} {held : Handle} {call call' : Call}
     {reply reply' : Reply} where
@@ -57,35 +56,35 @@ all_taken (x ∷ xs) (suc n) le = ap (λ (ys : List _). x ∷ ys) (all_taken xs 
 -- what a stop may leave within the calls that were made, once one more is made
 module _ (call : Call) (reply : Reply) where
   pub left_before : (before mid after : Handle) (calls : List Call) (replies : List Reply)
-      (map : Contents) → MayBeLeftWithin before calls replies mid map → Step mid call reply after
-      → MayBeLeftWithin before (calls ++ call ∷ []) (replies ++ reply ∷ []) after map
-  left_before before mid after [] [] map (same, is) step =
+      (held : Held) → MayBeLeftWithin before calls replies mid held → Step mid call reply after
+      → MayBeLeftWithin before (calls ++ call ∷ []) (replies ++ reply ∷ []) after held
+  left_before before mid after [] [] held (same, is) step =
       (after, subst (λ (h : Handle). Step h call reply after) same step, inl (inl is, refl))
-  left_before before mid after [] (r ∷ replies) map left step = absurd left
-  left_before before mid after (c ∷ calls) [] map left step = absurd left
-  left_before before mid after (c ∷ calls) (r ∷ replies) map (next, first, left) step = (
+  left_before before mid after [] (r ∷ replies) held left step = absurd left
+  left_before before mid after (c ∷ calls) [] held left step = absurd left
+  left_before before mid after (c ∷ calls) (r ∷ replies) held (next, first, left) step = (
     next,
     first,
     ⊎_elim
         (λ one. inl (one.0, run-push next mid after calls replies call reply one.1 step))
-        (λ later. inr (left_before next mid after calls replies map later step))
+        (λ later. inr (left_before next mid after calls replies held later step))
         left,
   )
 
   -- within the last one
   pub left_within : (before mid after : Handle) (calls : List Call) (replies : List Reply)
-      (map : Contents) → Run before calls replies mid → Step mid call reply after
-      → MayBeLeft mid after call map
-      → MayBeLeftWithin before (calls ++ call ∷ []) (replies ++ reply ∷ []) after map
-  left_within before mid after [] [] map same step left = (
+      (held : Held) → Run before calls replies mid → Step mid call reply after
+      → MayBeLeft mid after call held
+      → MayBeLeftWithin before (calls ++ call ∷ []) (replies ++ reply ∷ []) after held
+  left_within before mid after [] [] held same step left = (
     after,
     subst (λ (h : Handle). Step h call reply after) same step,
-    inl (subst (λ (h : Handle). MayBeLeft h after call map) same left, refl),
+    inl (subst (λ (h : Handle). MayBeLeft h after call held) same left, refl),
   )
-  left_within before mid after [] (r ∷ replies) map run step left = absurd run
-  left_within before mid after (c ∷ calls) [] map run step left = absurd run
-  left_within before mid after (c ∷ calls) (r ∷ replies) map (next, first, run) step left =
-      (next, first, inr (left_within next mid after calls replies map run step left))
+  left_within before mid after [] (r ∷ replies) held run step left = absurd run
+  left_within before mid after (c ∷ calls) [] held run step left = absurd run
+  left_within before mid after (c ∷ calls) (r ∷ replies) held (next, first, run) step left =
+      (next, first, inr (left_within next mid after calls replies held run step left))
 
 -- steps behind steps
 pub steps_append : {S : Type 0} {s : Ghosts S} (old mid new : Database S s)
@@ -113,26 +112,26 @@ no_run s db h at now = record {
   is_at = at;
   survives = λ usable.
       started s.moment s.settled_since (store_of db)
-      (StandsForSome (MayBeLeftWithin h [] [] h) (meta_kept db).limit)
-      (λ x left. (h.state.map, (refl, refl), at.rests usable x (now x left)));
+      (StandsForSome (MayBeLeftWithin h [] [] h))
+      (λ x left. (held_by h.state, (refl, refl), rests_shown db h at usable x (now x left)));
   breaks = λ usable broken. absurd (let both = sym usable ∙ broken in cc);
 }
 
 -- one call more
 module _ {S : Type 0} (s : Ghosts S) (old mid new : Database S s) (h : Handle) (calls : List Call)
     (replies : List Reply) (call : Call) (reply : Reply)
-    (limit : (meta_kept mid).limit ≡ (meta_kept old).limit) (goes : IsSameDatabase mid new)
-    (run : IsRun old mid h calls replies) (step : IsStep mid new run.after call reply)
+    (goes : IsSameDatabase mid new) (run : IsRun old mid h calls replies)
+    (step : IsStep mid new run.after call reply)
     (counts : CountsNow new) where
-  abbrev Within : Contents → Type 0
+  abbrev Within : Held → Type 0
   Within = MayBeLeftWithin h (calls ++ call ∷ []) (replies ++ reply ∷ []) step.after
 
   -- what was left before the last call
   earlier : (page_state old).usable ≡ true → Survives old mid Within
   earlier was =
       weaker s.moment s.settled_since (store_of old) (store_of mid)
-      (StandsForSome Within (meta_kept old).limit)
-      (StandsForSome (MayBeLeftWithin h calls replies run.after) (meta_kept old).limit)
+      (StandsForSome Within)
+      (StandsForSome (MayBeLeftWithin h calls replies run.after))
       (run.survives was)
       (λ x is. (
         is.0,
@@ -145,14 +144,14 @@ module _ {S : Type 0} (s : Ghosts S) (old mid new : Database S s) (h : Handle) (
       → Survives old new Within
   goes_on was usable =
       followed_by s.moment s.settled_since (store_of old) (store_of mid) (store_of new)
-      (StandsForSome Within (meta_kept old).limit)
-      (StandsForSome (MayBeLeft run.after step.after call) (meta_kept mid).limit)
+      (StandsForSome Within)
+      (StandsForSome (MayBeLeft run.after step.after call))
       (earlier was) (step.survives usable)
       (λ x is. (
         is.0,
         left_within call reply h run.after step.after calls replies is.0 run.run
             step.step is.1,
-        subst (λ (n : ℕ). ImageStandsFor x is.0 n) limit is.2,
+        is.2,
       ))
 
   -- a broken one makes no device call
@@ -160,7 +159,7 @@ module _ {S : Type 0} (s : Ghosts S) (old mid new : Database S s) (h : Handle) (
       → Survives old new Within
   stays_broken was broken = subst
       (λ (store : S). LeavesOnly s.moment s.settled_since (store_of old) store
-      (StandsForSome Within (meta_kept old).limit)) (sym (goes.still broken)) (earlier was)
+      (StandsForSome Within)) (sym (goes.still broken)) (earlier was)
 
   one_more : IsRun old new h (calls ++ call ∷ []) (replies ++ reply ∷ [])
   one_more = record {
@@ -176,9 +175,9 @@ module _ {S : Type 0} (s : Ghosts S) (old mid new : Database S s) (h : Handle) (
         (λ u. (page_state mid).usable ≡ u
         → IsBreak new h (calls ++ call ∷ []) (replies ++ reply ∷ []) step.after) [
           | true ↦ λ usable. breaks_now s old mid new h run.after calls replies call reply run.run
-              run.is_at step usable now counts goes.limit
+              run.is_at step usable now counts
           | false ↦ λ broken. breaks_before s mid new h run.after step.after calls replies call reply
-              (run.breaks was broken) step.step (goes.still broken) goes.limit
+              (run.breaks was broken) step.step (goes.still broken)
         ] refl;
   }
 
@@ -223,7 +222,7 @@ pub goes_nowhere : {S : Type 0} {s : Ghosts S} (db : Database S s) → IsSameDat
 goes_nowhere db = record {
   honesty = (λ h. h, λ h. h);
   later = omega arith;
-  limit = refl;
+  bounds = refl;
   capacity =
       refl;
   writable = refl;
@@ -236,7 +235,7 @@ pub still_goes : {S : Type 0} {s : Ghosts S} (old mid new : Database S s) → Is
 still_goes {S} {s} old mid new first second = record {
   honesty = both_ways second.honesty first.honesty;
   later = omega (arith, first.later, second.later);
-  limit = second.limit ∙ first.limit;
+  bounds = second.bounds ∙ first.bounds;
   capacity = second.capacity ∙ first.capacity;
   writable = second.writable ∙ first.writable;
   base = second.base ∙ first.base;

@@ -11,9 +11,11 @@ use Rattle.page_io.specs.declared.store.PageStore.{Ghosts}
 use Rattle.page_io.specs.declared.store.PageFault.{PageFault}
 use Rattle.page_io.specs.declared.store.PageFault.TheVariants as page
 use Rattle.dbm_file.specs.Answers.{StandsForSome}
+use Rattle.dbm_file.specs.Held.{Held, held_by}
 use Rattle.dbm_file.specs.Database.{store_of, meta_kept, page_state, HoldsMap, StandsAfterStop, IsAt}
 use Rattle.dbm_file.specs.Syncing.{StandsStill}
 use Rattle.dbm_file.specs.declared.database.Database.{Database}
+use Rattle.dbm_file.proofs.Breaks.{rests_shown}
 use Rattle.dbm_file.proofs.ReadSteps.{at_own, holds_as}
 
 -- whatever is answered, a store that is usable afterwards was settled
@@ -53,7 +55,7 @@ module _ {S : Type 0} (s : Ghosts S) (old new : Database S s) (result : Result U
 
   still_rests : (map : Contents) → StandsAfterStop old map → StandsAfterStop new map
   still_rests map rests usable y left =
-      subst (λ (m : Meta). ImageStandsFor y map m.limit) (sym meta)
+      subst (λ (m : Meta). ImageStandsFor y map m.bounds) (sym meta)
       (rests (settled_so usable).1 y
       (run.each y (counts (s.moment (store_of old)).at y run.later left)))
 
@@ -63,6 +65,6 @@ module _ {S : Type 0} (s : Ghosts S) (old new : Database S s) (result : Result U
       record {
         is_at = at_own new map (still_holds map at.map) (still_rests map at.rests);
         survives = λ usable. weaker s.moment s.settled_since (store_of old) (store_of new)
-            (StandsForSome (λ (m : Contents). m ≡ map) (meta_kept old).limit) (s.settles_to (store_of old))
-            run (λ x is. (map, refl, at.rests usable x is));
+            (StandsForSome (λ (left : Held). left ≡ held_by h.state)) (s.settles_to (store_of old))
+            run (λ x is. (held_by h.state, refl, rests_shown old h at usable x is));
       }

@@ -1,10 +1,11 @@
 -- Stores and deletes that change the file, and their refusals by the pages below.
-use Rattle.std.proofs.Common.{◌≡◌, ℕ, ◌+◌, ◌<◌, ◌≤◌, List, [], length, Bool, true, false, cond, is_some, Option, Some, Result, Ok, Err, refl, sym, ◌∙◌, ap, subst, arith}
+use Rattle.std.proofs.Common.{◌≡◌, ℕ, ◌<◌, List, [], Bool, true, false, cond, is_some, Option, Some, Result, Ok, Err, refl, sym, ◌∙◌, ap, subst, arith}
 use denote.Enum.Bare.{sameb}
 use Rattle.std.specs.Prelude.{IsErrAnd}
 use Rattle.std.specs.FinMap.{get, insert, remove, empty_of_len, get-empty}
 use Rattle.dbm_model.specs.Calls as model
-use Rattle.dbm_model.specs.Pairs.{Contents, key_cmp}
+use Rattle.dbm_model.specs.Bounds.{V1}
+use Rattle.dbm_model.specs.Pairs.{Contents, key_cmp, is_allowed}
 use Rattle.page_model.specs.Valid.{IsMeta}
 use Rattle.page_io.specs.Store.{Settled}
 use Rattle.page_io.specs.Meaning.{ImageStandsFor}
@@ -44,10 +45,10 @@ module _ {S : Type 0} (s : Ghosts S) (old mid : Database S s) (map : Contents)
     (writable : (page_state old).writable ≡ true) (honest : s.honest (store_of old))
     (h : Holds s (store_of old) (meta_kept old) map)
     (rests : (x : Settled) → s.settles_to (store_of old) x
-    → ImageStandsFor x map (meta_kept old).limit) where
+    → ImageStandsFor x map (meta_kept old).bounds) where
   -- a store of an allowed pair, whose key was there or not
   pub store_asked : (content : List ℕ) (mode : StoreMode) (there : Bool)
-      → length key + length content ≤ 2026 → there ≡ is_some (get map key)
+      → is_allowed V1 (key, content) ≡ true → there ≡ is_some (get map key)
       → (there ≡ true → mode ≡ Replace) → (there ≡ false → mid.meta.pairs < mid.meta.limit)
       → IsAsked s old mid map (insert map key content)
       (model.Store key content (mode_of mode)) model.Stored
@@ -57,7 +58,7 @@ module _ {S : Type 0} (s : Ghosts S) (old mid : Database S s) (map : Contents)
     honest = honest;
     holds = h;
     rests = rests;
-    falls = store_rule (handle_of old map).state key content (mode_of mode)
+    falls = store_rule (handle_of old map) key content (mode_of mode)
         usable writable short
         ∙ changes (handle_of old map).state key content (get map key) (mode_of mode)
         (λ has. ap mode_of (replaces (is ∙ has)))
@@ -79,7 +80,7 @@ module _ {S : Type 0} (s : Ghosts S) (old mid : Database S s) (map : Contents)
     honest = honest;
     holds = h;
     rests = rests;
-    falls = delete_rule (handle_of old map).state key usable writable
+    falls = delete_rule (handle_of old map) key usable writable
         ∙ removes (handle_of old map).state key (get map key) is;
   }
 

@@ -1,9 +1,9 @@
 -- How a call on a database is answered, and what it leaves.
-use Rattle.std.specs.Prelude.{◌≡◌, ◌⊎◌, ◌↔◌, ◌≤◌, ℕ, true, false, Result, OnOk, OnErr, IfErr, IsErrOf}
+use Rattle.std.specs.Prelude.{◌≡◌, ◌⊎◌, ◌↔◌, ◌≤◌, true, false, Result, OnOk, OnErr, IfErr, IsErrOf}
+use Rattle.dbm_file.specs.Held.{Held, held_by}
 use Rattle.sect_dev.specs.Device.{LeavesOnly, MoreFaults}
 use Rattle.dbm_model.specs.Calls.{Call, Reply}
-use Rattle.dbm_model.specs.Pairs.{Contents}
-use Rattle.dbm_model.specs.States.{Handle, first_fault}
+use Rattle.dbm_model.specs.States.{Handle, State, first_fault}
 use Rattle.dbm_model.specs.Steps.{Changes, case_of, Step}
 use Rattle.page_io.specs.Store.{Settled}
 use Rattle.page_io.specs.Meaning.{ImageStandsFor}
@@ -15,27 +15,28 @@ use Rattle.dbm_fault.specs.declared.fault.Fault.{Fault}
 use Rattle.dbm_fault.specs.declared.fault.Fault.TheVariants.{Device, Broken}
 use Rattle.dbm_file.specs.declared.database.Database.{Database}
 
--- the call asks for a change to this map, by the rule that it falls under
-abbrev pub AsksFor : Handle → Call → Contents → Type 0
-AsksFor h call map = (reply : Reply) × (case_of h.state call ≡ Changes reply map)
+-- the call asks for a change to what this holds, by the rule that it falls under
+abbrev pub AsksFor : Handle → Call → Held → Type 0
+AsksFor h call left =
+    (reply : Reply) × (next : State) × (case_of h call ≡ Changes reply next) × (left ≡ held_by next)
 
--- a map that a stop within the call may leave: that before, that after, or where the call broke the
--- database the one that it asks for
-abbrev pub MayBeLeft : Handle → Handle → Call → Contents → Type 0
-MayBeLeft before after call map =
-    (map ≡ before.state.map) ⊎ ((map ≡ after.state.map)
-    ⊎ ((after.state.usable ≡ false) × AsksFor before call map))
+-- what a stop within the call may leave: what was held before, what is held after, or where the call
+-- broke the database what it asks for
+abbrev pub MayBeLeft : Handle → Handle → Call → Held → Type 0
+MayBeLeft before after call left =
+    (left ≡ held_by before.state) ⊎ ((left ≡ held_by after.state)
+    ⊎ ((after.state.usable ≡ false) × AsksFor before call left))
 
--- an image stands for one of these maps
-abbrev pub StandsForSome : (Contents → Type 0) → ℕ → Settled → Type 0
-StandsForSome Left limit settled = (map : Contents) × Left map × ImageStandsFor settled map limit
+-- an image stands for one of these
+abbrev pub StandsForSome : (Held → Type 0) → Settled → Type 0
+StandsForSome Left settled = (left : Held) × Left left × ImageStandsFor settled left.map left.bounds
 
--- every image of every moment since the old database stands for one of these maps
+-- every image of every moment since the old database stands for one of these
 abbrev pub Survives : {S : Type 0} {s : Ghosts S} → Database S s → Database S s
-    → (Contents → Type 0) → Type 0
+    → (Held → Type 0) → Type 0
 Survives {S} {s} old new Left =
     LeavesOnly s.moment s.settled_since (store_of old) (store_of new)
-    (StandsForSome Left (meta_kept old).limit)
+    (StandsForSome Left)
 
 -- A call on a database at this handle: a step of the model, and what a stop leaves within it.
 pub record IsStep {S : Type 0} {s : Ghosts S} (old new : Database S s) (before : Handle)
@@ -49,7 +50,7 @@ pub record IsStep {S : Type 0} {s : Ghosts S} (old new : Database S s) (before :
 pub record IsSameDatabase {S : Type 0} {s : Ghosts S} (old new : Database S s) : Type 0 where
   pub honesty : s.honest (store_of new) ↔ s.honest (store_of old)
   pub later : s.faults (store_of old) ≤ s.faults (store_of new)
-  pub limit : (meta_kept new).limit ≡ (meta_kept old).limit
+  pub bounds : (meta_kept new).bounds ≡ (meta_kept old).bounds
   pub capacity : (page_state new).capacity ≡ (page_state old).capacity
   pub writable : (page_state new).writable ≡ (page_state old).writable
   pub base : (page_state new).base ≡ (page_state old).base

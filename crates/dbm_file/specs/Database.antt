@@ -38,14 +38,14 @@ HoldsMap {S} {s} db map = (page_state db).usable ≡ true → Holds s (store_of 
 abbrev pub StandsAfterStop : {S : Type 0} {s : Ghosts S} → Database S s → Contents → Type 0
 StandsAfterStop {S} {s} db map =
     (page_state db).usable ≡ true → (settled : Settled) → s.settles_to (store_of db) settled
-    → ImageStandsFor settled map (meta_kept db).limit
+    → ImageStandsFor settled map (meta_kept db).bounds
 
 -- the handle of a database at this map
 abbrev pub handle_of : {S : Type 0} {s : Ghosts S} → Database S s → Contents → Handle
 handle_of {S} {s} db map = record {
   state = record {
     map = map;
-    limit = (meta_kept db).limit;
+    bounds = (meta_kept db).bounds;
     error = error_of db;
     pass = pass_of db;
     writable = (page_state db).writable;

@@ -17,7 +17,7 @@ pub record IsOver {S G : Type 0} {s : Ghosts S} {g : Ghosts G} (db : Database S 
   pub ends : length (page_state group).base + 1 ≡ (page_state db).end
   pub same : s.honest (store_of db) → (page_state group).base ≡ s.committed (store_of db)
   pub honesty : g.honest (store_of group) ↔ s.honest (store_of db)
-  pub limit : (meta_kept group).limit ≡ (meta_kept db).limit
+  pub bounds : (meta_kept group).bounds ≡ (meta_kept db).bounds
   pub capacity : (page_state group).capacity ≡ (page_state db).capacity
   pub writable : (page_state group).writable ≡ true
 
@@ -43,7 +43,7 @@ pub record IsAlike {G : Type 0} {g : Ghosts G} (before : Handle)
     (group : Database G g) : Type 0 where
   pub usable : before.state.usable ≡ true
   pub writable : before.state.writable ≡ true
-  pub limit : before.state.limit ≡ (meta_kept group).limit
+  pub bounds : before.state.bounds ≡ (meta_kept group).bounds
   pub capacity : before.capacity ≡ (page_state group).capacity
 
 -- the pair was stored in it, as by a call on a database that it is like

@@ -5,6 +5,7 @@ pub mod Database
 pub mod Ending
 pub mod Grouping
 pub mod Groups
+pub mod Held
 pub mod Lending
 pub mod Named
 pub mod Opened

@@ -1,5 +1,6 @@
 -- A database that was opened by the name of its file.
-use Rattle.std.specs.Prelude.{◌≡◌, ◌⊎◌, ℕ, ◌/◌, false, Some}
+use Rattle.std.specs.Prelude.{◌≡◌, ◌⊎◌, ◌/◌, false, Some}
+use Rattle.dbm_model.specs.Bounds.{Bounds}
 use Rattle.sect_dev.specs.Device.{IsStable, LeavesOnly}
 use Rattle.sect_dev.specs.Moments.{IsOutcome}
 use Rattle.sect_dev.specs.declared.device.SectorDev as device
@@ -28,8 +29,8 @@ pub record OpensFile {D : Type 0} {bound : device.Ghosts D} {p : store.Ghosts (P
   pub stands : bound.honest first
       → (writes how.access ≡ false → IsStable (bound.candidate first) (bound.seen first))
       → AllStand (bound.sectors first / 4) (bound.candidate first)
-      → (map : Contents) × (limit : ℕ) × IsOpenedAt (writes how.access) db map limit
-      × IsOpened how (bound.sectors first) (bound.candidate first) map limit
+      → (map : Contents) × (bounds : Bounds) × IsOpenedAt (writes how.access) db map bounds
+      × IsOpened how (bound.sectors first) (bound.candidate first) map bounds
   pub opened : bound.honest first
       → KeepsMeta how (bound.sectors first) (bound.candidate first) (meta_kept db)
   pub any_moment : bound.honest first

@@ -1,5 +1,6 @@
 -- A database over a device.
 use Rattle.std.specs.Prelude.{◌≡◌, ◌⊎◌, ℕ, ◌*◌, ◌≤◌, Bool, true, None, Result, Ok, Err}
+use Rattle.dbm_model.specs.Bounds.{Bounds}
 use Rattle.sect_dev.specs.Device.{Image, Candidates, IsImageOf}
 use Rattle.sect_dev.specs.declared.device.SectorDev.{Ghosts}
 use Rattle.page_io.specs.Store.{blank}
@@ -42,20 +43,20 @@ pub record IsNewlyOpened {S : Type 0} {s : store.Ghosts S} (for_writing : Bool) 
   pub no_pass : pass_of db ≡ NotBegun
 
 -- each image is blank or stands for a map, and a device of so many pages has twice those that a
--- database of its limit needs
+-- database of its bounds needs
 abbrev pub AllHaveRoom : ℕ → Candidates → Type 0
 AllHaveRoom pages start = (image : Image) → IsImageOf start image
     → (settled pages image ≡ blank)
-    ⊎ ((map : Contents) × (limit : ℕ) × ImageStandsFor (settled pages image) map limit
-    × (2 * home limit ≤ pages))
+    ⊎ ((map : Contents) × (bounds : Bounds) × ImageStandsFor (settled pages image) map bounds
+    × (2 * home bounds ≤ pages))
 
--- there is room for twice as many pages as a database of its limit needs
+-- there is room for twice as many pages as a database of its bounds needs
 pub record HasRoom {S : Type 0} {s : store.Ghosts S} (db : Database S s) : Type 0 where
-  pub room : 2 * home (meta_kept db).limit ≤ (page_state db).capacity
+  pub room : 2 * home (meta_kept db).bounds ≤ (page_state db).capacity
 
--- just opened, its file stands for this map and limit
+-- just opened, its file stands for this map and these bounds
 pub record IsOpenedAt {S : Type 0} {s : store.Ghosts S} (writable : Bool) (db : Database S s)
-    (map : Contents) (limit : ℕ) : Type 0 where
+    (map : Contents) (bounds : Bounds) : Type 0 where
   pub handle : Handle
   pub is_at : IsAt db handle
-  pub is_fresh : handle.state ≡ model.fresh map limit writable
+  pub is_fresh : handle.state ≡ model.fresh map bounds writable

@@ -1,35 +1,32 @@
 -- How a list of calls is answered, and what it leaves.
 use Rattle.std.specs.Prelude.{◌≡◌, ◌⊎◌, true, false, List, [], ◌∷◌, ◌++◌}
 use Rattle.dbm_model.specs.Calls.{Call, Reply, Refused, Device}
-use Rattle.dbm_model.specs.Changes.{map_asked}
-use Rattle.dbm_model.specs.Pairs.{Contents}
-use Rattle.dbm_model.specs.States.{Handle}
+use Rattle.dbm_model.specs.States.{State, Handle}
 use Rattle.dbm_model.specs.Steps.{Step, Run}
 use Rattle.page_io.specs.Store.{Settled}
 use Rattle.page_io.specs.declared.store.PageStore.{Ghosts}
 use Rattle.dbm_file.specs.Answers.{MayBeLeft, StandsForSome, Survives, IsStep}
-use Rattle.dbm_file.specs.Database.{store_of, meta_kept, page_state, IsAt}
+use Rattle.dbm_file.specs.Database.{store_of, page_state, IsAt}
+use Rattle.dbm_file.specs.Held.{Held, held_by, held_asked}
 use Rattle.dbm_file.specs.declared.database.Database.{Database}
 
--- a map that a stop within these calls, answered so, may leave: one that a stop within one of them
--- may
-abbrev pub MayBeLeftWithin : Handle → List Call → List Reply → Handle → Contents → Type 0
-MayBeLeftWithin before [] [] after map = (after ≡ before) × (map ≡ before.state.map)
-MayBeLeftWithin before (call ∷ calls) (reply ∷ replies) after map =
+-- what a stop within these calls, answered so, may leave: what a stop within one of them may
+abbrev pub MayBeLeftWithin : Handle → List Call → List Reply → Handle → Held → Type 0
+MayBeLeftWithin before [] [] after left = (after ≡ before) × (left ≡ held_by before.state)
+MayBeLeftWithin before (call ∷ calls) (reply ∷ replies) after left =
     (mid : Handle) × Step before call reply mid
-    × ((MayBeLeft before mid call map × Run mid calls replies after)
-    ⊎ MayBeLeftWithin mid calls replies after map)
-MayBeLeftWithin before [] (reply ∷ replies) after map = ⊥
-MayBeLeftWithin before (call ∷ calls) [] after map = ⊥
+    × ((MayBeLeft before mid call left × Run mid calls replies after)
+    ⊎ MayBeLeftWithin mid calls replies after left)
+MayBeLeftWithin before [] (reply ∷ replies) after left = ⊥
+MayBeLeftWithin before (call ∷ calls) [] after left = ⊥
 
--- a map that may be left where the call broke the database: the one before it, or the one that it
--- asks for
-abbrev pub IsInDoubt : Contents → Call → Contents → Type 0
-IsInDoubt before call map = (map ≡ before) ⊎ (map ≡ map_asked before call)
+-- what may be left where the call broke the database: what was held before it, or what it asks for
+abbrev pub IsInDoubt : State → Call → Held → Type 0
+IsInDoubt before call left = (left ≡ held_by before) ⊎ (left ≡ held_asked before call)
 
 -- Where the calls broke the database: those before the one that broke it leave it usable, and each
--- image that a stop may leave now stands for the map that they left, or for the one that the call
--- asks for which broke it.
+-- image that a stop may leave now stands for what they left, or for what the call asks for which
+-- broke it.
 pub record IsBreak {S : Type 0} {s : Ghosts S} (new : Database S s) (before : Handle)
     (calls : List Call) (replies : List Reply) (after : Handle) : Type 0 where
   pub earlier : List Call
@@ -47,7 +44,7 @@ pub record IsBreak {S : Type 0} {s : Ghosts S} (new : Database S s) (before : Ha
   pub breaks : broken.state.usable ≡ false
   pub rest : Run broken later refused after
   pub in_doubt : (settled : Settled) → s.settles_to (store_of new) settled
-      → StandsForSome (IsInDoubt sound.state.map call) (meta_kept new).limit settled
+      → StandsForSome (IsInDoubt sound.state call) settled
 
 -- A list of calls on a database at this handle: steps of the model one after another, and what a
 -- stop leaves within them and after them.

@@ -242,14 +242,14 @@ impl<S: PageStore> Database<S> {
     /// before.
     pub fn stat(&self) -> Stat
         ensures counts { (h : Handle) → IsAt self.now h → h.state.usable ≡ true
-            → (result.pairs ≡ len h.state.map) × (result.limit ≡ h.state.limit) }
+            → (result.pairs ≡ len h.state.map) × (result.limit ≡ h.state.bounds.limit) }
 
         // It has no more pages than a database of its limit needs.
         ensures bounded { (h : Handle) → IsAt self.now h → h.state.usable ≡ true
-            → result.pages ≤ home h.state.limit }
+            → result.pages ≤ home h.state.bounds }
         ensures shown { result ≡ record {
           pairs = (meta_kept self.now).pairs;
-          limit = (meta_kept self.now).limit;
+          limit = (meta_kept self.now).bounds.limit;
           buckets = meta_buckets (meta_kept self.now);
           level = (meta_kept self.now).level;
           split = (meta_kept self.now).split;
@@ -338,7 +338,7 @@ impl<S: PageStore> Database<S> {
         requires usable { (page_state self.old).usable ≡ true }
         requires begun { (begins ≡ true) ⊎ (pass_of self.old ≢ NotBegun) }
         ensures step { AtEachHandle self.old (λ h.
-            (call : Call) → case_of h.state call ≡ Passes (pass_from begins self.old)
+            (call : Call) → case_of h call ≡ Passes (pass_from begins self.old)
             → IsStep self.old self.new h call (slot_reply self.new.page.bytes result)) }
         ensures ahead { IfOk result (λ found. IfSome found (λ slot.
             IsAheadAt (pass_from begins self.old) self.new.page.bytes slot)) }

@@ -2,6 +2,7 @@
 
 ghost use Rattle.std.specs.Prelude.{◌≡◌, ◌≢◌, ◌⊎◌, ◌↔◌, ◌≤◌, ◌<◌, ◌/◌, ℕ, IfOk, IfErr, IfSome, OnOk, None, Err, true, false, [], ◌∷◌};
 ghost use Rattle.std.specs.FinMap.{empty};
+ghost use Rattle.dbm_model.specs.Bounds.{Bounds};
 ghost use Rattle.sect_dev.specs.Device.{Image, IsImageOf, IsStable, LeavesOnly, MoreFaults};
 ghost use Rattle.sect_dev.specs.Moments.{IsOutcome};
 ghost use Rattle.dbm_model.specs.Pairs.{Contents};
@@ -64,9 +65,9 @@ impl<D: SectorDev> Database<CachedPages<Pager<D>>> {
         ensures stands { D.honest dev
             → (writes how.access ≡ false → IsStable (D.candidate dev) (D.seen dev))
             → AllStand (D.sectors dev / 4) (D.candidate dev)
-            → IfOk result (λ db. (map : Contents) × (limit : ℕ)
-            × IsOpenedAt (writes how.access) db map limit
-            × IsOpened how (D.sectors dev) (D.candidate dev) map limit) }
+            → IfOk result (λ db. (map : Contents) × (bounds : Bounds)
+            × IsOpenedAt (writes how.access) db map bounds
+            × IsOpened how (D.sectors dev) (D.candidate dev) map bounds) }
 
         // For reading, nothing is written and nothing synced.
         ensures only_reads { writes how.access ≡ false → D.honest dev
@@ -148,7 +149,7 @@ impl<D: SectorDev> Database<CachedPages<Pager<D>>> {
         // Every image that is now left stands for the map of the database that was closed.
         ensures stands { D.honest result.0 → (h : Handle) → IsAt self h → h.state.usable ≡ true
             → (image : Image) → IsImageOf (D.candidate result.0) image
-            → ImageStandsFor (settled (D.sectors result.0 / 4) image) h.state.map h.state.limit }
+            → ImageStandsFor (settled (D.sectors result.0 / 4) image) h.state.map h.state.bounds }
 
         // Of a database opened for writing all is then on the disk, and no commit on its way.
         ensures rests { D.honest result.0 → (page_state self).writable ≡ true

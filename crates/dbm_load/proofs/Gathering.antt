@@ -233,7 +233,7 @@ module _ {S : Type 0} (s : Ghosts S) (form : TextForm) (old mid new : Database S
           refused_within s form old mid new first now held number was goes h fault stops
       by_fault (Line n) None says (is, stores) =
           let so = still_goes old mid new was goes in
-          stopped s form old new new first now next line number so.limit so.honesty.1
+          stopped s form old new new first now next line number so.honesty.1
           (goes_nowhere new) counts
           (all_stored s form old mid new first now held number was goes h stores) r (Line n)
           (subst (λ (said : Option Pair). LoadsLine (Err (Line n)) said number new new) (sym says)

@@ -3,13 +3,14 @@ use Rattle.std.proofs.Common.{◌≡◌, inl, inr, ⊎_elim, ℕ, ◌<◌, ◌�
 use Rattle.dbm_model.specs.Calls.{Call, Replace, Reply, Stored}
 use Rattle.dbm_model.specs.Changes.{replacing}
 use Rattle.dbm_model.specs.FaultCount.{MoreFaults}
-use Rattle.dbm_model.specs.Pairs.{Pair, Contents}
+use Rattle.dbm_model.specs.Pairs.{Pair}
 use Rattle.dbm_model.specs.States.{Handle}
 use Rattle.dbm_model.specs.Steps.{Case, Tells, Refuses, Declines, Finds, Passes, Changes, case_of, Suffers, Step, Run}
 use Rattle.dbm_model.proofs.StoreLemmas.{stays_usable}
 use Rattle.page_io.specs.declared.store.PageStore.{Ghosts}
 use Rattle.dbm_file.specs.Answers.{MayBeLeft, IsStep}
-use Rattle.dbm_file.specs.Database.{meta_kept, page_state, IsAt}
+use Rattle.dbm_file.specs.Database.{page_state, IsAt}
+use Rattle.dbm_file.specs.Held.{Held, held_by}
 use Rattle.dbm_file.specs.Groups.{IsGroup}
 use Rattle.dbm_file.specs.Runs.{MayBeLeftWithin, IsRun}
 use Rattle.dbm_file.specs.declared.database.Database.{Database}
@@ -20,21 +21,23 @@ more_still : (a b now : ℕ) → a ≤ b → MoreFaults b now → MoreFaults a n
 more_still a b now le more = omega arith
 
 -- a call suffers what it does after faults that were counted before it
-suffers_still : (h : Handle) (n : ℕ) → h.faults ≤ n → (c : Case) (reply : Reply) (after : Handle)
-    → Suffers (record h { faults = n }) c reply after → Suffers h c reply after
-suffers_still h n le (Tells said told) reply after is = is
-suffers_still h n le (Refuses fault) reply after is = is
-suffers_still h n le (Declines fault) reply after is =
+suffers_still : (h : Handle) (n : ℕ) → h.faults ≤ n → (call : Call) (c : Case) (reply : Reply)
+    (after : Handle) → Suffers (record h { faults = n }) call c reply after
+    → Suffers h call c reply after
+suffers_still h n le call (Tells said told) reply after is = is
+suffers_still h n le call (Refuses fault) reply after is = is
+suffers_still h n le call (Declines fault) reply after is =
     (is.0, more_still h.faults n after.faults le is.1, is.2)
-suffers_still h n le (Finds found) reply after is =
-    (is.0, more_still h.faults n after.faults le is.1, is.2)
-suffers_still h n le (Passes from) reply after is =
-    (is.0, more_still h.faults n after.faults le is.1, is.2)
-suffers_still h n le (Changes said map) reply after (inl is) =
+suffers_still h n le call (Finds found) reply after (inl is) =
     inl (is.0, more_still h.faults n after.faults le is.1, is.2)
-suffers_still h n le (Changes said map) reply after (inr (inl is)) =
+suffers_still h n le call (Finds found) reply after (inr is) = inr is
+suffers_still h n le call (Passes from) reply after is =
+    (is.0, more_still h.faults n after.faults le is.1, is.2)
+suffers_still h n le call (Changes said next) reply after (inl is) =
+    inl (is.0, more_still h.faults n after.faults le is.1, is.2)
+suffers_still h n le call (Changes said next) reply after (inr (inl is)) =
     inr (inl (is.0, more_still h.faults n after.faults le is.1, is.2, is.3, is.4))
-suffers_still h n le (Changes said map) reply after (inr (inr is)) = inr (inr is)
+suffers_still h n le call (Changes said next) reply after (inr (inr is)) = inr (inr is)
 
 step_still : (h : Handle) (n : ℕ) (call : Call) (reply : Reply) (after : Handle) → h.faults ≤ n
     → Step (record h { faults = n }) call reply after → Step h call reply after
@@ -45,17 +48,17 @@ step_still h n call reply after le step = record {
   bounded = step.bounded;
   buckets = step.buckets;
   answers = ⊎_elim (λ is. inl is)
-      (λ is. inr (suffers_still h n le (case_of h.state call) reply after is)) step.answers;
+      (λ is. inr (suffers_still h n le call (case_of h call) reply after is)) step.answers;
 }
 
--- the map after the last of some stores
-left_last : (before after : Handle) (pair : Pair) (pairs : List Pair) (left : Contents)
+-- what is held after the last of some stores
+left_last : (before after : Handle) (pair : Pair) (pairs : List Pair) (left : Held)
     → Run before (map replacing (pair ∷ pairs)) (map (λ _. Stored) (pair ∷ pairs)) after
-    → left ≡ after.state.map
+    → left ≡ held_by after.state
     → MayBeLeftWithin before (map replacing (pair ∷ pairs)) (map (λ _. Stored) (pair ∷ pairs)) after
     left
 left_last before after pair [] left run is =
-    (run.0, run.1, inl (inr (inl (is ∙ ap (λ (x : Handle). x.state.map) run.2)), run.2))
+    (run.0, run.1, inl (inr (inl (is ∙ ap (λ (x : Handle). held_by x.state) run.2)), run.2))
 left_last before after pair (next ∷ pairs) left run is =
     (run.0, run.1, inr (left_last run.0 after next pairs left run.2 is))
 
@@ -96,10 +99,10 @@ group_runs s old new h (pair ∷ pairs) some group =
 
 -- a call after a group of no pairs is that call
 pub step_after_none : {S : Type 0} (s : Ghosts S) (old mid new : Database S s) (h : Handle)
-    (call : Call) (reply : Reply) → IsAt old h → (meta_kept mid).limit ≡ (meta_kept old).limit
+    (call : Call) (reply : Reply) → IsAt old h
     → (none : IsGroup old mid h []) → IsStep mid new none.after call reply
     → IsStep old new h call reply
-step_after_none s old mid new h call reply at limit none step = record {
+step_after_none s old mid new h call reply at none step = record {
   after = step.after;
   step = step_still h none.after.faults call reply step.after none.counts
       (subst (λ (x : Handle). Step x call reply step.after) none.run step.step);
@@ -107,8 +110,8 @@ step_after_none s old mid new h call reply at limit none step = record {
   survives = λ was.
       survives_then s old mid new (MayBeLeft h step.after call) (MayBeLeft none.after step.after call)
       (survives_among s old mid (MayBeLeft h step.after call) _ (none.survives was) (λ left.
-      ⊎_elim (λ is. inl is) (λ is. inl (is ∙ ap (λ (x : Handle). x.state.map) none.run))))
-      (step.survives (usable was)) limit
+      ⊎_elim (λ is. inl is) (λ is. inl (is ∙ ap (λ (x : Handle). held_by x.state) none.run))))
+      (step.survives (usable was))
       (λ left is. subst (λ (x : Handle). MayBeLeft x step.after call left) none.run is);
 }
   where

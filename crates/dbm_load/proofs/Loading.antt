@@ -12,7 +12,7 @@ use Rattle.dbm_model.specs.Steps.{Run}
 use Rattle.page_io.specs.declared.store.PageStore.{Ghosts}
 use Rattle.dbm_file.specs.Answers.{IsStep, IsSameDatabase}
 use Rattle.dbm_file.specs.Calls.{store_reply}
-use Rattle.dbm_file.specs.Database.{store_of, meta_kept, IsAt, AtEachHandle}
+use Rattle.dbm_file.specs.Database.{store_of, IsAt, AtEachHandle}
 use Rattle.dbm_file.specs.Runs.{IsRun}
 use Rattle.dbm_fault.specs.Faults.{fault_of}
 use Rattle.dbm_file.specs.declared.calls.StoreReply.{StoreReply}
@@ -109,7 +109,6 @@ left_behind None done line rest h = tt
 left_behind (Some text) done line rest h = h ∙ append_assoc done (line ∷ []) rest
 
 module _ {S : Type 0} (s : Ghosts S) (old mid new : Database S s)
-    (limit : (meta_kept mid).limit ≡ (meta_kept old).limit)
     (honesty : s.honest (store_of old) → s.honest (store_of mid)) (goes : IsSameDatabase mid new)
     (counts : s.honest (store_of new) → CountsNow new) where
   -- one more pair was stored
@@ -119,7 +118,7 @@ module _ {S : Type 0} (s : Ghosts S) (old mid new : Database S s)
   one_more pairs pair stores step honest h at =
       let run = stores honest h at in
       goes_on_with s old mid new h (map replacing pairs) (map (λ _. Stored) pairs) (replacing pair)
-      Stored limit goes run (step (honesty honest) run.after run.is_at)
+      Stored goes run (step (honesty honest) run.after run.is_at)
       (counts (goes.honesty.1 (honesty honest))) _ _
       (map-append replacing pairs (pair ∷ [])) (map-append (λ _. Stored) pairs (pair ∷ []))
 
@@ -131,7 +130,7 @@ module _ {S : Type 0} (s : Ghosts S) (old mid new : Database S s)
   one_refused pairs pair fault stores step honest h at =
       let run = stores honest h at in
       goes_on_with s old mid new h (map replacing pairs) (map (λ _. Stored) pairs) (replacing pair)
-      (Refused fault) limit goes run (step (honesty honest) run.after run.is_at)
+      (Refused fault) goes run (step (honesty honest) run.after run.is_at)
       (counts (goes.honesty.1 (honesty honest))) _ _ refl refl
 
 seen : {A : Type 0} {x y : A} → Some x ≡ Some y → x ≡ y
@@ -167,7 +166,6 @@ refused_line {S} {s} (Some pair) key content fault number old new e step =
 
 module _ {S : Type 0} (s : Ghosts S) (form : TextForm) (old mid new : Database S s)
     (first now next : Option (List ℕ)) (line : List ℕ) (number : ℕ)
-    (limit : (meta_kept mid).limit ≡ (meta_kept old).limit)
     (honesty : s.honest (store_of old) → s.honest (store_of mid)) (goes : IsSameDatabase mid new)
     (counts : s.honest (store_of new) → CountsNow new) (h : IsLoading form old mid first now number)
     (r : IfSome now (λ text. ReadsLine 8193 text true line next)) where
@@ -189,7 +187,7 @@ module _ {S : Type 0} (s : Ghosts S) (form : TextForm) (old mid new : Database S
         said = map-append (pair_in form) h.done (whole ∷ []) ∙ (λ i. h.said i ++ says i ∷ [])
             ∙ sym (map-append Some h.stored (pair ∷ []));
         counted = omega (arith, h.counted, length-append h.done (whole ∷ []));
-        stores = one_more s old mid new limit honesty goes counts h.stored pair h.stores loaded;
+        stores = one_more s old mid new honesty goes counts h.stored pair h.stores loaded;
       }
 
   -- or the load stopped there
@@ -226,7 +224,7 @@ module _ {S : Type 0} (s : Ghosts S) (form : TextForm) (old mid new : Database S
         ends = inl (
           pair,
           says,
-          one_refused s old mid new limit honesty goes counts h.stored pair
+          one_refused s old mid new honesty goes counts h.stored pair
               (fault_of fault) h.stores loaded,
         );
       }

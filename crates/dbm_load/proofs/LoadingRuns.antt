@@ -1,5 +1,5 @@
 -- What a run of replacing stores does to a map.
-use Rattle.std.proofs.Common.{◌≡◌, ◌⊎◌, inl, inr, ⊎_elim, ℕ, ◌+◌, T, List, [], ◌∷◌, ◌++◌, ◌&&◌, length, map, Bool, true, false, cond, not, Option, Some, None, refl, sym, ap, subst, ◌∙◌, append-nil, append_assoc}
+use Rattle.std.proofs.Common.{◌≡◌, inl, inr, ⊎_elim, ℕ, T, List, [], ◌∷◌, ◌++◌, ◌&&◌, map, Bool, true, false, cond, not, Option, Some, None, refl, sym, ap, subst, ◌∙◌, append-nil, append_assoc}
 use Rattle.std.specs.Prelude.{nat_le}
 use Rattle.std.specs.Ordering.{is_lt, ordering_reverse}
 use Rattle.std.specs.declared.cmp.Ordering.{Ordering}
@@ -8,11 +8,11 @@ use Rattle.std.specs.FinMap.{empty, entries, entries_sorted, entries-insert, sam
 use Rattle.std.specs.FinMap.Entries.{is_sorted, below_all, put, by_order}
 use Rattle.std.proofs.lemmas.Cmp.{nat_list_cmp_total}
 use Rattle.std.proofs.lemmas.List.{nil_from_length}
-use Rattle.dbm_model.specs.Calls.{Replace, Store, Stored, Kept, Refused, Fault, TooLong, ReadOnly, Full}
+use Rattle.dbm_model.specs.Calls.{Replace, Store, Stored, Kept, Refused, Fault, TooLong, ReadOnly, Full, Call}
 use Rattle.dbm_model.specs.Changes.{replacing}
-use Rattle.dbm_model.specs.Pairs.{Key, Pair, Contents, key_cmp}
+use Rattle.dbm_model.specs.Pairs.{Key, Pair, Contents, key_cmp, is_allowed}
 use Rattle.dbm_model.specs.States.{State, Handle}
-use Rattle.dbm_model.specs.Steps.{Case, Tells, Refuses, Declines, Finds, Passes, Changes, stored, usable_case, broken_case, case_of, Answers, Suffers, Step, Run}
+use Rattle.dbm_model.specs.Steps.{Case, Tells, Refuses, Declines, Finds, Passes, Changes, stored, usable_case, broken_case, case_of, Answers, Suffers, Step, Run, with_map}
 use Rattle.dbm_model.proofs.StoreLemmas.{stored_map}
 
 -- the rule doesn't answer that an old content stays
@@ -22,7 +22,7 @@ IsNoKept (Refuses fault) = Unit {0}
 IsNoKept (Declines fault) = Unit {0}
 IsNoKept (Finds found) = found ≡ Kept → ⊥
 IsNoKept (Passes left) = ⊥
-IsNoKept (Changes said contents) = said ≡ Kept → ⊥
+IsNoKept (Changes said next) = said ≡ Kept → ⊥
 
 refused_not_kept : (fault : Fault) → Kept ≡ Refused fault → ⊥
 refused_not_kept fault e = cc
@@ -33,39 +33,41 @@ not_answered s (Refuses fault) after never is = refused_not_kept fault is.0
 not_answered s (Declines fault) after never is = refused_not_kept fault is.0
 not_answered s (Finds found) after never is = never (sym is.0)
 not_answered s (Passes left) after never is = never
-not_answered s (Changes said contents) after never is = never (sym is.0)
+not_answered s (Changes said next) after never is = never (sym is.0)
 
-not_suffered : (before after : Handle) (c : Case) → Suffers before c Kept after → ⊥
-not_suffered before after (Tells said told) is = is
-not_suffered before after (Refuses fault) is = is
-not_suffered before after (Declines fault) is = refused_not_kept _ is.0
-not_suffered before after (Finds found) is = refused_not_kept _ is.0
-not_suffered before after (Passes left) is = refused_not_kept _ is.0
-not_suffered before after (Changes said contents) (inl fails) = refused_not_kept _ fails.0
-not_suffered before after (Changes said contents) (inr (inl breaks)) = refused_not_kept _ breaks.0
-not_suffered before after (Changes said contents) (inr (inr (inl memory))) =
+not_suffered : (before after : Handle) (call : Call) (c : Case) → Suffers before call c Kept after
+    → ⊥
+not_suffered before after call (Tells said told) is = is
+not_suffered before after call (Refuses fault) is = is
+not_suffered before after call (Declines fault) is = refused_not_kept _ is.0
+not_suffered before after call (Finds found) (inl fails) = refused_not_kept _ fails.0
+not_suffered before after call (Finds found) (inr memory) = refused_not_kept _ memory.0
+not_suffered before after call (Passes left) is = refused_not_kept _ is.0
+not_suffered before after call (Changes said next) (inl fails) = refused_not_kept _ fails.0
+not_suffered before after call (Changes said next) (inr (inl breaks)) = refused_not_kept _ breaks.0
+not_suffered before after call (Changes said next) (inr (inr (inl memory))) =
     refused_not_kept _ memory.0
-not_suffered before after (Changes said contents) (inr (inr (inr room))) = refused_not_kept _ room.0
+not_suffered before after call (Changes said next) (inr (inr (inr room))) = refused_not_kept _ room.0
 
 stored_no_kept : (s : State) (key content : List ℕ) (old : Option (List ℕ))
     → IsNoKept (stored s key content Replace old)
 stored_no_kept s key content (Some old) = λ e. cc
 stored_no_kept s key content None =
-    elim (nat_le s.limit (len s.map)) as
-    (λ b. IsNoKept (cond b (Declines Full) (Changes Stored (insert s.map key content)))) [
+    elim (nat_le s.bounds.limit (len s.map)) as
+    (λ b. IsNoKept (cond b (Declines Full) (Changes Stored (with_map s (insert s.map key content))))) [
       | true ↦
           tt
       | false ↦ λ e. cc
     ]
 
-usable_no_kept : (s : State) (key content : List ℕ)
-    → IsNoKept (usable_case s (Store key content Replace))
-usable_no_kept s key content =
+usable_no_kept : (n : ℕ) (s : State) (key content : List ℕ)
+    → IsNoKept (usable_case n s (Store key content Replace))
+usable_no_kept n s key content =
     elim s.writable as (λ b. IsNoKept
     (cond (not b) (Refuses ReadOnly)
-    (cond (nat_le (length key + length content) 2026)
+    (cond (is_allowed s.bounds.version (key, content))
     (stored s key content Replace (get s.map key)) (Refuses TooLong)))) [
-      | true ↦ elim (nat_le (length key + length content) 2026) as
+      | true ↦ elim (is_allowed s.bounds.version (key, content)) as
           (λ b. IsNoKept (cond b (stored s key content Replace (get s.map key))
           (Refuses TooLong))) [
             | true ↦ stored_no_kept s key content (get s.map key)
@@ -74,11 +76,11 @@ usable_no_kept s key content =
       | false ↦ tt
     ]
 
-no_kept : (s : State) (key content : List ℕ) → IsNoKept (case_of s (Store key content Replace))
-no_kept s key content = elim s.usable as
-    (λ b. IsNoKept (cond b (usable_case s (Store key content Replace))
-    (broken_case s (Store key content Replace)))) [
-      | true ↦ usable_no_kept s key content
+no_kept : (h : Handle) (key content : List ℕ) → IsNoKept (case_of h (Store key content Replace))
+no_kept h key content = elim h.state.usable as
+    (λ b. IsNoKept (cond b (usable_case h.capacity h.state (Store key content Replace))
+    (broken_case h.capacity h.state (Store key content Replace)))) [
+      | true ↦ usable_no_kept h.capacity h.state key content
       | false ↦ tt
     ]
 
@@ -87,9 +89,9 @@ pub never_kept : (before after : Handle) (key content : List ℕ)
     → Step before (Store key content Replace) Kept after → ⊥
 never_kept before after key content step =
     let call = Store key content Replace in
-    ⊎_elim (not_answered before.state (case_of before.state call) after.state
-    (no_kept before.state key content))
-    (not_suffered before after (case_of before.state call)) step.answers
+    ⊎_elim (not_answered before.state (case_of before call) after.state
+    (no_kept before key content))
+    (not_suffered before after call (case_of before call)) step.answers
 
 first : (a b : Bool) → T (a && b) → T a
 first true b p = tt

@@ -1,16 +1,16 @@
 -- Runs of calls on a database, one after another.
-use Rattle.std.proofs.Common.{◌≡◌, inl, inr, ⊎_elim, ℕ, List, [], ◌∷◌, ◌++◌, true, false, refl, sym, ◌∙◌, ap, subst, arith, append_assoc}
+use Rattle.std.proofs.Common.{◌≡◌, inl, inr, ⊎_elim, List, [], ◌∷◌, ◌++◌, true, false, refl, sym, ◌∙◌, ap, subst, arith, append_assoc}
 use Rattle.dbm_model.specs.Calls.{Call, Reply, Refused, Device}
-use Rattle.dbm_model.specs.Pairs.{Contents}
 use Rattle.dbm_model.specs.States.{Handle}
 use Rattle.dbm_model.specs.Steps.{Run}
 use Rattle.page_io.specs.Store.{Settled}
-use Rattle.page_io.specs.Meaning.{ImageStandsFor}
 use Rattle.page_io.specs.declared.store.PageStore.{Ghosts}
 use Rattle.dbm_file.specs.Answers.{Survives, IsSameDatabase}
-use Rattle.dbm_file.specs.Database.{store_of, meta_kept, page_state, IsAt}
+use Rattle.dbm_file.specs.Held.{Held, held_by}
+use Rattle.dbm_file.specs.Database.{store_of, page_state, IsAt}
 use Rattle.dbm_file.specs.Runs.{MayBeLeftWithin, IsBreak, IsRun}
 use Rattle.dbm_file.specs.declared.database.Database.{Database}
+use Rattle.dbm_file.proofs.Breaks.{rests_shown}
 use Rattle.dbm_load.proofs.Survivals.{survives_among, survives_then, survives_still}
 
 run_both : (first mid last : Handle) (calls later : List Call) (replies told : List Reply)
@@ -23,53 +23,53 @@ run_both first mid last (c ∷ calls) later [] told run more = absurd run
 run_both first mid last (c ∷ calls) later (r ∷ replies) told run more =
     (run.0, run.1, run_both run.0 mid last calls later replies told run.2 more)
 
--- the map before the first of some calls
+-- what was held before the first of some calls
 pub left_first : (before after : Handle) (calls : List Call) (replies : List Reply)
-    (map : Contents) → Run before calls replies after → map ≡ before.state.map
-    → MayBeLeftWithin before calls replies after map
-left_first before after [] [] map run is = (run, is)
-left_first before after [] (r ∷ replies) map run is = absurd run
-left_first before after (c ∷ calls) [] map run is = absurd run
-left_first before after (c ∷ calls) (r ∷ replies) map run is =
+    (held : Held) → Run before calls replies after → held ≡ held_by before.state
+    → MayBeLeftWithin before calls replies after held
+left_first before after [] [] held run is = (run, is)
+left_first before after [] (r ∷ replies) held run is = absurd run
+left_first before after (c ∷ calls) [] held run is = absurd run
+left_first before after (c ∷ calls) (r ∷ replies) held run is =
     (run.0, run.1, inl (inl is, run.2))
 
 module _ (later : List Call) (told : List Reply) where
   -- within the calls that were made first
   left_before : (before mid after : Handle) (calls : List Call) (replies : List Reply)
-      (map : Contents) → MayBeLeftWithin before calls replies mid map → Run mid later told after
-      → MayBeLeftWithin before (calls ++ later) (replies ++ told) after map
-  left_before before mid after [] [] map left more =
-      left_first before after later told map
+      (held : Held) → MayBeLeftWithin before calls replies mid held → Run mid later told after
+      → MayBeLeftWithin before (calls ++ later) (replies ++ told) after held
+  left_before before mid after [] [] held left more =
+      left_first before after later told held
       (subst (λ (h : Handle). Run h later told after) left.0 more) left.1
-  left_before before mid after [] (r ∷ replies) map left more = absurd left
-  left_before before mid after (c ∷ calls) [] map left more = absurd left
-  left_before before mid after (c ∷ calls) (r ∷ replies) map (next, first, left) more = (
+  left_before before mid after [] (r ∷ replies) held left more = absurd left
+  left_before before mid after (c ∷ calls) [] held left more = absurd left
+  left_before before mid after (c ∷ calls) (r ∷ replies) held (next, first, left) more = (
     next,
     first,
     ⊎_elim
         (λ one. inl (one.0, run_both next mid after calls later replies told one.1 more))
-        (λ rest. inr (left_before next mid after calls replies map rest more))
+        (λ rest. inr (left_before next mid after calls replies held rest more))
         left,
   )
 
   -- within those that follow
   left_within : (before mid after : Handle) (calls : List Call) (replies : List Reply)
-      (map : Contents) → Run before calls replies mid → MayBeLeftWithin mid later told after map
-      → MayBeLeftWithin before (calls ++ later) (replies ++ told) after map
-  left_within before mid after [] [] map run left =
-      subst (λ (h : Handle). MayBeLeftWithin h later told after map) run left
-  left_within before mid after [] (r ∷ replies) map run left = absurd run
-  left_within before mid after (c ∷ calls) [] map run left = absurd run
-  left_within before mid after (c ∷ calls) (r ∷ replies) map run left =
-      (run.0, run.1, inr (left_within run.0 mid after calls replies map run.2 left))
+      (held : Held) → Run before calls replies mid → MayBeLeftWithin mid later told after held
+      → MayBeLeftWithin before (calls ++ later) (replies ++ told) after held
+  left_within before mid after [] [] held run left =
+      subst (λ (h : Handle). MayBeLeftWithin h later told after held) run left
+  left_within before mid after [] (r ∷ replies) held run left = absurd run
+  left_within before mid after (c ∷ calls) [] held run left = absurd run
+  left_within before mid after (c ∷ calls) (r ∷ replies) held run left =
+      (run.0, run.1, inr (left_within run.0 mid after calls replies held run.2 left))
 
 -- the first ones broke the database
 broke_before : {S : Type 0} (s : Ghosts S) (mid new : Database S s) (start held after : Handle)
     (calls later : List Call) (replies told : List Reply)
     → IsBreak mid start calls replies held → Run held later told after
-    → store_of new ≡ store_of mid → (meta_kept new).limit ≡ (meta_kept mid).limit
+    → store_of new ≡ store_of mid
     → IsBreak new start (calls ++ later) (replies ++ told) after
-broke_before {S} s mid new start held after calls later replies told b run still limit = record {
+broke_before {S} s mid new start held after calls later replies told b run still = record {
   earlier = b.earlier;
   answered = b.answered;
   call = b.call;
@@ -87,8 +87,7 @@ broke_before {S} s mid new start held after calls later replies told b run still
   breaks = b.breaks;
   rest = run_both b.broken held after b.later later b.refused told b.rest run;
   in_doubt = λ x left.
-      let is = b.in_doubt x (subst (λ (store : S). s.settles_to store x) still left) in
-      (is.0, is.1, subst (λ (n : ℕ). ImageStandsFor x is.0 n) (sym limit) is.2);
+      b.in_doubt x (subst (λ (store : S). s.settles_to store x) still left);
 }
 
 -- or those that follow
@@ -147,7 +146,7 @@ no_calls s db h at now = (none, refl)
       survives = λ usable. record {
         later = omega arith;
         until = omega arith;
-        each = λ x left. (h.state.map, (refl, refl), at.rests usable x (now x left));
+        each = λ x left. (held_by h.state, (refl, refl), rests_shown db h at usable x (now x left));
         before = λ t x le left. inl left;
       };
       breaks = λ usable broken. absurd (let both = sym usable ∙ broken in cc);
@@ -155,21 +154,21 @@ no_calls s db h at now = (none, refl)
 
 module _ {S : Type 0} (s : Ghosts S) (old mid new : Database S s) (h : Handle)
     (calls later : List Call) (replies told : List Reply)
-    (limit : (meta_kept mid).limit ≡ (meta_kept old).limit) (goes : IsSameDatabase mid new)
-    (run : IsRun old mid h calls replies) (more : IsRun mid new run.after later told) where
-  abbrev Within : Contents → Type 0
+    (goes : IsSameDatabase mid new) (run : IsRun old mid h calls replies)
+    (more : IsRun mid new run.after later told) where
+  abbrev Within : Held → Type 0
   Within = MayBeLeftWithin h (calls ++ later) (replies ++ told) more.after
 
   earlier : (page_state old).usable ≡ true → Survives old mid Within
   earlier was = survives_among s old mid Within (MayBeLeftWithin h calls replies run.after)
       (run.survives was)
-      (λ map left. left_before later told h run.after more.after calls replies map left more.run)
+      (λ held left. left_before later told h run.after more.after calls replies held left more.run)
 
   goes_on : (page_state old).usable ≡ true → (page_state mid).usable ≡ true
       → Survives old new Within
   goes_on was usable = survives_then s old mid new Within
-      (MayBeLeftWithin run.after later told more.after) (earlier was) (more.survives usable) limit
-      (λ map left. left_within later told h run.after more.after calls replies map run.run left)
+      (MayBeLeftWithin run.after later told more.after) (earlier was) (more.survives usable)
+      (λ held left. left_within later told h run.after more.after calls replies held run.run left)
 
   runs_on : IsRun old new h (calls ++ later) (replies ++ told)
   runs_on = record {
@@ -187,7 +186,7 @@ module _ {S : Type 0} (s : Ghosts S) (old mid new : Database S s) (h : Handle)
           | true ↦ λ usable. broke_after new h run.after more.after calls later replies told run.run
               (more.breaks usable now)
           | false ↦ λ broken. broke_before s mid new h run.after more.after calls later replies told
-              (run.breaks was broken) more.run (goes.still broken) goes.limit
+              (run.breaks was broken) more.run (goes.still broken)
         ] refl;
   }
 

@@ -40,7 +40,7 @@ module _ {S : Type 0} (s : Ghosts S) (old new : Database S s) (only : OnlyNow ol
       → AtEachHandle old (λ h. IsRun old new h (call ∷ []) (reply ∷ []))
   one_runs call reply step honest h at =
       let none = no_calls s old h at (λ x left. only x honest left) in
-      goes_on_with s old old new h [] [] call reply refl goes none.0
+      goes_on_with s old old new h [] [] call reply goes none.0
       (subst (λ (x : Handle). IsStep old new x call reply) (sym none.1) (step honest h at))
       (counts (goes.honesty.1 honest)) (call ∷ []) (reply ∷ []) refl refl
 
@@ -98,7 +98,7 @@ pub after_none : {S : Type 0} (s : Ghosts S) (old mid new : Database S s) (call 
     → AtEachHandle old (λ h. IsStep old new h call reply)
 after_none s old mid new call reply goes none step honest h at =
     let group = none honest h at in
-    step_after_none s old mid new h call reply at goes.limit group
+    step_after_none s old mid new h call reply at group
     (step (goes.honesty.1 honest) group.after group.is_at)
 
 module _ {S : Type 0} (s : Ghosts S) (old mid : Database S s) (goes : IsSameDatabase old mid)
@@ -110,7 +110,7 @@ module _ {S : Type 0} (s : Ghosts S) (old mid : Database S s) (goes : IsSameData
       let run = stores honest h at in
       let second = stored (goes.honesty.1 honest) run.after run.is_at in
       (runs_as s old mid new h (map replacing pairs) (map replacing more)
-      (map (λ _. Stored) pairs) (map (λ _. Stored) more) goes.limit rest run second
+      (map (λ _. Stored) pairs) (map (λ _. Stored) more) rest run second
       (map replacing (pairs ++ more)) (map (λ _. Stored) (pairs ++ more))
       (sym (map-append replacing pairs more)) (sym (map-append (λ _. Stored) pairs more))).0
 
@@ -130,7 +130,7 @@ module _ {S : Type 0} (s : Ghosts S) (old mid : Database S s) (goes : IsSameData
           let second = before (goes.honesty.1 honest) run.after run.is_at in
           (runs_as s old mid new h (map replacing pairs)
           (map replacing stored ++ replacing pair ∷ []) (map (λ _. Stored) pairs)
-          (map (λ _. Stored) stored ++ Refused (fault_of fault) ∷ []) goes.limit rest run second
+          (map (λ _. Stored) stored ++ Refused (fault_of fault) ∷ []) rest run second
           (map replacing (pairs ++ stored) ++ replacing pair ∷ [])
           (map (λ _. Stored) (pairs ++ stored) ++ Refused (fault_of fault) ∷ [])
           (last replacing (replacing pair)) (last (λ _. Stored) (Refused (fault_of fault)))).0
@@ -141,7 +141,7 @@ module _ {S : Type 0} (s : Ghosts S) (old mid : Database S s) (goes : IsSameData
           let run = stores honest h at in
           let second = then (goes.honesty.1 honest) run.after run.is_at in
           let whole = runs_as s old mid second.mid h (map replacing pairs) (map replacing stored)
-          (map (λ _. Stored) pairs) (map (λ _. Stored) stored) goes.limit second.goes run second.run
+          (map (λ _. Stored) pairs) (map (λ _. Stored) stored) second.goes run second.run
           (map replacing (pairs ++ stored)) (map (λ _. Stored) (pairs ++ stored))
           (sym (map-append replacing pairs stored))
           (sym (map-append (λ _. Stored) pairs stored)) in

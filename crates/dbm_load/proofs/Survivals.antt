@@ -1,16 +1,15 @@
 -- What a stop leaves within calls, read otherwise and one after another.
-use Rattle.std.proofs.Common.{◌≡◌, inl, inr, ⊎_elim, ℕ, ◌≤◌, sym, subst, arith}
-use Rattle.dbm_model.specs.Pairs.{Contents}
+use Rattle.std.proofs.Common.{◌≡◌, inl, inr, ⊎_elim, ◌≤◌, sym, subst, arith}
 use Rattle.page_io.specs.Store.{Settled}
-use Rattle.page_io.specs.Meaning.{ImageStandsFor}
 use Rattle.page_io.specs.declared.store.PageStore.{Ghosts}
 use Rattle.dbm_file.specs.Answers.{StandsForSome, Survives}
-use Rattle.dbm_file.specs.Database.{store_of, meta_kept}
+use Rattle.dbm_file.specs.Held.{Held}
+use Rattle.dbm_file.specs.Database.{store_of}
 use Rattle.dbm_file.specs.declared.database.Database.{Database}
 
--- of more maps
-pub survives_among : {S : Type 0} (s : Ghosts S) (old new : Database S s) (P Q : Contents → Type 0)
-    → Survives old new Q → ((map : Contents) → Q map → P map) → Survives old new P
+-- of more
+pub survives_among : {S : Type 0} (s : Ghosts S) (old new : Database S s) (P Q : Held → Type 0)
+    → Survives old new Q → ((held : Held) → Q held → P held) → Survives old new P
 survives_among s old new P Q run more = record {
   later = run.later;
   until = run.until;
@@ -21,10 +20,10 @@ survives_among s old new P Q run more = record {
 
 -- one after another
 pub survives_then : {S : Type 0} (s : Ghosts S) (old mid new : Database S s)
-    (P Q : Contents → Type 0) → Survives old mid P → Survives mid new Q
-    → (meta_kept mid).limit ≡ (meta_kept old).limit → ((map : Contents) → Q map → P map)
+    (P Q : Held → Type 0) → Survives old mid P → Survives mid new Q
+    → ((held : Held) → Q held → P held)
     → Survives old new P
-survives_then s old mid new P Q first second limit more = record {
+survives_then s old mid new P Q first second more = record {
   later = omega (arith, first.later, second.later);
   until = omega (arith, first.until, second.until);
   each = λ x left. ⊎_elim (λ past. first.each x past) (λ is. now x is)
@@ -33,14 +32,12 @@ survives_then s old mid new P Q first second limit more = record {
       (second.before t x (omega (arith, le, first.later)) left);
 }
   where
-    now : (x : Settled) → StandsForSome Q (meta_kept mid).limit x
-        → StandsForSome P (meta_kept old).limit x
-    now x is =
-        (is.0, more is.0 is.1, subst (λ (n : ℕ). ImageStandsFor x is.0 n) limit is.2)
+    now : (x : Settled) → StandsForSome Q x → StandsForSome P x
+    now x is = (is.0, more is.0 is.1, is.2)
 
 -- where the second ones made no device call
 pub survives_still : {S : Type 0} (s : Ghosts S) (old mid new : Database S s)
-    (P : Contents → Type 0) → Survives old mid P → store_of new ≡ store_of mid
+    (P : Held → Type 0) → Survives old mid P → store_of new ≡ store_of mid
     → Survives old new P
 survives_still {S} s old mid new P run still = record {
   later = subst (λ (d : S). (s.moment (store_of old)).at ≤ (s.moment d).at) (sym still) run.later;

@@ -2,7 +2,7 @@
 use Rattle.std.proofs.Common.{◌≡◌, ◌≢◌, List, [], ◌∷◌, ◌++◌, zero, suc, refl, sym, ◌∙◌, ap, subst, arith}
 use Rattle.std.specs.Prelude.{All, AllPairs, slice_index_or}
 use Rattle.std.proofs.lemmas.List.Kept.{AllPairs-cons}
-use Rattle.dbm_model.specs.Calls.{Call, Store, Fetch, Delete, First, Next, Error, Clear, Reply}
+use Rattle.dbm_model.specs.Calls.{Call, Store, Fetch, Delete, First, Next, Error, Clear, Upgrade, Reply}
 use Rattle.dbm_model.specs.KeyOrder.{ComesBefore}
 use Rattle.dbm_model.specs.Pairs.{Key}
 use Rattle.dbm_model.specs.States.{State, Pass, NotBegun, Begun, Behind, Handle}
@@ -26,6 +26,7 @@ from_same s First other = absurd (other refl)
 from_same s Next other = refl
 from_same s Error other = refl
 from_same s Clear other = refl
+from_same s Upgrade other = refl
 
 -- the keys are ahead of a pass, in ascending order
 record IsAscent (from : Pass) (ks : List Key) : Type 0 where

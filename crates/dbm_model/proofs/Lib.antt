@@ -1,5 +1,7 @@
+pub mod AllowedLemmas
 pub mod AscentLemmas
 pub mod CaseLemmas
+pub mod HoldingLemmas
 pub mod KeyOrderLemmas
 pub mod NumberLemmas
 pub mod PassLemmas
@@ -13,5 +15,6 @@ pub mod Runs
 pub mod StayLemmas
 pub mod StoreLemmas
 pub mod TimesLemmas
+pub mod UpgradeLemmas
 pub mod UseLemmas
 pub mod WrongRuns

@@ -4,12 +4,12 @@ use Rattle.std.specs.Prelude.{is_some, IsSome}
 use Rattle.std.specs.Cmp.Lexicographic.{nat_list_cmp_total}
 use Rattle.std.specs.FinMap.{get, insert, remove, get-insert, get-remove}
 use Rattle.std.specs.Ordering.{eq_by_cmp}
-use Rattle.dbm_model.specs.Calls.{Mode, Call, Store, Fetch, Delete, First, Next, Error, Clear, Reply, Stored, Kept, Deleted, Absent, Bytes, NoRecord, End, Number, Refused, is_acknowledged}
+use Rattle.dbm_model.specs.Calls.{Mode, Call, Store, Fetch, Delete, First, Next, Error, Clear, Upgrade, Reply, Stored, Kept, Deleted, Absent, Bytes, NoRecord, End, Number, Upgraded, Refused, is_acknowledged}
 use Rattle.dbm_model.specs.Changes.{map_after}
 use Rattle.dbm_model.specs.Pairs.{Key, Contents, key_cmp}
-use Rattle.dbm_model.specs.States.{State, Pass, Handle}
+use Rattle.dbm_model.specs.States.{State, Pass, Begun, Handle}
 use Rattle.dbm_model.specs.Steps.{IsAhead, IsOver, Step, Run}
-use Rattle.dbm_model.specs.Passes.{given_by, given, times_in, is_refused, GoesOn, BeginNone, KeepKey, PassesAreComplete, LastingKeysAreGiven}
+use Rattle.dbm_model.specs.Passes.{given_by, given, times_in, is_refused, GoesOn, BeginNone, KeepKey, PassesAreComplete, EmptyPassesEndAtOnce, LastingKeysAreGiven}
 use Rattle.dbm_model.proofs.AscentLemmas.{from_same, none_given_twice}
 use Rattle.dbm_model.proofs.CaseLemmas.{map_of_usable}
 use Rattle.dbm_model.proofs.KeyOrderLemmas.{one_comes_before}
@@ -36,6 +36,7 @@ by_store map name content mode (Bytes bytes) = keeps refl
 by_store map name content mode NoRecord = keeps refl
 by_store map name content mode End = keeps refl
 by_store map name content mode (Number number) = keeps refl
+by_store map name content mode Upgraded = keeps refl
 by_store map name content mode (Refused fault) = keeps refl
 
 by_delete : (map : Contents) (name : Key) (reply : Reply) → MapChange map (Delete name) reply
@@ -47,6 +48,7 @@ by_delete map name (Bytes bytes) = keeps refl
 by_delete map name NoRecord = keeps refl
 by_delete map name End = keeps refl
 by_delete map name (Number number) = keeps refl
+by_delete map name Upgraded = keeps refl
 by_delete map name (Refused fault) = keeps refl
 
 map_change : (map : Contents) (call : Call) (reply : Reply) → MapChange map call reply
@@ -57,6 +59,7 @@ map_change map First reply = keeps refl
 map_change map Next reply = keeps refl
 map_change map Error reply = keeps refl
 map_change map Clear reply = keeps refl
+map_change map Upgrade reply = keeps refl
 
 stays_in_store : (map : Contents) (name content : List ℕ) (key : Key) → IsSome (get map key)
     → IsSome (get (insert map name content) key)
@@ -233,3 +236,19 @@ passes_complete before mid after calls reply replies run answered goes step key 
         (ap (λ (m : Contents). is_some (get m key))
         (map_of_usable before run.0 First reply run.1 usable) ∙ is))
         ∙ sym (ap (λ b. cond b 1 0) is)
+
+-- ---- a pass that ends where it begins
+
+over_at_once : (s after : State) → PassStep s First End after → IsOver s.map Begun
+over_at_once s after (rests same none refused) = absurd (let wrong = refused tt in cc)
+over_at_once s after (ends over same said) = over
+over_at_once s after (gives key next same said one) = absurd (let wrong = said in cc)
+
+pub empty_ends_at_once : EmptyPassesEndAtOnce
+empty_ends_at_once before after step key = by_mark (is_some (get before.state.map key)) refl
+  where
+    by_mark : (b : Bool) → is_some (get before.state.map key) ≡ b
+        → is_some (get before.state.map key) ≡ false
+    by_mark true is = absurd (over_at_once before.state after.state
+        (pass_step before after First End step) key is tt)
+    by_mark false is = is

@@ -5,6 +5,7 @@ use Rattle.std.specs.Prelude.{nat_le, is_some, IsSome}
 use Rattle.std.specs.Int.{reverse_bits_onto}
 use Rattle.std.specs.Ordering.{eq_by_cmp}
 use Rattle.std.proofs.lemmas.Bool.{lt-leb}
+use Rattle.dbm_model.specs.Bounds.{in_v1}
 use Rattle.dbm_model.specs.Calls.{Insert, Stored, Kept, Deleted, Bytes, Number, NoPass}
 use Rattle.dbm_model.specs.KeyOrder.{hash_of, ComesBefore}
 use Rattle.dbm_model.specs.Pairs.{Contents, Key, key_cmp}
@@ -65,10 +66,10 @@ over_behind_one content key there ahead = never_before_itself (one 0x61)
 
 pub passes_over_nothing : PassesOverNothing
 passes_over_nothing =
-    let flagged = at 100 empty (Some NoPass) NotBegun in
-    let begun = at 100 empty (Some NoPass) Begun in
+    let flagged = at (in_v1 100) empty (Some NoPass) NotBegun in
+    let begun = at (in_v1 100) empty (Some NoPass) Begun in
     let over : IsOver empty Begun = λ key there ahead. none_in_empty key there in
-    may 100 (goes (at 100 empty None NotBegun) (Refuses NoPass) flagged refl (refl, refl)
+    may (in_v1 100) (goes (at (in_v1 100) empty None NotBegun) (Refuses NoPass) flagged refl (refl, refl)
     (goes flagged (Passes Begun) begun refl (inl (over, refl, refl))
     (goes begun (Passes Begun) begun refl (inl (over, refl, refl))
     (goes begun (Tells (Number 7) begun) begun refl (refl, refl) (done begun)))))
@@ -76,15 +77,15 @@ passes_over_nothing =
 pub passes_on : PassesOn
 passes_on =
     let map = only (one 0x01) in
-    let begun = at 100 map None (Behind (one 0x61)) in
+    let begun = at (in_v1 100) map None (Behind (one 0x61)) in
     let has = is_only (one 0x01) (one 0x61) in
     let over = over_behind_one (one 0x01) in
-    may 100 (first_store 100 0x61 0x01 (omega arith)
-    (goes (at 100 map None NotBegun) (Passes Begun) begun refl
+    may (in_v1 100) (first_store 100 0x61 0x01 (omega arith)
+    (goes (at (in_v1 100) map None NotBegun) (Passes Begun) begun refl
     (inr (one 0x61, first_of_one (one 0x01), refl, refl))
     (goes begun (Finds (Bytes (one 0x01))) begun (ap fetched has) (refl, refl)
     (goes begun (Finds Kept) begun
-    (by_old 100 map None (Behind (one 0x61)) (one 0x61) (one 0x02) allowed Insert
+    (by_old (in_v1 100) map None (Behind (one 0x61)) (one 0x61) (one 0x02) allowed Insert
     (Some (one 0x01)) has) (refl, refl)
     (goes begun (Passes (Behind (one 0x61))) begun refl (inl (over, refl, refl))
     (goes begun (Passes (Behind (one 0x61))) begun refl (inl (over, refl, refl)) (done begun)))))))
@@ -216,26 +217,26 @@ two_left = omega (arith, one_more a x, len_inserted (only x) b x, len_removed bo
 
 pub passes_over_changes : PassesOverChanges
 passes_over_changes =
-    let two = at 100 both None NotBegun in
-    let behind_a = at 100 both None (Behind a) in
-    let less = at 100 left None (Behind a) in
-    let more = at 100 added None (Behind a) in
-    let behind_g = at 100 added None (Behind g) in
-    let again = at 100 all_three None (Behind g) in
-    let behind_b = at 100 all_three None (Behind b) in
-    may 100 (first_store 100 0x61 0x01 (omega arith)
-    (goes (at 100 (only x) None NotBegun) (Changes Stored both) two
-    (adds 100 (only x) None NotBegun b x allowed (is_only x b)
+    let two = at (in_v1 100) both None NotBegun in
+    let behind_a = at (in_v1 100) both None (Behind a) in
+    let less = at (in_v1 100) left None (Behind a) in
+    let more = at (in_v1 100) added None (Behind a) in
+    let behind_g = at (in_v1 100) added None (Behind g) in
+    let again = at (in_v1 100) all_three None (Behind g) in
+    let behind_b = at (in_v1 100) all_three None (Behind b) in
+    may (in_v1 100) (first_store 100 0x61 0x01 (omega arith)
+    (goes (at (in_v1 100) (only x) None NotBegun) (Changes Stored two) two
+    (adds (in_v1 100) (only x) None NotBegun b x allowed (is_only x b)
     (ap (nat_le 100) (one_more a x))) (refl, refl)
     (goes two (Passes Begun) behind_a refl (inr (a, first_is_a, refl, refl))
-    (goes behind_a (Changes Deleted left) less (ap (deleted behind_a a) has_a_at) (refl, refl)
-    (goes less (Changes Stored added) more
-    (adds 100 left None (Behind a) g x allowed
+    (goes behind_a (Changes Deleted less) less (ap (deleted behind_a a) has_a_at) (refl, refl)
+    (goes less (Changes Stored more) more
+    (adds (in_v1 100) left None (Behind a) g x allowed
     (get-remove order both a g ∙ get-insert order (only x) b x g ∙ is_only x g)
     (lt-leb 100 (len left) (omega (arith, two_left)))) (refl, refl)
     (goes more (Passes (Behind a)) behind_g refl (inr (g, then_g, refl, refl))
-    (goes behind_g (Changes Stored all_three) again
-    (adds 100 added None (Behind g) a x allowed
+    (goes behind_g (Changes Stored again) again
+    (adds (in_v1 100) added None (Behind g) a x allowed
     (get-insert order left g x a ∙ get-remove order both a a)
     (lt-leb 100 (len added) (omega (arith, two_left, len_inserted left g x)))) (refl, refl)
     (goes again (Passes (Behind g)) behind_b refl (inr (b, then_b, refl, refl))

@@ -1,11 +1,13 @@
 -- What one step does to the pass.
-use Rattle.std.proofs.Common.{◌≡◌, ◌≢◌, ◌⊎◌, inl, inr, ⊎_elim, ℕ, ◌+◌, Bool, true, false, cond, not, List, [], ◌∷◌, length, Option, Some, None, refl, sym, ◌∙◌, ap}
-use Rattle.std.specs.Prelude.{nat_le, is_some, IsSome}
+use Rattle.std.proofs.Common.{◌≡◌, ◌≢◌, ◌⊎◌, inl, inr, ⊎_elim, ℕ, Bool, true, false, cond, not, List, [], ◌∷◌, Option, Some, None, refl, sym, ◌∙◌, ap}
+use Rattle.std.specs.Prelude.{nat_le, nat_lt, ◌*◌, is_some, IsSome}
 use Rattle.std.specs.FinMap.{get, insert, len}
-use Rattle.dbm_model.specs.Calls.{Mode, Insert, Replace, Call, Store, Fetch, Delete, First, Next, Error, Clear, Reply, Stored, Bytes, End, Refused, Fault, Device, Broken, ReadOnly, TooLong, Full, NoPass}
-use Rattle.dbm_model.specs.Pairs.{Key}
+use Rattle.dbm_model.specs.Bounds.{Version, V1, V2, upgraded}
+use Rattle.dbm_model.specs.Calls.{Mode, Insert, Replace, Call, Store, Fetch, Delete, First, Next, Error, Clear, Upgrade, Reply, Stored, Bytes, End, Refused, Fault, Device, Broken, ReadOnly, TooLong, Full, NoPass, TooSmall, Upgraded}
+use Rattle.dbm_model.specs.Pairs.{Key, is_allowed}
+use Rattle.dbm_model.specs.Sizes.{home}
 use Rattle.dbm_model.specs.States.{State, Pass, NotBegun, Begun, Behind, Handle}
-use Rattle.dbm_model.specs.Steps.{Case, Tells, Refuses, Declines, Finds, Passes, Changes, fetched, stored, deleted, passed, usable_case, broken_case, case_of, IsNextKey, IsOver, Answers, Suffers, Step}
+use Rattle.dbm_model.specs.Steps.{Case, Tells, Refuses, Declines, Finds, Passes, Changes, with_map, fetched, stored, deleted, passed, raised, usable_case, broken_case, case_of, IsNextKey, IsOver, Answers, Suffers, Step}
 use Rattle.dbm_model.specs.Passes.{given_by, is_refused, GivenKeysAreThere, PassesStay}
 use Rattle.dbm_model.proofs.RuleLemmas.{ByCase, falls, if_usable, if_broken}
 
@@ -15,40 +17,41 @@ use Rattle.dbm_model.proofs.RuleLemmas.{ByCase, falls, if_usable, if_broken}
 abbrev SparesPass : State → Case → Type 0
 SparesPass s (Tells said told) = told.pass ≡ s.pass
 SparesPass s (Passes from) = ⊥
+SparesPass s (Changes said next) = next.pass ≡ s.pass
 SparesPass s c = Unit {0}
 
 new_spares : (s : State) (key content : List ℕ)
-    → SparesPass s (cond (nat_le s.limit (len s.map)) (Declines Full)
-    (Changes Stored (insert s.map key content)))
-new_spares s key content = elim (nat_le s.limit (len s.map)) as
-    (λ b. SparesPass s (cond b (Declines Full) (Changes Stored (insert s.map key content)))) [
+    → SparesPass s (cond (nat_le s.bounds.limit (len s.map)) (Declines Full)
+    (Changes Stored (with_map s (insert s.map key content))))
+new_spares s key content = elim (nat_le s.bounds.limit (len s.map)) as
+    (λ b. SparesPass s (cond b (Declines Full) (Changes Stored (with_map s (insert s.map key content))))) [
       | true ↦ tt
-      | false ↦ tt
+      | false ↦ refl
     ]
 
 stored_spares : (s : State) (key content : List ℕ) (mode : Mode) (old : Option (List ℕ))
     → SparesPass s (stored s key content mode old)
 stored_spares s key content Insert (Some old) = tt
-stored_spares s key content Replace (Some old) = tt
+stored_spares s key content Replace (Some old) = refl
 stored_spares s key content Insert None = new_spares s key content
 stored_spares s key content Replace None = new_spares s key content
 
 deleted_spares : (s : State) (key : Key) (old : Option (List ℕ)) → SparesPass s (deleted s key old)
 deleted_spares s key None = tt
-deleted_spares s key (Some content) = tt
+deleted_spares s key (Some content) = refl
 
 fetched_spares : (s : State) (old : Option (List ℕ)) → SparesPass s (fetched old)
 fetched_spares s None = tt
 fetched_spares s (Some content) = tt
 
-store_spares : (s : State) (key content : List ℕ) (mode : Mode)
-    → SparesPass s (usable_case s (Store key content mode))
-store_spares s key content mode =
+store_spares : (room : ℕ) (s : State) (key content : List ℕ) (mode : Mode)
+    → SparesPass s (usable_case room s (Store key content mode))
+store_spares room s key content mode =
     elim s.writable as (λ b. SparesPass s
     (cond (not b) (Refuses ReadOnly)
-    (cond (nat_le (length key + length content) 2026)
+    (cond (is_allowed s.bounds.version (key, content))
     (stored s key content mode (get s.map key)) (Refuses TooLong)))) [
-      | true ↦ elim (nat_le (length key + length content) 2026) as
+      | true ↦ elim (is_allowed s.bounds.version (key, content)) as
           (λ b. SparesPass s (cond b (stored s key content mode (get s.map key))
           (Refuses TooLong))) [
             | true ↦ stored_spares s key content mode (get s.map key)
@@ -57,8 +60,8 @@ store_spares s key content mode =
       | false ↦ tt
     ]
 
-delete_spares : (s : State) (key : Key) → SparesPass s (usable_case s (Delete key))
-delete_spares s key = elim s.writable as
+delete_spares : (room : ℕ) (s : State) (key : Key) → SparesPass s (usable_case room s (Delete key))
+delete_spares room s key = elim s.writable as
     (λ b. SparesPass s (cond b (deleted s key (get s.map key)) (Refuses ReadOnly))) [
       | true ↦
           deleted_spares s key (get s.map key)
@@ -71,29 +74,49 @@ IsOfPass First = Unit {0}
 IsOfPass Next = Unit {0}
 IsOfPass call = ⊥
 
-usable_spares : (s : State) (call : Call) → (IsOfPass call → ⊥) → SparesPass s (usable_case s call)
-usable_spares s (Store key content mode) other = store_spares s key content mode
-usable_spares s (Fetch key) other = fetched_spares s (get s.map key)
-usable_spares s (Delete key) other = delete_spares s key
-usable_spares s First other = absurd (other tt)
-usable_spares s Next other = absurd (other tt)
-usable_spares s Error other = refl
-usable_spares s Clear other = refl
+upgrade_spares : (room : ℕ) (s : State) → SparesPass s (usable_case room s Upgrade)
+upgrade_spares room s = elim s.writable as
+    (λ b. SparesPass s (cond b (raised room s s.bounds.version) (Refuses ReadOnly))) [
+      | true ↦ by_version s.bounds.version
+      | false ↦ tt
+    ]
+  where
+    by_version : (version : Version) → SparesPass s (raised room s version)
+    by_version V1 = elim (nat_lt room (2 * home (upgraded s.bounds))) as
+        (λ b. SparesPass s (cond b (Refuses TooSmall)
+        (Changes Upgraded (record s { bounds = upgraded s.bounds })))) [
+          | true ↦ tt
+          | false ↦ refl
+        ]
+    by_version V2 = refl
 
-broken_spares : (s : State) (call : Call) → SparesPass s (broken_case s call)
-broken_spares s (Store key content mode) = tt
-broken_spares s (Fetch key) = tt
-broken_spares s (Delete key) = tt
-broken_spares s First = tt
-broken_spares s Next = tt
-broken_spares s Error = refl
-broken_spares s Clear = refl
+usable_spares : (room : ℕ) (s : State) (call : Call) → (IsOfPass call → ⊥)
+    → SparesPass s (usable_case room s call)
+usable_spares room s (Store key content mode) other = store_spares room s key content mode
+usable_spares room s (Fetch key) other = fetched_spares s (get s.map key)
+usable_spares room s (Delete key) other = delete_spares room s key
+usable_spares room s First other = absurd (other tt)
+usable_spares room s Next other = absurd (other tt)
+usable_spares room s Error other = refl
+usable_spares room s Clear other = refl
+usable_spares room s Upgrade other = upgrade_spares room s
 
-spares : (s : State) (call : Call) → (IsOfPass call → ⊥) → SparesPass s (case_of s call)
-spares s call other = elim s.usable as
-    (λ b. SparesPass s (cond b (usable_case s call) (broken_case s call))) [
-      | true ↦ usable_spares s call other
-      | false ↦ broken_spares s call
+broken_spares : (room : ℕ) (s : State) (call : Call) → SparesPass s (broken_case room s call)
+broken_spares room s (Store key content mode) = tt
+broken_spares room s (Fetch key) = tt
+broken_spares room s (Delete key) = tt
+broken_spares room s First = tt
+broken_spares room s Next = tt
+broken_spares room s Error = refl
+broken_spares room s Clear = refl
+broken_spares room s Upgrade = tt
+
+spares : (h : Handle) (call : Call) → (IsOfPass call → ⊥) → SparesPass h.state (case_of h call)
+spares h call other = elim h.state.usable as
+    (λ b. SparesPass h.state
+    (cond b (usable_case h.capacity h.state call) (broken_case h.capacity h.state call))) [
+      | true ↦ usable_spares h.capacity h.state call other
+      | false ↦ broken_spares h.capacity h.state call
     ]
 
 spared_answer : (s after : State) (c : Case) (reply : Reply) → SparesPass s c
@@ -103,30 +126,35 @@ spared_answer s after (Refuses fault) reply spares is = ap (λ (t : State). t.pa
 spared_answer s after (Declines fault) reply spares is = ap (λ (t : State). t.pass) is.1
 spared_answer s after (Finds found) reply spares is = ap (λ (t : State). t.pass) is.1
 spared_answer s after (Passes from) reply spares is = absurd spares
-spared_answer s after (Changes said map) reply spares is = ap (λ (t : State). t.pass) is.1
+spared_answer s after (Changes said next) reply spares is =
+    ap (λ (t : State). t.pass) is.1 ∙ spares
 
-spared_suffered : (before after : Handle) (c : Case) (reply : Reply) → Suffers before c reply after
+spared_suffered : (before after : Handle) (call : Call) (c : Case) (reply : Reply)
+    → Suffers before call c reply after
     → after.state.pass ≡ before.state.pass
-spared_suffered before after (Tells said told) reply is = absurd is
-spared_suffered before after (Refuses fault) reply is = absurd is
-spared_suffered before after (Declines fault) reply is = ap (λ (t : State). t.pass) is.2
-spared_suffered before after (Finds found) reply is = ap (λ (t : State). t.pass) is.2
-spared_suffered before after (Passes from) reply is = ap (λ (t : State). t.pass) is.2
-spared_suffered before after (Changes said map) reply (inl fails) =
+spared_suffered before after call (Tells said told) reply is = absurd is
+spared_suffered before after call (Refuses fault) reply is = absurd is
+spared_suffered before after call (Declines fault) reply is = ap (λ (t : State). t.pass) is.2
+spared_suffered before after call (Finds found) reply (inl fails) =
     ap (λ (t : State). t.pass) fails.2
-spared_suffered before after (Changes said map) reply (inr (inl breaks)) =
-    ap (λ (t : State). t.pass) breaks.4
-spared_suffered before after (Changes said map) reply (inr (inr (inl memory))) =
+spared_suffered before after call (Finds found) reply (inr memory) =
     ap (λ (t : State). t.pass) memory.1
-spared_suffered before after (Changes said map) reply (inr (inr (inr room))) =
+spared_suffered before after call (Passes from) reply is = ap (λ (t : State). t.pass) is.2
+spared_suffered before after call (Changes said next) reply (inl fails) =
+    ap (λ (t : State). t.pass) fails.2
+spared_suffered before after call (Changes said next) reply (inr (inl breaks)) =
+    ap (λ (t : State). t.pass) breaks.4
+spared_suffered before after call (Changes said next) reply (inr (inr (inl memory))) =
+    ap (λ (t : State). t.pass) memory.1
+spared_suffered before after call (Changes said next) reply (inr (inr (inr room))) =
     ap (λ (t : State). t.pass) room.2
 
-spared : (before after : Handle) (call : Call) (reply : Reply) → Step before call reply after
+pub spared : (before after : Handle) (call : Call) (reply : Reply) → Step before call reply after
     → (IsOfPass call → ⊥) → after.state.pass ≡ before.state.pass
 spared before after call reply step other =
-    ⊎_elim (spared_answer before.state after.state (case_of before.state call) reply
-    (spares before.state call other))
-    (spared_suffered before after (case_of before.state call) reply) step.answers
+    ⊎_elim (spared_answer before.state after.state (case_of before call) reply
+    (spares before call other))
+    (spared_suffered before after call (case_of before call) reply) step.answers
 
 -- ---- what a step does to the pass
 
@@ -153,6 +181,7 @@ refusal_gives First fault = refl
 refusal_gives Next fault = refl
 refusal_gives Error fault = refl
 refusal_gives Clear fault = refl
+refusal_gives Upgrade fault = refl
 
 pub end_gives : (call : Call) → given_by call End ≡ []
 end_gives (Store key content mode) = refl
@@ -162,6 +191,7 @@ end_gives First = refl
 end_gives Next = refl
 end_gives Error = refl
 end_gives Clear = refl
+end_gives Upgrade = refl
 
 pub key_gives : (call : Call) (key : Key) → IsOfPass call → given_by call (Bytes key) ≡ key ∷ []
 key_gives (Store name content mode) key of_pass = absurd of_pass
@@ -171,6 +201,7 @@ key_gives First key of_pass = refl
 key_gives Next key of_pass = refl
 key_gives Error key of_pass = absurd of_pass
 key_gives Clear key of_pass = absurd of_pass
+key_gives Upgrade key of_pass = absurd of_pass
 
 by_fault : (s after : State) (call : Call) (reply : Reply) (fault : Fault) → after.pass ≡ s.pass
     → reply ≡ Refused fault → PassStep s call reply after
@@ -178,13 +209,13 @@ by_fault s after call reply fault same said =
     rests same (ap (given_by call) said ∙ refusal_gives call fault) (λ of_pass. ap is_refused said)
 
 by_refusal : (before after : Handle) (call : Call) (reply : Reply) (fault : Fault)
-    → ByCase before (Refuses fault) reply after → PassStep before.state call reply after.state
+    → ByCase before call (Refuses fault) reply after → PassStep before.state call reply after.state
 by_refusal before after call reply fault (inl is) =
     by_fault before.state after.state call reply fault (ap (λ (t : State). t.pass) is.1) is.0
 by_refusal before after call reply fault (inr is) = absurd is
 
 by_pass : (before after : Handle) (call : Call) (reply : Reply) → IsOfPass call
-    → ByCase before (Passes (from_of before.state call)) reply after
+    → ByCase before call (Passes (from_of before.state call)) reply after
     → PassStep before.state call reply after.state
 by_pass before after call reply of_pass (inl (inl end)) =
     ends end.0 (ap (λ (t : State). t.pass) end.2) end.1
@@ -200,13 +231,13 @@ by_first before after reply step = by_mark before.state.usable refl
   where
     by_mark : (b : Bool) → before.state.usable ≡ b → PassStep before.state First reply after.state
     by_mark true is = by_pass before after First reply tt
-        (falls before after First reply (Passes Begun) (if_usable before.state First is) step)
+        (falls before after First reply (Passes Begun) (if_usable before First is) step)
     by_mark false is = by_refusal before after First reply Broken
-        (falls before after First reply (Refuses Broken) (if_broken before.state First is) step)
+        (falls before after First reply (Refuses Broken) (if_broken before First is) step)
 
-pub next_falls : (s : State) (pass : Pass) → s.usable ≡ true → s.pass ≡ pass
-    → case_of s Next ≡ passed pass
-next_falls s pass usable is = if_usable s Next usable ∙ ap passed is
+pub next_falls : (h : Handle) (pass : Pass) → h.state.usable ≡ true → h.state.pass ≡ pass
+    → case_of h Next ≡ passed pass
+next_falls h pass usable is = if_usable h Next usable ∙ ap passed is
 
 by_next : (before after : Handle) (reply : Reply) → Step before Next reply after
     → PassStep before.state Next reply after.state
@@ -216,18 +247,18 @@ by_next before after reply step = by_mark before.state.usable refl
         → PassStep before.state Next reply after.state
     by_stand NotBegun usable is = by_refusal before after Next reply NoPass
         (falls before after Next reply (Refuses NoPass)
-        (next_falls before.state NotBegun usable is) step)
+        (next_falls before NotBegun usable is) step)
     by_stand Begun usable is = by_pass before after Next reply tt
         (falls before after Next reply (Passes before.state.pass)
-        (next_falls before.state Begun usable is ∙ ap Passes (sym is)) step)
+        (next_falls before Begun usable is ∙ ap Passes (sym is)) step)
     by_stand (Behind last) usable is = by_pass before after Next reply tt
         (falls before after Next reply (Passes before.state.pass)
-        (next_falls before.state (Behind last) usable is ∙ ap Passes (sym is)) step)
+        (next_falls before (Behind last) usable is ∙ ap Passes (sym is)) step)
 
     by_mark : (b : Bool) → before.state.usable ≡ b → PassStep before.state Next reply after.state
     by_mark true is = by_stand before.state.pass is refl
     by_mark false is = by_refusal before after Next reply Broken
-        (falls before after Next reply (Refuses Broken) (if_broken before.state Next is) step)
+        (falls before after Next reply (Refuses Broken) (if_broken before Next is) step)
 
 pub pass_step : (before after : Handle) (call : Call) (reply : Reply) → Step before call reply after
     → PassStep before.state call reply after.state
@@ -248,6 +279,9 @@ pass_step before after Error reply step =
 pass_step before after Clear reply step =
     rests (spared before after Clear reply step (λ of_pass. of_pass)) refl
     (λ of_pass. absurd of_pass)
+pass_step before after Upgrade reply step =
+    rests (spared before after Upgrade reply step (λ of_pass. of_pass)) refl
+    (λ of_pass. absurd of_pass)
 
 -- ---- the laws of one step
 
@@ -259,6 +293,7 @@ of_pass First one = tt
 of_pass Next one = tt
 of_pass Error one = absurd (⊎_elim (λ e. cc) (λ e. cc) one)
 of_pass Clear one = absurd (⊎_elim (λ e. cc) (λ e. cc) one)
+of_pass Upgrade one = absurd (⊎_elim (λ e. cc) (λ e. cc) one)
 
 there_by_step : (s after : State) (call : Call) (key : Key) → IsOfPass call
     → PassStep s call (Bytes key) after → IsSome (get s.map key)
@@ -282,6 +317,7 @@ from_begun s First begun is = absurd (let wrong = is in cc)
 from_begun s Next begun is = begun is
 from_begun s Error begun is = begun is
 from_begun s Clear begun is = begun is
+from_begun s Upgrade begun is = begun is
 
 stays_by_step : (s after : State) (call : Call) (reply : Reply) → PassStep s call reply after
     → s.pass ≢ NotBegun → after.pass ≢ NotBegun

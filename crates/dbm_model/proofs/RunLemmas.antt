@@ -1,15 +1,16 @@
 -- Runs that are worked out by hand.
-use Rattle.std.proofs.Common.{length, ◌+◌, ◌≡◌, inl, ℕ, ◌≤◌, List, [], ◌∷◌, Bool, true, false, cond, Option, Some, None, refl, sym, ◌∙◌, ap, subst, arith}
+use Rattle.std.proofs.Common.{◌+◌, ◌≡◌, inl, ℕ, ◌≤◌, List, [], ◌∷◌, Bool, true, false, cond, Option, Some, None, refl, sym, ◌∙◌, ap, subst, arith}
 use Rattle.std.specs.FinMap.{empty, get, insert, remove, len, get-empty, get-insert, get-remove, len-empty, len-insert}
 use Rattle.std.specs.Prelude.{nat_le, is_some}
 use Rattle.std.specs.Cmp.{IsTotalOrder}
 use Rattle.std.specs.Cmp.Lexicographic.{nat_list_cmp_total}
 use Rattle.std.proofs.lemmas.Bool.{lt-leb}
 use Rattle.std.specs.Ordering.{eq_by_cmp}
+use Rattle.dbm_model.specs.Bounds.{Bounds, in_v1}
 use Rattle.dbm_model.specs.Calls.{Mode, Insert, Replace, Call, Store, Reply, Stored, Kept, Bytes, NoRecord, Absent, Deleted, Number, Fault, NoPass, Full, TooLong}
-use Rattle.dbm_model.specs.Pairs.{Contents, Key, key_cmp}
+use Rattle.dbm_model.specs.Pairs.{Contents, Key, key_cmp, is_allowed}
 use Rattle.dbm_model.specs.States.{State, Pass, NotBegun, Handle, fresh}
-use Rattle.dbm_model.specs.Steps.{Case, Tells, Refuses, Declines, Finds, Changes, fetched, deleted, stored, case_of, Answers, Run, buckets_opened}
+use Rattle.dbm_model.specs.Steps.{Case, Tells, Refuses, Declines, Finds, Changes, with_map, fetched, deleted, stored, case_for, case_of, Answers, Run, buckets_opened}
 use Rattle.dbm_model.specs.Examples.{StopsAtLimit, StoresAndDeletes, MayAnswer, one}
 
 -- the handle after a call that nothing stops
@@ -22,7 +23,7 @@ with_state h reply after = record h {
 -- a first call that nothing stops
 calm : (h last : Handle) (call : Call) (calls : List Call) (c : Case) (reply : Reply)
     (replies : List Reply) (after : State)
-    → case_of h.state call ≡ c → Answers h.state c reply after
+    → case_of h call ≡ c → Answers h.state c reply after
     → Run (with_state h reply after) calls replies last
     → Run h (call ∷ calls) (reply ∷ replies) last
 calm h last call calls c reply replies after falls answers rest = (
@@ -57,7 +58,7 @@ pub record IsRunFrom (s : State) (calls : List Call) (replies : List Reply) : Ty
 
 pub goes : (s : State) {call : Call} {calls : List Call} {reply : Reply} {replies : List Reply}
     (c : Case) (after : State)
-    → case_of s call ≡ c → Answers s c reply after → IsRunFrom after calls replies
+    → case_for 8 s call ≡ c → Answers s c reply after → IsRunFrom after calls replies
     → IsRunFrom s (call ∷ calls) (reply ∷ replies)
 goes s {call} {calls} {reply} {replies} c after falls answers rest = record {
   last = λ buckets.
@@ -71,9 +72,9 @@ goes s {call} {calls} {reply} {replies} c after falls answers rest = record {
 pub done : (s : State) → IsRunFrom s [] []
 done s = record { last = with_buckets s; run = λ buckets. refl }
 
-pub may : (limit : ℕ) {calls : List Call} {replies : List Reply}
-    → IsRunFrom (fresh empty limit true) calls replies → MayAnswer limit calls replies
-may limit g = record { after = g.last 1; run = g.run 1 }
+pub may : (bounds : Bounds) {calls : List Call} {replies : List Reply}
+    → IsRunFrom (fresh empty bounds true) calls replies → MayAnswer bounds calls replies
+may bounds g = record { after = g.last 1; run = g.run 1 }
 
 abbrev pub order : IsTotalOrder key_cmp
 order = nat_list_cmp_total
@@ -96,10 +97,10 @@ one_more key content = len-insert order empty key content
     ∙ ap (λ (n : ℕ). n + 1) (len-empty key_cmp (List ℕ))
 
 -- usable and open for changes
-abbrev pub at : ℕ → Contents → Option Fault → Pass → State
-at limit map error pass = record {
+abbrev pub at : Bounds → Contents → Option Fault → Pass → State
+at bounds map error pass = record {
   map = map;
-  limit = limit;
+  bounds = bounds;
   error = error;
   pass = pass;
   writable =
@@ -108,28 +109,29 @@ at limit map error pass = record {
 }
 
 -- a store of an allowed pair
-module _ (limit : ℕ) (map : Contents) (error : Option Fault) (pass : Pass)
-    (key content : List ℕ) (allowed : nat_le (length key + length content) 2026 ≡ true) where
+module _ (bounds : Bounds) (map : Contents) (error : Option Fault) (pass : Pass)
+    (key content : List ℕ) (allowed : is_allowed bounds.version (key, content) ≡ true) where
   abbrev pub here : State
-  here = at limit map error pass
+  here = at bounds map error pass
 
   pub by_old : (mode : Mode) (old : Option (List ℕ)) → get map key ≡ old
-      → case_of here (Store key content mode) ≡ stored here key content mode old
+      → case_for 0 here (Store key content mode) ≡ stored here key content mode old
   by_old mode old has = ap (λ b.
       cond b (stored here key content mode (get map key)) (Refuses TooLong)) allowed
       ∙ ap (stored here key content mode) has
 
-  by_room : (b : Bool) → nat_le limit (len map) ≡ b
-      → cond (nat_le limit (len map)) (Declines Full) (Changes Stored (insert map key content))
-      ≡ cond b (Declines Full) (Changes Stored (insert map key content))
-  by_room b is = ap (λ c. cond c (Declines Full) (Changes Stored (insert map key content))) is
+  by_room : (b : Bool) → nat_le bounds.limit (len map) ≡ b
+      → cond (nat_le bounds.limit (len map)) (Declines Full) (Changes Stored (with_map here (insert map key content)))
+      ≡ cond b (Declines Full) (Changes Stored (with_map here (insert map key content)))
+  by_room b is = ap (λ c. cond c (Declines Full) (Changes Stored (with_map here (insert map key content)))) is
 
-  pub adds : get map key ≡ None → nat_le limit (len map) ≡ false
-      → case_of here (Store key content Replace) ≡ Changes Stored (insert map key content)
-  adds absent room = by_old Replace None absent ∙ by_room false room
+  pub adds : get map key ≡ None → nat_le bounds.limit (len map) ≡ false
+      → case_for 0 here (Store key content Replace)
+      ≡ Changes Stored (with_map here (insert map key content))
+  adds absent free = by_old Replace None absent ∙ by_room false free
 
-  pub declines : get map key ≡ None → nat_le limit (len map) ≡ true
-      → case_of here (Store key content Replace) ≡ Declines Full
+  pub declines : get map key ≡ None → nat_le bounds.limit (len map) ≡ true
+      → case_for 0 here (Store key content Replace) ≡ Declines Full
   declines absent none = by_old Replace None absent ∙ by_room true none
 
 pub none_yet : (limit : ℕ) → 1 ≤ limit
@@ -142,31 +144,31 @@ allowed = refl
 -- a first store of a key in a new database
 pub first_store : (limit : ℕ) (key content : ℕ) → 1 ≤ limit
     → {calls : List Call} {replies : List Reply}
-    → IsRunFrom (at limit (insert empty (one key) (one content)) None NotBegun) calls replies
-    → IsRunFrom (at limit empty None NotBegun) (Store (one key) (one content) Replace ∷ calls)
+    → IsRunFrom (at (in_v1 limit) (insert empty (one key) (one content)) None NotBegun) calls replies
+    → IsRunFrom (at (in_v1 limit) empty None NotBegun) (Store (one key) (one content) Replace ∷ calls)
     (Stored ∷ replies)
 first_store limit key content some rest =
     let map = insert empty (one key) (one content) in
-    goes (at limit empty None NotBegun) (Changes Stored map) (at limit map None NotBegun)
-    (adds limit empty None NotBegun (one key) (one content) allowed (get-empty key_cmp (one key))
+    goes (at (in_v1 limit) empty None NotBegun) (Changes Stored (at (in_v1 limit) map None NotBegun)) (at (in_v1 limit) map None NotBegun)
+    (adds (in_v1 limit) empty None NotBegun (one key) (one content) allowed (get-empty key_cmp (one key))
     (none_yet limit some)) (refl, refl) rest
 
 pub stops_at_limit : StopsAtLimit
 stops_at_limit =
     let map = only (one 0x01) in
-    let flagged = at 1 map (Some Full) NotBegun in
+    let flagged = at (in_v1 1) map (Some Full) NotBegun in
     let new = insert map (one 0x61) (one 0x02) in
-    let last = at 1 new (Some Full) NotBegun in
+    let last = at (in_v1 1) new (Some Full) NotBegun in
     let has = is_only (one 0x01) (one 0x61) in
-    may 1 (first_store 1 0x61 0x01 (omega arith)
-    (goes (at 1 map None NotBegun) (Declines Full) flagged
-    (declines 1 map None NotBegun (one 0x62) (one 0x01) allowed (is_only (one 0x01) (one 0x62))
+    may (in_v1 1) (first_store 1 0x61 0x01 (omega arith)
+    (goes (at (in_v1 1) map None NotBegun) (Declines Full) flagged
+    (declines (in_v1 1) map None NotBegun (one 0x62) (one 0x01) allowed (is_only (one 0x01) (one 0x62))
     (ap (nat_le 1) (one_more (one 0x61) (one 0x01)))) (refl, refl)
     (goes flagged (Finds Kept) flagged
-    (by_old 1 map (Some Full) NotBegun (one 0x61) (one 0x03) allowed Insert (Some (one 0x01))
+    (by_old (in_v1 1) map (Some Full) NotBegun (one 0x61) (one 0x03) allowed Insert (Some (one 0x01))
     has) (refl, refl)
-    (goes flagged (Changes Stored new) last
-    (by_old 1 map (Some Full) NotBegun (one 0x61) (one 0x02) allowed Replace (Some (one 0x01))
+    (goes flagged (Changes Stored last) last
+    (by_old (in_v1 1) map (Some Full) NotBegun (one 0x61) (one 0x02) allowed Replace (Some (one 0x01))
     has) (refl, refl)
     (goes last (Finds (Bytes (one 0x02))) last
     (ap fetched (get-insert order map (one 0x61) (one 0x02) (one 0x61))) (refl, refl)
@@ -179,26 +181,26 @@ stores_and_deletes =
     let map = insert empty k (one 0x76) in
     let two = insert map [] [] in
     let left = remove two k in
-    let first = at 100 map None NotBegun in
-    let second = at 100 two None NotBegun in
-    let third = at 100 left None NotBegun in
+    let first = at (in_v1 100) map None NotBegun in
+    let second = at (in_v1 100) two None NotBegun in
+    let third = at (in_v1 100) left None NotBegun in
     let had = get-insert order empty k (one 0x76) k in
     let absent = get-insert order empty k (one 0x76) [] ∙ get-empty key_cmp [] in
     let room = ap (nat_le 100) (one_more k (one 0x76)) in
-    may 100 (first_store 100 0x6b 0x76 (omega arith)
+    may (in_v1 100) (first_store 100 0x6b 0x76 (omega arith)
     (goes first (Finds (Bytes (one 0x76))) first (ap fetched had) (refl, refl)
     (goes first (Finds Kept) first
-    (by_old 100 map None NotBegun k (one 0x77) allowed Insert (Some (one 0x76)) had)
+    (by_old (in_v1 100) map None NotBegun k (one 0x77) allowed Insert (Some (one 0x76)) had)
     (refl, refl)
     (goes first (Finds (Bytes (one 0x76))) first (ap fetched had) (refl, refl)
-    (goes first (Changes Stored two) second
-    (adds 100 map None NotBegun [] [] allowed absent room) (refl, refl)
+    (goes first (Changes Stored second) second
+    (adds (in_v1 100) map None NotBegun [] [] allowed absent room) (refl, refl)
     (goes second (Finds (Bytes [])) second (ap fetched (get-insert order map [] [] [])) (refl, refl)
     (goes second (Finds NoRecord) second
     (ap fetched (get-insert order map [] [] (one 0x00)
     ∙ get-insert order empty k (one 0x76) (one 0x00)
     ∙ get-empty key_cmp (one 0x00))) (refl, refl)
-    (goes second (Changes Deleted left) third
+    (goes second (Changes Deleted third) third
     (ap (deleted second k) (get-insert order map [] [] k ∙ had)) (refl, refl)
     (goes third (Finds Absent) third (ap (deleted third k) (get-remove order two k k)) (refl, refl)
     (goes third (Tells (Number 0) third) third refl (refl, refl) (done third)))))))))))

@@ -16,10 +16,10 @@ when_broken before after key content mode reply step was =
     let call = Store key content mode in
     ⊎_elim (λ is. is.0) (λ bad. absurd bad)
     (subst (λ (b : Bool). Answers before.state
-    (cond b (usable_case before.state call) (broken_case before.state call))
-    reply after.state
-    ⊎ Suffers before (cond b (usable_case before.state call) (broken_case before.state call)) reply
-    after) was step.answers)
+    (cond b (usable_case before.capacity before.state call)
+    (broken_case before.capacity before.state call)) reply after.state
+    ⊎ Suffers before call (cond b (usable_case before.capacity before.state call)
+    (broken_case before.capacity before.state call)) reply after) was step.answers)
 
 -- after Stored the handle is usable
 pub stays_usable : (before after : Handle) (key content : List ℕ) (mode : Mode)

@@ -42,7 +42,8 @@ number_of BadLimit = 13
 number_of Missing = 14
 number_of Exists = 15
 
--- dbm_store, dbm_fetch, dbm_delete, dbm_firstkey, dbm_nextkey, dbm_error, dbm_clearerr
+-- dbm_store, dbm_fetch, dbm_delete, dbm_firstkey, dbm_nextkey, dbm_error, dbm_clearerr; and to
+-- version 2
 pub data Call : Type 0 where
   Store : Key → List ℕ → Mode → Call
   Fetch : Key → Call
@@ -51,6 +52,7 @@ pub data Call : Type 0 where
   Next : Call
   Error : Call
   Clear : Call
+  Upgrade : Call
 
 pub data Reply : Type 0 where
   -- dbm_store: 0, and 1 where an insert found the key
@@ -67,16 +69,20 @@ pub data Reply : Type 0 where
   End : Reply
   -- dbm_error, dbm_clearerr
   Number : ℕ → Reply
+  -- the file is of version 2
+  Upgraded : Reply
   Refused : Fault → Reply
 
--- a call that may change the map
+-- a call that may change what the file stands for
 abbrev pub is_changing : Call → Bool
 is_changing (Store key content mode) = true
 is_changing (Delete key) = true
+is_changing Upgrade = true
 is_changing _ = false
 
 -- the answer after which a change is there for good
 abbrev pub is_acknowledged : Reply → Bool
 is_acknowledged Stored = true
 is_acknowledged Deleted = true
+is_acknowledged Upgraded = true
 is_acknowledged _ = false

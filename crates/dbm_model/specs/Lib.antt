@@ -1,8 +1,11 @@
+pub mod AllowedPairs
+pub mod Bounds
 pub mod Calls
 pub mod Changes
 pub mod Examples
 pub mod FaultCount
 pub mod FaultNumbers
+pub mod Holding
 pub mod KeyOrder
 pub mod Pairs
 pub mod Passes
@@ -11,3 +14,4 @@ pub mod Room
 pub mod Sizes
 pub mod States
 pub mod Steps
+pub mod Upgrades

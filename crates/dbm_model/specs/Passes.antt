@@ -45,6 +45,11 @@ PassesAreComplete = (before mid after : Handle) (calls : List Call) (reply : Rep
     → times_in (given (First ∷ calls) (reply ∷ replies)) key
     ≡ (if is_some (get before.state.map key) then 1 else 0)
 
+-- A firstkey that answers the end itself: there is no key.
+abbrev pub EmptyPassesEndAtOnce : Type 0
+EmptyPassesEndAtOnce = (before after : Handle) → Step before First End after → (key : Key)
+    → is_some (get before.state.map key) ≡ false
+
 -- none of these calls begins a pass
 abbrev pub BeginNone : List Call → Type 0
 BeginNone [] = Unit {0}

@@ -1,5 +1,6 @@
 -- The state of an open database, as its callers know it. It has no page and no file.
 use Rattle.std.specs.Prelude.{ℕ, Bool, true, Option, Some, None}
+use Rattle.dbm_model.specs.Bounds.{Bounds}
 use Rattle.dbm_model.specs.Calls.{Fault, number_of}
 use Rattle.dbm_model.specs.Pairs.{Key, Contents}
 
@@ -14,8 +15,8 @@ pub data Pass : Type 0 where
 
 pub record State : Type 0 where
   pub map : Contents
-  -- how many pairs there may be
-  pub limit : ℕ
+  -- how many pairs there may be, and how long
+  pub bounds : Bounds
   -- the first fault since the opening or the last dbm_clearerr
   pub error : Option Fault
   pub pass : Pass
@@ -25,10 +26,10 @@ pub record State : Type 0 where
   pub usable : Bool
 
 -- just opened
-abbrev pub fresh : Contents → ℕ → Bool → State
-fresh map limit writable = record {
+abbrev pub fresh : Contents → Bounds → Bool → State
+fresh map bounds writable = record {
   map = map;
-  limit = limit;
+  bounds = bounds;
   error = None;
   pass = NotBegun;
   writable =

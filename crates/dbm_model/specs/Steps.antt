@@ -1,11 +1,12 @@
 -- What each call replies, and the state after it.
-use Rattle.std.specs.Prelude.{◌≡◌, ◌⊎◌, ℕ, ◌+◌, ◌*◌, ◌<◌, ◌≤◌, false, not, nat_le, nat_lt, IsSome, if◌then◌else◌, List, [], ◌∷◌, length, Option, Some, None}
+use Rattle.std.specs.Prelude.{◌≡◌, ◌⊎◌, ℕ, ◌+◌, ◌*◌, ◌<◌, ◌≤◌, Bool, true, false, not, ◌||◌, nat_le, nat_lt, IsSome, if◌then◌else◌, List, [], ◌∷◌, Option, Some, None}
 use Rattle.std.specs.FinMap.{get, insert, remove, len}
-use Rattle.dbm_model.specs.Calls.{Mode, Insert, Replace, Call, Store, Fetch, Delete, First, Next, Error, Clear, Reply, Stored, Kept, Deleted, Absent, Bytes, NoRecord, End, Number, Refused, Fault, Memory, Device, Broken, ReadOnly, TooLong, Full, NoPass, NoRoom}
+use Rattle.dbm_model.specs.Bounds.{Version, V1, V2, upgraded}
+use Rattle.dbm_model.specs.Calls.{Mode, Insert, Replace, Call, Store, Fetch, Delete, First, Next, Error, Clear, Upgrade, Reply, Stored, Kept, Deleted, Absent, Bytes, NoRecord, End, Number, Upgraded, Refused, Fault, Memory, Device, Broken, ReadOnly, TooLong, Full, NoPass, NoRoom, TooSmall}
 use Rattle.dbm_model.specs.FaultCount.{MoreFaults}
 use Rattle.dbm_model.specs.KeyOrder.{ComesBefore}
-use Rattle.dbm_model.specs.Pairs.{Key, Contents}
-use Rattle.dbm_model.specs.Sizes.{home}
+use Rattle.dbm_model.specs.Pairs.{Key, Contents, is_allowed, is_far}
+use Rattle.dbm_model.specs.Sizes.{home, most_taken}
 use Rattle.dbm_model.specs.States.{State, Pass, NotBegun, Begun, Behind, Handle, flagged, error_number}
 
 -- which rule a call falls under
@@ -20,8 +21,12 @@ pub data Case : Type 0 where
   Finds : Reply → Case
   -- the next key of a pass that stands there, or the end where there is none
   Passes : Pass → Case
-  -- the map changes to this one
-  Changes : Reply → Contents → Case
+  -- the state changes to this one, by its map or its bounds
+  Changes : Reply → State → Case
+
+-- with another map
+abbrev pub with_map : State → Contents → State
+with_map s map = record s { map = map }
 
 -- a fetch, by what the key has
 abbrev pub fetched : Option (List ℕ) → Case
@@ -31,39 +36,54 @@ fetched (Some content) = Finds (Bytes content)
 -- a store of an allowed pair, by what the key has
 abbrev pub stored : State → Key → List ℕ → Mode → Option (List ℕ) → Case
 stored s key content Insert (Some old) = Finds Kept
-stored s key content Replace (Some old) = Changes Stored (insert s.map key content)
-stored s key content mode None = if nat_le s.limit (len s.map) then Declines Full else Changes Stored (insert s.map key content)
+stored s key content Replace (Some old) = Changes Stored (with_map s (insert s.map key content))
+stored s key content mode None = if nat_le s.bounds.limit (len s.map) then Declines Full
+    else Changes Stored (with_map s (insert s.map key content))
 
 -- a delete, by what the key has
 abbrev pub deleted : State → Key → Option (List ℕ) → Case
 deleted s key None = Finds Absent
-deleted s key (Some content) = Changes Deleted (remove s.map key)
+deleted s key (Some content) = Changes Deleted (with_map s (remove s.map key))
 
 -- the next step of a pass
 abbrev pub passed : Pass → Case
 passed NotBegun = Refuses NoPass
 passed from = Passes from
 
-abbrev pub usable_case : State → Call → Case
-usable_case s (Store key content mode) =
+-- an upgrade, by the version, where there is room for so many pages
+abbrev pub raised : ℕ → State → Version → Case
+raised capacity s V1 = if nat_lt capacity (2 * home (upgraded s.bounds)) then Refuses TooSmall
+    else Changes Upgraded (record s { bounds = upgraded s.bounds })
+raised capacity s V2 = Tells Upgraded s
+
+abbrev pub usable_case : ℕ → State → Call → Case
+usable_case capacity s (Store key content mode) =
     if not s.writable then Refuses ReadOnly
-    else if nat_le (length key + length content) 2026 then stored s key content mode (get s.map key)
+    else if is_allowed s.bounds.version (key, content)
+    then stored s key content mode (get s.map key)
     else Refuses TooLong
-usable_case s (Fetch key) = fetched (get s.map key)
-usable_case s (Delete key) = if s.writable then deleted s key (get s.map key) else Refuses ReadOnly
-usable_case s First = Passes Begun
-usable_case s Next = passed s.pass
-usable_case s Error = Tells (Number (error_number s.error)) s
-usable_case s Clear = Tells (Number 0) (record s { error = None })
+usable_case capacity s (Fetch key) = fetched (get s.map key)
+usable_case capacity s (Delete key) = if s.writable then deleted s key (get s.map key)
+    else Refuses ReadOnly
+usable_case capacity s First = Passes Begun
+usable_case capacity s Next = passed s.pass
+usable_case capacity s Error = Tells (Number (error_number s.error)) s
+usable_case capacity s Clear = Tells (Number 0) (record s { error = None })
+usable_case capacity s Upgrade = if s.writable then raised capacity s s.bounds.version
+    else Refuses ReadOnly
 
 -- a change was left in doubt: only the error number can still be asked
-abbrev pub broken_case : State → Call → Case
-broken_case s Error = usable_case s Error
-broken_case s Clear = usable_case s Clear
-broken_case s _ = Refuses Broken
+abbrev pub broken_case : ℕ → State → Call → Case
+broken_case capacity s Error = usable_case capacity s Error
+broken_case capacity s Clear = usable_case capacity s Clear
+broken_case capacity s _ = Refuses Broken
 
-abbrev pub case_of : State → Call → Case
-case_of s call = if s.usable then usable_case s call else broken_case s call
+abbrev pub case_for : ℕ → State → Call → Case
+case_for capacity s call = if s.usable then usable_case capacity s call
+    else broken_case capacity s call
+
+abbrev pub case_of : Handle → Call → Case
+case_of h call = case_for h.capacity h.state call
 
 -- a pass that stands there has the key before it
 abbrev pub IsAhead : Pass → Key → Type 0
@@ -96,36 +116,56 @@ Answers s (Refuses fault) reply after = (reply ≡ Refused fault) × (after ≡ 
 Answers s (Declines fault) reply after = (reply ≡ Refused fault) × (after ≡ flagged fault s)
 Answers s (Finds found) reply after = (reply ≡ found) × (after ≡ s)
 Answers s (Passes from) reply after = GivesKey s from reply after
-Answers s (Changes said map) reply after = (reply ≡ said) × (after ≡ record s { map = map })
+Answers s (Changes said next) reply after = (reply ≡ said) × (after ≡ next)
 
 -- a fault of the device, which changes nothing
 abbrev pub Fails : Handle → Reply → Handle → Type 0
 Fails h reply after = (reply ≡ Refused Device) × MoreFaults h.faults after.faults
     × (after.state ≡ flagged Device h.state)
 
--- a fault of the device in the midst of a change: the file stands for the old map or for the new
--- one until it is opened again
-abbrev pub Breaks : Handle → Contents → Reply → Handle → Type 0
-Breaks h map reply after =
+-- a fault of the device in the midst of a change: the file stands for the old map and bounds or for
+-- the new ones until it is opened again
+abbrev pub Breaks : Handle → State → Reply → Handle → Type 0
+Breaks h next reply after =
     (reply ≡ Refused Device) × MoreFaults h.faults after.faults
-    × (left : Contents) × ((left ≡ h.state.map) ⊎ (left ≡ map))
-    × (after.state ≡ record (flagged Device h.state) { map = left; usable = false })
+    × (left : State) × ((left ≡ h.state) ⊎ (left ≡ next))
+    × (after.state
+    ≡ record (flagged Device h.state) { map = left.map; bounds = left.bounds; usable = false })
 
--- there would be more than eight pairs to a bucket, so one more is opened
-abbrev pub OpensBucket : Handle → Contents → Type 0
-OpensBucket h map = 8 * h.buckets < len map
+-- a content of the key lies in pages of its own
+abbrev pub holds_far : Key → Option (List ℕ) → Bool
+holds_far key None = false
+holds_far key (Some old) = is_far (key, old)
 
--- no memory for a store that opens a bucket; no other change takes any
-abbrev pub LacksMemory : Handle → Reply → Contents → Reply → Handle → Type 0
-LacksMemory h said map reply after =
+-- there are eight pairs to a bucket, so a further one opens a bucket
+abbrev pub is_full : Handle → Bool
+is_full h = nat_le (8 * h.buckets) (len h.state.map)
+
+-- a store takes memory, by what the key has: one that opens a bucket, and one that writes a content
+-- into pages of its own or gives such pages back
+abbrev pub store_takes : Handle → Key → List ℕ → Mode → Option (List ℕ) → Bool
+store_takes h key content Insert (Some old) = false
+store_takes h key content Replace (Some old) = is_far (key, content) || is_far (key, old)
+store_takes h key content mode None = is_full h || is_far (key, content)
+
+-- a call takes memory: such a store, and a fetch or a delete of such a content
+abbrev pub takes_memory : Handle → Call → Bool
+takes_memory h (Store key content mode) = store_takes h key content mode (get h.state.map key)
+takes_memory h (Fetch key) = holds_far key (get h.state.map key)
+takes_memory h (Delete key) = holds_far key (get h.state.map key)
+takes_memory h call = false
+
+-- no memory for a call that takes some
+abbrev pub LacksMemory : Handle → Call → Reply → Handle → Type 0
+LacksMemory h call reply after =
     (reply ≡ Refused Memory) × (after.state ≡ flagged Memory h.state)
-    × (said ≡ Stored) × OpensBucket h map
+    × (takes_memory h call ≡ true)
 
--- there may be no room for a change: not for twice as many pages as a database of the limit needs,
--- nor for as many more as the map has pairs, and four, with all of them twice
+-- there may be no room for a change: not for twice as many pages as a database of the bounds needs,
+-- nor for as many more as the map has pairs, and those of a store, with all of them twice
 abbrev pub IsShort : Handle → Type 0
-IsShort h =
-    (h.capacity < 2 * home h.state.limit) × (h.capacity < 2 * (h.pages + len h.state.map + 4))
+IsShort h = (h.capacity < 2 * home h.state.bounds)
+    × (h.capacity < 2 * (h.pages + len h.state.map + most_taken h.state.bounds.version))
 
 -- no room in the file for a change
 abbrev pub LacksRoom : Handle → Reply → Handle → Type 0
@@ -133,20 +173,20 @@ LacksRoom h reply after =
     (reply ≡ Refused NoRoom) × IsShort h × (after.state ≡ flagged NoRoom h.state)
 
 -- the refusals that may come instead, none of which changes the map of a usable handle
-abbrev pub Suffers : Handle → Case → Reply → Handle → Type 0
-Suffers h (Tells said told) reply after = ⊥
-Suffers h (Refuses fault) reply after = ⊥
-Suffers h (Declines fault) reply after = Fails h reply after
-Suffers h (Finds found) reply after = Fails h reply after
-Suffers h (Passes from) reply after = Fails h reply after
-Suffers h (Changes said map) reply after =
-    Fails h reply after ⊎ (Breaks h map reply after
-    ⊎ (LacksMemory h said map reply after ⊎ LacksRoom h reply after))
+abbrev pub Suffers : Handle → Call → Case → Reply → Handle → Type 0
+Suffers h call (Tells said told) reply after = ⊥
+Suffers h call (Refuses fault) reply after = ⊥
+Suffers h call (Declines fault) reply after = Fails h reply after
+Suffers h call (Finds found) reply after = Fails h reply after ⊎ LacksMemory h call reply after
+Suffers h call (Passes from) reply after = Fails h reply after
+Suffers h call (Changes said next) reply after =
+    Fails h reply after ⊎ (Breaks h next reply after
+    ⊎ (LacksMemory h call reply after ⊎ LacksRoom h reply after))
 
 -- how many pages a call adds to the file at most: a store that is acknowledged those of a split,
 -- any other none
 abbrev pub growth : Handle → Reply → ℕ
-growth h Stored = len h.state.map + 4
+growth h Stored = len h.state.map + most_taken h.state.bounds.version
 growth h reply = 0
 
 -- how many buckets it opens, where there are then so many pairs
@@ -159,11 +199,11 @@ pub record Step (before : Handle) (call : Call) (reply : Reply) (after : Handle)
   pub counts : before.faults ≤ after.faults
   pub capacity : after.capacity ≡ before.capacity
   pub pages : (before.pages ≤ after.pages) × (after.pages ≤ before.pages + growth before reply)
-  -- none is added beyond what a database of the limit needs
-  pub bounded : (after.pages ≡ before.pages) ⊎ (after.pages ≤ home before.state.limit)
+  -- none is added beyond what a database of the bounds needs
+  pub bounded : (after.pages ≡ before.pages) ⊎ (after.pages ≤ home before.state.bounds)
   pub buckets : after.buckets ≡ before.buckets + buckets_opened before reply (len after.state.map)
-  pub answers : Answers before.state (case_of before.state call) reply after.state
-      ⊎ Suffers before (case_of before.state call) reply after
+  pub answers : Answers before.state (case_of before call) reply after.state
+      ⊎ Suffers before call (case_of before call) reply after
 
 -- the calls may get these replies, one after another
 abbrev pub Run : Handle → List Call → List Reply → Handle → Type 0

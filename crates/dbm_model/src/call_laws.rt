@@ -1,17 +1,19 @@
 // Laws of calls and runs. What each says stands in `specs/Changes.antt`, `specs/Refusals.antt`,
-// `specs/FaultNumbers.antt`, `specs/Passes.antt`, `specs/Room.antt`,
+// `specs/FaultNumbers.antt`, `specs/Holding.antt`, `specs/Passes.antt`, `specs/Room.antt`,
 // `specs/Sizes.antt` and `specs/Examples.antt`.
-ghost use Rattle.dbm_model.specs.Changes.{OnlyAcknowledgedChanges, StoresPutAll, OnlyChangesBreak, BrokenStays};
+ghost use Rattle.dbm_model.specs.Changes.{OnlyAcknowledgedChanges, OnlyUpgradesRaise, StoresPutAll, OnlyChangesBreak, BrokenStays};
 ghost use Rattle.dbm_model.specs.Refusals.{RefusesOnlyWhereDue, BrokenRefuses, ReadingRefuses, ReadingKeeps, SettingsStay, TooLongIsRefused, InsertKeeps, FullIsRefused, AbsentIsTold, ErrorIsTold, ErrorIsCleared, FirstFaultIsKept};
 ghost use Rattle.dbm_model.specs.FaultNumbers.{FaultsAreNumbered, NumbersDiffer, NoFaultIsZero};
-ghost use Rattle.dbm_model.specs.Passes.{PassesAreComplete, LastingKeysAreGiven, PassesAscend, NoKeyIsGivenTwice, GivenKeysAreThere, RefusalsKeepPass, PassesStay};
+ghost use Rattle.dbm_model.specs.Passes.{PassesAreComplete, EmptyPassesEndAtOnce, LastingKeysAreGiven, PassesAscend, NoKeyIsGivenTwice, GivenKeysAreThere, RefusalsKeepPass, PassesStay};
+ghost use Rattle.dbm_model.specs.Holding.{StaysWithin};
 ghost use Rattle.dbm_model.specs.Room.{RoomStays, RoomIsKnown, PagesAreBounded, RoomExamples};
 ghost use Rattle.dbm_model.specs.Sizes.{SizeExamples};
 ghost use Rattle.dbm_model.specs.Examples.{StoresAndDeletes, StopsAtLimit, PassesOverNothing, PassesOn, PassesOverChanges, WrongReplies};
 
-/// Only an acknowledged change changes the map of a handle that stays usable.
+/// Only an acknowledged change changes the map or the bounds of a handle that stays usable.
 pub fn only_acknowledged_changes()
-    ensures { OnlyAcknowledgedChanges }
+    ensures map { OnlyAcknowledgedChanges }
+    ensures bounds { OnlyUpgradesRaise }
 {}
 
 /// Stores that were acknowledged, one after another, have put all of their pairs in the map.
@@ -41,6 +43,11 @@ pub fn refusals_are_due()
     ensures absent { AbsentIsTold }
 {}
 
+/// No call leaves more pairs than the limit, or one that the version doesn't allow.
+pub fn bounds_are_kept()
+    ensures { StaysWithin }
+{}
+
 /// A handle for reading keeps its map, and each handle its limit and its access.
 pub fn settings_stay()
     ensures map { ReadingKeeps }
@@ -54,7 +61,7 @@ pub fn room_stays()
     ensures examples { RoomExamples }
 {}
 
-/// Room is known beforehand: with twice as many pages as a database of the limit needs, no list of
+/// Room is known beforehand: with twice as many pages as a database of the bounds needs, no list of
 /// calls lacks any, and the file never has more of them than it needs.
 pub fn room_is_known()
     ensures known { RoomIsKnown }
@@ -76,9 +83,11 @@ pub fn faults_have_numbers()
     ensures not_zero { NoFaultIsZero }
 {}
 
-/// A completed pass without a change gives each key exactly once.
+/// A completed pass without a change gives each key exactly once; one that ends where it begins has
+/// none to give.
 pub fn passes_are_complete()
-    ensures { PassesAreComplete }
+    ensures complete { PassesAreComplete }
+    ensures at_once { EmptyPassesEndAtOnce }
 {}
 
 /// A pass goes on over changes, in ascending order: a key that is there throughout is given exactly

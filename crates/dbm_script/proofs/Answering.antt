@@ -9,7 +9,6 @@ use Rattle.dbm_model.specs.Steps.{Run}
 use Rattle.page_io.specs.declared.store.PageStore.{Ghosts}
 use Rattle.dbm_file.specs.Answers.{IsSameDatabase}
 use Rattle.dbm_file.specs.Runs.{IsRun}
-use Rattle.dbm_file.specs.Database.{meta_kept}
 use Rattle.dbm_file.specs.declared.database.Database.{Database}
 use Rattle.dbm_file.proofs.Breaks.{CountsNow}
 use Rattle.dbm_file.proofs.Runs.{goes_on_with}
@@ -105,8 +104,7 @@ at_start db start (Some script) (Some text) none =
     }
 
 module _ {S : Type 0} (s : Ghosts S) (old mid new : Database S s) (start : Handle)
-    (limit : (meta_kept mid).limit ≡ (meta_kept old).limit) (goes : IsSameDatabase mid new)
-    (counts : CountsNow new) where
+    (goes : IsSameDatabase mid new) (counts : CountsNow new) where
   one_more : (before now after : Option (List ℕ)) (done : List (Option Call)) (call : Option Call)
       (h : AnswersScript done old mid start before now)
       → AnswersLine call mid new h.run.after (λ text. Appends now after text)
@@ -119,7 +117,7 @@ module _ {S : Type 0} (s : Ghosts S) (old mid new : Database S s) (start : Handl
   }
   one_more before now after done (Some call) h answer = record {
     replies = h.replies ++ answer.0 ∷ [];
-    run = goes_on_with s old mid new start (calls_in done) h.replies call answer.0 limit goes h.run
+    run = goes_on_with s old mid new start (calls_in done) h.replies call answer.0 goes h.run
         answer.1 counts _ _ (calls_in-push done (Some call)) refl;
     written = rw (answer_of-call _ _ done h.replies call answer.0 h.run.run)
         (joined before now after (answer_of done h.replies) (reply_line answer.0)
@@ -139,15 +137,15 @@ left_after (Some text) (Some (x ∷ xs)) next line done h r =
 -- a line was read and answered
 pub go_on : {S : Type 0} (s : Ghosts S) (old mid new : Database S s) (start : Handle)
     (first now next before written after : Option (List ℕ)) (line : List ℕ)
-    → (meta_kept mid).limit ≡ (meta_kept old).limit → IsSameDatabase mid new → CountsNow new
+    → IsSameDatabase mid new → CountsNow new
     → (h : IsAnswered old mid start first now before written)
     → IfSome now (λ text. ReadsLine 8193 text true line next)
     → AnswersLine (call_in_line line) mid new h.answered.run.after
     (λ text. Appends written after text) → IsAnswered old new start first next before after
-go_on s old mid new start first now next before written after line limit goes counts h read
+go_on s old mid new start first now next before written after line goes counts h read
     answer = record {
       done = h.done ++ call_in_line line ∷ [];
-      answered = one_more s old mid new start limit goes counts before written after h.done
+      answered = one_more s old mid new start goes counts before written after h.done
           (call_in_line line) h.answered answer;
       left = left_after first now next line h.done h.left read;
     }
@@ -220,8 +218,7 @@ answered_first old new start first now before after h =
 -- so does a call whose reply was not written
 module _ {S : Type 0} (s : Ghosts S) (old mid new : Database S s) (start : Handle)
     (first now next before after : Option (List ℕ)) (line : List ℕ) (Says : List ℕ → Type 0)
-    (limit : (meta_kept mid).limit ≡ (meta_kept old).limit) (goes : IsSameDatabase mid new)
-    (counts : CountsNow new)
+    (goes : IsSameDatabase mid new) (counts : CountsNow new)
     (h : IsAnswered old mid start first now before after)
     (read : IfSome now (λ text. ReadsLine 8193 text true line next)) where
   stands_by : (call : Option Call) → AnswersLine call mid new h.answered.run.after Says
@@ -236,7 +233,7 @@ module _ {S : Type 0} (s : Ghosts S) (old mid new : Database S s) (start : Handl
     made = h.done ++ Some call ∷ [];
     first = lines;
     replies = h.answered.replies ++ answer.0 ∷ [];
-    run = goes_on_with s old mid new start (calls_in h.done) h.answered.replies call answer.0 limit
+    run = goes_on_with s old mid new start (calls_in h.done) h.answered.replies call answer.0
         goes h.answered.run answer.1 counts _ _ (calls_in-push h.done (Some call)) refl;
   }
 

@@ -2,6 +2,7 @@
 use Rattle.std.proofs.Common.{◌≡◌, ◌∙◌, ℕ, true, List, Option, Some, None, Result, Ok, Err, IfSome, OnOk}
 use Rattle.std.specs.FinMap as map
 use Rattle.std.specs.Io.KnownBytes.{Appends, Keeps}
+use Rattle.dbm_model.specs.Bounds.{in_v1}
 use Rattle.dbm_model.specs.Calls.{Call}
 use Rattle.dbm_model.specs.States.{Handle}
 use Rattle.dbm_text.specs.Lines.{reply_line, bad_line}
@@ -38,7 +39,7 @@ line_flushed r (Some call) old new start before mid after answer keeps =
 -- the answer of a new database, after the last flush
 pub answered : {S E : Type 0} {s : Ghosts S} (r : Result Unit E) (limit : ℕ)
     (first old mid new : Option (List ℕ)) (db after : Database S s)
-    (opened : IsOpenedAt true db map.empty limit) → HasRoom db → is_limit limit ≡ true
+    (opened : IsOpenedAt true db map.empty (in_v1 limit)) → HasRoom db → is_limit limit ≡ true
     → IfSome first (λ text. AnswersScript (script_of text) db after opened.handle old mid)
     → Keeps mid new → OnOk r (IfSome first (λ text. AnswersInMemory limit text old new))
 answered {S} {E} {s} r limit first old mid new db after opened room allowed answers keeps =

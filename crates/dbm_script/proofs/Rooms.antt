@@ -4,6 +4,7 @@ use Rattle.std.specs.FinMap.{empty}
 use Rattle.std.specs.Prelude.{nat_lt}
 use Rattle.std.proofs.lemmas.Bool.{le-ltb}
 use Rattle.std.proofs.lemmas.Bool.Decides.{leb_tells}
+use Rattle.dbm_model.specs.Bounds.{Bounds, in_v1}
 use Rattle.sect_dev.specs.Device.{Image, Candidates, IsImageOf, IsStable}
 use Rattle.sect_dev.specs.Sector.{zeros}
 use Rattle.dbm_model.specs.Pairs.{Contents}
@@ -14,16 +15,16 @@ use Rattle.redo_commit.specs.Header.{header_of}
 use Rattle.redo_commit.specs.File.{settled, settled_by}
 use Rattle.redo_commit.specs.declared.header.Header.{Header}
 use Rattle.redo_commit.specs.declared.header.Header.TheVariants.{Blank}
-use Rattle.file_opening.specs.Opening.{writes, room_fault, making_fault, IsOpened}
+use Rattle.file_opening.specs.Opening.{writes, bounds_of, room_fault, making_fault, IsOpened}
 use Rattle.file_opening.specs.declared.open_how.OpenHow.{OpenHow}
 use Rattle.dbm_fault.specs.declared.fault.Fault.{Fault}
 use Rattle.dbm_fault.specs.declared.fault.Fault.TheVariants.{TooSmall}
 
 -- each allowed limit needs at least 16 sectors
-pub enough : (limit n : ℕ) → Some n ≡ sectors_for limit → 16 ≤ n
+pub enough : (limit n : ℕ) → Some n ≡ sectors_for (in_v1 limit) → 16 ≤ n
 enough limit n h = (elim (is_limit limit) as
-    (λ b. Some n ≡ cond b (Some (8 * home limit)) None → 16 ≤ n) [
-      | true ↦ λ h. let e : n ≡ 8 * (2 + segments_for (buckets_for limit) + buckets_for limit + limit) =
+    (λ b. Some n ≡ cond b (Some (8 * home (in_v1 limit))) None → 16 ≤ n) [
+      | true ↦ λ h. let e : n ≡ 8 * (2 + segments_for (buckets_for limit) + buckets_for limit + 1 * limit) =
           cc in omega (arith, e)
       | false ↦ λ h. cc
     ]) h
@@ -36,7 +37,7 @@ fits n = elim (leb_tells (suc n) n) [
 
 -- a database may be made on a blank device of so many sectors
 pub makes_room : (how : OpenHow) (n sectors : ℕ) → how.create ≡ true → writes how.access ≡ true
-    → Some n ≡ sectors_for how.limit → sectors ≡ n → making_fault how sectors ≡ None
+    → Some n ≡ sectors_for (bounds_of how) → sectors ≡ n → making_fault how sectors ≡ None
 makes_room how n sectors create writing needed same = rw (create, writing, ← needed, same) (fits n)
 
 blank_header : (pages : ℕ) → header_of pages zeros ≡ Blank
@@ -52,13 +53,13 @@ blank_there pages candidate stable image is =
     (ap (header_of pages) (stable 0 (image 0) (is 0)) ∙ blank_header pages)
 
 -- what is opened on one is new
-pub opened_new : (how : OpenHow) (sectors : ℕ) (start : Candidates) (map : Contents) (limit : ℕ)
+pub opened_new : (how : OpenHow) (sectors : ℕ) (start : Candidates) (map : Contents) (bounds : Bounds)
     → ((image : Image) → IsImageOf start image → settled (sectors / 4) image ≡ blank)
-    → IsOpened how sectors start map limit → (map ≡ empty) × (limit ≡ how.limit)
-opened_new how sectors start map limit none (inl stood) =
-    absurd (subst (λ (y : Settled). ImageStandsFor y map limit)
+    → IsOpened how sectors start map bounds → (map ≡ empty) × (bounds ≡ bounds_of how)
+opened_new how sectors start map bounds none (inl stood) =
+    absurd (subst (λ (y : Settled). ImageStandsFor y map bounds)
     (none stood.0.image stood.0.at_start) stood.0.stands)
-opened_new how sectors start map limit none (inr new) = (new.1, new.2)
+opened_new how sectors start map bounds none (inr new) = (new.1, new.2)
 
 -- with 16 sectors nothing refuses an opening at once that doesn't empty the database
 pub large_enough : (sectors : ℕ) → 16 ≤ sectors

@@ -1,56 +1,36 @@
 -- How far a script has been told, on any device.
-use Rattle.std.proofs.Common.{◌≡◌, ℕ, true, false, List, [], ◌∷◌, ◌++◌, map, Option, Some, None, IfSome, Result, Ok, Err, OnOk, is_ok, refl, sym, ap, subst, ◌∙◌, append-nil, append_assoc}
-use Rattle.std.proofs.lemmas.List.{map-append}
+use Rattle.std.proofs.Common.{◌≡◌, ℕ, length, arith, true, false, List, [], ◌∷◌, ◌++◌, map, Option, Some, None, IfSome, Result, Ok, Err, OnOk, is_ok, refl, sym, ap, subst, ◌∙◌, append-nil, append_assoc}
+use Rattle.std.proofs.lemmas.List.{map-append, length-map}
 use Rattle.std.specs.Io.KnownBytes.{Appends, Keeps}
 use Rattle.dbm_model.specs.Calls as model
 use Rattle.dbm_text.specs.Lines.{call_in_line, reply_line, bad_line}
 use Rattle.dbm_text.specs.Scripts.{script_of, calls_in, answer_of}
 use Rattle.page_io.specs.declared.store.PageStore.{Ghosts}
-use Rattle.dbm_file.specs.Calls.{mode_of, reply_of}
-use Rattle.dbm_file.specs.Replies.{IsAnswered, IsCallAnswered, AreAnswered, store_faults, told_of_store}
-use Rattle.dbm_file.specs.declared.calls.Call.TheVariants.{Store}
+use Rattle.dbm_file.specs.Calls.{call_of, reply_of}
+use Rattle.dbm_file.specs.Replies.{IsAnswered, AreAnswered}
+use Rattle.dbm_file.specs.declared.calls.Call.{Call}
 use Rattle.dbm_file.specs.declared.calls.Reply.{Reply}
-use Rattle.dbm_file.specs.declared.calls.StoreMode.{StoreMode}
-use Rattle.dbm_file.specs.declared.calls.StoreMode.TheVariants.{Insert, Replace}
 use Rattle.dbm_file.specs.declared.database.Database.{Database}
-use Rattle.dbm_file.specs.Answers.{IsCallEnded}
-use Rattle.dbm_file.specs.Changing.{WasStored}
-use Rattle.dbm_file.specs.Searches.{Searched, EndsWith}
-use Rattle.dbm_file.specs.declared.calls.StoreReply.{StoreReply}
-use Rattle.dbm_file.specs.declared.calls.StoreReply.TheVariants as stored
-use Rattle.dbm_fault.specs.Among.{IsErrAmong}
-use Rattle.dbm_fault.specs.declared.fault.Fault.{Fault}
-use Rattle.dbm_file.proofs.Answered.{answered_next, store_answered}
+use Rattle.dbm_file.proofs.Answered.{answered_next}
 use Rattle.dbm_lines.specs.Reading.{ReadsLine}
-use Rattle.dbm_script.specs.Tellings.{mode_as, call_as, TellsLine, TellsScript}
+use Rattle.dbm_script.specs.Tellings.{TellsLine, TellsScript}
 use Rattle.dbm_script.proofs.Flushing.{on_ok}
 use Rattle.dbm_script.proofs.Answering.{IsLeft, left_after, calls_in-push, joined}
 
 -- ---- one line
 
-same_mode : (mode : StoreMode) → mode_as (mode_of mode) ≡ mode
-same_mode Insert = refl
-same_mode Replace = refl
-
--- a store was answered, whose mode is the definitions'
-pub told_store : {S : Type 0} {s : Ghosts S} (old new : Database S s) (key content : List ℕ)
-    (mode : StoreMode) (ended : Result StoreReply Fault)
-    → (ended ≡ Ok stored.Kept → (mode ≡ Insert) × Searched old key (EndsWith key))
-    → (ended ≡ Ok stored.Stored → WasStored old new (key, content))
-    → IsErrAmong ended store_faults → IsCallEnded old new ended
-    → IsAnswered old new (call_as (model.Store key content (mode_of mode))) (told_of_store ended)
-told_store old new key content mode ended kept stored only keeps =
-    subst (λ (m : StoreMode). IsCallAnswered old new (Store key content m) (told_of_store ended))
-    (sym (same_mode mode))
-    (store_answered ended _ key key content content mode refl refl refl kept stored only keeps)
-
 -- the line says what the reply is
-pub told_line : {S : Type 0} {s : Ghosts S} (old new : Database S s) (call : model.Call)
+pub told_line : {S : Type 0} {s : Ghosts S} (old new : Database S s) (made : Call)
     (reply : Reply) (said : model.Reply) (Says : List ℕ → Type 0)
-    → IsAnswered old new (call_as call) reply → reply_of reply ≡ said → Says (reply_line said)
-    → TellsLine (Some call) old new Says
-told_line old new call reply said Says answered same says =
-    (reply, answered, subst (λ (r : model.Reply). Says (reply_line r)) (sym same) says)
+    → IsAnswered old new made reply → reply_of reply ≡ said → Says (reply_line said)
+    → TellsLine (Some (call_of made)) old new Says
+told_line old new made reply said Says answered same says = (
+  made,
+  refl,
+  reply,
+  answered,
+  subst (λ (r : model.Reply). Says (reply_line r)) (sym same) says,
+)
 
 -- what is said where the writing went well
 pub told_well : {S E : Type 0} {s : Ghosts S} (r : Result Unit E) (call : Option model.Call)
@@ -67,44 +47,55 @@ pub told_flushed : {S E : Type 0} {s : Ghosts S} (r : Result Unit E) (call : Opt
     → TellsLine call old new (λ text. OnOk r (Appends before after text))
 told_flushed r None old new before mid after keeps telling =
     (telling.0, on_ok r before mid after bad_line telling.1 keeps)
-told_flushed r (Some call) old new before mid after keeps telling = (
-  telling.0,
-  telling.1,
-  on_ok r before mid after (reply_line (reply_of telling.0)) telling.2 keeps,
-)
+told_flushed r (Some call) old new before mid after keeps (made, is, reply, answered, says) =
+    (made, is, reply, answered, on_ok r before mid after (reply_line (reply_of reply)) says keeps)
 
 -- ---- a script
 
-answer-bad : {S : Type 0} {s : Ghosts S} (old new : Database S s) (script : List (Option model.Call))
-    (replies : List Reply) → AreAnswered old new (map call_as (calls_in script)) replies
+-- there is a reply to each call
+as_many : {S : Type 0} {s : Ghosts S} (old new : Database S s) (calls : List Call)
+    (replies : List Reply) → AreAnswered old new calls replies → length replies ≡ length calls
+as_many old new [] [] answered = refl
+as_many old new [] (reply ∷ replies) answered = absurd answered
+as_many old new (call ∷ calls) [] answered = absurd answered
+as_many old new (call ∷ calls) (reply ∷ replies) answered =
+    omega (arith, as_many answered.0 new calls replies answered.2)
+
+many_told : {S : Type 0} {s : Ghosts S} {script : List (Option model.Call)} {old new : Database S s}
+    {before after : Option (List ℕ)} (h : TellsScript script old new before after)
+    → length h.replies ≡ length (calls_in script)
+many_told {S} {s} {script} {old} {new} h = as_many old new h.calls h.replies h.answered
+    ∙ sym (length-map h.calls call_of) ∙ ap length h.calls_are
+
+answer-bad : (script : List (Option model.Call)) (replies : List Reply)
+    → length replies ≡ length (calls_in script)
     → answer_of (script ++ None ∷ []) (map reply_of replies)
     ≡ answer_of script (map reply_of replies) ++ bad_line
-answer-bad old new [] replies answered = refl
-answer-bad old new (None ∷ script) replies answered =
-    ap (λ text. bad_line ++ text) (answer-bad old new script replies answered)
+answer-bad [] replies many = refl
+answer-bad (None ∷ script) replies many =
+    ap (λ text. bad_line ++ text) (answer-bad script replies many)
     ∙ sym (append_assoc bad_line (answer_of script (map reply_of replies)) bad_line)
-answer-bad old new (Some call ∷ script) [] answered = absurd answered
-answer-bad old new (Some call ∷ script) (reply ∷ replies) answered =
+answer-bad (Some call ∷ script) [] many = absurd (omega (arith, many))
+answer-bad (Some call ∷ script) (reply ∷ replies) many =
     ap (λ text. reply_line (reply_of reply) ++ text)
-    (answer-bad answered.0 new script replies answered.2)
+    (answer-bad script replies (omega (arith, many)))
     ∙ sym (append_assoc (reply_line (reply_of reply)) (answer_of script (map reply_of replies))
     bad_line)
 
-answer-call : {S : Type 0} {s : Ghosts S} (old new : Database S s)
-    (script : List (Option model.Call)) (replies : List Reply) (call : model.Call) (reply : Reply)
-    → AreAnswered old new (map call_as (calls_in script)) replies
+answer-call : (script : List (Option model.Call)) (replies : List Reply) (call : model.Call)
+    (reply : Reply) → length replies ≡ length (calls_in script)
     → answer_of (script ++ Some call ∷ []) (map reply_of (replies ++ reply ∷ []))
     ≡ answer_of script (map reply_of replies) ++ reply_line (reply_of reply)
-answer-call old new [] [] call reply answered = append-nil (reply_line (reply_of reply))
-answer-call old new [] (other ∷ replies) call reply answered = absurd answered
-answer-call old new (None ∷ script) replies call reply answered =
-    ap (λ text. bad_line ++ text) (answer-call old new script replies call reply answered)
+answer-call [] [] call reply many = append-nil (reply_line (reply_of reply))
+answer-call [] (other ∷ replies) call reply many = absurd (omega (arith, many))
+answer-call (None ∷ script) replies call reply many =
+    ap (λ text. bad_line ++ text) (answer-call script replies call reply many)
     ∙ sym (append_assoc bad_line (answer_of script (map reply_of replies))
     (reply_line (reply_of reply)))
-answer-call old new (Some earlier ∷ script) [] call reply answered = absurd answered
-answer-call old new (Some earlier ∷ script) (other ∷ replies) call reply answered =
+answer-call (Some earlier ∷ script) [] call reply many = absurd (omega (arith, many))
+answer-call (Some earlier ∷ script) (other ∷ replies) call reply many =
     ap (λ text. reply_line (reply_of other) ++ text)
-    (answer-call answered.0 new script replies call reply answered.2)
+    (answer-call script replies call reply (omega (arith, many)))
     ∙ sym (append_assoc (reply_line (reply_of other)) (answer_of script (map reply_of replies))
     (reply_line (reply_of reply)))
 
@@ -127,7 +118,13 @@ pub told_none : {S : Type 0} {s : Ghosts S} (db : Database S s) (first before : 
     → IsTold db db first first before before
 told_none db first before = record {
   done = [];
-  tells = record { replies = []; answered = refl; written = nothing_written before };
+  tells = record {
+    calls = [];
+    calls_are = refl;
+    replies = [];
+    answered = refl;
+    written = nothing_written before;
+  };
   left = nothing_read first;
 }
 
@@ -135,19 +132,23 @@ one_more : {S : Type 0} {s : Ghosts S} (old mid new : Database S s)
     (before now after : Option (List ℕ)) (done : List (Option model.Call)) (call : Option model.Call)
     → TellsScript done old mid before now → TellsLine call mid new (λ text. Appends now after text)
     → TellsScript (done ++ call ∷ []) old new before after
-one_more old mid new before now after done None h telling = record {
+one_more {S} {s} old mid new before now after done None h telling = record {
+  calls = h.calls;
+  calls_are = h.calls_are ∙ sym (calls_in-push done None ∙ append-nil (calls_in done));
   replies = h.replies;
-  answered = rw (calls_in-push done None, append-nil (calls_in done), telling.0) h.answered;
-  written = rw (answer-bad old mid done h.replies h.answered)
+  answered = subst (λ (db : Database S s). AreAnswered old db h.calls h.replies) (sym telling.0)
+      h.answered;
+  written = rw (answer-bad done h.replies (many_told h))
       (joined before now after (answer_of done (map reply_of h.replies)) bad_line h.written
       telling.1);
 }
-one_more old mid new before now after done (Some call) h (reply, answered, says) = record {
+one_more old mid new before now after done (Some call) h (made, is, reply, answered, says) = record {
+  calls = h.calls ++ made ∷ [];
+  calls_are = map-append call_of h.calls (made ∷ []) ∙ (λ i. h.calls_are i ++ is i ∷ [])
+      ∙ sym (calls_in-push done (Some call));
   replies = h.replies ++ reply ∷ [];
-  answered = rw (calls_in-push done (Some call), map-append call_as (calls_in done) (call ∷ []))
-      (answered_next old mid new (map call_as (calls_in done)) h.replies (call_as call) reply
-      h.answered answered);
-  written = rw (answer-call old mid done h.replies call reply h.answered)
+  answered = answered_next old mid new h.calls h.replies made reply h.answered answered;
+  written = rw (answer-call done h.replies call reply (many_told h))
       (joined before now after (answer_of done (map reply_of h.replies))
       (reply_line (reply_of reply)) h.written says);
 }

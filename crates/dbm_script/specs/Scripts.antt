@@ -2,6 +2,7 @@
 use Rattle.std.specs.Prelude.{◌≡◌, ◌++◌, ℕ, List, true, Option, Some, None, IfSome}
 use Rattle.std.specs.FinMap as map
 use Rattle.std.specs.Io.KnownBytes.{Appends}
+use Rattle.dbm_model.specs.Bounds.{in_v1}
 use Rattle.dbm_model.specs.Calls.{Call, Reply}
 use Rattle.dbm_text.specs.Lines.{reply_line, bad_line}
 use Rattle.dbm_text.specs.Scripts.{script_of, calls_in, answer_of}
@@ -53,7 +54,7 @@ AnswersLine (Some call) old new start Says =
 pub record AnswersInMemory (limit : ℕ) (text : List ℕ) (old new : Option (List ℕ)) : Type 0 where
   pub allowed : is_limit limit ≡ true
   pub before : Handle
-  pub empty : before.state ≡ fresh map.empty limit true
+  pub empty : before.state ≡ fresh map.empty (in_v1 limit) true
   pub room : HasRoom before
   pub after : Handle
   pub replies : List Reply

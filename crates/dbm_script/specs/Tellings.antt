@@ -5,40 +5,27 @@ use Rattle.dbm_model.specs.Calls as model
 use Rattle.dbm_text.specs.Lines.{reply_line, bad_line}
 use Rattle.dbm_text.specs.Scripts.{calls_in, answer_of}
 use Rattle.page_io.specs.declared.store.PageStore.{Ghosts}
-use Rattle.dbm_file.specs.Calls.{reply_of}
+use Rattle.dbm_file.specs.Calls.{call_of, reply_of}
 use Rattle.dbm_file.specs.Replies.{IsAnswered, AreAnswered}
 use Rattle.dbm_file.specs.declared.calls.Call.{Call}
-use Rattle.dbm_file.specs.declared.calls.Call.TheVariants.{Store, Fetch, Delete, First, Next, Error, Clear}
 use Rattle.dbm_file.specs.declared.calls.Reply.{Reply}
-use Rattle.dbm_file.specs.declared.calls.StoreMode.{StoreMode}
-use Rattle.dbm_file.specs.declared.calls.StoreMode.TheVariants.{Insert, Replace}
 use Rattle.dbm_file.specs.declared.database.Database.{Database}
 
-abbrev pub mode_as : model.Mode → StoreMode
-mode_as model.Insert = Insert
-mode_as model.Replace = Replace
-
--- a call of the definitions as one of the program
-abbrev pub call_as : model.Call → Call
-call_as (model.Store key content mode) = Store key content (mode_as mode)
-call_as (model.Fetch key) = Fetch key
-call_as (model.Delete key) = Delete key
-call_as model.First = First
-call_as model.Next = Next
-call_as model.Error = Error
-call_as model.Clear = Clear
-
--- the call of a line was answered, or none was made for a bad line, and Says holds of the line that
--- tells that
+-- the call of a line was made and answered, or none was made for a bad line, and Says holds of the
+-- line that tells that
 abbrev pub TellsLine : {S : Type 0} {s : Ghosts S} → Option model.Call → Database S s
     → Database S s → (List ℕ → Type 0) → Type 0
 TellsLine None old new Says = (new ≡ old) × Says bad_line
 TellsLine (Some call) old new Says =
-    (reply : Reply) × IsAnswered old new (call_as call) reply × Says (reply_line (reply_of reply))
+    (made : Call) × (call_of made ≡ call) × (reply : Reply) × IsAnswered old new made reply
+    × Says (reply_line (reply_of reply))
 
--- the calls of the script were answered in order, and exactly the lines that tell that were written
+-- the calls of the script were made and answered in order, and exactly the lines that tell that were
+-- written
 pub record TellsScript {S : Type 0} {s : Ghosts S} (script : List (Option model.Call))
     (old new : Database S s) (before after : Option (List ℕ)) : Type 0 where
+  pub calls : List Call
+  pub calls_are : map call_of calls ≡ calls_in script
   pub replies : List Reply
-  pub answered : AreAnswered old new (map call_as (calls_in script)) replies
+  pub answered : AreAnswered old new calls replies
   pub written : Appends before after (answer_of script (map reply_of replies))

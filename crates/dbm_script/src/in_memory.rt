@@ -1,6 +1,7 @@
 // A script over a new database in memory.
 ghost use Rattle.std.specs.Prelude.{◌≡◌, OnOk, IfOk, IfErr, IfSome, true, false};
 ghost use Rattle.std.specs.FinMap.{empty};
+ghost use Rattle.dbm_model.specs.Bounds.{in_v1};
 ghost use Rattle.dbm_model.specs.Sizes.{is_limit};
 ghost use Rattle.dbm_file.specs.Opened.{HasRoom, IsOpenedAt};
 ghost use Rattle.dbm_script.specs.Faults.{CanMeetInMemory, told_in_memory};
@@ -49,7 +50,7 @@ fn in_memory(fault: Fault) -> EngineFault
 
 /// A new database in memory, of at most `limit` pairs.
 fn new_in_memory(alloc: Global, limit: u32) -> Result<Db<MemDev>, Fault>
-    ensures fresh { IfOk result (λ db. IsOpenedAt true db empty limit) }
+    ensures fresh { IfOk result (λ db. IsOpenedAt true db empty (in_v1 limit)) }
     ensures room { IfOk result HasRoom }
     ensures allowed { IfOk result (λ _. is_limit limit ≡ true) }
     ensures limit { is_limit limit ≡ false → result ≡ Err Fault.BadLimit }

@@ -1,13 +1,13 @@
 -- What calls leave: the map of the changes that were acknowledged.
 use Rattle.std.proofs.Common.{◌≡◌, inl, inr, ℕ, true, false, ◌||◌, List, [], ◌∷◌, None, refl, sym, ◌∙◌, ap, ap₂, subst}
-use Rattle.dbm_model.specs.Calls.{Call, Store, Fetch, Delete, First, Next, Error, Clear, Reply, Stored, Deleted, Number, Broken}
-use Rattle.dbm_model.specs.Changes.{map_after}
+use Rattle.dbm_model.specs.Bounds.{Bounds}
+use Rattle.dbm_model.specs.Calls.{Call, Store, Fetch, Delete, First, Next, Error, Clear, Upgrade, Reply, Stored, Deleted, Upgraded, Number, Broken}
+use Rattle.dbm_model.specs.Changes.{map_after, bounds_after}
 use Rattle.dbm_model.specs.Pairs.{Contents}
 use Rattle.dbm_model.specs.States.{State, Handle, error_number}
 use Rattle.dbm_model.specs.Steps.{Tells, Refuses, usable_case, Step, Run}
-use Rattle.dbm_model.proofs.CaseLemmas.{map_of_usable}
+use Rattle.dbm_model.proofs.CaseLemmas.{map_of_usable, bounds_of_usable}
 use Rattle.dbm_model.proofs.RuleLemmas.{ByCase, falls, if_broken}
-use Rattle.dbm_model.proofs.StayLemmas.{settings_stay}
 use Rattle.dbm_sessions.specs.Members.{Holding, held}
 use Rattle.dbm_sessions.specs.Changes.{of_answer, of_calls, is_device, has_device, LeftBy}
 use Rattle.dbm_sessions.proofs.Leaving.{left_append, AllMade, all_append}
@@ -20,7 +20,7 @@ record StaysBroken (reply : Reply) (after : Handle) : Type 0 where
   pub other : is_device reply ≡ false
 
 refused_again : (before after : Handle) (call : Call) (reply : Reply)
-    → before.state.usable ≡ false → ByCase before (Refuses Broken) reply after
+    → before.state.usable ≡ false → ByCase before call (Refuses Broken) reply after
     → StaysBroken reply after
 refused_again before after call reply broken (inl is) = record {
   broken = ap (λ (s : State). s.usable) is.1 ∙ broken;
@@ -28,45 +28,48 @@ refused_again before after call reply broken (inl is) = record {
 }
 refused_again before after call reply broken (inr is) = absurd is
 
-told_again : (before after : Handle) (number : ℕ) (told : State) (reply : Reply)
-    → told.usable ≡ false → ByCase before (Tells (Number number) told) reply after
+told_again : (before after : Handle) (call : Call) (number : ℕ) (told : State) (reply : Reply)
+    → told.usable ≡ false → ByCase before call (Tells (Number number) told) reply after
     → StaysBroken reply after
-told_again before after number told reply broken (inl is) = record {
+told_again before after call number told reply broken (inl is) = record {
   broken = ap (λ (s : State). s.usable) is.1 ∙ broken;
   other = ap is_device is.0;
 }
-told_again before after number told reply broken (inr is) = absurd is
+told_again before after call number told reply broken (inr is) = absurd is
 
 stays_broken : (before after : Handle) (call : Call) (reply : Reply) → Step before call reply after
     → before.state.usable ≡ false → StaysBroken reply after
 stays_broken before after (Store key content mode) reply step broken =
     refused_again before after (Store key content mode) reply broken
     (falls before after (Store key content mode) reply (Refuses Broken)
-    (if_broken before.state (Store key content mode) broken) step)
+    (if_broken before (Store key content mode) broken) step)
 stays_broken before after (Fetch key) reply step broken =
     refused_again before after (Fetch key) reply broken
     (falls before after (Fetch key) reply (Refuses Broken)
-    (if_broken before.state (Fetch key) broken) step)
+    (if_broken before (Fetch key) broken) step)
 stays_broken before after (Delete key) reply step broken =
     refused_again before after (Delete key) reply broken
     (falls before after (Delete key) reply (Refuses Broken)
-    (if_broken before.state (Delete key) broken) step)
+    (if_broken before (Delete key) broken) step)
 stays_broken before after First reply step broken =
     refused_again before after First reply broken
     (falls before after First reply (Refuses Broken)
-    (if_broken before.state First broken) step)
+    (if_broken before First broken) step)
 stays_broken before after Next reply step broken =
     refused_again before after Next reply broken
     (falls before after Next reply (Refuses Broken)
-    (if_broken before.state Next broken) step)
+    (if_broken before Next broken) step)
 stays_broken before after Error reply step broken =
-    told_again before after (error_number before.state.error) before.state reply broken
-    (falls before after Error reply (usable_case before.state Error)
-    (if_broken before.state Error broken) step)
+    told_again before after Error (error_number before.state.error) before.state reply broken
+    (falls before after Error reply (usable_case before.capacity before.state Error)
+    (if_broken before Error broken) step)
 stays_broken before after Clear reply step broken =
-    told_again before after 0 (record before.state { error = None }) reply broken
-    (falls before after Clear reply (usable_case before.state Clear)
-    (if_broken before.state Clear broken) step)
+    told_again before after Clear 0 (record before.state { error = None }) reply broken
+    (falls before after Clear reply (usable_case before.capacity before.state Clear)
+    (if_broken before Clear broken) step)
+stays_broken before after Upgrade reply step broken =
+    refused_again before after Upgrade reply broken
+    (falls before after Upgrade reply (Refuses Broken) (if_broken before Upgrade broken) step)
 
 usable_before : (before after : Handle) (call : Call) (reply : Reply) → Step before call reply after
     → after.state.usable ≡ true → before.state.usable ≡ true
@@ -97,19 +100,24 @@ none_by_device first last (call ∷ calls) (reply ∷ replies) run broken =
 
 -- ---- a usable one
 
-answer_left : (call : Call) (reply : Reply) (map : Contents) (limit : ℕ)
-    → LeftBy (of_answer call reply) (Holding map limit) (Holding (map_after map call reply) limit)
-answer_left (Store key content mode) Stored map limit = refl
-answer_left (Store key content mode) reply map limit = refl
-answer_left (Delete key) Deleted map limit = refl
-answer_left (Delete key) reply map limit = refl
-answer_left call reply map limit = refl
+answer_left : (call : Call) (reply : Reply) (map : Contents) (bounds : Bounds)
+    → LeftBy (of_answer call reply) (Holding map bounds)
+    (Holding (map_after map call reply) (bounds_after bounds call reply))
+answer_left (Store key content mode) Stored map bounds = refl
+answer_left (Store key content mode) reply map bounds = refl
+answer_left (Delete key) Deleted map bounds = refl
+answer_left (Delete key) reply map bounds = refl
+answer_left Upgrade Upgraded map bounds = refl
+answer_left Upgrade reply map bounds = refl
+answer_left call reply map bounds = refl
 
 pub answer_all : (call : Call) (reply : Reply) → AllMade (of_answer call reply)
 answer_all (Store key content mode) Stored = tt
 answer_all (Store key content mode) reply = tt
 answer_all (Delete key) Deleted = tt
 answer_all (Delete key) reply = tt
+answer_all Upgrade Upgraded = tt
+answer_all Upgrade reply = tt
 answer_all call reply = tt
 
 call_left : (before after : Handle) (call : Call) (reply : Reply) → Step before call reply after
@@ -118,8 +126,8 @@ call_left : (before after : Handle) (call : Call) (reply : Reply) → Step befor
 call_left before after call reply step usable =
     subst (LeftBy (of_answer call reply) (held before.state))
     (sym (ap₂ Holding (map_of_usable before after call reply step usable)
-    (settings_stay before after call reply step).0))
-    (answer_left call reply before.state.map before.state.limit)
+    (bounds_of_usable before after call reply step usable)))
+    (answer_left call reply before.state.map before.state.bounds)
 
 pub calls_left : (first last : Handle) (calls : List Call) (replies : List Reply)
     → Run first calls replies last → last.state.usable ≡ true

@@ -1,11 +1,12 @@
 -- What a call leaves that a stop or a fault of the device cut short.
-use Rattle.std.proofs.Common.{◌≡◌, ◌⊎◌, inl, inr, ⊎_elim, ℕ, Bool, true, false, ◌&&◌, ◌||◌, not, cond, List, [], ◌∷◌, ◌++◌, refl, sym, ◌∙◌, ap, subst, append_assoc, Contains}
-use Rattle.dbm_model.specs.Calls.{Call, Store, Fetch, Delete, First, Next, Error, Clear, Reply, Refused, Device}
-use Rattle.dbm_model.specs.Changes.{map_asked}
+use Rattle.std.proofs.Common.{◌≡◌, ◌⊎◌, inl, inr, ⊎_elim, ℕ, Bool, true, false, ◌&&◌, ◌||◌, not, cond, List, [], ◌∷◌, ◌++◌, refl, sym, ◌∙◌, ap, ap₂, subst, append_assoc, Contains}
+use Rattle.dbm_model.specs.Bounds.{Bounds}
+use Rattle.dbm_model.specs.Calls.{Call, Store, Fetch, Delete, First, Next, Error, Clear, Upgrade, Reply, Refused, Device}
+use Rattle.dbm_model.specs.Changes.{map_asked, bounds_asked}
 use Rattle.dbm_model.specs.Pairs.{Contents}
 use Rattle.dbm_model.specs.States.{State, Handle}
 use Rattle.dbm_model.specs.Steps.{Case, Tells, Refuses, Declines, Finds, Passes, Changes, case_of, Step, Run}
-use Rattle.dbm_model.proofs.CaseLemmas.{Suits, suits}
+use Rattle.dbm_model.proofs.CaseLemmas.{IsChange, Suits, suits}
 use Rattle.dbm_model.proofs.RuleLemmas.{ByCase}
 use Rattle.dbm_sessions.specs.Members.{Member, Holding, held}
 use Rattle.dbm_sessions.specs.Sessions.{Goes, left_by}
@@ -19,14 +20,17 @@ use Rattle.dbm_sessions.proofs.Calls.{answer_all, calls_left}
 not_made : (call : Call) (m : Member) → LeftBy (of_cut call) m m
 not_made (Store key content mode) m = inr refl
 not_made (Delete key) m = inr refl
+not_made Upgrade m = inr refl
 not_made call m = refl
 
 -- it was made, or not
-made_whole : (call : Call) (map : Contents) (limit : ℕ)
-    → LeftBy (of_cut call) (Holding map limit) (Holding (map_asked map call) limit)
-made_whole (Store key content mode) map limit = inl refl
-made_whole (Delete key) map limit = inl refl
-made_whole call map limit = refl
+made_whole : (call : Call) (map : Contents) (bounds : Bounds)
+    → LeftBy (of_cut call) (Holding map bounds)
+    (Holding (map_asked map call) (bounds_asked bounds call))
+made_whole (Store key content mode) map bounds = inl refl
+made_whole (Delete key) map bounds = inl refl
+made_whole Upgrade map bounds = inl refl
+made_whole call map bounds = refl
 
 same : (call : Call) (a b : Member) → b ≡ a → LeftBy (of_cut call) a b
 same call a b is = subst (LeftBy (of_cut call) a) (sym is) (not_made call a)
@@ -35,6 +39,10 @@ stays : (s : State) (call : Call) (member : Member) → Contains (held s ∷ [])
     → LeftBy (of_cut call) (held s) member
 stays s call member is = same call (held s) member (in_one (held s) member is)
 
+asked_held : (s : State) (call : Call) (said : Reply) (next : State) → IsChange s call said next
+    → held next ≡ Holding (map_asked s.map call) (bounds_asked s.bounds call)
+asked_held s call said next is = ap₂ Holding is.map_was_asked is.bounds_were_asked
+
 by_rule : (s : State) (call : Call) (c : Case) → Suits s call c → (member : Member)
     → Contains (left_by s c) member → LeftBy (of_cut call) (held s) member
 by_rule s call (Tells said told) fits member is = stays s call member is
@@ -42,41 +50,43 @@ by_rule s call (Refuses fault) fits member is = stays s call member is
 by_rule s call (Declines fault) fits member is = stays s call member is
 by_rule s call (Finds found) fits member is = stays s call member is
 by_rule s call (Passes left) fits member is = stays s call member is
-by_rule s call (Changes said map) fits member is =
+by_rule s call (Changes said next) fits member is =
     ⊎_elim (λ e. same call (held s) member e)
     (λ e. subst (LeftBy (of_cut call) (held s))
-    (sym (e ∙ ap (λ (m : Contents). Holding m s.limit) fits.1))
-    (made_whole call s.map s.limit))
-    (in_two (held s) (Holding map s.limit) member is)
+    (sym (e ∙ asked_held s call said next fits)) (made_whole call s.map s.bounds))
+    (in_two (held s) (held next) member is)
 
-pub cut_left : (s : State) (call : Call) (member : Member)
-    → Contains (left_by s (case_of s call)) member → LeftBy (of_cut call) (held s) member
-cut_left s call member is = by_rule s call (case_of s call) (suits s call) member is
+pub cut_left : (h : Handle) (call : Call) (member : Member)
+    → Contains (left_by h.state (case_of h call)) member → LeftBy (of_cut call) (held h.state) member
+cut_left h call member is = by_rule h.state call (case_of h call) (suits h call) member is
 
 -- a call that was cut short leaves what there was, or what it asks for
-way : (call : Call) (map : Contents) (limit : ℕ) (member : Member)
-    → LeftBy (of_cut call) (Holding map limit) member
-    → (member ≡ Holding map limit) ⊎ (member ≡ Holding (map_asked map call) limit)
-way (Store key content mode) map limit member (inl done) = inr done
-way (Store key content mode) map limit member (inr not_done) = inl not_done
-way (Delete key) map limit member (inl done) = inr done
-way (Delete key) map limit member (inr not_done) = inl not_done
-way (Fetch key) map limit member left = inl left
-way First map limit member left = inl left
-way Next map limit member left = inl left
-way Error map limit member left = inl left
-way Clear map limit member left = inl left
+way : (call : Call) (map : Contents) (bounds : Bounds) (member : Member)
+    → LeftBy (of_cut call) (Holding map bounds) member
+    → (member ≡ Holding map bounds) ⊎ (member ≡ Holding (map_asked map call) (bounds_asked bounds call))
+way (Store key content mode) map bounds member (inl done) = inr done
+way (Store key content mode) map bounds member (inr not_done) = inl not_done
+way (Delete key) map bounds member (inl done) = inr done
+way (Delete key) map bounds member (inr not_done) = inl not_done
+way (Fetch key) map bounds member left = inl left
+way First map bounds member left = inl left
+way Next map bounds member left = inl left
+way Error map bounds member left = inl left
+way Clear map bounds member left = inl left
+way Upgrade map bounds member (inl done) = inr done
+way Upgrade map bounds member (inr not_done) = inl not_done
 
 -- a handle breaks only where the rule is a change
 abbrev pub BreaksBy : State → Call → Case → Type 0
-BreaksBy s call c = (said : Reply) × (c ≡ Changes said (map_asked s.map call))
+BreaksBy s call c = (said : Reply) × (next : State) × (c ≡ Changes said next)
+    × (held next ≡ Holding (map_asked s.map call) (bounds_asked s.bounds call))
 
 still : (s after : State) (call : Call) (c : Case) → after.usable ≡ s.usable → s.usable ≡ true
     → after.usable ≡ false → BreaksBy s call c
 still s after call c is was now = absurd (let x = is in cc)
 
 breaks_by : (before after : Handle) (call : Call) (c : Case) (reply : Reply)
-    → Suits before.state call c → ByCase before c reply after → before.state.usable ≡ true
+    → Suits before.state call c → ByCase before call c reply after → before.state.usable ≡ true
     → after.state.usable ≡ false → BreaksBy before.state call c
 breaks_by before after call (Tells said told) reply fits (inl is) was now =
     still before.state after.state call (Tells said told)
@@ -91,33 +101,36 @@ breaks_by before after call (Declines fault) reply fits (inr is) was now =
     still before.state after.state call (Declines fault) (ap (λ (t : State). t.usable) is.2) was now
 breaks_by before after call (Finds found) reply fits (inl is) was now =
     still before.state after.state call (Finds found) (ap (λ (t : State). t.usable) is.1) was now
-breaks_by before after call (Finds found) reply fits (inr is) was now =
-    still before.state after.state call (Finds found) (ap (λ (t : State). t.usable) is.2) was now
+breaks_by before after call (Finds found) reply fits (inr (inl fails)) was now =
+    still before.state after.state call (Finds found) (ap (λ (t : State). t.usable) fails.2) was now
+breaks_by before after call (Finds found) reply fits (inr (inr memory)) was now =
+    still before.state after.state call (Finds found) (ap (λ (t : State). t.usable) memory.1) was now
 breaks_by before after call (Passes left) reply fits (inl (inl end)) was now =
     still before.state after.state call (Passes left) (ap (λ (t : State). t.usable) end.2) was now
 breaks_by before after call (Passes left) reply fits (inl (inr given)) was now =
     still before.state after.state call (Passes left) (ap (λ (t : State). t.usable) given.3) was now
 breaks_by before after call (Passes left) reply fits (inr is) was now =
     still before.state after.state call (Passes left) (ap (λ (t : State). t.usable) is.2) was now
-breaks_by before after call (Changes said map) reply fits is was now =
-    (said, ap (Changes said) fits.1)
+breaks_by before after call (Changes said next) reply fits is was now =
+    (said, next, refl, asked_held before.state call said next fits)
 
 -- what a stop leaves of the call that broke the handle: the map before it, and the one it asks for
 pub broken_leaves : (before after : Handle) (call : Call) (reply : Reply)
     → Step before call reply after → before.state.usable ≡ true → after.state.usable ≡ false
-    → left_by before.state (case_of before.state call) ≡ held before.state
-    ∷ Holding (map_asked before.state.map call) before.state.limit ∷ []
-broken_leaves before after call reply step was now = ap (left_by before.state)
-    (breaks_by before after call (case_of before.state call) reply (suits before.state call)
-    step.answers was now).1
+    → left_by before.state (case_of before call) ≡ held before.state
+    ∷ Holding (map_asked before.state.map call) (bounds_asked before.state.bounds call) ∷ []
+broken_leaves before after call reply step was now =
+    let by = breaks_by before after call (case_of before call) reply (suits before call)
+    step.answers was now in
+    ap (left_by before.state) by.2 ∙ ap (λ (m : Member). held before.state ∷ m ∷ []) by.3
 
 pub both_left : (s : State) (call : Call) (member : Member) → LeftBy (of_cut call) (held s) member
-    → Contains (held s ∷ Holding (map_asked s.map call) s.limit ∷ []) member
+    → Contains (held s ∷ Holding (map_asked s.map call) (bounds_asked s.bounds call) ∷ []) member
 both_left s call member left =
-    let asked = Holding (map_asked s.map call) s.limit in
+    let asked = Holding (map_asked s.map call) (bounds_asked s.bounds call) in
     ⊎_elim (λ e. is_first (held s) (asked ∷ []) member e)
     (λ e. is_later (held s) (asked ∷ []) member (is_first asked [] member e))
-    (way call s.map s.limit member left)
+    (way call s.map s.bounds member left)
 
 -- ---- in a list of calls
 
@@ -187,6 +200,7 @@ broken_changes first last (one ∷ made) (reply ∷ answered) refused call rest 
 cut_one : (call : Call) → OnlyLastInDoubt (of_cut call)
 cut_one (Store key content mode) = refl
 cut_one (Delete key) = refl
+cut_one Upgrade = refl
 cut_one call = tt
 
 pub stopped_one : (calls : List Call) (replies : List Reply)

@@ -1,6 +1,7 @@
 -- Lists of sessions that are worked out by hand.
-use Rattle.std.proofs.Common.{◌≡◌, ◌⊎◌, inl, inr, ⊎_elim, ℕ, ◌≤◌, true, List, [], ◌∷◌, Some, None, refl, sym, ◌∙◌, ap, subst, arith, Contains}
-use Rattle.std.specs.FinMap.{empty, len, get-empty}
+use Rattle.std.proofs.Common.{◌≡◌, ◌⊎◌, inl, inr, ⊎_elim, ℕ, true, List, [], ◌∷◌, Some, None, refl, sym, ◌∙◌, ap, subst, arith, Contains}
+use Rattle.std.specs.FinMap.{empty, get-empty}
+use Rattle.dbm_model.specs.Bounds.{in_v1}
 use Rattle.dbm_model.specs.Calls.{Next, Reply, Stored, Bytes, NoRecord, Refused, Device, BadLimit, NoPass}
 use Rattle.dbm_model.specs.Examples.{one}
 use Rattle.dbm_model.specs.Pairs.{Contents, key_cmp}
@@ -13,7 +14,7 @@ use Rattle.dbm_sessions.specs.Examples.{creates, empties, reopens, store, fetch,
 use Rattle.dbm_sessions.proofs.Lists.{in_one, is_first, is_later}
 use Rattle.dbm_sessions.proofs.Ways.{rests_left, changes_stay}
 use Rattle.dbm_model.proofs.RuleLemmas.{ByCase}
-use Rattle.dbm_sessions.proofs.Sample.{disk, IsSmall, nine, five, no_pair, one_pair, told_at, at, start, only, is_stored, has_pair, begins, all_answered, doubt, pair_in_doubt, nothing_in_doubt, stopped_store, fetches, broken_session, told_by}
+use Rattle.dbm_sessions.proofs.Sample.{disk, IsSmall, IsPlain, nine, five, no_pair, one_pair, told_at, at, start, only, is_stored, has_pair, begins, all_answered, doubt, pair_in_doubt, nothing_in_doubt, stopped_store, fetches, broken_session, told_by}
 
 -- what the sessions leave, by their changes from one member
 pub left_of : (before : Member) (plans : List Plan) (endings : List Ending) (member : Member)
@@ -83,7 +84,7 @@ settled on then mid after member first second among =
     }) in
     ⊎_elim
     (λ done. absurd (⊎_elim none_told (not_refused NoRecord (inl refl))
-    (told_by then mid after only NoRecord (Bytes (one 0x01)) (Some (one 0x01)) second done has_pair
+    (told_by then mid after only NoRecord (Bytes (one 0x01)) (Some (one 0x01)) second done has_pair refl
     refl)))
     (λ not_done. rests_left then.at_end second.0 (fetch ∷ []) (NoRecord ∷ []) after second.2 member among
     ∙ sym second.1.begins ∙ ap (opened (reopens []).how) not_done)
@@ -142,13 +143,13 @@ store_in_doubt = record {
 abbrev created : Members
 created = NoDatabase ∷ nothing 9 ∷ []
 
-creates_next : (map : Contents) (limit : ℕ) (member : Member) → IsSmall limit → len map ≤ 1
-    → Contains created member → opened (creates 5 []).how member ≡ Holding map limit
-    → SessionStep disk created (creates 5 []) (Rested []) (Holding map limit ∷ [])
-creates_next map limit member small few among is = (
-  at (fresh map limit true),
-  begins created (creates 5 []).how member map limit small few among is,
-  all_answered (at (fresh map limit true)) (at (fresh map limit true)) [] [] refl refl refl
+creates_next : (map : Contents) (limit : ℕ) (member : Member) → IsSmall limit → IsPlain map
+    → Contains created member → opened (creates 5 []).how member ≡ Holding map (in_v1 limit)
+    → SessionStep disk created (creates 5 []) (Rested []) (Holding map (in_v1 limit) ∷ [])
+creates_next map limit member small plain among is = (
+  at (fresh map (in_v1 limit) true),
+  begins created (creates 5 []).how member map limit small plain among is,
+  all_answered (at (fresh map (in_v1 limit) true)) (at (fresh map (in_v1 limit) true)) [] [] refl refl refl
       (omega arith),
 )
 
@@ -239,9 +240,9 @@ invented : (on : Disk) (after : Members) → SessionStep on (nothing 9 ∷ []) (
 invented on after session = ⊎_elim (λ e. none_told (sym e))
     (not_refused (Bytes (one 0x01)) (inr refl))
     (told_by on (nothing 9 ∷ []) after empty (Bytes (one 0x01)) NoRecord None session
-    (in_one (nothing 9) session.1.member session.1.among) (get-empty key_cmp (one 0x61)) refl)
+    (in_one (nothing 9) session.1.member session.1.among) (get-empty key_cmp (one 0x61)) refl refl)
 
-no_pass : (h after : Handle) → ByCase h (Refuses NoPass) (Bytes (one 0x61)) after → ⊥
+no_pass : (h after : Handle) → ByCase h Next (Refuses NoPass) (Bytes (one 0x61)) after → ⊥
 no_pass h after (inl is) = absurd (let x = is.0 in cc)
 no_pass h after (inr is) = absurd is
 
@@ -249,7 +250,7 @@ passes : (on : Disk) (after : Members) → SessionStep on (pair 9 ∷ []) (reope
     (Rested (Bytes (one 0x61) ∷ [])) after → ⊥
 passes on after session =
     let next = told_at on (pair 9 ∷ []) after only (Refuses NoPass) Next (Bytes (one 0x61)) session
-    (in_one (pair 9) session.1.member session.1.among) refl in
+    (in_one (pair 9) session.1.member session.1.among) (λ capacity. refl) in
     no_pass next.first next.after next.told
 
 pub wrong_sessions : WrongSessions

@@ -1,20 +1,25 @@
 -- Sessions with a group that are worked out by hand.
-use Rattle.std.proofs.Common.{◌≡◌, inl, inr, ⊎_elim, ℕ, ◌+◌, Bool, true, false, cond, List, [], ◌∷◌, ◌++◌, Option, Some, None, take, map, refl, sym, ◌∙◌, ap, arith, Contains}
-use Rattle.std.specs.FinMap.{empty, get, insert, len, get-empty, get-insert, len-insert, same_map, nat_cmp-IsAntisymmetric, slice_cmp-IsAntisymmetric}
+use Rattle.std.proofs.Common.{◌≡◌, inl, inr, ⊎_elim, ℕ, ◌+◌, Bool, true, false, cond, List, [], ◌∷◌, ◌++◌, Option, Some, None, take, map, refl, sym, ◌∙◌, ap, subst, arith, Contains}
+use Rattle.std.specs.FinMap.{empty, get, insert, len, get-empty, get-insert, len-empty, len-insert, same_map, nat_cmp-IsAntisymmetric, slice_cmp-IsAntisymmetric}
 use Rattle.std.specs.Ordering.{eq_by_cmp}
 use Rattle.std.specs.Prelude.{is_some, nat_le}
 use Rattle.dbm_model.specs.Calls.{Replace, Call, Stored, Device}
-use Rattle.dbm_model.specs.Changes.{replacing}
+use Rattle.dbm_model.specs.Changes.{replacing, with_pairs}
 use Rattle.dbm_model.specs.Examples.{one}
 use Rattle.dbm_model.specs.Pairs.{Pair, Contents, key_cmp}
-use Rattle.dbm_model.specs.States.{NotBegun, Handle, fresh}
+use Rattle.dbm_model.specs.States.{NotBegun, State, Handle, fresh}
 use Rattle.dbm_model.specs.Steps.{Changes, Step, Run, buckets_opened}
+use Rattle.dbm_model.specs.Bounds.{Bounds, in_v1}
+use Rattle.dbm_model.specs.Holding.{IsWithin}
+use Rattle.dbm_model.proofs.HoldingLemmas.{stays_within}
+use Rattle.dbm_model.proofs.StoreLemmas.{stores_put_all}
+use Rattle.dbm_sessions.proofs.Rooms.{bounds_stay}
 use Rattle.dbm_model.proofs.RunLemmas.{order, adds, by_old, is_only, one_more}
-use Rattle.dbm_sessions.specs.Members.{Member, Holding, Members}
-use Rattle.dbm_sessions.specs.Sessions.{NotOpened, StoppedOpening, Grouped, StoppedGroup, BrokeGroup, Goes, SessionStep}
+use Rattle.dbm_sessions.specs.Members.{Member, Holding, Members, held, opened}
+use Rattle.dbm_sessions.specs.Sessions.{Disk, NotOpened, StoppedOpening, Grouped, StoppedGroup, BrokeGroup, Goes, SessionStep}
 use Rattle.dbm_sessions.specs.Examples.{groups, reopens, store, nothing, pair, both, twice, pairs, later, GroupAcknowledged, GroupInDoubt, GroupOfOneKey, WrongGroups}
-use Rattle.dbm_sessions.proofs.Lists.{is_first, is_later}
-use Rattle.dbm_sessions.proofs.Sample.{disk, nine, no_pair, start, only, step, is_stored, has_pair, begins, map_of}
+use Rattle.dbm_sessions.proofs.Lists.{is_first, is_later, in_one}
+use Rattle.dbm_sessions.proofs.Sample.{nine_v1, bounds_of, disk, nine, no_pair, start, only, step, is_stored, has_pair, begins, map_of}
 use Rattle.dbm_sessions.proofs.Examples.{left_of}
 
 -- ---- the second store
@@ -43,15 +48,15 @@ few key content old has none =
     ∙ ap (λ (n : ℕ). cond (is_some old) n (n + 1)) (one_more (one 0x61) (one 0x01))) ∙ none
 
 second : Step (start only) (replacing (one 0x62, one 0x01)) Stored (start two)
-second = step (fresh only 9 true) (fresh two 9 true) (replacing (one 0x62, one 0x01))
-    (Changes Stored two) Stored (few (one 0x62) (one 0x01) None lacks_b refl)
-    (adds 9 only None NotBegun (one 0x62) (one 0x01) refl lacks_b
+second = step (fresh only nine_v1 true) (fresh two nine_v1 true) (replacing (one 0x62, one 0x01))
+    (Changes Stored (fresh two nine_v1 true)) Stored (few (one 0x62) (one 0x01) None lacks_b refl)
+    (adds nine_v1 only None NotBegun (one 0x62) (one 0x01) refl lacks_b
     (ap (nat_le 9) (one_more (one 0x61) (one 0x01)))) (refl, refl)
 
 second_again : Step (start only) (replacing (one 0x61, one 0x02)) Stored (start again)
-second_again = step (fresh only 9 true) (fresh again 9 true) (replacing (one 0x61, one 0x02))
-    (Changes Stored again) Stored (few (one 0x61) (one 0x02) (Some (one 0x01)) has_pair refl)
-    (by_old 9 only None NotBegun (one 0x61) (one 0x02) refl Replace (Some (one 0x01)) has_pair)
+second_again = step (fresh only nine_v1 true) (fresh again nine_v1 true) (replacing (one 0x61, one 0x02))
+    (Changes Stored (fresh again nine_v1 true)) Stored (few (one 0x61) (one 0x02) (Some (one 0x01)) has_pair refl)
+    (by_old nine_v1 only None NotBegun (one 0x61) (one 0x02) refl Replace (Some (one 0x01)) has_pair)
     (refl, refl)
 
 -- the later content is left
@@ -85,7 +90,7 @@ no_call map = record {
 acknowledges : (group : List Pair) (count : ℕ) (left : Contents)
     → Run (start empty) (map replacing (take count group)) (map (λ _. Stored) (take count group))
     (start left)
-    → SessionStep disk (nothing 9 ∷ []) (groups [] group) (Grouped [] count) (Holding left 9 ∷ [])
+    → SessionStep disk (nothing 9 ∷ []) (groups [] group) (Grouped [] count) (Holding left nine_v1 ∷ [])
 unfolding no_call
 acknowledges group count left run = (
   start empty,
@@ -184,18 +189,18 @@ group_in_doubt = record {
 
 pub group_of_one_key : GroupOfOneKey
 group_of_one_key =
-    let same = ap (λ (map : Contents). Holding map 9) is_later_one in record {
+    let same = ap (λ (map : Contents). Holding map nine_v1) is_later_one in record {
       may = record {
         pages = 8;
-        after = Holding again 9 ∷ [];
+        after = Holding again nine_v1 ∷ [];
         sessions = (
           disk,
           refl,
-          Holding again 9 ∷ [],
+          Holding again nine_v1 ∷ [],
           acknowledges twice 2 again (start only, is_stored, (start again, second_again, refl)),
           refl,
         );
-        among = is_first (Holding again 9) [] (later 9) (sym same);
+        among = is_first (Holding again nine_v1) [] (later 9) (sym same);
       };
       only = λ member m.
           left_of (nothing 9) (groups [] twice ∷ []) (Grouped [] 2 ∷ []) member m ∙ same;
@@ -218,6 +223,56 @@ too_early : (most : ℕ) (first : Handle) (goes : Goes most first (store ∷ [])
 too_early most first goes none =
     none_made first goes.last store goes.made goes.later goes.calls_are none goes.run
 
+-- no call was made where none was asked for
+none_asked : (first last : Handle) (made later : List Call) → [] ≡ made ++ later
+    → Run first made [] last → last ≡ first
+none_asked first last [] later is run = run
+none_asked first last (call ∷ made) later is run = absurd run
+
+-- a new database has nothing, so it is within its bounds
+new_within : (s : State) → s.map ≡ empty → IsWithin s
+new_within s new = record {
+  few = omega (arith, ap len new, len-empty key_cmp (List ℕ));
+  allowed = λ key content has. absurd (
+      let none = sym has ∙ ap (λ (m : Contents). get m key) new ∙ get-empty key_cmp key in cc
+      );
+}
+
+two_pairs : len two ≡ 2
+two_pairs = len-insert order only (one 0x62) (one 0x01)
+    ∙ ap (λ (o : Option (List ℕ)). cond (is_some o) (len only) (len only + 1)) lacks_b
+    ∙ ap (λ (n : ℕ). n + 1) (one_more (one 0x61) (one 0x01))
+
+-- both can't be stored where the limit is one
+none_past_limit : (from last : Handle) → from.state.map ≡ empty → from.state.bounds ≡ in_v1 1
+    → Run from (map replacing both) (map (λ _. Stored) both) last → ⊥
+none_past_limit from last new small run =
+    let first = stays_within from run.0 (replacing (one 0x61, one 0x01)) Stored
+    (new_within from.state new) run.1 in
+    let second = stays_within run.0 run.2.0 (replacing (one 0x62, one 0x01)) Stored first run.2.1 in
+    let end : IsWithin last.state =
+    subst (λ (h : Handle). IsWithin h.state) (sym run.2.2) second in
+    let stored = stores_put_all from last both run
+    ∙ ap (λ (m : Contents). with_pairs m both) new in
+    omega (
+      arith,
+      end.few,
+      ap len stored,
+      two_pairs,
+      ap (λ (b : Bounds). b.limit) (bounds_stay from last both run ∙ small),
+    )
+
+past_limit : (on : Disk) (after : Members)
+    → SessionStep on (nothing 1 ∷ []) (groups [] both) (StoppedGroup [] 2) after → ⊥
+past_limit on after (first, begins, cut) =
+    let begun : held first.state ≡ nothing 1 = sym begins.begins
+    ∙ ap (opened (groups [] both).how) (in_one (nothing 1) begins.member begins.among) in
+    let same = none_asked first cut.goes.last cut.goes.made cut.goes.later cut.goes.calls_are
+    cut.goes.run in
+    none_past_limit (record cut.goes.last { faults = cut.stored.faults }) cut.stored
+    (ap (λ (h : Handle). h.state.map) same ∙ ap map_of begun)
+    (ap (λ (h : Handle). h.state.bounds) same ∙ ap bounds_of begun) cut.run
+
 pub wrong_groups : WrongGroups
 wrong_groups = record {
   alone = λ m. ⊎_elim
@@ -229,4 +284,5 @@ wrong_groups = record {
       too_early m.sessions.0.at_end session.0 session.2.goes session.2.all;
   stopped_early = λ member m. let session = m.sessions.3 in
       too_early m.sessions.0.at_end session.0 session.2.goes session.2.all;
+  past_limit = λ member m. past_limit m.sessions.0 m.sessions.2 m.sessions.3;
 }

@@ -13,16 +13,15 @@ use Rattle.dbm_sessions.proofs.Lists.{in_one, in_two, is_first, is_later}
 use Rattle.dbm_sessions.proofs.Leaving.{left_append, left_rest, one_behind, opening_all}
 use Rattle.dbm_sessions.proofs.Calls.{calls_all}
 use Rattle.dbm_sessions.proofs.Cuts.{goes_left}
-use Rattle.dbm_sessions.proofs.Rooms.{limit_stays}
+use Rattle.dbm_sessions.proofs.Rooms.{bounds_stay}
 
 -- ---- stores one after another
 
 stored_left : (first last : Handle) (pairs : List Pair)
     → Run first (map replacing pairs) (map (λ _. Stored) pairs) last
-    → held last.state ≡ Holding (with_pairs first.state.map pairs) first.state.limit
+    → held last.state ≡ Holding (with_pairs first.state.map pairs) first.state.bounds
 stored_left first last pairs run =
-    ap₂ Holding (stores_put_all first last pairs run)
-    (limit_stays first last (map replacing pairs) (map (λ _. Stored) pairs) run)
+    ap₂ Holding (stores_put_all first last pairs run) (bounds_stay first last pairs run)
 
 -- ---- behind the calls
 
@@ -48,7 +47,7 @@ module _ (most : ℕ) (first : Handle) (calls : List Call) (replies : List Reply
 
   -- the member with all of the pairs
   whole_is : whole
-      ≡ Holding (with_pairs cut.goes.last.state.map asked) cut.goes.last.state.limit
+      ≡ Holding (with_pairs cut.goes.last.state.map asked) cut.goes.last.state.bounds
   whole_is = stored_left (record cut.goes.last { faults = cut.stored.faults }) cut.stored asked cut.run
 
   pub group_cut_left : (member : Member) → Contains after member

@@ -1,5 +1,6 @@
 -- What is left by lists of changes.
-use Rattle.std.proofs.Common.{◌≡◌, ◌⊎◌, inl, inr, ⊎_elim, ℕ, suc, Bool, true, false, ◌||◌, cond, List, [], ◌∷◌, ◌++◌, map, refl, sym, ◌∙◌, subst}
+use Rattle.std.proofs.Common.{◌≡◌, ◌⊎◌, inl, inr, ⊎_elim, suc, Bool, true, false, ◌||◌, cond, List, [], ◌∷◌, ◌++◌, map, refl, sym, ◌∙◌, subst}
+use Rattle.dbm_model.specs.Bounds.{Bounds}
 use Rattle.dbm_sessions.specs.Members.{Member, NoDatabase, Holding, Opening, opened}
 use Rattle.dbm_model.specs.Calls.{Fault, Device}
 use Rattle.dbm_sessions.specs.Changes.{Opens, applied, Marked, Acknowledged, InDoubt, of_opening, of_refused, LeftBy, OnlyLastInDoubt, IsLeftByPrefix}
@@ -16,9 +17,9 @@ left_append (InDoubt change ∷ xs) ys a b c (inr not_done) then =
     inr (left_append xs ys a b c not_done then)
 
 -- an opening that neither creates nor empties makes nothing of what it finds
-opens_as_is : (create truncate : Bool) (limit : ℕ) (m : Member)
+opens_as_is : (create truncate : Bool) (limit : Bounds) (m : Member)
     → (create || truncate) ≡ false
-    → opened (record { create = create; truncate = truncate; limit = limit }) m ≡ m
+    → opened (record { create = create; truncate = truncate; bounds = limit }) m ≡ m
 opens_as_is false false limit NoDatabase none = refl
 opens_as_is false false limit (Holding map most) none = refl
 opens_as_is true truncate limit m none = absurd (let x = none in cc)
@@ -30,7 +31,7 @@ opening_made how m = elim (how.create || how.truncate) as
     (λ b. (how.create || how.truncate) ≡ b
     → LeftBy (cond b (Acknowledged (Opens how) ∷ []) []) m (opened how m)) [
       | true ↦ λ is. refl
-      | false ↦ λ is. opens_as_is how.create how.truncate how.limit m is
+      | false ↦ λ is. opens_as_is how.create how.truncate how.bounds m is
     ] refl
 
 pub opening_in_doubt : (how : Opening) (m after : Member) → (after ≡ m) ⊎ (after ≡ opened how m)
@@ -40,7 +41,7 @@ opening_in_doubt how m after left = elim (how.create || how.truncate) as
     → LeftBy (cond b (InDoubt (Opens how) ∷ []) []) m after) [
       | true ↦ λ is. ⊎_elim (λ e. inr e) (λ e. inl e) left
       | false ↦ λ is. ⊎_elim (λ e. e)
-          (λ e. e ∙ opens_as_is how.create how.truncate how.limit m is) left
+          (λ e. e ∙ opens_as_is how.create how.truncate how.bounds m is) left
     ] refl
 
 -- where none is in doubt but the last, what is left is left by a prefix

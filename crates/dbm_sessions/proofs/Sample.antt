@@ -2,12 +2,15 @@
 use Rattle.std.proofs.Common.{◌≡◌, ◌⊎◌, inl, inr, ℕ, ◌+◌, ◌≤◌, true, false, List, [], ◌∷◌, ◌++◌, Option, Some, None, refl, sym, ◌∙◌, ap, subst, arith, Contains}
 use Rattle.std.specs.FinMap.{empty, get, insert, len, len-empty, get-empty, get-insert}
 use Rattle.std.specs.Cmp.Lexicographic.{nat_list_cmp_total}
+use Rattle.dbm_model.specs.Bounds.{V1, Bounds, in_v1}
 use Rattle.dbm_model.specs.Calls.{Call, Reply, Stored, Refused, Device}
 use Rattle.dbm_model.specs.Examples.{one}
-use Rattle.dbm_model.specs.Pairs.{Contents, key_cmp}
+use Rattle.dbm_model.specs.Pairs.{Contents, key_cmp, IsAllowed}
+use Rattle.dbm_model.specs.Holding.{IsWithin}
 use Rattle.dbm_model.specs.Sizes.{home}
 use Rattle.dbm_model.specs.States.{NotBegun, State, Handle, fresh, flagged}
-use Rattle.dbm_model.specs.Steps.{Case, Finds, Changes, fetched, case_of, Answers, Suffers, Step, Run, buckets_opened}
+use Rattle.dbm_model.specs.Steps.{Case, Finds, Changes, fetched, case_for, case_of, holds_far, takes_memory, Answers, Suffers, Step, Run, buckets_opened}
+use Rattle.dbm_model.proofs.HoldingLemmas.{stays_within}
 use Rattle.dbm_model.proofs.RunLemmas.{adds, none_yet, one_more}
 use Rattle.dbm_model.proofs.RuleLemmas.{ByCase, falls}
 use Rattle.dbm_sessions.specs.Members.{Member, NoDatabase, Holding, Members, held, Opening, opened}
@@ -20,14 +23,17 @@ use Rattle.dbm_sessions.proofs.Lists.{is_first, is_later}
 abbrev pub at : State → Handle
 at s = record { state = s; faults = 0; pages = 4; capacity = 8; buckets = 1 }
 
+abbrev pub nine_v1 : Bounds
+nine_v1 = in_v1 9
+
 abbrev pub start : Contents → Handle
-start map = at (fresh map 9 true)
+start map = at (fresh map nine_v1 true)
 
 abbrev pub only : Contents
 only = insert empty (one 0x61) (one 0x01)
 
 pub step : (s after : State) (call : Call) (c : Case) (reply : Reply)
-    → buckets_opened (at s) reply (len after.map) ≡ 0 → case_of s call ≡ c
+    → buckets_opened (at s) reply (len after.map) ≡ 0 → case_of (at s) call ≡ c
     → Answers s c reply after → Step (at s) call reply (at after)
 step s after call c reply none rule answers = record {
   counts = omega arith;
@@ -38,8 +44,8 @@ step s after call c reply none rule answers = record {
   answers = inl (subst (λ (d : Case). Answers s d reply after) (sym rule) answers);
 }
 
-store_rule : case_of (fresh empty 9 true) store ≡ Changes Stored only
-store_rule = adds 9 empty None NotBegun (one 0x61) (one 0x01) refl (get-empty key_cmp (one 0x61))
+store_rule : case_of (start empty) store ≡ Changes Stored (fresh only nine_v1 true)
+store_rule = adds nine_v1 empty None NotBegun (one 0x61) (one 0x01) refl (get-empty key_cmp (one 0x61))
     (none_yet 9 (omega arith))
 
 -- one pair is no reason for another bucket
@@ -47,7 +53,7 @@ one_bucket : buckets_opened (start empty) Stored (len only) ≡ 0
 one_bucket = ap (buckets_opened (start empty) Stored) (one_more (one 0x61) (one 0x01))
 
 pub is_stored : Step (start empty) store Stored (start only)
-is_stored = step (fresh empty 9 true) (fresh only 9 true) store (Changes Stored only) Stored
+is_stored = step (fresh empty nine_v1 true) (fresh only nine_v1 true) store (Changes Stored (fresh only nine_v1 true)) Stored
     one_bucket store_rule (refl, refl)
 
 pub has_pair : get only (one 0x61) ≡ Some (one 0x01)
@@ -63,7 +69,7 @@ disk = record { pages = 8; at_start = 0; at_end = 1 }
 pub record IsSmall (limit : ℕ) : Type 0 where
   pub some : 1 ≤ limit
   pub most : limit ≤ 1000000
-  pub pages : 4 ≤ home limit
+  pub pages : 4 ≤ home (in_v1 limit)
 
 pub nine : IsSmall 9
 nine = record { some = omega arith; most = omega arith; pages = omega arith }
@@ -71,17 +77,34 @@ nine = record { some = omega arith; most = omega arith; pages = omega arith }
 pub five : IsSmall 5
 five = record { some = omega arith; most = omega arith; pages = omega arith }
 
--- how many pairs the examples have
-pub no_pair : len (empty {X = List ℕ} {R = key_cmp}) ≤ 1
-no_pair = omega (arith, len-empty key_cmp (List ℕ))
+-- a map of the examples: at most one pair, and an allowed one
+pub record IsPlain (map : Contents) : Type 0 where
+  pub few : len map ≤ 1
+  pub allowed : (key content : List ℕ) → get map key ≡ Some content → IsAllowed V1 (key, content)
 
-pub one_pair : len only ≤ 1
-one_pair = omega (arith, one_more (one 0x61) (one 0x01))
+none_within : IsWithin (fresh empty nine_v1 true)
+none_within = record {
+  few = omega (arith, len-empty key_cmp (List ℕ));
+  allowed = λ key content has. absurd (let e = sym (get-empty key_cmp key) ∙ has in cc);
+}
+
+pub no_pair : IsPlain empty
+no_pair = record {
+  few = omega (arith, len-empty key_cmp (List ℕ));
+  allowed = λ key content has. none_within.allowed key content has;
+}
+
+pub one_pair : IsPlain only
+one_pair = record {
+  few = omega (arith, one_more (one 0x61) (one 0x01));
+  allowed = (stays_within (start empty) (start only) store Stored none_within is_stored).allowed;
+}
 
 pub begins : (before : Members) (how : Opening) (member : Member) (map : Contents) (limit : ℕ)
-    → IsSmall limit → len map ≤ 1 → Contains before member
-    → opened how member ≡ Holding map limit → Begins disk before how (at (fresh map limit true))
-begins before how member map limit small few among is = record {
+    → IsSmall limit → IsPlain map → Contains before member
+    → opened how member ≡ Holding map (in_v1 limit)
+    → Begins disk before how (at (fresh map (in_v1 limit) true))
+begins before how member map limit small plain among is = record {
   member = member;
   among = among;
   begins = is;
@@ -90,8 +113,8 @@ begins before how member map limit small few among is = record {
     capacity = refl;
     counts = omega arith;
     limited = (small.some, small.most);
-    few_pairs = omega (arith, few, small.some);
-    light = omega (arith, few);
+    within = record { few = omega (arith, plain.few, small.some); allowed = plain.allowed };
+    light = omega (arith, plain.few);
     few_pages = small.pages;
   };
 }
@@ -115,7 +138,7 @@ all_answered first last calls replies whole run usable few = record {
 
 -- one that was stopped within its first call
 first_stopped : (first : Handle) (call : Call) → first.state.usable ≡ true → first.faults ≤ 1
-    → CutShort 1 first (call ∷ []) [] (left_by first.state (case_of first.state call))
+    → CutShort 1 first (call ∷ []) [] (left_by first.state (case_of first call))
 first_stopped first call usable few = record {
   goes = record {
     made = [];
@@ -134,10 +157,10 @@ first_stopped first call usable few = record {
 
 -- what the stop within the store leaves
 abbrev pub doubt : Members
-doubt = left_by (fresh empty 9 true) (case_of (fresh empty 9 true) store)
+doubt = left_by (fresh empty nine_v1 true) (case_of (start empty) store)
 
 doubt_is : doubt ≡ nothing 9 ∷ pair 9 ∷ []
-doubt_is = ap (left_by (fresh empty 9 true)) store_rule
+doubt_is = ap (left_by (fresh empty nine_v1 true)) store_rule
 
 in_doubt : (member : Member) → Contains (nothing 9 ∷ pair 9 ∷ []) member → Contains doubt member
 in_doubt member is = subst (λ (ms : Members). Contains ms member) (sym doubt_is) is
@@ -157,15 +180,15 @@ stopped_store = (
   first_stopped (start empty) store refl (omega arith),
 )
 
-pub fetches : (map : Contents) (reply : Reply) → len map ≤ 1 → Contains doubt (Holding map 9)
-    → buckets_opened (start map) reply (len map) ≡ 0 → case_of (fresh map 9 true) fetch ≡ Finds reply
-    → SessionStep disk doubt (reopens (fetch ∷ [])) (Rested (reply ∷ [])) (Holding map 9 ∷ [])
-fetches map reply few among none rule = (
+pub fetches : (map : Contents) (reply : Reply) → IsPlain map → Contains doubt (Holding map nine_v1)
+    → buckets_opened (start map) reply (len map) ≡ 0 → case_of (start map) fetch ≡ Finds reply
+    → SessionStep disk doubt (reopens (fetch ∷ [])) (Rested (reply ∷ [])) (Holding map nine_v1 ∷ [])
+fetches map reply plain among none rule = (
   start map,
-  begins doubt (reopens []).how (Holding map 9) map 9 nine few among refl,
+  begins doubt (reopens []).how (Holding map nine_v1) map 9 nine plain among refl,
   all_answered (start map) (start map) (fetch ∷ []) (reply ∷ []) refl (
     start map,
-    step (fresh map 9 true) (fresh map 9 true) fetch (Finds reply) reply none rule
+    step (fresh map nine_v1 true) (fresh map nine_v1 true) fetch (Finds reply) reply none rule
         (refl, refl),
     refl,
   ) refl (omega arith),
@@ -174,7 +197,7 @@ fetches map reply few among none rule = (
 -- the device fails in the store
 broken_store : Handle
 broken_store = record {
-  state = record (flagged Device (fresh empty 9 true)) { map = empty; usable = false };
+  state = record (flagged Device (fresh empty nine_v1 true)) { map = empty; usable = false };
   faults = 1;
   pages = 4;
   capacity = 8;
@@ -190,8 +213,8 @@ breaks_store = record {
   bounded = inl refl;
   buckets = refl;
   answers = inr (subst
-      (λ (d : Case). Suffers (start empty) d (Refused Device) broken_store) (sym store_rule)
-      (inr (inl (refl, omega arith, empty, inl refl, refl))));
+      (λ (d : Case). Suffers (start empty) store d (Refused Device) broken_store) (sym store_rule)
+      (inr (inl (refl, omega arith, fresh empty nine_v1 true, inl refl, refl))));
 }
 
 pub broken_session : SessionStep disk (nothing 9 ∷ []) (reopens (store ∷ [])) (Broke (Refused Device ∷ []))
@@ -220,62 +243,73 @@ broken_session = (
 
 -- ---- what must be
 
-abbrev limit_of : Member → ℕ
-limit_of NoDatabase = 0
-limit_of (Holding map limit) = limit
+abbrev pub bounds_of : Member → Bounds
+bounds_of NoDatabase = in_v1 0
+bounds_of (Holding map bounds) = bounds
 
 abbrev pub map_of : Member → Contents
 map_of NoDatabase = empty
-map_of (Holding map limit) = map
+map_of (Holding map bounds) = map
 
 -- a handle that begins with this map
-began : (map : Contents) (limit : ℕ) (s : State) → Holding map limit ≡ held s
-    → s ≡ fresh s.map s.limit true → s ≡ fresh map limit true
-began map limit s is new = new ∙ ap (λ (m : Contents). fresh m s.limit true) (sym (ap map_of is))
-    ∙ ap (λ (n : ℕ). fresh map n true) (sym (ap limit_of is))
+began : (map : Contents) (bounds : Bounds) (s : State) → Holding map bounds ≡ held s
+    → s ≡ fresh s.map s.bounds true → s ≡ fresh map bounds true
+began map bounds s is new = new ∙ ap (λ (m : Contents). fresh m s.bounds true) (sym (ap map_of is))
+    ∙ ap (λ (b : Bounds). fresh map b true) (sym (ap bounds_of is))
 
-found_or_failed : (h after : Handle) (reply found : Reply) → ByCase h (Finds found) reply after
+found_or_failed : (h after : Handle) (call : Call) (reply found : Reply)
+    → takes_memory h call ≡ false → ByCase h call (Finds found) reply after
     → (reply ≡ found) ⊎ (reply ≡ Refused Device)
-found_or_failed h after reply found (inl is) = inl is.0
-found_or_failed h after reply found (inr is) = inr is.0
+found_or_failed h after call reply found none (inl is) = inl is.0
+found_or_failed h after call reply found none (inr (inl fails)) = inr fails.0
+found_or_failed h after call reply found none (inr (inr memory)) =
+    absurd (let both = sym memory.2 ∙ none in cc)
 
 -- the one call of a session, by the rule that it falls under
-pub record OneCall (c : Case) (reply : Reply) : Type 0 where
+pub record OneCall (s : State) (call : Call) (c : Case) (reply : Reply) : Type 0 where
   pub first : Handle
   pub after : Handle
-  pub told : ByCase first c reply after
+  pub at_first : first.state ≡ s
+  pub told : ByCase first call c reply after
 
 abbrev first_call : Call → List Call → Call
 first_call other [] = other
 first_call other (call ∷ calls) = call
 
 one_call : (s : State) (c : Case) (call : Call) (first last : Handle) (made later : List Call)
-    (reply : Reply) → first.state ≡ s → case_of s call ≡ c → call ∷ [] ≡ made ++ later
-    → Run first made (reply ∷ []) last → OneCall c reply
+    (reply : Reply) → first.state ≡ s → ((capacity : ℕ) → case_for capacity s call ≡ c)
+    → call ∷ [] ≡ made ++ later → Run first made (reply ∷ []) last → OneCall s call c reply
 one_call s c call first last [] later reply at_first rule is run = absurd run
 one_call s c call first last (other ∷ made) later reply at_first rule is run = record {
   first = first;
   after = run.0;
-  told = falls first run.0 call reply c (ap (λ (t : State). case_of t call) at_first ∙ rule)
+  at_first = at_first;
+  told = falls first run.0 call reply c
+      (ap (λ (t : State). case_for first.capacity t call) at_first ∙ rule first.capacity)
       (subst (λ (d : Call). Step first d reply run.0) (sym (ap (first_call call) is)) run.1);
 }
 
 -- a session of one call, which begins with this map
 pub told_at : (on : Disk) (before after : Members) (map : Contents) (c : Case) (call : Call)
     (reply : Reply) (session : SessionStep on before (reopens (call ∷ [])) (Rested (reply ∷ [])) after)
-    → session.1.member ≡ Holding map 9 → case_of (fresh map 9 true) call ≡ c → OneCall c reply
+    → session.1.member ≡ Holding map nine_v1
+    → ((capacity : ℕ) → case_for capacity (fresh map nine_v1 true) call ≡ c)
+    → OneCall (fresh map nine_v1 true) call c reply
 told_at on before after map c call reply session is rule =
     let goes = session.2.goes in
-    one_call (fresh map 9 true) c call session.0 goes.last goes.made goes.later reply
-    (began map 9 session.0.state (sym (ap (opened (reopens []).how) is) ∙ session.1.begins)
+    one_call (fresh map nine_v1 true) c call session.0 goes.last goes.made goes.later reply
+    (began map nine_v1 session.0.state (sym (ap (opened (reopens []).how) is) ∙ session.1.begins)
     session.1.is_fresh) rule goes.calls_are goes.run
 
 -- one that fetches tells what the member has that it began with
 pub told_by : (on : Disk) (before after : Members) (map : Contents) (reply found : Reply)
     (old : Option (List ℕ)) (session : SessionStep on before (reopens (fetch ∷ [])) (Rested (reply ∷ [])) after)
-    → session.1.member ≡ Holding map 9 → get map (one 0x61) ≡ old → fetched old ≡ Finds found
+    → session.1.member ≡ Holding map nine_v1 → get map (one 0x61) ≡ old
+    → holds_far (one 0x61) old ≡ false → fetched old ≡ Finds found
     → (reply ≡ found) ⊎ (reply ≡ Refused Device)
-told_by on before after map reply found old session is has rule =
-    let one = told_at on before after map (Finds found) fetch reply session is
-    (ap fetched has ∙ rule) in
-    found_or_failed one.first one.after reply found one.told
+told_by on before after map reply found old session is has near rule =
+    let call = told_at on before after map (Finds found) fetch reply session is
+    (λ capacity. ap fetched has ∙ rule) in
+    found_or_failed call.first call.after fetch reply found
+    (ap (λ (s : State). holds_far (one 0x61) (get s.map (one 0x61))) call.at_first
+    ∙ ap (holds_far (one 0x61)) has ∙ near) call.told

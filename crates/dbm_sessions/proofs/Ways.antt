@@ -31,7 +31,7 @@ cut_way most first calls replies after cut member is =
     left_append (of_calls cut.goes.made replies) (of_cut cut.call) (held first.state)
     (held last.state) member
     (calls_left first last cut.goes.made replies cut.goes.run cut.goes.usable)
-    (cut_left last.state cut.call member
+    (cut_left last cut.call member
     (subst (λ (ms : Members). Contains ms member) cut.left is))
 
 cut_calls : (most : ℕ) (first : Handle) (calls : List Call) (replies : List Reply) (after : Members)

@@ -1,7 +1,8 @@
 -- The changes that sessions ask for, told from their plans and endings, and what is left by them.
 use Rattle.std.specs.Prelude.{◌≡◌, ◌≢◌, ◌⊎◌, ℕ, Bool, true, false, ◌&&◌, ◌||◌, not, if◌then◌else◌, List, [], ◌∷◌, ◌++◌, take, drop, map, Contains}
 use Rattle.std.specs.FinMap.{insert, remove}
-use Rattle.dbm_model.specs.Calls.{Call, Store, Delete, Reply, Stored, Deleted, Refused, Fault, Device}
+use Rattle.dbm_model.specs.Bounds.{upgraded}
+use Rattle.dbm_model.specs.Calls.{Call, Store, Delete, Upgrade, Reply, Stored, Deleted, Upgraded, Refused, Fault, Device}
 use Rattle.dbm_model.specs.Changes.{with_pairs}
 use Rattle.dbm_model.specs.FaultCount.{MoreFaults}
 use Rattle.dbm_model.specs.Pairs.{Key, Pair}
@@ -14,14 +15,18 @@ pub data Change : Type 0 where
   Removes : Key → Change
   -- pairs stored in one commit
   PutsAll : List Pair → Change
+  -- to version 2
+  Raises : Change
   -- an opening that creates or empties
   Opens : Opening → Change
 
 abbrev pub applied : Change → Member → Member
 applied (Opens how) member = opened how member
-applied (Puts key content) (Holding map limit) = Holding (insert map key content) limit
-applied (Removes key) (Holding map limit) = Holding (remove map key) limit
-applied (PutsAll pairs) (Holding map limit) = Holding (with_pairs map pairs) limit
+applied (Puts key content) (Holding map bounds) = Holding (insert map key content) bounds
+applied (Removes key) (Holding map bounds) = Holding (remove map key) bounds
+applied (PutsAll pairs) (Holding map bounds) = Holding (with_pairs map pairs) bounds
+applied Raises (Holding map bounds) = Holding map (upgraded bounds)
+applied Raises NoDatabase = NoDatabase
 applied (Puts key content) NoDatabase = NoDatabase
 applied (Removes key) NoDatabase = NoDatabase
 applied (PutsAll pairs) NoDatabase = NoDatabase
@@ -45,11 +50,13 @@ of_refused fault how = []
 abbrev pub of_answer : Call → Reply → List Marked
 of_answer (Store key content mode) Stored = Acknowledged (Puts key content) ∷ []
 of_answer (Delete key) Deleted = Acknowledged (Removes key) ∷ []
+of_answer Upgrade Upgraded = Acknowledged Raises ∷ []
 of_answer call reply = []
 
 abbrev pub of_cut : Call → List Marked
 of_cut (Store key content mode) = InDoubt (Puts key content) ∷ []
 of_cut (Delete key) = InDoubt (Removes key) ∷ []
+of_cut Upgrade = InDoubt Raises ∷ []
 of_cut call = []
 
 -- of the calls that were answered

@@ -1,6 +1,7 @@
 -- Small lists of sessions, worked out by hand.
 use Rattle.std.specs.Prelude.{◌≡◌, ◌⊎◌, ℕ, true, false, List, [], ◌∷◌, Contains}
 use Rattle.std.specs.FinMap.{empty, insert}
+use Rattle.dbm_model.specs.Bounds.{in_v1}
 use Rattle.dbm_model.specs.Calls.{Replace, Call, Store, Fetch, Next, Stored, Bytes, NoRecord, Refused, Device, BadLimit}
 use Rattle.dbm_model.specs.Examples.{one}
 use Rattle.dbm_model.specs.Pairs.{Pair}
@@ -9,14 +10,14 @@ use Rattle.dbm_sessions.specs.Sessions.{Plan, Ending, NotOpened, StoppedOpening,
 
 abbrev pub creates : ℕ → List Call → Plan
 creates limit calls = record {
-  how = record { create = true; truncate = false; limit = limit };
+  how = record { create = true; truncate = false; bounds = in_v1 limit };
   calls = calls;
   group = [];
 }
 
 abbrev pub empties : ℕ → List Call → Plan
 empties limit calls = record {
-  how = record { create = false; truncate = true; limit = limit };
+  how = record { create = false; truncate = true; bounds = in_v1 limit };
   calls = calls;
   group = [];
 }
@@ -24,7 +25,7 @@ empties limit calls = record {
 -- opens what is there, and stores a group behind the calls
 abbrev pub groups : List Call → List Pair → Plan
 groups calls group = record {
-  how = record { create = false; truncate = false; limit = 0 };
+  how = record { create = false; truncate = false; bounds = in_v1 0 };
   calls = calls;
   group = group;
 }
@@ -41,10 +42,10 @@ fetch = Fetch (one 0x61)
 
 -- a database with no pair, and one with this pair alone
 abbrev pub nothing : ℕ → Member
-nothing limit = Holding empty limit
+nothing limit = Holding empty (in_v1 limit)
 
 abbrev pub pair : ℕ → Member
-pair limit = Holding (insert empty (one 0x61) (one 0x01)) limit
+pair limit = Holding (insert empty (one 0x61) (one 0x01)) (in_v1 limit)
 
 -- these sessions may end so, and the file may then stand for this member
 pub record MayLeave (before : Members) (plans : List Plan) (endings : List Ending) (member : Member)
@@ -122,11 +123,11 @@ twice = (one 0x61, one 0x01) ∷ (one 0x61, one 0x02) ∷ []
 
 -- a database with both pairs
 abbrev pub pairs : ℕ → Member
-pairs limit = Holding (insert (insert empty (one 0x61) (one 0x01)) (one 0x62) (one 0x01)) limit
+pairs limit = Holding (insert (insert empty (one 0x61) (one 0x01)) (one 0x62) (one 0x01)) (in_v1 limit)
 
 -- and one with a alone, with the content 2
 abbrev pub later : ℕ → Member
-later limit = Holding (insert empty (one 0x61) (one 0x02)) limit
+later limit = Holding (insert empty (one 0x61) (one 0x02)) (in_v1 limit)
 
 -- a group of two pairs was acknowledged and then came a stop: both are there, also after a
 -- reopening that was refused and one that was stopped; where it was acknowledged with its first
@@ -153,10 +154,12 @@ pub record GroupOfOneKey : Type 0 where
       (λ member. member ≡ later 9)
 
 -- no session ends so: the first pair of a group whose commit was stopped is there alone, a group is
--- stored with a call still to come, or stopped
+-- stored with a call still to come, or stopped, or its commit was stopped though the limit is one
 pub record WrongGroups : Type 0 where
   pub alone : MayLeave (nothing 9 ∷ []) (groups [] both ∷ []) (StoppedGroup [] 2 ∷ []) (pair 9) → ⊥
   pub early : (member : Member) → MayLeave (nothing 9 ∷ []) (groups (store ∷ []) both ∷ [])
       (Grouped [] 2 ∷ []) member → ⊥
   pub stopped_early : (member : Member) → MayLeave (nothing 9 ∷ [])
       (groups (store ∷ []) both ∷ []) (StoppedGroup [] 2 ∷ []) member → ⊥
+  pub past_limit : (member : Member) → MayLeave (nothing 1 ∷ []) (groups [] both ∷ [])
+      (StoppedGroup [] 2 ∷ []) member → ⊥

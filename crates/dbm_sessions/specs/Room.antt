@@ -6,9 +6,9 @@ use Rattle.dbm_model.specs.Sizes.{home}
 use Rattle.dbm_sessions.specs.Members.{Members, AllHaveRoom}
 use Rattle.dbm_sessions.specs.Sessions.{Plan, Ending, NotOpened, StoppedOpening, Rested, StoppedCall, Broke, Grouped, StoppedGroup, BrokeGroup, Sessions}
 
--- so many pages are twice those that a database of the limit needs which a session asks for
+-- so many pages are twice those that a database of the bounds needs which a session asks for
 abbrev pub AsksForRoom : ℕ → Plan → Type 0
-AsksForRoom pages plan = 2 * home plan.how.limit ≤ pages
+AsksForRoom pages plan = 2 * home plan.how.bounds ≤ pages
 
 -- neither the opening nor a call was refused for want of room
 abbrev pub IsNeverShort : Ending → Type 0

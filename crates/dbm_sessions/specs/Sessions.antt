@@ -1,6 +1,7 @@
 -- What a session leaves of what the file may stand for, and so a list of them.
 use Rattle.std.specs.Prelude.{◌≡◌, ◌≢◌, ◌⊎◌, ◌≤◌, ◌*◌, ℕ, true, false, List, [], ◌∷◌, ◌++◌, take, map, Contains}
 use Rattle.std.specs.FinMap.{len}
+use Rattle.dbm_model.specs.Holding.{IsWithin}
 use Rattle.dbm_model.specs.Calls.{Call, Reply, Stored, Refused, Fault, Device, NoRoom}
 use Rattle.dbm_model.specs.Changes.{replacing}
 use Rattle.dbm_model.specs.FaultCount.{MoreFaults}
@@ -48,17 +49,17 @@ pub data Ending : Type 0 where
 pub record IsOn (disk : Disk) (first : Handle) : Type 0 where
   pub capacity : first.capacity ≡ disk.pages
   pub counts : disk.at_start ≤ first.faults
-  pub limited : (1 ≤ first.state.limit) × (first.state.limit ≤ 1000000)
-  pub few_pairs : len first.state.map ≤ first.state.limit
+  pub limited : (1 ≤ first.state.bounds.limit) × (first.state.bounds.limit ≤ 1000000)
+  pub within : IsWithin first.state
   pub light : len first.state.map ≤ 8 * first.buckets
-  pub few_pages : first.pages ≤ home first.state.limit
+  pub few_pages : first.pages ≤ home first.state.bounds
 
 -- an opening has answered this handle: at what it makes of a member
 pub record Begins (disk : Disk) (before : Members) (how : Opening) (first : Handle) : Type 0 where
   pub member : Member
   pub among : Contains before member
   pub begins : opened how member ≡ held first.state
-  pub is_fresh : first.state ≡ fresh first.state.map first.state.limit true
+  pub is_fresh : first.state ≡ fresh first.state.map first.state.bounds true
   pub is_on : IsOn disk first
 
 -- an opening was refused: by a fault of the device, and then it may have made of the file what it
@@ -91,7 +92,7 @@ pub record Rests (most : ℕ) (first : Handle) (calls : List Call) (replies : Li
 -- what is left where a call that falls under this rule was cut short: the map, and where the rule
 -- is a change also the one that it changes to
 abbrev pub left_by : State → Case → Members
-left_by s (Changes reply map) = held s ∷ held (record s { map = map }) ∷ []
+left_by s (Changes reply next) = held s ∷ held next ∷ []
 left_by s rule = held s ∷ []
 
 -- the call after those was cut short
@@ -101,7 +102,7 @@ pub record CutShort (most : ℕ) (first : Handle) (calls : List Call) (replies :
   pub call : Call
   pub rest : List Call
   pub next : goes.later ≡ call ∷ rest
-  pub left : after ≡ left_by goes.last.state (case_of goes.last.state call)
+  pub left : after ≡ left_by goes.last.state (case_of goes.last call)
 
 -- one of the calls was cut short by a fault of the device, which broke the handle; what was called
 -- then changed nothing

@@ -3,7 +3,7 @@ use Rattle.std.specs.Prelude.{ℕ, ◌==◌, nat_lt, List, [], ◌∷◌, ◌++�
 use Rattle.std.specs.List.{slice_split}
 use Rattle.std.specs.Str.{bytes_eq}
 use Rattle.std.specs.Fmt.{decimal}
-use Rattle.dbm_model.specs.Calls.{Insert, Replace, Call, Store, Fetch, Delete, First, Next, Error, Clear, Reply, Stored, Kept, Deleted, Absent, Bytes, NoRecord, End, Number, Refused, number_of}
+use Rattle.dbm_model.specs.Calls.{Insert, Replace, Call, Store, Fetch, Delete, First, Next, Error, Clear, Reply, Stored, Kept, Deleted, Absent, Bytes, NoRecord, End, Number, Upgraded, Refused, number_of}
 use Rattle.dbm_text.specs.Words.{word_of, word_bytes}
 
 -- the first line goes on in front
@@ -63,6 +63,7 @@ reply_text (Bytes bytes) = word_of bytes
 reply_text NoRecord = codes "none"
 reply_text End = codes "end"
 reply_text (Number n) = decimal n
+reply_text Upgraded = codes "0"
 reply_text (Refused fault) = codes "-1 fault " ++ decimal (number_of fault)
 
 abbrev pub with_line_feed : List ℕ → List ℕ

@@ -3,6 +3,7 @@ use Rattle.std.proofs.Common.{◌≡◌, ℕ, ◌+◌, ◌-◌, ◌≤◌, ◌==
 use Rattle.std.specs.List.{range_with_len}
 use Rattle.std.proofs.lemmas.List.FromFn.{length-range_with_len}
 use Rattle.std.proofs.lemmas.List.Sums.{sum_by-append}
+use Rattle.dbm_model.specs.Bounds.{V1}
 use Rattle.page_model.specs.Chain.{Chain, numbers}
 use Rattle.page_model.specs.PageBodies.{heads_of, segment_bodies, chain_bodies, free_bodies, meta_of, lower_bodies, AreRead}
 use Rattle.page_model.specs.Pages as model
@@ -47,17 +48,17 @@ exact_pages pages free end some each =
 
 placement_of : (end : ℕ) (m : model.Meta) (chains : List Chain) (free : List ℕ) → Placement
 placement_of end m chains free = record {
-  limit = m.limit;
+  bounds = m.bounds;
   shape = shape_in m;
   segments = m.segments;
   chains = chains;
   space = record { free = free; end = end };
 }
 
-is_good : (at : ℕ → Body) (end : ℕ) (m : model.Meta) → 1 ≤ end → IsMeta m
+is_good : (at : ℕ → Body) (end : ℕ) (m : model.Meta) → 1 ≤ end → IsMeta m → m.bounds.version ≡ V1
     → (is : IsFilled at end m) → IsGood (placement_of end m is.chains is.free)
 unfolding placement_of
-is_good at end m some valid is =
+is_good at end m some valid version is =
     let many = is.buckets.many in
     record {
       sound = record {
@@ -69,6 +70,7 @@ is_good at end m some valid is =
         in_place = all_in_place at (shape_in m) is.chains is.buckets.are;
         no_key_twice = no_key_twice at (shape_in m) is.chains is.buckets.are valid.split_in many;
       };
+      first = version;
       limited = valid.limited;
       few_buckets = omega (arith, many, valid.few_buckets);
       few_pairs = omega (arith, is.counted, valid.few_pairs.0);
@@ -78,12 +80,12 @@ is_good at end m some valid is =
     }
 
 pub good_file : (at : ℕ → Body) (end : ℕ) (m : model.Meta) → 1 ≤ end → IsMeta m
-    → at 1 ≡ MetaPage m → IsFilled at end m → IsGoodFile at end m.pairs
+    → m.bounds.version ≡ V1 → at 1 ≡ MetaPage m → IsFilled at end m → IsGoodFile at end m.pairs
 unfolding placement_of
-good_file at end m some valid first is =
+good_file at end m some valid version first is =
     let p = placement_of end m is.chains is.free in
     let same : m ≡ meta_of p = λ i. record {
-      limit = m.limit;
+      bounds = m.bounds;
       pairs = sym is.counted i;
       level = m.level;
       split = m.split;
@@ -100,7 +102,7 @@ good_file at end m some valid first is =
     (chains_read at (shape_in m) is.chains is.buckets.are)) is.list.are_read in
     record {
       placement = p;
-      good = is_good at end m some valid is;
+      good = is_good at end m some valid version is;
       spelled = (first ∙ ap MetaPage same, lower);
       ends = refl;
       counted = is.counted;
@@ -145,7 +147,7 @@ filled at end pairs file =
           ((1 ∷ p.segments) ++ flat_map numbers p.chains) p.space.free
           ∙ sound.pages.once n ∙ ap (λ (k : ℕ). cond (is_page n k) 1 0) file.ends;
       counted = refl;
-      bounded = subst (λ (k : ℕ). k ≤ home p.limit) file.ends file.good.bounded;
+      bounded = subst (λ (k : ℕ). k ≤ home p.bounds) file.ends file.good.bounded;
     }
 
 -- ---- the parts as they are marked

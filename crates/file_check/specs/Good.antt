@@ -25,4 +25,4 @@ pub record IsFilled (at : ℕ → Body) (end : ℕ) (m : Meta) : Type 0 where
   pub list : IsList at m.free_head m.free_count free
   pub each : IsEachSeen end (((1 ∷ m.segments) ++ flat_map numbers chains) ++ free)
   pub counted : length (flat_map pairs_in chains) ≡ m.pairs
-  pub bounded : end ≤ home m.limit
+  pub bounded : end ≤ home m.bounds

@@ -1,6 +1,7 @@
 //! Whether a file is a good one.
 
 ghost use Rattle.std.specs.Prelude.{◌≡◌, ◌≤◌, ◌↔◌, ◌++◌, ◌∷◌, [], ℕ, length, IfOk, OnOk, IsErrOf, IsTrue};
+ghost use Rattle.dbm_model.specs.Bounds.{V1};
 ghost use Rattle.page_model.specs.Pages as model;
 ghost use Rattle.page_model.specs.Pages.{MetaPage};
 ghost use Rattle.page_model.specs.Valid.{IsMeta};
@@ -28,7 +29,7 @@ fn check_meta<S: PageStore>(store: &mut S) -> Result<Meta, PageFault>
     ensures valid { IfOk result (λ meta. IsMeta (model_meta meta)) }
     ensures says { S.honest store.old → IfOk result (λ meta.
         body_at S.PageStore store.old 1 ≡ MetaPage (model_meta meta)) }
-    ensures whole { S.honest store.old → (m : model.Meta) → IsMeta m
+    ensures whole { S.honest store.old → (m : model.Meta) → IsMeta m → m.bounds.version ≡ V1
         → body_at S.PageStore store.old 1 ≡ MetaPage m → IsErrOf result Damaged → ⊥ }
 {
     let mut page = Page::blank();

@@ -2,6 +2,7 @@
 use Rattle.std.proofs.Common.{◌≡◌, ◌⊎◌, inl, inr, ⊎_elim, ℕ, ◌+◌, ◌<◌, ◌≤◌, Bool, true, false, [], ◌∷◌, List, length, get_or, map, Result, Ok, Err, IfOk, IfErr, OnOk, OnErr, refl, sym, ap, ◌∙◌, subst, arith}
 use Rattle.std.specs.Prelude.{IsErrOf, nat_lt}
 use Rattle.std.proofs.lemmas.Bool.Decides.{nat_tests}
+use Rattle.dbm_model.specs.Bounds.{Bounds}
 use Rattle.sect_dev.specs.Device.{LeavesOnly}
 use Rattle.sect_dev.specs.Moments.{followed_by, weaker}
 use Rattle.dbm_fault.specs.Among.{IsErrAmong}
@@ -191,14 +192,14 @@ still_usable old new fault none (inr broke) =
 
 -- and where it was refused for want of room, the pages
 pub left_by_refusal : {S : Type 0} (s : Ghosts S) (old new : S) (result : Result Unit PageFault)
-    (Due : Type 0) (limit : ℕ) → IsErrOf result NoRoom → (s.state old).usable ≡ true
+    (Due : Type 0) (bounds : Bounds) → IsErrOf result NoRoom → (s.state old).usable ≡ true
     → IfErr result (IsForgotten (s.state old) (s.state new))
     → OnErr result ((s.state new).usable ≡ true
     → LeavesOnly s.moment s.settled_since old new (λ y. y ≡ file_of (s.committed old)))
-    → LeavesOnly s.moment s.settled_since old new (OldOrEmpty (s.committed old) Due limit)
-left_by_refusal s old new (Ok x) Due limit none usable forgotten run = absurd (let x = none in cc)
-left_by_refusal s old new (Err e) Due limit none usable forgotten run =
-    weaker s.moment s.settled_since old new (OldOrEmpty (s.committed old) Due limit)
+    → LeavesOnly s.moment s.settled_since old new (OldOrEmpty (s.committed old) Due bounds)
+left_by_refusal s old new (Ok x) Due bounds none usable forgotten run = absurd (let x = none in cc)
+left_by_refusal s old new (Err e) Due bounds none usable forgotten run =
+    weaker s.moment s.settled_since old new (OldOrEmpty (s.committed old) Due bounds)
     (λ y. y ≡ file_of (s.committed old))
     (run (still_usable (s.state old) (s.state new) e (same_fault (Err e) e NoRoom refl none)
     forgotten ∙ usable)) (λ y is. inl is)

@@ -5,6 +5,7 @@ use Rattle.std.specs.FinMap.{empty}
 use Rattle.sect_dev.specs.Device.{Image, Candidates, IsImageOf, LeavesOnly, NoNewCandidate, Moment}
 use Rattle.sect_dev.specs.Moments.{IsOutcome, followed_by, weaker, started, lifted}
 use Rattle.sect_dev.specs.declared.device.SectorDev as device
+use Rattle.dbm_model.specs.Bounds.{Bounds}
 use Rattle.page_model.specs.Pages.{Meta, MetaPage}
 use Rattle.page_model.specs.Meaning.{said_by}
 use Rattle.page_io.specs.Store.{Pages, Settled, StoreState, bytes_of, file_of, page_of, committed_with}
@@ -24,12 +25,12 @@ use Rattle.dbm_fault.specs.declared.fault.Fault.TheVariants.{Device}
 use Rattle.file_opening.proofs.NewFiles.{three_committed}
 
 -- the pages that were there, or where that is due an empty database
-abbrev pub OldOrEmpty : Pages → Type 0 → ℕ → Settled → Type 0
-OldOrEmpty pages Due limit y = (y ≡ file_of pages) ⊎ (Due × ImageStandsFor y empty limit)
+abbrev pub OldOrEmpty : Pages → Type 0 → Bounds → Settled → Type 0
+OldOrEmpty pages Due bounds y = (y ≡ file_of pages) ⊎ (Due × ImageStandsFor y empty bounds)
 
 module _ {S : Type 0} (s : Ghosts S) (old mid new : S) (m : Meta) (pages : Pages)
     (stages : StagesOnly s old mid) (honest : s.honest old)
-    (stands : FileStandsFor pages empty m.limit) (meta : said_by (page_of pages) 1 ≡ MetaPage m)
+    (stands : FileStandsFor pages empty m.bounds) (meta : said_by (page_of pages) 1 ≡ MetaPage m)
     (numbers : map own_number pages ≡ 1 ∷ 2 ∷ 3 ∷ []) where
   -- what is committed
   file_is : (end : ℕ) → (end ≡ 4) × ((s.state mid).staged ≡ pages)
@@ -45,7 +46,7 @@ module _ {S : Type 0} (s : Ghosts S) (old mid new : S) (m : Meta) (pages : Pages
   holds_empty end is committed =
       let same = sym (committed ∙ file_is end is) in
       record {
-        stands = subst (λ (ps : Pages). FileStandsFor ps empty m.limit) same stands;
+        stands = subst (λ (ps : Pages). FileStandsFor ps empty m.bounds) same stands;
         meta_is = subst (λ (ps : Pages). said_by (page_of ps) 1 ≡ MetaPage m) same meta;
       }
 
@@ -57,10 +58,10 @@ module _ {S : Type 0} (s : Ghosts S) (old mid new : S) (m : Meta) (pages : Pages
       (λ y. (y ≡ file_of (s.committed mid))
       ⊎ IsOkAnd r (λ end. y ≡ file_of
       (committed_with (s.committed mid) (s.state mid).staged end)))
-      → LeavesOnly s.moment s.settled_since old new (OldOrEmpty (s.committed old) Due m.limit)
+      → LeavesOnly s.moment s.settled_since old new (OldOrEmpty (s.committed old) Due m.bounds)
   leaves_old_or_empty {Due} r due staged only run =
-      followed_by s.moment s.settled_since old mid new (OldOrEmpty (s.committed old) Due m.limit) _
-      (weaker s.moment s.settled_since old mid (OldOrEmpty (s.committed old) Due m.limit)
+      followed_by s.moment s.settled_since old mid new (OldOrEmpty (s.committed old) Due m.bounds) _
+      (weaker s.moment s.settled_since old mid (OldOrEmpty (s.committed old) Due m.bounds)
       (s.settles_to old) (stages.kept honest).any_moment (λ y is. inl (only y is))) run
       (λ y is. ⊎_elim (λ same. inl (same ∙ ap file_of (stages.kept honest).committed))
       (λ then. inr (by_case r due staged y then)) is)
@@ -69,10 +70,10 @@ module _ {S : Type 0} (s : Ghosts S) (old mid new : S) (m : Meta) (pages : Pages
           → IfOk r (λ end. (end ≡ 4) × ((s.state mid).staged ≡ pages)) → (y : Settled)
           → IsOkAnd r (λ end. y ≡ file_of
           (committed_with (s.committed mid) (s.state mid).staged end))
-          → Due × ImageStandsFor y empty m.limit
+          → Due × ImageStandsFor y empty m.bounds
       by_case (Ok end) due staged y is = (
         due,
-        subst (λ (z : Settled). ImageStandsFor z empty m.limit)
+        subst (λ (z : Settled). ImageStandsFor z empty m.bounds)
             (sym (is ∙ ap file_of (file_is end staged))) stands,
       )
       by_case (Err e) due staged y is = absurd is
@@ -188,18 +189,18 @@ below_run moment left_since below cap old new P same run = record {
       (subst (λ (n : ℕ). IsOutcome left_since (settled n) (below new) t y) (sym same) left);
 }
 
--- the run of an emptying, as one of the device, where the limit is known by another name
+-- the run of an emptying, as one of the device, where the bounds are known by another name
 pub run_below : {D Due Then : Type 0} (dev : device.Ghosts D) (old new : Pager D dev)
-    (pages : Pages) (limit same : ℕ) → same ≡ limit → (Due → Then)
+    (pages : Pages) (bounds same : Bounds) → same ≡ bounds → (Due → Then)
     → dev.sectors new.dev / 4 ≡ dev.sectors old.dev / 4
     → LeavesOnly (λ (p : Pager D dev). dev.moment p.dev)
     (λ (p : Pager D dev). IsOutcome dev.left_since (settled (dev.sectors p.dev / 4)) p.dev) old
     new (OldOrEmpty pages Due same)
     → LeavesOnly dev.moment (IsOutcome dev.left_since (settled (dev.sectors old.dev / 4))) old.dev
-    new.dev (OldOrEmpty pages Then limit)
-run_below {D} {Due} {Then} dev old new pages limit same is then size run =
+    new.dev (OldOrEmpty pages Then bounds)
+run_below {D} {Due} {Then} dev old new pages bounds same is then size run =
     let since = IsOutcome dev.left_since (settled (dev.sectors old.dev / 4)) in
-    subst (λ (n : ℕ). LeavesOnly dev.moment since old.dev new.dev (OldOrEmpty pages Then n)) is
+    subst (λ (b : Bounds). LeavesOnly dev.moment since old.dev new.dev (OldOrEmpty pages Then b)) is
     (weaker dev.moment since old.dev new.dev (OldOrEmpty pages Then same)
     (OldOrEmpty pages Due same)
     (below_run dev.moment dev.left_since (λ (p : Pager D dev). p.dev)

@@ -5,6 +5,7 @@ use Rattle.std.specs.FinMap.{empty}
 use Rattle.sect_dev.specs.Device.{Image, IsImageOf, IsStable, LeavesOnly}
 use Rattle.sect_dev.specs.Moments.{IsOutcome, weaker}
 use Rattle.sect_dev.specs.declared.device.SectorDev as device
+use Rattle.dbm_model.specs.Bounds.{Bounds}
 use Rattle.dbm_model.specs.Pairs.{Contents}
 use Rattle.page_io.specs.Answers.{IsReadAnswer}
 use Rattle.page_io.specs.Store.{Settled, StoreState}
@@ -15,7 +16,7 @@ use Rattle.redo_commit.specs.File.{settled, SettlesAsBefore}
 use Rattle.redo_area.specs.Opening.{IsFresh as IsFreshStore}
 use Rattle.sect_dev.specs.Reads.{OnlyReads}
 use Rattle.redo_area.specs.Settling.{SettlesTo, only_seen}
-use Rattle.file_opening.specs.Opening.{writes, is_exclusive, early_fault}
+use Rattle.file_opening.specs.Opening.{writes, bounds_of, is_exclusive, early_fault}
 use Rattle.file_opening.specs.OpenFiles.{StandsAs, OpensAs, IsJustOpened}
 use Rattle.file_opening.specs.declared.file.OpenFile.{OpenFile}
 use Rattle.file_opening.specs.declared.open_how.OpenHow.{OpenHow}
@@ -197,16 +198,17 @@ before_settle {D} dev cap old new Q run =
 -- ---- files
 
 -- a file that was emptied opens as it was asked
-pub opens_emptied : {S E : Type 0} {s : store.Ghosts S} (how : OpenHow) (map : Contents) (limit : ℕ)
-    (r : Result (OpenFile S s) E) → how.truncate ≡ true → is_exclusive how ≡ false
-    → IfOk r (λ file. StandsAs file empty how.limit)
-    → IfOk r (λ file. (is_exclusive how ≡ false) × OpensAs how map limit file)
-opens_emptied how map limit (Ok file) on may stands = (
+pub opens_emptied : {S E : Type 0} {s : store.Ghosts S} (how : OpenHow) (map : Contents)
+    (bounds : Bounds) (r : Result (OpenFile S s) E) → how.truncate ≡ true
+    → is_exclusive how ≡ false
+    → IfOk r (λ file. StandsAs file empty (bounds_of how))
+    → IfOk r (λ file. (is_exclusive how ≡ false) × OpensAs how map bounds file)
+opens_emptied how map bounds (Ok file) on may stands = (
   may,
-  subst (λ (b : Bool). StandsAs file (cond b empty map) (cond b how.limit limit))
+  subst (λ (b : Bool). StandsAs file (cond b empty map) (cond b (bounds_of how) bounds))
       (sym on) stands,
 )
-opens_emptied how map limit (Err e) on may stands = tt
+opens_emptied how map bounds (Err e) on may stands = tt
 
 pub just_opened : {S E : Type 0} {s : store.Ghosts S} (r : Result (OpenFile S s) E)
     (one other : Bool) (pages same : ℕ) → one ≡ other → pages ≡ same

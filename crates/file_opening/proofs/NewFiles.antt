@@ -1,6 +1,7 @@
 -- The pages of a new file.
 use Rattle.std.proofs.Common.{◌≡◌, ◌⊎◌, ⊎_elim, inl, inr, ℕ, ◌≤◌, ◌==◌, Bool, true, false, cond, not, Option, Some, None, is_some, List, [], ◌∷◌, get_or, map, refl, sym, ap, ◌∙◌, subst}
 use Rattle.std.specs.FinMap.{empty}
+use Rattle.dbm_model.specs.Bounds.{Bounds, in_v1}
 use Rattle.page_model.specs.Pages.{Meta, MetaPage, SegmentPage, HeadPage, bucket}
 use Rattle.page_model.specs.Placement.{fresh_placement}
 use Rattle.page_model.specs.Reading.{body_of, bucket_of}
@@ -16,7 +17,7 @@ use Rattle.page_io.specs.Meaning.{FileStandsFor, ImageStandsFor}
 use Rattle.redo_commit.specs.File.{IsBlankOr}
 use Rattle.slot_page.specs.Contents.{IsBucketPage}
 use Rattle.slot_page.proofs.Pages.{is_head}
-use Rattle.file_opening.specs.Opening.{writes, room_fault, making_fault}
+use Rattle.file_opening.specs.Opening.{writes, bounds_of, room_fault, making_fault}
 use Rattle.file_opening.specs.declared.open_how.OpenHow.{OpenHow}
 use Rattle.dbm_fault.specs.declared.fault.Fault.{Fault}
 use Rattle.dbm_fault.specs.declared.fault.Fault.TheVariants.{NotADatabase, ReadOnly}
@@ -28,12 +29,12 @@ bare_head bytes page says = (is_head 3 0 [] bytes (subst IsBucket says page.soun
 
 -- the meta page, one segment page and one head page that is empty
 pub new_stands : (limit : ℕ) (m : Meta) (first second third : List ℕ) → 1 ≤ limit → limit ≤ 1000000
-    → m ≡ meta_of (fresh_placement limit)
+    → m ≡ meta_of (fresh_placement (in_v1 limit))
     → body_of 1 first ≡ MetaPage m → body_of 2 second ≡ SegmentPage (3 ∷ [])
     → body_of 3 third ≡ HeadPage 0 []
-    → FileStandsFor (first ∷ second ∷ third ∷ []) empty limit
+    → FileStandsFor (first ∷ second ∷ third ∷ []) empty (in_v1 limit)
 new_stands limit m first second third least most is meta segment head =
-    let p = fresh_placement limit in
+    let p = fresh_placement (in_v1 limit) in
     let good = fresh_is_good limit least most in
     let at = said_by (page_of (first ∷ second ∷ third ∷ [])) in
     let spelled : IsSpelled at p = (meta ∙ ap MetaPage is, (segment, (head, tt))) in
@@ -42,7 +43,7 @@ new_stands limit m first second third least most is meta segment head =
       good = good.0;
       spelled = spelled;
       ends = refl;
-      limited = refl;
+      bounded = refl;
       holds = flat_is_contents p at good.0.sound spelled ∙ good.1;
     }
 
@@ -77,7 +78,7 @@ by_create false for_writing fault is = absurd (cc)
 pub was_asked : (how : OpenHow) (sectors : ℕ) → making_fault how sectors ≡ None
     → (how.create ≡ true) × (writes how.access ≡ true)
 was_asked how sectors none = by_create how.create (writes how.access)
-    (room_fault (sectors_for how.limit) sectors) none
+    (room_fault (sectors_for (bounds_of how)) sectors) none
 
 -- for reading none is made
 by_reading : (create for_writing : Bool) (fault : Option Fault) → for_writing ≡ false
@@ -89,16 +90,16 @@ by_reading false for_writing fault is = refl
 
 pub none_for_reading : (how : OpenHow) (sectors : ℕ) → writes how.access ≡ false
     → is_some (making_fault how sectors) ≡ true
-none_for_reading how sectors reads =
-    by_reading how.create (writes how.access) (room_fault (sectors_for how.limit) sectors) reads
+none_for_reading how sectors reads = by_reading how.create (writes how.access)
+    (room_fault (sectors_for (bounds_of how)) sectors) reads
 
 -- what is left is blank, or stands for the new database
-abbrev pub BlankOrNew : Option Fault → ℕ → Settled → Type 0
-BlankOrNew fault limit s = (s ≡ blank) ⊎ ((fault ≡ None) × ImageStandsFor s empty limit)
+abbrev pub BlankOrNew : Option Fault → Bounds → Settled → Type 0
+BlankOrNew fault bounds s = (s ≡ blank) ⊎ ((fault ≡ None) × ImageStandsFor s empty bounds)
 
-pub blank_or_new : (pages : Pages) (limit : ℕ) (fault : Option Fault)
-    → FileStandsFor pages empty limit → fault ≡ None → (s : Settled) → IsBlankOr pages s
-    → BlankOrNew fault limit s
-blank_or_new pages limit fault stands none s or =
+pub blank_or_new : (pages : Pages) (bounds : Bounds) (fault : Option Fault)
+    → FileStandsFor pages empty bounds → fault ≡ None → (s : Settled) → IsBlankOr pages s
+    → BlankOrNew fault bounds s
+blank_or_new pages bounds fault stands none s or =
     ⊎_elim (λ is. inl is) (λ is. inr
-    (none, subst (λ (t : Settled). ImageStandsFor t empty limit) (sym is) stands)) or
+    (none, subst (λ (t : Settled). ImageStandsFor t empty bounds) (sym is) stands)) or

@@ -5,6 +5,7 @@ use Rattle.std.specs.FinMap.{empty}
 use Rattle.sect_dev.specs.Device.{Image, Candidates, IsImageOf, IsStable}
 use Rattle.sect_dev.specs.Moments.{only_image}
 use Rattle.sect_dev.specs.declared.device.SectorDev as device
+use Rattle.dbm_model.specs.Bounds.{Bounds}
 use Rattle.page_model.specs.Pages.{MetaPage}
 use Rattle.dbm_model.specs.Pairs.{Contents}
 use Rattle.page_model.specs.Reading.{body_of}
@@ -21,7 +22,7 @@ use Rattle.redo_area.specs.Settling.{SettlesTo}
 use Rattle.redo_area.specs.declared.pager.Pager.{Pager}
 use Rattle.redo_area.specs.declared.open_fault.OpenFault.{OpenFault}
 use Rattle.redo_area.specs.declared.open_fault.OpenFault.TheVariants as redo
-use Rattle.file_opening.specs.Opening.{writes, is_exclusive, early_fault, making_fault, emptying_fault, SaysMeta, SaysNoMeta, RefusesMeta, RefusesFile, RefusesBy, RefusesOpened, Refuses, IsRefusedOpening, Allows, AllAllow, AllStand, StoodFor, IsOpened}
+use Rattle.file_opening.specs.Opening.{writes, bounds_of, is_exclusive, early_fault, making_fault, emptying_fault, SaysMeta, SaysNoMeta, RefusesMeta, RefusesFile, RefusesBy, RefusesOpened, Refuses, IsRefusedOpening, Allows, AllAllow, AllStand, StoodFor, IsOpened}
 use Rattle.file_opening.specs.OpenFiles.{device_left, StandsAs, OpensAs}
 use Rattle.file_opening.specs.declared.file.OpenFile.{OpenFile}
 use Rattle.file_opening.specs.declared.open_how.OpenHow.{OpenHow}
@@ -225,7 +226,7 @@ module _ (how : OpenHow) (sectors : ℕ) (start now : Candidates) where
 
   -- what stands for a map and allows what is asked isn't refused
   none_refused : (s : Settled) (image : Image) (fault : Fault)
-      → (s ≡ blank) ⊎ ((map : Contents) × (limit : ℕ) × ImageStandsFor s map limit)
+      → (s ≡ blank) ⊎ ((map : Contents) × (bounds : Bounds) × ImageStandsFor s map bounds)
       → Allows how sectors s → RefusesBy s how sectors image fault → ⊥
   none_refused blank image fault stands allows refuses = absurd (let e = sym allows ∙ refuses in cc)
   none_refused nothing image fault (inl is) allows refuses = absurd (let e = is in cc)
@@ -243,7 +244,7 @@ module _ (how : OpenHow) (sectors : ℕ) (start now : Candidates) where
 
       no_meta : SaysNoMeta (page_of file 1) → ⊥
       no_meta none = none (meta_of stands.placement)
-          (bodies_valid stands.placement stands.good).0.1 good
+          (bodies_valid stands.placement stands.good).0.1 stands.good.first good
 
       by_meta : (f : Fault) → RefusesMeta (page_of file 1) f → ⊥
       by_meta Version why = no_meta why.0
@@ -287,32 +288,34 @@ module _ (how : OpenHow) (sectors : ℕ) (start now : Candidates) where
 -- what a file stands for, where each image at the start is blank or stands for a map
 pub record WhatStood (pages : ℕ) (start : Candidates) (file : Pages) : Type 0 where
   pub map : Contents
-  pub limit : ℕ
-  pub stands : FileStandsFor file map limit
-  pub stood : StoodFor pages start map limit
+  pub bounds : Bounds
+  pub stands : FileStandsFor file map bounds
+  pub stood : StoodFor pages start map bounds
 
 pub what_stood : (pages : ℕ) (start : Candidates) (file : Pages)
     → SettlesTo pages start (file_of file) → AllStand pages start → WhatStood pages start file
 what_stood pages start file settles all = by_case (all settles.image settles.is_image)
   where
     by_case : (settled pages settles.image ≡ blank)
-        ⊎ ((map : Contents) × (limit : ℕ) × ImageStandsFor (settled pages settles.image) map limit)
+        ⊎ ((map : Contents) × (bounds : Bounds)
+        × ImageStandsFor (settled pages settles.image) map bounds)
         → WhatStood pages start file
     by_case (inl none) = let reads = settles.reads in absurd (cc)
     by_case (inr some) = record {
       map = some.0;
-      limit = some.1;
+      bounds = some.1;
       stands = subst (λ (s : Settled). ImageStandsFor s some.0 some.1) settles.reads some.2;
       stood = record { image = settles.image; at_start = settles.is_image; stands = some.2 };
     }
 
-has_meta : (file : Pages) (map : Contents) (limit : ℕ) → FileStandsFor file map limit
+has_meta : (file : Pages) (map : Contents) (bounds : Bounds) → FileStandsFor file map bounds
     → SaysMeta (page_of file 1)
-has_meta file map limit stands =
+has_meta file map bounds stands =
     record {
       meta = meta_of stands.placement;
       valid =
           (bodies_valid stands.placement stands.good).0.1;
+      first = stands.good.first;
       says = stands.spelled.0;
     }
 
@@ -320,24 +323,25 @@ has_meta file map limit stands =
 module _ {S : Type 0} {s : store.Ghosts S} (how : OpenHow) (sectors : ℕ) (start : Candidates)
     (pages_were : Pages) (what : WhatStood (sectors / 4) start pages_were) (file : OpenFile S s)
     (at_start : SettlesTo (sectors / 4) start (file_of pages_were)) (may : is_exclusive how ≡ false)
-    (opens : OpensAs how what.map what.limit file) where
+    (opens : OpensAs how what.map what.bounds file) where
   pub opened_as_asked : (how.truncate ≡ true → writes how.access ≡ true)
-      → (how.truncate ≡ true → emptying_fault how.limit sectors (length pages_were + 1) ≡ None)
-      → (map : Contents) × (limit : ℕ) × StandsAs file map limit
-      × IsOpened how sectors start map limit
+      → (how.truncate ≡ true
+      → emptying_fault (bounds_of how) sectors (length pages_were + 1) ≡ None)
+      → (map : Contents) × (bounds : Bounds) × StandsAs file map bounds
+      × IsOpened how sectors start map bounds
   opened_as_asked written due = by_case how.truncate refl
     where
       stands_by : (b : Bool) → how.truncate ≡ b
-          → StandsAs file (cond b empty what.map) (cond b how.limit what.limit)
+          → StandsAs file (cond b empty what.map) (cond b (bounds_of how) what.bounds)
       stands_by b is = subst (λ (x : Bool).
-          StandsAs file (cond x empty what.map) (cond x how.limit what.limit)) is opens
+          StandsAs file (cond x empty what.map) (cond x (bounds_of how) what.bounds)) is opens
 
       by_case : (b : Bool) → how.truncate ≡ b
-          → (map : Contents) × (limit : ℕ) × StandsAs file map limit
-          × IsOpened how sectors start map limit
+          → (map : Contents) × (bounds : Bounds) × StandsAs file map bounds
+          × IsOpened how sectors start map bounds
       by_case true on = (
         empty,
-        how.limit,
+        bounds_of how,
         stands_by true on,
         inr (
           inr (record {
@@ -349,7 +353,7 @@ module _ {S : Type 0} {s : store.Ghosts S} (how : OpenHow) (sectors : ℕ) (star
                   written = written on;
                   allowed = may;
                   opens =
-                      has_meta pages_were what.map what.limit what.stands;
+                      has_meta pages_were what.map what.bounds what.stands;
                   due = due on;
                 };
           }),
@@ -357,7 +361,7 @@ module _ {S : Type 0} {s : store.Ghosts S} (how : OpenHow) (sectors : ℕ) (star
           refl,
         ),
       )
-      by_case false off = (what.map, what.limit, stands_by false off, inl (what.stood, off, may))
+      by_case false off = (what.map, what.bounds, stands_by false off, inl (what.stood, off, may))
 
 -- only one that may be written is emptied
 by_early : (truncate writing : Bool) (other : Option Fault)

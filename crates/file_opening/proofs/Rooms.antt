@@ -4,6 +4,7 @@ use Rattle.std.specs.Int.{div_ceil}
 use Rattle.std.specs.Prelude.{nat_lt}
 use Rattle.std.specs.Option.{option_or}
 use Rattle.std.proofs.lemmas.Bool.Decides.{nat_tests}
+use Rattle.dbm_model.specs.Bounds.{Bounds, in_v1}
 use Rattle.page_model.specs.Pages.{Meta}
 use Rattle.page_model.specs.PageBodies.{meta_of}
 use Rattle.page_model.specs.Placement.{fresh_placement}
@@ -29,14 +30,17 @@ limit_says limit is = (grind (arith, nat_tests), grind (arith, nat_tests))
 -- what is counted is what is needed
 pub sectors_are : (limit buckets segments : ℕ) → 1 ≤ limit → limit ≤ 1000000
     → buckets ≡ div_ceil limit 8 → segments ≡ div_ceil buckets 508
-    → Some (8 * (2 + segments + buckets + limit)) ≡ sectors_for limit
+    → Some (8 * (2 + segments + buckets + limit)) ≡ sectors_for (in_v1 limit)
 sectors_are limit buckets segments least most are parts =
     let b : buckets ≡ buckets_for limit = are ∙ omega arith in
     let s : segments ≡ segments_for (buckets_for limit) =
     parts ∙ ap (λ (n : ℕ). div_ceil n 508) b ∙ omega arith in
+    let all : 2 + segments_for (buckets_for limit) + buckets_for limit + limit
+    ≡ home (in_v1 limit) = omega arith in
     ap (λ (n : ℕ). Some (8 * n)) (ap (λ (n : ℕ). 2 + n + buckets + limit) s
-    ∙ ap (λ (n : ℕ). 2 + segments_for (buckets_for limit) + n + limit) b)
-    ∙ ap (λ (x : Bool). cond x (Some (8 * home limit)) None) (sym (limit_is limit least most))
+    ∙ ap (λ (n : ℕ). 2 + segments_for (buckets_for limit) + n + limit) b ∙ all)
+    ∙ ap (λ (x : Bool). cond x (Some (8 * home (in_v1 limit))) None)
+    (sym (limit_is limit least most))
 
 -- ---- room
 
@@ -46,10 +50,11 @@ room_limit true n sectors none = refl
 room_limit false n sectors none = absurd (cc)
 
 -- where there is room, the limit is one
-pub limit_of_room : (limit sectors : ℕ) → room_fault (sectors_for limit) sectors ≡ None
-    → (1 ≤ limit) × (limit ≤ 1000000)
-limit_of_room limit sectors none =
-    limit_says limit (room_limit (is_limit limit) (8 * home limit) sectors none)
+pub limit_of_room : (bounds : Bounds) (sectors : ℕ)
+    → room_fault (sectors_for bounds) sectors ≡ None
+    → (1 ≤ bounds.limit) × (bounds.limit ≤ 1000000)
+limit_of_room bounds sectors none = limit_says bounds.limit
+    (room_limit (is_limit bounds.limit) (8 * home bounds) sectors none)
 
 small_room : (b : Bool) (f : Fault) → cond b (Some TooSmall) None ≡ Some f → f ≡ TooSmall
 small_room true f is = cc
@@ -68,17 +73,18 @@ pub of_room_apart : {P : Type 0} (needed : Option ℕ) (sectors : ℕ) (f : Faul
     → room_fault needed sectors ≡ Some f → f ≡ Device → P
 of_room_apart needed sectors f is device = apart f (of_room needed sectors f is) device
 
--- nothing was told that refuses the limit
-pub has_room : (limit sectors same : ℕ) (told : Option Fault) → same ≡ sectors
-    → told ≡ room_fault (sectors_for limit) same → told ≡ None
-    → room_fault (sectors_for limit) sectors ≡ None
-has_room limit sectors same told is said none =
-    ap (room_fault (sectors_for limit)) (sym is) ∙ sym said ∙ none
+-- nothing was told that refuses the bounds
+pub has_room : (bounds : Bounds) (sectors same : ℕ) (told : Option Fault) → same ≡ sectors
+    → told ≡ room_fault (sectors_for bounds) same → told ≡ None
+    → room_fault (sectors_for bounds) sectors ≡ None
+has_room bounds sectors same told is said none =
+    ap (room_fault (sectors_for bounds)) (sym is) ∙ sym said ∙ none
 
--- where the limit has room, and the commit too, nothing refuses an emptying
-pub allows_emptying : (limit sectors end : ℕ) → room_fault (sectors_for limit) sectors ≡ None
-    → end + 3 ≤ sectors / 4 → emptying_fault limit sectors end ≡ None
-allows_emptying limit sectors end room fits =
+-- where the bounds have room, and the commit too, nothing refuses an emptying
+pub allows_emptying : (bounds : Bounds) (sectors end : ℕ)
+    → room_fault (sectors_for bounds) sectors ≡ None
+    → end + 3 ≤ sectors / 4 → emptying_fault bounds sectors end ≡ None
+allows_emptying bounds sectors end room fits =
     ap (λ (o : Option Fault). option_or o (commit_fault sectors end)) room ∙ commits fits
   where
     commits : end + 3 ≤ sectors / 4 → commit_fault sectors end ≡ None
@@ -86,16 +92,16 @@ allows_emptying limit sectors end room fits =
 
 -- ---- a new meta page
 
-pub fresh_meta : (limit : ℕ) (m : Meta) → m ≡ meta_of (fresh_placement limit)
-    → m ≡ meta_of (fresh_placement m.limit)
-fresh_meta limit m is = is ∙ ap (λ (n : ℕ). meta_of (fresh_placement n))
-    (sym (ap (λ (x : Meta). x.limit) is))
+pub fresh_meta : (bounds : Bounds) (m : Meta) → m ≡ meta_of (fresh_placement bounds)
+    → m ≡ meta_of (fresh_placement m.bounds)
+fresh_meta bounds m is = is ∙ ap (λ (b : Bounds). meta_of (fresh_placement b))
+    (sym (ap (λ (x : Meta). x.bounds) is))
 
 pub fresh_valid : (limit : ℕ) (m : Meta) → (1 ≤ limit) × (limit ≤ 1000000)
-    → m ≡ meta_of (fresh_placement limit) → IsMeta m
-fresh_valid limit m bounds is =
-    subst IsMeta (sym is) (bodies_valid (fresh_placement limit)
-    (fresh_is_good limit bounds.0 bounds.1).0).0.1
+    → m ≡ meta_of (fresh_placement (in_v1 limit)) → IsMeta m
+fresh_valid limit m limited is =
+    subst IsMeta (sym is) (bodies_valid (fresh_placement (in_v1 limit))
+    (fresh_is_good limit limited.0 limited.1).0).0.1
 
 -- ---- a commit that was refused
 
@@ -117,10 +123,11 @@ module _ (e : PageFault) (only : (e ≡ page.Memory) ⊎ ((e ≡ page.NoRoom) �
       (λ device. device) other)
       only
 
-  pub refuses_commit : (limit sectors end : ℕ) → room_fault (sectors_for limit) sectors ≡ None
+  pub refuses_commit : (bounds : Bounds) (sectors end : ℕ)
+      → room_fault (sectors_for bounds) sectors ≡ None
       → (e ≡ page.NoRoom → sectors / 4 < end + 3) → (e ≡ page.Device → ⊥)
-      → (emptying_fault limit sectors end ≡ Some (fault_from e)) ⊎ (fault_from e ≡ Memory)
-  refuses_commit limit sectors end room short other = ⊎_elim
+      → (emptying_fault bounds sectors end ≡ Some (fault_from e)) ⊎ (fault_from e ≡ Memory)
+  refuses_commit bounds sectors end room short other = ⊎_elim
       (λ memory. inr (ap fault_from memory))
       (λ more. ⊎_elim
       (λ none. inl (ap (λ (o : Option Fault). option_or o (commit_fault sectors end)) room

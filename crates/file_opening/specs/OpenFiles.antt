@@ -1,6 +1,8 @@
 -- What a file stands for that was opened.
 use Rattle.std.specs.Prelude.{◌≡◌, ℕ, Bool, true, if◌then◌else◌, Result, Ok, Err}
 use Rattle.std.specs.FinMap.{empty}
+use Rattle.file_opening.specs.Opening.{bounds_of}
+use Rattle.dbm_model.specs.Bounds.{Bounds}
 use Rattle.sect_dev.specs.declared.device.SectorDev as device
 use Rattle.page_io.specs.Store.{Settled}
 use Rattle.page_io.specs.Meaning.{ImageStandsFor}
@@ -27,16 +29,16 @@ pub record IsJustOpened {S : Type 0} {s : Ghosts S} (for_writing : Bool) (pages 
   pub writable : (s.state file.store).writable ≡ for_writing
   pub capacity : (s.state file.store).capacity ≡ pages
 
--- its pages stand for this map and limit, and so does every image that a stop may leave now
+-- its pages stand for this map and these bounds, and so does every image that a stop may leave now
 pub record StandsAs {S : Type 0} {s : Ghosts S} (file : OpenFile S s) (map : Contents)
-    (limit : ℕ) : Type 0 where
+    (bounds : Bounds) : Type 0 where
   pub holds : (s.state file.store).usable ≡ true → Holds s file.store (model_meta file.meta) map
   pub rests : (s.state file.store).usable ≡ true → (settled : Settled)
-      → s.settles_to file.store settled → ImageStandsFor settled map (model_meta file.meta).limit
-  pub limit_is : (model_meta file.meta).limit ≡ limit
+      → s.settles_to file.store settled → ImageStandsFor settled map (model_meta file.meta).bounds
+  pub bounds_are : (model_meta file.meta).bounds ≡ bounds
 
--- it stands for the map, with this limit, or where it was to be emptied for none, with the limit
--- asked for
-abbrev pub OpensAs : {S : Type 0} {s : Ghosts S} → OpenHow → Contents → ℕ → OpenFile S s → Type 0
-OpensAs how map limit file = StandsAs file (if how.truncate then empty else map)
-    (if how.truncate then how.limit else limit)
+-- it stands for the map, with these bounds, or where it was to be emptied for none, with those that
+-- the opening asks for
+abbrev pub OpensAs : {S : Type 0} {s : Ghosts S} → OpenHow → Contents → Bounds → OpenFile S s → Type 0
+OpensAs how map bounds file = StandsAs file (if how.truncate then empty else map)
+    (if how.truncate then bounds_of how else bounds)

@@ -2,6 +2,7 @@
 use Rattle.std.specs.Prelude.{◌≡◌, ◌≢◌, ◌⊎◌, ℕ, ◌+◌, ◌/◌, nat_lt, Bool, true, false, ◌&&◌, not, List, length, Option, Some, None, if◌then◌else◌}
 use Rattle.std.specs.FinMap.{empty}
 use Rattle.std.specs.Option.{option_or}
+use Rattle.dbm_model.specs.Bounds.{V1, Bounds, in_v1}
 use Rattle.sect_dev.specs.Device.{Image, Candidates, IsImageOf}
 use Rattle.page_model.specs.Bytes.{u32_at}
 use Rattle.page_model.specs.Pages.{Meta, MetaPage}
@@ -33,6 +34,10 @@ writes access.ReadOnly = false
 writes access.WriteOnly = true
 writes access.ReadWrite = true
 
+-- the bounds of a database that it makes or empties
+abbrev pub bounds_of : OpenHow → Bounds
+bounds_of how = in_v1 how.limit
+
 -- no database may be there
 abbrev pub is_exclusive : OpenHow → Bool
 is_exclusive how = how.create && how.exclusive
@@ -44,7 +49,7 @@ abbrev pub early_fault : OpenHow → ℕ → Option Fault
 early_fault how sectors = if how.truncate && not (writes how.access) then Some ReadOnly
     else (if nat_lt sectors 16 then Some TooSmall else None)
 
--- a device of so many sectors has room for a database of the limit, if the limit is one
+-- a device of so many sectors has room for a database that needs so many, if its limit is one
 abbrev pub room_fault : Option ℕ → ℕ → Option Fault
 room_fault None sectors = Some BadLimit
 room_fault (Some needed) sectors = if nat_lt sectors needed then Some TooSmall else None
@@ -53,25 +58,27 @@ room_fault (Some needed) sectors = if nat_lt sectors needed then Some TooSmall e
 abbrev pub making_fault : OpenHow → ℕ → Option Fault
 making_fault how sectors = if not how.create then Some NotADatabase
     else (if not (writes how.access) then Some ReadOnly
-    else room_fault (sectors_for how.limit) sectors)
+    else room_fault (sectors_for (bounds_of how)) sectors)
 
 -- a commit of the three pages of an empty database has no room behind a file that ends there
 abbrev pub commit_fault : ℕ → ℕ → Option Fault
 commit_fault sectors end = if nat_lt (sectors / 4) (end + 3) then Some NoRoom else None
 
--- why a database whose file ends there is not emptied with that limit, if it is not
-abbrev pub emptying_fault : ℕ → ℕ → ℕ → Option Fault
-emptying_fault limit sectors end =
-    option_or (room_fault (sectors_for limit) sectors) (commit_fault sectors end)
+-- why a database whose file ends there is not emptied with those bounds, if it is not
+abbrev pub emptying_fault : Bounds → ℕ → ℕ → Option Fault
+emptying_fault bounds sectors end =
+    option_or (room_fault (sectors_for bounds) sectors) (commit_fault sectors end)
 
--- a good meta page
+-- a good meta page, which is of version 1
 pub record SaysMeta (bytes : List ℕ) : Type 0 where
   pub meta : Meta
   pub valid : IsMeta meta
+  pub first : meta.bounds.version ≡ V1
   pub says : body_of 1 bytes ≡ MetaPage meta
 
 abbrev pub SaysNoMeta : List ℕ → Type 0
-SaysNoMeta bytes = (m : Meta) → IsMeta m → body_of 1 bytes ≡ MetaPage m → ⊥
+SaysNoMeta bytes = (m : Meta) → IsMeta m → m.bounds.version ≡ V1
+    → body_of 1 bytes ≡ MetaPage m → ⊥
 
 -- why a meta page is refused: its version is looked at once its header is good, and before all else
 abbrev pub RefusesMeta : List ℕ → Fault → Type 0
@@ -84,7 +91,7 @@ abbrev pub RefusesFile : OpenHow → ℕ → Pages → Fault → Type 0
 RefusesFile how sectors pages fault =
     RefusesMeta (page_of pages 1) fault
     ⊎ (SaysMeta (page_of pages 1) × (how.truncate ≡ true)
-    × (emptying_fault how.limit sectors (length pages + 1) ≡ Some fault))
+    × (emptying_fault (bounds_of how) sectors (length pages + 1) ≡ Some fault))
 
 -- the same where no database may be there
 abbrev pub RefusesFound : OpenHow → ℕ → Pages → Fault → Type 0
@@ -130,7 +137,7 @@ abbrev pub Allows : OpenHow → ℕ → Settled → Type 0
 Allows how sectors blank = making_fault how sectors ≡ None
 Allows how sectors (file_of pages) =
     (is_exclusive how ≡ false) × (how.truncate ≡ true
-    → emptying_fault how.limit sectors (length pages + 1) ≡ None)
+    → emptying_fault (bounds_of how) sectors (length pages + 1) ≡ None)
 Allows how sectors nothing = Unit {0}
 
 abbrev pub AllAllow : OpenHow → ℕ → Candidates → Type 0
@@ -150,7 +157,7 @@ pub record EmptiesFile (how : OpenHow) (sectors : ℕ) (file : Pages) : Type 0 w
   pub written : writes how.access ≡ true
   pub allowed : is_exclusive how ≡ false
   pub opens : SaysMeta (page_of file 1)
-  pub due : emptying_fault how.limit sectors (length file + 1) ≡ None
+  pub due : emptying_fault (bounds_of how) sectors (length file + 1) ≡ None
 
 -- the device may hold such a file
 pub record Empties (how : OpenHow) (sectors : ℕ) (start : Candidates) : Type 0 where
@@ -166,7 +173,7 @@ BeginsEmpty how sectors start = Makes how sectors start ⊎ Empties how sectors 
 abbrev pub MayRemain : OpenHow → ℕ → Candidates → Settled → Type 0
 MayRemain how sectors start now =
     SettlesTo (sectors / 4) start now
-    ⊎ (BeginsEmpty how sectors start × ImageStandsFor now empty how.limit)
+    ⊎ (BeginsEmpty how sectors start × ImageStandsFor now empty (bounds_of how))
 
 -- ---- what is opened
 
@@ -176,29 +183,29 @@ abbrev pub KeepsMetaOf : OpenHow → ℕ → Pages → Meta → Type 0
 KeepsMetaOf how sectors file kept =
     ((how.truncate ≡ false) × (is_exclusive how ≡ false) × IsMeta kept
     × (body_of 1 (page_of file 1) ≡ MetaPage kept))
-    ⊎ (EmptiesFile how sectors file × (kept ≡ meta_of (fresh_placement how.limit)))
+    ⊎ (EmptiesFile how sectors file × (kept ≡ meta_of (fresh_placement (bounds_of how))))
 
 -- the same where the device may hold such a file, or where a database was made
 abbrev pub KeepsMeta : OpenHow → ℕ → Candidates → Meta → Type 0
 KeepsMeta how sectors start kept =
     ((file : Pages) × SettlesTo (sectors / 4) start (file_of file)
     × KeepsMetaOf how sectors file kept)
-    ⊎ (Makes how sectors start × (kept ≡ meta_of (fresh_placement how.limit)))
+    ⊎ (Makes how sectors start × (kept ≡ meta_of (fresh_placement (bounds_of how))))
 
--- an image at the start stood for this map and limit
-pub record StoodFor (pages : ℕ) (start : Candidates) (map : Contents) (limit : ℕ) : Type 0 where
+-- an image at the start stood for this map and these bounds
+pub record StoodFor (pages : ℕ) (start : Candidates) (map : Contents) (bounds : Bounds) : Type 0 where
   pub image : Image
   pub at_start : IsImageOf start image
-  pub stands : ImageStandsFor (settled pages image) map limit
+  pub stands : ImageStandsFor (settled pages image) map bounds
 
 -- each image at the start is blank or stands for a map
 abbrev pub AllStand : ℕ → Candidates → Type 0
 AllStand pages start = (image : Image) → IsImageOf start image
     → (settled pages image ≡ blank)
-    ⊎ ((map : Contents) × (limit : ℕ) × ImageStandsFor (settled pages image) map limit)
+    ⊎ ((map : Contents) × (bounds : Bounds) × ImageStandsFor (settled pages image) map bounds)
 
 -- what is opened is what an image at the start stood for, or is made or emptied
-abbrev pub IsOpened : OpenHow → ℕ → Candidates → Contents → ℕ → Type 0
-IsOpened how sectors start map limit =
-    (StoodFor (sectors / 4) start map limit × (how.truncate ≡ false) × (is_exclusive how ≡ false))
-    ⊎ (BeginsEmpty how sectors start × (map ≡ empty) × (limit ≡ how.limit))
+abbrev pub IsOpened : OpenHow → ℕ → Candidates → Contents → Bounds → Type 0
+IsOpened how sectors start map bounds =
+    (StoodFor (sectors / 4) start map bounds × (how.truncate ≡ false) × (is_exclusive how ≡ false))
+    ⊎ (BeginsEmpty how sectors start × (map ≡ empty) × (bounds ≡ bounds_of how))

@@ -1,6 +1,7 @@
 //! The emptying of a database that is there.
 
 ghost use Rattle.std.specs.Prelude.{◌≡◌, ◌≢◌, ◌⊎◌, ◌↔◌, ◌≤◌, ◌<◌, ◌+◌, ◌/◌, ◌∷◌, [], true, IfOk, IfErr, OnOk, OnErr, IsErrOf, None, Some, map};
+ghost use Rattle.dbm_model.specs.Bounds.{in_v1};
 ghost use Rattle.dbm_fault.specs.Among.{IsErrAmong};
 ghost use Rattle.std.specs.FinMap.{empty};
 ghost use Rattle.sect_dev.specs.Device.{Image, IsImageOf, LeavesOnly, MoreFaults};
@@ -51,7 +52,7 @@ fn commit_empty<S: PageStore>(store: &mut S, meta: &Meta) -> Result<(), PageFaul
     requires usable { (S.state store.old).usable ≡ true }
     requires writable { (S.state store.old).writable ≡ true }
     requires limited { (1 ≤ meta.now.limit) × (meta.now.limit ≤ 1000000) }
-    requires fresh { model_meta meta.now ≡ placement_meta (fresh_placement meta.now.limit) }
+    requires fresh { model_meta meta.now ≡ placement_meta (fresh_placement (in_v1 meta.now.limit)) }
     ensures ok { OnOk result (S.state store.new ≡ record (S.state store.old) { end = 4 }) }
     ensures err { IfErr result (IsForgotten (S.state store.old) (S.state store.new)) }
     ensures cause { HasDeviceCause (S.faults store.old) (S.faults store.new) result }
@@ -66,7 +67,7 @@ fn commit_empty<S: PageStore>(store: &mut S, meta: &Meta) -> Result<(), PageFaul
         → LeavesOnly S.moment S.settled_since store.old store.new
         (λ now. (now ≡ file_of (S.committed store.old)) ⊎
         (((S.state store.old).end + 3 ≤ (S.state store.old).capacity)
-        × ImageStandsFor now empty meta.now.limit)) }
+        × ImageStandsFor now empty (in_v1 meta.now.limit))) }
     ensures unchanged { S.honest store.old
         → OnErr result ((S.state store.new).usable ≡ true
         → LeavesOnly S.moment S.settled_since store.old store.new
@@ -90,17 +91,17 @@ pub fn emptied<D: SectorDev>(
         → LeavesOnly D.moment (IsOutcome D.left_since (settled (D.sectors (device_of store) / 4)))
         (device_of store) (device_left result)
         (λ now. (now ≡ file_of (⟦<Pager<D> as PageStore>⟧.committed store)) ⊎
-        ((emptying_fault limit (D.sectors (device_of store))
+        ((emptying_fault (in_v1 limit) (D.sectors (device_of store))
         (⟦<Pager<D> as PageStore>⟧.state store).end ≡ None)
-        × ImageStandsFor now empty limit)) }
+        × ImageStandsFor now empty (in_v1 limit))) }
     ensures room { IfOk result (λ file.
-        emptying_fault limit (D.sectors (device_of store))
+        emptying_fault (in_v1 limit) (D.sectors (device_of store))
         (⟦<Pager<D> as PageStore>⟧.state store).end ≡ None) }
-    ensures stands { D.honest (device_of store) → IfOk result (λ file. StandsAs file empty limit) }
+    ensures stands { D.honest (device_of store) → IfOk result (λ file. StandsAs file empty (in_v1 limit)) }
     ensures meta { IfOk result (λ file.
-        model_meta file.meta ≡ placement_meta (fresh_placement limit)) }
+        model_meta file.meta ≡ placement_meta (fresh_placement (in_v1 limit))) }
     ensures refused { IfErr result
-        (λ e. e.1 ≢ Fault.Device → (emptying_fault limit (D.sectors (device_of store))
+        (λ e. e.1 ≢ Fault.Device → (emptying_fault (in_v1 limit) (D.sectors (device_of store))
         (⟦<Pager<D> as PageStore>⟧.state store).end ≡ Some e.1) ⊎ (e.1 ≡ Fault.Memory)) }
     ensures left { D.honest (device_of store)
         → IfErr result (λ e. e.1 ≢ Fault.Device → (after : Image)

@@ -2,6 +2,7 @@
 
 ghost use Rattle.std.specs.Prelude.{◌≡◌, ◌≢◌, ◌⊎◌, ◌↔◌, ◌≤◌, ◌/◌, ◌∷◌, [], true, IfOk, IfErr, IfSome, Some, None, Err, map};
 ghost use Rattle.std.specs.FinMap.{empty};
+ghost use Rattle.dbm_model.specs.Bounds.{in_v1};
 ghost use Rattle.sect_dev.specs.Device.{Image, IsImageOf, LeavesOnly, MoreFaults};
 ghost use Rattle.page_model.specs.Meaning.{said_by};
 ghost use Rattle.page_model.specs.Pages.{MetaPage};
@@ -13,7 +14,7 @@ ghost use Rattle.page_io.specs.Page.{own_number};
 ghost use Rattle.page_io.specs.Store.{blank, bytes_of, page_of};
 ghost use Rattle.redo_commit.specs.File.{settled};
 ghost use Rattle.seg_table.specs.MetaPages.{model_meta};
-ghost use Rattle.file_opening.specs.Opening.{room_fault, making_fault};
+ghost use Rattle.file_opening.specs.Opening.{room_fault, making_fault, bounds_of};
 ghost use Rattle.file_opening.specs.OpenFiles.{device_left, IsJustOpened, StandsAs};
 
 use crate::{Fault, OpenFile, OpenHow, needed_sectors};
@@ -29,7 +30,7 @@ const HEAD: u8 = 3;
 
 /// What refuses a database of this limit on a device of so many sectors.
 pub fn room_refusal(limit: u32, sectors: u32) -> Option<Fault>
-    ensures { result ≡ room_fault (sectors_for limit) sectors }
+    ensures { result ≡ room_fault (sectors_for (in_v1 limit)) sectors }
 {
     match needed_sectors(limit) {
         None => Some(Fault::BadLimit),
@@ -55,8 +56,8 @@ fn making_refusal(how: OpenHow, sectors: u32) -> Option<Fault>
 /// which is empty.
 pub fn pages_of_empty(meta: &Meta) -> [Page; 3]
     requires limited { (1 ≤ meta.now.limit) × (meta.now.limit ≤ 1000000) }
-    requires fresh { model_meta meta.now ≡ placement_meta (fresh_placement meta.now.limit) }
-    ensures stands { FileStandsFor (bytes_of result) empty meta.now.limit }
+    requires fresh { model_meta meta.now ≡ placement_meta (fresh_placement (in_v1 meta.now.limit)) }
+    ensures stands { FileStandsFor (bytes_of result) empty (in_v1 meta.now.limit) }
     ensures meta { said_by (page_of (bytes_of result)) 1 ≡ MetaPage (model_meta meta.now) }
     ensures numbers { map own_number (bytes_of result) ≡ 1 ∷ 2 ∷ 3 ∷ [] }
 {
@@ -81,10 +82,10 @@ pub fn made<D: SectorDev>(
         → LeavesOnly D.moment D.left_since dev (device_left result)
         (λ image. (settled (D.sectors dev / 4) image ≡ blank)
         ⊎ ((making_fault how (D.sectors dev) ≡ None)
-        × ImageStandsFor (settled (D.sectors dev / 4) image) empty how.limit)) }
-    ensures stands { D.honest dev → IfOk result (λ file. StandsAs file empty how.limit) }
+        × ImageStandsFor (settled (D.sectors dev / 4) image) empty (bounds_of how))) }
+    ensures stands { D.honest dev → IfOk result (λ file. StandsAs file empty (bounds_of how)) }
     ensures meta { IfOk result (λ file.
-        model_meta file.meta ≡ placement_meta (fresh_placement how.limit)) }
+        model_meta file.meta ≡ placement_meta (fresh_placement (bounds_of how))) }
     ensures asked { IfOk result (λ file. making_fault how (D.sectors dev) ≡ None) }
     ensures refused { IfErr result
         (λ e. e.1 ≢ Fault.Device → (making_fault how (D.sectors dev) ≡ Some e.1) × (e.0 ≡ dev)) }

@@ -2,6 +2,7 @@
 
 ghost use Rattle.std.specs.Prelude.{◌≡◌, ◌≢◌, ◌⊎◌, ◌↔◌, ◌≤◌, ◌<◌, ◌+◌, ◌/◌, ℕ, length, IfOk, IfErr, IfSome, Some, None, Err, true, false, if◌then◌else◌, map};
 ghost use Rattle.std.specs.FinMap.{empty};
+ghost use Rattle.dbm_model.specs.Bounds.{Bounds};
 ghost use Rattle.sect_dev.specs.Device.{Image, IsImageOf, IsStable, LeavesOnly, MoreFaults};
 ghost use Rattle.sect_dev.specs.Moments.{IsOutcome};
 ghost use Rattle.dbm_model.specs.Pairs.{Contents};
@@ -15,7 +16,7 @@ ghost use Rattle.redo_area.specs.Opening.{IsFresh as IsFreshStore};
 ghost use Rattle.redo_area.specs.Pagers.{device_of};
 ghost use Rattle.sect_dev.specs.Reads.{OnlyReads};
 ghost use Rattle.redo_area.specs.Settling.{SettlesTo};
-ghost use Rattle.file_opening.specs.Opening.{writes, is_exclusive, early_fault, emptying_fault, RefusesMeta, RefusesOpened, IsRefusedOpening, AllAllow, EmptiesFile, MayRemain, AllStand, KeepsMetaOf, KeepsMeta, IsOpened};
+ghost use Rattle.file_opening.specs.Opening.{writes, is_exclusive, early_fault, emptying_fault, RefusesMeta, RefusesOpened, IsRefusedOpening, AllAllow, EmptiesFile, MayRemain, AllStand, KeepsMetaOf, KeepsMeta, IsOpened, bounds_of};
 ghost use Rattle.file_opening.specs.OpenFiles.{device_left, IsJustOpened, StandsAs, OpensAs};
 ghost use Rattle.seg_table.specs.MetaPages.{model_meta};
 
@@ -73,8 +74,8 @@ pub fn open_file<D: SectorDev>(
     ensures stands { D.honest dev
         → (writes how.access ≡ false → IsStable (D.candidate dev) (D.seen dev))
         → AllStand (D.sectors dev / 4) (D.candidate dev)
-        → IfOk result (λ file. (map : Contents) × (limit : ℕ) × StandsAs file map limit
-        × IsOpened how (D.sectors dev) (D.candidate dev) map limit) }
+        → IfOk result (λ file. (map : Contents) × (bounds : Bounds) × StandsAs file map bounds
+        × IsOpened how (D.sectors dev) (D.candidate dev) map bounds) }
 
     // For reading, nothing is written and nothing synced.
     ensures only_reads { writes how.access ≡ false → D.honest dev
@@ -156,19 +157,19 @@ fn opened<D: SectorDev>(
         (λ now. SettlesTo (D.sectors (device_of store) / 4) (D.candidate (device_of store)) now
         ⊎ (EmptiesFile how (D.sectors (device_of store))
         (⟦<Pager<D> as PageStore>⟧.committed store)
-        × ImageStandsFor now empty how.limit)) }
+        × ImageStandsFor now empty (bounds_of how))) }
     ensures stands { D.honest (device_of store)
         → ((now : Settled) → ⟦<Pager<D> as PageStore>⟧.settles_to store now
         → now ≡ file_of (⟦<Pager<D> as PageStore>⟧.committed store)) →
-        (map : Contents) → (limit : ℕ)
-        → FileStandsFor (⟦<Pager<D> as PageStore>⟧.committed store) map limit
-        → IfOk result (λ file. (is_exclusive how ≡ false) × OpensAs how map limit file) }
+        (map : Contents) → (bounds : Bounds)
+        → FileStandsFor (⟦<Pager<D> as PageStore>⟧.committed store) map bounds
+        → IfOk result (λ file. (is_exclusive how ≡ false) × OpensAs how map bounds file) }
     ensures opened { D.honest (device_of store)
         → IfOk result (λ file. KeepsMetaOf how (D.sectors (device_of store))
         (⟦<Pager<D> as PageStore>⟧.committed store) (model_meta file.meta)) }
     ensures emptied { D.honest (device_of store)
         → IfOk result (λ file. how.truncate ≡ true
-        → emptying_fault how.limit (D.sectors (device_of store))
+        → emptying_fault (bounds_of how) (D.sectors (device_of store))
         (length (⟦<Pager<D> as PageStore>⟧.committed store) + 1) ≡ None) }
     ensures only_reads { writes how.access ≡ false → D.honest (device_of store)
         → OnlyReads D.SectorDev (device_of store) (device_left result) }
@@ -214,19 +215,19 @@ fn found_or_emptied<D: SectorDev>(
         (λ now. SettlesTo (D.sectors (device_of store) / 4) (D.candidate (device_of store)) now
         ⊎ (EmptiesFile how (D.sectors (device_of store))
         (⟦<Pager<D> as PageStore>⟧.committed store)
-        × ImageStandsFor now empty how.limit)) }
+        × ImageStandsFor now empty (bounds_of how))) }
     ensures stands { D.honest (device_of store)
         → ((now : Settled) → ⟦<Pager<D> as PageStore>⟧.settles_to store now
         → now ≡ file_of (⟦<Pager<D> as PageStore>⟧.committed store)) →
-        (map : Contents) → (limit : ℕ)
-        → FileStandsFor (⟦<Pager<D> as PageStore>⟧.committed store) map limit
-        → IfOk result (λ file. (is_exclusive how ≡ false) × OpensAs how map limit file) }
+        (map : Contents) → (bounds : Bounds)
+        → FileStandsFor (⟦<Pager<D> as PageStore>⟧.committed store) map bounds
+        → IfOk result (λ file. (is_exclusive how ≡ false) × OpensAs how map bounds file) }
     ensures opened { D.honest (device_of store)
         → IfOk result (λ file. KeepsMetaOf how (D.sectors (device_of store))
         (⟦<Pager<D> as PageStore>⟧.committed store) (model_meta file.meta)) }
     ensures emptied { D.honest (device_of store)
         → IfOk result (λ file. how.truncate ≡ true
-        → emptying_fault how.limit (D.sectors (device_of store))
+        → emptying_fault (bounds_of how) (D.sectors (device_of store))
         (length (⟦<Pager<D> as PageStore>⟧.committed store) + 1) ≡ None) }
     ensures only_reads { writes how.access ≡ false → D.honest (device_of store)
         → OnlyReads D.SectorDev (device_of store) (device_left result) }
@@ -274,9 +275,9 @@ fn found<D: SectorDev>(store: Pager<D>, writable: bool) -> Result<OpenFile<Pager
     ensures stands { D.honest (device_of store)
         → ((now : Settled) → ⟦<Pager<D> as PageStore>⟧.settles_to store now
         → now ≡ file_of (⟦<Pager<D> as PageStore>⟧.committed store)) →
-        (map : Contents) → (limit : ℕ)
-        → FileStandsFor (⟦<Pager<D> as PageStore>⟧.committed store) map limit
-        → IfOk result (λ file. StandsAs file map limit) }
+        (map : Contents) → (bounds : Bounds)
+        → FileStandsFor (⟦<Pager<D> as PageStore>⟧.committed store) map bounds
+        → IfOk result (λ file. StandsAs file map bounds) }
     ensures refused { D.honest (device_of store)
         → IfErr result (λ e. e.1 ≢ Fault.Device
         → RefusesMeta (page_of (⟦<Pager<D> as PageStore>⟧.committed store) 1) e.1) }

@@ -10,6 +10,7 @@ use Rattle.page_model.specs.Chain.{numbers, pairs_in}
 use Rattle.page_model.specs.Placement.{Placement, contents, key_bucket, chain_at, IsSound}
 use Rattle.page_model.specs.PageBodies.{first_of, heads_of, segment_bodies, lower_bodies, AreRead}
 use Rattle.page_model.proofs.AddressLemmas.{address_below}
+use Rattle.page_model.proofs.Bounds.{home_of_first}
 use Rattle.page_model.proofs.Stores.{looks_in_one_chain}
 use Rattle.free_pages.specs.declared.free_state.FreeState.{FreeState}
 use Rattle.free_pages.specs.FreeList.{state_of}
@@ -79,7 +80,12 @@ module _ (at : ℕ → Body) (m : Meta) (p : Placement) (sound : IsSound p)
 module _ (at : ℕ → Body) (m : Meta) (end : ℕ) (p : Placement) (table : IsTable at m end p) where
   used : All (λ n. (0 < n) × IsNumber n) m.segments
   used = subst (All (λ n. (0 < n) × IsNumber n)) (ap (λ (n : Meta). n.segments) (sym table.meta_is))
-      (used_segments p table.good.sound (omega (arith, table.good.bounded, table.good.limited)))
+      (used_segments p table.good.sound (omega (
+        arith,
+        home_of_first p.bounds table.good.first,
+        table.good.bounded,
+        table.good.limited,
+      )))
 
   pub table_shape : shape_in m ≡ p.shape
   table_shape = ap shape_in table.meta_is

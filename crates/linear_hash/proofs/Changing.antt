@@ -4,6 +4,7 @@ use Rattle.std.specs.Prelude.{IsOkAnd}
 use Rattle.std.proofs.lemmas.Bool.{and_parts, leb-true}
 use Rattle.sect_dev.specs.Device.{LeavesOnly}
 use Rattle.sect_dev.specs.Moments.{followed_by, weaker}
+use Rattle.dbm_model.specs.Bounds.{Bounds}
 use Rattle.page_model.specs.Pages.{Meta, MetaPage, Body}
 use Rattle.dbm_model.specs.Pairs.{Contents}
 use Rattle.page_model.specs.Placement.{Placement, contents, IsGood}
@@ -29,14 +30,14 @@ module _ {S : Type 0} (s : Ghosts S) (mid : S) (m : Meta) (end : ℕ) (q : Place
   after = committed_with (s.committed mid) (s.state mid).staged end
 
   -- what a commit leaves
-  pub commit_stands : FileStandsFor after (contents q) m.limit
+  pub commit_stands : FileStandsFor after (contents q) m.bounds
   commit_stands =
       let there = commits (s.committed mid) (s.state mid).staged q good staged.spelled in
       subst (λ (n : ℕ). FileStandsFor (committed_with (s.committed mid) (s.state mid).staged n)
-      (contents q) m.limit) staged.ends
-      (subst (λ (l : ℕ). FileStandsFor
+      (contents q) m.bounds) staged.ends
+      (subst (λ (b : Bounds). FileStandsFor
       (committed_with (s.committed mid) (s.state mid).staged q.space.end) (contents q)
-      l) (sym (ap (λ (n : Meta). n.limit) staged.meta_is)) there)
+      b) (sym (ap (λ (n : Meta). n.bounds) staged.meta_is)) there)
 
   commit_meta : said_by (page_of after) 1 ≡ MetaPage m
   commit_meta =
@@ -47,7 +48,7 @@ module _ {S : Type 0} (s : Ghosts S) (mid : S) (m : Meta) (end : ℕ) (q : Place
 
   pub commit_holds : (new : S) → s.committed new ≡ after → Holds s new m (contents q)
   commit_holds new is = record {
-    stands = subst (λ (pages : Pages). FileStandsFor pages (contents q) m.limit)
+    stands = subst (λ (pages : Pages). FileStandsFor pages (contents q) m.bounds)
         (sym is) commit_stands;
     meta_is = subst (λ (pages : Pages). said_by (page_of pages) 1 ≡ MetaPage m)
         (sym is) commit_meta;
@@ -55,17 +56,18 @@ module _ {S : Type 0} (s : Ghosts S) (mid : S) (m : Meta) (end : ℕ) (q : Place
 
 -- the same where it is staged at all
 pub staged_stands : {S : Type 0} (s : Ghosts S) (mid : S) (m : Meta) (q : Placement)
-    (changed : Contents) (limit : ℕ) (r : Result ℕ PageFault) → IsGood q → contents q ≡ changed
-    → IfOk r (λ end. IsStaged (body_at s mid) m end q) → OnOk r (m.limit ≡ limit)
+    (changed : Contents) (bounds : Bounds) (r : Result ℕ PageFault) → IsGood q
+    → contents q ≡ changed → IfOk r (λ end. IsStaged (body_at s mid) m end q)
+    → OnOk r (m.bounds ≡ bounds)
     → IfOk r (λ end. FileStandsFor
-    (committed_with (s.committed mid) (s.state mid).staged end) changed limit)
-staged_stands s mid m q changed limit (Ok end) good is staged same =
-    subst (λ (l : ℕ). FileStandsFor (committed_with (s.committed mid) (s.state mid).staged end)
-    changed l) same
+    (committed_with (s.committed mid) (s.state mid).staged end) changed bounds)
+staged_stands s mid m q changed bounds (Ok end) good is staged same =
+    subst (λ (b : Bounds). FileStandsFor (committed_with (s.committed mid) (s.state mid).staged end)
+    changed b) same
     (subst (λ (c : Contents). FileStandsFor
-    (committed_with (s.committed mid) (s.state mid).staged end) c m.limit) is
+    (committed_with (s.committed mid) (s.state mid).staged end) c m.bounds) is
     (commit_stands s mid m end q good staged))
-staged_stands s mid m q changed limit (Err e) good is staged same = tt
+staged_stands s mid m q changed bounds (Err e) good is staged same = tt
 
 -- what holds of whatever was answered
 each_err : {P : PageFault → Type 0} (result : Result Unit PageFault)
@@ -184,54 +186,54 @@ module _ {S : Type 0} (s : Ghosts S) (old mid new : S) (r : Result ℕ PageFault
             only = staged.only;
           })
 
-  module _ (honest : s.honest old) (map changed : Contents) (limit : ℕ)
-      (stands : FileStandsFor (s.committed old) map limit)
+  module _ (honest : s.honest old) (map changed : Contents) (bounds : Bounds)
+      (stands : FileStandsFor (s.committed old) map bounds)
       (only : (y : Settled) → s.settles_to old y → y ≡ file_of (s.committed old)) where
     same_pages : s.committed mid ≡ s.committed old
     same_pages = (stages.kept honest).committed
 
     -- what was there before stands for the old map
-    before : (y : Settled) → y ≡ file_of (s.committed old) → ImageStandsFor y map limit
-    before y is = subst (λ (z : Settled). ImageStandsFor z map limit) (sym is) stands
+    before : (y : Settled) → y ≡ file_of (s.committed old) → ImageStandsFor y map bounds
+    before y is = subst (λ (z : Settled). ImageStandsFor z map bounds) (sym is) stands
 
     staging : LeavesOnly s.moment s.settled_since old mid
-        (λ settled. ImageStandsFor settled map limit)
-    staging = weaker s.moment s.settled_since old mid (λ settled. ImageStandsFor settled map limit)
+        (λ settled. ImageStandsFor settled map bounds)
+    staging = weaker s.moment s.settled_since old mid (λ settled. ImageStandsFor settled map bounds)
         (s.settles_to old) (stages.kept honest).any_moment (λ y is. before y (only y is))
 
     -- at every moment an image stands for the old map or for the new one
     pub leaves_either : IfOk r (λ end.
-        FileStandsFor (committed_with (s.committed mid) (s.state mid).staged end) changed limit)
+        FileStandsFor (committed_with (s.committed mid) (s.state mid).staged end) changed bounds)
         → LeavesOnly s.moment s.settled_since mid new
         (λ settled. (settled ≡ file_of (s.committed mid))
         ⊎ IsOkAnd r (λ end. settled ≡ file_of
         (committed_with (s.committed mid) (s.state mid).staged end)))
-        → LeavesOnly s.moment s.settled_since old new (StandsForEither map changed limit)
+        → LeavesOnly s.moment s.settled_since old new (StandsForEither map changed bounds)
     leaves_either then run =
-        followed_by s.moment s.settled_since old mid new (StandsForEither map changed limit) _
-        (weaker s.moment s.settled_since old mid (StandsForEither map changed limit)
-        (λ settled. ImageStandsFor settled map limit) staging (λ y is. inl is)) run
+        followed_by s.moment s.settled_since old mid new (StandsForEither map changed bounds) _
+        (weaker s.moment s.settled_since old mid (StandsForEither map changed bounds)
+        (λ settled. ImageStandsFor settled map bounds) staging (λ y is. inl is)) run
         (λ y is. ⊎_elim (λ e. inl (before y (e ∙ ap file_of same_pages)))
         (λ e. inr (by_case r then y e)) is)
       where
         by_case : (r : Result ℕ PageFault)
             → IfOk r (λ end. FileStandsFor
-            (committed_with (s.committed mid) (s.state mid).staged end) changed limit)
+            (committed_with (s.committed mid) (s.state mid).staged end) changed bounds)
             → (y : Settled)
             → IsOkAnd r (λ end. y ≡ file_of
             (committed_with (s.committed mid) (s.state mid).staged end))
-            → ImageStandsFor y changed limit
+            → ImageStandsFor y changed bounds
         by_case (Ok end) then y is = subst
-            (λ (z : Settled). ImageStandsFor z changed limit) (sym is) then
+            (λ (z : Settled). ImageStandsFor z changed bounds) (sym is) then
         by_case (Err e) then y is = absurd is
 
     -- and where it was refused and nothing broke, for the old one
     pub leaves_old : LeavesOnly s.moment s.settled_since mid new
         (λ settled. settled ≡ file_of (s.committed mid))
-        → LeavesOnly s.moment s.settled_since old new (λ settled. ImageStandsFor settled map limit)
+        → LeavesOnly s.moment s.settled_since old new (λ settled. ImageStandsFor settled map bounds)
     leaves_old run =
         followed_by s.moment s.settled_since old mid new
-        (λ settled. ImageStandsFor settled map limit) _ staging run
+        (λ settled. ImageStandsFor settled map bounds) _ staging run
         (λ y e. before y (e ∙ ap file_of same_pages))
 
   -- a fault that no commit answers was the staging's

@@ -35,7 +35,7 @@ module _ {S : Type 0} (s : Ghosts S) (old new : S) (before : Meta) where
           err = (forgotten, refl);
           kept = kept;
           valid = valid;
-          limit = refl;
+          bounds = refl;
           cause = cause;
           honesty = honesty;
           answer = answer;

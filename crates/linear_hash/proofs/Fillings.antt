@@ -5,6 +5,7 @@ use Rattle.std.proofs.Math.Seq.{drop-cons}
 use Rattle.std.proofs.lemmas.Bool.{cases_eq}
 use Rattle.std.proofs.lemmas.List.{get_or_append_left, get_or_push, length-map, take-append-drop, take_all, take_more}
 use Rattle.std.proofs.lemmas.List.Sums.{fold-append}
+use Rattle.dbm_model.specs.Bounds.{V1}
 use Rattle.page_model.specs.Address.{Shape, hash_of, grown}
 use Rattle.page_model.specs.Pages.{Body}
 use Rattle.dbm_model.specs.Pairs.{Pair, IsAllowed}
@@ -143,7 +144,7 @@ module _ (p : Placement) (sound : IsSound p) where
       can_put : CanFill (filled p i) (x ∷ drop (i + 1) (moved p))
       can_put = subst (CanFill (filled p i)) rest_is so_far.can
 
-      pub next_allowed : IsAllowed x
+      pub next_allowed : IsAllowed V1 x
       next_allowed = can_put.small.0
 
       pub next_absent : times x.0 (pairs_in (placed_for (filled p i) x.0).0) ≡ 0

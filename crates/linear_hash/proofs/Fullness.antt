@@ -29,8 +29,8 @@ abbrev IsSpared : Meta → Type 0
 IsSpared m = IsMeta (record m { pairs = 0; free_head = 0; free_count = 0 })
 
 -- as many pairs as the buckets take
-pub counted_valid : (m : Meta) → IsSpared m → m.pairs ≤ m.limit → m.pairs ≤ 8 * meta_buckets m
-    → IsMeta (record m { free_head = 0; free_count = 0 })
+pub counted_valid : (m : Meta) → IsSpared m → m.pairs ≤ m.bounds.limit
+    → m.pairs ≤ 8 * meta_buckets m → IsMeta (record m { free_head = 0; free_count = 0 })
 counted_valid m valid limited few = record {
   limited = valid.limited;
   split_in = valid.split_in;
@@ -42,7 +42,7 @@ counted_valid m valid limited few = record {
   ends = valid.ends;
 }
 
-module _ (m : Meta) (valid : IsSpared m) (limited : m.pairs ≤ m.limit)
+module _ (m : Meta) (valid : IsSpared m) (limited : m.pairs ≤ m.bounds.limit)
     (full : 8 * meta_buckets m < m.pairs) where
   pub few_where_full : 8 * meta_buckets m < 1000000
   few_where_full = omega (arith, full, limited, valid.limited.1)
@@ -54,12 +54,13 @@ module _ (m : Meta) (valid : IsSpared m) (limited : m.pairs ≤ m.limit)
       let shape = grows.shape in
       let more = grown_by_one (shape_in m) valid.split_in in
       let one : meta_buckets n ≡ meta_buckets m + 1 = ap buckets shape ∙ more.1 in
-      let limit : n.limit ≡ m.limit = ap (λ (k : Meta). k.limit) grows.rest in
+      let limit : n.bounds.limit ≡ m.bounds.limit =
+      ap (λ (k : Meta). k.bounds.limit) grows.rest in
       let pairs : n.pairs ≡ m.pairs = ap (λ (k : Meta). k.pairs) grows.rest in
       record {
         limited = subst (λ (l : ℕ). (1 ≤ l) × (l ≤ 1000000)) (sym limit) valid.limited;
         split_in = subst (λ (s : Shape). s.split < 2 ^ s.level) (sym shape) more.0;
-        few_buckets = enough (meta_buckets m) (meta_buckets n) m.pairs n.limit one full
+        few_buckets = enough (meta_buckets m) (meta_buckets n) m.pairs n.bounds.limit one full
             (omega (arith, limited, limit));
         few_pairs = (omega (arith, limited, limit, pairs), omega (arith, few, one, pairs));
         all_segments = segments (meta_buckets m) (meta_buckets n) (length m.segments)

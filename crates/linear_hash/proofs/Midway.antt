@@ -5,6 +5,7 @@ use Rattle.std.specs.FinMap.{get, get-from_entries}
 use Rattle.std.proofs.lemmas.Cmp.{nat_list_cmp_total}
 use Rattle.std.proofs.lemmas.List.{get_or-map}
 use Rattle.std.proofs.lemmas.List.Sums.{sum_by-cons}
+use Rattle.dbm_model.specs.Bounds.{V1}
 use Rattle.page_model.specs.Address.{address, hash_of}
 use Rattle.page_model.specs.Numbers.{IsNumber}
 use Rattle.page_model.specs.Pages.{Meta, Body}
@@ -123,11 +124,11 @@ module _ (at : ℕ → Body) (m : Meta) (space : FreeState) (p : Placement)
     below = removals_placements at at' space space' p key mid.sound mid.below becomes;
     shape_is = mid.shape_is;
     segments_are = mid.segments_are;
-    limit_is = mid.limit_is;
+    bounds_are = mid.bounds_are;
   }
 
   -- a pair whose key is nowhere, put into its chain
-  pub midway_put : (at' : ℕ → Body) (space' : FreeState) (pair : Pair) → IsAllowed pair
+  pub midway_put : (at' : ℕ → Body) (space' : FreeState) (pair : Pair) → IsAllowed V1 pair
       → value_in pair.0 (pairs_of p) ≡ None
       → BecomesPlaced at at' space' (put_in (placed_for p pair.0) pair)
       → IsMidway at' m space' (put p pair)
@@ -138,7 +139,7 @@ module _ (at : ℕ → Body) (m : Meta) (space : FreeState) (p : Placement)
         below = puts_placements at at' space space' p pair mid.sound sound mid.below becomes;
         shape_is = mid.shape_is;
         segments_are = mid.segments_are;
-        limit_is = mid.limit_is;
+        bounds_are = mid.bounds_are;
       }
 
 -- a delete keeps the head page of the key's bucket

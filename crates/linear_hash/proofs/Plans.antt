@@ -1,6 +1,7 @@
 -- What a change of a file that holds a map is to leave.
 use Rattle.std.proofs.Common.{◌≡◌, ◌∙◌, ℕ, ◌<◌, ◌≤◌, Bool, false, Option, is_some, List, sym, ap, subst, arith}
 use Rattle.std.specs.FinMap.{get, insert, remove}
+use Rattle.dbm_model.specs.Bounds.{Version, V1, Bounds}
 use Rattle.dbm_model.specs.Sizes.{home}
 use Rattle.page_model.specs.Pages.{Meta}
 use Rattle.dbm_model.specs.Pairs.{Key, Pair, Contents, IsAllowed}
@@ -21,10 +22,11 @@ module _ {S : Type 0} (s : Ghosts S) (old : S) (m : Meta) (map : Contents)
   was_placed key was is = is ∙ ap (λ (c : Contents). is_some (get c key))
       (sym (map_placed s old m map holds))
 
-  pub may_store : (pair : Pair) (was : Bool) → IsAllowed pair → HasBytes pair
-      → was ≡ is_some (get map pair.0) → (was ≡ false → m.pairs < m.limit) → MayStore now pair
+  pub may_store : (pair : Pair) (was : Bool) → IsAllowed V1 pair → HasBytes pair
+      → was ≡ is_some (get map pair.0) → (was ≡ false → m.pairs < m.bounds.limit)
+      → MayStore now pair
   may_store pair was small bytes is room = record {
-    allowed = small;
+    allowed = subst (λ (v : Version). IsAllowed v pair) (sym holds.stands.good.first) small;
     bytes = bytes;
     room = λ none.
         let new : was ≡ false = was_placed pair.0 was is
@@ -34,7 +36,7 @@ module _ {S : Type 0} (s : Ghosts S) (old : S) (m : Meta) (map : Contents)
           room new,
           counts_keys now holds.stands.good.sound,
           ap (λ (n : Meta). n.pairs) (meta_held s old m map holds),
-          ap (λ (n : Meta). n.limit) (meta_held s old m map holds),
+          ap (λ (n : Meta). n.bounds.limit) (meta_held s old m map holds),
         );
   }
 
@@ -46,13 +48,13 @@ module _ {S : Type 0} (s : Ghosts S) (old : S) (m : Meta) (map : Contents)
   stored_map pair may = (store_stays_good now pair holds.stands.good may).1
       ∙ ap (λ (c : Contents). insert c pair.0 pair.1) (map_placed s old m map holds)
 
-  -- it has no more pages than a database of the limit needs
+  -- it has no more pages than a database of the bounds needs
   pub stored_bounded : (pair : Pair) → MayStore now pair
-      → (store now pair).space.end ≤ home m.limit
+      → (store now pair).space.end ≤ home m.bounds
   stored_bounded pair may =
       let stays = store_stays_good now pair holds.stands.good may in
-      subst (λ (limit : ℕ). (store now pair).space.end ≤ home limit)
-      (stays.2 ∙ sym (ap (λ (n : Meta). n.limit) (meta_held s old m map holds))) stays.0.bounded
+      subst (λ (bounds : Bounds). (store now pair).space.end ≤ home bounds)
+      (stays.2 ∙ sym (ap (λ (n : Meta). n.bounds) (meta_held s old m map holds))) stays.0.bounded
 
   pub deleted_good : (key : Key) → IsGood (delete now key)
   deleted_good key = (delete_stays_good now key holds.stands.good).0
@@ -61,8 +63,8 @@ module _ {S : Type 0} (s : Ghosts S) (old : S) (m : Meta) (map : Contents)
   deleted_map key = (delete_stays_good now key holds.stands.good).1
       ∙ ap (λ (c : Contents). remove c key) (map_placed s old m map holds)
 
-  pub deleted_bounded : (key : Key) → (delete now key).space.end ≤ home m.limit
+  pub deleted_bounded : (key : Key) → (delete now key).space.end ≤ home m.bounds
   deleted_bounded key =
       let stays = delete_stays_good now key holds.stands.good in
-      subst (λ (limit : ℕ). (delete now key).space.end ≤ home limit)
-      (stays.2 ∙ sym (ap (λ (n : Meta). n.limit) (meta_held s old m map holds))) stays.0.bounded
+      subst (λ (bounds : Bounds). (delete now key).space.end ≤ home bounds)
+      (stays.2 ∙ sym (ap (λ (n : Meta). n.bounds) (meta_held s old m map holds))) stays.0.bounded

@@ -147,10 +147,10 @@ kept_segments (x ∷ pairs) q = kept_segments pairs (put q x)
 pub midway_split : (at0 at1 at : ℕ → Body) (m m1 m' : Meta) (space0 space1 space : FreeState)
     (p : Placement) (b n : ℕ) → IsMidway at0 m space0 p → AddsSegment m m1 b
     → IsBucketOpened at1 m1 space1 p n → IsBelow at space (split p)
-    → shape_in m' ≡ grown (shape_in m1) → m'.segments ≡ m1.segments → m'.limit ≡ m1.limit
+    → shape_in m' ≡ grown (shape_in m1) → m'.segments ≡ m1.segments → m'.bounds ≡ m1.bounds
     → IsMidway at m' space (split p)
 midway_split at0 at1 at m m1 m' space0 space1 space p b n midway added now below shape
-    segments limit =
+    segments bounds =
     let pairs = pairs_in (chain_at p p.shape.split) in
     record {
       sound = (split_keeps p midway.sound).0;
@@ -158,8 +158,8 @@ midway_split at0 at1 at m m1 m' space0 space1 space p b n midway added now below
       shape_is = shape ∙ ap grown (ap shape_in added.rest ∙ midway.shape_is)
           ∙ sym (kept_shape pairs (opened p));
       segments_are = segments ∙ now.segments_are ∙ sym (kept_segments pairs (opened p));
-      limit_is = limit ∙ ap (λ (x : Meta). x.limit) added.rest ∙ midway.limit_is
-          ∙ sym (split_filled p midway.sound).limit;
+      bounds_are = bounds ∙ ap (λ (x : Meta). x.bounds) added.rest ∙ midway.bounds_are
+          ∙ sym (split_filled p midway.sound).bounds_are;
     }
 
 -- one bucket more, where at most a segment was added and then the shape grew

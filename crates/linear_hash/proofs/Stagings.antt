@@ -27,7 +27,7 @@ table_midway at m end p table = record {
   };
   shape_is = ap shape_in table.meta_is;
   segments_are = ap (λ (n : Meta). n.segments) table.meta_is;
-  limit_is = ap (λ (n : Meta). n.limit) table.meta_is;
+  bounds_are = ap (λ (n : Meta). n.bounds) table.meta_is;
 }
 
 module _ (at : ℕ → Body) (m : Meta) (space : FreeState) (p : Placement)
@@ -35,7 +35,7 @@ module _ (at : ℕ → Body) (m : Meta) (space : FreeState) (p : Placement)
   -- what is kept is what the placement's meta page says
   meta_is : record m { free_head = space.head; free_count = space.count } ≡ meta_of p
   meta_is = λ i. record {
-    limit = mid.limit_is i;
+    bounds = mid.bounds_are i;
     pairs = counted i;
     level = (mid.shape_is i).level;
     split = (mid.shape_is i).split;
@@ -81,7 +81,7 @@ midway_pairs at m space p pairs mid =
       shape_is = mid.shape_is;
       segments_are =
           mid.segments_are;
-      limit_is = mid.limit_is;
+      bounds_are = mid.bounds_are;
     }
 
 -- a deleted key leaves one pair less

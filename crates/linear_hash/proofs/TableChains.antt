@@ -5,6 +5,7 @@ use Rattle.page_model.specs.Pages.{Meta, Body}
 use Rattle.page_model.specs.Chain.{numbers}
 use Rattle.page_model.specs.Placement.{Placement, chain_at}
 use Rattle.page_model.specs.PageBodies.{first_of, heads_of}
+use Rattle.page_model.proofs.Bounds.{home_of_first}
 use Rattle.page_io.specs.Store.{StoreState}
 use Rattle.page_io.specs.Views.{body_at, ReadsOnly}
 use Rattle.page_io.specs.declared.store.PageStore.{Ghosts}
@@ -27,7 +28,12 @@ module _ (at : ℕ → Body) (m : Meta) (end : ℕ) (p : Placement) (table : IsT
       → head ≡ get_or (heads_of p.chains) bucket 0 → IsChainAt at end head (chain_at p bucket)
   bucket_chain_there bucket head below head_is =
       let sound = table.good.sound in
-      let used = used_segments p sound (omega (arith, table.good.bounded, table.good.limited)) in
+      let used = used_segments p sound (omega (
+        arith,
+        home_of_first p.bounds table.good.first,
+        table.good.bounded,
+        table.good.limited,
+      )) in
       let first : head ≡ first_of (numbers (chain_at p bucket)) =
       head_is ∙ (heads_read at p sound used table.are_read).each bucket below in
       let there = chains_placed at (state_of p.space) p bucket sound

@@ -59,11 +59,11 @@ module _ {S : Type 0} (s : Ghosts S) (store : S) where
         ∙ ap (λ (n : Meta). n.pairs) (sym meta_held)
 
     -- and they are no more than its limit
-    pub within_limit : len map ≤ m.limit
+    pub within_limit : len map ≤ m.bounds.limit
     within_limit = omega (
       arith,
       counted,
       ap (λ (n : Meta). n.pairs) meta_held,
-      ap (λ (n : Meta). n.limit) meta_held,
+      ap (λ (n : Meta). n.bounds.limit) meta_held,
       h.stands.good.few_pairs,
     )

@@ -132,7 +132,7 @@ module _ (Change : (ℕ → Body) → FreeState → Type 0) (mid new : ℕ → B
   pub written_last : (before : Meta) → counted ≡ record before { pairs = counted.pairs }
       → IsWritten Change new before after end
   written_last before count = written_so before (λ i. record {
-    limit = (ap (λ (m : Meta). m.limit) free ∙ ap (λ (m : Meta). m.limit) count) i;
+    bounds = (ap (λ (m : Meta). m.bounds) free ∙ ap (λ (m : Meta). m.bounds) count) i;
     pairs = after.pairs;
     level = (ap (λ (m : Meta). m.level) free ∙ ap (λ (m : Meta). m.level) count) i;
     split = (ap (λ (m : Meta). m.split) free ∙ ap (λ (m : Meta). m.split) count) i;
@@ -142,10 +142,10 @@ module _ (Change : (ℕ → Body) → FreeState → Type 0) (mid new : ℕ → B
   })
 
   -- or the shape and the segments too
-  pub written_shaped : (before : Meta) → counted.limit ≡ before.limit
+  pub written_shaped : (before : Meta) → counted.bounds ≡ before.bounds
       → IsWritten Change new (shaped_as before after) after end
-  written_shaped before limit = written_so (shaped_as before after) (λ i. record {
-    limit = (ap (λ (m : Meta). m.limit) free ∙ limit) i;
+  written_shaped before bounds = written_so (shaped_as before after) (λ i. record {
+    bounds = (ap (λ (m : Meta). m.bounds) free ∙ bounds) i;
     pairs = after.pairs;
     level = after.level;
     split = after.split;

@@ -1,5 +1,6 @@
 -- What a store of pages holds, and what a change of it leaves.
 use Rattle.std.specs.Prelude.{◌≡◌, ◌⊎◌, ◌↔◌, ◌+◌, ◌*◌, ◌<◌, ◌≤◌, ℕ, true, Result, OnOk, OnErr, IfErr, IsErrOf}
+use Rattle.dbm_model.specs.Bounds.{Bounds}
 use Rattle.sect_dev.specs.Device.{LeavesOnly}
 use Rattle.dbm_model.specs.Pairs.{Contents}
 use Rattle.dbm_model.specs.Sizes.{home}
@@ -15,9 +16,9 @@ use Rattle.page_commit.specs.Committing.{Holds, IsForgotten}
 use Rattle.linear_hash.specs.Staging.{IsChangeAnswer}
 
 -- an image stands for one of two maps
-abbrev pub StandsForEither : Contents → Contents → ℕ → Settled → Type 0
-StandsForEither old new limit settled =
-    ImageStandsFor settled old limit ⊎ ImageStandsFor settled new limit
+abbrev pub StandsForEither : Contents → Contents → Bounds → Settled → Type 0
+StandsForEither old new bounds settled =
+    ImageStandsFor settled old bounds ⊎ ImageStandsFor settled new bounds
 
 -- How a change ends on any device, where `before` and `after` are kept of the meta page: it is
 -- done, or refused with nothing changed, but that a fault of the device may break the store.
@@ -29,13 +30,13 @@ pub record IsEnded {S : Type 0} (s : Ghosts S) (old new : S) (before after : Met
   pub kept : s.honest old
       → OnErr result ((s.state new).usable ≡ true → s.committed new ≡ s.committed old)
   pub valid : IsMeta after
-  pub limit : after.limit ≡ before.limit
+  pub bounds : after.bounds ≡ before.bounds
   pub cause : HasDeviceCause (s.faults old) (s.faults new) result
   pub honesty : s.honest new ↔ s.honest old
   pub answer : IsChangeAnswer (s.state old) result
 
 -- What it makes of a file that stood for the map: it stands for the changed one, with at most so
--- many pages more and no more than a database of the limit needs, or is as it was, and at every
+-- many pages more and no more than a database of the bounds needs, or is as it was, and at every
 -- moment for one of the two. It lacks no room on a device for twice as many pages as such a
 -- database needs, nor on one for twice as many as the file then might have.
 pub record ChangesMap {S : Type 0} (s : Ghosts S) (old new : S) (before after : Meta)
@@ -43,14 +44,14 @@ pub record ChangesMap {S : Type 0} (s : Ghosts S) (old new : S) (before after : 
   pub done : OnOk result (Holds s new after changed)
   pub kept : OnErr result ((s.state new).usable ≡ true → s.committed new ≡ s.committed old)
   pub any_moment : LeavesOnly s.moment s.settled_since old new
-      (StandsForEither map changed before.limit)
+      (StandsForEither map changed before.bounds)
   pub unchanged : OnErr result ((s.state new).usable ≡ true
       → LeavesOnly s.moment s.settled_since old new
-      (λ settled. ImageStandsFor settled map before.limit))
+      (λ settled. ImageStandsFor settled map before.bounds))
   pub whole : IsErrOf result Damaged → ⊥
   pub grows : OnOk result (((s.state old).end ≤ (s.state new).end)
       × ((s.state new).end ≤ (s.state old).end + most))
-  pub bounded : OnOk result ((s.state new).end ≤ home before.limit)
+  pub bounded : OnOk result ((s.state new).end ≤ home before.bounds)
   pub no_room : IsErrOf result NoRoom
-      → ((s.state old).capacity < 2 * home before.limit)
+      → ((s.state old).capacity < 2 * home before.bounds)
       × ((s.state old).capacity < 2 * ((s.state old).end + before.pairs) + 8)

@@ -22,7 +22,7 @@ pub record IsMidway (at : ℕ → Body) (m : Meta) (space : FreeState) (p : Plac
   pub below : IsBelow at space p
   pub shape_is : shape_in m ≡ p.shape
   pub segments_are : m.segments ≡ p.segments
-  pub limit_is : m.limit ≡ p.limit
+  pub bounds_are : m.bounds ≡ p.bounds
 
 -- a change may be refused so
 pub record IsChangeAnswer {T : Type 0} (state : StoreState)

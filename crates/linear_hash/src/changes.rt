@@ -2,6 +2,7 @@
 
 ghost use Rattle.std.specs.Prelude.{◌≡◌, ◌↔◌, ◌+◌, ◌<◌, [], true, false, is_some, IfErr, OnOk, OnErr, IsErrOf, if◌then◌else◌};
 ghost use Rattle.std.specs.FinMap.{get, insert, remove};
+ghost use Rattle.dbm_model.specs.Bounds.{V1};
 ghost use Rattle.dbm_model.specs.Pairs.{Contents, IsAllowed};
 ghost use Rattle.page_model.specs.Valid.{IsMeta};
 ghost use Rattle.page_io.specs.Answers.{HasDeviceCause};
@@ -30,7 +31,7 @@ fn commit_store<S: PageStore>(
     content: &[u8],
     was_there: bool,
 ) -> Result<(), PageFault>
-    requires allowed { IsAllowed (key.now, content.now) }
+    requires allowed { IsAllowed V1 (key.now, content.now) }
     requires idle { (S.state store.old).staged ≡ [] }
     requires writable { (S.state store.old).writable ≡ true }
     requires valid { IsMeta (model_meta meta.old) }
@@ -75,7 +76,7 @@ pub fn store_pair<S: PageStore>(
     content: &[u8],
     was_there: bool,
 ) -> Result<(), PageFault>
-    requires allowed { IsAllowed (key.now, content.now) }
+    requires allowed { IsAllowed V1 (key.now, content.now) }
     requires idle { (S.state store.old).staged ≡ [] }
     requires writable { (S.state store.old).writable ≡ true }
     requires valid { IsMeta (model_meta meta.old) }

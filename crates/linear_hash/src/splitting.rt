@@ -1,6 +1,7 @@
 //! One bucket more (Litwin 1980).
 
 ghost use Rattle.std.specs.Prelude.{◌≡◌, ◌+◌, ◌*◌, ◌^◌, ◌<◌, ◌≤◌, All, OnOk, IfOk, IsErrOf, length, map};
+ghost use Rattle.dbm_model.specs.Bounds.{V1};
 ghost use Rattle.dbm_model.specs.Pairs.{IsAllowed};
 ghost use Rattle.page_model.specs.Chain.{numbers};
 ghost use Rattle.page_model.specs.Placement.{Placement, pairs_of, chain_at, opened, split};
@@ -134,7 +135,7 @@ fn refill<S: PageStore>(
     new_head: u32,
     pairs: &[Pair],
 ) -> Result<(), PageFault>
-    requires { All (λ pair. IsAllowed (pair_of pair)) pairs.now }
+    requires { All (λ pair. IsAllowed V1 (pair_of pair)) pairs.now }
     ensures stages { StagesOnly S.PageStore store.old store.new }
     ensures cause { HasDeviceCause (S.faults store.old) (S.faults store.new) result }
     ensures answer { IsChangeAnswer (S.state store.old) result }

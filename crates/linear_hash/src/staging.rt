@@ -2,6 +2,7 @@
 
 ghost use Rattle.std.specs.Prelude.{◌≡◌, ◌+◌, ◌-◌, ◌*◌, ◌<◌, ◌≤◌, ℕ, [], true, false, is_some, IfOk, OnOk, IsErrOf, length, nat_lt, if◌then◌else◌};
 ghost use Rattle.std.specs.FinMap.{get};
+ghost use Rattle.dbm_model.specs.Bounds.{V1};
 ghost use Rattle.dbm_model.specs.Pairs.{IsAllowed};
 ghost use Rattle.page_model.specs.PairLists.{times};
 ghost use Rattle.page_model.specs.Chain.{pairs_in};
@@ -86,7 +87,7 @@ fn replace_pair<S: PageStore>(
     content: &[u8],
     was_there: bool,
 ) -> Result<(), PageFault>
-    requires allowed { IsAllowed (key.now, content.now) }
+    requires allowed { IsAllowed V1 (key.now, content.now) }
     requires valid { IsMeta (model_meta meta.now) }
     ensures stages { StagesOnly S.PageStore store.old store.new }
     ensures few { length (S.state store.new).staged ≤ length (S.state store.old).staged + 4 }
@@ -218,7 +219,7 @@ pub fn stage_store<S: PageStore>(
     content: &[u8],
     was_there: bool,
 ) -> Result<u32, PageFault>
-    requires allowed { IsAllowed (key.now, content.now) }
+    requires allowed { IsAllowed V1 (key.now, content.now) }
     requires idle { (S.state store.old).staged ≡ [] }
     requires valid { IsMeta (model_meta meta.old) }
     requires room { was_there ≡ false → meta.old.pairs < meta.old.limit }

@@ -32,7 +32,7 @@ pub record Clears (status : ℤ) (old new : Opened) : Type 0 where
 -- the numbers of the meta page, and of the file
 pub record HasNumbers (opened : Opened) (numbers : Numbers) : Type 0 where
   pub pairs : numbers.pairs ≡ (meta_kept opened.db).pairs
-  pub limit : numbers.limit ≡ (meta_kept opened.db).limit
+  pub limit : numbers.limit ≡ (meta_kept opened.db).bounds.limit
   pub buckets : numbers.buckets ≡ meta_buckets (meta_kept opened.db)
   pub level : numbers.level ≡ (meta_kept opened.db).level
   pub split : numbers.split ≡ (meta_kept opened.db).split

@@ -1,5 +1,6 @@
 -- A device over a file that C serves, and the database on it.
 use Rattle.std.specs.Prelude.{◌≡◌, ◌≢◌, ◌⊎◌, ◌/◌, ℕ, ℤ, pos, true, false, if◌then◌else◌, [], Option, Some, None}
+use Rattle.dbm_model.specs.Bounds.{Bounds}
 use Rattle.sect_dev.specs.Device.{IsStable, LeavesOnly, MoreFaults}
 use Rattle.sect_dev.specs.Moments.{IsOutcome}
 use Rattle.sect_dev.specs.Reads.{OnlyReads}
@@ -53,8 +54,8 @@ pub record IsOpening (how : OpenHow) (dev : ListedDev) (opened : Opened) : Type 
   pub fresh : IsNewlyOpened (writes how.access) (served.sectors dev / 4) opened.db
   pub stands : (writes how.access ≡ false → IsStable (served.candidate dev) (served.seen dev))
       → AllStand (served.sectors dev / 4) (served.candidate dev)
-      → (map : Contents) × (limit : ℕ) × IsOpenedAt (writes how.access) opened.db map limit
-      × IsOpened how (served.sectors dev) (served.candidate dev) map limit
+      → (map : Contents) × (bounds : Bounds) × IsOpenedAt (writes how.access) opened.db map bounds
+      × IsOpened how (served.sectors dev) (served.candidate dev) map bounds
   pub any_moment : LeavesOnly served.moment
       (IsOutcome served.left_since (settled (served.sectors dev / 4))) dev
       (device_below opened.db) (MayRemain how (served.sectors dev) (served.candidate dev))

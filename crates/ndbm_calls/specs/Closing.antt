@@ -31,7 +31,7 @@ pub record Closes {D : Type 0} (bound : device.Ghosts D) {p : store.Ghosts (Page
   -- every image that is left now stands for the map
   pub stands : bound.honest left → (h : Handle) → IsAt db h → h.state.usable ≡ true
       → (image : Image) → IsImageOf (bound.candidate left) image
-      → ImageStandsFor (settled (bound.sectors left / 4) image) h.state.map h.state.limit
+      → ImageStandsFor (settled (bound.sectors left / 4) image) h.state.map h.state.bounds
   -- where it was opened for writing, all is in its place and on the disk
   pub rests : bound.honest left → (page_state db).writable ≡ true → status ≡ pos 0
       → IsAtRest (bound.sectors left / 4) (page_state db).end (bound.candidate left) (bound.seen left)

@@ -1,6 +1,6 @@
 -- What a status tells C.
 use Rattle.std.specs.Prelude.{◌≡◌, ◌⊎◌, ℕ, ℤ, pos, neg_ℤ, List, Result, Ok, Err}
-use Rattle.dbm_model.specs.Calls.{Call, Reply, Fault, number_of, Stored, Kept, Deleted, Absent, Bytes, NoRecord, End, Number, Refused}
+use Rattle.dbm_model.specs.Calls.{Call, Reply, Fault, number_of, Stored, Kept, Deleted, Absent, Bytes, NoRecord, End, Number, Upgraded, Refused}
 use Rattle.dbm_model.specs.States.{Handle}
 use Rattle.page_io.specs.declared.store.PageStore.{Ghosts}
 use Rattle.dbm_fault.specs.Faults.{fault_of}
@@ -23,6 +23,7 @@ status_of (Bytes bytes) = pos 0
 status_of NoRecord = pos 1
 status_of End = pos 1
 status_of (Number number) = pos number
+status_of Upgraded = pos 0
 status_of (Refused fault) = refusal_of fault
 
 -- the bytes that a reply has are these

@@ -19,7 +19,7 @@ pub record MayCommit (state : StoreState) (end : ℕ) : Type 0 where
 
 -- the committed pages stand for the map, and the meta page says what is kept of it
 pub record Holds {S : Type 0} (s : Ghosts S) (store : S) (m : Meta) (map : Contents) : Type 0 where
-  pub stands : FileStandsFor (s.committed store) map m.limit
+  pub stands : FileStandsFor (s.committed store) map m.bounds
   pub meta_is : said_by (page_of (s.committed store)) 1 ≡ MetaPage m
 
 -- what was staged is forgotten, and the store broken where the device was the cause of the fault in

@@ -17,10 +17,10 @@ use Rattle.page_io.specs.Meaning.{ImagesHaveOneMeaning, CommitsStand}
 use Rattle.page_io.proofs.Overlays.{page_of-file}
 
 pub one_meaning : ImagesHaveOneMeaning
-one_meaning blank m n limit other s t = absurd s
-one_meaning (file_of pages) m n limit other s t =
-    pages_one_meaning (page_of pages) (length pages + 1) m n limit other s t
-one_meaning nothing m n limit other s t = absurd s
+one_meaning blank m n bounds other s t = absurd s
+one_meaning (file_of pages) m n bounds other s t =
+    pages_one_meaning (page_of pages) (length pages + 1) m n bounds other s t
+one_meaning nothing m n bounds other s t = absurd s
 
 -- a page of the file is from 1 to end - 1
 is_within : (n end : ℕ) → 1 ≤ cond {A = ℕ} (is_page n end) 1 0 → (1 ≤ n) × (n < end)
@@ -51,7 +51,7 @@ commits pages staged p good spelled =
       good = good;
       spelled = read;
       ends = ends;
-      limited = refl;
+      bounded = refl;
       holds = ap (λ (k : ℕ). contents_of (flat_pairs (said_by (page_of new)) k)) (sym ends)
           ∙ flat_is_contents p (said_by (page_of new)) good.sound read;
     }

@@ -2,7 +2,7 @@
 
 ghost use Rattle.page_io.specs.Meaning.{ImagesHaveOneMeaning, CommitsStand};
 
-/// An image stands for one map and one limit at most.
+/// An image stands for one map at most, and its bounds.
 pub fn images_have_one_meaning()
     ensures { ImagesHaveOneMeaning }
 {}

@@ -3,6 +3,7 @@ use Rattle.std.proofs.Common.{◌≡◌, ℕ, suc, ◌+◌, ◌^◌, ◌<◌, �
 use Rattle.std.specs.List.{AllByRecursion}
 use Rattle.std.proofs.lemmas.Bool.{ltb-true, ltb-false}
 use Rattle.std.proofs.Math.Pow.{pow_mono}
+use Rattle.dbm_model.specs.Bounds.{Version, V1, Bounds, in_v1}
 use Rattle.dbm_model.specs.Pairs.{Pair}
 use Rattle.page_model.specs.Chain.{Chain, numbers, pairs_in, has_room, IsChain}
 use Rattle.page_model.specs.Space.{Space, next_page, after_take, give, IsExact}
@@ -37,9 +38,14 @@ pages_of_chains (chain ∷ rest) h =
     let b = length-append (pairs_in chain) (flat_map pairs_in rest) in
     omega arith
 
+-- the pages of bounds of version 1
+pub home_of_first : (bounds : Bounds) → bounds.version ≡ V1 → home bounds ≡ home (in_v1 bounds.limit)
+home_of_first bounds first =
+    ap (λ (v : Version). home (record { limit = bounds.limit; version = v })) first
+
 -- what is in use is below the home of the limit
 pub in_use_below : (p : Placement) → IsSound p → (limit : ℕ) → length p.chains ≤ buckets_for limit
-    → length (pairs_of p) ≤ limit → length (in_use p) + 1 ≤ home limit
+    → length (pairs_of p) ≤ limit → length (in_use p) + 1 ≤ home (in_v1 limit)
 in_use_below p h limit few small =
     let a = pages_of_chains p.chains (λ j l. (h.in_place j l).0) in
     let b = length-append (1 ∷ p.segments) (flat_map numbers p.chains) in
@@ -73,18 +79,18 @@ length-put p h pair = length-sum_by (pairs_of (put p pair)) ∙ sum_by-put p h p
 
 pub end_filled : (pairs : List Pair) (p : Placement) (limit : ℕ) → CanFill p pairs
     → length (pairs_of p) + length pairs ≤ limit → length p.chains ≤ buckets_for limit
-    → p.space.end ≤ home limit → (fold put p pairs).space.end ≤ home limit
+    → p.space.end ≤ home (in_v1 limit) → (fold put p pairs).space.end ≤ home (in_v1 limit)
 end_filled [] p limit h few small l = l
 end_filled (x ∷ pairs) p limit h few small l =
     let next = can_fill_rest x pairs p h in
     let many = length-put p h.sound x in
     let same : length (put p x).chains ≡ length p.chains = length-set p.chains _ _ in
     end_filled pairs (put p x) limit next (omega arith) (omega arith)
-    (end_after_put p x (home limit) next.sound l
+    (end_after_put p x (home (in_v1 limit)) next.sound l
     (in_use_below (put p x) next.sound limit (omega arith) (omega arith)))
 
 pub end_opened : (p : Placement) → IsSound p → (limit : ℕ) → length p.chains + 1 ≤ buckets_for limit
-    → length (pairs_of p) ≤ limit → p.space.end ≤ home limit → (opened p).space.end ≤ home limit
+    → length (pairs_of p) ≤ limit → p.space.end ≤ home (in_v1 limit) → (opened p).space.end ≤ home (in_v1 limit)
 end_opened p h limit few small l =
     let given = give (drop 1 (numbers (chain_at p p.shape.split))) p.space in
     let sound = opened_sound p h in
@@ -99,18 +105,18 @@ end_opened p h limit few small l =
     (cond (opens_segment p) (next_page (after_take given) ∷ []) []) in
     let c = length-append (1 ∷ p.segments) (flat_map numbers (opened p).chains) in
     let d = length-append (1 ∷ (opened p).segments) (flat_map numbers (opened p).chains) in
-    let headed : (after_take given).end ≤ home limit =
-    end_after_take (1 ∷ p.segments ++ flat_map numbers (opened p).chains) given (home limit)
+    let headed : (after_take given).end ≤ home (in_v1 limit) =
+    end_after_take (1 ∷ p.segments ++ flat_map numbers (opened p).chains) given (home (in_v1 limit))
     (headed_pages p h) l (omega arith) in
     elim (opens_segment p) as (λ b.
     IsExact (in_use (opened p)) (cond b (after_take (after_take given)) (after_take given))
-    → (cond b (after_take (after_take given)) (after_take given)).end ≤ home limit) [
-      | true ↦ λ e. end_after_take (in_use (opened p)) (after_take given) (home limit) e headed room
+    → (cond b (after_take (after_take given)) (after_take given)).end ≤ home (in_v1 limit)) [
+      | true ↦ λ e. end_after_take (in_use (opened p)) (after_take given) (home (in_v1 limit)) e headed room
       | false ↦ λ e. headed
     ] sound.pages
 
 pub end_split : (p : Placement) → IsSound p → (limit : ℕ) → length p.chains + 1 ≤ buckets_for limit
-    → length (pairs_of p) ≤ limit → p.space.end ≤ home limit → (split p).space.end ≤ home limit
+    → length (pairs_of p) ≤ limit → p.space.end ≤ home (in_v1 limit) → (split p).space.end ≤ home (in_v1 limit)
 end_split p h limit few small l =
     let chain = pairs_in (chain_at p p.shape.split) in
     let sums = sum_by-opened p h (λ _. 1) in

@@ -6,6 +6,7 @@ use Rattle.std.specs.Option.{option_or}
 use Rattle.std.proofs.lemmas.List.Sums.{sum_by-append, sum_by-cons, sum_by_push}
 use Rattle.std.proofs.lemmas.List.Filters.{sum_by-filter_both}
 use Rattle.std.proofs.lemmas.List.Elements.{filter-append}
+use Rattle.dbm_model.specs.Bounds.{V1}
 use Rattle.dbm_model.specs.Pairs.{Key, Pair, IsAllowed}
 use Rattle.page_model.specs.PairLists.{has_key, without}
 use Rattle.page_model.specs.Slots.{taken}
@@ -139,10 +140,11 @@ used-push : (pair : Pair) (leaf : Leaf) → used (push pair leaf) ≡ used leaf 
 used-push pair leaf = taken-sum_by (leaf.pairs ++ pair ∷ []) ∙ sum_by_push need leaf.pairs pair
     ∙ ap (λ n. n + need pair) (sym (taken-sum_by leaf.pairs))
 
-fits_add : (pair : Pair) (new : ℕ) (rest : Chain) → IsAllowed pair
+fits_add : (pair : Pair) (new : ℕ) (rest : Chain) → IsAllowed V1 pair
     → AllByRecursion (λ leaf. used leaf ≤ 2032) rest
     → AllByRecursion (λ leaf. used leaf ≤ 2032) (add pair new rest)
-fits_add pair new [] k h = (omega arith, tt)
+fits_add pair new [] k h =
+    (let near = leb-true (length pair.0 + length pair.1) 2026 k in omega arith, tt)
 fits_add pair new (leaf ∷ rest) k h =
     elim (fits pair leaf) as (λ b.
     fits pair leaf ≡ b → AllByRecursion (λ leaf. used leaf ≤ 2032)
@@ -167,7 +169,7 @@ full_add pair new (leaf ∷ rest) h =
       | false ↦ (h.0, full_add pair new rest h.1)
     ]
 
-pub IsChain-add : (pair : Pair) (new : ℕ) (chain : Chain) → IsAllowed pair → IsChain chain
+pub IsChain-add : (pair : Pair) (new : ℕ) (chain : Chain) → IsAllowed V1 pair → IsChain chain
     → IsChain (add pair new chain)
 IsChain-add pair new [] k h = absurd h
 IsChain-add pair new (head ∷ overflow) k h =

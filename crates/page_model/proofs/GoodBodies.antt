@@ -21,6 +21,7 @@ use Rattle.page_model.specs.Placement.{Placement, in_use, IsGood, IsSound}
 use Rattle.page_model.specs.PageBodies.{first_of, overflow_bodies, chain_bodies, free_bodies, segment_bodies, heads_of, meta_of, page_bodies}
 use Rattle.page_model.specs.Meaning.{said_by}
 use Rattle.page_model.specs.BodyLaws.{BodiesAreValid, PagesReadExactly}
+use Rattle.page_model.proofs.Bounds.{home_of_first}
 use Rattle.page_model.proofs.Numbers.{trimmed-is}
 use Rattle.page_model.proofs.Bodies.{body_is}
 use Rattle.page_model.proofs.Spaces.{times_head, times_tail}
@@ -183,7 +184,7 @@ chains_are p h = recursion_from_All IsChain p.chains
 
 -- the limit bounds the numbers of pages
 end_small : (p : Placement) → IsGood p → p.space.end ≤ 2 ^ 32
-end_small p h = omega (arith, h.bounded, h.limited.1)
+end_small p h = omega (arith, home_of_first p.bounds h.first, h.bounded, h.limited.1)
 
 meta_good : (p : Placement) → IsGood p → AllByRecursion IsPageNumber p.segments
     → AllByRecursion IsPageNumber p.space.free → IsMeta (meta_of p)

@@ -1,5 +1,6 @@
 -- What pages stand for.
 use Rattle.std.proofs.Common.{◌≡◌, ℕ, refl, sym, ap, ◌∙◌}
+use Rattle.dbm_model.specs.Bounds.{Bounds, in_v1}
 use Rattle.page_model.specs.Placement.{Placement, delete, store}
 use Rattle.page_model.specs.Pages.{Body}
 use Rattle.page_model.specs.PageBodies.{meta_of}
@@ -10,24 +11,24 @@ use Rattle.page_model.proofs.Flat.{flat_is_contents}
 use Rattle.page_model.proofs.Stores.{store_stays_good, delete_stays_good}
 use Rattle.page_model.proofs.GoodBodies.{pages_exactly}
 
-limit_on : ℕ → Body → ℕ
-limit_on other (MetaPage meta) = meta.limit
-limit_on other (SegmentPage heads) = other
-limit_on other (HeadPage next pairs) = other
-limit_on other (OverflowPage next pairs) = other
-limit_on other (FreePage next) = other
-limit_on other Other = other
+bounds_on : Bounds → Body → Bounds
+bounds_on other (MetaPage meta) = meta.bounds
+bounds_on other (SegmentPage heads) = other
+bounds_on other (HeadPage next pairs) = other
+bounds_on other (OverflowPage next pairs) = other
+bounds_on other (FreePage next) = other
+bounds_on other Other = other
 
-limit_read : (at : ℕ → Body) (p : Placement) → at 1 ≡ MetaPage (meta_of p)
-    → limit_on 0 (at 1) ≡ p.limit
-unfolding limit_on
-limit_read at p e = ap (limit_on 0) e
+bounds_read : (at : ℕ → Body) (p : Placement) → at 1 ≡ MetaPage (meta_of p)
+    → bounds_on (in_v1 0) (at 1) ≡ p.bounds
+unfolding bounds_on
+bounds_read at p e = ap (bounds_on (in_v1 0)) e
 
 pub one_meaning : OneMeaning
-one_meaning at end m n limit other s t = (
+one_meaning at end m n bounds other s t = (
   sym s.holds ∙ t.holds,
-  sym s.limited ∙ sym (limit_read at s.placement s.spelled.0)
-      ∙ limit_read at t.placement t.spelled.0 ∙ t.limited,
+  sym s.bounded ∙ sym (bounds_read at s.placement s.spelled.0)
+      ∙ bounds_read at t.placement t.spelled.0 ∙ t.bounded,
 )
 
 pub stored_stands : StoredStands
@@ -38,7 +39,7 @@ stored_stands p at pair g may spelled =
       good = all.0;
       spelled = spelled;
       ends = refl;
-      limited = all.2;
+      bounded = all.2;
       holds = flat_is_contents (store p pair) at all.0.sound spelled ∙ all.1;
     }
 
@@ -50,12 +51,13 @@ deleted_stands p at key g spelled =
       good = all.0;
       spelled = spelled;
       ends = refl;
-      limited = refl;
+      bounded = refl;
       holds = flat_is_contents (delete p key) at all.0.sound spelled ∙ all.1;
     }
 
 pub pages_one_meaning : PagesHaveOneMeaning
-pages_one_meaning page end m n limit other s t = one_meaning (said_by page) end m n limit other s t
+pages_one_meaning page end m n bounds other s t =
+    one_meaning (said_by page) end m n bounds other s t
 
 pub good_pages_stand : GoodPagesStand
 good_pages_stand page p g are =
@@ -65,6 +67,6 @@ good_pages_stand page p g are =
       good = g;
       spelled = read;
       ends = refl;
-      limited = refl;
+      bounded = refl;
       holds = flat_is_contents p (said_by page) g.sound read;
     }

@@ -6,11 +6,13 @@ use Rattle.std.specs.FinMap.{get-from_entries}
 use Rattle.std.specs.Cmp.{tied_itself}
 use Rattle.std.proofs.lemmas.Cmp.{nat_list_cmp_total}
 use Rattle.std.proofs.lemmas.List.Sums.{sum_by-cons}
-use Rattle.dbm_model.specs.Pairs.{Pair, key_cmp}
+use Rattle.dbm_model.specs.Bounds.{Version, V1}
+use Rattle.dbm_model.specs.Pairs.{Pair, key_cmp, IsAllowed}
 use Rattle.page_model.specs.PairLists.{has_key, HasBytes}
 use Rattle.page_model.specs.Placement.{pairs_of}
-use Rattle.page_model.specs.PlacementLaws.{MapHoldsBytes}
+use Rattle.page_model.specs.PlacementLaws.{MapHoldsBytes, MapIsAllowed}
 use Rattle.page_model.proofs.Places.{same_key}
+use Rattle.page_model.proofs.Splits.{pairs_allowed}
 use Rattle.page_model.proofs.Flat.{is_pair, pairs_like, found_counts}
 
 both_true : (a b : Bool) → (a && b) ≡ true → (a ≡ true) × (b ≡ true)
@@ -63,3 +65,10 @@ map_holds_bytes p key content g e =
     holds_of HasBytes (pairs_of p) g.bytes (key, content)
     (found_counts key content (pairs_of p)
     (sym (get-from_entries nat_list_cmp_total (pairs_of p) key) ∙ e))
+
+pub map_is_allowed : MapIsAllowed
+map_is_allowed p key content g e =
+    subst (λ (v : Version). IsAllowed v (key, content)) (sym g.first)
+    (holds_of (IsAllowed V1) (pairs_of p) (pairs_allowed p g.sound) (key, content)
+    (found_counts key content (pairs_of p)
+    (sym (get-from_entries nat_list_cmp_total (pairs_of p) key) ∙ e)))

@@ -1,14 +1,15 @@
 -- What is spelled as the meta page or as a segment page is read back.
-use Rattle.std.proofs.Common.{◌≡◌, ℕ, ◌-◌, ◌*◌, ◌/◌, ◌^◌, ◌≤◌, List, [], ◌++◌, length, replicate, drop, refl, sym, ap, ◌∙◌, arith, inl, inr, All}
+use Rattle.std.proofs.Common.{◌≡◌, ℕ, ◌-◌, ◌*◌, ◌/◌, ◌^◌, ◌≤◌, ◌<◌, List, [], ◌++◌, length, replicate, drop, refl, sym, ap, ◌∙◌, arith, inl, inr, All}
 use Rattle.std.proofs.lemmas.Bool.{cases_lt}
 use Rattle.std.proofs.Math.Pow.{pow_mono}
 use Rattle.std.proofs.lemmas.List.{append-nil, length-append, length-replicate}
 use Rattle.std.proofs.lemmas.List.Elements.{recursion_from_All}
+use Rattle.dbm_model.specs.Bounds.{Version, V1, V2, version_number}
 use Rattle.page_model.specs.Bytes.{u32_at}
 use Rattle.page_model.specs.Numbers.{IsNumber, numbers_bytes, numbers_at}
 use Rattle.page_model.specs.Pages.{Meta}
 use Rattle.page_model.specs.Spelling.{header, counts, meta_spelling, segment_spelling}
-use Rattle.page_model.specs.Reading.{trimmed, fields_of, heads_on}
+use Rattle.page_model.specs.Reading.{trimmed, version_of, fields_of, heads_on}
 use Rattle.page_model.specs.Valid.{IsMeta}
 use Rattle.page_model.proofs.Buckets.{four_is}
 use Rattle.page_model.proofs.Numbers.{length-numbers_bytes, numbers_bytes-append, numbers_bytes-zeros, numbers_again, with_zeros, trimmed-append_zeros}
@@ -29,14 +30,22 @@ few_segments m h = omega (arith, h.all_segments, h.few_buckets, h.limited.1)
 
 -- the numbers of a meta page, where they stand
 pub record Counts (bytes : List ℕ) (m : Meta) : Type 0 where
-  pub version : u32_at bytes 16 ≡ 1
-  pub limit : u32_at bytes 20 ≡ m.limit
+  pub version : u32_at bytes 16 ≡ version_number m.bounds.version
+  pub limit : u32_at bytes 20 ≡ m.bounds.limit
   pub pairs : u32_at bytes 24 ≡ m.pairs
   pub level : u32_at bytes 28 ≡ m.level
   pub split : u32_at bytes 32 ≡ m.split
   pub free_head : u32_at bytes 36 ≡ m.free_head
   pub free_count : u32_at bytes 40 ≡ m.free_count
   pub count : u32_at bytes 44 ≡ length m.segments
+
+number_small : (v : Version) → version_number v < 2 ^ 32
+number_small V1 = omega arith
+number_small V2 = omega arith
+
+version_again : (v : Version) → version_of (version_number v) ≡ v
+version_again V1 = refl
+version_again V2 = refl
 
 -- the numbers of a spelled meta page are read
 pub counts_again : (bytes rest : List ℕ) (m : Meta) → IsMeta m
@@ -45,8 +54,9 @@ counts_again bytes rest m h e =
     let few = few_segments m h in
     let small = level_small m h in
     record {
-      version = ap (λ (x : List ℕ). u32_at x 16) e;
-      limit = ap (λ (x : List ℕ). u32_at x 20) e ∙ four_is m.limit (omega (arith, h.limited.1));
+      version = ap (λ (x : List ℕ). u32_at x 16) e
+          ∙ four_is (version_number m.bounds.version) (number_small m.bounds.version);
+      limit = ap (λ (x : List ℕ). u32_at x 20) e ∙ four_is m.bounds.limit (omega (arith, h.limited.1));
       pairs = ap (λ (x : List ℕ). u32_at x 24) e
           ∙ four_is m.pairs (omega (arith, h.limited.1, h.few_pairs.0));
       level = ap (λ (x : List ℕ). u32_at x 28) e ∙ four_is m.level (omega arith);
@@ -68,9 +78,10 @@ fields_again bytes m h e =
     ap (numbers_at bytes 64) s.count
     ∙ numbers_again bytes zeros m.segments 64
     (recursion_from_All IsNumber m.segments (λ k d lt. (h.used k d lt).1)) (ap (drop 64) e) in
+    let version = ap version_of s.version ∙ version_again m.bounds.version in
     let limit = s.limit in let pairs = s.pairs in let level = s.level in let split = s.split in
     let free_head = s.free_head in let free_count = s.free_count in
-    rw (limit, pairs, level, split, free_head, free_count, segments) refl
+    rw (version, limit, pairs, level, split, free_head, free_count, segments) refl
 
 -- what a spelled segment page says
 pub heads_again : (bytes heads : List ℕ) (own : ℕ) → length heads ≤ 508 → All IsNumber heads

@@ -12,6 +12,7 @@ use Rattle.std.proofs.lemmas.List.{get_or_default}
 use Rattle.std.proofs.lemmas.List.Sums.{sum_by-append, sum_by-cons}
 use Rattle.std.proofs.lemmas.List.Filters.{sum_by-filter_both}
 use Rattle.std.proofs.lemmas.Bool.{cases_eq}
+use Rattle.dbm_model.specs.Bounds.{V1}
 use Rattle.page_model.specs.Address.{Shape, buckets, hash_of}
 use Rattle.dbm_model.specs.Pairs.{Key, Pair, Contents, key_cmp, IsAllowed}
 use Rattle.page_model.specs.PairLists.{has_key, times}
@@ -127,7 +128,7 @@ module _ (p : Placement) (h : IsSound p) where
         | false ↦ λ s. IsExact-take (in_use p) _ p.space (λ f. let e = s f in omega arith) h.pages
       ] sums
 
-  pub put_in_place : (pair : Pair) → IsAllowed pair → IsInPlace p.shape (put p pair).chains
+  pub put_in_place : (pair : Pair) → IsAllowed V1 pair → IsInPlace p.shape (put p pair).chains
   put_in_place pair small =
       let bucket = key_bucket p.shape pair.0 in
       let here = h.in_place bucket (bucket_below pair.0) in
@@ -136,7 +137,7 @@ module _ (p : Placement) (h : IsSound p) where
       (All-add (λ x. key_bucket p.shape x.0 ≡ bucket) pair (next_page p.space)
       (chain_at p bucket) refl here.1)
 
-  pub put_sound : (pair : Pair) → IsAllowed pair → value_in pair.0 (pairs_of p) ≡ None
+  pub put_sound : (pair : Pair) → IsAllowed V1 pair → value_in pair.0 (pairs_of p) ≡ None
       → IsSound (put p pair)
   put_sound pair small new = record {
     split_in = h.split_in;
@@ -156,7 +157,7 @@ module _ (p : Placement) (h : IsSound p) where
   }
 
   -- a look-up after it
-  pub value_in-put : (pair : Pair) → IsAllowed pair → value_in pair.0 (pairs_of p) ≡ None
+  pub value_in-put : (pair : Pair) → IsAllowed V1 pair → value_in pair.0 (pairs_of p) ≡ None
       → (q : Key) → value_in q (pairs_of (put p pair))
       ≡ cond (has_key q pair) (Some pair.1) (value_in q (pairs_of p))
   value_in-put pair small none q =
@@ -187,7 +188,7 @@ module _ (p : Placement) (h : IsSound p) where
       ] refl)
       (cases_eq (key_bucket p.shape q) bucket)
 
-  pub contents-put : (pair : Pair) → IsAllowed pair → value_in pair.0 (pairs_of p) ≡ None
+  pub contents-put : (pair : Pair) → IsAllowed V1 pair → value_in pair.0 (pairs_of p) ≡ None
       → contents (put p pair) ≡ insert (contents p) pair.0 pair.1
   contents-put pair small none = same_map nat_list_cmp_total keys_exact _ _ (λ q.
       get-from_entries nat_list_cmp_total (pairs_of (put p pair)) q ∙ value_in-put pair small none q
@@ -310,12 +311,12 @@ insert-remove m key content = same_map nat_list_cmp_total keys_exact _ _ (λ q.
     ≡ cond b (Some content) (get m q)) [ true ↦ refl | false ↦ refl ]
     ∙ sym (get-insert nat_list_cmp_total m key content q))
 
-pub replace_sound : (p : Placement) → IsSound p → (pair : Pair) → IsAllowed pair
+pub replace_sound : (p : Placement) → IsSound p → (pair : Pair) → IsAllowed V1 pair
     → IsSound (replace p pair)
 replace_sound p h pair small =
     put_sound (delete p pair.0) (delete_sound p h pair.0) pair small (deleted_finds_none p h pair.0)
 
-pub contents-replace : (p : Placement) → IsSound p → (pair : Pair) → IsAllowed pair
+pub contents-replace : (p : Placement) → IsSound p → (pair : Pair) → IsAllowed V1 pair
     → contents (replace p pair) ≡ insert (contents p) pair.0 pair.1
 contents-replace p h pair small =
     contents-put (delete p pair.0) (delete_sound p h pair.0) pair small

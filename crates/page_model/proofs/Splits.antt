@@ -9,7 +9,8 @@ use Rattle.std.proofs.lemmas.Cmp.{nat_list_cmp_total}
 use Rattle.std.proofs.lemmas.List.{get_or_append_left, get_or_push, append-nil}
 use Rattle.std.proofs.lemmas.List.Concat.{flat_map-append}
 use Rattle.std.proofs.lemmas.List.Sums.{sum_by-append, sum_by-cons, sum_by_push}
-use Rattle.std.proofs.lemmas.Bool.{cases_eq, eqb-true, eqb-false, ne_eqb}
+use Rattle.std.proofs.lemmas.Bool.{le-leb, cases_eq, eqb-true, eqb-false, ne_eqb}
+use Rattle.dbm_model.specs.Bounds.{V1}
 use Rattle.page_model.specs.Address.{Shape, address, buckets, grown, hash_of}
 use Rattle.dbm_model.specs.Pairs.{Key, Pair, IsAllowed}
 use Rattle.page_model.specs.PairLists.{has_key, times}
@@ -34,7 +35,7 @@ pub record IsFilled (p : Placement) (pairs : List Pair) (q : Placement) : Type 0
   pub values : (key : Key) → value_in key (pairs_of q)
       ≡ option_or (value_in key pairs) (value_in key (pairs_of p))
   pub chains : length q.chains ≡ length p.chains
-  pub limit : q.limit ≡ p.limit
+  pub bounds_are : q.bounds ≡ p.bounds
 
 pushed : {A : Type 0} (t : Bool) (x : A) (a b : Option A) → (t ≡ true → a ≡ None)
     → option_or a (cond t (Some x) b) ≡ option_or (cond t (Some x) a) b
@@ -45,7 +46,7 @@ pushed false x a b h = refl
 -- placement
 pub record CanFill (p : Placement) (pairs : List Pair) : Type 0 where
   pub sound : IsSound p
-  pub small : AllByRecursion IsAllowed pairs
+  pub small : AllByRecursion (IsAllowed V1) pairs
   pub once : (key : Key) → times key pairs + times key (pairs_of p) ≤ 1
 
 counts : (key : Key) (x : Pair) (pairs : List Pair)
@@ -84,7 +85,7 @@ filled [] p h = record {
   values = λ key. refl;
   chains =
       refl;
-  limit = refl;
+  bounds_are = refl;
 }
 filled (x ∷ pairs) p h =
     let rest = filled pairs (put p x) (can_fill_rest x pairs p h) in
@@ -98,7 +99,7 @@ filled (x ∷ pairs) p h =
           ∙ pushed (has_key key x) x.1 (value_in key pairs) (value_in key (pairs_of p))
           (later_absent x pairs p h key);
       chains = rest.chains ∙ length-set p.chains _ _;
-      limit = rest.limit;
+      bounds_are = rest.bounds_are;
     }
 
 -- ---- the placement with one bucket more
@@ -170,18 +171,19 @@ more_segments n k e =
     ] refl
 
 -- each pair of a page that fits is small
-small_in : (xs : List Pair) → taken xs ≤ 2032 → AllByRecursion IsAllowed xs
+small_in : (xs : List Pair) → taken xs ≤ 2032 → AllByRecursion (IsAllowed V1) xs
 small_in [] l = tt
-small_in (x ∷ xs) l = (omega arith, small_in xs (omega arith))
+small_in (x ∷ xs) l =
+    (le-leb (length x.0 + length x.1) 2026 (omega arith), small_in xs (omega arith))
 
 small_in_leaves : (leaves : Chain) → AllByRecursion (λ leaf. used leaf ≤ 2032) leaves
-    → AllByRecursion IsAllowed (pairs_in leaves)
+    → AllByRecursion (IsAllowed V1) (pairs_in leaves)
 small_in_leaves [] h = tt
 small_in_leaves (leaf ∷ rest) h =
-    AllByRecursion-append IsAllowed leaf.pairs (pairs_in rest) (small_in leaf.pairs h.0)
+    AllByRecursion-append (IsAllowed V1) leaf.pairs (pairs_in rest) (small_in leaf.pairs h.0)
     (small_in_leaves rest h.1)
 
-small_in_chain : (chain : Chain) → IsChain chain → AllByRecursion IsAllowed (pairs_in chain)
+small_in_chain : (chain : Chain) → IsChain chain → AllByRecursion (IsAllowed V1) (pairs_in chain)
 small_in_chain [] h = tt
 small_in_chain (head ∷ overflow) h = small_in_leaves (head ∷ overflow) (h.0, h.1)
 
@@ -318,7 +320,7 @@ module _ (p : Placement) (h : IsSound p) where
             h.no_key_twice q in omega arith;
       }
 
-  small_pairs : AllByRecursion IsAllowed (pairs_in (chain_at p p.shape.split))
+  small_pairs : AllByRecursion (IsAllowed V1) (pairs_in (chain_at p p.shape.split))
   small_pairs = small_in_chain (chain_at p p.shape.split) (h.in_place p.shape.split old_below).0
 
   pub can_fill_opened : CanFill (opened p) (pairs_in (chain_at p p.shape.split))
@@ -341,7 +343,7 @@ module _ (p : Placement) (h : IsSound p) where
 pub pairs_allowed : PairsAreAllowed
 pairs_allowed p h = over p.chains (λ j l. (h.in_place j l).0) where
   over : (chains : List Chain) → ((j : ℕ) → j < length chains → IsChain (get_or chains j []))
-      → AllByRecursion IsAllowed (flat_map pairs_in chains)
+      → AllByRecursion (IsAllowed V1) (flat_map pairs_in chains)
   over [] h = tt
-  over (chain ∷ rest) h = AllByRecursion-append IsAllowed (pairs_in chain) (flat_map pairs_in rest)
+  over (chain ∷ rest) h = AllByRecursion-append (IsAllowed V1) (pairs_in chain) (flat_map pairs_in rest)
       (small_in_chain chain (h 0 (omega arith))) (over rest (λ j l. h (suc j) (omega arith)))

@@ -7,6 +7,7 @@ use Rattle.std.proofs.lemmas.Cmp.{nat_list_cmp_total}
 use Rattle.std.proofs.lemmas.Bool.{ltb-true, ltb-false, cases_eq}
 use Rattle.std.proofs.lemmas.Bool.Decides.{nat_tests}
 use Rattle.std.proofs.lemmas.List.Sums.{sum_by-cons, length-filter}
+use Rattle.dbm_model.specs.Bounds.{V1, Bounds, in_v1, Version}
 use Rattle.dbm_model.specs.Pairs.{Key, Pair, key_cmp, contents_of, IsAllowed}
 use Rattle.page_model.specs.PairLists.{has_key, times, HasBytes}
 use Rattle.page_model.specs.Chain.{pairs_in}
@@ -18,7 +19,7 @@ use Rattle.page_model.proofs.PairLists.{times_some, length-sum_by}
 use Rattle.page_model.proofs.Places.{value_at, sum_by-put, sum_by-delete, delete_sound, replace_sound, contents-replace, contents-delete}
 use Rattle.page_model.proofs.Splits.{split_filled, contents-split, sum_by-opened}
 use Rattle.page_model.proofs.Members.{AllByRecursion-fewer}
-use Rattle.page_model.proofs.Bounds.{in_use_below, end_after_put, length-put, end_split}
+use Rattle.page_model.proofs.Bounds.{in_use_below, end_after_put, length-put, end_split, home_of_first}
 
 -- the length of a list in which no key comes twice is that of its map
 len_flat : (xs : List Pair) → ((key : Key) → times key xs ≤ 1) → len (contents_of xs) ≡ length xs
@@ -69,7 +70,7 @@ length-delete p h key =
 
 -- a replaced pair does not count twice
 few_replaced : (p : Placement) → IsGood p → (pair : Pair) → MayStore p pair
-    → (length (pairs_of (replace p pair)) ≤ p.limit)
+    → (length (pairs_of (replace p pair)) ≤ p.bounds.limit)
     × (length (pairs_of (replace p pair)) ≤ 8 * length p.chains + 1)
 few_replaced p g pair may =
     let h = g.sound in
@@ -82,9 +83,9 @@ few_replaced p g pair may =
       ⊎_elim
           (λ (z : times pair.0 chain ≡ 0). let new =
           may.room (looks_in_one_chain p pair.0 h ∙ times_some pair.0 chain z) in
-          let all : length (pairs_of (replace p pair)) ≤ p.limit = omega arith in all)
+          let all : length (pairs_of (replace p pair)) ≤ p.bounds.limit = omega arith in all)
           (λ (n : times pair.0 chain ≡ 0 → ⊥).
-          let all : length (pairs_of (replace p pair)) ≤ p.limit = omega arith in all)
+          let all : length (pairs_of (replace p pair)) ≤ p.bounds.limit = omega arith in all)
           (cases_eq (times pair.0 chain) 0),
       omega arith,
     )
@@ -92,17 +93,23 @@ few_replaced p g pair may =
 chains-replace : (p : Placement) (pair : Pair) → length (replace p pair).chains ≡ length p.chains
 chains-replace p pair = length-set (delete p pair.0).chains _ _ ∙ length-set p.chains _ _
 
-end_replaced : (p : Placement) → IsGood p → (pair : Pair) → IsAllowed pair
-    → length (pairs_of (replace p pair)) ≤ p.limit → (replace p pair).space.end ≤ home p.limit
+allowed_first : (bounds : Bounds) → bounds.version ≡ V1 → (pair : Pair)
+    → IsAllowed bounds.version pair → IsAllowed V1 pair
+allowed_first bounds first pair allowed =
+    subst (λ (v : Version). IsAllowed v pair) first allowed
+
+end_replaced : (p : Placement) → IsGood p → (pair : Pair) → IsAllowed V1 pair
+    → length (pairs_of (replace p pair)) ≤ p.bounds.limit → (replace p pair).space.end ≤ home p.bounds
 end_replaced p g pair small few =
     let sound = replace_sound p g.sound pair small in
     let same = chains-replace p pair in
     let b = g.few_buckets in
-    end_after_put (delete p pair.0) pair (home p.limit) sound g.bounded
-    (in_use_below (replace p pair) sound p.limit (omega arith) few)
+    let same = home_of_first p.bounds g.first in
+    end_after_put (delete p pair.0) pair (home p.bounds) sound g.bounded
+    (let below = in_use_below (replace p pair) sound p.bounds.limit (omega arith) few in omega arith)
 
 -- a store adds one pair at most
-sum_by-store : (p : Placement) → IsSound p → (pair : Pair) → IsAllowed pair → (f : Pair → ℕ)
+sum_by-store : (p : Placement) → IsSound p → (pair : Pair) → IsAllowed V1 pair → (f : Pair → ℕ)
     → sum_by f (pairs_of (store p pair)) ≤ sum_by f (pair ∷ pairs_of p)
 sum_by-store p h pair small f =
     let q = replace p pair in
@@ -116,21 +123,21 @@ sum_by-store p h pair small f =
       | false ↦ omega arith
     ]
 
-limit-store : (p : Placement) → IsSound p → (pair : Pair) → IsAllowed pair
-    → (store p pair).limit ≡ p.limit
-limit-store p h pair small =
+bounds-store : (p : Placement) → IsSound p → (pair : Pair) → IsAllowed V1 pair
+    → (store p pair).bounds ≡ p.bounds
+bounds-store p h pair small =
     elim (ltb (8 * length p.chains) (length (pairs_of (replace p pair)))) as
-    (λ t. (cond {A = Placement} t (split (replace p pair)) (replace p pair)).limit ≡ p.limit) [
-      | true ↦ (split_filled (replace p pair) (replace_sound p h pair small)).limit
+    (λ t. (cond {A = Placement} t (split (replace p pair)) (replace p pair)).bounds ≡ p.bounds) [
+      | true ↦ (split_filled (replace p pair) (replace_sound p h pair small)).bounds_are
       | false ↦ refl
     ]
 
 pub store_stays_good : StoreStaysGood
 store_stays_good p pair g may =
-    let small = may.allowed in
+    let small = allowed_first p.bounds g.first pair may.allowed in
     let all = AllByRecursion-fewer HasBytes (pair ∷ pairs_of p) (pairs_of (store p pair))
     (sum_by-store p g.sound pair small) (may.bytes, g.bytes) in
-    let kept = limit-store p g.sound pair small in
+    let kept = bounds-store p g.sound pair small in
     let q = replace p pair in
     let h = replace_sound p g.sound pair small in
     let few = few_replaced p g pair may in
@@ -141,33 +148,37 @@ store_stays_good p pair g may =
     elim (ltb (8 * length p.chains) (length (pairs_of q))) as
     (λ t. ltb (8 * length p.chains) (length (pairs_of q)) ≡ t
     → AllByRecursion HasBytes (pairs_of (cond t (split q) q))
-    → (cond {A = Placement} t (split q) q).limit ≡ p.limit →
+    → (cond {A = Placement} t (split q) q).bounds ≡ p.bounds →
     IsGood (cond t (split q) q) × (contents (cond t (split q) q)
     ≡ insert (contents p) pair.0 pair.1)
-    × ((cond {A = Placement} t (split q) q).limit ≡ p.limit)) [
-      | true ↦ λ t bytes limit.
+    × ((cond {A = Placement} t (split q) q).bounds ≡ p.bounds)) [
+      | true ↦ λ t bytes bounds.
           let many = ltb-true _ _ t in
           let s = split_keeps q h in
-          let room' : length q.chains + 1 ≤ buckets_for p.limit =
+          let room' : length q.chains + 1 ≤ buckets_for p.bounds.limit =
           (let f = few.0 in omega arith) in (
             record {
               sound = s.0;
-              limited = subst (λ l. (1 ≤ l) × (l ≤ 1000000)) (sym limit) g.limited;
-              few_buckets = subst (λ l. length (split q).chains ≤ buckets_for l) (sym limit)
+              first = ap (λ (b : Bounds). b.version) bounds ∙ g.first;
+              limited = subst (λ (l : Bounds). (1 ≤ l.limit) × (l.limit ≤ 1000000)) (sym bounds)
+                  g.limited;
+              few_buckets = subst (λ (l : Bounds). length (split q).chains ≤ buckets_for l.limit) (sym bounds)
                   (let c = s.3 in omega arith);
-              few_pairs = subst (λ l. length (pairs_of (split q)) ≤ l) (sym limit)
+              few_pairs = subst (λ (l : Bounds). length (pairs_of (split q)) ≤ l.limit) (sym bounds)
                   (let c = s.2 in let f = few.0 in omega arith);
               light = (let c = s.3 in let d = s.2 in let f = few.1 in omega arith);
-              bounded = subst (λ l. (split q).space.end ≤ home l) (sym limit)
-                  (end_split q h p.limit room' few.0 end);
+              bounded = subst (λ (l : Bounds). (split q).space.end ≤ home l) (sym bounds)
+                  (let same = home_of_first p.bounds g.first in
+                  let below = end_split q h p.bounds.limit room' few.0 (omega arith) in omega arith);
               bytes = bytes;
             },
             s.1 ∙ map,
-            limit,
+            bounds,
           )
-      | false ↦ λ t bytes limit. (
+      | false ↦ λ t bytes bounds. (
         record {
           sound = h;
+          first = g.first;
           limited = g.limited;
           few_buckets = omega arith;
           few_pairs = few.0;
@@ -176,7 +187,7 @@ store_stays_good p pair g may =
           bytes = bytes;
         },
         map,
-        limit,
+        bounds,
       )
     ] refl all kept
 
@@ -186,6 +197,7 @@ delete_stays_good p key g =
     let same : length (delete p key).chains ≡ length p.chains = length-set p.chains _ _ in (
       record {
         sound = delete_sound p g.sound key;
+        first = g.first;
         limited = g.limited;
         few_buckets = (let b = g.few_buckets in omega arith);
         few_pairs = (let b = g.few_pairs in omega arith);
@@ -198,11 +210,11 @@ delete_stays_good p key g =
       refl,
     )
 
-fresh_pages : (limit : ℕ) → IsExact (in_use (fresh_placement limit)) (fresh_placement limit).space
+fresh_pages : (limit : ℕ) → IsExact (in_use (fresh_placement (in_v1 limit))) (fresh_placement (in_v1 limit)).space
 fresh_pages limit = record { once = λ n. grind (arith, nat_tests); as_many = refl }
 
-fresh_in_place : (limit : ℕ) → IsInPlace (fresh_placement limit).shape
-    (fresh_placement limit).chains
+fresh_in_place : (limit : ℕ) → IsInPlace (fresh_placement (in_v1 limit)).shape
+    (fresh_placement (in_v1 limit)).chains
 fresh_in_place limit zero below = ((omega arith, tt, tt), tt)
 fresh_in_place limit (suc bucket) below = absurd (omega arith)
 
@@ -217,6 +229,7 @@ fresh_is_good limit least most = (
       in_place = fresh_in_place limit;
       no_key_twice = λ key. omega arith;
     };
+    first = refl;
     limited = (least, most);
     few_buckets = omega arith;
     few_pairs = omega arith;

@@ -4,6 +4,7 @@ use Rattle.std.specs.Prelude.{◌≡◌, ◌↔◌, ℕ, List, [], ◌∷◌, if
 use Rattle.std.specs.List.{AllByRecursion}
 use Rattle.std.specs.FinMap.{insert}
 use Rattle.std.specs.FinMap as fin
+use Rattle.dbm_model.specs.Bounds.{Bounds}
 use Rattle.dbm_model.specs.Pairs.{Key, Pair, Contents, contents_of}
 use Rattle.page_model.specs.Pages.{Body}
 use Rattle.page_model.specs.Valid.{IsValidBody}
@@ -33,32 +34,32 @@ abbrev pub OneMap : Type 0
 OneMap = (p q : Placement) (at : ℕ → Body) → IsSound p → IsSound q → IsSpelled at p → IsSpelled at q
     → p.space.end ≡ q.space.end → contents p ≡ contents q
 
--- pages stand for one map and one limit at most
+-- pages stand for one map and bounds at most
 abbrev pub OneMeaning : Type 0
-OneMeaning = (at : ℕ → Body) (end : ℕ) (m n : Contents) (limit other : ℕ) → StandsFor at end m limit
-    → StandsFor at end n other → (m ≡ n) × (limit ≡ other)
+OneMeaning = (at : ℕ → Body) (end : ℕ) (m n : Contents) (bounds other : Bounds)
+    → StandsFor at end m bounds → StandsFor at end n other → (m ≡ n) × (bounds ≡ other)
 
--- pages of bytes stand for one map and one limit at most
+-- pages of bytes stand for one map and bounds at most
 abbrev pub PagesHaveOneMeaning : Type 0
-PagesHaveOneMeaning = (page : ℕ → List ℕ) (end : ℕ) (m n : Contents) (limit other : ℕ)
-    → PagesStandFor page end m limit → PagesStandFor page end n other → (m ≡ n) × (limit ≡ other)
+PagesHaveOneMeaning = (page : ℕ → List ℕ) (end : ℕ) (m n : Contents) (bounds other : Bounds)
+    → PagesStandFor page end m bounds → PagesStandFor page end n other → (m ≡ n) × (bounds ≡ other)
 
--- the pages of a good placement stand for its map and its limit
+-- the pages of a good placement stand for its map and its bounds
 abbrev pub GoodPagesStand : Type 0
 GoodPagesStand = (page : ℕ → List ℕ) (p : Placement) → IsGood p → ArePages page p
-    → PagesStandFor page p.space.end (contents p) p.limit
+    → PagesStandFor page p.space.end (contents p) p.bounds
 
 -- what is read of pages that came to spell the placement after a store stands for the map with the
 -- pair
 abbrev pub StoredStands : Type 0
 StoredStands = (p : Placement) (at : ℕ → Body) (pair : Pair) → IsGood p → MayStore p pair
     → IsSpelled at (store p pair)
-    → StandsFor at (store p pair).space.end (insert (contents p) pair.0 pair.1) p.limit
+    → StandsFor at (store p pair).space.end (insert (contents p) pair.0 pair.1) p.bounds
 
 -- and after a delete for the map without the key
 abbrev pub DeletedStands : Type 0
 DeletedStands = (p : Placement) (at : ℕ → Body) (key : Key) → IsGood p → IsSpelled at (delete p key)
-    → StandsFor at (delete p key).space.end (fin.remove (contents p) key) p.limit
+    → StandsFor at (delete p key).space.end (fin.remove (contents p) key) p.bounds
 
 -- where a pair is put and one chain and the free list are rewritten so, all pages but meta say the
 -- placement with the pair

@@ -1,6 +1,7 @@
 -- What pages stand for.
 use Rattle.std.specs.Prelude.{◌≡◌, ℕ, ◌-◌, List, [], flat_map}
 use Rattle.std.specs.List.{AllByRecursion, range_with_len}
+use Rattle.dbm_model.specs.Bounds.{Bounds}
 use Rattle.dbm_model.specs.Pairs.{Pair, Contents, contents_of}
 use Rattle.page_model.specs.Pages.{Body, MetaPage, SegmentPage, HeadPage, OverflowPage, FreePage, Other}
 use Rattle.page_model.specs.Spelling.{spell}
@@ -22,14 +23,14 @@ pairs_on Other = []
 abbrev pub flat_pairs : (ℕ → Body) → ℕ → List Pair
 flat_pairs at end = flat_map (λ n. pairs_on (at n)) (range_with_len 1 (end - 1))
 
--- pages 1 to end - 1 stand for a map and a limit: they spell a good placement, and the map is that
+-- pages 1 to end - 1 stand for a map and bounds: they spell a good placement, and the map is that
 -- of their flat contents
-pub record StandsFor (at : ℕ → Body) (end : ℕ) (map : Contents) (limit : ℕ) : Type 0 where
+pub record StandsFor (at : ℕ → Body) (end : ℕ) (map : Contents) (bounds : Bounds) : Type 0 where
   pub placement : Placement
   pub good : IsGood placement
   pub spelled : IsSpelled at placement
   pub ends : placement.space.end ≡ end
-  pub limited : placement.limit ≡ limit
+  pub bounded : placement.bounds ≡ bounds
   pub holds : contents_of (flat_pairs at end) ≡ map
 
 -- what pages of bytes say
@@ -41,5 +42,5 @@ abbrev pub ArePages : (ℕ → List ℕ) → Placement → Type 0
 ArePages page p = AllByRecursion (λ numbered. page numbered.number ≡ spell numbered) (page_bodies p)
 
 -- pages of bytes stand for what they say
-abbrev pub PagesStandFor : (ℕ → List ℕ) → ℕ → Contents → ℕ → Type 0
-PagesStandFor page end map limit = StandsFor (said_by page) end map limit
+abbrev pub PagesStandFor : (ℕ → List ℕ) → ℕ → Contents → Bounds → Type 0
+PagesStandFor page end map bounds = StandsFor (said_by page) end map bounds

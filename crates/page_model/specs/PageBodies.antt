@@ -40,7 +40,7 @@ heads_of chains = map (λ chain. first_of (numbers chain)) chains
 
 abbrev pub meta_of : Placement → Meta
 meta_of p = record {
-  limit = p.limit;
+  bounds = p.bounds;
   pairs = length (pairs_of p);
   level = p.shape.level;
   split = p.shape.split;

@@ -2,6 +2,7 @@
 -- numbers.
 use Rattle.std.specs.Prelude.{◌≡◌, ℕ, ◌+◌, ◌-◌, List, [], ◌∷◌, ◌++◌, length, map, flat_map, fold, replicate}
 use Rattle.std.specs.List.{range_with_len}
+use Rattle.dbm_model.specs.Bounds.{in_v1}
 use Rattle.page_model.specs.Numbers.{numbers_bytes}
 use Rattle.page_model.specs.Placement.{Placement, fresh_placement, store, delete}
 use Rattle.page_model.specs.PlacementExamples.{counted, two_long}
@@ -21,7 +22,7 @@ pages_of p = map spell (page_bodies p)
 
 -- a new file of limit 100
 abbrev pub NewPages : Type 0
-NewPages = pages_of (fresh_placement 100) ≡
+NewPages = pages_of (fresh_placement (in_v1 100)) ≡
     page (numbers_bytes (1 ∷ 0x01000000 ∷ 0 ∷ 0 ∷ 1 ∷ 100 ∷ 0 ∷ 0 ∷ 0 ∷ 0 ∷ 0 ∷ 1 ∷ 0 ∷ 0 ∷ 0
     ∷ 0 ∷ 2 ∷ [])) []
     ∷ page (numbers_bytes (2 ∷ 0x02000000 ∷ 0 ∷ 0 ∷ 3 ∷ [])) []
@@ -30,7 +31,7 @@ NewPages = pages_of (fresh_placement 100) ≡
 
 -- the file of nine pairs, of which the ninth split bucket 0
 abbrev pub NinePairPages : Type 0
-NinePairPages = pages_of (fold store (fresh_placement 100) (counted (range_with_len 0x61 9))) ≡
+NinePairPages = pages_of (fold store (fresh_placement (in_v1 100)) (counted (range_with_len 0x61 9))) ≡
     page (numbers_bytes (1 ∷ 0x01000000 ∷ 0 ∷ 0 ∷ 1 ∷ 100 ∷ 9 ∷ 1 ∷ 0 ∷ 0 ∷ 0 ∷ 1 ∷ 0 ∷ 0 ∷ 0
     ∷ 0 ∷ 2 ∷ [])) []
     ∷ page (numbers_bytes (2 ∷ 0x02000000 ∷ 0 ∷ 0 ∷ 3 ∷ 4 ∷ [])) []

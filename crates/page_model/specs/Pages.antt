@@ -1,10 +1,11 @@
 -- What the pages of a database say.
 use Rattle.std.specs.Prelude.{ℕ, List}
+use Rattle.dbm_model.specs.Bounds.{Bounds}
 use Rattle.dbm_model.specs.Pairs.{Pair}
 
 -- what the meta page says
 pub record Meta : Type 0 where
-  pub limit : ℕ
+  pub bounds : Bounds
   pub pairs : ℕ
   pub level : ℕ
   pub split : ℕ

@@ -2,6 +2,7 @@
 use Rattle.std.specs.Prelude.{◌≡◌, ℕ, ◌*◌, ◌%◌, ◌^◌, ◌≤◌, ◌<◌, ◌==◌, Bool, List, [], ◌∷◌, ◌++◌, None, length, drop, flat_map, fold, nat_lt, slice_set, slice_index_or, if◌then◌else◌}
 use Rattle.std.specs.List.{AllByRecursion}
 use Rattle.std.specs.FinMap.{get, len}
+use Rattle.dbm_model.specs.Bounds.{Bounds, V1}
 use Rattle.page_model.specs.Address.{Shape, buckets, address, grown, hash_of}
 use Rattle.dbm_model.specs.Pairs.{Key, Pair, Contents, contents_of, IsAllowed}
 use Rattle.page_model.specs.PairLists.{times, HasBytes}
@@ -10,7 +11,7 @@ use Rattle.page_model.specs.Chain.{Chain, Leaf, numbers, pairs_in, has_room, add
 use Rattle.page_model.specs.Space.{Space, next_page, after_take, give, IsExact}
 
 pub record Placement : Type 0 where
-  pub limit : ℕ
+  pub bounds : Bounds
   pub shape : Shape
   -- the segment pages, in order
   pub segments : List ℕ
@@ -81,7 +82,7 @@ opened p =
     let given = give (drop 1 (numbers chain)) p.space in
     let headed = after_take given in
     record {
-      limit = p.limit;
+      bounds = p.bounds;
       shape = grown p.shape;
       segments = p.segments ++ (if opens_segment p then next_page headed ∷ [] else []);
       chains = slice_set p.chains p.shape.split (bared chain) ++ (bare (next_page given) ∷ []) ∷ [];
@@ -112,26 +113,27 @@ pub record IsSound (p : Placement) : Type 0 where
   pub in_place : IsInPlace p.shape p.chains
   pub no_key_twice : (key : Key) → times key (pairs_of p) ≤ 1
 
--- what a file may hold
+-- what a file may hold, which is of version 1
 pub record IsGood (p : Placement) : Type 0 where
   pub sound : IsSound p
-  pub limited : (1 ≤ p.limit) × (p.limit ≤ 1000000)
-  pub few_buckets : length p.chains ≤ buckets_for p.limit
-  pub few_pairs : length (pairs_of p) ≤ p.limit
+  pub first : p.bounds.version ≡ V1
+  pub limited : (1 ≤ p.bounds.limit) × (p.bounds.limit ≤ 1000000)
+  pub few_buckets : length p.chains ≤ buckets_for p.bounds.limit
+  pub few_pairs : length (pairs_of p) ≤ p.bounds.limit
   pub light : length (pairs_of p) ≤ 8 * length p.chains
-  pub bounded : p.space.end ≤ home p.limit
+  pub bounded : p.space.end ≤ home p.bounds
   pub bytes : AllByRecursion HasBytes (pairs_of p)
 
 -- what may be stored: an allowed pair, whose key is there or new below the limit
 pub record MayStore (p : Placement) (pair : Pair) : Type 0 where
-  pub allowed : IsAllowed pair
+  pub allowed : IsAllowed p.bounds.version pair
   pub bytes : HasBytes pair
-  pub room : get (contents p) pair.0 ≡ None → len (contents p) < p.limit
+  pub room : get (contents p) pair.0 ≡ None → len (contents p) < p.bounds.limit
 
--- an empty placement of that limit: one bucket, whose head is page 3, in the segment of page 2
-abbrev pub fresh_placement : ℕ → Placement
-fresh_placement limit = record {
-  limit = limit;
+-- an empty placement of those bounds: one bucket, whose head is page 3, in the segment of page 2
+abbrev pub fresh_placement : Bounds → Placement
+fresh_placement bounds = record {
+  bounds = bounds;
   shape = record { level = 0; split = 0 };
   segments = 2 ∷ [];
   chains = (bare 3 ∷ []) ∷ [];

@@ -1,6 +1,7 @@
 -- Hashes and placements that are worked out by hand.
 use Rattle.std.specs.Prelude.{◌≡◌, ℕ, ◌-◌, List, [], ◌∷◌, map, fold, replicate, codes}
 use Rattle.std.specs.List.{range_with_len}
+use Rattle.dbm_model.specs.Bounds.{in_v1}
 use Rattle.dbm_model.specs.Pairs.{Pair}
 use Rattle.page_model.specs.Address.{hash_of}
 use Rattle.page_model.specs.Placement.{Placement, fresh_placement, store, delete}
@@ -17,8 +18,8 @@ counted keys = map (λ key. (key ∷ [], (key - 0x60) ∷ [])) keys
 
 -- the ninth pair splits bucket 0, and odd bytes stay
 abbrev pub NinePairs : Type 0
-NinePairs = fold store (fresh_placement 100) (counted (range_with_len 0x61 9)) ≡ record {
-  limit = 100;
+NinePairs = fold store (fresh_placement (in_v1 100)) (counted (range_with_len 0x61 9)) ≡ record {
+  bounds = in_v1 100;
   shape = record { level = 1; split = 0 };
   segments = 2 ∷ [];
   chains = (record { number = 3; pairs = counted (0x61 ∷ 0x63 ∷ 0x65 ∷ 0x67 ∷ 0x69 ∷ []) } ∷ [])
@@ -28,8 +29,8 @@ NinePairs = fold store (fresh_placement 100) (counted (range_with_len 0x61 9)) �
 
 -- the seventeenth pair splits bucket 0 again
 abbrev pub SeventeenPairs : Type 0
-SeventeenPairs = fold store (fresh_placement 100) (counted (range_with_len 0x61 17)) ≡ record {
-  limit = 100;
+SeventeenPairs = fold store (fresh_placement (in_v1 100)) (counted (range_with_len 0x61 17)) ≡ record {
+  bounds = in_v1 100;
   shape = record { level = 1; split = 1 };
   segments = 2 ∷ [];
   chains = (record { number = 3; pairs = counted (0x61 ∷ 0x65 ∷ 0x69 ∷ 0x6d ∷ 0x71 ∷ []) } ∷ [])
@@ -47,7 +48,7 @@ abbrev pub long : ℕ → ℕ → Pair
 long size key = (key ∷ [], replicate size 0)
 
 abbrev pub two_long : Placement
-two_long = store (store (fresh_placement 100) (long 1499 0x61)) (long 1499 0x62)
+two_long = store (store (fresh_placement (in_v1 100)) (long 1499 0x61)) (long 1499 0x62)
 
 -- the second long pair goes to overflow page 4, which is free after its deletion and taken again
 pub record LongPairs : Type 0 where
@@ -63,8 +64,8 @@ thick keys = map (long 1000) keys
 -- a split gives overflow pages 4, 5, 6 and 7 in this order, and takes 7 for the new head, then 6, 5
 -- and 4 as the pairs come
 abbrev pub ThickPairs : Type 0
-ThickPairs = fold store (fresh_placement 100) (thick (range_with_len 0x61 9)) ≡ record {
-  limit = 100;
+ThickPairs = fold store (fresh_placement (in_v1 100)) (thick (range_with_len 0x61 9)) ≡ record {
+  bounds = in_v1 100;
   shape = record { level = 1; split = 0 };
   segments = 2 ∷ [];
   chains = (record { number = 3; pairs = thick (0x61 ∷ 0x63 ∷ []) }
@@ -77,7 +78,7 @@ ThickPairs = fold store (fresh_placement 100) (thick (range_with_len 0x61 9)) �
 
 -- at the limit, with a page for each pair
 abbrev full : Placement
-full = store (store (fresh_placement 2) (long 2025 0x61)) (long 2025 0x62)
+full = store (store (fresh_placement (in_v1 2)) (long 2025 0x61)) (long 2025 0x62)
 
 abbrev replaced : Placement
 replaced = store full (long 2025 0x62)

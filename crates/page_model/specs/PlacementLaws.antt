@@ -4,6 +4,8 @@ use Rattle.std.specs.Int.{bit_at}
 use Rattle.std.specs.List.{AllByRecursion, range_with_len}
 use Rattle.std.specs.FinMap.{insert, get, len, empty, find}
 use Rattle.std.specs.FinMap as fin
+use Rattle.dbm_model.specs.Sizes.{most_taken}
+use Rattle.dbm_model.specs.Bounds.{V1, in_v1}
 use Rattle.dbm_model.specs.Pairs.{Key, Pair, key_cmp, IsAllowed}
 use Rattle.page_model.specs.PairLists.{HasBytes}
 use Rattle.page_model.specs.Address.{Shape, address, grown, buckets}
@@ -24,7 +26,7 @@ AddressesAreBelow = (s : Shape) (hash : ℕ) → s.split < 2 ^ s.level → addre
 
 -- a sound placement in which a pair replaces its key's is sound, and its map has the pair
 abbrev pub ReplaceInserts : Type 0
-ReplaceInserts = (p : Placement) (pair : Pair) → IsSound p → IsAllowed pair
+ReplaceInserts = (p : Placement) (pair : Pair) → IsSound p → IsAllowed V1 pair
     → IsSound (replace p pair) × (contents (replace p pair) ≡ insert (contents p) pair.0 pair.1)
 
 -- a sound placement without a key is sound, and its map is without the key
@@ -55,29 +57,35 @@ CountsKeys = (p : Placement) → IsSound p → len (contents p) ≡ length (pair
 
 -- each pair is allowed
 abbrev pub PairsAreAllowed : Type 0
-PairsAreAllowed = (p : Placement) → IsSound p → AllByRecursion IsAllowed (pairs_of p)
+PairsAreAllowed = (p : Placement) → IsSound p → AllByRecursion (IsAllowed V1) (pairs_of p)
 
 -- a store of what may be stored
 abbrev pub StoreStaysGood : Type 0
 StoreStaysGood = (p : Placement) (pair : Pair) → IsGood p → MayStore p pair
     → IsGood (store p pair) × (contents (store p pair) ≡ insert (contents p) pair.0 pair.1)
-    × ((store p pair).limit ≡ p.limit)
+    × ((store p pair).bounds ≡ p.bounds)
 
 -- a delete of any key
 abbrev pub DeleteStaysGood : Type 0
 DeleteStaysGood = (p : Placement) (key : Key) → IsGood p
     → IsGood (delete p key) × (contents (delete p key) ≡ fin.remove (contents p) key)
-    × ((delete p key).limit ≡ p.limit)
+    × ((delete p key).bounds ≡ p.bounds)
 
--- a new database of an allowed limit
+-- a new database of version 1 and an allowed limit
 abbrev pub FreshIsGood : Type 0
 FreshIsGood = (limit : ℕ) → 1 ≤ limit → limit ≤ 1000000
-    → IsGood (fresh_placement limit) × (contents (fresh_placement limit) ≡ empty)
+    → IsGood (fresh_placement (in_v1 limit))
+    × (contents (fresh_placement (in_v1 limit)) ≡ empty)
 
 -- keys and contents of a good placement are bytes
 abbrev pub MapHoldsBytes : Type 0
 MapHoldsBytes = (p : Placement) (key : Key) (content : List ℕ) → IsGood p
     → get (contents p) key ≡ Some content → HasBytes (key, content)
+
+-- and each pair of its map is one that its version allows
+abbrev pub MapIsAllowed : Type 0
+MapIsAllowed = (p : Placement) (key : Key) (content : List ℕ) → IsGood p
+    → get (contents p) key ≡ Some content → IsAllowed p.bounds.version (key, content)
 
 -- the level of a good placement
 abbrev pub LevelIsLow : Type 0
@@ -85,8 +93,8 @@ LevelIsLow = (p : Placement) → IsGood p → p.shape.level ≤ 16
 
 -- a store takes few pages
 abbrev pub StoreTakesFew : Type 0
-StoreTakesFew = (p : Placement) (pair : Pair) → IsSound p → IsAllowed pair
-    → (store p pair).space.end ≤ p.space.end + length (pairs_of p) + 4
+StoreTakesFew = (p : Placement) (pair : Pair) → IsSound p → IsAllowed V1 pair
+    → (store p pair).space.end ≤ p.space.end + length (pairs_of p) + most_taken V1
 
 -- in exactly one place: the pages in use and the free ones are the numbers from 1 to end - 1, in
 -- some order

@@ -2,6 +2,7 @@
 use Rattle.std.specs.Prelude.{◌≡◌, ℕ, ◌+◌, ◌-◌, ◌*◌, ◌/◌, ◌<◌, ◌≤◌, ◌==◌, List, [], ◌∷◌, length, map, take, drop, slice_index, if◌then◌else◌}
 use Rattle.std.specs.List.{range_with_len}
 use Rattle.std.specs.Str.{bytes_eq}
+use Rattle.dbm_model.specs.Bounds.{Version, V1, V2}
 use Rattle.page_model.specs.Bytes.{u16_at, u32_at}
 use Rattle.page_model.specs.Numbers.{numbers_at}
 use Rattle.dbm_model.specs.Pairs.{Pair}
@@ -59,10 +60,14 @@ bucket_of bytes = record {
   pairs = pairs_from bytes 0 (slot_count bytes);
 }
 
+-- the version of a number; a page with another number isn't spelled so
+abbrev pub version_of : ℕ → Version
+version_of number = if number == 2 then V2 else V1
+
 -- as the meta page
 unfoldable pub fields_of : List ℕ → Meta
 fields_of bytes = record {
-  limit = u32_at bytes 20;
+  bounds = record { limit = u32_at bytes 20; version = version_of (u32_at bytes 16) };
   pairs = u32_at bytes 24;
   level = u32_at bytes 28;
   split = u32_at bytes 32;

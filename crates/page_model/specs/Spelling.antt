@@ -1,5 +1,6 @@
 -- The one way in which each page is spelled: its 2,048 bytes.
 use Rattle.std.specs.Prelude.{ℕ, ◌-◌, ◌*◌, List, [], ◌∷◌, ◌++◌, length, replicate}
+use Rattle.dbm_model.specs.Bounds.{version_number}
 use Rattle.page_model.specs.Bytes.{u16_bytes, u32_bytes}
 use Rattle.page_model.specs.Numbers.{numbers_bytes}
 use Rattle.page_model.specs.Pages.{Meta, Body, MetaPage, SegmentPage, HeadPage, OverflowPage, FreePage, Other, NumberedBody, Bucket, bucket}
@@ -11,9 +12,9 @@ header own kind count next low =
     u32_bytes own ++ kind ∷ 0 ∷ [] ++ u16_bytes count ++ u32_bytes next
     ++ u16_bytes low ++ 0 ∷ 0 ∷ []
 
--- the version, 1, and the numbers before the segments
+-- the version, and the numbers before the segments
 abbrev pub counts : Meta → List ℕ
-counts m = 1 ∷ m.limit ∷ m.pairs ∷ m.level ∷ m.split ∷ m.free_head ∷ m.free_count ∷ length m.segments ∷ []
+counts m = version_number m.bounds.version ∷ m.bounds.limit ∷ m.pairs ∷ m.level ∷ m.split ∷ m.free_head ∷ m.free_count ∷ length m.segments ∷ []
 
 unfoldable pub meta_spelling : ℕ → Meta → List ℕ
 meta_spelling own m = header own 1 0 0 0

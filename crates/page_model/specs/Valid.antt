@@ -18,10 +18,10 @@ abbrev pub meta_buckets : Meta → ℕ
 meta_buckets m = 2 ^ m.level + m.split
 
 pub record IsMeta (m : Meta) : Type 0 where
-  pub limited : (1 ≤ m.limit) × (m.limit ≤ 1000000)
+  pub limited : (1 ≤ m.bounds.limit) × (m.bounds.limit ≤ 1000000)
   pub split_in : m.split < 2 ^ m.level
-  pub few_buckets : meta_buckets m ≤ buckets_for m.limit
-  pub few_pairs : (m.pairs ≤ m.limit) × (m.pairs ≤ 8 * meta_buckets m)
+  pub few_buckets : meta_buckets m ≤ buckets_for m.bounds.limit
+  pub few_pairs : (m.pairs ≤ m.bounds.limit) × (m.pairs ≤ 8 * meta_buckets m)
   pub all_segments : length m.segments ≡ segments_for (meta_buckets m)
   pub used : All (λ n. (0 < n) × IsNumber n) m.segments
   pub numbers : IsNumber m.free_head × IsNumber m.free_count

@@ -16,6 +16,6 @@ pub use page_laws::{fills_a_page, is_spelled, reads_back, reads_exactly};
 pub use placement_laws::{
     absent_delete_keeps, addresses_are_below, counts_keys, delete_removes, delete_stays_good,
     fresh_is_good, growing_moves_one_bucket, level_is_low, looks_in_one_chain, map_holds_bytes,
-    once_is_permutation, pairs_are_allowed, placement_examples, replace_inserts, split_keeps,
-    store_stays_good, store_takes_few,
+    map_is_allowed, once_is_permutation, pairs_are_allowed, placement_examples, replace_inserts,
+    split_keeps, store_stays_good, store_takes_few,
 };

@@ -1,6 +1,6 @@
 // Laws of placements. What each says stands in `specs/PlacementLaws.antt` and
 // `specs/PlacementExamples.antt`.
-ghost use Rattle.page_model.specs.PlacementLaws.{GrowingMovesOneBucket, AddressesAreBelow, ReplaceInserts, DeleteRemoves, AbsentDeleteKeeps, SplitKeeps, LooksInOneChain, CountsKeys, PairsAreAllowed, StoreStaysGood, DeleteStaysGood, FreshIsGood, MapHoldsBytes, LevelIsLow, StoreTakesFew, OnceIsPermutation};
+ghost use Rattle.page_model.specs.PlacementLaws.{GrowingMovesOneBucket, AddressesAreBelow, ReplaceInserts, DeleteRemoves, AbsentDeleteKeeps, SplitKeeps, LooksInOneChain, CountsKeys, PairsAreAllowed, StoreStaysGood, DeleteStaysGood, FreshIsGood, MapHoldsBytes, MapIsAllowed, LevelIsLow, StoreTakesFew, OnceIsPermutation};
 ghost use Rattle.page_model.specs.PlacementExamples.{HashExamples, NinePairs, SeventeenPairs, LongPairs, ThickPairs, FullPages};
 
 /// A further bucket takes hashes of the bucket that is split, and of no other.
@@ -66,6 +66,11 @@ pub fn fresh_is_good()
 /// Keys and contents of a good placement are bytes.
 pub fn map_holds_bytes()
     ensures { MapHoldsBytes }
+{}
+
+/// Each pair of the map of a good placement is one that its version allows.
+pub fn map_is_allowed()
+    ensures { MapIsAllowed }
 {}
 
 /// The level of a good placement is at most 16.

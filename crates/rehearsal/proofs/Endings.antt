@@ -6,12 +6,11 @@ use Rattle.std.proofs.lemmas.Bool.{cases_Bool, false≢true}
 use Rattle.std.proofs.lemmas.List.{append-nil}
 use Rattle.sect_dev.specs.Device.{Image, Candidates, IsImageOf, MoreFaults}
 use Rattle.dbm_model.specs.Calls.{Call, Reply}
-use Rattle.dbm_model.specs.Changes.{map_asked}
-use Rattle.dbm_model.specs.Pairs.{Pair, Contents}
+use Rattle.dbm_model.specs.Changes.{map_asked, bounds_asked}
+use Rattle.dbm_model.specs.Pairs.{Pair}
 use Rattle.dbm_model.specs.States.{Handle}
 use Rattle.dbm_model.specs.Steps.{case_of, Run}
 use Rattle.page_io.specs.Store.{Settled}
-use Rattle.page_io.specs.Meaning.{ImageStandsFor}
 use Rattle.page_io.proofs.Exits.{more_later}
 use Rattle.page_io.specs.declared.store.PageStore.{Ghosts}
 use Rattle.redo_commit.specs.File.{settled}
@@ -25,14 +24,14 @@ use Rattle.dbm_fault.specs.declared.fault.Fault.{Fault}
 use Rattle.dbm_fault.specs.declared.fault.Fault.TheVariants.{Device, Broken}
 use Rattle.dbm_file.specs.Calls.{reply_of}
 use Rattle.dbm_file.specs.declared.calls.Reply as code
-use Rattle.dbm_file.specs.Database.{store_of, meta_kept, page_state, IsAt}
+use Rattle.dbm_file.specs.Database.{store_of, page_state, IsAt}
+use Rattle.dbm_file.specs.Held.{Held}
 use Rattle.dbm_file.specs.Runs.{IsInDoubt, IsBreak, IsRun}
 use Rattle.dbm_file.specs.declared.database.Database.{Database}
 use Rattle.rehearsal.specs.Members.{StandsForOne}
 use Rattle.rehearsal.specs.Sessions.{ending_of, IfNotOpened, IfGrouped, GoesOn, CallsLeave}
 use Rattle.rehearsal.specs.declared.sessions.Ending.{Ending}
 use Rattle.rehearsal.specs.declared.sessions.Ending.TheVariants.{NotOpened, NoMemory, Rested, Unsettled, Broke, BrokeGroup}
-use Rattle.dbm_sessions.proofs.Rooms.{limit_stays}
 
 -- a session that an opening began
 pub step_of : (disk : Disk) (before : Members) (plan : Plan) (ending : model.Ending)
@@ -91,7 +90,7 @@ module _ {S : Type 0} {s : Ghosts S} (new : Database S s) (first last : Handle) 
     (replies : List Reply) (b : IsBreak new first calls replies last) where
   -- what the call left that broke the database
   abbrev pub in_doubt : Members
-  in_doubt = left_by b.sound.state (case_of b.sound.state b.call)
+  in_doubt = left_by b.sound.state (case_of b.sound b.call)
 
   pub breaks : (most : ℕ) → last.faults ≤ most → Breaks most first calls replies in_doubt
   breaks most counts = record {
@@ -130,33 +129,28 @@ module _ {S : Type 0} {s : Ghosts S} (new : Database S s) (first last : Handle) 
   }
 
   abbrev asked : Member
-  asked = Holding (map_asked b.sound.state.map b.call) b.sound.state.limit
+  asked = Holding (map_asked b.sound.state.map b.call) (bounds_asked b.sound.state.bounds b.call)
 
   both : in_doubt ≡ held b.sound.state ∷ asked ∷ []
   both = broken_leaves b.sound b.broken b.call _ b.step b.usable b.breaks
 
-  doubted : (contents : Contents) → IsInDoubt b.sound.state.map b.call contents
-      → Contains in_doubt (Holding contents b.sound.state.limit)
-  doubted contents (inl old) =
-      subst (λ (ms : Members). Contains ms (Holding contents b.sound.state.limit)) (sym both)
-      (is_first (held b.sound.state) (asked ∷ []) (Holding contents b.sound.state.limit)
-      (ap (λ (m : Contents). Holding m b.sound.state.limit) old))
-  doubted contents (inr new) =
-      subst (λ (ms : Members). Contains ms (Holding contents b.sound.state.limit)) (sym both)
-      (is_later (held b.sound.state) (asked ∷ []) (Holding contents b.sound.state.limit)
-      (is_first asked [] (Holding contents b.sound.state.limit)
-      (ap (λ (m : Contents). Holding m b.sound.state.limit) new)))
+  doubted : (left : Held) → IsInDoubt b.sound.state b.call left
+      → Contains in_doubt (Holding left.map left.bounds)
+  doubted left (inl old) =
+      subst (λ (ms : Members). Contains ms (Holding left.map left.bounds)) (sym both)
+      (is_first (held b.sound.state) (asked ∷ []) (Holding left.map left.bounds)
+      (ap (λ (h : Held). Holding h.map h.bounds) old))
+  doubted left (inr new) =
+      subst (λ (ms : Members). Contains ms (Holding left.map left.bounds)) (sym both)
+      (is_later (held b.sound.state) (asked ∷ []) (Holding left.map left.bounds)
+      (is_first asked [] (Holding left.map left.bounds)
+      (ap (λ (h : Held). Holding h.map h.bounds) new)))
 
   -- each image that may be left of it stands for one of those
-  pub stands_in_doubt : (y : Settled) → (meta_kept new).limit ≡ first.state.limit
-      → s.settles_to (store_of new) y → StandsForOne in_doubt y
-  stands_in_doubt y limit left =
+  pub stands_in_doubt : (y : Settled) → s.settles_to (store_of new) y → StandsForOne in_doubt y
+  stands_in_doubt y left =
       let one = b.in_doubt y left in
-      let same = limit ∙ sym (limit_stays first b.sound b.earlier b.answered b.run) in (
-        Holding one.0 b.sound.state.limit,
-        doubted one.0 one.1,
-        subst (λ (n : ℕ). ImageStandsFor y one.0 n) same one.2,
-      )
+      (Holding one.0.map one.0.bounds, doubted one.0 one.1, one.2)
 
 -- how a session ended whose database was usable or not behind its calls, and when it was closed
 module _ (mid new : Bool) {X : Type 0} (stored : Result ℕ Fault) (closed : Result X Fault)
@@ -206,20 +200,19 @@ module _ (mid new : Bool) {X : Type 0} (stored : Result ℕ Fault) (closed : Res
 
 module _ {S : Type 0} {s : Ghosts S} (old new : Database S s) (h : Handle) (calls : List Call)
     (group : List Pair) (replies : List Reply) (pages : ℕ) (candidate : Candidates) (most : ℕ) where
-  pub broke : IsAt old h → h.state.usable ≡ true → (run : IsRun old new h calls replies) → run.after.faults ≤ most
-      → (meta_kept new).limit ≡ (meta_kept old).limit → (page_state new).usable ≡ false
+  pub broke : IsAt old h → h.state.usable ≡ true → (run : IsRun old new h calls replies)
+      → run.after.faults ≤ most → (page_state new).usable ≡ false
       → ((image : Image) → IsImageOf candidate image
       → s.settles_to (store_of new) (settled pages image))
       → CallsLeave most h calls group (model.Broke replies) pages candidate
-  broke at usable run counts limit now settles =
+  broke at usable run counts now settles =
       let was = sym (ap (λ (x : Handle). x.state.usable) at.shows) ∙ usable in
       let b = run.breaks was now in
-      let same = limit ∙ sym (ap (λ (x : Handle). x.state.limit) at.shows) in
       record {
         after = in_doubt new h run.after calls replies b;
         goes = breaks new h run.after calls replies b most counts;
         stand = λ image is.
-            stands_in_doubt new h run.after calls replies b (settled pages image) same
+            stands_in_doubt new h run.after calls replies b (settled pages image)
             (settles image is);
       }
 

@@ -6,9 +6,9 @@ use Rattle.sect_dev.specs.Device.{LeavesOnly}
 use Rattle.sect_dev.specs.Moments.{weaker}
 use Rattle.dbm_model.specs.Calls.{Call, Reply, Stored}
 use Rattle.dbm_model.specs.Changes.{replacing, with_pairs}
-use Rattle.dbm_model.specs.Pairs.{Pair, Contents}
+use Rattle.dbm_model.specs.Pairs.{Pair}
 use Rattle.dbm_model.specs.States.{State, Handle}
-use Rattle.dbm_model.specs.Steps.{Run}
+use Rattle.dbm_model.specs.Steps.{with_map, Run}
 use Rattle.dbm_model.proofs.StoreLemmas.{stores_put_all}
 use Rattle.page_io.specs.Store.{Settled}
 use Rattle.page_io.specs.Meaning.{ImageStandsFor}
@@ -17,13 +17,14 @@ use Rattle.dbm_sessions.specs.Members.{Holding, Members, held}
 use Rattle.dbm_sessions.specs.Sessions as model
 use Rattle.dbm_sessions.specs.Sessions.{StoppedGroup, Groups, GroupCutShort}
 use Rattle.dbm_sessions.proofs.Lists.{is_first, is_later}
-use Rattle.dbm_sessions.proofs.Rooms.{limit_stays}
+use Rattle.dbm_sessions.proofs.Rooms.{bounds_stay}
 use Rattle.dbm_fault.specs.Among.{IsErrAmong}
 use Rattle.dbm_fault.specs.declared.fault.Fault.{Fault}
 use Rattle.dbm_fault.specs.declared.fault.Fault.TheVariants.{Device, Broken, ReadOnly}
 use Rattle.dbm_file.specs.Answers.{StandsForSome, Survives}
-use Rattle.dbm_file.specs.Database.{store_of, meta_kept, page_state, IsAt}
+use Rattle.dbm_file.specs.Database.{store_of, page_state, IsAt}
 use Rattle.dbm_file.specs.Groups.{IsCommitBroken, GroupEnds}
+use Rattle.dbm_file.specs.Held.{Held, held_by}
 use Rattle.dbm_file.specs.declared.database.Database.{Database}
 use Rattle.rehearsal.specs.Members.{StandsForOne}
 use Rattle.rehearsal.specs.Sessions.{IsLeftByCalls}
@@ -40,7 +41,7 @@ pub record IsStoredGroup {S : Type 0} {s : Ghosts S} (new : Database S s) (befor
       (map (λ _. Stored) pairs) done
   pub shown : Handle
   pub is_at : IsAt new shown
-  pub same : (shown.state.map ≡ done.state.map) × (shown.state.limit ≡ done.state.limit)
+  pub same : held_by shown.state ≡ held_by done.state
   pub counts : (before.faults ≤ shown.faults) × (done.faults ≤ shown.faults)
 
 -- where its commit broke the database, each image has none of the pairs or the first ones
@@ -50,8 +51,8 @@ pub record IsBrokenGroup {S : Type 0} {s : Ghosts S} (old new : Database S s) (b
   pub after : Handle
   pub is_at : IsAt new after
   pub broken : IsCommitBroken before after (take count pairs) Device
-  pub survives : Survives old new (λ left. (left ≡ before.state.map)
-      ⊎ (left ≡ with_pairs before.state.map (take count pairs)))
+  pub survives : Survives old new (λ left. (left ≡ held_by before.state)
+      ⊎ (left ≡ held_by (with_map before.state (with_pairs before.state.map (take count pairs)))))
 
 module _ {S : Type 0} (s : Ghosts S) (old new : Database S s) (before : Handle)
     (pairs : List Pair) where
@@ -62,7 +63,7 @@ module _ {S : Type 0} (s : Ghosts S) (old new : Database S s) (before : Handle)
     run = ends.run;
     shown = ends.after;
     is_at = ends.is_at;
-    same = (refl, refl);
+    same = refl;
     counts = (ends.counts, omega arith);
   }
   stored_group (Err fault) ends usable = record {
@@ -71,7 +72,7 @@ module _ {S : Type 0} (s : Ghosts S) (old new : Database S s) (before : Handle)
     shown = ends.after;
     is_at = ends.is_at;
     same = ⊎_elim
-        (λ refused. (ap (λ (x : State). x.map) refused, ap (λ (x : State). x.limit) refused))
+        (λ refused. ap held_by refused)
         (λ broken. absurd (false≢true (sym (ap (λ (x : State). x.usable) broken.breaks.4)
         ∙ ap (λ (x : Handle). x.state.usable) ends.is_at.shows ∙ usable))) ends.ends;
     counts = (ends.counts, ends.counts);
@@ -157,48 +158,46 @@ module _ (most : ℕ) (first last : Handle) (calls : List Call) (group : List Pa
     }
 
     with_first : held stored.state
-        ≡ Holding (with_pairs last.state.map (take count group)) last.state.limit
+        ≡ Holding (with_pairs last.state.map (take count group)) last.state.bounds
     with_first = ap₂ Holding
         (stores_put_all (record last { faults = stored.faults }) stored (take count group) steps)
-        (limit_stays (record last { faults = stored.faults }) stored
-        (map replacing (take count group)) (map (λ _. Stored) (take count group)) steps)
+        (bounds_stay (record last { faults = stored.faults }) stored (take count group) steps)
+
+    -- what was held before it, or is with those pairs
+    abbrev pub MayBeHeld : Held → Type 0
+    MayBeHeld left = (left ≡ held_by last.state)
+        ⊎ (left ≡ held_by (with_map last.state (with_pairs last.state.map (take count group))))
 
     -- an image that stands for one of them
-    pub doubted_one : (y : Settled) (limit : ℕ) → last.state.limit ≡ limit
-        → StandsForSome (λ left. (left ≡ last.state.map)
-        ⊎ (left ≡ with_pairs last.state.map (take count group))) limit y
-        → StandsForOne doubted y
-    doubted_one y limit same (contents, left, stands) = (
-      Holding contents last.state.limit,
+    pub doubted_one : (y : Settled) → StandsForSome MayBeHeld y → StandsForOne doubted y
+    doubted_one y (left, may, stands) = (
+      Holding left.map left.bounds,
       ⊎_elim
           (λ none. is_first (held last.state) (held stored.state ∷ [])
-          (Holding contents last.state.limit)
-          (ap (λ (m : Contents). Holding m last.state.limit) none))
+          (Holding left.map left.bounds) (ap (λ (h : Held). Holding h.map h.bounds) none))
           (λ some. is_later (held last.state) (held stored.state ∷ [])
-          (Holding contents last.state.limit)
-          (is_first (held stored.state) [] (Holding contents last.state.limit)
-          (ap (λ (m : Contents). Holding m last.state.limit) some ∙ sym with_first))) left,
-      subst (λ (n : ℕ). ImageStandsFor y contents n) (sym same) stands,
+          (Holding left.map left.bounds)
+          (is_first (held stored.state) [] (Holding left.map left.bounds)
+          (ap (λ (h : Held). Holding h.map h.bounds) some ∙ sym with_first))) may,
+      stands,
     )
 
     -- a stop within a commit that broke the database
-    pub left_in_group : (y : Settled) (limit : ℕ) → last.state.limit ≡ limit
-        → StandsForSome (λ left. (left ≡ last.state.map)
-        ⊎ (left ≡ with_pairs last.state.map (take count group))) limit y
+    pub left_in_group : (y : Settled) → StandsForSome MayBeHeld y
         → IsLeftByCalls most first calls group (model.BrokeGroup replies count) y
-    left_in_group y limit limit_is some = record {
+    left_in_group y some = record {
       stop = StoppedGroup replies count;
       is_stop = inr refl;
       after = doubted;
       goes = cut_short;
-      stands = doubted_one y limit limit_is some;
+      stands = doubted_one y some;
     }
 
   -- a stop behind it
   pub left_grouped : (stored : ℕ) (done : Handle) (y : Settled)
       → Run (record last { faults = done.faults }) (map replacing (take stored group))
       (map (λ _. Stored) (take stored group)) done → done.faults ≤ most
-      → ImageStandsFor y done.state.map done.state.limit
+      → ImageStandsFor y done.state.map done.state.bounds
       → IsLeftByCalls most first calls group (model.Grouped replies stored) y
   left_grouped stored done y steps few stands = record {
     stop = model.Grouped replies stored;
@@ -212,34 +211,21 @@ module _ (most : ℕ) (first last : Handle) (calls : List Call) (group : List Pa
   pub group_moments : {S : Type 0} (s : Ghosts S) (old new : Database S s)
       (stored : Result ℕ Fault) → GroupEnds old new last group stored
       → (page_state old).usable ≡ true → (page_state new).usable ≡ true
-      → s.faults (store_of new) ≤ most → (meta_kept new).limit ≡ (meta_kept old).limit
-      → last.state.limit ≡ (meta_kept old).limit
+      → s.faults (store_of new) ≤ most
       → LeavesOnly s.moment s.settled_since (store_of old) (store_of new)
       (IsLeftByCalls most first calls group (model.Grouped replies (result_unwrap_or stored 0)))
-  group_moments s old new (Ok count) ends was now few kept limit =
+  group_moments s old new (Ok count) ends was now few =
       weaker s.moment s.settled_since (store_of old) (store_of new) _ _ (ends.survives was)
       (λ y some. ⊎_elim
       (λ none. left_made most first last calls group replies (model.Grouped replies count) refl run
-      usable counts y (stands y some none limit))
+      usable counts y (subst (λ (h : Held). ImageStandsFor y h.map h.bounds) none some.2))
       (λ all. left_grouped count ends.after y ends.run
       (omega (arith, few, ap (λ (x : Handle). x.faults) ends.is_at.shows))
-      (subst (λ (m : Contents). ImageStandsFor y m ends.after.state.limit) all
-      (subst (λ (n : ℕ). ImageStandsFor y some.0 n)
-      (sym (ap (λ (x : Handle). x.state.limit) ends.is_at.shows ∙ kept)) some.2)))
-      some.1)
-    where
-      stands : (y : Settled) (some : StandsForSome (λ left. (left ≡ last.state.map)
-          ⊎ (left ≡ ends.after.state.map)) (meta_kept old).limit y)
-          → some.0 ≡ last.state.map → last.state.limit ≡ (meta_kept old).limit
-          → ImageStandsFor y last.state.map last.state.limit
-      stands y some none same = subst (λ (m : Contents). ImageStandsFor y m last.state.limit) none
-          (subst (λ (n : ℕ). ImageStandsFor y some.0 n) (sym same) some.2)
-  group_moments s old new (Err fault) ends was now few kept limit =
+      (subst (λ (h : Held). ImageStandsFor y h.map h.bounds) all some.2)) some.1)
+  group_moments s old new (Err fault) ends was now few =
       weaker s.moment s.settled_since (store_of old) (store_of new) _ _ (ends.survives was)
       (λ y some. ⊎_elim
       (λ none. left_made most first last calls group replies (model.Grouped replies 0) refl run
-      usable counts y
-      (subst (λ (m : Contents). ImageStandsFor y m last.state.limit) none
-      (subst (λ (n : ℕ). ImageStandsFor y some.0 n) (sym limit) some.2)))
+      usable counts y (subst (λ (h : Held). ImageStandsFor y h.map h.bounds) none some.2))
       (λ broken. absurd (false≢true (sym broken.0
       ∙ ap (λ (x : Handle). x.state.usable) ends.is_at.shows ∙ now))) some.1)

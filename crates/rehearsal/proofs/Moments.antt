@@ -40,29 +40,24 @@ stops_so ending replies (model.BrokeGroup first count) same is = absurd is
 
 -- what a stop within them leaves
 pub left_within : (most : ℕ) (h after : Handle) (calls : List Call) (group : List Pair)
-    (replies : List Reply) (limit : ℕ) (ending : model.Ending) → replies_in ending ≡ replies
-    → h.state.usable ≡ true → after.faults ≤ most → h.state.limit ≡ limit → (y : Settled)
-    → StandsForSome (MayBeLeftWithin h calls replies after) limit y
+    (replies : List Reply) (ending : model.Ending) → replies_in ending ≡ replies
+    → h.state.usable ≡ true → after.faults ≤ most → (y : Settled)
+    → StandsForSome (MayBeLeftWithin h calls replies after) y
     → IsLeftByCalls most h calls group ending y
-left_within most h after calls group replies limit ending same usable counts limit_is y
-    (contents, left, stands) =
-    let found = within most h after calls replies contents usable counts left in
+left_within most h after calls group replies ending same usable counts y (left, may, stands) =
+    let found = within most h after calls replies left usable counts may in
     record {
       stop = found.stop;
       is_stop = stops_so ending replies found.stop same found.is_stop;
       after = found.after;
       goes = found.goes group;
-      stands = (
-        Holding contents h.state.limit,
-        found.among,
-        subst (λ (n : ℕ). ImageStandsFor y contents n) (sym limit_is) stands,
-      );
+      stands = (Holding left.map left.bounds, found.among, stands);
     }
 
 -- none was made
 pub left_unmade : (most : ℕ) (h : Handle) (calls : List Call) (group : List Pair)
     → h.state.usable ≡ true → h.faults ≤ most → (y : Settled)
-    → ImageStandsFor y h.state.map h.state.limit
+    → ImageStandsFor y h.state.map h.state.bounds
     → IsLeftByCalls most h calls group (model.Rested []) y
 left_unmade most h calls group usable counts y stands = record {
   stop = model.Rested [];
@@ -76,7 +71,7 @@ left_unmade most h calls group usable counts y stands = record {
 pub left_made : (most : ℕ) (h last : Handle) (calls : List Call) (group : List Pair)
     (replies : List Reply) (ending : model.Ending) → replies_in ending ≡ replies
     → Run h calls replies last → last.state.usable ≡ true → last.faults ≤ most → (y : Settled)
-    → ImageStandsFor y last.state.map last.state.limit
+    → ImageStandsFor y last.state.map last.state.bounds
     → IsLeftByCalls most h calls group ending y
 left_made most h last calls group replies ending same run usable counts y stands = record {
   stop = model.Rested replies;

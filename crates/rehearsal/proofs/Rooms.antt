@@ -1,6 +1,7 @@
 -- Sessions on a device with enough room.
 use Rattle.std.proofs.Common.{◌≡◌, ◌≢◌, ◌⊎◌, inl, inr, ℕ, ◌*◌, ◌≤◌, List, [], ◌∷◌, ◌++◌, refl}
 use Rattle.std.proofs.lemmas.List.Elements.{All-nil, All-cons, All-append}
+use Rattle.dbm_model.specs.Bounds.{Bounds}
 use Rattle.sect_dev.specs.Device.{Candidates}
 use Rattle.dbm_model.specs.Calls as calls
 use Rattle.dbm_model.specs.Pairs.{Contents}
@@ -46,11 +47,13 @@ pub are_maps : (pages : ℕ) (start : Candidates) → files.AllHaveRoom pages st
     → AllStand pages start
 are_maps pages start all image is = weaker (all image is) where
   weaker : (settled pages image ≡ blank)
-      ⊎ ((contents : Contents) × (limit : ℕ) × ImageStandsFor (settled pages image) contents limit
-      × (2 * home limit ≤ pages)) → (settled pages image ≡ blank)
-      ⊎ ((contents : Contents) × (limit : ℕ) × ImageStandsFor (settled pages image) contents limit)
+      ⊎ ((contents : Contents) × (bounds : Bounds)
+      × ImageStandsFor (settled pages image) contents bounds
+      × (2 * home bounds ≤ pages)) → (settled pages image ≡ blank)
+      ⊎ ((contents : Contents) × (bounds : Bounds)
+      × ImageStandsFor (settled pages image) contents bounds)
   weaker (inl is) = inl is
-  weaker (inr (contents, limit, stands, enough)) = inr (contents, limit, stands)
+  weaker (inr (contents, bounds, stands, enough)) = inr (contents, bounds, stands)
 
 -- images that stand for members with room
 pub members_have_room : (members : Members) (pages : ℕ) (start : Candidates)
@@ -60,10 +63,10 @@ members_have_room members pages start stand all image is =
   where
     by_member : (member : Member) → StandsFor (settled pages image) member
         → HasRoomFor pages member → (settled pages image ≡ blank)
-        ⊎ ((contents : Contents) × (limit : ℕ)
-        × ImageStandsFor (settled pages image) contents limit × (2 * home limit ≤ pages))
+        ⊎ ((contents : Contents) × (bounds : Bounds)
+        × ImageStandsFor (settled pages image) contents bounds × (2 * home bounds ≤ pages))
     by_member NoDatabase stands has = inl stands
-    by_member (Holding contents limit) stands has = inr (contents, limit, stands, has)
+    by_member (Holding contents bounds) stands has = inr (contents, bounds, stands, has)
 
 -- one session more
 pub short_no_more : (endings : List Ending) (ending : Ending) → AreNeverShort endings

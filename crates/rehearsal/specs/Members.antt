@@ -9,7 +9,7 @@ use Rattle.dbm_sessions.specs.Members.{Member, NoDatabase, Holding, Members}
 -- an image that settles so stands for the member: a blank one for no database
 abbrev pub StandsFor : Settled → Member → Type 0
 StandsFor settled NoDatabase = settled ≡ blank
-StandsFor settled (Holding map limit) = ImageStandsFor settled map limit
+StandsFor settled (Holding map bounds) = ImageStandsFor settled map bounds
 
 -- for one of these
 abbrev pub StandsForOne : Members → Settled → Type 0

@@ -1,6 +1,7 @@
 -- A session of the code as one of the definitions.
 use Rattle.std.specs.Prelude.{◌≡◌, ◌≢◌, ◌⊎◌, ℕ, ◌/◌, false, List, [], ◌∷◌, ◌++◌, map, take, length, vec_len, None, IfSome, Result}
 use Rattle.std.specs.Result.{result_unwrap_or}
+use Rattle.dbm_model.specs.Bounds.{in_v1}
 use Rattle.sect_dev.specs.Device.{Candidates, MoreFaults}
 use Rattle.sect_dev.specs.declared.device.SectorDev.{Ghosts}
 use Rattle.page_io.specs.Store.{Settled}
@@ -30,7 +31,7 @@ use Rattle.rehearsal.specs.declared.sessions.Ending.TheVariants.{NotOpened, NoMe
 -- ---- what it is asked to do, and how it ended
 
 abbrev pub opening_of : Opening → members.Opening
-opening_of how = record { create = how.create; truncate = how.truncate; limit = how.limit }
+opening_of how = record { create = how.create; truncate = how.truncate; bounds = in_v1 how.limit }
 
 abbrev pub plan_of : Opening → List Call → List Pair → Plan
 plan_of how calls group = record {

@@ -47,7 +47,7 @@ pub fn rehearse(
         → IfOk result (λ r. AreAllLeft before (map planned stages.now) r.1.items
         (⟦<MemDev as SectorDev>⟧.sectors r.0 / 4) (⟦<MemDev as SectorDev>⟧.candidate r.0)) }
 
-    // Where the device has twice the pages that each limit needs, that is there or is asked for,
+    // Where the device has twice the pages that the bounds need which are there or are asked for,
     // nothing is refused for want of room.
     ensures room { (before : Members)
         → AllStandFor before (⟦<MemDev as SectorDev>⟧.sectors dev / 4)

@@ -111,7 +111,7 @@ pub fn session<D: SectorDev>(
         → IfNotOpened result.1 (λ fault. (fault ≡ Fault.Device)
         ⊎ ((fault ≡ Fault.Memory) × (how.truncate ≡ true))) }
 
-    // Where the device has twice the pages that each map's limit needs, neither the opening nor a
+    // Where the device has twice the pages that each map's bounds need, neither the opening nor a
     // call is refused for want of room.
     ensures room { D.honest dev → AllHaveRoom (D.sectors dev / 4) (D.candidate dev)
         → (count : ℕ) → IsNeverShort (ending_of result.1 count) }

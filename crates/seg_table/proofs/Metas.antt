@@ -1,11 +1,12 @@
 -- The meta page: what is read by places is what is spelled.
 use Rattle.std.proofs.Common.{◌≡◌, ◌↔◌, ℕ, ◌+◌, ◌-◌, ◌*◌, ◌^◌, ◌<◌, ◌≤◌, List, [], ◌∷◌, ◌++◌, length, replicate, drop, refl, sym, ap, subst, ◌∙◌, arith}
 use Rattle.std.proofs.lemmas.List.{append-nil, length-replicate, replicate-append-replicate}
+use Rattle.dbm_model.specs.Bounds.{V1, version_number, in_v1}
 use Rattle.page_model.specs.Bytes.{u32_at, overwrite}
 use Rattle.page_model.specs.Numbers.{numbers_bytes, numbers_at}
 use Rattle.page_model.specs.Pages as model
 use Rattle.page_model.specs.Pages.{MetaPage}
-use Rattle.page_model.specs.Reading.{body_of, fields_of, IsClear}
+use Rattle.page_model.specs.Reading.{body_of, version_of, fields_of, IsClear}
 use Rattle.page_model.specs.Spelling.{header, counts, meta_spelling}
 use Rattle.page_model.specs.Valid.{IsMeta}
 use Rattle.page_model.proofs.Bodies.{body_is}
@@ -29,8 +30,9 @@ counts_are : (bytes : List ℕ) → u32_at bytes 16 ≡ 1
     → numbers_at bytes 16 8 ≡ counts (fields_of bytes)
 unfolding fields_of
 counts_are bytes e =
-    ap (λ (n : ℕ). n ∷ numbers_at bytes 20 7) e
-    ∙ ap (λ (n : ℕ). 1 ∷ u32_at bytes 20 ∷ u32_at bytes 24 ∷ u32_at bytes 28 ∷ u32_at bytes 32
+    ap (λ (n : ℕ). n ∷ numbers_at bytes 20 7)
+    (e ∙ ap (λ (n : ℕ). version_number (version_of n)) (sym e))
+    ∙ ap (λ (n : ℕ). version_number (version_of (u32_at bytes 16)) ∷ u32_at bytes 20 ∷ u32_at bytes 24 ∷ u32_at bytes 28 ∷ u32_at bytes 32
     ∷ u32_at bytes 36 ∷ u32_at bytes 40 ∷ n ∷ [])
     (sym (length-numbers_at bytes 64 (u32_at bytes 44)))
 
@@ -63,10 +65,11 @@ meta_found bytes len fits h =
     (numbers ++ (replicate 16 0 ++ (numbers_bytes segments ++ zeros))) 2048 t0 b1)
 
 -- and a page that is spelled so is laid out so
-pub meta_again : (bytes : List ℕ) (m : model.Meta) → IsMeta m → bytes ≡ meta_spelling 1 m
+pub meta_again : (bytes : List ℕ) (m : model.Meta) → IsMeta m → m.bounds.version ≡ V1
+    → bytes ≡ meta_spelling 1 m
     → IsMetaPage bytes
 unfolding meta_spelling
-meta_again bytes m h e =
+meta_again bytes m h first e =
     let few = few_segments m h in
     let small = level_small m h in
     let zeros : List ℕ = replicate (1984 - 4 * length m.segments) 0 in
@@ -82,7 +85,7 @@ meta_again bytes m h e =
     (dn ∙ sym (append-nil zeros)) (omega arith) in
     record {
       headed = record { header = plain.good; no_next = plain.next_is };
-      version = s.version;
+      version = s.version ∙ ap version_number first;
       laid = record {
         shape = (
           omega (arith, s.level),
@@ -100,12 +103,12 @@ meta_again bytes m h e =
 -- what two writes leave of a page with a header alone
 pub meta_written : (m : model.Meta) (start one two segments : List ℕ) (count : ℕ)
     → length m.segments ≤ 496 → count ≡ length m.segments → segments ≡ m.segments
-    → start ≡ header 1 1 0 0 0 ++ replicate 2032 0
+    → m.bounds.version ≡ V1 → start ≡ header 1 1 0 0 0 ++ replicate 2032 0
     → one ≡ overwrite start 16 (numbers_bytes
-    (1 ∷ m.limit ∷ m.pairs ∷ m.level ∷ m.split ∷ m.free_head ∷ m.free_count ∷ count ∷ []))
+    (1 ∷ m.bounds.limit ∷ m.pairs ∷ m.level ∷ m.split ∷ m.free_head ∷ m.free_count ∷ count ∷ []))
     → two ≡ overwrite one 64 (numbers_bytes segments) → two ≡ meta_spelling 1 m
 unfolding meta_spelling
-meta_written m start one two segments count few f g a b d =
+meta_written m start one two segments count few f g first a b d =
     let n = 4 * length m.segments in
     let zn : List ℕ = replicate n 0 in
     let rest : List ℕ = replicate (1984 - n) 0 in
@@ -114,8 +117,11 @@ meta_written m start one two segments count few f g a b d =
     let numbers = numbers_bytes (counts m) in
     let one' : one ≡ overwrite start 16 numbers =
     b ∙ ap (λ (k : ℕ). overwrite start 16
-    (numbers_bytes (1 ∷ m.limit ∷ m.pairs ∷ m.level ∷ m.split ∷ m.free_head ∷ m.free_count
-    ∷ k ∷ []))) f in
+    (numbers_bytes (1 ∷ m.bounds.limit ∷ m.pairs ∷ m.level ∷ m.split ∷ m.free_head ∷ m.free_count
+    ∷ k ∷ []))) f
+    ∙ ap (λ (v : ℕ). overwrite start 16
+    (numbers_bytes (v ∷ m.bounds.limit ∷ m.pairs ∷ m.level ∷ m.split ∷ m.free_head ∷ m.free_count
+    ∷ length m.segments ∷ []))) (sym (ap version_number first)) in
     let two' : two ≡ overwrite one 64 (numbers_bytes m.segments) =
     d ∙ ap (λ (ns : List ℕ). overwrite one 64 (numbers_bytes ns)) g in
     let tail : replicate 1984 0 ≡ zn ++ rest =
@@ -144,9 +150,9 @@ pub fields_read : (bytes segments : List ℕ) (limit pairs level split free_head
     → limit ≡ u32_at bytes 20 → pairs ≡ u32_at bytes 24 → level ≡ u32_at bytes 28
     → split ≡ u32_at bytes 32
     → free_head ≡ u32_at bytes 36 → free_count ≡ u32_at bytes 40
-    → segments ≡ numbers_at bytes 64 (u32_at bytes 44)
+    → segments ≡ numbers_at bytes 64 (u32_at bytes 44) → u32_at bytes 16 ≡ 1
     → record {
-      limit = limit;
+      bounds = in_v1 limit;
       pairs = pairs;
       level = level;
       split = split;
@@ -155,8 +161,8 @@ pub fields_read : (bytes segments : List ℕ) (limit pairs level split free_head
       segments = segments;
     } ≡ fields_of bytes
 unfolding fields_of
-fields_read bytes segments limit pairs level split free_head free_count a b d e f g k =
-    rw (a, b, d, e, f, g, k) refl
+fields_read bytes segments limit pairs level split free_head free_count a b d e f g k first =
+    rw (a, b, d, e, f, g, k, first) refl
 
 -- and it is laid out as it was read
 pub layout_read : (bytes : List ℕ) (level split count : ℕ) → level ≡ u32_at bytes 28
@@ -171,22 +177,23 @@ layout_read bytes level split count a b d can few zeros rest = record {
 
 -- a page that isn't laid out so is spelled by no meta
 pub none_spelled : (bytes : List ℕ) → (IsMetaPage bytes → ⊥) → (m : model.Meta) → IsMeta m
-    → bytes ≡ meta_spelling 1 m → ⊥
-none_spelled bytes none m h e = none (meta_again bytes m h e)
+    → m.bounds.version ≡ V1 → bytes ≡ meta_spelling 1 m → ⊥
+none_spelled bytes none m h first e = none (meta_again bytes m h first e)
 
 -- and says none
 pub none_said : (bytes : List ℕ) → (IsMetaPage bytes → ⊥) → (m : model.Meta) → IsMeta m
-    → ⊥ ↔ (body_of 1 bytes ≡ MetaPage m)
-none_said bytes none m h = (
+    → m.bounds.version ≡ V1 → ⊥ ↔ (body_of 1 bytes ≡ MetaPage m)
+none_said bytes none m h first = (
   λ e. absurd e,
   λ e.
-      none (meta_again bytes m h ((body_is 1 bytes (MetaPage m) (refl, h)).1 e)),
+      none (meta_again bytes m h first ((body_is 1 bytes (MetaPage m) (refl, h)).1 e)),
 )
 
 -- a page that is laid out so says its fields
 pub fields_said : (bytes : List ℕ) (read : model.Meta) → IsMeta read → bytes ≡ meta_spelling 1 read
-    → (m : model.Meta) → IsMeta m → (read ≡ m) ↔ (body_of 1 bytes ≡ MetaPage m)
-fields_said bytes read is spelled m h = (
+    → (m : model.Meta) → IsMeta m → m.bounds.version ≡ V1
+    → (read ≡ m) ↔ (body_of 1 bytes ≡ MetaPage m)
+fields_said bytes read is spelled m h first = (
   λ e. (body_is 1 bytes (MetaPage m) (refl, h)).0 (spelled ∙ ap (meta_spelling 1) e),
   λ e. sym (fields_again bytes read is spelled)
       ∙ fields_again bytes m h ((body_is 1 bytes (MetaPage m) (refl, h)).1 e),

@@ -1,5 +1,6 @@
 -- What the code's `Meta` says, and the header of the meta page.
 use Rattle.std.specs.Prelude.{◌≡◌, ◌≤◌, ℕ, ◌+◌, ◌*◌, List}
+use Rattle.dbm_model.specs.Bounds.{in_v1}
 use Rattle.page_model.specs.Bytes.{u32_at}
 use Rattle.page_model.specs.Pages as model
 use Rattle.page_model.specs.Reading.{next_of, IsClear}
@@ -10,7 +11,7 @@ use Rattle.seg_table.specs.declared.meta.Meta.{Meta}
 -- what a meta page of it says
 abbrev pub model_meta : Meta → model.Meta
 model_meta m = record {
-  limit = m.limit;
+  bounds = in_v1 m.limit;
   pairs = m.pairs;
   level = m.shape.level;
   split = m.shape.split;

@@ -1,6 +1,7 @@
 //! The meta page: page 1.
 
 ghost use Rattle.std.specs.Prelude.{◌≡◌, ◌≢◌, ◌↔◌, ◌<◌, ◌≤◌, ◌∷◌, [], All, IsTrue, IsSome, IfSome, IfOk, IsOkAnd, Err};
+ghost use Rattle.dbm_model.specs.Bounds.{V1, in_v1};
 ghost use Rattle.page_model.specs.Bytes.{u32_at};
 ghost use Rattle.page_model.specs.Numbers.{IsNumber, numbers_at};
 ghost use Rattle.page_model.specs.Pages as model;
@@ -57,7 +58,7 @@ impl Meta {
     /// `segment`.
     pub fn of_empty(limit: u32, segment: u32) -> Meta
         ensures { model_meta result ≡ record {
-          limit = limit;
+          bounds = in_v1 limit;
           pairs = 0;
           level = 0;
           split = 0;
@@ -148,6 +149,7 @@ fn segments_of(page: &Page, count: usize) -> ArrayVec<u32, 496>
 /// The fields, if they are a shape and no more segments than there is room for, and all other bytes
 /// behind the version are zero.
 fn meta_of(page: &Page) -> Option<Meta>
+    requires { u32_at page.now.bytes 16 ≡ 1 }
     ensures found { IfSome result (λ m. model_meta m ≡ fields_of page.now.bytes) }
     ensures only { IsSome result ↔ IsMetaLayout page.now.bytes }
 {
@@ -173,9 +175,10 @@ fn meta_of(page: &Page) -> Option<Meta>
 pub fn read_meta(page: &Page) -> Result<Meta, MetaFault>
     ensures found { IfOk result (λ m.
         IsMeta (model_meta m) × (page.now.bytes ≡ meta_spelling 1 (model_meta m))) }
-    ensures only { (m : model.Meta) → IsMeta m → page.now.bytes ≡ meta_spelling 1 m
+    ensures only { (m : model.Meta) → IsMeta m → m.bounds.version ≡ V1
+        → page.now.bytes ≡ meta_spelling 1 m
         → IsOkAnd result (λ r. model_meta r ≡ m) }
-    ensures body { (m : model.Meta) → IsMeta m
+    ensures body { (m : model.Meta) → IsMeta m → m.bounds.version ≡ V1
         → IsOkAnd result (λ r. model_meta r ≡ m) ↔ (body_of 1 page.now.bytes ≡ MetaPage m) }
     ensures version { (result ≡ Err Version)
         ↔ (HasMetaHeader page.now.bytes × (u32_at page.now.bytes 16 ≢ 1)) }

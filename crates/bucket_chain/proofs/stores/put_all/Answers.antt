@@ -1,6 +1,7 @@
 use Rattle.std.proofs.Common.{◌≡◌, ℕ, List, length, map, take, fold, sym, subst, ap, arith}
 use Rattle.std.proofs.lemmas.Result.{IfOk-from_err}
 use Rattle.std.proofs.lemmas.List.{length-map, length-take-le, take_all}
+use Rattle.dbm_model.specs.Bounds.{V1}
 use Rattle.dbm_model.specs.Pairs.{Pair, IsAllowed}
 use Rattle.page_model.specs.PairLists.{times}
 use Rattle.page_model.specs.Chain.{pairs_in}
@@ -108,8 +109,8 @@ loop-pair-preserved g c =
           item.key.items so_far none in
           let one : (c.deref.result.now, c.deref-in-loop-pair.result.now) ≡ pair_of item =
           (λ j. (c.deref.ensures.value j, c.deref-in-loop-pair.ensures.value j)) in
-          let allowed : IsAllowed (pair_of item) =
-          subst IsAllowed (ap pair_of here) (c.requires i item c.loop-pair-test.true) in
+          let allowed : IsAllowed V1 (pair_of item) =
+          subst (IsAllowed V1) (ap pair_of here) (c.requires i item c.loop-pair-test.true) in
           let becomes = c.in_ok-put.ensures.exact (c.loop-pair.invariant.stages.honesty.1 honest) _
           _ so_far.is_placed (subst (λ (k : List ℕ).
           times k (pairs_in (fold put_in placed (take i (map pair_of pairs))).0) ≡ 0)

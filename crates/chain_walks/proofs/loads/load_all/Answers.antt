@@ -1,6 +1,7 @@
 use Rattle.std.proofs.Common.{◌≡◌, inl, inr, map, refl, sym, ap, subst, Err, arith}
 use Rattle.std.proofs.lemmas.Result.{err_from_is_err_and}
 use Rattle.std.specs.List.{AllByRecursion}
+use Rattle.dbm_model.specs.Bounds.{V1}
 use Rattle.dbm_model.specs.Pairs.{IsAllowed}
 use Rattle.page_io.specs.Views.{body_at}
 use Rattle.page_io.specs.declared.store.PageFault.TheVariants.{Damaged}
@@ -14,7 +15,7 @@ use Rattle.chain_walks.proofs.loads.load_all.Goals as goal
 pub loop-step-init : goal.loop-step-init
 loop-step-init g c = record {
   kinds = inl refl;
-  small = subst (AllByRecursion IsAllowed) (sym (ap (map pair_of) c.new-pairs.ensures.items)) tt;
+  small = subst (AllByRecursion (IsAllowed V1)) (sym (ap (map pair_of) c.new-pairs.ensures.items)) tt;
   reads = reads_none g.S.PageStore c.args.store.now
       (λ y h left. g.met.S.PageStore.only_now c.args.store.now y h left);
   loaded = λ honest. none_loaded (body_at g.S.PageStore c.args.store.now) c.args.head _

@@ -1,4 +1,4 @@
-use Rattle.std.proofs.Common.{◌≡◌, ◌∙◌, ℕ, ◌≤◌, List, length, [], inl, Ok, Err, IfSome, map, refl, sym, ap, subst, arith, rules}
+use Rattle.std.proofs.Common.{◌≡◌, ◌∙◌, ℕ, ◌≤◌, List, length, ◌⊎◌, [], inl, inr, Ok, Err, IfSome, map, refl, sym, ap, subst, arith, rules}
 use Rattle.std.proofs.lemmas.Result.{IfOk-from_err}
 use Rattle.std.specs.BTreeMap.{insert_entry}
 use Rattle.std.specs.List.{All}
@@ -6,6 +6,8 @@ use Rattle.std.specs.Cmp.Lexicographic.{slice_cmp}
 use Rattle.std.specs.Ordering.{nat_cmp}
 use Rattle.dbm_dump.specs.Dumping.{IsShort, IsShortPair}
 use Rattle.dbm_fault.specs.declared.fault.Fault.TheVariants.{Broken}
+use Rattle.dbm_fault.specs.declared.fault.Fault.TheVariants as fault
+use Rattle.dbm_fault.specs.declared.engine_fault.EngineFault.{EngineFault}
 use Rattle.dbm_fault.specs.declared.engine_fault.EngineFault.TheVariants.{Memory, Db}
 use Rattle.dbm_dump.proofs.Dumping.{reads_on, reads_well, reads_gave, reads_damaged, reads_no_memory, reads_refused, chance_told}
 use Rattle.page_io.proofs.Exits.{exit_is, if_exit, no_err}
@@ -140,6 +142,15 @@ returns-then-is_some-clause-broken g c broken =
 
 -- ---- a content is not read
 
+-- the call itself lacked no memory
+not_lacking : (e : EngineFault)
+    → (e ≡ Memory) ⊎ ((e ≡ Db Broken) ⊎ ((e ≡ Db fault.Device) ⊎ (e ≡ Db fault.Damaged)))
+    → e ≡ Db fault.Memory → ⊥
+not_lacking e (inl is) lacks = absurd (let x = sym is ∙ lacks in cc)
+not_lacking e (inr (inl is)) lacks = absurd (let x = sym is ∙ lacks in cc)
+not_lacking e (inr (inr (inl is))) lacks = absurd (let x = sym is ∙ lacks in cc)
+not_lacking e (inr (inr (inr is))) lacks = absurd (let x = sym is ∙ lacks in cc)
+
 pub returns-in_err-content-clause-pairs : goal.returns-in_err-content-clause-pairs
 returns-in_err-content-clause-pairs g c honest h at usable =
     let told = exit_is c.from_residual-in_err-content.result c.in_err-content.field-0.0
@@ -149,7 +160,8 @@ returns-in_err-content-clause-pairs g c honest h at usable =
     so_far.pass.now so_far.pass.is_at in
     chance_told _ _ _ told (fetch_goes_on_not _ c.copy_content.new.db _ _ c.loop-step.given _
     c.in-Some.key c.deref.result.now c.copy_content.result so_far c.in-Some.is
-    c.deref.ensures.value step c.in_err-content.field-0.0 c.in_err-content.was)
+    c.deref.ensures.value step c.in_err-content.field-0.0 c.in_err-content.was
+    (not_lacking _ c.in_err-content.ensures.only))
 
 pub returns-in_err-content-clause-counted : goal.returns-in_err-content-clause-counted
 returns-in_err-content-clause-counted g c = IfOk-from_err _ _ c.from_residual-in_err-content.ensures.0

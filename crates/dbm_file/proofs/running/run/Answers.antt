@@ -55,7 +55,7 @@ loop-call-preserved g c =
       ran = λ honest h at.
           let run = so_far.ran honest h at in
           goes_on_with g.S.PageStore c.args.db.now c.loop-call.db c.answer-reply.new.db h _ _
-          (call_of call) (reply_of c.answer-reply.result) so_far.goes.limit
+          (call_of call) (reply_of c.answer-reply.result)
           c.answer-reply.ensures.goes run
           (c.answer-reply.ensures.step (so_far.goes.honesty.1 honest) run.after run.is_at)
           (λ t x le left. g.met.S.PageStore.counts_now (store_of c.answer-reply.new.db) t x

@@ -31,7 +31,7 @@ returns-in_err-load_line-clause-loads g c =
     let same : c.from_residual-in_err-load_line.result ≡ Err c.in_err-load_line.field-0.0 =
     search rules in
     let h = c.loop-number.invariant in
-    rw same (stopped g.S.PageStore _ _ _ _ _ _ _ _ _ h.goes.limit h.goes.honesty.1
+    rw same (stopped g.S.PageStore _ _ _ _ _ _ _ _ _ h.goes.honesty.1
     c.load_line.ensures.goes (λ honest t x le left.
     g.met.S.PageStore.counts_now (store_of c.load_line.new.db) t x honest le left)
     h.loading read _ c.in_err-load_line.ensures.line)
@@ -45,7 +45,7 @@ loop-number-preserved g c =
     (g.R.Read.remaining c.read_line-read.new.reader) c.read_line-read.new.left = search rules in
     let h = c.loop-number.invariant in
     record {
-      loading = go_on g.S.PageStore _ _ _ _ _ _ _ _ _ h.goes.limit h.goes.honesty.1
+      loading = go_on g.S.PageStore _ _ _ _ _ _ _ _ _ h.goes.honesty.1
           c.load_line.ensures.goes (λ honest t x le left.
           g.met.S.PageStore.counts_now (store_of c.load_line.new.db) t x honest le left)
           h.loading read c.in_ok-load_line.ensures.line;

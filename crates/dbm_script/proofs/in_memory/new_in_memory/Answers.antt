@@ -1,4 +1,5 @@
 use Rattle.std.proofs.Common.{inl, true, false, refl, sym, subst, arith}
+use Rattle.dbm_model.specs.Bounds.{in_v1}
 use Rattle.dbm_file.specs.Opened.{IsOpenedAt}
 use Rattle.file_opening.specs.Opening.{Allows}
 use Rattle.file_opening.specs.declared.open_how.Access.TheVariants.{ReadWrite}
@@ -19,7 +20,7 @@ returns-in-Ok-clause-fresh c =
     let found = c.in-Ok.ensures.stands tt (λ reads. absurd (cc))
     (λ image is. inl (blank_there _ _ c.new.ensures.stable image is)) in
     let new = opened_new how _ _ found.0 found.1 (blank_there _ _ c.new.ensures.stable) found.3 in
-    subst (λ map. IsOpenedAt true c.in-Ok.db map c.args.limit) new.0
+    subst (λ map. IsOpenedAt true c.in-Ok.db map (in_v1 c.args.limit)) new.0
     (subst (IsOpenedAt true c.in-Ok.db found.0) new.1 found.2)
 
 pub returns-clause-only : goal.returns-clause-only

@@ -1,6 +1,7 @@
 use Rattle.std.proofs.Common.{ap, refl, ◌∙◌, Ok, rules}
 use Rattle.dbm_file.specs.Calls.{delete_reply}
 use Rattle.dbm_file.specs.Replies.{told_of_delete}
+use Rattle.dbm_file.specs.declared.calls.Call.TheVariants.{Delete}
 use Rattle.dbm_file.proofs.Answered.{delete_answered, delete_is_told}
 use Rattle.dbm_script.proofs.script.answer_delete.Goals.{After-delete}
 use Rattle.dbm_script.proofs.script.answer_delete.Goals as goal
@@ -11,6 +12,8 @@ returns-in-Ok-Absent-clause-line g c = search rules
 -- on any device
 pub returns-in-Ok-Deleted-clause-tells : goal.returns-in-Ok-Deleted-clause-tells
 returns-in-Ok-Deleted-clause-tells g c = (
+  Delete c.args.key.now,
+  refl,
   told_of_delete c.delete.result,
   delete_answered c.delete.result _ c.args.key.now c.args.key.now refl refl
       c.delete.ensures.absent c.delete.ensures.deleted c.delete.ensures.only c.delete.ensures.keeps,
@@ -20,6 +23,8 @@ returns-in-Ok-Deleted-clause-tells g c = (
 
 pub returns-in-Ok-Absent-clause-tells : goal.returns-in-Ok-Absent-clause-tells
 returns-in-Ok-Absent-clause-tells g c = (
+  Delete c.args.key.now,
+  refl,
   told_of_delete c.delete.result,
   delete_answered c.delete.result _ c.args.key.now c.args.key.now refl refl
       c.delete.ensures.absent c.delete.ensures.deleted c.delete.ensures.only c.delete.ensures.keeps,
@@ -29,6 +34,8 @@ returns-in-Ok-Absent-clause-tells g c = (
 
 pub returns-in-Err-clause-tells : goal.returns-in-Err-clause-tells
 returns-in-Err-clause-tells g c = (
+  Delete c.args.key.now,
+  refl,
   told_of_delete c.delete.result,
   delete_answered c.delete.result _ c.args.key.now c.args.key.now refl refl
       c.delete.ensures.absent c.delete.ensures.deleted c.delete.ensures.only c.delete.ensures.keeps,

@@ -3,6 +3,7 @@ use Rattle.std.specs.Io.KnownBytes.{Appends}
 use Rattle.dbm_model.specs.Calls as model
 use Rattle.dbm_file.specs.Calls.{lent_reply}
 use Rattle.dbm_file.specs.Replies.{told_of_bytes}
+use Rattle.dbm_file.specs.declared.calls.Call.TheVariants as call
 use Rattle.dbm_file.specs.declared.calls.Reply.TheVariants as code
 use Rattle.dbm_file.proofs.Answered.{next_answered, bytes_are_told}
 use Rattle.dbm_script.proofs.Telling.{told_line}
@@ -19,7 +20,7 @@ returns-clause-line g c honest h at = (
 pub returns-clause-tells : goal.returns-clause-tells
 returns-clause-tells g c =
     let ended = c.nextkey.follows.holds-at-none in
-    told_line c.args.db.now c.nextkey.follows.lender-at-none model.Next
+    told_line c.args.db.now c.nextkey.follows.lender-at-none call.Next
     (told_of_bytes code.End c.nextkey.result) (lent_reply model.End c.nextkey.result)
     (λ text. OnOk c.write_passed.result
     (Appends (g.W.Write.contents c.args.writer.now) (g.W.Write.contents c.write_passed.new.writer) text))

@@ -3,9 +3,9 @@ use Rattle.dbm_model.specs.Calls as model
 use Rattle.dbm_file.specs.Answers.{IsStep}
 use Rattle.dbm_file.specs.Calls.{mode_of, store_reply}
 use Rattle.dbm_file.specs.Replies.{told_of_store}
+use Rattle.dbm_file.specs.declared.calls.Call.TheVariants as call
 use Rattle.dbm_fault.specs.Faults.{fault_of}
-use Rattle.dbm_file.proofs.Answered.{store_is_told}
-use Rattle.dbm_script.proofs.Telling.{told_store}
+use Rattle.dbm_file.proofs.Answered.{store_answered, store_is_told}
 use Rattle.dbm_script.proofs.script.answer_store.Goals.{After-store}
 use Rattle.dbm_script.proofs.script.answer_store.Goals as goal
 
@@ -21,9 +21,12 @@ returns-in-Err-clause-line g c honest h at = (
 -- on any device
 pub returns-in-Ok-Stored-clause-tells : goal.returns-in-Ok-Stored-clause-tells
 returns-in-Ok-Stored-clause-tells g c = (
+  call.Store c.args.key.now c.args.content.now c.args.mode,
+  refl,
   told_of_store c.store.result,
-  told_store _ _ c.args.key.now c.args.content.now c.args.mode _ c.store.ensures.kept
-      c.store.ensures.stored c.store.ensures.only c.store.ensures.keeps,
+  store_answered c.store.result _ c.args.key.now c.args.key.now c.args.content.now
+      c.args.content.now c.args.mode refl refl refl c.store.ensures.kept c.store.ensures.stored
+      c.store.ensures.only c.store.ensures.keeps,
   rw (store_is_told c.store.result _ refl
       ∙ ap store_reply (c.in-Ok-Stored.is ∙ ap Ok c.in-Ok-Stored.field-0-is))
       c.write_stored.ensures,
@@ -31,17 +34,23 @@ returns-in-Ok-Stored-clause-tells g c = (
 
 pub returns-in-Ok-Kept-clause-tells : goal.returns-in-Ok-Kept-clause-tells
 returns-in-Ok-Kept-clause-tells g c = (
+  call.Store c.args.key.now c.args.content.now c.args.mode,
+  refl,
   told_of_store c.store.result,
-  told_store _ _ c.args.key.now c.args.content.now c.args.mode _ c.store.ensures.kept
-      c.store.ensures.stored c.store.ensures.only c.store.ensures.keeps,
+  store_answered c.store.result _ c.args.key.now c.args.key.now c.args.content.now
+      c.args.content.now c.args.mode refl refl refl c.store.ensures.kept c.store.ensures.stored
+      c.store.ensures.only c.store.ensures.keeps,
   rw (store_is_told c.store.result _ refl
       ∙ ap store_reply (c.in-Ok-Kept.is ∙ ap Ok c.in-Ok-Kept.field-0-is)) c.write_kept.ensures,
 )
 
 pub returns-in-Err-clause-tells : goal.returns-in-Err-clause-tells
 returns-in-Err-clause-tells g c = (
+  call.Store c.args.key.now c.args.content.now c.args.mode,
+  refl,
   told_of_store c.store.result,
-  told_store _ _ c.args.key.now c.args.content.now c.args.mode _ c.store.ensures.kept
-      c.store.ensures.stored c.store.ensures.only c.store.ensures.keeps,
+  store_answered c.store.result _ c.args.key.now c.args.key.now c.args.content.now
+      c.args.content.now c.args.mode refl refl refl c.store.ensures.kept c.store.ensures.stored
+      c.store.ensures.only c.store.ensures.keeps,
   rw (store_is_told c.store.result _ refl ∙ ap store_reply c.in-Err.is) c.write_fault.ensures,
 )

@@ -33,7 +33,7 @@ returns-in_err-map_err-clause-stands g c honest start at =
     let h = so_far.answered honest start at in
     let mid = so_far.goes.honesty.1 honest in
     stand_with g.S.PageStore _ _ _ start _ _ _ _ _ c.next_line.new.buffers.line.items _
-    so_far.goes.limit c.answer_and_flush.ensures.goes
+    c.answer_and_flush.ensures.goes
     (λ t x le left. g.met.S.PageStore.counts_now (store_of c.answer_and_flush.new.db) t x
     (c.answer_and_flush.ensures.goes.honesty.1 mid) le left) h
     (was_read _ _ _ _ (sym c.is_line.ensures ∙ c.if-not-is_line.false) c.in_ok-read.ensures.line)
@@ -67,7 +67,7 @@ loop-preserved g c =
           let h = so_far.answered honest start at in
           let mid = so_far.goes.honesty.1 honest in
           go_on g.S.PageStore _ _ _ start _ _ _ _ _ _ c.next_line.new.buffers.line.items
-          so_far.goes.limit c.answer_and_flush.ensures.goes
+          c.answer_and_flush.ensures.goes
           (λ t x le left. g.met.S.PageStore.counts_now (store_of c.answer_and_flush.new.db) t x
           (c.answer_and_flush.ensures.goes.honesty.1 mid) le left) h
           (was_read _ _ _ _ (sym c.is_line.ensures ∙ c.if-not-is_line.false)

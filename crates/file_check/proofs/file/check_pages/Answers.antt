@@ -29,7 +29,7 @@ returns-then-end-most_pages-clause-whole g c honest is damaged =
     let seen = 1 ∷ c.args.meta.now.segments.items in
     elim c.then-end-most_pages.branch [
       | then-end-most_pages-via-then-end-most_pages w ↦
-          too_many c.end-end.result _ (home m.limit) c.most_pages.result w.if-end-most_pages.true
+          too_many c.end-end.result _ (home m.bounds) c.most_pages.result w.if-end-most_pages.true
           c.most_pages.ensures c.end-end.ensures is.bounded
       | then-end-most_pages-via-else-end-most_pages+then-not-mark_tables w ↦
           let yes = w.mark_tables.ensures.may_be.1 (subst (λ (end : ℕ). MayBeSeen end seen)
@@ -99,7 +99,7 @@ returns-then-are_all_marked-clause-sound g c honest =
       each = subst (λ (end : ℕ). IsEachSeen end all) c.end-end.ensures each;
       counted = whole_count m (length (flat_map pairs_in buckets.chains)) _ c.requires.meta
           buckets.counted c.if-pairs-meta.false;
-      bounded = few c.end-end.result _ (home m.limit) c.most_pages.result c.if-end-most_pages.false
+      bounded = few c.end-end.result _ (home m.bounds) c.most_pages.result c.if-end-most_pages.false
           c.most_pages.ensures c.end-end.ensures;
     }
   where

@@ -1,6 +1,7 @@
 use Rattle.std.proofs.Common.{◌≡◌, ◌⊎◌, ⊎_elim, inl, inr, ◌/◌, ◌≤◌, Option, Some, None, Err, sym, ap, ◌∙◌, subst}
 use Rattle.std.specs.Option.{option_or}
 use Rattle.std.specs.FinMap.{empty}
+use Rattle.dbm_model.specs.Bounds.{in_v1}
 use Rattle.sect_dev.specs.Device.{IsImageOf, LeavesOnly, MoreFaults}
 use Rattle.sect_dev.specs.Moments.{IsOutcome}
 use Rattle.redo_commit.specs.File.{settled}
@@ -31,8 +32,8 @@ returns-in-Some-clause-any_moment g c honest =
     (IsOutcome dev.left_since (settled (dev.sectors store.dev / 4))) store.dev d
     (OldOrEmpty (file_pages (overlaid (bytes_of store.waiting.items)
     (page_at (dev.seen store.dev))) store.end)
-    (emptying_fault c.args.limit (dev.sectors store.dev) store.end ≡ None)
-    c.args.limit)) (sym c.into_dev.ensures)
+    (emptying_fault (in_v1 c.args.limit) (dev.sectors store.dev) store.end ≡ None)
+    (in_v1 c.args.limit))) (sym c.into_dev.ensures)
     (settles_still dev.moment dev.left_since dev.candidate store.dev (dev.sectors store.dev / 4) _
     (λ image left. g.met.D.SectorDev.only_now store.dev image honest left)
     (λ y is. inl (only_seen (dev.sectors store.dev / 4) (dev.candidate store.dev)
@@ -49,10 +50,10 @@ returns-in-Ok-clause-stands g c honest =
     let writable = ap (λ (st : StoreState). st.writable) c.in-Ok.ensures.ok
     ∙ c.requires.fresh.writable in record {
       holds = λ usable. holds;
-      rests = λ usable y left. subst (λ (z : Settled). ImageStandsFor z empty m.limit)
+      rests = λ usable y left. subst (λ (z : Settled). ImageStandsFor z empty (in_v1 m.limit))
           (sym (only_seen (dev.sectors new.dev / 4) (dev.candidate new.dev) (dev.seen new.dev) y _
           ((rest usable).waits writable).stable (rest usable).settles left)) holds.stands;
-      limit_is = ap (λ (n : Meta). n.limit) c.of_empty-meta.ensures;
+      bounds_are = ap (λ (n : Meta). n.bounds) c.of_empty-meta.ensures;
     }
 
 pub returns-in-Err-clause-left : goal.returns-in-Err-clause-left
@@ -74,9 +75,9 @@ returns-in-Err-clause-left g c honest other after left =
 -- ---- there is no room for it
 
 room_is : (g : Over) (c : goal.After-into_dev g)
-    → room_fault (sectors_for c.args.limit) (g.D.SectorDev.sectors c.args.store.dev)
+    → room_fault (sectors_for (in_v1 c.args.limit)) (g.D.SectorDev.sectors c.args.store.dev)
     ≡ Some c.in-Some.fault
-room_is g c = ap (room_fault (sectors_for c.args.limit)) (sym c.requires.sectors)
+room_is g c = ap (room_fault (sectors_for (in_v1 c.args.limit))) (sym c.requires.sectors)
     ∙ sym c.room_refusal.ensures ∙ c.in-Some.is
 
 pub returns-in-Some-clause-fresh : goal.returns-in-Some-clause-fresh
@@ -101,13 +102,13 @@ returns-in-Some-clause-left g c honest other =
 
 pub returns-in-Some-clause-device : goal.returns-in-Some-clause-device
 returns-in-Some-clause-device g c is =
-    of_room_apart (sectors_for c.args.limit) (g.D.SectorDev.sectors c.args.store.dev)
+    of_room_apart (sectors_for (in_v1 c.args.limit)) (g.D.SectorDev.sectors c.args.store.dev)
     c.in-Some.fault (room_is g c) is
 
 pub returns-in-Some-clause-only : goal.returns-in-Some-clause-only
 returns-in-Some-clause-only g c =
     ⊎_elim (λ limit. inl limit) (λ small. inr (inl small))
-    (of_room (sectors_for c.args.limit) (g.D.SectorDev.sectors c.args.store.dev)
+    (of_room (sectors_for (in_v1 c.args.limit)) (g.D.SectorDev.sectors c.args.store.dev)
     c.in-Some.fault (room_is g c))
 
 pub returns-in-Some-clause-honesty : goal.returns-in-Some-clause-honesty
@@ -134,18 +135,19 @@ commit_empty-requires-clause-writable g c = c.requires.fresh.writable
 
 pub commit_empty-requires-clause-limited : goal.commit_empty-requires-clause-limited
 commit_empty-requires-clause-limited g c =
-    subst (λ n. (1 ≤ n) × (n ≤ 1000000)) (sym (ap (λ (n : Meta). n.limit) c.of_empty-meta.ensures))
-    (limit_of_room c.args.limit _ (sym c.room_refusal.ensures ∙ c.in_default.is))
+    subst (λ n. (1 ≤ n) × (n ≤ 1000000))
+    (sym (ap (λ (n : Meta). n.bounds.limit) c.of_empty-meta.ensures))
+    (limit_of_room (in_v1 c.args.limit) _ (sym c.room_refusal.ensures ∙ c.in_default.is))
 
 pub commit_empty-requires-clause-fresh : goal.commit_empty-requires-clause-fresh
-commit_empty-requires-clause-fresh g c = fresh_meta c.args.limit _ c.of_empty-meta.ensures
+commit_empty-requires-clause-fresh g c = fresh_meta (in_v1 c.args.limit) _ c.of_empty-meta.ensures
 
 pub invariant_of-result : goal.invariant_of-result
 invariant_of-result g c = record {
   idle = ap (λ (st : StoreState). st.staged) c.in-Ok.ensures.ok ∙ c.requires.fresh.staged;
   told = ap (λ (st : StoreState). st.writable) c.in-Ok.ensures.ok ∙ c.requires.fresh.writable;
   valid = fresh_valid c.args.limit _
-      (limit_of_room c.args.limit _ (sym c.room_refusal.ensures ∙ c.in_default.is))
+      (limit_of_room (in_v1 c.args.limit) _ (sym c.room_refusal.ensures ∙ c.in_default.is))
       c.of_empty-meta.ensures;
 }
 
@@ -162,10 +164,11 @@ returns-in-Ok-clause-any_moment g c honest =
     let dev = g.D.SectorDev in
     let old = c.args.store in
     let new = c.commit_empty.new.store in
-    run_below dev old new _ c.args.limit c.of_empty-meta.result.limit
-    (ap (λ (n : Meta). n.limit) c.of_empty-meta.ensures)
-    (allows_emptying c.args.limit (dev.sectors old.dev) old.end
-    (has_room c.args.limit (dev.sectors old.dev) c.args.sectors c.room_refusal.result
+    let bounds = in_v1 c.args.limit in
+    run_below dev old new _ bounds (in_v1 c.of_empty-meta.result.limit)
+    (ap (λ (n : Meta). n.bounds) c.of_empty-meta.ensures)
+    (allows_emptying bounds (dev.sectors old.dev) old.end
+    (has_room bounds (dev.sectors old.dev) c.args.sectors c.room_refusal.result
     c.requires.sectors c.room_refusal.ensures c.in_default.is))
     (ap (λ (st : StoreState). st.capacity) c.in-Ok.ensures.ok)
     (c.commit_empty.ensures.any_moment honest)
@@ -173,9 +176,10 @@ returns-in-Ok-clause-any_moment g c honest =
 pub returns-in-Ok-clause-room : goal.returns-in-Ok-clause-room
 returns-in-Ok-clause-room g c =
     let sectors = g.D.SectorDev.sectors c.args.store.dev in
-    let room = has_room c.args.limit sectors c.args.sectors c.room_refusal.result c.requires.sectors
+    let bounds = in_v1 c.args.limit in
+    let room = has_room bounds sectors c.args.sectors c.room_refusal.result c.requires.sectors
     c.room_refusal.ensures c.in_default.is in
-    allows_emptying c.args.limit sectors c.args.store.end room c.in-Ok.ensures.room
+    allows_emptying bounds sectors c.args.store.end room c.in-Ok.ensures.room
 
 pub returns-in-Ok-clause-honesty : goal.returns-in-Ok-clause-honesty
 returns-in-Ok-clause-honesty g c = c.commit_empty.ensures.honesty
@@ -196,15 +200,16 @@ returns-in-Err-clause-any_moment g c honest =
     let dev = g.D.SectorDev in
     let old = c.args.store in
     let new = c.commit_empty.new.store in
+    let bounds = in_v1 c.args.limit in
     subst (λ d. LeavesOnly dev.moment (IsOutcome dev.left_since (settled (dev.sectors old.dev / 4)))
     old.dev d (OldOrEmpty (file_pages
     (overlaid (bytes_of old.waiting.items) (page_at (dev.seen old.dev))) old.end)
-    (emptying_fault c.args.limit (dev.sectors old.dev) old.end ≡ None) c.args.limit))
+    (emptying_fault bounds (dev.sectors old.dev) old.end ≡ None) bounds))
     (sym c.into_dev-in-Err.ensures)
-    (run_below dev old new _ c.args.limit c.of_empty-meta.result.limit
-    (ap (λ (n : Meta). n.limit) c.of_empty-meta.ensures)
-    (allows_emptying c.args.limit (dev.sectors old.dev) old.end
-    (has_room c.args.limit (dev.sectors old.dev) c.args.sectors c.room_refusal.result
+    (run_below dev old new _ bounds (in_v1 c.of_empty-meta.result.limit)
+    (ap (λ (n : Meta). n.bounds) c.of_empty-meta.ensures)
+    (allows_emptying bounds (dev.sectors old.dev) old.end
+    (has_room bounds (dev.sectors old.dev) c.args.sectors c.room_refusal.result
     c.requires.sectors c.room_refusal.ensures c.in_default.is))
     (still_capacity (state_of old) (state_of new) c.in-Err.fault c.in-Err.ensures.err)
     (c.commit_empty.ensures.any_moment honest))
@@ -212,11 +217,12 @@ returns-in-Err-clause-any_moment g c honest =
 pub returns-in-Err-clause-refused : goal.returns-in-Err-clause-refused
 returns-in-Err-clause-refused g c other =
     let all = c.in-Err.ensures in
-    let room = has_room c.args.limit (g.D.SectorDev.sectors c.args.store.dev) c.args.sectors
+    let bounds = in_v1 c.args.limit in
+    let room = has_room bounds (g.D.SectorDev.sectors c.args.store.dev) c.args.sectors
     c.room_refusal.result c.requires.sectors c.room_refusal.ensures c.in_default.is in
-    subst (λ f. (emptying_fault c.args.limit (g.D.SectorDev.sectors c.args.store.dev)
+    subst (λ f. (emptying_fault bounds (g.D.SectorDev.sectors c.args.store.dev)
     c.args.store.end ≡ Some f) ⊎ (f ≡ Memory)) (sym c.from.ensures)
-    (refuses_commit c.in-Err.fault all.only c.args.limit (g.D.SectorDev.sectors c.args.store.dev)
+    (refuses_commit c.in-Err.fault all.only bounds (g.D.SectorDev.sectors c.args.store.dev)
     c.args.store.end room (λ is. all.no_room (ap Err is))
     (λ device. other (c.from.ensures ∙ ap fault_from device)))
 

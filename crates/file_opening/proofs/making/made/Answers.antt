@@ -9,7 +9,7 @@ use Rattle.redo_area.specs.Settling.{only_seen}
 use Rattle.redo_commit.specs.File.{settled, IsBlankOr}
 use Rattle.redo_area.specs.Pagers.{device_of}
 use Rattle.seg_table.specs.MetaPages.{model_meta}
-use Rattle.file_opening.specs.Opening.{making_fault}
+use Rattle.file_opening.specs.Opening.{bounds_of, making_fault}
 use Rattle.file_opening.proofs.NewFiles.{BlankOrNew, blank_or_new}
 use Rattle.file_opening.proofs.making.made.Goals as goal
 
@@ -17,7 +17,7 @@ pub returns-in-Ok-clause-stands : goal.returns-in-Ok-clause-stands
 returns-in-Ok-clause-stands g c honest =
     let m = c.of_empty-meta.result in
     let same = sym (c.in-Ok.ensures.committed honest) in
-    let stands = subst (λ (ps : Pages). FileStandsFor ps empty m.limit) same
+    let stands = subst (λ (ps : Pages). FileStandsFor ps empty (model_meta m).bounds) same
     c.pages_of_empty.ensures.stands in
     let dev = g.D.SectorDev in
     let new = c.in-Ok.store in
@@ -28,10 +28,10 @@ returns-in-Ok-clause-stands g c honest =
         meta_is = subst (λ (ps : Pages). said_by (page_of ps) 1 ≡ MetaPage (model_meta m)) same
             c.pages_of_empty.ensures.meta;
       };
-      rests = λ usable y left. subst (λ (z : Settled). ImageStandsFor z empty m.limit)
+      rests = λ usable y left. subst (λ (z : Settled). ImageStandsFor z empty (model_meta m).bounds)
           (sym (only_seen (dev.sectors new.dev / 4) (dev.candidate new.dev) (dev.seen new.dev) y _
           ((rest usable).waits writable).stable (rest usable).settles left)) stands;
-      limit_is = ap (λ (n : Meta). n.limit) c.of_empty-meta.ensures;
+      bounds_are = ap (λ (n : Meta). n.bounds) c.of_empty-meta.ensures;
     }
 
 pub returns-in-Ok-clause-any_moment : goal.returns-in-Ok-clause-any_moment
@@ -45,11 +45,11 @@ returns-in-Ok-clause-any_moment g c honest none =
     let none_is : fault ≡ None = sym (ap (making_fault how) c.capacity.ensures)
     ∙ sym c.making_refusal.ensures ∙ c.in_default.is in
     let stands = subst (FileStandsFor pages empty)
-    (ap (λ (m : Meta). m.limit) c.of_empty-meta.ensures) c.pages_of_empty.ensures.stands in
+    (ap (λ (m : Meta). m.bounds) c.of_empty-meta.ensures) c.pages_of_empty.ensures.stands in
     weaker dev.moment dev.left_since old (device_of c.in-Ok.store)
-    (λ image. BlankOrNew fault how.limit (settled cap image))
+    (λ image. BlankOrNew fault (bounds_of how) (settled cap image))
     (λ image. IsBlankOr pages (settled cap image)) (c.in-Ok.ensures.any_moment honest none)
-    (λ image or. blank_or_new pages how.limit fault stands none_is (settled cap image) or)
+    (λ image or. blank_or_new pages (bounds_of how) fault stands none_is (settled cap image) or)
 
 pub returns-in-Err-clause-any_moment : goal.returns-in-Err-clause-any_moment
 returns-in-Err-clause-any_moment g c honest none =
@@ -62,8 +62,8 @@ returns-in-Err-clause-any_moment g c honest none =
     let none_is : fault ≡ None = sym (ap (making_fault how) c.capacity.ensures)
     ∙ sym c.making_refusal.ensures ∙ c.in_default.is in
     let stands = subst (FileStandsFor pages empty)
-    (ap (λ (m : Meta). m.limit) c.of_empty-meta.ensures) c.pages_of_empty.ensures.stands in
+    (ap (λ (m : Meta). m.bounds) c.of_empty-meta.ensures) c.pages_of_empty.ensures.stands in
     weaker dev.moment dev.left_since old c.in-Err.dev
-    (λ image. BlankOrNew fault how.limit (settled cap image))
+    (λ image. BlankOrNew fault (bounds_of how) (settled cap image))
     (λ image. IsBlankOr pages (settled cap image)) (c.in-Err.ensures.any_moment honest none)
-    (λ image or. blank_or_new pages how.limit fault stands none_is (settled cap image) or)
+    (λ image or. blank_or_new pages (bounds_of how) fault stands none_is (settled cap image) or)

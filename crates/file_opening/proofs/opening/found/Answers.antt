@@ -22,7 +22,7 @@ use Rattle.file_opening.proofs.opening.found.Given.{Over}
 use Rattle.file_opening.proofs.opening.found.Goals as goal
 
 pub returns-in-Ok-clause-stands : goal.returns-in-Ok-clause-stands
-returns-in-Ok-clause-stands g c honest only map limit stands =
+returns-in-Ok-clause-stands g c honest only map bounds stands =
     let dev = g.D.SectorDev in
     let store = c.args.store in
     let new = c.read.new.self in
@@ -34,13 +34,14 @@ returns-in-Ok-clause-stands g c honest only map limit stands =
     let read = all.found honest ∙ ap (λ (s : Pages). overlaid s (page_of file) 1)
     c.requires.fresh.staged in
     let is : model_meta m ≡ meta =
-    (c.in-Ok.ensures.body meta (bodies_valid stands.placement stands.good).0.1).1
-    (ap (body_of 1) read ∙ stands.spelled.0) in
-    let lim : m.limit ≡ limit = ap (λ (x : Meta). x.limit) is ∙ stands.limited in
+    (c.in-Ok.ensures.body meta (bodies_valid stands.placement stands.good).0.1
+    stands.good.first).1 (ap (body_of 1) read ∙ stands.spelled.0) in
+    let same_bounds : (model_meta m).bounds ≡ bounds = ap (λ (x : Meta). x.bounds) is
+    ∙ stands.bounded in
     let same = sym (all.kept honest).committed in
-    let stands_so = subst (λ (l : ℕ). FileStandsFor file map l) (sym lim) stands in record {
+    let stands_so = subst (FileStandsFor file map) (sym same_bounds) stands in record {
       holds = λ usable. record {
-        stands = subst (λ (ps : Pages). FileStandsFor ps map m.limit) same stands_so;
+        stands = subst (λ (ps : Pages). FileStandsFor ps map (model_meta m).bounds) same stands_so;
         meta_is = subst (λ (ps : Pages). said_by (page_of ps) 1 ≡ MetaPage (model_meta m)) same
             (stands.spelled.0 ∙ ap MetaPage (sym is));
       };
@@ -48,8 +49,9 @@ returns-in-Ok-clause-stands g c honest only map limit stands =
           let before = settles_before (dev.sectors store.dev / 4) (dev.sectors new.dev / 4)
           (dev.candidate store.dev) (dev.candidate new.dev) y (ap (λ (n : ℕ). n / 4) all.size)
           (all.only_reads honest).no_new left in
-          subst (λ (z : Settled). ImageStandsFor z map m.limit) (sym (only y before)) stands_so;
-      limit_is = lim;
+          subst (λ (z : Settled). ImageStandsFor z map (model_meta m).bounds)
+          (sym (only y before)) stands_so;
+      bounds_are = same_bounds;
     }
 
 -- ---- the meta page is not read
@@ -128,7 +130,7 @@ returns-in-Ok-clause-says g c honest =
     let valid = c.in-Ok.ensures.found.0 in (
       valid,
       ap (body_of 1) (sym read)
-          ∙ (c.in-Ok.ensures.body (model_meta c.in-Ok.meta) valid).0 refl,
+          ∙ (c.in-Ok.ensures.body (model_meta c.in-Ok.meta) valid refl).0 refl,
     )
 
 pub returns-in-Ok-clause-honesty : goal.returns-in-Ok-clause-honesty

@@ -11,7 +11,7 @@ use Rattle.sect_dev.specs.Reads.{OnlyReads}
 use Rattle.redo_area.specs.Settling.{SettlesTo}
 use Rattle.file_opening.specs.OpenFiles.{device_left}
 use Rattle.seg_table.specs.MetaPages.{model_meta}
-use Rattle.file_opening.specs.Opening.{emptying_fault, SaysMeta, EmptiesFile}
+use Rattle.file_opening.specs.Opening.{bounds_of, emptying_fault, SaysMeta, EmptiesFile}
 use Rattle.file_opening.proofs.EmptyFiles.{OldOrEmpty, settles_run, settles_on, state_of}
 use Rattle.page_io.proofs.Exits.{both_ways, later_then, more_later, not_both}
 use Rattle.file_opening.proofs.Exits.{of_found, of_emptied, reads_leave, reads_settle, opens_emptied, just_opened}
@@ -21,18 +21,18 @@ use Rattle.file_opening.proofs.opening.found_or_emptied.Given.{Over}
 use Rattle.file_opening.proofs.opening.found_or_emptied.Goals as goal
 
 pub returns-then-not-how-clause-stands : goal.returns-then-not-how-clause-stands
-returns-then-not-how-clause-stands g c honest only map limit stands =
-    opens_kept c.args.how map limit c.found-found.result
+returns-then-not-how-clause-stands g c honest only map bounds stands =
+    opens_kept c.args.how map bounds c.found-found.result
     (is_off c.args.how.truncate c.if-not-how.true)
     (c.requires.allowed)
-    (c.found-found.ensures.stands honest only map limit stands)
+    (c.found-found.ensures.stands honest only map bounds stands)
 
 -- what is due of the file that was found is due of the pages at the start
 due_here : (g : Over) (c : goal.After-emptied g) → g.D.SectorDev.honest c.args.store.dev →
-    emptying_fault c.args.how.limit (g.D.SectorDev.sectors c.args.store.dev)
+    emptying_fault (bounds_of c.args.how) (g.D.SectorDev.sectors c.args.store.dev)
     (length (file_pages (overlaid (bytes_of c.args.store.waiting.items)
     (page_at (g.D.SectorDev.seen c.args.store.dev))) c.args.store.end) + 1)
-    ≡ emptying_fault c.args.how.limit (g.D.SectorDev.sectors c.in-Ok.file.store.dev)
+    ≡ emptying_fault (bounds_of c.args.how) (g.D.SectorDev.sectors c.in-Ok.file.store.dev)
     c.in-Ok.file.store.end
 due_here g c honest =
     let dev = g.D.SectorDev in
@@ -42,8 +42,8 @@ due_here g c honest =
     let end_is = ap (λ (ps : Pages). length ps + 1) (sym (all.kept honest))
     ∙ counts_end (overlaid (bytes_of mid.waiting.items) (page_at (dev.seen mid.dev)))
     mid.end mid.least in
-    ap (λ (n : ℕ). emptying_fault how.limit (dev.sectors c.args.store.dev) n) end_is
-    ∙ ap (λ (n : ℕ). emptying_fault how.limit n mid.end) (sym all.size)
+    ap (λ (n : ℕ). emptying_fault (bounds_of how) (dev.sectors c.args.store.dev) n) end_is
+    ∙ ap (λ (n : ℕ). emptying_fault (bounds_of how) n mid.end) (sym all.size)
 
 -- its meta page is a good one
 says_here : (g : Over) (c : goal.After-emptied g) → g.D.SectorDev.honest c.args.store.dev → SaysMeta
@@ -51,7 +51,7 @@ says_here : (g : Over) (c : goal.After-emptied g) → g.D.SectorDev.honest c.arg
     (page_at (g.D.SectorDev.seen c.args.store.dev))) c.args.store.end) 1)
 says_here g c honest =
     let says = c.in-Ok.ensures.says honest in
-    record { meta = model_meta c.in-Ok.file.meta; valid = says.0; says = says.1 }
+    record { meta = model_meta c.in-Ok.file.meta; valid = says.0; first = refl; says = says.1 }
 
 pub returns-in-Ok-clause-opened : goal.returns-in-Ok-clause-opened
 returns-in-Ok-clause-opened g c honest =
@@ -96,7 +96,7 @@ returns-in-Ok-clause-any_moment g c honest =
     let all = c.in-Ok.ensures in
     let P : Settled → Type 0 = λ now.
     SettlesTo cap (dev.candidate store.dev) now
-    ⊎ (EmptiesFile how (dev.sectors store.dev) file × ImageStandsFor now empty how.limit) in
+    ⊎ (EmptiesFile how (dev.sectors store.dev) file × ImageStandsFor now empty (bounds_of how)) in
     let may = c.requires.allowed in
     let asked = is_on how.truncate c.if-not-how.false in
     let there : SettlesTo cap (dev.candidate store.dev) (file_of file) =
@@ -110,7 +110,7 @@ returns-in-Ok-clause-any_moment g c honest =
     settles_on dev.moment dev.left_since store.dev mid.dev (device_left c.emptied.result) cap
     (dev.sectors mid.dev / 4) P (OldOrEmpty
     (file_pages (overlaid (bytes_of mid.waiting.items) (page_at (dev.seen mid.dev))) mid.end)
-    (emptying_fault how.limit (dev.sectors mid.dev) mid.end ≡ None) how.limit)
+    (emptying_fault (bounds_of how) (dev.sectors mid.dev) mid.end ≡ None) (bounds_of how))
     (ap (λ (n : ℕ). n / 4) all.size)
     (settles_run dev.moment dev.left_since store.dev mid.dev cap P
     (weaker dev.moment dev.left_since store.dev mid.dev (λ image. P (settled cap image)) _
@@ -226,8 +226,8 @@ returns-in-Ok-clause-fresh g c =
     (ap (λ (n : ℕ). n / 4) c.in-Ok.ensures.size) c.emptied.ensures.fresh
 
 pub returns-in-Ok-clause-stands : goal.returns-in-Ok-clause-stands
-returns-in-Ok-clause-stands g c honest only map limit stands =
-    opens_emptied c.args.how map limit c.emptied.result
+returns-in-Ok-clause-stands g c honest only map bounds stands =
+    opens_emptied c.args.how map bounds c.emptied.result
     (is_on c.args.how.truncate c.if-not-how.false)
     (c.requires.allowed)
     (c.emptied.ensures.stands (c.in-Ok.ensures.honesty.1 honest))
@@ -272,7 +272,7 @@ returns-in-Err-clause-any_moment g c honest =
     reads_settle dev (dev.sectors d / 4) d c.in-Err.refused.0 _ (c.in-Err.ensures.only_reads honest)
 
 pub returns-in-Err-clause-stands : goal.returns-in-Err-clause-stands
-returns-in-Err-clause-stands g c honest only map limit stands = tt
+returns-in-Err-clause-stands g c honest only map bounds stands = tt
 
 pub returns-in-Err-clause-only_reads : goal.returns-in-Err-clause-only_reads
 returns-in-Err-clause-only_reads g c reading honest = c.in-Err.ensures.only_reads honest

@@ -13,7 +13,7 @@ use Rattle.redo_area.proofs.ReadRuns.{more_reads}
 use Rattle.redo_area.specs.declared.open_fault.OpenFault.TheVariants as redo
 use Rattle.seg_table.specs.MetaPages.{model_meta}
 use Rattle.file_opening.specs.OpenFiles.{device_left}
-use Rattle.file_opening.specs.Opening.{writes, is_exclusive, early_fault, making_fault, emptying_fault, RefusesOpened, IsRefusedOpening, EmptiesFile, MayRemain, KeepsMetaOf}
+use Rattle.file_opening.specs.Opening.{writes, bounds_of, is_exclusive, early_fault, making_fault, emptying_fault, RefusesOpened, IsRefusedOpening, EmptiesFile, MayRemain, KeepsMetaOf}
 use Rattle.dbm_fault.specs.declared.fault.Fault.TheVariants.{Memory, Device}
 use Rattle.file_opening.proofs.EmptyFiles.{settles_run, settles_on, settles_from, reads_nothing}
 use Rattle.dbm_fault.specs.contracts.fault.Fault.{the_type}
@@ -82,11 +82,11 @@ returns-in-Ok-clause-stands g c honest one stand =
     ∙ c.in_default.is) in
     both_ok c.opened.result (c.opened.ensures.stands h1
     (λ now was. only_seen (dev.sectors mid / 4) (dev.candidate mid) (dev.seen mid) now _
-    stable rest.settles was) what.map what.limit what.stands)
+    stable rest.settles was) what.map what.bounds what.stands)
     (c.opened.ensures.emptied h1)
     (λ new opens due. opened_as_asked how (dev.sectors old) (dev.candidate old) file what new
     (all.committed honest) opens.0 opens.1 written
-    (λ asked. ap (λ (n : ℕ). emptying_fault how.limit n (length file + 1))
+    (λ asked. ap (λ (n : ℕ). emptying_fault (bounds_of how) n (length file + 1))
     (sym all.size) ∙ due asked))
 
 pub returns-in-Ok-clause-opened : goal.returns-in-Ok-clause-opened
@@ -219,9 +219,9 @@ returns-in-Err-default-Blank-clause-any_moment g c honest =
     by_access (writes how.access)
     (λ on.
     settles_on dev.moment dev.left_since old new (device_left c.made.result) cap
-    (dev.sectors new / 4) P (BlankOrNew fault how.limit) size first
+    (dev.sectors new / 4) P (BlankOrNew fault (bounds_of how)) size first
     (settles_run dev.moment dev.left_since new (device_left c.made.result) (dev.sectors new / 4)
-    (BlankOrNew fault how.limit)
+    (BlankOrNew fault (bounds_of how))
     (c.made.ensures.any_moment h1
     (λ image is. ap (λ (n : ℕ). settled n image) size
     ∙ all_blank how (dev.sectors old) (dev.candidate old) (dev.candidate new)
@@ -252,7 +252,7 @@ returns-in-Err-default-Blank-clause-stands g c honest one stand =
     (c.made.ensures.stands (c.in-Err-default-Blank.ensures.honesty.1 honest))
     (λ file none stands.
     let due = ap (making_fault how) (sym c.in-Err-default-Blank.ensures.size) ∙ none in
-    (empty, how.limit, stands, inr (inl (record { due = due; on_blank = there }), refl, refl)))
+    (empty, bounds_of how, stands, inr (inl (record { due = due; on_blank = there }), refl, refl)))
 
 pub returns-in-Err-default-Blank-clause-opened : goal.returns-in-Err-default-Blank-clause-opened
 returns-in-Err-default-Blank-clause-opened g c honest =

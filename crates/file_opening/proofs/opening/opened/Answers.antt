@@ -19,7 +19,7 @@ returns-then-is_exclusive-clause-any_moment g c honest =
     (reads_nothing dev d (λ image left. g.met.D.SectorDev.only_now d image honest left)))
 
 pub returns-then-is_exclusive-clause-stands : goal.returns-then-is_exclusive-clause-stands
-returns-then-is_exclusive-clause-stands g c honest only map limit stands = tt
+returns-then-is_exclusive-clause-stands g c honest only map bounds stands = tt
 
 pub returns-then-is_exclusive-clause-only_reads : goal.returns-then-is_exclusive-clause-only_reads
 returns-then-is_exclusive-clause-only_reads g c reading honest =

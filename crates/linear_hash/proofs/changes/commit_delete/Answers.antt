@@ -1,7 +1,8 @@
 use Rattle.std.proofs.Common.{◌≡◌, ◌∙◌, ◌≤◌, ℕ, Result, IfOk, OnOk, true, ⊎_elim, is_some, sym, ap, subst, arith}
 use Rattle.std.specs.FinMap.{get, remove}
 use Rattle.sect_dev.specs.Device.{LeavesOnly}
-use Rattle.std.proofs.lemmas.Result.{on_err_weaker}
+use Rattle.std.proofs.lemmas.Result.{on_ok_weaker, on_err_weaker}
+use Rattle.dbm_model.specs.Bounds.{in_v1}
 use Rattle.dbm_model.specs.Pairs.{Contents}
 use Rattle.dbm_model.specs.Sizes.{home}
 use Rattle.page_model.specs.Placement.{Placement, contents, delete}
@@ -34,7 +35,7 @@ module _ (g : Over) (c : After-finish g) (map : Contents)
   table = is_table g.S.PageStore c.args.store.now (model_meta c.args.meta.now) map holds
       (g.met.S.PageStore.ends c.args.store.now) c.requires.idle
 
-  bounded : (delete plan c.args.key.now).space.end ≤ home c.args.meta.now.limit
+  bounded : (delete plan c.args.key.now).space.end ≤ home (in_v1 c.args.meta.now.limit)
   bounded = deleted_bounded g.S.PageStore c.args.store.now (model_meta c.args.meta.now) map holds
       c.args.key.now
 
@@ -47,19 +48,20 @@ module _ (g : Over) (c : After-finish g) (map : Contents)
         → (g.S.PageStore.state c.args.store.now).usable ≡ true
         → LeavesOnly g.S.PageStore.moment g.S.PageStore.settled_since c.args.store.now
         c.finish.new.store (StandsForEither map (remove map c.args.key.now)
-        c.args.meta.now.limit)
+        (in_v1 c.args.meta.now.limit))
     moments honest usable =
         let staged = c.stage_delete-staged.ensures in
         let then = staged_stands g.S.PageStore c.stage_delete-staged.new.store
         (model_meta c.stage_delete-staged.new.meta) (delete plan c.args.key.now)
-        (remove map c.args.key.now) c.args.meta.now.limit c.stage_delete-staged.result
+        (remove map c.args.key.now) (in_v1 c.args.meta.now.limit) c.stage_delete-staged.result
         (deleted_good g.S.PageStore c.args.store.now (model_meta c.args.meta.now) map holds
         c.args.key.now) (deleted_map g.S.PageStore c.args.store.now
         (model_meta c.args.meta.now) map holds c.args.key.now)
-        (staged.exact honest plan table there) staged.limit in
+        (staged.exact honest plan table there)
+        (on_ok_weaker c.stage_delete-staged.result (λ same. ap in_v1 same) staged.limit) in
         leaves_either g.S.PageStore c.args.store.now c.stage_delete-staged.new.store
         c.finish.new.store c.stage_delete-staged.result c.finish.result staged.stages honest map
-        (remove map c.args.key.now) c.args.meta.now.limit holds.stands
+        (remove map c.args.key.now) (in_v1 c.args.meta.now.limit) holds.stands
         (λ y is. g.met.S.PageStore.only_committed c.args.store.now y honest usable
         c.requires.writable is) then
         (c.finish.ensures.any_moment (staged.stages.honesty.1 honest)
@@ -112,7 +114,7 @@ returns-clause-turns g c honest usable map holds was =
           on_err_weaker c.finish.result
           (λ run usable_now. leaves_old g.S.PageStore c.args.store.now
           c.stage_delete-staged.new.store c.finish.new.store c.stage_delete-staged.result
-          c.finish.result staged.stages honest map map c.args.meta.now.limit holds.stands
+          c.finish.result staged.stages honest map map (in_v1 c.args.meta.now.limit) holds.stands
           (λ y is. g.met.S.PageStore.only_committed c.args.store.now y honest usable
           c.requires.writable is) (run usable_now))
           (c.finish.ensures.unchanged (staged.stages.honesty.1 honest)

@@ -1,7 +1,8 @@
 use Rattle.std.proofs.Common.{◌≡◌, ◌∙◌, ◌+◌, ◌≤◌, ℕ, Result, IfOk, OnOk, true, ⊎_elim, is_some, ap, subst, arith}
 use Rattle.std.specs.FinMap.{get, insert}
 use Rattle.sect_dev.specs.Device.{LeavesOnly}
-use Rattle.std.proofs.lemmas.Result.{on_err_weaker}
+use Rattle.std.proofs.lemmas.Result.{on_ok_weaker, on_err_weaker}
+use Rattle.dbm_model.specs.Bounds.{in_v1}
 use Rattle.dbm_model.specs.Sizes.{home}
 use Rattle.page_model.specs.Pages.{Meta}
 use Rattle.dbm_model.specs.Pairs.{Pair, Contents}
@@ -51,7 +52,7 @@ module _ (g : Over) (c : After-finish g) (map : Contents)
   there = was_placed g.S.PageStore c.args.store.now (model_meta c.args.meta.now) map holds
       c.args.key.now c.args.was_there was
 
-  bounded : (store plan pair).space.end ≤ home c.args.meta.now.limit
+  bounded : (store plan pair).space.end ≤ home (in_v1 c.args.meta.now.limit)
   bounded = stored_bounded g.S.PageStore c.args.store.now (model_meta c.args.meta.now) map holds
       pair may
 
@@ -59,20 +60,21 @@ module _ (g : Over) (c : After-finish g) (map : Contents)
       → (g.S.PageStore.state c.args.store.now).usable ≡ true
       → LeavesOnly g.S.PageStore.moment g.S.PageStore.settled_since c.args.store.now
       c.finish.new.store (StandsForEither map (insert map c.args.key.now c.args.content.now)
-      c.args.meta.now.limit)
+      (in_v1 c.args.meta.now.limit))
   moments honest usable =
       let staged = c.stage_store-staged.ensures in
       let then = staged_stands g.S.PageStore c.stage_store-staged.new.store
       (model_meta c.stage_store-staged.new.meta) (store plan pair)
-      (insert map c.args.key.now c.args.content.now) c.args.meta.now.limit
+      (insert map c.args.key.now c.args.content.now) (in_v1 c.args.meta.now.limit)
       c.stage_store-staged.result
       (stored_good g.S.PageStore c.args.store.now (model_meta c.args.meta.now) map holds pair may)
       (stored_map g.S.PageStore c.args.store.now (model_meta c.args.meta.now) map
       holds pair may)
-      (staged.exact honest plan table may there) staged.limit in
+      (staged.exact honest plan table may there)
+      (on_ok_weaker c.stage_store-staged.result (λ same. ap in_v1 same) staged.limit) in
       leaves_either g.S.PageStore c.args.store.now c.stage_store-staged.new.store c.finish.new.store
       c.stage_store-staged.result c.finish.result staged.stages honest map
-      (insert map c.args.key.now c.args.content.now) c.args.meta.now.limit holds.stands
+      (insert map c.args.key.now c.args.content.now) (in_v1 c.args.meta.now.limit) holds.stands
       (λ y is. g.met.S.PageStore.only_committed c.args.store.now y honest usable
       c.requires.writable is) then
       (c.finish.ensures.any_moment (staged.stages.honesty.1 honest)
@@ -125,7 +127,7 @@ returns-clause-turns g c honest usable map holds was =
           on_err_weaker c.finish.result
           (λ run usable_now. leaves_old g.S.PageStore c.args.store.now
           c.stage_store-staged.new.store c.finish.new.store c.stage_store-staged.result
-          c.finish.result staged.stages honest map map c.args.meta.now.limit holds.stands
+          c.finish.result staged.stages honest map map (in_v1 c.args.meta.now.limit) holds.stands
           (λ y is. g.met.S.PageStore.only_committed c.args.store.now y honest usable
           c.requires.writable is) (run usable_now))
           (c.finish.ensures.unchanged (staged.stages.honesty.1 honest)

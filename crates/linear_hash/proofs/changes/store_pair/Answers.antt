@@ -2,6 +2,7 @@ use Rattle.std.proofs.Common.{◌∙◌, ◌+◌, ap, subst}
 use Rattle.std.specs.Prelude.{if◌then◌else◌}
 use Rattle.std.specs.FinMap.{insert}
 use Rattle.std.proofs.lemmas.Result.{IfOk-from_err}
+use Rattle.dbm_model.specs.Bounds.{in_v1}
 use Rattle.page_model.specs.Pages.{Meta}
 use Rattle.dbm_model.specs.Pairs.{Pair}
 use Rattle.page_io.specs.Views.{body_at}
@@ -48,7 +49,7 @@ returns g c =
         err = tt;
         kept = λ honest. tt;
         valid = told.valid;
-        limit = told.limit ∙ ap (λ (m : Meta). m.limit) same;
+        bounds = ap in_v1 told.limit ∙ ap (λ (m : Meta). m.bounds) same;
         cause = told.cause;
         honesty = told.honesty;
         answer = told.answer;

@@ -76,7 +76,7 @@ returns-in_ok-split_bucket-clause-answer g c = no_refusal _ _
 pub returns-in_ok-split_bucket-clause-kept : goal.returns-in_ok-split_bucket-clause-kept
 returns-in_ok-split_bucket-clause-kept g c =
     let rest = c.in_ok-split_bucket.ensures.grown.rest in
-    (ap (λ (m : Meta). m.limit) rest, ap (λ (m : Meta). m.pairs) rest)
+    (ap (λ (m : Meta). m.bounds.limit) rest, ap (λ (m : Meta). m.pairs) rest)
 
 pub returns-in_ok-split_bucket-clause-still : goal.returns-in_ok-split_bucket-clause-still
 returns-in_ok-split_bucket-clause-still g c few =

@@ -1,6 +1,7 @@
 use Rattle.std.proofs.Common.{◌≡◌, ◌∙◌, ⊎_elim, ℕ, ◌+◌, ◌*◌, ◌≤◌, Bool, true, false, cond, nat_lt, IfOk, length, refl, sym, ap, subst, arith, rules}
 use Rattle.std.proofs.lemmas.Bool.{cases_lt}
 use Rattle.std.proofs.lemmas.Result.{IfOk-from_err}
+use Rattle.dbm_model.specs.Bounds.{in_v1}
 use Rattle.page_model.specs.Valid.{meta_buckets}
 use Rattle.page_model.specs.Pages.{Meta}
 use Rattle.dbm_model.specs.Pairs.{Pair}
@@ -251,7 +252,7 @@ returns-clause-stored g c honest =
     staged_ok c.stage_meta.result
     (λ page last is. written_shaped
     (Stores c.args.was_there old before after (space_in before end) pair) _ _ grown after _ last
-    change free is page (c.stage_meta.ensures.others h2) before split.kept.0)
+    change free is page (c.stage_meta.ensures.others h2) before (ap in_v1 split.kept.0))
     (c.stage_meta.ensures.page h2) c.stage_meta.ensures.end
 
 pub stage_meta-requires-clause-valid : goal.stage_meta-requires-clause-valid

@@ -6,7 +6,6 @@ use Rattle.sect_dev.specs.Device.{LeavesOnly, MoreFaults}
 use Rattle.sect_dev.specs.Moments.{IsOutcome, followed_by, weaker}
 use Rattle.chain_walks.specs.Pairs.{pair_of}
 use Rattle.dbm_model.specs.Calls.{Reply, Refused, NoRoom}
-use Rattle.dbm_model.specs.Pairs.{Contents}
 use Rattle.dbm_model.specs.States.{Handle}
 use Rattle.dbm_model.proofs.RoomLemmas.{room_is_known}
 use Rattle.page_io.specs.Meaning.{ImageStandsFor}
@@ -21,7 +20,8 @@ use Rattle.page_cache.specs.Stores.{store_below}
 use Rattle.dbm_fault.specs.declared.fault.Fault.{Fault}
 use Rattle.dbm_fault.specs.declared.fault.Fault.TheVariants.{Device}
 use Rattle.dbm_file.specs.Calls.{call_of, reply_of}
-use Rattle.dbm_file.specs.Database.{meta_kept, page_state, IsAt}
+use Rattle.dbm_file.specs.Database.{page_state, IsAt}
+use Rattle.dbm_file.specs.Held.{Held}
 use Rattle.dbm_file.specs.Opened.{device_below}
 use Rattle.dbm_file.proofs.Closings.{lower, left_now}
 use Rattle.dbm_file.proofs.OpenedFiles.{stands_for}
@@ -111,7 +111,6 @@ returns-clause-leaves g c honest h at usable =
     let then = more.keeps.goes.honesty.1 still in
     let last = run.after in
     let ends = more.ends still last run.is_at in
-    let limit = ap (λ (x : Handle). x.state.limit) run.is_at.shows in
     let all = ap (λ (x : Handle). x.state.usable) run.is_at.shows in
     let most = dev.faults left in
     let told : last.faults ≡ dev.faults (device_below mid) =
@@ -132,12 +131,10 @@ returns-clause-leaves g c honest h at usable =
       stand = λ image is. (
         held one.done.state,
         is_first (held one.done.state) [] (held one.done.state) refl,
-        subst (λ (m : Contents). ImageStandsFor (settled (dev.sectors left / 4) image) m
-            one.done.state.limit) one.same.0
-            (subst (λ (n : ℕ). ImageStandsFor (settled (dev.sectors left / 4) image)
-            one.shown.state.map n) one.same.1
+        subst (λ (x : Held). ImageStandsFor (settled (dev.sectors left / 4) image) x.map x.bounds)
+            one.same
             (closed.stands (closed.honesty.1 then) one.shown one.is_at
-            (ap (λ (x : Handle). x.state.usable) one.is_at.shows ∙ now) image is)),
+            (ap (λ (x : Handle). x.state.usable) one.is_at.shows ∙ now) image is),
       );
     })
     (λ was now.
@@ -158,7 +155,7 @@ returns-clause-leaves g c honest h at usable =
     let lowered = lower dev (λ cached. device_of (store_below cached)) mid.store new.store _
     (StandsForOne members) more.keeps.goes.capacity one.survives
     (λ y some. doubted_one most h last calls group replies run.run (all ∙ was) few one.count
-    one.broken.stored one.broken.run asked y (meta_kept mid).limit limit some) in (
+    one.broken.stored one.broken.run asked y some) in (
       one.count,
       record {
         after = members;
@@ -176,7 +173,7 @@ returns-clause-leaves g c honest h at usable =
       },
     ))
     (λ broken. broke c.args.db mid h calls group replies (dev.sectors left / 4) (dev.candidate left)
-    most at usable run few c.in-Ok.ensures.goes.limit broken
+    most at usable run few broken
     (λ image is. same_settles _ mid new (settled (dev.sectors left / 4) image)
     (more.keeps.goes.still broken) (closed.settles then image is)))
 
@@ -199,7 +196,6 @@ returns-clause-any_moment g c honest h at usable =
     let then = more.keeps.goes.honesty.1 still in
     let last = run.after in
     let ends = more.ends still last run.is_at in
-    let limit = ap (λ (x : Handle). x.state.limit) run.is_at.shows in
     let all = ap (λ (x : Handle). x.state.usable) run.is_at.shows in
     let most = dev.faults left in
     let told : last.faults ≡ dev.faults (device_below mid) =
@@ -213,8 +209,7 @@ returns-clause-any_moment g c honest h at usable =
     let within = λ (e : Ending) (same : replies_in e ≡ replies).
     lower dev (λ cached. device_of (store_below cached)) old.store mid.store _ (Left e)
     goes.capacity (run.survives (sym (ap (λ (x : Handle). x.state.usable) at.shows) ∙ usable))
-    (left_within most h last calls group replies (meta_kept old).limit e same usable few
-    (ap (λ (x : Handle). x.state.limit) at.shows)) in
+    (left_within most h last calls group replies e same usable few) in
     by_ending (page_state mid).usable (page_state new).usable stored c.close-dev.result.1
     c.ended.result c.in-Ok.replies more.keeps.broken closed.broken c.ended.ensures.rested
     c.ended.ensures.failed c.ended.ensures.broke_group c.ended.ensures.broke
@@ -234,16 +229,15 @@ returns-clause-any_moment g c honest h at usable =
     (lower dev (λ cached. device_of (store_below cached)) mid.store new.store _ (Left told)
     more.keeps.goes.capacity
     (group_moments most h last calls group replies run.run (all ∙ was) few _ mid new stored ends was
-    now closed.later more.keeps.goes.limit limit) (λ y is. is))) (λ y is. is))
+    now closed.later) (λ y is. is))) (λ y is. is))
     (subst (λ (n : ℕ). LeavesOnly dev.moment (outcome n) (device_below new) left (Left told))
     (more.keeps.goes.capacity ∙ goes.capacity)
     (weaker dev.moment (outcome (dev.sectors (device_below new) / 4)) (device_below new) left
     (Left told) _ (closed.any_moment then)
     (λ y may. left_grouped most h last calls group replies run.run (all ∙ was) few
     (result_unwrap_or stored 0) one.done y one.run (omega (arith, one.counts.1, rose, closed.later))
-    (subst (λ (m : Contents). ImageStandsFor y m one.done.state.limit) one.same.0
-    (subst (λ (n : ℕ). ImageStandsFor y one.shown.state.map n) one.same.1
-    (stands_for _ new one.shown y one.is_at shown may)))))) (λ y is. is))
+    (subst (λ (x : Held). ImageStandsFor y x.map x.bounds) one.same
+    (stands_for _ new one.shown y one.is_at shown may))))) (λ y is. is))
     (λ was now.
     let one = broken_group _ mid new last group stored ends more.keeps.breaks was (all ∙ was) now in
     let shown : one.after.faults ≡ dev.faults (device_below new) =
@@ -260,7 +254,7 @@ returns-clause-any_moment g c honest h at usable =
           more.keeps.goes.capacity one.survives
           (λ y some. left_in_group most h last calls group replies run.run (all ∙ was) few one.count
           one.broken.stored one.broken.run (omega (arith, one.broken.counts, shown, closed.later)) y
-          (meta_kept mid).limit limit some))) (λ y is. is)),
+          some))) (λ y is. is)),
     ))
     (λ broken.
     let now = ⊎_elim (λ same. same ∙ broken) (λ device. device.1) more.keeps.breaks in

@@ -14,7 +14,7 @@ returns-clause-found c =
     (ap (λ (s : address.Shape). s.level) shape ∙ c.u32_at.ensures)
     (ap (λ (s : address.Shape). s.split) shape ∙ c.u32_at-2.ensures)
     c.u32_at-5.ensures c.u32_at-6.ensures
-    (c.segments_of.ensures ∙ ap (numbers_at bytes 64) c.u32_at-count.ensures)
+    (c.segments_of.ensures ∙ ap (numbers_at bytes 64) c.u32_at-count.ensures) c.requires
 
 pub returns-clause-only : goal.returns-clause-only
 returns-clause-only c = (

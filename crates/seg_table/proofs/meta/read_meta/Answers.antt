@@ -53,7 +53,7 @@ returns-in-Some-clause-found c =
     )
 
 pub returns-in-Some-clause-only : goal.returns-in-Some-clause-only
-returns-in-Some-clause-only c = λ m h e.
+returns-in-Some-clause-only c = λ m h first e.
     c.in-Some.ensures.found ∙ fields_again c.args.page.now.bytes m h e
 
 pub returns-in-Some-clause-body : goal.returns-in-Some-clause-body

@@ -19,7 +19,7 @@ returns-then-is_broken g c =
         lends_broken g.S.PageStore c.args.self.now (Fetch c.args.key.now) NoRecord _
             _ _ c.refuse.new.error _ c.refuse.ensures.flag c.refuse.result answer refl
             (c.is_broken.ensures.0 c.if-is_broken.true)
-            (λ h broken. broken_fetch h.state c.args.key.now broken),
+            (λ h broken. broken_fetch h c.args.key.now broken),
       ),
       record {
         after = tt;

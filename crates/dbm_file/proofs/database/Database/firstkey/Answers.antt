@@ -19,7 +19,7 @@ returns-then-is_broken g c =
         lends_broken g.S.PageStore c.args.self.now First End _ _ _
             c.refuse.new.error _ c.refuse.ensures.flag c.refuse.result answer refl
             (c.is_broken.ensures.0 c.if-is_broken.true)
-            (λ h broken. broken_first h.state broken),
+            (λ h broken. broken_first h broken),
       ),
       record {
         after = tt;

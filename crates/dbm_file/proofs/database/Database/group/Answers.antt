@@ -17,7 +17,7 @@ returns-clause-over g c =
           ∙ g.met.S.PageStore.ends c.args.self.now.store;
       same = λ honest. ap (λ (st : StoreState). st.base) state;
       honesty = c.over.ensures.honesty;
-      limit = ap (λ (m : Meta). m.limit) c.copied.ensures;
+      bounds = ap (λ (m : Meta). m.bounds) c.copied.ensures;
       capacity = ap (λ (st : StoreState). st.capacity) state;
       writable = ap (λ (st : StoreState). st.writable) state;
     }

@@ -19,7 +19,7 @@ returns-then-is_broken g c =
         (λ _. tt),
         lends_broken g.S.PageStore c.args.self.now Next End _ _ _ c.refuse.new.error
             _ c.refuse.ensures.flag c.refuse.result answer refl
-            (c.is_broken.ensures.0 c.if-is_broken.true) (λ h broken. broken_next h.state broken),
+            (c.is_broken.ensures.0 c.if-is_broken.true) (λ h broken. broken_next h broken),
       ),
       record {
         after = tt;

@@ -7,7 +7,7 @@ use Rattle.dbm_fault.specs.Faults.{fault_from}
 use Rattle.dbm_file.specs.Database.{store_of, page_state}
 use Rattle.dbm_file.proofs.GroupEnds.{none_grouped, group_refused, group_told, all_grouped, group_broke}
 use Rattle.dbm_file.proofs.GroupSteps.{read_on}
-use Rattle.dbm_file.proofs.ReadSteps.{not_broken, still_limit}
+use Rattle.dbm_file.proofs.ReadSteps.{not_broken, still_bounds}
 use Rattle.dbm_file.proofs.database.Database.store_group.Goals as goal
 
 pub returns-in_err-stored-clause-ends : goal.returns-in_err-stored-clause-ends
@@ -40,7 +40,7 @@ returns-in-Ok-true-clause-ends g c honest h at =
     all_grouped s _ old mid _ first last h at honest c.requires.usable c.requires.writable pairs
     (filled.stored (begun.over.honesty.1 honest) h.state.map (begun.is_at honest h at))
     (not_broken _ _ c.is_broken.ensures c.if-is_broken.false) begun.end begun.meta
-    begun.over.capacity (filled.over.limit ∙ still_limit s old mid filled.reads)
+    begun.over.capacity (filled.over.bounds ∙ still_bounds s old mid filled.reads)
     record {
       read = filled.reads;
       error_is = filled.reads.error_is;
@@ -86,7 +86,7 @@ returns-clause-ends g c honest h at =
     group_broke s _ old mid _ first last h at honest c.requires.usable c.requires.writable pairs
     (filled.stored (begun.over.honesty.1 honest) h.state.map (begun.is_at honest h at))
     (not_broken _ _ c.is_broken.ensures c.if-is_broken.false) begun.end begun.meta
-    begun.over.capacity (filled.over.limit ∙ still_limit s old mid filled.reads)
+    begun.over.capacity (filled.over.bounds ∙ still_bounds s old mid filled.reads)
     record {
       read = filled.reads;
       error_is = filled.reads.error_is;
@@ -95,7 +95,7 @@ returns-clause-ends g c honest h at =
       any_moment = all.any_moment mid_honest (filled.over.same mid_honest);
     }
     (more_later _ _ _ filled.reads.reads.stages_only.later (all.cause.fault (ap Err all.broke.0)))
-    (ap (λ (st : StoreState). st.usable) all.broke.1) (still_limit s old mid filled.reads)
+    (ap (λ (st : StoreState). st.usable) all.broke.1) (still_bounds s old mid filled.reads)
     (ap (λ (st : StoreState). st.writable) all.broke.1
     ∙ ap (λ (st : StoreState). st.writable) filled.reads.reads.same)
     (map pair_of c.args.pairs.now) c.in_ok-stored.stored

@@ -29,7 +29,7 @@ returns-then-is_broken g c =
           let db = c.args.self.now in
           let broken = c.is_broken.ensures.0 c.if-is_broken.true in
           from_own at (broken_step g.S.PageStore db map _ broken
-          (broken_delete (handle_of db map).state c.args.key.now broken));
+          (broken_delete (handle_of db map) c.args.key.now broken));
       ends = unusable_delete c.args.self.now c.args.key.now
           (c.is_broken.ensures.0 c.if-is_broken.true);
       pass = refl;
@@ -44,7 +44,7 @@ returns-then-not-self g c =
     record {
       step = λ honest h at.
           let map = h.state.map in
-          let falls = delete_read_only (handle_of db map).state key usable
+          let falls = delete_read_only (handle_of db map) key usable
           (db.told ∙ c.if-not-self.true) in
           from_own at (rejected_step s db db map _
           (no_read s db (λ y h left. g.met.S.PageStore.only_now db.store y h left)) honest
@@ -68,15 +68,15 @@ returns-in_err-has g c =
     record {
       step = λ honest h at.
           let map = h.state.map in
-          let falls = delete_rule (handle_of db map).state key usable writable in
+          let falls = delete_rule (handle_of db map) key usable writable in
           from_own at (delete_told c.has.new.self c.in_err-has.field-0.0
           (walk_failed_step s db c.has.new.self map _ c.in_err-has.ensures.reads honest
           (at.map usable) (at.rests usable)
           _ c.in_err-has.field-0.0 usable c.in_err-has.ensures.answer c.in_err-has.ensures.cause
           (c.in_err-has.ensures.whole honest map (at.map usable))
           (λ reply after fails. subst (λ (rule : Case).
-          Suffers (handle_of db map) rule reply after) (sym falls)
-          (delete_fails (handle_of db map) reply after fails key (get map key))))
+          Suffers (handle_of db map) (model.Delete key) rule reply after) (sym falls)
+          (delete_fails (handle_of db map) (model.Delete key) reply after fails key (get map key))))
           c.from_residual.result c.from_residual.ensures.1);
       ends = told_delete db key usable writable c.has.new.self c.from_residual.result
           c.in_err-has.field-0.0 told (as_change _ all.answer.only)
@@ -99,7 +99,7 @@ returns-then-not-branch g c =
           let state = (handle_of db map).state in
           let none = sym (c.in_ok-has.ensures.exact honest map (at.map usable))
           ∙ c.if-not-branch.true in
-          let falls = delete_rule state key usable writable ∙ absent state key (get map key) none in
+          let falls = delete_rule (handle_of db map) key usable writable ∙ absent state key (get map key) none in
           from_own at (found_step s db c.has.new.self map _ c.in_ok-has.ensures.reads honest
           (at.map usable) (at.rests usable) model.Absent refl falls);
       ends = absent_delete db key usable writable c.has.new.self all.reads

@@ -1,11 +1,11 @@
-use Rattle.std.proofs.Common.{◌≡◌, ◌<◌, ◌≤◌, ◌∙◌, ap, sym, subst, refl, true, false, Err, arith, rules}
+use Rattle.std.proofs.Common.{◌≡◌, ◌+◌, length, ◌<◌, ◌≤◌, ◌∙◌, ap, sym, subst, refl, true, false, Err, arith, rules}
+use Rattle.std.proofs.lemmas.Bool.{le-leb, lt-leb}
 use Rattle.std.specs.FinMap.{get, insert, len}
 use Rattle.dbm_model.specs.Calls as model
 use Rattle.dbm_model.specs.Steps.{Case, Suffers}
 use Rattle.dbm_file.specs.Calls.{mode_of}
 use Rattle.dbm_file.specs.Passing.{model_pass}
 use Rattle.page_io.specs.Store.{StoreState}
-use Rattle.page_model.specs.Valid.{meta_buckets}
 use Rattle.seg_table.specs.MetaPages.{model_meta}
 use Rattle.dbm_file.specs.Database.{handle_of, meta_kept}
 use Rattle.dbm_file.specs.declared.calls.StoreMode.TheVariants.{Replace}
@@ -16,7 +16,7 @@ use Rattle.dbm_file.proofs.Cases.{broken_store, store_read_only, too_long_rule, 
 use Rattle.dbm_file.proofs.ReadSteps.{from_own, no_read, still_meta, still_writable, not_broken, found_step, declined_step, rejected_step, walk_failed_step, broken_step}
 use Rattle.dbm_file.proofs.ChangeSteps.{mid_honest, mid_usable, mid_holds, mid_pairs, mid_buckets, changed_step, store_growth, refused_step, told_keeps}
 use Rattle.dbm_file.proofs.Endings.{unusable_store, unwritable_store, long_store, told_store, kept_store, full_store, done_store, walk_told, done_keeps, changed_shape}
-use Rattle.dbm_file.proofs.BucketSteps.{store_opens, would_open, full_buckets}
+use Rattle.dbm_file.proofs.BucketSteps.{store_opens, would_take, full_buckets}
 use Rattle.dbm_file.proofs.Refused.{as_change, walk_no_memory}
 use Rattle.dbm_file.proofs.Done.{was_put}
 use Rattle.dbm_file.proofs.Searches.{was_found}
@@ -33,7 +33,7 @@ returns-then-is_broken g c =
           let db = c.args.self.now in
           let broken = c.is_broken.ensures.0 c.if-is_broken.true in
           from_own at (broken_step g.S.PageStore db map _ broken
-          (broken_store (handle_of db map).state c.args.key.now c.args.content.now
+          (broken_store (handle_of db map) c.args.key.now c.args.content.now
           (mode_of c.args.mode) broken));
       ends = unusable_store c.args.self.now c.args.key.now
           (c.is_broken.ensures.0 c.if-is_broken.true) c.args.content.now c.args.mode;
@@ -51,7 +51,7 @@ returns-then-not-self g c =
     record {
       step = λ honest h at.
           let map = h.state.map in
-          let falls = store_read_only (handle_of db map).state key content (mode_of mode)
+          let falls = store_read_only (handle_of db map) key content (mode_of mode)
           usable (db.told ∙ c.if-not-self.true) in
           from_own at (rejected_step s db db map _
           (no_read s db (λ y h left. g.met.S.PageStore.only_now db.store y h left)) honest
@@ -74,8 +74,8 @@ returns-then-key-content-gt-MAX_PAIR g c =
     record {
       step = λ honest h at.
           let map = h.state.map in
-          let falls = too_long_rule (handle_of db map).state key content (mode_of mode) usable
-          writable c.if-key-content-gt-MAX_PAIR.true in
+          let falls = too_long_rule (handle_of db map) key content (mode_of mode) usable
+          writable (lt-leb (length key + length content) 2026 c.if-key-content-gt-MAX_PAIR.true) in
           from_own at (rejected_step s db db map _
           (no_read s db (λ y h left. g.met.S.PageStore.only_now db.store y h left)) honest
           (at.map usable) (at.rests usable) TooLong falls);
@@ -104,15 +104,17 @@ returns-in_err-was_there g c =
           let map = h.state.map in
           let held = at.map usable in
           let state = (handle_of db map).state in
-          let falls = store_rule state key content (mode_of mode) usable writable short in
+          let near = le-leb (length key + length content) 2026 short in
+          let falls = store_rule (handle_of db map) key content (mode_of mode) usable writable near in
           from_own at (store_told c.has.new.self c.in_err-was_there.field-0.0
           (walk_failed_step s db c.has.new.self map _ c.in_err-was_there.ensures.reads honest
           held (at.rests usable)
           _ c.in_err-was_there.field-0.0 usable c.in_err-was_there.ensures.answer
           c.in_err-was_there.ensures.cause (c.in_err-was_there.ensures.whole honest map held)
           (λ reply after fails. subst (λ (rule : Case).
-          Suffers (handle_of db map) rule reply after) (sym falls)
-          (store_fails (handle_of db map) reply after fails key content (mode_of mode)
+          Suffers (handle_of db map) (model.Store key content (mode_of mode)) rule reply after) (sym falls)
+          (store_fails (handle_of db map) (model.Store key content (mode_of mode)) reply after fails
+          key content (mode_of mode)
           (get map key))))
           c.from_residual.result c.from_residual.ensures.1);
       ends = told_store db key usable writable c.has.new.self content mode short
@@ -139,7 +141,8 @@ returns-then-eq g c =
           let held = at.map usable in
           let there = sym (c.in_ok-was_there.ensures.exact honest map held) ∙ c.if-was_there.true in
           let state = (handle_of db map).state in
-          let falls = store_rule state key content (mode_of mode) usable writable short
+          let near = le-leb (length key + length content) 2026 short in
+          let falls = store_rule (handle_of db map) key content (mode_of mode) usable writable near
           ∙ kept state key content (get map key) (mode_of mode) there (ap mode_of inserts) in
           from_own at (found_step s db c.has.new.self map _ c.in_ok-was_there.ensures.reads
           honest held (at.rests usable) model.Kept refl falls);
@@ -166,6 +169,7 @@ returns-then-self g c =
           let absent = sym (c.in_ok-was_there.ensures.exact honest map held) ∙ told_absent in
           let state = (handle_of db map).state in
           let read = c.in_ok-was_there.ensures.reads in
+          let near = le-leb (length key + length content) 2026 short in
           let many : db.meta.limit ≤ len map =
           omega (
             arith,
@@ -174,7 +178,7 @@ returns-then-self g c =
             ap (λ m. m.limit) read.meta_is,
             ap (λ m. m.pairs) read.meta_is,
           ) in
-          let falls = store_rule state key content (mode_of mode) usable writable short
+          let falls = store_rule (handle_of db map) key content (mode_of mode) usable writable near
           ∙ full state key content (get map key) (mode_of mode) absent many in
           from_own at (declined_step s db c.has.new.self map _ read honest held
           (at.rests usable) Full falls);
@@ -217,19 +221,18 @@ returns-in_err-store_pair g c =
           ] in
           let asked = store_asked s db c.has.new.self map key c.in_ok-was_there.ensures.reads
           usable writable honest (at.map usable) (at.rests usable)
-          content mode c.in_ok-was_there.was_there short there replaces few in
+          content mode c.in_ok-was_there.was_there
+          (le-leb (length key + length content) 2026 short) there replaces few in
           from_own at (store_told _ c.in_err-store_pair.field-0.0
           (refused_step s asked _ c.in_err-store_pair.field-0.0
           record { ends = all.ends; error_is = refl; pass_is = refl }
           (all.turns (mid_honest s asked) (mid_usable s asked) map (mid_holds s asked) there)
           (λ t x le left. g.met.S.PageStore.counts_now c.store_pair.new.store t x
           (all.ends.honesty.1 (mid_honest s asked)) le left)
-          (λ is. (
-            refl,
-            would_open map key content c.in_ok-was_there.was_there (meta_kept c.has.new.self)
-                (meta_buckets (meta_kept db)) there (mid_pairs s asked) (mid_buckets s asked)
-                (all.memory (ap Err is)),
-          )))
+          (λ is. would_take (handle_of db map) key content (mode_of mode)
+          c.in_ok-was_there.was_there (meta_kept db) (meta_kept c.has.new.self) there db.valid
+          (still_meta s db c.has.new.self read) (mid_pairs s asked) (mid_buckets s asked)
+          (all.memory (ap Err is))))
           c.from_residual-in_err-store_pair.result c.from_residual-in_err-store_pair.ensures.1);
       ends = told_store db key usable writable _ content mode short r c.in_err-store_pair.field-0.0
           told all.ends.answer.only
@@ -271,7 +274,8 @@ returns g c =
           ] in
           let asked = store_asked s db c.has.new.self map key c.in_ok-was_there.ensures.reads
           usable writable honest (at.map usable) (at.rests usable)
-          content mode c.in_ok-was_there.was_there short there replaces few in
+          content mode c.in_ok-was_there.was_there
+          (le-leb (length key + length content) 2026 short) there replaces few in
           let turns = all.turns (mid_honest s asked) (mid_usable s asked) map (mid_holds s asked)
           there in
           from_own at (changed_step s asked _
@@ -299,7 +303,9 @@ returns g c =
     }
 
 pub store_pair-requires-clause-allowed : goal.store_pair-requires-clause-allowed
-store_pair-requires-clause-allowed g c = search rules
+store_pair-requires-clause-allowed g c =
+    le-leb (length c.args.key.now + length c.args.content.now) 2026
+    c.if-key-content-gt-MAX_PAIR.false
 
 pub store_pair-requires-clause-room : goal.store_pair-requires-clause-room
 store_pair-requires-clause-room g c = search rules

@@ -51,7 +51,7 @@ returns-clause-counts g c honest h at usable =
     let db = c.args.self.now in
     let held = at.map (shown_usable db h at usable) in
     let pairs = c.in_ok-verify.field-0 in (
-      pairs_of_map (s.committed db.store) pairs h.state.map (meta_kept db).limit held.stands
+      pairs_of_map (s.committed db.store) pairs h.state.map (meta_kept db).bounds held.stands
           (file_read s db.store db.idle (g.met.S.PageStore.ends db.store) pairs
           (c.in_ok-verify.ensures.good honest)),
       λ is. absurd (let e = is in cc),
