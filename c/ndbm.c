@@ -11,14 +11,16 @@
 
 #include "parts.h"
 
-enum { ROOM = 2048, LIMIT = 1000000, GROUP_PAIRS = 8192, GROUP_BYTES = 1 << 20 };
+enum { LIMIT = 1000000, GROUP_PAIRS = 8192, GROUP_BYTES = 1 << 20, FAR_SHARE = 4 };
 
+/* The room for a content is the last part. It is written no further than the longest content that was given, so that the system
+ * need not have memory for the rest of it. */
 struct ndbm_database {
     struct served served;
     bool writable;
     /* what was given last by dbm_firstkey or dbm_nextkey, and by dbm_fetch */
-    alignas(max_align_t) unsigned char key[ROOM];
-    alignas(max_align_t) unsigned char content[ROOM];
+    alignas(max_align_t) unsigned char key[KEY_ROOM];
+    alignas(max_align_t) unsigned char content[CONTENT_ROOM];
 };
 
 static int misuse(void) {
@@ -57,6 +59,7 @@ static int open_database(DBM *db, const char *file, int flags, mode_t mode, cons
                         .create = flags & O_CREAT,
                         .exclusive = flags & O_EXCL,
                         .truncate = flags & O_TRUNC,
+                        .first_version = how->options & DBMX_VERSION_1,
                         .limit = how->limit ? how->limit : LIMIT};
     db->writable = asked.writable;
     return ndbm_served_open(&db->served, fd, &asked);
@@ -68,7 +71,7 @@ static DBM *opened(const char *file, int flags, mode_t mode, const dbmx_how *how
                              O_DSYNC | O_NONBLOCK | O_NOCTTY | O_NOATIME;
     if (!how) how = &plain;
     *fault = 0;
-    if (!file || (flags & ~known) || (flags & O_ACCMODE) == O_ACCMODE || (how->options & ~DBMX_UNLOCKED)) {
+    if (!file || (flags & ~known) || (flags & O_ACCMODE) == O_ACCMODE || (how->options & ~(DBMX_UNLOCKED | DBMX_VERSION_1))) {
         misuse();
         return NULL;
     }
@@ -110,19 +113,33 @@ static datum given(int32_t status, void *at, size_t length) {
     return status ? (datum){NULL, 0} : (datum){at, length};
 }
 
-datum dbm_fetch(DBM *db, datum key) {
-    /* the key may lie in the bytes of the last content */
-    unsigned char out[ROOM];
-    size_t length = 0;
+/* the status of a fetch into the room for a content, within a call */
+static int32_t fetch(struct served *served, datum key, unsigned char *content, size_t *length) {
     int32_t status;
-    if (!db || !is_datum(key)) return given(misuse(), NULL, 0);
-    if (!ndbm_served_begins(&db->served)) return given(-1, NULL, 0);
     do {
-        status = ndbm_c_fetch(&db->served.handle, bytes_of(key), key.dsize, out, &length);
-    } while (ndbm_served_again(&db->served, status));
-    status = ndbm_served_ends(&db->served, status);
-    if (!status) memcpy(db->content, out, length);
-    return given(status, db->content, length);
+        status = ndbm_c_fetch(&served->handle, bytes_of(key), key.dsize, content, length);
+    } while (ndbm_served_again(served, status));
+    return status;
+}
+
+/* The same where the key may lie in the room. Of such a key there is a copy, since it is read while the content is written. */
+static int32_t fetch_apart(struct served *served, datum key, unsigned char *content, size_t *length) {
+    uintptr_t from = (uintptr_t)key.dptr, room = (uintptr_t)content;
+    if (!key.dsize || from >= room + CONTENT_ROOM || room >= from + key.dsize) return fetch(served, key, content, length);
+    void *copy = malloc(key.dsize);
+    if (!copy) return -MEMORY;
+    memcpy(copy, key.dptr, key.dsize);
+    int32_t status = fetch(served, (datum){copy, key.dsize}, content, length);
+    free(copy);
+    return status;
+}
+
+datum dbm_fetch(DBM *db, datum key) {
+    size_t length = 0;
+    if (!db || !is_datum(key)) return given(misuse(), NULL, 0);
+    if (!ndbm_served_begins(&db->served, OF_PAIR)) return given(-1, NULL, 0);
+    int32_t status = fetch_apart(&db->served, key, db->content, &length);
+    return given(ndbm_served_ends(&db->served, status), db->content, length);
 }
 
 /* the key that this export gives */
@@ -130,7 +147,7 @@ static datum next_of_pass(DBM *db, int32_t (*export)(struct handle *, unsigned c
     size_t length = 0;
     int32_t status;
     if (!db) return given(misuse(), NULL, 0);
-    if (!ndbm_served_begins(&db->served)) return given(-1, NULL, 0);
+    if (!ndbm_served_begins(&db->served, OF_FILE)) return given(-1, NULL, 0);
     do {
         status = export(&db->served.handle, db->key, &length);
     } while (ndbm_served_again(&db->served, status));
@@ -149,7 +166,7 @@ static int store(DBM *db, datum key, datum content, bool replace) {
     const unsigned char *bytes = bytes_of(content);
     int32_t status;
     if (!is_datum(key) || !is_datum(content)) return misuse();
-    if (!ndbm_served_begins(&db->served)) return -1;
+    if (!ndbm_served_begins(&db->served, OF_PAIR)) return -1;
     do {
         status = ndbm_c_store(&db->served.handle, bytes_of(key), key.dsize, bytes, content.dsize, replace);
     } while (ndbm_served_again(&db->served, status));
@@ -165,7 +182,7 @@ int dbm_store(DBM *db, datum key, datum content, int store_mode) {
 int dbm_delete(DBM *db, datum key) {
     int32_t status;
     if (!db || !is_datum(key)) return misuse();
-    if (!ndbm_served_begins(&db->served)) return -1;
+    if (!ndbm_served_begins(&db->served, OF_PAIR)) return -1;
     do {
         status = ndbm_c_delete(&db->served.handle, bytes_of(key), key.dsize);
     } while (ndbm_served_again(&db->served, status));
@@ -194,19 +211,34 @@ int dbm_rdonly(DBM *db) {
     return db ? !db->writable : misuse();
 }
 
-/* a call by an export that has no arguments */
+/* a call by an export that has no arguments: its number, or -1 */
 static int call(DBM *db, int32_t (*export)(struct handle *)) {
     int32_t status;
     if (!db) return misuse();
-    if (!ndbm_served_begins(&db->served)) return -1;
+    if (!ndbm_served_begins(&db->served, OF_FILE)) return -1;
     do {
         status = export(&db->served.handle);
     } while (ndbm_served_again(&db->served, status));
-    return ndbm_served_ends(&db->served, status) ? -1 : 0;
+    status = ndbm_served_ends(&db->served, status);
+    return status < 0 ? -1 : status;
 }
 
 int dbmx_sync(DBM *db) {
     return call(db, ndbm_c_sync);
+}
+
+static bool is_near(size_t key, size_t content) {
+    return key <= DBMX_PAIR_MAX && content <= DBMX_PAIR_MAX - key;
+}
+
+/* Whether a database of version 2 may have a pair of such sizes. Where one of version 1 may not, the crate ends a group there. */
+static bool is_allowed(size_t key, size_t content) {
+    return is_near(key, content) || (key <= DBMX_KEY_MAX && content <= DBMX_CONTENT_MAX);
+}
+
+/* How much of a group a pair takes. A content with pages of its own takes free pages, each of which the group may lack. */
+static size_t share_of(size_t key, size_t content) {
+    return is_near(key, content) ? key + content : FAR_SHARE * (key + content);
 }
 
 /* How many of the pairs go into a group. One that is too long to be stored ends them. */
@@ -215,26 +247,30 @@ static size_t size_of_group(const dbmx_pair *pairs, size_t count) {
     for (; n < count && n < GROUP_PAIRS; n++) {
         datum key = pairs[n].key, content = pairs[n].content;
         if (!is_datum(key) || !is_datum(content)) break;
-        if (key.dsize > DBMX_PAIR_MAX || content.dsize > DBMX_PAIR_MAX - key.dsize) break;
-        if (key.dsize + content.dsize > GROUP_BYTES - size) break;
-        size += key.dsize + content.dsize;
+        if (!is_allowed(key.dsize, content.dsize)) break;
+        size_t share = share_of(key.dsize, content.dsize);
+        if (share > GROUP_BYTES - size) break;
+        size += share;
     }
     return n;
 }
 
-/* Looks each key up, so that the device is given the pages where they are. It answers 0, or a status where the system refused
- * to read one. */
-static int32_t look_up(struct served *served, const dbmx_pair *pairs, size_t count) {
-    unsigned char out[ROOM];
-    size_t length;
+/* Looks keys up, so that the device is given the pages where they and their contents are, up to the content that makes them more
+ * than GROUP_BYTES together. It answers 0, and in `count` how many were looked up, or a status where there is no memory for a
+ * content or the system refused to read a page. */
+static int32_t look_up(struct served *served, const dbmx_pair *pairs, size_t *count) {
+    unsigned char *content = malloc(CONTENT_ROOM);
+    size_t n = 0, size = 0;
     int32_t status = 0;
-    for (size_t i = 0; i < count && !served->system; i++) {
-        datum key = pairs[i].key;
-        do {
-            status = ndbm_c_fetch(&served->handle, bytes_of(key), key.dsize, out, &length);
-        } while (ndbm_served_again(served, status));
+    if (!content) return -MEMORY;
+    for (; n < *count && size <= GROUP_BYTES && !served->system; n++) {
+        size_t length = 0;
+        status = fetch(served, pairs[n].key, content, &length);
         if (status < 0 && !served->system) ndbm_served_forgets(served);
+        size += length;
     }
+    free(content);
+    *count = n;
     return served->system ? status : 0;
 }
 
@@ -250,8 +286,9 @@ static int32_t store_kept(struct served *served, const dbmx_pair *pairs, size_t 
 }
 
 static int32_t store_group(struct served *served, const dbmx_pair *pairs, size_t count, size_t *stored) {
-    int32_t status = look_up(served, pairs, count);
+    int32_t status = look_up(served, pairs, &count);
     if (status) return status;
+    served->reading = OF_GROUP;
     do {
         status = store_kept(served, pairs, count, stored);
     } while (ndbm_served_again(served, status));
@@ -262,7 +299,7 @@ static int32_t store_group(struct served *served, const dbmx_pair *pairs, size_t
 static int store_some(DBM *db, const dbmx_pair *pairs, size_t count, size_t *done) {
     size_t n = size_of_group(pairs, count), stored = 0;
     if (n) {
-        if (!ndbm_served_begins(&db->served)) return -1;
+        if (!ndbm_served_begins(&db->served, OF_PAIR)) return -1;
         if (ndbm_served_ends(&db->served, store_group(&db->served, pairs, n, &stored))) return -1;
     }
     *done += stored;
@@ -285,7 +322,7 @@ int dbmx_store_many(DBM *db, const dbmx_pair *pairs, size_t count, size_t *store
 int dbmx_stat(DBM *db, dbmx_numbers *numbers) {
     int32_t status;
     if (!db || !numbers) return misuse();
-    if (!ndbm_served_begins(&db->served)) return -1;
+    if (!ndbm_served_begins(&db->served, OF_FILE)) return -1;
     do {
         status = ndbm_c_stat(&db->served.handle, numbers);
     } while (ndbm_served_again(&db->served, status));
@@ -294,6 +331,14 @@ int dbmx_stat(DBM *db, dbmx_numbers *numbers) {
 
 int dbmx_verify(DBM *db) {
     return call(db, ndbm_c_verify);
+}
+
+int dbmx_version(DBM *db) {
+    return call(db, ndbm_c_version);
+}
+
+int dbmx_upgrade(DBM *db) {
+    return call(db, ndbm_c_upgrade);
 }
 
 const char *dbmx_error_text(int fault) {

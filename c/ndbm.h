@@ -33,7 +33,7 @@ typedef struct ndbm_database DBM;
 
 /* Where a call fails, it answers -1 or a null pointer, and errno says why. A call that succeeds leaves errno as it was. */
 
-/* opens the database in the file `file`.db; mode is that of a file that is made */
+/* opens the database in the file `file`.db; mode is that of a file that is made, which is of version 2 of the file format */
 DBM *dbm_open(const char *file, int flags, mode_t mode);
 void dbm_close(DBM *db);
 /* 0, or 1 where DBM_INSERT finds the key */
@@ -55,12 +55,17 @@ int dbm_dirfno(DBM *db);
 /* 1 where the database was opened for reading, else 0 */
 int dbm_rdonly(DBM *db);
 
-/* the most bytes that a key and its content have together */
+/* The most bytes that a key and its content have together in a database of version 1 of the file format. One of version 2 has
+ * such pairs, and also those whose key and content have at most so many bytes. */
 #define DBMX_PAIR_MAX 2026
+#define DBMX_KEY_MAX 1023
+#define DBMX_CONTENT_MAX 65535
 
 /* an option of dbmx_how: the file isn't locked. The program then has to see to it that no other opening has the file while one
  * may write it; else pairs are lost, and the file is damaged. */
 #define DBMX_UNLOCKED 1u
+/* an option of dbmx_how: a database that is made or emptied is of version 1, and else of version 2 */
+#define DBMX_VERSION_1 2u
 
 /* how a database is opened; all members 0: as dbm_open does */
 typedef struct {
@@ -68,7 +73,7 @@ typedef struct {
     unsigned limit;
     /* for so many seconds the opening is tried again where another program has the file open */
     unsigned wait;
-    /* 0 or DBMX_UNLOCKED */
+    /* 0, or of DBMX_UNLOCKED and DBMX_VERSION_1 those that are wanted */
     unsigned options;
 } dbmx_how;
 
@@ -95,6 +100,10 @@ int dbmx_store_many(DBM *db, const dbmx_pair *pairs, size_t count, size_t *store
 int dbmx_stat(DBM *db, dbmx_numbers *numbers);
 /* reads every page: 0 where the structure of the file is whole */
 int dbmx_verify(DBM *db);
+/* the version of the file's format, 1 or 2 */
+int dbmx_version(DBM *db);
+/* makes a database of version 1 one of version 2, which a library from before version 2 can't open; one of version 2 stays */
+int dbmx_upgrade(DBM *db);
 /* what a fault of this number means */
 const char *dbmx_error_text(int fault);
 

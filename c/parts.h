@@ -23,11 +23,16 @@ struct served_file {
 
 struct how {
     bool writable, create, exclusive, truncate;
+    /* a database that is made or emptied is of version 1, and else of version 2 */
+    bool first_version;
     uint32_t limit;
 };
 
-/* A status is 0; 1 where a key wasn't there, or was and stays; or minus the number of a fault. No pointer is null, `out` has
- * 2,048 bytes, and a sector has 512. */
+/* how many bytes there have to be where an export gives a key, and where it gives a content */
+enum { KEY_ROOM = 2048, CONTENT_ROOM = 65536 };
+
+/* A status is 0; 1 where a key wasn't there, or was and stays; or minus the number of a fault. No pointer is null. What an export
+ * writes to is no part of what it reads. A sector has 512 bytes. */
 
 /* how many sectors the device over any file has */
 uint32_t ndbm_c_file_sectors(void);
@@ -40,18 +45,21 @@ int32_t ndbm_c_close(struct handle *);
 /* The handle holds none afterwards. Nothing is written. */
 void ndbm_c_drop(struct handle *);
 
-int32_t ndbm_c_fetch(struct handle *, const unsigned char *key, size_t key_size, unsigned char *out, size_t *length);
+int32_t ndbm_c_fetch(struct handle *, const unsigned char *key, size_t key_size, unsigned char *content, size_t *length);
 int32_t ndbm_c_store(struct handle *, const unsigned char *key, size_t key_size, const unsigned char *content,
                      size_t content_size, bool replace);
 int32_t ndbm_c_delete(struct handle *, const unsigned char *key, size_t key_size);
-int32_t ndbm_c_firstkey(struct handle *, unsigned char *out, size_t *length);
-int32_t ndbm_c_nextkey(struct handle *, unsigned char *out, size_t *length);
+int32_t ndbm_c_firstkey(struct handle *, unsigned char *key, size_t *length);
+int32_t ndbm_c_nextkey(struct handle *, unsigned char *key, size_t *length);
 /* the first fault since the opening or the last clearing, or 0 */
 int32_t ndbm_c_error(struct handle *);
 int32_t ndbm_c_clearerr(struct handle *);
 int32_t ndbm_c_sync(struct handle *);
 int32_t ndbm_c_stat(struct handle *, dbmx_numbers *);
 int32_t ndbm_c_verify(struct handle *);
+int32_t ndbm_c_upgrade(struct handle *);
+/* the number of the version, or minus that of a fault */
+int32_t ndbm_c_version(struct handle *);
 /* Keeps a copy of a pair that is to be stored with others: 0, or -1 where there is no memory. */
 int32_t ndbm_c_add(struct handle *, const unsigned char *key, size_t key_size, const unsigned char *content,
                    size_t content_size);
@@ -70,6 +78,10 @@ int32_t ndbm_c_listed(struct handle *, size_t i, uint32_t *sector, unsigned char
 /* All that was listed is carried out. The list is empty then, and the device forgets which sectors it knew. */
 int32_t ndbm_c_carried_out(struct handle *);
 
+/* What an export reads, which decides how much is read where it lacks a sector: the pages of one pair, those of a group, or
+ * whatever pages the file has. */
+enum reading { OF_PAIR, OF_GROUP, OF_FILE };
+
 /* a database, and the file that serves it */
 struct served {
     struct handle handle;
@@ -81,9 +93,10 @@ struct served {
     /* The rest is of the call that is under way: errno before it, and whether there was no error before it. */
     int before;
     bool was_clear;
-    /* how often the export that is made again lacked a sector, and whether a sector was given */
+    /* what it reads; how often the export that is made again lacked a sector; and how many sectors were given */
+    enum reading reading;
     unsigned misses;
-    bool was_given;
+    uint32_t given;
     /* the system's number for what it refused, or 0 */
     int system;
 };
@@ -95,8 +108,8 @@ struct served {
 int ndbm_served_open(struct served *, int fd, const struct how *how);
 /* Closes it, and its descriptor. errno says where that failed, and else is as it was. */
 void ndbm_served_close(struct served *);
-/* whether a call may begin; where it may not, errno says why */
-bool ndbm_served_begins(struct served *);
+/* whether a call that reads this may begin; where it may not, errno says why */
+bool ndbm_served_begins(struct served *, enum reading);
 /* Whether an export that answered this status is made again: it lacked a sector, which it has now. */
 bool ndbm_served_again(struct served *, int32_t status);
 /* Carries out what the exports of the call listed, and answers the status of the call. errno is set where it is below 0, and

@@ -10,9 +10,21 @@
 /* a sector's bytes, and a page's sectors */
 enum { SECTOR = 512, PAGE = 4 };
 
-/* A miss reads a run of sectors: one page for the first misses of an export, and then twice as many sectors for each further
- * one, up to the longest run. */
-enum { FIRST_MISSES = 8, LONGEST = 1 << 18 };
+/* A miss reads a run of sectors. For the first misses of an export that is the page, and then the block of pages that has it,
+ * since those of a content mostly lie side by side, in either order. Behind more misses each reads twice as many sectors as the
+ * one before it, up to the longest run. */
+enum { ALONE = 4, BLOCK = 16 * PAGE, LONGEST = 1 << 18 };
+
+/* Behind how many misses runs get longer than a block, and up to how many sectors that were given in the call. A content has up
+ * to 33 pages, and a store reads those of the old content and as many free ones for the new one. To make a group again takes
+ * longer than to read 32 MB that it may not need. */
+static const struct {
+    unsigned misses;
+    uint32_t given;
+} bounds[] = {[OF_PAIR] = {128, 1 << 16}, [OF_GROUP] = {8, 1 << 16}, [OF_FILE] = {8, UINT32_MAX}};
+
+/* The device over a file has up to 2^32 sectors, and so a place in it may be as far as this. */
+_Static_assert(sizeof(off_t) >= sizeof(int64_t), "off_t has 64 bits");
 
 /* how many sectors one call of the system moves */
 enum { MOVED = 32 };
@@ -71,16 +83,17 @@ static uint32_t sectors_of(ssize_t size) {
     return (uint32_t)((size + page - 1) / page * PAGE);
 }
 
-/* Gives sectors from the first one of a page on, up to the page in which the file ends, and the first page wherever it ends. It
- * answers 0, or the system's number. */
-static int give(struct served *it, uint32_t first, uint32_t count) {
+/* Gives sectors from the first one of a page on, up to the page in which the file ends, and the least ones wherever it ends. Both
+ * counts are of whole pages. It answers 0, or the system's number. */
+static int give(struct served *it, uint32_t first, uint32_t count, uint32_t least) {
     unsigned char bytes[MOVED * SECTOR];
-    it->was_given = true;
     for (uint32_t done = 0; done < count; done += MOVED) {
         uint32_t at = first + done, wanted = count - done < MOVED ? count - done : MOVED;
         ssize_t size = read_bytes(it->fd, bytes, (size_t)SECTOR * wanted, (off_t)at * SECTOR);
         if (size < 0) return system_number();
-        uint32_t given = done || size ? sectors_of(size) : PAGE;
+        uint32_t given = sectors_of(size);
+        if (done + given < least) given = least - done < wanted ? least - done : wanted;
+        it->given += given;
         put_listed(&it->handle, at, given, bytes);
         for (uint32_t i = 0; i < given; i++) {
             if (ndbm_c_give(&it->handle, at + i, bytes + (size_t)SECTOR * i)) return ENOMEM;
@@ -91,10 +104,19 @@ static int give(struct served *it, uint32_t first, uint32_t count) {
 }
 
 /* how many sectors the run of the latest miss has */
-static uint32_t run_for(unsigned misses) {
-    uint32_t count = PAGE;
-    for (; misses > FIRST_MISSES && count < LONGEST; misses--) count *= 2;
+static uint32_t run_for(const struct served *it) {
+    uint32_t count = it->misses > ALONE ? BLOCK : PAGE;
+    if (it->given > bounds[it->reading].given) return count;
+    for (unsigned i = bounds[it->reading].misses; i < it->misses && count < LONGEST; i++) count *= 2;
     return count;
+}
+
+/* Gives the sector that an export lacked, with others: 0, or the system's number. */
+static int give_lacked(struct served *it, uint32_t sector) {
+    it->misses++;
+    uint32_t run = run_for(it), page = sector - sector % PAGE, first = run < BLOCK ? page : page - page % BLOCK;
+    uint32_t left = ndbm_c_file_sectors() - first;
+    return give(it, first, run < left ? run : left, page + PAGE - first);
 }
 
 /* Writes the sectors of a run, which is empty then: 0, or the system's number. */
@@ -149,14 +171,14 @@ static int carry_out(struct served *it) {
         last = change;
     }
     if (!error) error = write_run(it->fd, &run);
-    if (!error && (i || it->was_given)) ndbm_c_carried_out(&it->handle);
+    if (!error && (i || it->given)) ndbm_c_carried_out(&it->handle);
     return error;
 }
 
 int ndbm_served_open(struct served *it, int fd, const struct how *how) {
     const struct served_file file = {ndbm_c_file_sectors()};
     int32_t status;
-    *it = (struct served){.handle = {NULL, false}, .fd = fd};
+    *it = (struct served){.handle = {NULL, false}, .fd = fd, .reading = OF_FILE};
     if (ndbm_c_begin(&it->handle, file)) {
         close(fd);
         errno = ENOMEM;
@@ -177,7 +199,7 @@ int ndbm_served_open(struct served *it, int fd, const struct how *how) {
 void ndbm_served_close(struct served *it) {
     int before = errno, error = it->is_dead ? EIO : 0;
     if (!it->is_dead) {
-        it->was_given = false;
+        it->given = 0;
         int32_t status = ndbm_c_close(&it->handle);
         error = carry_out(it);
         if (!error && status < 0) error = errno_for(-status, 0);
@@ -188,7 +210,7 @@ void ndbm_served_close(struct served *it) {
     errno = error ? error : before;
 }
 
-bool ndbm_served_begins(struct served *it) {
+bool ndbm_served_begins(struct served *it, enum reading reading) {
     if (it->is_dead) {
         if (!it->fault) it->fault = BROKEN;
         errno = EIO;
@@ -196,8 +218,9 @@ bool ndbm_served_begins(struct served *it) {
     }
     it->before = errno;
     it->was_clear = !ndbm_c_error(&it->handle);
+    it->reading = reading;
     it->misses = 0;
-    it->was_given = false;
+    it->given = 0;
     it->system = 0;
     return true;
 }
@@ -208,8 +231,7 @@ bool ndbm_served_again(struct served *it, int32_t status) {
         it->misses = 0;
         return false;
     }
-    uint32_t first = sector - sector % PAGE, run = run_for(++it->misses), left = ndbm_c_file_sectors() - first;
-    it->system = give(it, first, run < left ? run : left);
+    it->system = give_lacked(it, sector);
     if (it->system) return false;
     ndbm_served_forgets(it);
     return true;

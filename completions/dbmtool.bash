@@ -21,7 +21,7 @@ _dbmtool_places() {
 }
 
 _dbmtool() {
-  local commands='create store insert fetch delete list dump load stat verify script rehearse faults help'
+  local commands='create store insert fetch delete list dump load stat verify upgrade script rehearse faults help'
   local word=${COMP_WORDS[COMP_CWORD]} options='' places
   COMPREPLY=()
   # The program's own option stands before the command.
@@ -37,13 +37,13 @@ _dbmtool() {
     --group | --limit | --memory | --stops | =) return ;;
   esac
   case ${COMP_WORDS[1]} in
-    create) options='--limit -h --help' ;;
+    create) options='--limit --v2 -h --help' ;;
     store | insert | fetch | delete) options='-x -h --help' ;;
-    script) options='--memory -h --help' ;;
-    rehearse) options='--memory --stops -h --help' ;;
+    script) options='--memory --v2 -h --help' ;;
+    rehearse) options='--memory --stops --v2 -h --help' ;;
     dump) options='--text -h --help' ;;
     load) options='--group --text -h --help' ;;
-    list | stat | verify | faults) options='-h --help' ;;
+    list | stat | verify | upgrade | faults) options='-h --help' ;;
   esac
   places=$(_dbmtool_places)
   case $word,$places,${COMP_WORDS[1]} in

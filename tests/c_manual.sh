@@ -33,7 +33,7 @@ sed '1,/^\.Sh DESCRIPTION/d' "$page" | grep -oE '\bdbmx?_[a-z_]+' | grep -vx 'db
 for list in named shown told; do
   diff declared "$list" || wrong "the functions that are $list are others than the header's (< header)"
 done
-for constant in DBM_INSERT DBM_REPLACE DBMX_PAIR_MAX DBMX_UNLOCKED; do
+for constant in DBM_INSERT DBM_REPLACE DBMX_PAIR_MAX DBMX_KEY_MAX DBMX_CONTENT_MAX DBMX_VERSION_1 DBMX_UNLOCKED; do
   grep -q "Dv $constant" "$page" || wrong "the page has no $constant"
 done
 

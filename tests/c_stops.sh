@@ -2,20 +2,29 @@
 # Calls of the C library in a row, cut short behind each call of the system, where the sectors that no sync came behind are
 # kept or lost, or each second one is: the file then has the pairs by the calls that were acknowledged, and of the others at
 # most by the one that was on its way. A list of pairs that goes into one commit is there whole or not at all. The opening
-# behind it finds the same pairs.
+# behind it finds the same pairs. The file is of version 1; behind an upgrade some contents have pages of their own.
 . "$(dirname "$0")/common"
 has_library
 preloadable fail
 
-# user FILE: carries out lines 'S KEY CONTENT', 'D KEY', 'L KEY CONTENT KEY CONTENT..', 'sync' and 'again', which closes and
-# opens, and prints ok behind each
+# user FILE: carries out lines 'S KEY CONTENT', 'D KEY', 'L KEY CONTENT KEY CONTENT..', 'upgrade', 'sync' and 'again', which
+# closes and opens, and prints ok behind each. A word '=3000x' stands for 3,000 times an x.
 cat > user.c <<'END'
 #include <fcntl.h>
 #include <stdio.h>
+#include <stdlib.h>
 #include <string.h>
 #include "ndbm.h"
 
-static datum of(char *word) { return (datum){word, strlen(word)}; }
+static datum of(char *word) {
+    static char rooms[16][65535];
+    static size_t next;
+    if (*word != '=') return (datum){word, strlen(word)};
+    char *room = rooms[next++ % 16], *letter;
+    size_t size = strtoul(word + 1, &letter, 10);
+    memset(room, *letter, size);
+    return (datum){room, size};
+}
 
 static int list(DBM *db, char **word, size_t count) {
     dbmx_pair pairs[8];
@@ -28,6 +37,7 @@ static int carry_out(DBM **db, const char *file, char **word, size_t count) {
     if (*word[0] == 'D') return dbm_delete(*db, of(word[1]));
     if (*word[0] == 'L') return list(*db, word + 1, count / 2);
     if (*word[0] == 's') return dbmx_sync(*db);
+    if (*word[0] == 'u') return dbmx_upgrade(*db);
     dbm_close(*db);
     *db = dbm_open(file, O_RDWR, 0);
     return !*db;
@@ -57,13 +67,17 @@ cat > lines <<'END'
 S i 1
 S j 2
 S a changed
+upgrade
+S p =3000x
 D b
 sync
+S a =9000y
 D c
 again
-L k 3 l 4 m 5
+L k 3 l =2100z m 5
 S n 6
-L d new o 7
+D p
+L d new o =65535w
 S a last
 END
 count=$(wc -l < lines)
@@ -74,13 +88,16 @@ for ((n = 1; n <= count; n++)); do
   sed -n "${n}p" lines | ./user t > out || { echo "line $n isn't carried out"; exit 1; }
   "$program" dump --text t > $n.people && "$program" dump t > $n.text || exit 1
 done
-printf '%s\t%s\n' a last d new e before f before g before h before i 1 j 2 k 3 l 4 m 5 n 6 o 7 | cmp - "$count.people" || exit 1
+# times COUNT LETTER
+times() { head -c "$1" /dev/zero | tr '\0' "$2"; }
+printf '%s\t%s\n' a last d new e before f before g before h before i 1 j 2 k 3 l "$(times 2100 z)" m 5 n 6 o "$(times 65535 w)" |
+  cmp - "$count.people" || exit 1
 
 # is_one_of FILE LINES: it has the pairs behind so many lines, or behind one more
 is_one_of() { "$program" dump "$1" > seen 2> err && { cmp -s seen "$2.text" || cmp -s seen "$(($2 + 1)).text"; }; }
 
 more=0
-for ((stop = 0; stop < 300; stop++)); do
+for ((stop = 0; stop < 600; stop++)); do
   ended=
   for lose in kept lost odd even; do
     cp first.db t.db

@@ -1,6 +1,7 @@
 #!/usr/bin/env bash
 # The command line and the C library on one file in turn: each reads what the other one stored, byte for byte, also where a
-# program ended without closing; and where one of them has the file open for writing the other one is refused at once.
+# program ended without closing, and where contents have pages of their own; and where one of them has the file open for
+# writing the other one is refused at once.
 . "$(dirname "$0")/common"
 has_library
 pid=
@@ -31,10 +32,10 @@ static datum bytes_of(const char *word, unsigned char *bytes) {
 }
 
 static int change(DBM *db) {
-    static char line[9000], words[3][4100];
-    static unsigned char key[2048], content[2048];
+    static char line[140000], words[3][140000];
+    static unsigned char key[70000], content[70000];
     while (fgets(line, sizeof line, stdin)) {
-        int count = sscanf(line, "%4099s %4099s %4099s", words[0], words[1], words[2]);
+        int count = sscanf(line, "%139999s %139999s %139999s", words[0], words[1], words[2]);
         if (count == 1 && !strcmp(words[0], "end")) _exit(0);
         if (count == 3 && dbm_store(db, bytes_of(words[1], key), bytes_of(words[2], content), DBM_REPLACE)) return fail(line);
         if (count == 2 && dbm_delete(db, bytes_of(words[1], key))) return fail(line);
@@ -121,6 +122,9 @@ others() {
 others | by_library t
 are_there t 'changed by the library'
 "$program" stat t > said && grep -qw 7000 said || wrong "the library changes the limit: $(cat said)"
+"$program" upgrade t || wrong 'the tool upgrades no file that the library changed'
+printf '%s\n' "S 0c $(bytes 65535 0c)" "S $(bytes 1023 0d) $(bytes 3000 0d)" | by_library t
+are_there t 'upgraded by the tool'
 
 # one of the library's
 : > map
@@ -131,8 +135,8 @@ are_there u 'changed by the tool'
 
 # in turn, also where a program ended without closing
 for n in $(seq 1 12); do
-  printf '%s\n' "S 0a$(printf %02x "$n") $(bytes $((n * 100)) 0a)" "D $(printf '%06d' $((n + 20)))" | by_tool u
-  printf '%s\n' "S 0b$(printf %02x "$n") $(bytes $((n * 100)) 0b)" "D $(printf '%06d' $((n + 60)))" end | by_library u
+  printf '%s\n' "S 0a$(printf %02x "$n") $(bytes $((n * 1000)) 0a)" "D $(printf '%06d' $((n + 20)))" | by_tool u
+  printf '%s\n' "S 0b$(printf %02x "$n") $(bytes $((n * 1000)) 0b)" "D $(printf '%06d' $((n + 60)))" end | by_library u
   [ $((n % 3)) != 0 ] || are_there u "in turn, time $n"
 done
 are_there u 'in turn'

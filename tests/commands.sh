@@ -40,6 +40,7 @@ run 2 '' 'dbmtool: fault 14\n' insert missing a b
 run 2 '' 'dbmtool: fault 14\n' delete missing a
 run 2 '' 'dbmtool: fault 14\n' stat missing
 run 2 '' 'dbmtool: fault 14\n' verify missing
+run 2 '' 'dbmtool: fault 14\n' upgrade missing
 [ ! -e missing.db ] || wrong "a file was made"
 
 # Two pairs of 1,500 bytes take a page each. Where the second one goes, its page is free, and the next such pair takes it.

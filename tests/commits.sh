@@ -103,9 +103,9 @@ all=$(pages read 2 3; pages write 4 5; printf 'sync\nwrite 0 512\nsync\n'
 traced new $'S 61 01\nS 62 02\nS 63 03' "$opening"$'\n'"$all"
 
 # A file that leaves its device room for two pages alone: the second store brings the pages of the first to their places before it writes its own
-# images over those. With room for four it does not. The device has 2,250,498 pages.
+# images over those. With room for four it does not. The device has 68,250,498 pages.
 for left in 2 3 4; do
-  end=$((2250498 - left)) next=$((2250498 - left))
+  end=$((68250498 - left)) next=$((68250498 - left))
   cp new.db full.db
   printf '%08x' $end | xxd -r -p | dd of=full.db bs=1 seek=12 conv=notrunc status=none
   home="$(pages write 1 3)"$'\n'"$(printf 'sync\nwrite 0 512\nsync')" between=$'\n'

@@ -1,40 +1,7 @@
 #!/usr/bin/env bash
 # Damaged files: what the commands answer where a field breaks a rule of docs/FORMAT.md. A refused command leaves the file as it is.
 . "$(dirname "$0")/common"
-
-# run STATUS OUTPUT FAULTS WORD..
-run() {
-  local wanted=$1 output=$2 faults=$3 words=${*:4} status=0
-  shift 3
-  "$program" "$@" < "${input:-/dev/null}" > out 2> err || status=$?
-  if [ "$status" != "$wanted" ] || [ "$(cat out)" != "$output" ] || [ "$(cat err)" != "$faults" ]; then
-    echo "$rule: dbmtool ${words:0:60}: status $status and not $wanted, or another text: $(head -c 200 out) $(head -c 200 err)"
-    bad=1
-  fi
-}
-
-# changed RULE GOOD PLACE HEX..: t.db is a copy of GOOD in which the bytes from each place on are others. A page has 2,048 bytes.
-changed() {
-  rule=$1
-  cp "$2" t.db
-  shift 2
-  while [ $# -gt 0 ]; do
-    printf '%b' "$(sed 's/../\\x&/g' <<<"$2")" | dd of=t.db bs=1 seek=$(($1)) conv=notrunc status=none
-    shift 2
-  done
-  cp t.db damaged.db
-}
-
-stays() { cmp -s t.db damaged.db || wrong "$rule: a refused command changed the file"; }
-
-# are FAULT COMMAND..: each is refused by this fault, and the file stays as it is
-are() {
-  local fault=$1 words
-  shift
-  # shellcheck disable=SC2086
-  for words in "$@"; do run 2 '' "dbmtool: fault $fault" $words; done
-  stays
-}
+. "$top/tests/damage"
 
 refused() { are "$1" 'verify t' 'fetch t a' 'store t a new' 'dump t'; }
 
@@ -61,10 +28,10 @@ changed 'an end below four' nine.db 12 00000003
 refused 9
 changed 'an end far beyond the device' nine.db 12 ffffffff
 refused 9
-# The device of a file is of 9,001,992 sectors, so of 2,250,498 pages (hexadecimal 225702).
-changed 'an end just beyond the device' nine.db 12 00225703
+# The device of a file is of 273,001,992 sectors, so of 68,250,498 pages (hexadecimal 4116b82).
+changed 'an end just beyond the device' nine.db 12 04116b83
 refused 9
-changed 'an end that fills the device' nine.db 12 00225702
+changed 'an end that fills the device' nine.db 12 04116b82
 run 0 01 '' fetch t 61 -x
 are 8 'store t a new' 'store t 61 02 -x' 'delete t 61 -x'
 changed 'a start where there are no redo images' nine.db 16 00000005
@@ -75,7 +42,7 @@ changed 'an armed file with no redo image' nine.db 8 000000010000000500000005000
 refused 9
 changed 'redo images in front of the end' nine.db 8 00000001000000050000000400000001
 refused 9
-changed 'redo images beyond the device' nine.db 8 00000001000000050022570200000001
+changed 'redo images beyond the device' nine.db 8 000000010000000504116b8200000001
 refused 9
 for place in 24 511; do
   changed "a byte behind the numbers, $place" nine.db $place 01
@@ -104,9 +71,9 @@ refused 9
 # ---- the meta page. What is wrong with the header comes first, then another version, then the rest.
 changed 'another version' nine.db 2048+16 00000009
 refused 11
-changed 'another version and a limit of 0' nine.db 2048+16 0000000200000000
+changed 'another version and a limit of 0' nine.db 2048+16 0000000300000000
 refused 11
-changed 'another version and a next page' nine.db 2048+8 00000003 2048+16 00000002
+changed 'another version and a next page' nine.db 2048+8 00000003 2048+16 00000003
 refused 9
 zeros=$(printf '%04096d' 0)
 changed 'a meta page of zeros' nine.db 2048 "$zeros"

@@ -13,7 +13,7 @@ agrees() {
 }
 
 # the options in a text
-options_in() { grep -oE -- '(^|[^a-zA-Z-])--?[a-zA-Z]+' | grep -oE -- '--?[a-zA-Z]+'; }
+options_in() { grep -oE -- '(^|[^a-zA-Z-])--?[a-zA-Z][a-zA-Z0-9]*' | grep -oE -- '--?[a-zA-Z][a-zA-Z0-9]*'; }
 
 # the options that a help lists, before what it says of each
 help_options() { sed -n '/^Options:/,/^$/p' | sed -E 's/^ +//; s/  +.*//' | options_in; }

@@ -1,6 +1,6 @@
 #!/usr/bin/env bash
 # 10,000 pairs with keys of every length, and one with every byte value, in a real file: they are dumped in order, and the dump
-# loads back to the same dump.
+# loads back to the same dump. So do pairs near and far in files of version 2, in both forms; version 1 takes those in front of a far one.
 . "$(dirname "$0")/common"
 bytes=$(printf '%02x' $(seq 0 255))
 {
@@ -28,3 +28,52 @@ head -n 1000 dumped > some
   { echo "the dump of fields doesn't load back"; exit 1; }
 [ "$(LC_ALL=C tr -d '\t\n -~' < fields | wc -c)" = 0 ] || { echo "the dump of fields isn't printable"; exit 1; }
 echo "$(wc -l < dumped) pairs, in a file of $(stat -c %s first.db) bytes"
+
+# Near pairs and far ones: under a key of each length up to 1,023 a far one, whose content is the shortest that is far, or fills one page or two, or
+# is a byte longer than that. Contents begin with each byte value, and have all; each fourth one ends in a thousand zeros, and the last one is the
+# longest. In front of each third one there is a near pair, as long as one may be. So the first three lines are near pairs, and the fourth is far.
+awk 'function many(text, count,  all) {
+  for (all = text; length(all) < count * length(text); ) all = all all
+  return substr(all, 1, count * length(text))
+}
+# so many bytes from this one on, each a number higher than the one before it
+function word(from, count) { return count == 0 ? "." : substr(cycle, 2 * (from % 256) + 1, 2 * count) }
+BEGIN {
+  for (i = 0; i < 256; i++) cycle = cycle "" sprintf("%02x", i)
+  cycle = many(cycle, 260)
+  zeros = many("00", 1000)
+  print "6e656172 01"
+  print "6e656172206f6e65 ."
+  for (i = 0; i < 1024; i++) {
+    if (i % 3 == 0) print "ff" substr(word(i + 128, i + 1), 3), word(i, 2025 - i)
+    bytes = i == 1023 ? 65535 : i % 5 == 0 ? 2027 - i : 2032 * (i % 5 < 3 ? 1 : 2) + (i % 5) % 2
+    content = word(i, bytes)
+    if (i % 4 == 1) content = substr(content, 1, length(content) - 2000) zeros
+    print word(i, i), content
+  }
+}' > mixed
+[ "$(wc -l < mixed) $(head -n 4 mixed | awk '{ print length }' | xargs)" = '1368 11 18 4053 4056' ] || { echo "the mixed pairs are others"; exit 1; }
+LC_ALL=C sort -k1,1 mixed > sorted
+"$program" create mixed --limit 2000 --v2 && "$program" load mixed < mixed && "$program" dump mixed > dumped || exit 1
+cmp sorted dumped || { echo "the dump isn't the pairs near and far in order"; exit 1; }
+[ "$("$program" verify mixed)" = 1368 ] || { echo "the file with far pairs doesn't verify"; exit 1; }
+"$program" dump --text mixed > fields || exit 1
+[ "$(LC_ALL=C tr -d '\t\n -~' < fields | wc -c)" = 0 ] || { echo "the dump of far fields isn't printable"; exit 1; }
+# from fields to words and to fields
+"$program" create again --limit 2000 --v2 && "$program" load again --text --group 100 < fields || exit 1
+"$program" dump again | cmp - dumped || { echo "the dump of far fields doesn't load back to words"; exit 1; }
+"$program" dump again --text | cmp - fields || { echo "the dump of far fields doesn't load back"; exit 1; }
+# in version 1, which takes the first three lines
+"$program" create one --limit 2000 || exit 1
+head -n 3 mixed | LC_ALL=C sort -k1,1 > first-three
+# stops_at_far WORD..: a load into that file is refused by its line, and what it has are those pairs
+stops_at_far() {
+  local status=0
+  "$program" load one "$@" 2> err || status=$?
+  [ "$status $(cat err)" = '2 dbmtool: fault 5' ] || { echo "load one $*: a far pair in version 1 has status $status, $(cat err)"; exit 1; }
+  "$program" dump one | cmp - first-three || { echo "load one $*: version 1 has other pairs than those in front of the far one"; exit 1; }
+}
+stops_at_far < mixed
+stops_at_far --group 100 < mixed
+stops_at_far --text < fields
+echo "$(wc -l < mixed) pairs near and far, in a file of $(stat -c %s mixed.db) bytes"

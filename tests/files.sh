@@ -32,6 +32,11 @@ run 3 '' 'dbmtool: script needs FILE or --memory\n' script < /dev/null
 run 3 '' 'dbmtool: script needs FILE or --memory\n' script t --memory 5 < /dev/null
 run 3 '' 'dbmtool: rehearse needs FILE or --memory\n' rehearse --stops 3 < /dev/null
 run 3 '' 'dbmtool: rehearse needs FILE or --memory\n' rehearse t --memory 5 < /dev/null
+run 3 '' 'dbmtool: script needs FILE or --memory\n' script --v2 < /dev/null
+run 3 '' 'dbmtool: script needs FILE or --memory\n' script t --memory 5 --v2 < /dev/null
+run 3 '' 'dbmtool: rehearse needs FILE or --memory\n' rehearse --v2 < /dev/null
+run 3 '' 'dbmtool: --v2 needs --memory\n' script t --v2 < /dev/null
+run 3 '' 'dbmtool: --v2 needs --memory\n' rehearse --v2 --stops 3 t < /dev/null
 run 0 '' '' store t . . -x < /dev/null
 run 0 '.\n' '' fetch t . -x < /dev/null
 
@@ -94,7 +99,7 @@ grep -q -- '--unknown' <("$program" --unknown 2>&1) || wrong "usage doesn't name
 
 # help names each command, and ends with an example
 "$program" --help > out || bad=1
-for command in create store insert fetch delete list dump load stat verify script rehearse faults; do
+for command in create store insert fetch delete list dump load stat verify upgrade script rehearse faults; do
   grep -qw "$command" out || wrong "the help has no $command"
   "$program" "$command" --help > command.out || wrong "no help of $command"
   grep -q "dbmtool $command" command.out || wrong "the help of $command has no example"

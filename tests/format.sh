@@ -2,26 +2,8 @@
 # Whole files, byte by byte, against bytes worked out by hand from docs/FORMAT.md: a new one, one with a pair, eight pairs in one bucket and
 # nine in two; overflow pages that are taken, given back and taken again; pages that a pair fits just so.
 . "$(dirname "$0")/common"
+. "$top/tests/by_hand"
 
-# put PLACE HEX: the bytes from that place on in the file `wanted`
-put() { printf '%b' "$(sed 's/../\\x&/g' <<< "$2")" | dd of=wanted bs=1 seek=$(($1)) conv=notrunc status=none; }
-
-# spelled NAME PAGES PLACE HEX..: the file is of so many pages, which have these bytes, and zeros elsewhere; what stands behind has no meaning
-spelled() {
-  local name=$1 pages=$2
-  head -c $((pages * 2048)) /dev/zero > wanted
-  shift 2
-  while [ $# -gt 0 ]; do put "$1" "$2"; shift 2; done
-  cmp <(head -c $((pages * 2048)) "$name.db") wanted || wrong "$name: another file"
-}
-
-# said NAME INPUT OUTPUT: a script's replies; `/` stands for the end of a line
-said() { [ "$(tr / '\n' <<< "$2" | "$program" script "$1" | tr '\n' /)" = "$3" ] || wrong "$1: another reply to $2"; }
-
-# counted NAME NUMBERS: what stat tells
-counted() { [ "$("$program" stat "$1" | cut -d' ' -f2 | xargs)" = "$2" ] || wrong "$1: other numbers"; }
-
-magic=44424d5245444f31
 # meta PAIRS LEVEL FREE_HEAD FREE_COUNT: the numbers of a meta page, from its byte 16 on: version, limit, pairs, level, split, the first free
 # page, how many are free, and the count of segments
 meta() { printf '%08x' 1 100 "$1" "$2" 0 "$3" "$4" 1; }

@@ -1,7 +1,8 @@
 #!/usr/bin/env bash
 # Loads in groups. A load of lines of text in groups has as many syncs as its groups take, and the pairs that it stores are those of the load line
 # by line and of the load of words. Of a load whose groups are cut by their pages, at 4 MB, all pairs are there, the file verifies, and what is left
-# is whole groups: where it is cut short around each sync of its commits, the unsynced sectors kept or lost, and where it is killed.
+# is whole groups: where it is cut short around each sync of its commits, the unsynced sectors kept or lost, and where it is killed. So it is with far
+# pairs among the lines, on a file of version 2.
 . "$(dirname "$0")/common"
 preloadable syncs
 preloadable fail
@@ -34,16 +35,17 @@ awk 'BEGIN {
 LC_ALL=C sort -k1,1 unsorted > wanted
 [ "$(wc -l < fields) $(wc -l < words) $(wc -l < wanted)" = '1050 1050 1048' ] || { echo "the check has other lines than it should have"; exit 1; }
 
-# loads NAME INPUT SYNCS WORD..: a new database is loaded so with as many syncs, and has the pairs
+# loads NAME INPUT SYNCS WORD..: a new database, made with $option, is loaded so with as many syncs, and has the pairs of the file $wanted
+option=() wanted=wanted
 loads() {
   local found
   rm -f log
-  "$program" create "$1" --limit 2000 || exit 1
+  "$program" create "$1" --limit 2000 "${option[@]}" || exit 1
   SYNCS_LOG=$PWD/log SYNCS_MADE=no LD_PRELOAD=./syncs.so "$program" load "$1" "${@:4}" < "$2" > out 2> err || wrong "load ${*:4} of $2: status $?, $(cat err)"
   found=$(grep -c '^fdatasync file' log)
   [ "$found" = "$3" ] && [ "$(wc -l < log)" = "$3" ] || wrong "load ${*:4} of $2 has $found syncs and not $3"
-  [ "$("$program" verify "$1")" = 1048 ] || wrong "load ${*:4} of $2: another number of pairs is verified"
-  "$program" dump "$1" | cmp - wanted || wrong "load ${*:4} of $2 stores other pairs"
+  [ "$("$program" verify "$1")" = "$(wc -l < "$wanted")" ] || wrong "load ${*:4} of $2: another number of pairs is verified"
+  "$program" dump "$1" | cmp - "$wanted" || wrong "load ${*:4} of $2 stores other pairs"
 }
 
 # A commit has two syncs, an opening one, and the closing brings the pages of the last commit to their places with two.
@@ -55,10 +57,32 @@ loads text-one-group fields $((1 + 2 * 1 + 2)) --group 100000 --text
 loads word-lines words $((1 + 2 * 1050 + 2))
 loads word-groups words $((1 + 2 * 11 + 2)) --group 100
 
-# 19,000 short pairs, which is 300 KB of keys and contents: eight a bucket are 2,375 buckets, each with a page of its own, and so above 4 MB of pages.
-pairs=19000
-awk -v pairs=$pairs 'BEGIN { for (i = 0; i < pairs; i++) printf "%08x %08x\n", i, pairs - i }' > lines
-"$program" create empty --limit 100000 || exit 1
+# 60 lines in both forms. Of three in a row one is as long as a near one may be, one is short and one is far. In the first ten the key of line 3 comes
+# again, near in place of far, and that of line 4, far in place of near; the key of line 6 comes again as line 55, far in place of far.
+awk 'function many(text, count,  all) {
+  for (all = text; length(all) < count * length(text); ) all = all all
+  return substr(all, 1, count * length(text))
+}
+BEGIN {
+  for (i = 1; i <= 60; i++) {
+    key = i == 8 ? 3 : i == 9 ? 4 : i == 55 ? 6 : i
+    bytes = i == 30 ? 65535 : i % 3 == 0 || i == 55 ? 2025 + i : i % 3 == 1 ? 2024 : i
+    print sprintf("%02d\t", key) many(sprintf("%c", 97 + i % 26), bytes) > "far-fields"
+    line[key] = sprintf("%02x%02x ", 48 + int(key / 10), 48 + key % 10) many(sprintf("%02x", 97 + i % 26), bytes)
+    print line[key] > "far-words"
+  }
+  for (i = 1; i <= 60; i++) if (i in line) print line[i] > "far-wanted"
+}'
+[ "$(wc -l < far-wanted) $(awk 'length > 4 + 1 + 2 * 2024' far-wanted | wc -l)" = '57 19' ] || { echo "the check has other far lines"; exit 1; }
+option=(--v2) wanted=far-wanted
+loads far-lines far-words $((1 + 2 * 60 + 2))
+loads far-ones far-words $((1 + 2 * 60 + 2)) --group 1
+loads far-tens far-words $((1 + 2 * 6 + 2)) --group 10
+loads far-text far-fields $((1 + 2 * 9 + 2)) --text --group 7
+loads far-one-group far-fields $((1 + 2 * 1 + 2)) --group 100000 --text
+# one far pair alone, of 33 pages
+head -n 30 far-words | tail -n 1 > far-alone && wanted=far-alone
+for group in 1 2 100000; do loads "far-alone-$group" far-alone $((1 + 2 * 1 + 2)) --group $group; done
 
 # is_whole: t.db has the first lines of the text, and is a good file; how many lines they are is in $count
 is_whole() {
@@ -67,16 +91,6 @@ is_whole() {
   head -n "$count" lines | cmp -s - found || { wrong "$1: other pairs than the first $count lines"; return 1; }
   [ "$("$program" verify t 2>&1)" = "$count" ] || { wrong "$1: $count pairs do not verify"; return 1; }
 }
-
-cp empty.db t.db
-FAIL_CALL=0 FAIL_TRACE=trace LD_PRELOAD=./fail.so "$program" load t --group 100000 < lines 2> err || wrong "the load ends with status $?"
-is_whole 'a whole load'
-[ "$count" = $pairs ] || wrong "a load in groups stores $count of $pairs lines"
-[ "$("$program" stat t | sed -n 's/^buckets //p')" = 2375 ] || wrong "there are not 2,375 buckets"
-# the commit sector is written once by each commit, and once by the closing
-mapfile -t sectors < <(grep -nx 'write 0 512' trace | cut -d: -f1)
-commits=$((${#sectors[@]} - 1))
-[ "$commits" -ge 2 ] && [ "$commits" -le 20 ] || { echo "there are $commits commits"; exit 1; }
 
 # cut CALL LOSE: the load with all calls from that one on failed
 cut() {
@@ -89,27 +103,56 @@ cut() {
 # field PLACE: a number of t.db
 field() { od -An -tu4 --endian=big -j "$1" -N 4 t.db | tr -d ' '; }
 
-# counts: how many lines there are once so many commits are done
-counts=(0)
-for ((n = 0; n < commits; n++)); do
-  sector=${sectors[n]}
-  # before the images are synced; then with the sector written and not synced, lost and kept; then with all done
-  for lose in kept lost; do
-    cut $((sector - 1)) $lose
-    is_whole "commit $n, images not synced and $lose" && [ "$count" = "${counts[n]}" ] || wrong "commit $n, images not synced and $lose: $count lines are left"
+# leaves COUNT WHERE: t.db has so many lines
+leaves() { is_whole "$2" && [ "$count" = "$1" ] || wrong "$2: $count lines are left, and not $1"; }
+
+# each_commit BUCKETS: the lines are loaded into the file empty.db in one group, which then has so many buckets, and their load is cut short around
+# each sync of its commits. $counts are how many lines there are once so many commits are done.
+each_commit() {
+  local pairs lose n sector images
+  local -a sectors
+  pairs=$(wc -l < lines)
+  cp empty.db t.db && rm -f trace
+  FAIL_CALL=0 FAIL_TRACE=trace LD_PRELOAD=./fail.so "$program" load t --group 100000 < lines 2> err || wrong "the load ends with status $?"
+  leaves "$pairs" 'a whole load'
+  [ "$("$program" stat t | sed -n 's/^buckets //p')" = "$1" ] || wrong "there are not $1 buckets"
+  # the commit sector is written once by each commit, and once by the closing
+  mapfile -t sectors < <(grep -nx 'write 0 512' trace | sed 's/:.*//')
+  commits=$((${#sectors[@]} - 1))
+  [ "$commits" -ge 2 ] && [ "$commits" -le 20 ] || { echo "there are $commits commits"; exit 1; }
+  counts=(0)
+  for ((n = 0; n < commits; n++)); do
+    sector=${sectors[n]}
+    # before the images are synced; then with the sector written and not synced, lost and kept; then with all done
+    for lose in kept lost; do
+      cut $((sector - 1)) $lose
+      leaves "${counts[n]}" "commit $n, images not synced and $lose"
+    done
+    cut $((sector + 1)) lost
+    leaves "${counts[n]}" "commit $n, its sector lost"
+    cut $((sector + 1)) kept
+    is_whole "commit $n, its sector kept" && [ "$count" -gt "${counts[n]}" ] || wrong "commit $n, its sector kept: $count lines are left"
+    counts+=("$count")
+    # the sector is armed, and has as many images as go into 4 MB, but for those that the last pair adds
+    images=$(field 20)
+    [ "$(field 8)" = 1 ] && [ "$images" -ge 1 ] && [ "$images" -le $((2048 + 8)) ] || wrong "commit $n has $images images"
+    cut $((sector + 2)) lost
+    leaves "${counts[n + 1]}" "commit $n, synced"
   done
-  cut $((sector + 1)) lost
-  is_whole "commit $n, its sector lost" && [ "$count" = "${counts[n]}" ] || wrong "commit $n, its sector lost: $count lines are left"
-  cut $((sector + 1)) kept
-  is_whole "commit $n, its sector kept" && [ "$count" -gt "${counts[n]}" ] || wrong "commit $n, its sector kept: $count lines are left"
-  counts+=("$count")
-  # the sector is armed, and has as many images as go into 4 MB, but for those that the last pair adds
-  images=$(field 20)
-  [ "$(field 8)" = 1 ] && [ "$images" -ge 1 ] && [ "$images" -le $((2048 + 8)) ] || wrong "commit $n has $images images"
-  cut $((sector + 2)) lost
-  is_whole "commit $n, synced" && [ "$count" = "${counts[n + 1]}" ] || wrong "commit $n, synced: $count lines are left"
-done
-[ "${counts[commits]}" = $pairs ] || wrong "the last commit leaves ${counts[commits]} lines"
+  [ "${counts[commits]}" = "$pairs" ] || wrong "the last commit leaves ${counts[commits]} lines"
+}
+
+# 13,000 pairs, of which each twentieth is far: 650 pages of far contents, and 1,625 buckets.
+far=$(printf '5a%.0s' $(seq 2030))
+awk -v far="$far" 'BEGIN { for (i = 0; i < 13000; i++) printf "%08x %04x%s\n", i, i, i % 20 == 19 ? far : "" }' > lines
+"$program" create empty --limit 100000 --v2 || exit 1
+each_commit 1625
+echo "$commits commits leave ${counts[*]} lines with far pairs among them"
+
+# 19,000 short pairs, which is 300 KB of keys and contents: eight a bucket are 2,375 buckets, each with a page of its own, and so above 4 MB of pages.
+awk 'BEGIN { for (i = 0; i < 19000; i++) printf "%08x %08x\n", i, 19000 - i }' > lines
+rm empty.db && "$program" create empty --limit 100000 || exit 1
+each_commit 2375
 
 # Killed at some moment, it leaves the lines of as many of these commits.
 began=$EPOCHREALTIME
@@ -126,5 +169,5 @@ for ((n = 1; n <= 12; n++)); do
   left="$left $count"
   [[ " ${counts[*]} " = *" $count "* ]] || wrong "kill $n leaves $count lines, and not those of whole groups: ${counts[*]}"
 done
-echo "$commits commits leave ${counts[*]} lines; kills left$left"
+echo "$commits commits leave ${counts[*]} lines of near pairs; kills left$left"
 exit $bad

@@ -10,7 +10,7 @@
 #include <sys/wait.h>
 #include <unistd.h>
 
-enum { PAGE = 2048, WAYS = 9, SECONDS = 60 };
+enum { PAGE = 2048, WAYS = 10, SECONDS = 60 };
 
 static unsigned char *good, *bad;
 static size_t size, left;
@@ -30,6 +30,26 @@ static uint32_t a_page(void) { return 1 + drawn(end - 1); }
 
 static void put(unsigned char *at, uint32_t number) {
     for (int i = 0; i < 4; i++) at[i] = number >> (24 - 8 * i);
+}
+
+static uint32_t two(const unsigned char *at) { return at[0] << 8 | at[1]; }
+
+// Changes a slot of a bucket page, if one is found soon: whether it is far, the key's length, the content's, or of a far one its first page.
+static void change_slot(void) {
+    for (int tries = 0; tries < 200; tries++) {
+        unsigned char *from = page(a_page());
+        if ((from[4] != 3 && from[4] != 4) || two(from + 6) == 0 || two(from + 6) > 338) continue;
+        unsigned char *slot = from + 16 + 6 * drawn(two(from + 6));
+        int is_far = slot[2] >> 7;
+        uint32_t behind_key = two(slot) + (two(slot + 2) & 0x7fff);
+        switch (drawn(is_far ? 8 : 4)) {
+        case 0: slot[2] ^= 0x80; return;
+        case 1: slot[3] += drawn(2) ? 1 : -1; return;
+        case 2: slot[4] += drawn(2) ? 8 : -8; return;
+        case 3: slot[5] += drawn(2) ? 1 : -1; return;
+        default: if (behind_key + 4 <= PAGE) put(from + behind_key, drawn(8) ? a_page() : 0); return;
+        }
+    }
 }
 
 static void exchange(uint32_t n, uint32_t m, size_t from) {
@@ -67,6 +87,7 @@ static void damage(int way) {
     case 6: left = drawn(size); break;
     case 7: arm(); break;
     case 8: put(page(1) + 20 + 4 * drawn(7), drawn(2) ? drawn(64) : a_page()); break;
+    case 9: if (drawn(8)) change_slot(); else put(page(1) + 16, drawn(4)); break;
     }
 }
 

@@ -1,20 +1,30 @@
 #!/usr/bin/env bash
 # Changes of a real file that are killed at some moment, a thousand times over: stores one after another, deletes one after another, and
 # loads, in turn, line by line and in groups. Each change that had ended with status 0 is there afterwards, of the others one a round at
-# most, and of a load as many lines as were stored, the first ones, and whole groups of them.
+# most, and of a load as many lines as were stored, the first ones, and whole groups of them. A quarter of the rounds are on a file of version 2, and
+# each fifth pair of theirs is far.
 . "$(dirname "$0")/common"
 workers=4
 rounds=250
+filler=$(printf '5a%.0s' $(seq 2032))
 
-# line ROUND N: the pair of a round
+# line ROUND N: the pair of a round. A far one has a content of 2,034 bytes, which takes two pages.
 line() {
-  printf '%04x%04x %04x\n' "$1" "$2" "$2"
+  local more=
+  if [ "$version" = 2 ] && (($2 % 5 == 0)); then more=$filler; fi
+  printf '%04x%04x %04x%s\n' "$1" "$2" "$2" "$more"
 }
 
+# first_lines ROUND COUNT: its first pairs
+first_lines() {
+  for n in $(seq 1 "$2"); do line "$1" "$n"; done
+}
+
+# What was acknowledged has a short line each in `done`, which is written at once or not at all.
 stores() {
   for n in $(seq 1 1000); do
     line "$1" "$n" > next
-    "$program" store t $(cat next) -x && cat next >> done
+    "$program" store t $(cat next) -x && echo "$n" >> done
   done
 }
 
@@ -25,11 +35,11 @@ deletes() {
 }
 
 loads() {
-  "$program" load t < lines && cp lines done
+  "$program" load t < lines && seq 1 40 > done
 }
 
 grouped() {
-  "$program" load t --group 10 < lines && cp lines done
+  "$program" load t --group 10 < lines && seq 1 40 > done
 }
 
 # the maps that may be there, from the one before the round and what was acknowledged
@@ -38,7 +48,7 @@ may_be() {
   count=$(wc -l < done)
   case $1 in
     stores)
-      sort map done > one
+      first_lines "$2" "$count" | sort - map > one
       { cat one; line "$2" $((count + 1)); } | sort > two ;;
     deletes)
       tail -n +$((count + 1)) map > one
@@ -51,19 +61,21 @@ may_be() {
   esac
 }
 
-# worker: so many rounds on a database of its own
+# worker VERSION: so many rounds on a database of its own, of this version of the format
 worker() {
-  local kinds=(stores deletes loads grouped) kind round group
+  local kinds=(stores deletes loads grouped) kind round group version=$1 far=0 deleted=0
+  local -a option=()
+  [ "$version" = 1 ] || option=(--v2)
   # the latest moment of a kill, in milliseconds: later where nothing was done by then, since a change takes longer on
   # another disk, and beside other work
   local -A latest=([stores]=30 [deletes]=30 [loads]=30 [grouped]=30)
   set -m   # each round is a process group of its own, which is killed whole
-  "$program" create t --limit 100000 || return 1
+  "$program" create t --limit 100000 "${option[@]}" || return 1
   : > map
   for round in $(seq 1 "$rounds"); do
     kind=${kinds[$((round % 4))]}
     : > done
-    for n in $(seq 1 40); do line "$round" "$n"; done > lines
+    first_lines "$round" 40 > lines
     "$kind" "$round" 2> err &
     group=$!
     sleep "0.$(printf '%03d' $((4 + round * 7 % latest[$kind])))"
@@ -81,13 +93,20 @@ worker() {
     fi
     sed "s/^/$kind /" done >> acknowledged
     cp found map
+    [ "$kind" != deletes ] || deleted=$((deleted + far - $(grep -c "$filler" map)))
+    far=$(grep -c "$filler" map)
   done
+  if [ "$version" = 2 ]; then
+    echo "$deleted far pairs were deleted, and $far are left"
+    ((far > 0 && deleted > 0)) || { echo "too few to tell anything"; return 1; }
+  fi
   [ "$("$program" verify t)" = "$(wc -l < map)" ]
 }
 
 for number in $(seq 1 "$workers"); do
   mkdir "$number"
-  ( cd "$number" && : > more && : > acknowledged && worker && touch passed ) > "$number.text" 2>&1 &
+  version=$((number == workers ? 2 : 1))
+  ( cd "$number" && : > more && : > acknowledged && worker "$version" && touch passed ) > "$number.text" 2>&1 &
 done
 wait
 cat ./*.text

@@ -3,14 +3,15 @@
 #include <stdlib.h>
 #include <string.h>
 
-enum { PAGE = 2048, CAPACITY = 9001992 / 4, META = 1, SEGMENT = 2, HEAD = 3, OVERFLOW = 4, FREE = 5 };
+enum { PAGE = 2048, CAPACITY = 273001992 / 4, META = 1, SEGMENT = 2, HEAD = 3, OVERFLOW = 4, FREE = 5, CONTENT = 6 };
+enum { FAR = 0x8000, MOST_NEAR = 2026, MOST_FAR_KEY = 1023, PART = PAGE - 16 };
 
 typedef struct { const unsigned char *bytes; size_t size; } Key;
 
 // The file as an opening finds it, and which of its pages were met.
 typedef struct {
     unsigned char *pages;
-    uint32_t end, buckets, level, split;
+    uint32_t end, version, buckets, level, split;
     unsigned char *met;
     Key *keys;
     size_t key_count;
@@ -43,6 +44,16 @@ static uint32_t bucket_of(const File *file, Key key) {
     return low < file->split ? hash % (1u << (file->level + 1)) : low;
 }
 
+// Whether a content of so many bytes stands on pages from this one on, of which each names the next, with zeros behind it.
+static int is_good_content(File *file, uint32_t n, size_t size) {
+    for (size_t at = 0; at < size; at += PART) {
+        const unsigned char *page = page_of(file, n, CONTENT);
+        if (!page || (size - at < PART && !are_zero(page, 16 + size - at, PAGE))) return 0;
+        n = four(page + 8);
+    }
+    return n == 0;
+}
+
 // Whether the slots and records are spelled as they should be, and each key is of the bucket. The keys are kept.
 static int has_good_pairs(File *file, const unsigned char *page, uint32_t bucket) {
     size_t count = two(page + 6), end = PAGE;
@@ -50,7 +61,11 @@ static int has_good_pairs(File *file, const unsigned char *page, uint32_t bucket
     for (size_t i = 0; i < count; i++) {
         const unsigned char *slot = page + 16 + 6 * i;
         size_t offset = two(slot), key_size = two(slot + 2), content_size = two(slot + 4);
-        if (offset + key_size + content_size != end || offset < 16 + 6 * count) return 0;
+        int is_far = file->version == 2 && key_size >= FAR;
+        if (is_far) key_size -= FAR;
+        if (offset + key_size + (is_far ? 4 : content_size) != end || offset < 16 + 6 * count) return 0;
+        if (is_far && (key_size > MOST_FAR_KEY || key_size + content_size <= MOST_NEAR)) return 0;
+        if (is_far && !is_good_content(file, four(page + offset + key_size), content_size)) return 0;
         Key key = {page + offset, key_size};
         if (bucket_of(file, key) != bucket) return 0;
         file->keys[file->key_count++] = key;
@@ -87,7 +102,9 @@ static uint32_t parts(uint32_t all, uint32_t each) { return (all + each - 1) / e
 
 static int is_good(File *file) {
     const unsigned char *meta = page_of(file, 1, META);
-    if (!meta || four(meta + 16) != 1 || !are_zero(meta, 48, 64)) return 0;
+    if (!meta || !are_zero(meta, 48, 64)) return 0;
+    file->version = four(meta + 16);
+    if (file->version != 1 && file->version != 2) return 0;
     uint32_t limit = four(meta + 20), pairs = four(meta + 24), segments = four(meta + 44), free = four(meta + 36), count = four(meta + 40);
     file->level = four(meta + 28);
     file->split = four(meta + 32);
@@ -95,7 +112,7 @@ static int is_good(File *file) {
     file->buckets = (1u << file->level) + file->split;
     if (file->buckets > parts(limit, 8) || pairs > limit || pairs > 8 * file->buckets) return 0;
     if (segments != parts(file->buckets, 508) || !are_zero(meta, 64 + 4 * segments, PAGE)) return 0;
-    if (file->end > 2 + parts(parts(limit, 8), 508) + parts(limit, 8) + limit) return 0;
+    if (file->end > 2 + parts(parts(limit, 8), 508) + parts(limit, 8) + (file->version == 1 ? 1 : 34) * limit) return 0;
     for (uint32_t s = 0; s < segments; s++) {
         const unsigned char *segment = page_of(file, four(meta + 64 + 4 * s), SEGMENT);
         if (!segment) return 0;

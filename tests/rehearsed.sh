@@ -1,5 +1,6 @@
 #!/usr/bin/env bash
-# Rehearsals, on new databases and on copies of files: each stop is kept, the counts agree, and the file stays as it is.
+# Rehearsals, on new databases and on copies of files, of both versions of the format: each stop is kept, the counts agree, and the file stays as
+# it is.
 . "$(dirname "$0")/common"
 wrong() { echo "$1"; cat out err; bad=1; }
 
@@ -66,6 +67,33 @@ cmp -s t.db cut || wrong "a rehearsal settled the file"
 cp before t.db && "$program" delete t 61 -x || wrong "no pair was deleted"
 printf '\10' | dd of=t.db bs=1 seek=$((2048 + 27)) conv=notrunc status=none
 "$program" rehearse t < in > out 2> err; [ $? = 2 ] && [ ! -s out ] && [ "$(cat err)" = 'dbmtool: fault 9' ] || wrong "a file that lacks a pair is rehearsed"
+
+# Far pairs. A content of 2,033 bytes has two pages, each of which is written as a redo image and in its place, in four sectors: 16 writes more than
+# for a near pair. In version 1 the pair is refused, and nothing is written for it.
+far=$(printf '07%.0s' $(seq 2033))
+echo 'S 61 01' > in
+is_kept 1 --memory 1 --v2
+near=$(count 'device calls')
+echo "S 61 $far" > in
+is_kept 1 --memory 1 --v2
+stops_everywhere
+[ "$(count 'device calls')" = $((near + 16)) ] || wrong "a far pair takes other than 16 device calls more than a near one's $near"
+is_kept 1 --memory 1
+[ "$(count 'device calls')" -lt "$near" ] || wrong "a refused pair takes device calls"
+# put, replaced by another far one, and deleted
+printf 'S 61 %s\nS 61 %s\nD 61\n' "$far" "${far//7/8}" > in
+is_kept 3 --memory 1 --v2
+stops_everywhere
+
+# A file of version 2 with seven near pairs, a far one of which the content has two pages, and two free pages. The ninth pair opens a bucket.
+"$program" create far --limit 100 --v2 && printf '6%s 0%s\n' 1 1 2 2 3 3 4 4 5 5 6 6 7 7 8 8 | "$program" load far || wrong "no file was made"
+printf 'S 68 %s\nS 67 %s\nS 67 07\n' "$far" "$far" | "$program" script far > out 2> err
+[ "$("$program" stat far | cut -d' ' -f2 | xargs)" = '8 100 1 0 0 8 2' ] || wrong "the file has other pages"
+cp far.db before
+printf 'S 69 %s\nD 68\n' "${far//7/9}" > in
+is_kept 2 far
+stops_everywhere
+cmp -s far.db before || wrong "a rehearsal changed the file"
 
 # what is no database, or isn't there
 printf hello > text.db

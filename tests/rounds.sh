@@ -159,7 +159,7 @@ says 'absent-wrapped: BAD EDIT' "a wrapper of no function is no bad one"
 rm "$rounds"/*
 edit next-one_too_many '    n + 1' '    n + 2'
 edit twice-once '    2 * n' '    n'
-sed -i 's/^WRITTEN_FOR = .*/WRITTEN_FOR = "another-kit"/' tools/prover.py
+sed -i 's/^WRITTEN_FOR = .*/WRITTEN_FOR = ("another-kit",)/' tools/prover.py
 try || wrong "with another kit an edit that is refused is told as not refused"
 says 'is known of another-kit, and this is .*: each edit is tried alone' "another kit isn't told"
 says '^sums: 2 of 2 edits refused, in 3 checks' "with another kit edits are tried together"

@@ -5,19 +5,7 @@
 # room for the images of one commit alone, so that each store brings the pages of the one before to their places first.
 . "$(dirname "$0")/common"
 preloadable fail
-# count FILE: how many pairs a reader that shares no code with the program finds in it
-cat > count.c <<'END'
-#include "plain_check.h"
-#include <stdio.h>
-static unsigned char file[1 << 20];
-int main(int words, char **word) {
-    FILE *it = words == 2 ? fopen(word[1], "rb") : NULL;
-    if (!it) return 2;
-    printf("%ld\n", plain_pairs(file, fread(file, 1, sizeof file, it)));
-    return 0;
-}
-END
-cc -O1 -I "$top/tests" -o count count.c "$top/tests/plain_check.c" || exit 1
+cc -O1 -o count "$top/tests/plain_count.c" "$top/tests/plain_check.c" || exit 1
 
 # cut CALLS LOSE LINES: a script on t.db of which each call behind so many fails
 cut() {
@@ -86,9 +74,9 @@ cp t.db first.db
 is_good=1
 row 40 67 68 69 6a 6b
 
-# The end is set to two pages before the device's 2,250,498, which is more than a good file of this limit has.
+# The end is set to two pages before the device's 68,250,498, which is more than a good file of this limit has.
 "$program" create t2 --limit 100 && printf '61 01\n62 02\n' | "$program" load t2 || exit 1
-printf '%08x' $((2250498 - 2)) | xxd -r -p | dd of=t2.db bs=1 seek=12 conv=notrunc status=none
+printf '%08x' $((68250498 - 2)) | xxd -r -p | dd of=t2.db bs=1 seek=12 conv=notrunc status=none
 cp t2.db first.db
 is_good=0
 row 30 63 64 65

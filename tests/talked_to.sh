@@ -75,7 +75,7 @@ D 6b|0'
 # talks WORDS..: a dozen rounds, and lines in parts, with the program of these words
 talks() {
   local line reply long
-  long=$(head -c 20000 /dev/zero | tr '\0' '0')
+  long=$(head -c 140000 /dev/zero | tr '\0' '0')
   starts "$@"
   for _ in $(seq 1 12); do
     while IFS='|' read -r line reply; do

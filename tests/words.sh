@@ -37,13 +37,15 @@ run 0 store t é x
 run 0 fetch t é
 [ "$(cat out)" = x ] || wrong "a key in UTF-8 isn't there"
 
-# the version of the program and of its files, which FORMAT.md has too
-format=$(sed -nE 's/.*16 to 19 version, ([0-9]+);.*/\1/p' "$top/docs/FORMAT.md")
+# the version of the program and those of its files, which FORMAT.md has too
+formats=$(sed -nE 's/.*16 to 19 version, ([0-9]+) or ([0-9]+);.*/\1 and \2/p' "$top/docs/FORMAT.md")
 for word in --version -V; do
   run 0 "$word"
-  grep -qxE "dbmtool [0-9]+\.[0-9]+\.[0-9]+, file format $format" out && [ ! -s err ] || { wrong "dbmtool $word:"; cat out err; }
+  grep -qxE "dbmtool [0-9]+\.[0-9]+\.[0-9]+, file formats $formats" out && [ ! -s err ] || { wrong "dbmtool $word:"; cat out err; }
 done
-[ "$(od -An -tu1 -j 2064 -N 4 t.db | xargs)" = "0 0 0 $format" ] || wrong "a file has another version"
+[ "$(od -An -tu1 -j 2064 -N 4 t.db | xargs)" = "0 0 0 1" ] || wrong "a file has another version"
+run 0 create --v2 second --limit 1
+[ "$(od -An -tu1 -j 2064 -N 4 second.db | xargs)" = "0 0 0 2" ] || wrong "a file that is made with --v2 has another version"
 
 # the faults, with which the help ends
 run 0 faults

@@ -1,7 +1,7 @@
 """What the kit's prover says of a check, read line by line.
 
-The prover tells a check's outcome in prose, and each pattern of that prose that is relied on stands here, with the version of the kit that it
-was written for. `tests/rounds.sh` has a case for each.
+The prover tells a check's outcome in prose, and each pattern of that prose that is relied on stands here, with the versions of the kit that
+speak so. `tests/rounds.sh` has a case for each.
 """
 import functools
 import re
@@ -9,8 +9,8 @@ from dataclasses import dataclass
 
 import kit
 
-# the kit whose words these are
-WRITTEN_FOR = "rattle-kit-13f"
+# the kits whose words these are
+WRITTEN_FOR = ("rattle-kit-13b", "rattle-kit-13f")
 
 # a proof file that names what an edit took away, and what cites that proof
 OF_A_NAME = re.compile(r"(note: )?(\./)?proofs/.*(has no field|is not in scope|has no `|was not admitted)")
@@ -48,8 +48,8 @@ def version():
 
 
 def is_known():
-    """Whether the kit is the one whose words these are."""
-    return version() == WRITTEN_FOR
+    """Whether the kit is one of those whose words these are."""
+    return version() in WRITTEN_FOR
 
 
 def is_unread(line):

@@ -90,10 +90,13 @@ static void large(void) {
     free(bytes);
 }
 
-/* One pair of the list is put out of shape: those before it are stored, those behind it aren't. */
-static void stops_at(size_t place, datum key, datum content, int number, int fault) {
+/* One pair of the list is put out of shape: those before it are stored, those behind it aren't. The options say of which version
+ * the database is. */
+static void stops_at(size_t place, datum key, datum content, unsigned options, int number, int fault) {
     enum { COUNT = 9000 };
-    DBM *db = open_or_end("stops", O_RDWR | O_CREAT | O_TRUNC);
+    dbmx_how how = {.options = options};
+    DBM *db = dbmx_open("stops", O_RDWR | O_CREAT | O_TRUNC, 0644, &how, NULL);
+    if (!CHECK(db != NULL)) return;
     dbmx_pair was = many[place];
     many[place] = (dbmx_pair){key, content};
     size_t stored = COUNT;
@@ -106,16 +109,24 @@ static void stops_at(size_t place, datum key, datum content, int number, int fau
 }
 
 static void refused(void) {
-    static char bytes[DBMX_PAIR_MAX + 1];
-    const datum nowhere = {NULL, 1}, endless = {bytes, SIZE_MAX}, whole = {bytes, sizeof bytes}, half = {bytes, 1014};
+    static char bytes[DBMX_CONTENT_MAX + 1];
+    /* together 2,027 bytes or more, of which version 2 refuses the key of 1,024 */
+    const datum half = {bytes, 1014}, long_key = {bytes, 1024}, whole = {bytes, 2027};
+    const datum nowhere = {NULL, 1}, endless = {bytes, SIZE_MAX}, too_long = {bytes, sizeof bytes};
     static const size_t places[] = {0, 1, 500, 8191, 8192, 8999};
-    for (size_t i = 0; i < sizeof places / sizeof *places; i++) stops_at(places[i], half, half, EINVAL, 5);
-    stops_at(3, of("key"), whole, EINVAL, 5);
-    stops_at(3, whole, of("content"), EINVAL, 5);
-    stops_at(3, nowhere, of("content"), EINVAL, 0);
-    stops_at(3, of("key"), nowhere, EINVAL, 0);
-    stops_at(3, of("key"), endless, EINVAL, 0);
-    stops_at(3, endless, endless, EINVAL, 0);
+    for (size_t i = 0; i < sizeof places / sizeof *places; i++) {
+        stops_at(places[i], half, half, DBMX_VERSION_1, EINVAL, 5);
+        stops_at(places[i], long_key, half, 0, EINVAL, 5);
+    }
+    stops_at(3, of("key"), whole, DBMX_VERSION_1, EINVAL, 5);
+    stops_at(3, of("key"), too_long, 0, EINVAL, 5);
+    for (unsigned options = 0; options <= DBMX_VERSION_1; options += DBMX_VERSION_1) {
+        stops_at(3, whole, of("content"), options, EINVAL, 5);
+        stops_at(3, nowhere, of("content"), options, EINVAL, 0);
+        stops_at(3, of("key"), nowhere, options, EINVAL, 0);
+        stops_at(3, of("key"), endless, options, EINVAL, 0);
+        stops_at(3, endless, endless, options, EINVAL, 0);
+    }
 
     dbmx_how how = {.limit = 1000};
     size_t stored = 0;

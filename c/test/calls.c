@@ -43,12 +43,14 @@ static void any_bytes(DBM *db) {
     FAILS(ENOENT, dbm_delete(db, empty) == -1);
 }
 
-/* 2,026 bytes together, and one more */
+/* The most bytes of a content under a key of so many, and one more. Up to a key of 1,023 bytes they are 65,535, and under a
+ * longer one as many as make 2,026 with it. */
 static void long_pairs(DBM *db) {
-    static char bytes[4096];
+    static const size_t longest[][2] = {{0, 65535}, {1013, 65535}, {1023, 65535}, {1024, 1002}, {2026, 0}};
+    static char bytes[65536];
     memset(bytes, 'x', sizeof bytes);
-    for (size_t key_size = 0; key_size <= DBMX_PAIR_MAX; key_size += 1013) {
-        datum key = {bytes, key_size}, fits = {bytes, DBMX_PAIR_MAX - key_size}, above = {bytes, DBMX_PAIR_MAX + 1 - key_size};
+    for (size_t i = 0; i < sizeof longest / sizeof *longest; i++) {
+        datum key = {bytes, longest[i][0]}, fits = {bytes, longest[i][1]}, above = {bytes, longest[i][1] + 1};
         WORKS(dbm_store(db, key, fits, DBM_REPLACE) == 0);
         FAILS(EINVAL, dbm_store(db, key, above, DBM_REPLACE) == -1);
         CHECK(dbm_error(db) == 5);
@@ -57,7 +59,7 @@ static void long_pairs(DBM *db) {
         CHECK(found.dsize == fits.dsize && !memcmp(found.dptr, bytes, fits.dsize));
         WORKS(dbm_delete(db, key) == 0);
     }
-    datum above = {bytes, sizeof bytes};
+    datum above = {bytes, 2027};
     FAILS(EINVAL, dbm_store(db, above, empty, DBM_REPLACE) == -1);
     CHECK(dbm_error(db) == 5 && dbm_clearerr(db) == 0);
     WORKS(!dbm_fetch(db, above).dptr);
@@ -124,7 +126,7 @@ static void errors(DBM *db) {
     static char bytes[3000];
     datum large = {bytes, sizeof bytes};
     DBM *reader;
-    FAILS(EINVAL, dbm_store(db, of("key"), large, DBM_INSERT) == -1);
+    FAILS(EINVAL, dbm_store(db, large, of("key"), DBM_INSERT) == -1);
     dbm_close(db);
     reader = open_or_end("t", O_RDONLY);
     CHECK(dbm_error(reader) == 0);

@@ -138,6 +138,78 @@ static void stores(void) {
     dbm_close(db);
 }
 
+/* a long content is stored and fetched, or memory is told and nothing has changed; so where the key lies in the content */
+static void contents(void) {
+    static char bytes[DBMX_CONTENT_MAX];
+    datum content = {bytes, sizeof bytes};
+    memset(bytes, 'a', sizeof bytes);
+    DBM *db = open_or_end("contents", O_RDWR | O_CREAT | O_EXCL);
+    long n = 0;
+    do {
+        CHECK(dbm_store(db, of("a"), of("short"), DBM_REPLACE) == 0);
+        refuse(++n);
+        errno = 77;
+        int status = dbm_store(db, of("a"), content, DBM_REPLACE), error = errno, fault = dbm_error(db);
+        refused = 0;
+        if (status) CHECK(status == -1 && was_refused && error == ENOMEM && (fault == 1 || fault == 2));
+        CHECK(dbm_clearerr(db) == 0 && dbm_fetch(db, of("a")).dsize == (status ? 5 : sizeof bytes));
+    } while (was_refused);
+    dbm_close(db);
+    n = 0;
+    do {
+        db = open_or_end("contents", O_RDWR);
+        refuse(++n);
+        errno = 77;
+        datum found = dbm_fetch(db, of("a"));
+        int error = errno, fault = dbm_error(db);
+        refused = 0;
+        if (found.dptr) CHECK(error == 77 && found.dsize == sizeof bytes && !memcmp(found.dptr, bytes, sizeof bytes));
+        if (!found.dptr) CHECK(was_refused && error == ENOMEM && (fault == 1 || fault == 2));
+        CHECK(dbm_clearerr(db) == 0 && dbm_fetch(db, of("a")).dsize == sizeof bytes);
+        dbm_close(db);
+    } while (was_refused);
+
+    db = open_or_end("contents", O_RDWR);
+    datum key = {dbm_fetch(db, of("a")).dptr, 1};
+    refuse(1);
+    FAILS(ENOMEM, !dbm_fetch(db, key).dptr);
+    CHECK(was_refused && dbm_error(db) == 1 && dbm_clearerr(db) == 0);
+    WORKS(dbm_fetch(db, key).dsize == sizeof bytes);
+    WORKS(dbmx_verify(db) == 0);
+    dbm_close(db);
+}
+
+/* So much memory is enough for lists of 32 MB: contents that are stored, and long ones that are replaced by short ones. */
+static void bounded(void) {
+    enum { COUNT = 500, MEMORY = 96 << 20 };
+    static char bytes[DBMX_CONTENT_MAX];
+    static int keys[COUNT];
+    static dbmx_pair pairs[COUNT];
+    static const size_t sizes[] = {sizeof bytes, 3, 1900, sizeof bytes, 40000};
+    struct rlimit low;
+    long pages = 0;
+    FILE *sizes_now = fopen("/proc/self/statm", "r");
+    if (!sizes_now || fscanf(sizes_now, "%ld", &pages) != 1) exit(2);
+    fclose(sizes_now);
+    DBM *db = open_or_end("bounded", O_RDWR | O_CREAT | O_EXCL);
+    low.rlim_cur = low.rlim_max = (rlim_t)pages * (rlim_t)sysconf(_SC_PAGESIZE) + MEMORY;
+    CHECK(!setrlimit(RLIMIT_AS, &low));
+    for (size_t round = 0; round < sizeof sizes / sizeof *sizes; round++) {
+        size_t stored = 0;
+        memset(bytes, 'a' + (int)round, sizeof bytes);
+        for (int i = 0; i < COUNT; i++) {
+            keys[i] = i * 7 % COUNT;
+            pairs[i] = (dbmx_pair){{&keys[i], sizeof keys[i]}, {bytes, sizes[round]}};
+        }
+        WORKS(dbmx_store_many(db, pairs, COUNT, &stored) == 0 && stored == COUNT);
+        for (int i = 0; i < COUNT; i++) {
+            datum found = dbm_fetch(db, pairs[i].key);
+            if (!CHECK(found.dsize == sizes[round] && !memcmp(found.dptr, bytes, found.dsize))) return;
+        }
+    }
+    dbm_close(db);
+}
+
 /* A file of at most so many bytes: the system's own number is told, and what was answered is there afterwards. */
 static void growths(void) {
     static char bytes[1500];
@@ -260,6 +332,8 @@ int main(void) {
     openings(O_RDONLY);
     openings(O_RDWR | O_TRUNC);
     stores();
+    contents();
+    apart(bounded);
     apart(growths);
     apart(makings);
     CHECK(open_descriptors() == before);

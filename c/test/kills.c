@@ -1,11 +1,12 @@
 /* A child that changes a file is killed at some moment, a hundred times. Each call that it acknowledged is there afterwards,
- * and of the others at most the one that was under way; of a list, which is one call, the first pairs of it may be there. */
+ * and of the others at most the one that was under way; of a list, which is one call, the first pairs of it may be there. Some
+ * contents are so long that they have pages of their own. */
 #include <signal.h>
 #include <time.h>
 
 #include "check.h"
 
-enum { ROUNDS = 100, MOST = 1 << 18, LIST = 64, REOPENED = 150, FEW = 15, MANY = 150, LEAST_ACKNOWLEDGED = 500 };
+enum { ROUNDS = 100, MOST = 1 << 18, LONGEST = 40000, LIST = 64, REOPENED = 150, FEW = 15, MANY = 150, LEAST_ACKNOWLEDGED = 500 };
 
 /* what change n is, from 1 on: the content of a key, which are both numbers, or a delete */
 struct change {
@@ -34,7 +35,7 @@ static struct change change_of(uint32_t n) {
 }
 
 static size_t size_of_content(uint32_t n) {
-    return sizeof n + n * 37 % 300;
+    return n % 9 == 4 ? 2000 + n * 37 % (LONGEST - 2000) : sizeof n + n * 37 % 300;
 }
 
 static datum key_of(uint32_t n, char *text) {
@@ -49,7 +50,7 @@ static datum content_of(uint32_t n, unsigned char *bytes) {
 
 static bool make_one(DBM *db, uint32_t n) {
     char text[32];
-    unsigned char bytes[512];
+    static unsigned char bytes[LONGEST];
     struct change it = change_of(n);
     datum key = key_of(it.key, text);
     if (it.deletes) return !dbm_delete(db, key);
@@ -59,7 +60,7 @@ static bool make_one(DBM *db, uint32_t n) {
 /* Makes the changes from n on that are a list with it, and answers the number of the last one, or 0. */
 static uint32_t make_list(DBM *db, uint32_t n) {
     static char texts[LIST][32];
-    static unsigned char bytes[LIST][512];
+    static unsigned char bytes[LIST][LONGEST];
     dbmx_pair pairs[LIST];
     size_t count = 0, stored = 0;
     do {
@@ -113,7 +114,7 @@ static void make_in_map(uint32_t n) {
 
 /* Reads all pairs, each of which has to be one that was stored. */
 static void read_all(DBM *db) {
-    unsigned char bytes[512];
+    static unsigned char bytes[LONGEST];
     memset(found, 0, sizeof found);
     for (datum key = dbm_firstkey(db); key.dptr; key = dbm_nextkey(db)) {
         char text[32] = {0}, again[32];

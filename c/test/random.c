@@ -1,7 +1,8 @@
-/* Random calls beside a plain map. Compared are each answer, errno, the fault that is kept, and the bytes that were given. */
+/* Random calls beside a plain map, on a file of version 1 that is made one of version 2 meanwhile. Compared are each answer,
+ * errno, the fault that is kept, and the bytes that were given. */
 #include "check.h"
 
-enum { CALLS = 20000, LIMIT = 900, KNOWN = 1 << 16, KEY_MOST = 60, LIST = 40, UNTOUCHED = 77 };
+enum { CALLS = 20000, UPGRADED = 7000, LIMIT = 900, KNOWN = 1 << 16, KEY_MOST = 60, LIST = 40, UNTOUCHED = 77 };
 
 /* A pair that was stored once. It stays here when it is deleted, so that a key which comes twice in a pass is seen. */
 struct pair {
@@ -13,7 +14,7 @@ struct pair {
 /* what the library gave last by a pass or by a fetch, and a copy of it */
 struct kept {
     datum it;
-    unsigned char bytes[DBMX_PAIR_MAX];
+    unsigned char bytes[DBMX_CONTENT_MAX];
 };
 
 static DBM *db;
@@ -22,7 +23,7 @@ static struct pair *known[KNOWN];
 static size_t known_count, there_count;
 static struct kept kept_key, kept_content;
 static bool is_reader, is_passing;
-static int fault, call_number;
+static int fault, call_number, version = 1;
 /* the seed */
 static uint64_t state = 88172645463325252;
 
@@ -97,7 +98,7 @@ static void forget(struct kept *kept) {
 
 static void keep(struct kept *kept, datum it) {
     kept->it = it;
-    if (it.dptr) demand(it.dsize <= DBMX_PAIR_MAX, "too many bytes are given");
+    if (it.dptr) demand(it.dsize <= (version == 1 ? DBMX_PAIR_MAX : DBMX_CONTENT_MAX), "too many bytes are given");
     if (it.dptr) memcpy(kept->bytes, it.dptr, it.dsize);
 }
 
@@ -133,9 +134,19 @@ static datum drawn_key(unsigned char *bytes) {
     return drawn_bytes(bytes, below(below(2) ? 5 : KEY_MOST + 1));
 }
 
+/* the most bytes of a content under a key of so many bytes, or none where no content is allowed */
+static size_t most_under(size_t key_size) {
+    if (version == 2 && key_size <= DBMX_KEY_MAX) return DBMX_CONTENT_MAX;
+    return key_size <= DBMX_PAIR_MAX ? DBMX_PAIR_MAX - key_size : 0;
+}
+
+static bool is_allowed(datum key, datum content) {
+    return key.dsize <= DBMX_PAIR_MAX && content.dsize <= most_under(key.dsize);
+}
+
 /* a content; now and then it is as long as it may be, and one byte longer */
 static datum drawn_content(unsigned char *bytes, datum key) {
-    size_t most = DBMX_PAIR_MAX - key.dsize, size = below(120);
+    size_t most = most_under(key.dsize), size = below(120);
     uint32_t kind = below(32);
     if (kind == 0 && kept_key.it.dptr) return kept_key.it;
     if (kind == 1 && kept_content.it.dptr) return kept_content.it;
@@ -150,7 +161,7 @@ static datum drawn_content(unsigned char *bytes, datum key) {
 static int store_in_map(datum key, datum content, bool replaces, int *answer, int *own) {
     const struct pair *it = found_of(key);
     *answer = -1;
-    *own = is_reader ? 4 : key.dsize + content.dsize > DBMX_PAIR_MAX ? 5 : 0;
+    *own = is_reader ? 4 : is_allowed(key, content) ? 0 : 5;
     if (!*own && it && !replaces) {
         *answer = 1;
         return 0;
@@ -163,7 +174,8 @@ static int store_in_map(datum key, datum content, bool replaces, int *answer, in
 }
 
 static void store(void) {
-    unsigned char key_bytes[KEY_MOST + 1], bytes[DBMX_PAIR_MAX + 1];
+    unsigned char key_bytes[KEY_MOST + 1];
+    static unsigned char bytes[DBMX_CONTENT_MAX + 1];
     datum key = drawn_key(key_bytes), content = drawn_content(bytes, key);
     bool replaces = below(2);
     int answer, own, number = store_in_map(key, content, replaces, &answer, &own);
@@ -255,14 +267,14 @@ static void whole_pass(void) {
 
 /* Stores a list. The map has those of it that come before the first one that is refused. */
 static void store_list(void) {
-    static unsigned char keys[LIST][KEY_MOST + 1], contents[LIST][DBMX_PAIR_MAX + 1];
+    static unsigned char keys[LIST][KEY_MOST + 1], contents[LIST][DBMX_CONTENT_MAX + 1];
     dbmx_pair pairs[LIST];
     size_t count = below(LIST + 1), wanted = 0, stored = LIST + 1;
     int answer, own = 0, number = 0;
     for (size_t i = 0; i < count; i++) {
         pairs[i].key = drawn_key(keys[i]);
         pairs[i].content = drawn_content(contents[i], pairs[i].key);
-        if (below(8) && pairs[i].key.dsize + pairs[i].content.dsize > DBMX_PAIR_MAX) pairs[i].content.dsize = 0;
+        if (below(8) && !is_allowed(pairs[i].key, pairs[i].content)) pairs[i].content.dsize = 0;
     }
     for (; wanted < count; wanted++) {
         number = store_in_map(pairs[wanted].key, pairs[wanted].content, true, &answer, &own);
@@ -280,7 +292,7 @@ static void open_again(void) {
         dbm_close(db);
         demand(errno == UNTOUCHED, "errno of a close");
     }
-    dbmx_how how = {.limit = LIMIT};
+    dbmx_how how = {.limit = LIMIT, .options = DBMX_VERSION_1};
     is_reader = db && !below(3);
     is_passing = false;
     forget(&kept_key);
@@ -298,6 +310,8 @@ static void look(void) {
     errno = UNTOUCHED;
     demand(dbmx_stat(db, &numbers) == 0 && numbers.pairs == there_count && numbers.limit == LIMIT, "the numbers");
     ended(0, 0, "errno of the numbers");
+    demand(dbmx_version(db) == version, "the version");
+    ended(0, 0, "errno of the version");
     demand(dbmx_verify(db) == 0, "the structure of the file");
     ended(0, 0, "errno of a look at the structure");
 }
@@ -313,6 +327,13 @@ static void clear(void) {
     demand(dbm_clearerr(db) == 0, "the answer of a clearing");
     fault = 0;
     ended(0, 0, "errno of a clearing");
+}
+
+static void upgrade(void) {
+    errno = UNTOUCHED;
+    demand(dbmx_upgrade(db) == (is_reader ? -1 : 0), "an upgrade's answer");
+    if (!is_reader) version = 2;
+    ended(is_reader ? EPERM : 0, is_reader ? 4 : 0, "errno of an upgrade");
 }
 
 /* The calls, and how often out of 1,000 each is made where none deletes. A reader is closed more often. */
@@ -334,6 +355,10 @@ static void call(void) {
         open_again();
         return;
     }
+    if (call_number >= UPGRADED && below(1000) < (version == 1 ? 100 : 2)) {
+        upgrade();
+        return;
+    }
     for (; kind >= calls[i].times; i++) kind -= calls[i].times;
     calls[i].call();
 }
@@ -351,6 +376,7 @@ int main(void) {
     if (mkdtemp(folder) && (chdir(folder) || atexit(leave))) exit(2);
     open_again();
     for (call_number = 1; call_number <= CALLS; call_number++) call();
+    demand(version == 2, "no upgrade was made");
     whole_pass();
     look();
     open_again();

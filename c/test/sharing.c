@@ -114,8 +114,20 @@ static void unlocked(void) {
     if (beside) dbm_close(beside);
 }
 
+/* calls that take a long content, and the upgrade that lets it in */
+static bool has_long(DBM *db) {
+    static char bytes[DBMX_CONTENT_MAX];
+    datum content = {bytes, sizeof bytes};
+    dbmx_pair pair = {of("another"), content};
+    bool good = dbm_store(db, of("long"), content, DBM_INSERT) == -1 && !dbm_clearerr(db) && !dbmx_upgrade(db);
+    good = good && !dbm_store(db, of("long"), content, DBM_INSERT) && !dbm_store(db, of("long"), content, DBM_REPLACE);
+    good = good && !dbmx_store_many(db, &pair, 1, NULL) && dbm_fetch(db, of("long")).dsize == sizeof bytes;
+    return good && !dbm_delete(db, of("long")) && !dbm_delete(db, of("another")) && dbmx_version(db) == 2;
+}
+
 static void *work(void *name) {
-    DBM *db = dbm_open(name, O_RDWR | O_CREAT, 0644);
+    dbmx_how how = {.options = DBMX_VERSION_1};
+    DBM *db = dbmx_open(name, O_RDWR | O_CREAT, 0644, &how, NULL);
     long keys = 0;
     if (!db) return NULL;
     for (int i = 0; i < STORES; i++) {
@@ -130,7 +142,8 @@ static void *work(void *name) {
         keys += i == content;
     }
     dbmx_pair pair = {of("a"), of("1")};
-    bool good = keys == STORES && !dbmx_store_many(db, &pair, 1, NULL) && !dbm_delete(db, of("a")) && !dbmx_verify(db);
+    bool good = keys == STORES && !dbmx_store_many(db, &pair, 1, NULL) && !dbm_delete(db, of("a")) && has_long(db);
+    good = good && !dbmx_verify(db);
     dbm_close(db);
     db = dbm_open(name, O_RDWR | O_TRUNC, 0);
     good = good && db && !dbm_firstkey(db).dptr;

@@ -1,49 +1,110 @@
 -- What is left of a chain where a key is taken out.
-use Rattle.std.proofs.Common.{◌≡◌, ℕ, ◌+◌, ◌<◌, ◌≤◌, not, Bool, true, false, cond, List, [], ◌∷◌, ◌++◌, length, map, filter, get_or, zero, suc, refl, ap, ◌∙◌, arith, ne_eqb}
+use Rattle.std.proofs.Common.{◌≡◌, ℕ, zero, suc, ◌+◌, ◌<◌, ◌≤◌, not, Bool, true, false, cond, List, [], ◌∷◌, ◌++◌, length, map, filter, refl, sym, ap, ◌∙◌, arith, ne_eqb}
 use Rattle.std.specs.Prelude.{remove as remove_at}
-use Rattle.std.specs.List.{AllByRecursion}
+use Rattle.std.specs.List.{AllByRecursion, HoldsAt}
 use Rattle.std.proofs.lemmas.List.{map-append}
 use Rattle.std.proofs.lemmas.List.Concat.{flat_map-append}
 use Rattle.std.proofs.lemmas.List.Elements.{filter-append}
 use Rattle.std.proofs.lemmas.List.Sums.{sum_by-append, sum_by-cons}
 use Rattle.dbm_model.specs.Pairs.{Key, Pair}
-use Rattle.page_model.specs.PairLists.{has_key, times, without}
-use Rattle.page_model.specs.Chain.{Leaf, Chain, numbers, pairs_in, take_out, is_bare, remove, emptied}
-use Rattle.page_model.proofs.Absent.{without_slot, without_absent}
-use Rattle.page_model.proofs.PairLists.{times_some}
+use Rattle.page_model.specs.PairLists.{has_key, times}
+use Rattle.page_model.specs.Pages.{Record}
+use Rattle.page_model.specs.Chain.{Leaf, Chain, Entry, numbers, entries_in, leaf_pairs, pairs_in, record_of, is_at, without, take_out, is_bare, remove, emptied}
+use Rattle.page_model.proofs.GoodBodies.{key_is}
 use Rattle.slot_page.specs.Contents.{HasKeyAt}
 use Rattle.chain_walks.proofs.KeyWalks.{has_key_is}
 
-no_pair : Pair
-no_pair = ([], [])
+abbrev pub pairs_at : List Entry → List Pair
+pairs_at entries = map (λ (e : Entry). e.pair) entries
 
-slot_has : (key : Key) (pairs : List Pair) (i : ℕ) → HasKeyAt key pairs i
-    → has_key key (get_or pairs i no_pair) ≡ true
-slot_has key pairs i has = has_key_is key (get_or pairs i no_pair) (has.1 no_pair)
+times_cons : (key : Key) (e : Entry) (entries : List Entry)
+    → times key (pairs_at (e ∷ entries)) ≡ cond (is_at key e) 1 0 + times key (pairs_at entries)
+times_cons key e entries =
+    sum_by-cons (λ (q : Pair). cond (has_key key q) 1 0) e.pair (pairs_at entries)
 
-count_slot : (key : Key) (pairs : List Pair) (i : ℕ) → i < length pairs
-    → has_key key (get_or pairs i no_pair) ≡ true → 1 ≤ times key pairs
-count_slot key [] i within has = absurd (omega arith)
-count_slot key (pair ∷ pairs) zero within has =
-    let one : cond {A = ℕ} (has_key key pair) 1 0 ≡ 1 = ap (λ (b : Bool). cond b 1 0) has in
-    omega (arith, one, sum_by-cons (λ (q : Pair). cond (has_key key q) 1 0) pair pairs)
-count_slot key (pair ∷ pairs) (suc i) within has =
-    omega (
-      arith,
-      count_slot key pairs i (omega arith) has,
-      sum_by-cons (λ (q : Pair). cond (has_key key q) 1 0) pair pairs,
-    )
+not_at : (key : Key) (e : Entry) → cond {A = ℕ} (is_at key e) 1 0 ≡ 0 → is_at key e ≡ false
+not_at key e = elim (is_at key e) as (λ b. cond {A = ℕ} b 1 0 ≡ 0 → b ≡ false) [
+  | true ↦ λ none. absurd (omega (arith, none))
+  | false ↦ λ none. refl
+]
 
--- a key that stands in a slot comes
-pub slot_times : (key : Key) (pairs : List Pair) (i : ℕ) → HasKeyAt key pairs i
-    → 1 ≤ times key pairs
-slot_times key pairs i has = count_slot key pairs i has.0 (slot_has key pairs i has)
+-- ---- entries without the key
 
--- and where it comes once, it is taken out with its slot
-pub slot_out : (key : Key) (pairs : List Pair) (i : ℕ) → HasKeyAt key pairs i → times key pairs ≤ 1
-    → without key pairs ≡ remove_at pairs i
-slot_out key pairs i has once =
-    without_slot key pairs i no_pair has.0 (slot_has key pairs i has) once
+pub without_none : (key : Key) (entries : List Entry) → times key (pairs_at entries) ≡ 0
+    → without key entries ≡ entries
+without_none key [] none = refl
+without_none key (e ∷ entries) none =
+    let count = times_cons key e entries in
+    ap (λ (b : Bool). cond (not b) (e ∷ without key entries) (without key entries))
+    (not_at key e (omega (arith, none, count)))
+    ∙ ap (λ (es : List Entry). e ∷ es) (without_none key entries (omega (arith, none, count)))
+
+pub at_none : (key : Key) (entries : List Entry) → times key (pairs_at entries) ≡ 0
+    → filter (is_at key) entries ≡ []
+at_none key [] none = refl
+at_none key (e ∷ entries) none =
+    let count = times_cons key e entries in
+    ap (λ (b : Bool). cond b (e ∷ filter (is_at key) entries) (filter (is_at key) entries))
+    (not_at key e (omega (arith, none, count)))
+    ∙ at_none key entries (omega (arith, none, count))
+
+-- ---- the entry in a slot
+
+-- this one has the key, and it is taken out with its slot
+pub record IsEntryAt (key : Key) (entries : List Entry) (slot : ℕ) : Type 0 where
+  pub e : Entry
+  pub there : HoldsAt (λ r. r ≡ record_of e) (map record_of entries) slot
+  pub within : slot < length entries
+  pub out : map record_of (without key entries) ≡ remove_at (map record_of entries) slot
+  pub only : filter (is_at key) entries ≡ e ∷ []
+  pub shorter : length (without key entries) + 1 ≡ length entries
+  pub once : times key (pairs_at entries) ≡ 1
+
+pub entry_at : (key : Key) (entries : List Entry) (slot : ℕ)
+    → HasKeyAt key (map record_of entries) slot → times key (pairs_at entries) ≤ 1
+    → IsEntryAt key entries slot
+entry_at key [] slot has once = absurd (omega (arith, has.0))
+entry_at key (e ∷ entries) zero has once =
+    let same : e.pair.0 ≡ key = sym (key_is e.pair e.pages) ∙ has.1 (record_of e) in
+    let here : is_at key e ≡ true = has_key_is key e.pair same in
+    let one : cond {A = ℕ} (is_at key e) 1 0 ≡ 1 = ap (λ (b : Bool). cond b 1 0) here in
+    let count = times_cons key e entries in
+    let none : times key (pairs_at entries) ≡ 0 = omega (arith, once, one, count) in
+    let rest = without_none key entries none in
+    let out : without key (e ∷ entries) ≡ entries =
+    ap (λ (b : Bool). cond (not b) (e ∷ without key entries) (without key entries)) here
+    ∙ rest in
+    record {
+      e = e;
+      there = λ d. refl;
+      within = omega arith;
+      out = ap (map record_of) out;
+      only = ap (λ (b : Bool). cond b (e ∷ filter (is_at key) entries)
+          (filter (is_at key) entries)) here
+          ∙ ap (λ (es : List Entry). e ∷ es) (at_none key entries none);
+      shorter = ap (λ (es : List Entry). length es + 1) out ∙ omega arith;
+      once = omega (arith, one, none, count);
+    }
+entry_at key (e ∷ entries) (suc slot) has once =
+    let count = times_cons key e entries in
+    let rest = entry_at key entries slot (omega (arith, has.0), λ d. has.1 d)
+    (omega (arith, once, count)) in
+    let other : is_at key e ≡ false =
+    not_at key e (omega (arith, once, count, rest.once)) in
+    let out : without key (e ∷ entries) ≡ e ∷ without key entries =
+    ap (λ (b : Bool). cond (not b) (e ∷ without key entries) (without key entries)) other in
+    record {
+      e = rest.e;
+      there = λ d. rest.there d;
+      within = omega (arith, rest.within);
+      out = ap (map record_of) out ∙ ap (λ (rs : List Record). record_of e ∷ rs) rest.out;
+      only = ap (λ (b : Bool). cond b (e ∷ filter (is_at key) entries)
+          (filter (is_at key) entries)) other ∙ rest.only;
+      shorter = ap (λ (es : List Entry). length es + 1) out ∙ omega (arith, rest.shorter);
+      once = omega (arith, count, rest.once, ap (λ (b : Bool). cond {A = ℕ} b 1 0) other);
+    }
+
+-- ---- the pages of a chain
 
 pub times-append : (key : Key) (xs ys : List Pair)
     → times key (xs ++ ys) ≡ times key xs + times key ys
@@ -52,18 +113,42 @@ times-append key xs ys = sum_by-append (λ (q : Pair). cond (has_key key q) 1 0)
 -- how often the key comes in a chain, by its parts
 pub times_parts : (key : Key) (before : Chain) (leaf : Leaf) (later : Chain)
     → times key (pairs_in (before ++ leaf ∷ later)) ≡ times key (pairs_in before)
-    + (times key leaf.pairs + times key (pairs_in later))
+    + (times key (leaf_pairs leaf) + times key (pairs_in later))
 times_parts key before leaf later =
-    ap (times key) (flat_map-append (λ (l : Leaf). l.pairs) before (leaf ∷ later))
-    ∙ times-append key (pairs_in before) (leaf.pairs ++ pairs_in later)
-    ∙ ap (λ (n : ℕ). times key (pairs_in before) + n) (times-append key leaf.pairs (pairs_in later))
+    ap (times key) (flat_map-append leaf_pairs before (leaf ∷ later))
+    ∙ times-append key (pairs_in before) (leaf_pairs leaf ++ pairs_in later)
+    ∙ ap (λ (n : ℕ). times key (pairs_in before) + n)
+    (times-append key (leaf_pairs leaf) (pairs_in later))
+
+pub at_chain_none : (key : Key) (chain : Chain) → times key (pairs_in chain) ≡ 0
+    → filter (is_at key) (entries_in chain) ≡ []
+at_chain_none key [] none = refl
+at_chain_none key (leaf ∷ rest) none =
+    let parts = times-append key (leaf_pairs leaf) (pairs_in rest) in
+    filter-append (is_at key) leaf.entries (entries_in rest)
+    ∙ (λ i. at_none key leaf.entries (omega (arith, none, parts)) i
+    ++ at_chain_none key rest (omega (arith, none, parts)) i)
+
+-- of its entries this one alone has the key
+pub at_parts : (key : Key) (before : Chain) (leaf : Leaf) (later : Chain) (e : Entry)
+    → times key (pairs_in before) ≡ 0 → times key (pairs_in later) ≡ 0
+    → filter (is_at key) leaf.entries ≡ e ∷ []
+    → filter (is_at key) (entries_in (before ++ leaf ∷ later)) ≡ e ∷ []
+at_parts key before leaf later e none none' only =
+    ap (filter (is_at key)) (flat_map-append (λ (l : Leaf). l.entries) before (leaf ∷ later))
+    ∙ filter-append (is_at key) (entries_in before) (leaf.entries ++ entries_in later)
+    ∙ ap (λ (es : List Entry). es ++ filter (is_at key) (leaf.entries ++ entries_in later))
+    (at_chain_none key before none)
+    ∙ filter-append (is_at key) leaf.entries (entries_in later)
+    ∙ (λ i. only i ++ at_chain_none key later none' i)
 
 abbrev pub AreFilled : Chain → Type 0
-AreFilled chain = AllByRecursion (λ leaf. 0 < length leaf.pairs) chain
+AreFilled chain = AllByRecursion (λ leaf. 0 < length leaf.entries) chain
 
-untouched : (key : Key) (leaf : Leaf) → times key leaf.pairs ≡ 0 → take_out key leaf ≡ leaf
-untouched key leaf none = ap (λ (ps : List Pair). record leaf { pairs = ps })
-    (without_absent key leaf.pairs (times_some key leaf.pairs none))
+untouched : (key : Key) (leaf : Leaf) → times key (leaf_pairs leaf) ≡ 0
+    → take_out key leaf ≡ leaf
+untouched key leaf none = ap (λ (es : List Entry). record leaf { entries = es })
+    (without_none key leaf.entries none)
 
 -- overflow pages without the key stay as they are
 kept : (key : Key) (pages : Chain) → times key (pairs_in pages) ≡ 0 → AreFilled pages
@@ -71,11 +156,11 @@ kept : (key : Key) (pages : Chain) → times key (pairs_in pages) ≡ 0 → AreF
     × (filter is_bare (map (take_out key) pages) ≡ [])
 kept key [] none filled = (refl, refl)
 kept key (leaf ∷ rest) none filled =
-    let parts = times-append key leaf.pairs (pairs_in rest) in
-    let same = untouched key leaf (omega arith) in
-    let later = kept key rest (omega arith) filled.1 in
+    let parts = times-append key (leaf_pairs leaf) (pairs_in rest) in
+    let same = untouched key leaf (omega (arith, none, parts)) in
+    let later = kept key rest (omega (arith, none, parts)) filled.1 in
     let full : is_bare leaf ≡ false =
-    ne_eqb (length leaf.pairs) 0 (λ e. (let some = filled.0 in omega arith)) in
+    ne_eqb (length leaf.entries) 0 (λ e. omega (arith, e, filled.0)) in
     let out : Chain = map (take_out key) rest in (
       ap (λ (l : Leaf). cond (not (is_bare l)) (l ∷ filter (λ leaf. not (is_bare leaf)) out)
           (filter (λ leaf. not (is_bare leaf)) out)) same
@@ -140,10 +225,12 @@ pub removed_over : (key : Key) (head : Leaf) (before : Chain) (leaf : Leaf) (lat
     ++ cond bare later (take_out key leaf ∷ later))
     × (emptied key (head ∷ before ++ leaf ∷ later) ≡ cond bare (leaf.number ∷ []) [])
 removed_over key head before leaf later none none' filled filled' bare is =
-    let parts = times-append key head.pairs (pairs_in before) in
-    let same = untouched key head (omega arith) in
-    let both = around key before leaf later (omega arith) none' filled filled' bare is in
-    let number : numbers (cond bare (take_out key leaf ∷ []) []) ≡ cond bare (leaf.number ∷ []) [] =
+    let parts = times-append key (leaf_pairs head) (pairs_in before) in
+    let same = untouched key head (omega (arith, none, parts)) in
+    let both = around key before leaf later (omega (arith, none, parts)) none' filled filled'
+    bare is in
+    let number : numbers (cond bare (take_out key leaf ∷ []) [])
+    ≡ cond bare (leaf.number ∷ []) [] =
     elim bare as (λ (b : Bool). numbers (cond b (take_out key leaf ∷ []) [])
     ≡ cond b (leaf.number ∷ []) []) [ true ↦ refl | false ↦ refl ] in (
       (λ i. same i ∷ both.0 i),
@@ -155,7 +242,7 @@ pub removed_none : (key : Key) (head : Leaf) (later : Chain)
     → times key (pairs_in (head ∷ later)) ≡ 0 → AreFilled later
     → (remove key (head ∷ later) ≡ head ∷ later) × (emptied key (head ∷ later) ≡ [])
 removed_none key head later none filled =
-    let parts = times-append key head.pairs (pairs_in later) in
-    let same = untouched key head (omega arith) in
-    let both = kept key later (omega arith) filled in
+    let parts = times-append key (leaf_pairs head) (pairs_in later) in
+    let same = untouched key head (omega (arith, none, parts)) in
+    let both = kept key later (omega (arith, none, parts)) filled in
     ((λ i. same i ∷ both.0 i), ap numbers both.1)

@@ -95,9 +95,9 @@ module _ {T U : Type 0} (old mid : StoreState) (same : mid.usable ≡ old.usable
   }
 
   -- of a put
-  pub walk_puts : (reserved : ℕ) (space : FreeState) → IsWalkAnswer {T = U} mid (Err e)
-      → IsPutAnswer reserved old space result
-  walk_puts reserved space answer = record {
+  pub walk_puts : (reserved pages : ℕ) (space : FreeState) → IsWalkAnswer {T = U} mid (Err e)
+      → IsPutAnswer reserved pages old space result
+  walk_puts reserved pages space answer = record {
     broken = is_broken answer.broken;
     memory = λ is. absurd (no_memory e answer.only (is_fault result e exit Memory is));
     no_room = λ is. absurd (has_room e (walk_remove e answer.only)
@@ -106,18 +106,19 @@ module _ {T U : Type 0} (old mid : StoreState) (same : mid.usable ≡ old.usable
   }
 
   pub take_puts : (reserved : ℕ) (space : FreeState) → mid.capacity ≡ old.capacity
-      → IsTakeAnswer {T = U} mid space (Err e) → IsPutAnswer reserved old space result
+      → IsTakeAnswer {T = U} mid space (Err e) → IsPutAnswer reserved 1 old space result
   take_puts reserved space capacity answer = record {
     broken = is_broken answer.broken;
     memory = λ is. absurd (take_no_memory e answer.only (is_fault result e exit Memory is));
     no_room = λ is. let full = answer.no_room.0 (came {U = U} result e exit NoRoom is) in
-        (full.0, omega (arith, full.3, capacity));
+        (omega (arith, full.3, capacity), λ one. full.0);
     only = if_exit OfPut result e exit (take_put e answer.only);
   }
 
-  pub stage_puts : (reserved n : ℕ) (space : FreeState) → length mid.staged ≤ length old.staged + 1
-      → IsStageAnswer {T = U} reserved mid n (Err e) → IsPutAnswer reserved old space result
-  stage_puts reserved n space few answer = record {
+  pub stage_puts : (reserved pages n : ℕ) (space : FreeState)
+      → length mid.staged ≤ length old.staged + pages
+      → IsStageAnswer {T = U} reserved mid n (Err e) → IsPutAnswer reserved pages old space result
+  stage_puts reserved pages n space few answer = record {
     broken = is_broken answer.broken.0;
     memory = λ is. omega (arith, few, (answer.memory (came {U = U} result e exit Memory is)).1);
     no_room = λ is. absurd (has_room e (stage_remove e answer.only)
@@ -126,34 +127,36 @@ module _ {T U : Type 0} (old mid : StoreState) (same : mid.usable ≡ old.usable
   }
 
   -- of a remove
-  pub walk_removes : (reserved : ℕ) → IsWalkAnswer {T = U} mid (Err e)
-      → IsRemoveAnswer reserved old result
-  walk_removes reserved answer = record {
+  pub walk_removes : (reserved pages : ℕ) → IsWalkAnswer {T = U} mid (Err e)
+      → IsRemoveAnswer reserved pages old result
+  walk_removes reserved pages answer = record {
     broken = is_broken answer.broken;
     memory = λ is. absurd (no_memory e answer.only (is_fault result e exit Memory is));
     only = if_exit OfRemove result e exit (walk_remove e answer.only);
   }
 
-  pub relink_removes : (reserved : ℕ) → length mid.staged ≤ length old.staged
-      → IsRemoveAnswer {T = U} reserved mid (Err e) → IsRemoveAnswer reserved old result
-  relink_removes reserved few answer = record {
+  pub relink_removes : (reserved more pages : ℕ)
+      → length mid.staged + more ≤ length old.staged + pages
+      → IsRemoveAnswer {T = U} reserved more mid (Err e) → IsRemoveAnswer reserved pages old result
+  relink_removes reserved more pages few answer = record {
     broken = is_broken answer.broken;
     memory = λ is. omega (arith, few, answer.memory (came {U = U} result e exit Memory is));
     only = if_exit OfRemove result e exit answer.only;
   }
 
-  pub give_removes : (reserved n : ℕ) (space : FreeState)
-      → length mid.staged ≤ length old.staged + 1
-      → IsGiveAnswer {T = U} reserved mid space n (Err e) → IsRemoveAnswer reserved old result
-  give_removes reserved n space few answer = record {
+  pub give_removes : (reserved pages n : ℕ) (space : FreeState)
+      → length mid.staged ≤ length old.staged + pages
+      → IsGiveAnswer {T = U} reserved mid space n (Err e)
+      → IsRemoveAnswer reserved pages old result
+  give_removes reserved pages n space few answer = record {
     broken = is_broken answer.broken;
     memory = λ is. omega (arith, few, (answer.memory (came {U = U} result e exit Memory is)).1);
     only = if_exit OfRemove result e exit (give_remove e answer.only);
   }
 
-  pub stage_removes : (reserved n : ℕ) → length mid.staged ≤ length old.staged + 1
-      → IsStageAnswer {T = U} reserved mid n (Err e) → IsRemoveAnswer reserved old result
-  stage_removes reserved n few answer = record {
+  pub stage_removes : (reserved pages n : ℕ) → length mid.staged ≤ length old.staged + pages
+      → IsStageAnswer {T = U} reserved mid n (Err e) → IsRemoveAnswer reserved pages old result
+  stage_removes reserved pages n few answer = record {
     broken = is_broken answer.broken.0;
     memory = λ is. omega (arith, few, (answer.memory (came {U = U} result e exit Memory is)).1);
     only = if_exit OfRemove result e exit (stage_remove e answer.only);
@@ -176,9 +179,9 @@ module _ {T U : Type 0} (old mid : StoreState) (same : mid.usable ≡ old.usable
             if_exit OfPut result e exit (remove_put e (give_remove e answer.only));
       }
 
-  pub put_stores : (reserved : ℕ) (space : FreeState)
-      → IsPutAnswer {T = U} reserved mid space (Err e) → IsStoreAnswer old result
-  put_stores reserved space answer =
+  pub put_stores : (reserved pages : ℕ) (space : FreeState)
+      → IsPutAnswer {T = U} reserved pages mid space (Err e) → IsStoreAnswer old result
+  put_stores reserved pages space answer =
       record { broken = is_broken answer.broken; only = if_exit OfPut result e exit answer.only }
 
   pub store_stores : IsStoreAnswer {T = U} mid (Err e) → IsStoreAnswer old result
@@ -204,20 +207,22 @@ cause_give {T} {U} result e exit before mid now le same reserved n state space a
     no_device e (inr (inr is)) device = cc
 
 -- the answer of the last stage is the answer
-module _ {T : Type 0} (reserved n : ℕ) (old mid : StoreState) (same : mid.usable ≡ old.usable) where
+module _ {T : Type 0} (reserved pages n : ℕ) (old mid : StoreState)
+    (same : mid.usable ≡ old.usable) where
   pub stage_puts_last : (space : FreeState) (result : Result T PageFault)
-      → length mid.staged ≤ length old.staged + 1 → IsStageAnswer reserved mid n result
-      → IsPutAnswer reserved old space result
+      → length mid.staged ≤ length old.staged + pages → IsStageAnswer reserved mid n result
+      → IsPutAnswer reserved pages old space result
   stage_puts_last space (Ok x) few answer =
       record { broken = λ is. cc; memory = λ is. cc; no_room = λ is. cc; only = tt }
   stage_puts_last space (Err e) few answer =
-      stage_puts {U = T} old mid same (Err e) e (λ i. Err e) reserved n space few answer
+      stage_puts {U = T} old mid same (Err e) e (λ i. Err e) reserved pages n space few answer
 
-  pub stage_removes_last : (result : Result T PageFault) → length mid.staged ≤ length old.staged + 1
-      → IsStageAnswer reserved mid n result → IsRemoveAnswer reserved old result
+  pub stage_removes_last : (result : Result T PageFault)
+      → length mid.staged ≤ length old.staged + pages
+      → IsStageAnswer reserved mid n result → IsRemoveAnswer reserved pages old result
   stage_removes_last (Ok x) few answer = record { broken = λ is. cc; memory = λ is. cc; only = tt }
   stage_removes_last (Err e) few answer = stage_removes {U = T} old mid same (Err e) e (λ i. Err e)
-      reserved n few answer
+      reserved pages n few answer
 
   pub stage_stores_last : (result : Result T PageFault) → IsStageAnswer reserved mid n result
       → IsStoreAnswer old result
@@ -245,9 +250,9 @@ no_store_refusal old x = record { broken = λ is. cc; only = tt }
 pub no_fault : {T : Type 0} (x : T) (fault : PageFault) → IsErrOf {T = T} (Ok x) fault → ⊥
 no_fault x fault is = cc
 
-pub no_remove_refusal : {T : Type 0} (reserved : ℕ) (old : StoreState) (x : T)
-    → IsRemoveAnswer {T = T} reserved old (Ok x)
-no_remove_refusal reserved old x = record { broken = λ is. cc; memory = λ is. cc; only = tt }
+pub no_remove_refusal : {T : Type 0} (reserved pages : ℕ) (old : StoreState) (x : T)
+    → IsRemoveAnswer {T = T} reserved pages old (Ok x)
+no_remove_refusal reserved pages old x = record { broken = λ is. cc; memory = λ is. cc; only = tt }
 
 -- the walk was longer than it may be
 pub long_walk : {T : Type 0} (old : StoreState) → IsWalkAnswer {T = T} old (Err Damaged)

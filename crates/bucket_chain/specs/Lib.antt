@@ -4,4 +4,5 @@ pub mod Changes
 pub mod Giving
 pub mod Hits
 pub mod Placements
+pub mod Records
 pub mod Spots

@@ -7,8 +7,10 @@ mod removes;
 mod staging;
 mod stores;
 
-pub use chain_walks::{Pair, Place, least_behind, load_all, lookup, step};
-pub use laws::{chains_are_placed, puts_are_placements, removals_are_placements};
-pub use puts::put;
+pub use chain_walks::{Pair, Place, least_behind, load_all, lookup};
+pub use laws::{
+    chains_are_placed, entries_are_placements, puts_are_placements, removals_are_placements,
+};
+pub use puts::{put, put_record};
 pub use removes::remove;
 pub use stores::store_all;

@@ -1,25 +1,28 @@
--- Pages of a chain among the pages that were seen.
-use Rattle.std.proofs.Common.{◌≡◌, ◌≢◌, ℕ, zero, suc, ◌+◌, ◌-◌, ◌≤◌, ◌==◌, ◌&&◌, Bool, true, false, cond, List, [], ◌∷◌, ◌++◌, length, filter, refl, sym, ap, ◌∙◌, subst, arith, eq-eqb, eqb-true, leb, ltb, append_assoc}
-use Rattle.std.specs.List.{range_with_len}
+-- Pages of a chain, and of its contents, among the pages that were seen.
+use Rattle.std.proofs.Common.{◌≡◌, ◌≢◌, ℕ, zero, suc, ◌+◌, ◌-◌, ◌^◌, ◌<◌, ◌≤◌, ◌==◌, ◌&&◌, Bool, true, false, cond, List, [], ◌∷◌, ◌++◌, length, filter, refl, sym, ap, ◌∙◌, subst, arith, eq-eqb, eqb-true, leb, ltb, length-append}
+use Rattle.std.specs.Prelude.{IsTrue, ◌↔◌}
+use Rattle.std.specs.List.{AllByRecursion, range_with_len}
+use Rattle.std.proofs.lemmas.List.{map-append, length-map}
+use Rattle.std.proofs.lemmas.List.Concat.{flat_map-append}
 use Rattle.std.proofs.lemmas.List.Sums.{sum_by-append, sum_by-cons}
 use Rattle.std.proofs.lemmas.Bool.Decides.{nat_tests}
 use Rattle.page_model.specs.Space.{is_page, times_of}
-use Rattle.page_model.specs.Chain.{Leaf, Chain, numbers}
+use Rattle.page_model.specs.Chain.{Leaf, Chain, Entry, numbers, entries_in, pages_of, pages_in}
 use Rattle.page_model.proofs.Flat.{same_sums, times-range_with_len}
+use Rattle.page_model.proofs.GoodBodies.{IsPageNumber, from_times}
 use Rattle.page_model.proofs.PairLists.{length-sum_by}
-use Rattle.page_marks.specs.Marks.{MayBeSeen}
-use Rattle.page_marks.proofs.Seen.{may_front}
-use Rattle.chain_walks.proofs.Walks.{AreNumbered}
+use Rattle.page_marks.specs.Marks.{AreMarked, MayBeSeen}
+use Rattle.chain_walks.specs.Chains.{chain_read}
 use Rattle.chain_check.proofs.SameWays.{AreOthers}
 
-times_parts : (n : ℕ) (xs ys : List ℕ) → times_of n (xs ++ ys) ≡ times_of n xs + times_of n ys
+pub times_parts : (n : ℕ) (xs ys : List ℕ) → times_of n (xs ++ ys) ≡ times_of n xs + times_of n ys
 times_parts n xs ys = sum_by-append (λ (k : ℕ). cond (k == n) 1 0) xs ys
 
-times_first : (n x : ℕ) (xs : List ℕ)
+pub times_first : (n x : ℕ) (xs : List ℕ)
     → times_of n (x ∷ xs) ≡ cond (x == n) 1 0 + times_of n xs
 times_first n x xs = sum_by-cons (λ (k : ℕ). cond (k == n) 1 0) x xs
 
-times_own : (n : ℕ) (xs : List ℕ) → times_of n (n ∷ xs) ≡ 1 + times_of n xs
+pub times_own : (n : ℕ) (xs : List ℕ) → times_of n (n ∷ xs) ≡ 1 + times_of n xs
 times_own n xs = times_first n n xs
     ∙ ap (λ (b : Bool). cond b 1 0 + times_of n xs) (eq-eqb n n refl)
 
@@ -27,27 +30,53 @@ at_most_one : (b : Bool) → cond {A = ℕ} b 1 0 ≤ 1
 at_most_one true = omega arith
 at_most_one false = omega arith
 
--- a page that does not come is none of them
-others_of : (n : ℕ) (chain : Chain) → times_of n (numbers chain) ≡ 0 → AreOthers n chain
-others_of n [] none = tt
-others_of n (leaf ∷ rest) none =
-    let parts = times_first n leaf.number (numbers rest) in (
-      λ e. absurd (let one : cond {A = ℕ} (leaf.number == n) 1 0 ≡ 1 =
-          ap (λ (b : Bool). cond b 1 0) (eq-eqb leaf.number n e) in omega arith),
-      others_of n rest (omega (arith, parts, none)),
-    )
+-- the same pages in another order
+pub same_marked : (marks : List Bool) (end : ℕ) (xs ys : List ℕ)
+    → ((n : ℕ) → times_of n ys ≡ times_of n xs) → AreMarked marks end xs → AreMarked marks end ys
+same_marked marks end xs ys same are n = same n ∙ are n
 
--- a page that may follow them is none of them
-pub new_page : (end n : ℕ) (seen : List ℕ) (before : Chain)
-    → MayBeSeen end ((seen ++ numbers before) ++ n ∷ []) → AreOthers n before
-new_page end n seen before may = others_of n before (omega (
-  arith,
-  may n,
-  at_most_one (is_page n end),
-  times_parts n (seen ++ numbers before) (n ∷ []),
-  times_own n [],
-  times_parts n seen (numbers before),
-))
+-- one page more is marked; the end of the file is known by two names
+pub mark_more : (marks now : List Bool) (end known n : ℕ) (seen : List ℕ) → end ≡ known
+    → ((seen : List ℕ) → AreMarked marks end seen → IsTrue true
+    → AreMarked now end (seen ++ n ∷ []))
+    → AreMarked marks known seen → AreMarked now known (seen ++ n ∷ [])
+mark_more marks now end known n seen same marked are =
+    subst (λ (e : ℕ). AreMarked now e (seen ++ n ∷ [])) same
+    (marked seen (subst (λ (e : ℕ). AreMarked marks e seen) (sym same) are) refl)
+
+-- a page that isn't marked where it may be
+pub not_refused : (marks : List Bool) (result : Bool) (end known n : ℕ) (seen : List ℕ)
+    → end ≡ known → ((seen : List ℕ) → AreMarked marks end seen
+    → IsTrue result ↔ MayBeSeen end (seen ++ n ∷ []))
+    → AreMarked marks known seen → MayBeSeen known (seen ++ n ∷ []) → result ≡ false → ⊥
+not_refused marks result end known n seen same may_be are may refused =
+    let marked = subst (λ (e : ℕ). AreMarked marks e seen) (sym same) are in
+    let can = subst (λ (e : ℕ). MayBeSeen e (seen ++ n ∷ [])) (sym same) may in
+    let yes = (may_be seen marked).1 can in
+    absurd (cc)
+
+-- no more of each
+pub fewer_seen : (end : ℕ) (xs ys : List ℕ) → ((n : ℕ) → times_of n ys ≤ times_of n xs)
+    → MayBeSeen end xs → MayBeSeen end ys
+fewer_seen end xs ys fewer may n = omega (arith, may n, fewer n)
+
+pub may_behind : (end : ℕ) (seen pages : List ℕ) → MayBeSeen end (seen ++ pages)
+    → MayBeSeen end pages
+may_behind end seen pages = fewer_seen end (seen ++ pages) pages
+    (λ n. omega (arith, times_parts n seen pages))
+
+-- a page that may be seen is one of the file's
+page_of : (n end : ℕ) → 1 ≤ cond (leb 1 n && ltb n end) 1 0 → (1 ≤ n) × (n < end)
+page_of n end h = grind (arith, nat_tests)
+
+pub in_file : (end n : ℕ) (pages : List ℕ) → MayBeSeen end pages → 1 ≤ times_of n pages
+    → (1 ≤ n) × (n < end)
+in_file end n pages may some = page_of n end (omega (arith, may n, some))
+
+pub page_numbers : (end : ℕ) (pages : List ℕ) → end ≤ 2 ^ 32 → MayBeSeen end pages
+    → AllByRecursion IsPageNumber pages
+page_numbers end pages small may = from_times IsPageNumber pages (λ n some.
+    let is = in_file end n pages may some in (omega (arith, is.0), omega (arith, is.1, small)))
 
 -- ---- how many pages a file has
 
@@ -129,62 +158,86 @@ few_pages end pages may =
     length-range start zero = refl
     length-range start (suc count) = omega (arith, length-range (start + 1) count)
 
--- ---- a chain whose pages may be seen
+-- ---- a chain and its contents
 
-pub numbers-append : (before later : Chain)
-    → numbers (before ++ later) ≡ numbers before ++ numbers later
-numbers-append [] later = refl
-numbers-append (leaf ∷ before) later =
-    ap (λ (ns : List ℕ). leaf.number ∷ ns) (numbers-append before later)
+pub pages_of-append : (xs ys : List Entry) → pages_of (xs ++ ys) ≡ pages_of xs ++ pages_of ys
+pages_of-append xs ys = flat_map-append (λ (e : Entry). e.pages) xs ys
 
-length-numbers : (chain : Chain) → length (numbers chain) ≡ length chain
-length-numbers [] = refl
-length-numbers (leaf ∷ rest) = omega (arith, length-numbers rest)
+pub entries_in-append : (before later : Chain)
+    → entries_in (before ++ later) ≡ entries_in before ++ entries_in later
+entries_in-append before later = flat_map-append (λ (leaf : Leaf). leaf.entries) before later
 
-some_of_page : (n end : ℕ) → is_page n end ≡ true → 1 ≤ n
-some_of_page n end e = grind (arith, nat_tests, e)
-
-each_numbered : (end : ℕ) (chain : Chain) → MayBeSeen end (numbers chain) → AreNumbered chain
-each_numbered end [] may = tt
-each_numbered end (leaf ∷ rest) may = (
-  elim (is_page leaf.number end) as
-      (λ (b : Bool). is_page leaf.number end ≡ b → 1 ≤ leaf.number) [
-        | true ↦ λ e. some_of_page leaf.number end e
-        | false ↦ λ e.
-            let none : cond {A = ℕ} (is_page leaf.number end) 1 0 ≡ 0 =
-            ap (λ (b : Bool). cond b 1 0) e in
-            absurd (omega (arith, none, may leaf.number, times_own leaf.number (numbers rest)))
-      ] refl,
-  each_numbered end rest (λ n. omega (arith, may n, times_first n leaf.number (numbers rest))),
+pub times_in_parts : (n : ℕ) (before later : Chain)
+    → times_of n (pages_in (before ++ later))
+    ≡ times_of n (pages_in before) + times_of n (pages_in later)
+times_in_parts n before later = omega (
+  arith,
+  times_parts n (numbers (before ++ later)) (pages_of (entries_in (before ++ later))),
+  times_parts n (numbers before) (pages_of (entries_in before)),
+  times_parts n (numbers later) (pages_of (entries_in later)),
+  ap (times_of n) (map-append (λ (leaf : Leaf). leaf.number) before later),
+  times_parts n (numbers before) (numbers later),
+  ap (λ (es : List Entry). times_of n (pages_of es)) (entries_in-append before later),
+  ap (times_of n) (pages_of-append (entries_in before) (entries_in later)),
+  times_parts n (pages_of (entries_in before)) (pages_of (entries_in later)),
 )
 
-may_behind : (end : ℕ) (seen pages : List ℕ) → MayBeSeen end (seen ++ pages)
-    → MayBeSeen end pages
-may_behind end seen pages may n = omega (arith, may n, times_parts n seen pages)
+-- a page and the pages of its contents
+pub times_of_leaf : (n : ℕ) (leaf : Leaf)
+    → times_of n (pages_in (leaf ∷ []))
+    ≡ times_of n (leaf.number ∷ []) + times_of n (pages_of leaf.entries)
+times_of_leaf n leaf = omega (
+  arith,
+  times_parts n (leaf.number ∷ []) (pages_of (leaf.entries ++ [])),
+  ap (times_of n) (pages_of-append leaf.entries []),
+  times_parts n (pages_of leaf.entries) [],
+)
 
-pub few_in : (end : ℕ) (seen : List ℕ) (chain : Chain) → MayBeSeen end (seen ++ numbers chain)
+-- a page that does not come is none of them
+others_of : (n : ℕ) (chain : Chain) → times_of n (numbers chain) ≡ 0
+    → AreOthers n (chain_read chain)
+others_of n [] none = tt
+others_of n (leaf ∷ rest) none =
+    let parts = times_first n leaf.number (numbers rest) in (
+      λ e. absurd (let one : cond {A = ℕ} (leaf.number == n) 1 0 ≡ 1 =
+          ap (λ (b : Bool). cond b 1 0) (eq-eqb leaf.number n e) in omega arith),
+      others_of n rest (omega (arith, parts, none)),
+    )
+
+-- a page that may follow them is none of them
+pub new_page : (end n : ℕ) (seen : List ℕ) (chain : Chain)
+    → MayBeSeen end ((seen ++ pages_in chain) ++ n ∷ []) → AreOthers n (chain_read chain)
+new_page end n seen chain may = others_of n chain (omega (
+  arith,
+  may n,
+  at_most_one (is_page n end),
+  times_parts n (seen ++ pages_in chain) (n ∷ []),
+  times_own n [],
+  times_parts n seen (pages_in chain),
+  times_parts n (numbers chain) (pages_of (entries_in chain)),
+))
+
+pub few_in : (end : ℕ) (seen : List ℕ) (chain : Chain) → MayBeSeen end (seen ++ pages_in chain)
     → length chain ≤ end
 few_in end seen chain may = omega (
   arith,
-  few_pages end (numbers chain) (may_behind end seen (numbers chain) may),
-  length-numbers chain,
+  few_pages end (pages_in chain) (may_behind end seen (pages_in chain) may),
+  length-append (numbers chain) (pages_of (entries_in chain)),
+  length-map chain (λ (leaf : Leaf). leaf.number),
 )
 
-pub numbered_in : (end : ℕ) (seen : List ℕ) (chain : Chain)
-    → MayBeSeen end (seen ++ numbers chain) → AreNumbered chain
-numbered_in end seen chain may =
-    each_numbered end chain (may_behind end seen (numbers chain) may)
+each_numbered : (chain : Chain) → AllByRecursion (λ n. 1 ≤ n) (numbers chain)
+    → AllByRecursion (λ leaf. 1 ≤ leaf.number) chain
+each_numbered [] some = tt
+each_numbered (leaf ∷ rest) some = (some.0, each_numbered rest some.1)
 
--- the pages of the chain up to one of them
-pub may_come : (end n : ℕ) (seen : List ℕ) (chain before later : Chain) (leaf : Leaf)
-    → chain ≡ before ++ leaf ∷ later → n ≡ leaf.number → MayBeSeen end (seen ++ numbers chain)
-    → MayBeSeen end ((seen ++ numbers before) ++ n ∷ [])
-may_come end n seen chain before later leaf parts number may =
-    may_front end ((seen ++ numbers before) ++ n ∷ []) (numbers later)
-    (subst (MayBeSeen end) (
-    ap (λ (c : Chain). seen ++ numbers c) parts
-    ∙ ap (λ (ns : List ℕ). seen ++ ns) (numbers-append before (leaf ∷ later))
-    ∙ sym (append_assoc seen (numbers before) (leaf.number ∷ numbers later))
-    ∙ ap (λ (m : ℕ). (seen ++ numbers before) ++ m ∷ numbers later) (sym number)
-    ∙ sym (append_assoc (seen ++ numbers before) (n ∷ []) (numbers later))
-    ) may)
+pub numbered_in : (end : ℕ) (seen : List ℕ) (chain : Chain)
+    → MayBeSeen end (seen ++ pages_in chain) → AllByRecursion (λ leaf. 1 ≤ leaf.number) chain
+numbered_in end seen chain may = each_numbered chain
+    (from_some (numbers chain) (λ n some. (in_file end n (pages_in chain)
+    (may_behind end seen (pages_in chain) may)
+    (omega (arith, some, times_parts n (numbers chain) (pages_of (entries_in chain))))).0))
+  where
+    from_some : (ns : List ℕ) → ((n : ℕ) → 1 ≤ times_of n ns → 1 ≤ n)
+        → AllByRecursion (λ n. 1 ≤ n) ns
+    from_some ns h = from_times (λ n. 1 ≤ n) ns h

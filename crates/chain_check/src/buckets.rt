@@ -2,7 +2,7 @@
 
 ghost use Rattle.std.specs.Prelude.{◌≡◌, ◌↔◌, IsTrue};
 ghost use Rattle.lin_addr.specs.Shapes.{shape_of};
-ghost use Rattle.slot_page.specs.Contents.{IsBucketPage, page_pairs};
+ghost use Rattle.slot_page.specs.Contents.{IsBucketPage, page_records};
 ghost use Rattle.chain_check.specs.BucketChains.{AreInBucket};
 
 use lin_addr::{Shape, hash};
@@ -12,7 +12,7 @@ use slot_page::pair_at;
 /// Whether each key of the page has this bucket.
 pub fn are_in_bucket(page: &Page, shape: Shape, bucket: u32) -> bool
     requires { IsBucketPage page.now.bytes }
-    ensures { IsTrue result ↔ AreInBucket (shape_of shape) bucket (page_pairs page.now.bytes) }
+    ensures { IsTrue result ↔ AreInBucket (shape_of shape) bucket (page_records page.now.bytes) }
 {
     for slot in 0..page.slots() as usize {
         let (key, _) = pair_at(page, slot);

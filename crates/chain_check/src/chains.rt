@@ -1,9 +1,10 @@
 //! The chain of a bucket, from its head page to its end.
 
-ghost use Rattle.std.specs.Prelude.{◌≡◌, ◌≤◌, ◌<◌, ◌++◌, ℕ, List, length, slice_index, IfOk, IsErrOf};
+ghost use Rattle.std.specs.Prelude.{◌≡◌, ◌≤◌, ◌++◌, ℕ, List, length, IfOk, IsErrOf};
 ghost use Rattle.lin_addr.specs.Shapes.{shape_of};
-ghost use Rattle.page_model.specs.Chain.{Chain, numbers};
+ghost use Rattle.page_model.specs.Chain.{Chain, pages_in};
 ghost use Rattle.page_io.specs.Answers.{HasDeviceCause};
+ghost use Rattle.page_io.specs.Versions.{model_version};
 ghost use Rattle.page_io.specs.Views.{body_at, ReadsOnly};
 ghost use Rattle.page_io.specs.declared.store.PageFault.TheVariants.{Damaged};
 ghost use Rattle.page_marks.specs.Marks.{AreMarked, MayBeSeen};
@@ -11,26 +12,24 @@ ghost use Rattle.chain_walks.specs.Answers.{IsWalkAnswer};
 ghost use Rattle.chain_check.specs.BucketChains.{IsBucketChain, IsChecked};
 
 use crate::buckets::are_in_bucket;
+use crate::contents::check_contents;
 use crate::keys::check_keys;
 use chain_walks::{HEAD, OVERFLOW, read_link};
 use lin_addr::Shape;
-use page_io::{Page, PageFault, PageStore};
+use page_io::{Page, PageFault, PageStore, Version};
 use page_marks::mark;
 
-/// A proof learns here that the bytes of a page are below 256.
-fn are_bytes(bytes: &[u8])
-    ensures { (k : ℕ) → slice_index bytes.now k < 256 }
-{}
-
-/// Reads the chain of a bucket from page `head` on, marks its pages, and answers how many pairs it
-/// has, 4,294,967,295 where there are more. Damaged is answered where it isn't such a chain, a key
-/// of another bucket or one twice stands in it, or one of its pages is marked already.
+/// Reads the chain of a bucket from page `head` on and its contents, marks their pages, and answers
+/// how many pairs it has, 4,294,967,295 where there are more. Damaged is answered where it isn't
+/// such a chain, a key of another bucket or one twice stands in it, or one of the pages is marked
+/// already.
 pub fn check_chain<S: PageStore>(
     store: &mut S,
     shape: Shape,
     bucket: u32,
     head: u32,
     marks: &mut [bool],
+    version: Version,
 ) -> Result<u32, PageFault>
     requires { (S.state store.old).end ≤ length marks.old }
     ensures reads { ReadsOnly S.PageStore store.old store.new }
@@ -42,25 +41,27 @@ pub fn check_chain<S: PageStore>(
     // else.
     ensures sound { S.honest store.old → (seen : List ℕ)
         → AreMarked marks.old (S.state store.old).end seen
-        → IfOk result (λ pairs. IsChecked (body_at S.PageStore store.old) (S.state store.old).end
-        (shape_of shape) bucket head pairs marks.new seen) }
+        → IfOk result (λ pairs. IsChecked (model_version version) (body_at S.PageStore store.old)
+        (S.state store.old).end (shape_of shape) bucket head pairs marks.new seen) }
     ensures whole { S.honest store.old → (seen : List ℕ) (chain : Chain)
         → AreMarked marks.old (S.state store.old).end seen
-        → IsBucketChain (body_at S.PageStore store.old) (shape_of shape) bucket head chain
-        → MayBeSeen (S.state store.old).end (seen ++ numbers chain) → IsErrOf result Damaged → ⊥ }
+        → IsBucketChain (model_version version) (body_at S.PageStore store.old) (shape_of shape)
+        bucket head chain → MayBeSeen (S.state store.old).end (seen ++ pages_in chain)
+        → IsErrOf result Damaged → ⊥ }
 {
     let end = store.end();
     let mut page = Page::blank();
+    let mut other = Page::blank();
     let mut at = head;
     let mut kind = HEAD;
     let mut pairs: u32 = 0;
     for _step in 0..end {
-        let next = read_link(store, at, kind, &mut page)?;
-        are_bytes(&page.bytes);
+        let next = read_link(store, at, kind, &mut page, version)?;
         if !mark(marks, at, end) || !are_in_bucket(&page, shape, bucket) {
             return Err(PageFault::Damaged);
         }
-        check_keys(store, head, at, &page)?;
+        check_keys(store, head, at, &page, version)?;
+        check_contents(store, &page, marks, &mut other, version)?;
         pairs = pairs.saturating_add(page.slots() as u32);
         if next == 0 {
             return Ok(pairs);

@@ -3,21 +3,23 @@
 ghost use Rattle.std.specs.Prelude.{◌≡◌, ◌↔◌, ◌≤◌, ◌++◌, ◌∷◌, ℕ, IsTrue, OnOk, IsErrOf};
 ghost use Rattle.page_model.specs.Chain.{Chain};
 ghost use Rattle.page_io.specs.Answers.{HasDeviceCause};
+ghost use Rattle.page_io.specs.Versions.{model_version};
 ghost use Rattle.page_io.specs.Views.{body_at, ReadsOnly};
 ghost use Rattle.page_io.specs.declared.store.PageFault.TheVariants.{Damaged};
-ghost use Rattle.slot_page.specs.Contents.{IsBucketPage, page_pairs};
+ghost use Rattle.slot_page.specs.Contents.{IsBucketPage, page_records};
 ghost use Rattle.chain_walks.specs.Answers.{IsWalkAnswer};
 ghost use Rattle.chain_check.specs.BucketChains.{AreApart, HasNewKeys, AreNewInChain};
 
 use chain_walks::{HEAD, OVERFLOW, read_link};
-use page_io::{Page, PageFault, PageStore};
+use page_io::{Page, PageFault, PageStore, Version};
 use slot_page::{find, pair_at};
 
 /// Whether no key stands in both pages.
 fn are_apart(page: &Page, other: &Page) -> bool
     requires page { IsBucketPage page.now.bytes }
     requires other { IsBucketPage other.now.bytes }
-    ensures { IsTrue result ↔ AreApart (page_pairs page.now.bytes) (page_pairs other.now.bytes) }
+    ensures { IsTrue result
+        ↔ AreApart (page_records page.now.bytes) (page_records other.now.bytes) }
 {
     for slot in 0..page.slots() as usize {
         let (key, _) = pair_at(page, slot);
@@ -34,6 +36,7 @@ pub fn check_keys<S: PageStore>(
     head: u32,
     n: u32,
     page: &Page,
+    version: Version,
 ) -> Result<(), PageFault>
     requires { IsBucketPage page.now.bytes }
     ensures reads { ReadsOnly S.PageStore store.old store.new }
@@ -41,10 +44,11 @@ pub fn check_keys<S: PageStore>(
     ensures answer { IsWalkAnswer (S.state store.old) result }
     ensures sound { S.honest store.old
         → OnOk result (HasNewKeys (body_at S.PageStore store.old) head n
-        (page_pairs page.now.bytes)) }
+        (page_records page.now.bytes)) }
     ensures whole { S.honest store.old → (chain : Chain)
-        → AreNewInChain (body_at S.PageStore store.old) (S.state store.old).end head n
-        (page_pairs page.now.bytes) chain → IsErrOf result Damaged → ⊥ }
+        → AreNewInChain (model_version version) (body_at S.PageStore store.old)
+        (S.state store.old).end head n (page_records page.now.bytes) chain
+        → IsErrOf result Damaged → ⊥ }
 {
     let mut other = Page::blank();
     let mut at = head;
@@ -53,7 +57,7 @@ pub fn check_keys<S: PageStore>(
         if at == n {
             return Ok(());
         }
-        let next = read_link(store, at, kind, &mut other)?;
+        let next = read_link(store, at, kind, &mut other, version)?;
         if next == 0 || !are_apart(page, &other) {
             return Err(PageFault::Damaged);
         }

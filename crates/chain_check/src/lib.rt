@@ -4,6 +4,7 @@
 
 mod buckets;
 mod chains;
+mod contents;
 mod keys;
 
 pub use chains::check_chain;

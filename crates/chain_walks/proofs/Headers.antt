@@ -1,10 +1,10 @@
 -- What the fields of a bucket page say.
 use Rattle.std.proofs.Common.{◌≡◌, ℕ, ◌<◌, List, length, sym, ap, ◌∙◌, subst, refl}
-use Rattle.dbm_model.specs.Pairs.{Pair}
-use Rattle.page_model.specs.Pages.{Bucket, bucket}
+use Rattle.dbm_model.specs.Bounds.{Version}
+use Rattle.page_model.specs.Pages.{Record, Bucket, bucket}
 use Rattle.page_model.specs.Reading.{own_number, kind_of, slot_count, next_of, bucket_of}
 use Rattle.page_io.proofs.OwnNumbers.{own_is}
-use Rattle.slot_page.specs.Contents.{IsBucketPage, page_pairs}
+use Rattle.slot_page.specs.Contents.{IsPageOf, page_records}
 use Rattle.slot_page.proofs.Pages.{counted}
 use Rattle.chain_walks.specs.Links.{IsLink}
 
@@ -17,23 +17,23 @@ unfolding bucket_of
 next_is bytes = refl
 
 bucket_is : (bytes : List ℕ) (n kind next : ℕ) → own_number bytes ≡ n → kind_of bytes ≡ kind
-    → next_of bytes ≡ next → bucket_of bytes ≡ bucket n kind next (page_pairs bytes)
+    → next_of bytes ≡ next → bucket_of bytes ≡ bucket n kind next (page_records bytes)
 unfolding bucket_of
-bucket_is bytes n kind next own k after = λ i. bucket (own i) (k i) (after i) (page_pairs bytes)
+bucket_is bytes n kind next own k after = λ i. bucket (own i) (k i) (after i) (page_records bytes)
 
 -- the header of a page of a chain
-pub record IsHeader (bytes : List ℕ) (n kind next : ℕ) (pairs : List Pair) : Type 0 where
+pub record IsHeader (bytes : List ℕ) (n kind next : ℕ) (records : List Record) : Type 0 where
   pub own : own_number bytes ≡ n
   pub kind_of : kind_of bytes ≡ kind
   pub next_of : next_of bytes ≡ next
-  pub count : slot_count bytes ≡ length pairs
+  pub count : slot_count bytes ≡ length records
   pub filled : kind ≡ 4 → 0 < slot_count bytes
 
-pub header_of : (bytes : List ℕ) (n kind next : ℕ) (pairs : List Pair)
-    → IsLink bytes n kind next pairs → IsHeader bytes n kind next pairs
-header_of bytes n kind next pairs link =
-    let count : slot_count bytes ≡ length pairs =
-    (counted bytes link.page).count_is ∙ ap (λ (b : Bucket). length b.pairs) link.says in
+pub header_of : (version : Version) (bytes : List ℕ) (n kind next : ℕ) (records : List Record)
+    → IsLink version bytes n kind next records → IsHeader bytes n kind next records
+header_of version bytes n kind next records link =
+    let count : slot_count bytes ≡ length records =
+    (counted bytes link.page.page).count_is ∙ ap (λ (b : Bucket). length b.held) link.says in
     record {
       own = sym (own_is bytes) ∙ ap (λ (b : Bucket). b.own) link.says;
       kind_of = sym (kind_is bytes) ∙ ap (λ (b : Bucket). b.kind) link.says;
@@ -43,16 +43,12 @@ header_of bytes n kind next pairs link =
     }
 
 -- a bucket page with this header is a page of a chain
-pub link_is : (bytes : List ℕ) (n kind next : ℕ) → IsBucketPage bytes → own_number bytes ≡ n
+pub link_is : (version : Version) (bytes : List ℕ) (n kind next : ℕ) → IsPageOf version bytes
+    → own_number bytes ≡ n
     → kind_of bytes ≡ kind → next_of bytes ≡ next → (kind ≡ 4 → 0 < slot_count bytes)
-    → IsLink bytes n kind next (page_pairs bytes)
-link_is bytes n kind next page own k after some = record {
+    → IsLink version bytes n kind next (page_records bytes)
+link_is version bytes n kind next page own k after some = record {
   page = page;
   says = bucket_is bytes n kind next own k after;
-  filled = λ e. subst (λ (count : ℕ). 0 < count) (counted bytes page).count_is (some e);
+  filled = λ e. subst (λ (count : ℕ). 0 < count) (counted bytes page.page).count_is (some e);
 }
-
--- what the bytes say of it is their list of pairs
-pub pairs_read : (bytes : List ℕ) (n kind next : ℕ) (pairs : List Pair)
-    → IsLink bytes n kind next pairs → page_pairs bytes ≡ pairs
-pairs_read bytes n kind next pairs link = ap (λ (b : Bucket). b.pairs) link.says

@@ -1,5 +1,5 @@
 -- The least key of the pairs that were read, as more are read.
-use Rattle.std.proofs.Common.{◌≡◌, ℕ, ◌+◌, ◌<◌, ◌↔◌, Bool, true, false, cond, List, [], ◌∷◌, ◌++◌, length, take, Option, None, Some, IsTrue, refl, sym, ap, ◌∙◌, subst, arith}
+use Rattle.std.proofs.Common.{◌≡◌, ℕ, ◌+◌, ◌<◌, ◌↔◌, Bool, true, false, cond, List, [], ◌∷◌, ◌++◌, length, map, get_or, take, Option, None, Some, IsTrue, refl, sym, ap, ◌∙◌, subst, arith}
 use Rattle.std.specs.Prelude.{IfSome, IfNone}
 use Rattle.std.specs.Cmp.{IsTotalOrder}
 use Rattle.std.specs.Cmp.Lexicographic.{on_texts}
@@ -8,15 +8,19 @@ use Rattle.std.specs.declared.cmp.Ordering.TheVariants.{Less, Equal, Greater}
 use Rattle.std.specs.Ordering.{ordering_reverse}
 use Rattle.std.specs.List.{AllByRecursion, HoldsAt}
 use Rattle.std.proofs.lemmas.Cmp.{tied_itself, alike_right}
-use Rattle.std.proofs.lemmas.List.{take_more}
-use Rattle.std.proofs.lemmas.List.Sums.{sum_by-append}
+use Rattle.std.proofs.lemmas.List.{take_more, length-map, get_or-map}
+use Rattle.std.proofs.lemmas.List.Sums.{sum_by-append, sum_by-cons}
 use Rattle.dbm_model.specs.KeyOrder.{hash_of, rank, pass_cmp, ComesBefore}
 use Rattle.dbm_model.specs.Pairs.{Key, Pair}
 use Rattle.dbm_model.specs.States.{Pass}
 use Rattle.dbm_model.specs.Steps.{IsAhead}
 use Rattle.page_model.specs.PairLists.{has_key, times}
-use Rattle.page_model.proofs.Chains.{AllByRecursion-append}
-use Rattle.slot_page.specs.Contents.{IsBucketPage, HasKeyAt, page_pairs}
+use Rattle.page_model.specs.Pages.{Record}
+use Rattle.page_model.specs.Chain.{Entry, Chain, entries_in, pairs_in, record_of}
+use Rattle.page_model.proofs.Chains.{AllByRecursion-append, pairs_of_entries}
+use Rattle.page_model.proofs.GoodBodies as bodies
+use Rattle.slot_page.specs.Contents.{IsBucketPage, HasKeyAt, page_records}
+use Rattle.chain_walks.specs.Chains.{record_pair}
 use Rattle.chain_walks.specs.Bests.{slot_of, IsRankedAt}
 use Rattle.chain_walks.specs.Leasts.{IsLeastKey, IsLeastAt, IsLeast, IsAheadAt}
 use Rattle.chain_walks.specs.declared.leasts.Best.{Best}
@@ -103,21 +107,24 @@ alone from key content ahead =
 
 -- ---- the key in a slot
 
-pub key_is : (pairs : List Pair) (slot : ℕ) (found key : Key) (content : List ℕ)
-    → HoldsAt (λ p. p ≡ (found, content)) pairs slot → HasKeyAt key pairs slot → found ≡ key
-key_is pairs slot found key content there has =
-    ap (λ (p : Pair). p.0) (sym (there ([], []))) ∙ has.1 ([], [])
+blank : Record
+blank = record { key = []; bytes = []; far = None }
 
-pub one_key : (pairs : List Pair) (slot : ℕ) (key other : Key) → HasKeyAt key pairs slot
-    → HasKeyAt other pairs slot → key ≡ other
-one_key pairs slot key other has has' = sym (has.1 ([], [])) ∙ has'.1 ([], [])
+pub key_is : (records : List Record) (slot : ℕ) (found key content : List ℕ)
+    → HoldsAt (λ r. (r.key ≡ found) × (r.bytes ≡ content)) records slot
+    → HasKeyAt key records slot → found ≡ key
+key_is records slot found key content there has = sym ((there blank).0) ∙ has.1 blank
 
-pub same_before : (pairs : List Pair) (slot : ℕ) (key found other : Key) (before : Bool)
-    → HasKeyAt found pairs slot → HasKeyAt other pairs slot
+pub one_key : (records : List Record) (slot : ℕ) (key other : Key) → HasKeyAt key records slot
+    → HasKeyAt other records slot → key ≡ other
+one_key records slot key other has has' = sym (has.1 blank) ∙ has'.1 blank
+
+pub same_before : (records : List Record) (slot : ℕ) (key found other : Key) (before : Bool)
+    → HasKeyAt found records slot → HasKeyAt other records slot
     → IsTrue before ↔ ComesBefore key found → IsTrue before ↔ ComesBefore key other
-same_before pairs slot key found other before has has' is =
+same_before records slot key found other before has has' is =
     subst (λ (k : Key). IsTrue before ↔ ComesBefore key k)
-    (one_key pairs slot found other has has') is
+    (one_key records slot found other has has') is
 
 -- ---- the best slot so far
 
@@ -138,13 +145,14 @@ best_over old here from bytes (Some held) least none = record {
 -- whether a key comes before the best one so far
 abbrev IsBetter : List ℕ → Option Best → Key → Bool → Type 0
 IsBetter bytes best key better = IfSome best (λ at. (other : Key)
-    → HasKeyAt other (page_pairs bytes) at.slot → IsTrue better ↔ ComesBefore key other)
+    → HasKeyAt other (page_records bytes) at.slot → IsTrue better ↔ ComesBefore key other)
 
 module _ (old here : List Pair) (from : Pass) (bytes look : List ℕ) (at : ℕ)
-    (new : IsLeastAt here from look at) (key : Key) (has : HasKeyAt key (page_pairs look) at) where
+    (new : IsLeastAt here from look at) (key : Key) (has : HasKeyAt key
+    (page_records look) at) where
   new_least : IsLeastKey here from key
   new_least = subst (IsLeastKey here from)
-      (one_key (page_pairs look) at new.key key new.has has) new.least
+      (one_key (page_records look) at new.key key new.has has) new.least
 
   pub best_stays : (best : Option Best) (better : Bool) → IsLeast old from bytes (slot_of best)
       → IfNone best (IsTrue better) → IsBetter bytes best key better → better ≡ false
@@ -200,12 +208,19 @@ pub record IsBest (pairs : List Pair) (from : Pass) (bytes : List ℕ) (best : O
   pub ranked : IfSome best (IsRankedAt bytes)
   pub least : IsLeast pairs from bytes (slot_of best)
 
+abbrev pub page_pairs : List ℕ → List Pair
+page_pairs bytes = map record_pair (page_records bytes)
+
 module _ (bytes : List ℕ) (slot : ℕ) (key : Key) (content : List ℕ)
-    (within : slot < length (page_pairs bytes))
-    (there : HoldsAt (λ p. p ≡ (key, content)) (page_pairs bytes) slot)
+    (within : slot < length (page_records bytes))
+    (there : HoldsAt (λ r. (r.key ≡ key) × (r.bytes ≡ content)) (page_records bytes) slot)
     (from : Pass) (best next : Option Best) (ahead : Bool)
     (ahead_is : IsTrue ahead ↔ IsAhead from key)
     (so_far : IsBest (take slot (page_pairs bytes)) from bytes best) where
+  pair_there : get_or (page_pairs bytes) slot (key, content) ≡ (key, content)
+  pair_there = get_or-map record_pair (page_records bytes) slot blank (key, content) within
+      ∙ (λ i. ((there blank).0 i, (there blank).1 i))
+
   with_slot : (now : Option Best) → next ≡ now → IfSome now (IsRankedAt bytes)
       → IsLeast (take slot (page_pairs bytes) ++ (key, content) ∷ []) from bytes (slot_of now)
       → IsBest (take (slot + 1) (page_pairs bytes)) from bytes next
@@ -213,8 +228,9 @@ module _ (bytes : List ℕ) (slot : ℕ) (key : Key) (content : List ℕ)
       subst (IsBest (take (slot + 1) (page_pairs bytes)) from bytes) (sym same) record {
         ranked = ranked;
         least = subst (λ (pairs : List Pair). IsLeast pairs from bytes (slot_of now))
-            (ap (λ (p : Pair). take slot (page_pairs bytes) ++ p ∷ []) (sym (there (key, content)))
-            ∙ sym (take_more (page_pairs bytes) slot (key, content) within)) least;
+            (ap (λ (p : Pair). take slot (page_pairs bytes) ++ p ∷ []) (sym pair_there)
+            ∙ sym (take_more (page_pairs bytes) slot (key, content)
+            (omega (arith, within, length-map (page_records bytes) record_pair)))) least;
       }
 
   -- the pass has its key behind it
@@ -226,8 +242,8 @@ module _ (bytes : List ℕ) (slot : ℕ) (key : Key) (content : List ℕ)
       (best_over (take slot (page_pairs bytes)) ((key, content) ∷ []) from bytes best so_far.least
       (none, tt))
 
-  slot_has : HasKeyAt key (page_pairs bytes) slot
-  slot_has = (within, λ d. ap (λ (p : Pair). p.0) (there d))
+  slot_has : HasKeyAt key (page_records bytes) slot
+  slot_has = (within, λ d. (there d).0)
 
   slot_least : IsBucketPage bytes → ahead ≡ true
       → IsLeastAt ((key, content) ∷ []) from bytes slot
@@ -257,3 +273,60 @@ module _ (bytes : List ℕ) (slot : ℕ) (key : Key) (content : List ℕ)
       record { key = key; page = page; has = slot_has; rank_is = of_key }
       (best_changes (take slot (page_pairs bytes)) ((key, content) ∷ []) from bytes bytes slot
       (slot_least page is) key slot_has best better so_far.least first before less)
+
+-- ---- the pairs of entries, by their records
+
+abbrev entry_pairs : List Entry → List Pair
+entry_pairs entries = map (λ e. e.pair) entries
+
+abbrev record_pairs : List Entry → List Pair
+record_pairs entries = map record_pair (map record_of entries)
+
+same_times : (key : Key) (entries : List Entry)
+    → times key (record_pairs entries) ≡ times key (entry_pairs entries)
+same_times key [] = refl
+same_times key (e ∷ entries) =
+    let one : cond {A = ℕ} (has_key key (record_pair (record_of e))) 1 0
+    ≡ cond (has_key key e.pair) 1 0 =
+    ap (λ (k : Key). cond {A = ℕ} (has_key key (k, [])) 1 0) (bodies.key_is e.pair e.pages) in
+    omega (
+      arith,
+      one,
+      same_times key entries,
+      sum_by-cons (λ (q : Pair). cond (has_key key q) 1 0) (record_pair (record_of e))
+          (record_pairs entries),
+      sum_by-cons (λ (q : Pair). cond (has_key key q) 1 0) e.pair (entry_pairs entries),
+    )
+
+-- what is said of the keys alone
+same_keys : (P : Key → Type 0) (entries : List Entry)
+    → AllByRecursion (λ pair. P pair.0) (record_pairs entries)
+    → AllByRecursion (λ pair. P pair.0) (entry_pairs entries)
+same_keys P [] all = tt
+same_keys P (e ∷ entries) all =
+    (subst P (bodies.key_is e.pair e.pages) all.0, same_keys P entries all.1)
+
+least_of_entries : (entries : List Entry) (from : Pass) (bytes : List ℕ) (best : Option ℕ)
+    → IsLeast (record_pairs entries) from bytes best
+    → IsLeast (entry_pairs entries) from bytes best
+least_of_entries entries from bytes None least = same_keys
+    (λ key. IsAhead from key → ⊥) entries least
+least_of_entries entries from bytes (Some slot) least = record {
+  key = least.key;
+  page = least.page;
+  has = least.has;
+  least = record {
+    among = omega (arith, least.least.among, same_times least.key entries);
+    ahead = least.least.ahead;
+    least = same_keys (λ key. IsAhead from key → ComesBefore key least.key → ⊥) entries
+        least.least.least;
+  };
+}
+
+pub least_of_chain : (chain : Chain) (records : List Record) (from : Pass) (bytes : List ℕ)
+    (best : Option ℕ) → records ≡ map record_of (entries_in chain)
+    → IsLeast (map record_pair records) from bytes best → IsLeast (pairs_in chain) from bytes best
+least_of_chain chain records from bytes best same least =
+    subst (λ (pairs : List Pair). IsLeast pairs from bytes best) (sym (pairs_of_entries chain))
+    (least_of_entries (entries_in chain) from bytes best
+    (subst (λ (rs : List Record). IsLeast (map record_pair rs) from bytes best) same least))

@@ -1,11 +1,10 @@
-pub mod EntryLists
+pub mod ContentReads
 pub mod Headers
 pub mod KeyWalks
 pub mod LeastKeys
 pub mod LeastWalks
 pub mod LinkBodies
-pub mod LoadedPairs
+pub mod LoadedRecords
 pub mod ReadPages
 pub mod SoundLooks
-pub mod StepLemmas
 pub mod Walks

@@ -5,8 +5,8 @@ use Rattle.std.specs.Option.{ok_or}
 use Rattle.std.proofs.lemmas.Bool.{cases_lt, false≢true}
 use Rattle.page_io.specs.Store.{Pages, Settled, StoreState, has_page, are_in_order, IsKnown}
 use Rattle.page_io.specs.Answers.{IsReadAnswer}
-use Rattle.dbm_model.specs.Pairs.{Pair}
-use Rattle.page_model.specs.Pages.{Body}
+use Rattle.dbm_model.specs.Bounds.{Version}
+use Rattle.page_model.specs.Pages.{Body, Record}
 use Rattle.page_io.specs.Views.{body_at, ReadsOnly}
 use Rattle.page_io.specs.declared.store.PageStore.{Ghosts}
 use Rattle.page_io.proofs.StagedPages.{in_range, has_between}
@@ -96,33 +96,38 @@ module _ {S : Type 0} (s : Ghosts S) (old mid : S) (reads : ReadsOnly s old mid)
   pub still_honest : s.honest mid
   still_honest = reads.stages_only.honesty.1 honest
 
-  pub link_before : (n kind next : ℕ) (pairs : List Pair)
-      → (s.honest mid → SaysLink (body_at s mid) n kind next pairs)
-      → SaysLink (body_at s old) n kind next pairs
-  link_before n kind next pairs link =
-      subst (λ (at : ℕ → Body). SaysLink at n kind next pairs) (same_said s old mid reads honest)
-      (link still_honest)
+module _ (version : Version) {S : Type 0} (s : Ghosts S) (old mid : S)
+    (reads : ReadsOnly s old mid) (honest : s.honest old) where
+  pub link_before : (n kind next : ℕ) (records : List Record)
+      → (s.honest mid → SaysLink version (body_at s mid) n kind next records)
+      → SaysLink version (body_at s old) n kind next records
+  link_before n kind next records link =
+      subst (λ (at : ℕ
+      → Body). SaysLink version at n kind next records) (same_said s old mid reads honest)
+      (link (still_honest s old mid reads honest))
 
-  pub link_after : (n kind next : ℕ) (pairs : List Pair)
-      → SaysLink (body_at s old) n kind next pairs → SaysLink (body_at s mid) n kind next pairs
-  link_after n kind next pairs link =
-      subst (λ (at : ℕ → Body). SaysLink at n kind next pairs)
+  pub link_after : (n kind next : ℕ) (records : List Record)
+      → SaysLink version (body_at s old) n kind next records
+      → SaysLink version (body_at s mid) n kind next records
+  link_after n kind next records link =
+      subst (λ (at : ℕ → Body). SaysLink version at n kind next records)
       (sym (same_said s old mid reads honest)) link
 
   -- the page that was read first, for those who read on
-  pub head_after : (head n : ℕ) (pairs : List Pair) → SaysLink (body_at s old) head 3 n pairs
-      → 1 ≤ head → n ≢ 0 → IsHeadRead (body_at s mid) head n pairs
-  head_after head n pairs link some more = record {
-    says = link_after head 3 n pairs link;
+  pub head_after : (head n : ℕ) (records : List Record)
+      → SaysLink version (body_at s old) head 3 n records
+      → 1 ≤ head → n ≢ 0 → IsHeadRead version (body_at s mid) head n records
+  head_after head n records link some more = record {
+    says = link_after head 3 n records link;
     some = some;
     more = more;
   }
 
   pub chain_after : (head : ℕ) (chain : Chain)
-      → IsChainAt (body_at s old) (s.state old).end head chain
-      → IsChainAt (body_at s mid) (s.state mid).end head chain
+      → IsChainAt version (body_at s old) (s.state old).end head chain
+      → IsChainAt version (body_at s mid) (s.state mid).end head chain
   chain_after head chain is =
-      subst (λ (at : ℕ → Body). IsChainAt at (s.state mid).end head chain)
+      subst (λ (at : ℕ → Body). IsChainAt version at (s.state mid).end head chain)
       (sym (same_said s old mid reads honest))
-      (subst (λ (state : StoreState). IsChainAt (body_at s old) state.end head chain)
+      (subst (λ (state : StoreState). IsChainAt version (body_at s old) state.end head chain)
       (sym reads.same) is)

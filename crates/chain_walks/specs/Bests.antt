@@ -1,10 +1,11 @@
 -- The best key of a walk so far, which is the least one that the pass has before it.
 use Rattle.std.specs.Prelude.{◌≡◌, ◌≢◌, ℕ, ◌≤◌, List, Option, Some, None}
 use Rattle.dbm_model.specs.KeyOrder.{hash_of, rank}
-use Rattle.dbm_model.specs.Pairs.{Key, Pair}
+use Rattle.dbm_model.specs.Bounds.{Version}
+use Rattle.dbm_model.specs.Pairs.{Key}
 use Rattle.dbm_model.specs.States.{Pass, Begun, Behind}
-use Rattle.page_model.specs.Pages.{Body}
-use Rattle.slot_page.specs.Contents.{IsBucketPage, HasKeyAt, page_pairs}
+use Rattle.page_model.specs.Pages.{Body, Record}
+use Rattle.slot_page.specs.Contents.{IsBucketPage, HasKeyAt, page_records}
 use Rattle.chain_walks.specs.Links.{SaysLink}
 use Rattle.lin_addr.specs.declared.order.Ranked.{Ranked}
 use Rattle.chain_walks.specs.declared.leasts.Best.{Best}
@@ -22,11 +23,12 @@ slot_of (Some best) = Some best.slot
 pub record IsRankedAt (bytes : List ℕ) (best : Best) : Type 0 where
   pub key : Key
   pub page : IsBucketPage bytes
-  pub has : HasKeyAt key (page_pairs bytes) best.slot
+  pub has : HasKeyAt key (page_records bytes) best.slot
   pub rank_is : best.rank ≡ rank (hash_of key)
 
--- the head page was read, has these pairs and names page n
-pub record IsHeadRead (at : ℕ → Body) (head n : ℕ) (pairs : List Pair) : Type 0 where
-  pub says : SaysLink at head 3 n pairs
+-- the head page was read, has these records and names page n
+pub record IsHeadRead (version : Version) (at : ℕ → Body) (head n : ℕ)
+    (records : List Record) : Type 0 where
+  pub says : SaysLink version at head 3 n records
   pub some : 1 ≤ head
   pub more : n ≢ 0

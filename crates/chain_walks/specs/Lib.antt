@@ -4,5 +4,4 @@ pub mod Chains
 pub mod Leasts
 pub mod Links
 pub mod Pairs
-pub mod Places
 pub mod Walks

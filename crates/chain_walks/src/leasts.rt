@@ -1,22 +1,24 @@
 //! The next key of a pass in a chain.
 
-ghost use Rattle.std.specs.Prelude.{◌≡◌, ◌↔◌, ◌++◌, ◌<◌, ℕ, List, length, option_copied, IfOk, IfSome, IfNone, IsErrOf, IsTrue};
+ghost use Rattle.std.specs.Prelude.{◌≡◌, ◌↔◌, ◌++◌, ◌<◌, ℕ, List, map, length, option_copied, IfOk, IfSome, IfNone, IsErrOf, IsTrue};
 ghost use Rattle.dbm_model.specs.KeyOrder.{ComesBefore};
 ghost use Rattle.dbm_model.specs.Pairs.{Key, Pair};
 ghost use Rattle.dbm_model.specs.Steps.{IsAhead};
+ghost use Rattle.page_model.specs.Pages.{Record};
 ghost use Rattle.page_model.specs.Chain.{pairs_in};
 ghost use Rattle.page_io.specs.Answers.{HasDeviceCause};
 ghost use Rattle.page_io.specs.Views.{body_at, ReadsOnly};
+ghost use Rattle.page_io.specs.Versions.{model_version};
 ghost use Rattle.page_io.specs.declared.store.PageFault.TheVariants.{Damaged};
-ghost use Rattle.slot_page.specs.Contents.{IsBucketPage, HasKeyAt, page_pairs};
+ghost use Rattle.slot_page.specs.Contents.{IsBucketPage, HasKeyAt, page_records};
 ghost use Rattle.chain_walks.specs.Answers.{IsWalkAnswer};
 ghost use Rattle.chain_walks.specs.Bests.{pass_from, slot_of, IsRankedAt, IsHeadRead};
-ghost use Rattle.chain_walks.specs.Chains.{ForEachChain};
+ghost use Rattle.chain_walks.specs.Chains.{record_pair, ForEachChain};
 ghost use Rattle.chain_walks.specs.Leasts.{pass_behind, IsLeast, IsLeastRead, IsAheadAt};
 
 use crate::link::{HEAD, OVERFLOW, read_link};
 use lin_addr::Ranked;
-use page_io::{Page, PageFault, PageStore};
+use page_io::{Page, PageFault, PageStore, Version};
 use slot_page::pair_at;
 
 /// The best key so far: its slot in its page, and its rank.
@@ -42,7 +44,7 @@ fn ranked(last: Option<&[u8]>) -> Option<Ranked<'_>>
 /// The key of a page's best slot, with the rank that was taken of it.
 fn ranked_at(page: &Page, best: Best) -> Ranked<'_>
     requires { IsRankedAt page.now.bytes best }
-    ensures { HasKeyAt result.key.now (page_pairs page.now.bytes) best.slot }
+    ensures { HasKeyAt result.key.now (page_records page.now.bytes) best.slot }
 {
     Ranked {
         key: pair_at(page, best.slot).0,
@@ -65,7 +67,7 @@ fn is_better(key: &Ranked<'_>, page: &Page, best: Option<Best>) -> bool
     requires { IfSome best (IsRankedAt page.now.bytes) }
     ensures first { IfNone best (IsTrue result) }
     ensures before { IfSome best (λ at. (other : Key)
-        → HasKeyAt other (page_pairs page.now.bytes) at.slot
+        → HasKeyAt other (page_records page.now.bytes) at.slot
         → IsTrue result ↔ ComesBefore key.now.key.now other) }
 {
     match best {
@@ -78,8 +80,8 @@ fn is_better(key: &Ranked<'_>, page: &Page, best: Option<Best>) -> bool
 fn least_in(page: &Page, last: Option<Ranked<'_>>) -> Option<Best>
     requires { IsBucketPage page.now.bytes }
     ensures ranked { IfSome result (IsRankedAt page.now.bytes) }
-    ensures least { IsLeast (page_pairs page.now.bytes) (pass_from last.entry) page.now.bytes
-        (slot_of result) }
+    ensures least { IsLeast (map record_pair (page_records page.now.bytes))
+        (pass_from last.entry) page.now.bytes (slot_of result) }
 {
     let mut best = None;
     for slot in 0..page.slots() as usize {
@@ -107,8 +109,8 @@ fn best_of(
     ensures ranked { IfSome result (IsRankedAt page.new.bytes) }
     ensures least { (pairs : List Pair)
         → IsLeast pairs (pass_from last.entry) page.old.bytes (slot_of best)
-        → IsLeast (pairs ++ page_pairs look.now.bytes) (pass_from last.entry) page.new.bytes
-        (slot_of result) }
+        → IsLeast (pairs ++ map record_pair (page_records look.now.bytes))
+        (pass_from last.entry) page.new.bytes (slot_of result) }
 {
     let Some(least) = least_in(look, last) else {
         return best;
@@ -120,43 +122,45 @@ fn best_of(
     Some(least)
 }
 
-/// The slot of the least key of a chain, where `best` is that of its head page, which is `page`, and
-/// the overflow pages begin at page `first`; `page` is then its page.
+/// The slot of the least key of a chain, where `best` is that of its head page, which is `page`,
+/// and the overflow pages begin at page `first`; `page` is then its page.
 fn least_with_overflow<S: PageStore>(
     store: &mut S,
     first: u32,
     last: Option<Ranked<'_>>,
     mut best: Option<Best>,
     page: &mut Page,
+    version: Version,
 ) -> Result<Option<usize>, PageFault>
     requires { IfSome best (IsRankedAt page.old.bytes) }
     ensures reads { ReadsOnly S.PageStore store.old store.new }
     ensures cause { HasDeviceCause (S.faults store.old) (S.faults store.new) result }
     ensures answer { IsWalkAnswer (S.state store.old) result }
-    ensures ahead { (pairs : List Pair)
-        → IsLeast pairs (pass_from last.entry) page.old.bytes (slot_of best)
+    ensures ahead { (records : List Record)
+        → IsLeast (map record_pair records) (pass_from last.entry) page.old.bytes (slot_of best)
         → IfOk result (λ found. IfSome found (λ slot.
         IsAheadAt (pass_from last.entry) page.new.bytes slot)) }
-    ensures walked { (head : ℕ) (pairs : List Pair) → S.honest store.old
-        → IsHeadRead (body_at S.PageStore store.old) head first pairs
-        → IsLeast pairs (pass_from last.entry) page.old.bytes (slot_of best)
+    ensures walked { (head : ℕ) (records : List Record) → S.honest store.old
+        → IsHeadRead (model_version version) (body_at S.PageStore store.old) head first records
+        → IsLeast (map record_pair records) (pass_from last.entry) page.old.bytes (slot_of best)
         → IfOk result (λ found. IsLeastRead (body_at S.PageStore store.old) head
         (pass_from last.entry) page.new.bytes found) }
-    ensures exact { (head : ℕ) (pairs : List Pair)
-        → IsHeadRead (body_at S.PageStore store.old) head first pairs
-        → IsLeast pairs (pass_from last.entry) page.old.bytes (slot_of best)
-        → ForEachChain S.PageStore store.old head (λ chain.
+    ensures exact { (head : ℕ) (records : List Record)
+        → IsHeadRead (model_version version) (body_at S.PageStore store.old) head first records
+        → IsLeast (map record_pair records) (pass_from last.entry) page.old.bytes (slot_of best)
+        → ForEachChain (model_version version) S.PageStore store.old head (λ chain.
         IfOk result (λ found. IsLeast (pairs_in chain) (pass_from last.entry) page.new.bytes
         found)) }
-    ensures whole { (head : ℕ) (pairs : List Pair)
-        → IsHeadRead (body_at S.PageStore store.old) head first pairs
-        → IsLeast pairs (pass_from last.entry) page.old.bytes (slot_of best)
-        → ForEachChain S.PageStore store.old head (λ chain. IsErrOf result Damaged → ⊥) }
+    ensures whole { (head : ℕ) (records : List Record)
+        → IsHeadRead (model_version version) (body_at S.PageStore store.old) head first records
+        → IsLeast (map record_pair records) (pass_from last.entry) page.old.bytes (slot_of best)
+        → ForEachChain (model_version version) S.PageStore store.old head
+        (λ chain. IsErrOf result Damaged → ⊥) }
 {
     let mut look = Page::blank();
     let mut at = first;
     for _step in 1..store.end() {
-        let next = read_link(store, at, OVERFLOW, &mut look)?;
+        let next = read_link(store, at, OVERFLOW, &mut look, version)?;
         best = best_of(page, best, &look, last);
         if next == 0 {
             return Ok(slot_in(best));
@@ -166,15 +170,16 @@ fn least_with_overflow<S: PageStore>(
     Err(PageFault::Damaged)
 }
 
-/// The slot of the least key behind `last` in the chain from page `head` on, in the order of a pass,
-/// or of the least of all where that is `None`; `page` is then its page. It reads each page of the
-/// chain once, at most as many as the file has, and takes no memory of its own. Damaged is answered
-/// as by `lookup`.
+/// The slot of the least key behind `last` in the chain from page `head` on, in the order of a
+/// pass, or of the least of all where that is `None`; `page` is then its page. It reads each page
+/// of the chain once, at most as many as the file has, and takes no memory of its own. Damaged is
+/// answered as by `lookup`.
 pub fn least_behind<S: PageStore>(
     store: &mut S,
     head: u32,
     last: Option<&[u8]>,
     page: &mut Page,
+    version: Version,
 ) -> Result<Option<usize>, PageFault>
     ensures reads { ReadsOnly S.PageStore store.old store.new }
     ensures cause { HasDeviceCause (S.faults store.old) (S.faults store.new) result }
@@ -190,16 +195,17 @@ pub fn least_behind<S: PageStore>(
         (pass_behind (option_copied last.entry)) page.new.bytes found) }
 
     // On a chain that is read as one it is the least of its keys, and Damaged is never answered.
-    ensures exact { ForEachChain S.PageStore store.old head (λ chain.
+    ensures exact { ForEachChain (model_version version) S.PageStore store.old head (λ chain.
         IfOk result (λ found. IsLeast (pairs_in chain)
         (pass_behind (option_copied last.entry)) page.new.bytes found)) }
-    ensures whole { ForEachChain S.PageStore store.old head (λ chain. IsErrOf result Damaged → ⊥) }
+    ensures whole { ForEachChain (model_version version) S.PageStore store.old head
+        (λ chain. IsErrOf result Damaged → ⊥) }
 {
     let last = ranked(last);
-    let next = read_link(store, head, HEAD, page)?;
+    let next = read_link(store, head, HEAD, page, version)?;
     let best = least_in(page, last);
     if next == 0 {
         return Ok(slot_in(best));
     }
-    least_with_overflow(store, next, last, best, page)
+    least_with_overflow(store, next, last, best, page, version)
 }

@@ -1,5 +1,5 @@
 //! Walks over the chain of a bucket, from its head page over its overflow pages: looking a key up,
-//! stepping from pair to pair, finding the next key of a pass, and loading all pairs.
+//! finding the next key of a pass, and loading all records.
 #![tactic(auto)]
 
 mod leasts;
@@ -8,7 +8,6 @@ mod loads;
 mod lookups;
 mod pair;
 mod place;
-mod steps;
 
 pub use leasts::least_behind;
 pub use link::{HEAD, OVERFLOW, link_of, read_link};
@@ -16,4 +15,3 @@ pub use loads::load_all;
 pub use lookups::lookup;
 pub use pair::Pair;
 pub use place::Place;
-pub use steps::step;

@@ -3,15 +3,16 @@
 ghost use Rattle.std.specs.Prelude.{IfOk, IfSome, IsErrOf};
 ghost use Rattle.page_io.specs.Answers.{HasDeviceCause};
 ghost use Rattle.page_io.specs.Views.{body_at, ReadsOnly};
+ghost use Rattle.page_io.specs.Versions.{model_version};
 ghost use Rattle.page_io.specs.declared.store.PageFault.TheVariants.{Damaged};
 ghost use Rattle.chain_walks.specs.Chains.{ForEachChain};
 ghost use Rattle.chain_walks.specs.Walks.{IsLookup, IsLookedUp, CanLook};
 ghost use Rattle.chain_walks.specs.Answers.{IsWalkAnswer};
-ghost use Rattle.slot_page.specs.Contents.{IsBucketPage, HasKeyAt, page_pairs};
+ghost use Rattle.slot_page.specs.Contents.{IsPageOf, HasKeyAt, page_records};
 
 use crate::Place;
 use crate::link::{HEAD, OVERFLOW, read_link};
-use page_io::{Page, PageFault, PageStore};
+use page_io::{Page, PageFault, PageStore, Version};
 use slot_page::find;
 
 /// Where the chain from page `head` on has the key; `page` is then its page. It takes no memory
@@ -22,31 +23,34 @@ pub fn lookup<S: PageStore>(
     head: u32,
     key: &[u8],
     page: &mut Page,
+    version: Version,
 ) -> Result<Option<Place>, PageFault>
     ensures reads { ReadsOnly S.PageStore store.old store.new }
     ensures cause { HasDeviceCause (S.faults store.old) (S.faults store.new) result }
     ensures answer { IsWalkAnswer (S.state store.old) result }
     ensures held { IfOk result (λ place.
-        IfSome place (λ at. IsBucketPage page.new.bytes
-        × HasKeyAt key.now (page_pairs page.new.bytes) at.slot)) }
+        IfSome place (λ at. IsPageOf (model_version version) page.new.bytes
+        × HasKeyAt key.now (page_records page.new.bytes) at.slot)) }
     ensures walked { S.honest store.old
         → IfOk result (λ place. IsLookup (body_at S.PageStore store.old) head key.now
         page.new.bytes place) }
 
-    // On a chain that is read as one it answers the first of the key's pairs, and is never Damaged.
-    ensures exact { ForEachChain S.PageStore store.old head (λ chain.
+    // On a chain that is read as one it answers the first of the key's entries, and never Damaged.
+    ensures exact { ForEachChain (model_version version) S.PageStore store.old head (λ chain.
         IfOk result (λ place. IsLookedUp key.now chain page.new.bytes place)) }
-    ensures whole { ForEachChain S.PageStore store.old head (λ chain. IsErrOf result Damaged → ⊥) }
+    ensures whole { ForEachChain (model_version version) S.PageStore store.old head
+        (λ chain. IsErrOf result Damaged → ⊥) }
 
     // It is never Damaged either where only other pages are than those that it reads.
     ensures readable { S.honest store.old
-        → CanLook (body_at S.PageStore store.old) (S.state store.old).end head key.now
+        → CanLook (model_version version) (body_at S.PageStore store.old)
+        (S.state store.old).end head key.now
         → IsErrOf result Damaged → ⊥ }
 {
     let mut at = head;
     let mut kind = HEAD;
     for _step in 0..store.end() {
-        let next = read_link(store, at, kind, page)?;
+        let next = read_link(store, at, kind, page, version)?;
         if let Some(slot) = find(page, key) {
             return Ok(Some(Place { page: at, slot }));
         }

@@ -1,7 +1,7 @@
 //! How a database is opened, as text, and tables of openings that are refused: a line is an opening,
 //! an arrow and its fault, as `truncate 0 -> BadLimit`.
 
-use dbm_file::{Access, Fault, OpenHow};
+use dbm_file::{Access, Fault, OpenHow, Version};
 use std::alloc::{AllocError, Global};
 use std::test::Fail;
 
@@ -12,6 +12,7 @@ pub const PLAIN: OpenHow = OpenHow {
     exclusive: false,
     truncate: false,
     limit: 0,
+    version: Version::V1,
 };
 
 /// How some words say, which are an access, flags and a limit. Without a word it is `PLAIN`.
@@ -24,6 +25,7 @@ pub fn how_of(text: &str) -> Result<OpenHow, Fail> {
             "create" => how.create = true,
             "exclusive" => how.exclusive = true,
             "truncate" => how.truncate = true,
+            "v2" => how.version = Version::V2,
             "plain" => {}
             _ => how.limit = word.parse()?,
         }

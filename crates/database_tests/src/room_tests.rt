@@ -1,6 +1,6 @@
 //! Databases on devices that just suffice for their limits.
 
-use dbm_file::{Access, Database, Db, Fault, OpenHow};
+use dbm_file::{Access, Database, Db, Fault, OpenHow, Version};
 use page_io::PageStore;
 use sect_dev::MemDev;
 use std::alloc::Global;
@@ -35,6 +35,7 @@ fn emptied(alloc: Global, dev: MemDev, limit: u8) -> Result<Db<MemDev>, Fault> {
         exclusive: false,
         truncate: true,
         limit: u32::from(limit),
+        version: Version::V1,
     };
     open(alloc, dev, how)
 }

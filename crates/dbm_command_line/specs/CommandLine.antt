@@ -38,6 +38,13 @@ text_rule = record (new_rule (codes "text")) {
   action = Some SetTrue;
 }
 
+-- `--v2`
+abbrev pub version_rule : Rule
+version_rule = record (new_rule (codes "v2")) {
+  long = Some (codes "v2");
+  action = Some SetTrue;
+}
+
 -- `--verbose`
 abbrev pub verbose_rule : Rule
 verbose_rule = record (new_rule (codes "verbose")) {
@@ -70,24 +77,25 @@ abbrev pub pair_line : Text → Shape
 pair_line name = line name (word_rule (codes "file") ∷ word_rule (codes "key") ∷ hexadecimal_rule
     ∷ word_rule (codes "content") ∷ [])
 
--- `create FILE [--limit N]`
+-- `create FILE [--limit N] [--v2]`
 abbrev pub create_line : Shape
 create_line = line (codes "create")
     (word_rule (codes "file") ∷ record (number_rule (codes "limit")) {
       defaults =
           codes "1000000" ∷ [];
-    } ∷ [])
+    } ∷ version_rule ∷ [])
 
--- `script [FILE] [--memory N]`
+-- `script [FILE] [--memory N] [--v2]`
 abbrev pub script_line : Shape
 script_line = line (codes "script")
-    (record (word_rule (codes "file")) { required = false } ∷ number_rule (codes "memory") ∷ [])
+    (record (word_rule (codes "file")) { required = false } ∷ number_rule (codes "memory")
+    ∷ version_rule ∷ [])
 
--- `rehearse [FILE] [--memory N] [--stops N]`
+-- `rehearse [FILE] [--memory N] [--v2] [--stops N]`
 abbrev pub rehearse_line : Shape
 rehearse_line = line (codes "rehearse")
     (record (word_rule (codes "file")) { required = false } ∷ number_rule (codes "memory")
-    ∷ number_rule (codes "stops") ∷ [])
+    ∷ version_rule ∷ number_rule (codes "stops") ∷ [])
 
 -- `faults`
 abbrev pub faults_line : Shape
@@ -108,5 +116,6 @@ command_line = record {
   subs = create_line ∷ pair_line (codes "store") ∷ pair_line (codes "insert")
       ∷ key_line (codes "fetch") ∷ key_line (codes "delete")
       ∷ file_line (codes "list") ∷ pairs_line (codes "dump") ∷ load_line
-      ∷ file_line (codes "stat") ∷ file_line (codes "verify") ∷ script_line ∷ rehearse_line ∷ faults_line ∷ [];
+      ∷ file_line (codes "stat") ∷ file_line (codes "verify") ∷ file_line (codes "upgrade")
+      ∷ script_line ∷ rehearse_line ∷ faults_line ∷ [];
 }

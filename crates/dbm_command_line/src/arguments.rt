@@ -1,8 +1,8 @@
 // The words and options that commands take.
 ghost use Rattle.dbm_command_line.specs.Building.{IsRule};
-ghost use Rattle.dbm_command_line.specs.CommandLine.{group_rule, hexadecimal_rule, number_rule, text_rule, verbose_rule, word_rule};
+ghost use Rattle.dbm_command_line.specs.CommandLine.{group_rule, hexadecimal_rule, number_rule, text_rule, verbose_rule, version_rule, word_rule};
 
-use crate::names::{GROUP, HEXADECIMAL, MOST_LINES, TEXT, VERBOSE};
+use crate::names::{GROUP, HEXADECIMAL, MOST_LINES, TEXT, V2, VERBOSE};
 use clap::{Arg, ArgAction, value_parser};
 use std::alloc::Global;
 
@@ -62,6 +62,16 @@ pub fn text_form<'a>(alloc: Global) -> Arg<'a>
         .help(
             "Lines are key and content with a tab between them, and `\\t`, `\\n`, `\\\\`, `\\xHH` for bytes; else two words in hexadecimal",
         )
+}
+
+/// The flag `--v2` of a command that makes a database.
+pub fn version<'a>(alloc: Global, help: &'a str) -> Arg<'a>
+    ensures { IsRule result version_rule }
+{
+    Arg::new(alloc, V2)
+        .long(V2)
+        .action(ArgAction::SetTrue)
+        .help(help)
 }
 
 /// The flag `--verbose`, in front of the command.

@@ -3,10 +3,10 @@ ghost use Rattle.std.specs.Prelude.{IfOk, codes};
 ghost use Rattle.dbm_command_line.specs.Building.{Adds, IsApp, alone};
 ghost use Rattle.dbm_command_line.specs.CommandLine.{command_line, create_line, faults_line, file_line, key_line, load_line, pair_line, pairs_line, program_line, rehearse_line, script_line};
 
-use crate::arguments::{group, hexadecimal, number, text_form, verbose, word};
+use crate::arguments::{group, hexadecimal, number, text_form, verbose, version, word};
 use crate::names::{
     CONTENT, CREATE, DELETE, DUMP, FAULTS, FETCH, FILE, INSERT, KEY, LIMIT, LIST, LOAD, MEMORY,
-    REHEARSE, SCRIPT, STAT, STOPS, STORE, VERIFY,
+    REHEARSE, SCRIPT, STAT, STOPS, STORE, UPGRADE, VERIFY,
 };
 use clap::Command;
 use dbm_plan::fault_table;
@@ -14,10 +14,15 @@ use std::alloc::{AllocError, Global};
 
 const NAME: &str = "dbmtool";
 
-/// The program's version, and the version that a file's meta page has.
-const VERSION: &str = "0.1.0, file format 1";
+/// The program's version, and the versions of the format that it knows.
+const VERSION: &str = "0.1.0, file formats 1 and 2";
 
 const FILE_HELP: &str = "The name of the database, without `.db`";
+
+const CREATE_V2_HELP: &str =
+    "Version 2 of the format: contents of up to 65535 bytes, under keys of up to 1023";
+
+const MEMORY_V2_HELP: &str = "With --memory: a database of version 2 of the format";
 
 // Whoever gives -x to these is told by their usage that it isn't needed.
 const LIST_USAGE: &str = "dbmtool list <FILE>
@@ -84,6 +89,7 @@ pub fn command<'a>(alloc: Global) -> Result<Command<'a>, AllocError>
     let command = added(command, load_command(alloc));
     let command = added(command, stat_command(alloc));
     let command = added(command, verify_command(alloc));
+    let command = added(command, upgrade_command(alloc));
     let command = added(command, script_command(alloc));
     let command = added(command, rehearse_command(alloc));
     added(command, Ok(faults_command(alloc)))
@@ -134,7 +140,8 @@ fn create_command<'a>(alloc: Global) -> Result<Command<'a>, AllocError>
         "Makes a new database",
         "Example:\n  dbmtool create colors --limit 1000",
     )?
-    .arg(limit.default_value("1000000"))
+    .arg(limit.default_value("1000000"))?
+    .arg(version(alloc, CREATE_V2_HELP))
 }
 
 fn store_command<'a>(alloc: Global) -> Result<Command<'a>, AllocError>
@@ -243,6 +250,17 @@ fn verify_command<'a>(alloc: Global) -> Result<Command<'a>, AllocError>
     )
 }
 
+fn upgrade_command<'a>(alloc: Global) -> Result<Command<'a>, AllocError>
+    ensures { IfOk result (λ c. IsApp c (alone (file_line (codes "upgrade")))) }
+{
+    file_command(
+        alloc,
+        UPGRADE,
+        "Makes a database one of version 2, which has contents of up to 65535 bytes",
+        "Example:\n  dbmtool upgrade colors",
+    )
+}
+
 fn script_command<'a>(alloc: Global) -> Result<Command<'a>, AllocError>
     ensures { IfOk result (λ c. IsApp c (alone script_line)) }
 {
@@ -255,7 +273,8 @@ fn script_command<'a>(alloc: Global) -> Result<Command<'a>, AllocError>
         .about("Runs the calls on standard input, and answers each on a line of its own")
         .after_help(script_lines())
         .arg(word(alloc, FILE, "FILE", FILE_HELP).required(false))?
-        .arg(memory)
+        .arg(memory)?
+        .arg(version(alloc, MEMORY_V2_HELP))
 }
 
 fn script_lines<'a>() -> &'a str {
@@ -280,6 +299,7 @@ fn rehearse_command<'a>(alloc: Global) -> Result<Command<'a>, AllocError>
         .after_help(rehearse_steps())
         .arg(word(alloc, FILE, "FILE", FILE_HELP).required(false))?
         .arg(memory)?
+        .arg(version(alloc, MEMORY_V2_HELP))?
         .arg(stops)
 }
 
@@ -321,7 +341,7 @@ fn pair_command<'a>(
         alloc,
         CONTENT,
         "CONTENT",
-        "The pair's content, at most 2026 bytes with its key",
+        "The pair's content, at most 2026 bytes with its key; in version 2 up to 65535",
     ))
 }
 

@@ -23,6 +23,8 @@ pub const STAT: &str = "stat";
 
 pub const VERIFY: &str = "verify";
 
+pub const UPGRADE: &str = "upgrade";
+
 pub const SCRIPT: &str = "script";
 
 pub const REHEARSE: &str = "rehearse";
@@ -44,6 +46,8 @@ pub const TEXT: &str = "text";
 pub const LIMIT: &str = "limit";
 
 pub const MEMORY: &str = "memory";
+
+pub const V2: &str = "v2";
 
 pub const STOPS: &str = "stops";
 

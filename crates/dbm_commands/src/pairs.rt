@@ -79,7 +79,6 @@ fn print_fetched<W: Write>(
     spelling: Spelling,
     output: &mut W,
 ) -> Result<Outcome, Failure>
-    requires { IfOk found (λ r. IfSome r (λ content. length content.now ≤ 2026)) }
     ensures told { IsFetched spelling (W.contents output.old) (W.contents output.new) result
         (told_of_bytes NoRecord found.entry) }
     ensures quiet { result ≢ Ok Outcome.Done → result ≢ Err (Failure.Fault EngineFault.Write)

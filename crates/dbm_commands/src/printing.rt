@@ -10,7 +10,7 @@ use crate::outcomes::unwritten;
 use crate::{Failure, Outcome};
 use dbm_fault::EngineFault;
 use dbm_file::{Database, Stat};
-use dbm_lines::{DIGITS, write_bytes};
+use dbm_lines::write_bytes;
 use dbm_plan::Spelling;
 use page_io::PageStore;
 use std::io::{self, Write};
@@ -55,7 +55,6 @@ fn print_number<W: Write>(output: &mut W, name: &str, number: u32) -> io::Result
 
 /// Prints a content as it is, or as a word, and a line feed.
 pub fn print_content<W: Write>(content: &[u8], spelling: Spelling, output: &mut W) -> io::Result<()>
-    requires { length content.now ≤ 2026 }
     ensures { OnOk result (Appends (W.contents output.old) (W.contents output.new)
         (content_line spelling content.now)) }
 {
@@ -64,7 +63,7 @@ pub fn print_content<W: Write>(content: &[u8], spelling: Spelling, output: &mut 
             output.write_all(content)?;
             output.write_all(b"\n")?;
         }
-        Spelling::Hexadecimal => write_bytes(output, content, &mut [0; DIGITS])?,
+        Spelling::Hexadecimal => write_bytes(output, content)?,
     }
     output.flush()
 }

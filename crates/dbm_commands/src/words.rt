@@ -20,10 +20,11 @@ pub fn bytes_of(alloc: Global, word: &str, spelling: Spelling) -> Result<Vec<u8>
     match spelling {
         Spelling::Text => Vec::from_slice(alloc, word.as_bytes()).map_err(memory),
         Spelling::Hexadecimal => {
-            let mut room = Vec::new(alloc);
-            room.resize(word.len(), 0).map_err(memory)?;
-            let bytes = decode_word(word.as_bytes(), &mut room).ok_or(Failure::NotHex)?;
-            Vec::from_slice(alloc, bytes).map_err(memory)
+            let mut bytes = Vec::with_capacity(alloc, word.len()).map_err(memory)?;
+            if !decode_word(word.as_bytes(), &mut bytes) {
+                return Err(Failure::NotHex);
+            }
+            Ok(bytes)
         }
     }
 }

@@ -23,7 +23,7 @@ use Rattle.dbm_fault.specs.declared.fault.Fault.{Fault}
 use Rattle.dbm_fault.specs.declared.fault.Fault.TheVariants.{Device, Broken, Damaged}
 use Rattle.dbm_file.proofs.Breaks.{alike}
 use Rattle.dbm_file.proofs.Runs.{still_goes}
-use Rattle.dbm_dump.specs.Dumping.{KeepsMap, Stays, Reads, IsChance, IsCopied}
+use Rattle.dbm_dump.specs.Dumping.{KeepsMap, Stays, Reads, IsCopied}
 use Rattle.dbm_fault.specs.declared.engine_fault.EngineFault.{EngineFault}
 use Rattle.dbm_fault.specs.declared.engine_fault.EngineFault.TheVariants.{Memory, Db}
 
@@ -188,7 +188,7 @@ module _ {S : Type 0} (s : Ghosts S) where
     }
 
   -- a refused copy is a refused call
-  refused : (lent : Lent) (result : Result (Option (Vec ℕ)) EngineFault) (fault : Fault)
+  pub refused : (lent : Lent) (result : Result (Option (Vec ℕ)) EngineFault) (fault : Fault)
       → IsCopied lent result → IsErrOf result (Db fault) → IsErrOf lent fault
   refused (Ok None) (Ok None) fault copied is = cc
   refused (Ok None) (Ok (Some copy)) fault copied is = absurd copied
@@ -346,7 +346,8 @@ module _ {S : Type 0} (s : Ghosts S) where
       one_fault : (a b : EngineFault) → ◌≡◌ {A = Result U EngineFault} (Err a) (Err b) → a ≡ b
       one_fault a b e = cc
 
-pub chance_told : {T : Type 0} (result : Result T EngineFault) (fault : EngineFault)
-    (P : T → Type 0) → result ≡ Err fault → IsChance fault → MatchResult result P IsChance
-chance_told {T} result fault P is chance =
-    subst (λ (r : Result T EngineFault). MatchResult r P IsChance) (sym is) chance
+pub chance_told : {T : Type 0} (Chance : EngineFault → Type 0) (result : Result T EngineFault)
+    (fault : EngineFault) (P : T → Type 0) → result ≡ Err fault → Chance fault
+    → MatchResult result P Chance
+chance_told {T} Chance result fault P is chance =
+    subst (λ (r : Result T EngineFault). MatchResult r P Chance) (sym is) chance

@@ -7,34 +7,36 @@ use Rattle.std.specs.Cmp.Lexicographic.{slice_cmp}
 use Rattle.std.specs.FinMap.{entries, keys, get, contains_key, get-entries, entries_sorted, find, is_sorted, put, slice_cmp-IsAntisymmetric, nat_cmp-IsAntisymmetric}
 use Rattle.std.specs.FinMap.Entries.{below_all, by_order}
 use Rattle.std.specs.FinSet as set
-use Rattle.std.specs.List.{All, AllByRecursion}
+use Rattle.std.specs.List.{AllByRecursion}
 use Rattle.std.specs.Ordering.{eq_by_cmp, is_lt, is_eq, ordering_reverse, nat_cmp, match_ordering}
 use Rattle.std.specs.declared.cmp.Ordering.{Ordering}
 use Rattle.std.specs.declared.cmp.Ordering.TheVariants.{Less, Equal, Greater}
 use Rattle.std.proofs.lemmas.Cmp.{nat_list_cmp_total}
 use Rattle.std.proofs.lemmas.List.{length-map}
-use Rattle.std.proofs.lemmas.List.Elements.{All-nil, All-cons, All-head, All-tail}
 use Rattle.dbm_model.specs.Calls as model
 use Rattle.dbm_model.specs.Calls.{Call, Fetch, NoRecord, Bytes, Next, End}
 use Rattle.dbm_model.specs.Pairs.{Key, Pair, Contents, key_cmp}
 use Rattle.dbm_model.specs.States.{State, Pass, Handle}
-use Rattle.dbm_model.specs.Steps.{fetched, Answers, Suffers}
+use Rattle.dbm_model.specs.Steps.{fetched, Answers, Suffers, holds_far, takes_memory}
 use Rattle.page_io.specs.declared.store.PageStore.{Ghosts}
 use Rattle.dbm_file.specs.Calls.{Lent, lent_reply}
 use Rattle.dbm_fault.specs.Faults.{fault_of}
 use Rattle.dbm_file.specs.declared.database.Database.{Database}
-use Rattle.dbm_dump.specs.Dumping.{IsChance, IsCopied, IsShort, IsShortPair, CopiesStep}
+use Rattle.dbm_dump.specs.Dumping.{IsChance, IsPairChance, HasFar, IsCopied, CopiesStep}
 use Rattle.dbm_fault.specs.declared.engine_fault.EngineFault.{EngineFault}
 use Rattle.dbm_fault.specs.declared.engine_fault.EngineFault.TheVariants.{Db}
 use Rattle.dbm_fault.specs.declared.fault.Fault.TheVariants as of_call
 use Rattle.dbm_dump.proofs.DumpingKeys.{HasGathered, IsPassing, on_usable, by_chance, by_memory, pass_goes_on, pass_ends}
 use Rattle.dbm_dump.proofs.KeySets.{key_put}
 
--- what a fetch gives of a key that has this, and what it leaves where it gives something
-abbrev FetchGives : State → State → Option (List ℕ) → Result (Option (Vec ℕ)) EngineFault → Type 0
-FetchGives before after found (Ok None) = (found ≡ None) × (after ≡ before)
-FetchGives before after found (Ok (Some copy)) = (found ≡ Some copy.items) × (after ≡ before)
-FetchGives before after found (Err fault) = IsChance fault ⊎ (fault ≡ Db of_call.Memory)
+-- what a fetch gives of a key that has this, and what it leaves where it gives something; whether
+-- it takes memory is given
+abbrev FetchGives : Bool → State → State → Option (List ℕ) → Result (Option (Vec ℕ)) EngineFault
+    → Type 0
+FetchGives takes before after found (Ok None) = (found ≡ None) × (after ≡ before)
+FetchGives takes before after found (Ok (Some copy)) = (found ≡ Some copy.items) × (after ≡ before)
+FetchGives takes before after found (Err fault) =
+    IsChance fault ⊎ ((fault ≡ Db of_call.Memory) × (takes ≡ true))
 
 no_bytes : (bytes : List ℕ) → Bytes bytes ≡ NoRecord → ⊥
 no_bytes bytes e = cc
@@ -52,7 +54,7 @@ fetch_gives : (before after : Handle) (call : Call) (found : Option (List ℕ)) 
     (result : Result (Option (Vec ℕ)) EngineFault) → IsCopied lent result
     → Answers before.state (fetched found) (lent_reply NoRecord lent) after.state
     ⊎ Suffers before call (fetched found) (lent_reply NoRecord lent) after
-    → FetchGives before.state after.state found result
+    → FetchGives (takes_memory before call) before.state after.state found result
 fetch_gives before after call None (Ok None) (Ok None) copied h =
     ⊎_elim (λ x. (refl, x.1)) (⊎_elim (λ x. absurd (no_refusal model.Device (sym x.0)))
     (λ x. absurd (no_refusal model.Memory (sym x.0)))) h
@@ -76,10 +78,12 @@ fetch_gives before after call found (Err why) (Ok None) copied h = absurd copied
 fetch_gives before after call found (Err why) (Ok (Some copy)) copied h = absurd copied
 fetch_gives before after call None (Err why) (Err told) copied h =
     ⊎_elim (λ x. absurd (no_refusal (fault_of why) x.0))
-    (⊎_elim (λ x. inl (by_chance why told copied x.0)) (λ x. inr (by_memory why told copied x.0))) h
+    (⊎_elim (λ x. inl (by_chance why told copied x.0))
+    (λ x. inr (by_memory why told copied x.0, x.2))) h
 fetch_gives before after call (Some content) (Err why) (Err told) copied h =
     ⊎_elim (λ x. absurd (no_fault content (fault_of why) (sym x.0)))
-    (⊎_elim (λ x. inl (by_chance why told copied x.0)) (λ x. inr (by_memory why told copied x.0))) h
+    (⊎_elim (λ x. inl (by_chance why told copied x.0))
+    (λ x. inr (by_memory why told copied x.0, x.2))) h
 
 -- ---- pairs with the contents of a map
 
@@ -205,31 +209,6 @@ pub one_pair_more : (old new : List Owned) (key content : Vec ℕ) (count : ℕ)
 one_pair_more old new key content count inserted le =
     omega (arith, ap length inserted, inserted_length old key content, le)
 
-short_inserted : (es : List Owned) (key content : Vec ℕ) → All IsShortPair es
-    → IsShortPair (key, content) → All IsShortPair (insert_entry vec_cmp es key content)
-short_inserted [] key content all is =
-    All-cons IsShortPair (key, content) [] is (All-nil IsShortPair)
-short_inserted (e ∷ es) key content all is =
-    by_place _ (vec_cmp key e.0)
-    (short_inserted es key content (All-tail IsShortPair e es all) is)
-  where
-    by_place : (more : List Owned) (r : Ordering) → All IsShortPair more
-        → All IsShortPair
-        (match_ordering r ((key, content) ∷ e ∷ es) ((e.0, content) ∷ es) (e ∷ more))
-    by_place more Less rest = All-cons IsShortPair (key, content) (e ∷ es) is all
-    by_place more Equal rest =
-        All-cons IsShortPair (e.0, content) es ((All-head IsShortPair e es all).0, is.1)
-        (All-tail IsShortPair e es all)
-    by_place more Greater rest =
-        All-cons IsShortPair e more (All-head IsShortPair e es all) rest
-
-pub short_put : (old new : List Owned) (key content : Vec ℕ)
-    → new ≡ insert_entry vec_cmp old key content → All IsShortPair old
-    → IsShort key.items → IsShort content.items → All IsShortPair new
-short_put old new key content inserted all short_key short_content =
-    subst (λ (es : List Owned). All IsShortPair es) (sym inserted)
-    (short_inserted old key content all (short_key, short_content))
-
 -- ---- a pass with the contents of its keys
 
 abbrev pub keys_of : List Pair → List Key
@@ -286,22 +265,29 @@ module _ {S : Type 0} {s : Ghosts S} where
       (asked : bytes ≡ key.items)
       (step : CopiesStep old mid so_far.pass.now (Fetch bytes) NoRecord result) where
     abbrev Gives : Result (Option (Vec ℕ)) EngineFault → Type 0
-    Gives told = FetchGives so_far.pass.now.state step.2.after.state (get m key.items) told
+    Gives told = FetchGives (takes_memory so_far.pass.now (Fetch bytes)) so_far.pass.now.state
+        step.2.after.state (get m key.items) told
 
     gives : Gives result
-    gives = subst (λ (k : Key).
-        FetchGives so_far.pass.now.state step.2.after.state (get m k) result) asked
-        (subst (λ (all : Contents).
-        FetchGives so_far.pass.now.state step.2.after.state (get all bytes) result)
+    gives = subst (λ (k : Key). FetchGives (takes_memory so_far.pass.now (Fetch bytes))
+        so_far.pass.now.state step.2.after.state (get m k) result) asked
+        (subst (λ (all : Contents). FetchGives (takes_memory so_far.pass.now (Fetch bytes))
+        so_far.pass.now.state step.2.after.state (get all bytes) result)
         so_far.pass.map_is
         (fetch_gives so_far.pass.now step.2.after (Fetch bytes) (get so_far.pass.now.state.map bytes) step.0
         result step.1 (on_usable so_far.pass.now step.2.after (Fetch bytes)
         (lent_reply NoRecord step.0) so_far.pass.usable step.2.step)))
 
-    pub fetch_goes_on_not : (fault : EngineFault) → result ≡ Err fault
-        → (fault ≡ Db of_call.Memory → ⊥) → IsChance fault
-    fetch_goes_on_not fault badly never =
-        ⊎_elim (λ chance. chance) (λ lacks. absurd (never lacks)) (subst Gives badly gives)
+    asks_far : takes_memory so_far.pass.now (Fetch bytes) ≡ true → HasFar m
+    asks_far takes = (
+      bytes,
+      subst (λ (all : Contents). holds_far bytes (get all bytes) ≡ true) so_far.pass.map_is takes,
+    )
+
+    pub fetch_goes_on_not : (fault : EngineFault) → result ≡ Err fault → IsPairChance m fault
+    fetch_goes_on_not fault badly =
+        ⊎_elim (λ chance. inl chance) (λ lacks. inr (lacks.0, asks_far lacks.1))
+        (subst Gives badly gives)
 
     -- is not missing
     pub none_missing : result ≡ Ok None → ⊥

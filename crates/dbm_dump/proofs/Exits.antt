@@ -1,5 +1,5 @@
 -- What is said where reading or writing ends.
-use Rattle.std.proofs.Common.{◌≡◌, ◌⊎◌, inl, inr, ⊎_elim, ℕ, ◌≤◌, List, [], ◌∷◌, length, flat_map, Option, Result, Ok, Err, OnOk, IfErr, IsErrOf, refl, ◌∙◌, arith}
+use Rattle.std.proofs.Common.{◌≡◌, ◌⊎◌, inl, inr, ⊎_elim, ℕ, ◌≤◌, List, [], ◌∷◌, length, flat_map, Option, Result, Ok, Err, OnOk, IfErr, IsErrOf, refl, sym, ◌∙◌, arith}
 use Rattle.std.specs.Global.{Vec}
 use Rattle.std.specs.BTreeMap.{BTreeMap}
 use Rattle.std.specs.BTreeSet.{BTreeSet}
@@ -12,6 +12,7 @@ use Rattle.dbm_fault.specs.declared.engine_fault.EngineFault.{EngineFault}
 use Rattle.dbm_fault.specs.declared.engine_fault.EngineFault.TheVariants.{Memory, Write, Db}
 use Rattle.dbm_fault.specs.declared.fault.Fault.{Fault}
 use Rattle.dbm_fault.specs.declared.fault.Fault.TheVariants.{Device, Broken, NoPass, Damaged}
+use Rattle.dbm_fault.specs.declared.fault.Fault.TheVariants as fault
 use Rattle.page_io.proofs.Exits.{came}
 use Rattle.dbm_dump.specs.Dumping.{bytes_of_keys, bytes_of_pairs, key_lines, WritesPairs, WritesKeys}
 
@@ -23,16 +24,52 @@ same_exit {T} {U} result e f exit is = exit ∙ came {T = U} {U = T} (Err e) e r
 -- ---- faults
 
 abbrev pub AnyOf : EngineFault → Type 0
-AnyOf f = IsAmong f (Memory ∷ Write ∷ Db Broken ∷ Db NoPass ∷ Db Device ∷ Db Damaged ∷ [])
+AnyOf f =
+    IsAmong f (Memory ∷ Write ∷ Db Broken ∷ Db NoPass ∷ Db Device ∷ Db Damaged ∷ Db fault.Memory ∷ [])
 
-pub of_gathering : (f : EngineFault)
-    → IsAmong f (Memory ∷ Db Broken ∷ Db NoPass ∷ Db Device ∷ Db Damaged ∷ []) → AnyOf f
-of_gathering f is = ⊎_elim (λ memory. inl memory) (λ other. inr (inr other)) is
+abbrev pub AnyOfKeys : EngineFault → Type 0
+AnyOfKeys f = IsAmong f (Memory ∷ Write ∷ Db Broken ∷ Db NoPass ∷ Db Device ∷ Db Damaged ∷ [])
 
+-- where a list of keys, and one of pairs, was read
+pub of_keys : (f : EngineFault)
+    → IsAmong f (Memory ∷ Db Broken ∷ Db NoPass ∷ Db Device ∷ Db Damaged ∷ []) → AnyOfKeys f
+of_keys f is = ⊎_elim (λ memory. inl memory) (λ other. inr (inr other)) is
+
+pub of_pairs : (f : EngineFault)
+    → IsAmong f (Memory ∷ Db Broken ∷ Db NoPass ∷ Db Device ∷ Db Damaged ∷ Db fault.Memory ∷ [])
+    → AnyOf f
+of_pairs f is = ⊎_elim (λ memory. inl memory) (λ other. inr (inr other)) is
+
+-- where the first key was read, and the next one, and a content
 pub of_beginning : (f : EngineFault) → IsAmong f (Memory ∷ Db Broken ∷ Db Device ∷ Db Damaged ∷ [])
     → IsAmong f (Memory ∷ Db Broken ∷ Db NoPass ∷ Db Device ∷ Db Damaged ∷ [])
 of_beginning f is = ⊎_elim (λ memory. inl memory)
     (λ other. ⊎_elim (λ broken. inr (inl broken)) (λ last. inr (inr (inr last))) other) is
+
+pub of_next : (f : EngineFault)
+    → IsAmong f (Memory ∷ Db Broken ∷ Db NoPass ∷ Db Device ∷ Db Damaged ∷ [])
+    → IsAmong f (Memory ∷ Db Broken ∷ Db NoPass ∷ Db Device ∷ Db Damaged ∷ Db fault.Memory ∷ [])
+of_next f (inl is) = inl is
+of_next f (inr (inl is)) = inr (inl is)
+of_next f (inr (inr (inl is))) = inr (inr (inl is))
+of_next f (inr (inr (inr (inl is)))) = inr (inr (inr (inl is)))
+of_next f (inr (inr (inr (inr is)))) = inr (inr (inr (inr (inl is))))
+
+pub of_content : (f : EngineFault)
+    → IsAmong f (Memory ∷ Db Broken ∷ Db Device ∷ Db Damaged ∷ Db fault.Memory ∷ [])
+    → IsAmong f (Memory ∷ Db Broken ∷ Db NoPass ∷ Db Device ∷ Db Damaged ∷ Db fault.Memory ∷ [])
+of_content f is = ⊎_elim (λ memory. inl memory)
+    (λ other. ⊎_elim (λ broken. inr (inl broken)) (λ last. inr (inr (inr last))) other) is
+
+-- no call for a key lacks memory
+pub not_lacking : (f : EngineFault)
+    → IsAmong f (Memory ∷ Db Broken ∷ Db NoPass ∷ Db Device ∷ Db Damaged ∷ [])
+    → f ≡ Db fault.Memory → ⊥
+not_lacking f (inl is) lacks = absurd (let x = sym is ∙ lacks in cc)
+not_lacking f (inr (inl is)) lacks = absurd (let x = sym is ∙ lacks in cc)
+not_lacking f (inr (inr (inl is))) lacks = absurd (let x = sym is ∙ lacks in cc)
+not_lacking f (inr (inr (inr (inl is)))) lacks = absurd (let x = sym is ∙ lacks in cc)
+not_lacking f (inr (inr (inr (inr is)))) lacks = absurd (let x = sym is ∙ lacks in cc)
 
 -- ---- what was written
 
@@ -52,6 +89,11 @@ pub write_among : (result : Result Unit EngineFault) → IfErr result (λ f. f �
     → IfErr result AnyOf
 write_among (Ok x) is = tt
 write_among (Err f) is = inr (inl is)
+
+pub write_among_keys : (result : Result Unit EngineFault) → IfErr result (λ f. f ≡ Write)
+    → IfErr result AnyOfKeys
+write_among_keys (Ok x) is = tt
+write_among_keys (Err f) is = inr (inl is)
 
 -- the lines of these pairs, and of these keys
 pub writes_pairs : {E : Type 0} (line_of : Pair → List ℕ) (wrote : Result Unit E)

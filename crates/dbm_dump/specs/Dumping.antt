@@ -1,14 +1,16 @@
 -- What reading a whole database gives and leaves.
-use Rattle.std.specs.Prelude.{◌≡◌, ◌⊎◌, ◌≤◌, ℕ, true, false, List, length, map, flat_map, Option, Some, None, Result, Ok, Err, OnOk, IsErrOf}
+use Rattle.std.specs.Prelude.{◌≡◌, ◌⊎◌, ℕ, true, false, List, length, map, flat_map, Option, Some, None, Result, Ok, Err, OnOk, IsErrOf}
 use Rattle.std.specs.Global.{Vec}
 use Rattle.std.specs.BTreeMap.{BTreeMap}
 use Rattle.std.specs.BTreeSet.{BTreeSet}
+use Rattle.std.specs.FinMap.{get}
 use Rattle.std.specs.Io.KnownBytes.{Appends}
 use Rattle.sect_dev.specs.Device.{MoreFaults}
 use Rattle.dbm_model.specs.Calls.{Call, Reply}
 use Rattle.dbm_text.specs.Lines.{with_line_feed}
-use Rattle.dbm_model.specs.Pairs.{Key, Pair}
+use Rattle.dbm_model.specs.Pairs.{Key, Pair, Contents}
 use Rattle.dbm_model.specs.States.{State, Handle, first_fault}
+use Rattle.dbm_model.specs.Steps.{holds_far}
 use Rattle.dbm_text.specs.Words.{word_of}
 use Rattle.page_io.specs.declared.store.PageStore.{Ghosts}
 use Rattle.dbm_file.specs.Answers.{IsStep, Survives, IsSameDatabase}
@@ -19,6 +21,7 @@ use Rattle.dbm_fault.specs.Faults.{fault_of}
 use Rattle.dbm_file.specs.declared.database.Database.{Database}
 use Rattle.dbm_fault.specs.declared.fault.Fault.{Fault}
 use Rattle.dbm_fault.specs.declared.fault.Fault.TheVariants.{Device, Broken}
+use Rattle.dbm_fault.specs.declared.fault.Fault.TheVariants as call
 use Rattle.dbm_fault.specs.declared.engine_fault.EngineFault.{EngineFault}
 use Rattle.dbm_fault.specs.declared.engine_fault.EngineFault.TheVariants.{Memory, Db}
 
@@ -56,6 +59,14 @@ pub record Reads {S T : Type 0} {s : Ghosts S} (old new : Database S s)
 abbrev pub IsChance : EngineFault → Type 0
 IsChance fault = (fault ≡ Memory) ⊎ (fault ≡ Db Device)
 
+-- some pair of the map has a content in pages of its own
+abbrev pub HasFar : Contents → Type 0
+HasFar map = (key : Key) × (holds_far key (get map key) ≡ true)
+
+-- what may hinder the reading of its pairs: a content in pages of its own is read into memory
+abbrev pub IsPairChance : Contents → EngineFault → Type 0
+IsPairChance map fault = IsChance fault ⊎ ((fault ≡ Db call.Memory) × HasFar map)
+
 -- the bytes of keys
 abbrev pub bytes_of_keys : BTreeSet (Vec ℕ) → List Key
 bytes_of_keys keys = map (λ key. key.items) keys.keys
@@ -63,13 +74,6 @@ bytes_of_keys keys = map (λ key. key.items) keys.keys
 -- the bytes of pairs
 abbrev pub bytes_of_pairs : BTreeMap (Vec ℕ) (Vec ℕ) → List Pair
 bytes_of_pairs pairs = map (λ pair. (pair.0.items, pair.1.items)) pairs.entries
-
--- no longer than a key or a content may be
-abbrev pub IsShort : List ℕ → Type 0
-IsShort bytes = length bytes ≤ 2026
-
-abbrev pub IsShortPair : Vec ℕ × Vec ℕ → Type 0
-IsShortPair pair = IsShort pair.0.items × IsShort pair.1.items
 
 -- the lent bytes are copied, where there are some
 abbrev pub IsCopied : Lent → Result (Option (Vec ℕ)) EngineFault → Type 0

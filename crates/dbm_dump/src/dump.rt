@@ -1,18 +1,18 @@
 // The engines of dumps and of a list.
 ghost use Rattle.std.specs.Prelude.{◌≡◌, ◌⊎◌, true, false, OnOk, IfErr, Err, ◌∷◌, [], flat_map};
 ghost use Rattle.dbm_fault.specs.Among.{IsErrAmong};
-ghost use Rattle.std.specs.List.{All};
 ghost use Rattle.std.specs.Io.KnownBytes.{Appends};
 ghost use Rattle.dbm_text.specs.Dumps.{dump_line, dump_of, listing_of, text_dump_of, text_line};
+ghost use Rattle.dbm_model.specs.Bounds.{V2};
 ghost use Rattle.dbm_lines.specs.Forms.{line_in, dump_in};
 ghost use Rattle.dbm_file.specs.Database.{meta_kept, page_state, AtEachHandle};
-ghost use Rattle.dbm_dump.specs.Dumping.{Reads, IsChance, bytes_of_keys, bytes_of_pairs, IsShort, IsShortPair, WritesPairs, WritesKeys, key_lines};
+ghost use Rattle.dbm_dump.specs.Dumping.{Reads, IsChance, IsPairChance, bytes_of_keys, bytes_of_pairs, WritesPairs, WritesKeys, key_lines};
 
 use crate::gather::gather_keys;
 use crate::pairs::gather_pairs;
 use dbm_fault::EngineFault;
 use dbm_file::{Database, Fault};
-use dbm_lines::{DIGITS, TextForm, write_bytes, write_escaped, write_word};
+use dbm_lines::{TextForm, write_bytes, write_escaped, write_word};
 use dbm_progress::{Progress, Work};
 use page_io::PageStore;
 use std::alloc::Global;
@@ -22,9 +22,10 @@ use std::io::{self, Write};
 /// Writes each pair as `key content` in a line, in ascending byte order of keys. It reads
 /// everything before it writes, by a pass and a fetch of each key behind the step that gave it, and
 /// keeps the pairs in memory until it ends. `Db(Damaged)` comes where the pass gives more keys than
-/// the file counts pairs, or fewer, or a key that fetch doesn't find. After `Write` some of the text
-/// may be out. Each pair that was read or written is a step of `progress`, which is cleared before
-/// the first one is written.
+/// the file counts pairs, or fewer, or a key that fetch doesn't find. `Db(Memory)` comes where fetch
+/// finds none for a content in pages of its own, which a file of version 1 has none of, and `Memory`
+/// where the engine finds none. After `Write` some of the text may be out. Each pair that was read
+/// or written is a step of `progress`, which is cleared before the first one is written.
 pub fn dump_engine<S: PageStore, W: Write, P: Progress>(
     alloc: Global,
     db: &mut Database<S>,
@@ -35,7 +36,8 @@ pub fn dump_engine<S: PageStore, W: Write, P: Progress>(
         h.state.usable ≡ true → OnOk result
         (Appends (W.contents writer.old) (W.contents writer.new) (dump_of h.state.map))) }
     ensures whole { AtEachHandle db.old (λ h.
-        h.state.usable ≡ true → IfErr result (λ e. (e ≡ EngineFault.Write) ⊎ IsChance e)) }
+        h.state.usable ≡ true → IfErr result
+        (λ e. (e ≡ EngineFault.Write) ⊎ IsPairChance h.state.map e)) }
 
     // Whatever it answers, the map stays.
     ensures reads { Reads db.old db.new result }
@@ -46,10 +48,12 @@ pub fn dump_engine<S: PageStore, W: Write, P: Progress>(
     ensures broken { (page_state db.old).usable ≡ false
         → result ≡ Err (EngineFault.Db Fault.Broken) }
     ensures unwritten { IfErr result (λ e. (e ≡ EngineFault.Write) ⊎ (writer.new ≡ writer.old)) }
+    ensures memory { result ≡ Err (EngineFault.Db Fault.Memory)
+        → (meta_kept db.old).bounds.version ≡ V2 }
     ensures only { IsErrAmong result
         (EngineFault.Memory ∷ EngineFault.Write ∷ EngineFault.Db Fault.Broken
         ∷ EngineFault.Db Fault.NoPass ∷ EngineFault.Db Fault.Device
-        ∷ EngineFault.Db Fault.Damaged ∷ []) }
+        ∷ EngineFault.Db Fault.Damaged ∷ EngineFault.Db Fault.Memory ∷ []) }
 {
     dump_in_form(alloc, db, writer, TextForm::Hexadecimal, progress)
 }
@@ -66,7 +70,8 @@ pub fn dump_text_engine<S: PageStore, W: Write, P: Progress>(
         h.state.usable ≡ true → OnOk result
         (Appends (W.contents writer.old) (W.contents writer.new) (text_dump_of h.state.map))) }
     ensures whole { AtEachHandle db.old (λ h.
-        h.state.usable ≡ true → IfErr result (λ e. (e ≡ EngineFault.Write) ⊎ IsChance e)) }
+        h.state.usable ≡ true → IfErr result
+        (λ e. (e ≡ EngineFault.Write) ⊎ IsPairChance h.state.map e)) }
 
     // Whatever it answers, the map stays.
     ensures reads { Reads db.old db.new result }
@@ -77,10 +82,12 @@ pub fn dump_text_engine<S: PageStore, W: Write, P: Progress>(
     ensures broken { (page_state db.old).usable ≡ false
         → result ≡ Err (EngineFault.Db Fault.Broken) }
     ensures unwritten { IfErr result (λ e. (e ≡ EngineFault.Write) ⊎ (writer.new ≡ writer.old)) }
+    ensures memory { result ≡ Err (EngineFault.Db Fault.Memory)
+        → (meta_kept db.old).bounds.version ≡ V2 }
     ensures only { IsErrAmong result
         (EngineFault.Memory ∷ EngineFault.Write ∷ EngineFault.Db Fault.Broken
         ∷ EngineFault.Db Fault.NoPass ∷ EngineFault.Db Fault.Device
-        ∷ EngineFault.Db Fault.Damaged ∷ []) }
+        ∷ EngineFault.Db Fault.Damaged ∷ EngineFault.Db Fault.Memory ∷ []) }
 {
     dump_in_form(alloc, db, writer, TextForm::Escaped, progress)
 }
@@ -132,7 +139,8 @@ fn dump_in_form<S: PageStore, W: Write, P: Progress>(
         h.state.usable ≡ true → OnOk result
         (Appends (W.contents writer.old) (W.contents writer.new) (dump_in form h.state.map))) }
     ensures whole { AtEachHandle db.old (λ h.
-        h.state.usable ≡ true → IfErr result (λ e. (e ≡ EngineFault.Write) ⊎ IsChance e)) }
+        h.state.usable ≡ true → IfErr result
+        (λ e. (e ≡ EngineFault.Write) ⊎ IsPairChance h.state.map e)) }
 
     // Whatever it answers, the map stays.
     ensures reads { Reads db.old db.new result }
@@ -143,10 +151,12 @@ fn dump_in_form<S: PageStore, W: Write, P: Progress>(
     ensures broken { (page_state db.old).usable ≡ false
         → result ≡ Err (EngineFault.Db Fault.Broken) }
     ensures unwritten { IfErr result (λ e. (e ≡ EngineFault.Write) ⊎ (writer.new ≡ writer.old)) }
+    ensures memory { result ≡ Err (EngineFault.Db Fault.Memory)
+        → (meta_kept db.old).bounds.version ≡ V2 }
     ensures only { IsErrAmong result
         (EngineFault.Memory ∷ EngineFault.Write ∷ EngineFault.Db Fault.Broken
         ∷ EngineFault.Db Fault.NoPass ∷ EngineFault.Db Fault.Device
-        ∷ EngineFault.Db Fault.Damaged ∷ []) }
+        ∷ EngineFault.Db Fault.Damaged ∷ EngineFault.Db Fault.Memory ∷ []) }
 {
     let pairs = gather_pairs(alloc, db, progress)?;
     progress.clear();
@@ -160,52 +170,40 @@ fn write_pairs<W: Write, P: Progress>(
     form: TextForm,
     progress: &mut P,
 ) -> io::Result<()>
-    requires { All IsShortPair pairs.now.entries }
     ensures { OnOk result (Appends (W.contents writer.old) (W.contents writer.new)
         (flat_map (line_in form) (bytes_of_pairs pairs.now))) }
 {
-    let mut digits = [0; DIGITS];
     for (key, content) in pairs {
-        write_pair(writer, key, content, form, &mut digits)?;
+        write_pair(writer, key, content, form)?;
         progress.step(Work::PairsWritten);
     }
     Ok(())
 }
 
-/// Writes the line of a pair. The digits of its words go through `digits`.
+/// Writes the line of a pair.
 fn write_pair<W: Write>(
     writer: &mut W,
     key: &[u8],
     content: &[u8],
     form: TextForm,
-    digits: &mut [u8; DIGITS],
 ) -> io::Result<()>
-    requires key { IsShort key.now }
-    requires content { IsShort content.now }
     ensures { OnOk result (Appends (W.contents writer.old) (W.contents writer.new)
         (line_in form (key.now, content.now))) }
 {
     match form {
-        TextForm::Hexadecimal => write_words(writer, key, content, digits),
+        TextForm::Hexadecimal => write_words(writer, key, content),
         TextForm::Escaped => write_fields(writer, key, content),
     }
 }
 
-/// Writes the line of a pair as two words, of which the digits go through `digits`.
-fn write_words<W: Write>(
-    writer: &mut W,
-    key: &[u8],
-    content: &[u8],
-    digits: &mut [u8; DIGITS],
-) -> io::Result<()>
-    requires key { IsShort key.now }
-    requires content { IsShort content.now }
+/// Writes the line of a pair as two words.
+fn write_words<W: Write>(writer: &mut W, key: &[u8], content: &[u8]) -> io::Result<()>
     ensures { OnOk result (Appends (W.contents writer.old) (W.contents writer.new)
         (dump_line (key.now, content.now))) }
 {
-    write_word(writer, key, digits)?;
+    write_word(writer, key)?;
     writer.write_all(b" ")?;
-    write_bytes(writer, content, digits)
+    write_bytes(writer, content)
 }
 
 /// Writes the line of a pair as two fields.
@@ -225,13 +223,11 @@ fn write_keys<W: Write, P: Progress>(
     keys: &BTreeSet<Vec<u8>>,
     progress: &mut P,
 ) -> io::Result<()>
-    requires { All (λ key. IsShort key.items) keys.now.keys }
     ensures { OnOk result (Appends (W.contents writer.old) (W.contents writer.new)
         (key_lines (bytes_of_keys keys.now))) }
 {
-    let mut digits = [0; DIGITS];
     for key in keys {
-        write_bytes(writer, key, &mut digits)?;
+        write_bytes(writer, key)?;
         progress.step(Work::KeysWritten);
     }
     Ok(())

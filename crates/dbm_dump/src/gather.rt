@@ -1,12 +1,12 @@
 // The keys of a whole database, and copies of what its calls lend.
-ghost use Rattle.std.specs.Prelude.{◌≡◌, true, false, IfOk, IfSome, MatchResult, Err, ◌∷◌, []};
+ghost use Rattle.std.specs.Prelude.{◌≡◌, true, false, IfOk, MatchResult, Err, ◌∷◌, []};
 ghost use Rattle.dbm_fault.specs.Among.{IsErrAmong};
 ghost use Rattle.std.specs.BTreeSet.{btree_set_len};
 ghost use Rattle.std.specs.FinMap.{keys as map_keys};
-ghost use Rattle.std.specs.List.{All};
+ghost use Rattle.dbm_model.specs.Bounds.{V2};
 ghost use Rattle.dbm_model.specs.Calls.{Fetch, First, Next, NoRecord, End};
 ghost use Rattle.dbm_file.specs.Database.{meta_kept, page_state, AtEachHandle};
-ghost use Rattle.dbm_dump.specs.Dumping.{Reads, IsChance, bytes_of_keys, IsShort, IsCopied, CopiesStep};
+ghost use Rattle.dbm_dump.specs.Dumping.{Reads, IsChance, bytes_of_keys, IsCopied, CopiesStep};
 
 use dbm_fault::EngineFault;
 use dbm_file::{Database, Fault};
@@ -26,7 +26,6 @@ pub fn gather_keys<S: PageStore, P: Progress>(
         h.state.usable ≡ true → MatchResult result
         (λ keys. bytes_of_keys keys ≡ map_keys h.state.map) IsChance) }
     ensures counted { IfOk result (λ keys. btree_set_len keys ≡ (meta_kept db.old).pairs) }
-    ensures short { IfOk result (λ keys. All (λ key. IsShort key.items) keys.keys) }
     ensures reads { Reads db.old db.new result }
     ensures broken { (page_state db.old).usable ≡ false
         → result ≡ Err (EngineFault.Db Fault.Broken) }
@@ -57,7 +56,6 @@ pub fn copy_first<S: PageStore>(
     db: &mut Database<S>,
 ) -> Result<Option<Vec<u8>>, EngineFault>
     ensures step { AtEachHandle db.old (λ h. CopiesStep db.old db.new h First End result) }
-    ensures short { IfOk result (λ r. IfSome r (λ key. IsShort key.items)) }
     ensures reads { Reads db.old db.new result }
     ensures broken { (page_state db.old).usable ≡ false
         → result ≡ Err (EngineFault.Db Fault.Broken) }
@@ -74,7 +72,6 @@ pub fn copy_next<S: PageStore>(
     db: &mut Database<S>,
 ) -> Result<Option<Vec<u8>>, EngineFault>
     ensures step { AtEachHandle db.old (λ h. CopiesStep db.old db.new h Next End result) }
-    ensures short { IfOk result (λ r. IfSome r (λ key. IsShort key.items)) }
     ensures reads { Reads db.old db.new result }
     ensures only { IsErrAmong result
         (EngineFault.Memory ∷ EngineFault.Db Fault.Broken ∷ EngineFault.Db Fault.NoPass
@@ -91,11 +88,12 @@ pub fn copy_content<S: PageStore>(
 ) -> Result<Option<Vec<u8>>, EngineFault>
     ensures step { AtEachHandle db.old
         (λ h. CopiesStep db.old db.new h (Fetch key.now) NoRecord result) }
-    ensures short { IfOk result (λ r. IfSome r (λ content. IsShort content.items)) }
     ensures reads { Reads db.old db.new result }
+    ensures memory { result ≡ Err (EngineFault.Db Fault.Memory)
+        → (meta_kept db.old).bounds.version ≡ V2 }
     ensures only { IsErrAmong result
         (EngineFault.Memory ∷ EngineFault.Db Fault.Broken ∷ EngineFault.Db Fault.Device
-        ∷ EngineFault.Db Fault.Damaged ∷ []) }
+        ∷ EngineFault.Db Fault.Damaged ∷ EngineFault.Db Fault.Memory ∷ []) }
 {
     copied(alloc, db.fetch(key))
 }

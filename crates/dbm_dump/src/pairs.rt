@@ -3,9 +3,9 @@ ghost use Rattle.std.specs.Prelude.{◌≡◌, true, false, IfOk, MatchResult, E
 ghost use Rattle.dbm_fault.specs.Among.{IsErrAmong};
 ghost use Rattle.std.specs.BTreeMap.{btree_map_len};
 ghost use Rattle.std.specs.FinMap.{entries};
-ghost use Rattle.std.specs.List.{All};
+ghost use Rattle.dbm_model.specs.Bounds.{V2};
 ghost use Rattle.dbm_file.specs.Database.{meta_kept, page_state, AtEachHandle};
-ghost use Rattle.dbm_dump.specs.Dumping.{Reads, IsChance, bytes_of_pairs, IsShortPair};
+ghost use Rattle.dbm_dump.specs.Dumping.{Reads, IsPairChance, bytes_of_pairs};
 
 use crate::gather::{copy_content, copy_first, copy_next};
 use dbm_fault::EngineFault;
@@ -25,15 +25,17 @@ pub fn gather_pairs<S: PageStore, P: Progress>(
 ) -> Result<BTreeMap<Vec<u8>, Vec<u8>>, EngineFault>
     ensures pairs { AtEachHandle db.old (λ h.
         h.state.usable ≡ true → MatchResult result
-        (λ pairs. bytes_of_pairs pairs ≡ entries h.state.map) IsChance) }
+        (λ pairs. bytes_of_pairs pairs ≡ entries h.state.map) (IsPairChance h.state.map)) }
     ensures counted { IfOk result (λ pairs. btree_map_len pairs ≡ (meta_kept db.old).pairs) }
-    ensures short { IfOk result (λ pairs. All IsShortPair pairs.entries) }
     ensures reads { Reads db.old db.new result }
     ensures broken { (page_state db.old).usable ≡ false
         → result ≡ Err (EngineFault.Db Fault.Broken) }
+    ensures memory { result ≡ Err (EngineFault.Db Fault.Memory)
+        → (meta_kept db.old).bounds.version ≡ V2 }
     ensures only { IsErrAmong result
         (EngineFault.Memory ∷ EngineFault.Db Fault.Broken ∷ EngineFault.Db Fault.NoPass
-        ∷ EngineFault.Db Fault.Device ∷ EngineFault.Db Fault.Damaged ∷ []) }
+        ∷ EngineFault.Db Fault.Device ∷ EngineFault.Db Fault.Damaged
+        ∷ EngineFault.Db Fault.Memory ∷ []) }
 {
     let most = db.stat().pairs;
     let mut pairs = BTreeMap::new(alloc);

@@ -20,7 +20,7 @@ pub enum Fault {
     /// 4: a change of a database that was opened for reading.
     #[error("opened for reading only")]
     ReadOnly,
-    /// 5: key and content together are above 2,026 bytes.
+    /// 5: the pair is longer than the version of the file allows.
     #[error("the pair is too long")]
     TooLong,
     /// 6: a new key where there are as many pairs as the limit allows.

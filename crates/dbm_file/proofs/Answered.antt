@@ -1,15 +1,15 @@
 -- Calls that were answered on any device.
-use Rattle.std.proofs.Common.{◌≡◌, ℕ, ◌+◌, List, [], ◌∷◌, ◌++◌, None, Some, Result, Ok, Err, IfOk, refl, sym, ap, subst, arith}
+use Rattle.std.proofs.Common.{◌≡◌, ℕ, List, [], ◌∷◌, ◌++◌, None, Some, Result, Ok, Err, IfOk, refl, sym, ap, subst, arith}
 use Rattle.dbm_fault.specs.Among.{IsErrAmong}
 use Rattle.dbm_fault.specs.declared.fault.Fault.{Fault}
+use Rattle.page_io.specs.Views.{body_at}
 use Rattle.page_io.specs.declared.store.PageStore.{Ghosts}
 use Rattle.chain_walks.specs.Walks.{EndsWithout}
 use Rattle.dbm_file.specs.Answers.{IsSameDatabase, IsCallEnded}
 use Rattle.dbm_file.specs.Changing.{WasDeleted, WasStored}
 use Rattle.dbm_file.specs.Calls.{reply_of, store_reply, delete_reply, Lent, lent_reply, seen}
 use Rattle.dbm_file.specs.Database.{store_of, meta_kept}
-use Rattle.dbm_file.specs.Replies.{IsCallAnswered, IsAnswered, AreAnswered, store_faults, delete_faults, read_faults, next_faults, told_of_store, told_of_delete, told_of_bytes}
-use Rattle.dbm_file.specs.Rooms.{rooms_in}
+use Rattle.dbm_file.specs.Replies.{IsCallAnswered, IsAnswered, AreAnswered, store_faults, delete_faults, fetch_faults, read_faults, next_faults, told_of_store, told_of_delete, told_of_bytes}
 use Rattle.dbm_model.specs.States.{Begun}
 use Rattle.dbm_file.specs.Searches.{Searched, EndsWith, EndsAtContent, Passed, WentOn}
 use Rattle.dbm_file.specs.declared.calls.Call.{Call}
@@ -110,8 +110,9 @@ module _ {S : Type 0} {s : Ghosts S} {old new : Database S s} where
       record { replied = only; read = tt; done = tt; keeps = keeps_err fault keeps }
 
   fetched_well : (found : Lent) (key : List ℕ)
-      → IfOk found (λ content. Searched old key (EndsAtContent key (seen content)))
-      → IsErrAmong found read_faults → IsCallEnded old new found
+      → IfOk found (λ content. Searched old key
+      (EndsAtContent (body_at s (store_of old)) key (seen content)))
+      → IsErrAmong found fetch_faults → IsCallEnded old new found
       → IsCallAnswered old new (Fetch key) (told_of_bytes NoRecord found)
   fetched_well (Ok None) key searched only keeps =
       record { replied = refl; read = searched; done = tt; keeps = keeps_as None tt keeps }
@@ -168,8 +169,9 @@ module _ {S : Type 0} {s : Ghosts S} {old new : Database S s} where
 
   pub fetch_answered : (found : Lent) (reply : Reply) (given key : List ℕ)
       → reply ≡ told_of_bytes NoRecord found → given ≡ key
-      → IfOk found (λ content. Searched old given (EndsAtContent given (seen content)))
-      → IsErrAmong found read_faults → IsCallEnded old new found
+      → IfOk found (λ content. Searched old given
+      (EndsAtContent (body_at s (store_of old)) given (seen content)))
+      → IsErrAmong found fetch_faults → IsCallEnded old new found
       → IsCallAnswered old new (Fetch key) reply
   fetch_answered found reply given key is same searched only keeps =
       subst (λ (r : Reply). IsCallAnswered old new (Fetch key) r) (sym is)
@@ -203,13 +205,3 @@ same_goes {S} {s} old new store meta = record {
   base = ap (λ (x : S). (s.state x).base) store;
   still = λ broken. store;
 }
-
--- the rooms that a call takes
-pub no_room_taken : (call other : Call) (left : ℕ) → call ≡ other → rooms_in (other ∷ []) ≡ 0
-    → left ≡ rooms_in (call ∷ []) + left
-no_room_taken call other left is none = omega (arith, ap (λ (c : Call). rooms_in (c ∷ [])) is, none)
-
-pub room_taken : (call other : Call) (rooms left : ℕ) → call ≡ other → rooms_in (other ∷ []) ≡ 1
-    → rooms ≡ left + 1 → rooms ≡ rooms_in (call ∷ []) + left
-room_taken call other rooms left is one taken =
-    omega (arith, ap (λ (c : Call). rooms_in (c ∷ [])) is, one, taken)

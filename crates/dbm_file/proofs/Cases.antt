@@ -1,12 +1,14 @@
 -- The rule that a call of a usable handle falls under.
-use Rattle.std.proofs.Common.{◌≡◌, inl, ℕ, ◌<◌, ◌≤◌, true, false, cond, not, List, Option, Some, None, is_some, refl, ◌∙◌, ap}
+use Rattle.std.proofs.Common.{◌≡◌, inl, inr, ◌*◌, ℕ, ◌<◌, ◌≤◌, true, false, cond, not, List, Option, Some, None, is_some, refl, ◌∙◌, ap}
 use Rattle.std.specs.Prelude.{◌≢◌, nat_le}
 use Rattle.std.specs.FinMap.{get, insert, remove, len}
-use Rattle.std.proofs.lemmas.Bool.{le-leb, lt-leb}
-use Rattle.dbm_model.specs.Calls.{Mode, Insert, Replace, Call, Store, Fetch, Delete, First, Next, Error, Clear, Reply, Number, Stored, Kept, Deleted, Absent, TooLong, Full, Broken, ReadOnly, NoPass}
+use Rattle.std.proofs.lemmas.Bool.{le-leb, lt-leb, le-ltb, lt-ltb}
+use Rattle.dbm_model.specs.Calls.{Mode, Insert, Replace, Call, Store, Fetch, Delete, First, Next, Error, Clear, Upgrade, Reply, Number, Stored, Kept, Deleted, Absent, Upgraded, TooSmall, TooLong, Full, Broken, ReadOnly, NoPass}
+use Rattle.dbm_model.specs.Bounds.{V1, V2, upgraded}
 use Rattle.dbm_model.specs.Pairs.{is_allowed}
+use Rattle.dbm_model.specs.Sizes.{home}
 use Rattle.dbm_model.specs.States.{State, Pass, NotBegun, Begun, Behind, Handle, error_number}
-use Rattle.dbm_model.specs.Steps.{Tells, Refuses, Declines, Finds, Passes, Changes, fetched, stored, deleted, passed, usable_case, broken_case, case_of, with_map, Suffers, Fails}
+use Rattle.dbm_model.specs.Steps.{Tells, Refuses, Declines, Finds, Passes, Changes, fetched, stored, deleted, passed, raised, usable_case, broken_case, case_of, with_map, Suffers, Fails, LacksMemory}
 
 usable_rule : (h : Handle) (call : Call) → h.state.usable ≡ true
     → case_of h call ≡ usable_case h.capacity h.state call
@@ -147,6 +149,52 @@ module _ (h : Handle) (call : Call) (reply : Reply) (after : Handle)
         | true ↦ fails
         | false ↦ inl fails
       ]
+
+-- a fetch may lack memory
+pub fetch_lacks : (h : Handle) (call : Call) (reply : Reply) (after : Handle)
+    → LacksMemory h call reply after → (old : Option (List ℕ))
+    → Suffers h call (fetched old) reply after
+fetch_lacks h call reply after lacks None = inr lacks
+fetch_lacks h call reply after lacks (Some content) = inr lacks
+
+-- an upgrade
+pub broken_upgrade : (h : Handle) → h.state.usable ≡ false → case_of h Upgrade ≡ Refuses Broken
+broken_upgrade h broken = broken_rule h Upgrade broken
+
+pub upgrade_read_only : (h : Handle) → h.state.usable ≡ true → h.state.writable ≡ false
+    → case_of h Upgrade ≡ Refuses ReadOnly
+upgrade_read_only h usable reads =
+    usable_rule h Upgrade usable
+    ∙ ap (λ b. cond b (raised h.capacity h.state h.state.bounds.version) (Refuses ReadOnly)) reads
+
+pub upgrade_rule : (h : Handle) → h.state.usable ≡ true → h.state.writable ≡ true
+    → case_of h Upgrade ≡ raised h.capacity h.state h.state.bounds.version
+upgrade_rule h usable writable =
+    usable_rule h Upgrade usable
+    ∙ ap (λ b. cond b (raised h.capacity h.state h.state.bounds.version) (Refuses ReadOnly)) writable
+
+pub second_rule : (h : Handle) → h.state.usable ≡ true → h.state.writable ≡ true
+    → h.state.bounds.version ≡ V2 → case_of h Upgrade ≡ Tells Upgraded h.state
+second_rule h usable writable second =
+    upgrade_rule h usable writable ∙ ap (raised h.capacity h.state) second
+
+pub too_small_rule : (h : Handle) → h.state.usable ≡ true → h.state.writable ≡ true
+    → h.state.bounds.version ≡ V1 → h.capacity < 2 * home (upgraded h.state.bounds)
+    → case_of h Upgrade ≡ Refuses TooSmall
+too_small_rule h usable writable first small =
+    upgrade_rule h usable writable ∙ ap (raised h.capacity h.state) first
+    ∙ ap (λ b. cond b (Refuses TooSmall)
+    (Changes Upgraded (record h.state { bounds = upgraded h.state.bounds })))
+    (lt-ltb h.capacity (2 * home (upgraded h.state.bounds)) small)
+
+pub raises : (h : Handle) → h.state.usable ≡ true → h.state.writable ≡ true
+    → h.state.bounds.version ≡ V1 → 2 * home (upgraded h.state.bounds) ≤ h.capacity
+    → case_of h Upgrade ≡ Changes Upgraded (record h.state { bounds = upgraded h.state.bounds })
+raises h usable writable first room =
+    upgrade_rule h usable writable ∙ ap (raised h.capacity h.state) first
+    ∙ ap (λ b. cond b (Refuses TooSmall)
+    (Changes Upgraded (record h.state { bounds = upgraded h.state.bounds })))
+    (le-ltb h.capacity (2 * home (upgraded h.state.bounds)) room)
 
 -- calls of a pass
 pub broken_first : (h : Handle) → h.state.usable ≡ false → case_of h First ≡ Refuses Broken

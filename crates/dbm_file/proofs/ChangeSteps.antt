@@ -1,6 +1,5 @@
 -- Calls that change the file, as steps.
-use Rattle.std.proofs.Common.{◌≡◌, ◌⊎◌, inl, inr, ⊎_elim, ℕ, ◌+◌, ◌*◌, ◌<◌, ◌≤◌, true, false, cond, Option, Some, is_some, Result, Ok, Err, refl, sym, ◌∙◌, ap, subst, arith}
-use Rattle.std.specs.Prelude.{IsErrAnd}
+use Rattle.std.proofs.Common.{◌≡◌, ◌⊎◌, inl, inr, ⊎_elim, ℕ, ◌+◌, ◌≤◌, true, false, cond, Option, Some, is_some, Result, Ok, Err, refl, sym, ◌∙◌, ap, subst, arith}
 use Rattle.std.specs.FinMap.{len}
 use Rattle.std.specs.Option.{option_map}
 use Rattle.dbm_model.specs.Bounds.{Bounds}
@@ -11,8 +10,8 @@ use Rattle.page_model.specs.Valid.{meta_buckets}
 use Rattle.page_model.specs.Pages.{Meta, MetaPage}
 use Rattle.dbm_model.specs.Pairs.{Contents}
 use Rattle.dbm_model.specs.States.{Handle, first_fault, flagged}
-use Rattle.dbm_model.specs.Sizes.{home}
-use Rattle.dbm_model.specs.Steps.{Case, Changes, case_of, Answers, Suffers, IsShort, with_map, takes_memory, growth, buckets_opened}
+use Rattle.dbm_model.specs.Sizes.{home, most_taken}
+use Rattle.dbm_model.specs.Steps.{Case, Changes, case_of, Answers, Suffers, IsShort, takes_memory, growth, buckets_opened}
 use Rattle.page_model.specs.Meaning.{said_by}
 use Rattle.page_io.specs.Store.{Settled, Pages, file_of, page_of}
 use Rattle.page_io.specs.Store as store
@@ -20,17 +19,16 @@ use Rattle.page_io.specs.Meaning.{FileStandsFor, ImageStandsFor}
 use Rattle.page_io.specs.declared.store.PageStore.{Ghosts}
 use Rattle.page_io.specs.declared.store.PageFault.{PageFault}
 use Rattle.page_io.specs.declared.store.PageFault.TheVariants as page
-use Rattle.page_io.proofs.Exits.{more_later, both_ways}
+use Rattle.page_io.proofs.Exits.{more_later}
 use Rattle.dbm_fault.specs.Faults.{fault_of, fault_from}
 use Rattle.page_commit.specs.Committing.{Holds, IsForgotten}
 use Rattle.linear_hash.specs.Holding.{StandsForEither, IsEnded, ChangesMap}
 use Rattle.dbm_file.specs.Held.{Held, held_by}
 use Rattle.dbm_file.specs.Passing.{model_pass}
 use Rattle.dbm_file.specs.Database.{store_of, meta_kept, page_state, error_of, handle_of}
-use Rattle.dbm_file.specs.Answers.{MayBeLeft, StandsForSome, Survives, IsStep, IsCallEnded}
-use Rattle.dbm_file.specs.Trying.{with_fault, with_error_of, IsRead}
+use Rattle.dbm_file.specs.Answers.{MayBeLeft, StandsForSome, Survives, IsStep}
+use Rattle.dbm_file.specs.Trying.{with_fault, IsRead}
 use Rattle.dbm_fault.specs.declared.fault.Fault.{Fault}
-use Rattle.dbm_fault.specs.declared.fault.Fault.TheVariants.{Device, Broken}
 use Rattle.dbm_file.specs.declared.database.Database.{Database}
 use Rattle.dbm_file.proofs.ReadSteps.{kept_first, same_parts, at_own, no_more_pages, no_more_buckets, still_buckets, still_meta, still_bounds, still_writable, still_usable, still_capacity, still_end, still_holds, still_survives, flagged_is}
 use Rattle.linear_hash.proofs.Tables.{counted}
@@ -43,13 +41,13 @@ pub record IsDone {S : Type 0} (s : Ghosts S) (old new : Database S s)
   pub pass_is : new.pass ≡ old.pass
 
 -- what is forgotten leaves a store as writable as it was
-forgotten_writable : (old new : store.StoreState) (fault : PageFault) → IsForgotten old new fault
+pub forgotten_writable : (old new : store.StoreState) (fault : PageFault) → IsForgotten old new fault
     → new.writable ≡ old.writable
 forgotten_writable old new fault (inl same) = ap (λ (st : store.StoreState). st.writable) same
 forgotten_writable old new fault (inr broke) = ap (λ (st : store.StoreState). st.writable) broke.1
 
 -- and as long, with as much room
-forgotten_room : (old new : store.StoreState) (fault : PageFault) → IsForgotten old new fault
+pub forgotten_room : (old new : store.StoreState) (fault : PageFault) → IsForgotten old new fault
     → (new.capacity ≡ old.capacity) × (new.end ≡ old.end)
 forgotten_room old new fault (inl same) =
     (ap (λ (st : store.StoreState). st.capacity) same, ap (λ (st : store.StoreState). st.end) same)
@@ -59,14 +57,14 @@ forgotten_room old new fault (inr broke) = (
 )
 
 -- and over the same store
-forgotten_base : (old new : store.StoreState) (fault : PageFault) → IsForgotten old new fault
+pub forgotten_base : (old new : store.StoreState) (fault : PageFault) → IsForgotten old new fault
     → new.base ≡ old.base
 forgotten_base old new fault (inl same) = ap (λ (st : store.StoreState). st.base) same
 forgotten_base old new fault (inr broke) = ap (λ (st : store.StoreState). st.base) broke.1
 
 -- What is known when a change begins: the call asks for it, after no more than a read.
 pub record IsAsked {S : Type 0} (s : Ghosts S) (old mid : Database S s) (map changed : Contents)
-    (call : model.Call) (said : model.Reply) : Type 0 where
+    (wanted : Bounds) (call : model.Call) (said : model.Reply) : Type 0 where
   pub read : IsRead old mid
   pub usable : (page_state old).usable ≡ true
   pub honest : s.honest (store_of old)
@@ -74,11 +72,11 @@ pub record IsAsked {S : Type 0} (s : Ghosts S) (old mid : Database S s) (map cha
   pub rests : (x : Settled) → s.settles_to (store_of old) x
       → ImageStandsFor x map (meta_kept old).bounds
   pub falls : case_of (handle_of old map) call
-      ≡ Changes said (with_map (handle_of old map).state changed)
+      ≡ Changes said (record (handle_of old map).state { map = changed; bounds = wanted })
 
 module _ {S : Type 0} (s : Ghosts S) {old mid : Database S s} {map changed : Contents}
-    {call : model.Call} {said : model.Reply}
-    (asked : IsAsked s old mid map changed call said) where
+    {wanted : Bounds} {call : model.Call} {said : model.Reply}
+    (asked : IsAsked s old mid map changed wanted call said) where
   pub mid_honest : s.honest (store_of mid)
   mid_honest = asked.read.reads.stages_only.honesty.1 asked.honest
 
@@ -110,9 +108,15 @@ module _ {S : Type 0} (s : Ghosts S) {old mid : Database S s} {map changed : Con
   of_limit Says = subst (λ (bounds : Bounds). Says (home bounds)) (still_bounds s old mid asked.read)
 
   -- the pages that a store adds are those of the definitions
-  pub store_growth : said ≡ model.Stored → (meta_kept mid).pairs + 4 ≤ growth before said
-  store_growth is = subst (λ (r : model.Reply). (meta_kept mid).pairs + 4 ≤ growth before r)
-      (sym is) (omega (arith, mid_pairs))
+  pub store_growth : said ≡ model.Stored
+      → (meta_kept mid).pairs + most_taken (meta_kept mid).bounds.version ≤ growth before said
+  store_growth is = subst (λ (r : model.Reply).
+      (meta_kept mid).pairs + most_taken (meta_kept mid).bounds.version ≤ growth before r)
+      (sym is) (omega (
+        arith,
+        mid_pairs,
+        ap (λ (b : Bounds). most_taken b.version) (still_bounds s old mid asked.read),
+      ))
 
   pub no_growth : 0 ≤ growth before said
   no_growth = omega arith
@@ -124,28 +128,30 @@ module _ {S : Type 0} (s : Ghosts S) {old mid : Database S s} {map changed : Con
         (still_bounds s old mid asked.read) is
 
     abbrev held_after : Held
-    held_after = held_by (with_map before.state changed)
+    held_after = record { map = changed; bounds = wanted }
 
-    -- what a stop leaves is one of the two maps
+    -- what a stop leaves is one of the two
     survives_change : (Left : Held → Type 0) → Left (held_by before.state) → Left held_after
         → LeavesOnly s.moment s.settled_since (store_of mid) (store_of new)
-        (StandsForEither map changed (meta_kept mid).bounds) → Survives old new Left
+        (StandsForEither map (meta_kept mid).bounds changed wanted) → Survives old new Left
     survives_change Left left also change =
         followed_by s.moment s.settled_since (store_of old) (store_of mid) (store_of new)
         (StandsForSome Left)
-        (StandsForEither map changed (meta_kept mid).bounds)
+        (StandsForEither map (meta_kept mid).bounds changed wanted)
         (still_survives s old mid map asked.read asked.honest asked.rests Left left) change
         (λ x. ⊎_elim (λ is. (held_by before.state, left, stands_still x map is))
-        (λ is. (held_after, also, stands_still x changed is)))
+        (λ is. (held_after, also, is)))
 
     -- `only` is the store's law `only_committed`
-    pub changed_step : IsDone s mid new (Ok tt) → {most : ℕ} → most ≤ growth before said
+    pub changed_step : IsDone s mid new (Ok tt) → (most : ℕ) → most ≤ growth before said
+        → ((page_state new).end ≡ (page_state mid).end)
+        ⊎ ((page_state new).end ≤ home (meta_kept mid).bounds)
         → meta_buckets (meta_kept new)
         ≡ meta_buckets (meta_kept mid) + buckets_opened before said (len changed)
         → ChangesMap s (store_of mid) (store_of new) (meta_kept mid) (meta_kept new) map changed
-        most (Ok tt) → ((x : Settled) → s.settles_to (store_of new) x
+        wanted most (Ok tt) → ((x : Settled) → s.settles_to (store_of new) x
         → x ≡ file_of (s.committed (store_of new))) → IsStep old new before call said
-    changed_step ended few grown turns only =
+    changed_step ended most few fits grown turns only =
         let usable_is = ap (λ (st : store.StoreState). st.usable) ended.ends.ok
         ∙ still_usable s old mid asked.read in
         let writable_is = ap (λ (st : store.StoreState). st.writable) ended.ends.ok
@@ -159,7 +165,8 @@ module _ {S : Type 0} (s : Ghosts S) {old mid : Database S s} {map changed : Con
               omega (arith, turns.grows.0, mid_end),
               omega (arith, turns.grows.1, mid_end, few),
             );
-            bounded = inr (of_limit (λ pages. (page_state new).end ≤ pages) turns.bounded);
+            bounded = ⊎_elim (λ same. inl (same ∙ mid_end))
+                (λ within. inr (of_limit (λ pages. (page_state new).end ≤ pages) within)) fits;
             buckets = grown ∙ ap (λ (n : ℕ). n + buckets_opened before said (len changed))
                 mid_buckets;
             answers = inl (subst (λ (c : Case).
@@ -168,7 +175,7 @@ module _ {S : Type 0} (s : Ghosts S) {old mid : Database S s} {map changed : Con
                   refl,
                   same_parts changed _ _ _ _ _ _ _ _ _ _
                       (ap model_pass (ended.pass_is ∙ asked.read.pass_is))
-                      (ended.ends.bounds ∙ still_bounds s old mid asked.read)
+                      turns.bounds
                       (ap (λ (o : Option Fault). option_map fault_of o)
                       (ended.error_is ∙ asked.read.error_is)) writable_is usable_is,
                 ));
@@ -179,13 +186,13 @@ module _ {S : Type 0} (s : Ghosts S) {old mid : Database S s} {map changed : Con
               turns.done.stands);
           survives = λ usable. survives_change (MayBeLeft before (handle_of new changed) call)
               (inl refl) (inr (inl (ap (λ (b : Bounds). record { map = changed; bounds = b })
-              (sym (ended.ends.bounds ∙ still_bounds s old mid asked.read))))) turns.any_moment;
+              (sym turns.bounds)))) turns.any_moment;
         }
 
     -- `counts` is the store's law `counts_now`
-    module _ (e : PageFault) (ended : IsDone s mid new (Err e)) {most : ℕ}
+    module _ (e : PageFault) (ended : IsDone s mid new (Err e)) (most : ℕ)
         (turns : ChangesMap s (store_of mid) (store_of new) (meta_kept mid) (meta_kept new) map
-        changed most (Err e))
+        changed wanted most (Err e))
         (counts : (t : ℕ) (x : Settled) → t ≤ (s.moment (store_of new)).at
         → s.settles_to (store_of new) x → s.settled_since (store_of new) t x) where
       abbrev after : Handle
@@ -208,27 +215,25 @@ module _ {S : Type 0} (s : Ghosts S) {old mid : Database S s} {map changed : Con
       after_buckets : meta_buckets (meta_kept new) ≡ meta_buckets (meta_kept old)
       after_buckets = ap meta_buckets ended.ends.err.1 ∙ mid_buckets
 
+      still_bounds_on : (meta_kept new).bounds ≡ (meta_kept mid).bounds
+      still_bounds_on = ap (λ (m : Meta). m.bounds) ended.ends.err.1
+
       -- the store is as usable as before
       module _ (same : (page_state new).usable ≡ (page_state old).usable)
-          (takes : e ≡ page.Memory → takes_memory before call ≡ true) where
+          (takes : e ≡ page.Memory → takes_memory before call ≡ true)
+          (short : e ≡ page.NoRoom → IsShort before) where
         state_is : after.state ≡ flagged (fault_of (fault_from e)) before.state
         state_is = flagged_is s old new map (fault_from e)
             (ended.pass_is ∙ asked.read.pass_is)
-            (ended.ends.bounds ∙ still_bounds s old mid asked.read)
+            (still_bounds_on ∙ still_bounds s old mid asked.read)
             (ended.error_is ∙ asked.read.error_is)
             (forgotten_writable (page_state mid) (page_state new) e ended.ends.err.0
             ∙ still_writable s old mid asked.read) same
 
-        short : e ≡ page.NoRoom → IsShort before
-        short is =
-            let lacks = turns.no_room (ap Err is) in (
-              omega (arith, of_limit (λ pages. (page_state mid).capacity < 2 * pages) lacks.0, mid_capacity),
-              omega (arith, lacks.1, mid_capacity, mid_end, mid_pairs),
-            )
-
         suffers : (e ≡ page.Broken) ⊎ ((e ≡ page.Memory)
             ⊎ ((e ≡ page.NoRoom) ⊎ ((e ≡ page.Damaged) ⊎ (e ≡ page.Device))))
-            → Suffers before call (Changes said (with_map before.state changed)) reply after
+            → Suffers before call
+            (Changes said (record before.state { map = changed; bounds = wanted })) reply after
         suffers (inl is) = let broken = ended.ends.answer.broken (ap Err is) in let was =
             mid_usable in absurd (cc)
         suffers (inr (inl is)) = inr (inr
@@ -273,7 +278,7 @@ module _ {S : Type 0} (s : Ghosts S) {old mid : Database S s} {map changed : Con
             → ImageStandsFor x map (meta_kept new).bounds
         rests_on is x left =
             let run = turns.unchanged is in
-            subst (λ (n : Bounds). ImageStandsFor x map n) (sym ended.ends.bounds)
+            subst (λ (n : Bounds). ImageStandsFor x map n) (sym still_bounds_on)
             (run.each x (counts (s.moment (store_of mid)).at x run.later left))
 
         unchanged_step : IsStep old (with_fault new (fault_from e)) before call reply
@@ -320,7 +325,7 @@ module _ {S : Type 0} (s : Ghosts S) {old mid : Database S s} {map changed : Con
                 inl refl,
                 same_parts map _ _ _ _ _ _ _ _ _ _
                     (ap model_pass (ended.pass_is ∙ asked.read.pass_is))
-                    (ended.ends.bounds ∙ still_bounds s old mid asked.read)
+                    (still_bounds_on ∙ still_bounds s old mid asked.read)
                     (error_is ∙ ap (λ (f : PageFault).
                     first_fault (error_of old) (fault_of (fault_from f))) is)
                     (forgotten_writable (page_state mid) (page_state new) e ended.ends.err.0
@@ -330,106 +335,23 @@ module _ {S : Type 0} (s : Ghosts S) {old mid : Database S s} {map changed : Con
         is_at = at_own (with_fault new (fault_from e)) map (λ now. absurd (let x = now in cc))
             (λ now. absurd (let x = now in cc));
         survives = λ was. survives_change (MayBeLeft before after call) (inl refl)
-            (inr (inr (broken, (said, with_map before.state changed, asked.falls, refl))))
+            (inr (inr (
+              broken,
+              (
+                said,
+                record before.state { map = changed; bounds = wanted },
+                asked.falls,
+                refl,
+              ),
+            )))
             turns.any_moment;
       }
 
       pub refused_step : (e ≡ page.Memory → takes_memory before call ≡ true)
+          → (e ≡ page.NoRoom → IsShort before)
           → IsStep old (with_fault new (fault_from e)) before call reply
-      refused_step takes = ⊎_elim (λ same.
+      refused_step takes short = ⊎_elim (λ same.
           unchanged_step (ap (λ (st : store.StoreState). st.usable) same
-          ∙ still_usable s old mid asked.read) takes)
+          ∙ still_usable s old mid asked.read) takes short)
           (λ broke. broken_step broke.0 (ap (λ (st : store.StoreState). st.usable) broke.1))
           ended.ends.err.0
-
--- a fault of the device is told as one, and so on
-pub told_device : (e : PageFault) → fault_from e ≡ Device → e ≡ page.Device
-told_device page.Memory is = absurd (let x = is in cc)
-told_device page.Device is = refl
-told_device page.Broken is = absurd (let x = is in cc)
-told_device page.ReadOnly is = absurd (let x = is in cc)
-told_device page.NoRoom is = absurd (let x = is in cc)
-told_device page.Damaged is = absurd (let x = is in cc)
-
-pub told_broken : (e : PageFault) → fault_from e ≡ Broken → e ≡ page.Broken
-told_broken page.Memory is = absurd (let x = is in cc)
-told_broken page.Device is = absurd (let x = is in cc)
-told_broken page.Broken is = refl
-told_broken page.ReadOnly is = absurd (let x = is in cc)
-told_broken page.NoRoom is = absurd (let x = is in cc)
-told_broken page.Damaged is = absurd (let x = is in cc)
-
--- what a refused change leaves on any device
-module _ {S : Type 0} (s : Ghosts S) (old mid new : Database S s) (read : IsRead old mid)
-    (usable : (page_state old).usable ≡ true) (e : PageFault)
-    (ended : IsDone s mid new (Err e)) where
-  sound : e ≡ page.Broken → ⊥
-  sound is = let broken = ended.ends.answer.broken (ap Err is) in let was =
-      still_usable s old mid read ∙ usable in absurd (cc)
-
-  -- the store is as before, but for what was forgotten
-  record IsAsBefore : Type 0 where
-    capacity : (page_state new).capacity ≡ (page_state old).capacity
-    end : (page_state new).end ≡ (page_state old).end
-    breaks : ((page_state new).usable ≡ (page_state old).usable)
-        ⊎ ((e ≡ page.Device) × ((page_state new).usable ≡ false))
-
-  as_before : IsForgotten (page_state mid) (page_state new) e → IsAsBefore
-  as_before forgotten =
-      let room = forgotten_room (page_state mid) (page_state new) e forgotten in
-      record {
-        capacity = room.0 ∙ still_capacity s old mid read;
-        end = room.1 ∙ still_end s old mid read;
-        breaks = ⊎_elim
-            (λ same. inl (ap (λ (st : store.StoreState). st.usable) same
-            ∙ still_usable s old mid read))
-            (λ broke. inr (broke.0, ap (λ (st : store.StoreState). st.usable) broke.1))
-            forgotten;
-      }
-
-  refused_keeps : (T : Type 0) → IsCallEnded {T = T} old (with_fault new (fault_from e))
-      (Err (fault_from e))
-  refused_keeps T =
-      let was = as_before ended.ends.err.0 in
-      record {
-        goes = record {
-          honesty = both_ways ended.ends.honesty read.reads.stages_only.honesty;
-          later = omega (arith, read.reads.stages_only.later, ended.ends.cause.later);
-          bounds = ended.ends.bounds ∙ still_bounds s old mid read;
-          capacity = was.capacity;
-          writable = forgotten_writable (page_state mid) (page_state new) e ended.ends.err.0
-              ∙ still_writable s old mid read;
-          base = forgotten_base (page_state mid) (page_state new) e ended.ends.err.0
-              ∙ ap (λ (st : store.StoreState). st.base) read.reads.same;
-          still = λ broken. absurd (let x = broken in cc);
-        };
-        fault = λ is. more_later _ _ _ read.reads.stages_only.later
-            (ended.ends.cause.fault (ap Err (told_device e (let x = is in cc))));
-        no_error = tt;
-        error = ap (λ (o : Option Fault).
-            option_map fault_of (cond (is_some o) o (Some (fault_from e))))
-            (ended.error_is ∙ read.error_is) ∙ kept_first old.error (fault_from e);
-        refused = (
-          ended.ends.err.1 ∙ still_meta s old mid read,
-          was.end,
-          ap model_pass (ended.pass_is ∙ read.pass_is),
-        );
-        kept = λ honest usable_now.
-            ended.ends.kept (read.reads.stages_only.honesty.1 honest) usable_now
-            ∙ (read.reads.stages_only.kept honest).committed;
-        breaks = ⊎_elim (λ same. inl same)
-            (λ broke. inr (ap Err (ap fault_from broke.0), broke.1)) was.breaks;
-        broken = (
-          λ is. absurd (sound (told_broken e (let x = is in cc))),
-          λ broken.
-              absurd (let x = broken in cc),
-        );
-      }
-
-  -- as a `?` answers it
-  pub told_keeps : {T : Type 0} (r : Result T Fault) → IsErrAnd r (λ fault. fault ≡ fault_from e)
-      → IsCallEnded old (with_error_of new r) r
-  told_keeps {T} (Ok value) is = absurd is
-  told_keeps {T} (Err fault) is =
-      subst (λ (f : Fault). IsCallEnded {T = T} old (with_fault new f) (Err f)) (sym is)
-      (refused_keeps T)

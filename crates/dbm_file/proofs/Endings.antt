@@ -1,8 +1,10 @@
 -- What holds at each exit of a store and of a delete, on any device.
-use Rattle.std.proofs.Common.{◌≡◌, inl, inr, ℕ, ◌+◌, ◌*◌, ◌<◌, ◌≤◌, List, [], length, Bool, true, false, cond, Option, Some, is_some, Result, Ok, Err, refl, sym, ◌∙◌, ap, subst, arith}
+use Rattle.std.proofs.Common.{◌≡◌, inl, inr, ℕ, ◌+◌, ◌*◌, List, [], Bool, true, false, cond, Option, Some, is_some, Result, Ok, Err, refl, sym, ◌∙◌, ap, subst, arith}
 use Rattle.std.specs.Prelude.{◌↔◌, IsErrAnd, IsErrOf}
 use Rattle.std.specs.Option.{option_map}
 use Rattle.std.proofs.lemmas.Bool.{le-ltb}
+use Rattle.dbm_model.specs.Bounds.{Bounds, V2}
+use Rattle.dbm_model.specs.Pairs.{is_allowed}
 use Rattle.page_model.specs.Address.{grown}
 use Rattle.page_model.specs.Pages.{Meta}
 use Rattle.page_model.specs.Valid.{IsMeta, meta_buckets}
@@ -19,8 +21,8 @@ use Rattle.dbm_fault.specs.declared.fault.Fault.TheVariants.{Memory, Broken, Rea
 use Rattle.linear_hash.specs.Tables.{shape_in, shape_for}
 use Rattle.chain_walks.specs.Answers.{IsWalkAnswer}
 use Rattle.chain_walks.specs.Walks.{EndsWithout}
-use Rattle.dbm_file.specs.Answers.{IsCallEnded}
-use Rattle.dbm_file.specs.Changing.{WasDeleted, WasStored, HasFullBuckets}
+use Rattle.dbm_file.specs.Answers.{IsCallEnded, IsCallEndedWith}
+use Rattle.dbm_file.specs.Changing.{WasDeleted, WasStored, MayNeedMemory}
 use Rattle.dbm_file.specs.Database.{store_of, meta_kept, page_state}
 use Rattle.dbm_file.specs.Replies.{store_faults, delete_faults}
 use Rattle.dbm_file.specs.Searches.{Searched, EndsWith}
@@ -32,10 +34,11 @@ use Rattle.dbm_file.specs.declared.calls.StoreReply.TheVariants as stored
 use Rattle.dbm_file.specs.declared.calls.DeleteReply.{DeleteReply}
 use Rattle.dbm_file.specs.declared.calls.DeleteReply.TheVariants as deleted
 use Rattle.dbm_file.specs.declared.database.Database.{Database}
-use Rattle.dbm_file.proofs.ChangeSteps.{IsDone, told_device, told_broken}
+use Rattle.dbm_file.proofs.ChangeSteps.{IsDone}
+use Rattle.dbm_file.proofs.RefusedChanges.{told_device, told_broken}
 use Rattle.dbm_file.proofs.Lends.{kept_error}
 use Rattle.dbm_file.proofs.Refused.{IsOfChange, told_other, told_by, told_is, told_memory, told_no_value, among_store, among_delete, not_read_only, never_too_long}
-use Rattle.dbm_file.proofs.ReadSteps.{broken_keeps, read_keeps, refused_keeps, still_meta, still_bounds, still_writable, still_usable}
+use Rattle.dbm_file.proofs.ReadSteps.{broken_keeps, read_keeps, refused_keeps, still_meta, still_writable, still_usable}
 
 -- neither of two things holds, or both do
 neither : {A B : Type 0} → (A → ⊥) → (B → ⊥) → A ↔ B
@@ -81,6 +84,7 @@ module _ {S : Type 0} {s : Ghosts S} where
         absent = λ is. absurd (let x = is in cc);
         counted = λ is. absurd (let x = is in cc);
         deleted = λ is. absurd (let x = is in cc);
+        memory = λ is. absurd (let x = is in cc);
         keeps = broken_keeps DeleteReply s old broken;
         only = inl refl;
       }
@@ -110,6 +114,7 @@ module _ {S : Type 0} {s : Ghosts S} where
         absent = λ is. absurd (let x = is in cc);
         counted = λ is. absurd (let x = is in cc);
         deleted = λ is. absurd (let x = is in cc);
+        memory = λ is. absurd (let x = is in cc);
         keeps = refused_keeps s old old still usable DeleteReply ReadOnly
             (λ is. absurd (let x = is in cc)) (λ is. absurd (let x = is in cc));
         only = inr (inl refl);
@@ -122,7 +127,7 @@ module _ {S : Type 0} {s : Ghosts S} where
 
       -- a pair that is too long
       pub long_store : (content : List ℕ) (mode : StoreMode) → IsRead old old
-          → 2026 < length key + length content
+          → is_allowed (meta_kept old).bounds.version (key, content) ≡ false
           → IsStoreEnd old old (with_fault old TooLong) key content mode (Err TooLong)
       long_store content mode still long = record {
         shape = stays (meta_kept old) old.valid;
@@ -139,15 +144,15 @@ module _ {S : Type 0} {s : Ghosts S} where
       module _ (new : Database S s) where
         -- a store of an allowed pair
         module _ (content : List ℕ) (mode : StoreMode)
-            (short : length key + length content ≤ 2026) where
+            (short : is_allowed (meta_kept old).bounds.version (key, content) ≡ true) where
           not_long : ((page_state old).usable ≡ true) × ((page_state old).writable ≡ true)
-              × (2026 < length key + length content) → ⊥
-          not_long all = absurd (omega (arith, short, all.2))
+              × (is_allowed (meta_kept old).bounds.version (key, content) ≡ false) → ⊥
+          not_long all = absurd (let x = sym short ∙ all.2 in cc)
 
           -- refused by the pages below, as a `?` answers it
           pub told_store : (r : Result StoreReply Fault) (e : PageFault)
               → IsErrAnd r (λ fault. fault ≡ fault_from e) → IsOfChange e
-              → (e ≡ page.Memory → HasFullBuckets (meta_kept old))
+              → (e ≡ page.Memory → MayNeedMemory (meta_kept old) (key, content) mode)
               → meta_kept new ≡ meta_kept old
               → IsCallEnded old (with_error_of new r) r
               → IsStoreEnd old new (with_error_of new r) key content mode r
@@ -209,19 +214,21 @@ module _ {S : Type 0} {s : Ghosts S} where
 
         -- a delete that the pages below refuse
         pub told_delete : (r : Result DeleteReply Fault) (e : PageFault)
-            → IsErrAnd r (λ fault. fault ≡ fault_from e) → IsOfChange e → (e ≡ page.Memory → ⊥)
+            → IsErrAnd r (λ fault. fault ≡ fault_from e) → IsOfChange e
+            → (e ≡ page.Memory → (meta_kept old).bounds.version ≡ V2)
             → meta_kept new ≡ meta_kept old
             → IsCallEnded old (with_error_of new r) r
             → IsDeleteEnd old new (with_error_of new r) key r
-        told_delete r e told one no_memory meta keeps = record {
+        told_delete r e told one second meta keeps = record {
           shape = ap shape_in meta;
           read_only = neither (told_other r e ReadOnly told (not_read_only e one)) may_write;
           absent = λ is. absurd (told_no_value r e deleted.Absent told is);
           counted = λ is. absurd (told_no_value r e deleted.Deleted told is);
           deleted = λ is. absurd (told_no_value r e deleted.Deleted told is);
+          memory = λ is. second (told_memory e (told_is r e Memory told is));
           keeps = keeps;
           only = told_by (λ fault. IsAmong fault delete_faults) r e told
-              (among_delete e one no_memory);
+              (among_delete e one);
         }
 
         -- the key isn't there
@@ -233,6 +240,7 @@ module _ {S : Type 0} {s : Ghosts S} where
           absent = λ _. searched;
           counted = λ is. absurd (let x = is in cc);
           deleted = λ is. absurd (let x = is in cc);
+          memory = λ is. absurd (let x = is in cc);
           keeps = read_keeps s old new read usable deleted.Absent;
           only = tt;
         }
@@ -246,9 +254,10 @@ module _ {S : Type 0} {s : Ghosts S} where
           absent = λ is. absurd (let x = is in cc);
           counted = λ is. absurd (let x = is in cc);
           deleted = λ is. absurd (let x = is in cc);
+          memory = λ is. absurd (let x = is in cc);
           keeps = refused_keeps s old new read usable DeleteReply Damaged
               (λ is. absurd (let x = is in cc)) (λ is. absurd (let x = is in cc));
-          only = inr (inr (inr (inr refl)));
+          only = inr (inr (inr (inr (inr refl))));
         }
 
         -- the key is gone
@@ -262,6 +271,7 @@ module _ {S : Type 0} {s : Ghosts S} where
           absent = λ is. absurd (let x = is in cc);
           counted = λ _. counted;
           deleted = λ _. gone;
+          memory = λ is. absurd (let x = is in cc);
           keeps = keeps;
           only = tt;
         }
@@ -345,18 +355,20 @@ module _ {S : Type 0} {s : Ghosts S} where
           absent = end.absent;
           counted = end.counted;
           deleted = λ is. absurd (let x = is in cc);
+          memory = end.memory;
           keeps = flagged_keeps end.keeps;
           only = end.only;
         }
 
   -- what a change that was done leaves
-  pub done_keeps : {T : Type 0} (old mid new : Database S s) (value : T) → IsRead old mid
-      → (page_state old).usable ≡ true → IsDone s mid new (Ok tt) → IsCallEnded old new (Ok value)
-  done_keeps old mid new value read usable done = record {
+  pub done_keeps : {T : Type 0} (old mid new : Database S s) (wanted : Bounds) (value : T)
+      → IsRead old mid → (page_state old).usable ≡ true → IsDone s mid new (Ok tt)
+      → (meta_kept new).bounds ≡ wanted → IsCallEndedWith wanted old new (Ok value)
+  done_keeps old mid new wanted value read usable done bounds = record {
     goes = record {
       honesty = both_ways done.ends.honesty read.reads.stages_only.honesty;
       later = omega (arith, read.reads.stages_only.later, done.ends.cause.later);
-      bounds = done.ends.bounds ∙ still_bounds s old mid read;
+      bounds = bounds;
       capacity = ap (λ (st : StoreState). st.capacity) done.ends.ok
           ∙ ap (λ (st : StoreState). st.capacity) read.reads.same;
       writable = ap (λ (st : StoreState). st.writable) done.ends.ok ∙ still_writable s old mid read;

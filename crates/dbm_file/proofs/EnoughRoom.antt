@@ -4,7 +4,7 @@ use Rattle.std.specs.Prelude.{nat_lt}
 use Rattle.std.specs.Option.{option_or}
 use Rattle.std.proofs.lemmas.Bool.{ltb-false}
 use Rattle.std.proofs.lemmas.Bool.Decides.{nat_tests}
-use Rattle.dbm_model.specs.Bounds.{Bounds, in_v1}
+use Rattle.dbm_model.specs.Bounds.{Version, V1, V2, Bounds}
 use Rattle.sect_dev.specs.Device.{Image, Candidates}
 use Rattle.dbm_model.specs.Pairs.{Contents}
 use Rattle.dbm_model.specs.Room as model
@@ -15,7 +15,6 @@ use Rattle.page_model.specs.PageBodies.{meta_of}
 use Rattle.page_model.specs.Placement.{fresh_placement}
 use Rattle.page_model.specs.Reading.{body_of}
 use Rattle.page_model.specs.Valid.{IsMeta}
-use Rattle.page_model.proofs.Bounds.{home_of_first}
 use Rattle.page_io.specs.Store.{Pages, Settled, StoreState, blank, file_of, nothing, page_of}
 use Rattle.page_io.specs.Meaning.{FileStandsFor, ImageStandsFor}
 use Rattle.page_io.specs.declared.store.PageStore as store
@@ -73,6 +72,14 @@ not_emptying bounds sectors end pages few some enough =
     by_room None other is = let both : None ≡ Some NoRoom = sym fits ∙ is in absurd (cc)
     by_room (Some f) other is = other is
 
+-- a database of one pair has five pages
+five_pages : (bounds : Bounds) → 1 ≤ bounds.limit → 5 ≤ home bounds
+five_pages bounds some = by_version bounds.version
+  where
+    by_version : (v : Version) → 5 ≤ home (record { limit = bounds.limit; version = v })
+    by_version V1 = omega (arith, some)
+    by_version V2 = omega (arith, some)
+
 -- a file that stands for a map with such bounds
 not_found : (how : OpenHow) (sectors : ℕ) (pages : Pages) (map : Contents) (bounds : Bounds)
     → FileStandsFor pages map bounds → 2 * home bounds ≤ sectors / 4
@@ -83,12 +90,7 @@ not_found how sectors pages map bounds stands enough (inr (may, inr (good, asked
     let bounded = ap home stands.bounded in
     not_emptying (bounds_of how) sectors (length pages + 1) (home bounds)
     (omega (arith, stands.good.bounded, stands.ends, bounded))
-    (omega (
-      arith,
-      stands.good.limited.0,
-      home_of_first stands.placement.bounds stands.good.first,
-      bounded,
-    )) enough due
+    (omega (arith, five_pages stands.placement.bounds stands.good.limited.0, bounded)) enough due
 
 not_nothing : (how : OpenHow) (magic : Bool)
     → NoRoom ≡ cond (is_exclusive how) Exists (cond magic Damaged NotADatabase) → ⊥
@@ -202,12 +204,16 @@ pub room_at : {S : Type 0} {s : store.Ghosts S} (db : Database S s) (h : Handle)
 room_at db h has at = subst model.HasRoom (sym at.shows) has.room
 
 -- the largest limit needs the most pages
-largest : (limit : ℕ) → limit ≤ 1000000 → home (in_v1 limit) ≤ 1125249
-largest limit most = omega (arith, most)
+largest : (bounds : Bounds) → bounds.limit ≤ 1000000 → home bounds ≤ 34125249
+largest bounds most = by_version bounds.version
+  where
+    by_version : (v : Version) → home (record { limit = bounds.limit; version = v }) ≤ 34125249
+    by_version V1 = omega (arith, most)
+    by_version V2 = omega (arith, most)
 
 -- a file has room for all of them
 pub file_has_room : {S : Type 0} {s : store.Ghosts S} (db : Database S s) → IsMeta (meta_kept db)
-    → (page_state db).capacity ≡ 2250498 → HasRoom db
+    → (page_state db).capacity ≡ 68250498 → HasRoom db
 file_has_room db valid capacity = record {
-  room = omega (arith, largest (meta_kept db).bounds.limit valid.limited.1, capacity);
+  room = omega (arith, largest (meta_kept db).bounds valid.limited.1, capacity);
 }

@@ -1,79 +1,33 @@
 -- A fetch, as a step.
-use Rattle.std.proofs.Common.{◌≡◌, ◌⊎◌, inl, inr, IfErr, IfSome, ℕ, ◌<◌, ◌≤◌, zero, suc, List, [], ◌∷◌, length, true, cond, is_some, Option, Some, None, Ok, Err, IsErrOf, slice_index_or, refl, sym, ◌∙◌, ap, subst, arith}
+use Rattle.std.proofs.Common.{◌≡◌, ◌⊎◌, inl, inr, IfErr, ℕ, List, [], true, cond, is_some, Option, Some, None, Ok, Err, IsErrOf, refl, sym, ◌∙◌, ap, subst}
 use Rattle.std.specs.Borrow.{Bor}
-use Rattle.std.specs.List.{HoldsAt}
 use Rattle.std.specs.Option.{option_map}
 use Rattle.std.specs.FinMap.{get, len}
 use Rattle.dbm_model.specs.Calls as model
-use Rattle.dbm_model.specs.Pairs.{Key, Pair, Contents}
-use Rattle.page_model.specs.Slots.{taken}
-use Rattle.dbm_model.specs.Steps.{Case, Finds, Suffers, buckets_opened, fetched}
+use Rattle.dbm_model.specs.Pairs.{Key, Contents}
+use Rattle.dbm_model.specs.Steps.{Case, Finds, Suffers, buckets_opened, fetched, holds_far}
 use Rattle.dbm_model.specs.States.{Handle}
 use Rattle.page_model.specs.Valid.{IsMeta}
 use Rattle.page_io.specs.Answers.{HasDeviceCause}
 use Rattle.page_io.specs.declared.store.PageStore.{Ghosts}
 use Rattle.page_io.specs.declared.store.PageFault.{PageFault}
 use Rattle.page_io.specs.declared.store.PageFault.TheVariants as page
-use Rattle.chain_walks.specs.Answers.{IsWalkAnswer}
-use Rattle.chain_walks.specs.declared.place.Place.{Place}
-use Rattle.slot_page.specs.Contents.{page_pairs}
+use Rattle.chain_walks.specs.Answers.{IsLoadAnswer}
 use Rattle.dbm_file.specs.Calls.{Lent, lent_reply}
 use Rattle.dbm_fault.specs.Faults.{fault_from}
 use Rattle.page_commit.specs.Committing.{Holds}
-use Rattle.linear_hash.specs.Looking.{IsHeld, IsFound}
 use Rattle.dbm_file.specs.Lending.{Lends}
 use Rattle.dbm_file.specs.Passing.{model_pass}
 use Rattle.dbm_file.specs.Database.{store_of, meta_kept, page_state, handle_of}
 use Rattle.dbm_file.specs.Trying.{with_fault, IsRead}
 use Rattle.dbm_fault.specs.declared.fault.Fault.{Fault}
-use Rattle.dbm_fault.specs.declared.fault.Fault.TheVariants.{Device, Broken, Damaged}
+use Rattle.dbm_fault.specs.declared.fault.Fault.TheVariants.{Memory, Device, Broken, Damaged}
 use Rattle.dbm_file.specs.declared.database.Database.{Database}
-use Rattle.dbm_file.proofs.Cases.{fetch_rule, fetch_fails}
+use Rattle.dbm_file.specs.declared.database.Found.{Found}
+use Rattle.dbm_file.proofs.Cases.{fetch_rule, fetch_fails, fetch_lacks}
+use Rattle.dbm_file.proofs.Refused.{told_memory}
 use Rattle.dbm_file.proofs.Lends.{kept_error, flagged_lends}
-use Rattle.dbm_file.proofs.ReadSteps.{from_own, found_step, walk_failed_step, walk_more, walk_sound, read_keeps, refused_keeps}
-
-small_at : (pairs : List Pair) (i : ℕ) (d : Pair) → i < length pairs → taken pairs ≤ 2032
-    → length (slice_index_or pairs i d).1 ≤ 2026
-small_at [] i d lt fits = absurd (omega (arith, lt))
-small_at (pair ∷ pairs) zero d lt fits = omega (arith, fits)
-small_at (pair ∷ pairs) (suc i) d lt fits =
-    small_at pairs i d (omega (arith, lt)) (omega (arith, fits))
-
--- a content that was found in a page is short
-pub short_content : (key content found : List ℕ) (bytes : List ℕ) (place : Option Place)
-    (at : Place) → place ≡ Some at → IfSome place (λ p. IsHeld key bytes p.slot)
-    → HoldsAt (λ pair. pair ≡ (found, content)) (page_pairs bytes) at.slot
-    → length content ≤ 2026
-short_content key content found bytes place at is held read =
-    let here = subst (λ (o : Option Place). IfSome o (λ p. IsHeld key bytes p.slot)) is held in
-    omega (
-      arith,
-      small_at (page_pairs bytes) at.slot (found, content) here.has.0
-          here.page.sound.fits,
-      ap (λ (pair : Pair). length pair.1) (read (found, content)),
-    )
-
--- it is that of the key
-pub same_content : (key : Key) (old : Option (List ℕ)) (bytes : List ℕ) (place : Option Place)
-    (at : Place) (pair : Bor (List ℕ) × Bor (List ℕ)) → place ≡ Some at
-    → IsFound key old bytes place
-    → HoldsAt (λ p. p ≡ (pair.0.now, pair.1.now)) (page_pairs bytes) at.slot
-    → option_map (λ (b : Bor (List ℕ)). b.now) (Some pair.1) ≡ old
-same_content key None bytes place at pair some is read = absurd (let e = sym some ∙ is in cc)
-same_content key (Some content) bytes None at pair some is read = absurd is
-same_content key (Some content) bytes (Some found) at pair some is read =
-    let same : at ≡ found = let e = some in cc in
-    ap Some (ap (λ (p : Pair). p.1)
-    (sym (read (key, content)) ∙ ap
-    (λ (p : Place). slice_index_or (page_pairs bytes) p.slot (key, content)) same
-    ∙ is (key, content)))
-
--- and where no place was found, it has none
-pub no_content : (key : Key) (old : Option (List ℕ)) (bytes : List ℕ) (place : Option Place)
-    → place ≡ None → IsFound key old bytes place → None ≡ old
-no_content key None bytes place none is = refl
-no_content key (Some content) bytes None none is = absurd is
-no_content key (Some content) bytes (Some found) none is = absurd (let e = none in cc)
+use Rattle.dbm_file.proofs.ReadSteps.{from_own, found_step, load_failed_step, load_more, load_sound, read_keeps, refused_keeps}
 
 finds : (found : Option (Bor (List ℕ)))
     → fetched (option_map (λ s. s.now) found) ≡ Finds (lent_reply model.NoRecord (Ok found))
@@ -116,36 +70,43 @@ module _ {S : Type 0} (s : Ghosts S) (db : Database S s) (key : Key)
     (is : r ≡ Err fault) (old : Database S s) (e : PageFault) (read : IsRead old db)
     (told_so : fault ≡ fault_from e)
     (usable : (page_state old).usable ≡ true)
-    (answer : IsWalkAnswer {T = Option Place} (page_state old) (Err e))
-    (cause : HasDeviceCause {T = Option Place} (s.faults (store_of old))
+    (answer : IsLoadAnswer {T = Option Found} (page_state old) (Err e))
+    (cause : HasDeviceCause {T = Option Found} (s.faults (store_of old))
     (s.faults (store_of db)) (Err e)) where
   pub fetch_failed : (s.honest (store_of old) → (map : Contents)
       → Holds s (store_of old) (meta_kept old) map
-      → IsErrOf {T = Option Place} (Err e) page.Damaged → ⊥)
+      → IsErrOf {T = Option Found} (Err e) page.Damaged → ⊥)
+      → (s.honest (store_of old) → (map : Contents)
+      → Holds s (store_of old) (meta_kept old) map
+      → IsErrOf {T = Option Found} (Err e) page.Memory → holds_far key (get map key) ≡ true)
       → IsFetched old key r (kept_error s db idle access valid error)
-  fetch_failed whole = flagged_lends s db (model.Fetch key) model.NoRecord idle access valid error
+  fetch_failed whole sparing = flagged_lends s db (model.Fetch key) model.NoRecord idle access valid error
       fault flag r is old
       (subst (λ (f : Fault). IsFetched old key (Err f) (with_fault db f)) (sym told_so) record {
         step = λ honest h at.
             let map = h.state.map in
             let falls = fetch_rule (handle_of old map) key (get map key) usable refl in
-            from_own at (walk_failed_step s old db map (model.Fetch key) read honest
-            (at.map usable) (at.rests usable) (Option Place) e usable
-            answer cause (whole honest map (at.map usable))
+            from_own at (load_failed_step s old db map (model.Fetch key) read honest
+            (at.map usable) (at.rests usable) (Option Found) e usable
+            answer cause (whole honest map (at.map usable)) (sparing honest map (at.map usable))
             (λ reply after fails. subst (λ (rule : Case).
             Suffers (handle_of old map) (model.Fetch key) rule reply after) (sym falls)
-            (fetch_fails (handle_of old map) (model.Fetch key) reply after fails (get map key))));
+            (fetch_fails (handle_of old map) (model.Fetch key) reply after fails (get map key)))
+            (λ reply after lacks. subst (λ (rule : Case).
+            Suffers (handle_of old map) (model.Fetch key) rule reply after) (sym falls)
+            (fetch_lacks (handle_of old map) (model.Fetch key) reply after lacks (get map key))));
         keeps = refused_keeps s old db read usable (Option (Bor (List ℕ))) (fault_from e)
-            (walk_more s old db e answer cause) (walk_sound s old e usable answer);
+            (load_more s old db e answer cause) (load_sound s old e usable answer);
         stands = tt;
       })
 
 -- what a refused fetch answers
 pub only_these : (r : Lent) (fault : Fault) → r ≡ Err fault
-    → (fault ≡ Broken) ⊎ ((fault ≡ Device) ⊎ (fault ≡ Damaged))
-    → IfErr r (λ e. (e ≡ Broken) ⊎ ((e ≡ Device) ⊎ (e ≡ Damaged)))
+    → (fault ≡ Broken) ⊎ ((fault ≡ Memory) ⊎ ((fault ≡ Device) ⊎ (fault ≡ Damaged)))
+    → IfErr r (λ e. (e ≡ Broken) ⊎ ((e ≡ Memory) ⊎ ((e ≡ Device) ⊎ (e ≡ Damaged))))
 only_these r fault is one = subst
-    (λ (x : Lent). IfErr x (λ e. (e ≡ Broken) ⊎ ((e ≡ Device) ⊎ (e ≡ Damaged)))) (sym is) one
+    (λ (x : Lent). IfErr x (λ e.
+    (e ≡ Broken) ⊎ ((e ≡ Memory) ⊎ ((e ≡ Device) ⊎ (e ≡ Damaged))))) (sym is) one
 
 -- a fetch told as damaged met a damaged page
 pub met_damage : (r : Lent) (e : PageFault) (fault : Fault) → r ≡ Err fault → fault ≡ fault_from e
@@ -162,9 +123,16 @@ met_damage r e fault is told_so damaged =
     of_page page.NoRoom same = cc
     of_page page.Damaged same = refl
 
-pub walk_faults : (e : PageFault) (fault : Fault) → fault ≡ fault_from e
-    → (e ≡ page.Broken) ⊎ ((e ≡ page.Damaged) ⊎ (e ≡ page.Device))
-    → (fault ≡ Broken) ⊎ ((fault ≡ Device) ⊎ (fault ≡ Damaged))
-walk_faults e fault told_so (inl is) = inl (told_so ∙ ap fault_from is)
-walk_faults e fault told_so (inr (inl is)) = inr (inr (told_so ∙ ap fault_from is))
-walk_faults e fault told_so (inr (inr is)) = inr (inl (told_so ∙ ap fault_from is))
+pub load_faults : (e : PageFault) (fault : Fault) → fault ≡ fault_from e
+    → (e ≡ page.Memory) ⊎ ((e ≡ page.Broken) ⊎ ((e ≡ page.Damaged) ⊎ (e ≡ page.Device)))
+    → (fault ≡ Broken) ⊎ ((fault ≡ Memory) ⊎ ((fault ≡ Device) ⊎ (fault ≡ Damaged)))
+load_faults e fault told_so (inl is) = inr (inl (told_so ∙ ap fault_from is))
+load_faults e fault told_so (inr (inl is)) = inl (told_so ∙ ap fault_from is)
+load_faults e fault told_so (inr (inr (inl is))) = inr (inr (inr (told_so ∙ ap fault_from is)))
+load_faults e fault told_so (inr (inr (inr is))) = inr (inr (inl (told_so ∙ ap fault_from is)))
+
+-- and one told as want of memory lacked it
+pub met_want : (r : Lent) (e : PageFault) (fault : Fault) → r ≡ Err fault → fault ≡ fault_from e
+    → IsErrOf r Memory → e ≡ page.Memory
+met_want r e fault is told_so lacks =
+    let told : fault_from e ≡ Memory = cc in told_memory e told

@@ -31,7 +31,7 @@ pub contents_are : (pages : Pages) (map : Contents) (bounds : Bounds)
     (stands : FileStandsFor pages map bounds) → contents stands.placement ≡ map
 contents_are pages map bounds stands =
     let at = said_by (page_of pages) in
-    sym (flat_is_contents stands.placement at stands.good.sound stands.spelled)
+    sym (flat_is_contents stands.placement at stands.good stands.spelled)
     ∙ ap (λ (end : ℕ). contents_of (flat_pairs at end)) stands.ends ∙ stands.holds
 
 -- it has as many keys as the placement has pairs

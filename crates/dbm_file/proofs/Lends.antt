@@ -111,7 +111,7 @@ module _ {S : Type 0} (s : Ghosts S) (db : Database S s) (call : model.Call) (no
       })
 
 -- nothing is lent
-pub lends_nothing : (r : Lent) (fault : Fault) → r ≡ Err fault
-    → IfOk r (λ found. IfSome found (λ bytes. length bytes.now ≤ 2026))
-lends_nothing r fault is = subst
-    (λ (x : Lent). IfOk x (λ found. IfSome found (λ bytes. length bytes.now ≤ 2026))) (sym is) tt
+pub lends_nothing : (most : ℕ) (r : Lent) (fault : Fault) → r ≡ Err fault
+    → IfOk r (λ found. IfSome found (λ bytes. length bytes.now ≤ most))
+lends_nothing most r fault is = subst
+    (λ (x : Lent). IfOk x (λ found. IfSome found (λ bytes. length bytes.now ≤ most))) (sym is) tt

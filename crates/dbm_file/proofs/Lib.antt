@@ -1,9 +1,11 @@
 pub mod Answered
+pub mod AskedChanges
 pub mod Breaks
 pub mod BucketSteps
 pub mod Cases
 pub mod ChangeSteps
 pub mod Closings
+pub mod ContentSteps
 pub mod Done
 pub mod Endings
 pub mod EnoughRoom
@@ -18,7 +20,10 @@ pub mod PassSteps
 pub mod ReadSteps
 pub mod ReadThrough
 pub mod Refused
+pub mod RefusedChanges
+pub mod RoomCounts
 pub mod Runs
 pub mod Searches
 pub mod Settled
 pub mod StoreSteps
+pub mod UpgradeSteps

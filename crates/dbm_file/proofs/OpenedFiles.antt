@@ -147,7 +147,7 @@ early_or T (Some e) fault first left told then = inl (ap Some (sym (ap (fault_in
 
 -- a file of that size whose opening is refused
 pub refuses_file : (T : Type 0) {D : Type 0} (bound : device.Ghosts D) (how : OpenHow)
-    (first left : D) (fault : Fault) → (bound.moment first).at ≡ 0 → bound.sectors first ≡ 9001992
+    (first left : D) (fault : Fault) → (bound.moment first).at ≡ 0 → bound.sectors first ≡ 273001992
     → IfSome (early_fault how (bound.sectors first))
     (λ told. ◌≡◌ {A = Result T (D × Fault)} (Err (left, fault)) (Err (first, told)))
     → (bound.honest first → early_fault how (bound.sectors first) ≡ None

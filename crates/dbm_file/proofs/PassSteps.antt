@@ -6,11 +6,12 @@ use Rattle.std.specs.List.{HoldsAt}
 use Rattle.std.specs.FinMap as finmap
 use Rattle.sect_dev.specs.Moments.{started}
 use Rattle.dbm_model.specs.Calls as model
-use Rattle.dbm_model.specs.Pairs.{Key, Pair, Contents}
+use Rattle.dbm_model.specs.Pairs.{Key, Contents}
 use Rattle.dbm_model.specs.States.{State, Pass, NotBegun, Begun, Behind, Handle, error_number}
 use Rattle.dbm_model.specs.Steps.{Case, Passes, IsNextKey, GivesKey, Suffers, buckets_opened, case_of, Answers}
 use Rattle.page_model.specs.Placement.{Placement}
 use Rattle.page_model.specs.Placement as placement
+use Rattle.page_model.specs.Pages.{Record}
 use Rattle.page_model.specs.Slots.{taken}
 use Rattle.page_model.specs.Valid.{IsMeta}
 use Rattle.page_io.specs.Store.{Settled}
@@ -19,7 +20,7 @@ use Rattle.page_io.specs.Views.{body_at}
 use Rattle.page_io.specs.declared.store.PageStore.{Ghosts}
 use Rattle.page_io.specs.declared.store.PageFault.{PageFault}
 use Rattle.page_io.specs.declared.store.PageFault.TheVariants as page
-use Rattle.slot_page.specs.Contents.{IsBucketPage, page_pairs}
+use Rattle.slot_page.specs.Contents.{IsBucketPage, page_records}
 use Rattle.chain_walks.specs.Answers.{IsWalkAnswer}
 use Rattle.chain_walks.specs.Leasts.{IsLeast}
 use Rattle.linear_hash.specs.Tables.{IsTable, ForEachTable}
@@ -32,13 +33,14 @@ use Rattle.dbm_file.specs.Answers.{MayBeLeft, StandsForSome, Survives, IsStep, I
 use Rattle.dbm_file.specs.Calls.{Lent, lent_reply}
 use Rattle.dbm_file.specs.Database.{store_of, meta_kept, page_state, error_of, handle_of, IsAt}
 use Rattle.dbm_file.specs.Lending.{Lends}
-use Rattle.dbm_file.specs.Passing.{pass_of, pass_from, pass_at, pass_after}
+use Rattle.dbm_file.specs.Passing.{pass_of, pass_from, pass_at, pass_after, key_in}
 use Rattle.dbm_file.specs.Trying.{with_fault, IsRead, slot_reply}
 use Rattle.dbm_file.specs.declared.database.Database.{Database}
 use Rattle.dbm_file.specs.declared.pass.Pass as code
 use Rattle.dbm_file.proofs.Cases.{first_rule, next_rule, no_pass_rule, passes_fail, error_rule, clear_rule}
 use Rattle.dbm_file.proofs.Lends.{kept_error, flagged_step}
 use Rattle.dbm_file.proofs.PassKeys.{next_of_map, over_the_map}
+use Rattle.dbm_file.proofs.Searches.{blank}
 use Rattle.dbm_file.proofs.ReadSteps.{at_own, from_own, same_state, no_more_pages, no_more_buckets, still_buckets, still_bounds, still_capacity, still_end, still_writable, still_usable, still_holds, still_rests, still_survives, no_read, rejected_step, refused_keeps, walk_failed_step}
 
 -- the same database with its pass elsewhere
@@ -110,13 +112,13 @@ module _ {S : Type 0} (s : Ghosts S) (old new : Database S s) (h : Handle) (at :
 
     -- the next key is given, and it stands behind that
     pub given_step : (slot : ℕ) (key : Key) → found ≡ Some slot
-        → (slice_index_or (page_pairs bytes) slot ([], [])).0 ≡ key
+        → key_in bytes slot ≡ key
         → pass_of new ≡ Behind key
         → IsStep old new h call (slot_reply bytes (Ok (Some slot)))
     given_step slot key some reads stands =
         let next = subst (λ (o : Option ℕ). IsLeast (placement.pairs_of p) from bytes o) some
         least in
-        let same : next.key ≡ key = sym (next.has.1 ([], [])) ∙ reads in
+        let same : next.key ≡ key = sym (next.has.1 blank) ∙ reads in
         moved _ (inr (
           key,
           subst (IsNextKey map from) same (next_of_map p map is from next.key next.least),
@@ -264,9 +266,9 @@ keeps_passed old new value k = record {
 
 -- the key that is lent
 pub lent_key : (bytes : List ℕ) (slot : ℕ) (pair : Bor (List ℕ) × Bor (List ℕ))
-    → HoldsAt (λ p. p ≡ (pair.0.now, pair.1.now)) (page_pairs bytes) slot
+    → HoldsAt (λ r. (r.key ≡ pair.0.now) × (r.bytes ≡ pair.1.now)) (page_records bytes) slot
     → slot_reply bytes (Ok (Some slot)) ≡ lent_reply model.End (Ok (Some pair.0))
-lent_key bytes slot pair read = ap (λ (p : Pair). model.Bytes p.0) (read ([], []))
+lent_key bytes slot pair read = ap model.Bytes (read blank).0
 
 -- what needs no page: the error number is told, or cleared
 module _ {S : Type 0} (s : Ghosts S) (old : Database S s) (h : Handle) (at : IsAt old h)
@@ -350,10 +352,10 @@ passed_lends s old new call bytes r lent step same keeps stands =
 -- a pass that found a slot stands behind its key
 pub stands_behind : (new from : Pass) (bytes : List ℕ) (found : Option ℕ) (slot : ℕ)
     (pair : Bor (List ℕ) × Bor (List ℕ)) → new ≡ pass_at from bytes found → found ≡ Some slot
-    → HoldsAt (λ p. p ≡ (pair.0.now, pair.1.now)) (page_pairs bytes) slot
+    → HoldsAt (λ r. (r.key ≡ pair.0.now) × (r.bytes ≡ pair.1.now)) (page_records bytes) slot
     → new ≡ Behind pair.0.now
 stands_behind new from bytes found slot pair stands some read =
-    stands ∙ ap (pass_at from bytes) some ∙ ap (λ (p : Pair). Behind p.0) (read ([], []))
+    stands ∙ ap (pass_at from bytes) some ∙ ap Behind (read blank).0
 
 -- one that found none stands where it was
 pub stands_still : (new from : Pass) (bytes : List ℕ) (found : Option ℕ)
@@ -409,22 +411,23 @@ no_pass_lends s db off usable now = record {
   stands = tt;
 }
 
-small_key_at : (pairs : List Pair) (i : ℕ) (d : Pair) → i < length pairs → taken pairs ≤ 2032
-    → length (slice_index_or pairs i d).0 ≤ 2026
-small_key_at [] i d lt fits = absurd (omega (arith, lt))
-small_key_at (pair ∷ pairs) zero d lt fits = omega (arith, fits)
-small_key_at (pair ∷ pairs) (suc i) d lt fits =
-    small_key_at pairs i d (omega (arith, lt)) (omega (arith, fits))
+short_key_at : (rs : List Record) (i : ℕ) → i < length rs → taken rs ≤ 2032
+    → length (slice_index_or rs i blank).key ≤ 2026
+short_key_at [] i lt fits = absurd (omega (arith, lt))
+short_key_at (r ∷ rs) zero lt fits = omega (arith, fits)
+short_key_at (r ∷ rs) (suc i) lt fits =
+    short_key_at rs i (omega (arith, lt)) (omega (arith, fits))
 
 -- a key in a page is short
 pub short_key : (bytes key content : List ℕ) (slot : ℕ) → IsBucketPage bytes
-    → slot < length (page_pairs bytes)
-    → HoldsAt (λ pair. pair ≡ (key, content)) (page_pairs bytes) slot → length key ≤ 2026
+    → slot < length (page_records bytes)
+    → HoldsAt (λ r. (r.key ≡ key) × (r.bytes ≡ content)) (page_records bytes) slot
+    → length key ≤ 2026
 short_key bytes key content slot page lt read =
     omega (
       arith,
-      small_key_at (page_pairs bytes) slot (key, content) lt page.sound.fits,
-      ap (λ (pair : Pair). length pair.0) (read (key, content)),
+      short_key_at (page_records bytes) slot lt page.sound.fits,
+      ap (λ (k : List ℕ). length k) (read blank).0,
     )
 
 -- what a refused call answers

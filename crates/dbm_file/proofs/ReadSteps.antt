@@ -11,7 +11,7 @@ use Rattle.page_model.specs.Pages.{Meta, MetaPage}
 use Rattle.page_model.specs.Valid.{meta_buckets}
 use Rattle.dbm_model.specs.Pairs.{Contents}
 use Rattle.dbm_model.specs.States.{State, Pass, Handle, first_fault, flagged}
-use Rattle.dbm_model.specs.Steps.{Case, Refuses, Declines, Finds, case_of, Answers, Suffers, Fails, growth, buckets_opened, Step}
+use Rattle.dbm_model.specs.Steps.{Case, Tells, Refuses, Declines, Finds, case_of, Answers, Suffers, Fails, LacksMemory, takes_memory, growth, buckets_opened, Step}
 use Rattle.page_model.specs.Meaning.{said_by}
 use Rattle.page_io.specs.Store.{Pages, Settled, page_of}
 use Rattle.page_io.specs.Store as store
@@ -23,7 +23,7 @@ use Rattle.page_io.specs.declared.store.PageStore.{Ghosts}
 use Rattle.page_io.specs.declared.store.PageFault.{PageFault}
 use Rattle.page_io.specs.declared.store.PageFault.TheVariants as page
 use Rattle.seg_table.specs.MetaPages.{model_meta}
-use Rattle.chain_walks.specs.Answers.{IsWalkAnswer}
+use Rattle.chain_walks.specs.Answers.{IsWalkAnswer, IsLoadAnswer}
 use Rattle.dbm_fault.specs.Faults.{fault_of, fault_from}
 use Rattle.page_commit.specs.Committing.{Holds}
 use Rattle.dbm_file.specs.Held.{Held, held_by}
@@ -33,7 +33,7 @@ use Rattle.dbm_file.specs.Answers.{MayBeLeft, StandsForSome, Survives, IsStep, I
 use Rattle.chain_walks.proofs.ReadPages.{reads_none}
 use Rattle.dbm_file.specs.Trying.{with_fault, IsRead}
 use Rattle.dbm_fault.specs.declared.fault.Fault.{Fault}
-use Rattle.dbm_fault.specs.declared.fault.Fault.TheVariants.{Device, Broken}
+use Rattle.dbm_fault.specs.declared.fault.Fault.TheVariants.{Memory, Device, Broken}
 use Rattle.dbm_file.specs.declared.database.Database.{Database}
 
 -- the flag of the program is that of the definitions
@@ -211,9 +211,11 @@ module _ {S : Type 0} (s : Ghosts S) (old new : Database S s) (map : Contents)
   abbrev before : Handle
   before = handle_of old map
 
-  pub found_step : (reply : model.Reply) → buckets_opened before reply (len map) ≡ 0
-      → case_of before call ≡ Finds reply → IsStep old new before call reply
-  found_step reply none falls = record {
+  -- one that adds no page, by the rule that it falls under
+  answered_step : (reply : model.Reply) → buckets_opened before reply (len map) ≡ 0
+      → (rule : Case) → case_of before call ≡ rule
+      → Answers before.state rule reply (handle_of new map).state → IsStep old new before call reply
+  answered_step reply none rule falls is = record {
     after = handle_of new map;
     step = record {
       counts = read.reads.stages_only.later;
@@ -223,17 +225,26 @@ module _ {S : Type 0} (s : Ghosts S) (old new : Database S s) (map : Contents)
       buckets = no_more_buckets before (handle_of new map) reply (len map)
           (still_buckets s old new read) none;
       answers = inl (subst (λ (c : Case).
-          Answers before.state c reply (handle_of new map).state) (sym falls) (
-            refl,
-            same_state s old new map read.pass_is (still_bounds s old new read) read.error_is
-                (still_writable s old new read) (still_usable s old new read),
-          ));
+          Answers before.state c reply (handle_of new map).state) (sym falls) is);
     };
     is_at = at_own new map (λ usable. still_holds s old new map read honest h)
         (λ usable. still_rests s old new map read honest rests);
     survives = λ usable. still_survives s old new map read honest rests
         (MayBeLeft before (handle_of new map) call) (inl refl);
   }
+
+  still_state : (handle_of new map).state ≡ before.state
+  still_state = same_state s old new map read.pass_is (still_bounds s old new read) read.error_is
+      (still_writable s old new read) (still_usable s old new read)
+
+  pub found_step : (reply : model.Reply) → buckets_opened before reply (len map) ≡ 0
+      → case_of before call ≡ Finds reply → IsStep old new before call reply
+  found_step reply none falls = answered_step reply none (Finds reply) falls (refl, still_state)
+
+  pub told_step_of : (reply : model.Reply) → buckets_opened before reply (len map) ≡ 0
+      → case_of before call ≡ Tells reply before.state → IsStep old new before call reply
+  told_step_of reply none falls =
+      answered_step reply none (Tells reply before.state) falls (refl, still_state)
 
   module _ (fault : Fault) where
     abbrev refused : Database S s
@@ -302,6 +313,25 @@ module _ {S : Type 0} (s : Ghosts S) (old new : Database S s) (map : Contents)
       ));
     }
 
+    -- memory lacked
+    pub lacks_step : fault ≡ Memory → takes_memory before call ≡ true
+        → ((reply : model.Reply) (after : Handle) → LacksMemory before call reply after
+        → Suffers before call (case_of before call) reply after)
+        → IsStep old refused before call (model.Refused (fault_of fault))
+    lacks_step is takes may = refused_step record {
+      counts = read.reads.stages_only.later;
+      capacity = still_capacity s old new read;
+      pages = still_pages;
+      bounded = inl (still_end s old new read);
+      buckets = no_more_buckets before (handle_of refused map)
+          (model.Refused (fault_of fault)) (len map) (still_buckets s old new read) refl;
+      answers = inr (may (model.Refused (fault_of fault)) (handle_of refused map) (
+        ap (λ (f : Fault). model.Refused (fault_of f)) is,
+        refused_state ∙ ap (λ (f : Fault). flagged (fault_of f) before.state) is,
+        takes,
+      ));
+    }
+
   -- where a walk through the pages failed, the device did
   pub walk_failed_step : (T : Type 0) (e : PageFault) → (page_state old).usable ≡ true
       → IsWalkAnswer {T = T} (page_state old) (Err e)
@@ -320,6 +350,30 @@ module _ {S : Type 0} (s : Ghosts S) (old new : Database S s) (map : Contents)
       device (inr (inl is)) = absurd (whole (ap Err is))
       device (inr (inr is)) = failed_step (fault_from e) (ap fault_from is)
           (cause.fault (ap Err is)) may
+
+  -- the same of one that reads into memory, which may lack it
+  pub load_failed_step : (T : Type 0) (e : PageFault) → (page_state old).usable ≡ true
+      → IsLoadAnswer {T = T} (page_state old) (Err e)
+      → HasDeviceCause {T = T} (s.faults (store_of old)) (s.faults (store_of new)) (Err e)
+      → (IsErrOf {T = T} (Err e) page.Damaged → ⊥)
+      → (IsErrOf {T = T} (Err e) page.Memory → takes_memory before call ≡ true)
+      → ((reply : model.Reply) (after : Handle) → Fails before reply after
+      → Suffers before call (case_of before call) reply after)
+      → ((reply : model.Reply) (after : Handle) → LacksMemory before call reply after
+      → Suffers before call (case_of before call) reply after)
+      → IsStep old (with_fault new (fault_from e)) before call
+      (model.Refused (fault_of (fault_from e)))
+  load_failed_step T e usable answer cause whole takes fails lacks = by_case answer.only
+    where
+      by_case : (e ≡ page.Memory) ⊎ ((e ≡ page.Broken) ⊎ ((e ≡ page.Damaged) ⊎ (e ≡ page.Device)))
+          → IsStep old (with_fault new (fault_from e)) before call
+          (model.Refused (fault_of (fault_from e)))
+      by_case (inl is) = lacks_step (fault_from e) (ap fault_from is) (takes (ap Err is)) lacks
+      by_case (inr (inl is)) = let broken = answer.broken (ap Err is) in
+          absurd (let x = broken in cc)
+      by_case (inr (inr (inl is))) = absurd (whole (ap Err is))
+      by_case (inr (inr (inr is))) = failed_step (fault_from e) (ap fault_from is)
+          (cause.fault (ap Err is)) fails
 
 -- a walk through pages that failed says Device only where the device did, and Broken never of a
 -- usable store
@@ -345,6 +399,34 @@ walk_sound s old e usable answer same = by_case answer.only
     by_case (inl is) = let broken = answer.broken (ap Err is) in absurd (let x = broken in cc)
     by_case (inr (inl is)) = absurd (let x = sym same ∙ ap fault_from is in cc)
     by_case (inr (inr is)) = absurd (let x = sym same ∙ ap fault_from is in cc)
+
+-- the same of one that reads into memory
+pub load_more : {S T : Type 0} (s : Ghosts S) (old new : Database S s) (e : PageFault)
+    → IsLoadAnswer {T = T} (page_state old) (Err e)
+    → HasDeviceCause {T = T} (s.faults (store_of old)) (s.faults (store_of new)) (Err e)
+    → fault_from e ≡ Device
+    → MoreFaults (s.faults (store_of old)) (s.faults (store_of new))
+load_more s old new e answer cause same = by_case answer.only
+  where
+    by_case : (e ≡ page.Memory) ⊎ ((e ≡ page.Broken) ⊎ ((e ≡ page.Damaged) ⊎ (e ≡ page.Device)))
+        → MoreFaults (s.faults (store_of old)) (s.faults (store_of new))
+    by_case (inl is) = absurd (let x = sym same ∙ ap fault_from is in cc)
+    by_case (inr (inl is)) = absurd (let x = sym same ∙ ap fault_from is in cc)
+    by_case (inr (inr (inl is))) = absurd (let x = sym same ∙ ap fault_from is in cc)
+    by_case (inr (inr (inr is))) = cause.fault (ap Err is)
+
+pub load_sound : {S T : Type 0} (s : Ghosts S) (old : Database S s) (e : PageFault)
+    → (page_state old).usable ≡ true → IsLoadAnswer {T = T} (page_state old) (Err e)
+    → fault_from e ≡ Broken → ⊥
+load_sound s old e usable answer same = by_case answer.only
+  where
+    by_case : (e ≡ page.Memory) ⊎ ((e ≡ page.Broken) ⊎ ((e ≡ page.Damaged) ⊎ (e ≡ page.Device)))
+        → ⊥
+    by_case (inl is) = absurd (let x = sym same ∙ ap fault_from is in cc)
+    by_case (inr (inl is)) = let broken = answer.broken (ap Err is) in
+        absurd (let x = broken in cc)
+    by_case (inr (inr (inl is))) = absurd (let x = sym same ∙ ap fault_from is in cc)
+    by_case (inr (inr (inr is))) = absurd (let x = sym same ∙ ap fault_from is in cc)
 
 -- what a broken database answers
 pub broken_step : {S : Type 0} (s : Ghosts S) (old : Database S s) (map : Contents)

@@ -78,16 +78,12 @@ told_memory page.ReadOnly is = absurd (let x = is in cc)
 told_memory page.NoRoom is = absurd (let x = is in cc)
 told_memory page.Damaged is = absurd (let x = is in cc)
 
--- a delete takes no memory
-pub among_delete : (e : PageFault) → IsOfChange e → (e ≡ page.Memory → ⊥)
-    → IsAmong (fault_from e) delete_faults
-among_delete e one no_memory =
-    by_change (λ fault. (fault ≡ Memory → ⊥) → IsAmong fault delete_faults) (λ _. inl refl)
-    (λ no. absurd (no refl)) (λ _. inr (inr (inr (inl refl))))
-    (λ _. inr (inr (inr (inr refl)))) (λ _. inr (inr (inl refl))) e one
-    (λ is. no_memory (told_memory e is))
+pub among_delete : (e : PageFault) → IsOfChange e → IsAmong (fault_from e) delete_faults
+among_delete = by_change (λ fault. IsAmong fault delete_faults) (inl refl)
+    (inr (inr (inl refl))) (inr (inr (inr (inr (inl refl)))))
+    (inr (inr (inr (inr (inr refl))))) (inr (inr (inr (inl refl))))
 
--- neither does a walk
+-- a walk takes no memory
 pub walk_no_memory : (e : PageFault) → IsOfWalk e → e ≡ page.Memory → ⊥
 walk_no_memory e (inl broken) is = let x = sym broken ∙ is in absurd cc
 walk_no_memory e (inr (inl damaged)) is = let x = sym damaged ∙ is in absurd cc

@@ -1,26 +1,39 @@
 -- Searches, by what they answered.
-use Rattle.std.proofs.Common.{◌≡◌, ◌⊎◌, ℕ, Bool, true, false, is_some, List, [], Option, Some, None, Result, Err, IfOk, inl, inr, sym, ◌∙◌, ap, subst}
+use Rattle.std.proofs.Common.{◌≡◌, ◌⊎◌, ◌<◌, ℕ, zero, suc, Bool, true, false, is_some, List, [], ◌∷◌, length, get_or, refl, arith, Option, Some, None, Result, Err, IfOk, inl, inr, sym, ◌∙◌, ap, subst}
 use Rattle.std.specs.Prelude.{◌↔◌, ◌≢◌}
 use Rattle.std.specs.Borrow.{Bor}
 use Rattle.std.specs.List.{HoldsAt}
-use Rattle.dbm_model.specs.Pairs.{Key, Pair}
+use Rattle.dbm_model.specs.Pairs.{Key}
 use Rattle.dbm_model.specs.States.{Pass, NotBegun}
 use Rattle.dbm_model.specs.Steps.{IsAhead}
-use Rattle.page_model.specs.Chain.{Leaf}
-use Rattle.page_model.specs.Pages.{Meta, Body}
-use Rattle.slot_page.specs.Contents.{page_pairs}
+use Rattle.chain_walks.specs.Chains.{ReadLeaf}
+use Rattle.page_model.specs.Pages.{Meta, Body, Record}
+use Rattle.slot_page.specs.Contents.{page_records, told_content}
+use Rattle.content_pages.specs.Contents.{IsContentAt}
 use Rattle.chain_walks.specs.Walks.{EndsWithout}
 use Rattle.chain_walks.specs.declared.place.Place.{Place}
-use Rattle.linear_hash.specs.Looking.{IsSearch, EndsAt}
+use Rattle.linear_hash.specs.Looking.{IsSearch, EndsAt, SaysContent, SaysPair}
+use Rattle.dbm_file.specs.Fetching.{record_in}
 use Rattle.dbm_fault.specs.declared.fault.Fault.{Fault}
 use Rattle.dbm_fault.specs.declared.fault.Fault.TheVariants.{NoPass, Device, Damaged}
 use Rattle.chain_walks.specs.Leasts.{IsAheadAt}
 use Rattle.linear_hash.specs.Passing.{IsPassed}
 use Rattle.dbm_file.specs.Searches.{EndsWith, EndsBy, EndsAtContent, IsGiven}
 
+-- no record
+abbrev pub blank : Record
+blank = record { key = []; bytes = []; far = None }
+
+-- within a list it doesn't matter what stands behind it
+pub same_slot : (rs : List Record) (k : ℕ) → k < length rs → (d e : Record)
+    → get_or rs k d ≡ get_or rs k e
+same_slot [] k lt d e = absurd (omega (arith, lt))
+same_slot (r ∷ rs) zero lt d e = refl
+same_slot (r ∷ rs) (suc k) lt d e = same_slot rs k (omega (arith, lt)) d e
+
 -- a search of whose last page less is said
-pub ended_so : (at : ℕ → Body) (m : Meta) (key : Key) (P Q : Leaf → ℕ → Type 0)
-    → ((leaf : Leaf) (after : ℕ) → P leaf after → Q leaf after) → IsSearch at m key P
+pub ended_so : (at : ℕ → Body) (m : Meta) (key : Key) (P Q : ReadLeaf → ℕ → Type 0)
+    → ((leaf : ReadLeaf) (after : ℕ) → P leaf after → Q leaf after) → IsSearch at m key P
     → IsSearch at m key Q
 ended_so at m key P Q implies s = record {
   head = s.head;
@@ -39,7 +52,7 @@ ended_so at m key P Q implies s = record {
 
 -- whether the key is there
 there_or_not : (key : Key) (bytes : List ℕ) (place : Option Place) (there : Bool)
-    → there ≡ is_some place → (leaf : Leaf) (after : ℕ) → EndsAt key bytes place leaf after
+    → there ≡ is_some place → (leaf : ReadLeaf) (after : ℕ) → EndsAt key bytes place leaf after
     → EndsBy key there leaf after
 there_or_not key bytes None true is leaf after ends = cc
 there_or_not key bytes None false is leaf after ends = ends
@@ -65,33 +78,63 @@ was_absent at m key there is s = subst (λ (b : Bool). IsSearch at m key (EndsBy
 -- nothing was found
 pub found_nothing : (at : ℕ → Body) (m : Meta) (key : Key) (bytes : List ℕ) (place : Option Place)
     → place ≡ None → IsSearch at m key (EndsAt key bytes place)
-    → IsSearch at m key (EndsAtContent key None)
+    → IsSearch at m key (EndsAtContent at key None)
 found_nothing at m key bytes place is s =
     subst (λ (p : Option Place). IsSearch at m key (EndsAt key bytes p)) is s
 
--- the pair of a slot that has the key
-has_content : (key found content : List ℕ) (pairs : List Pair) (slot : ℕ)
-    → HoldsAt (λ pair. pair.0 ≡ key) pairs slot
-    → HoldsAt (λ pair. pair ≡ (found, content)) pairs slot
-    → HoldsAt (λ pair. pair ≡ (key, content)) pairs slot
-has_content key found content pairs slot has holds = λ d.
-    holds d ∙ ap (λ (k : List ℕ). (k, content)) (sym (ap (λ (p : Pair). p.0) (holds d)) ∙ has d)
-
--- the content that was found
-pub found_content : (at : ℕ → Body) (m : Meta) (key : Key) (bytes : List ℕ) (place : Option Place)
-    (there : Place) (pair : Bor (List ℕ) × Bor (List ℕ)) → place ≡ Some there
-    → HoldsAt (λ p. p ≡ (pair.0.now, pair.1.now)) (page_pairs bytes) there.slot
+-- a record that was found says this content, near in its own bytes
+pub near_content : (at : ℕ → Body) (m : Meta) (key : Key) (bytes : List ℕ) (place : Option Place)
+    (there : Place) → place ≡ Some there → there.slot < length (page_records bytes)
+    → HoldsAt (λ r. told_content r ≡ None) (page_records bytes) there.slot
     → IsSearch at m key (EndsAt key bytes place)
-    → IsSearch at m key (EndsAtContent key (Some pair.1.now))
-found_content at m key bytes place there pair is holds s =
-    ended_so at m key (EndsAt key bytes (Some there)) (EndsAtContent key (Some pair.1.now))
+    → IsSearch at m key (EndsAtContent at key (Some (record_in bytes there.slot).bytes))
+near_content at m key bytes place there is within near s =
+    ended_so at m key (EndsAt key bytes (Some there)) _
     (λ leaf after ends. (
       there.slot,
-      has_content key pair.0.now pair.1.now leaf.pairs there.slot ends.has.1
-          (subst (λ (ps : List Pair). HoldsAt (λ p. p ≡ (pair.0.now, pair.1.now)) ps
-          there.slot) ends.pairs holds),
+      ends.has.0,
+      λ d.
+          let same = same_slot (page_records bytes) there.slot within d blank in
+          let here = ap (λ (rs : List Record). get_or rs there.slot d) (sym ends.records) ∙ same in
+          subst (SaysPair at (key, (record_in bytes there.slot).bytes)) (sym here)
+          (record {
+            key = ap (λ (r : Record). r.key) (sym here) ∙ ends.has.1 d;
+            content = subst (SaysContent at (record_in bytes there.slot).bytes
+                (record_in bytes there.slot).bytes) (sym (near blank)) refl;
+          }),
     ))
     (subst (λ (p : Option Place). IsSearch at m key (EndsAt key bytes p)) is s)
+
+-- or far in pages of its own
+pub far_content : (at : ℕ → Body) (m : Meta) (key : Key) (bytes content : List ℕ)
+    (place : Option Place) (there : Place) (first long : ℕ) → place ≡ Some there
+    → there.slot < length (page_records bytes)
+    → HoldsAt (λ r. told_content r ≡ Some (first, long)) (page_records bytes) there.slot
+    → length content ≡ long → IsContentAt at first content
+    → IsSearch at m key (EndsAt key bytes place)
+    → IsSearch at m key (EndsAtContent at key (Some content))
+far_content at m key bytes content place there first long is within far size says s =
+    ended_so at m key (EndsAt key bytes (Some there)) (EndsAtContent at key (Some content))
+    (λ leaf after ends. (
+      there.slot,
+      ends.has.0,
+      λ d.
+          let here = ap (λ (rs : List Record). get_or rs there.slot d) (sym ends.records) in
+          subst (SaysPair at (key, content)) (sym here)
+          (record {
+            key = ap (λ (r : Record). r.key) (sym here) ∙ ends.has.1 d;
+            content = subst (SaysContent at content (get_or (page_records bytes) there.slot d).bytes)
+                (sym (far d)) (size, says);
+          }),
+    ))
+    (subst (λ (p : Option Place). IsSearch at m key (EndsAt key bytes p)) is s)
+
+-- the search for a content of which it is known that it is the same
+pub searched_content : (at : ℕ → Body) (m : Meta) (key : Key) (found answer : Option (List ℕ))
+    → found ≡ answer → IsSearch at m key (EndsAtContent at key found)
+    → IsSearch at m key (EndsAtContent at key answer)
+searched_content at m key found answer is =
+    subst (λ (o : Option (List ℕ)). IsSearch at m key (EndsAtContent at key o)) is
 
 -- a refusal tells of no search
 pub nothing_searched : {T : Type 0} (P : T → Type 0) (r : Result T Fault) (fault : Fault)
@@ -101,14 +144,13 @@ nothing_searched {T} P r fault is = subst (λ (x : Result T Fault). IfOk x P) (s
 -- the key of the pair that a pass has reached
 pub given_key : (at : ℕ → Body) (m : Meta) (from : Pass) (bytes : List ℕ) (reached : Option ℕ)
     (slot : ℕ) (pair : Bor (List ℕ) × Bor (List ℕ)) → reached ≡ Some slot
-    → HoldsAt (λ p. p ≡ (pair.0.now, pair.1.now)) (page_pairs bytes) slot
+    → HoldsAt (λ r. (r.key ≡ pair.0.now) × (r.bytes ≡ pair.1.now)) (page_records bytes) slot
     → IsPassed at m from bytes reached → IsGiven at m from (Some pair.0.now)
 given_key at m from bytes reached slot pair is holds there = (
   bytes,
   slot,
   subst (λ (o : Option ℕ). IsPassed at m from bytes o) is there,
-  λ d.
-      ap (λ (p : Pair). p.0) (holds d),
+  λ d. (holds d).0,
 )
 
 pub given_none : (at : ℕ → Body) (m : Meta) (from : Pass) (bytes : List ℕ) (reached : Option ℕ)
@@ -126,11 +168,11 @@ passed_so at m behind from bytes found answer is same passed =
 
 -- the key in a slot of a page that a pass came to is one before it
 pub key_ahead : (from : Pass) (bytes : List ℕ) (slot : ℕ) (pair : Bor (List ℕ) × Bor (List ℕ))
-    → HoldsAt (λ p. p ≡ (pair.0.now, pair.1.now)) (page_pairs bytes) slot
+    → HoldsAt (λ r. (r.key ≡ pair.0.now) × (r.bytes ≡ pair.1.now)) (page_records bytes) slot
     → IsAheadAt from bytes slot → IsAhead from pair.0.now
 key_ahead from bytes slot pair holds there =
     subst (IsAhead from)
-    (sym (there.has.1 ([], [])) ∙ ap (λ (p : Pair). p.0) (holds ([], []))) there.ahead
+    (sym (there.has.1 blank) ∙ (holds blank).0) there.ahead
 
 same_fault : {T : Type 0} (r : Result T Fault) (one other : Fault) → r ≡ Err one
     → r ≡ Err other → one ≡ other

@@ -4,7 +4,6 @@ use denote.Enum.Bare.{sameb}
 use Rattle.std.specs.Prelude.{IsErrAnd}
 use Rattle.std.specs.FinMap.{get, insert, remove, empty_of_len, get-empty}
 use Rattle.dbm_model.specs.Calls as model
-use Rattle.dbm_model.specs.Bounds.{V1}
 use Rattle.dbm_model.specs.Pairs.{Contents, key_cmp, is_allowed}
 use Rattle.page_model.specs.Valid.{IsMeta}
 use Rattle.page_io.specs.Store.{Settled}
@@ -48,9 +47,9 @@ module _ {S : Type 0} (s : Ghosts S) (old mid : Database S s) (map : Contents)
     → ImageStandsFor x map (meta_kept old).bounds) where
   -- a store of an allowed pair, whose key was there or not
   pub store_asked : (content : List ℕ) (mode : StoreMode) (there : Bool)
-      → is_allowed V1 (key, content) ≡ true → there ≡ is_some (get map key)
+      → is_allowed (meta_kept old).bounds.version (key, content) ≡ true → there ≡ is_some (get map key)
       → (there ≡ true → mode ≡ Replace) → (there ≡ false → mid.meta.pairs < mid.meta.limit)
-      → IsAsked s old mid map (insert map key content)
+      → IsAsked s old mid map (insert map key content) (meta_kept old).bounds
       (model.Store key content (mode_of mode)) model.Stored
   store_asked content mode there short is replaces few = record {
     read = read;
@@ -73,7 +72,8 @@ module _ {S : Type 0} (s : Ghosts S) (old mid : Database S s) (map : Contents)
 
   -- a delete of a key that is there
   pub delete_asked : is_some (get map key) ≡ true
-      → IsAsked s old mid map (remove map key) (model.Delete key) model.Deleted
+      → IsAsked s old mid map (remove map key) (meta_kept old).bounds (model.Delete key)
+      model.Deleted
   delete_asked is = record {
     read = read;
     usable = usable;

@@ -1,6 +1,7 @@
 -- How a call on a database is answered, and what it leaves.
 use Rattle.std.specs.Prelude.{◌≡◌, ◌⊎◌, ◌↔◌, ◌≤◌, true, false, Result, OnOk, OnErr, IfErr, IsErrOf}
 use Rattle.dbm_file.specs.Held.{Held, held_by}
+use Rattle.dbm_model.specs.Bounds.{Bounds}
 use Rattle.sect_dev.specs.Device.{LeavesOnly, MoreFaults}
 use Rattle.dbm_model.specs.Calls.{Call, Reply}
 use Rattle.dbm_model.specs.States.{Handle, State, first_fault}
@@ -46,21 +47,26 @@ pub record IsStep {S : Type 0} {s : Ghosts S} (old new : Database S s) (before :
   pub is_at : IsAt new after
   pub survives : (page_state old).usable ≡ true → Survives old new (MayBeLeft before after call)
 
--- What any number of calls leave on any device.
-pub record IsSameDatabase {S : Type 0} {s : Ghosts S} (old new : Database S s) : Type 0 where
+-- What any number of calls leave on any device, with these bounds.
+pub record IsSameUnder {S : Type 0} {s : Ghosts S} (wanted : Bounds) (old new : Database S s)
+    : Type 0 where
   pub honesty : s.honest (store_of new) ↔ s.honest (store_of old)
   pub later : s.faults (store_of old) ≤ s.faults (store_of new)
-  pub bounds : (meta_kept new).bounds ≡ (meta_kept old).bounds
+  pub bounds : (meta_kept new).bounds ≡ wanted
   pub capacity : (page_state new).capacity ≡ (page_state old).capacity
   pub writable : (page_state new).writable ≡ (page_state old).writable
   pub base : (page_state new).base ≡ (page_state old).base
   -- a broken one makes no device call
   pub still : (page_state old).usable ≡ false → store_of new ≡ store_of old
 
+-- but for an upgrade with the bounds that were there
+abbrev pub IsSameDatabase : {S : Type 0} {s : Ghosts S} → Database S s → Database S s → Type 0
+IsSameDatabase old new = IsSameUnder (meta_kept old).bounds old new
+
 -- What any call leaves on any device, whatever its bytes.
-pub record IsCallEnded {S T : Type 0} {s : Ghosts S} (old new : Database S s)
+pub record IsCallEndedWith {S T : Type 0} {s : Ghosts S} (wanted : Bounds) (old new : Database S s)
     (result : Result T Fault) : Type 0 where
-  pub goes : IsSameDatabase old new
+  pub goes : IsSameUnder wanted old new
   pub fault : IsErrOf result Device → MoreFaults (s.faults (store_of old)) (s.faults (store_of new))
   -- the first fault is kept
   pub no_error : OnOk result (error_of new ≡ error_of old)
@@ -75,3 +81,7 @@ pub record IsCallEnded {S T : Type 0} {s : Ghosts S} (old new : Database S s)
   pub breaks : ((page_state new).usable ≡ (page_state old).usable)
       ⊎ (IsErrOf result Device × ((page_state new).usable ≡ false))
   pub broken : IsErrOf result Broken ↔ ((page_state old).usable ≡ false)
+
+abbrev pub IsCallEnded : {S T : Type 0} {s : Ghosts S} → Database S s → Database S s
+    → Result T Fault → Type 0
+IsCallEnded old new result = IsCallEndedWith (meta_kept old).bounds old new result

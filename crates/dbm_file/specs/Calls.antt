@@ -65,6 +65,11 @@ delete_reply (Ok deleted.Deleted) = model.Deleted
 delete_reply (Ok deleted.Absent) = model.Absent
 delete_reply (Err fault) = model.Refused (fault_of fault)
 
+-- what an upgrade answers
+abbrev pub upgrade_reply : Result Unit Fault → model.Reply
+upgrade_reply (Ok done) = model.Upgraded
+upgrade_reply (Err fault) = model.Refused (fault_of fault)
+
 -- what a call answers that lends bytes, where this is its answer for none
 abbrev pub lent_reply : model.Reply → Lent → model.Reply
 lent_reply none (Ok None) = none

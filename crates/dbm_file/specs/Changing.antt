@@ -1,14 +1,18 @@
 -- What a store and a delete that were done have left in the pages, on any file.
-use Rattle.std.specs.Prelude.{◌≡◌, ◌+◌, ◌*◌, Bool, if◌then◌else◌}
-use Rattle.dbm_model.specs.Pairs.{Key, Pair}
+use Rattle.std.specs.Prelude.{◌≡◌, ◌⊎◌, ◌+◌, ◌*◌, ◌<◌, Bool, true, if◌then◌else◌}
+use Rattle.dbm_model.specs.Bounds.{V1, V2, upgraded}
+use Rattle.dbm_model.specs.Pairs.{Key, Pair, is_far}
+use Rattle.dbm_model.specs.Sizes.{home}
 use Rattle.page_model.specs.Pages.{Meta}
 use Rattle.page_model.specs.Valid.{meta_buckets}
 use Rattle.page_io.specs.Views.{body_at}
 use Rattle.page_io.specs.declared.store.PageStore.{Ghosts}
-use Rattle.linear_hash.specs.Changing.{IsDeleted, IsStored}
+use Rattle.linear_hash.specs.Changing.{IsDeleted, IsStored, IsUpgraded}
 use Rattle.linear_hash.specs.Looking.{IsSearch}
 use Rattle.dbm_file.specs.Database.{store_of, meta_kept, page_state}
 use Rattle.dbm_file.specs.Searches.{EndsBy}
+use Rattle.dbm_file.specs.declared.calls.StoreMode.{StoreMode}
+use Rattle.dbm_file.specs.declared.calls.StoreMode.TheVariants.{Replace}
 use Rattle.dbm_file.specs.declared.database.Database.{Database}
 
 -- over an honest store: the key was taken out of the chain that is read for its bucket, and the
@@ -29,9 +33,30 @@ pub record IsPut {S : Type 0} {s : Ghosts S} (old new : Database S s) (pair : Pa
   pub stored : IsStored there (body_at s (store_of old)) (body_at s (store_of new)) (meta_kept old)
       (meta_kept new) (page_state old).end (page_state new).end pair
 
+-- over an honest store: the meta page has the bounds of version 2, and no other page was changed
+abbrev pub WasUpgraded : {S : Type 0} {s : Ghosts S} → Database S s → Database S s → Type 0
+WasUpgraded {S} {s} old new =
+    s.honest (store_of old)
+    → IsUpgraded (body_at s (store_of old)) (body_at s (store_of new)) (meta_kept old)
+    (meta_kept new) (page_state old).end
+
+-- neither broken nor opened for reading
+abbrev pub MayUpgrade : {S : Type 0} {s : Ghosts S} → Database S s → Type 0
+MayUpgrade db = ((page_state db).usable ≡ true) × ((page_state db).writable ≡ true)
+
+-- of version 1, over a device without the room that version 2 asks for
+abbrev pub IsTooSmall : {S : Type 0} {s : Ghosts S} → Database S s → Type 0
+IsTooSmall db = MayUpgrade db × ((meta_kept db).bounds.version ≡ V1)
+    × ((page_state db).capacity < 2 * home (upgraded (meta_kept db).bounds))
+
 -- there are eight pairs to a bucket
 abbrev pub HasFullBuckets : Meta → Type 0
 HasFullBuckets m = m.pairs ≡ 8 * meta_buckets m
+
+-- a store may take memory, as far as can be told before the key is looked up
+abbrev pub MayNeedMemory : Meta → Pair → StoreMode → Type 0
+MayNeedMemory m pair mode = HasFullBuckets m ⊎ ((is_far pair ≡ true)
+    ⊎ ((mode ≡ Replace) × (m.bounds.version ≡ V2)))
 
 -- over an honest store
 abbrev pub WasStored : {S : Type 0} {s : Ghosts S} → Database S s → Database S s → Pair → Type 0

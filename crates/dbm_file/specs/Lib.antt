@@ -3,12 +3,14 @@ pub mod Calls
 pub mod Changing
 pub mod Database
 pub mod Ending
+pub mod Fetching
 pub mod Grouping
 pub mod Groups
 pub mod Held
 pub mod Lending
 pub mod Named
 pub mod Opened
+pub mod Pairs
 pub mod Passing
 pub mod Replies
 pub mod Rooms

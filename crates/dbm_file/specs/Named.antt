@@ -25,7 +25,7 @@ pub record OpensFile {D : Type 0} {bound : device.Ghosts D} {p : store.Ghosts (P
     (db : Database (CachedPages (Pager D bound) p) s) : Type 0 where
   pub first : D
   pub begins : (bound.moment first).at ≡ 0
-  pub size : bound.sectors first ≡ 9001992
+  pub size : bound.sectors first ≡ 273001992
   pub stands : bound.honest first
       → (writes how.access ≡ false → IsStable (bound.candidate first) (bound.seen first))
       → AllStand (bound.sectors first / 4) (bound.candidate first)
@@ -42,8 +42,8 @@ pub record RefusesFile {D : Type 0} (bound : device.Ghosts D) (how : OpenHow)
     (fault : Fault) : Type 0 where
   pub first : D
   pub begins : (bound.moment first).at ≡ 0
-  pub size : bound.sectors first ≡ 9001992
+  pub size : bound.sectors first ≡ 273001992
   pub left : D
   pub refused : bound.honest first
-      → (early_fault how 9001992 ≡ Some fault)
-      ⊎ IsRefusedOpening how 9001992 (bound.candidate first) (bound.candidate left) fault
+      → (early_fault how 273001992 ≡ Some fault)
+      ⊎ IsRefusedOpening how 273001992 (bound.candidate first) (bound.candidate left) fault

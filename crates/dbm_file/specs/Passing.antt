@@ -4,7 +4,7 @@ use Rattle.std.specs.Borrow.{Bor}
 use Rattle.dbm_model.specs.Calls.{Call, First, Next}
 use Rattle.dbm_model.specs.States as model
 use Rattle.page_io.specs.declared.store.PageStore.{Ghosts}
-use Rattle.slot_page.specs.Contents.{page_pairs}
+use Rattle.slot_page.specs.Contents.{page_records}
 use Rattle.dbm_file.specs.declared.pass.Pass.{Pass}
 use Rattle.dbm_file.specs.declared.pass.Pass.TheVariants.{NotBegun, Begun, Behind}
 use Rattle.dbm_file.specs.declared.database.Database.{Database}
@@ -22,11 +22,16 @@ pass_of db = model_pass db.pass
 abbrev pub pass_from : {S : Type 0} {s : Ghosts S} → Bool → Database S s → model.Pass
 pass_from begins db = if begins then model.Begun else pass_of db
 
+-- the key in a slot of the page
+abbrev pub key_in : List ℕ → ℕ → List ℕ
+key_in bytes slot =
+    (slice_index_or (page_records bytes) slot (record { key = []; bytes = []; far = None })).key
+
 -- where it stands after a step from there: behind the key in this slot of the page, which the bytes
 -- are, or where it was if there is none
 abbrev pub pass_at : model.Pass → List ℕ → Option ℕ → model.Pass
 pass_at from bytes None = from
-pass_at from bytes (Some slot) = model.Behind (slice_index_or (page_pairs bytes) slot ([], [])).0
+pass_at from bytes (Some slot) = model.Behind (key_in bytes slot)
 
 -- where it stands after a call that found this
 abbrev pub pass_after : Call → Option (Bor (List ℕ)) → model.Pass → model.Pass

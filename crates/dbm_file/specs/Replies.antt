@@ -2,9 +2,10 @@
 use Rattle.std.specs.Prelude.{◌≡◌, pos, List, [], ◌∷◌, None, Some, Result, Ok, Err}
 use Rattle.dbm_fault.specs.Among.{IsAmong}
 use Rattle.dbm_fault.specs.declared.fault.Fault.{Fault}
-use Rattle.dbm_fault.specs.declared.fault.Fault.TheVariants.{Memory, Device, Broken, ReadOnly, TooLong, Full, NoPass, NoRoom, Damaged}
+use Rattle.dbm_fault.specs.declared.fault.Fault.TheVariants.{Memory, Device, Broken, ReadOnly, TooLong, Full, NoPass, NoRoom, Damaged, TooSmall}
 use Rattle.dbm_model.specs.States.{Begun, error_number}
 use Rattle.page_io.specs.declared.store.PageStore.{Ghosts}
+use Rattle.page_io.specs.Views.{body_at}
 use Rattle.chain_walks.specs.Walks.{EndsWithout}
 use Rattle.dbm_file.specs.Answers.{IsCallEnded}
 use Rattle.dbm_file.specs.Calls.{Lent}
@@ -25,12 +26,20 @@ use Rattle.dbm_file.specs.declared.database.Database.{Database}
 
 -- the faults by which a delete may be refused, and those of a store
 abbrev pub delete_faults : List Fault
-delete_faults = Broken ∷ ReadOnly ∷ Device ∷ NoRoom ∷ Damaged ∷ []
+delete_faults = Broken ∷ ReadOnly ∷ Memory ∷ Device ∷ NoRoom ∷ Damaged ∷ []
 
 abbrev pub store_faults : List Fault
 store_faults = Broken ∷ ReadOnly ∷ TooLong ∷ Full ∷ Memory ∷ Device ∷ NoRoom ∷ Damaged ∷ []
 
--- those of a call that reads
+-- those of an upgrade
+abbrev pub upgrade_faults : List Fault
+upgrade_faults = Broken ∷ ReadOnly ∷ TooSmall ∷ Device ∷ NoRoom ∷ []
+
+-- those of a fetch
+abbrev pub fetch_faults : List Fault
+fetch_faults = Broken ∷ Memory ∷ Device ∷ Damaged ∷ []
+
+-- those of another call that reads
 abbrev pub read_faults : List Fault
 read_faults = Broken ∷ Device ∷ Damaged ∷ []
 
@@ -51,7 +60,7 @@ IsReplyTo (Store key content mode) (Refused fault) = IsAmong fault store_faults
 IsReplyTo (Delete key) Deleted = Unit {0}
 IsReplyTo (Delete key) Absent = Unit {0}
 IsReplyTo (Delete key) (Refused fault) = IsAmong fault delete_faults
-IsReplyTo (Fetch key) reply = IsBytesOr NoRecord read_faults reply
+IsReplyTo (Fetch key) reply = IsBytesOr NoRecord fetch_faults reply
 IsReplyTo First reply = IsBytesOr End read_faults reply
 IsReplyTo Next reply = IsBytesOr End next_faults reply
 IsReplyTo _ reply = ⊥
@@ -83,8 +92,10 @@ refusal reply = Ok tt
 abbrev pub WasRead : {S : Type 0} {s : Ghosts S} → Database S s → Call → Reply → Type 0
 WasRead db (Store key content mode) Kept = Searched db key (EndsWith key)
 WasRead db (Delete key) Absent = Searched db key (EndsWithout key)
-WasRead db (Fetch key) NoRecord = Searched db key (EndsAtContent key None)
-WasRead db (Fetch key) (Bytes content) = Searched db key (EndsAtContent key (Some content))
+WasRead {S} {s} db (Fetch key) NoRecord =
+    Searched db key (EndsAtContent (body_at s (store_of db)) key None)
+WasRead {S} {s} db (Fetch key) (Bytes content) =
+    Searched db key (EndsAtContent (body_at s (store_of db)) key (Some content))
 WasRead db First End = Passed db Begun None
 WasRead db First (Bytes key) = Passed db Begun (Some key)
 WasRead db Next End = WentOn db None

@@ -1,19 +1,23 @@
 -- A call of a database before its error is looked at.
-use Rattle.std.specs.Prelude.{◌≡◌, ◌↔◌, ◌+◌, ◌<◌, ℕ, true, false, List, [], length, is_some, slice_index_or, if◌then◌else◌, Option, Some, None, Result, Ok, Err}
+use Rattle.std.specs.Prelude.{◌≡◌, ◌↔◌, ◌+◌, ℕ, true, false, List, is_some, if◌then◌else◌, Option, Some, None, Result, Ok, Err, OnOk}
+use Rattle.dbm_model.specs.Bounds.{V1, V2}
 use Rattle.dbm_model.specs.Calls as model
+use Rattle.dbm_model.specs.Changes.{bounds_after}
+use Rattle.dbm_model.specs.Pairs.{is_allowed}
 use Rattle.page_io.specs.Views.{ReadsOnly}
 use Rattle.page_io.specs.declared.store.PageStore.{Ghosts}
-use Rattle.slot_page.specs.Contents.{page_pairs}
+use Rattle.dbm_file.specs.Passing.{key_in}
 use Rattle.dbm_fault.specs.Faults.{fault_of}
 use Rattle.dbm_fault.specs.Among.{IsErrAmong}
 use Rattle.dbm_fault.specs.declared.fault.Fault.{Fault}
-use Rattle.dbm_fault.specs.declared.fault.Fault.TheVariants.{Memory, ReadOnly, TooLong}
+use Rattle.dbm_fault.specs.declared.fault.Fault.TheVariants.{Memory, ReadOnly, TooLong, TooSmall}
 use Rattle.linear_hash.specs.Tables.{shape_in, shape_for}
 use Rattle.chain_walks.specs.Walks.{EndsWithout}
-use Rattle.dbm_file.specs.Answers.{IsCallEnded}
-use Rattle.dbm_file.specs.Changing.{WasDeleted, WasStored, HasFullBuckets}
+use Rattle.dbm_file.specs.Answers.{IsCallEnded, IsCallEndedWith}
+use Rattle.dbm_file.specs.Calls.{upgrade_reply}
+use Rattle.dbm_file.specs.Changing.{WasDeleted, WasStored, WasUpgraded, MayNeedMemory, MayUpgrade, IsTooSmall}
 use Rattle.dbm_file.specs.Database.{store_of, meta_kept, page_state}
-use Rattle.dbm_file.specs.Replies.{store_faults, delete_faults}
+use Rattle.dbm_file.specs.Replies.{store_faults, delete_faults, upgrade_faults}
 use Rattle.dbm_file.specs.Searches.{Searched, EndsWith}
 use Rattle.dbm_file.specs.declared.calls.StoreMode.{StoreMode}
 use Rattle.dbm_file.specs.declared.calls.StoreMode.TheVariants.{Insert}
@@ -43,7 +47,7 @@ pub record IsRead {S : Type 0} {s : Ghosts S} (old new : Database S s) : Type 0 
 -- what a pass replies, where the key of its next pair stands in a slot of the page
 abbrev pub slot_reply : List ℕ → Result (Option ℕ) Fault → model.Reply
 slot_reply bytes (Ok None) = model.End
-slot_reply bytes (Ok (Some slot)) = model.Bytes (slice_index_or (page_pairs bytes) slot ([], [])).0
+slot_reply bytes (Ok (Some slot)) = model.Bytes (key_in bytes slot)
 slot_reply bytes (Err fault) = model.Refused (fault_of fault)
 
 -- what a store says on any device beside its step, and a delete; the first fault is kept in the
@@ -57,8 +61,8 @@ pub record IsStoreEnd {S : Type 0} {s : Ghosts S} (old new told : Database S s)
   pub stored : result ≡ Ok Stored → WasStored old new (key, content)
   pub too_long : (result ≡ Err TooLong)
       ↔ (((page_state old).usable ≡ true) × ((page_state old).writable ≡ true)
-      × (2026 < length key + length content))
-  pub memory : result ≡ Err Memory → HasFullBuckets (meta_kept old)
+      × (is_allowed (meta_kept old).bounds.version (key, content) ≡ false))
+  pub memory : result ≡ Err Memory → MayNeedMemory (meta_kept old) (key, content) mode
   pub keeps : IsCallEnded old told result
   pub only : IsErrAmong result store_faults
 
@@ -70,5 +74,17 @@ pub record IsDeleteEnd {S : Type 0} {s : Ghosts S} (old new told : Database S s)
   pub absent : result ≡ Ok Absent → Searched old key (EndsWithout key)
   pub counted : result ≡ Ok Deleted → (meta_kept new).pairs + 1 ≡ (meta_kept old).pairs
   pub deleted : result ≡ Ok Deleted → WasDeleted old new key
+  pub memory : result ≡ Err Memory → (meta_kept old).bounds.version ≡ V2
   pub keeps : IsCallEnded old told result
   pub only : IsErrAmong result delete_faults
+
+pub record IsUpgradeEnd {S : Type 0} {s : Ghosts S} (old new told : Database S s)
+    (result : Result Unit Fault) : Type 0 where
+  pub read_only : (result ≡ Err ReadOnly)
+      ↔ (((page_state old).usable ≡ true) × ((page_state old).writable ≡ false))
+  pub too_small : (result ≡ Err TooSmall) ↔ IsTooSmall old
+  pub second : MayUpgrade old → (meta_kept old).bounds.version ≡ V2 → OnOk result (new ≡ old)
+  pub upgraded : OnOk result ((meta_kept old).bounds.version ≡ V1 → WasUpgraded old new)
+  pub keeps : IsCallEndedWith (bounds_after (meta_kept old).bounds model.Upgrade (upgrade_reply result))
+      old told result
+  pub only : IsErrAmong result upgrade_faults

@@ -4,18 +4,28 @@ ghost use Rattle.dbm_fault.specs.Among.{IsErrAmong};
 ghost use Rattle.page_model.specs.Valid.{IsMeta};
 ghost use Rattle.seg_table.specs.MetaPages.{model_meta};
 
-use crate::pass::{MAX_PAIR, Pass};
-use crate::{DeleteReply, Fault, Stat, StoreMode, StoreReply};
-use linear_hash::{delete_pair, find_pair, next_pair, store_pair};
+use crate::pass::Pass;
+use crate::{Fault, Stat};
+use content_pages::read_content;
+use linear_hash::find_pair;
 use page_cache::CachedPages;
-use page_io::{Page, PageFault, PageStore};
+use page_io::{Page, PageFault, PageStore, Version};
 use redo_area::Pager;
 use seg_table::Meta;
-use slot_page::pair_at;
+use slot_page::{far_at, pair_at};
 use std::alloc::Global;
 
 /// An open database over a device of sectors, whose clean pages are kept in memory.
 pub type Db<D> = Database<CachedPages<Pager<D>>>;
+
+/// Where a content is that was found.
+#[derive(Clone, Copy)]
+pub(crate) enum Found {
+    /// In this slot of the page.
+    InPage(usize),
+    /// In the buffer.
+    InBuffer,
+}
 
 /// An open database over a store of pages.
 #[derive(Drop)]
@@ -23,6 +33,8 @@ pub struct Database<S: PageStore> {
     pub(crate) store: S,
     pub(crate) meta: Meta,
     pub(crate) page: Page,
+    // The last content that was fetched of those that lie in pages of their own.
+    pub(crate) content: Vec<u8>,
     pub(crate) error: Option<Fault>,
     pub(crate) pass: Pass,
     pub(crate) writable: bool,
@@ -33,184 +45,64 @@ pub struct Database<S: PageStore> {
 }
 
 impl<S: PageStore> Database<S> {
-    ghost use Rattle.std.specs.Prelude.{◌≡◌, ◌≢◌, ◌⊎◌, ◌↔◌, ◌+◌, ◌<◌, ◌≤◌, pos, is_some, IsErrOf, IfOk, IfSome, Err, Ok, Option, Some, None, Result, length, true, false};
+    ghost use Rattle.std.specs.Prelude.{◌≡◌, ◌≤◌, pos, IsErrOf, IfOk, IfSome, None, length, true};
     ghost use Rattle.std.specs.Borrow.{sem};
     ghost use Rattle.std.specs.FinMap.{get, len};
-    ghost use Rattle.dbm_model.specs.Calls.{Call, Store, Fetch, Delete, First, Next, Error, Clear, NoRecord, End, Number};
+    ghost use Rattle.dbm_model.specs.Bounds.{V2};
+    ghost use Rattle.dbm_model.specs.Calls.{Fetch, Error, Clear, NoRecord, Number};
     ghost use Rattle.dbm_model.specs.Pairs.{Contents};
     ghost use Rattle.dbm_model.specs.Sizes.{home};
-    ghost use Rattle.dbm_model.specs.States.{NotBegun, Begun, Handle, error_number};
-    ghost use Rattle.dbm_model.specs.Steps.{Passes, IsAhead, case_of};
+    ghost use Rattle.dbm_model.specs.States.{Handle, error_number};
+    ghost use Rattle.dbm_model.specs.Steps.{holds_far};
     ghost use Rattle.page_model.specs.Valid.{meta_buckets};
-    ghost use Rattle.linear_hash.specs.Passing.{IsPassed};
-    ghost use Rattle.linear_hash.specs.Tables.{shape_in, shape_for};
-    ghost use Rattle.dbm_file.specs.Changing.{WasDeleted, WasStored, HasFullBuckets};
-    ghost use Rattle.dbm_file.specs.Calls.{mode_of, store_reply, delete_reply, lent_reply, seen};
-    ghost use Rattle.dbm_file.specs.Database.{store_of, meta_kept, page_state, error_of, IsAt, AtEachHandle};
-    ghost use Rattle.dbm_file.specs.Answers.{IsStep, IsCallEnded};
-    ghost use Rattle.dbm_file.specs.Lending.{Lends};
-    ghost use Rattle.dbm_file.specs.Replies.{store_faults, delete_faults, read_faults, next_faults};
-    ghost use Rattle.dbm_file.specs.Passing.{pass_of, pass_from, pass_at};
-    ghost use Rattle.dbm_file.specs.Searches.{Searched, CanFind, EndsWith, EndsBy, EndsAtContent, Passed, WentOn, LacksPass};
-    ghost use Rattle.dbm_file.specs.Ending.{EndsAs};
-    ghost use Rattle.dbm_file.specs.Trying.{with_error_of, IsRead, IsStoreEnd, IsDeleteEnd, slot_reply};
     ghost use Rattle.page_commit.specs.Committing.{Holds};
-    ghost use Rattle.chain_walks.specs.Answers.{IsWalkAnswer};
-    ghost use Rattle.chain_walks.specs.Leasts.{IsAheadAt};
-    ghost use Rattle.chain_walks.specs.Walks.{EndsWithout};
     ghost use Rattle.page_io.specs.Answers.{HasDeviceCause};
+    ghost use Rattle.page_io.specs.Versions.{model_version};
     ghost use Rattle.page_io.specs.Views.{body_at};
-    ghost use Rattle.slot_page.specs.Contents.{IsBucketPage, page_pairs};
-    ghost use Rattle.page_io.specs.declared.store.PageFault.TheVariants.{Damaged};
+    ghost use Rattle.page_io.specs.declared.store.PageFault.TheVariants.{Memory, Damaged};
+    ghost use Rattle.chain_walks.specs.Answers.{IsLoadAnswer};
+    ghost use Rattle.dbm_file.specs.Answers.{IsStep};
+    ghost use Rattle.dbm_file.specs.Calls.{lent_reply, seen};
+    ghost use Rattle.dbm_file.specs.Database.{store_of, meta_kept, page_state, error_of, IsAt, AtEachHandle};
+    ghost use Rattle.dbm_file.specs.Ending.{EndsAs};
+    ghost use Rattle.dbm_file.specs.Fetching.{IsThere, content_in};
+    ghost use Rattle.dbm_file.specs.Lending.{Lends};
+    ghost use Rattle.dbm_file.specs.Passing.{pass_of};
+    ghost use Rattle.dbm_file.specs.Replies.{fetch_faults};
+    ghost use Rattle.dbm_file.specs.Rooms.{longest_content};
+    ghost use Rattle.dbm_file.specs.Searches.{Searched, CanFetch, EndsAtContent};
+    ghost use Rattle.dbm_file.specs.Trying.{IsRead};
 
     /// The content that the key has (POSIX: `dbm_fetch`). The slice lies in the database, and ends
-    /// with the next call. It is never refused for memory. In this order: `Broken`; then `Device`
-    /// or `Damaged` while pages are read.
+    /// with the next call. In this order: `Broken`; `Device` or `Damaged` while the key is looked
+    /// up; and of a content that lies in pages of its own, which a file of version 1 has none of,
+    /// `Memory`, then `Device` or `Damaged` while those pages are read.
     pub fn fetch(&mut self, key: &[u8]) -> Result<Option<&[u8]>, Fault>
         ensures* after { sem 𝓛 (EndsAs S.row S.PageStore self.entry
             (Lends (Fetch key.now) (lent_reply NoRecord) self.old result)) }
-        ensures short { IfOk result (λ r. IfSome r (λ content. length content.now ≤ 2026)) }
+        ensures short { IfOk result (λ r. IfSome r (λ content.
+            length content.now ≤ longest_content (meta_kept self.old).bounds.version)) }
 
-        // On any file the answer was read from the key's bucket, up to the key or to the end.
-        ensures searched { IfOk result
-            (λ found. Searched self.old key.now (EndsAtContent key.now (seen found))) }
+        // On any file the answer was read from the key's bucket, up to the key or to the end, and
+        // from the pages of its content.
+        ensures searched { IfOk result (λ found. Searched self.old key.now
+            (EndsAtContent (body_at S.PageStore (store_of self.old)) key.now (seen found))) }
 
-        // A damaged page is met only where the search reads it.
-        ensures readable { CanFind self.old key.now → IsErrOf result Fault.Damaged → ⊥ }
-        ensures only { IsErrAmong result read_faults }
+        // A damaged page is met only where the search or the content has it.
+        ensures readable { CanFetch self.old key.now → IsErrOf result Fault.Damaged → ⊥ }
+
+        // On any file of version 1 it takes no memory.
+        ensures memory { IsErrOf result Fault.Memory → (meta_kept self.old).bounds.version ≡ V2 }
+        ensures only { IsErrAmong result fetch_faults }
     {
         if self.store.is_broken() {
             return refuse(&mut self.error, Fault::Broken);
         }
-        match find_pair(&mut self.store, &self.meta, key, &mut self.page) {
+        match self.find(key) {
             Ok(None) => Ok(None),
-            Ok(Some(place)) => Ok(Some(pair_at(&self.page, place.slot).1)),
+            Ok(Some(Found::InPage(slot))) => Ok(Some(pair_at(&self.page, slot).1)),
+            Ok(Some(Found::InBuffer)) => Ok(Some(self.content.as_slice())),
             Err(fault) => refuse(&mut self.error, Fault::from(fault)),
-        }
-    }
-
-    /// Stores a pair (POSIX: `dbm_store`), in one commit. In this order: `Broken`; `ReadOnly`;
-    /// `TooLong` where key and content together are above 2,026 bytes; `Device` or `Damaged` while
-    /// the key is looked up; `Kept`; `Full` where the key is new and the limit is reached; then
-    /// `Device`, `NoRoom`, `Damaged`, or `Memory` where a bucket is split, as the work meets them.
-    /// Where the commit fails by `Device`, the database is broken, and opening the device again
-    /// settles whether the pair is there.
-    pub fn store(
-        &mut self,
-        key: &[u8],
-        content: &[u8],
-        mode: StoreMode,
-    ) -> Result<StoreReply, Fault>
-        ensures step { AtEachHandle self.old (λ h.
-            IsStep self.old self.new h (Store key.now content.now (mode_of mode)) (store_reply result)) }
-        ensures shape { shape_in (meta_kept self.new)
-            ≡ shape_for (meta_kept self.new).pairs (shape_in (meta_kept self.old)) }
-        ensures read_only { (result ≡ Err Fault.ReadOnly)
-            ↔ (((page_state self.old).usable ≡ true) × ((page_state self.old).writable ≡ false)) }
-        ensures kept { result ≡ Ok StoreReply.Kept
-            → (mode ≡ StoreMode.Insert) × Searched self.old key.now (EndsWith key.now) }
-
-        // On any file the pair was put into its bucket, and one was split where that is due.
-        ensures stored { result ≡ Ok StoreReply.Stored
-            → WasStored self.old self.new (key.now, content.now) }
-        ensures too_long { (result ≡ Err Fault.TooLong)
-            ↔ (((page_state self.old).usable ≡ true) × ((page_state self.old).writable ≡ true)
-            × (2026 < length key.now + length content.now)) }
-
-        // On any file a store takes memory only where there are eight pairs to a bucket.
-        ensures memory { result ≡ Err Fault.Memory → HasFullBuckets (meta_kept self.old) }
-        ensures keeps { IsCallEnded self.old self.new result }
-        ensures pass { pass_of self.new ≡ pass_of self.old }
-        ensures only { IsErrAmong result store_faults }
-    {
-        match self.try_store(key, content, mode) {
-            Ok(reply) => Ok(reply),
-            Err(fault) => refuse(&mut self.error, fault),
-        }
-    }
-
-    /// Deletes a key with its content (POSIX: `dbm_delete`), in one commit. In this order:
-    /// `Broken`; `ReadOnly`; `Device` or `Damaged` while the key is looked up; `Absent`; then
-    /// `Device`, `NoRoom` or `Damaged` as the work meets them, `Damaged` also where the file counts
-    /// no pair. It is never refused for memory.
-    pub fn delete(&mut self, key: &[u8]) -> Result<DeleteReply, Fault>
-        ensures step { AtEachHandle self.old (λ h.
-            IsStep self.old self.new h (Delete key.now) (delete_reply result)) }
-        ensures shape { shape_in (meta_kept self.new) ≡ shape_in (meta_kept self.old) }
-        ensures read_only { (result ≡ Err Fault.ReadOnly)
-            ↔ (((page_state self.old).usable ≡ true) × ((page_state self.old).writable ≡ false)) }
-        ensures absent { result ≡ Ok DeleteReply.Absent
-            → Searched self.old key.now (EndsWithout key.now) }
-        ensures counted { result ≡ Ok DeleteReply.Deleted
-            → (meta_kept self.new).pairs + 1 ≡ (meta_kept self.old).pairs }
-
-        // On any file the key was taken out of its bucket.
-        ensures deleted { result ≡ Ok DeleteReply.Deleted
-            → WasDeleted self.old self.new key.now }
-        ensures keeps { IsCallEnded self.old self.new result }
-        ensures pass { pass_of self.new ≡ pass_of self.old }
-        ensures only { IsErrAmong result delete_faults }
-    {
-        match self.try_delete(key) {
-            Ok(reply) => Ok(reply),
-            Err(fault) => refuse(&mut self.error, fault),
-        }
-    }
-
-    /// Begins a pass over all keys, and gives the first one, or `None` where there is none (POSIX:
-    /// `dbm_firstkey`). Keys come in the order of their hashes' bits from the lowest up, then by
-    /// bytes. The slice lies in the database, and ends with the next call. It is never refused for
-    /// memory. In this order: `Broken`; then `Device` or `Damaged` while pages are read. Where it
-    /// is refused, a pass that was on stays.
-    pub fn firstkey(&mut self) -> Result<Option<&[u8]>, Fault>
-        ensures* after { sem 𝓛 (EndsAs S.row S.PageStore self.entry
-            (Lends First (lent_reply End) self.old result)) }
-        ensures short { IfOk result (λ r. IfSome r (λ key. length key.now ≤ 2026)) }
-
-        // On any file the buckets were read from the first one on.
-        ensures passed { IfOk result (λ found. Passed self.old Begun (seen found)) }
-        ensures only { IsErrAmong result read_faults }
-    {
-        if self.store.is_broken() {
-            return refuse(&mut self.error, Fault::Broken);
-        }
-        match self.advance(true) {
-            Ok(Some(slot)) => Ok(Some(pair_at(&self.page, slot).0)),
-            Ok(None) => Ok(None),
-            Err(fault) => Err(fault),
-        }
-    }
-
-    /// The next key of the pass: of those that are there now, the first one behind the last that it
-    /// gave, or `None` where there is none (POSIX: `dbm_nextkey`, which needs a new `dbm_firstkey`
-    /// after a change; this one goes on). The slice lies in the database, and ends with the next
-    /// call. It is never refused for memory. In this order: `Broken`; `NoPass` where no pass was
-    /// begun since the opening; then `Device` or `Damaged` while pages are read. A refusal leaves
-    /// the pass where it is.
-    pub fn nextkey(&mut self) -> Result<Option<&[u8]>, Fault>
-        ensures* after { sem 𝓛 (EndsAs S.row S.PageStore self.entry
-            (Lends Next (lent_reply End) self.old result)) }
-        ensures short { IfOk result (λ r. IfSome r (λ key. length key.now ≤ 2026)) }
-
-        // On any file the buckets were read from where the pass stood.
-        ensures passed { IfOk result (λ found. WentOn self.old (seen found)) }
-
-        // On any bytes a key is behind the place where the pass stood.
-        ensures ahead { IfOk result (λ found.
-            IfSome found (λ key. IsAhead (pass_of self.old) key.now)) }
-        ensures no_pass { (result ≡ Err Fault.NoPass) ↔ LacksPass self.old }
-        ensures only { IsErrAmong result next_faults }
-    {
-        if self.store.is_broken() {
-            return refuse(&mut self.error, Fault::Broken);
-        }
-        if !self.pass.is_begun() {
-            return refuse(&mut self.error, Fault::NoPass);
-        }
-        match self.advance(false) {
-            Ok(Some(slot)) => Ok(Some(pair_at(&self.page, slot).0)),
-            Ok(None) => Ok(None),
-            Err(fault) => Err(fault),
         }
     }
 
@@ -268,119 +160,43 @@ impl<S: PageStore> Database<S> {
         }
     }
 
-    // `store`, with no look at the error.
-    fn try_store(
-        &mut self,
-        key: &[u8],
-        content: &[u8],
-        mode: StoreMode,
-    ) -> Result<StoreReply, Fault>
-        ensures step { AtEachHandle self.old (λ h.
-            IsStep self.old (with_error_of self.new result) h (Store key.now content.now (mode_of mode)) (store_reply result)) }
-        ensures ends { IsStoreEnd self.old self.new (with_error_of self.new result) key.now
-            content.now mode result }
-        ensures pass { pass_of self.new ≡ pass_of self.old }
+    /// The version of the database's format. No device call is made.
+    pub fn version(&self) -> Version
+        ensures { model_version result ≡ (meta_kept self.now).bounds.version }
     {
-        if self.store.is_broken() {
-            return Err(Fault::Broken);
-        }
-        if !self.writable {
-            return Err(Fault::ReadOnly);
-        }
-        if key.len() + content.len() > MAX_PAIR {
-            return Err(Fault::TooLong);
-        }
-        let was_there = self.has(key)?;
-        if was_there && mode == StoreMode::Insert {
-            return Ok(StoreReply::Kept);
-        }
-        if !was_there && self.meta.pairs >= self.meta.limit {
-            return Err(Fault::Full);
-        }
-        store_pair(
-            self.alloc,
-            &mut self.store,
-            &mut self.meta,
-            key,
-            content,
-            was_there,
-        )?;
-        Ok(StoreReply::Stored)
+        self.meta.version
     }
 
-    // `delete`, with no look at the error.
-    fn try_delete(&mut self, key: &[u8]) -> Result<DeleteReply, Fault>
-        ensures step { AtEachHandle self.old (λ h.
-            IsStep self.old (with_error_of self.new result) h (Delete key.now) (delete_reply result)) }
-        ensures ends { IsDeleteEnd self.old self.new (with_error_of self.new result)
-            key.now result }
-        ensures pass { pass_of self.new ≡ pass_of self.old }
-    {
-        if self.store.is_broken() {
-            return Err(Fault::Broken);
-        }
-        if !self.writable {
-            return Err(Fault::ReadOnly);
-        }
-        if !self.has(key)? {
-            return Ok(DeleteReply::Absent);
-        }
-        if self.meta.pairs == 0 {
-            return Err(Fault::Damaged);
-        }
-        delete_pair(&mut self.store, &mut self.meta, key)?;
-        Ok(DeleteReply::Deleted)
-    }
-
-    // Moves the pass behind its next key, whose slot in the page is given; a pass is begun, or the
-    // one that is on goes on. A refusal leaves the pass where it is, and the first fault is kept.
-    fn advance(&mut self, begins: bool) -> Result<Option<usize>, Fault>
-        requires usable { (page_state self.old).usable ≡ true }
-        requires begun { (begins ≡ true) ⊎ (pass_of self.old ≢ NotBegun) }
-        ensures step { AtEachHandle self.old (λ h.
-            (call : Call) → case_of h call ≡ Passes (pass_from begins self.old)
-            → IsStep self.old self.new h call (slot_reply self.new.page.bytes result)) }
-        ensures ahead { IfOk result (λ found. IfSome found (λ slot.
-            IsAheadAt (pass_from begins self.old) self.new.page.bytes slot)) }
-        ensures stands { IfOk result (λ found.
-            pass_of self.new ≡ pass_at (pass_from begins self.old) self.new.page.bytes found) }
-        ensures passed { S.honest (store_of self.old)
-            → IfOk result (IsPassed (body_at S.PageStore (store_of self.old)) (meta_kept self.old)
-            (pass_from begins self.old) self.new.page.bytes) }
-        ensures keeps { IsCallEnded self.old self.new result }
-        ensures only { IsErrAmong result (Fault.Device ∷ Fault.Damaged ∷ []) }
-    {
-        let last = self.pass.last(begins);
-        match next_pair(&mut self.store, &self.meta, last, &mut self.page) {
-            Ok(Some(slot)) => {
-                self.pass.go_behind(pair_at(&self.page, slot).0);
-                Ok(Some(slot))
-            }
-            Ok(None) if begins => {
-                self.pass = Pass::Begun;
-                Ok(None)
-            }
-            Ok(None) => Ok(None),
-            Err(fault) => refuse(&mut self.error, Fault::from(fault)),
-        }
-    }
-
-    // Whether the key is there.
-    fn has(&mut self, key: &[u8]) -> Result<bool, PageFault>
+    // Looks the key up, and reads its content into the buffer where that lies in pages of its own.
+    fn find(&mut self, key: &[u8]) -> Result<Option<Found>, PageFault>
         ensures reads { IsRead self.old self.new }
         ensures cause { HasDeviceCause (S.faults (store_of self.old))
             (S.faults (store_of self.new)) result }
-        ensures answer { IsWalkAnswer (page_state self.old) result }
-        ensures searched { IfOk result (λ there. Searched self.old key.now (EndsBy key.now there)) }
+        ensures answer { IsLoadAnswer (page_state self.old) result }
+        ensures memory { IsErrOf result Memory → (meta_kept self.old).bounds.version ≡ V2 }
+        ensures held { IfOk result (λ found. IfSome found (IsThere self.new)) }
+        ensures searched { IfOk result (λ found. Searched self.old key.now
+            (EndsAtContent (body_at S.PageStore (store_of self.old)) key.now
+            (content_in self.new found))) }
+        ensures readable { CanFetch self.old key.now → IsErrOf result Damaged → ⊥ }
         ensures exact { S.honest (store_of self.old) → (map : Contents)
             → Holds S.PageStore (store_of self.old) (meta_kept self.old) map
-            → IfOk result (λ there. there ≡ is_some (get map key.now)) }
+            → IfOk result (λ found. content_in self.new found ≡ get map key.now) }
+        ensures sparing { S.honest (store_of self.old) → (map : Contents)
+            → Holds S.PageStore (store_of self.old) (meta_kept self.old) map
+            → IsErrOf result Memory → holds_far key.now (get map key.now) ≡ true }
         ensures whole { S.honest (store_of self.old) → (map : Contents)
             → Holds S.PageStore (store_of self.old) (meta_kept self.old) map
             → IsErrOf result Damaged → ⊥ }
     {
-        let place = find_pair(&mut self.store, &self.meta, key, &mut self.page)?;
-        Ok(place.is_some())
+        let Some(place) = find_pair(&mut self.store, &self.meta, key, &mut self.page)? else {
+            return Ok(None);
+        };
+        let Some((first, long)) = far_at(&self.page, place.slot) else {
+            return Ok(Some(Found::InPage(place.slot)));
+        };
+        read_content(&mut self.store, first, long, &mut self.content)?;
+        Ok(Some(Found::InBuffer))
     }
 }
 

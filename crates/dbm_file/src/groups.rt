@@ -3,12 +3,11 @@ ghost use Rattle.std.specs.Prelude.{◌≡◌, ◌↔◌, ◌≤◌, true, false
 ghost use Rattle.dbm_fault.specs.Among.{IsErrAmong};
 ghost use Rattle.page_io.specs.Answers.{HasDeviceCause};
 ghost use Rattle.page_io.specs.declared.store.PageFault.TheVariants.{Device};
-ghost use Rattle.chain_walks.specs.Pairs.{pair_of};
+ghost use Rattle.dbm_file.specs.Pairs.{pair_of};
 
 use crate::database::{Database, refuse};
 use crate::pass::Pass;
-use crate::{Fault, StoreMode};
-use chain_walks::Pair;
+use crate::{Fault, Pair, StoreMode};
 use page_group::GroupPages;
 use page_io::{Page, PageFault, PageStore};
 
@@ -91,6 +90,7 @@ impl<S: PageStore> Database<S> {
             store: GroupPages::over(self.alloc, &self.store),
             meta: self.meta.copied(),
             page: Page::blank(),
+            content: Vec::new(self.alloc),
             error: None,
             pass: Pass::NotBegun,
             writable: true,

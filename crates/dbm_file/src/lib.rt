@@ -3,22 +3,26 @@
 #![tactic(auto)]
 
 mod calls;
+mod changing;
 mod database;
 mod groups;
 mod named;
 mod octets;
 mod opening;
+mod pair;
 mod pass;
+mod passing;
 mod running;
 mod serving;
 mod syncing;
 mod verifying;
 
 pub use calls::{Call, DeleteReply, Reply, Stat, StoreMode, StoreReply};
-pub use chain_walks::Pair;
 pub use database::{Database, Db};
 pub use file_check::{Unwatched, Watch};
-pub use file_opening::{Access, Fault, OpenHow, needed_sectors};
+pub use file_opening::{Access, Fault, OpenHow, needed_sectors, needed_sectors_of};
 pub use named::{FILE_SECTORS, Refusal, dbm_open, open_named};
 pub use octets::Octets;
+pub use page_io::Version;
+pub use pair::Pair;
 pub use running::run;

@@ -15,9 +15,9 @@ use std::io;
 use std::rt::Files;
 use thiserror::Error;
 
-/// How many sectors a file has room for: what a database of 1,000,000 pairs needs, 4.6 GB. A file
-/// grows as it is written.
-pub const FILE_SECTORS: u32 = 9_001_992;
+/// How many sectors a file has room for: what a database of version 2 of 1,000,000 pairs needs,
+/// 140 GB. A file grows as it is written.
+pub const FILE_SECTORS: u32 = 273_001_992;
 
 /// Why the database of a name was not opened.
 #[derive(Clone, Copy, Debug, Error)]
@@ -43,7 +43,7 @@ pub fn dbm_open<R: Files<File = File>>(
     name: &str,
     how: OpenHow,
 ) -> Result<Db<FileDev>, Fault>
-    ensures fresh { IfOk result (IsNewlyOpened (writes how.access) 2250498) }
+    ensures fresh { IfOk result (IsNewlyOpened (writes how.access) 68250498) }
 
     // A file has room for twice as many pages as a database of any limit needs.
     ensures room { IfOk result HasRoom }
@@ -73,7 +73,7 @@ pub fn open_named<R: Files<File = File>>(
     name: &str,
     how: OpenHow,
 ) -> Result<Db<FileDev>, Refusal>
-    ensures fresh { IfOk result (IsNewlyOpened (writes how.access) 2250498) }
+    ensures fresh { IfOk result (IsNewlyOpened (writes how.access) 68250498) }
     ensures room { IfOk result HasRoom }
     ensures missing { IfErr result
         (λ e. e.fault ≡ Fault.Missing → (writes how.access && how.create) ≡ false) }

@@ -34,8 +34,8 @@ impl<D: SectorDev> Database<CachedPages<Pager<D>>> {
     ///    reading, nothing is written and nothing synced: the pages of such a commit are read into
     ///    memory, where `Memory` may come.
     /// 3. Where the device is blank: `NotADatabase` without `create`, `ReadOnly` where it is opened
-    ///    for reading, `BadLimit` outside 1 to 1,000,000, `TooSmall` below `needed_sectors`, and
-    ///    `Device` while the empty database is made.
+    ///    for reading, `BadLimit` outside 1 to 1,000,000, `TooSmall` below `needed_sectors_of` the
+    ///    version asked for, and `Device` while the empty database is made.
     /// 4. Where it isn't: `Exists` with `create` and `exclusive`, whatever it holds; `NotADatabase`
     ///    where the first sector has another magic, `Damaged` where it or a redo image breaks a
     ///    rule.
@@ -104,6 +104,7 @@ impl<D: SectorDev> Database<CachedPages<Pager<D>>> {
                 store: CachedPages::new(alloc, file.store),
                 meta: file.meta,
                 page: Page::blank(),
+                content: Vec::new(alloc),
                 error: None,
                 pass: Pass::NotBegun,
                 writable: file.writable,

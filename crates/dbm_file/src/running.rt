@@ -1,18 +1,20 @@
 // A list of calls, one after another.
-ghost use Rattle.std.specs.Prelude.{◌≡◌, ◌<◌, ◌≤◌, ◌+◌, ◌∷◌, [], IfOk, IfErr, IfSome, IsTrue, map, vec_len, length};
+ghost use Rattle.std.specs.Prelude.{◌≡◌, ◌<◌, ◌≤◌, ◌+◌, ◌∷◌, ℕ, List, IfOk, IfErr, IfSome, map, vec_len, length};
+ghost use Rattle.dbm_file.specs.declared.calls.Call.{Call};
 ghost use Rattle.dbm_file.specs.Calls.{call_of, reply_of};
-ghost use Rattle.dbm_file.specs.Database.{AtEachHandle};
+ghost use Rattle.page_io.specs.Versions.{model_version};
+ghost use Rattle.dbm_file.specs.Database.{meta_kept, AtEachHandle};
 ghost use Rattle.dbm_file.specs.Answers.{IsStep, IsSameDatabase};
 ghost use Rattle.dbm_file.specs.Replies.{IsAnswered, AreAnswered, told_of_store, told_of_delete, told_of_bytes};
-ghost use Rattle.dbm_file.specs.Rooms.{IsRoom, AreRooms, rooms_in, gives_bytes as call_gives_bytes};
+ghost use Rattle.dbm_file.specs.Rooms.{IsRoom, AreRooms, AreRoomsFor, longest_content};
 ghost use Rattle.dbm_file.specs.Runs.{IsRun, IsMadeInSteps};
 
-use crate::{Call, Database, DeleteReply, Fault, Octets, Reply, StoreReply};
+use crate::{Call, Database, DeleteReply, Fault, Octets, Reply, StoreReply, Version};
 use page_io::PageStore;
 use std::alloc::{AllocError, Global};
 
-/// The bytes that a content or a key may have.
-const LONGEST_REPLY: usize = 2026;
+/// The most bytes that a key may have.
+const LONGEST_KEY: usize = 2026;
 
 /// Makes the calls in order, and gives one reply a call. The list of the replies and the room of
 /// each content and key are reserved first: `Memory` there means that no call was made, and no call
@@ -42,7 +44,7 @@ pub fn run<S: PageStore>(
     let Ok(mut replies) = Vec::with_capacity(alloc, calls.len()) else {
         return Err(Fault::Memory);
     };
-    let Ok(mut rooms) = rooms_for(alloc, calls) else {
+    let Ok(mut rooms) = rooms_for(alloc, calls, db.version()) else {
         return Err(Fault::Memory);
     };
     for call in calls {
@@ -52,45 +54,69 @@ pub fn run<S: PageStore>(
     Ok(replies)
 }
 
-/// A room for each call that gives bytes.
-fn rooms_for(alloc: Global, calls: &[Call]) -> Result<Vec<Vec<u8>>, AllocError>
-    ensures { IfOk result (AreRooms (rooms_in calls.now)) }
+/// Empty rooms for the contents and the keys that calls give.
+#[derive(Drop)]
+struct Rooms {
+    contents: Vec<Vec<u8>>,
+    keys: Vec<Vec<u8>>,
+}
+
+/// The most bytes that a content may have in a file of this version.
+fn longest_content(version: Version) -> usize
+    ensures { result ≡ longest_content (model_version version) }
 {
-    let mut rooms = Vec::new(alloc);
+    match version {
+        Version::V1 => 2026,
+        Version::V2 => 65_535,
+    }
+}
+
+/// A room for each call that gives bytes.
+fn rooms_for(alloc: Global, calls: &[Call], version: Version) -> Result<Rooms, AllocError>
+    ensures { IfOk result (AreRoomsFor (model_version version) calls.now) }
+{
+    let mut rooms = Rooms {
+        contents: Vec::new(alloc),
+        keys: Vec::new(alloc),
+    };
     for call in calls {
-        if gives_bytes(call) {
-            rooms.push(Vec::with_capacity(alloc, LONGEST_REPLY)?)?;
+        match call {
+            Call::Fetch(_) => {
+                let room = Vec::with_capacity(alloc, longest_content(version))?;
+                rooms.contents.push(room)?;
+            }
+            Call::First | Call::Next => {
+                rooms.keys.push(Vec::with_capacity(alloc, LONGEST_KEY)?)?;
+            }
+            _ => {}
         }
     }
     Ok(rooms)
 }
 
-/// Whether the reply has a content or a key.
-fn gives_bytes(call: &Call) -> bool
-    ensures { result ≡ call_gives_bytes call.now }
-{
-    matches!(call, Call::Fetch(_) | Call::First | Call::Next)
-}
-
 /// Makes a call. One that gives bytes takes one of the rooms.
-fn answer<S: PageStore>(db: &mut Database<S>, call: &Call, rooms: &mut Vec<Vec<u8>>) -> Reply
-    requires { AreRooms (vec_len rooms.old) rooms.old
-        × (IsTrue (call_gives_bytes call.now) → 0 < vec_len rooms.old) }
+fn answer<S: PageStore>(db: &mut Database<S>, call: &Call, rooms: &mut Rooms) -> Reply
+    requires { (later : List Call) × AreRoomsFor (meta_kept db.old).bounds.version
+        (call.now ∷ later) rooms.old }
     ensures step { AtEachHandle db.old
         (λ h. IsStep db.old db.new h (call_of call.now) (reply_of result)) }
     ensures answered { IsAnswered db.old db.new call.now result }
     ensures goes { IsSameDatabase db.old db.new }
-    ensures rooms { AreRooms (vec_len rooms.new) rooms.new }
-    ensures taken { vec_len rooms.old ≡ rooms_in (call.now ∷ []) + vec_len rooms.new }
+    ensures rooms { (later : List Call) → AreRoomsFor (meta_kept db.old).bounds.version
+        (call.now ∷ later) rooms.old
+        → AreRoomsFor (meta_kept db.old).bounds.version later rooms.new }
 {
     match call {
         Call::Store { key, content, mode } => {
             store_told(db.store(key.as_slice(), content.as_slice(), *mode))
         }
-        Call::Fetch(key) => bytes_in(take_room(rooms), db.fetch(key.as_slice()), Reply::NoRecord),
+        Call::Fetch(key) => {
+            let room = take_room(&mut rooms.contents);
+            bytes_in(room, db.fetch(key.as_slice()), Reply::NoRecord)
+        }
         Call::Delete(key) => delete_told(db.delete(key.as_slice())),
-        Call::First => bytes_in(take_room(rooms), db.firstkey(), Reply::End),
-        Call::Next => bytes_in(take_room(rooms), db.nextkey(), Reply::End),
+        Call::First => bytes_in(take_room(&mut rooms.keys), db.firstkey(), Reply::End),
+        Call::Next => bytes_in(take_room(&mut rooms.keys), db.nextkey(), Reply::End),
         Call::Error => Reply::Number(db.error()),
         Call::Clear => Reply::Number(db.clearerr()),
     }
@@ -98,10 +124,9 @@ fn answer<S: PageStore>(db: &mut Database<S>, call: &Call, rooms: &mut Vec<Vec<u
 
 /// One of the rooms.
 fn take_room(rooms: &mut Vec<Vec<u8>>) -> Vec<u8>
-    requires { AreRooms (vec_len rooms.old) rooms.old × (0 < vec_len rooms.old) }
-    ensures room { IsRoom result }
-    ensures rooms { AreRooms (vec_len rooms.new) rooms.new }
-    ensures taken { vec_len rooms.old ≡ vec_len rooms.new + 1 }
+    requires { 0 < vec_len rooms.old }
+    ensures taken { (size count : ℕ) → AreRooms size (count + 1) rooms.old
+        → IsRoom size result × AreRooms size count rooms.new }
 {
     rooms.pop().unwrap()
 }
@@ -130,8 +155,8 @@ fn delete_told(ended: Result<DeleteReply, Fault>) -> Reply
 
 /// The reply that gives bytes, which are copied into a room, or `none` where there are none.
 fn bytes_in(mut room: Vec<u8>, found: Result<Option<&[u8]>, Fault>, none: Reply) -> Reply
-    requires room { IsRoom room }
-    requires short { IfOk found (λ r. IfSome r (λ bytes. length bytes.now ≤ 2026)) }
+    requires { (size : ℕ) × IsRoom size room
+        × IfOk found (λ r. IfSome r (λ bytes. length bytes.now ≤ size)) }
     ensures { result ≡ told_of_bytes none found.entry }
 {
     match found {

@@ -1,8 +1,8 @@
 -- Fields that are written and read byte by byte.
-use Rattle.std.proofs.Common.{◌≡◌, ◌==◌, ℕ, ◌+◌, ◌-◌, ◌<◌, ◌≤◌, List, [], ◌∷◌, ◌++◌, length, take, drop, get_or, set, Option, Some, None, Result, Ok, Err, MatchResult, refl, sym, ap, subst, ◌∙◌, arith, append-nil, append_assoc, length-drop}
+use Rattle.std.proofs.Common.{◌≡◌, ◌==◌, ℕ, ◌+◌, ◌-◌, ◌<◌, ◌≤◌, List, [], ◌∷◌, ◌++◌, length, take, drop, get_or, Option, Some, None, Result, Ok, Err, MatchResult, refl, sym, ap, subst, ◌∙◌, arith, append-nil, append_assoc, length-drop}
 use Rattle.std.specs.Io.KnownBytes.{Appends}
 use Rattle.std.specs.Result.{result_ok}
-use Rattle.std.proofs.lemmas.List.{take_more, take_more_set, flat_map_more, get_or-drop}
+use Rattle.std.proofs.lemmas.List.{take_more, flat_map_more, get_or-drop}
 use Rattle.hex.specs.declared.error.FromHexError.{FromHexError}
 use Rattle.dbm_text.specs.Escapes.{escape_of, escaped, joined, fields_in, pair_of_fields}
 use Rattle.dbm_lines.proofs.Requests.{first_part}
@@ -19,7 +19,7 @@ byte_decoded (Ok bytes) (x ∷ []) done answer well h one = ap (λ l. Some l) h.
 byte_decoded (Ok bytes) (x ∷ y ∷ more) done answer well h one = absurd (omega (arith, one))
 byte_decoded (Err e) out done answer well h one = cc
 
-pub nothing_before : (bytes : Option (List ℕ)) → bytes ≡ joined (Some []) bytes
+nothing_before : (bytes : Option (List ℕ)) → bytes ≡ joined (Some []) bytes
 nothing_before None = refl
 nothing_before (Some bytes) = refl
 
@@ -28,14 +28,18 @@ one_behind : (front : List ℕ) (byte : ℕ) (rest : Option (List ℕ))
 one_behind front byte None = refl
 one_behind front byte (Some bytes) = ap (λ l. Some l) (sym (append_assoc front (byte ∷ []) bytes))
 
+-- nothing is read yet
+pub read_first : (front : List ℕ) (bytes : Option (List ℕ)) → front ≡ []
+    → bytes ≡ joined (Some front) bytes
+read_first front bytes none = rw none (nothing_before bytes)
+
 -- one more byte is read
-pub read_on : (whole rest behind : Option (List ℕ)) (room : List ℕ) (filled byte : ℕ)
-    → filled < length room → whole ≡ joined (Some (take filled room)) rest
-    → rest ≡ joined (Some (byte ∷ [])) behind
-    → whole ≡ joined (Some (take (filled + 1) (set room filled byte))) behind
-read_on whole rest behind room filled byte fits so_far one =
-    so_far ∙ ap (joined (Some (take filled room))) one ∙ one_behind (take filled room) byte behind
-    ∙ ap (λ front. joined (Some front) behind) (sym (take_more_set room filled byte fits))
+pub read_on : (whole rest behind : Option (List ℕ)) (front longer : List ℕ) (byte : ℕ)
+    → whole ≡ joined (Some front) rest → rest ≡ joined (Some (byte ∷ [])) behind
+    → longer ≡ front ++ byte ∷ [] → whole ≡ joined (Some longer) behind
+read_on whole rest behind front longer byte so_far one more =
+    so_far ∙ ap (joined (Some front)) one ∙ one_behind front byte behind
+    ∙ ap (λ l. joined (Some l) behind) (sym more)
 
 -- a pair has two fields
 pub fields_of_more : (fields key second content rest : List ℕ)

@@ -8,8 +8,8 @@ use Rattle.std.proofs.lemmas.List.Elements.{All-append, All-cons, All-head, All-
 use Rattle.std.proofs.lemmas.List.Splits.{slice_split_at, slice_split_none}
 use Rattle.hex.specs.Hex.{encode_lower, is_hex_digit}
 use Rattle.hex.proofs.HexLemmas.{decode_of-ok, decode_of-encode_lower}
-use Rattle.dbm_text.specs.Escapes.{escaped, unescaped, fields_in, pair_of_fields, pair_of_text_line}
-use Rattle.dbm_text.specs.Lines.{lines_of, onto_line, words_in, with_line_feed}
+use Rattle.dbm_text.specs.Escapes.{escaped, unescaped, fields_in, pair_of_fields, longest_text_line, pair_of_text_line}
+use Rattle.dbm_text.specs.Lines.{lines_of, onto_line, words_in, with_line_feed, longest_line}
 use Rattle.page_model.specs.PairLists.{AreBytes, HasBytes}
 use Rattle.dbm_model.specs.Pairs.{Pair}
 use Rattle.dbm_text.specs.Words.{word_of, word_bytes}
@@ -21,7 +21,7 @@ use Rattle.dbm_lines.specs.declared.forms.TextForm.TheVariants.{Hexadecimal, Esc
 use Rattle.dbm_lines.specs.PairLines.{pair_of_words, pair_of_line, Say}
 
 -- the byte is nowhere among these
-abbrev IsWithout : ℕ → List ℕ → Type 0
+abbrev pub IsWithout : ℕ → List ℕ → Type 0
 IsWithout byte bytes = All (λ x. (x == byte) ≡ false) bytes
 
 no_digit : (byte x : ℕ) → is_hex_digit byte ≡ false → is_hex_digit x ≡ true → (x == byte) ≡ false
@@ -41,7 +41,7 @@ word_without byte other dot (b ∷ bytes) small =
     λ k d lt. no_digit byte _ other (digits k d lt)
 
 -- the line up to a line feed
-lines_after : (line text : List ℕ) → IsWithout 10 line
+pub lines_after : (line text : List ℕ) → IsWithout 10 line
     → lines_of (line ++ 10 ∷ text) ≡ line ∷ lines_of text
 lines_after [] text plain = refl
 lines_after (x ∷ line) text plain =
@@ -84,23 +84,26 @@ seen_some x y e = cc
 
 -- ---- lines of words
 
-abbrev words : Pair → List ℕ
+abbrev pub words : Pair → List ℕ
 words pair = word_of pair.0 ++ 32 ∷ word_of pair.1
 
-words_without : (pair : Pair) → HasBytes pair → IsWithout 10 (words pair)
+pub words_without : (pair : Pair) → HasBytes pair → IsWithout 10 (words pair)
 words_without pair small =
     parts_without (word_of pair.0) (word_of pair.1) 32 refl
     (word_without 10 refl refl pair.0 small.0) (word_without 10 refl refl pair.1 small.1)
 
+pub words_stand : (pair : Pair) → HasBytes pair → pair_of_words (words_in (words pair)) ≡ Some pair
+words_stand pair small =
+    ap pair_of_words (parts_apart (word_of pair.0) (word_of pair.1) 32 refl
+    (word_without 32 refl refl pair.0 small.0) (word_without 32 refl refl pair.1 small.1))
+    ∙ two_parts word_bytes pair.0 pair.1 (word_of pair.0) (word_of pair.1)
+    (reads_back pair.0 small.0) (reads_back pair.1 small.1)
+
 words_say : (pair said : Pair) → HasBytes pair → pair_of_line (words pair) ≡ Some said
     → said ≡ pair
 words_say pair said small is =
-    let one = ap pair_of_words (parts_apart (word_of pair.0) (word_of pair.1) 32 refl
-    (word_without 32 refl refl pair.0 small.0) (word_without 32 refl refl pair.1 small.1))
-    ∙ two_parts word_bytes pair.0 pair.1 (word_of pair.0) (word_of pair.1)
-    (reads_back pair.0 small.0) (reads_back pair.1 small.1) in
-    seen_some said pair (sym (unlimited (nat_lt 8192 (length (words pair)))
-    (pair_of_words (words_in (words pair))) said is) ∙ one)
+    seen_some said pair (sym (unlimited (nat_lt longest_line (length (words pair)))
+    (pair_of_words (words_in (words pair))) said is) ∙ words_stand pair small)
 
 -- ---- lines of fields
 
@@ -112,23 +115,27 @@ field_without byte low bytes small k d lt = elim (eqb_tells (get_or (escaped byt
   | inr other ↦ other.0
 ]
 
-abbrev fields : Pair → List ℕ
+abbrev pub fields : Pair → List ℕ
 fields pair = escaped pair.0 ++ 9 ∷ escaped pair.1
 
-fields_without : (pair : Pair) → HasBytes pair → IsWithout 10 (fields pair)
+pub fields_without : (pair : Pair) → HasBytes pair → IsWithout 10 (fields pair)
 fields_without pair small =
     parts_without (escaped pair.0) (escaped pair.1) 9 refl
     (field_without 10 (omega arith) pair.0 small.0) (field_without 10 (omega arith) pair.1 small.1)
 
+pub fields_stand : (pair : Pair) → HasBytes pair
+    → pair_of_fields (fields_in (fields pair)) ≡ Some pair
+fields_stand pair small =
+    ap pair_of_fields (parts_apart (escaped pair.0) (escaped pair.1) 9 refl
+    (field_without 9 (omega arith) pair.0 small.0) (field_without 9 (omega arith) pair.1 small.1))
+    ∙ two_parts unescaped pair.0 pair.1 (escaped pair.0) (escaped pair.1)
+    (escapes_back pair.0 small.0) (escapes_back pair.1 small.1)
+
 fields_say : (pair said : Pair) → HasBytes pair → pair_of_text_line (fields pair) ≡ Some said
     → said ≡ pair
 fields_say pair said small is =
-    let one = ap pair_of_fields (parts_apart (escaped pair.0) (escaped pair.1) 9 refl
-    (field_without 9 (omega arith) pair.0 small.0) (field_without 9 (omega arith) pair.1 small.1))
-    ∙ two_parts unescaped pair.0 pair.1 (escaped pair.0) (escaped pair.1)
-    (escapes_back pair.0 small.0) (escapes_back pair.1 small.1) in
-    seen_some said pair (sym (unlimited (nat_lt 8192 (length (fields pair)))
-    (pair_of_fields (fields_in (fields pair))) said is) ∙ one)
+    seen_some said pair (sym (unlimited (nat_lt longest_text_line (length (fields pair)))
+    (pair_of_fields (fields_in (fields pair))) said is) ∙ fields_stand pair small)
 
 -- ---- lines of either form
 

@@ -1,9 +1,9 @@
 -- How far a line has been read.
-use Rattle.std.proofs.Common.{◌≡◌, ◌≢◌, inl, inr, ℕ, zero, suc, ◌+◌, ◌<◌, ◌≤◌, ◌==◌, min, Bool, true, false, List, [], ◌∷◌, ◌++◌, length, take, drop, slice_index, Option, Some, None, IfSome, Result, Ok, Err, OnOk, refl, sym, ap, subst, ◌∙◌, arith, append_assoc}
+use Rattle.std.proofs.Common.{◌≡◌, ◌≢◌, inl, inr, ℕ, zero, suc, ◌+◌, ◌-◌, ◌<◌, ◌≤◌, ◌==◌, min, Bool, true, false, List, [], ◌∷◌, ◌++◌, length, take, drop, slice_index, Option, Some, None, IfSome, refl, sym, ap, subst, ◌∙◌, arith, append_assoc}
 use Rattle.std.proofs.lemmas.List.{take-append-drop, take-append-le, length-take, get_or-take, length-drop, take_min}
 use Rattle.std.proofs.lemmas.Bool.Decides.{eqb_tells}
+use Rattle.std.proofs.Math.Nat.{min_comm}
 use Rattle.std.proofs.Math.Seq.{take-append-add}
-use Rattle.std.specs.Result.{IsOk}
 use Rattle.std.specs.Io.{StartsWith}
 use Rattle.std.specs.Io.BufRead.{DropsConsumable}
 use Rattle.std.specs.Io.KnownBytes.{Keeps}
@@ -131,19 +131,15 @@ takes_part limit (Some xs) (Some ys) new most bytes kept line part taken starts 
     ∙ ap (λ (l : List ℕ). Some (drop taken l)) same)
 
 -- what there is room for is kept
-pub kept_all : (limit : ℕ) (line bytes new : List ℕ) (room left : ℕ) → left + length line ≡ limit
-    → room ≡ min left (length bytes) → new ≡ line ++ take room bytes
+pub kept_all : (limit : ℕ) (line bytes new : List ℕ) (taken : ℕ) → length line ≤ limit
+    → taken ≡ min (length bytes) (limit - length line) → new ≡ line ++ take taken bytes
     → new ≡ take limit (line ++ bytes)
-kept_all limit line bytes new room left fits is e =
+kept_all limit line bytes new taken fits is e =
+    let left = limit - length line in
     let all : length line + left ≡ limit = omega (arith, fits) in
-    e ∙ ap (λ (n : ℕ). line ++ take n bytes) is
+    e ∙ ap (λ (n : ℕ). line ++ take n bytes) (is ∙ min_comm (length bytes) left)
     ∙ ap (λ (l : List ℕ). line ++ l) (take_min left bytes)
     ∙ sym (take-append-add line bytes left) ∙ ap (λ (n : ℕ). take n (line ++ bytes)) all
-
--- a result that is one has what it ensures
-pub ok_has : {A E : Type 0} (r : Result A E) (P : Type 0) → IsOk r → OnOk r P → P
-ok_has (Ok value) P is h = h
-ok_has (Err error) P is h = absurd (let e = is in cc)
 
 -- taken twice, as far as there is room
 cut_again : (limit : ℕ) (kept ys : List ℕ) → take limit (take limit kept ++ ys)

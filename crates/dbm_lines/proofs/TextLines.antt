@@ -1,8 +1,14 @@
 -- The lines of a text, one after another.
-use Rattle.std.proofs.Common.{◌≡◌, inl, inr, ℕ, suc, ◌≤◌, ◌==◌, nat_lt, true, false, cond, List, [], ◌∷◌, length, take, Option, Some, None, IfSome, refl, ap, arith}
+use Rattle.std.proofs.Common.{◌≡◌, inl, inr, ℕ, suc, ◌+◌, ◌<◌, ◌≤◌, ◌==◌, nat_lt, true, false, cond, List, [], ◌∷◌, length, take, Option, Some, None, IfSome, refl, ap, arith}
 use Rattle.std.proofs.lemmas.List.{take_all, length-take-le}
 use Rattle.std.proofs.lemmas.Bool.Decides.{leb_tells}
-use Rattle.dbm_text.specs.Lines.{lines_of, onto_line}
+use Rattle.dbm_text.specs.Escapes.{longest_text_line, fields_in, pair_of_fields}
+use Rattle.dbm_text.specs.Lines.{longest_line, lines_of, onto_line, words_in, call_in_line, call_of_words}
+use Rattle.dbm_lines.specs.Bounds.{longest_in}
+use Rattle.dbm_lines.specs.Forms.{pair_in}
+use Rattle.dbm_lines.specs.PairLines.{pair_of_words}
+use Rattle.dbm_lines.specs.declared.forms.TextForm.{TextForm}
+use Rattle.dbm_lines.specs.declared.forms.TextForm.TheVariants.{Hexadecimal, Escaped}
 use Rattle.dbm_lines.specs.Reading.{line_bytes, after_line, ReadsLine, IsCounted}
 
 -- the first line of a text and the lines of the rest
@@ -25,25 +31,48 @@ first_line x (y ∷ ys) = elim (x == 10) as
 abbrev pub limited : {A : Type 0} → (List ℕ → Option A) → ℕ → List ℕ → Option A
 limited says limit line = cond (nat_lt limit (length line)) None (says line)
 
--- a byte past the limit tells as much as the whole line
-pub limited-take : {A : Type 0} (says : List ℕ → Option A) (limit : ℕ) (line : List ℕ)
-    → limited says limit (take (suc limit) line) ≡ limited says limit line
-limited-take says limit line = elim (leb_tells (suc limit) (length line)) [
-  | inl w ↦ elim (leb_tells (suc limit) (length (take (suc limit) line))) [
-    | inl cut ↦ rw (w.0, cut.0) refl
-    | inr cut ↦ absurd (omega (arith, cut.1, length-take-le (suc limit) line w.1))
+-- what is kept beyond the limit tells as much as the whole line
+pub limited-take : {A : Type 0} (says : List ℕ → Option A) (limit kept : ℕ) (line : List ℕ)
+    → limit < kept → limited says limit (take kept line) ≡ limited says limit line
+limited-take says limit kept line more = elim (leb_tells kept (length line)) [
+  | inl w ↦ elim (leb_tells (suc limit) (length (take kept line))) [
+    | inl cut ↦ elim (leb_tells (suc limit) (length line)) [
+      | inl whole ↦ rw (whole.0, cut.0) refl
+      | inr whole ↦ absurd (omega (arith, whole.1, w.1, more))
+    ]
+    | inr cut ↦ absurd (omega (arith, cut.1, more, length-take-le kept line w.1))
   ]
-  | inr w ↦ rw (take_all (suc limit) line (omega (arith, w.1))) refl
+  | inr w ↦ rw (take_all kept line (omega (arith, w.1))) refl
 ]
 
+-- so does what is kept of a line of either form
+pub pair_in-kept : (form : TextForm) (line : List ℕ)
+    → pair_in form (take (longest_in form + 1) line) ≡ pair_in form line
+pair_in-kept Hexadecimal line =
+    limited-take (λ line. pair_of_words (words_in line)) longest_line (longest_line + 1) line
+    (omega arith)
+pair_in-kept Escaped line =
+    limited-take (λ line. pair_of_fields (fields_in line)) longest_text_line
+    (longest_text_line + 1) line (omega arith)
+
+pub call_in_line-kept : (form : TextForm) (line : List ℕ)
+    → call_in_line (take (longest_in form + 1) line) ≡ call_in_line line
+call_in_line-kept Hexadecimal line =
+    limited-take (λ line. call_of_words (words_in line)) longest_line (longest_line + 1) line
+    (omega arith)
+call_in_line-kept Escaped line =
+    limited-take (λ line. call_of_words (words_in line)) longest_line (longest_text_line + 1) line
+    (omega arith)
+
 -- at the end of a text nothing is left of it
-pub nothing_left : (first now next : Option (List ℕ)) (start left : ℕ) (line : List ℕ)
-    → IsCounted first start now left → IfSome now (λ text. ReadsLine 8193 text false line next)
+pub nothing_left : (limit : ℕ) (first now next : Option (List ℕ)) (start left : ℕ)
+    (line : List ℕ) → IsCounted first start now left
+    → IfSome now (λ text. ReadsLine limit text false line next)
     → IfSome first (λ text. next ≡ Some [])
-nothing_left None now next start left line h read = tt
-nothing_left (Some text) None next start left line h read = absurd h
-nothing_left (Some text) (Some []) next start left line h read = read.1
-nothing_left (Some text) (Some (x ∷ xs)) next start left line h read = let e = read.0 in cc
+nothing_left limit None now next start left line h read = tt
+nothing_left limit (Some text) None next start left line h read = absurd h
+nothing_left limit (Some text) (Some []) next start left line h read = read.1
+nothing_left limit (Some text) (Some (x ∷ xs)) next start left line h read = let e = read.0 in cc
 
 -- nothing is read yet
 pub counted_first : (first : Option (List ℕ)) (n : ℕ) → IsCounted first n first n

@@ -1,4 +1,6 @@
+pub mod Bounds
 pub mod Forms
+pub mod LineLaws
 pub mod PairLines
 pub mod Parts
 pub mod Reading

@@ -1,7 +1,7 @@
 -- The pair that a line says.
 use Rattle.std.specs.Prelude.{◌≡◌, ℕ, nat_lt, List, [], ◌∷◌, length, map, Option, Some, None, option_and_then, if◌then◌else◌}
 use Rattle.std.specs.Option.{option_map}
-use Rattle.dbm_text.specs.Lines.{words_in}
+use Rattle.dbm_text.specs.Lines.{longest_line, words_in}
 use Rattle.dbm_model.specs.Pairs.{Pair}
 use Rattle.dbm_text.specs.Words.{word_bytes}
 
@@ -13,7 +13,8 @@ pair_of_words _ = None
 
 -- the pair that a line says, if it is no bad line
 abbrev pub pair_of_line : List ℕ → Option Pair
-pair_of_line line = if nat_lt 8192 (length line) then None else pair_of_words (words_in line)
+pair_of_line line =
+    if nat_lt longest_line (length line) then None else pair_of_words (words_in line)
 
 -- the lines say these pairs, one each, in order
 abbrev pub Say : (List ℕ → Option Pair) → List (List ℕ) → List Pair → Type 0

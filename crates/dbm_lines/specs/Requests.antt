@@ -8,16 +8,17 @@ use Rattle.dbm_lines.specs.declared.parsing.Name.TheVariants as name
 use Rattle.dbm_lines.specs.declared.parsing.Request.{Request}
 use Rattle.dbm_lines.specs.declared.parsing.Request.TheVariants.{Store, Insert, Fetch, Delete, First, Next, Error, Clear, Bad}
 
-abbrev pub asked : Request → Option Call
-asked (Store key content) = Some (model.Store key.now content.now model.Replace)
-asked (Insert key content) = Some (model.Store key.now content.now model.Insert)
-asked (Fetch key) = Some (model.Fetch key.now)
-asked (Delete key) = Some (model.Delete key.now)
-asked First = Some model.First
-asked Next = Some model.Next
-asked Error = Some model.Error
-asked Clear = Some model.Clear
-asked Bad = None
+-- the call of a request, of the bytes that stand for a key and a content
+abbrev pub asked : Request → List ℕ → List ℕ → Option Call
+asked Store key content = Some (model.Store key content model.Replace)
+asked Insert key content = Some (model.Store key content model.Insert)
+asked Fetch key content = Some (model.Fetch key)
+asked Delete key content = Some (model.Delete key)
+asked First key content = Some model.First
+asked Next key content = Some model.Next
+asked Error key content = Some model.Error
+asked Clear key content = Some model.Clear
+asked Bad key content = None
 
 -- the word is the name of the call, or of none that has words after it
 abbrev pub IsNamed : List ℕ → Option Name → Type 0

@@ -1,26 +1,59 @@
 // What an engine that reads lines keeps between them.
-use crate::lines::KEPT;
-use crate::parsing::LONGEST_LINE;
-use crate::replies::DIGITS;
-use arrayvec::ArrayVec;
+ghost use Rattle.std.specs.Prelude.{◌≡◌, ◌<◌, ◌≤◌, IfOk, Some, None, [], vec_capacity, if◌then◌else◌};
+ghost use Rattle.dbm_text.specs.Lines.{call_in_line};
+ghost use Rattle.dbm_lines.specs.Bounds.{longest_in, longest_part};
+ghost use Rattle.dbm_lines.specs.Forms.{pair_in};
+ghost use Rattle.dbm_lines.specs.Requests.{asked};
 
-/// What an engine keeps between lines, so that no line takes memory.
+use crate::bounds::{longest_in, longest_part};
+use crate::forms::{TextForm, pair_in_form};
+use crate::parsing::{Request, request_of};
+use std::alloc::{AllocError, Global};
+
+/// What an engine keeps between the lines of a text, so that no line takes memory.
 #[derive(Drop)]
 pub struct Buffers {
-    pub line: ArrayVec<u8, KEPT>,
-    pub key: [u8; LONGEST_LINE],
-    pub content: [u8; LONGEST_LINE],
-    pub digits: [u8; DIGITS],
+    /// The form of the lines that there is room for.
+    pub form: TextForm,
+    /// A line, with room for one byte more than it may have.
+    pub line: Vec<u8>,
+    /// The key that the line says.
+    pub key: Vec<u8>,
+    /// The content that the line says.
+    pub content: Vec<u8>,
+    pub ghost line_room: { longest_in form < vec_capacity line },
+    pub ghost key_room: { longest_part form ≤ vec_capacity key },
+    pub ghost content_room: { longest_part form ≤ vec_capacity content },
 }
 
 impl Buffers {
-    /// With no line, and no bytes of a key or a content. It takes no memory.
-    pub fn new() -> Buffers {
-        Buffers {
-            line: ArrayVec::new(),
-            key: [0; LONGEST_LINE],
-            content: [0; LONGEST_LINE],
-            digits: [0; DIGITS],
-        }
+    /// Takes the memory for lines of this form, and has no line yet. A script has lines of words.
+    pub fn new(alloc: Global, form: TextForm) -> Result<Buffers, AllocError>
+        ensures { IfOk result (λ buffers. (buffers.form ≡ form) × (buffers.line.items ≡ [])) }
+    {
+        Ok(Buffers {
+            form,
+            line: Vec::with_capacity(alloc, longest_in(form) + 1)?,
+            key: Vec::with_capacity(alloc, longest_part(form))?,
+            content: Vec::with_capacity(alloc, longest_part(form))?,
+        })
+    }
+
+    /// What the line asks for. The bytes of its words are then `key` and `content`.
+    pub fn request(&mut self) -> Request
+        ensures request { asked result self.new.key.items self.new.content.items
+            ≡ call_in_line self.old.line.items }
+        ensures form { self.new.form ≡ self.old.form }
+    {
+        request_of(&self.line, &mut self.key, &mut self.content)
+    }
+
+    /// Whether the line says a pair in the form, which is then `key` and `content`.
+    pub fn pair(&mut self) -> bool
+        ensures pair { (if result then Some (self.new.key.items, self.new.content.items) else None)
+            ≡ pair_in self.old.form self.old.line.items }
+        ensures form { self.new.form ≡ self.old.form }
+    {
+        pair_in_form(self.form, &self.line, &mut self.key, &mut self.content)
     }
 }

@@ -1,11 +1,11 @@
 // Fields with escapes: their bytes, and the pair of a line of two.
-ghost use Rattle.std.specs.Prelude.{◌≡◌, ◌≤◌, ◌<◌, ◌∷◌, [], Some, IfSome, IfNone, OnOk, IsTrue, length, option_and_then};
+ghost use Rattle.std.specs.Prelude.{◌≡◌, ◌≤◌, ◌<◌, ◌∷◌, [], Some, IfSome, IfNone, OnOk, IsTrue, length, option_and_then, None, vec_capacity, if◌then◌else◌};
 ghost use Rattle.std.specs.Option.{option_map};
 ghost use Rattle.std.specs.Io.KnownBytes.{Appends};
 ghost use Rattle.dbm_text.specs.Words.{decoded};
-ghost use Rattle.dbm_text.specs.Escapes.{escape_of, escaped, unescaped, behind_backslash, behind_x, joined, fields_in, pair_of_fields, pair_of_text_line};
+ghost use Rattle.dbm_text.specs.Escapes.{escape_of, escaped, unescaped, behind_backslash, behind_x, joined, fields_in, pair_of_fields, longest_text_line, pair_of_text_line};
 
-use crate::parsing::LONGEST_LINE;
+use crate::bounds::LONGEST_TEXT_LINE;
 use crate::splitting::split_at;
 use std::io::{self, Write};
 
@@ -52,20 +52,23 @@ fn write_escape<W: Write>(writer: &mut W, byte: u8) -> io::Result<()>
     }
 }
 
-/// The bytes that a field stands for, put into `room`, if it is one.
-pub fn unescape<'a>(field: &[u8], room: &'a mut [u8]) -> Option<&'a [u8]>
-    requires { length field.now ≤ length room.old }
-    ensures { option_map (λ bytes. bytes.now) result ≡ unescaped field.now }
+/// Puts the bytes that a field stands for into `bytes`, which has room for them. Answers whether it
+/// is one; if not, any bytes may stand there.
+pub fn unescape(field: &[u8], bytes: &mut Vec<u8>) -> bool
+    requires { length field.now ≤ vec_capacity bytes.old }
+    ensures bytes { (if result then Some bytes.new.items else None) ≡ unescaped field.now }
+    ensures room { vec_capacity bytes.old ≤ vec_capacity bytes.new }
 {
+    bytes.clear();
     let mut rest = field;
-    let mut filled = 0;
     while !rest.is_empty() {
-        let (byte, behind) = first_byte(rest)?;
-        room[filled] = byte;
-        filled += 1;
+        let Some((byte, behind)) = first_byte(rest) else {
+            return false;
+        };
+        bytes.push(byte).unwrap();
         rest = behind;
     }
-    Some(&room[..filled])
+    true
 }
 
 /// The first byte that a field stands for, and the field behind it.
@@ -123,39 +126,35 @@ fn byte_of_digits(high: u8, low: u8) -> Option<u8>
     }
 }
 
-/// The pair of a line `key content` of two fields without its line feed, if it says one. The bytes
-/// of the fields go to `key` and `content`.
-pub fn pair_in_text_line<'a>(
-    line: &[u8],
-    key: &'a mut [u8; LONGEST_LINE],
-    content: &'a mut [u8; LONGEST_LINE],
-) -> Option<(&'a [u8], &'a [u8])>
-    ensures { option_map (λ pair. (pair.0.now, pair.1.now)) result ≡ pair_of_text_line line.now }
+/// Reads the pair of a line `key content` of two fields without its line feed. The bytes of the
+/// fields go to `key` and `content`. Answers whether the line says one.
+pub fn pair_in_text_line(line: &[u8], key: &mut Vec<u8>, content: &mut Vec<u8>) -> bool
+    requires key { longest_text_line ≤ vec_capacity key.old }
+    requires content { longest_text_line ≤ vec_capacity content.old }
+    ensures pair { (if result then Some (key.new.items, content.new.items) else None)
+        ≡ pair_of_text_line line.now }
+    ensures key { vec_capacity key.old ≤ vec_capacity key.new }
+    ensures content { vec_capacity content.old ≤ vec_capacity content.new }
 {
-    if line.len() > LONGEST_LINE {
-        return None;
-    }
-    pair_in_fields(line, key, content)
+    line.len() <= LONGEST_TEXT_LINE && pair_in_fields(line, key, content)
 }
 
-/// The pair of a key and a content that are two fields.
-fn pair_in_fields<'a>(
-    fields: &[u8],
-    key: &'a mut [u8; LONGEST_LINE],
-    content: &'a mut [u8; LONGEST_LINE],
-) -> Option<(&'a [u8], &'a [u8])>
-    requires { length fields.now ≤ 8192 }
-    ensures { option_map (λ pair. (pair.0.now, pair.1.now)) result
+/// Reads a key and a content that are two fields. Answers whether they are.
+fn pair_in_fields(fields: &[u8], key: &mut Vec<u8>, content: &mut Vec<u8>) -> bool
+    requires key { length fields.now ≤ vec_capacity key.old }
+    requires content { length fields.now ≤ vec_capacity content.old }
+    ensures pair { (if result then Some (key.new.items, content.new.items) else None)
         ≡ pair_of_fields (fields_in fields.now) }
+    ensures key { vec_capacity key.old ≤ vec_capacity key.new }
+    ensures content { vec_capacity content.old ≤ vec_capacity content.new }
 {
-    let (first, second) = split_field(fields)?;
+    let Some((first, second)) = split_field(fields) else {
+        return false;
+    };
     if split_field(second).is_some() {
-        return None;
+        return false;
     }
-    match (unescape(first, key), unescape(second, content)) {
-        (Some(key), Some(content)) => Some((key, content)),
-        _ => None,
-    }
+    unescape(first, key) && unescape(second, content)
 }
 
 /// The field before the first tab, and what is behind the tab, if there is one.

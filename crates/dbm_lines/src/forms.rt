@@ -1,10 +1,10 @@
 // The two forms of a text of pairs.
-ghost use Rattle.std.specs.Prelude.{◌≡◌};
-ghost use Rattle.std.specs.Option.{option_map};
+ghost use Rattle.std.specs.Prelude.{◌≡◌, ◌≤◌, Some, None, vec_capacity, if◌then◌else◌};
+ghost use Rattle.dbm_lines.specs.Bounds.{longest_part};
 ghost use Rattle.dbm_lines.specs.Forms.{pair_in};
 
 use crate::fields::pair_in_text_line;
-use crate::parsing::{LONGEST_LINE, pair_in_line};
+use crate::parsing::pair_in_line;
 
 /// How a text says its pairs.
 #[derive(Clone, Copy)]
@@ -15,15 +15,15 @@ pub enum TextForm {
     Escaped,
 }
 
-/// The pair of a line of this form without its line feed, if it says one. Its bytes go to `key` and
-/// `content`.
-pub fn pair_in_form<'a>(
-    form: TextForm,
-    line: &[u8],
-    key: &'a mut [u8; LONGEST_LINE],
-    content: &'a mut [u8; LONGEST_LINE],
-) -> Option<(&'a [u8], &'a [u8])>
-    ensures { option_map (λ pair. (pair.0.now, pair.1.now)) result ≡ pair_in form line.now }
+/// Reads the pair of a line of this form without its line feed. Its bytes go to `key` and
+/// `content`. Answers whether the line says one.
+pub fn pair_in_form(form: TextForm, line: &[u8], key: &mut Vec<u8>, content: &mut Vec<u8>) -> bool
+    requires key { longest_part form ≤ vec_capacity key.old }
+    requires content { longest_part form ≤ vec_capacity content.old }
+    ensures pair { (if result then Some (key.new.items, content.new.items) else None)
+        ≡ pair_in form line.now }
+    ensures key { vec_capacity key.old ≤ vec_capacity key.new }
+    ensures content { vec_capacity content.old ≤ vec_capacity content.new }
 {
     match form {
         TextForm::Hexadecimal => pair_in_line(line, key, content),

@@ -1,14 +1,13 @@
 // Reading the lines of a text.
-ghost use Rattle.std.specs.Prelude.{◌≡◌, ◌++◌, IfOk, OnOk, IfSome, take};
+ghost use Rattle.std.specs.Prelude.{◌≡◌, ◌+◌, ◌≤◌, ◌++◌, IfOk, OnOk, IfSome, take, vec_len, vec_capacity};
+ghost use Rattle.dbm_lines.specs.Bounds.{longest_in};
 ghost use Rattle.dbm_lines.specs.Reading.{is_line, ReadsLine, IsCounted};
 ghost use Rattle.dbm_lines.specs.Parts.{IsPart, TakesPart};
 
-use arrayvec::ArrayVec;
+use crate::bounds::longest_in;
+use crate::buffers::Buffers;
 use memchr::memchr;
 use std::io::{self, BufRead};
-
-/// How many bytes of a line are kept: one more than a line may have.
-pub const KEPT: usize = 8193;
 
 /// What `read_line` found.
 #[derive(Clone, Copy)]
@@ -52,24 +51,50 @@ enum Part {
     Begun,
 }
 
-/// Reads a line without its line feed, and keeps its first 8,193 bytes. Answers whether there was
-/// one, and whether another whole one is in the reader's buffer. An error where reading fails, and
-/// where more than `left` bytes would be read, which goes down by those that were.
+/// Reads a line without its line feed, and keeps one byte more of it than a line of the form may
+/// have. Answers whether there was one, and whether another whole one is in the reader's buffer. An
+/// error where reading fails, and where more than `left` bytes would be read, which goes down by
+/// those that were.
 pub fn read_line<R: BufRead>(
     reader: &mut R,
-    line: &mut ArrayVec<u8, KEPT>,
+    buffers: &mut Buffers,
     left: &mut u32,
 ) -> io::Result<LineRead>
     ensures line { IfOk result (λ read.
         IfSome (R.remaining reader.old)
-        (λ text. ReadsLine 8193 text (is_line read) line.new.items (R.remaining reader.new))) }
+        (λ text. ReadsLine (longest_in buffers.old.form + 1) text (is_line read)
+        buffers.new.line.items (R.remaining reader.new))) }
     ensures counted { OnOk result
         (IsCounted (R.remaining reader.old) left.old (R.remaining reader.new) left.new) }
+    ensures form { buffers.new.form ≡ buffers.old.form }
+{
+    read_up_to(
+        longest_in(buffers.form) + 1,
+        reader,
+        &mut buffers.line,
+        left,
+    )
+}
+
+/// Reads a line, and keeps so many bytes of it at most, for which there is room.
+fn read_up_to<R: BufRead>(
+    most: usize,
+    reader: &mut R,
+    line: &mut Vec<u8>,
+    left: &mut u32,
+) -> io::Result<LineRead>
+    requires { most ≤ vec_capacity line.old }
+    ensures line { IfOk result (λ read.
+        IfSome (R.remaining reader.old)
+        (λ text. ReadsLine most text (is_line read) line.new.items (R.remaining reader.new))) }
+    ensures counted { OnOk result
+        (IsCounted (R.remaining reader.old) left.old (R.remaining reader.new) left.new) }
+    ensures room { most ≤ vec_capacity line.new }
 {
     line.clear();
     let mut more = false;
     for _ in 0..u64::MAX {
-        match read_part(reader, line, left)? {
+        match read_part(most, reader, line, left)? {
             Part::End => return Ok(LineRead::of(more, false)),
             Part::Whole { followed } => return Ok(LineRead::of(true, followed)),
             Part::Begun => more = true,
@@ -78,22 +103,26 @@ pub fn read_line<R: BufRead>(
     Err(io::ErrorKind::InvalidInput.into())
 }
 
-/// Reads what the reader's buffer has of a line, and appends to `line` what there is room for. An
-/// error where reading fails, and where more than `left` bytes would be read.
+/// Reads what the reader's buffer has of a line, and appends to `line` what there is room for up to
+/// so many bytes. An error where reading fails, and where more than `left` bytes would be read.
 fn read_part<R: BufRead>(
+    most: usize,
     reader: &mut R,
-    line: &mut ArrayVec<u8, KEPT>,
+    line: &mut Vec<u8>,
     left: &mut u32,
 ) -> io::Result<Part>
+    requires length { vec_len line.old ≤ most }
+    requires room { most ≤ vec_capacity line.old }
     ensures part { IfOk result (λ part.
         IfSome (R.remaining reader.old)
-        (λ text. TakesPart 8193 text part line.old.items line.new.items
-        (R.remaining reader.new))) }
+        (λ text. TakesPart most text part line.old.items line.new.items (R.remaining reader.new))) }
     ensures counted { OnOk result
         (IsCounted (R.remaining reader.old) left.old (R.remaining reader.new) left.new) }
+    ensures length { vec_len line.new ≤ most }
+    ensures room { most ≤ vec_capacity line.new }
 {
     let bytes = reader.fill_buf()?;
-    let (part, taken) = keep_part(bytes, line);
+    let (part, taken) = keep_part(most, bytes, line);
     if taken > *left as usize {
         return Err(io::ErrorKind::InvalidInput.into());
     }
@@ -102,13 +131,17 @@ fn read_part<R: BufRead>(
     Ok(part)
 }
 
-/// Appends to `line` the bytes before the first line feed, or all of them, where there is room.
+/// Appends to `line` the bytes before the first line feed, or all of them, up to so many in all.
 /// Answers how many bytes they are, with the line feed.
-fn keep_part(bytes: &[u8], line: &mut ArrayVec<u8, KEPT>) -> (Part, usize)
-    ensures { IsPart 8193 bytes.now result.0 result.1 line.old.items line.new.items }
+fn keep_part(most: usize, bytes: &[u8], line: &mut Vec<u8>) -> (Part, usize)
+    requires length { vec_len line.old ≤ most }
+    requires room { most ≤ vec_capacity line.old }
+    ensures part { IsPart most bytes.now result.0 result.1 line.old.items line.new.items }
+    ensures length { vec_len line.new ≤ most }
+    ensures room { most ≤ vec_capacity line.new }
 {
     let Some(end) = memchr(b'\n', bytes) else {
-        keep(line, bytes);
+        keep(most, line, bytes);
         let part = if bytes.is_empty() {
             Part::End
         } else {
@@ -116,15 +149,19 @@ fn keep_part(bytes: &[u8], line: &mut ArrayVec<u8, KEPT>) -> (Part, usize)
         };
         return (part, bytes.len());
     };
-    keep(line, &bytes[..end]);
+    keep(most, line, &bytes[..end]);
     let followed = memchr(b'\n', &bytes[end + 1..]).is_some();
     (Part::Whole { followed }, end + 1)
 }
 
-/// Appends the bytes that there is room for.
-fn keep(line: &mut ArrayVec<u8, KEPT>, bytes: &[u8])
-    ensures { line.new.items ≡ take 8193 (line.old.items ++ bytes.now) }
+/// Appends the bytes, up to so many in all, for which there is room.
+fn keep(most: usize, line: &mut Vec<u8>, bytes: &[u8])
+    requires length { vec_len line.old ≤ most }
+    requires room { most ≤ vec_capacity line.old }
+    ensures line { line.new.items ≡ take most (line.old.items ++ bytes.now) }
+    ensures length { vec_len line.new ≤ most }
+    ensures room { most ≤ vec_capacity line.new }
 {
-    let room = line.remaining_capacity().min(bytes.len());
-    let _ = line.try_extend_from_slice(&bytes[..room]);
+    let taken = bytes.len().min(most - line.len());
+    line.extend_from_slice(&bytes[..taken]).unwrap();
 }

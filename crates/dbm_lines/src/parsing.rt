@@ -1,24 +1,21 @@
 // Lines as requests and as pairs.
-ghost use Rattle.std.specs.Prelude.{◌≡◌, ◌≤◌, ◌*◌, ◌∷◌, [], IfSome, IfNone, length, codes, None};
-ghost use Rattle.std.specs.Option.{option_map};
+ghost use Rattle.std.specs.Prelude.{◌≡◌, ◌≤◌, ◌*◌, ◌∷◌, [], IfSome, IfNone, length, codes, Some, None, vec_capacity, if◌then◌else◌};
 ghost use Rattle.dbm_text.specs.Words.{word_bytes};
-ghost use Rattle.dbm_text.specs.Lines.{words_in, call_in_line, call_of_words, bare_call};
+ghost use Rattle.dbm_text.specs.Lines.{longest_line, words_in, call_in_line, call_of_words, bare_call};
 ghost use Rattle.dbm_model.specs.Calls.{Fetch, Delete};
 ghost use Rattle.dbm_lines.specs.PairLines.{pair_of_line, pair_of_words};
 ghost use Rattle.dbm_lines.specs.Requests.{asked, IsNamed};
 
+use crate::bounds::LONGEST_LINE;
 use crate::splitting::split_at;
 
-/// The bytes that a line may have.
-pub const LONGEST_LINE: usize = 8192;
-
-/// What a line asks for.
+/// What a line asks for, of a key and a content that its words say.
 #[derive(Clone, Copy)]
-pub enum Request<'a> {
-    Store { key: &'a [u8], content: &'a [u8] },
-    Insert { key: &'a [u8], content: &'a [u8] },
-    Fetch { key: &'a [u8] },
-    Delete { key: &'a [u8] },
+pub enum Request {
+    Store,
+    Insert,
+    Fetch,
+    Delete,
     First,
     Next,
     Error,
@@ -28,12 +25,12 @@ pub enum Request<'a> {
 }
 
 /// Reads a line without its line feed. The bytes of the words go to `key` and `content`.
-pub fn request_of<'a>(
-    line: &[u8],
-    key: &'a mut [u8; LONGEST_LINE],
-    content: &'a mut [u8; LONGEST_LINE],
-) -> Request<'a>
-    ensures { asked result ≡ call_in_line line.now }
+pub fn request_of(line: &[u8], key: &mut Vec<u8>, content: &mut Vec<u8>) -> Request
+    requires key { longest_line ≤ 2 * vec_capacity key.old }
+    requires content { longest_line ≤ 2 * vec_capacity content.old }
+    ensures request { asked result key.new.items content.new.items ≡ call_in_line line.now }
+    ensures key { vec_capacity key.old ≤ vec_capacity key.new }
+    ensures content { vec_capacity content.old ≤ vec_capacity content.new }
 {
     if line.len() > LONGEST_LINE {
         return Request::Bad;
@@ -57,29 +54,23 @@ enum Name {
 }
 
 /// The request of a line that has words after a name.
-fn request_with_words<'a>(
-    line: &[u8],
-    key: &'a mut [u8; LONGEST_LINE],
-    content: &'a mut [u8; LONGEST_LINE],
-) -> Request<'a>
-    requires { length line.now ≤ 8192 }
-    ensures { bare_call line.now ≡ None → asked result ≡ call_of_words (words_in line.now) }
+fn request_with_words(line: &[u8], key: &mut Vec<u8>, content: &mut Vec<u8>) -> Request
+    requires key { length line.now ≤ 2 * vec_capacity key.old }
+    requires content { length line.now ≤ 2 * vec_capacity content.old }
+    ensures request { bare_call line.now ≡ None
+        → asked result key.new.items content.new.items ≡ call_of_words (words_in line.now) }
+    ensures key { vec_capacity key.old ≤ vec_capacity key.new }
+    ensures content { vec_capacity content.old ≤ vec_capacity content.new }
 {
     let Some((name, rest)) = split_word(line) else {
         return Request::Bad;
     };
     match name_of(name) {
-        Some(Name::Store) => store_request(rest, key, content),
-        Some(Name::Insert) => insert_request(rest, key, content),
-        Some(Name::Fetch) => match key_request(rest, key) {
-            Some(key) => Request::Fetch { key },
-            None => Request::Bad,
-        },
-        Some(Name::Delete) => match key_request(rest, key) {
-            Some(key) => Request::Delete { key },
-            None => Request::Bad,
-        },
-        None => Request::Bad,
+        Some(Name::Store) if pair_in_words(rest, key, content) => Request::Store,
+        Some(Name::Insert) if pair_in_words(rest, key, content) => Request::Insert,
+        Some(Name::Fetch) if key_in_words(rest, key) => Request::Fetch,
+        Some(Name::Delete) if key_in_words(rest, key) => Request::Delete,
+        _ => Request::Bad,
     }
 }
 
@@ -96,81 +87,51 @@ fn name_of(name: &[u8]) -> Option<Name>
     }
 }
 
-/// The key that a fetch or a delete names, of the words after its name.
-fn key_request<'a>(words: &[u8], key: &'a mut [u8; LONGEST_LINE]) -> Option<&'a [u8]>
-    requires { length words.now ≤ 8192 }
-    ensures fetch { option_map (λ key. Fetch key.now) result ≡ call_of_words (codes "F" ∷ words_in words.now) }
-    ensures delete { option_map (λ key. Delete key.now) result ≡ call_of_words (codes "D" ∷ words_in words.now) }
+/// Reads the key that a fetch or a delete names, of the words after its name. Answers whether they
+/// name one.
+fn key_in_words(words: &[u8], key: &mut Vec<u8>) -> bool
+    requires { length words.now ≤ 2 * vec_capacity key.old }
+    ensures fetch { (if result then Some (Fetch key.new.items) else None)
+        ≡ call_of_words (codes "F" ∷ words_in words.now) }
+    ensures delete { (if result then Some (Delete key.new.items) else None)
+        ≡ call_of_words (codes "D" ∷ words_in words.now) }
+    ensures room { vec_capacity key.old ≤ vec_capacity key.new }
 {
     if split_word(words).is_some() {
-        return None;
+        return false;
     }
     decode_word(words, key)
 }
 
-/// The request of a store, of the words after its name.
-fn store_request<'a>(
-    words: &[u8],
-    key: &'a mut [u8; LONGEST_LINE],
-    content: &'a mut [u8; LONGEST_LINE],
-) -> Request<'a>
-    requires { length words.now ≤ 8192 }
-    ensures { asked result ≡ call_of_words (codes "S" ∷ words_in words.now) }
+/// Reads the pair of a line `key content` without its line feed. The bytes of the words go to `key`
+/// and `content`. Answers whether the line says one.
+pub fn pair_in_line(line: &[u8], key: &mut Vec<u8>, content: &mut Vec<u8>) -> bool
+    requires key { longest_line ≤ 2 * vec_capacity key.old }
+    requires content { longest_line ≤ 2 * vec_capacity content.old }
+    ensures pair { (if result then Some (key.new.items, content.new.items) else None)
+        ≡ pair_of_line line.now }
+    ensures key { vec_capacity key.old ≤ vec_capacity key.new }
+    ensures content { vec_capacity content.old ≤ vec_capacity content.new }
 {
-    match pair_in_words(words, key, content) {
-        Some((key, content)) => Request::Store { key, content },
-        None => Request::Bad,
-    }
+    line.len() <= LONGEST_LINE && pair_in_words(line, key, content)
 }
 
-/// The request of an insert, of the words after its name.
-fn insert_request<'a>(
-    words: &[u8],
-    key: &'a mut [u8; LONGEST_LINE],
-    content: &'a mut [u8; LONGEST_LINE],
-) -> Request<'a>
-    requires { length words.now ≤ 8192 }
-    ensures { asked result ≡ call_of_words (codes "I" ∷ words_in words.now) }
-{
-    match pair_in_words(words, key, content) {
-        Some((key, content)) => Request::Insert { key, content },
-        None => Request::Bad,
-    }
-}
-
-/// The pair of a line `key content` without its line feed, if it says one. The bytes of the words
-/// go to `key` and `content`.
-pub fn pair_in_line<'a>(
-    line: &[u8],
-    key: &'a mut [u8; LONGEST_LINE],
-    content: &'a mut [u8; LONGEST_LINE],
-) -> Option<(&'a [u8], &'a [u8])>
-    ensures { option_map (λ pair. (pair.0.now, pair.1.now)) result ≡ pair_of_line line.now }
-{
-    if line.len() > LONGEST_LINE {
-        return None;
-    }
-    pair_in_words(line, key, content)
-}
-
-/// The pair of a key and a content that are two words.
-fn pair_in_words<'a>(
-    words: &[u8],
-    key: &'a mut [u8; LONGEST_LINE],
-    content: &'a mut [u8; LONGEST_LINE],
-) -> Option<(&'a [u8], &'a [u8])>
-    requires { length words.now ≤ 8192 }
-    ensures { option_map (λ pair. (pair.0.now, pair.1.now)) result
+/// Reads a key and a content that are two words. Answers whether they are.
+fn pair_in_words(words: &[u8], key: &mut Vec<u8>, content: &mut Vec<u8>) -> bool
+    requires key { length words.now ≤ 2 * vec_capacity key.old }
+    requires content { length words.now ≤ 2 * vec_capacity content.old }
+    ensures pair { (if result then Some (key.new.items, content.new.items) else None)
         ≡ pair_of_words (words_in words.now) }
+    ensures key { vec_capacity key.old ≤ vec_capacity key.new }
+    ensures content { vec_capacity content.old ≤ vec_capacity content.new }
 {
-    let (first, second) = split_word(words)?;
+    let Some((first, second)) = split_word(words) else {
+        return false;
+    };
     if split_word(second).is_some() {
-        return None;
+        return false;
     }
-    match (decode_word(first, key), decode_word(second, content)) {
-        (Some(key), Some(content)) => Some((key, content)),
-        _ => None,
-    }
+    decode_word(first, key) && decode_word(second, content)
 }
 
 /// The word before the first space, and what is behind the space, if there is one.
@@ -184,20 +145,20 @@ fn split_word(line: &[u8]) -> Option<(&[u8], &[u8])>
     split_at(line, b' ')
 }
 
-/// The bytes that a word stands for, put into `room`, if it is one.
-pub fn decode_word<'a>(word: &[u8], room: &'a mut [u8]) -> Option<&'a [u8]>
-    requires { length word.now ≤ 2 * length room.old }
-    ensures { option_map (λ bytes. bytes.now) result ≡ word_bytes word.now }
+/// Puts the bytes that a word stands for into `bytes`, which has room for them. Answers whether it
+/// is one; if not, any bytes may stand there.
+pub fn decode_word(word: &[u8], bytes: &mut Vec<u8>) -> bool
+    requires { length word.now ≤ 2 * vec_capacity bytes.old }
+    ensures bytes { (if result then Some bytes.new.items else None) ≡ word_bytes word.now }
+    ensures room { vec_capacity bytes.old ≤ vec_capacity bytes.new }
 {
+    bytes.clear();
     if word == b".".as_slice() {
-        return Some(&[]);
+        return true;
     }
     if word.is_empty() || word.len() % 2 == 1 {
-        return None;
+        return false;
     }
-    let bytes = &mut room[..word.len() / 2];
-    match hex::decode_to_slice(word, bytes) {
-        Ok(()) => Some(bytes),
-        Err(_) => None,
-    }
+    bytes.resize(word.len() / 2, 0).unwrap();
+    hex::decode_to_slice(word, bytes).is_ok()
 }

@@ -1,5 +1,5 @@
 // Replies as lines.
-ghost use Rattle.std.specs.Prelude.{◌≡◌, ◌≤◌, ℕ, pos, OnOk, length};
+ghost use Rattle.std.specs.Prelude.{◌≡◌, ℕ, pos, OnOk};
 ghost use Rattle.std.specs.Io.KnownBytes.{Appends};
 ghost use Rattle.dbm_model.specs.Calls.{Fault, Stored, Kept, Deleted, Absent, Bytes, NoRecord, End, Number, Refused, number_of};
 ghost use Rattle.dbm_text.specs.Lines.{reply_line, bad_line};
@@ -7,11 +7,8 @@ ghost use Rattle.dbm_text.specs.Words.{word_of};
 
 use std::io::{self, Write};
 
-/// The bytes that a content or a key may have.
-const LONGEST_REPLY: usize = 2026;
-
-/// The digits of the longest word.
-pub const DIGITS: usize = 2 * LONGEST_REPLY;
+/// How many bytes of a word are written at once.
+const RUN: usize = 128;
 
 /// Writes the line of a call that stored its pair.
 pub fn write_stored<W: Write>(writer: &mut W) -> io::Result<()>
@@ -87,34 +84,32 @@ pub fn write_refused<W: Write>(writer: &mut W, number: i32) -> io::Result<()>
     writeln!(writer, "{number}")
 }
 
-/// Writes the line of a content or a key. Its digits go through `digits`.
-pub fn write_bytes<W: Write>(
-    writer: &mut W,
-    bytes: &[u8],
-    digits: &mut [u8; DIGITS],
-) -> io::Result<()>
-    requires { length bytes.now ≤ 2026 }
+/// Writes the line of a content or a key.
+pub fn write_bytes<W: Write>(writer: &mut W, bytes: &[u8]) -> io::Result<()>
     ensures { OnOk result (Appends (W.contents writer.old) (W.contents writer.new)
         (reply_line (Bytes bytes.now))) }
 {
-    write_word(writer, bytes, digits)?;
+    write_word(writer, bytes)?;
     writer.write_all(b"\n")
 }
 
-/// Writes the word of a content or a key. Its digits go through `digits`.
-pub fn write_word<W: Write>(
-    writer: &mut W,
-    bytes: &[u8],
-    digits: &mut [u8; DIGITS],
-) -> io::Result<()>
-    requires { length bytes.now ≤ 2026 }
+/// Writes the word of a content or a key. It takes no memory, and writes the digits of up to 128
+/// bytes at once.
+pub fn write_word<W: Write>(writer: &mut W, bytes: &[u8]) -> io::Result<()>
     ensures { OnOk result (Appends (W.contents writer.old) (W.contents writer.new)
         (word_of bytes.now)) }
 {
     if bytes.is_empty() {
         return writer.write_all(b".");
     }
-    let text = &mut digits[..2 * bytes.len()];
-    hex::encode_to_slice(bytes, text).unwrap();
-    writer.write_all(text)
+    let mut digits = [0; 2 * RUN];
+    let mut rest = bytes;
+    while !rest.is_empty() {
+        let (run, behind) = rest.split_at(rest.len().min(RUN));
+        let text = &mut digits[..2 * run.len()];
+        hex::encode_to_slice(run, text).unwrap();
+        writer.write_all(text)?;
+        rest = behind;
+    }
+    Ok(())
 }

@@ -10,6 +10,7 @@ use Rattle.dbm_fault.specs.declared.engine_fault.EngineFault.TheVariants.{Memory
 use Rattle.dbm_file.specs.Answers.{IsSameDatabase}
 use Rattle.dbm_file.specs.declared.database.Database.{Database}
 use Rattle.dbm_file.proofs.Runs.{goes_nowhere, still_goes}
+use Rattle.dbm_lines.specs.Bounds.{longest_in}
 use Rattle.dbm_lines.specs.Forms.{pair_in}
 use Rattle.dbm_lines.specs.PairLines.{Say}
 use Rattle.dbm_lines.specs.Reading.{ReadsLine}
@@ -162,7 +163,7 @@ module _ {S : Type 0} (s : Ghosts S) (form : TextForm) (old mid new : Database S
 
   -- the text was at its end
   pub ended : (result : Result Unit EngineFault) (line : List ℕ) (next : Option (List ℕ))
-      → IfSome now (λ text. ReadsLine 8193 text false line next)
+      → IfSome now (λ text. ReadsLine (longest_in form + 1) text false line next)
       → StoresBatch result mid new held → Loads (pair_in form) result first old new
   ended (Err fault) line next r stops = batch_refused fault stops
   ended (Ok done) line next r stores = record {
@@ -175,7 +176,7 @@ module _ {S : Type 0} (s : Ghosts S) (form : TextForm) (old mid new : Database S
   }
     where
       no_more : (first now : Option (List ℕ)) → AreRead first now h.done
-          → IfSome now (λ text. ReadsLine 8193 text false line next)
+          → IfSome now (λ text. ReadsLine (longest_in form + 1) text false line next)
           → IfSome first (λ text. lines_of text ≡ h.done ++ [])
       no_more None now read r = tt
       no_more (Some text) None read r = absurd read
@@ -186,7 +187,7 @@ module _ {S : Type 0} (s : Ghosts S) (form : TextForm) (old mid new : Database S
     (first now next : Option (List ℕ)) (line : List ℕ) (held : List Pair) (number : ℕ)
     (was : IsSameDatabase old mid) (goes : IsSameDatabase mid new) (counts : Counts new)
     (h : IsGathering form old mid first now held number)
-    (r : IfSome now (λ text. ReadsLine 8193 text true line next)) where
+    (r : IfSome now (λ text. ReadsLine (longest_in form + 1) text true line next)) where
   -- a line was read, which says a pair
   took : (pair : Pair) → pair_in form line ≡ Some pair
       → IsGathering form old mid first next (held ++ pair ∷ []) (number + 1)

@@ -1,11 +1,10 @@
 -- How far a text has been loaded.
-use Rattle.std.proofs.Common.{◌≡◌, inl, ℕ, ◌+◌, true, List, [], ◌∷◌, ◌++◌, length, take, map, Option, Some, None, IfSome, Result, Ok, Err, OnOk, refl, sym, ap, subst, ◌∙◌, arith, append-nil, append_assoc, length-append}
+use Rattle.std.proofs.Common.{◌≡◌, inl, ℕ, ◌+◌, Bool, true, List, [], ◌∷◌, ◌++◌, length, map, Option, Some, None, IfSome, Result, Ok, Err, OnOk, refl, sym, ap, subst, ◌∙◌, arith, append-nil, append_assoc, length-append}
 use Rattle.std.specs.FinMap.{entries}
 use Rattle.std.proofs.lemmas.List.{map-append}
 use Rattle.dbm_model.specs.Calls.{Store, Replace, Stored, Refused, Fault}
 use Rattle.dbm_model.specs.Changes.{replacing}
-use Rattle.dbm_text.specs.Escapes.{pair_of_fields, fields_in}
-use Rattle.dbm_text.specs.Lines.{lines_of, words_in}
+use Rattle.dbm_text.specs.Lines.{lines_of}
 use Rattle.dbm_model.specs.Pairs.{Pair}
 use Rattle.dbm_model.specs.States.{Handle}
 use Rattle.dbm_model.specs.Steps.{Run}
@@ -20,25 +19,19 @@ use Rattle.dbm_file.specs.declared.calls.StoreReply.TheVariants as stored
 use Rattle.dbm_file.specs.declared.database.Database.{Database}
 use Rattle.dbm_file.proofs.Breaks.{CountsNow}
 use Rattle.dbm_file.proofs.Runs.{goes_on_with}
+use Rattle.dbm_lines.specs.Bounds.{longest_in}
 use Rattle.dbm_lines.specs.Forms.{pair_in, dump_in}
-use Rattle.dbm_lines.specs.PairLines.{pair_of_words, Say}
+use Rattle.dbm_lines.specs.PairLines.{Say}
 use Rattle.dbm_lines.specs.declared.forms.TextForm.{TextForm}
-use Rattle.dbm_lines.specs.declared.forms.TextForm.TheVariants.{Hexadecimal, Escaped}
 use Rattle.dbm_load.specs.Loading.{Loads, LoadsDump, LoadsLine}
 use Rattle.dbm_load.specs.Storing.{StoresAll, StoresBefore, StoresPair}
 use Rattle.dbm_lines.specs.Reading.{line_bytes, after_line, ReadsLine}
 use Rattle.dbm_fault.specs.declared.fault.Fault as db
 use Rattle.dbm_fault.specs.declared.engine_fault.EngineFault.{EngineFault}
 use Rattle.dbm_fault.specs.declared.engine_fault.EngineFault.TheVariants.{Memory, Read, Write, Line, Db}
-use Rattle.dbm_lines.proofs.TextLines.{first_line, limited-take}
+use Rattle.dbm_lines.proofs.TextLines.{first_line, pair_in-kept}
 use Rattle.dbm_load.proofs.LoadingRuns.{fills, never_kept}
 use Rattle.dbm_lines.proofs.PairLines.{lines_say}
-
--- a byte past the limit tells as much as the whole line
-pair_of-take : (form : TextForm) (line : List ℕ)
-    → pair_in form (take 8193 line) ≡ pair_in form line
-pair_of-take Hexadecimal line = limited-take (λ line. pair_of_words (words_in line)) 8192 line
-pair_of-take Escaped line = limited-take (λ line. pair_of_fields (fields_in line)) 8192 line
 
 -- of a text, the lines that were read, and what is left
 abbrev pub AreRead : Option (List ℕ) → Option (List ℕ) → List (List ℕ) → Type 0
@@ -79,10 +72,18 @@ at_start form db (Some text) none =
           λ honest h at. none h honest at;
     }
 
+-- a line is read alike under the same form
+pub read_in : (form other : TextForm) (now next : Option (List ℕ)) (more : Bool) (line : List ℕ)
+    → other ≡ form → IfSome now (λ text. ReadsLine (longest_in other + 1) text more line next)
+    → IfSome now (λ text. ReadsLine (longest_in form + 1) text more line next)
+read_in form other now next more line same =
+    subst (λ (f : TextForm).
+    IfSome now (λ text. ReadsLine (longest_in f + 1) text more line next)) same
+
 -- the line that was read is the next one of the text, or says the same
 pub read_on : (form : TextForm) (first now next : Option (List ℕ)) (line : List ℕ)
     (done : List (List ℕ))
-    → AreRead first now done → IfSome now (λ text. ReadsLine 8193 text true line next)
+    → AreRead first now done → IfSome now (λ text. ReadsLine (longest_in form + 1) text true line next)
     → (whole : List ℕ) × (pair_in form whole ≡ pair_in form line)
     × AreRead first next (done ++ whole ∷ [])
 read_on form None now next line done h r = (line, refl, tt)
@@ -90,7 +91,7 @@ read_on form (Some text) None next line done h r = absurd h
 read_on form (Some text) (Some []) next line done h r = let e = r.0 in cc
 read_on form (Some text) (Some (x ∷ xs)) next line done h r = (
   line_bytes (x ∷ xs),
-  sym (pair_of-take form (line_bytes (x ∷ xs))) ∙ sym (ap (pair_in form) r.1),
+  sym (pair_in-kept form (line_bytes (x ∷ xs))) ∙ sym (ap (pair_in form) r.1),
   rw (r.2) (h ∙ ap (λ rest. done ++ rest) (first_line x xs)
       ∙ sym (append_assoc done (line_bytes (x ∷ xs) ∷ []) (lines_of (after_line (x ∷ xs))))),
 )
@@ -168,7 +169,7 @@ module _ {S : Type 0} (s : Ghosts S) (form : TextForm) (old mid new : Database S
     (first now next : Option (List ℕ)) (line : List ℕ) (number : ℕ)
     (honesty : s.honest (store_of old) → s.honest (store_of mid)) (goes : IsSameDatabase mid new)
     (counts : s.honest (store_of new) → CountsNow new) (h : IsLoading form old mid first now number)
-    (r : IfSome now (λ text. ReadsLine 8193 text true line next)) where
+    (r : IfSome now (λ text. ReadsLine (longest_in form + 1) text true line next)) where
   -- a line was read, and its pair was stored
   pub go_on : LoadsLine (Ok tt) (pair_in form line) number mid new
       → IsLoading form old new first next (number + 1)
@@ -270,6 +271,13 @@ not_begun pair_of db first none =
         → (rest : List (List ℕ)) × IfSome first (λ text. lines_of text ≡ [] ++ rest)
     lines_in None = ([], tt)
     lines_in (Some text) = (lines_of text, refl)
+
+-- a text is loaded alike under the same form
+pub loads_in : {S : Type 0} {s : Ghosts S} (form other : TextForm) (result : Result Unit EngineFault)
+    (old new : Database S s) (text : Option (List ℕ)) → other ≡ form
+    → Loads (pair_in other) result text old new → Loads (pair_in form) result text old new
+loads_in form other result old new text same =
+    subst (λ (f : TextForm). Loads (pair_in f) result text old new) same
 
 -- a dump is loaded back
 pub dump_back : {S : Type 0} {s : Ghosts S} (form : TextForm) (result : Result Unit EngineFault)

@@ -10,7 +10,7 @@ use crate::batch::Batch;
 use crate::storing::{store_alone, store_batch};
 use dbm_fault::EngineFault;
 use dbm_file::Database;
-use dbm_lines::{Buffers, TextForm, pair_in_form, read_line};
+use dbm_lines::{Buffers, read_line};
 use dbm_progress::Progress;
 use page_io::PageStore;
 use std::io::BufRead;
@@ -21,11 +21,11 @@ pub fn load_groups<S: PageStore, R: BufRead, P: Progress>(
     reader: &mut R,
     buffers: &mut Buffers,
     batch: &mut Batch,
-    form: TextForm,
     progress: &mut P,
 ) -> Result<(), EngineFault>
     requires none { pairs_in batch.old ≡ [] }
-    ensures loads { Loads (pair_in form) result (R.remaining reader.old) db.old db.new }
+    ensures loads { Loads (pair_in buffers.old.form) result (R.remaining reader.old)
+        db.old db.new }
     ensures read { OnOk result (IfSome (R.remaining reader.old)
         (λ text. R.remaining reader.new ≡ Some [])) }
     ensures size { OnOk result (IfSome (R.remaining reader.old)
@@ -37,14 +37,14 @@ pub fn load_groups<S: PageStore, R: BufRead, P: Progress>(
 {
     let mut left = u32::MAX;
     for number in 1..u64::MAX {
-        let Ok(read) = read_line(reader, &mut buffers.line, &mut left) else {
+        let Ok(read) = read_line(reader, buffers, &mut left) else {
             store_batch(db, batch, progress)?;
             return Err(EngineFault::Read);
         };
         if !read.is_line() {
             return store_batch(db, batch, progress);
         }
-        group_line(db, buffers, batch, number, form, progress)?;
+        group_line(db, buffers, batch, number, progress)?;
     }
     store_batch(db, batch, progress)?;
     Err(EngineFault::Read)
@@ -57,21 +57,19 @@ fn group_line<S: PageStore, P: Progress>(
     buffers: &mut Buffers,
     batch: &mut Batch,
     number: u64,
-    form: TextForm,
     progress: &mut P,
 ) -> Result<(), EngineFault>
-    ensures line { GroupsLine result (pair_in form buffers.old.line.items) number db.old db.new
-        (pairs_in batch.old) (pairs_in batch.new) }
+    ensures line { GroupsLine result (pair_in buffers.old.form buffers.old.line.items) number
+        db.old db.new (pairs_in batch.old) (pairs_in batch.new) }
+    ensures form { buffers.new.form ≡ buffers.old.form }
     ensures faults { StopsByFault result }
     ensures goes { IsSameDatabase db.old db.new }
 {
-    let line = buffers.line.as_slice();
-    let pair = pair_in_form(form, line, &mut buffers.key, &mut buffers.content);
-    let Some((key, content)) = pair else {
+    if !buffers.pair() {
         store_batch(db, batch, progress)?;
         return Err(EngineFault::Line(number));
-    };
-    group_pair(db, batch, key, content, progress)
+    }
+    group_pair(db, batch, &buffers.key, &buffers.content, progress)
 }
 
 /// Puts a pair into the batch, and stores the batch where it is full, or where there is no memory

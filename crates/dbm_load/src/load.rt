@@ -13,7 +13,7 @@ use crate::grouping::load_groups;
 use crate::storing::store_pair;
 use dbm_fault::EngineFault;
 use dbm_file::Database;
-use dbm_lines::{Buffers, TextForm, pair_in_form, read_line};
+use dbm_lines::{Buffers, TextForm, read_line};
 use dbm_progress::{Progress, Work};
 use page_io::PageStore;
 use std::alloc::Global;
@@ -21,7 +21,7 @@ use std::io::BufRead;
 
 /// Stores the pair that each line says, in place of an older one of its key, and stops at the first
 /// line that says none, told by its number from 1 as `Line`, or at the first store that is refused,
-/// told as `Db`. A line is `key content`, may have 8,192 bytes without its line feed, and a text
+/// told as `Db`. A line is `key content`, may have 139,264 bytes without its line feed, and a text
 /// 4,294,967,295. `Memory` comes before anything is read; a store that finds none is told as `Db`.
 /// `Read` comes where reading fails or the text is too long. The stores made so far stand.
 ///
@@ -57,8 +57,8 @@ pub fn load_engine<S: PageStore, R: BufRead, P: Progress>(
 }
 
 /// Stores the pair that each line says as two fields with a tab between them, and otherwise does
-/// and fails as `load_engine`. A byte of a field that no backslash begins stands for itself, so a
-/// text typed by hand loads.
+/// and fails as `load_engine`. A line may have 266,240 bytes without its line feed. A byte of a
+/// field that no backslash begins stands for itself, so a text typed by hand loads.
 pub fn load_text_engine<S: PageStore, R: BufRead, P: Progress>(
     alloc: Global,
     db: &mut Database<S>,
@@ -109,14 +109,14 @@ fn load_in_form<S: PageStore, R: BufRead, P: Progress>(
         → (db.new ≡ db.old) × (reader.new ≡ reader.old) }
     ensures only { result ≡ Err EngineFault.Write → ⊥ }
 {
-    let Ok(mut buffers) = Box::new(alloc, Buffers::new()) else {
+    let Ok(mut buffers) = Buffers::new(alloc, form) else {
         return Err(EngineFault::Memory);
     };
     if group < 2 {
-        return load_lines(db, reader, &mut buffers, form, progress);
+        return load_lines(db, reader, &mut buffers, progress);
     }
     let mut batch = Batch::new(alloc, group);
-    load_groups(db, reader, &mut buffers, &mut batch, form, progress)
+    load_groups(db, reader, &mut buffers, &mut batch, progress)
 }
 
 /// The engine with its buffers.
@@ -124,10 +124,10 @@ fn load_lines<S: PageStore, R: BufRead, P: Progress>(
     db: &mut Database<S>,
     reader: &mut R,
     buffers: &mut Buffers,
-    form: TextForm,
     progress: &mut P,
 ) -> Result<(), EngineFault>
-    ensures loads { Loads (pair_in form) result (R.remaining reader.old) db.old db.new }
+    ensures loads { Loads (pair_in buffers.old.form) result (R.remaining reader.old)
+        db.old db.new }
     ensures read { OnOk result (IfSome (R.remaining reader.old)
         (λ text. R.remaining reader.new ≡ Some [])) }
     ensures size { OnOk result (IfSome (R.remaining reader.old)
@@ -139,11 +139,11 @@ fn load_lines<S: PageStore, R: BufRead, P: Progress>(
 {
     let mut left = u32::MAX;
     for number in 1..u64::MAX {
-        let read = read_line(reader, &mut buffers.line, &mut left);
+        let read = read_line(reader, buffers, &mut left);
         if !read.map_err(|_| EngineFault::Read)?.is_line() {
             return Ok(());
         }
-        load_line(db, buffers, number, form)?;
+        load_line(db, buffers, number)?;
         progress.step(Work::LinesLoaded);
     }
     Err(EngineFault::Read)
@@ -154,18 +154,17 @@ fn load_line<S: PageStore>(
     db: &mut Database<S>,
     buffers: &mut Buffers,
     number: u64,
-    form: TextForm,
 ) -> Result<(), EngineFault>
-    ensures line { LoadsLine result (pair_in form buffers.old.line.items) number db.old db.new }
+    ensures line { LoadsLine result (pair_in buffers.old.form buffers.old.line.items) number
+        db.old db.new }
+    ensures form { buffers.new.form ≡ buffers.old.form }
     ensures faults { StopsByFault result }
     ensures goes { IsSameDatabase db.old db.new }
 {
-    let line = buffers.line.as_slice();
-    let pair = pair_in_form(form, line, &mut buffers.key, &mut buffers.content);
-    let Some((key, content)) = pair else {
+    if !buffers.pair() {
         return Err(EngineFault::Line(number));
-    };
-    match store_pair(db, key, content) {
+    }
+    match store_pair(db, &buffers.key, &buffers.content) {
         Ok(()) => Ok(()),
         Err(fault) => Err(EngineFault::Db(fault)),
     }

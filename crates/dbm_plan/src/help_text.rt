@@ -24,17 +24,21 @@ Faults:
       uses it; a change cut short is there whole or not at all
   3   an earlier fault left a change in doubt: open the file again, which
       settles it
-  4   a change of a database that was opened for reading: open it for writing
-  5   key and content together have more than 2026 bytes: shorten them
+  4   a change or an upgrade of a database that was opened for reading: open it
+      for writing
+  5   the pair is longer than the file's version allows: key and content
+      together have more than 2026 bytes, and in version 2 the key more than
+      1023 or the content more than 65535: shorten them, or `dbmtool upgrade`
   6   the limit is reached, and the key is new: dump, create a database with a
       higher limit, and load
   7   a next key with no pass begun: begin a pass
   8   no room in the file for the change: take a larger device
   9   the file is damaged: load a dump, or restore the file
   10  the file is no database: look at the name, which is given without `.db`
-  11  the file is of another version of the format: use a dbmtool of that one
-  12  the device is too small for a database of this limit: take a lower limit,
-      or a larger device
+  11  the file is of a version of the format that this program doesn't know:
+      use a newer dbmtool
+  12  the device is too small for a database of this limit, or for one of
+      version 2: take a lower limit, or a larger device
   13  a limit outside 1 to 1000000: take one within
   14  there is no such file: look at the name, or use `dbmtool create`
   15  there is such a file already: take another name

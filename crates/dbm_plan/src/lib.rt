@@ -5,4 +5,4 @@ mod help_text;
 mod plan;
 
 pub use help_text::{FAULT_TABLE, fault_table};
-pub use plan::{Plan, Request, Source, Spelling};
+pub use plan::{Plan, Request, Source, Spelling, Version};

@@ -17,6 +17,7 @@ pub enum Plan<'a> {
         file: &'a str,
         /// How many pairs it may have.
         limit: u32,
+        version: Version,
     },
     /// Store a pair, in the place of one with its key.
     Store {
@@ -68,6 +69,10 @@ pub enum Plan<'a> {
     Verify {
         file: &'a str,
     },
+    /// Make a database that is there one of version 2 of the format.
+    Upgrade {
+        file: &'a str,
+    },
     /// Run the script on standard input.
     Script(Source<'a>),
     /// Run the script on standard input in memory, stopped before each of its device calls, or
@@ -94,6 +99,19 @@ pub enum Spelling {
 pub enum Source<'a> {
     /// The one of this name.
     File(&'a str),
-    /// A new one in memory, of at most this many pairs.
-    Memory(u32),
+    /// A new one in memory.
+    Memory {
+        /// How many pairs it may have.
+        limit: u32,
+        version: Version,
+    },
+}
+
+/// A version of the file format.
+#[derive(Clone, Copy, Debug, PartialEq, Eq)]
+pub enum Version {
+    /// Contents of up to 2,026 bytes, together with their keys.
+    V1,
+    /// Also longer contents, of up to 65,535 bytes, under keys of up to 1,023.
+    V2,
 }

@@ -7,6 +7,7 @@ ghost use Rattle.dbm_rehearse.specs.Counts.{counts_text, stops_of, AreCounted};
 ghost use Rattle.dbm_rehearse.specs.Lines.{bad_lines};
 ghost use Rattle.dbm_rehearse.specs.Faults.{database_faults, rehearsal_faults};
 
+use crate::bounds::Bounds;
 use crate::changes::changes_of;
 use crate::reading::read_calls;
 use crate::report::{Rehearsed, write_counts};
@@ -20,17 +21,17 @@ use std::io::{BufRead, Write};
 
 /// Reads a script to its end, makes its calls on a copy of the device, as a stop now leaves that
 /// with none of its unsynced writes, and stops this session before each of its device calls, or
-/// before as many of them as `stops` says, evenly spread. Where the device is blank a database of
-/// the `limit` is made, if there is one. Each stop is looked at with four choices of the unsynced
-/// writes, and its reopening is stopped once more. A line may have 8,192 bytes without its line
-/// feed, and a text 4,294,967,295. `Memory` comes where a growth is refused, `Read` where reading
-/// fails or the text is too long, `Write` where writing fails, and `Db` where the database can't be
-/// opened or read that is on the device. Nothing is flushed. Each stop that was made is a step of
-/// `progress`, which is cleared before the counts are written.
+/// before as many of them as `stops` says, evenly spread. Where the device is blank a database is
+/// made of the bounds `made`, if there are some. Each stop is looked at with four choices of the
+/// unsynced writes, and its reopening is stopped once more. A line may have 139,264 bytes without
+/// its line feed, and a text 4,294,967,295. `Memory` comes where a growth is refused, `Read` where
+/// reading fails or the text is too long, `Write` where writing fails, and `Db` where the database
+/// can't be opened or read that is on the device. Nothing is flushed. Each stop that was made is a
+/// step of `progress`, which is cleared before the counts are written.
 pub fn rehearse_script<R: BufRead, W: Write, P: Progress>(
     alloc: Global,
     dev: &MemDev,
-    limit: Option<u32>,
+    made: Option<Bounds>,
     stops: Option<u32>,
     reader: &mut R,
     writer: &mut W,
@@ -52,7 +53,7 @@ pub fn rehearse_script<R: BufRead, W: Write, P: Progress>(
     ensures only { IsErrAmong result rehearsal_faults }
 {
     let calls = read_calls(alloc, reader, writer)?;
-    let counted = rehearse_calls(alloc, dev, limit, stops, calls.as_slice(), progress);
+    let counted = rehearse_calls(alloc, dev, made, stops, calls.as_slice(), progress);
     progress.clear();
     let counts = counted?;
     write_counts(writer, &counts).map_err(|_| EngineFault::Write)?;
@@ -63,7 +64,7 @@ pub fn rehearse_script<R: BufRead, W: Write, P: Progress>(
 fn rehearse_calls<P: Progress>(
     alloc: Global,
     dev: &MemDev,
-    limit: Option<u32>,
+    made: Option<Bounds>,
     stops: Option<u32>,
     calls: &[Call],
     progress: &mut P,
@@ -73,12 +74,12 @@ fn rehearse_calls<P: Progress>(
         × (counts.stops ≡ stops_of stops counts.device_calls)) }
     ensures only { IsErrAmong result database_faults }
 {
-    let before = pairs_before(alloc, dev, limit)?;
-    let (replies, device_calls) = unstopped(alloc, dev, limit, calls)?;
+    let before = pairs_before(alloc, dev, made)?;
+    let (replies, device_calls) = unstopped(alloc, dev, made, calls)?;
     let rehearsal = Rehearsal {
         alloc,
         dev,
-        limit,
+        made,
         calls,
         changes: changes_of(alloc, &before, calls, replies.as_slice()).map_err(
             |_| EngineFault::Memory,

@@ -2,6 +2,7 @@
 ghost use Rattle.dbm_fault.specs.Among.{IsAmong, IsErrAmong};
 ghost use Rattle.dbm_rehearse.specs.Faults.{database_faults};
 
+use crate::bounds::Bounds;
 use crate::changes::Pairs;
 use dbm_fault::EngineFault;
 use dbm_file::{Access, Database, Db, Fault, OpenHow};
@@ -10,21 +11,23 @@ use sect_dev::MemDev;
 use std::alloc::Global;
 use std::collections::BTreeMap;
 
-/// Opens a device for writing, and makes a database of the limit where it is blank and there is
-/// one.
+/// Opens a device for writing, and makes a database of these bounds where it is blank and there
+/// are some.
 pub fn open_device(
     alloc: Global,
     dev: MemDev,
-    limit: Option<u32>,
+    made: Option<Bounds>,
 ) -> Result<Db<MemDev>, EngineFault>
     ensures { IsErrAmong result database_faults }
 {
+    let Bounds { limit, version } = made.unwrap_or(Bounds::NONE);
     let how = OpenHow {
         access: Access::ReadWrite,
-        create: limit.is_some(),
+        create: made.is_some(),
         exclusive: false,
         truncate: false,
-        limit: limit.unwrap_or(0),
+        limit,
+        version,
     };
     match Db::open(alloc, dev, how) {
         Ok(db) => Ok(db),

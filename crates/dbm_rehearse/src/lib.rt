@@ -1,6 +1,7 @@
 //! The engine of a rehearsal: a script's calls on a device in memory that is stopped anywhere.
 #![tactic(auto)]
 
+mod bounds;
 mod changes;
 mod choices;
 mod copying;
@@ -11,6 +12,7 @@ mod reading;
 mod report;
 mod stopping;
 
+pub use bounds::Bounds;
 pub use changes::{Change, Pairs, is_kept};
 pub use copying::device_with;
 pub use engine::rehearse_script;

@@ -12,7 +12,7 @@ ghost use Rattle.dbm_rehearse.specs.Faults.{script_faults};
 
 use dbm_fault::EngineFault;
 use dbm_file::{Call, Octets, StoreMode};
-use dbm_lines::{Buffers, Request, read_line, request_of, write_bad_line};
+use dbm_lines::{Buffers, Request, TextForm, read_line, write_bad_line};
 use std::alloc::{AllocError, Global};
 use std::io::{BufRead, Write};
 
@@ -31,11 +31,11 @@ pub fn read_calls<R: BufRead, W: Write>(
         (bad_lines (script_of text)))) }
     ensures only { IsErrAmong result script_faults }
 {
-    let mut buffers = Buffers::new();
+    let mut buffers = Buffers::new(alloc, TextForm::Hexadecimal).map_err(|_| EngineFault::Memory)?;
     let mut calls = Vec::new(alloc);
     let mut left = u32::MAX;
     for _ in 0..u64::MAX {
-        let read = read_line(reader, &mut buffers.line, &mut left);
+        let read = read_line(reader, &mut buffers, &mut left);
         if !read.map_err(|_| EngineFault::Read)?.is_line() {
             return Ok(calls);
         }
@@ -67,12 +67,11 @@ fn keep_call<W: Write>(
 fn call_in(alloc: Global, buffers: &mut Buffers) -> Result<Option<Call>, AllocError>
     ensures { IfOk result (λ call. option_map call_of call ≡ call_in_line buffers.old.line.items) }
 {
-    let line = buffers.line.as_slice();
-    match request_of(line, &mut buffers.key, &mut buffers.content) {
-        Request::Store { key, content } => store_of(alloc, key, content, StoreMode::Replace),
-        Request::Insert { key, content } => store_of(alloc, key, content, StoreMode::Insert),
-        Request::Fetch { key } => Ok(Some(Call::Fetch(octets(alloc, key)?))),
-        Request::Delete { key } => Ok(Some(Call::Delete(octets(alloc, key)?))),
+    match buffers.request() {
+        Request::Store => store_of(alloc, buffers, StoreMode::Replace),
+        Request::Insert => store_of(alloc, buffers, StoreMode::Insert),
+        Request::Fetch => Ok(Some(Call::Fetch(octets(alloc, &buffers.key)?))),
+        Request::Delete => Ok(Some(Call::Delete(octets(alloc, &buffers.key)?))),
         Request::First => Ok(Some(Call::First)),
         Request::Next => Ok(Some(Call::Next)),
         Request::Error => Ok(Some(Call::Error)),
@@ -81,18 +80,13 @@ fn call_in(alloc: Global, buffers: &mut Buffers) -> Result<Option<Call>, AllocEr
     }
 }
 
-// The call that stores the pair.
-fn store_of(
-    alloc: Global,
-    key: &[u8],
-    content: &[u8],
-    mode: StoreMode,
-) -> Result<Option<Call>, AllocError>
-    ensures { IfOk result (λ call.
-        option_map call_of call ≡ Some (Store key.now content.now (mode_of mode))) }
+// The call that stores the pair that the line says.
+fn store_of(alloc: Global, buffers: &Buffers, mode: StoreMode) -> Result<Option<Call>, AllocError>
+    ensures { IfOk result (λ call. option_map call_of call
+        ≡ Some (Store buffers.now.key.items buffers.now.content.items (mode_of mode))) }
 {
-    let key = octets(alloc, key)?;
-    let content = octets(alloc, content)?;
+    let key = octets(alloc, &buffers.key)?;
+    let content = octets(alloc, &buffers.content)?;
     Ok(Some(Call::Store { key, content, mode }))
 }
 

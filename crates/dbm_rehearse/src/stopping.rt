@@ -4,6 +4,7 @@ ghost use Rattle.dbm_fault.specs.Among.{IsErrAmong};
 ghost use Rattle.dbm_rehearse.specs.Counts.{stops_of, AreCounted};
 ghost use Rattle.dbm_rehearse.specs.Faults.{database_faults};
 
+use crate::bounds::Bounds;
 use crate::changes::{Change, Pairs, acknowledged, is_kept};
 use crate::choices::{CHOICES, Choice, marks};
 use crate::counting::Counting;
@@ -27,7 +28,7 @@ pub struct Rehearsal<'a> {
     pub alloc: Global,
     pub dev: &'a MemDev,
     /// Of the database that is made where the device is blank.
-    pub limit: Option<u32>,
+    pub made: Option<Bounds>,
     pub calls: &'a [Call],
     /// What is in the database before.
     pub before: Pairs,
@@ -73,7 +74,7 @@ impl<'a> Rehearsal<'a> {
     // The session, stopped.
     fn stopped_at(&self, stop: u64) -> Result<(MemDev, Ending), AllocError> {
         let copy = self.dev.crashed(self.alloc, &[])?;
-        let (left, ending, _) = cut_session(self.alloc, copy, stop, self.limit, self.calls);
+        let (left, ending, _) = cut_session(self.alloc, copy, stop, self.made, self.calls);
         Ok((left, ending))
     }
 
@@ -86,9 +87,9 @@ impl<'a> Rehearsal<'a> {
         stop: u64,
     ) -> Result<Outcome, AllocError> {
         let left = left_with(self.alloc, stopped, choice, stop)?;
-        let (cut, _, _) = cut_session(self.alloc, left, stop % REOPENING, self.limit, &[]);
+        let (cut, _, _) = cut_session(self.alloc, left, stop % REOPENING, self.made, &[]);
         let left = left_with(self.alloc, &cut, choice, stop)?;
-        let mut db = match open_device(self.alloc, left, self.limit) {
+        let mut db = match open_device(self.alloc, left, self.made) {
             Ok(db) => db,
             Err(EngineFault::Memory) => return Err(AllocError),
             Err(_) => return Ok(Outcome::NotReopened),
@@ -112,7 +113,7 @@ impl<'a> Rehearsal<'a> {
 pub fn unstopped(
     alloc: Global,
     dev: &MemDev,
-    limit: Option<u32>,
+    made: Option<Bounds>,
     calls: &[Call],
 ) -> Result<(Vec<Reply>, u64), EngineFault>
     ensures { IsErrAmong result database_faults }
@@ -120,13 +121,13 @@ pub fn unstopped(
     let Ok(copy) = dev.crashed(alloc, &[]) else {
         return Err(EngineFault::Memory);
     };
-    let (_, ending, made) = cut_session(alloc, copy, u64::MAX, limit, calls);
+    let (_, ending, device_calls) = cut_session(alloc, copy, u64::MAX, made, calls);
     match ending {
         Ending::Rested(replies, _) => {
             if lacked_memory(replies.as_slice()) {
                 return Err(EngineFault::Memory);
             }
-            Ok((replies, made))
+            Ok((replies, device_calls))
         }
         Ending::NotOpened(fault) => Err(told(fault)),
         Ending::NoMemory | Ending::Unsettled(..) | Ending::Broke(_) | Ending::BrokeGroup(_) => {
@@ -136,16 +137,16 @@ pub fn unstopped(
 }
 
 /// What is in the database before it.
-pub fn pairs_before(alloc: Global, dev: &MemDev, limit: Option<u32>) -> Result<Pairs, EngineFault>
+pub fn pairs_before(alloc: Global, dev: &MemDev, made: Option<Bounds>) -> Result<Pairs, EngineFault>
     ensures { IsErrAmong result database_faults }
 {
     match dev.crashed(alloc, &[]) {
-        Ok(copy) => pairs_in(alloc, &mut open_device(alloc, copy, limit)?),
+        Ok(copy) => pairs_in(alloc, &mut open_device(alloc, copy, made)?),
         Err(_) => Err(EngineFault::Memory),
     }
 }
 
-// A session that makes a database of the limit where the device is blank and there is one, cut
+// A session that makes a database of these bounds where the device is blank and there are some, cut
 // after so many device calls. It gives what is left, and how many device calls were asked for. Each
 // session is on this one type of device, since the program has the code of a database once for each
 // type; and it has no clause, so that those of a session stand in no other goal.
@@ -153,18 +154,20 @@ fn cut_session(
     alloc: Global,
     dev: MemDev,
     stop: u64,
-    limit: Option<u32>,
+    made: Option<Bounds>,
     calls: &[Call],
 ) -> (MemDev, Ending, u64) {
+    let Bounds { limit, version } = made.unwrap_or(Bounds::NONE);
     let how = Opening {
-        create: limit.is_some(),
+        create: made.is_some(),
         truncate: false,
-        limit: limit.unwrap_or(0),
+        limit,
+        version,
     };
     let counting = Counting::new(Fuse::new(dev, stop));
     let (dev, ending) = session(alloc, counting, how, calls, &[]);
-    let made = dev.calls();
-    (dev.into_inner().into_inner(), ending, made)
+    let device_calls = dev.calls();
+    (dev.into_inner().into_inner(), ending, device_calls)
 }
 
 // What this choice of the unsynced writes leaves of the device.

@@ -1,8 +1,8 @@
 -- How far a script has been answered.
-use Rattle.std.proofs.Common.{◌≡◌, ℕ, Bool, true, false, List, [], ◌∷◌, ◌++◌, take, map, Option, Some, None, IfSome, Result, Ok, Err, OnOk, is_ok, refl, sym, ap, subst, ◌∙◌, append-nil, append_assoc}
+use Rattle.std.proofs.Common.{◌≡◌, ◌+◌, ℕ, Bool, true, false, List, [], ◌∷◌, ◌++◌, take, map, Option, Some, None, IfSome, Result, Ok, Err, OnOk, is_ok, refl, sym, ap, subst, ◌∙◌, append-nil, append_assoc}
 use Rattle.std.specs.Io.KnownBytes.{Appends}
 use Rattle.dbm_model.specs.Calls.{Call, Reply}
-use Rattle.dbm_text.specs.Lines.{call_in_line, call_of_words, words_in, reply_line, bad_line}
+use Rattle.dbm_text.specs.Lines.{call_in_line, reply_line, bad_line}
 use Rattle.dbm_text.specs.Scripts.{script_of, calls_in, answer_of}
 use Rattle.dbm_model.specs.States.{Handle}
 use Rattle.dbm_model.specs.Steps.{Run}
@@ -12,19 +12,19 @@ use Rattle.dbm_file.specs.Runs.{IsRun}
 use Rattle.dbm_file.specs.declared.database.Database.{Database}
 use Rattle.dbm_file.proofs.Breaks.{CountsNow}
 use Rattle.dbm_file.proofs.Runs.{goes_on_with}
-use Rattle.dbm_lines.proofs.TextLines.{first_line, limited-take}
+use Rattle.dbm_lines.proofs.TextLines.{first_line, call_in_line-kept}
+use Rattle.dbm_lines.specs.Bounds.{longest_in}
+use Rattle.dbm_lines.specs.declared.forms.TextForm.{TextForm}
 use Rattle.dbm_lines.specs.Reading.{line_bytes, after_line, ReadsLine}
 use Rattle.dbm_script.specs.Scripts.{AreFirstLines, MakesFirst, AnswersFirst, AnswersScript, AnswersLine}
 
-call_of-take : (line : List ℕ) → call_in_line (take 8193 line) ≡ call_in_line line
-call_of-take line = limited-take (λ line. call_of_words (words_in line)) 8192 line
-
 -- the first line of a script and the rest
-first_call : (x : ℕ) (xs line : List ℕ) → line ≡ take 8193 (line_bytes (x ∷ xs))
+first_call : (form : TextForm) (x : ℕ) (xs line : List ℕ)
+    → line ≡ take (longest_in form + 1) (line_bytes (x ∷ xs))
     → script_of (x ∷ xs) ≡ call_in_line line ∷ script_of (after_line (x ∷ xs))
-first_call x xs line h = ap (map call_in_line) (first_line x xs)
+first_call form x xs line h = ap (map call_in_line) (first_line x xs)
     ∙ ap (λ call. call ∷ script_of (after_line (x ∷ xs)))
-    (sym (ap call_in_line h ∙ call_of-take (line_bytes (x ∷ xs))))
+    (sym (ap call_in_line h ∙ call_in_line-kept form (line_bytes (x ∷ xs))))
 
 pub calls_in-push : (script : List (Option Call)) (call : Option Call)
     → calls_in (script ++ call ∷ []) ≡ calls_in script ++ calls_in (call ∷ [])
@@ -124,30 +124,31 @@ module _ {S : Type 0} (s : Ghosts S) (old mid new : Database S s) (start : Handl
         h.written answer.2);
   }
 
-pub left_after : (first now next : Option (List ℕ)) (line : List ℕ) (done : List (Option Call))
-    → IsLeft first now done → IfSome now (λ text. ReadsLine 8193 text true line next)
+pub left_after : (form : TextForm) (first now next : Option (List ℕ)) (line : List ℕ)
+    (done : List (Option Call)) → IsLeft first now done
+    → IfSome now (λ text. ReadsLine (longest_in form + 1) text true line next)
     → IsLeft first next (done ++ call_in_line line ∷ [])
-left_after None now next line done h r = tt
-left_after (Some text) None next line done h r = absurd h
-left_after (Some text) (Some []) next line done h r = let e = r.0 in cc
-left_after (Some text) (Some (x ∷ xs)) next line done h r =
+left_after form None now next line done h r = tt
+left_after form (Some text) None next line done h r = absurd h
+left_after form (Some text) (Some []) next line done h r = let e = r.0 in cc
+left_after form (Some text) (Some (x ∷ xs)) next line done h r =
     rw (r.2) (append_assoc done (call_in_line line ∷ []) (script_of (after_line (x ∷ xs)))
-    ∙ ap (λ rest. done ++ rest) (sym (first_call x xs line r.1)) ∙ h)
+    ∙ ap (λ rest. done ++ rest) (sym (first_call form x xs line r.1)) ∙ h)
 
 -- a line was read and answered
-pub go_on : {S : Type 0} (s : Ghosts S) (old mid new : Database S s) (start : Handle)
-    (first now next before written after : Option (List ℕ)) (line : List ℕ)
+pub go_on : {S : Type 0} (s : Ghosts S) (form : TextForm) (old mid new : Database S s)
+    (start : Handle) (first now next before written after : Option (List ℕ)) (line : List ℕ)
     → IsSameDatabase mid new → CountsNow new
     → (h : IsAnswered old mid start first now before written)
-    → IfSome now (λ text. ReadsLine 8193 text true line next)
+    → IfSome now (λ text. ReadsLine (longest_in form + 1) text true line next)
     → AnswersLine (call_in_line line) mid new h.answered.run.after
     (λ text. Appends written after text) → IsAnswered old new start first next before after
-go_on s old mid new start first now next before written after line goes counts h read
+go_on s form old mid new start first now next before written after line goes counts h read
     answer = record {
       done = h.done ++ call_in_line line ∷ [];
       answered = one_more s old mid new start goes counts before written after h.done
           (call_in_line line) h.answered answer;
-      left = left_after first now next line h.done h.left read;
+      left = left_after form first now next line h.done h.left read;
     }
 
 -- what is said where the writing went well
@@ -160,18 +161,20 @@ said (Ok u) (Some call) old new start Says ok answer = answer
 said (Err e) call old new start Says ok answer = cc
 
 -- a line that was there
-pub was_read : (now next : Option (List ℕ)) (line : List ℕ) (more : Bool) → more ≡ true
-    → IfSome now (λ text. ReadsLine 8193 text more line next)
-    → IfSome now (λ text. ReadsLine 8193 text true line next)
-was_read now next line more is read =
-    subst (λ (b : Bool). IfSome now (λ text. ReadsLine 8193 text b line next)) is read
+pub was_read : (form : TextForm) (now next : Option (List ℕ)) (line : List ℕ) (more : Bool)
+    → more ≡ true → IfSome now (λ text. ReadsLine (longest_in form + 1) text more line next)
+    → IfSome now (λ text. ReadsLine (longest_in form + 1) text true line next)
+was_read form now next line more is read =
+    subst (λ (b : Bool). IfSome now (λ text. ReadsLine (longest_in form + 1) text b line next))
+    is read
 
 -- the text was at its end
-pub was_none : (now next : Option (List ℕ)) (line : List ℕ) (more : Bool) → more ≡ false
-    → IfSome now (λ text. ReadsLine 8193 text more line next)
-    → IfSome now (λ text. ReadsLine 8193 text false line next)
-was_none now next line more is read =
-    subst (λ (b : Bool). IfSome now (λ text. ReadsLine 8193 text b line next)) is read
+pub was_none : (form : TextForm) (now next : Option (List ℕ)) (line : List ℕ) (more : Bool)
+    → more ≡ false → IfSome now (λ text. ReadsLine (longest_in form + 1) text more line next)
+    → IfSome now (λ text. ReadsLine (longest_in form + 1) text false line next)
+was_none form now next line more is read =
+    subst (λ (b : Bool). IfSome now (λ text. ReadsLine (longest_in form + 1) text b line next))
+    is read
 
 -- no call was made
 pub no_call : {S : Type 0} {s : Ghosts S} (db : Database S s) (start : Handle)
@@ -188,12 +191,13 @@ first_lines (Some text) None done left = absurd left
 first_lines (Some text) (Some rest) done left = (script_of rest, sym left)
 
 -- with the line that was read
-with_line : (first now next : Option (List ℕ)) (line : List ℕ) (done : List (Option Call))
-    → IsLeft first now done → IfSome now (λ text. ReadsLine 8193 text true line next)
+with_line : (form : TextForm) (first now next : Option (List ℕ)) (line : List ℕ)
+    (done : List (Option Call)) → IsLeft first now done
+    → IfSome now (λ text. ReadsLine (longest_in form + 1) text true line next)
     → AreFirstLines first (done ++ call_in_line line ∷ [])
-with_line first now next line done left read =
+with_line form first now next line done left read =
     first_lines first next (done ++ call_in_line line ∷ [])
-    (left_after first now next line done left read)
+    (left_after form first now next line done left read)
 
 -- the calls that were made stand
 pub stand : {S : Type 0} {s : Ghosts S} (old new : Database S s) (start : Handle)
@@ -216,11 +220,11 @@ answered_first old new start first now before after h =
     record { made = h.done; first = first_lines first now h.done h.left; answers = h.answered }
 
 -- so does a call whose reply was not written
-module _ {S : Type 0} (s : Ghosts S) (old mid new : Database S s) (start : Handle)
-    (first now next before after : Option (List ℕ)) (line : List ℕ) (Says : List ℕ → Type 0)
-    (goes : IsSameDatabase mid new) (counts : CountsNow new)
+module _ {S : Type 0} (s : Ghosts S) (form : TextForm) (old mid new : Database S s)
+    (start : Handle) (first now next before after : Option (List ℕ)) (line : List ℕ)
+    (Says : List ℕ → Type 0) (goes : IsSameDatabase mid new) (counts : CountsNow new)
     (h : IsAnswered old mid start first now before after)
-    (read : IfSome now (λ text. ReadsLine 8193 text true line next)) where
+    (read : IfSome now (λ text. ReadsLine (longest_in form + 1) text true line next)) where
   stands_by : (call : Option Call) → AnswersLine call mid new h.answered.run.after Says
       → AreFirstLines first (h.done ++ call ∷ []) → MakesFirst first old new start
   stands_by None answer lines = record {
@@ -240,26 +244,27 @@ module _ {S : Type 0} (s : Ghosts S) (old mid new : Database S s) (start : Handl
   pub stand_with : AnswersLine (call_in_line line) mid new h.answered.run.after Says
       → MakesFirst first old new start
   stand_with answer = stands_by (call_in_line line) answer
-      (with_line first now next line h.done h.left read)
+      (with_line form first now next line h.done h.left read)
 
-whole : {S : Type 0} {s : Ghosts S} (old new : Database S s) (start : Handle) (text : List ℕ)
-    (now next before after : Option (List ℕ)) (line : List ℕ) (done : List (Option Call))
-    → IsLeft (Some text) now done → AnswersScript done old new start before after
-    → IfSome now (λ text. ReadsLine 8193 text false line next)
+whole : {S : Type 0} {s : Ghosts S} (form : TextForm) (old new : Database S s) (start : Handle)
+    (text : List ℕ) (now next before after : Option (List ℕ)) (line : List ℕ)
+    (done : List (Option Call)) → IsLeft (Some text) now done
+    → AnswersScript done old new start before after
+    → IfSome now (λ text. ReadsLine (longest_in form + 1) text false line next)
     → AnswersScript (script_of text) old new start before after
-whole old new start text None next before after line done left h read = absurd left
-whole old new start text (Some []) next before after line done left h read =
+whole form old new start text None next before after line done left h read = absurd left
+whole form old new start text (Some []) next before after line done left h read =
     subst (λ (script : List (Option Call)). AnswersScript script old new start before after)
     (sym (append-nil done) ∙ left) h
-whole old new start text (Some (x ∷ xs)) next before after line done left h read =
+whole form old new start text (Some (x ∷ xs)) next before after line done left h read =
     let e = read.0 in cc
 
 -- at the end of the text the whole script is answered
-pub at_end : {S : Type 0} {s : Ghosts S} (old new : Database S s) (start : Handle)
+pub at_end : {S : Type 0} {s : Ghosts S} (form : TextForm) (old new : Database S s) (start : Handle)
     (first now next before after : Option (List ℕ)) (line : List ℕ)
     → IsAnswered old new start first now before after
-    → IfSome now (λ text. ReadsLine 8193 text false line next)
+    → IfSome now (λ text. ReadsLine (longest_in form + 1) text false line next)
     → IfSome first (λ text. AnswersScript (script_of text) old new start before after)
-at_end old new start None now next before after line h read = tt
-at_end old new start (Some text) now next before after line h read =
-    whole old new start text now next before after line h.done h.left h.answered read
+at_end form old new start None now next before after line h read = tt
+at_end form old new start (Some text) now next before after line h read =
+    whole form old new start text now next before after line h.done h.left h.answered read

@@ -2,7 +2,7 @@
 use Rattle.std.proofs.Common.{◌≡◌, ◌∙◌, ℕ, true, List, Option, Some, None, Result, Ok, Err, IfSome, OnOk}
 use Rattle.std.specs.FinMap as map
 use Rattle.std.specs.Io.KnownBytes.{Appends, Keeps}
-use Rattle.dbm_model.specs.Bounds.{in_v1}
+use Rattle.dbm_model.specs.Bounds.{Bounds}
 use Rattle.dbm_model.specs.Calls.{Call}
 use Rattle.dbm_model.specs.States.{Handle}
 use Rattle.dbm_text.specs.Lines.{reply_line, bad_line}
@@ -37,16 +37,16 @@ line_flushed r (Some call) old new start before mid after answer keeps =
     (answer.0, answer.1, on_ok r before mid after (reply_line answer.0) answer.2 keeps)
 
 -- the answer of a new database, after the last flush
-pub answered : {S E : Type 0} {s : Ghosts S} (r : Result Unit E) (limit : ℕ)
+pub answered : {S E : Type 0} {s : Ghosts S} (r : Result Unit E) (bounds : Bounds)
     (first old mid new : Option (List ℕ)) (db after : Database S s)
-    (opened : IsOpenedAt true db map.empty (in_v1 limit)) → HasRoom db → is_limit limit ≡ true
+    (opened : IsOpenedAt true db map.empty bounds) → HasRoom db → is_limit bounds.limit ≡ true
     → IfSome first (λ text. AnswersScript (script_of text) db after opened.handle old mid)
-    → Keeps mid new → OnOk r (IfSome first (λ text. AnswersInMemory limit text old new))
-answered {S} {E} {s} r limit first old mid new db after opened room allowed answers keeps =
+    → Keeps mid new → OnOk r (IfSome first (λ text. AnswersInMemory bounds text old new))
+answered {S} {E} {s} r bounds first old mid new db after opened room allowed answers keeps =
     by_case r first answers
   where
     of_text : (text : List ℕ) → AnswersScript (script_of text) db after opened.handle old mid
-        → AnswersInMemory limit text old new
+        → AnswersInMemory bounds text old new
     of_text text answers = record {
       allowed = allowed;
       before = opened.handle;
@@ -60,7 +60,7 @@ answered {S} {E} {s} r limit first old mid new db after opened room allowed answ
 
     by_case : (r : Result Unit E) (first : Option (List ℕ))
         → IfSome first (λ text. AnswersScript (script_of text) db after opened.handle old mid)
-        → OnOk r (IfSome first (λ text. AnswersInMemory limit text old new))
+        → OnOk r (IfSome first (λ text. AnswersInMemory bounds text old new))
     by_case (Err e) first answers = tt
     by_case (Ok u) None answers = tt
     by_case (Ok u) (Some text) answers = of_text text answers

@@ -1,14 +1,14 @@
 -- A device in memory is large enough, and blank.
-use Rattle.std.proofs.Common.{◌≡◌, ◌⊎◌, inl, inr, ℕ, suc, ◌+◌, ◌*◌, ◌/◌, ◌≤◌, Bool, true, false, cond, Option, Some, None, refl, ap, subst, ◌∙◌, arith}
+use Rattle.std.proofs.Common.{◌≡◌, ◌⊎◌, inl, inr, ℕ, suc, ◌*◌, ◌/◌, ◌≤◌, Bool, true, false, cond, Option, Some, None, refl, ap, subst, ◌∙◌, arith}
 use Rattle.std.specs.FinMap.{empty}
 use Rattle.std.specs.Prelude.{nat_lt}
 use Rattle.std.proofs.lemmas.Bool.{le-ltb}
 use Rattle.std.proofs.lemmas.Bool.Decides.{leb_tells}
-use Rattle.dbm_model.specs.Bounds.{Bounds, in_v1}
+use Rattle.dbm_model.specs.Bounds.{Bounds}
 use Rattle.sect_dev.specs.Device.{Image, Candidates, IsImageOf, IsStable}
 use Rattle.sect_dev.specs.Sector.{zeros}
 use Rattle.dbm_model.specs.Pairs.{Contents}
-use Rattle.dbm_model.specs.Sizes.{is_limit, buckets_for, segments_for, home, sectors_for}
+use Rattle.dbm_model.specs.Sizes.{is_limit, home, sectors_for}
 use Rattle.page_io.specs.Store.{Settled, blank}
 use Rattle.page_io.specs.Meaning.{ImageStandsFor}
 use Rattle.redo_commit.specs.Header.{header_of}
@@ -21,11 +21,10 @@ use Rattle.dbm_fault.specs.declared.fault.Fault.{Fault}
 use Rattle.dbm_fault.specs.declared.fault.Fault.TheVariants.{TooSmall}
 
 -- each allowed limit needs at least 16 sectors
-pub enough : (limit n : ℕ) → Some n ≡ sectors_for (in_v1 limit) → 16 ≤ n
-enough limit n h = (elim (is_limit limit) as
-    (λ b. Some n ≡ cond b (Some (8 * home (in_v1 limit))) None → 16 ≤ n) [
-      | true ↦ λ h. let e : n ≡ 8 * (2 + segments_for (buckets_for limit) + buckets_for limit + 1 * limit) =
-          cc in omega (arith, e)
+pub enough : (bounds : Bounds) (n : ℕ) → Some n ≡ sectors_for bounds → 16 ≤ n
+enough bounds n h = (elim (is_limit bounds.limit) as
+    (λ b. Some n ≡ cond b (Some (8 * home bounds)) None → 16 ≤ n) [
+      | true ↦ λ h. let e : n ≡ 8 * home bounds = cc in omega (arith, e)
       | false ↦ λ h. cc
     ]) h
 

@@ -1,5 +1,5 @@
 -- How far a script has been told, on any device.
-use Rattle.std.proofs.Common.{◌≡◌, ℕ, length, arith, true, false, List, [], ◌∷◌, ◌++◌, map, Option, Some, None, IfSome, Result, Ok, Err, OnOk, is_ok, refl, sym, ap, subst, ◌∙◌, append-nil, append_assoc}
+use Rattle.std.proofs.Common.{◌≡◌, ◌+◌, ℕ, length, arith, true, false, List, [], ◌∷◌, ◌++◌, map, Option, Some, None, IfSome, Result, Ok, Err, OnOk, is_ok, refl, sym, ap, subst, ◌∙◌, append-nil, append_assoc}
 use Rattle.std.proofs.lemmas.List.{map-append, length-map}
 use Rattle.std.specs.Io.KnownBytes.{Appends, Keeps}
 use Rattle.dbm_model.specs.Calls as model
@@ -12,7 +12,9 @@ use Rattle.dbm_file.specs.declared.calls.Call.{Call}
 use Rattle.dbm_file.specs.declared.calls.Reply.{Reply}
 use Rattle.dbm_file.specs.declared.database.Database.{Database}
 use Rattle.dbm_file.proofs.Answered.{answered_next}
+use Rattle.dbm_lines.specs.Bounds.{longest_in}
 use Rattle.dbm_lines.specs.Reading.{ReadsLine}
+use Rattle.dbm_lines.specs.declared.forms.TextForm.{TextForm}
 use Rattle.dbm_script.specs.Tellings.{TellsLine, TellsScript}
 use Rattle.dbm_script.proofs.Flushing.{on_ok}
 use Rattle.dbm_script.proofs.Answering.{IsLeft, left_after, calls_in-push, joined}
@@ -154,36 +156,36 @@ one_more old mid new before now after done (Some call) h (made, is, reply, answe
 }
 
 -- a line was read and told
-pub tell_on : {S : Type 0} {s : Ghosts S} (old mid new : Database S s)
+pub tell_on : {S : Type 0} {s : Ghosts S} (form : TextForm) (old mid new : Database S s)
     (first now next before written after : Option (List ℕ)) (line : List ℕ)
     → IsTold old mid first now before written
-    → IfSome now (λ text. ReadsLine 8193 text true line next)
+    → IfSome now (λ text. ReadsLine (longest_in form + 1) text true line next)
     → TellsLine (call_in_line line) mid new (λ text. Appends written after text)
     → IsTold old new first next before after
-tell_on old mid new first now next before written after line h read telling = record {
+tell_on form old mid new first now next before written after line h read telling = record {
   done = h.done ++ call_in_line line ∷ [];
   tells = one_more old mid new before written after h.done (call_in_line line) h.tells telling;
-  left = left_after first now next line h.done h.left read;
+  left = left_after form first now next line h.done h.left read;
 }
 
-whole : {S : Type 0} {s : Ghosts S} (old new : Database S s) (text : List ℕ)
+whole : {S : Type 0} {s : Ghosts S} (form : TextForm) (old new : Database S s) (text : List ℕ)
     (now next before after : Option (List ℕ)) (line : List ℕ) (done : List (Option model.Call))
     → IsLeft (Some text) now done → TellsScript done old new before after
-    → IfSome now (λ text. ReadsLine 8193 text false line next)
+    → IfSome now (λ text. ReadsLine (longest_in form + 1) text false line next)
     → TellsScript (script_of text) old new before after
-whole old new text None next before after line done left h read = absurd left
-whole old new text (Some []) next before after line done left h read =
+whole form old new text None next before after line done left h read = absurd left
+whole form old new text (Some []) next before after line done left h read =
     subst (λ (script : List (Option model.Call)). TellsScript script old new before after)
     (sym (append-nil done) ∙ left) h
-whole old new text (Some (x ∷ xs)) next before after line done left h read =
+whole form old new text (Some (x ∷ xs)) next before after line done left h read =
     let e = read.0 in cc
 
 -- at the end of the text the whole script is told
-pub told_whole : {S : Type 0} {s : Ghosts S} (old new : Database S s)
+pub told_whole : {S : Type 0} {s : Ghosts S} (form : TextForm) (old new : Database S s)
     (first now next before after : Option (List ℕ)) (line : List ℕ)
     → IsTold old new first now before after
-    → IfSome now (λ text. ReadsLine 8193 text false line next)
+    → IfSome now (λ text. ReadsLine (longest_in form + 1) text false line next)
     → IfSome first (λ text. TellsScript (script_of text) old new before after)
-told_whole old new None now next before after line h read = tt
-told_whole old new (Some text) now next before after line h read =
-    whole old new text now next before after line h.done h.left h.tells read
+told_whole form old new None now next before after line h read = tt
+told_whole form old new (Some text) now next before after line h read =
+    whole form old new text now next before after line h.done h.left h.tells read

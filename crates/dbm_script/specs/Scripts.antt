@@ -2,7 +2,7 @@
 use Rattle.std.specs.Prelude.{◌≡◌, ◌++◌, ℕ, List, true, Option, Some, None, IfSome}
 use Rattle.std.specs.FinMap as map
 use Rattle.std.specs.Io.KnownBytes.{Appends}
-use Rattle.dbm_model.specs.Bounds.{in_v1}
+use Rattle.dbm_model.specs.Bounds.{Bounds}
 use Rattle.dbm_model.specs.Calls.{Call, Reply}
 use Rattle.dbm_text.specs.Lines.{reply_line, bad_line}
 use Rattle.dbm_text.specs.Scripts.{script_of, calls_in, answer_of}
@@ -10,7 +10,9 @@ use Rattle.dbm_model.specs.Room.{HasRoom}
 use Rattle.dbm_model.specs.States.{Handle, fresh}
 use Rattle.dbm_model.specs.Steps.{Run}
 use Rattle.dbm_model.specs.Sizes.{is_limit}
+use Rattle.page_io.specs.Versions.{model_version}
 use Rattle.page_io.specs.declared.store.PageStore.{Ghosts}
+use Rattle.page_io.specs.declared.version.Version.{Version}
 use Rattle.dbm_file.specs.Answers.{IsStep}
 use Rattle.dbm_file.specs.Runs.{IsRun}
 use Rattle.dbm_file.specs.declared.database.Database.{Database}
@@ -49,12 +51,17 @@ AnswersLine None old new start Says = (new ≡ old) × Says bad_line
 AnswersLine (Some call) old new start Says =
     (reply : Reply) × IsStep old new start call reply × Says (reply_line reply)
 
--- the script was answered by a run of a new database of the limit, which has room for every list
+-- the bounds of a new database that is asked for so
+abbrev pub asked : ℕ → Version → Bounds
+asked limit version = record { limit = limit; version = model_version version }
+
+-- the script was answered by a run of a new database of these bounds, which has room for every list
 -- of calls
-pub record AnswersInMemory (limit : ℕ) (text : List ℕ) (old new : Option (List ℕ)) : Type 0 where
-  pub allowed : is_limit limit ≡ true
+pub record AnswersInMemory (bounds : Bounds) (text : List ℕ) (old new : Option (List ℕ))
+    : Type 0 where
+  pub allowed : is_limit bounds.limit ≡ true
   pub before : Handle
-  pub empty : before.state ≡ fresh map.empty (in_v1 limit) true
+  pub empty : before.state ≡ fresh map.empty bounds true
   pub room : HasRoom before
   pub after : Handle
   pub replies : List Reply

@@ -1,32 +1,33 @@
 // A script over a new database in memory.
 ghost use Rattle.std.specs.Prelude.{◌≡◌, OnOk, IfOk, IfErr, IfSome, true, false};
 ghost use Rattle.std.specs.FinMap.{empty};
-ghost use Rattle.dbm_model.specs.Bounds.{in_v1};
 ghost use Rattle.dbm_model.specs.Sizes.{is_limit};
 ghost use Rattle.dbm_file.specs.Opened.{HasRoom, IsOpenedAt};
 ghost use Rattle.dbm_script.specs.Faults.{CanMeetInMemory, told_in_memory};
-ghost use Rattle.dbm_script.specs.Scripts.{AnswersInMemory};
+ghost use Rattle.dbm_script.specs.Scripts.{AnswersInMemory, asked};
 
 use crate::script_engine;
 use dbm_fault::EngineFault;
-use dbm_file::{Access, Db, Fault, OpenHow, needed_sectors};
+use dbm_file::{Access, Db, Fault, OpenHow, Version, needed_sectors_of};
 use sect_dev::MemDev;
 use std::alloc::Global;
 use std::io::{BufRead, Write};
 
-/// Answers the script on `input` by a new database in memory.
+/// Answers the script on `input` by a new database in memory, of this limit and version.
 pub fn script_in_memory<R: BufRead, O: Write>(
     alloc: Global,
     limit: u32,
+    version: Version,
     input: &mut R,
     output: &mut O,
 ) -> Result<(), EngineFault>
-    ensures answer { OnOk result (IfSome (R.remaining input.old) (λ text.
-        AnswersInMemory limit text (O.contents output.old) (O.contents output.new))) }
+    ensures answer { OnOk result (IfSome (R.remaining input.old)
+        (λ text. AnswersInMemory (asked limit version) text
+        (O.contents output.old) (O.contents output.new))) }
     ensures limit { is_limit limit ≡ false → result ≡ Err (EngineFault.Db Fault.BadLimit) }
     ensures only { IfErr result (CanMeetInMemory limit) }
 {
-    let mut db = match new_in_memory(alloc, limit) {
+    let mut db = match new_in_memory(alloc, limit, version) {
         Ok(db) => db,
         Err(fault) => return Err(in_memory(fault)),
     };
@@ -48,15 +49,15 @@ fn in_memory(fault: Fault) -> EngineFault
     }
 }
 
-/// A new database in memory, of at most `limit` pairs.
-fn new_in_memory(alloc: Global, limit: u32) -> Result<Db<MemDev>, Fault>
-    ensures fresh { IfOk result (λ db. IsOpenedAt true db empty (in_v1 limit)) }
+/// A new database of this version in memory, of at most `limit` pairs.
+fn new_in_memory(alloc: Global, limit: u32, version: Version) -> Result<Db<MemDev>, Fault>
+    ensures fresh { IfOk result (λ db. IsOpenedAt true db empty (asked limit version)) }
     ensures room { IfOk result HasRoom }
     ensures allowed { IfOk result (λ _. is_limit limit ≡ true) }
     ensures limit { is_limit limit ≡ false → result ≡ Err Fault.BadLimit }
     ensures only { is_limit limit ≡ true → IfErr result (λ e. e ≡ Fault.Device) }
 {
-    let Some(sectors) = needed_sectors(limit) else {
+    let Some(sectors) = needed_sectors_of(version, limit) else {
         return Err(Fault::BadLimit);
     };
     let how = OpenHow {
@@ -65,6 +66,7 @@ fn new_in_memory(alloc: Global, limit: u32) -> Result<Db<MemDev>, Fault>
         exclusive: false,
         truncate: false,
         limit,
+        version,
     };
     match Db::open(alloc, MemDev::new(alloc, sectors), how) {
         Ok(db) => Ok(db),

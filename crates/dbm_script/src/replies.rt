@@ -1,5 +1,5 @@
 // The replies of calls that a fault may refuse, as lines.
-ghost use Rattle.std.specs.Prelude.{◌≡◌, ◌≤◌, OnOk, IfOk, IfSome, length};
+ghost use Rattle.std.specs.Prelude.{OnOk};
 ghost use Rattle.std.specs.Io.KnownBytes.{Appends};
 ghost use Rattle.dbm_model.specs.Calls.{NoRecord, End, Refused};
 ghost use Rattle.dbm_text.specs.Lines.{reply_line};
@@ -7,38 +7,31 @@ ghost use Rattle.dbm_file.specs.Calls.{lent_reply};
 ghost use Rattle.dbm_fault.specs.Faults.{fault_of};
 
 use dbm_file::Fault;
-use dbm_lines::{DIGITS, write_bytes, write_end, write_no_record, write_refused};
+use dbm_lines::{write_bytes, write_end, write_no_record, write_refused};
 use std::io::{self, Write};
 
-/// Writes the line of a fetch. The digits of a content go through `digits`.
+/// Writes the line of a fetch.
 pub fn write_fetched<W: Write>(
     writer: &mut W,
     content: Result<Option<&[u8]>, Fault>,
-    digits: &mut [u8; DIGITS],
 ) -> io::Result<()>
-    requires { IfOk content (λ r. IfSome r (λ bytes. length bytes.now ≤ 2026)) }
     ensures { OnOk result (Appends (W.contents writer.old) (W.contents writer.new)
         (reply_line (lent_reply NoRecord content.entry))) }
 {
     match content {
-        Ok(Some(content)) => write_bytes(writer, content, digits),
+        Ok(Some(content)) => write_bytes(writer, content),
         Ok(None) => write_no_record(writer),
         Err(fault) => write_fault(writer, fault),
     }
 }
 
-/// Writes the line of a firstkey or a nextkey. The digits of a key go through `digits`.
-pub fn write_passed<W: Write>(
-    writer: &mut W,
-    key: Result<Option<&[u8]>, Fault>,
-    digits: &mut [u8; DIGITS],
-) -> io::Result<()>
-    requires { IfOk key (λ r. IfSome r (λ bytes. length bytes.now ≤ 2026)) }
+/// Writes the line of a firstkey or a nextkey.
+pub fn write_passed<W: Write>(writer: &mut W, key: Result<Option<&[u8]>, Fault>) -> io::Result<()>
     ensures { OnOk result (Appends (W.contents writer.old) (W.contents writer.new)
         (reply_line (lent_reply End key.entry))) }
 {
     match key {
-        Ok(Some(key)) => write_bytes(writer, key, digits),
+        Ok(Some(key)) => write_bytes(writer, key),
         Ok(None) => write_end(writer),
         Err(fault) => write_fault(writer, fault),
     }

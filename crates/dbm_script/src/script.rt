@@ -1,5 +1,5 @@
 // The engine of a script.
-ghost use Rattle.std.specs.Prelude.{◌≡◌, ◌≤◌, OnOk, IfOk, IfErr, IfSome, Some, [], length, ◌∷◌};
+ghost use Rattle.std.specs.Prelude.{◌≡◌, ◌+◌, ◌≤◌, OnOk, IfOk, IfErr, IfSome, Some, [], length, ◌∷◌};
 ghost use Rattle.dbm_fault.specs.Among.{IsErrAmong};
 ghost use Rattle.std.specs.Io.KnownBytes.{Appends};
 ghost use Rattle.dbm_text.specs.Lines.{call_in_line};
@@ -8,6 +8,7 @@ ghost use Rattle.dbm_text.specs.Scripts.{script_of};
 ghost use Rattle.dbm_file.specs.Answers.{IsSameDatabase};
 ghost use Rattle.dbm_file.specs.Calls.{mode_of};
 ghost use Rattle.dbm_file.specs.Database.{AtEachHandle};
+ghost use Rattle.dbm_lines.specs.Bounds.{longest_in};
 ghost use Rattle.dbm_lines.specs.Reading.{is_line, ReadsLine, IsCounted};
 ghost use Rattle.dbm_script.specs.Scripts.{MakesFirst, AnswersFirst, AnswersScript, AnswersLine};
 ghost use Rattle.dbm_script.specs.Tellings.{TellsLine, TellsScript};
@@ -16,15 +17,15 @@ use crate::replies::{write_fault, write_fetched, write_passed};
 use dbm_fault::EngineFault;
 use dbm_file::{Database, DeleteReply, StoreMode, StoreReply};
 use dbm_lines::{
-    Buffers, DIGITS, LineRead, Request, read_line, request_of, write_absent, write_bad_line,
-    write_deleted, write_kept, write_number, write_stored,
+    Buffers, LineRead, Request, TextForm, read_line, write_absent, write_bad_line, write_deleted,
+    write_kept, write_number, write_stored,
 };
 use page_io::PageStore;
 use std::alloc::Global;
 use std::io::{self, BufRead, Write};
 
 /// Reads lines to the end, makes the call that each asks for, and writes one line for each: the
-/// reply, or `-1 line` where the line asks for no call. A line may have 8,192 bytes without its
+/// reply, or `-1 line` where the line asks for no call. A line may have 139,264 bytes without its
 /// line feed, and a text 4,294,967,295. What is written is flushed where the reader's buffer holds
 /// no further whole line, since reading on may wait. `Memory` comes before anything is read, `Read`
 /// where reading fails or the text is too long, and `Write` where writing fails, also of a call
@@ -64,7 +65,7 @@ pub fn script_engine<S: PageStore, R: BufRead, W: Write>(
     ensures only { IsErrAmong result
         (EngineFault.Memory ∷ EngineFault.Read ∷ EngineFault.Write ∷ []) }
 {
-    let Ok(mut buffers) = Box::new(alloc, Buffers::new()) else {
+    let Ok(mut buffers) = Buffers::new(alloc, TextForm::Hexadecimal) else {
         return Err(EngineFault::Memory);
     };
     run_lines(db, reader, writer, &mut buffers)
@@ -116,13 +117,13 @@ fn next_line<R: BufRead>(
 ) -> Result<LineRead, EngineFault>
     ensures line { IfOk result (λ read.
         IfSome (R.remaining reader.old)
-        (λ text. ReadsLine 8193 text (is_line read) buffers.new.line.items
-        (R.remaining reader.new))) }
+        (λ text. ReadsLine (longest_in buffers.old.form + 1) text (is_line read)
+        buffers.new.line.items (R.remaining reader.new))) }
     ensures counted { OnOk result
         (IsCounted (R.remaining reader.old) left.old (R.remaining reader.new) left.new) }
     ensures only { IfErr result (λ e. e ≡ EngineFault.Read) }
 {
-    read_line(reader, &mut buffers.line, left).map_err(|_| EngineFault::Read)
+    read_line(reader, buffers, left).map_err(|_| EngineFault::Read)
 }
 
 /// Answers the line, and flushes where reading on may wait.
@@ -159,18 +160,16 @@ fn answer_line<S: PageStore, W: Write>(
         (λ text. OnOk result (Appends (W.contents writer.old) (W.contents writer.new) text)) }
     ensures goes { IsSameDatabase db.old db.new }
 {
-    let line = buffers.line.as_slice();
-    match request_of(line, &mut buffers.key, &mut buffers.content) {
-        Request::Store { key, content } => {
-            answer_store(db, key, content, StoreMode::Replace, writer)
-        }
-        Request::Insert { key, content } => {
-            answer_store(db, key, content, StoreMode::Insert, writer)
-        }
-        Request::Fetch { key } => answer_fetch(db, key, &mut buffers.digits, writer),
-        Request::Delete { key } => answer_delete(db, key, writer),
-        Request::First => answer_first(db, &mut buffers.digits, writer),
-        Request::Next => answer_next(db, &mut buffers.digits, writer),
+    let request = buffers.request();
+    let key = buffers.key.as_slice();
+    let content = buffers.content.as_slice();
+    match request {
+        Request::Store => answer_store(db, key, content, StoreMode::Replace, writer),
+        Request::Insert => answer_store(db, key, content, StoreMode::Insert, writer),
+        Request::Fetch => answer_fetch(db, key, writer),
+        Request::Delete => answer_delete(db, key, writer),
+        Request::First => answer_first(db, writer),
+        Request::Next => answer_next(db, writer),
         Request::Error => answer_error(db, writer),
         Request::Clear => answer_clear(db, writer),
         Request::Bad => write_bad_line(writer),
@@ -203,7 +202,6 @@ fn answer_store<S: PageStore, W: Write>(
 fn answer_fetch<S: PageStore, W: Write>(
     db: &mut Database<S>,
     key: &[u8],
-    digits: &mut [u8; DIGITS],
     writer: &mut W,
 ) -> io::Result<()>
     ensures line { AtEachHandle db.old (λ h.
@@ -213,7 +211,7 @@ fn answer_fetch<S: PageStore, W: Write>(
         (λ text. OnOk result (Appends (W.contents writer.old) (W.contents writer.new) text)) }
     ensures goes { IsSameDatabase db.old db.new }
 {
-    write_fetched(writer, db.fetch(key), digits)
+    write_fetched(writer, db.fetch(key))
 }
 
 /// Deletes, and writes the reply.
@@ -237,11 +235,7 @@ fn answer_delete<S: PageStore, W: Write>(
 }
 
 /// Begins a pass, and writes the reply before the next call ends the key that is lent.
-fn answer_first<S: PageStore, W: Write>(
-    db: &mut Database<S>,
-    digits: &mut [u8; DIGITS],
-    writer: &mut W,
-) -> io::Result<()>
+fn answer_first<S: PageStore, W: Write>(db: &mut Database<S>, writer: &mut W) -> io::Result<()>
     ensures line { AtEachHandle db.old (λ h.
         AnswersLine (Some First) db.old db.new h
         (λ text. OnOk result (Appends (W.contents writer.old) (W.contents writer.new) text))) }
@@ -249,15 +243,11 @@ fn answer_first<S: PageStore, W: Write>(
         (λ text. OnOk result (Appends (W.contents writer.old) (W.contents writer.new) text)) }
     ensures goes { IsSameDatabase db.old db.new }
 {
-    write_passed(writer, db.firstkey(), digits)
+    write_passed(writer, db.firstkey())
 }
 
 /// Goes on with a pass, and writes the reply before the next call ends the key that is lent.
-fn answer_next<S: PageStore, W: Write>(
-    db: &mut Database<S>,
-    digits: &mut [u8; DIGITS],
-    writer: &mut W,
-) -> io::Result<()>
+fn answer_next<S: PageStore, W: Write>(db: &mut Database<S>, writer: &mut W) -> io::Result<()>
     ensures line { AtEachHandle db.old (λ h.
         AnswersLine (Some Next) db.old db.new h
         (λ text. OnOk result (Appends (W.contents writer.old) (W.contents writer.new) text))) }
@@ -265,7 +255,7 @@ fn answer_next<S: PageStore, W: Write>(
         (λ text. OnOk result (Appends (W.contents writer.old) (W.contents writer.new) text)) }
     ensures goes { IsSameDatabase db.old db.new }
 {
-    write_passed(writer, db.nextkey(), digits)
+    write_passed(writer, db.nextkey())
 }
 
 /// Writes the error number.

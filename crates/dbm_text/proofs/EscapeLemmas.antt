@@ -9,7 +9,7 @@ use Rattle.std.proofs.lemmas.List.Elements.{All-append, All-cons, All-nil}
 use Rattle.hex.specs.Hex.{encode_with, encode_lower, is_hex_digit}
 use Rattle.hex.proofs.HexLemmas.{decode_of-encode_lower, decode_of-ok}
 use Rattle.dbm_model.specs.Pairs.{Pair}
-use Rattle.dbm_text.specs.Escapes.{escape_of, escaped, unescaped, behind_backslash, joined, pair_of_fields, fields_in}
+use Rattle.dbm_text.specs.Escapes.{escape_of, escaped, unescaped, behind_backslash, joined, pair_of_fields, fields_in, longest_text_line}
 use Rattle.dbm_text.specs.EscapeTexts.{IsPrintable, LongTextLines}
 
 abbrev is_plain : ℕ → Bool
@@ -106,7 +106,7 @@ printable (byte ∷ bytes) small =
 pub long_text_lines : LongTextLines
 long_text_lines = record {
   longest = λ line le. ap (λ b. cond {A = Option Pair} b None (pair_of_fields (fields_in line)))
-      (lt-leb (suc 8192) (length line) (omega (arith, le)));
+      (lt-leb (suc longest_text_line) (length line) (omega (arith, le)));
   longer = λ line lt. ap (λ b. cond {A = Option Pair} b None (pair_of_fields (fields_in line)))
-      (le-leb (suc 8192) (length line) (omega (arith, lt)));
+      (le-leb (suc longest_text_line) (length line) (omega (arith, lt)));
 }

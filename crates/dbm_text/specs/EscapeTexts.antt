@@ -49,8 +49,8 @@ pub record TextLineExamples : Type 0 where
   pub no_pairs : text_dump_of empty ≡ []
   pub dump : text_dump_of two_pairs ≡ codes "a\\xff\t\\x01\nb\t\n"
 
--- a line of 8,192 bytes may say a pair, and one of more says none
+-- a line of 266,240 bytes may say a pair, and one of more says none
 pub record LongTextLines : Type 0 where
-  pub longest : (line : List ℕ) → length line ≤ 8192
+  pub longest : (line : List ℕ) → length line ≤ 266240
       → pair_of_text_line line ≡ pair_of_fields (fields_in line)
-  pub longer : (line : List ℕ) → 8192 < length line → pair_of_text_line line ≡ None
+  pub longer : (line : List ℕ) → 266240 < length line → pair_of_text_line line ≡ None

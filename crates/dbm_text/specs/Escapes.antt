@@ -59,7 +59,11 @@ pair_of_fields (key ∷ content ∷ []) =
     option_and_then (λ k. option_map (λ c. (k, c)) (unescaped content)) (unescaped key)
 pair_of_fields _ = None
 
+-- the bytes that a line of two fields may have
+abbrev pub longest_text_line : ℕ
+longest_text_line = 266240
+
 -- the pair that a line of fields says, if it is no bad line
 abbrev pub pair_of_text_line : List ℕ → Option Pair
 pair_of_text_line line =
-    if nat_lt 8192 (length line) then None else pair_of_fields (fields_in line)
+    if nat_lt longest_text_line (length line) then None else pair_of_fields (fields_in line)

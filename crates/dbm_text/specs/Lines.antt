@@ -50,9 +50,14 @@ call_of_words (name ∷ key ∷ content ∷ []) =
     option_and_then (λ k. option_and_then (pair_call name k) (word_bytes content)) (word_bytes key)
 call_of_words _ = None
 
+-- the bytes that a line of words may have, of a script or of a text of pairs
+abbrev pub longest_line : ℕ
+longest_line = 139264
+
 -- the call that a line asks for, if it is no bad line
 abbrev pub call_in_line : List ℕ → Option Call
-call_in_line line = if nat_lt 8192 (length line) then None else call_of_words (words_in line)
+call_in_line line =
+    if nat_lt longest_line (length line) then None else call_of_words (words_in line)
 
 abbrev pub reply_text : Reply → List ℕ
 reply_text Stored = codes "0"

@@ -50,11 +50,11 @@ pub record LineExamples : Type 0 where
   pub fault : reply_line (Refused Full) ≡ codes "-1 fault 6\n"
   pub number : reply_line (Number 0) ≡ codes "0\n"
 
--- a line of 8,192 bytes may be a call, and one of more is none
+-- a line of 139,264 bytes may be a call, and one of more is none
 pub record LongLines : Type 0 where
-  pub longest : (line : List ℕ) → length line ≤ 8192
+  pub longest : (line : List ℕ) → length line ≤ 139264
       → call_in_line line ≡ call_of_words (words_in line)
-  pub longer : (line : List ℕ) → 8192 < length line → call_in_line line ≡ None
+  pub longer : (line : List ℕ) → 139264 < length line → call_in_line line ≡ None
 
 -- the script of two lines and a bad one between them
 abbrev pub ScriptExample : Type 0

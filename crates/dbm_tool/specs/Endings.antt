@@ -59,7 +59,7 @@ has_database _ = true
 -- its database may refuse it so: one in memory, only for the limit
 abbrev pub CanBeRefused : Plan → Refusal → Type 0
 CanBeRefused Faults refusal = ⊥
-CanBeRefused (Script (InMemory limit)) refusal =
+CanBeRefused (Script (InMemory limit version)) refusal =
     (refusal ≡ BadLimit) × (is_limit limit ≡ false)
 CanBeRefused _ refusal = Unit {0}
 

@@ -6,6 +6,9 @@ use Rattle.dbm_plan.specs.declared.help_text.TheConstants.{FAULT_TABLE}
 use Rattle.dbm_plan.specs.declared.plan.Plan.{Plan}
 use Rattle.dbm_plan.specs.declared.plan.Plan.TheVariants.{Script, Rehearse, Faults}
 use Rattle.dbm_plan.specs.declared.plan.Source.TheVariants.{Memory}
+use Rattle.dbm_plan.specs.declared.plan.Version.{Version}
+use Rattle.dbm_plan.specs.declared.plan.Version.TheVariants.{V1, V2}
+use Rattle.dbm_model.specs.Bounds as bounds
 use Rattle.dbm_commands.specs.declared.outcomes.Failure.{Failure}
 use Rattle.dbm_commands.specs.declared.outcomes.Failure.TheVariants.{NotKept}
 use Rattle.dbm_rehearse.specs.Counts.{AreCounted, counts_text, stops_of}
@@ -25,11 +28,19 @@ pub record Rehearses (most lost : Option ℕ) (text : List ℕ) (old new : Optio
   pub counted : AreCounted counts
   pub lost_is : counts.first_lost ≡ lost
 
+-- the version of the format that the words ask for, and the bounds of a database that is made so
+abbrev pub asked_version : Version → bounds.Version
+asked_version V1 = bounds.V1
+asked_version V2 = bounds.V2
+
+abbrev pub asked_bounds : ℕ → Version → bounds.Bounds
+asked_bounds limit version = record { limit = limit; version = asked_version version }
+
 -- a script in memory was answered as the definitions say, or rehearsed with no change lost; the
 -- faults were printed as the one text of them
 abbrev pub Does : Plan → Option (List ℕ) → Option (List ℕ) → Option (List ℕ) → Type 0
-Does (Script (Memory limit)) input old new =
-    IfSome input (λ text. AnswersInMemory limit text old new)
+Does (Script (Memory limit version)) input old new =
+    IfSome input (λ text. AnswersInMemory (asked_bounds limit version) text old new)
 Does (Rehearse source stops) input old new =
     IfSome input (λ text. Rehearses stops None text old new)
 Does Faults input old new = Appends old new FAULT_TABLE.now

@@ -1,7 +1,7 @@
 -- What the exit statuses tell of the words.
 use Rattle.std.specs.Prelude.{◌≡◌, ◌⊎◌, ℕ, List, [], ◌++◌, Bool, true, Option, Result, Ok, Err, codes}
 use Rattle.std.specs.Io.KnownBytes.{Appends}
-use Rattle.dbm_words.specs.Asking.{AreTaken, AreVerbose, IsPlan, IsWithoutSource}
+use Rattle.dbm_words.specs.Asking.{AreTaken, AreVerbose, IsPlan, IsWithoutMemory, IsWithoutSource}
 use Rattle.dbm_plan.specs.declared.plan.Plan.{Plan}
 use Rattle.dbm_commands.specs.declared.outcomes.Outcome.{Outcome}
 use Rattle.dbm_commands.specs.declared.outcomes.Outcome.TheVariants.{Done, Nothing}
@@ -85,8 +85,10 @@ abbrev pub LackSource : List (List ℕ) → Type 0
 LackSource words =
     IsWithoutSource (codes "script") words ⊎ IsWithoutSource (codes "rehearse") words
 
--- a KEY or CONTENT is not hexadecimal, or the words are no plan
+-- a KEY or CONTENT is not hexadecimal, a version is asked of a script or a rehearsal on a file, or the
+-- words are no plan
 abbrev pub TellsMisuse : List (List ℕ) → Bool → Option (List ℕ) → Option (List ℕ) → Type 0
 TellsMisuse words told old new =
     (AskFor words LacksDigits × Tells told old new (failure_line NotHex))
-    ⊎ (AreRefused words ⊎ (LackSource words ⊎ Tells told old new no_command_line))
+    ⊎ (AreRefused words ⊎ (LackSource words ⊎ (IsWithoutMemory words
+    ⊎ Tells told old new no_command_line)))

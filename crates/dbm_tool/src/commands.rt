@@ -3,17 +3,18 @@ ghost use Rattle.std.specs.Prelude.{◌≡◌, ◌⊎◌, false, Ok, Err, IfErr,
 ghost use Rattle.std.specs.Io.KnownBytes.{Appends};
 ghost use Rattle.dbm_script.specs.Scripts.{AnswersInMemory};
 ghost use Rattle.dbm_tool.specs.Endings.{EndsAs, prints, reads};
-ghost use Rattle.dbm_tool.specs.Plans.{Does, Loses};
+ghost use Rattle.dbm_tool.specs.Plans.{Does, Loses, asked_bounds};
 
 use crate::host::Host;
 use crate::rehearsals::{rehearse_file, rehearse_new};
+use crate::versions::file_version;
 use crate::{
     EngineFault, dump_engine, dump_text_engine, list_engine, load_engine, load_text_engine,
     script_engine,
 };
 use dbm_commands::{Failure, Outcome, bytes_of, flushed};
 use dbm_file::{Access, OpenHow, StoreMode};
-use dbm_plan::{FAULT_TABLE, Plan, Source, Spelling};
+use dbm_plan::{FAULT_TABLE, Plan, Source, Spelling, Version};
 use dbm_progress::Progress;
 use dbm_script::script_in_memory;
 use std::alloc::Global;
@@ -42,7 +43,11 @@ pub fn carry_out<T: Files<File = File>, R: BufRead, O: Write, P: Progress>(
         → output.new ≡ output.old }
 {
     match plan {
-        Plan::Create { file, limit } => create(host, file, limit),
+        Plan::Create {
+            file,
+            limit,
+            version,
+        } => create(host, file, limit, version),
         Plan::Store {
             file,
             key,
@@ -74,16 +79,19 @@ pub fn carry_out<T: Files<File = File>, R: BufRead, O: Write, P: Progress>(
         } => load(host, file, spelling, group, input, progress),
         Plan::Stat { file } => stat(host, file, output),
         Plan::Verify { file } => verify(host, file, output, progress),
+        Plan::Upgrade { file } => upgrade(host, file),
         Plan::Script(Source::File(file)) => script(host, file, input, output),
-        Plan::Script(Source::Memory(limit)) => new_script(host.alloc, limit, input, output),
+        Plan::Script(Source::Memory { limit, version }) => {
+            new_script(host.alloc, limit, version, input, output)
+        }
         Plan::Rehearse {
             source: Source::File(file),
             stops,
         } => rehearse_file(host, file, stops, input, output, progress),
         Plan::Rehearse {
-            source: Source::Memory(limit),
+            source: Source::Memory { limit, version },
             stops,
-        } => rehearse_new(host.alloc, limit, stops, input, output, progress),
+        } => rehearse_new(host.alloc, limit, version, stops, input, output, progress),
         Plan::Faults => print_faults(output),
     }
 }
@@ -110,8 +118,9 @@ fn create<T: Files<File = File>>(
     host: &mut Host<'_, T>,
     file: &str,
     limit: u32,
+    version: Version,
 ) -> Result<Outcome, Failure>
-    ensures { EndsAs (Plan.Create file.entry limit) result }
+    ensures { EndsAs (Plan.Create file.entry limit version) result }
 {
     let how = OpenHow {
         access: Access::ReadWrite,
@@ -119,6 +128,7 @@ fn create<T: Files<File = File>>(
         exclusive: true,
         truncate: false,
         limit,
+        version: file_version(version),
     };
     let db = host.open(file, how)?;
     host.close(db, Ok(Outcome::Done))
@@ -244,14 +254,16 @@ fn script<T: Files<File = File>, R: BufRead, O: Write>(
 fn new_script<R: BufRead, O: Write>(
     alloc: Global,
     limit: u32,
+    version: Version,
     input: &mut R,
     output: &mut O,
 ) -> Result<Outcome, Failure>
     ensures answered { OnOk result (IfSome (R.remaining input.old) (λ text.
-        AnswersInMemory limit text (O.contents output.old) (O.contents output.new))) }
-    ensures ends { EndsAs (Plan.Script (Source.Memory limit)) result }
+        AnswersInMemory (asked_bounds limit version) text (O.contents output.old)
+        (O.contents output.new))) }
+    ensures ends { EndsAs (Plan.Script (Source.Memory limit version)) result }
 {
-    script_in_memory(alloc, limit, input, output)?;
+    script_in_memory(alloc, limit, file_version(version), input, output)?;
     Ok(Outcome::Done)
 }
 
@@ -265,6 +277,15 @@ fn stat<T: Files<File = File>, O: Write>(
     let db = host.open_there(file, Access::ReadOnly)?;
     let done = dbm_commands::stat(&db, output);
     host.close(db, done)
+}
+
+/// Makes the database one of version 2.
+fn upgrade<T: Files<File = File>>(host: &mut Host<'_, T>, file: &str) -> Result<Outcome, Failure>
+    ensures { EndsAs (Plan.Upgrade file.entry) result }
+{
+    let mut db = host.open_there(file, Access::ReadWrite)?;
+    let done = db.upgrade();
+    host.close(db, done.map(|()| Outcome::Done).map_err(Failure::from))
 }
 
 fn verify<T: Files<File = File>, O: Write, P: Progress>(

@@ -4,7 +4,7 @@ ghost use Rattle.dbm_file.specs.Database.{page_state};
 
 use crate::EngineFault;
 use dbm_commands::{Failure, Outcome, closed};
-use dbm_file::{Access, Db, Fault, OpenHow, open_named};
+use dbm_file::{Access, Db, Fault, OpenHow, Version, open_named};
 use sect_dev::FileDev;
 use std::alloc::Global;
 use std::fs::File;
@@ -31,6 +31,7 @@ impl<T: Files<File = File>> Host<'_, T> {
                 exclusive: false,
                 truncate: false,
                 limit: 0,
+                version: Version::V1,
             },
         )
     }

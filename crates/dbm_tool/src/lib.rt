@@ -5,6 +5,7 @@ mod commands;
 mod host;
 mod program;
 mod rehearsals;
+mod versions;
 
 pub use dbm_dump::{dump_engine, dump_text_engine, list_engine};
 pub use dbm_fault::EngineFault;

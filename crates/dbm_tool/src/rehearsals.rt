@@ -5,11 +5,12 @@ ghost use Rattle.dbm_tool.specs.Plans.{Loses, Rehearses};
 
 use crate::commands::unwritten;
 use crate::host::Host;
+use crate::versions::file_version;
 use dbm_commands::{Failure, Outcome};
-use dbm_file::{FILE_SECTORS, Fault, needed_sectors};
-use dbm_plan::{Plan, Source};
+use dbm_file::{FILE_SECTORS, Fault, needed_sectors_of};
+use dbm_plan::{Plan, Source, Version};
 use dbm_progress::Progress;
-use dbm_rehearse::{Rehearsed, device_with, rehearse_script};
+use dbm_rehearse::{Bounds, Rehearsed, device_with, rehearse_script};
 use sect_dev::MemDev;
 use std::alloc::Global;
 use std::fs::File;
@@ -40,6 +41,7 @@ pub fn rehearse_file<T: Files<File = File>, R: BufRead, O: Write, P: Progress>(
 pub fn rehearse_new<R: BufRead, O: Write, P: Progress>(
     alloc: Global,
     limit: u32,
+    version: Version,
     stops: Option<u32>,
     input: &mut R,
     output: &mut O,
@@ -47,17 +49,18 @@ pub fn rehearse_new<R: BufRead, O: Write, P: Progress>(
 ) -> Result<Outcome, Failure>
     ensures does { OnOk result (IfSome (R.remaining input.old) (λ text.
         Rehearses stops None text (O.contents output.old) (O.contents output.new))) }
-    ensures loses { IfErr result (λ failure. Loses (Plan.Rehearse (Source.Memory limit) stops)
+    ensures loses { IfErr result (λ failure. Loses (Plan.Rehearse (Source.Memory limit version) stops)
         failure (R.remaining input.old) (O.contents output.old) (O.contents output.new)) }
-    ensures ends { EndsAs (Plan.Rehearse (Source.Memory limit) stops) result }
+    ensures ends { EndsAs (Plan.Rehearse (Source.Memory limit version) stops) result }
 {
-    let Some(sectors) = needed_sectors(limit) else {
+    let version = file_version(version);
+    let Some(sectors) = needed_sectors_of(version, limit) else {
         return Err(Failure::from(Fault::BadLimit));
     };
     rehearse(
         alloc,
         &MemDev::new(alloc, sectors),
-        Some(limit),
+        Some(Bounds { limit, version }),
         stops,
         input,
         output,
@@ -69,7 +72,7 @@ pub fn rehearse_new<R: BufRead, O: Write, P: Progress>(
 fn rehearse<R: BufRead, O: Write, P: Progress>(
     alloc: Global,
     dev: &MemDev,
-    limit: Option<u32>,
+    made: Option<Bounds>,
     stops: Option<u32>,
     input: &mut R,
     output: &mut O,
@@ -81,7 +84,7 @@ fn rehearse<R: BufRead, O: Write, P: Progress>(
         failure (R.remaining input.old) (O.contents output.old) (O.contents output.new)) }
     ensures ends { MayEndRehearsal result }
 {
-    let done = rehearse_script(alloc, dev, limit, stops, input, output, progress);
+    let done = rehearse_script(alloc, dev, made, stops, input, output, progress);
     let flushed = output.flush();
     let counts = done?;
     flushed.map_err(unwritten)?;

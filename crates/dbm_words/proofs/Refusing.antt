@@ -8,43 +8,56 @@ use Rattle.clap.specs.declared.error.kind.ErrorKind.{ErrorKind}
 use Rattle.clap.specs.declared.error.kind.ErrorKind.TheVariants.{DisplayHelp, DisplayVersion}
 use Rattle.dbm_words.specs.Sorting.{IsOfChoice, IsSorted}
 use Rattle.dbm_words.specs.declared.words.WordsError.{WordsError}
-use Rattle.dbm_words.specs.declared.words.WordsError.TheVariants.{Memory, Help, Usage, ScriptSource, RehearsalSource, NoPlan}
+use Rattle.dbm_words.specs.declared.words.WordsError.TheVariants.{Memory, Help, Usage, ScriptSource, RehearsalSource, VersionSource, NoPlan}
 
--- ---- the faults of a script and of a rehearsal with no source are none of the others
+-- ---- the faults of a script and of a rehearsal with no source, or with the version of a file that
+-- ---- is there, are none of the others
 
 pub memory_is_other : (Memory ≢ ScriptSource) × (Memory ≢ RehearsalSource)
-memory_is_other = ((λ is. cc), (λ is. cc))
+    × (Memory ≢ VersionSource)
+memory_is_other = ((λ is. cc), (λ is. cc), (λ is. cc))
 
 pub help_is_other : (text : Error) → (Help text ≢ ScriptSource) × (Help text ≢ RehearsalSource)
-help_is_other text = ((λ is. cc), (λ is. cc))
+    × (Help text ≢ VersionSource)
+help_is_other text = ((λ is. cc), (λ is. cc), (λ is. cc))
 
 pub usage_is_other : (text : Error) → (Usage text ≢ ScriptSource) × (Usage text ≢ RehearsalSource)
-usage_is_other text = ((λ is. cc), (λ is. cc))
+    × (Usage text ≢ VersionSource)
+usage_is_other text = ((λ is. cc), (λ is. cc), (λ is. cc))
 
 pub no_plan_is_other : (NoPlan ≢ ScriptSource) × (NoPlan ≢ RehearsalSource)
-no_plan_is_other = ((λ is. cc), (λ is. cc))
+    × (NoPlan ≢ VersionSource)
+no_plan_is_other = ((λ is. cc), (λ is. cc), (λ is. cc))
 
 -- what the choice of a source is told by
-pub script_is_other : ScriptSource ≢ RehearsalSource
-script_is_other is = cc
+pub script_is_other : (ScriptSource ≢ RehearsalSource) × (ScriptSource ≢ VersionSource)
+script_is_other = ((λ is. cc), (λ is. cc))
 
-pub script_is_no_rehearsal : (e : WordsError) → (e ≡ NoPlan) ⊎ (e ≡ ScriptSource)
-    → e ≢ RehearsalSource
+pub version_is_other : (VersionSource ≢ ScriptSource) × (VersionSource ≢ RehearsalSource)
+version_is_other = ((λ is. cc), (λ is. cc))
+
+pub script_is_no_rehearsal : (e : WordsError)
+    → (e ≡ NoPlan) ⊎ ((e ≡ ScriptSource) ⊎ (e ≡ VersionSource)) → e ≢ RehearsalSource
 script_is_no_rehearsal e (inl no_plan) is = no_plan_is_other.1 (sym no_plan ∙ is)
-script_is_no_rehearsal e (inr script) is = script_is_other (sym script ∙ is)
+script_is_no_rehearsal e (inr (inl script)) is = script_is_other.0 (sym script ∙ is)
+script_is_no_rehearsal e (inr (inr version)) is = version_is_other.1 (sym version ∙ is)
 
-pub rehearsal_is_no_script : (e : WordsError) → (e ≡ NoPlan) ⊎ (e ≡ RehearsalSource)
-    → e ≢ ScriptSource
+pub rehearsal_is_no_script : (e : WordsError)
+    → (e ≡ NoPlan) ⊎ ((e ≡ RehearsalSource) ⊎ (e ≡ VersionSource)) → e ≢ ScriptSource
 rehearsal_is_no_script e (inl no_plan) is = no_plan_is_other.0 (sym no_plan ∙ is)
-rehearsal_is_no_script e (inr rehearsal) is = script_is_other (sym is ∙ rehearsal)
+rehearsal_is_no_script e (inr (inl rehearsal)) is = script_is_other.0 (sym is ∙ rehearsal)
+rehearsal_is_no_script e (inr (inr version)) is = version_is_other.0 (sym version ∙ is)
 
-pub script_is_of_choice : (e : WordsError) → (e ≡ NoPlan) ⊎ (e ≡ ScriptSource) → IsOfChoice e
+pub script_is_of_choice : (e : WordsError)
+    → (e ≡ NoPlan) ⊎ ((e ≡ ScriptSource) ⊎ (e ≡ VersionSource)) → IsOfChoice e
 script_is_of_choice e (inl no_plan) = inl no_plan
-script_is_of_choice e (inr script) = inr (inl script)
+script_is_of_choice e (inr (inl script)) = inr (inl script)
+script_is_of_choice e (inr (inr version)) = inr (inr (inr version))
 
-pub rehearsal_is_of_choice : (e : WordsError) → (e ≡ NoPlan) ⊎ (e ≡ RehearsalSource) → IsOfChoice e
+pub rehearsal_is_of_choice : (e : WordsError)
+    → (e ≡ NoPlan) ⊎ ((e ≡ RehearsalSource) ⊎ (e ≡ VersionSource)) → IsOfChoice e
 rehearsal_is_of_choice e (inl no_plan) = inl no_plan
-rehearsal_is_of_choice e (inr rehearsal) = inr (inr rehearsal)
+rehearsal_is_of_choice e (inr others) = inr (inr others)
 
 -- ---- what is told of a result
 
@@ -75,7 +88,8 @@ pub choice_is_sorted : {T : Type 0} (result : Result T WordsError) → IfErr res
 choice_is_sorted (Ok x) is = tt
 choice_is_sorted (Err e) (inl is) = subst IsSorted (sym is) tt
 choice_is_sorted (Err e) (inr (inl is)) = subst IsSorted (sym is) tt
-choice_is_sorted (Err e) (inr (inr is)) = subst IsSorted (sym is) tt
+choice_is_sorted (Err e) (inr (inr (inl is))) = subst IsSorted (sym is) tt
+choice_is_sorted (Err e) (inr (inr (inr is))) = subst IsSorted (sym is) tt
 
 pub choice_passes : {T : Type 0} (result : Result T WordsError) → IfErr result IsOfChoice
     → IfErr result (λ e. (e ≡ Memory) ⊎ IsOfChoice e)

@@ -5,11 +5,13 @@ use Rattle.std.specs.declared.num.ParseIntError.{ParseIntError}
 use Rattle.clap.specs.Words.{Row, Text, first_of, matches_of, one_of, subcommand_of, takes}
 use Rattle.dbm_command_line.specs.CommandLine.{command_line}
 use Rattle.dbm_plan.specs.declared.plan.Plan.{Plan}
-use Rattle.dbm_plan.specs.declared.plan.Plan.TheVariants.{Create, Store, Insert, Fetch, Delete, List as ListKeys, Dump, Load, Stat, Verify, Script, Rehearse, Faults}
+use Rattle.dbm_plan.specs.declared.plan.Plan.TheVariants.{Create, Store, Insert, Fetch, Delete, List as ListKeys, Dump, Load, Stat, Verify, Upgrade, Script, Rehearse, Faults}
 use Rattle.dbm_plan.specs.declared.plan.Source.{Source}
 use Rattle.dbm_plan.specs.declared.plan.Source.TheVariants.{File, Memory}
 use Rattle.dbm_plan.specs.declared.plan.Spelling.{Spelling}
 use Rattle.dbm_plan.specs.declared.plan.Spelling.TheVariants as spelling
+use Rattle.dbm_plan.specs.declared.plan.Version.{Version}
+use Rattle.dbm_plan.specs.declared.plan.Version.TheVariants.{V1, V2}
 
 -- the parser entered this text under the id
 abbrev pub IsText : List Row → Text → Text → Type 0
@@ -40,6 +42,15 @@ abbrev pub text_flag : Spelling → Text
 text_flag spelling.Text = codes "true"
 text_flag spelling.Hexadecimal = codes "false"
 
+-- what is entered for `--v2`
+abbrev pub v2_flag : Version → Text
+v2_flag V1 = codes "false"
+v2_flag V2 = codes "true"
+
+-- `--v2` was given where the version is 2, and not where it is 1
+abbrev pub IsVersion : List Row → Version → Type 0
+IsVersion rows version = one_of (codes "v2") rows ≡ Some (v2_flag version)
+
 pub record ArePairs (rows : List Row) (name : Text) (spelled : Spelling) : Type 0 where
   pub file : IsText rows (codes "file") name
   pub flag : one_of (codes "text") rows ≡ Some (text_flag spelled)
@@ -53,22 +64,27 @@ pub record IsPair (rows : List Row) (name word value : Text) (spelled : Spelling
   pub key : IsKey rows name word spelled
   pub content : IsText rows (codes "content") value
 
--- what is given of FILE and `--memory`, one alone, is the source
+-- what is given of FILE and `--memory`, one alone, is the source, and FILE has no `--v2`
 abbrev pub IsSource : List Row → Source → Type 0
 IsSource rows (File file) = IsText rows (codes "file") file.now
-    × (first_of (codes "memory") rows ≡ None)
-IsSource rows (Memory limit) =
-    (first_of (codes "file") rows ≡ None) × IsNumberText rows (codes "memory") limit
+    × (first_of (codes "memory") rows ≡ None) × IsVersion rows V1
+IsSource rows (Memory limit version) = (first_of (codes "file") rows ≡ None)
+    × IsNumberText rows (codes "memory") limit × IsVersion rows version
 
 -- both of FILE and `--memory` are given, or neither
 abbrev pub LacksSource : List Row → Type 0
 LacksSource rows = is_some (first_of (codes "file") rows) ≡ is_some (first_of (codes "memory") rows)
 
+-- `--v2` is given with FILE, and not with `--memory`
+abbrev pub LacksMemory : List Row → Type 0
+LacksMemory rows = (is_some (first_of (codes "file") rows) ≡ true)
+    × (first_of (codes "memory") rows ≡ None) × IsVersion rows V2
+
 -- the command of this name, with what was entered for it, asks for the plan
 abbrev pub Asks : Text → List Row → Plan → Type 0
-Asks name rows (Create file limit) =
+Asks name rows (Create file limit version) =
     (name ≡ codes "create") × IsText rows (codes "file") file.now
-    × IsNumberText rows (codes "limit") limit
+    × IsNumberText rows (codes "limit") limit × IsVersion rows version
 Asks name rows (Store file key content spelled) =
     (name ≡ codes "store") × IsPair rows file.now key.now content.now spelled
 Asks name rows (Insert file key content spelled) =
@@ -83,6 +99,7 @@ Asks name rows (Load file spelled group) = (name ≡ codes "load")
     × ArePairs rows file.now spelled × IsGroup rows group
 Asks name rows (Stat file) = (name ≡ codes "stat") × IsText rows (codes "file") file.now
 Asks name rows (Verify file) = (name ≡ codes "verify") × IsText rows (codes "file") file.now
+Asks name rows (Upgrade file) = (name ≡ codes "upgrade") × IsText rows (codes "file") file.now
 Asks name rows (Script source) = (name ≡ codes "script") × IsSource rows source
 Asks name rows (Rehearse source stops) = (name ≡ codes "rehearse") × IsSource rows source
     × IsOptional rows (codes "stops") stops
@@ -121,3 +138,13 @@ NamesNoSource name (Some entered) = (entered.0 ≡ name) × LacksSource entered.
 -- what the words enter is this command with no source, or with two
 abbrev pub IsWithoutSource : Text → List Text → Type 0
 IsWithoutSource name words = NamesNoSource name (subcommand_of command_line words)
+
+-- a script or a rehearsal was entered, with FILE and `--v2`
+abbrev pub NamesNoMemory : Option (Text × List Row) → Type 0
+NamesNoMemory None = ⊥
+NamesNoMemory (Some entered) = ((entered.0 ≡ codes "script") ⊎ (entered.0 ≡ codes "rehearse"))
+    × LacksMemory entered.1
+
+-- what the words enter is a script or a rehearsal, with FILE and `--v2`
+abbrev pub IsWithoutMemory : List Text → Type 0
+IsWithoutMemory words = NamesNoMemory (subcommand_of command_line words)

@@ -1,16 +1,17 @@
 // The plan that a parse entered.
 ghost use Rattle.std.specs.Prelude.{◌≡◌, ◌⊎◌, IfErr, IfOk, IfSome, MatchOption, None, Some, codes};
 ghost use Rattle.clap.specs.Words.{first_of, found_of, one_of, rows_of, subcommand_rows_of};
-ghost use Rattle.dbm_words.specs.Asking.{Asks, IsGroup, IsNumberText, IsOptional, IsSource, IsText, IsVerbose, LacksSource, Names, NamesNoSource, flag_text, text_flag};
+ghost use Rattle.dbm_words.specs.Asking.{Asks, IsGroup, IsNumberText, IsOptional, IsSource, IsText, IsVerbose, IsVersion, LacksMemory, LacksSource, Names, NamesNoMemory, NamesNoSource, flag_text, text_flag};
 ghost use Rattle.dbm_words.specs.Sorting.{IsOfChoice};
 
 use crate::WordsError;
 use clap::ArgMatches;
 use dbm_command_line::names::{
     CONTENT, CREATE, DELETE, DUMP, FAULTS, FETCH, FILE, GROUP, HEXADECIMAL, INSERT, KEY, LIMIT,
-    LIST, LOAD, MEMORY, MOST_LINES, REHEARSE, SCRIPT, STAT, STOPS, STORE, TEXT, VERBOSE, VERIFY,
+    LIST, LOAD, MEMORY, MOST_LINES, REHEARSE, SCRIPT, STAT, STOPS, STORE, TEXT, UPGRADE, V2,
+    VERBOSE, VERIFY,
 };
-use dbm_plan::{Plan, Request, Source, Spelling};
+use dbm_plan::{Plan, Request, Source, Spelling, Version};
 
 /// What the words ask for.
 pub fn requested<'a>(matches: &ArgMatches<'a>) -> Result<Request<'a>, WordsError>
@@ -20,6 +21,8 @@ pub fn requested<'a>(matches: &ArgMatches<'a>) -> Result<Request<'a>, WordsError
         → NamesNoSource (codes "script") (subcommand_rows_of matches.now)) }
     ensures device { IfErr result (λ e. e ≡ WordsError.RehearsalSource
         → NamesNoSource (codes "rehearse") (subcommand_rows_of matches.now)) }
+    ensures version { IfErr result (λ e. e ≡ WordsError.VersionSource
+        → NamesNoMemory (subcommand_rows_of matches.now)) }
     ensures others { IfErr result IsOfChoice }
 {
     let plan = chosen(matches)?;
@@ -45,6 +48,8 @@ fn chosen<'a>(matches: &ArgMatches<'a>) -> Result<Plan<'a>, WordsError>
         → NamesNoSource (codes "script") (subcommand_rows_of matches.now)) }
     ensures device { IfErr result (λ e. e ≡ WordsError.RehearsalSource
         → NamesNoSource (codes "rehearse") (subcommand_rows_of matches.now)) }
+    ensures version { IfErr result (λ e. e ≡ WordsError.VersionSource
+        → NamesNoMemory (subcommand_rows_of matches.now)) }
     ensures others { IfErr result IsOfChoice }
 {
     let Some((name, options)) = matches.subcommand() else {
@@ -67,8 +72,10 @@ fn rehearsal<'a>(options: &ArgMatches<'a>) -> Result<Plan<'a>, WordsError>
     ensures plan { IfOk result (Asks (codes "rehearse") (rows_of (found_of options.now))) }
     ensures lacks { IfErr result (λ e.
         e ≡ WordsError.RehearsalSource → LacksSource (rows_of (found_of options.now))) }
-    ensures others { IfErr result
-        (λ e. (e ≡ WordsError.NoPlan) ⊎ (e ≡ WordsError.RehearsalSource)) }
+    ensures version { IfErr result (λ e.
+        e ≡ WordsError.VersionSource → LacksMemory (rows_of (found_of options.now))) }
+    ensures others { IfErr result (λ e. (e ≡ WordsError.NoPlan)
+        ⊎ ((e ≡ WordsError.RehearsalSource) ⊎ (e ≡ WordsError.VersionSource))) }
 {
     match source(options) {
         Ok(source) => {
@@ -76,6 +83,7 @@ fn rehearsal<'a>(options: &ArgMatches<'a>) -> Result<Plan<'a>, WordsError>
             Ok(Plan::Rehearse { source, stops })
         }
         Err(WordsError::ScriptSource) => Err(WordsError::RehearsalSource),
+        Err(WordsError::VersionSource) => Err(WordsError::VersionSource),
         Err(_) => Err(WordsError::NoPlan),
     }
 }
@@ -95,15 +103,33 @@ fn source<'a>(options: &ArgMatches<'a>) -> Result<Source<'a>, WordsError>
     ensures source { IfOk result (IsSource (rows_of (found_of options.now))) }
     ensures lacks { IfErr result (λ e.
         e ≡ WordsError.ScriptSource → LacksSource (rows_of (found_of options.now))) }
-    ensures others { IfErr result (λ e. (e ≡ WordsError.NoPlan) ⊎ (e ≡ WordsError.ScriptSource)) }
+    ensures version { IfErr result (λ e.
+        e ≡ WordsError.VersionSource → LacksMemory (rows_of (found_of options.now))) }
+    ensures others { IfErr result (λ e. (e ≡ WordsError.NoPlan)
+        ⊎ ((e ≡ WordsError.ScriptSource) ⊎ (e ≡ WordsError.VersionSource))) }
 {
+    let version = version(options).ok_or(WordsError::NoPlan)?;
     match (text(options, FILE), text(options, MEMORY)) {
-        (Some(file), None) => Ok(Source::File(file)),
+        (Some(file), None) => match version {
+            Version::V1 => Ok(Source::File(file)),
+            Version::V2 => Err(WordsError::VersionSource),
+        },
         (None, Some(_)) => match number(options, MEMORY) {
-            Some(limit) => Ok(Source::Memory(limit)),
+            Some(limit) => Ok(Source::Memory { limit, version }),
             None => Err(WordsError::NoPlan),
         },
         (Some(_), Some(_)) | (None, None) => Err(WordsError::ScriptSource),
+    }
+}
+
+/// The version of the format that a new database is to have.
+fn version(options: &ArgMatches<'_>) -> Option<Version>
+    ensures { IfSome result (IsVersion (rows_of (found_of options.now))) }
+{
+    if options.get_one::<bool>(V2)? {
+        Some(Version::V2)
+    } else {
+        Some(Version::V1)
     }
 }
 
@@ -116,6 +142,7 @@ fn of_file<'a>(name: &str, options: &ArgMatches<'a>) -> Option<Plan<'a>>
         CREATE => Some(Plan::Create {
             file,
             limit: number(options, LIMIT)?,
+            version: version(options)?,
         }),
         LIST => Some(Plan::List { file }),
         DUMP => Some(Plan::Dump {
@@ -129,6 +156,7 @@ fn of_file<'a>(name: &str, options: &ArgMatches<'a>) -> Option<Plan<'a>>
         }),
         STAT => Some(Plan::Stat { file }),
         VERIFY => Some(Plan::Verify { file }),
+        UPGRADE => Some(Plan::Upgrade { file }),
         _ => of_key(name, options),
     }
 }

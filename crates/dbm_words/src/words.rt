@@ -1,7 +1,7 @@
 // The words after the program's name.
 ghost use Rattle.std.specs.Prelude.{◌≡◌, ◌≢◌, ◌⊎◌, IfErr, IfOk, map, codes};
 ghost use Rattle.clap.specs.Words.{kind_of};
-ghost use Rattle.dbm_words.specs.Asking.{AreTaken, AreVerbose, IsPlan, IsWithoutSource};
+ghost use Rattle.dbm_words.specs.Asking.{AreTaken, AreVerbose, IsPlan, IsWithoutMemory, IsWithoutSource};
 ghost use Rattle.dbm_words.specs.Sorting.{IsOfChoice, IsSorted};
 
 use crate::options::requested;
@@ -30,6 +30,9 @@ pub enum WordsError {
     /// The parser took the words, but the rehearsal has no database, or two.
     #[error("dbmtool: rehearse needs FILE or --memory\n")]
     RehearsalSource,
+    /// The parser took the words, but a script or a rehearsal of FILE has `--v2`.
+    #[error("dbmtool: --v2 needs --memory\n")]
+    VersionSource,
     /// The words passed the parser and name no plan.
     #[error("error: no such command\n")]
     NoPlan,
@@ -39,7 +42,7 @@ pub enum WordsError {
 /// `Usage` where they are no plan: no command, an unknown one, an option too many or too few, a
 /// number that is no `u32`, or a group outside 1 to 100000. `ScriptSource` where the parser takes
 /// the words, and a script has both of FILE and `--memory` or neither; `RehearsalSource` where a
-/// rehearsal does.
+/// rehearsal does; `VersionSource` where either has FILE, no `--memory`, and `--v2`.
 pub fn read_words<'a>(alloc: Global, words: &'a [&'a str]) -> Result<Request<'a>, WordsError>
     ensures plan { IfOk result (λ r. IsPlan (map (λ word. word.now) words.now) r.plan) }
     ensures verbose { IfOk result
@@ -49,6 +52,8 @@ pub fn read_words<'a>(alloc: Global, words: &'a [&'a str]) -> Result<Request<'a>
         → IsWithoutSource (codes "script") (map (λ word. word.now) words.now)) }
     ensures device { IfErr result (λ e. e ≡ WordsError.RehearsalSource
         → IsWithoutSource (codes "rehearse") (map (λ word. word.now) words.now)) }
+    ensures version { IfErr result (λ e. e ≡ WordsError.VersionSource
+        → IsWithoutMemory (map (λ word. word.now) words.now)) }
     ensures passes { AreTaken (map (λ word. word.now) words.now)
         → IfErr result (λ e. (e ≡ WordsError.Memory) ⊎ IsOfChoice e) }
 {
@@ -64,7 +69,8 @@ pub fn read_words<'a>(alloc: Global, words: &'a [&'a str]) -> Result<Request<'a>
 /// Tells help and want of memory from a mistake.
 fn sorted(refusal: Refusal) -> WordsError
     ensures sorted { IsSorted result }
-    ensures source { (result ≢ WordsError.ScriptSource) × (result ≢ WordsError.RehearsalSource) }
+    ensures source { (result ≢ WordsError.ScriptSource) × (result ≢ WordsError.RehearsalSource)
+        × (result ≢ WordsError.VersionSource) }
     ensures memory { kind_of refusal ≡ ErrorKind.OutOfMemory → result ≡ WordsError.Memory }
 {
     if refusal.kind() == ErrorKind::OutOfMemory {

@@ -1,8 +1,9 @@
 //! Scripts rehearsed on a device in memory.
 
 use dbm_fault::EngineFault;
+use dbm_file::Version;
 use dbm_progress::{Progress, Work};
-use dbm_rehearse::{Rehearsed, rehearse_script};
+use dbm_rehearse::{Bounds, Rehearsed, rehearse_script};
 use sect_dev::MemDev;
 use std::alloc::Global;
 use std::test::Fail;
@@ -66,7 +67,10 @@ fn rehearsed(
     rehearse_script(
         alloc,
         &MemDev::new(alloc, 928),
-        Some(100),
+        Some(Bounds {
+            limit: 100,
+            version: Version::V1,
+        }),
         stops,
         &mut reader,
         writer,

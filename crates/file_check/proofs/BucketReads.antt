@@ -3,7 +3,7 @@ use Rattle.std.proofs.Common.{◌≡◌, ℕ, ◌+◌, ◌-◌, ◌*◌, ◌^◌
 use Rattle.std.proofs.Math.Seq.{take-add}
 use Rattle.std.proofs.lemmas.List.{take_all, take_more, take-map, drop-map, map-append, get_or-take, get_or-drop, length-take, length-drop, take-append-le, drop-append-le}
 use Rattle.std.proofs.lemmas.List.Concat.{flat_map-append}
-use Rattle.page_model.specs.Chain.{Chain, numbers}
+use Rattle.page_model.specs.Chain.{Chain, numbers, pages_in}
 use Rattle.page_model.specs.PageBodies.{first_of, heads_of, segment_bodies, AreRead}
 use Rattle.page_model.specs.Pages as model
 use Rattle.page_model.specs.Pages.{Body, SegmentPage}
@@ -33,7 +33,7 @@ pub record AreSegmentsChecked (at : ℕ → Body) (end : ℕ) (m : model.Meta) (
   pub chains : List Chain
   pub many : length chains ≡ min (508 * s) (meta_buckets m)
   pub are_read : AreRead at (segment_bodies (take s m.segments) (heads_of chains))
-  pub are : AreChains at (shape_in m) 0 chains
+  pub are : AreChains at m 0 chains
   pub counted : AreCounted chains end pairs marks seen
 
 pub no_segments : (at : ℕ → Body) (end : ℕ) (m : model.Meta) (marks : List Bool) (seen : List ℕ)
@@ -42,7 +42,7 @@ no_segments at end m marks seen are = record {
   chains = [];
   many = omega arith;
   are_read = tt;
-  are = no_chains at (shape_in m) 0;
+  are = no_chains at m 0;
   counted = none_counted end marks seen are;
 }
 
@@ -70,7 +70,7 @@ pub more_segments : (at : ℕ → Body) (end : ℕ) (m : model.Meta) (s pairs mo
     → sum ≡ min (pairs + more) (2 ^ 32 - 1) → AreSegmentsChecked at end m (s + 1) sum marks' seen
 more_segments at end m s pairs more sum marks marks' seen valid lt before check total =
     let chains = before.chains in
-    let next = check (seen ++ flat_map numbers chains) before.counted.marked in
+    let next = check (seen ++ flat_map pages_in chains) before.counted.marked in
     let full : 508 * s < meta_buckets m =
     full_before (meta_buckets m) s (length m.segments) valid.all_segments lt in
     let many : length chains ≡ 508 * s = omega (arith, before.many, full) in
@@ -93,7 +93,7 @@ more_segments at end m s pairs more sum marks marks' seen valid lt before check 
           (heads_of (chains ++ next.chains)))) (sym pages)
           (subst (λ (hs : List ℕ). AreRead at (segment_bodies (take s m.segments ++ n ∷ []) hs))
           (sym heads) read);
-      are = chains_behind at (shape_in m) 0 (508 * s) chains next.chains before.are next.are.are
+      are = chains_behind at m 0 (508 * s) chains next.chains before.are next.are.are
           (omega (arith, many));
       counted = counted_behind chains next.chains end pairs more sum marks marks' seen
           before.counted
@@ -140,9 +140,9 @@ in_segment at m s chains is lt =
           let there : get_or (part s chains) i [] ≡ get_or chains (508 * s + i) [] =
           get_or-take 508 (drop (508 * s) chains) i [] few
           ∙ get_or-drop (508 * s) chains i [] in
-          subst (λ (c : Chain). IsBucketChain at (shape_in m) (508 * s + i) (first_of
-          (numbers c)) c)
-          (sym there) (subst (λ (b : ℕ). IsBucketChain at (shape_in m) b
+          subst (λ (c : Chain). IsBucketChain m.bounds.version at (shape_in m) (508 * s + i)
+          (first_of (numbers c)) c)
+          (sym there) (subst (λ (b : ℕ). IsBucketChain m.bounds.version at (shape_in m) b
           (first_of (numbers (get_or chains (508 * s + i) []))) (get_or chains (508 * s + i) []))
           (let place : 0 + (508 * s + i) ≡ 508 * s + i = omega arith in place)
           (is.are (508 * s + i) (omega (arith, within, long, left))));
@@ -155,21 +155,21 @@ front_more s chains =
     ∙ take-add (508 * s) 508 chains
 
 pub may_segment : (end : ℕ) (seen : List ℕ) (chains : List Chain) (s : ℕ)
-    → MayBeSeen end (seen ++ flat_map numbers chains)
-    → MayBeSeen end ((seen ++ flat_map numbers (take (508 * s) chains))
-    ++ flat_map numbers (part s chains))
+    → MayBeSeen end (seen ++ flat_map pages_in chains)
+    → MayBeSeen end ((seen ++ flat_map pages_in (take (508 * s) chains))
+    ++ flat_map pages_in (part s chains))
 may_segment end seen chains s may =
     let front = take (508 * s) chains in
     subst (MayBeSeen end)
-    (ap (λ (cs : List Chain). seen ++ flat_map numbers cs) (front_more s chains)
-    ∙ ap (λ (ns : List ℕ). seen ++ ns) (flat_map-append numbers front (part s chains))
-    ∙ sym (append_assoc seen (flat_map numbers front) (flat_map numbers (part s chains))))
+    (ap (λ (cs : List Chain). seen ++ flat_map pages_in cs) (front_more s chains)
+    ∙ ap (λ (ns : List ℕ). seen ++ ns) (flat_map-append pages_in front (part s chains))
+    ∙ sym (append_assoc seen (flat_map pages_in front) (flat_map pages_in (part s chains))))
     (may_chains end seen chains (508 * (s + 1)) may)
 
 pub segment_counted : (end : ℕ) (chains : List Chain) (s pairs more sum : ℕ)
     (marks marks' : List Bool) (seen : List ℕ)
     → AreCounted (take (508 * s) chains) end pairs marks seen
-    → AreCounted (part s chains) end more marks' (seen ++ flat_map numbers (take (508 * s) chains))
+    → AreCounted (part s chains) end more marks' (seen ++ flat_map pages_in (take (508 * s) chains))
     → sum ≡ min (pairs + more) (2 ^ 32 - 1)
     → AreCounted (take (508 * (s + 1)) chains) end sum marks' seen
 segment_counted end chains s pairs more sum marks marks' seen front behind total =

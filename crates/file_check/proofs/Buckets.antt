@@ -4,18 +4,18 @@ use Rattle.std.specs.List.{AllByRecursion}
 use Rattle.std.proofs.lemmas.List.{get_or_default}
 use Rattle.std.proofs.lemmas.List.Sums.{sum_by-append}
 use Rattle.dbm_model.specs.Pairs.{Key, Pair}
-use Rattle.page_model.specs.Address.{Shape, buckets, hash_of}
-use Rattle.page_model.specs.Chain.{Chain, pairs_in}
+use Rattle.page_model.specs.Address.{buckets, hash_of}
+use Rattle.page_model.specs.Chain.{Chain, entries_in, pairs_in, IsEntry}
 use Rattle.page_model.specs.PageBodies.{chain_bodies, AreRead}
 use Rattle.page_model.specs.PairLists.{has_key, times, HasBytes}
+use Rattle.page_model.specs.Pages as model
 use Rattle.page_model.specs.Pages.{Body}
 use Rattle.page_model.specs.Placement.{key_bucket, IsInPlace}
 use Rattle.page_model.proofs.AddressLemmas.{address_below}
 use Rattle.page_model.proofs.Chains.{AllByRecursion-append, AllByRecursion-left, AllByRecursion-right}
 use Rattle.page_model.proofs.PairLists.{sum_by-flat_map, sum_by-one}
 use Rattle.page_model.proofs.Places.{times_none, elsewhere}
-use Rattle.chain_check.specs.BucketChains.{AreInBucket}
-use Rattle.file_check.specs.Segments.{AreChains}
+use Rattle.file_check.specs.Segments.{shape_in, AreChains}
 
 -- ---- lists of lists
 
@@ -43,8 +43,8 @@ sum_part h f d (x ∷ xs) (suc i) lt =
 
 -- ---- from each chain
 
-module _ (at : ℕ → Body) (shape : Shape) (chains : List Chain)
-    (are : AreChains at shape 0 chains) where
+module _ (at : ℕ → Body) (m : model.Meta) (chains : List Chain)
+    (are : AreChains at m 0 chains) where
   pub chains_read : AreRead at (flat_map chain_bodies chains)
   chains_read = all_flat (λ numbered. at numbered.number ≡ numbered.body) chain_bodies [] chains
       (λ i lt. (are i lt).are_read)
@@ -52,19 +52,25 @@ module _ (at : ℕ → Body) (shape : Shape) (chains : List Chain)
   pub all_bytes : AllByRecursion HasBytes (flat_map pairs_in chains)
   all_bytes = all_flat HasBytes pairs_in [] chains (λ i lt. (are i lt).bytes)
 
-  pub all_in_place : IsInPlace shape chains
+  pub all_entered : AllByRecursion (IsEntry m.bounds.version) (flat_map entries_in chains)
+  all_entered = all_flat (IsEntry m.bounds.version) entries_in [] chains
+      (λ i lt. (are i lt).entered)
+
+  pub all_in_place : IsInPlace (shape_in m) chains
   all_in_place i lt =
       let is = are i lt in (
         is.is_chain,
-        subst (λ (b : ℕ). AreInBucket shape b (pairs_in (get_or chains i [])))
+        subst (λ (b : ℕ). AllByRecursion (λ (pair : Pair). key_bucket (shape_in m) pair.0 ≡ b)
+            (pairs_in (get_or chains i [])))
             (let same : 0 + i ≡ i = omega arith in same) is.in_bucket,
       )
 
   -- a key stands in its bucket's chain alone
-  pub no_key_twice : shape.split < 2 ^ shape.level → length chains ≡ buckets shape → (key : Key)
+  pub no_key_twice : m.split < 2 ^ m.level → length chains ≡ buckets (shape_in m) → (key : Key)
       → times key (flat_map pairs_in chains) ≤ 1
   no_key_twice split many key =
       let count = λ (pair : Pair). cond {A = ℕ} (has_key key pair) 1 0 in
+      let shape = shape_in m in
       let b = key_bucket shape key in
       let below : b < length chains = omega (
         arith,
@@ -83,16 +89,19 @@ module _ (at : ℕ → Body) (shape : Shape) (chains : List Chain)
 
 -- ---- for each chain
 
-pub each_chain : (at : ℕ → Body) (shape : Shape) (chains : List Chain)
-    → AreRead at (flat_map chain_bodies chains) → IsInPlace shape chains
+pub each_chain : (at : ℕ → Body) (m : model.Meta) (chains : List Chain)
+    → AreRead at (flat_map chain_bodies chains) → IsInPlace (shape_in m) chains
     → ((key : Key) → times key (flat_map pairs_in chains) ≤ 1)
-    → AllByRecursion HasBytes (flat_map pairs_in chains) → AreChains at shape 0 chains
-each_chain at shape chains read place once bytes i lt = record {
+    → AllByRecursion HasBytes (flat_map pairs_in chains)
+    → AllByRecursion (IsEntry m.bounds.version) (flat_map entries_in chains)
+    → AreChains at m 0 chains
+each_chain at m chains read place once bytes entered i lt = record {
   are_read = flat_part (λ numbered. at numbered.number ≡ numbered.body) chain_bodies [] chains i lt
       read;
   is_chain = (place i lt).0;
   from = refl;
-  in_bucket = subst (λ (b : ℕ). AreInBucket shape b (pairs_in (get_or chains i [])))
+  in_bucket = subst (λ (b : ℕ). AllByRecursion (λ (pair : Pair). key_bucket (shape_in m) pair.0 ≡ b)
+      (pairs_in (get_or chains i [])))
       (let same : i ≡ 0 + i = omega arith in same) (place i lt).1;
   no_key_twice = λ key. omega (
     arith,
@@ -100,4 +109,5 @@ each_chain at shape chains read place once bytes i lt = record {
     sum_part (λ (pair : Pair). cond {A = ℕ} (has_key key pair) 1 0) pairs_in [] chains i lt,
   );
   bytes = flat_part HasBytes pairs_in [] chains i lt bytes;
+  entered = flat_part (IsEntry m.bounds.version) entries_in [] chains i lt entered;
 }

@@ -1,16 +1,23 @@
 -- The chains of a segment, as far as they were read.
-use Rattle.std.proofs.Common.{◌≡◌, inl, inr, ℕ, zero, suc, ◌+◌, ◌-◌, ◌^◌, ◌<◌, ◌≤◌, min, Bool, List, [], ◌∷◌, ◌++◌, length, flat_map, get_or, refl, sym, ap, ◌∙◌, subst, arith, append_assoc, append-nil, length-append}
+use Rattle.std.proofs.Common.{◌≡◌, inl, inr, ℕ, zero, suc, ◌+◌, ◌-◌, ◌^◌, ◌<◌, ◌≤◌, min, Bool, List, [], ◌∷◌, ◌++◌, length, map, flat_map, get_or, refl, sym, ap, ◌∙◌, subst, arith, append_assoc, append-nil, length-append}
 use Rattle.std.specs.List.{AllByRecursion}
 use Rattle.std.proofs.lemmas.Bool.{cases_lt}
 use Rattle.std.proofs.lemmas.List.Concat.{flat_map-append}
 use Rattle.dbm_model.specs.Pairs.{Pair}
+use Rattle.dbm_model.specs.Bounds.{Version}
 use Rattle.page_model.specs.Address.{Shape}
-use Rattle.page_model.specs.Pages.{Body, HeadPage, OverflowPage}
-use Rattle.page_model.specs.Chain.{Chain, numbers, pairs_in}
-use Rattle.page_model.specs.PageBodies.{first_of, heads_of, overflow_bodies, AreRead}
-use Rattle.page_marks.specs.Marks.{AreMarked}
+use Rattle.page_model.specs.Pages as model
+use Rattle.page_model.specs.Pages.{Body, HeadPage, OverflowPage, NumberedBody, Record}
+use Rattle.page_model.specs.Chain.{Chain, IsChain, numbers, record_of, entries_in, pages_in, pairs_in}
+use Rattle.page_model.specs.PageBodies.{first_of, heads_of, leaf_bodies, overflow_bodies, entry_bodies, AreRead}
+use Rattle.page_model.proofs.Chains.{AllByRecursion-left}
+use Rattle.page_marks.specs.Marks.{AreMarked, MayBeSeen}
+use Rattle.chain_walks.specs.Chains.{chain_read}
 use Rattle.chain_check.specs.BucketChains.{IsBucketChain}
-use Rattle.file_check.specs.Segments.{AreChains, AreCounted}
+use Rattle.chain_check.proofs.GoodChains.{stored}
+use Rattle.chain_check.proofs.OneChain.{one_chain as one_reading}
+use Rattle.chain_check.proofs.SeenPages.{numbered_in}
+use Rattle.file_check.specs.Segments.{shape_in, AreChains, AreCounted}
 
 -- ---- numbers
 
@@ -40,11 +47,12 @@ get_or-behind (x ∷ xs) ys zero j d e = absurd (omega arith)
 get_or-behind (x ∷ xs) ys (suc i) j d e = get_or-behind xs ys i j d (omega arith)
 
 -- chains behind others
-pub chains_behind : (at : ℕ → Body) (shape : Shape) (first next : ℕ) (chains more : List Chain)
-    → AreChains at shape first chains → AreChains at shape next more
-    → next ≡ first + length chains → AreChains at shape first (chains ++ more)
-chains_behind at shape first next chains more are others e i lt =
-    let IsAt = λ (c : Chain). IsBucketChain at shape (first + i) (first_of (numbers c)) c in
+pub chains_behind : (at : ℕ → Body) (m : model.Meta) (first next : ℕ) (chains more : List Chain)
+    → AreChains at m first chains → AreChains at m next more
+    → next ≡ first + length chains → AreChains at m first (chains ++ more)
+chains_behind at m first next chains more are others e i lt =
+    let IsAt = λ (c : Chain). IsBucketChain m.bounds.version at (shape_in m) (first + i)
+    (first_of (numbers c)) c in
     elim (cases_lt i (length chains)) [
       | inl within ↦ subst IsAt (sym (get_or-front chains more i [] within)) (are i within)
       | inr behind ↦
@@ -53,27 +61,27 @@ chains_behind at shape first next chains more are others e i lt =
           let place : next + j ≡ first + i = omega (arith, behind, e) in
           let is = others j (omega (arith, behind, lt, length-append chains more)) in
           subst IsAt (sym (get_or-behind chains more i j [] there))
-          (subst (λ (b : ℕ). IsBucketChain at shape b (first_of (numbers (get_or more j [])))
-          (get_or more j [])) place is)
+          (subst (λ (b : ℕ). IsBucketChain m.bounds.version at (shape_in m) b
+          (first_of (numbers (get_or more j []))) (get_or more j [])) place is)
     ]
 
-pub no_chains : (at : ℕ → Body) (shape : Shape) (first : ℕ) → AreChains at shape first []
-no_chains at shape first i lt = absurd (omega arith)
+pub no_chains : (at : ℕ → Body) (m : model.Meta) (first : ℕ) → AreChains at m first []
+no_chains at m first i lt = absurd (omega arith)
 
-pub one_chain : (at : ℕ → Body) (shape : Shape) (first bucket head : ℕ) (chain : Chain)
-    → IsBucketChain at shape bucket head chain → bucket ≡ first
-    → AreChains at shape first (chain ∷ [])
-one_chain at shape first bucket head chain is e zero lt =
-    subst (λ (h : ℕ). IsBucketChain at shape (first + 0) h chain) is.from
-    (subst (λ (b : ℕ). IsBucketChain at shape b head chain)
+pub one_chain : (at : ℕ → Body) (m : model.Meta) (first bucket head : ℕ) (chain : Chain)
+    → IsBucketChain m.bounds.version at (shape_in m) bucket head chain → bucket ≡ first
+    → AreChains at m first (chain ∷ [])
+one_chain at m first bucket head chain is e zero lt =
+    subst (λ (h : ℕ). IsBucketChain m.bounds.version at (shape_in m) (first + 0) h chain) is.from
+    (subst (λ (b : ℕ). IsBucketChain m.bounds.version at (shape_in m) b head chain)
     (let same : bucket ≡ first + 0 = omega arith in same) is)
-one_chain at shape first bucket head chain is e (suc i) lt = absurd (omega arith)
+one_chain at m first bucket head chain is e (suc i) lt = absurd (omega arith)
 
 -- what is counted and marked of chains behind others
 pub counted_behind : (chains more : List Chain) (end pairs others sum : ℕ)
     (marks marks' : List Bool)
     (seen : List ℕ) → AreCounted chains end pairs marks seen
-    → AreCounted more end others marks' (seen ++ flat_map numbers chains)
+    → AreCounted more end others marks' (seen ++ flat_map pages_in chains)
     → sum ≡ min (pairs + others) (2 ^ 32 - 1) → AreCounted (chains ++ more) end sum marks' seen
 counted_behind chains more end pairs others sum marks marks' seen front behind is =
     let count : length (flat_map pairs_in (chains ++ more))
@@ -85,8 +93,8 @@ counted_behind chains more end pairs others sum marks marks' seen front behind i
           (length (flat_map pairs_in more)) sum front.counted behind.counted is
           ∙ ap (λ (n : ℕ). min n (2 ^ 32 - 1)) (sym count);
       marked = subst (AreMarked marks' end)
-          (append_assoc seen (flat_map numbers chains) (flat_map numbers more)
-          ∙ ap (λ (ns : List ℕ). seen ++ ns) (sym (flat_map-append numbers chains more)))
+          (append_assoc seen (flat_map pages_in chains) (flat_map pages_in more)
+          ∙ ap (λ (ns : List ℕ). seen ++ ns) (sym (flat_map-append pages_in chains more)))
           behind.marked;
     }
 
@@ -99,12 +107,12 @@ none_counted end marks seen are = record {
 
 pub one_counted : (chain : Chain) (end pairs : ℕ) (marks : List Bool) (seen : List ℕ)
     → pairs ≡ min (length (pairs_in chain)) (2 ^ 32 - 1)
-    → AreMarked marks end (seen ++ numbers chain) → AreCounted (chain ∷ []) end pairs marks seen
+    → AreMarked marks end (seen ++ pages_in chain) → AreCounted (chain ∷ []) end pairs marks seen
 one_counted chain end pairs marks seen count are = record {
   counted = count ∙ ap (λ (ps : List Pair). min (length ps) (2 ^ 32 - 1))
       (sym (append-nil (pairs_in chain)));
   marked = subst (λ (ns : List ℕ). AreMarked marks end (seen ++ ns))
-      (sym (append-nil (numbers chain))) are;
+      (sym (append-nil (pages_in chain))) are;
 }
 
 -- ---- one reading
@@ -112,30 +120,47 @@ one_counted chain end pairs marks seen count are = record {
 -- from one head page the pages say one chain
 overflow_same : (at : ℕ → Body) (xs ys : Chain) → AllByRecursion (λ leaf. 1 ≤ leaf.number) xs
     → AllByRecursion (λ leaf. 1 ≤ leaf.number) ys → first_of (numbers xs) ≡ first_of (numbers ys)
-    → AreRead at (overflow_bodies xs) → AreRead at (overflow_bodies ys) → xs ≡ ys
+    → AreRead at (overflow_bodies xs) → AreRead at (overflow_bodies ys)
+    → chain_read xs ≡ chain_read ys
 overflow_same at [] [] some others e read again = refl
 overflow_same at [] (y ∷ ys) some others e read again = absurd (omega (arith, others.0, e))
 overflow_same at (x ∷ xs) [] some others e read again = absurd (omega (arith, some.0, e))
 overflow_same at (x ∷ xs) (y ∷ ys) some others e read again =
-    let bodies : OverflowPage (first_of (numbers xs)) x.pairs
-    ≡ OverflowPage (first_of (numbers ys)) y.pairs = sym read.0 ∙ ap at e ∙ again.0 in
-    let pairs : x.pairs ≡ y.pairs = cc in
+    let bodies : OverflowPage (first_of (numbers xs)) (map record_of x.entries)
+    ≡ OverflowPage (first_of (numbers ys)) (map record_of y.entries) =
+    sym read.0 ∙ ap at e ∙ again.0 in
+    let records : map record_of x.entries ≡ map record_of y.entries = cc in
     let next : first_of (numbers xs) ≡ first_of (numbers ys) = cc in
     let rest = overflow_same at xs ys some.1 others.1 next read.1 again.1 in
-    λ i. record { number = e i; pairs = pairs i } ∷ rest i
+    λ i. record { number = e i; records = records i } ∷ rest i
 
-pub chain_same : (at : ℕ → Body) (shape : Shape) (b head : ℕ) (xs ys : Chain)
-    → IsBucketChain at shape b head xs → IsBucketChain at shape b head ys
+leaves_same : (at : ℕ → Body) (xs ys : Chain) → IsChain xs → IsChain ys
     → AllByRecursion (λ leaf. 1 ≤ leaf.number) xs → AllByRecursion (λ leaf. 1 ≤ leaf.number) ys
-    → xs ≡ ys
-chain_same at shape b head [] ys one two some others = absurd one.is_chain
-chain_same at shape b head (x ∷ xs) [] one two some others = absurd two.is_chain
-chain_same at shape b head (x ∷ xs) (y ∷ ys) one two some others =
-    let e : x.number ≡ y.number = sym one.from ∙ two.from in
-    let bodies : HeadPage (first_of (numbers xs)) x.pairs
-    ≡ HeadPage (first_of (numbers ys)) y.pairs =
-    sym one.are_read.0 ∙ ap at e ∙ two.are_read.0 in
-    let pairs : x.pairs ≡ y.pairs = cc in
+    → first_of (numbers xs) ≡ first_of (numbers ys) → AreRead at (leaf_bodies xs)
+    → AreRead at (leaf_bodies ys) → chain_read xs ≡ chain_read ys
+leaves_same at [] ys is others some more e read again = absurd is
+leaves_same at (x ∷ xs) [] is others some more e read again = absurd others
+leaves_same at (x ∷ xs) (y ∷ ys) is others some more e read again =
+    let bodies : HeadPage (first_of (numbers xs)) (map record_of x.entries)
+    ≡ HeadPage (first_of (numbers ys)) (map record_of y.entries) =
+    sym read.0 ∙ ap at e ∙ again.0 in
+    let records : map record_of x.entries ≡ map record_of y.entries = cc in
     let next : first_of (numbers xs) ≡ first_of (numbers ys) = cc in
-    let rest = overflow_same at xs ys some.1 others.1 next one.are_read.1 two.are_read.1 in
-    λ i. record { number = e i; pairs = pairs i } ∷ rest i
+    let rest = overflow_same at xs ys some.1 more.1 next read.1 again.1 in
+    λ i. record { number = e i; records = records i } ∷ rest i
+
+pub chain_same : (version : Version) (at : ℕ → Body) (end : ℕ) (shape : Shape) (bucket head : ℕ)
+    (seen seen' : List ℕ) (xs ys : Chain) → end ≤ 2 ^ 32
+    → IsBucketChain version at shape bucket head xs
+    → IsBucketChain version at shape bucket head ys → MayBeSeen end (seen ++ pages_in xs)
+    → MayBeSeen end (seen' ++ pages_in ys) → xs ≡ ys
+chain_same version at end shape bucket head seen seen' xs ys small one two may can =
+    let says = λ (b : NumberedBody). at b.number ≡ b.body in
+    one_reading version at xs ys
+    (stored version at end head shape bucket seen xs one small may)
+    (stored version at end head shape bucket seen' ys two small can)
+    (leaves_same at xs ys one.is_chain two.is_chain (numbered_in end seen xs may)
+    (numbered_in end seen' ys can) (sym one.from ∙ two.from)
+    (AllByRecursion-left says (leaf_bodies xs) (flat_map entry_bodies (entries_in xs)) one.are_read)
+    (AllByRecursion-left says (leaf_bodies ys) (flat_map entry_bodies (entries_in ys))
+    two.are_read))

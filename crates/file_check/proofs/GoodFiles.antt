@@ -3,8 +3,7 @@ use Rattle.std.proofs.Common.{◌≡◌, ℕ, ◌+◌, ◌-◌, ◌≤◌, ◌==
 use Rattle.std.specs.List.{range_with_len}
 use Rattle.std.proofs.lemmas.List.FromFn.{length-range_with_len}
 use Rattle.std.proofs.lemmas.List.Sums.{sum_by-append}
-use Rattle.dbm_model.specs.Bounds.{V1}
-use Rattle.page_model.specs.Chain.{Chain, numbers}
+use Rattle.page_model.specs.Chain.{Chain, pages_in}
 use Rattle.page_model.specs.PageBodies.{heads_of, segment_bodies, chain_bodies, free_bodies, meta_of, lower_bodies, AreRead}
 use Rattle.page_model.specs.Pages as model
 use Rattle.page_model.specs.Pages.{Body, MetaPage}
@@ -20,7 +19,7 @@ use Rattle.page_marks.specs.Marks.{MayBeSeen, IsEachSeen}
 use Rattle.page_marks.proofs.Seen.{may_front}
 use Rattle.file_check.specs.Good.{IsGoodFile, IsFilled}
 use Rattle.file_check.specs.Segments.{shape_in}
-use Rattle.file_check.proofs.Buckets.{chains_read, all_bytes, all_in_place, no_key_twice, each_chain}
+use Rattle.file_check.proofs.Buckets.{chains_read, all_bytes, all_entered, all_in_place, no_key_twice, each_chain}
 
 -- ---- from the parts
 
@@ -55,10 +54,10 @@ placement_of end m chains free = record {
   space = record { free = free; end = end };
 }
 
-is_good : (at : ℕ → Body) (end : ℕ) (m : model.Meta) → 1 ≤ end → IsMeta m → m.bounds.version ≡ V1
+is_good : (at : ℕ → Body) (end : ℕ) (m : model.Meta) → 1 ≤ end → IsMeta m
     → (is : IsFilled at end m) → IsGood (placement_of end m is.chains is.free)
 unfolding placement_of
-is_good at end m some valid version is =
+is_good at end m some valid is =
     let many = is.buckets.many in
     record {
       sound = record {
@@ -66,23 +65,23 @@ is_good at end m some valid version is =
         all_buckets = many;
         all_segments = valid.all_segments ∙ ap segments_for (sym many);
         pages = exact_pages
-            ((1 ∷ m.segments) ++ flat_map numbers is.chains) is.free end some is.each;
-        in_place = all_in_place at (shape_in m) is.chains is.buckets.are;
-        no_key_twice = no_key_twice at (shape_in m) is.chains is.buckets.are valid.split_in many;
+            ((1 ∷ m.segments) ++ flat_map pages_in is.chains) is.free end some is.each;
+        in_place = all_in_place at m is.chains is.buckets.are;
+        no_key_twice = no_key_twice at m is.chains is.buckets.are valid.split_in many;
+        entered = all_entered at m is.chains is.buckets.are;
       };
-      first = version;
       limited = valid.limited;
       few_buckets = omega (arith, many, valid.few_buckets);
       few_pairs = omega (arith, is.counted, valid.few_pairs.0);
       light = omega (arith, is.counted, many, valid.few_pairs.1);
       bounded = is.bounded;
-      bytes = all_bytes at (shape_in m) is.chains is.buckets.are;
+      bytes = all_bytes at m is.chains is.buckets.are;
     }
 
 pub good_file : (at : ℕ → Body) (end : ℕ) (m : model.Meta) → 1 ≤ end → IsMeta m
-    → m.bounds.version ≡ V1 → at 1 ≡ MetaPage m → IsFilled at end m → IsGoodFile at end m.pairs
+    → at 1 ≡ MetaPage m → IsFilled at end m → IsGoodFile at end m.pairs
 unfolding placement_of
-good_file at end m some valid version first is =
+good_file at end m some valid first is =
     let p = placement_of end m is.chains is.free in
     let same : m ≡ meta_of p = λ i. record {
       bounds = m.bounds;
@@ -99,10 +98,10 @@ good_file at end m some valid version first is =
     let lower : AreRead at (lower_bodies p) =
     AllByRecursion-append reads (upper ++ middle) (free_bodies is.free)
     (AllByRecursion-append reads upper middle is.buckets.are_read
-    (chains_read at (shape_in m) is.chains is.buckets.are)) is.list.are_read in
+    (chains_read at m is.chains is.buckets.are)) is.list.are_read in
     record {
       placement = p;
-      good = is_good at end m some valid version is;
+      good = is_good at end m some valid is;
       spelled = (first ∙ ap MetaPage same, lower);
       ends = refl;
       counted = is.counted;
@@ -134,8 +133,8 @@ filled at end pairs file =
       buckets = record {
         are_read = AllByRecursion-left reads upper middle tables;
         many = sound.all_buckets;
-        are = each_chain at p.shape p.chains (AllByRecursion-right reads upper middle tables)
-            sound.in_place sound.no_key_twice file.good.bytes;
+        are = each_chain at (meta_of p) p.chains (AllByRecursion-right reads upper middle tables)
+            sound.in_place sound.no_key_twice file.good.bytes sound.entered;
       };
       list = record {
         are_read = AllByRecursion-right reads (upper ++ middle) (free_bodies p.space.free)
@@ -144,7 +143,7 @@ filled at end pairs file =
         many = refl;
       };
       each = λ n. sum_by-append (λ (m : ℕ). cond (m == n) 1 0)
-          ((1 ∷ p.segments) ++ flat_map numbers p.chains) p.space.free
+          ((1 ∷ p.segments) ++ flat_map pages_in p.chains) p.space.free
           ∙ sound.pages.once n ∙ ap (λ (k : ℕ). cond (is_page n k) 1 0) file.ends;
       counted = refl;
       bounded = subst (λ (k : ℕ). k ≤ home p.bounds) file.ends file.good.bounded;
@@ -153,18 +152,18 @@ filled at end pairs file =
 -- ---- the parts as they are marked
 
 pub may_free : (at : ℕ → Body) (end : ℕ) (m : model.Meta) (is : IsFilled at end m)
-    → MayBeSeen end (((1 ∷ m.segments) ++ flat_map numbers is.chains) ++ is.free)
+    → MayBeSeen end (((1 ∷ m.segments) ++ flat_map pages_in is.chains) ++ is.free)
 may_free at end m is n = omega (arith, is.each n)
 
 pub may_buckets : (at : ℕ → Body) (end : ℕ) (m : model.Meta) (is : IsFilled at end m)
-    → MayBeSeen end ((1 ∷ m.segments) ++ flat_map numbers is.chains)
+    → MayBeSeen end ((1 ∷ m.segments) ++ flat_map pages_in is.chains)
 may_buckets at end m is =
-    may_front end ((1 ∷ m.segments) ++ flat_map numbers is.chains) is.free (may_free at end m is)
+    may_front end ((1 ∷ m.segments) ++ flat_map pages_in is.chains) is.free (may_free at end m is)
 
 pub may_tables : (at : ℕ → Body) (end : ℕ) (m : model.Meta) → IsFilled at end m
     → MayBeSeen end (1 ∷ m.segments)
 may_tables at end m is =
-    may_front end (1 ∷ m.segments) (flat_map numbers is.chains) (may_buckets at end m is)
+    may_front end (1 ∷ m.segments) (flat_map pages_in is.chains) (may_buckets at end m is)
 
 -- a count that is no more than a limit is the whole one
 pub whole_count : (m : model.Meta) (n pairs : ℕ) → IsMeta m → pairs ≡ min n (2 ^ 32 - 1)

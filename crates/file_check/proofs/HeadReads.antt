@@ -1,34 +1,32 @@
 -- The chains of the heads on a segment page, as far as they were read.
-use Rattle.std.proofs.Common.{◌≡◌, inl, inr, ℕ, zero, suc, ◌+◌, ◌-◌, ◌*◌, ◌^◌, ◌<◌, ◌≤◌, min, Bool, List, [], ◌∷◌, ◌++◌, length, flat_map, get_or, take, drop, refl, sym, ap, ◌∙◌, subst, arith, append_assoc, append-nil, length-append}
+use Rattle.std.proofs.Common.{◌≡◌, inl, inr, ℕ, ◌+◌, ◌-◌, ◌*◌, ◌^◌, ◌<◌, ◌≤◌, min, Bool, List, [], ◌∷◌, ◌++◌, length, flat_map, get_or, take, drop, refl, sym, ap, ◌∙◌, subst, arith, append_assoc, append-nil, length-append}
 use Rattle.std.specs.List.{AllByRecursion}
 use Rattle.std.proofs.lemmas.Bool.{cases_lt}
 use Rattle.std.proofs.lemmas.List.{take_all, take_more, take-append-drop, map-append}
 use Rattle.std.proofs.lemmas.List.Concat.{flat_map-append}
-use Rattle.page_model.specs.Address.{Shape}
 use Rattle.page_model.specs.Bytes.{u32_at}
+use Rattle.page_model.specs.Pages as model
 use Rattle.page_model.specs.Pages.{Body}
-use Rattle.page_model.specs.Chain.{Chain, numbers, IsChain}
+use Rattle.page_model.specs.Chain.{Chain, numbers, pages_in, IsChain}
 use Rattle.page_model.specs.PageBodies.{first_of, heads_of}
-use Rattle.page_model.specs.Space.{times_of}
-use Rattle.page_model.proofs.Chains.{AllByRecursion-append, AllByRecursion-right}
-use Rattle.page_model.proofs.Spaces.{times_head, times_tail}
+use Rattle.page_model.proofs.Chains.{AllByRecursion-append}
 use Rattle.page_marks.specs.Marks.{AreMarked, MayBeSeen}
-use Rattle.page_marks.proofs.Seen.{may_front}
+use Rattle.page_marks.proofs.Seen.{may_front, are_seen}
 use Rattle.chain_check.specs.BucketChains.{IsBucketChain, IsChecked}
-use Rattle.file_check.specs.Segments.{AreCounted, AreHeadChains, AreHeadsChecked}
+use Rattle.file_check.specs.Segments.{shape_in, AreCounted, AreHeadChains, AreHeadsChecked}
 use Rattle.file_check.proofs.ChainReads.{get_or-front, get_or-behind, chains_behind, no_chains, one_chain, counted_behind, none_counted, one_counted, chain_same}
 
 -- ---- chains that are found
 
-pub no_heads : (at : ℕ → Body) (end : ℕ) (shape : Shape) (bytes : List ℕ) (first : ℕ)
+pub no_heads : (at : ℕ → Body) (end : ℕ) (m : model.Meta) (bytes : List ℕ) (first : ℕ)
     (marks : List Bool) (seen : List ℕ) → AreMarked marks end seen
-    → AreHeadsChecked at end shape bytes first 0 0 marks seen
-no_heads at end shape bytes first marks seen are = record {
+    → AreHeadsChecked at end m bytes first 0 0 marks seen
+no_heads at end m bytes first marks seen are = record {
   chains = [];
   are = record {
     many = refl;
     heads = λ i lt. absurd (omega arith);
-    are = no_chains at shape first;
+    are = no_chains at m first;
   };
   some = tt;
   counted = none_counted end marks seen are;
@@ -57,17 +55,17 @@ heads_more bytes chains chain head heads e f i lt = elim (cases_lt i (length cha
       (sym (get_or-behind chains (chain ∷ []) i 0 [] there))
 ]
 
-pub more_heads : (at : ℕ → Body) (end : ℕ) (shape : Shape) (bytes : List ℕ)
+pub more_heads : (at : ℕ → Body) (end : ℕ) (m : model.Meta) (bytes : List ℕ)
     (first i pairs more sum head : ℕ) (marks marks' : List Bool) (seen : List ℕ)
-    → AreHeadsChecked at end shape bytes first i pairs marks seen
+    → AreHeadsChecked at end m bytes first i pairs marks seen
     → head ≡ u32_at bytes (16 + 4 * i)
     → ((seen : List ℕ) → AreMarked marks end seen
-    → IsChecked at end shape (first + i) head more marks' seen)
+    → IsChecked m.bounds.version at end (shape_in m) (first + i) head more marks' seen)
     → sum ≡ min (pairs + more) (2 ^ 32 - 1)
-    → AreHeadsChecked at end shape bytes first (i + 1) sum marks' seen
-more_heads at end shape bytes first i pairs more sum head marks marks' seen is here check count =
+    → AreHeadsChecked at end m bytes first (i + 1) sum marks' seen
+more_heads at end m bytes first i pairs more sum head marks marks' seen is here check count =
     let chains = is.chains in
-    let next = check (seen ++ flat_map numbers chains) is.counted.marked in
+    let next = check (seen ++ flat_map pages_in chains) is.counted.marked in
     let chain = next.chain in
     let many = is.are.many in
     let head-is : head ≡ u32_at bytes (16 + 4 * length chains) =
@@ -78,8 +76,8 @@ more_heads at end shape bytes first i pairs more sum head marks marks' seen is h
       are = record {
         many = omega (arith, many, length-append chains (chain ∷ []));
         heads = heads_more bytes chains chain head is.are.heads head-is next.is.from;
-        are = chains_behind at shape first (first + i) chains (chain ∷ []) is.are.are
-            (one_chain at shape (first + i) (first + i) head chain next.is refl) place;
+        are = chains_behind at m first (first + i) chains (chain ∷ []) is.are.are
+            (one_chain at m (first + i) (first + i) head chain next.is refl) place;
       };
       some = subst (AllByRecursion (λ (h : ℕ). 0 < h))
           (sym (map-append (λ (c : Chain). first_of (numbers c)) chains (chain ∷ [])))
@@ -88,99 +86,83 @@ more_heads at end shape bytes first i pairs more sum head marks marks' seen is h
           (head_some chain next.is.is_chain next.numbered, tt));
       counted = counted_behind chains (chain ∷ []) end pairs more sum marks marks' seen is.counted
           (one_counted chain end more marks'
-          (seen ++ flat_map numbers chains) next.many next.marked)
+          (seen ++ flat_map pages_in chains) next.many next.marked)
           count;
     }
 
 -- ---- chains that are given
 
--- pages that may be seen are pages
-all_some : (end : ℕ) (ns : List ℕ) → MayBeSeen end ns → AllByRecursion (λ n. 1 ≤ n) ns
-all_some end ns may = each ns none
-  where
-    none : times_of 0 ns ≡ 0
-    none = omega (arith, may 0)
-
-    each : (ns : List ℕ) → times_of 0 ns ≡ 0 → AllByRecursion (λ n. 1 ≤ n) ns
-    each [] e = tt
-    each (zero ∷ ns) e = absurd (omega (arith, e, times_head 0 ns))
-    each (suc n ∷ ns) e = (omega arith, each ns (omega (arith, e, times_tail 0 (suc n) ns)))
-
-leaves_some : (chain : Chain) → AllByRecursion (λ n. 1 ≤ n) (numbers chain)
-    → AllByRecursion (λ leaf. 1 ≤ leaf.number) chain
-leaves_some [] all = tt
-leaves_some (leaf ∷ rest) all = (all.0, leaves_some rest all.1)
-
 flat_more : (chains : List Chain) (i : ℕ) → i < length chains
-    → flat_map numbers (take (i + 1) chains)
-    ≡ flat_map numbers (take i chains) ++ numbers (get_or chains i [])
+    → flat_map pages_in (take (i + 1) chains)
+    ≡ flat_map pages_in (take i chains) ++ pages_in (get_or chains i [])
 flat_more chains i lt =
-    ap (flat_map numbers) (take_more chains i [] lt)
-    ∙ flat_map-append numbers (take i chains) (get_or chains i [] ∷ [])
-    ∙ ap (λ (ns : List ℕ). flat_map numbers (take i chains) ++ ns)
-    (append-nil (numbers (get_or chains i [])))
+    ap (flat_map pages_in) (take_more chains i [] lt)
+    ∙ flat_map-append pages_in (take i chains) (get_or chains i [] ∷ [])
+    ∙ ap (λ (ns : List ℕ). flat_map pages_in (take i chains) ++ ns)
+    (append-nil (pages_in (get_or chains i [])))
 
 -- the pages of the first chains
 pub may_chains : (end : ℕ) (seen : List ℕ) (chains : List Chain) (k : ℕ)
-    → MayBeSeen end (seen ++ flat_map numbers chains)
-    → MayBeSeen end (seen ++ flat_map numbers (take k chains))
+    → MayBeSeen end (seen ++ flat_map pages_in chains)
+    → MayBeSeen end (seen ++ flat_map pages_in (take k chains))
 may_chains end seen chains k may =
-    may_front end (seen ++ flat_map numbers (take k chains)) (flat_map numbers (drop k chains))
+    may_front end (seen ++ flat_map pages_in (take k chains)) (flat_map pages_in (drop k chains))
     (subst (MayBeSeen end)
-    (ap (λ (cs : List Chain). seen ++ flat_map numbers cs) (sym (take-append-drop k chains))
-    ∙ ap (λ (ns : List ℕ). seen ++ ns) (flat_map-append numbers (take k chains) (drop k chains))
-    ∙ sym (append_assoc seen (flat_map numbers (take k chains)) (flat_map numbers (drop k chains))))
+    (ap (λ (cs : List Chain). seen ++ flat_map pages_in cs) (sym (take-append-drop k chains))
+    ∙ ap (λ (ns : List ℕ). seen ++ ns) (flat_map-append pages_in (take k chains) (drop k chains))
+    ∙ sym
+    (append_assoc seen (flat_map pages_in (take k chains)) (flat_map pages_in (drop k chains))))
     may)
 
 pub may_chain : (end : ℕ) (seen : List ℕ) (chains : List Chain) (i : ℕ) → i < length chains
-    → MayBeSeen end (seen ++ flat_map numbers chains)
-    → MayBeSeen end ((seen ++ flat_map numbers (take i chains)) ++ numbers (get_or chains i []))
+    → MayBeSeen end (seen ++ flat_map pages_in chains)
+    → MayBeSeen end ((seen ++ flat_map pages_in (take i chains)) ++ pages_in (get_or chains i []))
 may_chain end seen chains i lt may =
     subst (MayBeSeen end)
     (ap (λ (ns : List ℕ). seen ++ ns) (flat_more chains i lt)
-    ∙ sym (append_assoc seen (flat_map numbers (take i chains)) (numbers (get_or chains i []))))
+    ∙ sym (append_assoc seen (flat_map pages_in (take i chains)) (pages_in (get_or chains i []))))
     (may_chains end seen chains (i + 1) may)
 
 -- chain i of them
-pub chain_there : (at : ℕ → Body) (shape : Shape) (bytes : List ℕ) (first count i head : ℕ)
-    (chains : List Chain) → AreHeadChains at shape bytes first count chains → i < count
+pub chain_there : (at : ℕ → Body) (m : model.Meta) (bytes : List ℕ) (first count i head : ℕ)
+    (chains : List Chain) → AreHeadChains at m bytes first count chains → i < count
     → head ≡ u32_at bytes (16 + 4 * i)
-    → IsBucketChain at shape (first + i) head (get_or chains i [])
-chain_there at shape bytes first count i head chains is lt here =
+    → IsBucketChain m.bounds.version at (shape_in m) (first + i) head (get_or chains i [])
+chain_there at m bytes first count i head chains is lt here =
     let within : i < length chains = omega (arith, lt, is.many) in
-    subst (λ (h : ℕ). IsBucketChain at shape (first + i) h (get_or chains i []))
+    subst (λ (h : ℕ). IsBucketChain m.bounds.version at (shape_in m) (first + i) h
+    (get_or chains i []))
     (sym (here ∙ is.heads i within)) (is.are i within)
 
-pub more_exact : (at : ℕ → Body) (end : ℕ) (shape : Shape) (bytes : List ℕ)
+pub more_exact : (at : ℕ → Body) (end : ℕ) (m : model.Meta) (bytes : List ℕ)
     (first count i pairs more sum head : ℕ) (marks marks' : List Bool) (seen : List ℕ)
-    (chains : List Chain) → AreHeadChains at shape bytes first count chains
-    → MayBeSeen end (seen ++ flat_map numbers chains) → i < count
+    (chains : List Chain) → end ≤ 2 ^ 32 → AreHeadChains at m bytes first count chains
+    → MayBeSeen end (seen ++ flat_map pages_in chains) → i < count
     → AreCounted (take i chains) end pairs marks seen → head ≡ u32_at bytes (16 + 4 * i)
     → ((seen : List ℕ) → AreMarked marks end seen
-    → IsChecked at end shape (first + i) head more marks' seen)
+    → IsChecked m.bounds.version at end (shape_in m) (first + i) head more marks' seen)
     → sum ≡ min (pairs + more) (2 ^ 32 - 1) → AreCounted (take (i + 1) chains) end sum marks' seen
-more_exact at end shape bytes first count i pairs more sum head marks marks' seen chains is may lt
-    before here check total =
+more_exact at end m bytes first count i pairs more sum head marks marks' seen chains small is may
+    lt before here check total =
     let front = take i chains in
     let chain = get_or chains i [] in
     let within : i < length chains = omega (arith, lt, is.many) in
-    let next = check (seen ++ flat_map numbers front) before.marked in
-    let some = leaves_some chain (AllByRecursion-right (λ (n : ℕ). 1 ≤ n)
-    (seen ++ flat_map numbers front) (numbers chain)
-    (all_some end ((seen ++ flat_map numbers front) ++ numbers chain)
-    (may_chain end seen chains i within may))) in
-    let same : next.chain ≡ chain = chain_same at shape (first + i) head next.chain chain next.is
-    (chain_there at shape bytes first count i head chains is lt here) next.numbered some in
-    let one = one_counted next.chain end more marks' (seen ++ flat_map numbers front) next.many
+    let next = check (seen ++ flat_map pages_in front) before.marked in
+    let same : next.chain ≡ chain = chain_same m.bounds.version at end (shape_in m) (first + i) head
+    (seen ++ flat_map pages_in front) (seen ++ flat_map pages_in front) next.chain chain small
+    next.is (chain_there at m bytes first count i head chains is lt here)
+    (are_seen marks' end ((seen ++ flat_map pages_in front) ++ pages_in next.chain) next.marked)
+    (may_chain end seen chains i within may) in
+    let one = one_counted next.chain end more marks' (seen ++ flat_map pages_in front) next.many
     next.marked in
     subst (λ (cs : List Chain). AreCounted cs end sum marks' seen)
     (ap (λ (c : Chain). front ++ c ∷ []) same ∙ sym (take_more chains i [] within))
     (counted_behind front (next.chain ∷ []) end pairs more sum marks marks' seen before one total)
 
-pub all_exact : (at : ℕ → Body) (end : ℕ) (shape : Shape) (bytes : List ℕ)
+pub all_exact : (at : ℕ → Body) (end : ℕ) (m : model.Meta) (bytes : List ℕ)
     (first count i pairs : ℕ) (marks : List Bool) (seen : List ℕ) (chains : List Chain)
-    → AreHeadChains at shape bytes first count chains → i ≡ count
+    → AreHeadChains at m bytes first count chains → i ≡ count
     → AreCounted (take i chains) end pairs marks seen → AreCounted chains end pairs marks seen
-all_exact at end shape bytes first count i pairs marks seen chains is all counted =
+all_exact at end m bytes first count i pairs marks seen chains is all counted =
     subst (λ (cs : List Chain). AreCounted cs end pairs marks seen)
     (take_all i chains (omega (arith, is.many, all))) counted

@@ -1,9 +1,9 @@
 -- What a read of one page tells behind other reads.
-use Rattle.std.proofs.Common.{◌≡◌, ◌↔◌, ℕ, ◌+◌, ◌≤◌, List, length, sym, ap, ◌∙◌, subst}
+use Rattle.std.proofs.Common.{◌≡◌, ◌↔◌, ℕ, ◌+◌, ◌≤◌, List, length, sym, ap, ◌∙◌}
 use Rattle.page_model.specs.Pages.{Body, Other}
 use Rattle.page_model.specs.Reading.{body_of}
 use Rattle.page_io.specs.Kept.{KeepsPages}
-use Rattle.page_io.specs.Store.{Settled, StoreState, IsKnown}
+use Rattle.page_io.specs.Store.{Settled, IsKnown}
 use Rattle.page_io.specs.Views.{visible_page, body_at, ReadsOnly}
 use Rattle.page_io.specs.declared.store.PageStore.{Ghosts}
 use Rattle.page_io.proofs.Views.{after_read, reads_then, same_said, unknown_said}
@@ -45,19 +45,3 @@ pub read_then : {S : Type 0} (s : Ghosts S) (old mid new : S)
     → ReadsOnly s old new
 read_then s old mid new counts counts_new reads same honesty later kept =
     reads_then s old mid new counts reads (after_read s mid new counts_new same honesty later kept)
-
--- what was said of a store after reads, and before them
-module _ {S : Type 0} (s : Ghosts S) (old mid : S) (reads : ReadsOnly s old mid)
-    (honest : s.honest old) where
-  pub from_mid : (P : (ℕ → Body) → ℕ → Type 0) → P (body_at s mid) (s.state mid).end
-      → P (body_at s old) (s.state old).end
-  from_mid P is =
-      subst (λ (end : ℕ). P (body_at s old) end) (ap (λ (st : StoreState). st.end) reads.same)
-      (subst (λ (at : ℕ → Body). P at (s.state mid).end) (same_said s old mid reads honest) is)
-
-  pub to_mid : (P : (ℕ → Body) → ℕ → Type 0) → P (body_at s old) (s.state old).end
-      → P (body_at s mid) (s.state mid).end
-  to_mid P is =
-      subst (λ (end : ℕ). P (body_at s mid) end) (sym (ap (λ (st : StoreState). st.end) reads.same))
-      (subst (λ (at : ℕ → Body). P at (s.state old).end) (sym
-      (same_said s old mid reads honest)) is)

@@ -18,7 +18,7 @@ use Rattle.page_model.proofs.Numbers.{numbers_again, trimmed-is}
 use Rattle.seg_table.specs.Segments.{heads_in, IsSegment}
 use Rattle.seg_table.proofs.Entries.{get_or-numbers_at}
 use Rattle.seg_table.proofs.HeadTexts.{entry_is, heads_of_said, said_segment}
-use Rattle.file_check.specs.Segments.{shape_in, AreChains, AreHeadChains, AreHeadsChecked, AreInSegment, IsSegmentChecked}
+use Rattle.file_check.specs.Segments.{AreChains, AreHeadChains, AreHeadsChecked, AreInSegment, IsSegmentChecked}
 use Rattle.file_check.proofs.ChainReads.{length-heads}
 
 -- what an answer says, by what it said
@@ -77,7 +77,7 @@ heads_are_said bytes own count chains small few is many heads some =
 
 pub segment_checked : (at : ℕ → Body) (end : ℕ) (m : model.Meta) (s first count pairs : ℕ)
     (bytes : List ℕ) (marks : List Bool) (seen : List ℕ)
-    → AreHeadsChecked at end (shape_in m) bytes first count pairs marks seen
+    → AreHeadsChecked at end m bytes first count pairs marks seen
     → at (get_or m.segments s 0) ≡ body_of (get_or m.segments s 0) bytes
     → IsSegment bytes (get_or m.segments s 0) (heads_in m s) → IsNumber (get_or m.segments s 0)
     → count ≡ heads_in m s → first ≡ 508 * s → IsSegmentChecked at end m s pairs marks seen
@@ -89,7 +89,7 @@ segment_checked at end m s first count pairs bytes marks seen is read segment sm
       are = record {
         said = read ∙ said;
         many = is.are.many ∙ many;
-        are = subst (λ (b : ℕ). AreChains at (shape_in m) b is.chains) begin is.are.are;
+        are = subst (λ (b : ℕ). AreChains at m b is.chains) begin is.are.are;
       };
       counted = is.counted;
     }
@@ -108,7 +108,7 @@ pub head_chains : (at : ℕ → Body) (m : model.Meta) (s first count : ℕ) (by
     (chains : List Chain) → AreInSegment at m s chains → length bytes ≡ 2048
     → at (get_or m.segments s 0) ≡ body_of (get_or m.segments s 0) bytes
     → count ≡ heads_in m s → first ≡ 508 * s
-    → AreHeadChains at (shape_in m) bytes first count chains
+    → AreHeadChains at m bytes first count chains
 head_chains at m s first count bytes chains is long read many begin =
     let same = heads_of_said bytes (get_or m.segments s 0) (heads_of chains)
     (sym read ∙ is.said) in
@@ -116,5 +116,5 @@ head_chains at m s first count bytes chains is long read many begin =
       many = is.many ∙ sym many;
       heads = λ i lt. entry_is bytes i long (omega (arith, lt, is.many))
           ∙ ap (λ (ns : List ℕ). get_or ns i 0) (sym same) ∙ head_at chains i lt;
-      are = subst (λ (b : ℕ). AreChains at (shape_in m) b chains) (sym begin) is.are;
+      are = subst (λ (b : ℕ). AreChains at m b chains) (sym begin) is.are;
     }

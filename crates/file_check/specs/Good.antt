@@ -1,7 +1,7 @@
 -- A good file, by what its pages say.
 use Rattle.std.specs.Prelude.{◌≡◌, ◌≤◌, ℕ, List, ◌∷◌, ◌++◌, length, flat_map}
 use Rattle.page_model.specs.Pages.{Meta, Body}
-use Rattle.page_model.specs.Chain.{Chain, numbers, pairs_in}
+use Rattle.page_model.specs.Chain.{Chain, pages_in, pairs_in}
 use Rattle.dbm_model.specs.Sizes.{home}
 use Rattle.page_model.specs.Placement.{Placement, pairs_of, IsGood}
 use Rattle.page_model.specs.PageBodies.{IsSpelled}
@@ -23,6 +23,6 @@ pub record IsFilled (at : ℕ → Body) (end : ℕ) (m : Meta) : Type 0 where
   pub free : List ℕ
   pub buckets : AreBuckets at m chains
   pub list : IsList at m.free_head m.free_count free
-  pub each : IsEachSeen end (((1 ∷ m.segments) ++ flat_map numbers chains) ++ free)
+  pub each : IsEachSeen end (((1 ∷ m.segments) ++ flat_map pages_in chains) ++ free)
   pub counted : length (flat_map pairs_in chains) ≡ m.pairs
   pub bounded : end ≤ home m.bounds

@@ -1,7 +1,6 @@
 //! Whether a file is a good one.
 
 ghost use Rattle.std.specs.Prelude.{◌≡◌, ◌≤◌, ◌↔◌, ◌++◌, ◌∷◌, [], ℕ, length, IfOk, OnOk, IsErrOf, IsTrue};
-ghost use Rattle.dbm_model.specs.Bounds.{V1};
 ghost use Rattle.page_model.specs.Pages as model;
 ghost use Rattle.page_model.specs.Pages.{MetaPage};
 ghost use Rattle.page_model.specs.Valid.{IsMeta};
@@ -29,7 +28,7 @@ fn check_meta<S: PageStore>(store: &mut S) -> Result<Meta, PageFault>
     ensures valid { IfOk result (λ meta. IsMeta (model_meta meta)) }
     ensures says { S.honest store.old → IfOk result (λ meta.
         body_at S.PageStore store.old 1 ≡ MetaPage (model_meta meta)) }
-    ensures whole { S.honest store.old → (m : model.Meta) → IsMeta m → m.bounds.version ≡ V1
+    ensures whole { S.honest store.old → (m : model.Meta) → IsMeta m
         → body_at S.PageStore store.old 1 ≡ MetaPage m → IsErrOf result Damaged → ⊥ }
 {
     let mut page = Page::blank();
@@ -71,7 +70,7 @@ fn check_pages<S: PageStore, W: Watch>(
         → IsErrOf result Damaged → ⊥ }
 {
     let end = store.end();
-    if end > most_pages(meta.limit) || !mark_tables(meta, marks, end) {
+    if end > most_pages(meta.limit, meta.version) || !mark_tables(meta, marks, end) {
         return Err(PageFault::Damaged);
     }
     let pairs = check_buckets(store, meta, marks, watch)?;
@@ -89,9 +88,9 @@ fn check_pages<S: PageStore, W: Watch>(
 /// Reads every page, and answers how many pairs the file has. Damaged is answered where it is no
 /// good file: where a page doesn't say what the format asks of it, stands in two places or in none,
 /// where a pair is in another bucket than its key's, a key stands there twice, a count is wrong, or
-/// there are more pages than the limit asks for. It takes no memory. What the marks hold before
-/// doesn't matter, and after it they are unspecified. Each bucket that was looked at is told to
-/// `watch`.
+/// there are more pages than the limit and the version ask for. It takes no memory. What the marks
+/// hold before doesn't matter, and after it they are unspecified. Each bucket that was looked at is
+/// told to `watch`.
 pub fn verify<S: PageStore, W: Watch>(
     store: &mut S,
     marks: &mut [bool],

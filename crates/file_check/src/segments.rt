@@ -1,8 +1,7 @@
 //! The buckets, segment by segment.
 
 ghost use Rattle.std.specs.Prelude.{◌≡◌, ◌≤◌, ◌<◌, ◌+◌, ◌*◌, ◌^◌, ◌++◌, ℕ, List, length, flat_map, IfOk, IsErrOf};
-ghost use Rattle.lin_addr.specs.Shapes.{shape_of};
-ghost use Rattle.page_model.specs.Chain.{Chain, numbers};
+ghost use Rattle.page_model.specs.Chain.{Chain, pages_in};
 ghost use Rattle.page_model.specs.Valid.{IsMeta};
 ghost use Rattle.page_io.specs.Answers.{HasDeviceCause};
 ghost use Rattle.page_io.specs.Views.{body_at, ReadsOnly};
@@ -16,7 +15,6 @@ ghost use Rattle.file_check.specs.Segments.{AreHeadChains, AreHeadsChecked, AreI
 use crate::sizes::PER_SEGMENT;
 use crate::watch::Watch;
 use chain_check::check_chain;
-use lin_addr::Shape;
 use page_io::{Page, PageFault, PageStore};
 use seg_table::{Meta, segment_ok};
 
@@ -27,7 +25,7 @@ const HEADS_AT: usize = 16;
 /// on, and answers how many pairs they have.
 fn check_heads<S: PageStore, W: Watch>(
     store: &mut S,
-    shape: Shape,
+    meta: &Meta,
     page: &Page,
     first: u32,
     count: u32,
@@ -44,22 +42,23 @@ fn check_heads<S: PageStore, W: Watch>(
     ensures sound { S.honest store.old → (seen : List ℕ)
         → AreMarked marks.old (S.state store.old).end seen
         → IfOk result (λ pairs. AreHeadsChecked (body_at S.PageStore store.old)
-        (S.state store.old).end (shape_of shape) page.now.bytes first count pairs marks.new seen) }
+        (S.state store.old).end (model_meta meta.now) page.now.bytes first count pairs marks.new
+        seen) }
     ensures exact { S.honest store.old → (seen : List ℕ) (chains : List Chain)
         → AreMarked marks.old (S.state store.old).end seen
-        → AreHeadChains (body_at S.PageStore store.old) (shape_of shape) page.now.bytes first count
-        chains → MayBeSeen (S.state store.old).end (seen ++ flat_map numbers chains)
+        → AreHeadChains (body_at S.PageStore store.old) (model_meta meta.now) page.now.bytes first
+        count chains → MayBeSeen (S.state store.old).end (seen ++ flat_map pages_in chains)
         → IfOk result (λ pairs. AreCounted chains (S.state store.old).end pairs marks.new seen) }
     ensures whole { S.honest store.old → (seen : List ℕ) (chains : List Chain)
         → AreMarked marks.old (S.state store.old).end seen
-        → AreHeadChains (body_at S.PageStore store.old) (shape_of shape) page.now.bytes first count
-        chains → MayBeSeen (S.state store.old).end (seen ++ flat_map numbers chains)
+        → AreHeadChains (body_at S.PageStore store.old) (model_meta meta.now) page.now.bytes first
+        count chains → MayBeSeen (S.state store.old).end (seen ++ flat_map pages_in chains)
         → IsErrOf result Damaged → ⊥ }
 {
     let mut pairs: u32 = 0;
     for i in 0..count {
         let head = page.u32_at(HEADS_AT + 4 * i as usize);
-        let more = check_chain(store, shape, first + i, head, marks)?;
+        let more = check_chain(store, meta.shape, first + i, head, marks, meta.version)?;
         pairs = pairs.saturating_add(more);
         watch.bucket();
     }
@@ -88,12 +87,12 @@ fn check_segment<S: PageStore, W: Watch>(
     ensures exact { S.honest store.old → (seen : List ℕ) (chains : List Chain)
         → AreMarked marks.old (S.state store.old).end seen
         → AreInSegment (body_at S.PageStore store.old) (model_meta meta.now) s chains
-        → MayBeSeen (S.state store.old).end (seen ++ flat_map numbers chains)
+        → MayBeSeen (S.state store.old).end (seen ++ flat_map pages_in chains)
         → IfOk result (λ pairs. AreCounted chains (S.state store.old).end pairs marks.new seen) }
     ensures whole { S.honest store.old → (seen : List ℕ) (chains : List Chain)
         → AreMarked marks.old (S.state store.old).end seen
         → AreInSegment (body_at S.PageStore store.old) (model_meta meta.now) s chains
-        → MayBeSeen (S.state store.old).end (seen ++ flat_map numbers chains)
+        → MayBeSeen (S.state store.old).end (seen ++ flat_map pages_in chains)
         → IsErrOf result Damaged → ⊥ }
 {
     let n = meta.segments[s as usize];
@@ -104,11 +103,11 @@ fn check_segment<S: PageStore, W: Watch>(
     }
     let first = PER_SEGMENT * s;
     let count = (meta.shape.buckets() - first).min(PER_SEGMENT);
-    check_heads(store, meta.shape, &page, first, count, marks, watch)
+    check_heads(store, meta, &page, first, count, marks, watch)
 }
 
-/// Reads all buckets with their segment pages, marks the pages of the chains, and answers how many
-/// pairs there are, 4,294,967,295 where there are more.
+/// Reads all buckets with their segment pages, marks the pages of the chains and of their contents,
+/// and answers how many pairs there are, 4,294,967,295 where there are more.
 pub fn check_buckets<S: PageStore, W: Watch>(
     store: &mut S,
     meta: &Meta,
@@ -128,12 +127,12 @@ pub fn check_buckets<S: PageStore, W: Watch>(
     ensures exact { S.honest store.old → (seen : List ℕ) (chains : List Chain)
         → AreMarked marks.old (S.state store.old).end seen
         → AreBuckets (body_at S.PageStore store.old) (model_meta meta.now) chains
-        → MayBeSeen (S.state store.old).end (seen ++ flat_map numbers chains)
+        → MayBeSeen (S.state store.old).end (seen ++ flat_map pages_in chains)
         → IfOk result (λ pairs. AreCounted chains (S.state store.old).end pairs marks.new seen) }
     ensures whole { S.honest store.old → (seen : List ℕ) (chains : List Chain)
         → AreMarked marks.old (S.state store.old).end seen
         → AreBuckets (body_at S.PageStore store.old) (model_meta meta.now) chains
-        → MayBeSeen (S.state store.old).end (seen ++ flat_map numbers chains)
+        → MayBeSeen (S.state store.old).end (seen ++ flat_map pages_in chains)
         → IsErrOf result Damaged → ⊥ }
 {
     let mut pairs: u32 = 0;

@@ -1,9 +1,8 @@
 -- What the file of a database says.
-use Rattle.std.proofs.Common.{◌≡◌, ◌≢◌, ◌↔◌, inl, inr, ℕ, List, [], Bool, false, cond, Result, Ok, Err, IfOk, sym, ap, subst, ◌∙◌}
-use Rattle.std.proofs.lemmas.Bool.{cases_eq}
+use Rattle.std.proofs.Common.{◌≡◌, ◌↔◌, ℕ, List, [], Bool, false, cond, Result, Ok, Err, IfOk, sym, ap, subst, ◌∙◌}
 use Rattle.std.specs.Prelude.{IsOkAnd}
 use Rattle.std.specs.FinMap.{empty}
-use Rattle.dbm_model.specs.Bounds.{V1, Bounds}
+use Rattle.dbm_model.specs.Bounds.{Bounds}
 use Rattle.dbm_model.specs.Pairs.{Contents}
 use Rattle.page_model.specs.Bytes.{u32_at}
 use Rattle.page_model.specs.Pages.{Meta, MetaPage}
@@ -14,7 +13,7 @@ use Rattle.page_model.proofs.GoodBodies.{bodies_valid}
 use Rattle.page_io.specs.Store.{Pages, page_of, overlaid}
 use Rattle.page_io.specs.Meaning.{FileStandsFor}
 use Rattle.page_io.specs.declared.store.PageStore as store
-use Rattle.seg_table.specs.MetaPages.{model_meta, HasMetaHeader}
+use Rattle.seg_table.specs.MetaPages.{model_meta, HasMetaHeader, IsUnknown}
 use Rattle.seg_table.specs.declared.meta.Meta as meta
 use Rattle.seg_table.specs.declared.meta.MetaFault.{MetaFault}
 use Rattle.seg_table.specs.declared.meta.MetaFault.TheVariants as meta_fault
@@ -32,7 +31,6 @@ pub says_meta : (pages staged : Pages) (map : Contents) (bounds : Bounds) (bytes
 says_meta pages staged map bounds bytes stands none read = record {
   meta = page_bodies.meta_of stands.placement;
   valid = (bodies_valid stands.placement stands.good).0.1;
-  first = stands.good.first;
   says = ap (body_of 1) (read ∙ ap (λ (s : Pages). overlaid s (page_of pages) 1) none)
       ∙ stands.spelled.0;
 }
@@ -53,13 +51,13 @@ opens_kept how map bounds (Err e) kept may stands = tt
 -- a page that is read and is no good meta page
 module _ (bytes read : List ℕ) (result : Result meta.Meta MetaFault) (fault : MetaFault)
     (was : result ≡ Err fault) (same : read ≡ bytes)
-    (body : (m : Meta) → IsMeta m → m.bounds.version ≡ V1
+    (body : (m : Meta) → IsMeta m
     → IsOkAnd result (λ r. model_meta r ≡ m) ↔ (body_of 1 read ≡ MetaPage m))
     (version : (result ≡ Err meta_fault.Version)
-    ↔ (HasMetaHeader read × (u32_at read 16 ≢ 1))) where
+    ↔ (HasMetaHeader read × IsUnknown (u32_at read 16))) where
   no_meta : SaysNoMeta read
-  no_meta m valid first says = subst (λ (r : Result meta.Meta MetaFault).
-      IsOkAnd r (λ (n : meta.Meta). model_meta n ≡ m)) was ((body m valid first).1 says)
+  no_meta m valid says = subst (λ (r : Result meta.Meta MetaFault).
+      IsOkAnd r (λ (n : meta.Meta). model_meta n ≡ m)) was ((body m valid).1 says)
 
   pub refused_version : fault ≡ meta_fault.Version → RefusesMeta bytes Version
   refused_version is = subst (λ (b : List ℕ). RefusesMeta b Version) same
@@ -68,10 +66,7 @@ module _ (bytes read : List ℕ) (result : Result meta.Meta MetaFault) (fault : 
   pub refused_meta : fault ≡ meta_fault.Damaged → RefusesMeta bytes Damaged
   refused_meta is = subst (λ (b : List ℕ). RefusesMeta b Damaged) same (
     no_meta,
-    λ header. elim (cases_eq (u32_at read 16) 1) [
-      | inl one ↦ one
-      | inr other ↦ absurd (two_faults is (sym was ∙ version.1 (header, other)))
-    ],
+    λ header unknown. two_faults is (sym was ∙ version.1 (header, unknown)),
   )
     where
       two_faults : fault ≡ meta_fault.Damaged

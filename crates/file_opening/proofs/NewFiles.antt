@@ -1,7 +1,7 @@
 -- The pages of a new file.
 use Rattle.std.proofs.Common.{◌≡◌, ◌⊎◌, ⊎_elim, inl, inr, ℕ, ◌≤◌, ◌==◌, Bool, true, false, cond, not, Option, Some, None, is_some, List, [], ◌∷◌, get_or, map, refl, sym, ap, ◌∙◌, subst}
 use Rattle.std.specs.FinMap.{empty}
-use Rattle.dbm_model.specs.Bounds.{Bounds, in_v1}
+use Rattle.dbm_model.specs.Bounds.{Bounds}
 use Rattle.page_model.specs.Pages.{Meta, MetaPage, SegmentPage, HeadPage, bucket}
 use Rattle.page_model.specs.Placement.{fresh_placement}
 use Rattle.page_model.specs.Reading.{body_of, bucket_of}
@@ -28,14 +28,14 @@ pub bare_head : (bytes : List ℕ) → IsBucketPage bytes → bucket_of bytes �
 bare_head bytes page says = (is_head 3 0 [] bytes (subst IsBucket says page.sound)).1 (page, says)
 
 -- the meta page, one segment page and one head page that is empty
-pub new_stands : (limit : ℕ) (m : Meta) (first second third : List ℕ) → 1 ≤ limit → limit ≤ 1000000
-    → m ≡ meta_of (fresh_placement (in_v1 limit))
+pub new_stands : (bounds : Bounds) (m : Meta) (first second third : List ℕ) → 1 ≤ bounds.limit
+    → bounds.limit ≤ 1000000 → m ≡ meta_of (fresh_placement bounds)
     → body_of 1 first ≡ MetaPage m → body_of 2 second ≡ SegmentPage (3 ∷ [])
     → body_of 3 third ≡ HeadPage 0 []
-    → FileStandsFor (first ∷ second ∷ third ∷ []) empty (in_v1 limit)
-new_stands limit m first second third least most is meta segment head =
-    let p = fresh_placement (in_v1 limit) in
-    let good = fresh_is_good limit least most in
+    → FileStandsFor (first ∷ second ∷ third ∷ []) empty bounds
+new_stands bounds m first second third least most is meta segment head =
+    let p = fresh_placement bounds in
+    let good = fresh_is_good bounds least most in
     let at = said_by (page_of (first ∷ second ∷ third ∷ [])) in
     let spelled : IsSpelled at p = (meta ∙ ap MetaPage is, (segment, (head, tt))) in
     record {
@@ -44,7 +44,7 @@ new_stands limit m first second third least most is meta segment head =
       spelled = spelled;
       ends = refl;
       bounded = refl;
-      holds = flat_is_contents p at good.0.sound spelled ∙ good.1;
+      holds = flat_is_contents p at good.0 spelled ∙ good.1;
     }
 
 -- the own numbers of three pages

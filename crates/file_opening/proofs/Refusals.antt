@@ -244,7 +244,7 @@ module _ (how : OpenHow) (sectors : ℕ) (start now : Candidates) where
 
       no_meta : SaysNoMeta (page_of file 1) → ⊥
       no_meta none = none (meta_of stands.placement)
-          (bodies_valid stands.placement stands.good).0.1 stands.good.first good
+          (bodies_valid stands.placement stands.good).0.1 good
 
       by_meta : (f : Fault) → RefusesMeta (page_of file 1) f → ⊥
       by_meta Version why = no_meta why.0
@@ -315,7 +315,6 @@ has_meta file map bounds stands =
       meta = meta_of stands.placement;
       valid =
           (bodies_valid stands.placement stands.good).0.1;
-      first = stands.good.first;
       says = stands.spelled.0;
     }
 

@@ -4,11 +4,11 @@ use Rattle.std.specs.Int.{div_ceil}
 use Rattle.std.specs.Prelude.{nat_lt}
 use Rattle.std.specs.Option.{option_or}
 use Rattle.std.proofs.lemmas.Bool.Decides.{nat_tests}
-use Rattle.dbm_model.specs.Bounds.{Bounds, in_v1}
+use Rattle.dbm_model.specs.Bounds.{Version, Bounds}
 use Rattle.page_model.specs.Pages.{Meta}
 use Rattle.page_model.specs.PageBodies.{meta_of}
 use Rattle.page_model.specs.Placement.{fresh_placement}
-use Rattle.dbm_model.specs.Sizes.{is_limit, buckets_for, segments_for, home, sectors_for}
+use Rattle.dbm_model.specs.Sizes.{is_limit, buckets_for, segments_for, pages_for, home, sectors_for}
 use Rattle.page_model.specs.Valid.{IsMeta}
 use Rattle.page_model.proofs.GoodBodies.{bodies_valid}
 use Rattle.page_model.proofs.Stores.{fresh_is_good}
@@ -28,19 +28,20 @@ limit_says : (limit : ℕ) → is_limit limit ≡ true → (1 ≤ limit) × (lim
 limit_says limit is = (grind (arith, nat_tests), grind (arith, nat_tests))
 
 -- what is counted is what is needed
-pub sectors_are : (limit buckets segments : ℕ) → 1 ≤ limit → limit ≤ 1000000
-    → buckets ≡ div_ceil limit 8 → segments ≡ div_ceil buckets 508
-    → Some (8 * (2 + segments + buckets + limit)) ≡ sectors_for (in_v1 limit)
-sectors_are limit buckets segments least most are parts =
+pub sectors_are : (version : Version) (limit buckets segments pages : ℕ) → 1 ≤ limit
+    → limit ≤ 1000000 → buckets ≡ div_ceil limit 8 → segments ≡ div_ceil buckets 508
+    → pages ≡ pages_for version
+    → Some (8 * (2 + segments + buckets + pages * limit))
+    ≡ sectors_for (record { limit = limit; version = version })
+sectors_are version limit buckets segments pages least most are parts each =
+    let bounds : Bounds = record { limit = limit; version = version } in
     let b : buckets ≡ buckets_for limit = are ∙ omega arith in
     let s : segments ≡ segments_for (buckets_for limit) =
     parts ∙ ap (λ (n : ℕ). div_ceil n 508) b ∙ omega arith in
-    let all : 2 + segments_for (buckets_for limit) + buckets_for limit + limit
-    ≡ home (in_v1 limit) = omega arith in
-    ap (λ (n : ℕ). Some (8 * n)) (ap (λ (n : ℕ). 2 + n + buckets + limit) s
-    ∙ ap (λ (n : ℕ). 2 + segments_for (buckets_for limit) + n + limit) b ∙ all)
-    ∙ ap (λ (x : Bool). cond x (Some (8 * home (in_v1 limit))) None)
-    (sym (limit_is limit least most))
+    ap (λ (n : ℕ). Some (8 * n)) (ap (λ (n : ℕ). 2 + n + buckets + pages * limit) s
+    ∙ ap (λ (n : ℕ). 2 + segments_for (buckets_for limit) + n + pages * limit) b
+    ∙ ap (λ (n : ℕ). 2 + segments_for (buckets_for limit) + buckets_for limit + n * limit) each)
+    ∙ ap (λ (x : Bool). cond x (Some (8 * home bounds)) None) (sym (limit_is limit least most))
 
 -- ---- room
 
@@ -97,11 +98,11 @@ pub fresh_meta : (bounds : Bounds) (m : Meta) → m ≡ meta_of (fresh_placement
 fresh_meta bounds m is = is ∙ ap (λ (b : Bounds). meta_of (fresh_placement b))
     (sym (ap (λ (x : Meta). x.bounds) is))
 
-pub fresh_valid : (limit : ℕ) (m : Meta) → (1 ≤ limit) × (limit ≤ 1000000)
-    → m ≡ meta_of (fresh_placement (in_v1 limit)) → IsMeta m
-fresh_valid limit m limited is =
-    subst IsMeta (sym is) (bodies_valid (fresh_placement (in_v1 limit))
-    (fresh_is_good limit limited.0 limited.1).0).0.1
+pub fresh_valid : (bounds : Bounds) (m : Meta) → (1 ≤ bounds.limit) × (bounds.limit ≤ 1000000)
+    → m ≡ meta_of (fresh_placement bounds) → IsMeta m
+fresh_valid bounds m limited is =
+    subst IsMeta (sym is) (bodies_valid (fresh_placement bounds)
+    (fresh_is_good bounds limited.0 limited.1).0).0.1
 
 -- ---- a commit that was refused
 

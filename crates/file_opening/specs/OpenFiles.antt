@@ -39,6 +39,7 @@ pub record StandsAs {S : Type 0} {s : Ghosts S} (file : OpenFile S s) (map : Con
 
 -- it stands for the map, with these bounds, or where it was to be emptied for none, with those that
 -- the opening asks for
-abbrev pub OpensAs : {S : Type 0} {s : Ghosts S} → OpenHow → Contents → Bounds → OpenFile S s → Type 0
+abbrev pub OpensAs : {S : Type 0} {s : Ghosts S} → OpenHow → Contents → Bounds → OpenFile S s
+    → Type 0
 OpensAs how map bounds file = StandsAs file (if how.truncate then empty else map)
     (if how.truncate then bounds_of how else bounds)

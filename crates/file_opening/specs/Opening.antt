@@ -1,8 +1,9 @@
 -- What an opening finds, makes, empties or refuses.
-use Rattle.std.specs.Prelude.{◌≡◌, ◌≢◌, ◌⊎◌, ℕ, ◌+◌, ◌/◌, nat_lt, Bool, true, false, ◌&&◌, not, List, length, Option, Some, None, if◌then◌else◌}
+use Rattle.std.specs.Prelude.{◌≡◌, ◌⊎◌, ℕ, ◌+◌, ◌/◌, nat_lt, Bool, true, false, ◌&&◌, not, List, length, Option, Some, None, if◌then◌else◌}
 use Rattle.std.specs.FinMap.{empty}
 use Rattle.std.specs.Option.{option_or}
-use Rattle.dbm_model.specs.Bounds.{V1, Bounds, in_v1}
+use Rattle.dbm_model.specs.Bounds.{Bounds}
+use Rattle.page_io.specs.Versions.{model_version}
 use Rattle.sect_dev.specs.Device.{Image, Candidates, IsImageOf}
 use Rattle.page_model.specs.Bytes.{u32_at}
 use Rattle.page_model.specs.Pages.{Meta, MetaPage}
@@ -14,7 +15,7 @@ use Rattle.dbm_model.specs.Sizes.{sectors_for}
 use Rattle.page_model.specs.Valid.{IsMeta}
 use Rattle.page_io.specs.Store.{Pages, Settled, blank, file_of, nothing, page_of}
 use Rattle.page_io.specs.Meaning.{ImageStandsFor}
-use Rattle.seg_table.specs.MetaPages.{HasMetaHeader}
+use Rattle.seg_table.specs.MetaPages.{HasMetaHeader, IsUnknown}
 use Rattle.redo_commit.specs.Header.{has_magic}
 use Rattle.redo_commit.specs.File.{settled}
 use Rattle.redo_area.specs.Opening.{SaysArmed}
@@ -36,7 +37,7 @@ writes access.ReadWrite = true
 
 -- the bounds of a database that it makes or empties
 abbrev pub bounds_of : OpenHow → Bounds
-bounds_of how = in_v1 how.limit
+bounds_of how = record { limit = how.limit; version = model_version how.version }
 
 -- no database may be there
 abbrev pub is_exclusive : OpenHow → Bool
@@ -69,21 +70,20 @@ abbrev pub emptying_fault : Bounds → ℕ → ℕ → Option Fault
 emptying_fault bounds sectors end =
     option_or (room_fault (sectors_for bounds) sectors) (commit_fault sectors end)
 
--- a good meta page, which is of version 1
+-- a good meta page
 pub record SaysMeta (bytes : List ℕ) : Type 0 where
   pub meta : Meta
   pub valid : IsMeta meta
-  pub first : meta.bounds.version ≡ V1
   pub says : body_of 1 bytes ≡ MetaPage meta
 
 abbrev pub SaysNoMeta : List ℕ → Type 0
-SaysNoMeta bytes = (m : Meta) → IsMeta m → m.bounds.version ≡ V1
-    → body_of 1 bytes ≡ MetaPage m → ⊥
+SaysNoMeta bytes = (m : Meta) → IsMeta m → body_of 1 bytes ≡ MetaPage m → ⊥
 
 -- why a meta page is refused: its version is looked at once its header is good, and before all else
 abbrev pub RefusesMeta : List ℕ → Fault → Type 0
-RefusesMeta bytes Version = SaysNoMeta bytes × HasMetaHeader bytes × (u32_at bytes 16 ≢ 1)
-RefusesMeta bytes Damaged = SaysNoMeta bytes × (HasMetaHeader bytes → u32_at bytes 16 ≡ 1)
+RefusesMeta bytes Version = SaysNoMeta bytes × HasMetaHeader bytes × IsUnknown (u32_at bytes 16)
+RefusesMeta bytes Damaged =
+    SaysNoMeta bytes × (HasMetaHeader bytes → IsUnknown (u32_at bytes 16) → ⊥)
 RefusesMeta bytes _ = ⊥
 
 -- why a file is refused: its meta page, and then where it was to be emptied
@@ -193,7 +193,8 @@ KeepsMeta how sectors start kept =
     ⊎ (Makes how sectors start × (kept ≡ meta_of (fresh_placement (bounds_of how))))
 
 -- an image at the start stood for this map and these bounds
-pub record StoodFor (pages : ℕ) (start : Candidates) (map : Contents) (bounds : Bounds) : Type 0 where
+pub record StoodFor (pages : ℕ) (start : Candidates) (map : Contents)
+    (bounds : Bounds) : Type 0 where
   pub image : Image
   pub at_start : IsImageOf start image
   pub stands : ImageStandsFor (settled pages image) map bounds

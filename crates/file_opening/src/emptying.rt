@@ -1,7 +1,6 @@
 //! The emptying of a database that is there.
 
 ghost use Rattle.std.specs.Prelude.{◌≡◌, ◌≢◌, ◌⊎◌, ◌↔◌, ◌≤◌, ◌<◌, ◌+◌, ◌/◌, ◌∷◌, [], true, IfOk, IfErr, OnOk, OnErr, IsErrOf, None, Some, map};
-ghost use Rattle.dbm_model.specs.Bounds.{in_v1};
 ghost use Rattle.dbm_fault.specs.Among.{IsErrAmong};
 ghost use Rattle.std.specs.FinMap.{empty};
 ghost use Rattle.sect_dev.specs.Device.{Image, IsImageOf, LeavesOnly, MoreFaults};
@@ -19,11 +18,11 @@ ghost use Rattle.redo_area.specs.Opening.{IsFresh as IsFreshStore};
 ghost use Rattle.redo_area.specs.Pagers.{device_of};
 ghost use Rattle.seg_table.specs.MetaPages.{model_meta};
 ghost use Rattle.page_commit.specs.Committing.{Holds, IsForgotten};
-ghost use Rattle.file_opening.specs.Opening.{emptying_fault};
+ghost use Rattle.file_opening.specs.Opening.{emptying_fault, bounds_of};
 ghost use Rattle.file_opening.specs.OpenFiles.{device_left, IsJustOpened, StandsAs};
 
 use crate::making::{pages_of_empty, room_refusal};
-use crate::{Fault, OpenFile};
+use crate::{Fault, OpenFile, OpenHow};
 use page_commit::finish;
 use page_io::{Page, PageFault, PageStore};
 use redo_area::Pager;
@@ -52,7 +51,8 @@ fn commit_empty<S: PageStore>(store: &mut S, meta: &Meta) -> Result<(), PageFaul
     requires usable { (S.state store.old).usable ≡ true }
     requires writable { (S.state store.old).writable ≡ true }
     requires limited { (1 ≤ meta.now.limit) × (meta.now.limit ≤ 1000000) }
-    requires fresh { model_meta meta.now ≡ placement_meta (fresh_placement (in_v1 meta.now.limit)) }
+    requires fresh { model_meta meta.now ≡ placement_meta
+        (fresh_placement (model_meta meta.now).bounds) }
     ensures ok { OnOk result (S.state store.new ≡ record (S.state store.old) { end = 4 }) }
     ensures err { IfErr result (IsForgotten (S.state store.old) (S.state store.new)) }
     ensures cause { HasDeviceCause (S.faults store.old) (S.faults store.new) result }
@@ -67,7 +67,7 @@ fn commit_empty<S: PageStore>(store: &mut S, meta: &Meta) -> Result<(), PageFaul
         → LeavesOnly S.moment S.settled_since store.old store.new
         (λ now. (now ≡ file_of (S.committed store.old)) ⊎
         (((S.state store.old).end + 3 ≤ (S.state store.old).capacity)
-        × ImageStandsFor now empty (in_v1 meta.now.limit))) }
+        × ImageStandsFor now empty (model_meta meta.now).bounds)) }
     ensures unchanged { S.honest store.old
         → OnErr result ((S.state store.new).usable ≡ true
         → LeavesOnly S.moment S.settled_since store.old store.new
@@ -77,10 +77,11 @@ fn commit_empty<S: PageStore>(store: &mut S, meta: &Meta) -> Result<(), PageFaul
     finish(store, staged)
 }
 
-/// The database of a file, emptied and with this limit, or the device and why it was not.
+/// The database of a file, emptied and of the limit and the version that are asked for, or the
+/// device and why it was not.
 pub fn emptied<D: SectorDev>(
     store: Pager<D>,
-    limit: u32,
+    how: OpenHow,
     sectors: u32,
 ) -> Result<OpenFile<Pager<D>>, (D, Fault)>
     requires sectors { sectors ≡ D.sectors (device_of store) }
@@ -91,17 +92,18 @@ pub fn emptied<D: SectorDev>(
         → LeavesOnly D.moment (IsOutcome D.left_since (settled (D.sectors (device_of store) / 4)))
         (device_of store) (device_left result)
         (λ now. (now ≡ file_of (⟦<Pager<D> as PageStore>⟧.committed store)) ⊎
-        ((emptying_fault (in_v1 limit) (D.sectors (device_of store))
+        ((emptying_fault (bounds_of how) (D.sectors (device_of store))
         (⟦<Pager<D> as PageStore>⟧.state store).end ≡ None)
-        × ImageStandsFor now empty (in_v1 limit))) }
+        × ImageStandsFor now empty (bounds_of how))) }
     ensures room { IfOk result (λ file.
-        emptying_fault (in_v1 limit) (D.sectors (device_of store))
+        emptying_fault (bounds_of how) (D.sectors (device_of store))
         (⟦<Pager<D> as PageStore>⟧.state store).end ≡ None) }
-    ensures stands { D.honest (device_of store) → IfOk result (λ file. StandsAs file empty (in_v1 limit)) }
+    ensures stands { D.honest (device_of store)
+        → IfOk result (λ file. StandsAs file empty (bounds_of how)) }
     ensures meta { IfOk result (λ file.
-        model_meta file.meta ≡ placement_meta (fresh_placement (in_v1 limit))) }
+        model_meta file.meta ≡ placement_meta (fresh_placement (bounds_of how))) }
     ensures refused { IfErr result
-        (λ e. e.1 ≢ Fault.Device → (emptying_fault (in_v1 limit) (D.sectors (device_of store))
+        (λ e. e.1 ≢ Fault.Device → (emptying_fault (bounds_of how) (D.sectors (device_of store))
         (⟦<Pager<D> as PageStore>⟧.state store).end ≡ Some e.1) ⊎ (e.1 ≡ Fault.Memory)) }
     ensures left { D.honest (device_of store)
         → IfErr result (λ e. e.1 ≢ Fault.Device → (after : Image)
@@ -117,11 +119,11 @@ pub fn emptied<D: SectorDev>(
     ensures later { D.faults (device_of store) ≤ D.faults (device_left result) }
     ensures size { D.sectors (device_left result) / 4 ≡ D.sectors (device_of store) / 4 }
 {
-    if let Some(fault) = room_refusal(limit, sectors) {
+    if let Some(fault) = room_refusal(how, sectors) {
         return Err((store.into_dev(), fault));
     }
     let mut store = store;
-    let meta = Meta::of_empty(limit, 2);
+    let meta = Meta::of_empty(how.limit, how.version, 2);
     match commit_empty(&mut store, &meta) {
         Ok(()) => Ok(OpenFile {
             store,

@@ -12,4 +12,4 @@ pub use dbm_fault::Fault;
 pub use file::OpenFile;
 pub use open_how::{Access, OpenHow};
 pub use opening::open_file;
-pub use sizes::needed_sectors;
+pub use sizes::{needed_sectors, needed_sectors_of};

@@ -2,7 +2,6 @@
 
 ghost use Rattle.std.specs.Prelude.{◌≡◌, ◌≢◌, ◌⊎◌, ◌↔◌, ◌≤◌, ◌/◌, ◌∷◌, [], true, IfOk, IfErr, IfSome, Some, None, Err, map};
 ghost use Rattle.std.specs.FinMap.{empty};
-ghost use Rattle.dbm_model.specs.Bounds.{in_v1};
 ghost use Rattle.sect_dev.specs.Device.{Image, IsImageOf, LeavesOnly, MoreFaults};
 ghost use Rattle.page_model.specs.Meaning.{said_by};
 ghost use Rattle.page_model.specs.Pages.{MetaPage};
@@ -17,7 +16,7 @@ ghost use Rattle.seg_table.specs.MetaPages.{model_meta};
 ghost use Rattle.file_opening.specs.Opening.{room_fault, making_fault, bounds_of};
 ghost use Rattle.file_opening.specs.OpenFiles.{device_left, IsJustOpened, StandsAs};
 
-use crate::{Fault, OpenFile, OpenHow, needed_sectors};
+use crate::{Fault, OpenFile, OpenHow, needed_sectors_of};
 use page_io::{Page, PageStore};
 use redo_area::Pager;
 use sect_dev::SectorDev;
@@ -28,11 +27,12 @@ use std::alloc::Global;
 /// The kind of a bucket's head page.
 const HEAD: u8 = 3;
 
-/// What refuses a database of this limit on a device of so many sectors.
-pub fn room_refusal(limit: u32, sectors: u32) -> Option<Fault>
-    ensures { result ≡ room_fault (sectors_for (in_v1 limit)) sectors }
+/// What refuses a database of the limit and the version that are asked for on a device of so many
+/// sectors.
+pub fn room_refusal(how: OpenHow, sectors: u32) -> Option<Fault>
+    ensures { result ≡ room_fault (sectors_for (bounds_of how)) sectors }
 {
-    match needed_sectors(limit) {
+    match needed_sectors_of(how.version, how.limit) {
         None => Some(Fault::BadLimit),
         Some(needed) if sectors < needed => Some(Fault::TooSmall),
         Some(_) => None,
@@ -49,15 +49,16 @@ fn making_refusal(how: OpenHow, sectors: u32) -> Option<Fault>
     if !how.access.is_writable() {
         return Some(Fault::ReadOnly);
     }
-    room_refusal(how.limit, sectors)
+    room_refusal(how, sectors)
 }
 
 /// The pages of a new file: the meta page, one segment page with one head, and that head page,
 /// which is empty.
 pub fn pages_of_empty(meta: &Meta) -> [Page; 3]
     requires limited { (1 ≤ meta.now.limit) × (meta.now.limit ≤ 1000000) }
-    requires fresh { model_meta meta.now ≡ placement_meta (fresh_placement (in_v1 meta.now.limit)) }
-    ensures stands { FileStandsFor (bytes_of result) empty (in_v1 meta.now.limit) }
+    requires fresh { model_meta meta.now ≡ placement_meta
+        (fresh_placement (model_meta meta.now).bounds) }
+    ensures stands { FileStandsFor (bytes_of result) empty (model_meta meta.now).bounds }
     ensures meta { said_by (page_of (bytes_of result)) 1 ≡ MetaPage (model_meta meta.now) }
     ensures numbers { map own_number (bytes_of result) ≡ 1 ∷ 2 ∷ 3 ∷ [] }
 {
@@ -103,7 +104,7 @@ pub fn made<D: SectorDev>(
     if let Some(fault) = making_refusal(how, dev.capacity()) {
         return Err((dev, fault));
     }
-    let meta = Meta::of_empty(how.limit, 2);
+    let meta = Meta::of_empty(how.limit, how.version, 2);
     match Pager::format(alloc, dev, &pages_of_empty(&meta)) {
         Ok(store) => Ok(OpenFile {
             store,

@@ -2,6 +2,8 @@
 ghost use Rattle.std.specs.Prelude.{◌≡◌};
 ghost use Rattle.file_opening.specs.Opening.{writes, is_exclusive};
 
+use page_io::Version;
+
 /// What an opened database may be asked to do (POSIX: the access mode of the open flags).
 #[derive(Clone, Copy, Debug, PartialEq, Eq)]
 pub enum Access {
@@ -34,11 +36,13 @@ pub struct OpenHow {
     pub create: bool,
     /// With `create`: refuse a device that isn't blank (POSIX: O_EXCL).
     pub exclusive: bool,
-    /// Make a database that is there empty, with a new limit (POSIX: O_TRUNC).
+    /// Make a database that is there empty, with a new limit and version (POSIX: O_TRUNC).
     pub truncate: bool,
     /// How many pairs a database that is made or emptied may have: 1 to 1,000,000. It is looked at
     /// in no other case.
     pub limit: u32,
+    /// The version of a database that is made or emptied. It is looked at in no other case.
+    pub version: Version,
 }
 
 impl OpenHow {

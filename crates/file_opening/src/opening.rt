@@ -40,14 +40,15 @@ const MIN_SECTORS: u32 = 16;
 ///    reading, nothing is written and nothing synced: the pages of such a commit are read into
 ///    memory, where `Memory` may come.
 /// 3. Where the device is blank: `NotADatabase` without `create`, `ReadOnly` where it is opened for
-///    reading, `BadLimit` outside 1 to 1,000,000, `TooSmall` below `needed_sectors`, and `Device`
-///    while the empty database is made.
+///    reading, `BadLimit` outside 1 to 1,000,000, `TooSmall` below `needed_sectors_of` the version
+///    and the limit, and `Device` while the empty database is made.
 /// 4. Where it isn't: `Exists` with `create` and `exclusive`, whatever it holds; `NotADatabase`
 ///    where the first sector has another magic, `Damaged` where it or a redo image breaks a rule.
-/// 5. The meta page's faults, `Version` and `Damaged`.
+/// 5. The meta page's faults, `Version` where it tells neither version 1 nor 2, and `Damaged`.
 /// 6. With `truncate`: `BadLimit` and `TooSmall` as above, then `Memory`, `NoRoom` or `Device`
 ///    while the database is emptied in one commit.
 ///
+/// A database that is there and isn't emptied keeps its limit and its version, whatever `how` has.
 /// A stop within it leaves the database that was there, or the empty one that was asked for.
 pub fn open_file<D: SectorDev>(
     alloc: Global,
@@ -253,7 +254,7 @@ fn found_or_emptied<D: SectorDev>(
         return found;
     }
     match found {
-        Ok(file) => emptied(file.store, how.limit, sectors),
+        Ok(file) => emptied(file.store, how, sectors),
         Err(refused) => Err(refused),
     }
 }

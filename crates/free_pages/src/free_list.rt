@@ -74,11 +74,17 @@ pub fn take<S: PageStore>(store: &mut S, space: &mut FreeState) -> Result<u32, P
     ensures answer { IsTakeAnswer (S.state store.old) space.old result }
     ensures err { OnErr result (space.new ≡ space.old) }
     ensures number { IfOk result (λ n. 1 ≤ n) }
+    ensures grown { OnOk result (space.new.file_end ≤ space.old.file_end + 1) }
     ensures taken { S.honest store.old
         → IfOk result (λ n. IsTaken (body_at S.PageStore store.old) space.old n space.new) }
     ensures ends { HasEnds space.old → HasEnds space.new }
     ensures may_end { MayEnd (S.state store.old) space.old.file_end
         → IfOk result (λ n. MayEndWith (S.state store.old) n space.new.file_end) }
+
+    // The page is known and the end stays, or it is the page at the end.
+    ensures place { IfOk result (λ n.
+        (IsKnown (S.state store.old) n × (space.new.file_end ≡ space.old.file_end))
+        ⊎ ((n ≡ space.old.file_end) × (space.new.file_end ≡ space.old.file_end + 1))) }
 
     // On a free list that is read as one it takes what the placement takes, and is never Damaged.
     ensures exact { S.honest store.old → (s : Space)

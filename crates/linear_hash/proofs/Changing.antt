@@ -141,10 +141,19 @@ pub lacks_twice : (st : StoreState) (end capacity : ℕ) → LacksPages st end �
 lacks_twice st end capacity lacks le few same = omega (arith, lacks, le, few, same)
 
 -- that is less than two bounds on them allow for
-pub short_by : (capacity end most old pairs : ℕ) → capacity < 2 * end → end ≤ most
-    → end ≤ old + pairs + 4 → (capacity < 2 * most) × (capacity < 2 * (old + pairs) + 8)
-short_by capacity end most old pairs short bounded few =
+pub short_by : (capacity end most old pairs taken : ℕ) → capacity < 2 * end → end ≤ most
+    → end ≤ old + pairs + taken
+    → (capacity < 2 * most) × (capacity < 2 * (old + pairs + taken))
+short_by capacity end most old pairs taken short bounded few =
     (omega (arith, short, bounded), omega (arith, short, few))
+
+-- what holds of what was staged holds where it was committed
+pub ok_then : (P : Type 0) (A : PageFault → Type 0) (r : Result ℕ PageFault)
+    (result : Result Unit PageFault) → IfErr r (λ e. (result ≡ Err e) × A e) → OnOk r P
+    → OnOk result P
+ok_then P A (Ok end) (Ok done) refused holds = holds
+ok_then P A r (Err e) refused holds = tt
+ok_then P A (Err e) (Ok done) refused holds = absurd (let x = refused.0 in cc)
 
 module _ {S : Type 0} (s : Ghosts S) (old mid new : S) (r : Result ℕ PageFault)
     (result : Result Unit PageFault) (stages : StagesOnly s old mid) where
@@ -202,29 +211,29 @@ module _ {S : Type 0} (s : Ghosts S) (old mid new : S) (r : Result ℕ PageFault
         (s.settles_to old) (stages.kept honest).any_moment (λ y is. before y (only y is))
 
     -- at every moment an image stands for the old map or for the new one
-    pub leaves_either : IfOk r (λ end.
-        FileStandsFor (committed_with (s.committed mid) (s.state mid).staged end) changed bounds)
+    pub leaves_either : (wanted : Bounds) → IfOk r (λ end.
+        FileStandsFor (committed_with (s.committed mid) (s.state mid).staged end) changed wanted)
         → LeavesOnly s.moment s.settled_since mid new
         (λ settled. (settled ≡ file_of (s.committed mid))
         ⊎ IsOkAnd r (λ end. settled ≡ file_of
         (committed_with (s.committed mid) (s.state mid).staged end)))
-        → LeavesOnly s.moment s.settled_since old new (StandsForEither map changed bounds)
-    leaves_either then run =
-        followed_by s.moment s.settled_since old mid new (StandsForEither map changed bounds) _
-        (weaker s.moment s.settled_since old mid (StandsForEither map changed bounds)
+        → LeavesOnly s.moment s.settled_since old new (StandsForEither map bounds changed wanted)
+    leaves_either wanted then run =
+        followed_by s.moment s.settled_since old mid new (StandsForEither map bounds changed wanted)
+        _ (weaker s.moment s.settled_since old mid (StandsForEither map bounds changed wanted)
         (λ settled. ImageStandsFor settled map bounds) staging (λ y is. inl is)) run
         (λ y is. ⊎_elim (λ e. inl (before y (e ∙ ap file_of same_pages)))
         (λ e. inr (by_case r then y e)) is)
       where
         by_case : (r : Result ℕ PageFault)
             → IfOk r (λ end. FileStandsFor
-            (committed_with (s.committed mid) (s.state mid).staged end) changed bounds)
+            (committed_with (s.committed mid) (s.state mid).staged end) changed wanted)
             → (y : Settled)
             → IsOkAnd r (λ end. y ≡ file_of
             (committed_with (s.committed mid) (s.state mid).staged end))
-            → ImageStandsFor y changed bounds
+            → ImageStandsFor y changed wanted
         by_case (Ok end) then y is = subst
-            (λ (z : Settled). ImageStandsFor z changed bounds) (sym is) then
+            (λ (z : Settled). ImageStandsFor z changed wanted) (sym is) then
         by_case (Err e) then y is = absurd is
 
     -- and where it was refused and nothing broke, for the old one

@@ -1,30 +1,33 @@
 -- A placement midway in a change: one key deleted, one pair put.
-use Rattle.std.proofs.Common.{◌≡◌, ℕ, ◌+◌, ◌<◌, ◌≤◌, true, false, List, [], ◌∷◌, cond, length, set, get_or, length-set, get_or-set_same, Option, Some, None, is_some, refl, sym, ap, subst, ◌∙◌, arith}
-use Rattle.std.specs.Prelude.{All}
+use Rattle.std.proofs.Common.{is_eq, zero, suc, Bool, map, flat_map, ◌^◌, ◌≡◌, ℕ, ◌+◌, ◌<◌, ◌≤◌, true, false, List, [], ◌∷◌, cond, length, set, get_or, length-set, get_or-set_same, Option, Some, None, is_some, refl, sym, ap, subst, ◌∙◌, arith}
+use Rattle.std.specs.List.{AllByRecursion}
 use Rattle.std.specs.FinMap.{get, get-from_entries}
+use Rattle.std.specs.Cmp.{tied_itself}
 use Rattle.std.proofs.lemmas.Cmp.{nat_list_cmp_total}
 use Rattle.std.proofs.lemmas.List.{get_or-map}
 use Rattle.std.proofs.lemmas.List.Sums.{sum_by-cons}
-use Rattle.dbm_model.specs.Bounds.{V1}
+use Rattle.dbm_model.specs.Bounds.{Version, Bounds}
 use Rattle.page_model.specs.Address.{address, hash_of}
-use Rattle.page_model.specs.Numbers.{IsNumber}
 use Rattle.page_model.specs.Pages.{Meta, Body}
-use Rattle.dbm_model.specs.Pairs.{Key, Pair, IsAllowed}
+use Rattle.dbm_model.specs.Pairs.{Key, Pair, is_far, IsAllowed}
+use Rattle.dbm_model.specs.Steps.{holds_far}
 use Rattle.page_model.specs.PairLists.{has_key, times}
-use Rattle.page_model.specs.Chain.{Chain, numbers, pairs_in, remove}
+use Rattle.page_model.specs.Chain.{Entry, Chain, pages_long, numbers, entries_in, pairs_in, remove, IsEntry}
+use Rattle.page_model.proofs.Chains.{pairs_of_entries, AllByRecursion-left, AllByRecursion-right}
+use Rattle.bucket_chain.specs.Changes.{LacksFar}
 use Rattle.page_model.specs.Placement.{Placement, contents, pairs_of, key_bucket, chain_at, put, delete, IsSound}
 use Rattle.page_model.specs.PageBodies.{first_of, heads_of}
 use Rattle.page_model.proofs.AddressLemmas.{address_below}
 use Rattle.page_model.proofs.Absent.{delete_absent}
 use Rattle.page_model.proofs.PairLists.{value_in, sum_by-flat_map-set}
-use Rattle.page_model.proofs.Places.{times_none, value_at, delete_sound, put_sound}
+use Rattle.page_model.proofs.Places.{times_none, value_at, delete_sound, put_is_sound}
 use Rattle.page_io.specs.Store.{StoreState}
 use Rattle.page_io.specs.Views.{body_at, ReadsOnly, MayEnd}
 use Rattle.page_io.specs.declared.store.PageStore.{Ghosts}
 use Rattle.page_io.proofs.Views.{same_said}
 use Rattle.free_pages.specs.declared.free_state.FreeState.{FreeState}
 use Rattle.seg_table.specs.Heads.{AreHeads}
-use Rattle.bucket_chain.specs.Changes.{IsPlaced, BecomesPlaced, remove_from, put_in}
+use Rattle.bucket_chain.specs.Changes.{IsPlaced, BecomesPlaced, remove_from, put_pair}
 use Rattle.bucket_chain.specs.Placements.{placed_for}
 use Rattle.bucket_chain.proofs.PlacedChains.{puts_placements, removals_placements}
 use Rattle.linear_hash.specs.Tables.{shape_in}
@@ -76,21 +79,92 @@ head_kept : (key : Key) (chain : Chain)
 head_kept key [] = refl
 head_kept key (leaf ∷ rest) = refl
 
+-- ---- contents that lie in pages of their own
+
+own_times_one : (key : Key) (pair : Pair) → pair.0 ≡ key → cond {A = ℕ} (has_key key pair) 1 0 ≡ 1
+own_times_one key pair same =
+    ap (λ (b : Bool). cond {A = ℕ} b 1 0)
+    (ap (λ (k : Key). has_key k pair) (sym same) ∙ ap is_eq (tied_itself nat_list_cmp_total pair.0))
+
+own_times : (key : Key) (pair : Pair) → pair.0 ≡ key → 1 ≤ cond {A = ℕ} (has_key key pair) 1 0
+own_times key pair same = omega (arith, own_times_one key pair same)
+
+near_pages : (version : Version) (e : Entry) → IsEntry version e → is_far e.pair ≡ false
+    → e.pages ≡ []
+near_pages version e is near = no_pages e.pages
+    (is.paged ∙ ap (λ (b : Bool). cond b (pages_long (length e.pair.1)) 0) near)
+  where
+    no_pages : (pages : List ℕ) → length pages ≡ 0 → pages ≡ []
+    no_pages [] none = refl
+    no_pages (n ∷ pages) none = absurd (omega (arith, none))
+
+-- a key that is nowhere among them has no such content
+none_lacks : (key : Key) (entries : List Entry)
+    → times key (map (λ (e : Entry). e.pair) entries) ≡ 0
+    → AllByRecursion (λ e. e.pair.0 ≡ key → e.pages ≡ []) entries
+none_lacks key [] none = tt
+none_lacks key (e ∷ entries) none =
+    let more = sum_by-cons (λ pair. cond (has_key key pair) 1 0) e.pair
+    (map (λ (e : Entry). e.pair) entries) in (
+      λ same. absurd (omega (arith, none, more, own_times key e.pair same)),
+      none_lacks key entries (omega (arith, none, more)),
+    )
+
+-- of entries with the key once at most, where what the key has is near
+lacks_far : (version : Version) (key : Key) (entries : List Entry)
+    → AllByRecursion (IsEntry version) entries
+    → times key (map (λ (e : Entry). e.pair) entries) ≤ 1
+    → holds_far key (value_in key (map (λ (e : Entry). e.pair) entries)) ≡ false
+    → AllByRecursion (λ e. e.pair.0 ≡ key → e.pages ≡ []) entries
+lacks_far version key [] entered once near = tt
+lacks_far version key (e ∷ entries) entered once near =
+    by_key (has_key key e.pair) refl (lacks_far version key entries entered.1)
+  where
+    rest : List Pair
+    rest = map (λ (e : Entry). e.pair) entries
+
+    more : times key (e.pair ∷ rest) ≡ cond (has_key key e.pair) 1 0 + times key rest
+    more = sum_by-cons (λ pair. cond (has_key key pair) 1 0) e.pair rest
+
+    by_key : (t : Bool) → has_key key e.pair ≡ t
+        → (times key rest ≤ 1 → holds_far key (value_in key rest) ≡ false
+        → AllByRecursion (λ e. e.pair.0 ≡ key → e.pages ≡ []) entries)
+        → AllByRecursion (λ e. e.pair.0 ≡ key → e.pages ≡ []) (e ∷ entries)
+    by_key true is others =
+        let one = ap (λ (b : Bool). cond {A = ℕ} b 1 0) is in
+        let here = ap (λ (b : Bool). holds_far key (cond b (Some e.pair.1) (value_in key rest)))
+        (sym is) ∙ near in (
+          λ same. near_pages version e entered.0
+              (ap (λ (k : Key). is_far (k, e.pair.1)) same ∙ here),
+          none_lacks key entries (omega (arith, once, more, one)),
+        )
+    by_key false is others =
+        let none = ap (λ (b : Bool). cond {A = ℕ} b 1 0) is in
+        let later = ap (λ (b : Bool). holds_far key (cond b (Some e.pair.1) (value_in key rest)))
+        (sym is) ∙ near in (
+          λ same. absurd (omega (arith, none, own_times_one key e.pair same)),
+          others (omega (arith, once, more, none)) later,
+        )
+
 module _ (at : ℕ → Body) (m : Meta) (space : FreeState) (p : Placement)
-    (mid : IsMidway at m space p) (used : All (λ n. (0 < n) × IsNumber n) m.segments) where
+    (mid : IsMidway at m space p) (below : space.file_end < 2 ^ 32) where
+  pub midway_small : p.space.end ≤ 2 ^ 32
+  midway_small = omega (arith, below, ap (λ (s : FreeState). s.file_end) mid.below.kept)
+
   pub midway_heads : AreHeads at m (heads_of p.chains)
-  midway_heads = buckets.heads_are at m p mid.sound used mid.below.are_read mid.shape_is
-      mid.segments_are
+  midway_heads = buckets.heads_are at m p mid.sound midway_small mid.below.are_read mid.shape_is
+      mid.segments_are mid.bounds_are
 
   module _ (key : Key) (bucket : ℕ) (is : bucket ≡ address (shape_in m) (hash_of key)) where
     pub midway_below : bucket < length (heads_of p.chains)
-    midway_below = buckets.bucket_heads at m p mid.sound used mid.below.are_read mid.shape_is
-        mid.segments_are key bucket is
+    midway_below = buckets.bucket_heads at m p mid.sound midway_small mid.below.are_read
+        mid.shape_is
+        mid.segments_are mid.bounds_are key bucket is
 
     pub midway_chain : (head : ℕ) → head ≡ get_or (heads_of p.chains) bucket 0
-        → IsPlaced at space head (chain_at p (key_bucket p.shape key)) p.space
-    midway_chain head head_is = buckets.placed at m p mid.sound used mid.below.are_read mid.shape_is
-        mid.segments_are key bucket is space head mid.below.kept head_is
+        → IsPlaced m.bounds.version at space head (chain_at p (key_bucket p.shape key)) p.space
+    midway_chain head head_is = buckets.placed at m p mid.sound midway_small mid.below.are_read
+        mid.shape_is mid.segments_are mid.bounds_are key bucket is space head mid.below.kept head_is
 
   pub midway_once : (key : Key) → times key (pairs_in (chain_at p (key_bucket p.shape key))) ≤ 1
   midway_once key =
@@ -115,12 +189,37 @@ module _ (at : ℕ → Body) (m : Meta) (space : FreeState) (p : Placement)
           mid.sound.all_buckets mid.sound.in_place)
           ∙ sym (get-from_entries nat_list_cmp_total (pairs_of p) key)) ∙ has
 
+  -- where what the map has at a key is near, its chain has no far content of it
+  pub midway_near : (key : Key) → holds_far key (get (contents p) key) ≡ false
+      → LacksFar key (chain_at p (key_bucket p.shape key))
+  midway_near key near =
+      let chain = chain_at p (key_bucket p.shape key) in
+      let pairs = pairs_of_entries chain in
+      let at_key = get-from_entries nat_list_cmp_total (pairs_of p) key
+      ∙ value_at p.shape p.chains key mid.sound.split_in mid.sound.all_buckets mid.sound.in_place in
+      lacks_far p.bounds.version key (entries_in chain)
+      (all_set_at p.chains (key_bucket p.shape key) (bucket_in p mid.sound key) mid.sound.entered)
+      (subst (λ (ps : List Pair). times key ps ≤ 1) pairs (midway_once key))
+      (ap (λ (ps : List Pair). holds_far key (value_in key ps)) (sym pairs)
+      ∙ ap (holds_far key) (sym at_key) ∙ near)
+    where
+      all_set_at : (chains : List Chain) (i : ℕ) → i < length chains
+          → AllByRecursion (IsEntry p.bounds.version) (flat_map entries_in chains)
+          → AllByRecursion (IsEntry p.bounds.version) (entries_in (get_or chains i []))
+      all_set_at [] i lt all = absurd (omega (arith, lt))
+      all_set_at (c ∷ chains) zero lt all =
+          AllByRecursion-left (IsEntry p.bounds.version) (entries_in c) (flat_map entries_in chains)
+          all
+      all_set_at (c ∷ chains) (suc i) lt all = all_set_at chains i (omega (arith, lt))
+          (AllByRecursion-right (IsEntry p.bounds.version) (entries_in c)
+          (flat_map entries_in chains) all)
+
   -- a key taken out of its chain is deleted
   pub midway_deleted : (at' : ℕ → Body) (space' : FreeState) (key : Key)
       → BecomesPlaced at at' space' (remove_from (placed_for p key) key)
       → IsMidway at' m space' (delete p key)
   midway_deleted at' space' key becomes = record {
-    sound = delete_sound p mid.sound key;
+    sound = delete_sound [] p mid.sound key;
     below = removals_placements at at' space space' p key mid.sound mid.below becomes;
     shape_is = mid.shape_is;
     segments_are = mid.segments_are;
@@ -128,12 +227,14 @@ module _ (at : ℕ → Body) (m : Meta) (space : FreeState) (p : Placement)
   }
 
   -- a pair whose key is nowhere, put into its chain
-  pub midway_put : (at' : ℕ → Body) (space' : FreeState) (pair : Pair) → IsAllowed V1 pair
+  pub midway_put : (at' : ℕ → Body) (space' : FreeState) (pair : Pair)
+      → IsAllowed m.bounds.version pair
       → value_in pair.0 (pairs_of p) ≡ None
-      → BecomesPlaced at at' space' (put_in (placed_for p pair.0) pair)
+      → BecomesPlaced at at' space' (put_pair (placed_for p pair.0) pair)
       → IsMidway at' m space' (put p pair)
-  midway_put at' space' pair small none becomes =
-      let sound = put_sound p mid.sound pair small none in
+  midway_put at' space' pair allowed none becomes =
+      let sound = put_is_sound [] p mid.sound pair
+      (subst (λ (b : Bounds). IsAllowed b.version pair) mid.bounds_are allowed) none in
       record {
         sound = sound;
         below = puts_placements at at' space space' p pair mid.sound sound mid.below becomes;

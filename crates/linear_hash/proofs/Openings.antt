@@ -1,24 +1,22 @@
 -- The pages that are changed where a bucket is opened.
-use Rattle.std.proofs.Common.{◌≡◌, inl, ℕ, zero, suc, ◌+◌, ◌-◌, ◌*◌, ◌/◌, ◌%◌, ◌^◌, ◌<◌, ◌≤◌, ◌==◌, Bool, true, false, cond, List, [], ◌∷◌, ◌++◌, length, take, drop, get_or, flat_map, set, sum_by, refl, sym, ap, ◌∙◌, subst, arith, eqb-true, eq-eqb, append-nil, length-append, length-set}
+use Rattle.std.proofs.Common.{◌≡◌, inl, ℕ, ◌+◌, ◌-◌, ◌*◌, ◌/◌, ◌^◌, ◌<◌, ◌≤◌, ◌==◌, Bool, true, false, cond, List, [], ◌∷◌, ◌++◌, length, take, drop, get_or, flat_map, set, sum_by, refl, sym, ap, ◌∙◌, subst, arith, length-append, length-set}
 use Rattle.std.specs.Prelude.{All}
 use Rattle.std.specs.List.{AllByRecursion}
-use Rattle.std.proofs.lemmas.Bool.{eqb-false, ne_eqb}
-use Rattle.std.proofs.lemmas.Bool.Decides.{nat_tests}
 use Rattle.std.proofs.lemmas.List.{length-map}
 use Rattle.std.proofs.lemmas.List.Concat.{flat_map-append}
 use Rattle.std.proofs.lemmas.List.Sums.{sum_by-append, sum_by-cons}
-use Rattle.page_model.specs.Pages.{Meta, Body, HeadPage, NumberedBody, bucket}
+use Rattle.dbm_model.specs.Bounds.{Version, V1, Bounds}
+use Rattle.page_model.specs.Pages.{Meta, Body, HeadPage, NumberedBody, Bucket, bucket}
 use Rattle.page_model.specs.Reading.{body_of, bucket_of}
 use Rattle.page_model.specs.Address.{Shape}
 use Rattle.page_model.specs.Numbers.{IsNumber}
-use Rattle.page_model.specs.Chain.{Chain, numbers}
-use Rattle.dbm_model.specs.Sizes.{segments_for}
+use Rattle.page_model.specs.Chain.{Chain, numbers, entries_in, pages_of, pages_in}
 use Rattle.page_model.specs.Space.{Space, next_page, after_take, give, is_page, times_of}
 use Rattle.page_model.specs.Placement.{Placement, chain_at, bare, bared, opened, IsSound}
 use Rattle.page_model.specs.Placement as placement
 use Rattle.page_model.specs.PageBodies.{first_of, chain_bodies, free_bodies, segment_bodies, heads_of, meta_of, AreRead}
 use Rattle.page_model.specs.Rewrites.{AreRewritten, last_segment, new_head, opened_bodies}
-use Rattle.page_model.specs.Valid.{meta_buckets}
+use Rattle.page_model.specs.Valid.{meta_buckets, IsOf}
 use Rattle.page_model.proofs.PairLists.{sum_by-flat_map-set}
 use Rattle.page_model.proofs.Chains.{AllByRecursion-append, AllByRecursion-right}
 use Rattle.page_model.proofs.Flat.{numbers-chain_bodies, numbers-segments, numbers-free}
@@ -26,15 +24,15 @@ use Rattle.page_model.proofs.Frames.{kept, at_most_one}
 use Rattle.page_model.proofs.Openings.{segments_split, taken_dropped, touched, places, heads_opened, open_rewrites}
 use Rattle.page_model.proofs.Spaces.{times_head, times_tail}
 use Rattle.page_model.proofs.Splits.{headed_pages, opened_sound}
-use Rattle.slot_page.specs.Contents.{IsBucketPage}
+use Rattle.slot_page.specs.Contents.{IsBucketPage, page_records}
 use Rattle.free_pages.specs.declared.free_state.FreeState.{FreeState}
 use Rattle.free_pages.specs.FreeList.{state_of, IsFreeList, IsApart}
 use Rattle.seg_table.specs.Heads.{CanSet, IsHeadSet, needs_segment, with_head}
 use Rattle.seg_table.specs.Placements.{HasHeads}
 use Rattle.seg_table.proofs.PlacementHeads.{placements_heads}
-use Rattle.chain_walks.specs.Links.{HaveDistinctKeys}
+use Rattle.content_pages.proofs.PageCounts.{times_both}
 use Rattle.bucket_chain.specs.Placements.{IsBelow}
-use Rattle.bucket_chain.specs.Changes.{IsPlaced, BecomesPlaced, store_in}
+use Rattle.bucket_chain.specs.Changes.{IsPlaced, AreHeld, HaveKeysOnce, BecomesPlaced, store_in}
 use Rattle.bucket_chain.proofs.Givings.{times_given}
 use Rattle.chain_walks.proofs.LinkBodies.{says_link}
 use Rattle.bucket_chain.proofs.PlacedChains.{chains_placed}
@@ -42,64 +40,7 @@ use Rattle.bucket_chain.proofs.Rewriting.{not_here}
 use Rattle.linear_hash.specs.Tables.{shape_in}
 use Rattle.linear_hash.specs.Staging.{IsMidway}
 use Rattle.linear_hash.specs.Splitting.{IsBucketOpened}
-
--- ---- lists of numbers
-
--- the page that is taken was the first free one or the one at the end
-free_split : (n : ℕ) (s : Space)
-    → times_of n s.free ≤ times_of n (next_page s ∷ []) + times_of n (after_take s).free
-free_split n s = by_free s.free s.end where
-  by_free : (free : List ℕ) (end : ℕ)
-      → times_of n free ≤ times_of n (next_page (record { free = free; end = end }) ∷ [])
-      + times_of n (after_take (record { free = free; end = end })).free
-  by_free [] end = omega arith
-  by_free (m ∷ rest) end = let f : ℕ → ℕ = λ k. cond (k == n) 1 0 in
-      omega (arith, sum_by-cons f m rest, sum_by-cons f m [])
-
--- the others are read as they were
-free_rest : (at : ℕ → Body) (s : Space) → AreRead at (free_bodies s.free)
-    → AreRead at (free_bodies (after_take s).free)
-free_rest at s = by_free s.free s.end where
-  by_free : (free : List ℕ) (end : ℕ) → AreRead at (free_bodies free)
-      → AreRead at (free_bodies (after_take (record { free = free; end = end })).free)
-  by_free [] end read = tt
-  by_free (m ∷ rest) end read = read.1
-
-end_some : (s : Space) → 1 ≤ s.end → 1 ≤ (after_take s).end
-end_some s = by_free s.free s.end where
-  by_free : (free : List ℕ) (end : ℕ) → 1 ≤ end
-      → 1 ≤ (after_take (record { free = free; end = end })).end
-  by_free [] end some = omega arith
-  by_free (m ∷ rest) end some = some
-
--- the last of a list stands in what is left of it
-last_there : (i : ℕ) (ns : List ℕ) → i < length ns → 1 ≤ times_of (get_or ns i 0) (drop i ns)
-last_there i [] lt = absurd (omega arith)
-last_there zero (n ∷ rest) lt = omega (arith, times_head n rest)
-last_there (suc i) (n ∷ rest) lt = last_there i rest (omega arith)
-
--- a number behind a list is left of it
-last_behind : (m n : ℕ) (ns : List ℕ)
-    → times_of m (n ∷ []) ≤ times_of m (drop (length ns) (ns ++ n ∷ []))
-last_behind m n [] = omega arith
-last_behind m n (k ∷ rest) = last_behind m n rest
-
--- a segment is opened for the same buckets
-opens_same : (b k : ℕ) → k ≡ segments_for b → (b / 508 == k) ≡ (b % 508 == 0)
-opens_same b k e = elim (b % 508 == 0) as (λ t. (b % 508 == 0) ≡ t → (b / 508 == k) ≡ t) [
-  | true ↦ λ t. let z = eqb-true _ _ t in eq-eqb (b / 508) k (omega arith)
-  | false ↦ λ t. let z : b % 508 ≡ 0 → ⊥ = eqb-false _ _ t in
-      ne_eqb (b / 508) k (λ same. omega arith)
-] refl
-
-one_more : (t : Bool) (ns : List ℕ) (n : ℕ) → cond t (ns ++ n ∷ []) ns ≡ ns ++ cond t (n ∷ []) []
-one_more true ns n = refl
-one_more false ns n = sym (append-nil ns)
-
--- the next bucket's head stands behind the others
-head_behind : (heads : List ℕ) (b head : ℕ) → b ≡ length heads
-    → with_head heads b head ≡ heads ++ head ∷ []
-head_behind heads b head same = grind (arith, nat_tests)
+use Rattle.linear_hash.proofs.OpenedNumbers.{free_split, free_rest, end_some, last_there, last_behind, opens_same, one_more, head_behind}
 
 -- ---- where a bucket is opened
 
@@ -120,7 +61,7 @@ module _ (p : Placement) (sound : IsSound p) where
 
   -- how often a page comes once the new bucket has its head
   headed_places : (m : ℕ) → times_of m p.segments
-      + times_of m (numbers (bared (chain_at p p.shape.split)))
+      + times_of m (pages_in (bared (chain_at p p.shape.split)))
       + times_of m ((new_head p).number ∷ []) + times_of m (headed_space p).free
       ≤ cond (is_page m (headed_space p).end) 1 0
   headed_places m =
@@ -128,29 +69,33 @@ module _ (p : Placement) (sound : IsSound p) where
       let chain = chain_at p p.shape.split in
       let cs = set p.chains p.shape.split (bared chain) in
       let a = (headed_pages p sound).once m in
-      let b = sum_by-append f (1 ∷ p.segments) (flat_map numbers (opened p).chains) in
+      let b = sum_by-append f (1 ∷ p.segments) (flat_map pages_in (opened p).chains) in
       let c = sum_by-cons f 1 p.segments in
-      let d = sum_by-flat_map-set f numbers p.chains p.shape.split (bared chain) [] split_below in
-      let e = sum_by-flat_map-set f numbers p.chains p.shape.split [] [] split_below in
-      let g = ap (sum_by f) (flat_map-append numbers cs ((new_head p ∷ []) ∷ []))
-      ∙ sum_by-append f (flat_map numbers cs) ((new_head p).number ∷ []) in
+      let d = sum_by-flat_map-set f pages_in p.chains p.shape.split (bared chain) [] split_below in
+      let e = sum_by-flat_map-set f pages_in p.chains p.shape.split [] [] split_below in
+      let g = ap (sum_by f) (flat_map-append pages_in cs ((new_head p ∷ []) ∷ []))
+      ∙ sum_by-append f (flat_map pages_in cs) ((new_head p).number ∷ []) in
+      let h = sum_by-append f (pages_of (entries_in chain))
+      (1 ∷ p.segments ++ flat_map pages_in (opened p).chains) in
       omega arith
 
   headed_once : (m : ℕ) → times_of m p.segments
-      + times_of m (numbers (bared (chain_at p p.shape.split)))
+      + times_of m (pages_in (bared (chain_at p p.shape.split)))
       + times_of m ((new_head p).number ∷ []) + times_of m (headed_space p).free ≤ 1
   headed_once m = omega (arith, headed_places m, at_most_one (is_page m (headed_space p).end))
 
   -- the pages that are given were apart from the free ones
-  pub given_apart : (at : ℕ → Body) (space : FreeState) (head : ℕ)
-      → IsPlaced at space head (chain_at p p.shape.split) p.space → IsApart [] (given_space p)
-  given_apart at space head placed m =
+  pub given_apart : (version : Version) (at : ℕ → Body) (space : FreeState) (head : ℕ)
+      → IsPlaced version at space head (chain_at p p.shape.split) p.space
+      → IsApart [] (given_space p)
+  given_apart version at space head placed m =
       let chain = chain_at p p.shape.split in
       omega (
         arith,
         placed.apart m,
         times_given m (drop 1 (numbers chain)) p.space,
         dropped m (numbers chain),
+        times_both m (numbers chain) (pages_of (entries_in chain)),
       )
     where
       dropped : (m : ℕ) (ns : List ℕ) → times_of m (drop 1 ns) ≤ times_of m ns
@@ -202,16 +147,30 @@ module _ (p : Placement) (sound : IsSound p) where
 
 -- the chain of the bucket that is split
 pub split_placed : (at : ℕ → Body) (m : Meta) (space : FreeState) (p : Placement) (head : ℕ)
-    → IsMidway at m space p → head ≡ first_of (numbers (chain_at p p.shape.split))
-    → IsPlaced at space head (chain_at p p.shape.split) p.space
-split_placed at m space p head midway from =
-    subst (λ (k : ℕ). IsPlaced at space k (chain_at p p.shape.split) p.space) (sym from)
-    (chains_placed at space p p.shape.split midway.sound midway.below
-    (split_below p midway.sound))
+    → IsMidway at m space p → space.file_end < 2 ^ 32
+    → head ≡ first_of (numbers (chain_at p p.shape.split))
+    → IsPlaced m.bounds.version at space head (chain_at p p.shape.split) p.space
+split_placed at m space p head midway small from =
+    subst (λ (b : Bounds). IsPlaced b.version at space head (chain_at p p.shape.split) p.space)
+    (sym midway.bounds_are)
+    (subst (λ (k : ℕ). IsPlaced p.bounds.version at space k (chain_at p p.shape.split) p.space)
+    (sym from)
+    (chains_placed at space [] p p.shape.split midway.sound
+    (omega (arith, small, ap (λ (s : FreeState). s.file_end) midway.below.kept)) midway.below
+    (split_below p midway.sound)))
 
--- a list of no pairs has no key twice
-pub no_keys : HaveDistinctKeys []
-no_keys i j d lt le = absurd (omega arith)
+-- a list of no entries has no key twice, and none of their pages meets the chain's
+pub no_keys : HaveKeysOnce []
+no_keys i j d lt le = absurd (omega (arith, le))
+
+pub none_held : (version : Version) (at : ℕ → Body) (space : FreeState) (head : ℕ) (chain : Chain)
+    (s : Space) → IsPlaced version at space head chain s → AreHeld version at (numbers chain) s []
+none_held version at space head chain s placed = record {
+  entered = tt;
+  are_read = tt;
+  apart = λ m. omega
+      (arith, placed.apart m, times_both m (numbers chain) (pages_of (entries_in chain)));
+}
 
 -- the segment pages say the heads
 pub midway_heads : (at : ℕ → Body) (m : Meta) (space : FreeState) (p : Placement)
@@ -231,8 +190,14 @@ next_bucket at m space p midway =
 pub says_head : (at : ℕ → Body) (bytes : List ℕ) (n : ℕ) → at n ≡ body_of n bytes
     → IsBucketPage bytes → bucket_of bytes ≡ bucket n 3 0 [] → at n ≡ HeadPage 0 []
 says_head at bytes n read page says =
-    (says_link at bytes n 3 0 [] read (inl refl)
-    (record { page = page; says = says; filled = λ four. absurd (omega arith) })).says
+    let none : AllByRecursion (IsOf V1) (page_records bytes) =
+    subst (λ (b : Bucket). AllByRecursion (IsOf V1) b.held) (sym says) tt in
+    (says_link V1 at bytes n 3 0 [] read (inl refl)
+    (record {
+      page = record { page = page; of_version = none };
+      says = says;
+      filled = λ four. absurd (omega arith);
+    })).says
 
 -- the free list once the bucket's overflow pages are given
 pub given_free : (p : Placement) (at0 at1 : ℕ → Body) (space1 : FreeState)
@@ -254,7 +219,7 @@ module _ (p : Placement) (sound : IsSound p) (at0 at1 at2 : ℕ → Body)
     other_head : (m : ℕ) → times_of m ((new_head p).number ∷ []) ≡ 0 → m ≡ n → ⊥
     other_head m none = not_here n m ((new_head p).number ∷ []) (omega (arith, is_head)) none
 
-    untouched : (m : ℕ) → times_of m (numbers (bared (chain_at p p.shape.split)))
+    untouched : (m : ℕ) → times_of m (pages_in (bared (chain_at p p.shape.split)))
         + times_of m ((new_head p).number ∷ []) + times_of m (headed_space p).free ≡ 0
         → at2 m ≡ at0 m
     untouched m none = others m (other_head m (omega arith))
@@ -362,7 +327,8 @@ module _ (p : Placement) (sound : IsSound p) (at0 at1 at2 : ℕ → Body)
           let d = free_bodies q.space.free in
           let later : (k : ℕ) → times_of k (q.segments) ≡ 0
           → times_of k ((new_head p).number ∷ []) ≡ 0 → at3 k ≡ at1 k
-          = λ (k : ℕ) (one : times_of k (q.segments) ≡ 0) (two : times_of k ((new_head p).number ∷ []) ≡ 0).
+          = λ (k : ℕ) (one : times_of k (q.segments) ≡ 0)
+          (two : times_of k ((new_head p).number ∷ []) ≡ 0).
           segment_alone k (omega (arith, one, taken_dropped k last q.segments))
           ∙ others k (other_head k two) in
           let a_read : AllByRecursion Q a =
@@ -399,9 +365,10 @@ module _ (p : Placement) (sound : IsSound p) (at0 at1 at2 : ℕ → Body)
       pub opened_now : IsBucketOpened at3 m' space3 p n
       opened_now = record {
         below = record {
-          are_read = open_rewrites p at0 at3 sound below.are_read rewritten;
+          are_read = (open_rewrites p at0 at3 sound below.are_read rewritten).0;
           kept = space_now;
         };
+        contents = (open_rewrites p at0 at3 sound below.are_read rewritten).1;
         segments_are = segments_now;
         head = taken.0;
       }

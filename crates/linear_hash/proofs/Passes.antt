@@ -189,7 +189,8 @@ module _ (at : ℕ → Body) (m : Meta) (end : ℕ) (p : Placement) (table : IsT
         left_next p table.good.sound low from bucket left next none
         (subst (λ (s : Shape). IsFollowing s bucket next) (table_shape at m end p table) following)
 
-    pub nothing_left : HasNone (pairs_in (chain_at p bucket)) from → PrecedesNone (shape_in m) bucket
+    pub nothing_left : HasNone (pairs_in (chain_at p bucket)) from → PrecedesNone (shape_in m)
+        bucket
         → HasNone (pairs_of p) from
     nothing_left none last =
         none_left p table.good.sound low from bucket left none

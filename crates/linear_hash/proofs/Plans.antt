@@ -1,7 +1,7 @@
 -- What a change of a file that holds a map is to leave.
 use Rattle.std.proofs.Common.{◌≡◌, ◌∙◌, ℕ, ◌<◌, ◌≤◌, Bool, false, Option, is_some, List, sym, ap, subst, arith}
 use Rattle.std.specs.FinMap.{get, insert, remove}
-use Rattle.dbm_model.specs.Bounds.{Version, V1, Bounds}
+use Rattle.dbm_model.specs.Bounds.{Bounds}
 use Rattle.dbm_model.specs.Sizes.{home}
 use Rattle.page_model.specs.Pages.{Meta}
 use Rattle.dbm_model.specs.Pairs.{Key, Pair, Contents, IsAllowed}
@@ -22,11 +22,12 @@ module _ {S : Type 0} (s : Ghosts S) (old : S) (m : Meta) (map : Contents)
   was_placed key was is = is ∙ ap (λ (c : Contents). is_some (get c key))
       (sym (map_placed s old m map holds))
 
-  pub may_store : (pair : Pair) (was : Bool) → IsAllowed V1 pair → HasBytes pair
+  pub may_store : (pair : Pair) (was : Bool) → IsAllowed m.bounds.version pair → HasBytes pair
       → was ≡ is_some (get map pair.0) → (was ≡ false → m.pairs < m.bounds.limit)
       → MayStore now pair
   may_store pair was small bytes is room = record {
-    allowed = subst (λ (v : Version). IsAllowed v pair) (sym holds.stands.good.first) small;
+    allowed = subst (λ (b : Bounds). IsAllowed b.version pair)
+        (ap (λ (n : Meta). n.bounds) (meta_held s old m map holds)) small;
     bytes = bytes;
     room = λ none.
         let new : was ≡ false = was_placed pair.0 was is

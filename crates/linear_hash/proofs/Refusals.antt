@@ -81,13 +81,13 @@ module _ {T U : Type 0} (old mid : StoreState) (same : mid.usable ≡ old.usable
       → IsSetAnswer {T = U} reserved mid space (Err e) → IsChangeAnswer old result
   set_refused reserved space answer = refused answer.broken answer.only
 
-  pub put_refused : (reserved : ℕ) (space : FreeState)
-      → IsPutAnswer {T = U} reserved mid space (Err e) → IsChangeAnswer old result
-  put_refused reserved space answer = refused answer.broken answer.only
+  pub put_refused : (reserved pages : ℕ) (space : FreeState)
+      → IsPutAnswer {T = U} reserved pages mid space (Err e) → IsChangeAnswer old result
+  put_refused reserved pages space answer = refused answer.broken answer.only
 
-  pub remove_refused : (reserved : ℕ) → IsRemoveAnswer {T = U} reserved mid (Err e)
+  pub remove_refused : (reserved pages : ℕ) → IsRemoveAnswer {T = U} reserved pages mid (Err e)
       → IsChangeAnswer old result
-  remove_refused reserved answer = refused answer.broken (of_remove e answer.only)
+  remove_refused reserved pages answer = refused answer.broken (of_remove e answer.only)
 
   pub store_refused : IsStoreAnswer {T = U} mid (Err e) → IsChangeAnswer old result
   store_refused answer = refused answer.broken answer.only
@@ -107,9 +107,9 @@ module _ {T U : Type 0} (old mid : StoreState) (same : mid.usable ≡ old.usable
   pub head_of_walk : IsHeadAnswer {T = U} mid (Err e) → IsWalkAnswer old result
   head_of_walk answer = walk_passed (record { broken = answer.broken; only = answer.only })
 
-  pub head_of_remove : (reserved : ℕ) → IsHeadAnswer {T = U} mid (Err e)
-      → IsRemoveAnswer reserved old result
-  head_of_remove reserved answer = record {
+  pub head_of_remove : (reserved pages : ℕ) → IsHeadAnswer {T = U} mid (Err e)
+      → IsRemoveAnswer reserved pages old result
+  head_of_remove reserved pages answer = record {
     broken = λ is. sym same ∙ answer.broken (came {U = U} result e exit Broken is);
     memory = λ is. absurd (head_no_memory {T = U} e answer.only
         (came {U = U} result e exit Memory is));
@@ -118,10 +118,10 @@ module _ {T U : Type 0} (old mid : StoreState) (same : mid.usable ≡ old.usable
   }
 
 -- the answer of the last call is the answer
-pub put_answers : {T : Type 0} (reserved : ℕ) (old mid : StoreState) (space : FreeState)
-    (result : Result T PageFault) → mid.usable ≡ old.usable → IsPutAnswer reserved mid space result
-    → IsChangeAnswer old result
-put_answers reserved old mid space result same answer =
+pub put_answers : {T : Type 0} (reserved pages : ℕ) (old mid : StoreState) (space : FreeState)
+    (result : Result T PageFault) → mid.usable ≡ old.usable
+    → IsPutAnswer reserved pages mid space result → IsChangeAnswer old result
+put_answers reserved pages old mid space result same answer =
     record { broken = λ is. sym same ∙ answer.broken is; only = answer.only }
 
 pub stage_answers : {T : Type 0} (reserved n : ℕ) (old mid : StoreState)
@@ -148,9 +148,9 @@ module _ {T : Type 0} (state : StoreState) (e : PageFault) where
     | inr (inr (inr is)) ↦ let i : e ≡ Device = is in cc
   ]
 
-pub remove_has_room : {T : Type 0} (reserved : ℕ) (state : StoreState) (e : PageFault)
-    → IsRemoveAnswer {T = T} reserved state (Err e) → IsErrOf {T = T} (Err e) NoRoom → ⊥
-remove_has_room reserved state e answer none = elim answer.only [
+pub remove_has_room : {T : Type 0} (reserved pages : ℕ) (state : StoreState) (e : PageFault)
+    → IsRemoveAnswer {T = T} reserved pages state (Err e) → IsErrOf {T = T} (Err e) NoRoom → ⊥
+remove_has_room reserved pages state e answer none = elim answer.only [
   | inl is ↦ let i : e ≡ Broken = is in cc
   | inr (inl is) ↦ let i : e ≡ Memory = is in cc
   | inr (inr (inl is)) ↦ let i : e ≡ Damaged = is in cc

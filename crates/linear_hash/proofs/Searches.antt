@@ -41,7 +41,7 @@ segment_from at m end key bucket is can =
 pub look_from : (at at' : ℕ → Body) (m : Meta) (end end' : ℕ) (key : Key) (bucket head : ℕ)
     → bucket ≡ address (shape_in m) (hash_of key)
     → HasEntry (at (slice_index m.segments (bucket / 508))) (bucket % 508) head → at' ≡ at
-    → end' ≡ end → CanSearch at m end key → CanLook at' end' head key
+    → end' ≡ end → CanSearch at m end key → CanLook m.bounds.version at' end' head key
 look_from at at' m end end' key bucket head is entry same ends can =
     let there : HasEntry (at (key_segment m key)) (key_entry m key) head =
     subst (λ (b : ℕ). HasEntry (at (slice_index m.segments (b / 508))) (b % 508) head) is entry in
@@ -49,8 +49,8 @@ look_from at at' m end end' key bucket head is entry same ends can =
     let both = sym there.segment ∙ can.segment.says in cc in
     let head_is : head ≡ slice_index can.segment.heads (key_entry m key) =
     there.entry ∙ ap (λ (hs : List ℕ). slice_index hs (key_entry m key)) heads in
-    subst (λ (h : ℕ). CanLook at' end' h key) (sym head_is)
-    (subst (λ (f : ℕ → Body). CanLook f end' (slice_index can.segment.heads (key_entry m key)) key)
-    (sym same)
-    (subst (λ (e : ℕ). CanLook at e (slice_index can.segment.heads (key_entry m key)) key)
-    (sym ends) can.look))
+    let v = m.bounds.version in
+    let there = slice_index can.segment.heads (key_entry m key) in
+    subst (λ (h : ℕ). CanLook v at' end' h key) (sym head_is)
+    (subst (λ (f : ℕ → Body). CanLook v f end' there key) (sym same)
+    (subst (λ (e : ℕ). CanLook v at e there key) (sym ends) can.look))

@@ -1,13 +1,13 @@
--- The pages that a split reads, and what is left once its pairs are put again.
-use Rattle.std.proofs.Common.{◌≡◌, ℕ, ◌+◌, ◌^◌, ◌<◌, ◌≤◌, List, [], ◌∷◌, length, fold, slice_index, refl, sym, ap, ◌∙◌, subst, arith}
+-- The pages that a split reads, and what is left once its records are put again.
+use Rattle.std.proofs.Common.{◌≡◌, ℕ, ◌+◌, ◌^◌, ◌<◌, ◌≤◌, List, [], ◌∷◌, length, map, fold, slice_index, refl, sym, ap, ◌∙◌, subst, arith}
 use Rattle.std.specs.Prelude.{All}
 use Rattle.std.proofs.lemmas.List.{length-map}
 use Rattle.page_model.specs.Address.{Shape, grown}
-use Rattle.dbm_model.specs.Pairs.{Pair}
-use Rattle.page_model.specs.Pages.{Meta, Body}
+use Rattle.dbm_model.specs.Bounds.{Bounds}
+use Rattle.page_model.specs.Pages.{Meta, Body, Record}
 use Rattle.page_model.specs.Numbers.{IsNumber}
-use Rattle.page_model.specs.Chain.{Chain, numbers, pairs_in}
-use Rattle.page_model.specs.Placement.{Placement, chain_at, put, opened, split}
+use Rattle.page_model.specs.Chain.{Entry, Chain, numbers, entries_in, record_of}
+use Rattle.page_model.specs.Placement.{Placement, chain_at, put_entry, opened, split}
 use Rattle.page_model.specs.PageBodies.{first_of, segment_bodies, heads_of, AreRead}
 use Rattle.page_model.proofs.Splits.{split_filled}
 use Rattle.page_model.proofs.Stores.{split_keeps}
@@ -21,7 +21,7 @@ use Rattle.chain_walks.specs.Chains.{IsChainAt}
 use Rattle.bucket_chain.specs.Placements.{IsBelow}
 use Rattle.linear_hash.specs.Tables.{shape_in}
 use Rattle.linear_hash.specs.Staging.{IsMidway, IsGrown}
-use Rattle.linear_hash.specs.Splitting.{IsBucketOpened, IsRefilled}
+use Rattle.linear_hash.specs.Splitting.{entries_split, IsBucketOpened, IsRefilled}
 use Rattle.linear_hash.proofs.Openings.{split_below, split_placed, midway_heads, next_bucket}
 
 -- ---- what is read
@@ -66,47 +66,53 @@ midway_then s old new m space p reads honest midway =
 
 -- the chain of the bucket that is split is no longer than the committed file
 chain_here : (at : ℕ → Body) (m : Meta) (space : FreeState) (p : Placement) (end head : ℕ)
-    → IsMidway at m space p → p.space.end ≤ end + 1
+    → IsMidway at m space p → space.file_end < 2 ^ 32 → length (chain_at p p.shape.split) ≤ end
     → head ≡ first_of (numbers (chain_at p p.shape.split))
-    → IsChainAt at end head (chain_at p p.shape.split)
-chain_here at m space p end head midway near from =
-    let placed = split_placed at m space p head midway from in
+    → IsChainAt m.bounds.version at end head (chain_at p p.shape.split)
+chain_here at m space p end head midway small near from =
+    let placed = split_placed at m space p head midway small from in
     let chain = placed.chain_is in
     record {
       are_read = chain.are_read;
       is_chain = chain.is_chain;
       from = chain.from;
-      few = omega (arith, placed.fits, near);
+      few = near;
       numbered = chain.numbered;
-      distinct = chain.distinct;
+      entered = chain.entered;
+      sound = chain.sound;
     }
 
 -- ---- what is put again
 
 refilled : (at0 at : ℕ → Body) (m m' : Meta) (space0 space : FreeState) (p : Placement)
-    (b head n : ℕ) (pairs : List Pair) → IsMidway at0 m space0 p
+    (b head n : ℕ) (records : List Record) → IsMidway at0 m space0 p
     → head ≡ first_of (numbers (chain_at p p.shape.split)) → AddsSegment m m' b
     → IsBucketOpened at m' space p n
-    → pairs ≡ pairs_in (chain_at p p.shape.split) → IsRefilled at space (shape_in m') head n pairs p
-refilled at0 at m m' space0 space p b head n pairs midway from added now are = record {
+    → records ≡ map record_of (entries_split p)
+    → IsRefilled m'.bounds.version at space (shape_in m') head n records p
+refilled at0 at m m' space0 space p b head n records midway from added now are = record {
+  version_is = ap (λ (x : Meta). x.bounds.version) added.rest
+      ∙ ap (λ (bs : Bounds). bs.version) midway.bounds_are;
   sound = midway.sound;
   below = now.below;
+  contents = now.contents;
   shape_is = ap shape_in added.rest ∙ midway.shape_is;
   old_head = from;
   new_head_is = now.head;
-  pairs_are = are;
+  records_are = are;
 }
 
--- ---- two calls that read, the second of which gives the pairs, and one that opens a bucket
+-- ---- two calls that read, the second of which gives the records, and one that opens a bucket
 
 module _ {S : Type 0} (s : Ghosts S) (first second : S) (m : Meta) (space : FreeState)
     (p : Placement) (head : ℕ) (from : head ≡ first_of (numbers (chain_at p p.shape.split)))
-    (one : ReadsOnly s first second) (honest : s.honest first)
+    (one : ReadsOnly s first second) (honest : s.honest first) (small : space.file_end < 2 ^ 32)
     (midway : IsMidway (body_at s first) m space p) where
-  pub chain_then : p.space.end ≤ (s.state first).end + 1
-      → IsChainAt (body_at s second) (s.state second).end head (chain_at p p.shape.split)
+  pub chain_then : length (chain_at p p.shape.split) ≤ (s.state first).end
+      → IsChainAt m.bounds.version (body_at s second) (s.state second).end head
+      (chain_at p p.shape.split)
   chain_then near = chain_here (body_at s second) m space p (s.state second).end head
-      (midway_then s first second m space p one honest midway)
+      (midway_then s first second m space p one honest midway) small
       (omega (arith, near, ap (λ (st : StoreState). st.end) one.same)) from
 
   module _ (third : S) (two : ReadsOnly s second third) where
@@ -119,15 +125,16 @@ module _ {S : Type 0} (s : Ghosts S) (first second : S) (m : Meta) (space : Free
 
     -- what the pairs are put into
     pub refilled_later : (at : ℕ → Body) (m' : Meta) (space' : FreeState) (b n : ℕ)
-        (pairs again : List Pair) → p.space.end ≤ (s.state first).end + 1
+        (records again : List Record) → length (chain_at p p.shape.split) ≤ (s.state first).end
         → (s.honest second → (chain : Chain)
-        → IsChainAt (body_at s second) (s.state second).end head chain
-        → pairs ≡ pairs_in chain)
+        → IsChainAt m.bounds.version (body_at s second) (s.state second).end head chain
+        → records ≡ map record_of (entries_in chain))
         → (s.honest third → (q : Placement) → IsMidway (body_at s third) m space q
         → head ≡ first_of (numbers (chain_at q q.shape.split))
         → IsBucketOpened at m' space' q n)
-        → AddsSegment m m' b → again ≡ pairs → IsRefilled at space' (shape_in m') head n again p
-    refilled_later at m' space' b n pairs again near are opens added same =
+        → AddsSegment m m' b → again ≡ records
+        → IsRefilled m'.bounds.version at space' (shape_in m') head n again p
+    refilled_later at m' space' b n records again near are opens added same =
         refilled (body_at s third) at m m' space space' p b head n again midway_later from added
         (opens honest_later p midway_later from)
         (same ∙ are (one.stages_only.honesty.1 honest) (chain_at p p.shape.split)
@@ -135,14 +142,15 @@ module _ {S : Type 0} (s : Ghosts S) (first second : S) (m : Meta) (space : Free
 
 -- ---- what is left
 
--- pairs that are put change neither the shape nor the segments
-kept_shape : (pairs : List Pair) (q : Placement) → (fold put q pairs).shape ≡ q.shape
+-- records that are put change neither the shape nor the segments
+kept_shape : (entries : List Entry) (q : Placement) → (fold put_entry q entries).shape ≡ q.shape
 kept_shape [] q = refl
-kept_shape (x ∷ pairs) q = kept_shape pairs (put q x)
+kept_shape (e ∷ entries) q = kept_shape entries (put_entry q e)
 
-kept_segments : (pairs : List Pair) (q : Placement) → (fold put q pairs).segments ≡ q.segments
+kept_segments : (entries : List Entry) (q : Placement)
+    → (fold put_entry q entries).segments ≡ q.segments
 kept_segments [] q = refl
-kept_segments (x ∷ pairs) q = kept_segments pairs (put q x)
+kept_segments (e ∷ entries) q = kept_segments entries (put_entry q e)
 
 pub midway_split : (at0 at1 at : ℕ → Body) (m m1 m' : Meta) (space0 space1 space : FreeState)
     (p : Placement) (b n : ℕ) → IsMidway at0 m space0 p → AddsSegment m m1 b
@@ -151,13 +159,13 @@ pub midway_split : (at0 at1 at : ℕ → Body) (m m1 m' : Meta) (space0 space1 s
     → IsMidway at m' space (split p)
 midway_split at0 at1 at m m1 m' space0 space1 space p b n midway added now below shape
     segments bounds =
-    let pairs = pairs_in (chain_at p p.shape.split) in
+    let entries = entries_split p in
     record {
       sound = (split_keeps p midway.sound).0;
       below = below;
       shape_is = shape ∙ ap grown (ap shape_in added.rest ∙ midway.shape_is)
-          ∙ sym (kept_shape pairs (opened p));
-      segments_are = segments ∙ now.segments_are ∙ sym (kept_segments pairs (opened p));
+          ∙ sym (kept_shape entries (opened p));
+      segments_are = segments ∙ now.segments_are ∙ sym (kept_segments entries (opened p));
       bounds_are = bounds ∙ ap (λ (x : Meta). x.bounds) added.rest ∙ midway.bounds_are
           ∙ sym (split_filled p midway.sound).bounds_are;
     }

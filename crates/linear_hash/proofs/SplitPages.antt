@@ -1,9 +1,15 @@
 -- What a split leaves of the pages on any file.
-use Rattle.std.proofs.Common.{◌≡◌, ◌↔◌, ◌∙◌, ℕ, ◌+◌, ◌^◌, Bool, true, false, cond, eqb, List, [], refl, sym, ap, subst, arith}
+use Rattle.std.proofs.Common.{◌≡◌, ◌↔◌, ◌∙◌, ℕ, zero, suc, ◌+◌, ◌^◌, Bool, true, false, cond, eqb, List, [], ◌∷◌, map, refl, sym, ap, subst, arith}
+use Rattle.std.specs.Prelude.{All}
 use Rattle.std.specs.Bool.{IsTrue}
 use Rattle.std.specs.Int.{bit_at}
+use Rattle.std.specs.List.{AllByRecursion}
 use Rattle.std.proofs.lemmas.Bool.Decides.{nat_tests}
+use Rattle.dbm_model.specs.Bounds.{Version}
 use Rattle.page_model.specs.Pages.{Meta, Body}
+use Rattle.page_model.specs.Valid.{IsOf}
+use Rattle.chain_walks.specs.Pairs.{record_as, IsSmall}
+use Rattle.chain_walks.specs.declared.pair.Pair as code
 use Rattle.free_pages.specs.declared.free_state.FreeState.{FreeState}
 use Rattle.seg_table.specs.Heads.{AddsSegment}
 use Rattle.bucket_chain.specs.AnyFile.{AreInTurn, AreAdded, AreStored, IsEmptied}
@@ -39,6 +45,16 @@ emptied_alone old new Ends before after head stored =
     (subst (λ (a : FreeState). IsEmptied old stored.mid before a head) (sym stored.second.1)
     stored.first)
 
+-- each record that was loaded is one of the version
+pub all_of_version : (version : Version) (pairs : List code.Pair)
+    → All (λ pair. IsSmall version (record_as pair)) pairs
+    → AllByRecursion (IsOf version) (map record_as pairs)
+all_of_version version [] small = tt
+all_of_version version (pair ∷ pairs) small = (
+  (small zero pair (omega arith)).of_version,
+  all_of_version version pairs (λ i d within. small (suc i) d (omega (arith, within))),
+)
+
 -- whether there were too many pairs
 module _ (Ends : Type 0) {t : Bool} {old new : ℕ → Body} {m n : Meta}
     {before after : FreeState} where
@@ -58,7 +74,8 @@ module _ (before n after : Meta) (pairs head count : ℕ)
   same_segments : after.segments ≡ n.segments
   same_segments = ap (λ (m : Meta). m.segments) free
 
-  grown_shaped : IsGrown (record before { pairs = pairs }) n → IsGrown before (shaped_as before after)
+  grown_shaped : IsGrown (record before { pairs = pairs }) n → IsGrown before
+      (shaped_as before after)
   grown_shaped grown = record {
     shape = ap shape_in free ∙ grown.shape;
     segments = subst (λ (ns : List ℕ).
@@ -86,20 +103,22 @@ module _ (before n after : Meta) (pairs head count : ℕ)
   split_shaped true Ends ends old new space left is = record {
     head = is.head;
     taken = is.taken;
-    pairs = is.pairs;
+    records = is.records;
     entry = is.entry;
     says = is.says;
+    of_version = is.of_version;
     change = subst (λ (ns : List ℕ). AreInTurn
         (λ mid between.
         IsOpened old mid before (record before { segments = ns }) space between is.head is.taken)
         (λ mid between. AreAdded mid new (Unit {0}) between left
-        (head_for before.level is.head is.taken) is.pairs)) (sym same_segments)
+        (head_for before.level is.head is.taken) is.records)) (sym same_segments)
         (record {
           mid = is.change.mid;
           between = is.change.between;
           first = is.change.first;
           second = all_under Ends (Unit {0}) (λ u. ends)
-              (head_for before.level is.head is.taken) is.change.mid is.change.between is.pairs new
+              (head_for before.level is.head is.taken) is.change.mid is.change.between is.records
+              new
               left is.change.second;
         });
     grown = grown_shaped is.grown;

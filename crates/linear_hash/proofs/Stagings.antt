@@ -10,9 +10,11 @@ use Rattle.page_model.specs.PageBodies.{meta_of}
 use Rattle.page_model.proofs.Openings.{meta_rewrites}
 use Rattle.page_model.proofs.Places.{delete_sound, contents-delete}
 use Rattle.page_model.proofs.Stores.{counts_keys}
+use Rattle.page_io.specs.Store.{StoreState}
+use Rattle.page_io.specs.declared.store.PageFault.{PageFault}
 use Rattle.free_pages.specs.declared.free_state.FreeState.{FreeState}
 use Rattle.linear_hash.specs.Tables.{shape_in, space_in, IsTable}
-use Rattle.linear_hash.specs.Staging.{IsMidway, IsStaged}
+use Rattle.linear_hash.specs.Staging.{IsMidway, IsNewEnd, IsStaged}
 
 -- a change begins at a good placement
 pub table_midway : (at : ℕ → Body) (m : Meta) (end : ℕ) (p : Placement) → IsTable at m end p
@@ -88,8 +90,20 @@ midway_pairs at m space p pairs mid =
 pub deleted_count : (p : Placement) (key : Key) → IsSound p → is_some (get (contents p) key) ≡ true
     → length (pairs_of (delete p key)) ≡ length (pairs_of p) - 1
 deleted_count p key sound was =
-    sym (counts_keys (delete p key) (delete_sound p sound key))
-    ∙ ap (λ (c : Contents). len c) (contents-delete p sound key)
+    sym (counts_keys (delete p key) (delete_sound [] p sound key))
+    ∙ ap (λ (c : Contents). len c) (contents-delete [] p sound key)
     ∙ len-remove nat_list_cmp_total (contents p) key
     ∙ ap (λ (b : Bool). cond b (len (contents p) - 1) (len (contents p))) was
     ∙ ap (λ (n : ℕ). n - 1) (counts_keys p sound)
+
+-- the end that a call's last step may give the file, which itself may end it there
+pub new_end_later : (old mid new : StoreState) (result : Result ℕ PageFault) → mid.end ≡ old.end
+    → IfOk result (IsNewEnd mid new) → IfOk result (IsNewEnd old new)
+new_end_later old mid new (Ok end) same told =
+    record { may_commit = told.may_commit; grows = omega (arith, same, told.grows) }
+new_end_later old mid new (Err e) same told = tt
+
+-- what is kept whatever is answered is kept where it is done
+pub kept_at_last : {P : Type 0} {T E : Type 0} (result : Result T E) → P → OnOk result P
+kept_at_last (Ok x) holds = holds
+kept_at_last (Err e) holds = tt

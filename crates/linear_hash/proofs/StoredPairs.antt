@@ -2,20 +2,21 @@
 use Rattle.std.proofs.Common.{◌≡◌, ◌∙◌, ◌+◌, ◌*◌, ◌≤◌, ℕ, Bool, true, false, cond, ltb, length, length-set, refl, sym, ap, is_some, arith}
 use Rattle.std.specs.FinMap.{get, len, len-insert}
 use Rattle.std.proofs.lemmas.Cmp.{nat_list_cmp_total}
-use Rattle.dbm_model.specs.Bounds.{V1}
 use Rattle.dbm_model.specs.Pairs.{Pair, Contents, IsAllowed}
+use Rattle.page_model.specs.Chain.{content_pages}
 use Rattle.page_model.specs.Placement.{Placement, contents, pairs_of, delete, replace, split, store, IsSound}
 use Rattle.page_model.proofs.Ends.{end_put}
 use Rattle.page_model.proofs.Places.{replace_sound, contents-replace}
 use Rattle.page_model.proofs.Stores.{counts_keys, split_keeps}
 use Rattle.linear_hash.specs.Tables.{split_where_full}
 
--- one page is taken at most
-pub replaced_end : (p : Placement) (pair : Pair) → (replace p pair).space.end ≤ p.space.end + 1
+-- one page is taken at most beside those of the content
+pub replaced_end : (p : Placement) (pair : Pair)
+    → (replace p pair).space.end ≤ p.space.end + content_pages pair + 1
 replaced_end p pair = end_put (delete p pair.0) pair
 
 -- a pair comes to the others, or takes the place of one
-pub replaced_count : (p : Placement) (pair : Pair) → IsSound p → IsAllowed V1 pair
+pub replaced_count : (p : Placement) (pair : Pair) → IsSound p → IsAllowed p.bounds.version pair
     → length (pairs_of (replace p pair))
     ≡ cond (is_some (get (contents p) pair.0)) (length (pairs_of p)) (length (pairs_of p) + 1)
 replaced_count p pair sound small =
@@ -43,7 +44,8 @@ full_count p sound = elim (ltb (8 * length p.chains) (length (pairs_of p))) as
 
 -- as the code counts them
 pub counted_more : (p : Placement) (pair : Pair) (was : Bool) (pairs more : ℕ) → IsSound p
-    → IsAllowed V1 pair → was ≡ is_some (get (contents p) pair.0) → pairs ≡ length (pairs_of p)
+    → IsAllowed p.bounds.version pair → was ≡ is_some (get (contents p) pair.0) → pairs ≡ length
+    (pairs_of p)
     → more ≡ cond was 0 1 → pairs + more ≡ length (pairs_of (replace p pair))
 counted_more p pair was pairs more sound small is all added = by_case was is added
   where

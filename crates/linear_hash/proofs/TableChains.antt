@@ -1,11 +1,11 @@
 -- The chain of a bucket of a table, by its number.
-use Rattle.std.proofs.Common.{◌≡◌, ℕ, ◌<◌, List, length, get_or, refl, sym, ap, ◌∙◌, subst, arith}
+use Rattle.std.proofs.Common.{[], ◌≡◌, ℕ, ◌<◌, List, length, get_or, refl, sym, ap, ◌∙◌, subst, arith}
 use Rattle.page_model.specs.Address.{buckets}
 use Rattle.page_model.specs.Pages.{Meta, Body}
 use Rattle.page_model.specs.Chain.{numbers}
 use Rattle.page_model.specs.Placement.{Placement, chain_at}
 use Rattle.page_model.specs.PageBodies.{first_of, heads_of}
-use Rattle.page_model.proofs.Bounds.{home_of_first}
+use Rattle.page_model.proofs.GoodBodies.{end_small}
 use Rattle.page_io.specs.Store.{StoreState}
 use Rattle.page_io.specs.Views.{body_at, ReadsOnly}
 use Rattle.page_io.specs.declared.store.PageStore.{Ghosts}
@@ -14,10 +14,12 @@ use Rattle.seg_table.specs.Heads.{AreHeads}
 use Rattle.seg_table.proofs.PlacementHeads.{heads_read, used_segments}
 use Rattle.free_pages.specs.FreeList.{state_of}
 use Rattle.chain_walks.specs.Chains.{IsChainAt}
+use Rattle.bucket_chain.specs.Changes.{IsPlaced}
+use Rattle.dbm_model.specs.Bounds.{Bounds}
 use Rattle.bucket_chain.proofs.PlacedChains.{chains_placed}
 use Rattle.chain_walks.proofs.ReadPages.{still_honest}
 use Rattle.linear_hash.specs.Tables.{shape_in, IsTable}
-use Rattle.linear_hash.proofs.Buckets.{table_heads}
+use Rattle.linear_hash.proofs.Buckets.{table_heads, table_bounds}
 
 module _ (at : ℕ → Body) (m : Meta) (end : ℕ) (p : Placement) (table : IsTable at m end p) where
   pub table_buckets : length p.chains ≡ buckets (shape_in m)
@@ -25,21 +27,22 @@ module _ (at : ℕ → Body) (m : Meta) (end : ℕ) (p : Placement) (table : IsT
 
   -- from its head page on it is read as one
   pub bucket_chain_there : (bucket head : ℕ) → bucket < length p.chains
-      → head ≡ get_or (heads_of p.chains) bucket 0 → IsChainAt at end head (chain_at p bucket)
+      → head ≡ get_or (heads_of p.chains) bucket 0
+      → IsChainAt m.bounds.version at end head (chain_at p bucket)
   bucket_chain_there bucket head below head_is =
       let sound = table.good.sound in
-      let used = used_segments p sound (omega (
-        arith,
-        home_of_first p.bounds table.good.first,
-        table.good.bounded,
-        table.good.limited,
-      )) in
+      let small = end_small p table.good in
+      let used = used_segments p sound small in
       let first : head ≡ first_of (numbers (chain_at p bucket)) =
       head_is ∙ (heads_read at p sound used table.are_read).each bucket below in
-      let there = chains_placed at (state_of p.space) p bucket sound
-      (record { are_read = table.are_read; kept = refl }) below in
-      subst (λ (n : ℕ). IsChainAt at n head (chain_at p bucket)) table.ends
-      (subst (λ (n : ℕ). IsChainAt at p.space.end n (chain_at p bucket)) (sym first)
+      let v = m.bounds.version in
+      let there = subst (λ (b : Bounds). IsPlaced b.version at (state_of p.space)
+      (first_of (numbers (chain_at p bucket))) (chain_at p bucket) p.space)
+      (sym (table_bounds at m end p table))
+      (chains_placed at (state_of p.space) [] p bucket sound small
+      (record { are_read = table.are_read; kept = refl }) below) in
+      subst (λ (n : ℕ). IsChainAt v at n head (chain_at p bucket)) table.ends
+      (subst (λ (n : ℕ). IsChainAt v at p.space.end n (chain_at p bucket)) (sym first)
       there.chain_is)
 
 -- ---- the same after reads
@@ -65,7 +68,7 @@ module _ {S : Type 0} (s : Ghosts S) where
         → bucket < buckets (shape_in m)
         → ((heads : List ℕ) → AreHeads (body_at s store) m heads → bucket < length heads
         → head ≡ get_or heads bucket 0)
-        → IsChainAt (body_at s new) (s.state new).end head (chain_at p bucket)
+        → IsChainAt m.bounds.version (body_at s new) (s.state new).end head (chain_at p bucket)
     chain_there new bucket head goes_on within found =
         let later = table_after store new m p goes_on
         (still_honest s first store reads honest) there in

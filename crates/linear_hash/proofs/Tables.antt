@@ -49,7 +49,7 @@ module _ {S : Type 0} (s : Ghosts S) (store : S) where
     pub map_placed : contents placed ≡ map
     map_placed =
         let at = said_by (page_of (s.committed store)) in
-        sym (flat_is_contents placed at h.stands.good.sound h.stands.spelled)
+        sym (flat_is_contents placed at h.stands.good h.stands.spelled)
         ∙ ap (λ (end : ℕ). contents_of (flat_pairs at end)) h.stands.ends
         ∙ h.stands.holds
 

@@ -1,5 +1,5 @@
 -- What a change leaves of the pages on any file, from its bucket to the commit.
-use Rattle.std.proofs.Common.{◌≡◌, ◌∙◌, inl, inr, ⊎_elim, ℕ, ◌*◌, ◌<◌, ◌≤◌, nat_lt, ◌/◌, ◌%◌, Bool, true, false, [], Result, Ok, Err, IfOk, IfErr, OnOk, slice_index, sym, ap, subst, arith}
+use Rattle.std.proofs.Common.{◌≡◌, ◌∙◌, ℕ, ◌*◌, ◌<◌, ◌≤◌, nat_lt, ◌/◌, ◌%◌, Bool, true, false, [], Result, Ok, Err, IfOk, IfErr, OnOk, slice_index, sym, ap, subst, arith}
 use Rattle.page_model.specs.Address.{address, hash_of}
 use Rattle.page_model.specs.Pages.{Meta, Body, MetaPage}
 use Rattle.page_model.specs.Valid.{meta_buckets}
@@ -13,7 +13,10 @@ use Rattle.page_io.proofs.Overlays.{page_of-file}
 use Rattle.page_commit.specs.Committing.{MayCommit}
 use Rattle.free_pages.specs.declared.free_state.FreeState.{FreeState}
 use Rattle.seg_table.specs.Heads.{HasEntry}
-use Rattle.bucket_chain.specs.AnyFile.{IsAdded, IsTakenOut}
+use Rattle.bucket_chain.specs.AnyFile.{IsPut, IsTakenOut}
+use Rattle.bucket_chain.proofs.Added.{added_under}
+use Rattle.dbm_model.specs.Bounds.{Version}
+use Rattle.page_model.specs.Chain.{record_with}
 use Rattle.linear_hash.specs.AnyFile.{IsSplitWhere}
 use Rattle.linear_hash.specs.Changing.{InBucket, IsOutWhere, PutIn, IsWritten, Stores, shaped_as}
 use Rattle.linear_hash.specs.Tables.{shape_in, space_in}
@@ -33,39 +36,40 @@ in_bucket at at' m key bucket head Change is entry same change = record {
 
 -- the key was out of its bucket where it was there, or was not there
 module _ {S : Type 0} (s : Ghosts S) (old mid new : S) (before between after : FreeState)
-    (head : ℕ) (key : Key) (was_there : Bool) (store : new ≡ mid) (free : after ≡ between) where
+    (head : ℕ) (key : Key) (was_there : Bool) (version : Version) (store : new ≡ mid)
+    (free : after ≡ between) where
   pub was_out : was_there ≡ true
-      → IsTakenOut (body_at s old) (body_at s mid) before between head key
-      → IsOutWhere was_there (body_at s old) (body_at s new) before after head key
+      → IsTakenOut version (body_at s old) (body_at s mid) before between head key
+      → IsOutWhere was_there version (body_at s old) (body_at s new) before after head key
   was_out is out =
-      subst (λ (b : Bool). IsOutWhere b (body_at s old) (body_at s new) before after head key)
+      subst (λ (b : Bool). IsOutWhere b version (body_at s old) (body_at s new) before after head
+      key)
       (sym is)
-      (subst (λ (st : S). IsTakenOut (body_at s old) (body_at s st) before after head key)
+      (subst (λ (st : S). IsTakenOut version (body_at s old) (body_at s st) before after head key)
       (sym store)
-      (subst (λ (f : FreeState). IsTakenOut (body_at s old) (body_at s mid) before f head key)
+      (subst (λ (f : FreeState). IsTakenOut version (body_at s old) (body_at s mid) before f head
+      key)
       (sym free) out))
 
   pub was_not : was_there ≡ false → mid ≡ old → between ≡ before
-      → IsOutWhere was_there (body_at s old) (body_at s new) before after head key
+      → IsOutWhere was_there version (body_at s old) (body_at s new) before after head key
   was_not is still kept =
-      subst (λ (b : Bool). IsOutWhere b (body_at s old) (body_at s new) before after head key)
+      subst (λ (b : Bool). IsOutWhere b version (body_at s old) (body_at s new) before after head
+      key)
       (sym is) (ap (body_at s) (store ∙ still), free ∙ kept)
 
 -- where the end is the file's under some other premise
-pub added_under : (old new : ℕ → Body) (Ends Other : Type 0) (before after : FreeState) (head : ℕ)
-    (pair : Pair) → (Other → Ends) → IsAdded old new Ends before after head pair
-    → IsAdded old new Other before after head pair
-added_under old new Ends Other before after head pair then is = record {
-  walk = is.walk;
-  added = ⊎_elim (λ to. inl to) (λ behind. inr (record {
-    taken = behind.taken;
-    is_full = behind.is_full;
-    is_taken = behind.is_taken;
-    apart = λ other. behind.apart (then other);
-    says = behind.says;
-    named = behind.named;
-    others = behind.others;
-  })) is.added;
+pub is_put_under : (Ends Other : Type 0) → (Other → Ends) → (old new : ℕ → Body)
+    (before after : FreeState) (head : ℕ) (pair : Pair) → IsPut old new Ends before after head pair
+    → IsPut old new Other before after head pair
+is_put_under Ends Other then old new before after head pair put = record {
+  pages = put.pages;
+  mid = put.mid;
+  between = put.between;
+  content = put.content;
+  added = added_under Ends Other then put.mid new put.between after head
+      (record_with pair put.pages)
+      put.added;
 }
 
 pub put_under : (was_there : Bool) (Ends Other : Type 0) (old new : ℕ → Body) (m : Meta)
@@ -79,7 +83,7 @@ put_under was_there Ends Other old new m before after pair then put = record {
     mid = put.change.mid;
     between = put.change.between;
     first = put.change.first;
-    second = added_under put.change.mid new Ends Other put.change.between after put.head pair then
+    second = is_put_under Ends Other then put.change.mid new put.change.between after put.head pair
         put.change.second;
   };
 }

@@ -1,11 +1,12 @@
 -- What a change of the pairs leaves in the pages, on any file.
 use Rattle.std.specs.Prelude.{◌≡◌, ℕ, ◌*◌, ◌<◌, nat_lt, Bool, true, false}
+use Rattle.dbm_model.specs.Bounds.{Version, upgraded}
 use Rattle.dbm_model.specs.Pairs.{Key, Pair}
 use Rattle.page_model.specs.Pages.{Meta, Body, MetaPage}
 use Rattle.page_model.specs.Valid.{meta_buckets}
 use Rattle.free_pages.specs.declared.free_state.FreeState.{FreeState}
 use Rattle.seg_table.specs.Heads.{HasEntry}
-use Rattle.bucket_chain.specs.AnyFile.{AreInTurn, IsAdded, IsTakenOut}
+use Rattle.bucket_chain.specs.AnyFile.{AreInTurn, IsPut, IsTakenOut}
 use Rattle.linear_hash.specs.AnyFile.{IsSplitWhere}
 use Rattle.linear_hash.specs.Looking.{key_segment, key_entry}
 use Rattle.linear_hash.specs.Tables.{space_in}
@@ -19,20 +20,23 @@ pub record InBucket (at : ℕ → Body) (m : Meta) (key : Key) (Change : ℕ →
 -- the key was taken out of its bucket
 abbrev pub TookOut : (ℕ → Body) → Meta → FreeState → Key → (ℕ → Body) → FreeState → Type 0
 TookOut old m before key new after =
-    InBucket old m key (λ head. IsTakenOut old new before after head key)
+    InBucket old m key (λ head. IsTakenOut m.bounds.version old new before after head key)
 
 -- where the key was there, it was taken out
-abbrev pub IsOutWhere : Bool → (ℕ → Body) → (ℕ → Body) → FreeState → FreeState → ℕ → Key → Type 0
-IsOutWhere true old new before after head key = IsTakenOut old new before after head key
-IsOutWhere false old new before after head key = (new ≡ old) × (after ≡ before)
+abbrev pub IsOutWhere : Bool → Version → (ℕ → Body) → (ℕ → Body) → FreeState → FreeState → ℕ → Key
+    → Type 0
+IsOutWhere true version old new before after head key =
+    IsTakenOut version old new before after head key
+IsOutWhere false version old new before after head key = (new ≡ old) × (after ≡ before)
 
--- the pair was added to its key's bucket, once the key was out of it
+-- the pair was put into its key's bucket, once the key was out of it
 abbrev pub PutIn : Bool → Type 0 → (ℕ → Body) → Meta → FreeState → Pair → (ℕ → Body) → FreeState
     → Type 0
 PutIn was_there Ends old m before pair new after =
     InBucket old m pair.0 (λ head.
-    AreInTurn (λ mid between. IsOutWhere was_there old mid before between head pair.0)
-    (λ mid between. IsAdded mid new Ends between after head pair))
+    AreInTurn (λ mid between. IsOutWhere was_there m.bounds.version old mid before between
+    head pair.0)
+    (λ mid between. IsPut mid new Ends between after head pair))
 
 -- The pages were changed so, and then page 1 says what is kept of it: the count of pairs, and the
 -- free pages as the change left them. No other page below the end was changed.
@@ -70,3 +74,10 @@ abbrev pub IsStored : Bool → (ℕ → Body) → (ℕ → Body) → Meta → Me
 IsStored was_there old new before after start end pair =
     IsWritten (Stores was_there old before after (space_in before start) pair)
     new (shaped_as before after) after end
+
+-- Page 1 now says the bounds of version 2 with all else that it said. No other page below the end
+-- was changed.
+pub record IsUpgraded (old new : ℕ → Body) (before after : Meta) (end : ℕ) : Type 0 where
+  pub kept : after ≡ record before { bounds = upgraded before.bounds }
+  pub meta : new 1 ≡ MetaPage after
+  pub others : (n : ℕ) → 1 < n → n < end → new n ≡ old n

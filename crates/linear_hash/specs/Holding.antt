@@ -3,7 +3,7 @@ use Rattle.std.specs.Prelude.{◌≡◌, ◌⊎◌, ◌↔◌, ◌+◌, ◌*◌,
 use Rattle.dbm_model.specs.Bounds.{Bounds}
 use Rattle.sect_dev.specs.Device.{LeavesOnly}
 use Rattle.dbm_model.specs.Pairs.{Contents}
-use Rattle.dbm_model.specs.Sizes.{home}
+use Rattle.dbm_model.specs.Sizes.{home, most_taken}
 use Rattle.page_model.specs.Pages.{Meta}
 use Rattle.page_model.specs.Valid.{IsMeta}
 use Rattle.page_io.specs.Answers.{HasDeviceCause}
@@ -15,10 +15,23 @@ use Rattle.page_io.specs.declared.store.PageFault.TheVariants.{NoRoom, Damaged}
 use Rattle.page_commit.specs.Committing.{Holds, IsForgotten}
 use Rattle.linear_hash.specs.Staging.{IsChangeAnswer}
 
--- an image stands for one of two maps
-abbrev pub StandsForEither : Contents → Contents → Bounds → Settled → Type 0
-StandsForEither old new bounds settled =
-    ImageStandsFor settled old bounds ⊎ ImageStandsFor settled new bounds
+-- an image stands for one of two maps, each with its bounds
+abbrev pub StandsForEither : Contents → Bounds → Contents → Bounds → Settled → Type 0
+StandsForEither old bounds new wanted settled =
+    ImageStandsFor settled old bounds ⊎ ImageStandsFor settled new wanted
+
+-- How the commit of a change ends on any device, where `after` is then kept of the meta page: as
+-- below, but that nothing is said of what is kept after an Err.
+pub record IsCommitted {S : Type 0} (s : Ghosts S) (old new : S) (after : Meta)
+    (result : Result Unit PageFault) : Type 0 where
+  pub ok : OnOk result (s.state new ≡ record (s.state old) { end = (s.state new).end })
+  pub err : IfErr result (IsForgotten (s.state old) (s.state new))
+  pub kept : s.honest old
+      → OnErr result ((s.state new).usable ≡ true → s.committed new ≡ s.committed old)
+  pub valid : OnOk result (IsMeta after)
+  pub cause : HasDeviceCause (s.faults old) (s.faults new) result
+  pub honesty : s.honest new ↔ s.honest old
+  pub answer : IsChangeAnswer (s.state old) result
 
 -- How a change ends on any device, where `before` and `after` are kept of the meta page: it is
 -- done, or refused with nothing changed, but that a fault of the device may break the store.
@@ -30,28 +43,30 @@ pub record IsEnded {S : Type 0} (s : Ghosts S) (old new : S) (before after : Met
   pub kept : s.honest old
       → OnErr result ((s.state new).usable ≡ true → s.committed new ≡ s.committed old)
   pub valid : IsMeta after
-  pub bounds : after.bounds ≡ before.bounds
   pub cause : HasDeviceCause (s.faults old) (s.faults new) result
   pub honesty : s.honest new ↔ s.honest old
   pub answer : IsChangeAnswer (s.state old) result
 
--- What it makes of a file that stood for the map: it stands for the changed one, with at most so
--- many pages more and no more than a database of the bounds needs, or is as it was, and at every
--- moment for one of the two. It lacks no room on a device for twice as many pages as such a
--- database needs, nor on one for twice as many as the file then might have.
+-- What it makes of a file that stood for the map: it stands for the changed one with the wanted
+-- bounds, with at most so many pages more and no more than a database of these needs, or is as it
+-- was, and at every moment for one of the two. It lacks no room on a device for twice as many pages
+-- as such a database needs, nor on one for twice as many as the file then might have.
 pub record ChangesMap {S : Type 0} (s : Ghosts S) (old new : S) (before after : Meta)
-    (map changed : Contents) (most : ℕ) (result : Result Unit PageFault) : Type 0 where
+    (map changed : Contents) (wanted : Bounds) (most : ℕ) (result : Result Unit PageFault)
+    : Type 0 where
   pub done : OnOk result (Holds s new after changed)
+  pub bounds : OnOk result (after.bounds ≡ wanted)
   pub kept : OnErr result ((s.state new).usable ≡ true → s.committed new ≡ s.committed old)
   pub any_moment : LeavesOnly s.moment s.settled_since old new
-      (StandsForEither map changed before.bounds)
+      (StandsForEither map before.bounds changed wanted)
   pub unchanged : OnErr result ((s.state new).usable ≡ true
       → LeavesOnly s.moment s.settled_since old new
       (λ settled. ImageStandsFor settled map before.bounds))
   pub whole : IsErrOf result Damaged → ⊥
   pub grows : OnOk result (((s.state old).end ≤ (s.state new).end)
       × ((s.state new).end ≤ (s.state old).end + most))
-  pub bounded : OnOk result ((s.state new).end ≤ home before.bounds)
+  pub bounded : OnOk result ((s.state new).end ≤ home wanted)
   pub no_room : IsErrOf result NoRoom
-      → ((s.state old).capacity < 2 * home before.bounds)
-      × ((s.state old).capacity < 2 * ((s.state old).end + before.pairs) + 8)
+      → ((s.state old).capacity < 2 * home wanted)
+      × ((s.state old).capacity
+      < 2 * ((s.state old).end + before.pairs + most_taken before.bounds.version))

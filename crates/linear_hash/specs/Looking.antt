@@ -1,20 +1,22 @@
 -- What a look for a key finds.
-use Rattle.std.specs.Prelude.{◌≡◌, ℕ, ◌/◌, ◌%◌, List, slice_index, Option, Some, None}
+use Rattle.std.specs.Prelude.{◌≡◌, ℕ, ◌/◌, ◌%◌, List, length, slice_index, Option, Some, None}
 use Rattle.std.specs.List.{HoldsAt}
-use Rattle.dbm_model.specs.Pairs.{Key}
-use Rattle.page_model.specs.Chain.{Leaf}
-use Rattle.page_model.specs.Pages.{Meta, Body}
+use Rattle.dbm_model.specs.Bounds.{Version}
+use Rattle.dbm_model.specs.Pairs.{Key, Pair}
+use Rattle.page_model.specs.Pages.{Meta, Body, Record}
 use Rattle.page_model.specs.Placement.{key_bucket}
 use Rattle.seg_table.specs.Heads.{HasEntry, SaysSegment}
-use Rattle.slot_page.specs.Contents.{IsBucketPage, HasKeyAt, page_pairs}
-use Rattle.chain_walks.specs.Walks.{IsWalk, LacksKey, EndsWithout, IsPairAt, CanLook}
+use Rattle.slot_page.specs.Contents.{IsPageOf, HasKeyAt, page_records, told_content}
+use Rattle.content_pages.specs.Contents.{IsContentAt}
+use Rattle.chain_walks.specs.Chains.{ReadLeaf}
+use Rattle.chain_walks.specs.Walks.{IsWalk, LacksKey, EndsWithout, IsRecordAt, CanLook}
 use Rattle.chain_walks.specs.declared.place.Place.{Place}
 use Rattle.linear_hash.specs.Tables.{shape_in}
 
--- on any file: the bytes are a page of pairs, and the key is in that slot
-pub record IsHeld (key : Key) (bytes : List ℕ) (slot : ℕ) : Type 0 where
-  pub page : IsBucketPage bytes
-  pub has : HasKeyAt key (page_pairs bytes) slot
+-- on any file: the bytes are a page of records of the version, and the key is in that slot
+pub record IsHeld (version : Version) (key : Key) (bytes : List ℕ) (slot : ℕ) : Type 0 where
+  pub page : IsPageOf version bytes
+  pub has : HasKeyAt key (page_records bytes) slot
 
 -- which segment page has the head of the key's bucket, and where in it
 abbrev pub key_segment : Meta → Key → ℕ
@@ -25,7 +27,8 @@ key_entry m key = key_bucket (shape_in m) key % 508
 
 -- On any file: from the head page that is read for the key's bucket the pages of its chain were
 -- read, none of them but the last has the key, and the last one is as stated.
-pub record IsSearch (at : ℕ → Body) (m : Meta) (key : Key) (Last : Leaf → ℕ → Type 0) : Type 0 where
+pub record IsSearch (at : ℕ → Body) (m : Meta) (key : Key) (Last : ReadLeaf → ℕ → Type 0)
+    : Type 0 where
   pub head : ℕ
   pub segment : HasEntry (at (key_segment m key)) (key_entry m key) head
   pub walk : IsWalk at head (LacksKey key) Last
@@ -34,17 +37,27 @@ pub record IsSearch (at : ℕ → Body) (m : Meta) (key : Key) (Last : Leaf → 
 -- from the bucket's head page on the pages up to the one with the key, or the last, are a chain's.
 pub record CanSearch (at : ℕ → Body) (m : Meta) (end : ℕ) (key : Key) : Type 0 where
   pub segment : SaysSegment at m (key_bucket (shape_in m) key / 508)
-  pub look : CanLook at end (slice_index segment.heads (key_entry m key)) key
+  pub look : CanLook m.bounds.version at end (slice_index segment.heads (key_entry m key)) key
 
--- the search ended at the key's pair, which stands at the place in the page, which the bytes are;
+-- the search ended at the key's record, which stands at the place in the page, which the bytes are;
 -- or behind all pages
-abbrev pub EndsAt : Key → List ℕ → Option Place → Leaf → ℕ → Type 0
+abbrev pub EndsAt : Key → List ℕ → Option Place → ReadLeaf → ℕ → Type 0
 EndsAt key bytes None leaf after = EndsWithout key leaf after
-EndsAt key bytes (Some place) leaf after = IsPairAt key bytes place leaf after
+EndsAt key bytes (Some place) leaf after = IsRecordAt key bytes place leaf after
 
--- the key has this content, which stands in that slot, or none
-abbrev pub IsFound : Key → Option (List ℕ) → List ℕ → Option Place → Type 0
-IsFound key None bytes place = place ≡ None
-IsFound key (Some content) bytes None = ⊥
-IsFound key (Some content) bytes (Some place) =
-    HoldsAt (λ pair. pair ≡ (key, content)) (page_pairs bytes) place.slot
+-- a record says this content: near in its own bytes, far in the pages of which it tells the first
+abbrev pub SaysContent : (ℕ → Body) → List ℕ → List ℕ → Option (ℕ × ℕ) → Type 0
+SaysContent at content bytes None = bytes ≡ content
+SaysContent at content bytes (Some (first, long)) =
+    (length content ≡ long) × IsContentAt at first content
+
+pub record SaysPair (at : ℕ → Body) (pair : Pair) (r : Record) : Type 0 where
+  pub key : r.key ≡ pair.0
+  pub content : SaysContent at pair.1 r.bytes (told_content r)
+
+-- the key has this content, which the record in that slot says, or none
+abbrev pub IsFound : (ℕ → Body) → Key → Option (List ℕ) → List ℕ → Option Place → Type 0
+IsFound at key None bytes place = place ≡ None
+IsFound at key (Some content) bytes None = ⊥
+IsFound at key (Some content) bytes (Some place) =
+    HoldsAt (SaysPair at (key, content)) (page_records bytes) place.slot

@@ -1,5 +1,5 @@
-//! A linear hash table over a store of pages (Litwin 1980): looking a key up, passing over all
-//! keys, and changes, each in one commit.
+//! A linear hash table over a store of pages: looking a key up, passing over all keys, and changes,
+//! each in one commit.
 #![tactic(auto)]
 
 mod changes;
@@ -8,6 +8,6 @@ mod passing;
 mod splitting;
 mod staging;
 
-pub use changes::{delete_pair, store_pair};
+pub use changes::{delete_pair, store_pair, upgrade};
 pub use looking::find_pair;
 pub use passing::next_pair;

@@ -17,10 +17,12 @@ use lin_addr::hash;
 use page_io::{Page, PageFault, PageStore};
 use seg_table::{Meta, head_of};
 
-/// The slot of the least key behind `last`, in the order of a pass, or of the least of all where that
-/// is `None`; `page` is then its page. It looks in the bucket of `last` and then in those that
-/// follow it, and reads a segment page and the pages of a chain for each. It takes no memory of its
-/// own. Damaged is answered as by `head_of` and `lookup`, of the pages read.
+/// The slot of the least key behind `last`, in the order of a pass, or of the least of all where
+/// that is `None`; `page` is then its page. It looks in the bucket of `last` and then in those that
+/// follow it, and reads a segment page and all pages of a chain for each. It takes no memory.
+/// Damaged is answered where one of these pages is none of a segment, or none of a chain of the
+/// file's version; Broken only where the store isn't usable; Device where a read of the device
+/// fails.
 pub fn next_pair<S: PageStore>(
     store: &mut S,
     meta: &Meta,
@@ -52,7 +54,7 @@ pub fn next_pair<S: PageStore>(
     let mut bucket = last.map_or(0, |key| meta.shape.bucket(hash(key)));
     loop {
         let head = head_of(store, meta, bucket, page)?;
-        if let Some(slot) = least_behind(store, head, last, page)? {
+        if let Some(slot) = least_behind(store, head, last, page, meta.version)? {
             return Ok(Some(slot));
         }
         match meta.shape.following(bucket) {

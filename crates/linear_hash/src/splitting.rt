@@ -1,14 +1,13 @@
-//! One bucket more (Litwin 1980).
+//! One bucket more.
 
 ghost use Rattle.std.specs.Prelude.{◌≡◌, ◌+◌, ◌*◌, ◌^◌, ◌<◌, ◌≤◌, All, OnOk, IfOk, IsErrOf, length, map};
-ghost use Rattle.dbm_model.specs.Bounds.{V1};
-ghost use Rattle.dbm_model.specs.Pairs.{IsAllowed};
 ghost use Rattle.page_model.specs.Chain.{numbers};
 ghost use Rattle.page_model.specs.Placement.{Placement, pairs_of, chain_at, opened, split};
 ghost use Rattle.page_model.specs.PageBodies.{first_of};
 ghost use Rattle.dbm_model.specs.Sizes.{segments_for};
 ghost use Rattle.page_model.specs.Valid.{meta_buckets};
 ghost use Rattle.page_io.specs.Answers.{HasDeviceCause};
+ghost use Rattle.page_io.specs.Versions.{model_version};
 ghost use Rattle.page_io.specs.Views.{body_at, StagesOnly, MayEnd};
 ghost use Rattle.page_io.specs.declared.store.PageFault.TheVariants.{NoRoom, Damaged};
 ghost use Rattle.free_pages.specs.FreeList.{HasEnds};
@@ -16,16 +15,16 @@ ghost use Rattle.seg_table.specs.MetaPages.{model_meta};
 ghost use Rattle.seg_table.specs.Heads.{AddsSegment};
 ghost use Rattle.linear_hash.specs.Staging.{IsMidway, IsChangeAnswer, IsGrown, ForEachMidway};
 ghost use Rattle.lin_addr.specs.Shapes.{shape_of};
-ghost use Rattle.chain_walks.specs.Pairs.{pair_of};
+ghost use Rattle.chain_walks.specs.Pairs.{record_as, IsSmall};
 ghost use Rattle.bucket_chain.specs.AnyFile.{AreAdded};
 ghost use Rattle.bucket_chain.specs.Placements.{IsBelow};
 ghost use Rattle.linear_hash.specs.AnyFile.{IsOpened, IsSplit, head_for};
 ghost use Rattle.linear_hash.specs.Splitting.{IsBucketOpened, IsRefilled};
 
-use bucket_chain::{Pair, load_all, put, store_all};
+use bucket_chain::{Pair, load_all, put_record, store_all};
 use free_pages::{FreeState, take};
 use lin_addr::{Shape, hash};
-use page_io::{Page, PageFault, PageStore};
+use page_io::{Page, PageFault, PageStore, Version};
 use seg_table::{Meta, head_of, set_head};
 use slot_page::empty;
 use std::alloc::Global;
@@ -33,7 +32,15 @@ use std::alloc::Global;
 /// The kind of a bucket's head page.
 const HEAD: u8 = 3;
 
-/// Splits bucket `split`: its pairs are put again, in it and in one bucket more.
+/// The head pages of the bucket that is split and of the new one.
+#[derive(Clone, Copy)]
+struct Heads {
+    old: u32,
+    new: u32,
+}
+
+/// Splits bucket `split`: its records are put again, in it and in one bucket more. The pages of
+/// contents stay.
 pub fn split_bucket<S: PageStore>(
     alloc: Global,
     store: &mut S,
@@ -57,25 +64,38 @@ pub fn split_bucket<S: PageStore>(
         (body_at S.PageStore store.old) (body_at S.PageStore store.new) (model_meta meta.old)
         (model_meta meta.new) space.old space.new) }
 
-    // Where at most one page was taken since the last commit, it leaves the model's placement, is
-    // never Damaged, and lacks room only on a device that is no larger than that placement.
+    // Where the chain has no more pages than the last commit's file, it leaves the model's
+    // placement, is never Damaged, and lacks room only on a device that is no larger than that
+    // placement.
     ensures exact { ForEachMidway S.PageStore store.old (model_meta meta.old) space.old (λ p.
-        p.space.end ≤ (S.state store.old).end + 1
+        length (chain_at p p.shape.split) ≤ (S.state store.old).end
         → OnOk result (IsMidway (body_at S.PageStore store.new) (model_meta meta.new)
         space.new (split p))) }
     ensures whole { ForEachMidway S.PageStore store.old (model_meta meta.old) space.old (λ p.
-        p.space.end ≤ (S.state store.old).end + 1 → IsErrOf result Damaged → ⊥) }
+        length (chain_at p p.shape.split) ≤ (S.state store.old).end
+        → IsErrOf result Damaged → ⊥) }
     ensures room { ForEachMidway S.PageStore store.old (model_meta meta.old) space.old (λ p.
-        p.space.end ≤ (S.state store.old).end + 1 → IsErrOf result NoRoom
+        length (chain_at p p.shape.split) ≤ (S.state store.old).end → IsErrOf result NoRoom
         → (S.state store.old).capacity ≤ (split p).space.end) }
 {
     // Every page has a number of four bytes.
     prove!(space.file_end <= u32::MAX);
     let mut page = Page::blank();
     let head = head_of(store, meta, meta.shape.split, &mut page)?;
-    let pairs = load_all(alloc, store, head)?;
+    let pairs = load_all(alloc, store, head, meta.version)?;
     let new_head = open_bucket(store, meta, space, head)?;
-    refill(store, space, meta.shape, head, new_head, pairs.as_slice())?;
+    let heads = Heads {
+        old: head,
+        new: new_head,
+    };
+    refill(
+        store,
+        space,
+        meta.shape,
+        heads,
+        pairs.as_slice(),
+        meta.version,
+    )?;
     meta.shape = meta.shape.grown();
     Ok(())
 }
@@ -106,7 +126,7 @@ fn open_bucket<S: PageStore>(
         → IfOk result (IsOpened (body_at S.PageStore store.old) (body_at S.PageStore store.new)
         (model_meta meta.old) (model_meta meta.new) space.old space.new head) }
 
-    // It leaves the model's placement with no pair in either bucket, is never Damaged, and lacks
+    // It leaves the model's placement with no record in either bucket, is never Damaged, and lacks
     // room only on a device that is no larger than that placement.
     ensures exact { ForEachMidway S.PageStore store.old (model_meta meta.old) space.old (λ p.
         head ≡ first_of (numbers (chain_at p p.shape.split))
@@ -118,7 +138,7 @@ fn open_bucket<S: PageStore>(
         head ≡ first_of (numbers (chain_at p p.shape.split)) → IsErrOf result NoRoom
         → (S.state store.old).capacity ≤ (opened p).space.end) }
 {
-    store_all(store, space, head, &[])?;
+    store_all(store, space, head, &[], meta.version)?;
     let new_head = take(store, space)?;
     store.stage(new_head, &empty(new_head, HEAD, 0))?;
     let bucket = meta.shape.buckets();
@@ -126,16 +146,16 @@ fn open_bucket<S: PageStore>(
     Ok(new_head)
 }
 
-/// Puts the pairs of bucket `split`, which is empty, into it and the new bucket, in order.
+/// Puts the records of bucket `split`, which is empty, into it and the new bucket, in order.
 fn refill<S: PageStore>(
     store: &mut S,
     space: &mut FreeState,
     shape: Shape,
-    head: u32,
-    new_head: u32,
+    heads: Heads,
     pairs: &[Pair],
+    version: Version,
 ) -> Result<(), PageFault>
-    requires { All (λ pair. IsAllowed V1 (pair_of pair)) pairs.now }
+    requires { All (λ pair. IsSmall (model_version version) (record_as pair)) pairs.now }
     ensures stages { StagesOnly S.PageStore store.old store.new }
     ensures cause { HasDeviceCause (S.faults store.old) (S.faults store.new) result }
     ensures answer { IsChangeAnswer (S.state store.old) result }
@@ -143,31 +163,34 @@ fn refill<S: PageStore>(
     ensures may_end { MayEnd (S.state store.old) space.old.file_end
         → OnOk result (MayEnd (S.state store.new) space.new.file_end) }
 
-    // On any file the pairs are added in order, each by one bit of its key's hash.
+    // On any file the records are added in order, each by one bit of its key's hash.
     ensures added { S.honest store.old
         → OnOk result (AreAdded (body_at S.PageStore store.old) (body_at S.PageStore store.new)
         (MayEnd (S.state store.old) space.old.file_end) space.old space.new
-        (head_for shape.level head new_head) (map pair_of pairs.now)) }
+        (head_for shape.level heads.old heads.new) (map record_as pairs.now)) }
 
     // From the opened placement it leaves the split one, is never Damaged, and lacks room only on a
     // device that is no larger than that one.
     ensures exact { S.honest store.old → (p : Placement)
-        → IsRefilled (body_at S.PageStore store.old) space.old (shape_of shape) head new_head
-        (map pair_of pairs.now) p → OnOk result
+        → IsRefilled (model_version version) (body_at S.PageStore store.old) space.old
+        (shape_of shape) heads.old heads.new (map record_as pairs.now) p → OnOk result
         (IsBelow (body_at S.PageStore store.new) space.new (split p)) }
     ensures whole { S.honest store.old → (p : Placement)
-        → IsRefilled (body_at S.PageStore store.old) space.old (shape_of shape) head new_head
-        (map pair_of pairs.now) p → IsErrOf result Damaged → ⊥ }
+        → IsRefilled (model_version version) (body_at S.PageStore store.old) space.old
+        (shape_of shape) heads.old heads.new (map record_as pairs.now) p
+        → IsErrOf result Damaged → ⊥ }
     ensures room { S.honest store.old → (p : Placement)
-        → IsRefilled (body_at S.PageStore store.old) space.old (shape_of shape) head new_head
-        (map pair_of pairs.now) p → IsErrOf result NoRoom
+        → IsRefilled (model_version version) (body_at S.PageStore store.old) space.old
+        (shape_of shape) heads.old heads.new (map record_as pairs.now) p → IsErrOf result NoRoom
         → (S.state store.old).capacity ≤ (split p).space.end }
 {
     let mut page = Page::blank();
     for pair in pairs {
+        // Every page has a number of four bytes.
+        prove!(space.file_end <= u32::MAX);
         let goes_up = shape.split_goes_up(hash(&pair.key));
-        let to = if goes_up { new_head } else { head };
-        put(store, space, to, &pair.key, &pair.content, &mut page)?;
+        let to = if goes_up { heads.new } else { heads.old };
+        put_record(store, space, to, pair, &mut page, version)?;
     }
     Ok(())
 }

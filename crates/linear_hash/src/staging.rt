@@ -2,32 +2,34 @@
 
 ghost use Rattle.std.specs.Prelude.{◌≡◌, ◌+◌, ◌-◌, ◌*◌, ◌<◌, ◌≤◌, ℕ, [], true, false, is_some, IfOk, OnOk, IsErrOf, length, nat_lt, if◌then◌else◌};
 ghost use Rattle.std.specs.FinMap.{get};
-ghost use Rattle.dbm_model.specs.Bounds.{V1};
 ghost use Rattle.dbm_model.specs.Pairs.{IsAllowed};
+ghost use Rattle.dbm_model.specs.Sizes.{pages_for};
+ghost use Rattle.dbm_model.specs.Steps.{holds_far};
 ghost use Rattle.page_model.specs.PairLists.{times};
-ghost use Rattle.page_model.specs.Chain.{pairs_in};
-ghost use Rattle.page_model.specs.Placement.{pairs_of, contents, delete, replace, store as stored, MayStore};
+ghost use Rattle.page_model.specs.Chain.{content_pages, pairs_in};
+ghost use Rattle.page_model.specs.Placement.{pairs_of, contents, chain_at, delete, replace, store as stored, MayStore};
 ghost use Rattle.page_model.specs.Pages.{MetaPage};
 ghost use Rattle.page_model.specs.Valid.{IsMeta, meta_buckets};
 ghost use Rattle.page_io.specs.Answers.{HasDeviceCause, IsStageAnswer};
+ghost use Rattle.page_io.specs.Versions.{model_version};
 ghost use Rattle.page_io.specs.Views.{body_at, StagesOnly, MayEnd};
 ghost use Rattle.page_io.specs.declared.store.PageFault.TheVariants.{Memory, NoRoom, Damaged};
 ghost use Rattle.free_pages.specs.FreeList.{HasEnds};
 ghost use Rattle.seg_table.specs.MetaPages.{model_meta};
 ghost use Rattle.bucket_chain.specs.Answers.{IsRemoveAnswer};
 ghost use Rattle.bucket_chain.specs.AnyFile.{IsTakenOut};
-ghost use Rattle.bucket_chain.specs.Changes.{BecomesPlaced, ForEachPlaced, remove_from};
+ghost use Rattle.bucket_chain.specs.Changes.{BecomesPlaced, LacksFar, ForEachPlaced, remove_from};
 ghost use Rattle.linear_hash.specs.AnyFile.{IsSplitWhere};
 ghost use Rattle.linear_hash.specs.Changing.{IsDeleted, IsStored, PutIn, TookOut};
 ghost use Rattle.linear_hash.specs.Tables.{space_in, shape_in, shape_for, split_where_full, ForEachTable};
 ghost use Rattle.page_commit.specs.Committing.{MayCommit};
-ghost use Rattle.linear_hash.specs.Staging.{IsMidway, IsChangeAnswer, IsStaged, ForEachMidway, WouldSplit};
+ghost use Rattle.linear_hash.specs.Staging.{IsMidway, IsChangeAnswer, IsReplaceAnswer, IsDeleteAnswer, IsKept, IsNewEnd, KeepsEnds, LacksOnlyRoom, IsStaged, ForEachMidway, MayTakeMemory, TakesMemory, removal_pages};
 
 use crate::splitting::split_bucket;
 use bucket_chain::{put, remove};
 use free_pages::FreeState;
 use lin_addr::hash;
-use page_io::{Page, PageFault, PageStore};
+use page_io::{Page, PageFault, PageStore, Version};
 use seg_table::{Meta, head_of, write_meta};
 use std::alloc::Global;
 
@@ -52,26 +54,30 @@ fn take_out<S: PageStore>(
     head: u32,
     key: &[u8],
     page: &mut Page,
+    version: Version,
 ) -> Result<(), PageFault>
     ensures stages { StagesOnly S.PageStore store.old store.new }
-    ensures few { length (S.state store.new).staged ≤ length (S.state store.old).staged + 2 }
+    ensures few { length (S.state store.new).staged
+        ≤ length (S.state store.old).staged + 1 + pages_for (model_version version) }
     ensures cause { HasDeviceCause (S.faults store.old) (S.faults store.new) result }
-    ensures answer { IsRemoveAnswer S.reserved (S.state store.old) result }
+    ensures answer { IsRemoveAnswer S.reserved (pages_for (model_version version))
+        (S.state store.old) result }
     ensures end { space.new.file_end ≡ space.old.file_end }
-    ensures ends { HasEnds space.old → HasEnds space.new }
-    ensures may_end { MayEnd (S.state store.old) space.old.file_end
-        → OnOk result (MayEnd (S.state store.new) space.new.file_end) }
+    ensures keeps { KeepsEnds (S.state store.old) (S.state store.new) space.old space.new result }
     ensures taken_out { S.honest store.old
-        → OnOk result (IsTakenOut (body_at S.PageStore store.old) (body_at S.PageStore store.new)
-        space.old space.new head key.now) }
-    ensures exact { ForEachPlaced S.PageStore store.old space.old head (λ chain s.
-        times key.now (pairs_in chain) ≤ 1
+        → OnOk result (IsTakenOut (model_version version) (body_at S.PageStore store.old)
+        (body_at S.PageStore store.new) space.old space.new head key.now) }
+    ensures exact { ForEachPlaced (model_version version) S.PageStore store.old space.old head
+        (λ chain s. times key.now (pairs_in chain) ≤ 1
         → OnOk result (BecomesPlaced (body_at S.PageStore store.old)
         (body_at S.PageStore store.new) space.new (remove_from (chain, s) key.now))) }
-    ensures whole { ForEachPlaced S.PageStore store.old space.old head (λ chain s.
-        times key.now (pairs_in chain) ≡ 1 → IsErrOf result Damaged → ⊥) }
+    ensures whole { ForEachPlaced (model_version version) S.PageStore store.old space.old head
+        (λ chain s. times key.now (pairs_in chain) ≡ 1 → IsErrOf result Damaged → ⊥) }
+    ensures sparing { ForEachPlaced (model_version version) S.PageStore store.old space.old head
+        (λ chain s. LacksFar key.now chain → IsRemoveAnswer S.reserved 1 (S.state store.old) result
+        × (length (S.state store.new).staged ≤ length (S.state store.old).staged + 2)) }
 {
-    if remove(store, space, head, key, page)? {
+    if remove(store, space, head, key, page, version)? {
         Ok(())
     } else {
         Err(PageFault::Damaged)
@@ -87,18 +93,24 @@ fn replace_pair<S: PageStore>(
     content: &[u8],
     was_there: bool,
 ) -> Result<(), PageFault>
-    requires allowed { IsAllowed V1 (key.now, content.now) }
+    requires allowed { IsAllowed (model_version meta.now.version) (key.now, content.now) }
     requires valid { IsMeta (model_meta meta.now) }
     ensures stages { StagesOnly S.PageStore store.old store.new }
-    ensures few { length (S.state store.new).staged ≤ length (S.state store.old).staged + 4 }
+    ensures few { length (S.state store.new).staged ≤ length (S.state store.old).staged + 2
+        + content_pages (key.now, content.now)
+        + removal_pages (model_version meta.now.version) was_there }
     ensures cause { HasDeviceCause (S.faults store.old) (S.faults store.new) result }
-    ensures answer { IsChangeAnswer (S.state store.old) result }
-    ensures memory { IsErrOf result Memory
-        → S.reserved ≤ length (S.state store.old).staged + 3 }
-    ensures ends { HasEnds space.old → HasEnds space.new }
-    ensures may_end { MayEnd (S.state store.old) space.old.file_end
-        → OnOk result (MayEnd (S.state store.new) space.new.file_end) }
-    ensures room { IsErrOf result NoRoom → (S.state store.old).capacity ≤ space.old.file_end }
+    ensures answer { IsReplaceAnswer S.reserved (S.state store.old) space.old
+        (content_pages (key.now, content.now))
+        (removal_pages (model_version meta.now.version) was_there) result }
+    ensures sparing { ForEachMidway S.PageStore store.old (model_meta meta.now) space.old (λ p.
+        was_there ≡ is_some (get (contents p) key.now)
+        → holds_far key.now (get (contents p) key.now) ≡ false
+        → (IsErrOf result Memory → S.reserved ≤ length (S.state store.old).staged + 3
+        + content_pages (key.now, content.now))
+        × (length (S.state store.new).staged ≤ length (S.state store.old).staged + 4
+        + content_pages (key.now, content.now))) }
+    ensures keeps { KeepsEnds (S.state store.old) (S.state store.new) space.old space.new result }
 
     // On any file the pair is put into the chain of its bucket.
     ensures put_in { S.honest store.old
@@ -112,12 +124,14 @@ fn replace_pair<S: PageStore>(
     ensures whole { ForEachMidway S.PageStore store.old (model_meta meta.now) space.old (λ p.
         was_there ≡ is_some (get (contents p) key.now) → IsErrOf result Damaged → ⊥) }
 {
+    // Every page has a number of four bytes.
+    prove!(space.file_end <= u32::MAX);
     let mut page = Page::blank();
     let head = head_of(store, meta, meta.shape.bucket(hash(key)), &mut page)?;
     if was_there {
-        take_out(store, space, head, key, &mut page)?;
+        take_out(store, space, head, key, &mut page, meta.version)?;
     }
-    put(store, space, head, key, content, &mut page)
+    put(store, space, head, key, content, &mut page, meta.version)
 }
 
 /// Splits one bucket where there are too many pairs.
@@ -136,12 +150,9 @@ fn split_if_full<S: PageStore>(
     ensures answer { IsChangeAnswer (S.state store.old) result }
     ensures memory { IsErrOf result Memory
         → 8 * meta_buckets (model_meta meta.old) < meta.old.pairs }
-    ensures valid { OnOk result (IsMeta
-        (record (model_meta meta.new) { free_head = 0; free_count = 0 })) }
-    ensures kept { OnOk result ((meta.new.limit ≡ meta.old.limit)
-        × (meta.new.pairs ≡ meta.old.pairs)) }
-    ensures shape { OnOk result (shape_in (model_meta meta.new)
-        ≡ shape_for meta.new.pairs (shape_in (model_meta meta.old))) }
+    ensures kept { OnOk result (IsKept (model_meta meta.old)
+        (record (model_meta meta.new) { free_head = 0; free_count = 0 }) meta.old.pairs
+        (shape_for meta.new.pairs (shape_in (model_meta meta.old)))) }
     ensures still { meta.old.pairs ≤ 8 * meta_buckets (model_meta meta.old)
         → (store.new ≡ store.old) × (model_meta meta.new ≡ model_meta meta.old)
         × (space.new ≡ space.old) }
@@ -151,18 +162,19 @@ fn split_if_full<S: PageStore>(
         (MayEnd (S.state store.old) space.old.file_end) (body_at S.PageStore store.old)
         (body_at S.PageStore store.new) (model_meta meta.old) (model_meta meta.new) space.old
         space.new) }
-    ensures ends { HasEnds space.old → HasEnds space.new }
-    ensures may_end { MayEnd (S.state store.old) space.old.file_end
-        → OnOk result (MayEnd (S.state store.new) space.new.file_end) }
+    ensures keeps { KeepsEnds (S.state store.old) (S.state store.new) space.old space.new result }
+
+    // Where the chain of the bucket that may be split has no more pages than the last commit's
+    // file, it leaves the model's placement, lacks room only on a device that is no larger than
+    // that placement, and is never Damaged.
     ensures exact { ForEachMidway S.PageStore store.old (model_meta meta.old) space.old (λ p.
-        p.space.end ≤ (S.state store.old).end + 1 → meta.old.pairs ≡ length (pairs_of p)
+        length (chain_at p p.shape.split) ≤ (S.state store.old).end
+        → meta.old.pairs ≡ length (pairs_of p)
         → OnOk result (IsMidway (body_at S.PageStore store.new) (model_meta meta.new) space.new
-        (split_where_full p))) }
+        (split_where_full p)) × (IsErrOf result NoRoom
+        → (S.state store.old).capacity ≤ (split_where_full p).space.end)) }
     ensures whole { ForEachMidway S.PageStore store.old (model_meta meta.old) space.old (λ p.
-        p.space.end ≤ (S.state store.old).end + 1 → IsErrOf result Damaged → ⊥) }
-    ensures room { ForEachMidway S.PageStore store.old (model_meta meta.old) space.old (λ p.
-        p.space.end ≤ (S.state store.old).end + 1 → meta.old.pairs ≡ length (pairs_of p)
-        → IsErrOf result NoRoom → (S.state store.old).capacity ≤ (split_where_full p).space.end) }
+        length (chain_at p p.shape.split) ≤ (S.state store.old).end → IsErrOf result Damaged → ⊥) }
 {
     if meta.pairs > PER_BUCKET * meta.shape.buckets() {
         split_bucket(alloc, store, meta, space)?;
@@ -179,6 +191,7 @@ fn stage_meta<S: PageStore>(
     requires valid { IsMeta (record (model_meta meta.old) { free_head = 0; free_count = 0 }) }
     requires ends { HasEnds space }
     ensures stages { StagesOnly S.PageStore store.old store.new }
+    ensures few { length (S.state store.new).staged ≤ length (S.state store.old).staged + 1 }
     ensures cause { HasDeviceCause (S.faults store.old) (S.faults store.new) result }
     ensures answer { IsStageAnswer S.reserved (S.state store.old) 1 result }
     ensures valid { IsMeta (model_meta meta.new) }
@@ -186,9 +199,7 @@ fn stage_meta<S: PageStore>(
         ≡ record (model_meta meta.old) { free_head = space.head; free_count = space.count } }
     ensures end { IfOk result (λ end. end ≡ space.file_end) }
     ensures may_commit { MayEnd (S.state store.old) space.file_end
-        → IfOk result (MayCommit (S.state store.new)) }
-    ensures grows { MayEnd (S.state store.old) space.file_end
-        → IfOk result (λ end. (S.state store.old).end ≤ end) }
+        → IfOk result (IsNewEnd (S.state store.old) (S.state store.new)) }
     ensures page { S.honest store.old
         → OnOk result (body_at S.PageStore store.new 1 ≡ MetaPage (model_meta meta.new)) }
     ensures others { S.honest store.old → (n : ℕ) → (n ≡ 1 → ⊥)
@@ -219,22 +230,22 @@ pub fn stage_store<S: PageStore>(
     content: &[u8],
     was_there: bool,
 ) -> Result<u32, PageFault>
-    requires allowed { IsAllowed V1 (key.now, content.now) }
+    requires allowed { IsAllowed (model_version meta.old.version) (key.now, content.now) }
     requires idle { (S.state store.old).staged ≡ [] }
     requires valid { IsMeta (model_meta meta.old) }
     requires room { was_there ≡ false → meta.old.pairs < meta.old.limit }
     ensures stages { StagesOnly S.PageStore store.old store.new }
     ensures cause { HasDeviceCause (S.faults store.old) (S.faults store.new) result }
     ensures answer { IsChangeAnswer (S.state store.old) result }
-    ensures memory { IsErrOf result Memory → WouldSplit (model_meta meta.old) was_there }
-    ensures valid { OnOk result (IsMeta (model_meta meta.new)) }
-    ensures limit { OnOk result (meta.new.limit ≡ meta.old.limit) }
-    ensures pairs { OnOk result (meta.new.pairs
-        ≡ (if was_there then meta.old.pairs else meta.old.pairs + 1)) }
-    ensures shape { OnOk result (shape_in (model_meta meta.new)
-        ≡ shape_for meta.new.pairs (shape_in (model_meta meta.old))) }
-    ensures may_commit { IfOk result (MayCommit (S.state store.new)) }
-    ensures grows { IfOk result (λ end. (S.state store.old).end ≤ end) }
+    ensures memory { IsErrOf result Memory
+        → MayTakeMemory (model_meta meta.old) was_there (key.now, content.now) }
+    ensures sparing { ForEachTable S.PageStore store.old (model_meta meta.old) (λ p.
+        was_there ≡ is_some (get (contents p) key.now) → IsErrOf result Memory
+        → TakesMemory (model_meta meta.old) p was_there (key.now, content.now)) }
+    ensures kept { OnOk result (IsKept (model_meta meta.old) (model_meta meta.new)
+        (if was_there then meta.old.pairs else meta.old.pairs + 1)
+        (shape_for meta.new.pairs (shape_in (model_meta meta.old)))) }
+    ensures may_commit { IfOk result (IsNewEnd (S.state store.old) (S.state store.new)) }
 
     // On any file the pair is put into its bucket, and one is split where that is due.
     ensures stored { S.honest store.old
@@ -243,16 +254,15 @@ pub fn stage_store<S: PageStore>(
         (S.state store.old).end end (key.now, content.now)) }
 
     // On the pages of a good placement it leaves the model's, is never Damaged, and lacks room only
-    // on a device that is no larger than the model's.
+    // on a device that is no larger than the model's and the pages of the content.
     ensures exact { ForEachTable S.PageStore store.old (model_meta meta.old) (λ p.
         MayStore p (key.now, content.now) → was_there ≡ is_some (get (contents p) key.now)
         → IfOk result (λ end. IsStaged (body_at S.PageStore store.new) (model_meta meta.new) end
         (stored p (key.now, content.now)))) }
-    ensures whole { ForEachTable S.PageStore store.old (model_meta meta.old) (λ p.
-        was_there ≡ is_some (get (contents p) key.now) → IsErrOf result Damaged → ⊥) }
-    ensures no_room { ForEachTable S.PageStore store.old (model_meta meta.old) (λ p.
-        was_there ≡ is_some (get (contents p) key.now) → IsErrOf result NoRoom
-        → (S.state store.old).capacity ≤ (stored p (key.now, content.now)).space.end) }
+    ensures refused { ForEachTable S.PageStore store.old (model_meta meta.old) (λ p.
+        was_there ≡ is_some (get (contents p) key.now) → LacksOnlyRoom (S.state store.old).capacity
+        ((stored p (key.now, content.now)).space.end + content_pages (key.now, content.now))
+        result) }
 {
     let mut space = space_of(meta, store.end());
     replace_pair(store, meta, &mut space, key, content, was_there)?;
@@ -270,23 +280,31 @@ fn remove_key<S: PageStore>(
 ) -> Result<(), PageFault>
     requires { IsMeta (model_meta meta.now) }
     ensures stages { StagesOnly S.PageStore store.old store.new }
-    ensures few { length (S.state store.new).staged ≤ length (S.state store.old).staged + 2 }
+    ensures few { length (S.state store.new).staged ≤ length (S.state store.old).staged + 1
+        + pages_for (model_version meta.now.version) }
     ensures cause { HasDeviceCause (S.faults store.old) (S.faults store.new) result }
-    ensures answer { IsRemoveAnswer S.reserved (S.state store.old) result }
-    ensures ends { HasEnds space.old → HasEnds space.new }
-    ensures may_end { MayEnd (S.state store.old) space.old.file_end
-        → OnOk result (MayEnd (S.state store.new) space.new.file_end) }
+    ensures answer { IsRemoveAnswer S.reserved (pages_for (model_version meta.now.version))
+        (S.state store.old) result }
+    ensures sparing { ForEachMidway S.PageStore store.old (model_meta meta.now) space.old (λ p.
+        holds_far key.now (get (contents p) key.now) ≡ false
+        → IsRemoveAnswer S.reserved 1 (S.state store.old) result
+        × (length (S.state store.new).staged ≤ length (S.state store.old).staged + 2)) }
+    ensures end { space.new.file_end ≡ space.old.file_end }
+    ensures keeps { KeepsEnds (S.state store.old) (S.state store.new) space.old space.new result }
     ensures took_out { S.honest store.old
         → OnOk result (TookOut (body_at S.PageStore store.old) (model_meta meta.now) space.old
         key.now (body_at S.PageStore store.new) space.new) }
     ensures exact { ForEachMidway S.PageStore store.old (model_meta meta.now) space.old (λ p.
-        OnOk result (IsMidway (body_at S.PageStore store.new) (model_meta meta.now) space.new (delete p key.now))) }
+        OnOk result (IsMidway (body_at S.PageStore store.new) (model_meta meta.now) space.new
+        (delete p key.now))) }
     ensures whole { ForEachMidway S.PageStore store.old (model_meta meta.now) space.old (λ p.
         is_some (get (contents p) key.now) ≡ true → IsErrOf result Damaged → ⊥) }
 {
+    // Every page has a number of four bytes.
+    prove!(space.file_end <= u32::MAX);
     let mut page = Page::blank();
     let head = head_of(store, meta, meta.shape.bucket(hash(key)), &mut page)?;
-    take_out(store, space, head, key, &mut page)
+    take_out(store, space, head, key, &mut page, meta.version)
 }
 
 /// Stages what the delete of a key that is there changes, and answers where the file then ends.
@@ -300,15 +318,15 @@ pub fn stage_delete<S: PageStore>(
     requires some { 0 < meta.old.pairs }
     ensures stages { StagesOnly S.PageStore store.old store.new }
     ensures cause { HasDeviceCause (S.faults store.old) (S.faults store.new) result }
-    ensures answer { IsChangeAnswer (S.state store.old) result }
-    ensures no_room { IsErrOf result NoRoom → ⊥ }
-    ensures no_memory { IsErrOf result Memory → ⊥ }
-    ensures valid { OnOk result (IsMeta (model_meta meta.new)) }
-    ensures limit { OnOk result (meta.new.limit ≡ meta.old.limit) }
-    ensures pairs { OnOk result (meta.new.pairs + 1 ≡ meta.old.pairs) }
-    ensures shape { OnOk result (shape_in (model_meta meta.new) ≡ shape_in (model_meta meta.old)) }
-    ensures may_commit { IfOk result (MayCommit (S.state store.new)) }
-    ensures grows { IfOk result (λ end. (S.state store.old).end ≤ end) }
+    ensures few { length (S.state store.new).staged
+        ≤ 2 + pages_for (model_version meta.old.version) }
+    ensures answer { IsDeleteAnswer (S.state store.old) (model_version meta.old.version) result }
+    ensures no_memory { ForEachTable S.PageStore store.old (model_meta meta.old) (λ p.
+        holds_far key.now (get (contents p) key.now) ≡ false → IsErrOf result Memory → ⊥) }
+    ensures end { IfOk result (λ end. end ≡ (S.state store.old).end) }
+    ensures kept { OnOk result (IsKept (model_meta meta.old) (model_meta meta.new)
+        (meta.old.pairs - 1) (shape_in (model_meta meta.old))) }
+    ensures may_commit { IfOk result (IsNewEnd (S.state store.old) (S.state store.new)) }
 
     // On any file the key is taken out of its bucket.
     ensures deleted { S.honest store.old
@@ -320,12 +338,30 @@ pub fn stage_delete<S: PageStore>(
     ensures exact { ForEachTable S.PageStore store.old (model_meta meta.old) (λ p.
         is_some (get (contents p) key.now) ≡ true
         → IfOk result (λ end. IsStaged (body_at S.PageStore store.new) (model_meta meta.new) end
-        (delete p key.now))) }
-    ensures whole { ForEachTable S.PageStore store.old (model_meta meta.old) (λ p.
-        is_some (get (contents p) key.now) ≡ true → IsErrOf result Damaged → ⊥) }
+        (delete p key.now)) × (IsErrOf result Damaged → ⊥)) }
 {
     let mut space = space_of(meta, store.end());
     remove_key(store, meta, &mut space, key)?;
     meta.pairs -= 1;
+    stage_meta(store, meta, space)
+}
+
+/// Stages the meta page of an upgrade, and answers where the file ends.
+pub fn stage_upgrade<S: PageStore>(store: &mut S, meta: &mut Meta) -> Result<u32, PageFault>
+    requires idle { (S.state store.old).staged ≡ [] }
+    requires valid { IsMeta (model_meta meta.old) }
+    ensures stages { StagesOnly S.PageStore store.old store.new }
+    ensures cause { HasDeviceCause (S.faults store.old) (S.faults store.new) result }
+    ensures few { length (S.state store.new).staged ≤ 1 }
+    ensures answer { IsStageAnswer S.reserved (S.state store.old) 1 result }
+    ensures meta { model_meta meta.new ≡ model_meta meta.old }
+    ensures may_commit { IfOk result (MayCommit (S.state store.new)) }
+    ensures end { IfOk result (λ end. end ≡ (S.state store.old).end) }
+    ensures page { S.honest store.old
+        → OnOk result (body_at S.PageStore store.new 1 ≡ MetaPage (model_meta meta.new)) }
+    ensures others { S.honest store.old → (n : ℕ) → (n ≡ 1 → ⊥)
+        → body_at S.PageStore store.new n ≡ body_at S.PageStore store.old n }
+{
+    let space = space_of(meta, store.end());
     stage_meta(store, meta, space)
 }

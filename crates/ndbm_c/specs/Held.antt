@@ -1,12 +1,15 @@
 -- A call by way of a handle.
-use Rattle.std.specs.Prelude.{◌≡◌, ℕ, ℤ, pos, List, Option, Some, None}
+use Rattle.std.specs.Prelude.{◌≡◌, ℕ, ℤ, pos, List, [], Option, Some, None}
 use Rattle.std.specs.Borrow.{Bor}
-use Rattle.dbm_model.specs.Calls.{Broken, Call}
+use Rattle.dbm_model.specs.Bounds.{V1}
+use Rattle.dbm_model.specs.Calls.{Broken, Call, Upgrade}
 use Rattle.dbm_model.specs.Pairs.{Pair}
-use Rattle.dbm_file.specs.Changing.{WasStored, WasDeleted}
+use Rattle.dbm_file.specs.Changing.{WasStored, WasDeleted, WasUpgraded}
+use Rattle.dbm_file.specs.Database.{meta_kept, AtEachHandle}
 use Rattle.dbm_file.specs.Opened.{device_below}
+use Rattle.dbm_file.specs.Passing.{pass_of}
 use Rattle.listed_dev.specs.declared.listed_dev.ListedDev.{ListedDev}
-use Rattle.ndbm_calls.specs.Statuses.{refusal_of, IsAnswered}
+use Rattle.ndbm_calls.specs.Statuses.{refusal_of, IsAnswered, IsRaised, IsTold}
 use Rattle.ndbm_c.specs.declared.handle.Open.{Open}
 use Rattle.ndbm_c.specs.declared.handle.Open.TheVariants.{Nothing, Device, Database}
 use Rattle.ndbm_c.specs.declared.handle.Opened.{Opened}
@@ -31,6 +34,16 @@ OnDatabase old new status Goes = OnHandle old new status (λ o n s. OnOpen o n s
 -- by a call
 pub record Calls (call : Call) (status : ℤ) (bytes : List ℕ) (old new : Opened) : Type 0 where
   pub answered : IsAnswered old.db new.db call status bytes
+  pub group : new.group ≡ old.group
+
+-- The database has version 2 now, or was refused. On any file of version 1 nothing but the version has
+-- changed where it is done.
+pub record Upgrades (status : ℤ) (old new : Opened) : Type 0 where
+  pub step : AtEachHandle old.db (λ h. IsTold old.db new.db h Upgrade status [])
+  pub ends : IsRaised old.db new.db status
+  pub pass : pass_of new.db ≡ pass_of old.db
+  pub upgraded : status ≡ pos 0 → (meta_kept old.db).bounds.version ≡ V1
+      → WasUpgraded old.db new.db
   pub group : new.group ≡ old.group
 
 -- on any file: where it is done, the pair was put into its bucket, and the key was taken out of it

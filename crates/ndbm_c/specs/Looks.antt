@@ -1,5 +1,6 @@
 -- What C is told of a database, which stays as it is.
 use Rattle.std.specs.Prelude.{◌≡◌, ℕ, ℤ, pos}
+use Rattle.dbm_model.specs.Bounds.{version_number}
 use Rattle.dbm_model.specs.Calls.{Error, Clear, Number, Damaged}
 use Rattle.dbm_model.specs.States.{error_number}
 use Rattle.page_model.specs.Valid.{meta_buckets}
@@ -42,6 +43,11 @@ pub record HasNumbers (opened : Opened) (numbers : Numbers) : Type 0 where
 pub record TellsNumbers (status : ℤ) (numbers : Numbers) (old new : Opened) : Type 0 where
   pub zero : status ≡ pos 0
   pub told : HasNumbers old numbers
+  pub same : new ≡ old
+
+-- the number of the version of its format
+pub record TellsVersion (status : ℤ) (old new : Opened) : Type 0 where
+  pub number : status ≡ pos (version_number (meta_kept old.db).bounds.version)
   pub same : new ≡ old
 
 -- the committed pages are a good file

@@ -1,5 +1,5 @@
 -- A device over a file that C serves, and the database on it.
-use Rattle.std.specs.Prelude.{◌≡◌, ◌≢◌, ◌⊎◌, ◌/◌, ℕ, ℤ, pos, true, false, if◌then◌else◌, [], Option, Some, None}
+use Rattle.std.specs.Prelude.{◌≡◌, ◌≢◌, ◌⊎◌, ◌/◌, ℤ, pos, true, false, if◌then◌else◌, [], Option, Some, None}
 use Rattle.dbm_model.specs.Bounds.{Bounds}
 use Rattle.sect_dev.specs.Device.{IsStable, LeavesOnly, MoreFaults}
 use Rattle.sect_dev.specs.Moments.{IsOutcome}
@@ -13,6 +13,7 @@ use Rattle.dbm_fault.specs.declared.fault.Fault.TheVariants as faults
 use Rattle.file_opening.specs.Opening.{writes, early_fault, IsRefusedOpening, MayRemain, AllAllow, AllStand, KeepsMeta, IsOpened}
 use Rattle.file_opening.specs.declared.open_how.OpenHow.{OpenHow}
 use Rattle.file_opening.specs.declared.open_how.Access.TheVariants.{ReadOnly, ReadWrite}
+use Rattle.page_io.specs.declared.version.Version.TheVariants.{V1, V2}
 use Rattle.dbm_file.specs.Database.{meta_kept}
 use Rattle.dbm_file.specs.Opened.{device_below, HasRoom, IsNewlyOpened, IsOpenedAt}
 use Rattle.listed_dev.specs.Listed.{history, list_of}
@@ -35,6 +36,7 @@ how_of how = record {
   exclusive = how.exclusive;
   truncate = how.truncate;
   limit = how.limit;
+  version = if how.first_version then V1 else V2;
 }
 
 -- it holds a device of the file's size, to which happened what happened to the file
@@ -62,7 +64,7 @@ pub record IsOpening (how : OpenHow) (dev : ListedDev) (opened : Opened) : Type 
   -- what is kept of the meta page is what a file at the start says, whatever else is in it
   pub keeps : KeepsMeta how (served.sectors dev) (served.candidate dev) (meta_kept opened.db)
   pub only_reads : writes how.access ≡ false → OnlyReads served dev (device_below opened.db)
-  pub room : served.sectors dev ≡ 9001992 → HasRoom opened.db
+  pub room : served.sectors dev ≡ 273001992 → HasRoom opened.db
   pub group : pairs_in opened.group ≡ []
 
 -- It was refused by this fault, which says so of the device, and the device was left so.

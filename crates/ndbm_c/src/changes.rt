@@ -2,7 +2,7 @@
 ghost use Rattle.std.specs.Prelude.{◌≡◌, ◌≢◌, [], pos, if◌then◌else◌};
 ghost use Rattle.dbm_model.specs.Calls.{Store, Delete, Insert, Replace};
 ghost use Rattle.ndbm_c.specs.Groups.{Adds, StoresAdded, Syncs};
-ghost use Rattle.ndbm_c.specs.Held.{OnDatabase, Calls, StoresIn, DeletesIn};
+ghost use Rattle.ndbm_c.specs.Held.{OnDatabase, Calls, StoresIn, DeletesIn, Upgrades};
 
 use crate::handle::Handle;
 use dbm_file::Fault;
@@ -43,6 +43,20 @@ pub extern "C" fn ndbm_c_delete(alloc: Global, handle: &mut Handle, key: &[u8]) 
         return refusal(Fault::Broken);
     };
     let status = held.delete(key);
+    handle.put(held);
+    status
+}
+
+/// Makes the database one of version 2: 0, also where it is one.
+#[unsafe(no_mangle)]
+pub extern "C" fn ndbm_c_upgrade(alloc: Global, handle: &mut Handle) -> i32
+    ensures answered { OnDatabase handle.old.held handle.new.held result
+        (Upgrades result) }
+{
+    let Some(mut held) = handle.take(alloc) else {
+        return refusal(Fault::Broken);
+    };
+    let status = held.upgrade();
     handle.put(held);
     status
 }

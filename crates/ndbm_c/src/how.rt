@@ -2,7 +2,7 @@
 ghost use Rattle.std.specs.Prelude.{◌≡◌};
 ghost use Rattle.ndbm_c.specs.Opening.{how_of};
 
-use dbm_file::{Access, OpenHow};
+use dbm_file::{Access, OpenHow, Version};
 use sect_dev::Past;
 
 /// A file that C serves.
@@ -22,6 +22,8 @@ pub struct How {
     pub create: bool,
     pub exclusive: bool,
     pub truncate: bool,
+    /// Whether a database that is made or emptied is one of version 1; else it is one of version 2.
+    pub first_version: bool,
     pub limit: u32,
 }
 
@@ -39,6 +41,11 @@ impl How {
             exclusive: self.exclusive,
             truncate: self.truncate,
             limit: self.limit,
+            version: if self.first_version {
+                Version::V1
+            } else {
+                Version::V2
+            },
         }
     }
 }

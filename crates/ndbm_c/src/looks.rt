@@ -1,6 +1,6 @@
 // Calls that change nothing but the error.
 ghost use Rattle.std.specs.Prelude.{◌≡◌, ◌≢◌, pos};
-ghost use Rattle.ndbm_c.specs.Looks.{TellsError, Clears, TellsNumbers, Verifies};
+ghost use Rattle.ndbm_c.specs.Looks.{TellsError, Clears, TellsNumbers, TellsVersion, Verifies};
 ghost use Rattle.ndbm_c.specs.Held.{OnDatabase};
 
 use crate::handle::Handle;
@@ -48,6 +48,20 @@ pub extern "C" fn ndbm_c_stat(alloc: Global, handle: &mut Handle, numbers: &mut 
         return refusal(Fault::Broken);
     };
     let status = held.stat(numbers);
+    handle.put(held);
+    status
+}
+
+/// The number of the version of the database's format, 1 or 2.
+#[unsafe(no_mangle)]
+pub extern "C" fn ndbm_c_version(alloc: Global, handle: &mut Handle) -> i32
+    ensures answered { OnDatabase handle.old.held handle.new.held result
+        (TellsVersion result) }
+{
+    let Some(mut held) = handle.take(alloc) else {
+        return refusal(Fault::Broken);
+    };
+    let status = held.version();
     handle.put(held);
     status
 }

@@ -1,8 +1,11 @@
 // The numbers of a database, as C gets them.
-ghost use Rattle.std.specs.Prelude.{◌≡◌};
+ghost use Rattle.std.specs.Prelude.{◌≡◌, pos};
+ghost use Rattle.dbm_model.specs.Bounds.{version_number};
+ghost use Rattle.dbm_file.specs.Database.{meta_kept};
 ghost use Rattle.ndbm_c.specs.Looks.{HasNumbers};
 
 use crate::handle::Opened;
+use dbm_file::Version;
 
 /// As `Stat` of `dbm_file` has them.
 #[repr(C)]
@@ -31,6 +34,16 @@ impl Opened {
             split: stat.split,
             pages: stat.pages,
             free: stat.free,
+        }
+    }
+
+    /// The number of the version of its format.
+    pub(crate) fn version_number(&self) -> i32
+        ensures { result ≡ pos (version_number (meta_kept self.now.db).bounds.version) }
+    {
+        match self.db.version() {
+            Version::V1 => 1,
+            Version::V2 => 2,
         }
     }
 }

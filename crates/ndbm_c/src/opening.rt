@@ -13,7 +13,7 @@ use std::alloc::Global;
 /// How many sectors the device over any file has.
 #[unsafe(no_mangle)]
 pub extern "C" fn ndbm_c_file_sectors() -> u32
-    ensures { result ≡ 9001992 }
+    ensures { result ≡ 273001992 }
 {
     FILE_SECTORS
 }

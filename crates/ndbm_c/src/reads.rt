@@ -5,7 +5,7 @@ ghost use Rattle.ndbm_c.specs.Held.{OnDatabase, Calls};
 
 use crate::handle::Handle;
 use dbm_file::Fault;
-use ndbm_calls::{ROOM, refusal};
+use ndbm_calls::{CONTENT_ROOM, KEY_ROOM, refusal};
 use std::alloc::Global;
 
 /// The content of a key: 0, or 1 where the key isn't there.
@@ -14,13 +14,13 @@ pub extern "C" fn ndbm_c_fetch(
     alloc: Global,
     handle: &mut Handle,
     key: &[u8],
-    out: &mut [u8; ROOM],
+    out: &mut [u8; CONTENT_ROOM],
     length: &mut usize,
 ) -> i32
     ensures answered { OnDatabase handle.old.held handle.new.held result
         (Calls (Fetch key.now) result (take length.new out.new)) }
     ensures same { result ≢ pos 0 → (out.new ≡ out.old) × (length.new ≡ length.old) }
-    ensures short { result ≡ pos 0 → length.new ≤ 2026 }
+    ensures short { result ≡ pos 0 → length.new ≤ 65535 }
 {
     let Some(mut held) = handle.take(alloc) else {
         return refusal(Fault::Broken);
@@ -35,7 +35,7 @@ pub extern "C" fn ndbm_c_fetch(
 pub extern "C" fn ndbm_c_firstkey(
     alloc: Global,
     handle: &mut Handle,
-    out: &mut [u8; ROOM],
+    out: &mut [u8; KEY_ROOM],
     length: &mut usize,
 ) -> i32
     ensures answered { OnDatabase handle.old.held handle.new.held result
@@ -56,7 +56,7 @@ pub extern "C" fn ndbm_c_firstkey(
 pub extern "C" fn ndbm_c_nextkey(
     alloc: Global,
     handle: &mut Handle,
-    out: &mut [u8; ROOM],
+    out: &mut [u8; KEY_ROOM],
     length: &mut usize,
 ) -> i32
     ensures answered { OnDatabase handle.old.held handle.new.held result

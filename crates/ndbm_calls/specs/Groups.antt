@@ -4,7 +4,7 @@ use Rattle.dbm_model.specs.Calls.{Memory}
 use Rattle.dbm_model.specs.Pairs.{Pair}
 use Rattle.dbm_model.specs.States.{Handle}
 use Rattle.page_io.specs.declared.store.PageStore.{Ghosts}
-use Rattle.chain_walks.specs.Pairs.{pair_of}
+use Rattle.dbm_file.specs.Pairs.{pair_of}
 use Rattle.dbm_fault.specs.Faults.{fault_of}
 use Rattle.dbm_fault.specs.declared.fault.Fault.{Fault}
 use Rattle.dbm_file.specs.Groups.{IsGroup, IsGroupRefused}

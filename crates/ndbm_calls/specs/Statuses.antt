@@ -1,12 +1,14 @@
 -- What a status tells C.
 use Rattle.std.specs.Prelude.{◌≡◌, ◌⊎◌, ℕ, ℤ, pos, neg_ℤ, List, Result, Ok, Err}
-use Rattle.dbm_model.specs.Calls.{Call, Reply, Fault, number_of, Stored, Kept, Deleted, Absent, Bytes, NoRecord, End, Number, Upgraded, Refused}
+use Rattle.dbm_model.specs.Calls.{Call, Upgrade, Reply, Fault, number_of, Stored, Kept, Deleted, Absent, Bytes, NoRecord, End, Number, Upgraded, Refused}
 use Rattle.dbm_model.specs.States.{Handle}
 use Rattle.page_io.specs.declared.store.PageStore.{Ghosts}
 use Rattle.dbm_fault.specs.Faults.{fault_of}
 use Rattle.dbm_fault.specs.declared.fault.Fault as code
-use Rattle.dbm_file.specs.Answers.{IsStep, IsCallEnded}
-use Rattle.dbm_file.specs.Database.{AtEachHandle}
+use Rattle.dbm_model.specs.Changes.{bounds_after}
+use Rattle.dbm_file.specs.Answers.{IsStep, IsCallEnded, IsCallEndedWith}
+use Rattle.dbm_file.specs.Calls.{upgrade_reply}
+use Rattle.dbm_file.specs.Database.{meta_kept, AtEachHandle}
 use Rattle.dbm_file.specs.declared.database.Database.{Database}
 
 -- a refusal: minus the number of the fault
@@ -58,6 +60,13 @@ pub record IsEnded {S : Type 0} {s : Ghosts S} (old new : Database S s) (status 
 pub record IsDone {S : Type 0} {s : Ghosts S} (old new : Database S s) (status : ℤ) : Type 0 where
   pub answer : Result Unit code.Fault
   pub ended : IsCallEnded old new answer
+  pub told : DoneTells answer status
+
+-- on any device: an upgrade ended as one of `dbm_file` does
+pub record IsRaised {S : Type 0} {s : Ghosts S} (old new : Database S s) (status : ℤ) : Type 0 where
+  pub answer : Result Unit code.Fault
+  pub ended : IsCallEndedWith
+      (bounds_after (meta_kept old).bounds Upgrade (upgrade_reply answer)) old new answer
   pub told : DoneTells answer status
 
 -- The call was made and is told by the status, with these bytes where it gives some.

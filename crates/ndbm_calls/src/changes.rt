@@ -1,12 +1,13 @@
 // Calls that change the database.
 ghost use Rattle.std.specs.Prelude.{◌≡◌, true, pos, []};
-ghost use Rattle.dbm_model.specs.Calls.{Store, Delete};
+ghost use Rattle.dbm_model.specs.Bounds.{V1};
+ghost use Rattle.dbm_model.specs.Calls.{Store, Delete, Upgrade};
 ghost use Rattle.dbm_file.specs.Calls.{mode_of};
-ghost use Rattle.dbm_file.specs.Changing.{WasStored, WasDeleted};
-ghost use Rattle.dbm_file.specs.Database.{store_of, page_state, AtEachHandle};
+ghost use Rattle.dbm_file.specs.Changing.{WasStored, WasDeleted, WasUpgraded};
+ghost use Rattle.dbm_file.specs.Database.{store_of, meta_kept, page_state, AtEachHandle};
 ghost use Rattle.dbm_file.specs.Passing.{pass_of};
 ghost use Rattle.dbm_file.specs.Syncing.{StandsStill};
-ghost use Rattle.ndbm_calls.specs.Statuses.{IsAnswered, IsDone};
+ghost use Rattle.ndbm_calls.specs.Statuses.{IsAnswered, IsDone, IsRaised, IsTold};
 
 use crate::status::{of_delete, of_done, of_store};
 use dbm_file::{Database, StoreMode};
@@ -35,6 +36,20 @@ pub fn delete<S: PageStore>(db: &mut Database<S>, key: &[u8]) -> i32
     ensures deleted { result ≡ pos 0 → WasDeleted db.old db.new key.now }
 {
     of_delete(db.delete(key))
+}
+
+/// Makes the database one of version 2: 0, also where it is one. The faults are those of
+/// `Database::upgrade`.
+pub fn upgrade<S: PageStore>(db: &mut Database<S>) -> i32
+    ensures step { AtEachHandle db.old (λ h. IsTold db.old db.new h Upgrade result []) }
+    ensures ends { IsRaised db.old db.new result }
+    ensures pass { pass_of db.new ≡ pass_of db.old }
+
+    // On any file of version 1 nothing but the version has changed.
+    ensures upgraded { result ≡ pos 0 → (meta_kept db.old).bounds.version ≡ V1
+        → WasUpgraded db.old db.new }
+{
+    of_done(db.upgrade())
 }
 
 /// Puts the pages of the last commit in their places: 0. The faults are those of `Database::sync`.

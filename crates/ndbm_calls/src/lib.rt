@@ -8,9 +8,9 @@ mod looks;
 mod reads;
 mod status;
 
-pub use changes::{delete, store, sync};
+pub use changes::{delete, store, sync, upgrade};
 pub use closing::close;
 pub use group::Group;
 pub use looks::verify;
-pub use reads::{ROOM, fetch, firstkey, nextkey};
+pub use reads::{CONTENT_ROOM, KEY_ROOM, fetch, firstkey, nextkey};
 pub use status::refusal;

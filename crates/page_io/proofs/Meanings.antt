@@ -53,5 +53,5 @@ commits pages staged p good spelled =
       ends = ends;
       bounded = refl;
       holds = ap (λ (k : ℕ). contents_of (flat_pairs (said_by (page_of new)) k)) (sym ends)
-          ∙ flat_is_contents p (said_by (page_of new)) good.sound read;
+          ∙ flat_is_contents p (said_by (page_of new)) good read;
     }

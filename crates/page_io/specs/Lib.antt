@@ -7,4 +7,5 @@ pub mod MemPages
 pub mod Page
 pub mod Plain
 pub mod Store
+pub mod Versions
 pub mod Views

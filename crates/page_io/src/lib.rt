@@ -10,6 +10,7 @@ mod sectors;
 mod served;
 mod staged;
 mod store;
+mod version;
 
 pub use byte_change::replace_byte;
 pub use laws::{commits_stand, images_have_one_meaning};
@@ -19,3 +20,4 @@ pub use sectors::{read_page, write_page};
 pub use served::ServedStore;
 pub use staged::{StagedPages, find_staged, hand_over, is_among, put_staged};
 pub use store::{PageFault, PageStore};
+pub use version::Version;

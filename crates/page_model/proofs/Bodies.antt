@@ -1,12 +1,12 @@
 -- What is read of a spelled page, and what is spelled.
-use Rattle.std.proofs.Common.{◌≡◌, ◌≢◌, ℕ, ◌-◌, ◌*◌, ◌≤◌, Bool, true, false, cond, List, length, replicate, get_or, ◌↔◌, refl, sym, ap, ◌∙◌, arith}
+use Rattle.std.proofs.Common.{◌≡◌, ◌≢◌, ℕ, ◌-◌, ◌*◌, ◌≤◌, Bool, true, false, cond, List, length, replicate, drop, get_or, ◌↔◌, refl, sym, ap, ◌∙◌, arith}
 use Rattle.std.specs.Bool.{Decides}
 use Rattle.std.specs.Str.{bytes_eq}
 use Rattle.std.proofs.lemmas.Slice.Eq.{bytes_eq-Decides}
 use Rattle.std.proofs.lemmas.List.{length-append, length-replicate}
 use Rattle.page_model.specs.Numbers.{IsNumber, numbers_bytes}
-use Rattle.page_model.specs.Pages.{Meta, Body, MetaPage, SegmentPage, HeadPage, OverflowPage, FreePage, Other, Bucket, bucket}
-use Rattle.page_model.specs.Spelling.{meta_spelling, segment_spelling, bucket_spelling, free_spelling, spelling_of}
+use Rattle.page_model.specs.Pages.{Meta, Body, MetaPage, SegmentPage, HeadPage, OverflowPage, FreePage, ContentPage, Other, Bucket, bucket}
+use Rattle.page_model.specs.Spelling.{meta_spelling, segment_spelling, bucket_spelling, free_spelling, content_spelling, spelling_of}
 use Rattle.page_model.specs.Reading.{next_of, read_as, body_by_kind, body_of}
 use Rattle.page_model.specs.Valid.{IsMeta, MaySay}
 use Rattle.page_model.proofs.Buckets.{four_is, length-bucket_spelling, bucket_again}
@@ -30,6 +30,16 @@ kind_of_free : (n next : ℕ) → get_or (free_spelling n next) 4 0 ≡ 5
 unfolding free_spelling
 kind_of_free n next = refl
 
+kind_of_content : (n next : ℕ) (content : List ℕ) → get_or (content_spelling n next content) 4 0 ≡ 6
+unfolding content_spelling
+kind_of_content n next content = refl
+
+content_again : (n next : ℕ) (content : List ℕ) → IsNumber next
+    → (next_of (content_spelling n next content) ≡ next)
+    × (drop 16 (content_spelling n next content) ≡ content)
+unfolding content_spelling
+content_again n next content lt = (four_is next lt, refl)
+
 -- the next page that a spelled free page says
 next_again : (n next : ℕ) → IsNumber next → next_of (free_spelling n next) ≡ next
 unfolding free_spelling
@@ -48,15 +58,19 @@ said_again n (SegmentPage heads) h =
 said_again n (HeadPage next pairs) h =
     let b = bucket n 3 next pairs in
     ap (λ (k : ℕ). read_as k (bucket_spelling b)) (kind_of_bucket b)
-    ∙ ap (λ (x : Bucket). HeadPage x.next x.pairs) (bucket_again (bucket_spelling b) b h refl)
+    ∙ ap (λ (x : Bucket). HeadPage x.next x.held) (bucket_again (bucket_spelling b) b h refl)
 said_again n (OverflowPage next pairs) h =
     let b = bucket n 4 next pairs in
     ap (λ (k : ℕ). read_as k (bucket_spelling b)) (kind_of_bucket b)
-    ∙ ap (λ (x : Bucket). OverflowPage x.next x.pairs)
+    ∙ ap (λ (x : Bucket). OverflowPage x.next x.held)
     (bucket_again (bucket_spelling b) b h refl)
 said_again n (FreePage next) h =
     ap (λ (k : ℕ). read_as k (free_spelling n next)) (kind_of_free n next)
     ∙ ap FreePage (next_again n next h.1)
+said_again n (ContentPage next content) h =
+    let both = content_again n next content h.1 in
+    ap (λ (k : ℕ). read_as k (content_spelling n next content)) (kind_of_content n next content)
+    ∙ (λ i. ContentPage (both.0 i) (both.1 i))
 said_again n Other h = absurd h
 
 -- reading a spelling gives what was spelled
@@ -90,6 +104,7 @@ may_say n (SegmentPage heads) h e = absurd cc
 may_say n (HeadPage next pairs) h e = absurd cc
 may_say n (OverflowPage next pairs) h e = absurd cc
 may_say n (FreePage next) h e = absurd cc
+may_say n (ContentPage next content) h e = absurd cc
 may_say n Other h e = h
 
 -- what may be said is read exactly where it is spelled
@@ -129,6 +144,11 @@ length-free : (n next : ℕ) → length (free_spelling n next) ≡ 2048
 unfolding free_spelling
 length-free n next = refl
 
+length-content : (n next : ℕ) (content : List ℕ) → length content ≡ 2032
+    → length (content_spelling n next content) ≡ 2048
+unfolding content_spelling
+length-content n next content is = omega (arith, is)
+
 -- whatever a page says
 pub length-spelling_of : (n : ℕ) (b : Body) → MaySay n b → length (spelling_of n b) ≡ 2048
 length-spelling_of n (MetaPage m) h = length-meta n m h.1
@@ -136,4 +156,5 @@ length-spelling_of n (SegmentPage heads) h = length-segment n heads h.1
 length-spelling_of n (HeadPage next pairs) h = length-bucket_spelling (bucket n 3 next pairs) h
 length-spelling_of n (OverflowPage next pairs) h = length-bucket_spelling (bucket n 4 next pairs) h
 length-spelling_of n (FreePage next) h = length-free n next
+length-spelling_of n (ContentPage next content) h = length-content n next content h.2
 length-spelling_of n Other h = absurd h

@@ -1,13 +1,15 @@
--- What is spelled as a page of pairs is read back.
-use Rattle.std.proofs.Common.{◌≡◌, ℕ, suc, ◌+◌, ◌-◌, ◌*◌, ◌/◌, ◌%◌, ◌^◌, ◌≤◌, ◌<◌, List, [], ◌∷◌, ◌++◌, length, map, replicate, get_or, take, drop, refl, sym, ap, ◌∙◌, append_assoc, arith}
+-- What is spelled as a page of records is read back.
+use Rattle.std.proofs.Common.{◌≡◌, ℕ, suc, ◌+◌, ◌-◌, ◌*◌, ◌/◌, ◌%◌, ◌^◌, ◌≤◌, ◌<◌, List, [], ◌∷◌, ◌++◌, length, map, replicate, get_or, take, drop, refl, sym, ap, ◌∙◌, append_assoc, arith, Option, Some, None, true, false, cond}
+use Rattle.std.specs.Prelude.{nat_le}
+use Rattle.std.specs.List.{AllByRecursion}
+use Rattle.std.proofs.lemmas.Bool.{lt-leb, le-leb}
 use Rattle.std.proofs.lemmas.List.{append-nil, length-append, take_at, length-replicate}
 use Rattle.page_model.specs.Bytes.{u16_at, u32_at}
-use Rattle.dbm_model.specs.Pairs.{Pair}
-use Rattle.page_model.specs.Pages.{Bucket}
-use Rattle.page_model.specs.Slots.{Slot, size, total_size, slot_ending, slots_ending, slot_bytes, slots_bytes, records, taken, room_of}
+use Rattle.page_model.specs.Pages.{Record, Bucket}
+use Rattle.page_model.specs.Slots.{Slot, size, total_size, key_number, content_number, key_size, bytes_size, told_far, slot_ending, slots_ending, slot_bytes, slots_bytes, records, taken, room_of}
 use Rattle.page_model.specs.Spelling.{header, bucket_spelling}
-use Rattle.page_model.specs.Reading.{slot_count, low, slot_of, slots_from, slot_pair, pairs_from, bucket_of, IsClear}
-use Rattle.page_model.specs.Valid.{IsBucket}
+use Rattle.page_model.specs.Reading.{slot_count, low, slot_of, slots_from, slot_record, records_from, bucket_of, IsClear}
+use Rattle.page_model.specs.Valid.{MayTell, IsRecord, IsBucket}
 use Rattle.page_model.proofs.Texts.{at_front, skip, clear_again}
 
 -- two bytes that stand at place k of a text
@@ -19,7 +21,7 @@ two_again bytes t a k at x h e lt high lower =
     omega (arith, first, second, high, lower)
 
 -- a slot for each pair
-pub length-slots_ending : (end : ℕ) (ps : List Pair) → length (slots_ending end ps) ≡ length ps
+pub length-slots_ending : (end : ℕ) (ps : List Record) → length (slots_ending end ps) ≡ length ps
 length-slots_ending end [] = refl
 length-slots_ending end (p ∷ ps) = ap suc (length-slots_ending (end - size p) ps)
 
@@ -29,10 +31,10 @@ length-slots_bytes [] = refl
 length-slots_bytes (s ∷ ss) = omega (arith, length-slots_bytes ss)
 
 -- the bytes of the records
-pub length-records : (ps : List Pair) → length (records ps) ≡ total_size ps
+pub length-records : (ps : List Record) → length (records ps) ≡ total_size ps
 length-records [] = refl
 length-records (p ∷ ps) = omega
-    (arith, length-append (records ps) (p.0 ++ p.1), length-append p.0 p.1, length-records ps)
+    (arith, length-append (records ps) (p.key ++ p.bytes), length-append p.key p.bytes, length-records ps)
 
 -- a slot that is spelled at its place is read there
 slot_again : (bytes rest : List ℕ) (s : Slot) (i : ℕ) → s.offset < 2 ^ 16 → s.key_len < 2 ^ 16
@@ -46,51 +48,117 @@ slot_again bytes rest s i f g k h =
     s.content_len h (omega arith) k refl refl in
     rw (offset, key_len, content_len) refl
 
+-- the numbers of a slot that may be told
+record Numbers (r : Record) (far : Option ℕ) : Type 0 where
+  pub key : key_number (length r.key) far < 65536
+  pub content : content_number (length r.bytes) far < 65536
+  pub bytes : (long : ℕ) → far ≡ Some long → length r.bytes ≡ 4
+
+numbers_of : (r : Record) (far : Option ℕ) → size r ≤ 2048 → MayTell r far → Numbers r far
+numbers_of r None small may = record {
+  key = omega arith;
+  content = omega arith;
+  bytes = λ long is. absurd (let x = is in cc);
+}
+numbers_of r (Some long) small may = record {
+  key = omega (arith, may.short);
+  content = omega (arith, may.long_enough.1);
+  bytes = λ other is. may.number.0;
+}
+
 -- slots that are spelled from slot i on are read there
-slots_again : (bytes rest : List ℕ) (ps : List Pair) (i end : ℕ) → total_size ps ≤ end → end ≤ 2048
+slots_again : (bytes rest : List ℕ) (ps : List Record) (i end : ℕ) → total_size ps ≤ end
+    → end ≤ 2048 → AllByRecursion IsRecord ps
     → drop (16 + 6 * i) bytes ≡ slots_bytes (slots_ending end ps) ++ rest
     → slots_from bytes i (length ps) ≡ slots_ending end ps
-slots_again bytes rest [] i end le most h = refl
-slots_again bytes rest (p ∷ ps) i end le most h =
+slots_again bytes rest [] i end le most all h = refl
+slots_again bytes rest (p ∷ ps) i end le most all h =
     let s = slot_ending end p in
+    let numbers = numbers_of p p.far (omega arith) all.0 in
     let h' : drop (16 + 6 * i) bytes ≡ slot_bytes s
     ++ (slots_bytes (slots_ending (end - size p) ps) ++ rest) = h in
     let first = slot_again bytes (slots_bytes (slots_ending (end - size p) ps) ++ rest) s i
-    (omega arith) (omega arith) (omega arith) h' in
+    (omega arith) numbers.key numbers.content h' in
     let after = skip bytes (slot_bytes s) (slots_bytes (slots_ending (end - size p) ps) ++ rest)
     (16 + 6 * i) (16 + 6 * (i + 1)) h' (omega arith) in
     let others = slots_again bytes rest ps (i + 1) (end - size p) (omega arith)
-    (omega arith) after in
+    (omega arith) all.1 after in
     ap (λ (t : Slot). t ∷ slots_from bytes (i + 1) (length ps)) first
     ∙ ap (λ (ts : List Slot). s ∷ ts) others
 
--- records that are spelled from `lo` on are read as the pairs
-records_again : (bytes rest : List ℕ) (ps : List Pair) (end lo : ℕ) → lo + total_size ps ≡ end
-    → drop lo bytes ≡ records ps ++ rest → map (slot_pair bytes) (slots_ending end ps) ≡ ps
-records_again bytes rest [] end lo e h = refl
-records_again bytes rest (p ∷ ps) end lo e h =
+-- the slot of a record tells how long its key and the bytes behind it are, and whether it is far
+record Told (s : Slot) (key bytes : ℕ) (far : Option ℕ) : Type 0 where
+  pub key_is : key_size s ≡ key
+  pub bytes_are : bytes_size s ≡ bytes
+  pub far_is : told_far s ≡ far
+
+told : (offset key bytes : ℕ) (far : Option ℕ) → key < 32768
+    → ((long : ℕ) → far ≡ Some long → bytes ≡ 4)
+    → Told (record {
+      offset = offset;
+      key_len = key_number key far;
+      content_len = content_number bytes far;
+    }) key bytes far
+told offset key bytes None short four =
+    let near : nat_le 32768 key ≡ false = lt-leb 32768 key short in
+    record {
+      key_is = ap (λ b. cond b (key - 32768) key) near;
+      bytes_are = ap (λ b. cond b 4 bytes) near;
+      far_is = ap (λ b. cond b (Some bytes) None) near;
+    }
+told offset key bytes (Some long) short four =
+    let far : nat_le 32768 (32768 + key) ≡ true = le-leb 32768 (32768 + key) (omega arith) in
+    record {
+      key_is = ap (λ b. cond b (32768 + key - 32768) (32768 + key)) far ∙ omega arith;
+      bytes_are = ap (λ b. cond b 4 long) far ∙ sym (four long refl);
+      far_is = ap (λ b. cond b (Some long) None) far;
+    }
+
+-- records that are spelled from `lo` on are read
+records_again : (bytes rest : List ℕ) (ps : List Record) (end lo : ℕ) → lo + total_size ps ≡ end
+    → end ≤ 2048 → AllByRecursion IsRecord ps
+    → drop lo bytes ≡ records ps ++ rest → map (slot_record bytes) (slots_ending end ps) ≡ ps
+records_again bytes rest [] end lo e most all h = refl
+records_again bytes rest (p ∷ ps) end lo e most all h =
     let offset = end - size p in
-    let h' : drop lo bytes ≡ records ps ++ ((p.0 ++ p.1) ++ rest) =
-    h ∙ append_assoc (records ps) (p.0 ++ p.1) rest in
-    let here : drop offset bytes ≡ p.0 ++ (p.1 ++ rest) =
-    skip bytes (records ps) ((p.0 ++ p.1) ++ rest) lo offset h'
-    (omega (arith, length-records ps)) ∙ append_assoc p.0 p.1 rest in
-    let after : drop (offset + length p.0) bytes ≡ p.1 ++ rest =
-    skip bytes p.0 (p.1 ++ rest) offset (offset + length p.0) here refl in
-    let key : take (length p.0) (drop offset bytes) ≡ p.0 =
-    ap (take (length p.0)) here ∙ take_at p.0 (p.1 ++ rest) (length p.0) refl in
-    let content : take (length p.1) (drop (offset + length p.0) bytes) ≡ p.1 =
-    ap (take (length p.1)) after ∙ take_at p.1 rest (length p.1) refl in
-    let first : slot_pair bytes (slot_ending end p) ≡ p = rw (key, content) refl in
-    let others = records_again bytes ((p.0 ++ p.1) ++ rest) ps offset lo (omega arith) h' in
-    ap (λ (q : Pair). q ∷ map (slot_pair bytes) (slots_ending offset ps)) first
-    ∙ ap (λ (qs : List Pair). p ∷ qs) others
+    let numbers = numbers_of p p.far (omega arith) all.0 in
+    let is = told offset (length p.key) (length p.bytes) p.far (omega arith) numbers.bytes in
+    let h' : drop lo bytes ≡ records ps ++ ((p.key ++ p.bytes) ++ rest) =
+    h ∙ append_assoc (records ps) (p.key ++ p.bytes) rest in
+    let here : drop offset bytes ≡ p.key ++ (p.bytes ++ rest) =
+    skip bytes (records ps) ((p.key ++ p.bytes) ++ rest) lo offset h'
+    (omega (arith, length-records ps)) ∙ append_assoc p.key p.bytes rest in
+    let after : drop (offset + length p.key) bytes ≡ p.bytes ++ rest =
+    skip bytes p.key (p.bytes ++ rest) offset (offset + length p.key) here refl in
+    let key : take (length p.key) (drop offset bytes) ≡ p.key =
+    ap (take (length p.key)) here ∙ take_at p.key (p.bytes ++ rest) (length p.key) refl in
+    let content : take (length p.bytes) (drop (offset + length p.key) bytes) ≡ p.bytes =
+    ap (take (length p.bytes)) after ∙ take_at p.bytes rest (length p.bytes) refl in
+    let first : slot_record bytes (slot_ending end p) ≡ p =
+    record_is bytes (slot_ending end p) p is.key_is is.bytes_are is.far_is key content in
+    let others = records_again bytes ((p.key ++ p.bytes) ++ rest) ps offset lo (omega arith)
+    (omega arith) all.1 h' in
+    ap (λ (q : Record). q ∷ map (slot_record bytes) (slots_ending offset ps)) first
+    ∙ ap (λ (qs : List Record). p ∷ qs) others
+  where
+    record_is : (bytes : List ℕ) (s : Slot) (r : Record) → key_size s ≡ length r.key
+        → bytes_size s ≡ length r.bytes → told_far s ≡ r.far
+        → take (length r.key) (drop s.offset bytes) ≡ r.key
+        → take (length r.bytes) (drop (s.offset + length r.key) bytes) ≡ r.bytes
+        → slot_record bytes s ≡ r
+    record_is bytes s r a b c k d =
+        let key : take (key_size s) (drop s.offset bytes) ≡ r.key =
+        ap (λ n. take n (drop s.offset bytes)) a ∙ k in
+        let rest : take (bytes_size s) (drop (s.offset + key_size s) bytes) ≡ r.bytes =
+        ap (λ n. take (bytes_size s) (drop (s.offset + n) bytes)) a
+        ∙ ap (λ n. take n (drop (s.offset + length r.key) bytes)) b ∙ d in
+        λ i. record { key = key i; bytes = rest i; far = c i }
 
 -- a spelled page of pairs is a whole page
 pub length-bucket_spelling : (b : Bucket) → IsBucket b → length (bucket_spelling b) ≡ 2048
 unfolding bucket_spelling
 length-bucket_spelling b is =
-    let ps = b.pairs in
+    let ps = b.held in
     let slots = slots_bytes (slots_ending 2048 ps) in
     let zeros : List ℕ = replicate (room_of ps) 0 in
     omega (
@@ -141,16 +209,16 @@ header_again bytes rest own kind count next low a b c d e = record {
 
 -- a bucket's parts, where its bytes stand
 pub record Stands (bytes : List ℕ) (b : Bucket) : Type 0 where
-  pub says : Says bytes b.own b.kind (length b.pairs) b.next (2048 - total_size b.pairs)
-  pub slots : slots_from bytes 0 (length b.pairs) ≡ slots_ending 2048 b.pairs
-  pub pairs : map (slot_pair bytes) (slots_ending 2048 b.pairs) ≡ b.pairs
-  pub clear : IsClear bytes (16 + 6 * length b.pairs) (2048 - total_size b.pairs)
+  pub says : Says bytes b.own b.kind (length b.held) b.next (2048 - total_size b.held)
+  pub slots : slots_from bytes 0 (length b.held) ≡ slots_ending 2048 b.held
+  pub held : map (slot_record bytes) (slots_ending 2048 b.held) ≡ b.held
+  pub clear : IsClear bytes (16 + 6 * length b.held) (2048 - total_size b.held)
 
 -- the parts of a spelled page of pairs stand in their places
 pub stands : (bytes : List ℕ) (b : Bucket) → IsBucket b → bytes ≡ bucket_spelling b → Stands bytes b
 unfolding bucket_spelling
 stands bytes b is e =
-    let ps = b.pairs in
+    let ps = b.held in
     let n = length ps in
     let lo = 2048 - total_size ps in
     let text = slots_bytes (slots_ending 2048 ps) in
@@ -167,8 +235,8 @@ stands bytes b is e =
     record {
       says = header_again bytes (text ++ (zeros ++ records ps)) b.own b.kind n b.next lo is.own
           (omega arith) is.next (omega arith) e;
-      slots = slots_again bytes (zeros ++ records ps) ps 0 2048 (omega arith) (omega arith) d16;
-      pairs = records_again bytes [] ps 2048 lo (omega arith)
+      slots = slots_again bytes (zeros ++ records ps) ps 0 2048 (omega arith) (omega arith) is.records d16;
+      held = records_again bytes [] ps 2048 lo (omega arith) (omega arith) is.records
           (dlow ∙ sym (append-nil (records ps)));
       clear = clear_again bytes (records ps) (16 + 6 * n) (2032 - taken ps) lo dn (omega arith);
     }
@@ -179,7 +247,7 @@ pub bucket_again : (bytes : List ℕ) (b : Bucket) → IsBucket b → bytes ≡ 
 unfolding bucket_of
 bucket_again bytes b is e =
     let s = stands bytes b is e in
-    let pairs : pairs_from bytes 0 (slot_count bytes) ≡ b.pairs =
-    ap (pairs_from bytes 0) s.says.count ∙ ap (map (slot_pair bytes)) s.slots ∙ s.pairs in
+    let held : records_from bytes 0 (slot_count bytes) ≡ b.held =
+    ap (records_from bytes 0) s.says.count ∙ ap (map (slot_record bytes)) s.slots ∙ s.held in
     let own = s.says.own in let kind = s.says.kind in let next = s.says.next in
-    rw (own, kind, next, pairs) refl
+    rw (own, kind, next, held) refl

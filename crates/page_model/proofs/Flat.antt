@@ -11,13 +11,16 @@ use Rattle.std.proofs.lemmas.List.Sums.{sum_by-append, sum_by-cons}
 use Rattle.std.proofs.lemmas.Bool.Decides.{nat_tests}
 use Rattle.dbm_model.specs.Pairs.{Key, Pair, key_cmp}
 use Rattle.page_model.specs.PairLists.{has_key, times}
-use Rattle.page_model.specs.Chain.{Chain, numbers, pairs_in}
+use Rattle.page_model.specs.Chain.{Entry, Chain, record_of, numbers, entries_in, pairs_in, pages_of, pages_in}
 use Rattle.page_model.specs.Space.{times_of}
-use Rattle.page_model.specs.Placement.{Placement, pairs_of, in_use}
+use Rattle.page_model.specs.Placement.{Placement, entries_of, pairs_of, in_use, IsGood}
 use Rattle.page_model.specs.Pages.{Body, NumberedBody}
-use Rattle.page_model.specs.PageBodies.{overflow_bodies, chain_bodies, free_bodies, segment_bodies, heads_of, page_bodies}
-use Rattle.page_model.specs.Meaning.{pairs_on, flat_pairs}
+use Rattle.page_model.specs.PageBodies.{overflow_bodies, leaf_bodies, content_bodies, entry_bodies, chain_bodies, free_bodies, segment_bodies, heads_of, page_bodies, AreRead, IsSpelled}
+use Rattle.page_model.specs.Meaning.{pair_of, pairs_on, flat_pairs}
 use Rattle.page_model.specs.BodyLaws.{FlatIsContents}
+use Rattle.page_model.proofs.Chains.{AllByRecursion-append, AllByRecursion-left, AllByRecursion-right}
+use Rattle.page_model.proofs.GoodBodies.{IsPageNumber, from_times, number, end_small}
+use Rattle.page_model.proofs.Joins.{pairs_again}
 use Rattle.page_model.proofs.PairLists.{value_in, times_some, sum_by-flat_map}
 use Rattle.page_model.proofs.Places.{keys_exact, is_equal, times_none}
 
@@ -130,55 +133,117 @@ value_in-same xs ys same q once =
 
 -- ---- the pages with what they say
 
-pub numbers-chain_bodies : (chain : Chain)
-    → map (λ numbered. numbered.number) (chain_bodies chain) ≡ numbers chain
-numbers-chain_bodies [] = refl
-numbers-chain_bodies (head ∷ rest) = ap (λ ns. head.number ∷ ns) (over rest) where
+numbers-content : (pages content : List ℕ)
+    → map (λ numbered. numbered.number) (content_bodies pages content) ≡ pages
+numbers-content [] content = refl
+numbers-content (n ∷ rest) content = ap (λ ns. n ∷ ns) (numbers-content rest (drop 2032 content))
+
+pub numbers-entries : (es : List Entry)
+    → map (λ numbered. numbered.number) (flat_map entry_bodies es) ≡ pages_of es
+numbers-entries [] = refl
+numbers-entries (e ∷ es) =
+    map-append (λ numbered. numbered.number) (entry_bodies e) (flat_map entry_bodies es)
+    ∙ (λ i. numbers-content e.pages e.pair.1 i ++ numbers-entries es i)
+
+numbers-leaves : (chain : Chain)
+    → map (λ numbered. numbered.number) (leaf_bodies chain) ≡ numbers chain
+numbers-leaves [] = refl
+numbers-leaves (head ∷ rest) = ap (λ ns. head.number ∷ ns) (over rest) where
   over : (rest : Chain) → map (λ numbered. numbered.number) (overflow_bodies rest) ≡ numbers rest
   over [] = refl
   over (leaf ∷ rest) = ap (λ ns. leaf.number ∷ ns) (over rest)
 
-pairs-chain_bodies : (chain : Chain)
-    → flat_map (λ numbered. pairs_on numbered.body) (chain_bodies chain) ≡ pairs_in chain
-pairs-chain_bodies [] = refl
-pairs-chain_bodies (head ∷ rest) = ap (λ xs. head.pairs ++ xs) (over rest) where
-  over : (rest : Chain) → flat_map (λ numbered. pairs_on numbered.body) (overflow_bodies rest)
-      ≡ pairs_in rest
-  over [] = refl
-  over (leaf ∷ rest) = ap (λ xs. leaf.pairs ++ xs) (over rest)
+pub numbers-chain_bodies : (chain : Chain)
+    → map (λ numbered. numbered.number) (chain_bodies chain) ≡ pages_in chain
+numbers-chain_bodies chain =
+    map-append (λ numbered. numbered.number) (leaf_bodies chain)
+    (flat_map entry_bodies (entries_in chain))
+    ∙ (λ i. numbers-leaves chain i ++ numbers-entries (entries_in chain) i)
+
+-- what the pages say of pairs, where each record says its own
+abbrev pub Says : (ℕ → Body) → Entry → Type 0
+Says at e = pair_of at (record_of e) ≡ e.pair
+
+pairs_said : (at : ℕ → Body) (es : List Entry) → AllByRecursion (Says at) es
+    → map (pair_of at) (map record_of es) ≡ map (λ e. e.pair) es
+pairs_said at [] h = refl
+pairs_said at (e ∷ es) h = λ i. h.0 i ∷ pairs_said at es h.1 i
+
+pairs-overflow : (at : ℕ → Body) (rest : Chain) → AllByRecursion (Says at) (entries_in rest)
+    → flat_map (λ numbered. pairs_on at numbered.body) (overflow_bodies rest) ≡ pairs_in rest
+pairs-overflow at [] h = refl
+pairs-overflow at (leaf ∷ rest) h =
+    λ i. pairs_said at leaf.entries
+    (AllByRecursion-left (Says at) leaf.entries (entries_in rest) h) i
+    ++ pairs-overflow at rest (AllByRecursion-right (Says at) leaf.entries (entries_in rest) h) i
+
+pairs-leaves : (at : ℕ → Body) (chain : Chain) → AllByRecursion (Says at) (entries_in chain)
+    → flat_map (λ numbered. pairs_on at numbered.body) (leaf_bodies chain) ≡ pairs_in chain
+pairs-leaves at [] h = refl
+pairs-leaves at (head ∷ rest) h =
+    λ i. pairs_said at head.entries
+    (AllByRecursion-left (Says at) head.entries (entries_in rest) h) i
+    ++ pairs-overflow at rest (AllByRecursion-right (Says at) head.entries (entries_in rest) h) i
+
+pairs-content : (at : ℕ → Body) (pages content : List ℕ)
+    → flat_map (λ numbered. pairs_on at numbered.body) (content_bodies pages content) ≡ []
+pairs-content at [] content = refl
+pairs-content at (n ∷ rest) content = pairs-content at rest (drop 2032 content)
+
+pairs-entries : (at : ℕ → Body) (es : List Entry)
+    → flat_map (λ numbered. pairs_on at numbered.body) (flat_map entry_bodies es) ≡ []
+pairs-entries at [] = refl
+pairs-entries at (e ∷ es) =
+    flat_map-append (λ numbered. pairs_on at numbered.body) (entry_bodies e)
+    (flat_map entry_bodies es)
+    ∙ (λ i. pairs-content at e.pages e.pair.1 i ++ pairs-entries at es i)
+
+pairs-chain_bodies : (at : ℕ → Body) (chain : Chain) → AllByRecursion (Says at) (entries_in chain)
+    → flat_map (λ numbered. pairs_on at numbered.body) (chain_bodies chain) ≡ pairs_in chain
+pairs-chain_bodies at chain h =
+    flat_map-append (λ numbered. pairs_on at numbered.body) (leaf_bodies chain)
+    (flat_map entry_bodies (entries_in chain))
+    ∙ (λ i. pairs-leaves at chain h i ++ pairs-entries at (entries_in chain) i)
+    ∙ append-nil (pairs_in chain)
 
 pub numbers-chains : (chains : List Chain)
-    → map (λ numbered. numbered.number) (flat_map chain_bodies chains) ≡ flat_map numbers chains
+    → map (λ numbered. numbered.number) (flat_map chain_bodies chains) ≡ flat_map pages_in chains
 numbers-chains [] = refl
 numbers-chains (chain ∷ rest) =
     map-append (λ numbered. numbered.number) (chain_bodies chain) (flat_map chain_bodies rest)
     ∙ (λ i. numbers-chain_bodies chain i ++ numbers-chains rest i)
 
-pairs-chains : (chains : List Chain)
-    → flat_map (λ numbered. pairs_on numbered.body) (flat_map chain_bodies chains)
+pairs-chains : (at : ℕ → Body) (chains : List Chain)
+    → AllByRecursion (Says at) (flat_map entries_in chains)
+    → flat_map (λ numbered. pairs_on at numbered.body) (flat_map chain_bodies chains)
     ≡ flat_map pairs_in chains
-pairs-chains [] = refl
-pairs-chains (chain ∷ rest) =
-    flat_map-append (λ numbered. pairs_on numbered.body) (chain_bodies chain)
-    (flat_map chain_bodies rest) ∙ (λ i. pairs-chain_bodies chain i ++ pairs-chains rest i)
+pairs-chains at [] h = refl
+pairs-chains at (chain ∷ rest) h =
+    flat_map-append (λ numbered. pairs_on at numbered.body) (chain_bodies chain)
+    (flat_map chain_bodies rest)
+    ∙ (λ i. pairs-chain_bodies at chain
+    (AllByRecursion-left (Says at) (entries_in chain) (flat_map entries_in rest) h) i
+    ++ pairs-chains at rest
+    (AllByRecursion-right (Says at) (entries_in chain) (flat_map entries_in rest) h) i)
 
 pub numbers-free : (free : List ℕ) → map (λ numbered. numbered.number) (free_bodies free) ≡ free
 numbers-free [] = refl
 numbers-free (n ∷ rest) = ap (λ ns. n ∷ ns) (numbers-free rest)
 
-pairs-free : (free : List ℕ) → flat_map (λ numbered. pairs_on numbered.body) (free_bodies free) ≡ []
-pairs-free [] = refl
-pairs-free (n ∷ rest) = pairs-free rest
+pairs-free : (at : ℕ → Body) (free : List ℕ)
+    → flat_map (λ numbered. pairs_on at numbered.body) (free_bodies free) ≡ []
+pairs-free at [] = refl
+pairs-free at (n ∷ rest) = pairs-free at rest
 
 pub numbers-segments : (segments heads : List ℕ)
     → map (λ numbered. numbered.number) (segment_bodies segments heads) ≡ segments
 numbers-segments [] heads = refl
 numbers-segments (n ∷ rest) heads = ap (λ ns. n ∷ ns) (numbers-segments rest (drop 508 heads))
 
-pairs-segments : (segments heads : List ℕ)
-    → flat_map (λ numbered. pairs_on numbered.body) (segment_bodies segments heads) ≡ []
-pairs-segments [] heads = refl
-pairs-segments (n ∷ rest) heads = pairs-segments rest (drop 508 heads)
+pairs-segments : (at : ℕ → Body) (segments heads : List ℕ)
+    → flat_map (λ numbered. pairs_on at numbered.body) (segment_bodies segments heads) ≡ []
+pairs-segments at [] heads = refl
+pairs-segments at (n ∷ rest) heads = pairs-segments at rest (drop 508 heads)
 
 -- each page has what it says
 pub numbers-page_bodies : (p : Placement)
@@ -192,17 +257,57 @@ numbers-page_bodies p =
     ∙ (λ i. numbers-segments p.segments (heads_of p.chains) i ++ numbers-chains p.chains i
     ++ numbers-free p.space.free i))
 
-pub pairs-page_bodies : (p : Placement)
-    → flat_map (λ numbered. pairs_on numbered.body) (page_bodies p) ≡ pairs_of p
-pairs-page_bodies p =
+pub pairs-page_bodies : (at : ℕ → Body) (p : Placement) → AllByRecursion (Says at) (entries_of p)
+    → flat_map (λ numbered. pairs_on at numbered.body) (page_bodies p) ≡ pairs_of p
+pairs-page_bodies at p h =
     let s = segment_bodies p.segments (heads_of p.chains) in
-    flat_map-append (λ numbered. pairs_on numbered.body) (s ++ flat_map chain_bodies p.chains)
+    flat_map-append (λ numbered. pairs_on at numbered.body) (s ++ flat_map chain_bodies p.chains)
     (free_bodies p.space.free)
-    ∙ ap (λ xs. xs ++ flat_map (λ numbered. pairs_on numbered.body) (free_bodies p.space.free))
-    (flat_map-append (λ numbered. pairs_on numbered.body) s (flat_map chain_bodies p.chains))
-    ∙ (λ i. pairs-segments p.segments (heads_of p.chains) i ++ pairs-chains p.chains i
-    ++ pairs-free p.space.free i)
+    ∙ ap (λ xs. xs ++ flat_map (λ numbered. pairs_on at numbered.body) (free_bodies p.space.free))
+    (flat_map-append (λ numbered. pairs_on at numbered.body) s (flat_map chain_bodies p.chains))
+    ∙ (λ i. pairs-segments at p.segments (heads_of p.chains) i ++ pairs-chains at p.chains h i
+    ++ pairs-free at p.space.free i)
     ∙ append-nil (flat_map pairs_in p.chains)
+
+-- the contents of the chains are read
+entries_read : (at : ℕ → Body) (chains : List Chain) → AreRead at (flat_map chain_bodies chains)
+    → AreRead at (flat_map entry_bodies (flat_map entries_in chains))
+entries_read at [] h = tt
+entries_read at (chain ∷ rest) h =
+    let P : NumberedBody → Type 0 = λ numbered. at numbered.number ≡ numbered.body in
+    subst (AreRead at) (sym (flat_map-append entry_bodies (entries_in chain) (flat_map entries_in rest)))
+    (AllByRecursion-append P (flat_map entry_bodies (entries_in chain))
+    (flat_map entry_bodies (flat_map entries_in rest))
+    (AllByRecursion-right P (leaf_bodies chain) (flat_map entry_bodies (entries_in chain))
+    (AllByRecursion-left P (chain_bodies chain) (flat_map chain_bodies rest) h))
+    (entries_read at rest (AllByRecursion-right P (chain_bodies chain) (flat_map chain_bodies rest) h)))
+
+-- their pages are numbers
+content_numbers : (P : ℕ → Type 0) (chains : List Chain) → AllByRecursion P (flat_map pages_in chains)
+    → AllByRecursion P (pages_of (flat_map entries_in chains))
+content_numbers P [] h = tt
+content_numbers P (chain ∷ rest) h =
+    subst (AllByRecursion P)
+    (sym (flat_map-append (λ (e : Entry). e.pages) (entries_in chain) (flat_map entries_in rest)))
+    (AllByRecursion-append P (pages_of (entries_in chain)) (pages_of (flat_map entries_in rest))
+    (AllByRecursion-right P (numbers chain) (pages_of (entries_in chain))
+    (AllByRecursion-left P (pages_in chain) (flat_map pages_in rest) h))
+    (content_numbers P rest (AllByRecursion-right P (pages_in chain) (flat_map pages_in rest) h)))
+
+-- so each record of a good placement says its own pair
+pub records_say : (p : Placement) (at : ℕ → Body) → IsGood p → IsSpelled at p
+    → AllByRecursion (Says at) (entries_of p)
+records_say p at g spelled =
+    let P : NumberedBody → Type 0 = λ numbered. at numbered.number ≡ numbered.body in
+    let s = segment_bodies p.segments (heads_of p.chains) in
+    let pages = from_times IsPageNumber (in_use p)
+    (λ n some. number p g.sound (end_small p g) n (omega arith)) in
+    pairs_again at p.bounds.version (flat_map entries_in p.chains) g.sound.entered
+    (content_numbers IsPageNumber p.chains
+    (AllByRecursion-right IsPageNumber (1 ∷ p.segments) (flat_map pages_in p.chains) pages))
+    (entries_read at p.chains (AllByRecursion-right P s (flat_map chain_bodies p.chains)
+    (AllByRecursion-left P (s ++ flat_map chain_bodies p.chains) (free_bodies p.space.free)
+    spelled.1)))
 
 pub times-range_with_len : (n start count : ℕ)
     → times_of n (range_with_len start count) ≡ cond (leb start n && ltb n (start + count)) 1 0
@@ -217,19 +322,21 @@ times-range_with_len n start (suc count) =
 
 read_sums : (at : ℕ → Body) (f : Pair → ℕ) (xs : List NumberedBody)
     → AllByRecursion (λ numbered. at numbered.number ≡ numbered.body) xs →
-    sum_by (λ n. sum_by f (pairs_on (at n))) (map (λ numbered. numbered.number) xs)
-    ≡ sum_by f (flat_map (λ numbered. pairs_on numbered.body) xs)
+    sum_by (λ n. sum_by f (pairs_on at (at n))) (map (λ numbered. numbered.number) xs)
+    ≡ sum_by f (flat_map (λ numbered. pairs_on at numbered.body) xs)
 read_sums at f [] h = refl
 read_sums at f (x ∷ xs) h =
-    let a = sum_by-cons (λ n. sum_by f (pairs_on (at n))) x.number
+    let a = sum_by-cons (λ n. sum_by f (pairs_on at (at n))) x.number
     (map (λ numbered. numbered.number) xs) in
-    let b = sum_by-append f (pairs_on x.body) (flat_map (λ numbered. pairs_on numbered.body) xs) in
-    let c = ap (λ body. sum_by f (pairs_on body)) h.0 in
+    let b = sum_by-append f (pairs_on at x.body) (flat_map (λ numbered. pairs_on at numbered.body) xs) in
+    let c = ap (λ body. sum_by f (pairs_on at body)) h.0 in
     let d = read_sums at f xs h.1 in
     omega arith
 
 pub flat_is_contents : FlatIsContents
-flat_is_contents p at h spelled =
+flat_is_contents p at g spelled =
+    let h = g.sound in
+    let say = records_say p at g spelled in
     let range = range_with_len 1 (p.space.end - 1) in
     let each : (n : ℕ) → times_of n range ≡ times_of n (in_use p ++ p.space.free)
     = λ (n : ℕ). (let a = h.pages.once n in let b = times-range_with_len n 1 (p.space.end - 1) in
@@ -237,11 +344,11 @@ flat_is_contents p at h spelled =
     h.pages.as_many in let e : 1 + (p.space.end - 1) ≡ p.space.end = omega arith in
     b ∙ ap (λ k. cond (leb 1 n && ltb n k) 1 0) e ∙ sym a ∙ sym c) in
     let sums : (f : Pair → ℕ) → sum_by f (flat_pairs at p.space.end) ≡ sum_by f (pairs_of p)
-    = λ (f : Pair → ℕ). sum_by-flat_map f (λ n. pairs_on (at n)) range
-    ∙ same_sums range (in_use p ++ p.space.free) each (λ n. sum_by f (pairs_on (at n)))
-    ∙ ap (sum_by (λ n. sum_by f (pairs_on (at n)))) (sym (numbers-page_bodies p))
+    = λ (f : Pair → ℕ). sum_by-flat_map f (λ n. pairs_on at (at n)) range
+    ∙ same_sums range (in_use p ++ p.space.free) each (λ n. sum_by f (pairs_on at (at n)))
+    ∙ ap (sum_by (λ n. sum_by f (pairs_on at (at n)))) (sym (numbers-page_bodies p))
     ∙ read_sums at f (page_bodies p) spelled
-    ∙ ap (sum_by f) (pairs-page_bodies p) in
+    ∙ ap (sum_by f) (pairs-page_bodies at p say) in
     same_map nat_list_cmp_total keys_exact _ _ (λ q.
     get-from_entries nat_list_cmp_total (flat_pairs at p.space.end) q
     ∙ value_in-same (flat_pairs at p.space.end) (pairs_of p) sums q (h.no_key_twice q)

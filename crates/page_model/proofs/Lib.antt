@@ -8,6 +8,7 @@ pub mod Ends
 pub mod Flat
 pub mod Frames
 pub mod GoodBodies
+pub mod Joins
 pub mod Meaning
 pub mod Members
 pub mod Metas
@@ -22,4 +23,5 @@ pub mod Spaces
 pub mod Splits
 pub mod Stores
 pub mod Texts
+pub mod Versions
 pub mod Writes

@@ -5,7 +5,7 @@ use Rattle.page_model.specs.Placement.{Placement, delete, store}
 use Rattle.page_model.specs.Pages.{Body}
 use Rattle.page_model.specs.PageBodies.{meta_of}
 use Rattle.page_model.specs.Meaning.{said_by}
-use Rattle.page_model.specs.Pages.{MetaPage, SegmentPage, HeadPage, OverflowPage, FreePage, Other}
+use Rattle.page_model.specs.Pages.{MetaPage, SegmentPage, HeadPage, OverflowPage, FreePage, ContentPage, Other}
 use Rattle.page_model.specs.BodyLaws.{OneMeaning, PagesHaveOneMeaning, GoodPagesStand, StoredStands, DeletedStands}
 use Rattle.page_model.proofs.Flat.{flat_is_contents}
 use Rattle.page_model.proofs.Stores.{store_stays_good, delete_stays_good}
@@ -17,6 +17,7 @@ bounds_on other (SegmentPage heads) = other
 bounds_on other (HeadPage next pairs) = other
 bounds_on other (OverflowPage next pairs) = other
 bounds_on other (FreePage next) = other
+bounds_on other (ContentPage next bytes) = other
 bounds_on other Other = other
 
 bounds_read : (at : ℕ → Body) (p : Placement) → at 1 ≡ MetaPage (meta_of p)
@@ -40,7 +41,7 @@ stored_stands p at pair g may spelled =
       spelled = spelled;
       ends = refl;
       bounded = all.2;
-      holds = flat_is_contents (store p pair) at all.0.sound spelled ∙ all.1;
+      holds = flat_is_contents (store p pair) at all.0 spelled ∙ all.1;
     }
 
 pub deleted_stands : DeletedStands
@@ -52,7 +53,7 @@ deleted_stands p at key g spelled =
       spelled = spelled;
       ends = refl;
       bounded = refl;
-      holds = flat_is_contents (delete p key) at all.0.sound spelled ∙ all.1;
+      holds = flat_is_contents (delete p key) at all.0 spelled ∙ all.1;
     }
 
 pub pages_one_meaning : PagesHaveOneMeaning
@@ -68,5 +69,5 @@ good_pages_stand page p g are =
       spelled = read;
       ends = refl;
       bounded = refl;
-      holds = flat_is_contents p (said_by page) g.sound read;
+      holds = flat_is_contents p (said_by page) g read;
     }

@@ -6,7 +6,6 @@ use Rattle.std.specs.FinMap.{get-from_entries}
 use Rattle.std.specs.Cmp.{tied_itself}
 use Rattle.std.proofs.lemmas.Cmp.{nat_list_cmp_total}
 use Rattle.std.proofs.lemmas.List.Sums.{sum_by-cons}
-use Rattle.dbm_model.specs.Bounds.{Version, V1}
 use Rattle.dbm_model.specs.Pairs.{Pair, key_cmp, IsAllowed}
 use Rattle.page_model.specs.PairLists.{has_key, HasBytes}
 use Rattle.page_model.specs.Placement.{pairs_of}
@@ -68,7 +67,6 @@ map_holds_bytes p key content g e =
 
 pub map_is_allowed : MapIsAllowed
 map_is_allowed p key content g e =
-    subst (λ (v : Version). IsAllowed v (key, content)) (sym g.first)
-    (holds_of (IsAllowed V1) (pairs_of p) (pairs_allowed p g.sound) (key, content)
+    holds_of (IsAllowed p.bounds.version) (pairs_of p) (pairs_allowed p g.sound) (key, content)
     (found_counts key content (pairs_of p)
-    (sym (get-from_entries nat_list_cmp_total (pairs_of p) key) ∙ e)))
+    (sym (get-from_entries nat_list_cmp_total (pairs_of p) key) ∙ e))

@@ -1,20 +1,20 @@
 -- A bucket that is opened, and the meta page, leave each other page.
-use Rattle.std.proofs.Common.{◌≡◌, ℕ, zero, suc, ◌+◌, ◌-◌, ◌*◌, ◌<◌, ◌≤◌, ◌==◌, cond, List, [], ◌∷◌, ◌++◌, length, map, take, drop, flat_map, set, sum_by, refl, sym, ap, ◌∙◌, subst, arith, length-append, length-set}
+use Rattle.std.proofs.Common.{◌≡◌, ℕ, zero, suc, ◌+◌, ◌-◌, ◌*◌, ◌<◌, ◌≤◌, ◌==◌, cond, List, [], ◌∷◌, ◌++◌, length, map, take, drop, flat_map, get_or, set, sum_by, refl, sym, ap, ◌∙◌, subst, arith, length-append, length-set}
 use Rattle.std.specs.List.{AllByRecursion}
 use Rattle.std.proofs.lemmas.List.{map-append, map-set, set-get_or, take-append-le, take-append-drop, drop-append-le, drop-drop, length-drop, length-map}
 use Rattle.std.proofs.lemmas.List.Concat.{flat_map-append}
 use Rattle.std.proofs.lemmas.List.Sums.{sum_by-append, sum_by-cons}
 use Rattle.page_model.specs.Pages.{Body, NumberedBody, SegmentPage}
-use Rattle.page_model.specs.Chain.{Chain, numbers}
+use Rattle.page_model.specs.Chain.{Chain, numbers, entries_in, pages_of, pages_in}
 use Rattle.page_model.specs.Space.{is_page, times_of}
 use Rattle.page_model.specs.Placement.{Placement, in_use, chain_at, bared, opened, IsSound}
-use Rattle.page_model.specs.PageBodies.{first_of, chain_bodies, free_bodies, segment_bodies, heads_of, lower_bodies, AreRead}
+use Rattle.page_model.specs.PageBodies.{first_of, leaf_bodies, entry_bodies, chain_bodies, free_bodies, segment_bodies, heads_of, lower_bodies, AreRead}
 use Rattle.page_model.specs.Rewrites.{AreRewritten, last_segment, new_head, opened_bodies}
 use Rattle.page_model.specs.BodyLaws.{OpenRewrites, MetaRewrites}
 use Rattle.page_model.proofs.PairLists.{sum_by-flat_map-set}
 use Rattle.page_model.proofs.Chains.{AllByRecursion-append, AllByRecursion-left, AllByRecursion-right}
 use Rattle.page_model.proofs.Splits.{opened_sound}
-use Rattle.page_model.proofs.Flat.{numbers-chain_bodies, numbers-segments, numbers-free, numbers-page_bodies}
+use Rattle.page_model.proofs.Flat.{numbers-entries, numbers-chain_bodies, numbers-segments, numbers-free, numbers-page_bodies}
 use Rattle.page_model.proofs.Frames.{kept, kept_chains, at_most_one}
 
 -- ---- segment pages
@@ -59,13 +59,25 @@ pub taken_dropped : (n k : ℕ) (ns : List ℕ)
 taken_dropped n k ns = ap (times_of n) (sym (take-append-drop k ns))
     ∙ sum_by-append (λ m. cond (m == n) 1 0) (take k ns) (drop k ns)
 
+-- one of the chains
+chain_read : (at : ℕ → Body) (chains : List Chain) (i : ℕ) → i < length chains
+    → AreRead at (flat_map chain_bodies chains) → AreRead at (chain_bodies (get_or chains i []))
+chain_read at [] i l h = absurd (omega arith)
+chain_read at (chain ∷ rest) zero l h =
+    AllByRecursion-left (λ numbered. at numbered.number ≡ numbered.body) (chain_bodies chain)
+    (flat_map chain_bodies rest) h
+chain_read at (chain ∷ rest) (suc i) l h =
+    chain_read at rest i (omega arith)
+    (AllByRecursion-right (λ numbered. at numbered.number ≡ numbered.body) (chain_bodies chain)
+    (flat_map chain_bodies rest) h)
+
 module _ (p : Placement) (h : IsSound p) (at at' : ℕ → Body) where
   below : p.shape.split < length p.chains
   below = let e = h.all_buckets in let l = h.split_in in omega arith
 
   -- the numbers of the pages that are rewritten
   pub touched : (n : ℕ) → times_of n (map (λ numbered. numbered.number) (opened_bodies p))
-      ≡ times_of n (numbers (bared (chain_at p p.shape.split)))
+      ≡ times_of n (pages_in (bared (chain_at p p.shape.split)))
       + times_of n ((new_head p).number ∷ [])
       + times_of n (drop (length (opened p).segments - 1) (opened p).segments)
       + times_of n (opened p).space.free
@@ -93,22 +105,24 @@ module _ (p : Placement) (h : IsSound p) (at at' : ℕ → Body) where
 
   -- how often a page comes afterwards, by its places
   pub places : (n : ℕ) → times_of n (opened p).segments
-      + times_of n (flat_map numbers (set p.chains p.shape.split []))
-      + (times_of n (numbers (bared (chain_at p p.shape.split)))
-      + times_of n ((new_head p).number ∷ []) + times_of n (opened p).space.free) ≤ 1
+      + times_of n (flat_map pages_in (set p.chains p.shape.split []))
+      + (times_of n (pages_in (bared (chain_at p p.shape.split)))
+      + times_of n ((new_head p).number ∷ []) + times_of n (opened p).space.free)
+      + times_of n (pages_of (entries_in (chain_at p p.shape.split))) ≤ 1
   places n =
       let f : ℕ → ℕ = λ m. cond (m == n) 1 0 in
       let q = opened p in
       let chain = chain_at p p.shape.split in
       let cs = set p.chains p.shape.split (bared chain) in
       let a = (opened_sound p h).pages.once n in
-      let b = sum_by-append f (1 ∷ q.segments) (flat_map numbers q.chains) in
+      let b = sum_by-append f (1 ∷ q.segments) (flat_map pages_in q.chains) in
       let c = sum_by-cons f 1 q.segments in
-      let d = sum_by-flat_map-set f numbers p.chains p.shape.split (bared chain) [] below in
-      let e = sum_by-flat_map-set f numbers p.chains p.shape.split [] [] below in
-      let g = ap (sum_by f) (flat_map-append numbers cs ((new_head p ∷ []) ∷ []))
-      ∙ sum_by-append f (flat_map numbers cs) ((new_head p).number ∷ []) in
+      let d = sum_by-flat_map-set f pages_in p.chains p.shape.split (bared chain) [] below in
+      let e = sum_by-flat_map-set f pages_in p.chains p.shape.split [] [] below in
+      let g = ap (sum_by f) (flat_map-append pages_in cs ((new_head p ∷ []) ∷ []))
+      ∙ sum_by-append f (flat_map pages_in cs) ((new_head p).number ∷ []) in
       let i = at_most_one (is_page n q.space.end) in
+      let j = sum_by-append f (pages_of (entries_in chain)) (in_use q) in
       omega arith
 
   -- the heads are those of before, and the new one
@@ -202,8 +216,25 @@ module _ (p : Placement) (h : IsSound p) (at at' : ℕ → Body) where
         ++ chain_bodies (new_head p ∷ []) ++ last_segment q)
         (free_bodies q.space.free) r.are_read)
 
+    -- the contents of the emptied bucket stay
+    pub contents_stay : AreRead at' (flat_map entry_bodies (entries_in (chain_at p p.shape.split)))
+    contents_stay =
+        let P : NumberedBody → Type 0 = λ numbered. at numbered.number ≡ numbered.body in
+        let s = segment_bodies p.segments (heads_of p.chains) in
+        let chain = chain_at p p.shape.split in
+        let was = AllByRecursion-right P s (flat_map chain_bodies p.chains)
+        (AllByRecursion-left P (s ++ flat_map chain_bodies p.chains)
+        (free_bodies p.space.free) read) in
+        kept at at' (flat_map entry_bodies (entries_in chain))
+        (λ n l. r.others n (let x = places n in let y = touched n in let z =
+        taken_dropped n (length (opened p).segments - 1) (opened p).segments in
+        let b = subst (λ ns. 1 ≤ times_of n ns) (numbers-entries (entries_in chain)) l in
+        omega arith))
+        (AllByRecursion-right P (leaf_bodies chain) (flat_map entry_bodies (entries_in chain))
+        (chain_read at p.chains p.shape.split below was))
+
 pub open_rewrites : OpenRewrites
-open_rewrites p at at' h read r = all_read p h at at' r read
+open_rewrites p at at' h read r = (all_read p h at at' r read, contents_stay p h at at' r read)
 
 pub meta_rewrites : MetaRewrites
 meta_rewrites p at at' h read r = (

@@ -1,7 +1,7 @@
 -- The examples of placements, by computing.
 use Rattle.std.proofs.Common.{refl}
 use Rattle.page_model.specs.Address.{hash_of}
-use Rattle.page_model.specs.PlacementExamples.{HashExamples, NinePairs, SeventeenPairs, LongPairs, ThickPairs, FullPages}
+use Rattle.page_model.specs.PlacementExamples.{HashExamples, NinePairs, SeventeenPairs, LongPairs, ThickPairs, FullPages, FarPairs}
 
 pub hashes : HashExamples
 unfolding hash_of
@@ -30,4 +30,15 @@ full_pages = record {
   replaced_keeps = refl;
   renewed_keeps = refl;
   deleted_frees = refl;
+}
+
+pub far_pairs : FarPairs
+unfolding hash_of
+far_pairs = record {
+  near_still = refl;
+  stored = refl;
+  paged = refl;
+  longest = refl;
+  in_pages = refl;
+  deleted = refl;
 }

@@ -1,9 +1,9 @@
 -- Taking and giving pages keeps each page in one place.
-use Rattle.std.proofs.Common.{◌≡◌, ℕ, ◌+◌, ◌≤◌, ◌==◌, cond, List, [], ◌∷◌, ◌++◌, length, reverse, sum_by, eq-eqb, refl, ap, ◌∙◌, arith}
+use Rattle.std.proofs.Common.{◌≡◌, ℕ, zero, suc, ◌+◌, ◌≤◌, ◌==◌, cond, List, [], ◌∷◌, ◌++◌, length, reverse, sum_by, eq-eqb, refl, ap, ◌∙◌, arith}
 use Rattle.std.proofs.lemmas.List.Sums.{sum_by-append, sum_by-cons}
 use Rattle.std.proofs.lemmas.List.Sorted.{IsPermutation-reverse, sum_by-IsPermutation}
 use Rattle.std.proofs.lemmas.Bool.Decides.{nat_tests}
-use Rattle.page_model.specs.Space.{Space, next_page, after_take, give, is_page, times_of, IsExact}
+use Rattle.page_model.specs.Space.{Space, next_page, next_pages, after_take, after_takes, give, is_page, times_of, IsExact}
 use Rattle.page_model.proofs.PairLists.{length-sum_by}
 
 -- a number in front of a list
@@ -66,3 +66,22 @@ IsExact-same xs ys s same h = record {
   as_many = let a = h.as_many in let b = same (λ _. 1) in let c = length-sum_by xs in let d =
       length-sum_by ys in omega arith;
 }
+
+-- so many pages are taken
+pub length-next_pages : (k : ℕ) (s : Space) → length (next_pages k s) ≡ k
+length-next_pages zero s = refl
+length-next_pages (suc k) s = ap suc (length-next_pages k (after_take s))
+
+pub IsExact-takes : (k : ℕ) (xs : List ℕ) (s : Space) → IsExact xs s
+    → IsExact (next_pages k s ++ xs) (after_takes k s)
+IsExact-takes zero xs s h = h
+IsExact-takes (suc k) xs s h =
+    let later = next_pages k (after_take s) in
+    IsExact-same (later ++ (next_page s ∷ xs)) ((next_page s ∷ later) ++ xs)
+    (after_takes k (after_take s))
+    (λ f. let a = sum_by-append f later (next_page s ∷ xs) in
+    let b = sum_by-append f (next_page s ∷ later) xs in
+    let c = sum_by-cons f (next_page s) xs in let d = sum_by-cons f (next_page s) later in omega arith)
+    (IsExact-takes k (next_page s ∷ xs) (after_take s)
+    (IsExact-take xs (next_page s ∷ xs) s
+    (λ f. let a = sum_by-cons f (next_page s) xs in omega arith) h))

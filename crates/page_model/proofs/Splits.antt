@@ -1,5 +1,5 @@
 -- A split keeps the map.
-use Rattle.std.proofs.Common.{◌≡◌, ◌≢◌, ℕ, suc, ◌+◌, ◌%◌, ◌^◌, ◌<◌, ◌≤◌, ◌==◌, ◌&&◌, Bool, true, false, cond, eqb, List, [], ◌∷◌, ◌++◌, length, drop, flat_map, fold, get_or, set, sum_by, Option, None, Some, is_eq, refl, sym, ap, ◌∙◌, subst, ⊎_elim, arith, get_or-set_same, get_or-set_other, length-set, length-append, append-nil, pow_pos, pow-add}
+use Rattle.std.proofs.Common.{◌≡◌, ◌≢◌, ℕ, suc, ◌+◌, ◌%◌, ◌^◌, ◌<◌, ◌≤◌, ◌==◌, ◌&&◌, Bool, true, false, cond, eqb, List, [], ◌∷◌, ◌++◌, length, map, drop, flat_map, fold, get_or, set, sum_by, Option, None, Some, is_eq, refl, sym, ap, ◌∙◌, subst, ⊎_elim, arith, get_or-set_same, get_or-set_other, length-set, length-append, append-nil, pow_pos, pow-add}
 use Rattle.std.specs.List.{AllByRecursion}
 use Rattle.std.specs.Option.{option_or}
 use Rattle.std.specs.Int.{bit_at}
@@ -9,31 +9,33 @@ use Rattle.std.proofs.lemmas.Cmp.{nat_list_cmp_total}
 use Rattle.std.proofs.lemmas.List.{get_or_append_left, get_or_push, append-nil}
 use Rattle.std.proofs.lemmas.List.Concat.{flat_map-append}
 use Rattle.std.proofs.lemmas.List.Sums.{sum_by-append, sum_by-cons, sum_by_push}
-use Rattle.std.proofs.lemmas.Bool.{le-leb, cases_eq, eqb-true, eqb-false, ne_eqb}
-use Rattle.dbm_model.specs.Bounds.{V1}
+use Rattle.std.proofs.lemmas.Bool.{cases_eq, eqb-true, eqb-false, ne_eqb}
 use Rattle.page_model.specs.Address.{Shape, address, buckets, grown, hash_of}
 use Rattle.dbm_model.specs.Pairs.{Key, Pair, IsAllowed}
 use Rattle.page_model.specs.PairLists.{has_key, times}
-use Rattle.page_model.specs.Slots.{taken}
-use Rattle.page_model.specs.Chain.{Chain, numbers, pairs_in, used, IsChain}
+use Rattle.page_model.specs.Chain.{Entry, Chain, numbers, entries_in, pairs_in, pages_of, pages_in, IsEntry, IsChain}
 use Rattle.page_model.specs.Space.{next_page, after_take, give, IsExact}
 use Rattle.dbm_model.specs.Sizes.{segments_for}
-use Rattle.page_model.specs.Placement.{Placement, pairs_of, contents, in_use, key_bucket, chain_at, put, IsInPlace, IsSound, bare, bared, opens_segment, opened, split}
+use Rattle.page_model.specs.Placement.{Placement, pairs_of, contents, in_use, key_bucket, chain_at, put_entry, IsInPlace, IsSoundBeside, IsSound, bare, bared, opens_segment, opened, split}
 use Rattle.page_model.specs.PlacementLaws.{PairsAreAllowed}
 use Rattle.page_model.proofs.AddressLemmas.{grown_address}
 use Rattle.page_model.proofs.PairLists.{value_in, value_in-split, times_some, sum_by-flat_map-set}
-use Rattle.page_model.proofs.Chains.{AllByRecursion-append}
+use Rattle.page_model.proofs.Chains.{AllByRecursion-append, AllByRecursion-left, AllByRecursion-right, all_pairs, pairs_of_entries}
 use Rattle.page_model.proofs.Spaces.{IsExact-take, IsExact-give}
-use Rattle.page_model.proofs.Places.{keys_exact, sum_by-put, put_sound, value_in-put}
+use Rattle.page_model.proofs.Places.{keys_exact, all_at, all_set, sum_by-put, put_sound, value_in-put}
 
--- ---- pairs put one after another
+-- ---- records put one after another
 
--- q is p with the pairs put
-pub record IsFilled (p : Placement) (pairs : List Pair) (q : Placement) : Type 0 where
+abbrev pub pairs_at : List Entry → List Pair
+pairs_at entries = map (λ e. e.pair) entries
+
+-- q is p with the records put
+pub record IsFilled (p : Placement) (entries : List Entry) (q : Placement) : Type 0 where
   pub sound : IsSound q
-  pub sums : (f : Pair → ℕ) → sum_by f (pairs_of q) ≡ sum_by f (pairs_of p) + sum_by f pairs
+  pub sums : (f : Pair → ℕ)
+      → sum_by f (pairs_of q) ≡ sum_by f (pairs_of p) + sum_by f (pairs_at entries)
   pub values : (key : Key) → value_in key (pairs_of q)
-      ≡ option_or (value_in key pairs) (value_in key (pairs_of p))
+      ≡ option_or (value_in key (pairs_at entries)) (value_in key (pairs_of p))
   pub chains : length q.chains ≡ length p.chains
   pub bounds_are : q.bounds ≡ p.bounds
 
@@ -42,12 +44,12 @@ pushed : {A : Type 0} (t : Bool) (x : A) (a b : Option A) → (t ≡ true → a 
 pushed true x a b h = ap (λ o. option_or o (Some x)) (h refl)
 pushed false x a b h = refl
 
--- pairs that may be put: they are small, and no key of them comes twice, in them and in the
--- placement
-pub record CanFill (p : Placement) (pairs : List Pair) : Type 0 where
-  pub sound : IsSound p
-  pub small : AllByRecursion (IsAllowed V1) pairs
-  pub once : (key : Key) → times key pairs + times key (pairs_of p) ≤ 1
+-- records that may be put: their pairs are allowed, no key of them comes twice, in them and in the
+-- placement, and the pages of their contents are held
+pub record CanFill (p : Placement) (entries : List Entry) : Type 0 where
+  pub sound : IsSoundBeside (pages_of entries) p
+  pub small : AllByRecursion (IsEntry p.bounds.version) entries
+  pub once : (key : Key) → times key (pairs_at entries) + times key (pairs_of p) ≤ 1
 
 counts : (key : Key) (x : Pair) (pairs : List Pair)
     → times key (x ∷ pairs) ≡ cond (has_key key x) 1 0 + times key pairs
@@ -57,47 +59,50 @@ counts_one : (key : Key) (x : Pair) (pairs : List Pair) → has_key key x ≡ tr
     → times key (x ∷ pairs) ≡ 1 + times key pairs
 counts_one key x pairs t = counts key x pairs ∙ ap (λ b. cond b 1 0 + times key pairs) t
 
-pub first_absent : (x : Pair) (pairs : List Pair) (p : Placement) → CanFill p (x ∷ pairs)
-    → value_in x.0 (pairs_of p) ≡ None
-first_absent x pairs p h = times_some x.0 (pairs_of p)
-    (let a = counts_one x.0 x pairs (ap is_eq (tied_itself nat_list_cmp_total x.0)) in let b =
-    h.once x.0 in omega arith)
+pub first_absent : (x : Entry) (entries : List Entry) (p : Placement) → CanFill p (x ∷ entries)
+    → value_in x.pair.0 (pairs_of p) ≡ None
+first_absent x entries p h = times_some x.pair.0 (pairs_of p)
+    (let a = counts_one x.pair.0 x.pair (pairs_at entries)
+    (ap is_eq (tied_itself nat_list_cmp_total x.pair.0)) in let b = h.once x.pair.0 in omega arith)
 
-later_absent : (x : Pair) (pairs : List Pair) (p : Placement) → CanFill p (x ∷ pairs) → (key : Key)
-    → has_key key x ≡ true → value_in key pairs ≡ None
-later_absent x pairs p h key t =
-    times_some key pairs (let a = counts_one key x pairs t in let b = h.once key in omega arith)
+later_absent : (x : Entry) (entries : List Entry) (p : Placement) → CanFill p (x ∷ entries)
+    → (key : Key) → has_key key x.pair ≡ true → value_in key (pairs_at entries) ≡ None
+later_absent x entries p h key t =
+    times_some key (pairs_at entries)
+    (let a = counts_one key x.pair (pairs_at entries) t in let b = h.once key in omega arith)
 
-pub can_fill_rest : (x : Pair) (pairs : List Pair) (p : Placement) → CanFill p (x ∷ pairs)
-    → CanFill (put p x) pairs
-can_fill_rest x pairs p h = record {
-  sound = put_sound p h.sound x h.small.0 (first_absent x pairs p h);
+pub can_fill_rest : (x : Entry) (entries : List Entry) (p : Placement) → CanFill p (x ∷ entries)
+    → CanFill (put_entry p x) entries
+can_fill_rest x entries p h = record {
+  sound = put_sound (pages_of (x ∷ entries)) p h.sound x (pages_of entries)
+      (λ f. sum_by-append f x.pages (pages_of entries)) h.small.0 (first_absent x entries p h);
   small = h.small.1;
-  once = λ key. let a = counts key x pairs in let b = h.once key in let c =
-      sum_by-put p h.sound x (λ pair. cond (has_key key pair) 1 0) in omega arith;
+  once = λ key. let a = counts key x.pair (pairs_at entries) in let b = h.once key in let c =
+      sum_by-put (pages_of (x ∷ entries)) p h.sound x (λ pair. cond (has_key key pair) 1 0) in
+      omega arith;
 }
 
-pub filled : (pairs : List Pair) (p : Placement) → CanFill p pairs
-    → IsFilled p pairs (fold put p pairs)
+pub filled : (entries : List Entry) (p : Placement) → CanFill p entries
+    → IsFilled p entries (fold put_entry p entries)
 filled [] p h = record {
   sound = h.sound;
   sums = λ f. omega arith;
   values = λ key. refl;
-  chains =
-      refl;
+  chains = refl;
   bounds_are = refl;
 }
-filled (x ∷ pairs) p h =
-    let rest = filled pairs (put p x) (can_fill_rest x pairs p h) in
+filled (x ∷ entries) p h =
+    let held = pages_of (x ∷ entries) in
+    let rest = filled entries (put_entry p x) (can_fill_rest x entries p h) in
     record {
       sound = rest.sound;
-      sums = λ f. let a = rest.sums f in let b = sum_by-put p h.sound x f in let c =
-          sum_by-cons f x pairs in omega arith;
+      sums = λ f. let a = rest.sums f in let b = sum_by-put held p h.sound x f in let c =
+          sum_by-cons f x.pair (pairs_at entries) in omega arith;
       values = λ key. rest.values key
-          ∙ ap (option_or (value_in key pairs))
-          (value_in-put p h.sound x h.small.0 (first_absent x pairs p h) key)
-          ∙ pushed (has_key key x) x.1 (value_in key pairs) (value_in key (pairs_of p))
-          (later_absent x pairs p h key);
+          ∙ ap (option_or (value_in key (pairs_at entries)))
+          (value_in-put held p h.sound x h.small.0 (first_absent x entries p h) key)
+          ∙ pushed (has_key key x.pair) x.pair.1 (value_in key (pairs_at entries))
+          (value_in key (pairs_of p)) (later_absent x entries p h key);
       chains = rest.chains ∙ length-set p.chains _ _;
       bounds_are = rest.bounds_are;
     }
@@ -170,22 +175,15 @@ more_segments n k e =
       | false ↦ λ t. let z : n % 508 ≡ 0 → ⊥ = eqb-false _ _ t in omega arith
     ] refl
 
--- each pair of a page that fits is small
-small_in : (xs : List Pair) → taken xs ≤ 2032 → AllByRecursion (IsAllowed V1) xs
-small_in [] l = tt
-small_in (x ∷ xs) l =
-    (le-leb (length x.0 + length x.1) 2026 (omega arith), small_in xs (omega arith))
+-- an emptied chain holds no content
+entries_in-bared : (chain : Chain) → entries_in (bared chain) ≡ []
+entries_in-bared [] = refl
+entries_in-bared (head ∷ overflow) = refl
 
-small_in_leaves : (leaves : Chain) → AllByRecursion (λ leaf. used leaf ≤ 2032) leaves
-    → AllByRecursion (IsAllowed V1) (pairs_in leaves)
-small_in_leaves [] h = tt
-small_in_leaves (leaf ∷ rest) h =
-    AllByRecursion-append (IsAllowed V1) leaf.pairs (pairs_in rest) (small_in leaf.pairs h.0)
-    (small_in_leaves rest h.1)
-
-small_in_chain : (chain : Chain) → IsChain chain → AllByRecursion (IsAllowed V1) (pairs_in chain)
-small_in_chain [] h = tt
-small_in_chain (head ∷ overflow) h = small_in_leaves (head ∷ overflow) (h.0, h.1)
+sum_by-bared_pages : (f : ℕ → ℕ) (chain : Chain)
+    → sum_by f (pages_in (bared chain)) ≡ sum_by f (numbers (bared chain))
+sum_by-bared_pages f [] = refl
+sum_by-bared_pages f (head ∷ overflow) = refl
 
 module _ (p : Placement) (h : IsSound p) where
   old : Chain
@@ -251,43 +249,56 @@ module _ (p : Placement) (h : IsSound p) where
       (cases_eq j p.shape.split)))
       (cases_eq j (length cs))
 
-  -- the pages in use once the new bucket has its head
-  pub headed_pages : IsExact (1 ∷ p.segments ++ flat_map numbers (opened p).chains)
+  -- the pages in use once the new bucket has its head, and those of the contents that are moved
+  pub headed_pages : IsExact (pages_of (entries_in (chain_at p p.shape.split))
+      ++ (1 ∷ p.segments ++ flat_map pages_in (opened p).chains))
       (after_take (give (drop 1 (numbers (chain_at p p.shape.split))) p.space))
   headed_pages =
       let chain = chain_at p p.shape.split in
       let cs = set p.chains p.shape.split (bared chain) in
       let given = give (drop 1 (numbers chain)) p.space in
       let last : Chain = bare (next_page given) ∷ [] in
-      let kept = 1 ∷ p.segments ++ flat_map numbers cs in
-      let less : IsExact kept given =
-      IsExact-give (in_use p) kept (drop 1 (numbers chain)) p.space (λ f.
-      let a = sum_by-flat_map-set f numbers p.chains p.shape.split (bared chain) [] old_below in
+      let held = pages_of (entries_in chain) in
+      let kept = 1 ∷ p.segments ++ flat_map pages_in cs in
+      let more = 1 ∷ p.segments ++ flat_map pages_in (cs ++ last ∷ []) in
+      let less : IsExact (held ++ kept) given =
+      IsExact-give (in_use p) (held ++ kept) (drop 1 (numbers chain)) p.space (λ f.
+      let a = sum_by-flat_map-set f pages_in p.chains p.shape.split (bared chain) [] old_below in
       let b = sum_by-bared f chain in
-      let c = sum_by-append f (1 ∷ p.segments) (flat_map numbers p.chains) in
-      let d = sum_by-append f (1 ∷ p.segments) (flat_map numbers cs) in
+      let c = sum_by-append f (1 ∷ p.segments) (flat_map pages_in p.chains) in
+      let d = sum_by-append f (1 ∷ p.segments) (flat_map pages_in cs) in
+      let e = sum_by-append f held kept in
+      let g = sum_by-append f (numbers chain) held in
+      let i = sum_by-bared_pages f chain in
       omega arith) h.pages in
-      IsExact-take kept (1 ∷ p.segments ++ flat_map numbers (cs ++ last ∷ [])) given (λ f.
-      let a = sum_by-append f (1 ∷ p.segments) (flat_map numbers cs) in
-      let b = sum_by-append f (1 ∷ p.segments) (flat_map numbers (cs ++ last ∷ [])) in
-      let c = ap (sum_by f) (flat_map-append numbers cs (last ∷ []))
-      ∙ sum_by-append f (flat_map numbers cs) (next_page given ∷ []) in
+      IsExact-take (held ++ kept) (held ++ more) given (λ f.
+      let a = sum_by-append f (1 ∷ p.segments) (flat_map pages_in cs) in
+      let b = sum_by-append f (1 ∷ p.segments) (flat_map pages_in (cs ++ last ∷ [])) in
+      let c = ap (sum_by f) (flat_map-append pages_in cs (last ∷ []))
+      ∙ sum_by-append f (flat_map pages_in cs) (next_page given ∷ []) in
+      let d = sum_by-append f held kept in
+      let e = sum_by-append f held more in
       omega arith) less
 
-  opened_pages : IsExact (in_use (opened p)) (opened p).space
+  opened_pages : IsExact (pages_of (entries_in (chain_at p p.shape.split)) ++ in_use (opened p))
+      (opened p).space
   opened_pages =
       let headed = after_take (give (drop 1 (numbers (chain_at p p.shape.split))) p.space) in
+      let held = pages_of (entries_in (chain_at p p.shape.split)) in
       let chains' = (opened p).chains in
       elim (opens_segment p) as (λ b.
-      IsExact (1 ∷ (p.segments ++ cond b (next_page headed ∷ []) [])
-      ++ flat_map numbers chains') (cond b (after_take headed) headed)) [
-        | true ↦ IsExact-take (1 ∷ p.segments ++ flat_map numbers chains') _ headed (λ f.
-            let a = sum_by-append f (1 ∷ p.segments) (flat_map numbers chains') in
+      IsExact (held ++ (1 ∷ (p.segments ++ cond b (next_page headed ∷ []) [])
+      ++ flat_map pages_in chains')) (cond b (after_take headed) headed)) [
+        | true ↦ IsExact-take (held ++ (1 ∷ p.segments ++ flat_map pages_in chains')) _ headed (λ f.
+            let a = sum_by-append f (1 ∷ p.segments) (flat_map pages_in chains') in
             let b = sum_by-append f (1 ∷ (p.segments ++ next_page headed ∷ []))
-            (flat_map numbers chains') in
+            (flat_map pages_in chains') in
             let c = sum_by_push f (1 ∷ p.segments) (next_page headed) in
+            let d = sum_by-append f held (1 ∷ p.segments ++ flat_map pages_in chains') in
+            let e = sum_by-append f held
+            (1 ∷ (p.segments ++ next_page headed ∷ []) ++ flat_map pages_in chains') in
             omega arith) headed_pages
-        | false ↦ subst (λ ss. IsExact (1 ∷ ss ++ flat_map numbers chains') headed)
+        | false ↦ subst (λ ss. IsExact (held ++ (1 ∷ ss ++ flat_map pages_in chains')) headed)
             (sym (append-nil p.segments)) headed_pages
       ]
 
@@ -296,7 +307,7 @@ module _ (p : Placement) (h : IsSound p) where
   length_cond true x y = refl
   length_cond false x y = refl
 
-  pub opened_sound : IsSound (opened p)
+  pub opened_sound : IsSoundBeside (pages_of (entries_in (chain_at p p.shape.split))) (opened p)
   opened_sound =
       let chain = chain_at p p.shape.split in
       let cs = set p.chains p.shape.split (bared chain) in
@@ -318,32 +329,53 @@ module _ (p : Placement) (h : IsSound p) where
         in_place = opened_in_place;
         no_key_twice = λ q. let a = sum_by-opened (λ pair. cond (has_key q pair) 1 0) in let b =
             h.no_key_twice q in omega arith;
+        entered = subst (AllByRecursion (IsEntry p.bounds.version))
+            (sym (flat_map-append entries_in cs (last ∷ [])))
+            (AllByRecursion-append (IsEntry p.bounds.version) (flat_map entries_in cs) []
+            (all_set (IsEntry p.bounds.version) p.chains p.shape.split (bared chain)
+            (subst (AllByRecursion (IsEntry p.bounds.version)) (sym (entries_in-bared chain)) tt)
+            h.entered) tt);
       }
 
-  small_pairs : AllByRecursion (IsAllowed V1) (pairs_in (chain_at p p.shape.split))
-  small_pairs = small_in_chain (chain_at p p.shape.split) (h.in_place p.shape.split old_below).0
+  small_entries : AllByRecursion (IsEntry p.bounds.version) (entries_in (chain_at p p.shape.split))
+  small_entries = all_at (IsEntry p.bounds.version) p.chains p.shape.split old_below h.entered
 
-  pub can_fill_opened : CanFill (opened p) (pairs_in (chain_at p p.shape.split))
+  pub can_fill_opened : CanFill (opened p) (entries_in (chain_at p p.shape.split))
   can_fill_opened = record {
     sound = opened_sound;
-    small = small_pairs;
-    once = λ key. let a = sum_by-opened (λ pair. cond (has_key key pair) 1 0) in let b =
-        h.no_key_twice key in omega arith;
+    small = small_entries;
+    once = λ key. let chain = chain_at p p.shape.split in
+        let a = sum_by-opened (λ pair. cond (has_key key pair) 1 0) in
+        let b = h.no_key_twice key in
+        let c = ap (times key) (pairs_of_entries chain) in omega arith;
   }
 
-  pub split_filled : IsFilled (opened p) (pairs_in (chain_at p p.shape.split)) (split p)
-  split_filled = filled (pairs_in (chain_at p p.shape.split)) (opened p) can_fill_opened
+  pub split_filled : IsFilled (opened p) (entries_in (chain_at p p.shape.split)) (split p)
+  split_filled = filled (entries_in (chain_at p p.shape.split)) (opened p) can_fill_opened
 
   pub contents-split : contents (split p) ≡ contents p
   contents-split = same_map nat_list_cmp_total keys_exact _ _ (λ q.
       get-from_entries nat_list_cmp_total (pairs_of (split p)) q ∙ split_filled.values q
+      ∙ ap (λ xs. option_or (value_in q xs) (value_in q (pairs_of (opened p))))
+      (sym (pairs_of_entries (chain_at p p.shape.split)))
       ∙ sym (value_in-opened q) ∙ sym (get-from_entries nat_list_cmp_total (pairs_of p) q))
 
--- each pair of a sound placement is in a page that fits
+all_weaker : {X : Type 0} (P Q : X → Type 0) → ((x : X) → P x → Q x) → (xs : List X)
+    → AllByRecursion P xs → AllByRecursion Q xs
+all_weaker P Q so [] h = tt
+all_weaker P Q so (x ∷ xs) h = (so x h.0, all_weaker P Q so xs h.1)
+
+-- each pair of a sound placement is allowed
 pub pairs_allowed : PairsAreAllowed
-pairs_allowed p h = over p.chains (λ j l. (h.in_place j l).0) where
-  over : (chains : List Chain) → ((j : ℕ) → j < length chains → IsChain (get_or chains j []))
-      → AllByRecursion (IsAllowed V1) (flat_map pairs_in chains)
+pairs_allowed p h = over p.chains h.entered where
+  over : (chains : List Chain) → AllByRecursion (IsEntry p.bounds.version) (flat_map entries_in chains)
+      → AllByRecursion (IsAllowed p.bounds.version) (flat_map pairs_in chains)
   over [] h = tt
-  over (chain ∷ rest) h = AllByRecursion-append (IsAllowed V1) (pairs_in chain) (flat_map pairs_in rest)
-      (small_in_chain chain (h 0 (omega arith))) (over rest (λ j l. h (suc j) (omega arith)))
+  over (chain ∷ rest) h = AllByRecursion-append (IsAllowed p.bounds.version) (pairs_in chain)
+      (flat_map pairs_in rest)
+      (all_pairs (IsAllowed p.bounds.version) chain
+      (all_weaker (IsEntry p.bounds.version) (λ e. IsAllowed p.bounds.version e.pair)
+      (λ e is. is.allowed) (entries_in chain)
+      (AllByRecursion-left (IsEntry p.bounds.version) (entries_in chain) (flat_map entries_in rest) h)))
+      (over rest (AllByRecursion-right (IsEntry p.bounds.version) (entries_in chain)
+      (flat_map entries_in rest) h))

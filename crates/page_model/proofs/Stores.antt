@@ -1,5 +1,5 @@
 -- A store and a delete keep a placement good.
-use Rattle.std.proofs.Common.{◌≡◌, ℕ, zero, suc, ◌+◌, ◌*◌, ◌≤◌, true, false, cond, ltb, List, [], ◌∷◌, length, filter, set, sum_by, Option, None, is_some, is_eq, refl, sym, ap, ◌∙◌, subst, ⊎_elim, arith, length-set, length-append}
+use Rattle.std.proofs.Common.{◌≡◌, ℕ, zero, suc, ◌+◌, ◌*◌, ◌≤◌, true, false, cond, ltb, List, [], ◌∷◌, ◌++◌, length, filter, set, sum_by, Option, None, is_some, is_eq, refl, sym, ap, ◌∙◌, subst, ⊎_elim, arith, length-set, length-append}
 use Rattle.std.specs.List.{AllByRecursion}
 use Rattle.std.specs.FinMap.{get, insert, len, get-from_entries, len-insert, len-empty}
 use Rattle.std.specs.Cmp.{tied_itself}
@@ -7,19 +7,22 @@ use Rattle.std.proofs.lemmas.Cmp.{nat_list_cmp_total}
 use Rattle.std.proofs.lemmas.Bool.{ltb-true, ltb-false, cases_eq}
 use Rattle.std.proofs.lemmas.Bool.Decides.{nat_tests}
 use Rattle.std.proofs.lemmas.List.Sums.{sum_by-cons, length-filter}
-use Rattle.dbm_model.specs.Bounds.{V1, Bounds, in_v1, Version}
+use Rattle.std.specs.Prelude.{nat_le, ◌&&◌, ◌||◌, flat_map}
+use Rattle.dbm_model.specs.Bounds.{Version, V1, V2, Bounds, in_v2}
 use Rattle.dbm_model.specs.Pairs.{Key, Pair, key_cmp, contents_of, IsAllowed}
 use Rattle.page_model.specs.PairLists.{has_key, times, HasBytes}
-use Rattle.page_model.specs.Chain.{pairs_in}
-use Rattle.page_model.specs.Space.{IsExact}
+use Rattle.page_model.specs.Chain.{Entry, IsEntry, content_pages, entries_in, pairs_in, pages_of}
+use Rattle.page_model.specs.Space.{next_pages, IsExact}
 use Rattle.dbm_model.specs.Sizes.{buckets_for, home}
-use Rattle.page_model.specs.Placement.{Placement, pairs_of, contents, in_use, key_bucket, chain_at, delete, replace, split, store, fresh_placement, IsInPlace, IsSound, IsGood, MayStore}
-use Rattle.page_model.specs.PlacementLaws.{SplitKeeps, LooksInOneChain, CountsKeys, StoreStaysGood, DeleteStaysGood, FreshIsGood}
+use Rattle.page_model.specs.Placement.{Placement, pairs_of, contents, in_use, key_bucket, chain_at, put, entry_for, with_content, delete, replace, split, store, fresh_placement, IsInPlace, IsSound, IsGood, MayStore}
+use Rattle.page_model.specs.PlacementLaws.{SplitKeeps, LooksInOneChain, CountsKeys, StoreStaysGood, DeleteStaysGood, FreshIsGood, RaisedIsGood}
 use Rattle.page_model.proofs.PairLists.{times_some, length-sum_by}
-use Rattle.page_model.proofs.Places.{value_at, sum_by-put, sum_by-delete, delete_sound, replace_sound, contents-replace, contents-delete}
+use Rattle.page_model.proofs.Places.{value_at, taken_sound, is_entry_for, sum_by-put, sum_by-delete, delete_sound, replace_sound, contents-replace, contents-delete}
 use Rattle.page_model.proofs.Splits.{split_filled, contents-split, sum_by-opened}
+use Rattle.page_model.proofs.Chains.{pairs_of_entries}
 use Rattle.page_model.proofs.Members.{AllByRecursion-fewer}
-use Rattle.page_model.proofs.Bounds.{in_use_below, end_after_put, length-put, end_split, home_of_first}
+use Rattle.page_model.proofs.Bounds.{in_use_below, in_use_beside, end_after_put, end_after_takes, end_split}
+use Rattle.page_model.proofs.Spaces.{length-next_pages}
 
 -- the length of a list in which no key comes twice is that of its map
 len_flat : (xs : List Pair) → ((key : Key) → times key xs ≤ 1) → len (contents_of xs) ≡ length xs
@@ -48,7 +51,8 @@ looks_in_one_chain p key h = get-from_entries nat_list_cmp_total (pairs_of p) ke
 length-split : (p : Placement) → IsSound p → length (pairs_of (split p)) ≡ length (pairs_of p)
 length-split p h =
     let a = (split_filled p h).sums (λ _. 1) in let b = sum_by-opened p h (λ _. 1) in
-    let c = length-sum_by (pairs_of (split p)) in let d = length-sum_by (pairs_of p) in omega arith
+    let c = length-sum_by (pairs_of (split p)) in let d = length-sum_by (pairs_of p) in
+    let e = ap (sum_by (λ _. 1)) (pairs_of_entries (chain_at p p.shape.split)) in omega arith
 
 chains-split : (p : Placement) → IsSound p → length (split p).chains ≡ length p.chains + 1
 chains-split p h = (split_filled p h).chains ∙ length-append (set p.chains p.shape.split _) _
@@ -62,11 +66,23 @@ length-delete : (p : Placement) → IsSound p → (key : Key)
     ≡ length (pairs_of p)
 length-delete p h key =
     let chain = pairs_in (chain_at p (key_bucket p.shape key)) in
-    let a = sum_by-delete p h key (λ _. 1) in
+    let a = sum_by-delete [] p h key (λ _. 1) in
     let b = length-sum_by (pairs_of (delete p key)) in let c = length-sum_by (pairs_of p) in let d =
     length-sum_by (filter (has_key key) chain) in
     let e = length-filter (has_key key) chain in
     omega arith
+
+-- a pair that is put
+pub sum_by-put_pair : (p : Placement) → IsSound p → (pair : Pair) → (f : Pair → ℕ)
+    → sum_by f (pairs_of (put p pair)) ≡ sum_by f (pairs_of p) + f pair
+sum_by-put_pair p h pair f =
+    sum_by-put (next_pages (content_pages pair) p.space ++ []) (with_content p pair)
+    (taken_sound [] p h (content_pages pair)) (entry_for p pair) f
+
+pub length-put-pair : (p : Placement) → IsSound p → (pair : Pair)
+    → length (pairs_of (put p pair)) ≡ length (pairs_of p) + 1
+length-put-pair p h pair = length-sum_by (pairs_of (put p pair)) ∙ sum_by-put_pair p h pair (λ _. 1)
+    ∙ ap (λ n. n + 1) (sym (length-sum_by (pairs_of p)))
 
 -- a replaced pair does not count twice
 few_replaced : (p : Placement) → IsGood p → (pair : Pair) → MayStore p pair
@@ -76,7 +92,7 @@ few_replaced p g pair may =
     let h = g.sound in
     let chain = pairs_in (chain_at p (key_bucket p.shape pair.0)) in
     let a = length-delete p h pair.0 in
-    let b = length-put (delete p pair.0) (delete_sound p h pair.0) pair in
+    let b = length-put-pair (delete p pair.0) (delete_sound [] p h pair.0) pair in
     let c = g.few_pairs in
     let d = g.light in
     let e = counts_keys p h in (
@@ -91,39 +107,46 @@ few_replaced p g pair may =
     )
 
 chains-replace : (p : Placement) (pair : Pair) → length (replace p pair).chains ≡ length p.chains
-chains-replace p pair = length-set (delete p pair.0).chains _ _ ∙ length-set p.chains _ _
+chains-replace p pair = length-set (with_content (delete p pair.0) pair).chains _ _ ∙ length-set p.chains _ _
 
-allowed_first : (bounds : Bounds) → bounds.version ≡ V1 → (pair : Pair)
-    → IsAllowed bounds.version pair → IsAllowed V1 pair
-allowed_first bounds first pair allowed =
-    subst (λ (v : Version). IsAllowed v pair) first allowed
-
-end_replaced : (p : Placement) → IsGood p → (pair : Pair) → IsAllowed V1 pair
+end_replaced : (p : Placement) → IsGood p → (pair : Pair) → IsAllowed p.bounds.version pair
     → length (pairs_of (replace p pair)) ≤ p.bounds.limit → (replace p pair).space.end ≤ home p.bounds
 end_replaced p g pair small few =
+    let q = delete p pair.0 in
+    let left = delete_sound [] p g.sound pair.0 in
+    let e = entry_for q pair in
+    let is = is_entry_for q pair small in
     let sound = replace_sound p g.sound pair small in
     let same = chains-replace p pair in
+    let was : length q.chains ≡ length p.chains = length-set p.chains _ _ in
     let b = g.few_buckets in
-    let same = home_of_first p.bounds g.first in
-    end_after_put (delete p pair.0) pair (home p.bounds) sound g.bounded
-    (let below = in_use_below (replace p pair) sound p.bounds.limit (omega arith) few in omega arith)
+    let many = length-put-pair q left pair in
+    let room = in_use_beside [] q left (e ∷ []) (is, tt) p.bounds.limit (omega arith) (omega arith) in
+    let a = length-append (pages_of (e ∷ [])) (in_use q) in
+    let c = length-append e.pages [] in
+    let d = length-next_pages (content_pages pair) q.space in
+    end_after_put (with_content q pair) e [] (home p.bounds) sound
+    (end_after_takes (content_pages pair) (in_use q) q.space (home p.bounds) left.pages g.bounded
+    (omega arith))
+    (in_use_below (replace p pair) sound p.bounds.limit (omega arith) few)
 
 -- a store adds one pair at most
-sum_by-store : (p : Placement) → IsSound p → (pair : Pair) → IsAllowed V1 pair → (f : Pair → ℕ)
+sum_by-store : (p : Placement) → IsSound p → (pair : Pair) → IsAllowed p.bounds.version pair → (f : Pair → ℕ)
     → sum_by f (pairs_of (store p pair)) ≤ sum_by f (pair ∷ pairs_of p)
 sum_by-store p h pair small f =
     let q = replace p pair in
     let k = replace_sound p h pair small in
-    let a = sum_by-put (delete p pair.0) (delete_sound p h pair.0) pair f in
-    let b = sum_by-delete p h pair.0 f in
+    let a = sum_by-put_pair (delete p pair.0) (delete_sound [] p h pair.0) pair f in
+    let b = sum_by-delete [] p h pair.0 f in
     let c = sum_by-cons f pair (pairs_of p) in
     elim (ltb (8 * length p.chains) (length (pairs_of q))) as
     (λ t. sum_by f (pairs_of (cond t (split q) q)) ≤ sum_by f (pair ∷ pairs_of p)) [
-      | true ↦ (let d = (split_filled q k).sums f in let e = sum_by-opened q k f in omega arith)
+      | true ↦ (let d = (split_filled q k).sums f in let e = sum_by-opened q k f in
+          let g = ap (sum_by f) (pairs_of_entries (chain_at q q.shape.split)) in omega arith)
       | false ↦ omega arith
     ]
 
-bounds-store : (p : Placement) → IsSound p → (pair : Pair) → IsAllowed V1 pair
+bounds-store : (p : Placement) → IsSound p → (pair : Pair) → IsAllowed p.bounds.version pair
     → (store p pair).bounds ≡ p.bounds
 bounds-store p h pair small =
     elim (ltb (8 * length p.chains) (length (pairs_of (replace p pair)))) as
@@ -134,7 +157,7 @@ bounds-store p h pair small =
 
 pub store_stays_good : StoreStaysGood
 store_stays_good p pair g may =
-    let small = allowed_first p.bounds g.first pair may.allowed in
+    let small = may.allowed in
     let all = AllByRecursion-fewer HasBytes (pair ∷ pairs_of p) (pairs_of (store p pair))
     (sum_by-store p g.sound pair small) (may.bytes, g.bytes) in
     let kept = bounds-store p g.sound pair small in
@@ -159,17 +182,15 @@ store_stays_good p pair g may =
           (let f = few.0 in omega arith) in (
             record {
               sound = s.0;
-              first = ap (λ (b : Bounds). b.version) bounds ∙ g.first;
               limited = subst (λ (l : Bounds). (1 ≤ l.limit) × (l.limit ≤ 1000000)) (sym bounds)
                   g.limited;
-              few_buckets = subst (λ (l : Bounds). length (split q).chains ≤ buckets_for l.limit) (sym bounds)
-                  (let c = s.3 in omega arith);
+              few_buckets = subst (λ (l : Bounds). length (split q).chains ≤ buckets_for l.limit)
+                  (sym bounds) (let c = s.3 in omega arith);
               few_pairs = subst (λ (l : Bounds). length (pairs_of (split q)) ≤ l.limit) (sym bounds)
                   (let c = s.2 in let f = few.0 in omega arith);
               light = (let c = s.3 in let d = s.2 in let f = few.1 in omega arith);
               bounded = subst (λ (l : Bounds). (split q).space.end ≤ home l) (sym bounds)
-                  (let same = home_of_first p.bounds g.first in
-                  let below = end_split q h p.bounds.limit room' few.0 (omega arith) in omega arith);
+                  (end_split q h p.bounds.limit room' few.0 end);
               bytes = bytes;
             },
             s.1 ∙ map,
@@ -178,7 +199,6 @@ store_stays_good p pair g may =
       | false ↦ λ t bytes bounds. (
         record {
           sound = h;
-          first = g.first;
           limited = g.limited;
           few_buckets = omega arith;
           few_pairs = few.0;
@@ -196,46 +216,93 @@ delete_stays_good p key g =
     let a = length-delete p g.sound key in
     let same : length (delete p key).chains ≡ length p.chains = length-set p.chains _ _ in (
       record {
-        sound = delete_sound p g.sound key;
-        first = g.first;
+        sound = delete_sound [] p g.sound key;
         limited = g.limited;
         few_buckets = (let b = g.few_buckets in omega arith);
         few_pairs = (let b = g.few_pairs in omega arith);
         light = (let b = g.light in omega arith);
         bounded = g.bounded;
         bytes = AllByRecursion-fewer HasBytes (pairs_of p) (pairs_of (delete p key))
-            (λ f. let b = sum_by-delete p g.sound key f in omega arith) g.bytes;
+            (λ f. let b = sum_by-delete [] p g.sound key f in omega arith) g.bytes;
       },
-      contents-delete p g.sound key,
+      contents-delete [] p g.sound key,
       refl,
     )
 
-fresh_pages : (limit : ℕ) → IsExact (in_use (fresh_placement (in_v1 limit))) (fresh_placement (in_v1 limit)).space
-fresh_pages limit = record { once = λ n. grind (arith, nat_tests); as_many = refl }
+fresh_pages : (bounds : Bounds) → IsExact (in_use (fresh_placement bounds)) (fresh_placement bounds).space
+fresh_pages bounds = record { once = λ n. grind (arith, nat_tests); as_many = refl }
 
-fresh_in_place : (limit : ℕ) → IsInPlace (fresh_placement (in_v1 limit)).shape
-    (fresh_placement (in_v1 limit)).chains
-fresh_in_place limit zero below = ((omega arith, tt, tt), tt)
-fresh_in_place limit (suc bucket) below = absurd (omega arith)
+fresh_in_place : (bounds : Bounds) → IsInPlace (fresh_placement bounds).shape
+    (fresh_placement bounds).chains
+fresh_in_place bounds zero below = ((omega arith, tt, tt), tt)
+fresh_in_place bounds (suc bucket) below = absurd (omega arith)
+
+fresh_end : (limit : ℕ) (version : Version) → 1 ≤ limit
+    → 4 ≤ home (record { limit = limit; version = version })
+fresh_end limit V1 least = omega arith
+fresh_end limit V2 least = omega arith
 
 pub fresh_is_good : FreshIsGood
-fresh_is_good limit least most = (
+fresh_is_good bounds least most = (
   record {
     sound = record {
       split_in = omega arith;
       all_buckets = refl;
       all_segments = refl;
-      pages = fresh_pages limit;
-      in_place = fresh_in_place limit;
+      pages = fresh_pages bounds;
+      in_place = fresh_in_place bounds;
       no_key_twice = λ key. omega arith;
+      entered = tt;
     };
-    first = refl;
     limited = (least, most);
     few_buckets = omega arith;
     few_pairs = omega arith;
     light = omega arith;
-    bounded = omega arith;
+    bounded = fresh_end bounds.limit bounds.version least;
     bytes = tt;
+  },
+  refl,
+)
+
+-- ---- to version 2
+
+grown_home : (limit : ℕ) (version : Version)
+    → home (record { limit = limit; version = version }) ≤ home (in_v2 limit)
+grown_home limit V1 = omega arith
+grown_home limit V2 = omega arith
+
+raised_entries : (version : Version) (entries : List Entry)
+    → AllByRecursion (IsEntry version) entries → AllByRecursion (IsEntry V2) entries
+raised_entries V2 entries h = h
+raised_entries V1 [] h = tt
+raised_entries V1 (e ∷ entries) h = (
+  record {
+    allowed = ap (λ b. b || (nat_le (length e.pair.0) 1023 && nat_le (length e.pair.1) 65535))
+        h.0.allowed;
+    paged = h.0.paged;
+  },
+  raised_entries V1 entries h.1,
+)
+
+pub raised_is_good : RaisedIsGood
+raised_is_good p g = (
+  record {
+    sound = record {
+      split_in = g.sound.split_in;
+      all_buckets = g.sound.all_buckets;
+      all_segments = g.sound.all_segments;
+      pages = g.sound.pages;
+      in_place = g.sound.in_place;
+      no_key_twice = g.sound.no_key_twice;
+      entered = raised_entries p.bounds.version (flat_map entries_in p.chains) g.sound.entered;
+    };
+    limited = g.limited;
+    few_buckets = g.few_buckets;
+    few_pairs = g.few_pairs;
+    light = g.light;
+    bounded = let more = grown_home p.bounds.limit p.bounds.version in
+        let was = g.bounded in omega arith;
+    bytes = g.bytes;
   },
   refl,
 )

@@ -1,8 +1,8 @@
 -- What each page of a placement says, page by page.
-use Rattle.std.specs.Prelude.{◌≡◌, ℕ, List, [], ◌∷◌, ◌++◌, length, map, take, drop, flat_map}
+use Rattle.std.specs.Prelude.{◌≡◌, ℕ, ◌-◌, List, [], ◌∷◌, ◌++◌, length, map, take, drop, flat_map, replicate}
 use Rattle.std.specs.List.{AllByRecursion}
-use Rattle.page_model.specs.Pages.{Meta, Body, MetaPage, SegmentPage, HeadPage, OverflowPage, FreePage, NumberedBody}
-use Rattle.page_model.specs.Chain.{Chain, numbers}
+use Rattle.page_model.specs.Pages.{Meta, Body, MetaPage, SegmentPage, HeadPage, OverflowPage, FreePage, ContentPage, NumberedBody}
+use Rattle.page_model.specs.Chain.{Chain, Entry, numbers, entries_in, record_of}
 use Rattle.page_model.specs.Placement.{Placement, pairs_of}
 
 -- the first number, 0 for none: what `next` is before the list
@@ -14,16 +14,33 @@ first_of (n ∷ rest) = n
 abbrev pub overflow_bodies : Chain → List NumberedBody
 overflow_bodies [] = []
 overflow_bodies (leaf ∷ rest) =
-    record { number = leaf.number; body = OverflowPage (first_of (numbers rest)) leaf.pairs }
+    record { number = leaf.number; body = OverflowPage (first_of (numbers rest)) (map record_of leaf.entries) }
     ∷ overflow_bodies rest
 
-abbrev pub chain_bodies : Chain → List NumberedBody
-chain_bodies [] = []
-chain_bodies (head ∷ rest) = record {
+abbrev pub leaf_bodies : Chain → List NumberedBody
+leaf_bodies [] = []
+leaf_bodies (head ∷ rest) = record {
   number = head.number;
   body =
-      HeadPage (first_of (numbers rest)) head.pairs;
+      HeadPage (first_of (numbers rest)) (map record_of head.entries);
 } ∷ overflow_bodies rest
+
+-- zeros behind the last bytes of a content
+abbrev pub filled : List ℕ → List ℕ
+filled bytes = bytes ++ replicate (2032 - length bytes) 0
+
+-- a content, 2,032 bytes to a page
+abbrev pub content_bodies : List ℕ → List ℕ → List NumberedBody
+content_bodies [] content = []
+content_bodies (n ∷ rest) content =
+    record { number = n; body = ContentPage (first_of rest) (filled (take 2032 content)) }
+    ∷ content_bodies rest (drop 2032 content)
+
+abbrev pub entry_bodies : Entry → List NumberedBody
+entry_bodies e = content_bodies e.pages e.pair.1
+
+abbrev pub chain_bodies : Chain → List NumberedBody
+chain_bodies chain = leaf_bodies chain ++ flat_map entry_bodies (entries_in chain)
 
 abbrev pub free_bodies : List ℕ → List NumberedBody
 free_bodies [] = []

@@ -5,7 +5,7 @@ use Rattle.std.specs.List.{range_with_len}
 use Rattle.dbm_model.specs.Bounds.{in_v1}
 use Rattle.page_model.specs.Numbers.{numbers_bytes}
 use Rattle.page_model.specs.Placement.{Placement, fresh_placement, store, delete}
-use Rattle.page_model.specs.PlacementExamples.{counted, two_long}
+use Rattle.page_model.specs.PlacementExamples.{counted, two_long, first_far}
 use Rattle.page_model.specs.PageBodies.{page_bodies}
 use Rattle.page_model.specs.Spelling.{spell}
 
@@ -52,4 +52,16 @@ FreedPages = pages_of (delete two_long (0x62 ∷ [])) ≡
     ∷ page (numbers_bytes (3 ∷ 0x03000001 ∷ 0 ∷ 0x02240000 ∷ [])
     ++ (0x02 ∷ 0x24 ∷ 0x00 ∷ 0x01 ∷ 0x05 ∷ 0xdb ∷ [])) (0x61 ∷ replicate 1499 0)
     ∷ page (numbers_bytes (4 ∷ 0x05000000 ∷ 0 ∷ 0 ∷ [])) []
+    ∷ []
+
+-- a new file of version 2 and limit 1, after a content of 2,026 bytes was stored: its slot is far,
+-- and page 4 has the content and six zeros
+abbrev pub FarPages : Type 0
+FarPages = pages_of first_far ≡
+    page (numbers_bytes (1 ∷ 0x01000000 ∷ 0 ∷ 0 ∷ 2 ∷ 1 ∷ 1 ∷ 0 ∷ 0 ∷ 0 ∷ 0 ∷ 1 ∷ 0 ∷ 0 ∷ 0
+    ∷ 0 ∷ 2 ∷ [])) []
+    ∷ page (numbers_bytes (2 ∷ 0x02000000 ∷ 0 ∷ 0 ∷ 3 ∷ [])) []
+    ∷ page (numbers_bytes (3 ∷ 0x03000001 ∷ 0 ∷ 0x07fb0000 ∷ [])
+    ++ (0x07 ∷ 0xfb ∷ 0x80 ∷ 0x01 ∷ 0x07 ∷ 0xea ∷ [])) (0x6b ∷ 0 ∷ 0 ∷ 0 ∷ 0x04 ∷ [])
+    ∷ page (numbers_bytes (4 ∷ 0x06000000 ∷ 0 ∷ 0 ∷ []) ++ replicate 2026 0x77) []
     ∷ []

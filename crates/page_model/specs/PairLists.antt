@@ -1,5 +1,5 @@
 -- Lists of pairs: where a key comes, and what bytes they hold.
-use Rattle.std.specs.Prelude.{ℕ, ◌<◌, Bool, List, filter, not, count_by, slice_index}
+use Rattle.std.specs.Prelude.{ℕ, ◌<◌, Bool, List, count_by, slice_index}
 use Rattle.std.specs.Ordering.{eq_by_cmp}
 use Rattle.dbm_model.specs.Pairs.{Key, Pair, key_cmp}
 
@@ -9,9 +9,6 @@ has_key key pair = eq_by_cmp key_cmp key pair.0
 -- how often the key comes
 abbrev pub times : Key → List Pair → ℕ
 times key pairs = count_by (has_key key) pairs
-
-abbrev pub without : Key → List Pair → List Pair
-without key pairs = filter (λ pair. not (has_key key pair)) pairs
 
 -- each is below 256
 abbrev pub AreBytes : List ℕ → Type 0

@@ -2,13 +2,13 @@
 use Rattle.std.specs.Prelude.{◌≡◌, ℕ, ◌*◌, ◌%◌, ◌^◌, ◌≤◌, ◌<◌, ◌==◌, Bool, List, [], ◌∷◌, ◌++◌, None, length, drop, flat_map, fold, nat_lt, slice_set, slice_index_or, if◌then◌else◌}
 use Rattle.std.specs.List.{AllByRecursion}
 use Rattle.std.specs.FinMap.{get, len}
-use Rattle.dbm_model.specs.Bounds.{Bounds, V1}
 use Rattle.page_model.specs.Address.{Shape, buckets, address, grown, hash_of}
+use Rattle.dbm_model.specs.Bounds.{Bounds, upgraded}
 use Rattle.dbm_model.specs.Pairs.{Key, Pair, Contents, contents_of, IsAllowed}
 use Rattle.page_model.specs.PairLists.{times, HasBytes}
 use Rattle.dbm_model.specs.Sizes.{buckets_for, segments_for, home}
-use Rattle.page_model.specs.Chain.{Chain, Leaf, numbers, pairs_in, has_room, add, remove, emptied, IsChain}
-use Rattle.page_model.specs.Space.{Space, next_page, after_take, give, IsExact}
+use Rattle.page_model.specs.Chain.{Entry, Chain, Leaf, content_pages, numbers, entries_in, pairs_in, pages_in, has_room, add, remove, freed, IsEntry, IsChain}
+use Rattle.page_model.specs.Space.{Space, next_page, next_pages, after_take, after_takes, give, IsExact}
 
 pub record Placement : Type 0 where
   pub bounds : Bounds
@@ -19,7 +19,10 @@ pub record Placement : Type 0 where
   pub chains : List Chain
   pub space : Space
 
--- all pairs of all pages
+-- all entries of all pages, and their pairs
+abbrev pub entries_of : Placement → List Entry
+entries_of p = flat_map entries_in p.chains
+
 abbrev pub pairs_of : Placement → List Pair
 pairs_of p = flat_map pairs_in p.chains
 
@@ -27,9 +30,9 @@ pairs_of p = flat_map pairs_in p.chains
 abbrev pub contents : Placement → Contents
 contents p = contents_of (pairs_of p)
 
--- meta, segments, and the pages of the chains
+-- meta, segments, and the pages of the chains and of their contents
 abbrev pub in_use : Placement → List ℕ
-in_use p = 1 ∷ p.segments ++ flat_map numbers p.chains
+in_use p = 1 ∷ p.segments ++ flat_map pages_in p.chains
 
 -- the bucket of a key
 abbrev pub key_bucket : Shape → Key → ℕ
@@ -38,24 +41,35 @@ key_bucket shape key = address shape (hash_of key)
 abbrev pub chain_at : Placement → ℕ → Chain
 chain_at p bucket = slice_index_or p.chains bucket []
 
--- a pair goes to its bucket's chain
-abbrev pub put : Placement → Pair → Placement
-put p pair =
-    let bucket = key_bucket p.shape pair.0 in
+-- a record goes to its bucket's chain, and its content pages stay
+abbrev pub put_entry : Placement → Entry → Placement
+put_entry p e =
+    let bucket = key_bucket p.shape e.pair.0 in
     let chain = chain_at p bucket in
     record p {
-      chains = slice_set p.chains bucket (add pair (next_page p.space) chain);
-      space = if has_room pair chain then p.space else after_take p.space;
+      chains = slice_set p.chains bucket (add e (next_page p.space) chain);
+      space = if has_room e chain then p.space else after_take p.space;
     }
 
--- a key leaves its bucket's chain, and what becomes empty is free
+-- the pages of a pair's content are taken
+abbrev pub entry_for : Placement → Pair → Entry
+entry_for p pair = record { pair = pair; pages = next_pages (content_pages pair) p.space }
+
+abbrev pub with_content : Placement → Pair → Placement
+with_content p pair = record p { space = after_takes (content_pages pair) p.space }
+
+-- a pair's content goes to pages that are taken first, in order, and then its record to its chain
+abbrev pub put : Placement → Pair → Placement
+put p pair = put_entry (with_content p pair) (entry_for p pair)
+
+-- a key leaves its bucket's chain, and the pages of its content and what becomes empty are free
 abbrev pub delete : Placement → Key → Placement
 delete p key =
     let bucket = key_bucket p.shape key in
     let chain = chain_at p bucket in
     record p {
       chains = slice_set p.chains bucket (remove key chain);
-      space = give (emptied key chain) p.space;
+      space = give (freed key chain) p.space;
     }
 
 -- the pair with its key takes the place of the one that was there
@@ -63,7 +77,7 @@ abbrev pub replace : Placement → Pair → Placement
 replace p pair = put (delete p pair.0) pair
 
 abbrev pub bare : ℕ → Leaf
-bare number = record { number = number; pairs = [] }
+bare number = record { number = number; entries = [] }
 
 -- the head alone, with no pair
 abbrev pub bared : Chain → Chain
@@ -89,9 +103,9 @@ opened p =
       space = if opens_segment p then after_take headed else headed;
     }
 
--- the pairs of bucket `split` are put again, in one bucket more
+-- the records of bucket `split` are put again, in one bucket more
 abbrev pub split : Placement → Placement
-split p = fold put (opened p) (pairs_in (chain_at p p.shape.split))
+split p = fold put_entry (opened p) (entries_in (chain_at p p.shape.split))
 
 -- a pair takes the place of its key's, and where there are then too many pairs, one bucket is split
 abbrev pub store : Placement → Pair → Placement
@@ -104,19 +118,22 @@ IsInPlace shape chains = (bucket : ℕ) → bucket < length chains
     × AllByRecursion (λ pair. key_bucket shape pair.0 ≡ bucket)
     (pairs_in (slice_index_or chains bucket []))
 
--- all but the bounds on numbers of pairs, of buckets and of pages
-pub record IsSound (p : Placement) : Type 0 where
+-- all but the bounds on numbers of pairs, of buckets and of pages; and these pages are held besides
+pub record IsSoundBeside (held : List ℕ) (p : Placement) : Type 0 where
   pub split_in : p.shape.split < 2 ^ p.shape.level
   pub all_buckets : length p.chains ≡ buckets p.shape
   pub all_segments : length p.segments ≡ segments_for (length p.chains)
-  pub pages : IsExact (in_use p) p.space
+  pub pages : IsExact (held ++ in_use p) p.space
   pub in_place : IsInPlace p.shape p.chains
   pub no_key_twice : (key : Key) → times key (pairs_of p) ≤ 1
+  pub entered : AllByRecursion (IsEntry p.bounds.version) (entries_of p)
 
--- what a file may hold, which is of version 1
+abbrev pub IsSound : Placement → Type 0
+IsSound p = IsSoundBeside [] p
+
+-- what a file may hold
 pub record IsGood (p : Placement) : Type 0 where
   pub sound : IsSound p
-  pub first : p.bounds.version ≡ V1
   pub limited : (1 ≤ p.bounds.limit) × (p.bounds.limit ≤ 1000000)
   pub few_buckets : length p.chains ≤ buckets_for p.bounds.limit
   pub few_pairs : length (pairs_of p) ≤ p.bounds.limit
@@ -139,3 +156,7 @@ fresh_placement bounds = record {
   chains = (bare 3 ∷ []) ∷ [];
   space = record { free = []; end = 4 };
 }
+
+-- in version 2, and no page is touched but meta
+abbrev pub raised : Placement → Placement
+raised p = record p { bounds = upgraded p.bounds }

@@ -4,14 +4,14 @@ use Rattle.std.specs.Int.{bit_at}
 use Rattle.std.specs.List.{AllByRecursion, range_with_len}
 use Rattle.std.specs.FinMap.{insert, get, len, empty, find}
 use Rattle.std.specs.FinMap as fin
-use Rattle.dbm_model.specs.Sizes.{most_taken}
-use Rattle.dbm_model.specs.Bounds.{V1, in_v1}
+use Rattle.dbm_model.specs.Bounds.{Bounds}
 use Rattle.dbm_model.specs.Pairs.{Key, Pair, key_cmp, IsAllowed}
+use Rattle.dbm_model.specs.Sizes.{most_taken}
 use Rattle.page_model.specs.PairLists.{HasBytes}
 use Rattle.page_model.specs.Address.{Shape, address, grown, buckets}
 use Rattle.page_model.specs.Chain.{pairs_in}
 use Rattle.page_model.specs.Space.{Space, IsExact}
-use Rattle.page_model.specs.Placement.{Placement, pairs_of, contents, key_bucket, chain_at, delete, replace, split, store, fresh_placement, IsSound, IsGood, MayStore}
+use Rattle.page_model.specs.Placement.{Placement, pairs_of, contents, key_bucket, chain_at, delete, replace, split, store, fresh_placement, raised, IsSound, IsGood, MayStore}
 
 -- growing moves exactly the hashes of bucket `split` whose bit `level` is set, to bucket split + 2
 -- ^ level
@@ -26,7 +26,7 @@ AddressesAreBelow = (s : Shape) (hash : ℕ) → s.split < 2 ^ s.level → addre
 
 -- a sound placement in which a pair replaces its key's is sound, and its map has the pair
 abbrev pub ReplaceInserts : Type 0
-ReplaceInserts = (p : Placement) (pair : Pair) → IsSound p → IsAllowed V1 pair
+ReplaceInserts = (p : Placement) (pair : Pair) → IsSound p → IsAllowed p.bounds.version pair
     → IsSound (replace p pair) × (contents (replace p pair) ≡ insert (contents p) pair.0 pair.1)
 
 -- a sound placement without a key is sound, and its map is without the key
@@ -57,7 +57,7 @@ CountsKeys = (p : Placement) → IsSound p → len (contents p) ≡ length (pair
 
 -- each pair is allowed
 abbrev pub PairsAreAllowed : Type 0
-PairsAreAllowed = (p : Placement) → IsSound p → AllByRecursion (IsAllowed V1) (pairs_of p)
+PairsAreAllowed = (p : Placement) → IsSound p → AllByRecursion (IsAllowed p.bounds.version) (pairs_of p)
 
 -- a store of what may be stored
 abbrev pub StoreStaysGood : Type 0
@@ -71,11 +71,15 @@ DeleteStaysGood = (p : Placement) (key : Key) → IsGood p
     → IsGood (delete p key) × (contents (delete p key) ≡ fin.remove (contents p) key)
     × ((delete p key).bounds ≡ p.bounds)
 
--- a new database of version 1 and an allowed limit
+-- a placement goes to version 2 as it is, where there is room
+abbrev pub RaisedIsGood : Type 0
+RaisedIsGood = (p : Placement) → IsGood p
+    → IsGood (raised p) × (contents (raised p) ≡ contents p)
+
+-- a new database of an allowed limit
 abbrev pub FreshIsGood : Type 0
-FreshIsGood = (limit : ℕ) → 1 ≤ limit → limit ≤ 1000000
-    → IsGood (fresh_placement (in_v1 limit))
-    × (contents (fresh_placement (in_v1 limit)) ≡ empty)
+FreshIsGood = (bounds : Bounds) → 1 ≤ bounds.limit → bounds.limit ≤ 1000000
+    → IsGood (fresh_placement bounds) × (contents (fresh_placement bounds) ≡ empty)
 
 -- keys and contents of a good placement are bytes
 abbrev pub MapHoldsBytes : Type 0
@@ -93,8 +97,8 @@ LevelIsLow = (p : Placement) → IsGood p → p.shape.level ≤ 16
 
 -- a store takes few pages
 abbrev pub StoreTakesFew : Type 0
-StoreTakesFew = (p : Placement) (pair : Pair) → IsSound p → IsAllowed V1 pair
-    → (store p pair).space.end ≤ p.space.end + length (pairs_of p) + most_taken V1
+StoreTakesFew = (p : Placement) (pair : Pair) → IsSound p → IsAllowed p.bounds.version pair
+    → (store p pair).space.end ≤ p.space.end + length (pairs_of p) + most_taken p.bounds.version
 
 -- in exactly one place: the pages in use and the free ones are the numbers from 1 to end - 1, in
 -- some order

@@ -2,12 +2,11 @@
 use Rattle.std.specs.Prelude.{◌≡◌, ℕ, ◌+◌, ◌-◌, ◌*◌, ◌/◌, ◌<◌, ◌≤◌, ◌==◌, List, [], ◌∷◌, length, map, take, drop, slice_index, if◌then◌else◌}
 use Rattle.std.specs.List.{range_with_len}
 use Rattle.std.specs.Str.{bytes_eq}
-use Rattle.dbm_model.specs.Bounds.{Version, V1, V2}
 use Rattle.page_model.specs.Bytes.{u16_at, u32_at}
 use Rattle.page_model.specs.Numbers.{numbers_at}
-use Rattle.dbm_model.specs.Pairs.{Pair}
-use Rattle.page_model.specs.Pages.{Meta, Body, MetaPage, SegmentPage, HeadPage, OverflowPage, FreePage, Other, Bucket}
-use Rattle.page_model.specs.Slots.{Slot}
+use Rattle.dbm_model.specs.Bounds.{Version, V1, V2}
+use Rattle.page_model.specs.Pages.{Meta, Body, MetaPage, SegmentPage, HeadPage, OverflowPage, FreePage, ContentPage, Other, Record, Bucket}
+use Rattle.page_model.specs.Slots.{Slot, key_size, bytes_size, told_far}
 use Rattle.page_model.specs.Spelling.{spelling_of}
 
 abbrev pub own_number : List ℕ → ℕ
@@ -39,25 +38,25 @@ abbrev pub slots_from : List ℕ → ℕ → ℕ → List Slot
 slots_from bytes i n = map (slot_of bytes) (range_with_len i n)
 
 abbrev pub key_of : List ℕ → Slot → List ℕ
-key_of bytes s = take s.key_len (drop s.offset bytes)
+key_of bytes s = take (key_size s) (drop s.offset bytes)
 
-abbrev pub content_of : List ℕ → Slot → List ℕ
-content_of bytes s = take s.content_len (drop (s.offset + s.key_len) bytes)
+abbrev pub bytes_of : List ℕ → Slot → List ℕ
+bytes_of bytes s = take (bytes_size s) (drop (s.offset + key_size s) bytes)
 
-abbrev pub slot_pair : List ℕ → Slot → Pair
-slot_pair bytes s = (key_of bytes s, content_of bytes s)
+abbrev pub slot_record : List ℕ → Slot → Record
+slot_record bytes s = record { key = key_of bytes s; bytes = bytes_of bytes s; far = told_far s }
 
--- the pairs of n slots from slot i on
-abbrev pub pairs_from : List ℕ → ℕ → ℕ → List Pair
-pairs_from bytes i n = map (slot_pair bytes) (slots_from bytes i n)
+-- the records of n slots from slot i on
+abbrev pub records_from : List ℕ → ℕ → ℕ → List Record
+records_from bytes i n = map (slot_record bytes) (slots_from bytes i n)
 
--- as a page of pairs
+-- as a page of records
 unfoldable pub bucket_of : List ℕ → Bucket
 bucket_of bytes = record {
   own = own_number bytes;
   kind = kind_of bytes;
   next = next_of bytes;
-  pairs = pairs_from bytes 0 (slot_count bytes);
+  held = records_from bytes 0 (slot_count bytes);
 }
 
 -- the version of a number; a page with another number isn't spelled so
@@ -95,9 +94,10 @@ abbrev pub read_as : ℕ → List ℕ → Body
 read_as kind bytes =
     if kind == 1 then MetaPage (fields_of bytes)
     else if kind == 2 then SegmentPage (heads_on bytes)
-    else if kind == 3 then HeadPage (bucket_of bytes).next (bucket_of bytes).pairs
-    else if kind == 4 then OverflowPage (bucket_of bytes).next (bucket_of bytes).pairs
+    else if kind == 3 then HeadPage (bucket_of bytes).next (bucket_of bytes).held
+    else if kind == 4 then OverflowPage (bucket_of bytes).next (bucket_of bytes).held
     else if kind == 5 then FreePage (next_of bytes)
+    else if kind == 6 then ContentPage (next_of bytes) (drop 16 bytes)
     else Other
 
 abbrev pub body_by_kind : List ℕ → Body

@@ -1,7 +1,7 @@
 -- Changes of a few pages that leave all others.
 use Rattle.std.specs.Prelude.{◌≡◌, ℕ, ◌+◌, ◌-◌, ◌*◌, List, [], ◌∷◌, ◌++◌, length, map, drop}
 use Rattle.page_model.specs.Pages.{Body, NumberedBody}
-use Rattle.page_model.specs.Chain.{Leaf, Chain, numbers}
+use Rattle.page_model.specs.Chain.{Leaf, Chain, numbers, pages_in}
 use Rattle.page_model.specs.Space.{Space, next_page, give, times_of}
 use Rattle.page_model.specs.Placement.{Placement, chain_at, bare, bared, opened}
 use Rattle.page_model.specs.PageBodies.{chain_bodies, free_bodies, segment_bodies, heads_of, AreRead}
@@ -9,7 +9,7 @@ use Rattle.page_model.specs.PageBodies.{chain_bodies, free_bodies, segment_bodie
 -- no page outside this chain and the free list is changed
 abbrev pub OthersStay : (ℕ → Body) → (ℕ → Body) → Chain → Space → Type 0
 OthersStay at at' chain space =
-    (n : ℕ) → times_of n (numbers chain) + times_of n space.free ≡ 0 → at' n ≡ at n
+    (n : ℕ) → times_of n (pages_in chain) + times_of n space.free ≡ 0 → at' n ≡ at n
 
 -- one chain and the free list were changed, and nothing else
 pub record IsRewritten (at at' : ℕ → Body) (chain : Chain) (space : Space) : Type 0 where

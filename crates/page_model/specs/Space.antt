@@ -1,5 +1,5 @@
 -- The free pages and the end of the file.
-use Rattle.std.specs.Prelude.{◌≡◌, ℕ, ◌+◌, ◌==◌, ◌&&◌, Bool, List, [], ◌∷◌, ◌++◌, length, count_by, reverse, nat_lt, nat_le, if◌then◌else◌}
+use Rattle.std.specs.Prelude.{◌≡◌, ℕ, zero, suc, ◌+◌, ◌==◌, ◌&&◌, Bool, List, [], ◌∷◌, ◌++◌, length, count_by, reverse, nat_lt, nat_le, if◌then◌else◌}
 
 pub record Space : Type 0 where
   -- the page that was given last comes first
@@ -20,6 +20,16 @@ after_take s = left s.free s.end where
   left : List ℕ → ℕ → Space
   left [] end = record { free = []; end = end + 1 }
   left (n ∷ rest) end = record { free = rest; end = end }
+
+-- so many pages, one after another
+abbrev pub next_pages : ℕ → Space → List ℕ
+next_pages zero s = []
+next_pages (suc count) s = next_page s ∷ next_pages count (after_take s)
+
+-- what is left then
+abbrev pub after_takes : ℕ → Space → Space
+after_takes zero s = s
+after_takes (suc count) s = after_takes count (after_take s)
 
 -- each given page becomes the first free one, in order
 abbrev pub give : List ℕ → Space → Space

@@ -1,6 +1,6 @@
 // Laws of the pages of a placement. What each says stands in `specs/BodyLaws.antt`.
-ghost use Rattle.page_model.specs.PageExamples.{NewPages, NinePairPages, FreedPages};
-ghost use Rattle.page_model.specs.BodyLaws.{BodiesAreValid, PagesReadExactly, FlatIsContents, OneMap, OneMeaning, PagesHaveOneMeaning, GoodPagesStand, StoredStands, DeletedStands, PutRewrites, DeleteRewrites, OpenRewrites, MetaRewrites};
+ghost use Rattle.page_model.specs.PageExamples.{NewPages, NinePairPages, FreedPages, FarPages};
+ghost use Rattle.page_model.specs.BodyLaws.{BodiesAreValid, PagesReadExactly, FlatIsContents, OneMap, OneMeaning, PagesHaveOneMeaning, GoodPagesStand, StoredStands, DeletedStands, PutEntryRewrites, PutRewrites, DeleteRewrites, OpenRewrites, MetaRewrites, RaisedRewrites, BodiesAreOfVersion};
 
 /// What a good placement says of its pages can be spelled.
 pub fn bodies_are_valid()
@@ -47,6 +47,12 @@ pub fn deleted_stands()
     ensures { DeletedStands }
 {}
 
+/// A record is put by a change of one chain and the free list, and the contents of those that are
+/// left stay.
+pub fn put_entry_rewrites()
+    ensures { PutEntryRewrites }
+{}
+
 /// A pair is put by a change of one chain and the free list.
 pub fn put_rewrites()
     ensures { PutRewrites }
@@ -67,9 +73,20 @@ pub fn meta_rewrites()
     ensures { MetaRewrites }
 {}
 
-/// The pages of three files that are worked out by hand, byte by byte.
+/// A database goes to version 2 by a change of the meta page alone.
+pub fn raised_rewrites()
+    ensures { RaisedRewrites }
+{}
+
+/// What the pages of a good placement say is of its version.
+pub fn bodies_are_of_version()
+    ensures { BodiesAreOfVersion }
+{}
+
+/// The pages of four files that are worked out by hand, byte by byte.
 pub fn page_examples()
     ensures new { NewPages }
     ensures nine_pairs { NinePairPages }
     ensures freed { FreedPages }
+    ensures far { FarPages }
 {}

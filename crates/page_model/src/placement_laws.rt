@@ -1,7 +1,7 @@
 // Laws of placements. What each says stands in `specs/PlacementLaws.antt` and
 // `specs/PlacementExamples.antt`.
-ghost use Rattle.page_model.specs.PlacementLaws.{GrowingMovesOneBucket, AddressesAreBelow, ReplaceInserts, DeleteRemoves, AbsentDeleteKeeps, SplitKeeps, LooksInOneChain, CountsKeys, PairsAreAllowed, StoreStaysGood, DeleteStaysGood, FreshIsGood, MapHoldsBytes, MapIsAllowed, LevelIsLow, StoreTakesFew, OnceIsPermutation};
-ghost use Rattle.page_model.specs.PlacementExamples.{HashExamples, NinePairs, SeventeenPairs, LongPairs, ThickPairs, FullPages};
+ghost use Rattle.page_model.specs.PlacementLaws.{GrowingMovesOneBucket, AddressesAreBelow, ReplaceInserts, DeleteRemoves, AbsentDeleteKeeps, SplitKeeps, LooksInOneChain, CountsKeys, PairsAreAllowed, StoreStaysGood, DeleteStaysGood, FreshIsGood, RaisedIsGood, MapHoldsBytes, MapIsAllowed, LevelIsLow, StoreTakesFew, OnceIsPermutation};
+ghost use Rattle.page_model.specs.PlacementExamples.{HashExamples, NinePairs, SeventeenPairs, LongPairs, ThickPairs, FullPages, FarPairs};
 
 /// A further bucket takes hashes of the bucket that is split, and of no other.
 pub fn growing_moves_one_bucket()
@@ -63,6 +63,11 @@ pub fn fresh_is_good()
     ensures { FreshIsGood }
 {}
 
+/// A good placement is good in version 2, where it has the room of that.
+pub fn raised_is_good()
+    ensures { RaisedIsGood }
+{}
+
 /// Keys and contents of a good placement are bytes.
 pub fn map_holds_bytes()
     ensures { MapHoldsBytes }
@@ -96,4 +101,5 @@ pub fn placement_examples()
     ensures long_pairs { LongPairs }
     ensures thick_pairs { ThickPairs }
     ensures full_pages { FullPages }
+    ensures far_pairs { FarPairs }
 {}

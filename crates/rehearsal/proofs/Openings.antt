@@ -2,7 +2,7 @@
 use Rattle.std.proofs.Common.{◌≡◌, ◌⊎◌, inl, inr, ℕ, ◌+◌, ◌/◌, ◌≤◌, Bool, true, false, cond, not, ◌++◌, length, map, None, Some, refl, sym, ◌∙◌, ap, subst, arith, Contains}
 use Rattle.std.specs.FinMap.{empty}
 use Rattle.std.proofs.lemmas.List.Elements.{Contains-append_left, Contains-append_right}
-use Rattle.dbm_model.specs.Bounds.{Bounds, in_v1}
+use Rattle.dbm_model.specs.Bounds.{Bounds}
 use Rattle.sect_dev.specs.Device.{Candidates}
 use Rattle.dbm_model.specs.Pairs.{Contents}
 use Rattle.dbm_model.specs.States.{State, Handle, fresh}
@@ -25,7 +25,7 @@ use Rattle.dbm_file.proofs.OpenedFiles.{counts_pairs, few_pages, within_at}
 use Rattle.dbm_file.specs.Opened.{IsOpenedAt}
 use Rattle.dbm_file.specs.declared.database.Database.{Database}
 use Rattle.rehearsal.specs.Members.{StandsFor, StandsForOne, AllStandFor}
-use Rattle.rehearsal.specs.Sessions.{opening_of, for_writing}
+use Rattle.rehearsal.specs.Sessions.{asked_bounds, opening_of, for_writing}
 use Rattle.rehearsal.specs.declared.sessions.Opening.{Opening}
 
 -- ---- one image
@@ -78,7 +78,7 @@ created : (how : Opening) (sectors : ℕ) → making_fault (for_writing how) sec
 created how sectors due = by_create how.create due
   where
     by_create : (b : Bool) → cond (not b) (Some NotADatabase)
-        (room_fault (sectors_for (in_v1 how.limit)) sectors) ≡ None → b ≡ true
+        (room_fault (sectors_for (asked_bounds how)) sectors) ≡ None → b ≡ true
     by_create true is = refl
     by_create false is = absurd (let x = is in cc)
 
@@ -92,12 +92,12 @@ module _ (before : Members) (how : Opening) (sectors : ℕ) (start : Candidates)
   at_start : (y : Settled) → SettlesTo (sectors / 4) start y → StandsForOne before y
   at_start y there = subst (StandsForOne before) there.reads (stand there.image there.is_image)
 
-  begins_empty : BeginsEmpty (for_writing how) sectors start → BeginsAt empty (in_v1 how.limit)
+  begins_empty : BeginsEmpty (for_writing how) sectors start → BeginsAt empty (asked_bounds how)
   begins_empty (inl makes) =
       let one = at_start blank makes.on_blank in (
         NoDatabase,
         subst (Contains before) (blank_stands one.0 blank one.2 refl) one.1,
-        ap (λ b. cond b (Holding empty (in_v1 how.limit)) NoDatabase)
+        ap (λ b. cond b (Holding empty (asked_bounds how)) NoDatabase)
             (created how sectors makes.due),
       )
   begins_empty (inr empties) =
@@ -105,7 +105,7 @@ module _ (before : Members) (how : Opening) (sectors : ℕ) (start : Candidates)
       let some = file_stands one.0 (file_of empties.file) empties.file one.2 refl in (
         Holding some.0 some.1,
         subst (Contains before) some.2 one.1,
-        ap (λ b. cond b (Holding empty (in_v1 how.limit)) (Holding some.0 some.1))
+        ap (λ b. cond b (Holding empty (asked_bounds how)) (Holding some.0 some.1))
             empties.empties.asked,
       )
 
@@ -134,7 +134,7 @@ module _ (before : Members) (how : Opening) (sectors : ℕ) (start : Candidates)
         subst (Contains before)
             (map_stands one.0 (settled (sectors / 4) stood.image) contents bounds one.2
             stood.stands) one.1,
-        ap (λ b. cond b (Holding empty (in_v1 how.limit)) (Holding contents bounds)) kept,
+        ap (λ b. cond b (Holding empty (asked_bounds how)) (Holding contents bounds)) kept,
       )
   begins_at contents bounds (inr (begins, is_empty, bounds_are)) =
       let one = begins_empty begins in (

@@ -1,10 +1,11 @@
 -- A session of the code as one of the definitions.
 use Rattle.std.specs.Prelude.{◌≡◌, ◌≢◌, ◌⊎◌, ℕ, ◌/◌, false, List, [], ◌∷◌, ◌++◌, map, take, length, vec_len, None, IfSome, Result}
 use Rattle.std.specs.Result.{result_unwrap_or}
-use Rattle.dbm_model.specs.Bounds.{in_v1}
+use Rattle.dbm_model.specs.Bounds.{Bounds}
 use Rattle.sect_dev.specs.Device.{Candidates, MoreFaults}
 use Rattle.sect_dev.specs.declared.device.SectorDev.{Ghosts}
 use Rattle.page_io.specs.Store.{Settled}
+use Rattle.page_io.specs.Versions.{model_version}
 use Rattle.dbm_model.specs.Calls as calls
 use Rattle.dbm_model.specs.Pairs as model_pairs
 use Rattle.dbm_model.specs.States.{Handle}
@@ -19,8 +20,8 @@ use Rattle.dbm_fault.specs.declared.fault.Fault.TheVariants.{Device}
 use Rattle.file_opening.specs.Opening.{early_fault, IsRefusedOpening}
 use Rattle.file_opening.specs.declared.open_how.Access.TheVariants.{ReadWrite}
 use Rattle.file_opening.specs.declared.open_how.OpenHow.{OpenHow}
-use Rattle.chain_walks.specs.Pairs.{pair_of}
-use Rattle.chain_walks.specs.declared.pair.Pair.{Pair}
+use Rattle.dbm_file.specs.Pairs.{pair_of}
+use Rattle.dbm_file.specs.declared.pair.Pair.{Pair}
 use Rattle.dbm_file.specs.Calls.{call_of, reply_of}
 use Rattle.dbm_file.specs.declared.calls.Call.{Call}
 use Rattle.rehearsal.specs.Members.{StandsForOne, AllStandFor}
@@ -30,8 +31,16 @@ use Rattle.rehearsal.specs.declared.sessions.Ending.TheVariants.{NotOpened, NoMe
 
 -- ---- what it is asked to do, and how it ended
 
+-- the bounds of a database that is made or emptied
+abbrev pub asked_bounds : Opening → Bounds
+asked_bounds how = record { limit = how.limit; version = model_version how.version }
+
 abbrev pub opening_of : Opening → members.Opening
-opening_of how = record { create = how.create; truncate = how.truncate; bounds = in_v1 how.limit }
+opening_of how = record {
+  create = how.create;
+  truncate = how.truncate;
+  bounds = asked_bounds how;
+}
 
 abbrev pub plan_of : Opening → List Call → List Pair → Plan
 plan_of how calls group = record {
@@ -48,6 +57,7 @@ for_writing how = record {
   exclusive = false;
   truncate = how.truncate;
   limit = how.limit;
+  version = how.version;
 }
 
 -- how it ended, where the commit of the group had so many pairs if it broke the database

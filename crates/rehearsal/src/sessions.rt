@@ -7,7 +7,7 @@ ghost use Rattle.dbm_model.specs.Room.{HasRoom};
 ghost use Rattle.dbm_model.specs.States.{Handle};
 ghost use Rattle.dbm_sessions.specs.Members.{Members};
 ghost use Rattle.dbm_sessions.specs.Room.{IsNeverShort};
-ghost use Rattle.chain_walks.specs.Pairs.{pair_of};
+ghost use Rattle.dbm_file.specs.Pairs.{pair_of};
 ghost use Rattle.file_opening.specs.Opening.{early_fault, AllStand, AllAllow};
 ghost use Rattle.dbm_file.specs.Calls.{call_of};
 ghost use Rattle.dbm_file.specs.Database.{page_state, IsAt};
@@ -15,7 +15,7 @@ ghost use Rattle.dbm_file.specs.Opened.{device_below, AllHaveRoom};
 ghost use Rattle.rehearsal.specs.Members.{AllStandFor};
 ghost use Rattle.rehearsal.specs.Sessions.{plan_of, for_writing, ending_of, disk_of, IsOneEach, IfNotOpened, IfRested, IfUnsettled, IfGrouped, IsSettled, WhyNotOpened, Leaves, IsLeftByStop, CallsLeave, IsLeftByCalls};
 
-use dbm_file::{Access, Call, Db, Fault, OpenHow, Pair, Reply, run};
+use dbm_file::{Access, Call, Db, Fault, OpenHow, Pair, Reply, Version, run};
 use sect_dev::SectorDev;
 use std::alloc::Global;
 
@@ -29,6 +29,8 @@ pub struct Opening {
     pub truncate: bool,
     /// How many pairs a database that is made or emptied may have.
     pub limit: u32,
+    /// The version of a database that is made or emptied.
+    pub version: Version,
 }
 
 impl Opening {
@@ -42,6 +44,7 @@ impl Opening {
             exclusive: false,
             truncate: self.truncate,
             limit: self.limit,
+            version: self.version,
         }
     }
 }

@@ -1,7 +1,7 @@
 //! Drawn sessions one after another on a device, each stopped at a drawn place, beside a map of the
 //! tests' own.
 
-use dbm_file::{Call, Database, Fault, Octets, Pair, Reply, StoreMode};
+use dbm_file::{Call, Database, Fault, Octets, Pair, Reply, StoreMode, Version};
 use page_io::PageStore;
 use rand_xoshiro::SplitMix64;
 use rand_xoshiro::rand_core::{Rng, SeedableRng};
@@ -103,6 +103,7 @@ fn drawn_opening(generator: &mut SplitMix64) -> Opening {
         create: draw(generator, 3) > 0,
         truncate: draw(generator, 7) == 0,
         limit: if draw(generator, 2) == 0 { 3 } else { 60 },
+        version: Version::V1,
     }
 }
 

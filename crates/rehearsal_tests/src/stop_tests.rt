@@ -1,6 +1,6 @@
 //! Two sessions on a device, the first of which is stopped.
 
-use dbm_file::{Pair, Reply};
+use dbm_file::{Pair, Reply, Version};
 use rehearsal::{Ending, Opening, Stage, rehearse};
 use sect_dev::MemDev;
 use std::alloc::Global;
@@ -57,6 +57,7 @@ fn stage_of(
             create: true,
             truncate: false,
             limit,
+            version: Version::V1,
         },
         calls: calls_of(alloc, text)?,
         group: Vec::new(alloc),

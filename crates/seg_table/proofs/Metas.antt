@@ -1,7 +1,7 @@
 -- The meta page: what is read by places is what is spelled.
 use Rattle.std.proofs.Common.{◌≡◌, ◌↔◌, ℕ, ◌+◌, ◌-◌, ◌*◌, ◌^◌, ◌<◌, ◌≤◌, List, [], ◌∷◌, ◌++◌, length, replicate, drop, refl, sym, ap, subst, ◌∙◌, arith}
 use Rattle.std.proofs.lemmas.List.{append-nil, length-replicate, replicate-append-replicate}
-use Rattle.dbm_model.specs.Bounds.{V1, version_number, in_v1}
+use Rattle.dbm_model.specs.Bounds.{Version, V1, V2, version_number}
 use Rattle.page_model.specs.Bytes.{u32_at, overwrite}
 use Rattle.page_model.specs.Numbers.{numbers_bytes, numbers_at}
 use Rattle.page_model.specs.Pages as model
@@ -16,24 +16,40 @@ use Rattle.page_model.proofs.Texts.{IsBytes, IsText, text_then, zeros_text, skip
 use Rattle.page_model.proofs.Writes.{overwrite_mid}
 use Rattle.lin_addr.specs.Shapes.{CanBe}
 use Rattle.page_io.proofs.PlainPages.{plain_text, plain_again}
-use Rattle.seg_table.specs.MetaPages.{HasMetaHeader, IsMetaLayout}
+use Rattle.seg_table.specs.MetaPages.{HasMetaHeader, IsUnknown, IsMetaLayout}
+
+-- a number tells the version that it is the number of
+told_again : (v : Version) → version_of (version_number v) ≡ v
+told_again V1 = refl
+told_again V2 = refl
+
+pub told_version : (v : Version) (n : ℕ) → version_number v ≡ n → v ≡ version_of n
+told_version v n is = sym (told_again v) ∙ ap version_of is
+
+-- and one that tells a version is 1 or 2
+pub told_known : (n : ℕ) → version_number (version_of n) ≡ n → IsUnknown n → ⊥
+told_known n is unknown = by_version (version_of n) is
+  where
+    by_version : (v : Version) → version_number v ≡ n → ⊥
+    by_version V1 is = unknown.0 (sym is)
+    by_version V2 is = unknown.1 (sym is)
 
 -- the bytes are laid out as a meta page's
 pub record IsMetaPage (bytes : List ℕ) : Type 0 where
   pub headed : HasMetaHeader bytes
-  pub version : u32_at bytes 16 ≡ 1
+  pub version : version_number (version_of (u32_at bytes 16)) ≡ u32_at bytes 16
   pub laid : IsMetaLayout bytes
   pub sound : IsMeta (fields_of bytes)
 
 -- the numbers before the segments
-counts_are : (bytes : List ℕ) → u32_at bytes 16 ≡ 1
+counts_are : (bytes : List ℕ) → version_number (version_of (u32_at bytes 16)) ≡ u32_at bytes 16
     → numbers_at bytes 16 8 ≡ counts (fields_of bytes)
 unfolding fields_of
 counts_are bytes e =
-    ap (λ (n : ℕ). n ∷ numbers_at bytes 20 7)
-    (e ∙ ap (λ (n : ℕ). version_number (version_of n)) (sym e))
-    ∙ ap (λ (n : ℕ). version_number (version_of (u32_at bytes 16)) ∷ u32_at bytes 20 ∷ u32_at bytes 24 ∷ u32_at bytes 28 ∷ u32_at bytes 32
-    ∷ u32_at bytes 36 ∷ u32_at bytes 40 ∷ n ∷ [])
+    ap (λ (n : ℕ). n ∷ numbers_at bytes 20 7) (sym e)
+    ∙ ap (λ (n : ℕ). version_number (version_of (u32_at bytes 16)) ∷ u32_at bytes 20
+    ∷ u32_at bytes 24 ∷ u32_at bytes 28 ∷ u32_at bytes 32 ∷ u32_at bytes 36 ∷ u32_at bytes 40 ∷ n
+    ∷ [])
     (sym (length-numbers_at bytes 64 (u32_at bytes 44)))
 
 -- a page that is laid out so is spelled so
@@ -65,11 +81,10 @@ meta_found bytes len fits h =
     (numbers ++ (replicate 16 0 ++ (numbers_bytes segments ++ zeros))) 2048 t0 b1)
 
 -- and a page that is spelled so is laid out so
-pub meta_again : (bytes : List ℕ) (m : model.Meta) → IsMeta m → m.bounds.version ≡ V1
-    → bytes ≡ meta_spelling 1 m
+pub meta_again : (bytes : List ℕ) (m : model.Meta) → IsMeta m → bytes ≡ meta_spelling 1 m
     → IsMetaPage bytes
 unfolding meta_spelling
-meta_again bytes m h first e =
+meta_again bytes m h e =
     let few = few_segments m h in
     let small = level_small m h in
     let zeros : List ℕ = replicate (1984 - 4 * length m.segments) 0 in
@@ -85,7 +100,8 @@ meta_again bytes m h first e =
     (dn ∙ sym (append-nil zeros)) (omega arith) in
     record {
       headed = record { header = plain.good; no_next = plain.next_is };
-      version = s.version ∙ ap version_number first;
+      version = ap (λ (n : ℕ). version_number (version_of n)) s.version
+          ∙ ap version_number (told_again m.bounds.version) ∙ sym s.version;
       laid = record {
         shape = (
           omega (arith, s.level),
@@ -101,14 +117,15 @@ meta_again bytes m h first e =
     }
 
 -- what two writes leave of a page with a header alone
-pub meta_written : (m : model.Meta) (start one two segments : List ℕ) (count : ℕ)
+pub meta_written : (m : model.Meta) (start one two segments : List ℕ) (number count : ℕ)
     → length m.segments ≤ 496 → count ≡ length m.segments → segments ≡ m.segments
-    → m.bounds.version ≡ V1 → start ≡ header 1 1 0 0 0 ++ replicate 2032 0
+    → number ≡ version_number m.bounds.version → start ≡ header 1 1 0 0 0 ++ replicate 2032 0
     → one ≡ overwrite start 16 (numbers_bytes
-    (1 ∷ m.bounds.limit ∷ m.pairs ∷ m.level ∷ m.split ∷ m.free_head ∷ m.free_count ∷ count ∷ []))
+    (number ∷ m.bounds.limit ∷ m.pairs ∷ m.level ∷ m.split ∷ m.free_head ∷ m.free_count ∷ count
+    ∷ []))
     → two ≡ overwrite one 64 (numbers_bytes segments) → two ≡ meta_spelling 1 m
 unfolding meta_spelling
-meta_written m start one two segments count few f g first a b d =
+meta_written m start one two segments number count few f g told a b d =
     let n = 4 * length m.segments in
     let zn : List ℕ = replicate n 0 in
     let rest : List ℕ = replicate (1984 - n) 0 in
@@ -117,11 +134,11 @@ meta_written m start one two segments count few f g first a b d =
     let numbers = numbers_bytes (counts m) in
     let one' : one ≡ overwrite start 16 numbers =
     b ∙ ap (λ (k : ℕ). overwrite start 16
-    (numbers_bytes (1 ∷ m.bounds.limit ∷ m.pairs ∷ m.level ∷ m.split ∷ m.free_head ∷ m.free_count
-    ∷ k ∷ []))) f
+    (numbers_bytes (number ∷ m.bounds.limit ∷ m.pairs ∷ m.level ∷ m.split ∷ m.free_head
+    ∷ m.free_count ∷ k ∷ []))) f
     ∙ ap (λ (v : ℕ). overwrite start 16
     (numbers_bytes (v ∷ m.bounds.limit ∷ m.pairs ∷ m.level ∷ m.split ∷ m.free_head ∷ m.free_count
-    ∷ length m.segments ∷ []))) (sym (ap version_number first)) in
+    ∷ length m.segments ∷ []))) told in
     let two' : two ≡ overwrite one 64 (numbers_bytes m.segments) =
     d ∙ ap (λ (ns : List ℕ). overwrite one 64 (numbers_bytes ns)) g in
     let tail : replicate 1984 0 ≡ zn ++ rest =
@@ -146,13 +163,14 @@ meta_written m start one two segments count few f g first a b d =
     two' ∙ ap (λ (x : List ℕ). overwrite x 64 (numbers_bytes m.segments)) filled ∙ second
 
 -- what is read by places is what was read
-pub fields_read : (bytes segments : List ℕ) (limit pairs level split free_head free_count : ℕ)
+pub fields_read : (bytes segments : List ℕ) (version : Version)
+    (limit pairs level split free_head free_count : ℕ)
     → limit ≡ u32_at bytes 20 → pairs ≡ u32_at bytes 24 → level ≡ u32_at bytes 28
     → split ≡ u32_at bytes 32
     → free_head ≡ u32_at bytes 36 → free_count ≡ u32_at bytes 40
-    → segments ≡ numbers_at bytes 64 (u32_at bytes 44) → u32_at bytes 16 ≡ 1
+    → segments ≡ numbers_at bytes 64 (u32_at bytes 44) → version ≡ version_of (u32_at bytes 16)
     → record {
-      bounds = in_v1 limit;
+      bounds = record { limit = limit; version = version };
       pairs = pairs;
       level = level;
       split = split;
@@ -161,8 +179,8 @@ pub fields_read : (bytes segments : List ℕ) (limit pairs level split free_head
       segments = segments;
     } ≡ fields_of bytes
 unfolding fields_of
-fields_read bytes segments limit pairs level split free_head free_count a b d e f g k first =
-    rw (a, b, d, e, f, g, k, first) refl
+fields_read bytes segments version limit pairs level split free_head free_count a b d e f g k told =
+    rw (a, b, d, e, f, g, k, told) refl
 
 -- and it is laid out as it was read
 pub layout_read : (bytes : List ℕ) (level split count : ℕ) → level ≡ u32_at bytes 28
@@ -177,23 +195,23 @@ layout_read bytes level split count a b d can few zeros rest = record {
 
 -- a page that isn't laid out so is spelled by no meta
 pub none_spelled : (bytes : List ℕ) → (IsMetaPage bytes → ⊥) → (m : model.Meta) → IsMeta m
-    → m.bounds.version ≡ V1 → bytes ≡ meta_spelling 1 m → ⊥
-none_spelled bytes none m h first e = none (meta_again bytes m h first e)
+    → bytes ≡ meta_spelling 1 m → ⊥
+none_spelled bytes none m h e = none (meta_again bytes m h e)
 
 -- and says none
 pub none_said : (bytes : List ℕ) → (IsMetaPage bytes → ⊥) → (m : model.Meta) → IsMeta m
-    → m.bounds.version ≡ V1 → ⊥ ↔ (body_of 1 bytes ≡ MetaPage m)
-none_said bytes none m h first = (
+    → ⊥ ↔ (body_of 1 bytes ≡ MetaPage m)
+none_said bytes none m h = (
   λ e. absurd e,
   λ e.
-      none (meta_again bytes m h first ((body_is 1 bytes (MetaPage m) (refl, h)).1 e)),
+      none (meta_again bytes m h ((body_is 1 bytes (MetaPage m) (refl, h)).1 e)),
 )
 
 -- a page that is laid out so says its fields
 pub fields_said : (bytes : List ℕ) (read : model.Meta) → IsMeta read → bytes ≡ meta_spelling 1 read
-    → (m : model.Meta) → IsMeta m → m.bounds.version ≡ V1
+    → (m : model.Meta) → IsMeta m
     → (read ≡ m) ↔ (body_of 1 bytes ≡ MetaPage m)
-fields_said bytes read is spelled m h first = (
+fields_said bytes read is spelled m h = (
   λ e. (body_is 1 bytes (MetaPage m) (refl, h)).0 (spelled ∙ ap (meta_spelling 1) e),
   λ e. sym (fields_again bytes read is spelled)
       ∙ fields_again bytes m h ((body_is 1 bytes (MetaPage m) (refl, h)).1 e),

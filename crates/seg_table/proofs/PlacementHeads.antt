@@ -8,7 +8,7 @@ use Rattle.std.proofs.lemmas.List.Elements.{All-from_recursion}
 use Rattle.std.proofs.lemmas.List.Sums.{sum_by-append, sum_by-cons}
 use Rattle.page_model.specs.Numbers.{IsNumber}
 use Rattle.page_model.specs.Pages.{Body, NumberedBody}
-use Rattle.page_model.specs.Chain.{Chain, numbers}
+use Rattle.page_model.specs.Chain.{Chain, numbers, pages_in}
 use Rattle.page_model.specs.Space.{is_page, times_of}
 use Rattle.page_model.specs.Placement.{Placement, IsSound}
 use Rattle.page_model.specs.PageBodies.{first_of, heads_of, chain_bodies, free_bodies, segment_bodies, lower_bodies, AreRead}
@@ -62,8 +62,8 @@ used_segments p sound small =
     omega (
       arith,
       sound.pages.once n,
-      sum_by-cons one 1 (p.segments ++ flat_map numbers p.chains),
-      sum_by-append one p.segments (flat_map numbers p.chains),
+      sum_by-cons one 1 (p.segments ++ flat_map pages_in p.chains),
+      sum_by-append one p.segments (flat_map pages_in p.chains),
     ) in
     All-from_recursion (λ n. (0 < n) × IsNumber n) p.segments
     (are_used p.segments p.space.end small within)

@@ -1,17 +1,17 @@
 -- What the code's `Meta` says, and the header of the meta page.
-use Rattle.std.specs.Prelude.{◌≡◌, ◌≤◌, ℕ, ◌+◌, ◌*◌, List}
-use Rattle.dbm_model.specs.Bounds.{in_v1}
+use Rattle.std.specs.Prelude.{◌≡◌, ◌≢◌, ◌≤◌, ℕ, ◌+◌, ◌*◌, List}
 use Rattle.page_model.specs.Bytes.{u32_at}
 use Rattle.page_model.specs.Pages as model
 use Rattle.page_model.specs.Reading.{next_of, IsClear}
 use Rattle.lin_addr.specs.Shapes.{CanBe}
 use Rattle.page_io.specs.Plain.{HasPlainHeader}
+use Rattle.page_io.specs.Versions.{model_version}
 use Rattle.seg_table.specs.declared.meta.Meta.{Meta}
 
 -- what a meta page of it says
 abbrev pub model_meta : Meta → model.Meta
 model_meta m = record {
-  bounds = in_v1 m.limit;
+  bounds = record { limit = m.limit; version = model_version m.version };
   pairs = m.pairs;
   level = m.shape.level;
   split = m.shape.split;
@@ -24,6 +24,10 @@ model_meta m = record {
 pub record HasMetaHeader (bytes : List ℕ) : Type 0 where
   pub header : HasPlainHeader bytes 1 1
   pub no_next : next_of bytes ≡ 0
+
+-- no version has this number
+abbrev pub IsUnknown : ℕ → Type 0
+IsUnknown number = (number ≢ 1) × (number ≢ 2)
 
 -- behind the version: a shape, no more segments than there is room for, and zeros where nothing
 -- else stands

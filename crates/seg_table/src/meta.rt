@@ -1,7 +1,7 @@
 //! The meta page: page 1.
 
 ghost use Rattle.std.specs.Prelude.{◌≡◌, ◌≢◌, ◌↔◌, ◌<◌, ◌≤◌, ◌∷◌, [], All, IsTrue, IsSome, IfSome, IfOk, IsOkAnd, Err};
-ghost use Rattle.dbm_model.specs.Bounds.{V1, in_v1};
+ghost use Rattle.dbm_model.specs.Bounds.{version_number};
 ghost use Rattle.page_model.specs.Bytes.{u32_at};
 ghost use Rattle.page_model.specs.Numbers.{IsNumber, numbers_at};
 ghost use Rattle.page_model.specs.Pages as model;
@@ -9,20 +9,17 @@ ghost use Rattle.page_model.specs.Pages.{MetaPage};
 ghost use Rattle.page_model.specs.Reading.{own_number, body_of, fields_of};
 ghost use Rattle.page_model.specs.Spelling.{meta_spelling};
 ghost use Rattle.page_model.specs.Valid.{IsMeta};
-ghost use Rattle.seg_table.specs.MetaPages.{model_meta, HasMetaHeader, IsMetaLayout};
-ghost use Rattle.seg_table.specs.declared.meta.MetaFault.TheVariants.{Version};
+ghost use Rattle.page_io.specs.Versions.{model_version};
+ghost use Rattle.seg_table.specs.MetaPages.{model_meta, HasMetaHeader, IsUnknown, IsMetaLayout};
 
 use crate::segment::PER_SEGMENT;
 use arrayvec::ArrayVec;
 use lin_addr::Shape;
-use page_io::{PAGE_LEN, Page};
+use page_io::{PAGE_LEN, Page, Version};
 use thiserror::Error;
 
 /// The kind of the meta page.
 const META: u8 = 1;
-
-/// The one version.
-const VERSION: u32 = 1;
 
 /// The highest limit.
 const MAX_LIMIT: u32 = 1_000_000;
@@ -41,6 +38,8 @@ const MAX_SEGMENTS: usize = 496;
 pub struct Meta {
     /// The most pairs that the database may have.
     pub limit: u32,
+    /// The version of its format.
+    pub version: Version,
     /// How many it has.
     pub pairs: u32,
     /// How far its buckets have grown.
@@ -54,11 +53,11 @@ pub struct Meta {
 }
 
 impl Meta {
-    /// The meta page of a new database of this limit: one empty bucket, in the segment of page
-    /// `segment`.
-    pub fn of_empty(limit: u32, segment: u32) -> Meta
+    /// The meta page of a new database of this limit and version: one empty bucket, in the segment
+    /// of page `segment`.
+    pub fn of_empty(limit: u32, version: Version, segment: u32) -> Meta
         ensures { model_meta result ≡ record {
-          bounds = in_v1 limit;
+          bounds = record { limit = limit; version = model_version version };
           pairs = 0;
           level = 0;
           split = 0;
@@ -71,6 +70,7 @@ impl Meta {
         segments.push(segment);
         Meta {
             limit,
+            version,
             pairs: 0,
             shape: Shape::one_bucket(),
             free_head: 0,
@@ -85,6 +85,7 @@ impl Meta {
     {
         Meta {
             limit: self.limit,
+            version: self.version,
             pairs: self.pairs,
             shape: self.shape,
             free_head: self.free_head,
@@ -97,7 +98,7 @@ impl Meta {
 /// Why a page was not read as a meta page.
 #[derive(Clone, Copy, Debug, PartialEq, Eq, Error)]
 pub enum MetaFault {
-    /// The header is the meta page's, and the version another one.
+    /// The header is the meta page's, and the version neither 1 nor 2.
     #[error("another version")]
     Version,
     /// It is no meta page.
@@ -148,8 +149,8 @@ fn segments_of(page: &Page, count: usize) -> ArrayVec<u32, 496>
 
 /// The fields, if they are a shape and no more segments than there is room for, and all other bytes
 /// behind the version are zero.
-fn meta_of(page: &Page) -> Option<Meta>
-    requires { u32_at page.now.bytes 16 ≡ 1 }
+fn meta_of(page: &Page, version: Version) -> Option<Meta>
+    requires { version_number (model_version version) ≡ u32_at page.now.bytes 16 }
     ensures found { IfSome result (λ m. model_meta m ≡ fields_of page.now.bytes) }
     ensures only { IsSome result ↔ IsMetaLayout page.now.bytes }
 {
@@ -163,6 +164,7 @@ fn meta_of(page: &Page) -> Option<Meta>
     }
     Some(Meta {
         limit: page.u32_at(20),
+        version,
         pairs: page.u32_at(24),
         shape,
         free_head: page.u32_at(36),
@@ -175,21 +177,20 @@ fn meta_of(page: &Page) -> Option<Meta>
 pub fn read_meta(page: &Page) -> Result<Meta, MetaFault>
     ensures found { IfOk result (λ m.
         IsMeta (model_meta m) × (page.now.bytes ≡ meta_spelling 1 (model_meta m))) }
-    ensures only { (m : model.Meta) → IsMeta m → m.bounds.version ≡ V1
-        → page.now.bytes ≡ meta_spelling 1 m
+    ensures only { (m : model.Meta) → IsMeta m → page.now.bytes ≡ meta_spelling 1 m
         → IsOkAnd result (λ r. model_meta r ≡ m) }
-    ensures body { (m : model.Meta) → IsMeta m → m.bounds.version ≡ V1
+    ensures body { (m : model.Meta) → IsMeta m
         → IsOkAnd result (λ r. model_meta r ≡ m) ↔ (body_of 1 page.now.bytes ≡ MetaPage m) }
-    ensures version { (result ≡ Err Version)
-        ↔ (HasMetaHeader page.now.bytes × (u32_at page.now.bytes 16 ≢ 1)) }
+    ensures version { (result ≡ Err MetaFault.Version)
+        ↔ (HasMetaHeader page.now.bytes × IsUnknown (u32_at page.now.bytes 16)) }
 {
     if !page.is_plain(1, META) || page.next() != 0 {
         return Err(MetaFault::Damaged);
     }
-    if page.u32_at(16) != VERSION {
+    let Some(version) = Version::of_number(page.u32_at(16)) else {
         return Err(MetaFault::Version);
-    }
-    match meta_of(page) {
+    };
+    match meta_of(page, version) {
         Some(meta) if is_sound(&meta) => Ok(meta),
         _ => Err(MetaFault::Damaged),
     }
@@ -204,7 +205,7 @@ pub fn write_meta(meta: &Meta, page: &mut Page)
 {
     *page = Page::plain(1, META, 0);
     let counts = [
-        VERSION,
+        meta.version.number(),
         meta.limit,
         meta.pairs,
         meta.shape.level,

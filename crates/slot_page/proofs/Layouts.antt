@@ -1,22 +1,15 @@
 -- What the slots of a page say, one step on.
-use Rattle.std.proofs.Common.{◌≡◌, ℕ, zero, suc, ◌+◌, ◌≤◌, ◌<◌, List, [], ◌∷◌, ◌++◌, sym, ap, ◌∙◌, add-one, arith, subst}
+use Rattle.std.proofs.Common.{◌≡◌, ◌≢◌, ℕ, zero, suc, ◌+◌, ◌≤◌, ◌<◌, List, [], ◌∷◌, ◌++◌, sym, ap, ◌∙◌, add-one, arith, subst}
 use Rattle.std.proofs.lemmas.List.FromFn.{map-range_with_len_more}
-use Rattle.page_model.specs.Reading.{slot_of, slot_count, low}
+use Rattle.page_model.specs.Slots.{key_size, bytes_size}
+use Rattle.page_model.specs.Reading.{slot_of, slot_count, low, key_of}
 use Rattle.slot_page.specs.declared.slot.Slot.{Slot}
-use Rattle.slot_page.specs.Slots.{slot_at, first_slots}
+use Rattle.slot_page.specs.Slots.{as_spelled, slot_at, first_slots}
 use Rattle.slot_page.specs.Layout.{end_of, AreInPlace, IsLaidOut}
 
 -- the next record ends where this one begins
 pub end_of-more : (bytes : List ℕ) (i : ℕ) → end_of bytes (i + 1) ≡ (slot_of bytes i).offset
 end_of-more bytes i = ap (end_of bytes) (add-one i)
-
--- the test of one slot
-pub fits_here : (bytes : List ℕ) (i end : ℕ) (s : Slot) → s ≡ slot_at bytes i → end ≡ end_of bytes i
-    → s.offset + s.key_len + s.content_len ≡ end
-    → (slot_of bytes i).offset + (slot_of bytes i).key_len + (slot_of bytes i).content_len
-    ≡ end_of bytes i
-fits_here bytes i end s e f g =
-    ap (λ (t : Slot). t.offset + t.key_len + t.content_len) (sym e) ∙ g ∙ f
 
 -- one more slot
 pub slots_more : (bytes : List ℕ) (i : ℕ) (ss new : List Slot) (s : Slot) → ss ≡ first_slots bytes i
@@ -40,7 +33,7 @@ not_laid_out bytes lt h = let most = end_le bytes (slot_count bytes) h.in_place 
 
 -- each record lies in the page
 pub ends_inside : (bytes : List ℕ) (n : ℕ) → AreInPlace bytes n → (i : ℕ) → i < n
-    → (slot_of bytes i).offset + (slot_of bytes i).key_len + (slot_of bytes i).content_len ≤ 2048
+    → (slot_of bytes i).offset + key_size (slot_of bytes i) + bytes_size (slot_of bytes i) ≤ 2048
 ends_inside bytes n h i lt =
     let here = h i lt in
     let most = end_le bytes i (λ j less. h j (omega arith)) in
@@ -48,7 +41,13 @@ ends_inside bytes n h i lt =
 
 -- the key of a slot lies in the page
 pub key_inside : (bytes : List ℕ) (n i : ℕ) (s : Slot) → AreInPlace bytes n → i < n
-    → s ≡ slot_at bytes i → s.offset + s.key_len ≤ 2048
+    → s ≡ slot_at bytes i → s.offset + key_size (as_spelled s) ≤ 2048
 key_inside bytes n i s h lt e =
     let inside = ends_inside bytes n h i lt in
-    subst (λ (t : Slot). t.offset + t.key_len ≤ 2048) (sym e) (omega (arith, inside))
+    subst (λ (t : Slot). t.offset + key_size (as_spelled t) ≤ 2048) (sym e) (omega (arith, inside))
+
+-- a slot whose key was read and differs
+pub another_key : (bytes found key : List ℕ) (i : ℕ) (s : Slot) → s ≡ slot_at bytes i
+    → found ≡ key_of bytes (as_spelled s) → found ≢ key → key_of bytes (slot_of bytes i) ≢ key
+another_key bytes found key i s e f differs same =
+    differs (f ∙ ap (λ (t : Slot). key_of bytes (as_spelled t)) e ∙ same)

@@ -1,8 +1,10 @@
 pub mod Adding
 pub mod Found
+pub mod GoodSlots
 pub mod Held
 pub mod KeyMarks
 pub mod Laid
 pub mod Layouts
 pub mod Pages
 pub mod Removing
+pub mod Tellings

@@ -1,38 +1,62 @@
--- A page that is spelled as a bucket page, and the list of pairs in it.
-use Rattle.std.specs.Prelude.{◌≡◌, ◌≢◌, ℕ, ◌<◌, List, length, All}
-use Rattle.std.specs.List.{HoldsAt}
-use Rattle.dbm_model.specs.Pairs.{Key, Pair}
-use Rattle.page_model.specs.Pages.{Bucket}
+-- A page that is spelled as a bucket page, and the list of records in it.
+use Rattle.std.specs.Prelude.{◌≡◌, ◌≢◌, ℕ, ◌<◌, List, length, All, Option, Some, None}
+use Rattle.std.specs.List.{HoldsAt, AllByRecursion}
+use Rattle.std.specs.Option.{option_map}
+use Rattle.dbm_model.specs.Bounds.{Version}
+use Rattle.dbm_model.specs.Pairs.{Key}
+use Rattle.page_model.specs.Bytes.{u32_bytes, u32_at}
+use Rattle.page_model.specs.Pages.{Record, Bucket}
 use Rattle.page_model.specs.Spelling.{bucket_spelling}
 use Rattle.page_model.specs.Reading.{own_number, kind_of, next_of, bucket_of}
-use Rattle.page_model.specs.Valid.{IsBucket}
+use Rattle.page_model.specs.Valid.{IsBucket, IsOf}
 
--- the bytes are the one spelling of a page of pairs
+-- the bytes are the one spelling of a page of records, near or far
 pub record IsBucketPage (bytes : List ℕ) : Type 0 where
   pub sound : IsBucket (bucket_of bytes)
   pub spelled : bytes ≡ bucket_spelling (bucket_of bytes)
 
-abbrev pub page_pairs : List ℕ → List Pair
-page_pairs bytes = (bucket_of bytes).pairs
+abbrev pub page_records : List ℕ → List Record
+page_records bytes = (bucket_of bytes).held
 
-abbrev pub with_pairs : Bucket → List Pair → Bucket
-with_pairs b ps = record b { pairs = ps }
+-- and a page of this version: in version 1 no record is far
+pub record IsPageOf (version : Version) (bytes : List ℕ) : Type 0 where
+  pub page : IsBucketPage bytes
+  pub of_version : AllByRecursion (IsOf version) (page_records bytes)
+
+abbrev pub with_records : Bucket → List Record → Bucket
+with_records b rs = record b { held = rs }
 
 abbrev pub with_next : Bucket → ℕ → Bucket
 with_next b n = record b { next = n }
 
--- no pair has this key
-abbrev pub IsAbsent : Key → List Pair → Type 0
-IsAbsent key ps = All (λ p. p.0 ≢ key) ps
+-- a record of these parts
+abbrev pub record_of : Key → List ℕ → Option ℕ → Record
+record_of key bytes far = record { key = key; bytes = bytes; far = far }
 
--- pair i has this key
-abbrev pub HasKeyAt : Key → List Pair → ℕ → Type 0
-HasKeyAt key ps i = (i < length ps) × HoldsAt (λ p. p.0 ≡ key) ps i
+-- the record of a near pair
+abbrev pub near_record : Key → List ℕ → Record
+near_record key content = record { key = key; bytes = content; far = None }
 
--- the page now has these pairs, under the same own number, kind and next
-pub record HasPairs (old new : List ℕ) (ps : List Pair) : Type 0 where
+-- that of a far one, whose content begins in this page and is so long
+abbrev pub far_record : Key → ℕ → ℕ → Record
+far_record key first long = record { key = key; bytes = u32_bytes first; far = Some long }
+
+-- the first page and the length of a far content
+abbrev pub told_content : Record → Option (ℕ × ℕ)
+told_content r = option_map (λ long. (u32_at r.bytes 0, long)) r.far
+
+-- no record has this key
+abbrev pub IsAbsent : Key → List Record → Type 0
+IsAbsent key rs = All (λ r. r.key ≢ key) rs
+
+-- record i has this key
+abbrev pub HasKeyAt : Key → List Record → ℕ → Type 0
+HasKeyAt key rs i = (i < length rs) × HoldsAt (λ r. r.key ≡ key) rs i
+
+-- the page now has these records, under the same own number, kind and next
+pub record HasRecords (old new : List ℕ) (rs : List Record) : Type 0 where
   pub page : IsBucketPage new
-  pub says : bucket_of new ≡ with_pairs (bucket_of old) ps
+  pub says : bucket_of new ≡ with_records (bucket_of old) rs
 
 -- own number, kind and next stay
 pub record KeepsHeader (old new : List ℕ) : Type 0 where

@@ -1,14 +1,16 @@
 //! Whether a page is spelled as a bucket page.
 
 ghost use Rattle.std.specs.Prelude.{◌≡◌, ◌+◌, ◌*◌, ◌<◌, ◌≤◌, ◌↔◌, ℕ, slice_index, IsTrue};
-ghost use Rattle.page_model.specs.Reading.{key_of, content_of};
+ghost use Rattle.page_model.specs.Reading.{key_of, bytes_of, slot_count};
+ghost use Rattle.page_model.specs.Slots.{key_size, bytes_size};
+ghost use Rattle.page_io.specs.Versions.{model_version};
 ghost use Rattle.slot_page.specs.Slots.{as_spelled, slot_at, first_slots};
-ghost use Rattle.slot_page.specs.Layout.{HasGoodHeader, AreInPlace, HasNewKey, HaveDistinctKeys, IsLaidOut, end_of};
+ghost use Rattle.slot_page.specs.Layout.{HasGoodHeader, IsGoodFar, IsGoodSlot, AreInPlace, AreGoodSlots, AreSlotsOf, HasNewKey, HaveDistinctKeys, IsLaidOut, end_of};
 
 use crate::layout::{COUNT_AT, HEAD, HEADER_LEN, KIND_AT, LOW_AT, OVERFLOW, SLOT_LEN};
 use crate::marks::{MARK_COUNT, mark_of};
-use crate::slot::{Slot, Slots};
-use page_io::{PAGE_LEN, Page};
+use crate::slot::{FAR_BIT, FAR_BYTES, MAX_FAR_KEY, MAX_NEAR, Slot, Slots};
+use page_io::{PAGE_LEN, Page, Version};
 
 /// A proof learns here that bytes are below 256, and of a page that it has 2,048.
 pub fn are_bytes(bytes: &[u8])
@@ -38,15 +40,42 @@ fn has_good_header(page: &Page) -> bool
         && page.bytes[15] == 0
 }
 
-/// Whether each of the first `count` records ends where it should.
-fn are_in_place(page: &Page, count: usize) -> bool
+/// Whether the record of a far slot ends at `end`, the pair isn't near, its key is short, and the
+/// number of its first page isn't 0.
+fn is_good_far(page: &Page, slot: Slot, end: usize) -> bool
+    requires far { FAR_BIT ≤ slot.key_len }
+    requires inside { end ≤ 2048 }
+    ensures { IsTrue result ↔ IsGoodFar page.now.bytes (as_spelled slot) end }
+{
+    slot.key_end() + FAR_BYTES == end
+        && slot.key_size() <= MAX_FAR_KEY
+        && slot.key_size() + slot.content_len as usize > MAX_NEAR
+        && page.u32_at(slot.key_end()) != 0
+}
+
+/// Whether the record of a slot ends at `end`, and there may be such a record in this version.
+fn is_good_slot(page: &Page, slot: Slot, end: usize, version: Version) -> bool
+    requires { end ≤ 2048 }
+    ensures { IsTrue result
+        ↔ IsGoodSlot (model_version version) page.now.bytes (as_spelled slot) end }
+{
+    if slot.is_far() {
+        version == Version::V2 && is_good_far(page, slot, end)
+    } else {
+        slot.offset as usize + slot.key_len as usize + slot.content_len as usize == end
+    }
+}
+
+/// Whether each of the first `count` records ends where it should, and there may be such records in
+/// this version.
+fn are_good_slots(page: &Page, count: usize, version: Version) -> bool
     requires { 16 + 6 * count ≤ 2048 }
-    ensures { IsTrue result ↔ AreInPlace page.now.bytes count }
+    ensures { IsTrue result ↔ AreGoodSlots (model_version version) page.now.bytes count }
 {
     let mut end = PAGE_LEN;
     for i in 0..count {
         let slot = slot_at(page, i);
-        if slot.offset as usize + slot.key_len as usize + slot.content_len as usize != end {
+        if !is_good_slot(page, slot, end, version) {
             return false;
         }
         end = slot.offset as usize;
@@ -68,20 +97,19 @@ fn end_at(page: &Page, i: usize) -> usize
 
 /// The key of a slot.
 pub fn key_at(page: &Page, slot: Slot) -> &[u8]
-    requires { slot.offset + slot.key_len ≤ 2048 }
+    requires { slot.offset + key_size (as_spelled slot) ≤ 2048 }
     ensures { result.now ≡ key_of page.now.bytes (as_spelled slot) }
 {
-    let from = slot.offset as usize;
-    &page.bytes[from..from + slot.key_len as usize]
+    &page.bytes[slot.offset as usize..slot.key_end()]
 }
 
-/// The content of a slot.
-pub fn content_at(page: &Page, slot: Slot) -> &[u8]
-    requires { slot.offset + slot.key_len + slot.content_len ≤ 2048 }
-    ensures { result.now ≡ content_of page.now.bytes (as_spelled slot) }
+/// The bytes behind the key of a slot.
+pub fn bytes_at(page: &Page, slot: Slot) -> &[u8]
+    requires { slot.offset + key_size (as_spelled slot) + bytes_size (as_spelled slot) ≤ 2048 }
+    ensures { result.now ≡ bytes_of page.now.bytes (as_spelled slot) }
 {
-    let from = slot.offset as usize + slot.key_len as usize;
-    &page.bytes[from..from + slot.content_len as usize]
+    let from = slot.key_end();
+    &page.bytes[from..from + slot.bytes_size()]
 }
 
 /// Whether slot `j` has another key than each slot before it.
@@ -117,9 +145,10 @@ fn have_distinct_keys(page: &Page, count: usize) -> bool
     true
 }
 
-/// Whether every byte of the page is as a bucket page has it.
-pub fn is_laid_out(page: &Page) -> bool
-    ensures { IsTrue result ↔ IsLaidOut page.now.bytes }
+/// Whether every byte of the page is as a bucket page of this version has it.
+pub fn is_laid_out(page: &Page, version: Version) -> bool
+    ensures { IsTrue result ↔ (IsLaidOut page.now.bytes
+        × AreSlotsOf (model_version version) page.now.bytes (slot_count page.now.bytes)) }
 {
     let count = page.u16_at(COUNT_AT) as usize;
     let low = page.u16_at(LOW_AT) as usize;
@@ -132,7 +161,7 @@ pub fn is_laid_out(page: &Page) -> bool
     if HEADER_LEN + SLOT_LEN * count > low {
         return false;
     }
-    if !are_in_place(page, count) {
+    if !are_good_slots(page, count, version) {
         return false;
     }
     if low != end_at(page, count) {

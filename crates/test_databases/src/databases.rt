@@ -1,12 +1,14 @@
 //! Databases to test with: how they are opened, filled and looked through.
 
 use crate::calls::open;
-use dbm_file::{Access, Database, Db, Fault, OpenHow, Stat, StoreMode, StoreReply, needed_sectors};
+use dbm_file::{
+    Access, Database, Db, Fault, OpenHow, Stat, StoreMode, StoreReply, Version, needed_sectors,
+};
 use page_io::PageStore;
 use sect_dev::{MemDev, SectorDev};
 use std::alloc::Global;
 
-/// How a database is opened, and made where the device is blank and `create` says so.
+/// How a database is opened, and made in version 1 where the device is blank and `create` says so.
 pub fn opening(create: bool, limit: u32) -> OpenHow {
     OpenHow {
         access: Access::ReadWrite,
@@ -14,6 +16,7 @@ pub fn opening(create: bool, limit: u32) -> OpenHow {
         exclusive: false,
         truncate: false,
         limit,
+        version: Version::V1,
     }
 }
 

@@ -3,7 +3,7 @@ ghost use Rattle.std.specs.Prelude.{◌≡◌, ◌≢◌, [], pos, if◌then◌e
 ghost use Rattle.dbm_model.specs.Calls.{Store, Delete, Insert, Replace};
 ghost use Rattle.ndbm_c.specs.Groups.{Adds, StoresAdded, Syncs};
 ghost use Rattle.dbm_file.specs.Calls.{mode_of};
-ghost use Rattle.ndbm_c.specs.Held.{OnOpen, Calls, StoresIn, DeletesIn};
+ghost use Rattle.ndbm_c.specs.Held.{OnOpen, Calls, StoresIn, DeletesIn, Upgrades};
 
 use crate::handle::Open;
 use dbm_file::{Fault, StoreMode};
@@ -46,6 +46,17 @@ impl Open {
     {
         match self {
             Open::Database(opened) => ndbm_calls::delete(&mut opened.db, key),
+            _ => refusal(Fault::Broken),
+        }
+    }
+
+    /// Makes the database one of version 2: 0, also where it is one.
+    pub(crate) fn upgrade(&mut self) -> i32
+        ensures answered { OnOpen self.old self.new result
+            (Upgrades result) }
+    {
+        match self {
+            Open::Database(opened) => ndbm_calls::upgrade(&mut opened.db),
             _ => refusal(Fault::Broken),
         }
     }

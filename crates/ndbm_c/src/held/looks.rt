@@ -1,6 +1,6 @@
 // On what a handle holds: calls that change nothing but the error.
 ghost use Rattle.std.specs.Prelude.{◌≡◌, ◌≢◌, pos};
-ghost use Rattle.ndbm_c.specs.Looks.{TellsError, Clears, TellsNumbers, Verifies};
+ghost use Rattle.ndbm_c.specs.Looks.{TellsError, Clears, TellsNumbers, TellsVersion, Verifies};
 ghost use Rattle.ndbm_c.specs.Held.{OnOpen};
 
 use crate::handle::Open;
@@ -43,6 +43,17 @@ impl Open {
                 *numbers = opened.numbers();
                 0
             },
+            _ => refusal(Fault::Broken),
+        }
+    }
+
+    /// The number of the version of the database's format, 1 or 2.
+    pub(crate) fn version(&mut self) -> i32
+        ensures answered { OnOpen self.old self.new result
+            (TellsVersion result) }
+    {
+        match self {
+            Open::Database(opened) => opened.version_number(),
             _ => refusal(Fault::Broken),
         }
     }

@@ -5,15 +5,20 @@ ghost use Rattle.ndbm_c.specs.Held.{OnOpen, Calls};
 
 use crate::handle::Open;
 use dbm_file::Fault;
-use ndbm_calls::{ROOM, refusal};
+use ndbm_calls::{CONTENT_ROOM, KEY_ROOM, refusal};
 
 impl Open {
     /// The content of a key: 0, or 1 where the key isn't there.
-    pub(crate) fn fetch(&mut self, key: &[u8], out: &mut [u8; ROOM], length: &mut usize) -> i32
+    pub(crate) fn fetch(
+        &mut self,
+        key: &[u8],
+        out: &mut [u8; CONTENT_ROOM],
+        length: &mut usize,
+    ) -> i32
         ensures answered { OnOpen self.old self.new result
             (Calls (Fetch key.now) result (take length.new out.new)) }
         ensures same { result ≢ pos 0 → (out.new ≡ out.old) × (length.new ≡ length.old) }
-        ensures short { result ≡ pos 0 → length.new ≤ 2026 }
+        ensures short { result ≡ pos 0 → length.new ≤ 65535 }
     {
         match self {
             Open::Database(opened) => ndbm_calls::fetch(&mut opened.db, key, out, length),
@@ -22,7 +27,7 @@ impl Open {
     }
 
     /// The first key of a new pass: 0, or 1 where there is none.
-    pub(crate) fn firstkey(&mut self, out: &mut [u8; ROOM], length: &mut usize) -> i32
+    pub(crate) fn firstkey(&mut self, out: &mut [u8; KEY_ROOM], length: &mut usize) -> i32
         ensures answered { OnOpen self.old self.new result
             (Calls First result (take length.new out.new)) }
         ensures same { result ≢ pos 0 → (out.new ≡ out.old) × (length.new ≡ length.old) }
@@ -35,7 +40,7 @@ impl Open {
     }
 
     /// The next key of the pass: 0, or 1 where there is none.
-    pub(crate) fn nextkey(&mut self, out: &mut [u8; ROOM], length: &mut usize) -> i32
+    pub(crate) fn nextkey(&mut self, out: &mut [u8; KEY_ROOM], length: &mut usize) -> i32
         ensures answered { OnOpen self.old self.new result
             (Calls Next result (take length.new out.new)) }
         ensures same { result ≢ pos 0 → (out.new ≡ out.old) × (length.new ≡ length.old) }

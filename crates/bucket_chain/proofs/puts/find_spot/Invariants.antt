@@ -2,6 +2,7 @@ use Rattle.std.proofs.Common.{◌≡◌, ◌⊎◌}
 use Rattle.page_io.specs.Views.{body_at, ReadsOnly}
 use Rattle.chain_walks.specs.Walks.{IsFull}
 use Rattle.chain_walks.proofs.Walks.{IsUnderWay}
+use Rattle.bucket_chain.specs.Records.{as_record}
 use Rattle.bucket_chain.proofs.puts.find_spot.Given as goal
 
 abbrev pub invariant-loop-step : goal.invariant-loop-step
@@ -9,6 +10,6 @@ invariant-loop-step g l = record {
   kinds : (l.kind ≡ 3) ⊎ (l.kind ≡ 4);
   reads : ReadsOnly g.S.PageStore l.fn.store l.store;
   walked : g.S.PageStore.honest l.fn.store
-      → IsUnderWay (body_at g.S.PageStore l.fn.store) l.fn.head (IsFull (l.key, l.content)) l.at
+      → IsUnderWay (body_at g.S.PageStore l.fn.store) l.fn.head (IsFull (as_record l.added)) l.at
       l.kind l._step;
 }

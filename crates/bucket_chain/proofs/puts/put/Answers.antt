@@ -1,336 +1,171 @@
-use Rattle.std.proofs.Common.{◌≡◌, ℕ, [], ◌∷◌, ◌++◌, OnOk, refl, sym, subst, ◌∙◌, ap, arith}
-use Rattle.std.proofs.lemmas.Result.{IfOk-from_err}
-use Rattle.dbm_model.specs.Pairs.{Pair}
-use Rattle.page_model.specs.Pages.{Body, Bucket, OverflowPage}
-use Rattle.page_model.specs.Reading.{own_number, bucket_of}
-use Rattle.page_model.specs.Chain.{numbers}
-use Rattle.page_io.specs.Page as model
+use Rattle.std.proofs.Common.{◌≡◌, ◌≤◌, ℕ, List, [], true, Some, length, refl, sym, ap, ◌∙◌, arith}
+use Rattle.dbm_model.specs.Pairs.{Pair, is_far}
+use Rattle.page_model.specs.Chain.{Entry, pages_in, pages_long, record_with}
+use Rattle.page_model.specs.PageBodies.{first_of}
+use Rattle.page_model.specs.Space.{next_pages, after_takes}
+use Rattle.page_model.proofs.Spaces.{length-next_pages}
 use Rattle.page_io.specs.Store.{StoreState}
+use Rattle.page_io.specs.Versions.{model_version}
 use Rattle.page_io.specs.Views.{body_at, MayEnd}
-use Rattle.page_io.specs.declared.store.PageFault.TheVariants.{NoRoom, Damaged}
-use Rattle.page_io.proofs.Views.{stages_then, reads_then, same_said, known_below}
-use Rattle.page_io.proofs.Exits.{exit_is, came, cause_first, cause_then, cause_stage, cause_stage_last, stage_not_damaged, stage_has_room, last_not_damaged, last_has_room}
-use Rattle.free_pages.specs.FreeList.{IsFreeList, IsTaken}
-use Rattle.free_pages.specs.declared.free_state.FreeState.{FreeState}
-use Rattle.slot_page.specs.Contents.{page_pairs}
-use Rattle.chain_walks.specs.Links.{link_body}
-use Rattle.chain_walks.specs.Chains.{IsChainAt, kind_behind}
-use Rattle.bucket_chain.specs.Spots.{IsSpot}
-use Rattle.page_io.proofs.OwnNumbers.{own_is, own_same}
-use Rattle.chain_walks.proofs.Headers.{header_of}
-use Rattle.bucket_chain.proofs.Added.{says_nothing, added_to, added_behind}
-use Rattle.bucket_chain.proofs.SpelledPages.{added_body}
-use Rattle.bucket_chain.proofs.StagedPages.{on_ok, if_ok, with_own, known_same, IsRewrittenAlone, AreRewritten, rewritten_alone, rewritten_next, both_rewritten}
-use Rattle.bucket_chain.proofs.PutLemmas.{room_walk, put_here, put_last, no_room, new_apart, absent_none, linked_body, fresh_body, apart_alone}
-use Rattle.bucket_chain.proofs.Refusals.{walk_puts, take_puts, stage_puts, stage_puts_last, walk_has_room, few_same, few_then, few_both, few_more}
+use Rattle.page_io.specs.declared.store.PageFault.TheVariants.{NoRoom}
+use Rattle.page_io.proofs.Exits.{exit_is, came}
+use Rattle.bucket_chain.proofs.NearPuts.{not_far, near_count, near_put}
+use Rattle.bucket_chain.proofs.FarPuts.{is_long, far_count, far_some, record_is, far_put}
+use Rattle.bucket_chain.proofs.ContentPuts.{still_placed, now_held, put_behind, lacks_first, lacks_last, lacks_pair}
+use Rattle.bucket_chain.proofs.PutLemmas.{apart_alone}
+use Rattle.bucket_chain.proofs.StagedPages.{on_ok}
 use Rattle.bucket_chain.proofs.puts.put.Given.{Over}
 use Rattle.bucket_chain.proofs.puts.put.Goals as goal
 
-pub stage_page-requires : goal.stage_page-requires
-stage_page-requires g c =
-    let page = c.in_ok-spot.ensures.page in
-    let own = (header_of _ _ _ _ _ page.link).own in
-    omega (
-      arith,
-      own_same c.add.new.page.bytes,
-      c.add.ensures.header.own,
-      own,
-      c.in_ok-spot.ensures.known.0,
-    )
+pub returns-then-key-content-le-MAX_NEAR-clause-put :
+    goal.returns-then-key-content-le-MAX_NEAR-clause-put
+returns-then-key-content-le-MAX_NEAR-clause-put g c honest =
+    let near = not_far (c.args.key.now, c.args.content.now)
+    (omega (arith, c.if-key-content-le-MAX_NEAR.true)) in
+    on_ok c.add_to_chain.result (c.add_to_chain.ensures.added honest) (λ added.
+    near_put _ _ _ _ _ _ (c.args.key.now, c.args.content.now) near added)
 
-pub stage_page-requires-2 : goal.stage_page-requires-2
-stage_page-requires-2 g c =
-    let own : (bucket_of c.empty-last.result.bytes).own ≡ c.in_ok-taken.taken =
-    ap (λ (b : Bucket). b.own) c.empty-last.ensures.says in
-    omega (
-      arith,
-      own_same c.add-2.new.page.bytes,
-      c.add-2.ensures.header.own,
-      own_is c.empty-last.result.bytes,
-      own,
-      c.in_ok-taken.ensures.number,
-    )
+pub returns-then-key-content-le-MAX_NEAR-clause-room :
+    goal.returns-then-key-content-le-MAX_NEAR-clause-room
+returns-then-key-content-le-MAX_NEAR-clause-room g c honest chain s placed near room none =
+    c.add_to_chain.ensures.room honest chain s placed
+    (record { pair = (c.args.key.now, c.args.content.now); pages = [] }) refl room none
 
-pub stage_page-requires-3 : goal.stage_page-requires-3
-stage_page-requires-3 g c =
-    let page = c.in_ok-spot.ensures.page in
-    let own = (header_of _ _ _ _ _ page.link).own in
-    omega (
-      arith,
-      own_same c.set_next.new.page.bytes,
-      c.set_next.ensures.own,
-      own,
-      c.in_ok-spot.ensures.known.0,
-    )
+-- the pair is far
+far : (g : Over) (c : goal.After-add_to_chain-2 g)
+    → is_far (c.args.key.now, c.args.content.now) ≡ true
+far g c = is_long (c.args.key.now, c.args.content.now)
+    (omega (arith, c.if-key-content-le-MAX_NEAR.false))
 
--- no page is told
-pub returns-in_err-spot : goal.returns-in_err-spot
-returns-in_err-spot g c =
+-- what is added is its record
+record_there : (g : Over) (c : goal.After-add_to_chain-2 g) (pages : List ℕ)
+    → c.in_ok-first.first ≡ first_of pages → 1 ≤ length pages
+    → record_with (c.args.key.now, c.args.content.now) pages ≡ record {
+      key = c.args.key.now;
+      bytes = c.to_be_bytes.result;
+      far = Some (length c.args.content.now);
+    }
+record_there g c pages begins some =
+    record_is (c.args.key.now, c.args.content.now) pages c.in_ok-first.first some begins
+    ∙ ap (λ (bytes : List ℕ). record {
+      key = c.args.key.now;
+      bytes = bytes;
+      far = Some (length c.args.content.now);
+    }) (sym c.to_be_bytes.ensures)
+
+pub returns-clause-put : goal.returns-clause-put
+returns-clause-put g c honest =
     let st = g.S.PageStore in
-    let told = c.in_err-spot.ensures in
+    let put = c.in_ok-first.ensures.put honest in
+    let pair : Pair = (c.args.key.now, c.args.content.now) in
+    on_ok c.add_to_chain-2.result
+    (c.add_to_chain-2.ensures.added (c.put_content.ensures.stages.honesty.1 honest)) (λ added.
+    far_put (body_at st c.args.store.now) (body_at st c.put_content.new.store)
+    (body_at st c.add_to_chain-2.new.store)
+    (MayEnd (st.state c.args.store.now) c.args.space.now.file_end)
+    (MayEnd (st.state c.put_content.new.store) c.put_content.new.space.file_end)
+    c.args.space.now c.put_content.new.space c.add_to_chain-2.new.space c.args.head pair
+    (record {
+      key = c.args.key.now;
+      bytes = c.to_be_bytes.result;
+      far = Some (length c.args.content.now);
+    }) put.0 (far g c) put.2 (λ some. record_there g c put.0 put.1 some)
+    (far_some (model_version c.args.version) pair c.requires (far g c))
+    c.in_ok-first.ensures.may_end added)
+
+pub returns-clause-exact : goal.returns-clause-exact
+returns-clause-exact g c honest chain s placed none =
+    let st = g.S.PageStore in
+    let pair : Pair = (c.args.key.now, c.args.content.now) in
+    let count = pages_long (length c.args.content.now) in
+    let version = model_version c.args.version in
+    let some = far_some version pair c.requires (far g c) in
+    let put = c.in_ok-first.ensures.exact honest s placed.free_is
+    (apart_alone (pages_in chain) s placed.apart) in
+    let enough = far_count pair (far g c) in
+    let old = body_at st c.args.store.now in
+    let mid = body_at st c.put_content.new.store in
+    let e : Entry = record { pair = pair; pages = next_pages count s } in
+    let is = record_there g c (next_pages count s) put.begins
+    (omega (arith, length-next_pages count s, some)) in
+    on_ok c.add_to_chain-2.result
+    (c.add_to_chain-2.ensures.exact (c.put_content.ensures.stages.honesty.1 honest) chain
+    (after_takes count s)
+    (still_placed version old mid c.args.space.now c.put_content.new.space c.args.head chain s pair
+    count placed c.requires enough put.written put.left) e is
+    (now_held version old mid c.args.space.now c.put_content.new.space c.args.head chain s pair
+    count placed c.requires enough put.written put.left) none)
+    (λ becomes. put_behind version old mid c.args.space.now c.put_content.new.space c.args.head
+    chain s pair count placed c.requires enough put.written put.left _ _ becomes)
+
+pub returns-clause-whole : goal.returns-clause-whole
+returns-clause-whole g c honest chain s placed none damaged =
+    let st = g.S.PageStore in
+    let pair : Pair = (c.args.key.now, c.args.content.now) in
+    let count = pages_long (length c.args.content.now) in
+    let put = c.in_ok-first.ensures.exact honest s placed.free_is
+    (apart_alone (pages_in chain) s placed.apart) in
+    c.add_to_chain-2.ensures.whole (c.put_content.ensures.stages.honesty.1 honest) chain
+    (after_takes count s)
+    (still_placed (model_version c.args.version) (body_at st c.args.store.now)
+    (body_at st c.put_content.new.store) c.args.space.now c.put_content.new.space c.args.head
+    chain s pair count placed c.requires (far_count pair (far g c)) put.written put.left) damaged
+
+pub returns-then-key-content-le-MAX_NEAR-clause-no_room :
+    goal.returns-then-key-content-le-MAX_NEAR-clause-no_room
+returns-then-key-content-le-MAX_NEAR-clause-no_room g c honest chain s placed none =
+    let st = g.S.PageStore in
+    let pair : Pair = (c.args.key.now, c.args.content.now) in
+    let near = not_far pair (omega (arith, c.if-key-content-le-MAX_NEAR.true)) in
+    let e : Entry = record { pair = pair; pages = [] } in
+    let lacks = c.add_to_chain.ensures.answer.no_room none in
+    lacks_pair chain s pair 0 (st.state c.args.store.now).capacity (near_count pair near)
+    (lacks_last (model_version c.args.version) (body_at st c.args.store.now) c.args.space.now
+    c.args.head chain s e (st.state c.args.store.now).capacity placed
+    (λ room. c.add_to_chain.ensures.room honest chain s placed e refl room none) lacks.0
+    (lacks.1 refl))
+
+pub returns-in_err-first-clause-no_room : goal.returns-in_err-first-clause-no_room
+returns-in_err-first-clause-no_room g c honest chain s placed none =
+    let st = g.S.PageStore in
+    let pair : Pair = (c.args.key.now, c.args.content.now) in
     let result = c.from_residual in
-    let exit = exit_is result.result c.in_err-spot.field-0.0 result.ensures.1 in
-    record {
-      stages = told.reads.stages_only;
-      few = few_same _ _ 2 told.reads.same;
-      cause = cause_first _ _ exit _ _ told.cause;
-      answer = walk_puts _ _ refl _ _ exit _ _ told.answer;
-      walked = λ honest. IfOk-from_err _ _ result.ensures.0;
-      added = λ honest. IfOk-from_err _ _ result.ensures.0;
-      ends = λ e. e;
-      may_end = λ may. IfOk-from_err _ _ result.ensures.0;
-      exact = λ honest chain s placed none. IfOk-from_err _ _ result.ensures.0;
-      whole = λ honest chain s placed none damaged.
-          told.whole honest chain (subst
-          (λ (n : ℕ). IsChainAt (body_at st c.args.store.now) n c.args.head chain)
-          (sym (ap (λ (f : FreeState). f.file_end) placed.free_is.kept)) placed.chain_is)
-          (came _ _ exit Damaged damaged);
-      room = λ honest chain s placed fits none.
-          absurd (walk_has_room _ _ told.answer (came _ _ exit NoRoom none));
-    }
+    let exit = exit_is result.result c.in_err-first.field-0.0 result.ensures.1 in
+    lacks_first chain s pair (pages_long (length c.args.content.now))
+    (st.state c.args.store.now).capacity
+    (far_count pair (is_long pair (omega (arith, c.if-key-content-le-MAX_NEAR.false))))
+    (c.in_err-first.ensures.room honest s placed.free_is
+    (apart_alone (pages_in chain) s placed.apart) (came _ _ exit NoRoom none))
 
--- the page that the pair fits says it too
-here_says : (g : Over) (c : goal.After-stage_page g)
-    (honest : g.S.PageStore.honest c.args.store.now)
-    (found : IsSpot (body_at g.S.PageStore c.args.store.now) c.args.head
-    (c.args.key.now, c.args.content.now) c.find_spot.new.page.bytes c.in_ok-spot.spot)
-    → OnOk c.stage_page.result (IsRewrittenAlone (body_at g.S.PageStore c.args.store.now)
-    (body_at g.S.PageStore c.stage_page.new.store) c.in_ok-spot.spot.page
-    (link_body (kind_behind found.before) found.next
-    (page_pairs c.find_spot.new.page.bytes ++ (c.args.key.now, c.args.content.now) ∷ [])))
-here_says g c honest found =
-    let bytes = c.add.new.page.bytes in
-    let page = c.in_ok-spot.spot.page in
-    let reads = c.find_spot.ensures.reads in
-    let h1 = reads.stages_only.honesty.1 honest in
-    let number = own_same bytes ∙ c.add.ensures.header.own ∙ (header_of _ _ _ _ _ found.link).own in
-    let body = added_body c.find_spot.new.page.bytes bytes page _ _
-    (c.args.key.now, c.args.content.now) found.link
-    (c.in_ok-spot.ensures.page.room c.if-spot.true) c.add.ensures.spelled in
-    on_ok c.stage_page.result (c.stage_page.ensures.says h1) (λ says.
-    rewritten_alone g.S.PageStore c.args.store.now c.find_spot.new.store c.stage_page.new.store
-    reads honest page bytes _ number body says (c.stage_page.ensures.others h1))
-
--- the pair fits a page
-pub returns-then-spot : goal.returns-then-spot
-returns-then-spot g c =
+pub returns-clause-no_room : goal.returns-clause-no_room
+returns-clause-no_room g c honest chain s placed none =
     let st = g.S.PageStore in
-    let one = c.in_ok-spot.ensures.reads in
-    let told = c.stage_page.ensures in
-    record {
-      stages = stages_then st _ _ _ (g.met.S.PageStore.counts_now c.find_spot.new.store)
-          one.stages_only told.stages;
-      few = few_more _ _ (few_then _ _ _ 1 one.same told.few);
-      cause = cause_stage_last _ _ _ _ _ _ _ one.stages_only.later told.faults told.answer;
-      answer = stage_puts_last _ _ _ _ (ap (λ (s : StoreState). s.usable) one.same) _ _
-          (few_same _ _ 1 one.same) told.answer;
-      walked = λ honest. on_ok c.stage_page.result
-          (c.stage_page.ensures.says (c.find_spot.ensures.reads.stages_only.honesty.1 honest))
-          (λ _. room_walk _ _ _ _ _ (c.in_ok-spot.ensures.found honest));
-      added = λ honest.
-          let found = c.in_ok-spot.ensures.found honest in
-          on_ok c.stage_page.result (here_says g c honest found) (λ said.
-          added_to _ _ (MayEnd (st.state c.args.store.now) c.args.space.now.file_end)
-          c.args.space.now c.args.space.now c.args.head (c.args.key.now, c.args.content.now) _ _
-          found c.if-spot.true refl said);
-      ends = λ e. e;
-      may_end = λ may.
-          let own = (header_of _ _ _ _ _ c.in_ok-spot.ensures.page.link).own in
-          let below = known_below _ _ _ may c.in_ok-spot.ensures.known.1 in
-          let still = subst (λ (st : StoreState). MayEnd st c.args.space.now.file_end)
-          (sym c.find_spot.ensures.reads.same) may in
-          if_ok c.stage_page.result (c.stage_page.ensures.may_end c.args.space.now.file_end
-          (omega (
-            arith,
-            own_same c.add.new.page.bytes,
-            c.add.ensures.header.own,
-            own,
-            below,
-          )) still);
-      exact = λ honest chain s placed none.
-          let found = c.in_ok-spot.ensures.found honest in
-          on_ok c.stage_page.result (here_says g c honest found) (λ said.
-          put_here _ c.args.space.now c.args.head (c.args.key.now, c.args.content.now) chain s _ _
-          placed found _ c.if-spot.true said.says said.others);
-      whole = λ honest chain s placed none damaged.
-          absurd (last_not_damaged _ _ _ _ told.answer damaged);
-      room = λ honest chain s placed fits none. absurd (last_has_room _ _ _ _ told.answer none);
-    }
-
--- no page is taken
-pub returns-in_err-taken : goal.returns-in_err-taken
-returns-in_err-taken g c =
-    let st = g.S.PageStore in
-    let told = c.in_err-taken.ensures in
-    let result = c.from_residual-in_err-taken in
-    let exit = exit_is result.result c.in_err-taken.field-0.0 result.ensures.1 in
-    let one = c.in_ok-spot.ensures.reads in
-    record {
-      stages = stages_then st _ _ _ (g.met.S.PageStore.counts_now c.find_spot.new.store)
-          one.stages_only told.reads.stages_only;
-      few = few_then _ _ _ 2 one.same (few_same _ _ 2 told.reads.same);
-      cause = cause_then _ _ exit _ _ _ one.stages_only.later told.cause;
-      answer = take_puts _ _ (ap (λ (s : StoreState). s.usable) one.same) _ _ exit _ _
-          (ap (λ (s : StoreState). s.capacity) one.same) told.answer;
-      walked = λ honest. IfOk-from_err _ _ result.ensures.0;
-      added = λ honest. IfOk-from_err _ _ result.ensures.0;
-      ends = told.ends;
-      may_end = λ may. IfOk-from_err _ _ result.ensures.0;
-      exact = λ honest chain s placed none. IfOk-from_err _ _ result.ensures.0;
-      whole = λ honest chain s placed none damaged.
-          let same = same_said g.S.PageStore _ _ c.find_spot.ensures.reads honest in
-          c.in_err-taken.ensures.whole (c.find_spot.ensures.reads.stages_only.honesty.1 honest) s
-          (subst (λ (at : ℕ → Body). IsFreeList at c.args.space.now s) (sym same)
-          placed.free_is) (apart_alone (numbers chain) s placed.apart)
-          (came _ _ exit Damaged damaged);
-      room = λ honest chain s placed fits none.
-          let p : Pair = (c.args.key.now, c.args.content.now) in
-          let full = no_room (body_at g.S.PageStore c.args.store.now) c.args.space.now c.args.head p
-          chain s _ _ placed (c.in_ok-spot.ensures.found honest) c.if-spot.false in
-          absurd (let e = sym fits ∙ full in cc);
-    }
-
--- the new page is not staged
-pub returns-in_err-stage_page : goal.returns-in_err-stage_page
-returns-in_err-stage_page g c =
-    let st = g.S.PageStore in
-    let told = c.in_err-stage_page.ensures in
-    let result = c.from_residual-in_err-stage_page in
-    let exit = exit_is result.result c.in_err-stage_page.field-0.0 result.ensures.1 in
-    let one = c.in_ok-spot.ensures.reads in
-    let two = c.in_ok-taken.ensures.reads in
-    let both = reads_then st _ _ _ (g.met.S.PageStore.counts_now c.find_spot.new.store) one two in
-    let done = c.stage_page-2.ensures in
-    record {
-      stages = stages_then st _ _ _ (g.met.S.PageStore.counts_now c.take.new.store)
-          both.stages_only told.stages;
-      few = few_more _ _ (few_then _ _ _ 1 both.same told.few);
-      cause = cause_stage _ _ exit _ _ _ _ _ _ both.stages_only.later told.faults told.answer;
-      answer = stage_puts _ _ (ap (λ (s : StoreState). s.usable) both.same) _ _ exit _ _ _
-          (few_same _ _ 1 both.same) told.answer;
-      walked = λ honest. IfOk-from_err _ _ result.ensures.0;
-      added = λ honest. IfOk-from_err _ _ result.ensures.0;
-      ends = c.in_ok-taken.ensures.ends;
-      may_end = λ may. IfOk-from_err _ _ result.ensures.0;
-      exact = λ honest chain s placed none. IfOk-from_err _ _ result.ensures.0;
-      whole = λ honest chain s placed none damaged.
-          absurd (stage_not_damaged _ _ _ _ told.answer (came _ _ exit Damaged damaged));
-      room = λ honest chain s placed fits none.
-          absurd (stage_has_room _ _ _ _ told.answer (came _ _ exit NoRoom none));
-    }
-
--- a page that is taken says the pair alone, and the last one names it
-both_say : (g : Over) (c : goal.After-stage_page-3 g)
-    (honest : g.S.PageStore.honest c.args.store.now)
-    (found : IsSpot (body_at g.S.PageStore c.args.store.now) c.args.head
-    (c.args.key.now, c.args.content.now) c.find_spot.new.page.bytes c.in_ok-spot.spot)
-    → OnOk c.stage_page-3.result (AreRewritten (body_at g.S.PageStore c.args.store.now)
-    (body_at g.S.PageStore c.stage_page-3.new.store) c.in_ok-taken.taken
-    (OverflowPage 0 ((c.args.key.now, c.args.content.now) ∷ []))
-    c.in_ok-spot.spot.page (link_body (kind_behind found.before) c.in_ok-taken.taken
-    (page_pairs c.find_spot.new.page.bytes)))
-both_say g c honest found =
-    let st = g.S.PageStore in
-    let new = c.in_ok-taken.taken in
-    let page = c.in_ok-spot.spot.page in
-    let last = c.add-2.new.page.bytes in
-    let linked = c.set_next.new.page.bytes in
-    let reads = reads_then st _ _ _ (g.met.S.PageStore.counts_now c.find_spot.new.store)
-    c.in_ok-spot.ensures.reads c.in_ok-taken.ensures.reads in
-    let h2 = reads.stages_only.honesty.1 honest in
-    let h3 = c.stage_page-2.ensures.stages.honesty.1 h2 in
-    let new_own : model.own_number last ≡ new =
-    own_same last ∙ c.add-2.ensures.header.own ∙ sym (own_is c.empty-last.result.bytes)
-    ∙ ap (λ (b : Bucket). b.own) c.empty-last.ensures.says in
-    let page_own : model.own_number linked ≡ page =
-    own_same linked ∙ c.set_next.ensures.own ∙ (header_of _ _ _ _ _ found.link).own in
-    let absent = c.add-2.ensures.holds
-    (absent_none c.args.key.now c.empty-last.result.bytes new c.empty-last.ensures.says) in
-    let fresh = fresh_body c.empty-last.result.bytes last new (c.args.key.now, c.args.content.now)
-    c.empty-last.ensures.says absent in
-    let named = linked_body c.find_spot.new.page.bytes linked page _ new found.before found.link
-    c.set_next.ensures.page c.set_next.ensures.says in
-    let one = rewritten_alone st c.args.store.now c.take.new.store c.stage_page-2.new.store reads
-    honest new last _ new_own fresh (c.in_ok-stage_page.ensures.says h2)
-    (c.stage_page-2.ensures.others h2) in
-    on_ok c.stage_page-3.result (c.stage_page-3.ensures.says h3) (λ says.
-    both_rewritten _ (body_at st c.stage_page-2.new.store) _ new page _ _ one
-    (rewritten_next st c.stage_page-2.new.store c.stage_page-3.new.store page linked _ page_own
-    named says (c.stage_page-3.ensures.others h3)))
-
--- a page is taken, and the last one names it
-pub returns : goal.returns
-returns g c =
-    let st = g.S.PageStore in
-    let one = c.in_ok-spot.ensures.reads in
-    let two = c.in_ok-taken.ensures.reads in
-    let both = reads_then st _ _ _ (g.met.S.PageStore.counts_now c.find_spot.new.store) one two in
-    let staged = c.in_ok-stage_page.ensures in
-    let told = c.stage_page-3.ensures in
-    let so_far = stages_then st _ _ _ (g.met.S.PageStore.counts_now c.take.new.store)
-    both.stages_only staged.stages in
-    record {
-      stages = stages_then st _ _ _ (g.met.S.PageStore.counts_now c.stage_page-2.new.store)
-          so_far told.stages;
-      few = few_both _ _ _ (few_then _ _ _ 1 both.same staged.few) told.few;
-      cause = cause_stage_last _ _ _ _ _ _ _ so_far.later told.faults told.answer;
-      answer = stage_puts_last _ _ _ _ (ap (λ (s : StoreState). s.usable) so_far.state) _ _
-          (few_then _ _ _ 1 both.same staged.few) told.answer;
-      walked = λ honest. if_ok c.stage_page-3.result
-          (room_walk _ _ _ _ _ (c.in_ok-spot.ensures.found honest));
-      added = λ honest.
-          let found = c.in_ok-spot.ensures.found honest in
-          let same = same_said st _ _ one honest in
-          let is_taken = subst (λ (f : ℕ → Body).
-          IsTaken f c.args.space.now c.in_ok-taken.taken c.take.new.space) same
-          (c.in_ok-taken.ensures.taken (one.stages_only.honesty.1 honest)) in
-          on_ok c.stage_page-3.result (both_say g c honest found) (λ said.
-          added_behind _ _ (MayEnd (st.state c.args.store.now) c.args.space.now.file_end)
-          c.args.space.now c.take.new.space c.args.head (c.args.key.now, c.args.content.now) _ _
-          found c.if-spot.false _ is_taken
-          (says_nothing st c.args.store.now c.args.space.now.file_end
-          (g.met.S.PageStore.ends c.args.store.now)
-          (g.met.S.PageStore.in_range c.args.store.now).0) said);
-      ends = c.in_ok-taken.ensures.ends;
-      may_end = λ may.
-          let own = (header_of _ _ _ _ _ c.in_ok-spot.ensures.page.link).own in
-          let new_own : own_number c.add-2.new.page.bytes ≡ c.in_ok-taken.taken =
-          c.add-2.ensures.header.own ∙ sym (own_is c.empty-last.result.bytes)
-          ∙ ap (λ (b : Bucket). b.own) c.empty-last.ensures.says in
-          let found = subst (λ (st : StoreState). MayEnd st c.args.space.now.file_end)
-          (sym c.find_spot.ensures.reads.same) may in
-          let with_new = c.in_ok-taken.ensures.may_end found in
-          let end = c.take.new.space.file_end in
-          let staged = c.in_ok-stage_page.ensures.may_end_with end
-          (with_own _ _ _ _ _ c.take.ensures.reads.same
-          (sym (own_same c.add-2.new.page.bytes ∙ new_own)) with_new) in
-          let known = c.stage_page-2.ensures.known c.in_ok-spot.spot.page
-          (known_same _ _ _ (c.take.ensures.reads.same ∙ c.find_spot.ensures.reads.same)
-          c.in_ok-spot.ensures.known.1) in
-          if_ok c.stage_page-3.result (c.stage_page-3.ensures.may_end end
-          (omega (
-            arith,
-            own_same c.set_next.new.page.bytes,
-            c.set_next.ensures.own,
-            own,
-            known_below _ _ _ staged known,
-          )) staged);
-      exact = λ honest chain s placed none.
-          let p : Pair = (c.args.key.now, c.args.content.now) in
-          let at = body_at st c.args.store.now in
-          let found = c.in_ok-spot.ensures.found honest in
-          let same = same_said st _ _ one honest in
-          let taken = c.in_ok-taken.ensures.exact (one.stages_only.honesty.1 honest) s
-          (subst (λ (f : ℕ → Body). IsFreeList f c.args.space.now s) (sym same) placed.free_is)
-          (apart_alone (numbers chain) s placed.apart) in
-          let apart : c.in_ok-spot.spot.page ≡ c.in_ok-taken.taken → ⊥ = λ e.
-          new_apart at c.args.space.now c.args.head p chain s _ _ placed found
-          (sym (e ∙ taken.0)) in
-          on_ok c.stage_page-3.result (both_say g c honest found) (λ said.
-          put_last at c.args.space.now c.args.head p chain s _ c.in_ok-spot.spot placed found _
-          c.in_ok-taken.taken c.take.new.space c.if-spot.false taken said.second
-          (said.first apart) said.others);
-      whole = λ honest chain s placed none damaged.
-          absurd (last_not_damaged _ _ _ _ told.answer damaged);
-      room = λ honest chain s placed fits none. absurd (last_has_room _ _ _ _ told.answer none);
-    }
+    let pair : Pair = (c.args.key.now, c.args.content.now) in
+    let count = pages_long (length c.args.content.now) in
+    let version = model_version c.args.version in
+    let honest' = c.put_content.ensures.stages.honesty.1 honest in
+    let put = c.in_ok-first.ensures.exact honest s placed.free_is
+    (apart_alone (pages_in chain) s placed.apart) in
+    let enough = far_count pair (far g c) in
+    let mid = body_at st c.put_content.new.store in
+    let e : Entry = record { pair = pair; pages = next_pages count s } in
+    let is = record_there g c (next_pages count s) put.begins
+    (omega (
+      arith,
+      length-next_pages count s,
+      far_some version pair c.requires (far g c),
+    )) in
+    let still = still_placed version (body_at st c.args.store.now) mid c.args.space.now
+    c.put_content.new.space c.args.head chain s pair count placed c.requires enough put.written
+    put.left in
+    let lacks = c.add_to_chain-2.ensures.answer.no_room none in
+    lacks_pair chain s pair count (st.state c.args.store.now).capacity enough
+    (lacks_last version mid c.put_content.new.space c.args.head chain (after_takes count s) e
+    (st.state c.args.store.now).capacity still
+    (λ room. c.add_to_chain-2.ensures.room honest' chain
+    (after_takes count s) still e is room none)
+    (omega (
+      arith,
+      lacks.0,
+      ap (λ (x : StoreState). x.capacity) c.put_content.ensures.stages.state,
+    )) (lacks.1 refl))

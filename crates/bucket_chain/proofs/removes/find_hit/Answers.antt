@@ -5,14 +5,14 @@ use Rattle.page_io.specs.Store.{StoreState}
 use Rattle.page_io.specs.declared.store.PageFault.TheVariants.{Damaged}
 use Rattle.page_io.proofs.Views.{reads_then}
 use Rattle.page_io.proofs.Exits.{exit_is, came, cause_then, cause_ok}
-use Rattle.slot_page.specs.Contents.{page_pairs}
+use Rattle.slot_page.specs.Contents.{page_records}
 use Rattle.chain_walks.specs.Walks.{EndsWithout}
 use Rattle.chain_walks.proofs.Headers.{header_of}
 use Rattle.chain_walks.proofs.ReadPages.{reads_none, still_honest, link_before, link_after}
-use Rattle.chain_walks.proofs.Walks.{walk_is_here, some_page, not_too_long}
+use Rattle.chain_walks.proofs.Walks.{read_as, walk_is_here, some_page, not_too_long}
 use Rattle.chain_walks.proofs.KeyWalks.{absent_times}
 use Rattle.bucket_chain.proofs.StagedPages.{known_same}
-use Rattle.bucket_chain.proofs.FoundKeys.{hit_walk}
+use Rattle.bucket_chain.proofs.KeySlots.{hit_walk}
 use Rattle.bucket_chain.proofs.Hits.{track_starts, track_goes_on, track_ends, track_hits}
 use Rattle.bucket_chain.proofs.Refusals.{walk_walks, no_walk_refusal, no_fault, long_walk, long_walk_cause}
 use Rattle.bucket_chain.proofs.removes.find_hit.Goals as goal
@@ -34,7 +34,8 @@ returns-in_err-next g c =
     let exit = exit_is result.result c.in_err-next.field-0.0 result.ensures.1 in
     let reads = c.loop-step.invariant.reads in
     record {
-      reads = reads_then st _ _ _ (g.met.S.PageStore.counts_now c.loop-step.store) reads told.reads;
+      reads = reads_then st _ _ _ (g.met.S.PageStore.counts_now c.loop-step.store) reads
+          told.reads;
       cause = cause_then _ _ exit _ _ _ reads.stages_only.later told.cause;
       answer = walk_walks _ _ (ap (λ (s : StoreState). s.usable) reads.same) _ _ exit told.answer;
       held = IfOk-from_err _ _ result.ensures.0;
@@ -42,10 +43,11 @@ returns-in_err-next g c =
       has = λ honest. IfOk-from_err _ _ result.ensures.0;
       whole = λ honest chain is damaged.
           let walk = (c.loop-step.invariant.walked honest).walk in
-          let here = walk_is_here _ _ _ _ _ _ _ chain is walk in
-          let some = some_page _ _ _ _ _ _ _ chain is walk in
+          let read = read_as _ _ _ _ chain is in
+          let here = walk_is_here _ _ _ _ _ _ _ _ _ read walk in
+          let some = some_page _ _ _ _ _ _ _ _ _ read walk in
           c.in_err-next.ensures.whole (still_honest g.S.PageStore _ _ reads honest) _ _ some
-          (link_after g.S.PageStore _ _ reads honest _ _ _ _ here.link)
+          (link_after _ g.S.PageStore _ _ reads honest _ _ _ _ here.link)
           (came _ _ exit Damaged damaged);
     }
 
@@ -59,9 +61,9 @@ returns-in-Some g c =
     told.reads in
     let bytes = c.read_link.new.page.bytes in
     let hit = λ (honest : st.honest c.args.store.now).
-    let link = link_before st _ _ before honest _ _ _ _ told.says in
-    track_hits _ _ _ _ _ _ _ _ (c.loop-step.invariant.walked honest) _ (page_pairs bytes) link
-    told.known.0 bytes c.in-Some.slot
+    let link = link_before _ st _ _ before honest _ _ _ _ told.says in
+    track_hits _ _ _ _ _ _ _ _ _ (c.loop-step.invariant.walked honest) _ (page_records bytes) link
+    told.known.0 bytes c.in-Some.slot _
     told.link refl c.in-Some.ensures.found in
     record {
       reads = reads;
@@ -70,13 +72,14 @@ returns-in-Some g c =
       held = record {
         some = told.known.0;
         known = known_same _ _ _ (sym before.same) told.known.1;
-        own = (header_of _ _ _ _ _ told.link).own;
+        own = (header_of _ _ _ _ _ _ told.link).own;
         page = told.link.page;
         has = c.in-Some.ensures.found;
+        content = c.far_at.ensures;
         prior_kind = c.loop-step.invariant.prior_kinds;
       };
       walked = hit;
-      has = λ honest _. hit_walk _ _ _ _ _ (hit honest);
+      has = λ honest _. hit_walk _ _ _ _ _ _ (hit honest);
       whole = λ honest chain is damaged. absurd (no_fault _ _ damaged);
     }
 
@@ -94,8 +97,8 @@ returns-then-next-eq0 g c =
       answer = no_walk_refusal _ _;
       held = tt;
       walked = λ honest.
-          let link = link_before st _ _ before honest _ _ _ _ told.says in
-          track_ends _ _ _ _ _ _ _ _ (c.loop-step.invariant.walked honest) _ _ link told.known.0
+          let link = link_before _ st _ _ before honest _ _ _ _ told.says in
+          track_ends _ _ _ _ _ _ _ _ _ (c.loop-step.invariant.walked honest) _ _ link told.known.0
           (EndsWithout c.args.key.now)
           (c.if-next-eq0.true, absent_times _ _ c.in_default.ensures.none);
       has = λ honest some. absurd (false≢true some);
@@ -109,9 +112,9 @@ loop-step-preserved g c = record {
   reads = reads_then g.S.PageStore _ _ _ (g.met.S.PageStore.counts_now c.loop-step.store)
       c.loop-step.invariant.reads c.in_ok-next.ensures.reads;
   walked = λ honest.
-      let link = link_before g.S.PageStore _ _ c.loop-step.invariant.reads honest _ _ _ _
+      let link = link_before _ g.S.PageStore _ _ c.loop-step.invariant.reads honest _ _ _ _
       c.in_ok-next.ensures.says in
-      track_goes_on _ _ _ _ _ _ _ _ (c.loop-step.invariant.walked honest) _ _ link
+      track_goes_on _ _ _ _ _ _ _ _ _ (c.loop-step.invariant.walked honest) _ _ link
       c.in_ok-next.ensures.known.0 c.if-next-eq0.false
       (absent_times _ _ c.in_default.ensures.none);
 }
@@ -128,6 +131,7 @@ returns g c =
       walked = λ honest. tt;
       has = λ honest. tt;
       whole = λ honest chain is damaged.
-          not_too_long _ _ _ _ _ _ _ chain is (c.loop-step.invariant.walked honest).walk
+          not_too_long _ _ _ _ _ _ _ _ _ (read_as _ _ _ _ chain is)
+          (c.loop-step.invariant.walked honest).walk
           c.loop-step-test.false;
     }

@@ -1,15 +1,15 @@
 use Rattle.std.proofs.Common.{◌≡◌, ℕ, List, refl, sym, ap, ◌∙◌, subst, arith}
 use Rattle.std.proofs.lemmas.Result.{IfOk-from_err}
-use Rattle.dbm_model.specs.Pairs.{Pair}
-use Rattle.page_model.specs.Pages.{Body}
+use Rattle.page_model.specs.Pages.{Body, Record}
 use Rattle.page_model.specs.Reading.{body_of}
 use Rattle.page_io.specs.Page.{own_number}
 use Rattle.page_io.specs.Store.{StoreState}
+use Rattle.page_io.specs.Versions.{model_version}
 use Rattle.page_io.specs.Views.{body_at, MayEnd}
 use Rattle.page_io.specs.declared.store.PageFault.TheVariants.{Damaged}
 use Rattle.page_io.proofs.Views.{stages_then, same_said, known_below}
 use Rattle.page_io.proofs.Exits.{exit_is, came, cause_first, cause_stage_last, last_not_damaged}
-use Rattle.slot_page.specs.Contents.{page_pairs}
+use Rattle.slot_page.specs.Contents.{page_records}
 use Rattle.chain_walks.specs.Links.{SaysLink}
 use Rattle.chain_walks.proofs.Headers.{header_of}
 use Rattle.chain_walks.proofs.LinkBodies.{says_link}
@@ -17,7 +17,7 @@ use Rattle.chain_walks.proofs.ReadPages.{still_honest}
 use Rattle.chain_walks.proofs.Walks.{one_next}
 use Rattle.page_io.proofs.OwnNumbers.{own_same}
 use Rattle.bucket_chain.proofs.StagedPages.{on_ok, if_ok}
-use Rattle.bucket_chain.proofs.PutLemmas.{link_linked}
+use Rattle.bucket_chain.proofs.LinkedPages.{link_linked}
 use Rattle.bucket_chain.proofs.Refusals.{walk_removes, stage_removes_last, few_same, few_then}
 use Rattle.bucket_chain.proofs.removes.relink.Given.{Over}
 use Rattle.bucket_chain.proofs.removes.relink.Goals as goal
@@ -27,14 +27,14 @@ stage_page-requires g c = omega (
   arith,
   own_same c.set_next.new.page.bytes,
   c.set_next.ensures.own,
-  (header_of _ _ _ _ _ c.in_ok-read_link.ensures.link).own,
+  (header_of _ _ _ _ _ _ c.in_ok-read_link.ensures.link).own,
   c.in_ok-read_link.ensures.known.0,
 )
 
 -- the page that is staged is page n
 number : (g : Over) (c : goal.After-stage_page g) → own_number c.set_next.new.page.bytes ≡ c.args.n
 number g c = own_same c.set_next.new.page.bytes ∙ c.set_next.ensures.own
-    ∙ (header_of _ _ _ _ _ c.in_ok-read_link.ensures.link).own
+    ∙ (header_of _ _ _ _ _ _ c.in_ok-read_link.ensures.link).own
 
 -- the page is not read
 pub returns-in_err-read_link : goal.returns-in_err-read_link
@@ -47,12 +47,12 @@ returns-in_err-read_link g c =
       stages = told.reads.stages_only;
       few = few_same _ _ 1 told.reads.same;
       cause = cause_first _ _ exit _ _ told.cause;
-      answer = walk_removes _ _ refl _ _ exit _ told.answer;
+      answer = walk_removes _ _ refl _ _ exit _ _ told.answer;
       may_end = λ end may. IfOk-from_err _ _ result.ensures.0;
-      says = λ honest was pairs link. IfOk-from_err _ _ result.ensures.0;
+      says = λ honest was records link. IfOk-from_err _ _ result.ensures.0;
       relinked = λ honest. IfOk-from_err _ _ result.ensures.0;
       others = λ honest m other. ap (λ (at : ℕ → Body). at m) (same_said st _ _ told.reads honest);
-      whole = λ honest was pairs some link damaged. told.whole honest was pairs some link
+      whole = λ honest was records some link damaged. told.whole honest was records some link
           (came _ _ exit Damaged damaged);
     }
 
@@ -64,7 +64,7 @@ returns g c =
     let told = c.stage_page.ensures in
     let bytes = c.set_next.new.page.bytes in
     let at' = body_at st c.stage_page.new.store in
-    let linked = link_linked _ bytes _ _ _ c.args.next read.link c.set_next.ensures.page
+    let linked = link_linked _ _ bytes _ _ _ c.args.next read.link c.set_next.ensures.page
     c.set_next.ensures.says in
     let own : ℕ = own_number bytes in
     let here : at' own ≡ body_of own bytes → at' c.args.n ≡ body_of c.args.n bytes =
@@ -74,30 +74,32 @@ returns g c =
           read.reads.stages_only told.stages;
       few = few_then _ _ _ 1 read.reads.same told.few;
       cause = cause_stage_last _ _ _ _ _ _ _ read.reads.stages_only.later told.faults told.answer;
-      answer = stage_removes_last _ _ _ _ (ap (λ (s : StoreState). s.usable) read.reads.same) _
-          (few_same _ _ 1 read.reads.same) told.answer;
+      answer = stage_removes_last _ _ _ _ _ (ap (λ (s : StoreState). s.usable) read.reads.same) _
+          (few_same _ _ 0 read.reads.same) told.answer;
       may_end = λ end may.
           let below = known_below (st.state c.args.store.now) end c.args.n may read.known.1 in
           if_ok c.stage_page.result (told.may_end end (omega (arith, number g c, below))
           (subst (λ (s : StoreState). MayEnd s end) (sym read.reads.same) may));
-      says = λ honest was pairs link.
-          let same : page_pairs c.read_link.new.page.bytes ≡ pairs =
-          (one_next _ _ _ _ _ _ pairs (read.says honest) link).1 in
+      says = λ honest was records link.
+          let same : page_records c.read_link.new.page.bytes ≡ records =
+          (one_next _ _ _ _ _ _ _ records (read.says honest) link).1 in
           on_ok c.stage_page.result (told.says (still_honest st _ _ read.reads honest)) (λ says.
-          subst (λ (ps : List Pair). SaysLink at' c.args.n c.args.kind c.args.next ps) same
-          (says_link at' bytes c.args.n c.args.kind c.args.next _ (here says) c.requires linked));
+          subst (λ (ps : List Record). SaysLink
+          (model_version c.args.version) at' c.args.n c.args.kind c.args.next ps) same
+          (says_link _ at' bytes c.args.n c.args.kind c.args.next _
+          (here says) c.requires linked));
       relinked = λ honest.
           on_ok c.stage_page.result (told.says (still_honest st _ _ read.reads honest))
           (λ says. record {
             old_next = c.in_ok-read_link.field-0;
-            pairs = page_pairs c.read_link.new.page.bytes;
+            records = page_records c.read_link.new.page.bytes;
             was = read.says honest;
-            says = says_link at' bytes c.args.n c.args.kind c.args.next _ (here says)
+            says = says_link _ at' bytes c.args.n c.args.kind c.args.next _ (here says)
                 c.requires linked;
           });
       others = λ honest m other.
           told.others (still_honest st _ _ read.reads honest) m (λ e. other (e ∙ number g c))
           ∙ ap (λ (at : ℕ → Body). at m) (same_said st _ _ read.reads honest);
-      whole = λ honest was pairs some link damaged.
+      whole = λ honest was records some link damaged.
           absurd (last_not_damaged _ _ _ _ told.answer damaged);
     }

@@ -5,17 +5,20 @@ use Rattle.page_model.specs.Reading.{body_of, bucket_of}
 use Rattle.page_model.specs.Chain.{Chain}
 use Rattle.page_io.specs.Page as model
 use Rattle.page_io.specs.Store.{StoreState}
+use Rattle.page_io.specs.Versions.{model_version}
+use Rattle.std.specs.List.{AllByRecursion}
+use Rattle.page_model.specs.Valid.{IsOf}
 use Rattle.page_io.specs.Views.{body_at, MayEnd}
 use Rattle.page_io.specs.declared.store.PageFault.TheVariants.{NoRoom, Damaged}
 use Rattle.page_io.proofs.Views.{stages_then, same_said, known_below}
 use Rattle.page_io.proofs.Exits.{exit_is, came, cause_first, cause_then, cause_stage_last, last_not_damaged, last_has_room}
-use Rattle.bucket_chain.specs.Giving.{AreGiven}
+use Rattle.bucket_chain.specs.Giving.{AreOverflowGiven}
 use Rattle.bucket_chain.specs.Changes.{IsCleared, store_in}
 use Rattle.page_io.proofs.OwnNumbers.{own_is, own_same}
 use Rattle.chain_walks.specs.Links.{IsLink}
 use Rattle.chain_walks.proofs.LinkBodies.{says_link}
 use Rattle.bucket_chain.proofs.StagedPages.{on_ok, if_ok, IsRewrittenAlone, rewritten_next}
-use Rattle.bucket_chain.proofs.PutLemmas.{placed_same}
+use Rattle.bucket_chain.proofs.Clearing.{placed_same}
 use Rattle.bucket_chain.proofs.Clearing.{was_read, emptied, first_is, head_link, head_some, cleared, each_chain}
 use Rattle.bucket_chain.proofs.Refusals.{walk_stores, store_stores, stage_stores_last, walk_has_room}
 use Rattle.bucket_chain.proofs.stores.clear.Given.{Over}
@@ -52,9 +55,9 @@ returns-in_err-first g c =
       may_end = λ may. IfOk-from_err _ _ result.ensures.0;
       exact = λ honest chain s placed. IfOk-from_err _ _ result.ensures.0;
       whole = λ honest chain s placed damaged.
-          each_chain _ _ _ chain s placed (λ leaf rest is placed'.
-          told.whole honest _ _ (head_some _ _ _ leaf rest s placed')
-          (head_link _ _ _ leaf rest s placed') (came _ _ exit Damaged damaged));
+          each_chain _ _ _ _ chain s placed (λ leaf rest is placed'.
+          told.whole honest _ _ (head_some _ _ _ _ leaf rest s placed')
+          (head_link _ _ _ _ leaf rest s placed') (came _ _ exit Damaged damaged));
     }
 
 -- an overflow page is not given
@@ -80,10 +83,10 @@ returns-in_err-give_overflow g c =
       whole = λ honest chain s placed damaged.
           let same = same_said g.S.PageStore _ _ c.in_ok-first.ensures.reads honest in
           let h1 = c.in_ok-first.ensures.reads.stages_only.honesty.1 honest in
-          each_chain _ _ _ chain s placed (λ leaf rest is placed'.
+          each_chain _ _ _ _ chain s placed (λ leaf rest is placed'.
           c.in_err-give_overflow.ensures.whole h1 _ leaf rest s
-          (placed_same _ _ c.args.space.now _ (leaf ∷ rest) s same placed')
-          (first_is _ c.args.space.now _ _ _ leaf rest s placed'
+          (placed_same _ _ _ c.args.space.now _ (leaf ∷ rest) s same placed')
+          (first_is _ _ c.args.space.now _ _ _ leaf rest s placed'
           (c.in_ok-first.ensures.says honest)) (came _ _ exit Damaged damaged));
     }
 
@@ -97,14 +100,20 @@ head_says g c honest =
     (c.in_ok-first.ensures.reads.stages_only.honesty.1 honest) in
     let own : model.own_number bytes ≡ c.args.head =
     own_same bytes ∙ sym (own_is bytes) ∙ ap (λ (b : Bucket). b.own) c.empty.ensures.says in
-    let link : IsLink bytes c.args.head 3 0 [] =
+    let link : IsLink (model_version c.args.version) bytes c.args.head 3 0 [] =
     record {
-      page = c.empty.ensures.page;
+      page = record {
+        page = c.empty.ensures.page;
+        of_version = subst (λ (b : Bucket). AllByRecursion (IsOf
+            (model_version c.args.version)) b.held)
+            (sym c.empty.ensures.says) tt;
+      };
       says = c.empty.ensures.says;
       filled = λ four.
           absurd (omega arith);
     } in
-    let body = (says_link (λ n. body_of n bytes) bytes c.args.head 3 0 [] refl
+    let body = (says_link (model_version c.args.version)
+    (λ n. body_of n bytes) bytes c.args.head 3 0 [] refl
     (inl refl) link).says in
     on_ok c.stage_page.result (c.stage_page.ensures.says h2) (λ says.
     rewritten_next g.S.PageStore c.give_overflow.new.store c.stage_page.new.store c.args.head bytes
@@ -112,13 +121,13 @@ head_says g c honest =
 
 -- the overflow pages were given
 are_given : (g : Over) (c : goal.After-stage_page g) → g.S.PageStore.honest c.args.store.now
-    → AreGiven (body_at g.S.PageStore c.args.store.now)
+    → AreOverflowGiven (body_at g.S.PageStore c.args.store.now)
     (body_at g.S.PageStore c.give_overflow.new.store) c.args.space.now c.give_overflow.new.space
-    c.in_ok-first.first 0
+    c.in_ok-first.first
 are_given g c honest =
     let reads = c.in_ok-first.ensures.reads in
-    subst (λ (at : ℕ → Body). AreGiven at (body_at g.S.PageStore c.give_overflow.new.store)
-    c.args.space.now c.give_overflow.new.space c.in_ok-first.first 0)
+    subst (λ (at : ℕ → Body). AreOverflowGiven at (body_at g.S.PageStore c.give_overflow.new.store)
+    c.args.space.now c.give_overflow.new.space c.in_ok-first.first)
     (same_said g.S.PageStore _ _ reads honest)
     (c.in_ok-give_overflow.ensures.given (reads.stages_only.honesty.1 honest))
 
@@ -135,14 +144,14 @@ returns g c =
       stages = stages_then st _ _ _ (g.met.S.PageStore.counts_now c.give_overflow.new.store)
           so_far told.stages;
       cause = cause_stage_last _ _ _ _ _ _ _ so_far.later told.faults told.answer;
-      answer = stage_stores_last _ _ _ _
+      answer = stage_stores_last _ 0 _ _ _
           (ap (λ (s : StoreState). s.usable) so_far.state) _ told.answer;
       room = λ none. last_has_room _ _ _ _ told.answer none;
       walked = λ honest. if_ok c.stage_page.result
-          (was_read _ _ _ _ _ _ _ (c.in_ok-first.ensures.says honest) (are_given g c honest));
+          (was_read _ _ _ _ _ _ _ _ (c.in_ok-first.ensures.says honest) (are_given g c honest));
       emptied = λ honest. on_ok c.stage_page.result (head_says g c honest) (λ said.
-          emptied _ (body_at st c.give_overflow.new.store) _ c.args.space.now _ c.args.head _ _
-          (c.in_ok-first.ensures.says honest) (are_given g c honest) given.end
+          emptied _ _ (body_at st c.give_overflow.new.store) _ c.args.space.now _ c.args.head _ _
+          (c.in_ok-first.ensures.says honest) (are_given g c honest)
           said.says said.others);
       end = given.end;
       ends = given.ends;
@@ -153,7 +162,8 @@ returns g c =
           (sym c.in_ok-first.ensures.reads.same) may in
           let given = c.in_ok-give_overflow.ensures.may_end read in
           let below = known_below _ _ _ may c.in_ok-first.ensures.known.1 in
-          if_ok c.stage_page.result (c.stage_page.ensures.may_end c.give_overflow.new.space.file_end
+          if_ok c.stage_page.result (c.stage_page.ensures.may_end
+          c.give_overflow.new.space.file_end
           (omega (
             arith,
             own_same c.empty.result.bytes,
@@ -164,10 +174,12 @@ returns g c =
           )) given);
       exact = λ honest chain s placed. on_ok c.stage_page.result (head_says g c honest) (λ said.
           let at' = body_at st c.stage_page.new.store in
-          each_chain _ _ _ chain s placed (λ leaf rest is placed'.
-          subst (λ (x : Chain). IsCleared (body_at st c.args.store.now) at'
+          each_chain _ _ _ _ chain s placed (λ leaf rest is placed'.
+          subst (λ (x : Chain). IsCleared (model_version c.args.version)
+          (body_at st c.args.store.now) at'
           c.give_overflow.new.space c.args.head (store_in (x, s) [])) (sym is)
-          (cleared _ (body_at st c.give_overflow.new.store) at' c.args.space.now _ _ _ _ leaf rest s
+          (cleared _ _ (body_at st c.give_overflow.new.store) at' c.args.space.now _ _ _ _ leaf
+          rest s
           placed' (c.in_ok-first.ensures.says honest) (are_given g c honest) said.says
           said.others)));
       whole = λ honest chain s placed damaged.

@@ -6,12 +6,12 @@ use Rattle.page_io.specs.Views.{body_at, MayEnd}
 use Rattle.page_io.specs.declared.store.PageFault.TheVariants.{NoRoom, Damaged}
 use Rattle.page_io.proofs.Views.{stages_then, same_said, known_below}
 use Rattle.page_io.proofs.Exits.{exit_is, came, cause_then, cause_ok}
-use Rattle.slot_page.specs.Contents.{page_pairs}
+use Rattle.slot_page.specs.Contents.{page_records}
 use Rattle.free_pages.specs.declared.free_state.FreeState.{FreeState}
 use Rattle.free_pages.specs.FreeList.{IsFreeList, HasEnds}
 use Rattle.chain_walks.proofs.ReadPages.{reads_none}
-use Rattle.bucket_chain.specs.Giving.{AreGiven}
-use Rattle.bucket_chain.proofs.Givings.{giving_starts, giving_goes_on, next_link, room_left, not_all}
+use Rattle.chain_walks.specs.Chains.{number_or, AreLinked}
+use Rattle.bucket_chain.proofs.OverflowGivings.{giving_starts, giving_goes_on, next_link, room_left, not_all}
 use Rattle.bucket_chain.proofs.Refusals.{walk_stores, give_stores, cause_give, walk_has_room, give_has_room, no_store_refusal, no_fault, long_walk_stores, long_walk_cause, long_walk_has_room}
 use Rattle.bucket_chain.proofs.stores.give_overflow.Goals as goal
 
@@ -49,10 +49,10 @@ loop-step-preserved g c =
           let h1 = c.loop-step.invariant.stages.honesty.1 honest in
           let h2 = c.in_ok-next.ensures.reads.stages_only.honesty.1 h1 in
           let same = same_said st _ _ c.in_ok-next.ensures.reads h1 in
-          giving_goes_on (body_at st c.args.store.now) (body_at st c.loop-step.store)
+          giving_goes_on _ (body_at st c.args.store.now) (body_at st c.loop-step.store)
           (body_at st c.give.new.store) c.args.space.now c.loop-step.space c.give.new.space
           c.args.first c.loop-step.at c.loop-step._step c.in_ok-next.next
-          (page_pairs c.read_link.new.page.bytes)
+          (page_records c.read_link.new.page.bytes)
           (c.loop-step.invariant.given honest) (c.in_ok-next.ensures.says h1)
           c.in_ok-next.ensures.known.0 (c.in_ok-give.ensures.free h2)
           (λ m other. c.in_ok-give.ensures.others h2 m other ∙ ap (λ (f : ℕ → Body). f m) same)
@@ -74,7 +74,7 @@ returns g c =
       may_end = so_far.may_end;
       given = λ honest. tt;
       whole = λ honest head leaf rest s placed from damaged.
-          not_all _ _ _ _ _ _ _ (so_far.given honest) head leaf rest s placed from
+          not_all _ _ _ _ _ _ _ _ (so_far.given honest) head leaf rest s placed from
           (omega (
             arith,
             c.loop-step-test.false,
@@ -97,9 +97,15 @@ returns-then-at-eq0 g c =
       end = so_far.end;
       may_end = so_far.may_end;
       given = λ honest.
-          subst (AreGiven (body_at st c.args.store.now) (body_at st c.loop-step.store)
-          c.args.space.now c.loop-step.space c.args.first)
-          c.if-at-eq0.true (so_far.given honest).are;
+          let given = so_far.given honest in record {
+            pages = given.pages;
+            linked = subst (AreLinked (body_at st c.args.store.now) given.pages) c.if-at-eq0.true
+                given.linked;
+            first_is = given.first_is
+                ∙ ap (λ (n : ℕ). number_or given.pages n) c.if-at-eq0.true;
+            numbered = given.numbered;
+            given = given.given;
+          };
       whole = λ honest head leaf rest s placed from damaged. absurd (no_fault _ _ damaged);
     }
 
@@ -126,7 +132,8 @@ returns-in_err-next g c =
       whole = λ honest head leaf rest s placed from damaged.
           c.in_err-next.ensures.whole (c.loop-step.invariant.stages.honesty.1 honest) _ _
           (omega (arith, c.if-at-eq0.false))
-          (next_link _ _ _ _ _ _ _ (c.loop-step.invariant.given honest) head leaf rest s placed from
+          (next_link _ _ _ _ _ _ _ _ (c.loop-step.invariant.given honest) head leaf rest s placed
+          from
           c.if-at-eq0.false) (came _ _ exit Damaged damaged);
     }
 
@@ -157,6 +164,7 @@ returns-in_err-give g c =
           (sym told.err) kept;
       given = λ honest. IfOk-from_err _ _ result.ensures.0;
       whole = λ honest head leaf rest s placed from damaged.
-          room_left _ _ _ _ _ _ _ (c.loop-step.invariant.given honest) head leaf rest s placed from
+          room_left _ _ _ _ _ _ _ _ (c.loop-step.invariant.given honest) head leaf rest s placed
+          from
           (c.in_err-give.ensures.answer.damaged.0 (came _ _ exit Damaged damaged));
     }

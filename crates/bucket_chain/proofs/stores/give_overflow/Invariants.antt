@@ -1,7 +1,7 @@
 use Rattle.std.proofs.Common.{◌≡◌}
 use Rattle.page_io.specs.Views.{body_at, StagesOnly, MayEnd}
 use Rattle.free_pages.specs.FreeList.{HasEnds}
-use Rattle.bucket_chain.proofs.Givings.{AreGivenIn}
+use Rattle.bucket_chain.proofs.OverflowGivings.{AreGivenIn}
 use Rattle.bucket_chain.proofs.stores.give_overflow.Given as goal
 
 abbrev pub invariant-loop-step : goal.invariant-loop-step

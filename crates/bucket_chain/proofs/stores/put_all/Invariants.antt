@@ -1,11 +1,12 @@
-use Rattle.std.proofs.Common.{◌≡◌, [], map, take}
+use Rattle.std.proofs.Common.{◌≡◌, List, [], map, take}
+use Rattle.page_io.specs.Versions.{model_version}
 use Rattle.page_io.specs.Views.{body_at, StagesOnly, MayEnd}
-use Rattle.page_model.specs.Chain.{pairs_in}
+use Rattle.page_model.specs.Chain.{Chain, Entry, entries_in, pages_in, record_of}
+use Rattle.page_model.specs.Space.{Space}
 use Rattle.free_pages.specs.FreeList.{HasEnds}
-use Rattle.chain_walks.specs.Links.{HaveDistinctKeys}
-use Rattle.chain_walks.specs.Pairs.{pair_of}
+use Rattle.chain_walks.specs.Pairs.{record_as}
 use Rattle.bucket_chain.specs.AnyFile.{AreAdded}
-use Rattle.bucket_chain.specs.Changes.{Placed, IsPlaced}
+use Rattle.bucket_chain.specs.Changes.{IsPlaced, AreHeld, HaveKeysOnce}
 use Rattle.bucket_chain.proofs.Storing.{HavePut}
 use Rattle.bucket_chain.proofs.stores.put_all.Given as goal
 
@@ -18,10 +19,14 @@ invariant-loop-pair g l = record {
   added : g.S.PageStore.honest l.fn.store
       → AreAdded (body_at g.S.PageStore l.fn.store) (body_at g.S.PageStore l.store)
       (MayEnd (g.S.PageStore.state l.fn.store) l.fn.space.file_end) l.fn.space l.space
-      (λ pair. l.fn.head) (take l.pair-index (map pair_of l.fn.pairs));
-  put : g.S.PageStore.honest l.fn.store → (placed : Placed)
-      → IsPlaced (body_at g.S.PageStore l.fn.store) l.fn.space l.fn.head placed.0 placed.1
-      → pairs_in placed.0 ≡ [] → HaveDistinctKeys (map pair_of l.fn.pairs)
-      → HavePut (body_at g.S.PageStore l.fn.store) (body_at g.S.PageStore l.store) l.fn.space
-      l.space l.fn.head placed (take l.pair-index (map pair_of l.fn.pairs));
+      (λ r. l.fn.head) (take l.pair-index (map record_as l.fn.pairs));
+  put : g.S.PageStore.honest l.fn.store → (chain : Chain) (s : Space)
+      → IsPlaced (model_version l.fn.version) (body_at g.S.PageStore l.fn.store) l.fn.space
+      l.fn.head chain s
+      → (entries : List Entry) → map record_of entries ≡ map record_as l.fn.pairs
+      → AreHeld (model_version l.fn.version) (body_at g.S.PageStore l.fn.store) (pages_in chain) s
+      entries
+      → entries_in chain ≡ [] → HaveKeysOnce entries
+      → HavePut (model_version l.fn.version) (body_at g.S.PageStore l.fn.store)
+      (body_at g.S.PageStore l.store) l.fn.space l.space l.fn.head (chain, s) entries l.pair-index;
 }

@@ -1,12 +1,12 @@
-use Rattle.std.proofs.Common.{[], map, refl, ap, arith}
+use Rattle.std.proofs.Common.{map, refl, ap, arith}
 use Rattle.std.proofs.lemmas.Result.{IfOk-from_err}
 use Rattle.page_io.specs.Store.{StoreState}
 use Rattle.page_io.specs.Views.{body_at}
 use Rattle.page_io.specs.declared.store.PageFault.TheVariants.{NoRoom, Damaged}
 use Rattle.page_io.proofs.Exits.{exit_is, came, cause_first, cause_last}
 use Rattle.page_io.proofs.Views.{stages_then}
-use Rattle.chain_walks.specs.Pairs.{pair_of}
-use Rattle.bucket_chain.specs.Changes.{store_in}
+use Rattle.chain_walks.specs.Pairs.{record_as}
+use Rattle.bucket_chain.proofs.HeldCleared.{held_cleared}
 use Rattle.bucket_chain.proofs.Added.{all_under}
 use Rattle.bucket_chain.proofs.Refusals.{store_stores, stores_last}
 use Rattle.bucket_chain.proofs.StagedPages.{on_ok, if_ok}
@@ -28,8 +28,8 @@ returns-in_err-clear g c =
       no_room = λ honest none. absurd (told.room (came _ _ exit NoRoom none));
       ends = told.ends;
       may_end = λ may. IfOk-from_err _ _ result.ensures.0;
-      exact = λ honest chain s placed distinct. IfOk-from_err _ _ result.ensures.0;
-      whole = λ honest chain s placed distinct damaged.
+      exact = λ honest chain s placed entries same held once. IfOk-from_err _ _ result.ensures.0;
+      whole = λ honest chain s placed entries same held once damaged.
           told.whole honest chain s placed (came _ _ exit Damaged damaged);
     }
 
@@ -63,16 +63,19 @@ returns g c =
             mid = body_at st c.clear.new.store;
             between = c.clear.new.space;
             first = cleared.emptied honest;
-            second = all_under _ _ cleared.may_end (λ pair. c.args.head) _ _ (map pair_of c.args.pairs.now) _ _ all;
+            second = all_under _ _ cleared.may_end (λ r. c.args.head) _ _
+                (map record_as c.args.pairs.now) _ _ all;
           });
-      exact = λ honest chain s placed distinct.
+      exact = λ honest chain s placed entries same held once.
           let empty = cleared.exact honest chain s placed in
           let h1 = cleared.stages.honesty.1 honest in
-          on_ok c.put_all.result (told.exact h1 (store_in (chain, s) []) empty.is_placed
-          empty.empty distinct)
+          on_ok c.put_all.result (told.exact h1 _ _ empty.is_placed
+          entries same (held_cleared _ _ _ _ _ _ _ chain s entries placed held empty) empty.empty
+          once)
           (λ all. all.becomes (body_at st c.args.store.now) empty.becomes);
-      whole = λ honest chain s placed distinct damaged.
+      whole = λ honest chain s placed entries same held once damaged.
           let empty = cleared.exact honest chain s placed in
-          told.whole (cleared.stages.honesty.1 honest) (store_in (chain, s) []) empty.is_placed
-          empty.empty distinct damaged;
+          told.whole (cleared.stages.honesty.1 honest) _ _ empty.is_placed
+          entries same (held_cleared _ _ _ _ _ _ _ chain s entries placed held empty) empty.empty
+          once damaged;
     }

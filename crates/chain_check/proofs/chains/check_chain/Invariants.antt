@@ -1,4 +1,5 @@
 use Rattle.std.proofs.Common.{◌≡◌, ◌⊎◌, ℕ, List, length}
+use Rattle.page_io.specs.Versions.{model_version}
 use Rattle.page_io.specs.Views.{body_at, ReadsOnly}
 use Rattle.page_marks.specs.Marks.{AreMarked}
 use Rattle.lin_addr.specs.Shapes.{shape_of}
@@ -12,6 +13,7 @@ invariant-loop-step g l = record {
   reads : ReadsOnly g.S.PageStore l.fn.store l.store;
   part : g.S.PageStore.honest l.fn.store → (seen : List ℕ)
       → AreMarked l.fn.marks (g.S.PageStore.state l.fn.store).end seen
-      → IsPart (body_at g.S.PageStore l.fn.store) (g.S.PageStore.state l.fn.store).end
+      → IsPart (model_version l.fn.version) (body_at g.S.PageStore l.fn.store)
+      (g.S.PageStore.state l.fn.store).end
       l.fn.head (shape_of l.shape) l.bucket l.at l.kind l._step l.pairs l.marks seen;
 }

@@ -1,6 +1,6 @@
 use Rattle.std.proofs.Common.{◌≡◌, ◌⊎◌}
 use Rattle.page_io.specs.Views.{body_at, ReadsOnly}
-use Rattle.slot_page.specs.Contents.{page_pairs}
+use Rattle.slot_page.specs.Contents.{page_records}
 use Rattle.chain_walks.proofs.Walks.{IsUnderWay}
 use Rattle.chain_check.proofs.KeyPasses.{IsBefore}
 use Rattle.chain_check.proofs.keys.check_keys.Given as goal
@@ -11,5 +11,5 @@ invariant-loop-step g l = record {
   reads : ReadsOnly g.S.PageStore l.fn.store l.store;
   walked : g.S.PageStore.honest l.fn.store
       → IsUnderWay (body_at g.S.PageStore l.fn.store) l.fn.head
-      (IsBefore l.fn.n (page_pairs l.page.bytes)) l.at l.kind l._step;
+      (IsBefore l.fn.n (page_records l.page.bytes)) l.at l.kind l._step;
 }

@@ -1,12 +1,13 @@
 use Rattle.std.proofs.Common.{◌≡◌, ◌<◌, length, sym, subst, arith, ℕ, List}
 use Rattle.std.specs.List.{HoldsAt}
-use Rattle.std.proofs.lemmas.List.{take_all}
+use Rattle.std.proofs.lemmas.List.{take_all, length-map}
 use Rattle.dbm_model.specs.Pairs.{Pair}
-use Rattle.slot_page.specs.Contents.{page_pairs}
+use Rattle.slot_page.specs.Contents.{page_records}
 use Rattle.slot_page.proofs.Pages.{counted}
+use Rattle.chain_walks.specs.Chains.{record_pair}
 use Rattle.chain_walks.specs.Bests.{pass_from, slot_of}
 use Rattle.chain_walks.specs.Leasts.{IsLeast}
-use Rattle.chain_walks.proofs.LeastKeys.{slot_passed, slot_left, slot_taken}
+use Rattle.chain_walks.proofs.LeastKeys.{page_pairs, slot_passed, slot_left, slot_taken}
 use Rattle.chain_walks.proofs.leasts.least_in.Goals as goal
 use Rattle.chain_walks.proofs.leasts.least_in.Goals.{then-is_behind+then-is_better, else-is_behind, else-is_behind-via-then-is_behind+else-is_better, else-is_behind-via-else-is_behind}
 
@@ -23,10 +24,11 @@ is_better-requires c = c.loop-slot.invariant.ranked
 pub loop-slot-preserved : goal.loop-slot-preserved
 loop-slot-preserved c =
     let bytes = c.args.page.now.bytes in
-    let within : c.loop-slot.slot < length (page_pairs bytes) =
+    let within : c.loop-slot.slot < length (page_records bytes) =
     omega (arith, (counted bytes c.requires).count_is, c.slots-slot-end.ensures) in
     let there = subst (λ (key : List ℕ).
-    HoldsAt (λ p. p ≡ (key, c.pair_at.result.1.now)) (page_pairs bytes) c.loop-slot.slot)
+    HoldsAt (λ r. (r.key ≡ key) × (r.bytes ≡ c.pair_at.result.1.now)) (page_records bytes)
+    c.loop-slot.slot)
     (sym c.of-key.ensures) c.pair_at.ensures in
     elim c.if-is_behind.branch [
       | then-is_behind+then-is_better w ↦
@@ -54,5 +56,10 @@ returns-clause-least c =
     subst (λ (pairs : List Pair). IsLeast pairs
     (pass_from c.args.last) bytes (slot_of c.loop-slot.best))
     (take_all c.loop-slot.slot (page_pairs bytes)
-    (omega (arith, (counted bytes c.requires).count_is, c.slots-slot-end.ensures)))
+    (omega (
+      arith,
+      (counted bytes c.requires).count_is,
+      c.slots-slot-end.ensures,
+      length-map (page_records bytes) record_pair,
+    )))
     c.loop-slot.invariant.least

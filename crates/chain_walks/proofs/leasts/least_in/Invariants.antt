@@ -1,7 +1,6 @@
 use Rattle.std.proofs.Common.{take}
-use Rattle.slot_page.specs.Contents.{page_pairs}
 use Rattle.chain_walks.specs.Bests.{pass_from}
-use Rattle.chain_walks.proofs.LeastKeys.{IsBest}
+use Rattle.chain_walks.proofs.LeastKeys.{IsBest, page_pairs}
 use Rattle.chain_walks.proofs.leasts.least_in.Given as goal
 
 abbrev pub invariant-loop-slot : goal.invariant-loop-slot

@@ -5,8 +5,8 @@ use Rattle.chain_walks.proofs.link.link_of.Goals as goal
 use Rattle.chain_walks.proofs.link.link_of.Goals.{then-own-n-via-then-own-n, then-own-n-via-else-own-n+then-kind, else-kind-eq-OVERFLOW-via-then-kind-eq-OVERFLOW+else-is_empty, else-kind-eq-OVERFLOW-via-else-kind-eq-OVERFLOW}
 
 pub returns-then-own-n-clause-every : goal.returns-then-own-n-clause-every
-returns-then-own-n-clause-every c next pairs link =
-    let header = header_of c.args.page.now.bytes c.args.n c.args.kind next pairs link in
+returns-then-own-n-clause-every c next records link =
+    let header = header_of _ c.args.page.now.bytes c.args.n c.args.kind next records link in
     elim c.then-own-n.branch [
       | then-own-n-via-then-own-n w ↦ absurd (w.if-own-n.true (c.own.ensures.field ∙ header.own))
       | then-own-n-via-else-own-n+then-kind w ↦
@@ -14,8 +14,8 @@ returns-then-own-n-clause-every c next pairs link =
     ]
 
 pub returns-then-is_empty-clause-every : goal.returns-then-is_empty-clause-every
-returns-then-is_empty-clause-every c next pairs link =
-    let some = (header_of c.args.page.now.bytes c.args.n c.args.kind next pairs link).filled
+returns-then-is_empty-clause-every c next records link =
+    let some = (header_of _ c.args.page.now.bytes c.args.n c.args.kind next records link).filled
     c.if-kind-eq-OVERFLOW.true in
     absurd (omega (arith, some))
 
@@ -27,12 +27,12 @@ returns-clause-sound c =
       | else-kind-eq-OVERFLOW-via-else-kind-eq-OVERFLOW w ↦ λ e.
           absurd (w.if-kind-eq-OVERFLOW.false e)
     ] in
-    link_is bytes c.args.n c.args.kind c.next.result
+    link_is _ bytes c.args.n c.args.kind c.next.result
     (c.is_bucket_page.ensures.exact.0 c.if-not-is_bucket_page.false)
     (sym c.own.ensures.field ∙ c.if-own-n.false) (sym c.kind.ensures ∙ c.if-kind.false)
     (sym c.next.ensures) some
 
 pub returns-clause-every : goal.returns-clause-every
-returns-clause-every c next pairs link =
-    ap Some (c.next.ensures ∙ (header_of c.args.page.now.bytes c.args.n c.args.kind next
-    pairs link).next_of)
+returns-clause-every c next records link =
+    ap Some (c.next.ensures ∙ (header_of _ c.args.page.now.bytes c.args.n c.args.kind next
+    records link).next_of)

@@ -2,23 +2,24 @@ use Rattle.std.proofs.Common.{◌≡◌, ◌≤◌, ℕ, Some, Err, sym, ap, ◌
 use Rattle.std.proofs.lemmas.Result.{err_from_is_err_and}
 use Rattle.page_model.specs.Reading.{body_of}
 use Rattle.page_io.specs.Store.{IsKnown}
+use Rattle.page_io.specs.Versions.{model_version}
 use Rattle.page_io.specs.Views.{body_at}
 use Rattle.page_io.specs.declared.store.PageFault.TheVariants.{Damaged}
 use Rattle.page_io.proofs.Views.{after_read, unknown_said}
-use Rattle.slot_page.specs.Contents.{page_pairs}
+use Rattle.slot_page.specs.Contents.{page_records}
 use Rattle.chain_walks.specs.Links.{SaysLink}
 use Rattle.chain_walks.proofs.LinkBodies.{says_link, is_link, not_other}
 use Rattle.chain_walks.proofs.ReadPages.{read_known, known_some, if_some}
 use Rattle.chain_walks.proofs.link.read_link.Goals as goal
 
 pub returns-in_err-read-clause-whole : goal.returns-in_err-read-clause-whole
-returns-in_err-read-clause-whole g c honest next pairs some link damaged =
+returns-in_err-read-clause-whole g c honest next records some link damaged =
     let p = err_from_is_err_and c.from_residual.result c.from_residual.ensures.1 in
     let fault : c.in_err-read.field-0.0 ≡ Damaged = let is = rw (p.1, p.2) at damaged in cc in
     let unknown = c.in_err-read.ensures.answer.damaged.0 (ap Err fault) in
     let other = unknown_said g.S.PageStore c.args.store.now c.args.n
     (g.met.S.PageStore.ends c.args.store.now) some unknown.1 in
-    not_other c.args.kind next pairs (sym link.says ∙ other)
+    not_other c.args.kind next records (sym link.says ∙ other)
 
 pub returns-clause-known : goal.returns-clause-known
 returns-clause-known g c =
@@ -34,19 +35,20 @@ returns-clause-says g c honest =
     let bytes = c.read.new.page.bytes in
     let at = body_at g.S.PageStore c.args.store.now in
     let read = ap (body_of c.args.n) (sym (c.in_ok-read.ensures.found honest)) in
-    if_some _ (λ (next : ℕ). SaysLink at c.args.n c.args.kind next (page_pairs bytes))
+    if_some _ (λ (next : ℕ). SaysLink (model_version c.args.version) at c.args.n c.args.kind next
+    (page_records bytes))
     c.link_of.result c.ok_or.result Damaged c.ok_or.ensures.value
     c.link_of.ensures.sound (λ next link.
-    says_link at bytes c.args.n c.args.kind next (page_pairs bytes) read c.requires link)
+    says_link _ at bytes c.args.n c.args.kind next (page_records bytes) read c.requires link)
 
 pub returns-clause-whole : goal.returns-clause-whole
-returns-clause-whole g c honest next pairs some link damaged =
+returns-clause-whole g c honest next records some link damaged =
     let bytes = c.read.new.page.bytes in
     let at = body_at g.S.PageStore c.args.store.now in
     let read = ap (body_of c.args.n) (sym (c.in_ok-read.ensures.found honest)) in
     let is : c.link_of.result ≡ Some next =
-    c.link_of.ensures.every next pairs
-    (is_link at bytes c.args.n c.args.kind next pairs read c.requires (omega arith)
+    c.link_of.ensures.every next records
+    (is_link _ at bytes c.args.n c.args.kind next records read c.requires (omega arith)
     (omega arith) link) in
     let value = c.ok_or.ensures.value in
     let same = rw is at value in

@@ -1,10 +1,10 @@
 use Rattle.std.proofs.Common.{◌++◌, ◌<◌, ◌≤◌, List, length, map, ap, ◌∙◌, arith, rules}
 use Rattle.std.proofs.lemmas.List.{take_all}
-use Rattle.dbm_model.specs.Pairs.{Pair}
-use Rattle.slot_page.specs.Contents.{page_pairs}
+use Rattle.page_model.specs.Pages.{Record}
+use Rattle.slot_page.specs.Contents.{page_records}
 use Rattle.slot_page.proofs.Pages.{counted}
-use Rattle.chain_walks.specs.Pairs.{pair_of}
-use Rattle.chain_walks.proofs.LoadedPairs.{copied_more}
+use Rattle.chain_walks.specs.Pairs.{record_as}
+use Rattle.chain_walks.proofs.LoadedRecords.{copied_more}
 use Rattle.chain_walks.proofs.loads.load_page.Goals as goal
 
 pub load_pair-requires-clause-within : goal.load_pair-requires-clause-within
@@ -13,25 +13,25 @@ load_pair-requires-clause-within c =
 
 pub loop-slot-preserved : goal.loop-slot-preserved
 loop-slot-preserved c =
-    let within : c.loop-slot.slot < length (page_pairs c.args.page.now.bytes) =
+    let within : c.loop-slot.slot < length (page_records c.args.page.now.bytes) =
     omega (
       arith,
       (counted c.args.page.now.bytes c.requires).count_is,
       c.slots-slot-end.ensures,
     ) in
-    copied_more (page_pairs c.args.page.now.bytes) _ _ _ c.loop-slot.slot c.in_ok-pair.pair
+    copied_more (page_records c.args.page.now.bytes) _ _ _ c.loop-slot.slot c.in_ok-pair.pair
     c.loop-slot.invariant within c.in_ok-pair.ensures c.in_ok-push.ensures.items
 
 pub returns : goal.returns
 returns c =
-    let all : length (page_pairs c.args.page.now.bytes) ≤ c.loop-slot.slot =
+    let all : length (page_records c.args.page.now.bytes) ≤ c.loop-slot.slot =
     omega (
       arith,
       (counted c.args.page.now.bytes c.requires).count_is,
       c.slots-slot-end.ensures,
     ) in
-    c.loop-slot.invariant ∙ ap (λ (xs : List Pair). map pair_of c.args.pairs.now.items ++ xs)
-    (take_all c.loop-slot.slot (page_pairs c.args.page.now.bytes) all)
+    c.loop-slot.invariant ∙ ap (λ (xs : List Record). map record_as c.args.pairs.now.items ++ xs)
+    (take_all c.loop-slot.slot (page_records c.args.page.now.bytes) all)
 
 pub loop-slot-init : goal.loop-slot-init
 loop-slot-init c = search rules

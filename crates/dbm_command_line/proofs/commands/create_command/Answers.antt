@@ -1,15 +1,19 @@
 use Rattle.std.proofs.Common.{[], ◌∷◌, codes}
 use Rattle.std.proofs.lemmas.Result.{IfOk-from_err}
-use Rattle.clap.specs.Words.{Rule}
+use Rattle.clap.specs.Words.{Rule, with_rule}
 use Rattle.dbm_command_line.specs.Building.{IsApp, IsRule, alone}
-use Rattle.dbm_command_line.specs.CommandLine.{create_line, file_line, number_rule}
-use Rattle.dbm_command_line.proofs.Building.{option_added, with_default}
+use Rattle.dbm_command_line.specs.CommandLine.{create_line, file_line, number_rule, version_rule}
+use Rattle.dbm_command_line.proofs.Building.{option_added, with_default, with_option}
 use Rattle.dbm_command_line.proofs.commands.create_command.Goals as goal
 
 pub returns-in_err-file_command : goal.returns-in_err-file_command
 returns-in_err-file_command c =
     IfOk-from_err c.from_residual.result (λ made. IsApp made (alone create_line))
     c.from_residual.ensures.0
+
+pub returns-in_err-arg : goal.returns-in_err-arg
+returns-in_err-arg c = IfOk-from_err c.from_residual-in_err-arg.result
+    (λ made. IsApp made (alone create_line)) c.from_residual-in_err-arg.ensures.0
 
 pub returns : goal.returns
 returns c =
@@ -21,6 +25,11 @@ returns c =
     with_default (codes "1000000") c.number-limit.result c.default_value.result
     (number_rule (codes "limit")) (rw c.default_value.ensures) (rw c.default_value.ensures)
     c.number-limit.ensures in
-    option_added c.in_ok-file_command.field-0 c.default_value.result c.arg.result
+    let with_limit : IsApp c.in_ok-arg.field-0
+    (with_rule (alone (file_line (codes "create"))) with_value) =
+    with_option c.in_ok-file_command.field-0 c.in_ok-arg.field-0 c.default_value.result
     (alone (file_line (codes "create"))) with_value c.in_ok-file_command.ensures
-    limit c.arg.ensures
+    limit c.in_ok-arg.ensures in
+    option_added c.in_ok-arg.field-0 c.version.result c.arg-2.result
+    (with_rule (alone (file_line (codes "create"))) with_value) version_rule with_limit
+    c.version.ensures c.arg-2.ensures

@@ -7,7 +7,7 @@ use Rattle.dbm_fault.specs.declared.engine_fault.EngineFault.TheVariants.{Write,
 use Rattle.dbm_lines.specs.Forms.{line_in}
 use Rattle.dbm_dump.proofs.Dumping.{reads_well, reads_told, reads_refused}
 use Rattle.page_io.proofs.Exits.{exit_is, if_exit, no_err}
-use Rattle.dbm_dump.proofs.Exits.{same_exit, of_gathering, wrote_well, write_or, write_among, no_call_refused, writes_pairs}
+use Rattle.dbm_dump.proofs.Exits.{same_exit, of_pairs, wrote_well, write_or, write_among, no_call_refused, writes_pairs}
 use Rattle.dbm_dump.proofs.dump.dump_in_form.Given.{Over}
 use Rattle.dbm_dump.proofs.dump.dump_in_form.Goals as goal
 
@@ -41,15 +41,12 @@ returns-in_err-pairs-clause-unwritten g c =
 pub returns-in_err-pairs-clause-only : goal.returns-in_err-pairs-clause-only
 returns-in_err-pairs-clause-only g c =
     if_exit _ _ c.in_err-pairs.field-0.0 (exit_is _ _ c.from_residual.ensures.1)
-    (of_gathering _ c.in_err-pairs.ensures.only)
+    (of_pairs _ c.in_err-pairs.ensures.only)
 
 -- ---- all is read
 
 only_write : (g : Over) (c : goal.After-drop-pairs g) → IfErr c.map_err.result (λ e. e ≡ Write)
 only_write g c = search rules
-
-pub write_pairs-requires : goal.write_pairs-requires
-write_pairs-requires g c = c.in_ok-pairs.ensures.short
 
 pub returns-clause-dump : goal.returns-clause-dump
 returns-clause-dump g c honest h at usable =

@@ -4,7 +4,7 @@ use Rattle.dbm_fault.specs.declared.fault.Fault.TheVariants.{Device, Broken}
 use Rattle.dbm_fault.specs.declared.engine_fault.EngineFault.TheVariants.{Write, Db}
 use Rattle.dbm_dump.proofs.Dumping.{reads_well, reads_told, reads_refused}
 use Rattle.page_io.proofs.Exits.{exit_is, if_exit, no_err}
-use Rattle.dbm_dump.proofs.Exits.{same_exit, of_gathering, wrote_well, write_or, write_among, no_call_refused, writes_keys}
+use Rattle.dbm_dump.proofs.Exits.{same_exit, of_keys, wrote_well, write_or, write_among_keys, no_call_refused, writes_keys}
 use Rattle.dbm_dump.proofs.dump.list_engine.Given.{Over}
 use Rattle.dbm_dump.proofs.dump.list_engine.Goals as goal
 
@@ -38,15 +38,12 @@ returns-in_err-keys-clause-unwritten g c =
 pub returns-in_err-keys-clause-only : goal.returns-in_err-keys-clause-only
 returns-in_err-keys-clause-only g c =
     if_exit _ _ c.in_err-keys.field-0.0 (exit_is _ _ c.from_residual.ensures.1)
-    (of_gathering _ c.in_err-keys.ensures.only)
+    (of_keys _ c.in_err-keys.ensures.only)
 
 -- ---- all is read
 
 only_write : (g : Over) (c : goal.After-drop-keys g) → IfErr c.map_err.result (λ e. e ≡ Write)
 only_write g c = search rules
-
-pub write_keys-requires : goal.write_keys-requires
-write_keys-requires g c = c.in_ok-keys.ensures.short
 
 pub returns-clause-whole : goal.returns-clause-whole
 returns-clause-whole g c honest h at usable = write_or _ _ (only_write g c)
@@ -74,4 +71,4 @@ pub returns-clause-unwritten : goal.returns-clause-unwritten
 returns-clause-unwritten g c = write_or _ _ (only_write g c)
 
 pub returns-clause-only : goal.returns-clause-only
-returns-clause-only g c = write_among _ (only_write g c)
+returns-clause-only g c = write_among_keys _ (only_write g c)

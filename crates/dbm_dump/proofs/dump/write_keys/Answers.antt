@@ -1,4 +1,4 @@
-use Rattle.std.proofs.Common.{◌≡◌, ◌∙◌, ℕ, List, [], ◌∷◌, map, flat_map, refl, sym, ap, subst, rules}
+use Rattle.std.proofs.Common.{◌≡◌, ◌∙◌, ℕ, List, [], ◌∷◌, map, flat_map, refl, ap, subst, rules}
 use Rattle.std.specs.Borrow.{Bor}
 use Rattle.std.specs.Global.{Vec}
 use Rattle.std.specs.Io.KnownBytes.{Appends}
@@ -7,8 +7,7 @@ use Rattle.std.proofs.lemmas.Map.Iter.{iter_end}
 use Rattle.std.proofs.lemmas.Result.{IfOk-from_err}
 use Rattle.dbm_text.specs.Lines.{with_line_feed}
 use Rattle.dbm_text.specs.Words.{word_of}
-use Rattle.dbm_dump.specs.Dumping.{IsShort}
-use Rattle.dbm_dump.proofs.Writing.{holds_of_next, one_more}
+use Rattle.dbm_dump.proofs.Writing.{one_more}
 use Rattle.dbm_dump.proofs.dump.write_keys.Goals as goal
 
 seen : (keys : List (Bor (Vec ℕ)))
@@ -27,14 +26,6 @@ returns g c =
 
 pub returns-in_err-write_bytes : goal.returns-in_err-write_bytes
 returns-in_err-write_bytes g c = IfOk-from_err _ _ c.from_residual.ensures.0
-
-pub write_bytes-requires : goal.write_bytes-requires
-write_bytes-requires g c =
-    subst IsShort (sym c.deref.ensures.value)
-    (holds_of_next (λ (key : Vec ℕ). IsShort key.items) deref c.args.keys.now.keys
-    c.loop-key.yielded c.into_iter-key-iterator.result c.loop-key.key-iterator c.next.new.self
-    c.next.result c.in-Some.key c.into_iter-key-iterator.ensures.into_iter_gives.0
-    c.loop-key.yielded_by c.in-Some.is c.next.ensures.steps c.requires)
 
 pub loop-key-preserved : goal.loop-key-preserved
 loop-key-preserved g c =

@@ -1,4 +1,4 @@
-use Rattle.std.proofs.Common.{◌≡◌, ◌∙◌, ℕ, List, [], ◌∷◌, map, flat_map, refl, sym, ap, ap₂, subst, rules}
+use Rattle.std.proofs.Common.{◌≡◌, ◌∙◌, ℕ, List, [], ◌∷◌, map, flat_map, refl, ap, ap₂, subst, rules}
 use Rattle.std.specs.Borrow.{Bor}
 use Rattle.std.specs.Global.{Vec}
 use Rattle.std.specs.Io.KnownBytes.{Appends}
@@ -7,9 +7,7 @@ use Rattle.std.proofs.lemmas.Map.Iter.{iter_end}
 use Rattle.std.proofs.lemmas.Result.{IfOk-from_err}
 use Rattle.dbm_lines.specs.Forms.{line_in}
 use Rattle.dbm_model.specs.Pairs.{Pair}
-use Rattle.dbm_dump.specs.Dumping.{IsShort, IsShortPair}
-use Rattle.dbm_dump.proofs.Writing.{holds_of_next, one_more}
-use Rattle.dbm_dump.proofs.dump.write_pairs.Given.{Over}
+use Rattle.dbm_dump.proofs.Writing.{one_more}
 use Rattle.dbm_dump.proofs.dump.write_pairs.Goals as goal
 
 abbrev bytes : Vec ℕ × Vec ℕ → Pair
@@ -32,22 +30,6 @@ returns g c =
 
 pub returns-in_err-write_pair : goal.returns-in_err-write_pair
 returns-in_err-write_pair g c = IfOk-from_err _ _ c.from_residual.ensures.0
-
-next_short : (g : Over) (c : goal.After-digits-1 g)
-    → IsShortPair (c.in-Some.key.now, c.in-Some.content.now)
-next_short g c =
-    holds_of_next IsShortPair deref_pair c.args.pairs.now.entries c.loop-key.yielded
-    c.into_iter-key-iterator.result c.loop-key.key-iterator c.next.new.self c.next.result
-    (c.in-Some.key, c.in-Some.content) c.into_iter-key-iterator.ensures.into_iter_gives.0
-    c.loop-key.yielded_by c.in-Some.is c.next.ensures.steps c.requires
-
-pub write_pair-requires-clause-key : goal.write_pair-requires-clause-key
-write_pair-requires-clause-key g c =
-    subst IsShort (sym c.deref.ensures.value) (next_short g c).0
-
-pub write_pair-requires-clause-content : goal.write_pair-requires-clause-content
-write_pair-requires-clause-content g c =
-    subst IsShort (sym c.deref-in-loop-key.ensures.value) (next_short g c).1
 
 pub loop-key-preserved : goal.loop-key-preserved
 loop-key-preserved g c =

@@ -1,13 +1,11 @@
-use Rattle.std.proofs.Common.{◌≡◌, ◌∙◌, ℕ, ◌≤◌, List, length, [], inl, Err, IfSome, map, refl, sym, ap, subst, arith, rules}
+use Rattle.std.proofs.Common.{◌≡◌, ◌∙◌, ℕ, ◌≤◌, List, length, [], inl, Err, map, refl, sym, ap, arith, rules}
 use Rattle.std.proofs.lemmas.Result.{IfOk-from_err}
 use Rattle.std.specs.BTreeSet.{insert_key}
 use Rattle.std.specs.Global.{Vec}
-use Rattle.std.specs.List.{All}
 use Rattle.std.specs.Cmp.Lexicographic.{slice_cmp}
 use Rattle.std.specs.Ordering.{nat_cmp}
 use Rattle.std.proofs.lemmas.List.{length-map}
-use Rattle.std.proofs.lemmas.Map.Views.{All-insert_key}
-use Rattle.dbm_dump.specs.Dumping.{IsShort}
+use Rattle.dbm_dump.specs.Dumping.{IsChance}
 use Rattle.dbm_fault.specs.declared.fault.Fault.TheVariants.{Broken}
 use Rattle.dbm_fault.specs.declared.engine_fault.EngineFault.TheVariants.{Memory, Db}
 use Rattle.dbm_dump.proofs.Dumping.{reads_on, reads_well, reads_gave, reads_damaged, reads_no_memory, reads_refused, chance_told}
@@ -21,9 +19,6 @@ use Rattle.dbm_dump.proofs.gather.gather_keys.Goals.{then-is_some-via-then-is_so
 none_yet : (keys : List (Vec ℕ)) (n : ℕ) → keys ≡ [] → length keys ≤ n
 none_yet keys n none = rw none (omega arith)
 
-none_short : (keys : List (Vec ℕ)) → keys ≡ [] → All (λ key. IsShort key.items) keys
-none_short keys none = search (rules, none)
-
 no_memory : (g : Over) (c : goal.After-drop-keys-in_err-map_err g)
     → c.from_residual-in_err-map_err.result ≡ Err Memory
 no_memory g c = search rules
@@ -35,8 +30,6 @@ loop-step-init g c =
       reads = reads_well g.S.PageStore _ _ c.copy_first.result c.in_ok-given.given c.in_ok-given.was
           c.copy_first.ensures.reads;
       many = none_yet _ _ none;
-      short = none_short _ none;
-      next = c.in_ok-given.ensures.short;
       passing = λ honest h at usable.
           pass_begins _ _ h c.copy_first.result c.in_ok-given.given _ usable
           (c.copy_first.ensures.step honest h at) c.in_ok-given.was
@@ -51,7 +44,7 @@ returns-in_err-given-2-clause-keys g c honest h at usable =
     let chance = pass_goes_on_not _ _ _ _ _ c.in-Some.key _ c.copy_next.result so_far c.in-Some.is
     (c.copy_next.ensures.step (c.loop-step.invariant.reads.goes.honesty.1 honest) so_far.now
     so_far.is_at) c.in_err-given-2.field-0.0 c.in_err-given-2.was in
-    chance_told _ _ _ told chance
+    chance_told IsChance _ _ _ told chance
 
 pub returns-in_err-given-2-clause-reads : goal.returns-in_err-given-2-clause-reads
 returns-in_err-given-2-clause-reads g c =
@@ -67,16 +60,11 @@ loop-step-preserved g c =
     ≡ insert_key (λ x y. slice_cmp nat_cmp x.items y.items) c.loop-step.keys.keys
     c.in-Some.key = search rules in
     let invariant = c.loop-step.invariant in
-    let short : IsShort c.in-Some.key.items =
-    subst (λ given. IfSome given (λ key. IsShort key.items)) c.in-Some.is invariant.next in
     record {
       reads = reads_well g.S.PageStore _ _ c.copy_next.result c.in_ok-given-2.given
           c.in_ok-given-2.was (reads_on g.S.PageStore _ _ _ _ invariant.reads _
           c.copy_next.ensures.reads);
       many = one_more_at_most c.loop-step.keys.keys _ c.in-Some.key _ put invariant.many;
-      short = rw put (All-insert_key _ c.in-Some.key (λ key. IsShort key.items)
-          c.loop-step.keys.keys invariant.short short);
-      next = c.in_ok-given-2.ensures.short;
       passing = λ honest h at usable.
           let so_far = invariant.passing honest h at usable in
           pass_goes_on _ _ _ _ _ c.in-Some.key _ c.copy_next.result so_far c.in-Some.is
@@ -89,15 +77,12 @@ loop-step-preserved g c =
 
 pub returns-in_err-given-clause-keys : goal.returns-in_err-given-clause-keys
 returns-in_err-given-clause-keys g c honest h at usable =
-    chance_told _ c.in_err-given.field-0.0 _ (exit_is _ _ c.from_residual.ensures.1)
+    chance_told IsChance _ c.in_err-given.field-0.0 _ (exit_is _ _ c.from_residual.ensures.1)
     (pass_begins_not _ _ h c.copy_first.result _ usable (c.copy_first.ensures.step honest h at)
     c.in_err-given.was)
 
 pub returns-in_err-given-clause-counted : goal.returns-in_err-given-clause-counted
 returns-in_err-given-clause-counted g c = IfOk-from_err _ _ c.from_residual.ensures.0
-
-pub returns-in_err-given-clause-short : goal.returns-in_err-given-clause-short
-returns-in_err-given-clause-short g c = IfOk-from_err _ _ c.from_residual.ensures.0
 
 pub returns-in_err-given-clause-reads : goal.returns-in_err-given-clause-reads
 returns-in_err-given-clause-reads g c =
@@ -145,9 +130,6 @@ pub returns-clause-counted : goal.returns-clause-counted
 returns-clause-counted g c = as_many _ _ _ _ c.loop-step.invariant.many
     c.loop-step.auto._step-end (omega (arith, c.len.ensures, c.if-len-most.false)) (search rules)
 
-pub returns-clause-short : goal.returns-clause-short
-returns-clause-short g c = c.loop-step.invariant.short
-
 pub returns-clause-reads : goal.returns-clause-reads
 returns-clause-reads g c = reads_gave g.S.PageStore _ _ c.loop-step.keys c.loop-step.invariant.reads
 
@@ -159,13 +141,10 @@ returns-clause-broken g c broken =
 
 pub returns-in_err-map_err-clause-keys : goal.returns-in_err-map_err-clause-keys
 returns-in_err-map_err-clause-keys g c honest h at usable =
-    chance_told _ Memory _ (no_memory g c) (inl refl)
+    chance_told IsChance _ Memory _ (no_memory g c) (inl refl)
 
 pub returns-in_err-map_err-clause-counted : goal.returns-in_err-map_err-clause-counted
 returns-in_err-map_err-clause-counted g c = IfOk-from_err _ _ c.from_residual-in_err-map_err.ensures.0
-
-pub returns-in_err-map_err-clause-short : goal.returns-in_err-map_err-clause-short
-returns-in_err-map_err-clause-short g c = IfOk-from_err _ _ c.from_residual-in_err-map_err.ensures.0
 
 pub returns-in_err-map_err-clause-reads : goal.returns-in_err-map_err-clause-reads
 returns-in_err-map_err-clause-reads g c =
@@ -183,9 +162,6 @@ returns-in_err-map_err-clause-only g c = if_exit _ _ Memory (no_memory g c) (inl
 
 pub returns-in_err-given-2-clause-counted : goal.returns-in_err-given-2-clause-counted
 returns-in_err-given-2-clause-counted g c = IfOk-from_err _ _ c.from_residual-in_err-given-2.ensures.0
-
-pub returns-in_err-given-2-clause-short : goal.returns-in_err-given-2-clause-short
-returns-in_err-given-2-clause-short g c = IfOk-from_err _ _ c.from_residual-in_err-given-2.ensures.0
 
 pub returns-in_err-given-2-clause-broken : goal.returns-in_err-given-2-clause-broken
 returns-in_err-given-2-clause-broken g c broken =

@@ -1,28 +1,22 @@
-use Rattle.std.proofs.Common.{◌≡◌, ◌∙◌, ℕ, ◌≤◌, List, length, ◌⊎◌, [], inl, inr, Ok, Err, IfSome, map, refl, sym, ap, subst, arith, rules}
+use Rattle.std.proofs.Common.{◌≡◌, ◌∙◌, ℕ, ◌≤◌, List, length, [], inl, Ok, Err, map, refl, sym, ap, arith, rules}
 use Rattle.std.proofs.lemmas.Result.{IfOk-from_err}
 use Rattle.std.specs.BTreeMap.{insert_entry}
-use Rattle.std.specs.List.{All}
 use Rattle.std.specs.Cmp.Lexicographic.{slice_cmp}
 use Rattle.std.specs.Ordering.{nat_cmp}
-use Rattle.dbm_dump.specs.Dumping.{IsShort, IsShortPair}
+use Rattle.dbm_dump.specs.Dumping.{IsPairChance}
 use Rattle.dbm_fault.specs.declared.fault.Fault.TheVariants.{Broken}
-use Rattle.dbm_fault.specs.declared.fault.Fault.TheVariants as fault
-use Rattle.dbm_fault.specs.declared.engine_fault.EngineFault.{EngineFault}
 use Rattle.dbm_fault.specs.declared.engine_fault.EngineFault.TheVariants.{Memory, Db}
 use Rattle.dbm_dump.proofs.Dumping.{reads_on, reads_well, reads_gave, reads_damaged, reads_no_memory, reads_refused, chance_told}
 use Rattle.page_io.proofs.Exits.{exit_is, if_exit, no_err}
-use Rattle.dbm_dump.proofs.Exits.{same_exit, of_beginning, as_many}
+use Rattle.dbm_dump.proofs.Exits.{same_exit, of_beginning, of_next, of_content, as_many}
 use Rattle.dbm_dump.proofs.DumpingKeys.{pass_begins, pass_begins_not, pass_too_short, pass_too_long, none_left, pass_goes_on_not}
-use Rattle.dbm_dump.proofs.DumpingPairs.{Owned, many_bytes, pair_put, one_pair_more, short_put, fetch_begins, fetch_goes_on, fetch_goes_on_not, none_missing, pass_stays, fetch_ends}
+use Rattle.dbm_dump.proofs.DumpingPairs.{Owned, many_bytes, pair_put, one_pair_more, fetch_begins, fetch_goes_on, fetch_goes_on_not, none_missing, pass_stays, fetch_ends}
 use Rattle.dbm_dump.proofs.pairs.gather_pairs.Given.{Over}
 use Rattle.dbm_dump.proofs.pairs.gather_pairs.Goals as goal
 use Rattle.dbm_dump.proofs.pairs.gather_pairs.Goals.{then-is_some-via-then-is_some, then-is_some-via-else-is_some+then-len-most}
 
 none_yet : (pairs : List Owned) (n : ℕ) → pairs ≡ [] → length pairs ≤ n
 none_yet pairs n none = rw none (omega arith)
-
-none_short : (pairs : List Owned) → pairs ≡ [] → All IsShortPair pairs
-none_short pairs none = search (rules, none)
 
 no_memory : (g : Over) (c : goal.After-drop-pairs-in_err-map_err g)
     → c.from_residual-in_err-map_err.result ≡ Err Memory
@@ -35,8 +29,6 @@ loop-step-init g c =
       reads = reads_well g.S.PageStore _ _ c.copy_first.result c.in_ok-given.given c.in_ok-given.was
           c.copy_first.ensures.reads;
       many = none_yet _ _ none;
-      short = none_short _ none;
-      next = c.in_ok-given.ensures.short;
       passing = λ honest h at usable.
           fetch_begins _ _ _ c.in_ok-given.given
           (ap (map (λ pair. (pair.0.items, pair.1.items))) none)
@@ -48,15 +40,12 @@ loop-step-init g c =
 
 pub returns-in_err-given-clause-pairs : goal.returns-in_err-given-clause-pairs
 returns-in_err-given-clause-pairs g c honest h at usable =
-    chance_told _ c.in_err-given.field-0.0 _ (exit_is _ _ c.from_residual.ensures.1)
-    (pass_begins_not _ _ h c.copy_first.result _ usable (c.copy_first.ensures.step honest h at)
-    c.in_err-given.was)
+    chance_told (IsPairChance h.state.map) _ c.in_err-given.field-0.0 _ (exit_is _ _ c.from_residual.ensures.1)
+    (inl (pass_begins_not _ _ h c.copy_first.result _ usable
+    (c.copy_first.ensures.step honest h at) c.in_err-given.was))
 
 pub returns-in_err-given-clause-counted : goal.returns-in_err-given-clause-counted
 returns-in_err-given-clause-counted g c = IfOk-from_err _ _ c.from_residual.ensures.0
-
-pub returns-in_err-given-clause-short : goal.returns-in_err-given-clause-short
-returns-in_err-given-clause-short g c = IfOk-from_err _ _ c.from_residual.ensures.0
 
 pub returns-in_err-given-clause-reads : goal.returns-in_err-given-clause-reads
 returns-in_err-given-clause-reads g c =
@@ -71,7 +60,7 @@ returns-in_err-given-clause-broken g c broken =
 pub returns-in_err-given-clause-only : goal.returns-in_err-given-clause-only
 returns-in_err-given-clause-only g c =
     if_exit _ _ c.in_err-given.field-0.0 (exit_is _ _ c.from_residual.ensures.1)
-    (of_beginning _ c.in_err-given.ensures.only)
+    (of_next _ (of_beginning _ c.in_err-given.ensures.only))
 
 -- ---- fewer keys than are counted
 
@@ -103,9 +92,6 @@ returns-clause-pairs g c honest h at usable =
 pub returns-clause-counted : goal.returns-clause-counted
 returns-clause-counted g c = as_many _ _ _ _ c.loop-step.invariant.many
     c.loop-step.auto._step-end (omega (arith, c.len.ensures, c.if-len-most.false)) (search rules)
-
-pub returns-clause-short : goal.returns-clause-short
-returns-clause-short g c = c.loop-step.invariant.short
 
 pub returns-clause-reads : goal.returns-clause-reads
 returns-clause-reads g c =
@@ -142,15 +128,6 @@ returns-then-is_some-clause-broken g c broken =
 
 -- ---- a content is not read
 
--- the call itself lacked no memory
-not_lacking : (e : EngineFault)
-    → (e ≡ Memory) ⊎ ((e ≡ Db Broken) ⊎ ((e ≡ Db fault.Device) ⊎ (e ≡ Db fault.Damaged)))
-    → e ≡ Db fault.Memory → ⊥
-not_lacking e (inl is) lacks = absurd (let x = sym is ∙ lacks in cc)
-not_lacking e (inr (inl is)) lacks = absurd (let x = sym is ∙ lacks in cc)
-not_lacking e (inr (inr (inl is))) lacks = absurd (let x = sym is ∙ lacks in cc)
-not_lacking e (inr (inr (inr is))) lacks = absurd (let x = sym is ∙ lacks in cc)
-
 pub returns-in_err-content-clause-pairs : goal.returns-in_err-content-clause-pairs
 returns-in_err-content-clause-pairs g c honest h at usable =
     let told = exit_is c.from_residual-in_err-content.result c.in_err-content.field-0.0
@@ -158,16 +135,12 @@ returns-in_err-content-clause-pairs g c honest h at usable =
     let so_far = c.loop-step.invariant.passing honest h at usable in
     let step = c.copy_content.ensures.step (c.loop-step.invariant.reads.goes.honesty.1 honest)
     so_far.pass.now so_far.pass.is_at in
-    chance_told _ _ _ told (fetch_goes_on_not _ c.copy_content.new.db _ _ c.loop-step.given _
+    chance_told (IsPairChance h.state.map) _ _ _ told (fetch_goes_on_not _ c.copy_content.new.db _ _ c.loop-step.given _
     c.in-Some.key c.deref.result.now c.copy_content.result so_far c.in-Some.is
-    c.deref.ensures.value step c.in_err-content.field-0.0 c.in_err-content.was
-    (not_lacking _ c.in_err-content.ensures.only))
+    c.deref.ensures.value step c.in_err-content.field-0.0 c.in_err-content.was)
 
 pub returns-in_err-content-clause-counted : goal.returns-in_err-content-clause-counted
 returns-in_err-content-clause-counted g c = IfOk-from_err _ _ c.from_residual-in_err-content.ensures.0
-
-pub returns-in_err-content-clause-short : goal.returns-in_err-content-clause-short
-returns-in_err-content-clause-short g c = IfOk-from_err _ _ c.from_residual-in_err-content.ensures.0
 
 pub returns-in_err-content-clause-reads : goal.returns-in_err-content-clause-reads
 returns-in_err-content-clause-reads g c =
@@ -183,7 +156,7 @@ pub returns-in_err-content-clause-only : goal.returns-in_err-content-clause-only
 returns-in_err-content-clause-only g c =
     if_exit _ _ c.in_err-content.field-0.0
     (exit_is _ _ c.from_residual-in_err-content.ensures.1)
-    (of_beginning _ c.in_err-content.ensures.only)
+    (of_content _ c.in_err-content.ensures.only)
 
 -- ---- a key has none
 
@@ -211,13 +184,10 @@ returns-in_default-2-clause-broken g c broken =
 
 pub returns-in_err-map_err-clause-pairs : goal.returns-in_err-map_err-clause-pairs
 returns-in_err-map_err-clause-pairs g c honest h at usable =
-    chance_told _ Memory _ (no_memory g c) (inl refl)
+    chance_told (IsPairChance h.state.map) _ Memory _ (no_memory g c) (inl (inl refl))
 
 pub returns-in_err-map_err-clause-counted : goal.returns-in_err-map_err-clause-counted
 returns-in_err-map_err-clause-counted g c = IfOk-from_err _ _ c.from_residual-in_err-map_err.ensures.0
-
-pub returns-in_err-map_err-clause-short : goal.returns-in_err-map_err-clause-short
-returns-in_err-map_err-clause-short g c = IfOk-from_err _ _ c.from_residual-in_err-map_err.ensures.0
 
 pub returns-in_err-map_err-clause-reads : goal.returns-in_err-map_err-clause-reads
 returns-in_err-map_err-clause-reads g c =
@@ -245,16 +215,13 @@ returns-in_err-given-2-clause-pairs g c honest h at usable =
     let stays = pass_stays _ c.copy_content.new.db _ _ c.loop-step.given _ c.in-Some.key
     c.deref.result.now c.copy_content.result so_far c.in-Some.is c.deref.ensures.value step
     c.in-Some-2.content (c.in_ok-content.was ∙ ap Ok c.in-Some-2.is) in
-    chance_told _ _ _ told (pass_goes_on_not _ _ _ _ c.loop-step.given c.in-Some.key _
+    chance_told (IsPairChance h.state.map) _ _ _ told (inl (pass_goes_on_not _ _ _ _ c.loop-step.given c.in-Some.key _
     c.copy_next.result stays c.in-Some.is
     (c.copy_next.ensures.step (c.copy_content.ensures.reads.goes.honesty.1 here) stays.now
-    stays.is_at) c.in_err-given-2.field-0.0 c.in_err-given-2.was)
+    stays.is_at) c.in_err-given-2.field-0.0 c.in_err-given-2.was))
 
 pub returns-in_err-given-2-clause-counted : goal.returns-in_err-given-2-clause-counted
 returns-in_err-given-2-clause-counted g c = IfOk-from_err _ _ c.from_residual-in_err-given-2.ensures.0
-
-pub returns-in_err-given-2-clause-short : goal.returns-in_err-given-2-clause-short
-returns-in_err-given-2-clause-short g c = IfOk-from_err _ _ c.from_residual-in_err-given-2.ensures.0
 
 pub returns-in_err-given-2-clause-reads : goal.returns-in_err-given-2-clause-reads
 returns-in_err-given-2-clause-reads g c =
@@ -272,7 +239,7 @@ returns-in_err-given-2-clause-broken g c broken =
 pub returns-in_err-given-2-clause-only : goal.returns-in_err-given-2-clause-only
 returns-in_err-given-2-clause-only g c =
     if_exit _ _ c.in_err-given-2.field-0.0 (exit_is _ _ c.from_residual-in_err-given-2.ensures.1)
-    c.in_err-given-2.ensures.only
+    (of_next _ c.in_err-given-2.ensures.only)
 
 -- ---- one more pair
 
@@ -282,11 +249,6 @@ loop-step-preserved g c =
     let inserted : c.insert.new.self.entries
     ≡ insert_entry (λ x y. slice_cmp nat_cmp x.items y.items) c.loop-step.pairs.entries
     c.in-Some.key c.in-Some-2.content = search rules in
-    let short_key : IsShort c.in-Some.key.items =
-    subst (λ given. IfSome given (λ key. IsShort key.items)) c.in-Some.is invariant.next in
-    let short_content : IsShort c.in-Some-2.content.items =
-    subst (λ r. IfSome r (λ content. IsShort content.items)) c.in-Some-2.is
-    c.in_ok-content.ensures.short in
     let fetched = reads_well g.S.PageStore _ _ c.copy_content.result c.in_ok-content.field-0
     c.in_ok-content.was (reads_on g.S.PageStore _ _ _ _ invariant.reads _
     c.copy_content.ensures.reads) in
@@ -296,9 +258,6 @@ loop-step-preserved g c =
           c.copy_next.ensures.reads);
       many = one_pair_more c.loop-step.pairs.entries _ c.in-Some.key c.in-Some-2.content _ inserted
           invariant.many;
-      short = short_put c.loop-step.pairs.entries _ c.in-Some.key c.in-Some-2.content inserted
-          invariant.short short_key short_content;
-      next = c.in_ok-given-2.ensures.short;
       passing = λ honest h at usable.
           let here = invariant.reads.goes.honesty.1 honest in
           let so_far = invariant.passing honest h at usable in

@@ -1,13 +1,18 @@
-use Rattle.std.proofs.Common.{◌≡◌, ◌+◌, ◌∷◌, [], ℕ, Bool, List, cond, take, sym, ◌∙◌, ap, subst, arith}
-use Rattle.std.proofs.lemmas.List.Elements.{All-nil, All-cons, All-append}
-use Rattle.std.proofs.lemmas.List.Sums.{sum_by-append}
-use Rattle.std.specs.Global.{Vec}
-use Rattle.std.specs.Prelude.{All}
-use Rattle.dbm_file.specs.Rooms.{AreRooms, IsRoom, rooms_in, gives_bytes}
+use Rattle.std.proofs.Common.{◌+◌, List, take, sym, ap, subst, arith}
+use Rattle.page_io.specs.Versions.{model_version}
+use Rattle.dbm_file.specs.Rooms.{AreRoomsFor, gives_content, gives_key}
 use Rattle.dbm_file.specs.declared.calls.Call.{Call}
-use Rattle.dbm_file.proofs.Runs.{all_taken, taken_next}
+use Rattle.dbm_file.specs.declared.running.Rooms.{Rooms}
+use Rattle.dbm_file.proofs.RoomCounts.{no_rooms, one_more, none_more, takes_key, takes_none}
+use Rattle.dbm_file.proofs.Runs.{all_taken}
+use Rattle.dbm_file.proofs.running.rooms_for.Goals.{in-Fetch+in_ok-room-in-Fetch+in_ok-push-in-Fetch, in_default, in-First+in_ok-with_capacity-in-First+in_ok-push-in-First}
 use Rattle.dbm_file.proofs.running.rooms_for.Goals as goal
-use Rattle.dbm_file.proofs.running.rooms_for.Goals.{then-gives_bytes+in_ok-with_capacity+in_ok-push, else-gives_bytes}
+
+pub loop-call-init : goal.loop-call-init
+loop-call-init c = record {
+  contents = no_rooms _ c.new.result c.new.ensures.items c.new.ensures.len;
+  keys = no_rooms _ c.new-2.result c.new-2.ensures.items c.new-2.ensures.len;
+}
 
 pub loop-call-preserved : goal.loop-call-preserved
 loop-call-preserved c =
@@ -15,35 +20,44 @@ loop-call-preserved c =
     let i = c.loop-call.call-index in
     let call = c.call-item.result in
     let so_far = c.loop-call.invariant in
-    let more : rooms_in (take (i + 1) calls) ≡ rooms_in (take i calls) + rooms_in (call ∷ []) =
-    ap rooms_in (taken_next calls i call c.loop-call-test.true c.call-item.is)
-    ∙ sum_by-append (λ (x : Call). cond (gives_bytes x) 1 0) (take i calls) (call ∷ []) in
-    elim c.if-gives_bytes.branch [
-      | then-gives_bytes+in_ok-with_capacity+in_ok-push w ↦
-          let one : rooms_in (call ∷ []) ≡ 1 = ap (λ (b : Bool). 0 + cond b 1 0)
-          (sym c.gives_bytes.ensures ∙ w.if-gives_bytes.true) in
-          let room = w.in_ok-with_capacity.field-0 in
-          let empty = w.in_ok-with_capacity.ensures in
-          subst (λ (rooms : Vec (Vec ℕ)). AreRooms (rooms_in (take (i + 1) calls)) rooms)
-          (sym w.rooms-is)
-          (record {
-            many = omega (arith, w.in_ok-push.ensures.len, so_far.many, more, one);
-            each = subst (λ (rooms : List (Vec ℕ)). All IsRoom rooms)
-                (sym w.in_ok-push.ensures.items)
-                (All-append IsRoom c.loop-call.rooms.items (room ∷ []) so_far.each
-                (All-cons IsRoom room [] (record { empty = empty.items; large = empty.capacity })
-                (All-nil IsRoom)));
-          })
-      | else-gives_bytes w ↦
-          let none : rooms_in (call ∷ []) ≡ 0 = ap (λ (b : Bool). 0 + cond b 1 0)
-          (sym c.gives_bytes.ensures ∙ w.if-gives_bytes.false) in
-          subst (λ (rooms : Vec (Vec ℕ)). AreRooms (rooms_in (take (i + 1) calls)) rooms)
-          (sym w.rooms-is)
-          (record { many = omega (arith, so_far.many, more, none); each = so_far.each })
+    let lt = c.loop-call-test.true in
+    let is = c.call-item.is in
+    elim c.match-call.branch [
+      | in-Fetch+in_ok-room-in-Fetch+in_ok-push-in-Fetch w ↦
+          let room = w.in_ok-room-in-Fetch.ensures in
+          subst (λ (rooms : Rooms). AreRoomsFor (model_version c.args.version) (take (i + 1) calls) rooms)
+          (sym w.rooms-is) record {
+            contents = one_more gives_content _ calls i call lt is _ w.push.new.self
+                w.in_ok-room-in-Fetch.room (ap gives_content w.in-Fetch.is) so_far.contents
+                (record {
+                  empty = room.items;
+                  large = omega (arith, room.capacity, w.longest_content.ensures);
+                }) w.in_ok-push-in-Fetch.ensures.len w.in_ok-push-in-Fetch.ensures.items;
+            keys = none_more gives_key _ calls i call lt is _ (ap gives_key w.in-Fetch.is) so_far.keys;
+          }
+      | in_default w ↦
+          let none = takes_none call w.in_default.not-Fetch w.in_default.not-First
+          w.in_default.not-Next in
+          subst (λ (rooms : Rooms). AreRoomsFor (model_version c.args.version) (take (i + 1) calls) rooms)
+          (sym w.rooms-is) record {
+            contents = none_more gives_content _ calls i call lt is _ none.0 so_far.contents;
+            keys = none_more gives_key _ calls i call lt is _ none.1 so_far.keys;
+          }
+      | in-First+in_ok-with_capacity-in-First+in_ok-push-in-First w ↦
+          let room = w.in_ok-with_capacity-in-First.ensures in
+          let key = takes_key call w.in-First.is in
+          subst (λ (rooms : Rooms). AreRoomsFor (model_version c.args.version) (take (i + 1) calls) rooms)
+          (sym w.rooms-is) record {
+            contents = none_more gives_content _ calls i call lt is _ key.0 so_far.contents;
+            keys = one_more gives_key _ calls i call lt is _ w.push-in-First.new.self
+                w.in_ok-with_capacity-in-First.field-0 key.1 so_far.keys
+                (record { empty = room.items; large = room.capacity })
+                w.in_ok-push-in-First.ensures.len w.in_ok-push-in-First.ensures.items;
+          }
     ]
 
 pub returns : goal.returns
 returns c =
-    subst (λ (calls : List Call). AreRooms (rooms_in calls) c.loop-call.rooms)
+    subst (λ (calls : List Call). AreRoomsFor (model_version c.args.version) calls c.loop-call.rooms)
     (all_taken c.args.calls.now c.loop-call.call-index (omega (arith, c.loop-call-test.false)))
     c.loop-call.invariant

@@ -1,22 +1,31 @@
-use Rattle.std.proofs.Common.{◌≡◌, ◌+◌, ◌++◌, ◌∷◌, [], sym, ◌∙◌, ap, subst, arith, List, map, drop, take, refl, cond, is_ok, vec_len, ℕ, rules}
+use Rattle.std.proofs.Common.{◌≡◌, ◌+◌, ◌<◌, ◌++◌, ◌∷◌, [], length, slice_index_or, sym, ◌∙◌, ap, subst, arith, List, map, drop, take, refl, cond, is_ok, vec_len, ℕ, rules}
 use Rattle.std.proofs.lemmas.List.{drop_more}
-use Rattle.std.proofs.lemmas.List.Sums.{sum_by-append}
+use Rattle.dbm_model.specs.Bounds.{Version, Bounds}
 use Rattle.dbm_model.specs.Calls as model
 use Rattle.dbm_file.specs.Calls.{call_of, reply_of}
 use Rattle.dbm_file.specs.Database.{store_of}
 use Rattle.dbm_file.specs.Replies.{AreAnswered}
-use Rattle.dbm_file.specs.Rooms.{rooms_in, gives_bytes}
+use Rattle.dbm_file.specs.Rooms.{AreRoomsFor}
 use Rattle.dbm_file.specs.Runs.{IsRun, IsMadeInSteps}
 use Rattle.dbm_file.specs.declared.calls.Call.{Call}
 use Rattle.dbm_file.specs.declared.calls.Reply.{Reply}
+use Rattle.dbm_file.specs.declared.running.Rooms.{Rooms}
 use Rattle.dbm_file.proofs.Answered.{answered_next}
 use Rattle.dbm_file.proofs.Runs.{all_taken, no_run, goes_on_with, step_more, taken_next, seen_next, seen_last, goes_nowhere, still_goes}
 use Rattle.dbm_file.proofs.running.run.Goals as goal
 
--- the rooms of a call and those of the later ones
-first_room : (call : Call) (calls : List Call)
-    → rooms_in (call ∷ calls) ≡ rooms_in (call ∷ []) + rooms_in calls
-first_room call calls = sum_by-append (λ (x : Call). cond (gives_bytes x) 1 0) (call ∷ []) calls
+-- rooms for the calls under a version that is the same
+rooms_under : (calls : List Call) (rooms : Rooms) {one other : Version} → one ≡ other
+    → AreRoomsFor one calls rooms → AreRoomsFor other calls rooms
+rooms_under calls rooms is = subst (λ (v : Version). AreRoomsFor v calls rooms) is
+
+-- the rooms of the calls from the next one on, as the database has its version
+rooms_now : (now first : Version) (rooms : Rooms) (calls : List Call) (i : ℕ) (call : Call)
+    → i < length calls → call ≡ slice_index_or calls i call → now ≡ first
+    → AreRoomsFor first (drop i calls) rooms → AreRoomsFor now (call ∷ drop (i + 1) calls) rooms
+rooms_now now first rooms calls i call lt is same there = rooms_under _ rooms (sym same)
+    (subst (λ (cs : List Call). AreRoomsFor first cs rooms)
+    (drop_more calls i call lt ∙ ap (λ (x : Call). x ∷ drop (i + 1) calls) (sym is)) there)
 
 pub loop-call-init : goal.loop-call-init
 loop-call-init g c = record {
@@ -35,7 +44,7 @@ loop-call-init g c = record {
   goes = goes_nowhere c.args.db.now;
   many = c.in-Ok.ensures.len;
   fits = c.in-Ok.ensures.capacity;
-  rooms = c.in-Ok-rooms_for.ensures;
+  rooms = rooms_under c.args.calls.now _ c.version.ensures c.in-Ok-rooms_for.ensures;
 }
 
 pub loop-call-preserved : goal.loop-call-preserved
@@ -44,9 +53,7 @@ loop-call-preserved g c =
     let i = c.loop-call.call-index in
     let call = c.call-item.result in
     let so_far = c.loop-call.invariant in
-    let left : drop i calls ≡ call ∷ drop (i + 1) calls =
-    drop_more calls i call c.loop-call-test.true
-    ∙ ap (λ (x : Call). x ∷ drop (i + 1) calls) (sym c.call-item.is) in
+    let same = ap (λ (b : Bounds). b.version) so_far.goes.bounds in
     let items : c.push.new.self.items ≡ c.loop-call.replies.items ++ c.answer-reply.result ∷ [] =
     c.push.ensures.items ∙ ap (λ r.
     cond (is_ok r) (c.loop-call.replies.items ++ c.answer-reply.result ∷ [])
@@ -87,17 +94,18 @@ loop-call-preserved g c =
           (λ r. cond (is_ok r) (vec_len c.loop-call.replies + 1) (vec_len c.loop-call.replies))
           c.unwrap.ensures ∙ ap (λ (n : ℕ). n + 1) so_far.many;
       fits = omega (arith, c.push.ensures.capacity);
-      rooms = record {
-        many = omega (
-          arith,
-          c.answer-reply.ensures.taken,
-          so_far.rooms.many,
-          ap rooms_in left,
-          first_room call (drop (i + 1) calls),
-        );
-        each = c.answer-reply.ensures.rooms.each;
-      };
+      rooms = rooms_under (drop (i + 1) calls) _ same
+          (c.answer-reply.ensures.rooms (drop (i + 1) calls) (rooms_now _ _ _ calls i call
+          c.loop-call-test.true c.call-item.is same so_far.rooms));
     }
+
+pub answer-reply-requires : goal.answer-reply-requires
+answer-reply-requires g c = (
+  drop (c.loop-call.call-index + 1) c.args.calls.now,
+  rooms_now _ _ _ c.args.calls.now c.loop-call.call-index c.call-item.result c.loop-call-test.true
+      c.call-item.is (ap (λ (b : Bounds). b.version) c.loop-call.invariant.goes.bounds)
+      c.loop-call.invariant.rooms,
+)
 
 pub returns-clause-run : goal.returns-clause-run
 returns-clause-run g c honest h at =

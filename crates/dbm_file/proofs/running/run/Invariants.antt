@@ -2,9 +2,9 @@ use Rattle.std.proofs.Common.{◌≡◌, ◌≤◌, length, map, take, drop, vec
 use Rattle.dbm_model.specs.States.{Handle}
 use Rattle.dbm_file.specs.Answers.{IsSameDatabase}
 use Rattle.dbm_file.specs.Calls.{call_of, reply_of}
-use Rattle.dbm_file.specs.Database.{store_of, IsAt}
+use Rattle.dbm_file.specs.Database.{store_of, meta_kept, IsAt}
 use Rattle.dbm_file.specs.Replies.{AreAnswered}
-use Rattle.dbm_file.specs.Rooms.{AreRooms, rooms_in}
+use Rattle.dbm_file.specs.Rooms.{AreRoomsFor}
 use Rattle.dbm_file.specs.Runs.{IsRun, IsMadeInSteps}
 use Rattle.dbm_file.proofs.running.run.Given as goal
 
@@ -20,5 +20,5 @@ invariant-loop-call g l = record {
   goes : IsSameDatabase l.initial.db l.db;
   many : vec_len l.replies ≡ l.call-index;
   fits : length l.calls ≤ vec_capacity l.replies;
-  rooms : AreRooms (rooms_in (drop l.call-index l.calls)) l.rooms;
+  rooms : AreRoomsFor (meta_kept l.initial.db).bounds.version (drop l.call-index l.calls) l.rooms;
 }

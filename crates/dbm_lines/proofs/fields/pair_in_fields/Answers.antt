@@ -1,14 +1,11 @@
-use Rattle.std.proofs.Common.{rules, sym, ◌∙◌}
+use Rattle.std.proofs.Common.{sym, ◌∙◌}
 use Rattle.dbm_lines.proofs.FieldBytes.{fields_of_more}
 use Rattle.dbm_lines.proofs.Requests.{from_some}
 use Rattle.dbm_lines.proofs.fields.pair_in_fields.Goals as goal
 
-pub returns-then-is_some : goal.returns-then-is_some
-returns-then-is_some c =
+pub returns-then-is_some-clause-pair : goal.returns-then-is_some-clause-pair
+returns-then-is_some-clause-pair c =
     let parts = from_some _ c.split_field-2.result c.split_field-2.ensures.split
     (sym c.is_some.ensures ∙ c.if-is_some.true) in
-    fields_of_more c.args.fields.now c.in_ok-first.first.now c.in_ok-first.second.now parts.0.0.now
-    parts.0.1.now c.in_ok-first.ensures.split parts.1
-
-pub returns-in-Some-Some : goal.returns-in-Some-Some
-returns-in-Some-Some c = search rules
+    fields_of_more c.args.fields.now c.in-Some.first.now c.in-Some.second.now parts.0.0.now
+    parts.0.1.now c.in-Some.ensures.split parts.1

@@ -1,14 +1,30 @@
-use Rattle.std.proofs.Common.{arith}
+use Rattle.std.proofs.Common.{◌≡◌, ◌-◌, ◌∙◌, ap, sym, min, length, vec_len, arith, rules}
 use Rattle.std.proofs.lemmas.List.{length-take}
-use Rattle.dbm_lines.proofs.Reading.{kept_all, ok_has}
+use Rattle.dbm_lines.proofs.Reading.{kept_all}
 use Rattle.dbm_lines.proofs.lines.keep.Goals as goal
 
-pub returns : goal.returns
-returns c =
+pub returns-clause-line : goal.returns-clause-line
+returns-clause-line c =
+    let line = c.args.line.now in
     let bytes = c.args.bytes.now in
-    let room = c.min-room.result in
-    kept_all 8193 c.args.line.now.items bytes c.try_extend_from_slice.new.self.items room
-    c.remaining_capacity.result c.remaining_capacity.ensures c.min-room.ensures
-    (ok_has _ _ (c.try_extend_from_slice.ensures.variant.1
-    (omega (arith, c.remaining_capacity.ensures, c.min-room.ensures, length-take room bytes)))
-    c.try_extend_from_slice.ensures.ok)
+    let same : length line.items ≡ vec_len line = search rules in
+    kept_all c.args.most line.items bytes _ c.min-taken.result
+    (omega (arith, same, c.requires.length))
+    (c.min-taken.ensures ∙ ap (λ n. min (length bytes) (c.args.most - n))
+    (c.len.ensures ∙ sym same))
+    (rw c.unwrap.ensures at c.extend_from_slice.ensures.items)
+
+pub returns-clause-length : goal.returns-clause-length
+returns-clause-length c =
+    let longer = rw c.unwrap.ensures at c.extend_from_slice.ensures.len in
+    omega (
+      arith,
+      longer,
+      length-take c.min-taken.result c.args.bytes.now,
+      c.min-taken.ensures,
+      c.len.ensures,
+      c.requires.length,
+    )
+
+pub returns-clause-room : goal.returns-clause-room
+returns-clause-room c = omega (arith, c.requires.room, c.extend_from_slice.ensures.capacity)

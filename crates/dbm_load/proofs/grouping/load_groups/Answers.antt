@@ -1,16 +1,22 @@
-use Rattle.std.proofs.Common.{◌≡◌, true, false, Err, IfSome, rules}
+use Rattle.std.proofs.Common.{◌≡◌, ◌∙◌, ◌+◌, true, false, Ok, Err, IfSome, refl, subst, rules}
 use Rattle.dbm_file.specs.Database.{store_of}
 use Rattle.dbm_file.proofs.Runs.{goes_nowhere, still_goes}
+use Rattle.dbm_lines.specs.Bounds.{longest_in}
+use Rattle.dbm_lines.specs.Forms.{pair_in}
 use Rattle.dbm_lines.specs.Reading.{ReadsLine, IsCounted}
+use Rattle.dbm_lines.specs.declared.forms.TextForm.{TextForm}
 use Rattle.dbm_lines.proofs.TextLines.{counted_first, counted_on}
+use Rattle.dbm_load.specs.Batches.{pairs_in, GroupsLine}
+use Rattle.dbm_load.proofs.Loading.{read_in}
 use Rattle.dbm_load.proofs.Gathering.{none_held, batch_refused, unread, ended, line_went, line_stopped}
 use Rattle.dbm_load.proofs.grouping.load_groups.Goals as goal
 
 pub loop-number-init : goal.loop-number-init
 loop-number-init g c = record {
-  gathering = none_held g.S.PageStore c.args.form c.args.db.now _ _
+  gathering = none_held g.S.PageStore c.args.buffers.now.form c.args.db.now _ _
       (λ x honest left. g.met.S.PageStore.only_now (store_of c.args.db.now) x honest left)
       c.requires.none;
+  form = refl;
   goes = goes_nowhere c.args.db.now;
   counted = counted_first (g.R.Read.remaining c.args.reader.now) 4294967295;
 }
@@ -31,31 +37,38 @@ returns-in_default-clause-loads g c =
 pub returns-then-not-is_line-clause-loads : goal.returns-then-not-is_line-clause-loads
 returns-then-not-is_line-clause-loads g c =
     let read : IfSome (g.R.Read.remaining c.loop-number.reader)
-    (λ text. ReadsLine 8193 text false c.read_line.new.line.items
-    (g.R.Read.remaining c.read_line.new.reader)) = search rules in
+    (λ text. ReadsLine (longest_in c.loop-number.buffers.form + 1) text false
+    c.read_line.new.buffers.line.items (g.R.Read.remaining c.read_line.new.reader)) =
+    search rules in
     let h = c.loop-number.invariant in
     ended g.S.PageStore _ _ _ _ _ _ _ _ h.goes c.store_batch-then-not-is_line.ensures.goes
-    h.gathering c.store_batch-then-not-is_line.result _ _ read
+    h.gathering c.store_batch-then-not-is_line.result _ _ (read_in _ _ _ _ _ _ h.form read)
     c.store_batch-then-not-is_line.ensures.stores
 
 pub returns-in_err-group_line-clause-loads : goal.returns-in_err-group_line-clause-loads
 returns-in_err-group_line-clause-loads g c =
     let read : IfSome (g.R.Read.remaining c.loop-number.reader)
-    (λ text. ReadsLine 8193 text true c.read_line.new.line.items
-    (g.R.Read.remaining c.read_line.new.reader)) = search rules in
+    (λ text. ReadsLine (longest_in c.loop-number.buffers.form + 1) text true
+    c.read_line.new.buffers.line.items (g.R.Read.remaining c.read_line.new.reader)) =
+    search rules in
     let same : c.from_residual-in_err-group_line.result ≡ Err c.in_err-group_line.field-0.0 =
     search rules in
     let h = c.loop-number.invariant in
     rw same (line_stopped g.S.PageStore _ _ _ _ _ _ _ _ _ _ h.goes c.group_line.ensures.goes
     (λ honest t x le left.
     g.met.S.PageStore.counts_now (store_of c.group_line.new.db) t x honest le left)
-    h.gathering read _ _ c.in_err-group_line.ensures.line)
+    h.gathering (read_in _ _ _ _ _ _ h.form read) _ _ (subst (λ (form : TextForm).
+    GroupsLine (Err c.in_err-group_line.field-0.0)
+    (pair_in form c.read_line.new.buffers.line.items) c.loop-number.number c.loop-number.db
+    c.group_line.new.db (pairs_in c.loop-number.batch) (pairs_in c.group_line.new.batch))
+    (c.read_line.ensures.form ∙ h.form) c.in_err-group_line.ensures.line))
 
 pub loop-number-preserved : goal.loop-number-preserved
 loop-number-preserved g c =
     let read : IfSome (g.R.Read.remaining c.loop-number.reader)
-    (λ text. ReadsLine 8193 text true c.read_line.new.line.items
-    (g.R.Read.remaining c.read_line.new.reader)) = search rules in
+    (λ text. ReadsLine (longest_in c.loop-number.buffers.form + 1) text true
+    c.read_line.new.buffers.line.items (g.R.Read.remaining c.read_line.new.reader)) =
+    search rules in
     let count : IsCounted (g.R.Read.remaining c.loop-number.reader) c.loop-number.left
     (g.R.Read.remaining c.read_line.new.reader) c.read_line.new.left = search rules in
     let h = c.loop-number.invariant in
@@ -63,7 +76,12 @@ loop-number-preserved g c =
       gathering = line_went g.S.PageStore _ _ _ _ _ _ _ _ _ _ h.goes c.group_line.ensures.goes
           (λ honest t x le left.
           g.met.S.PageStore.counts_now (store_of c.group_line.new.db) t x honest le left)
-          h.gathering read _ c.in_ok-group_line.ensures.line;
+          h.gathering (read_in _ _ _ _ _ _ h.form read) _ (subst (λ (form : TextForm).
+          GroupsLine (Ok tt) (pair_in form c.read_line.new.buffers.line.items)
+          c.loop-number.number c.loop-number.db c.group_line.new.db
+          (pairs_in c.loop-number.batch) (pairs_in c.group_line.new.batch))
+          (c.read_line.ensures.form ∙ h.form) c.in_ok-group_line.ensures.line);
+      form = c.group_line.ensures.form ∙ c.read_line.ensures.form ∙ h.form;
       goes = still_goes _ _ _ h.goes c.group_line.ensures.goes;
       counted = counted_on _ _ _ _ _ _ h.counted count;
     }

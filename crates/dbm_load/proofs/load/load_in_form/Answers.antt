@@ -1,6 +1,6 @@
 use Rattle.dbm_file.proofs.Runs.{no_run}
 use Rattle.dbm_lines.specs.Forms.{pair_in}
-use Rattle.dbm_load.proofs.Loading.{not_begun, dump_back}
+use Rattle.dbm_load.proofs.Loading.{not_begun, loads_in, dump_back}
 use Rattle.dbm_load.proofs.load.load_in_form.Goals as goal
 
 pub returns-in_default-clause-loads : goal.returns-in_default-clause-loads
@@ -10,9 +10,22 @@ returns-in_default-clause-loads g c =
     no_run g.S.PageStore db start at
     (λ x left. g.met.S.PageStore.only_now db.store x honest left))
 
+pub returns-then-group-lt2-clause-loads : goal.returns-then-group-lt2-clause-loads
+returns-then-group-lt2-clause-loads g c =
+    loads_in c.args.form c.in-Ok.buffers.form _ _ _ _ c.in-Ok.ensures.0 c.load_lines.ensures.loads
+
 pub returns-then-group-lt2-clause-dump : goal.returns-then-group-lt2-clause-dump
 returns-then-group-lt2-clause-dump g c =
-    dump_back c.args.form c.load_lines.result _ _ _ c.load_lines.ensures.loads
+    dump_back c.args.form c.load_lines.result _ _ _
+    (loads_in c.args.form c.in-Ok.buffers.form _ _ _ _ c.in-Ok.ensures.0
+    c.load_lines.ensures.loads)
+
+pub returns-clause-loads : goal.returns-clause-loads
+returns-clause-loads g c =
+    loads_in c.args.form c.in-Ok.buffers.form _ _ _ _ c.in-Ok.ensures.0 c.load_groups.ensures.loads
 
 pub returns-clause-dump : goal.returns-clause-dump
-returns-clause-dump g c = dump_back c.args.form c.load_groups.result _ _ _ c.load_groups.ensures.loads
+returns-clause-dump g c =
+    dump_back c.args.form c.load_groups.result _ _ _
+    (loads_in c.args.form c.in-Ok.buffers.form _ _ _ _ c.in-Ok.ensures.0
+    c.load_groups.ensures.loads)

@@ -1,19 +1,24 @@
-use Rattle.std.proofs.Common.{◌≡◌, true, Err, IfSome, rules}
+use Rattle.std.proofs.Common.{◌≡◌, ◌∙◌, ◌+◌, true, Ok, Err, IfSome, refl, subst, rules}
 use Rattle.dbm_file.specs.Database.{store_of}
 use Rattle.dbm_file.proofs.Runs.{no_run, goes_nowhere, still_goes}
+use Rattle.dbm_lines.specs.Bounds.{longest_in}
+use Rattle.dbm_lines.specs.Forms.{pair_in}
 use Rattle.dbm_lines.specs.Reading.{ReadsLine, IsCounted}
+use Rattle.dbm_lines.specs.declared.forms.TextForm.{TextForm}
 use Rattle.dbm_fault.specs.declared.engine_fault.EngineFault.TheVariants.{Read}
 use Rattle.dbm_lines.proofs.TextLines.{counted_first, counted_on}
-use Rattle.dbm_load.proofs.Loading.{at_start, go_on, stopped, not_read}
+use Rattle.dbm_load.specs.Loading.{LoadsLine}
+use Rattle.dbm_load.proofs.Loading.{at_start, read_in, go_on, stopped, not_read}
 use Rattle.dbm_load.proofs.load.load_lines.Goals as goal
 
 pub loop-number-init : goal.loop-number-init
 loop-number-init g c = record {
   loading =
       let db = c.args.db.now in
-      at_start c.args.form db _ (λ start honest at.
+      at_start c.args.buffers.now.form db _ (λ start honest at.
       no_run g.S.PageStore db start at
       (λ x left. g.met.S.PageStore.only_now db.store x honest left));
+  form = refl;
   goes = goes_nowhere c.args.db.now;
   counted = counted_first (g.R.Read.remaining c.args.reader.now) 4294967295;
 }
@@ -26,21 +31,26 @@ returns-in_err-map_err-clause-loads g c =
 pub returns-in_err-load_line-clause-loads : goal.returns-in_err-load_line-clause-loads
 returns-in_err-load_line-clause-loads g c =
     let read : IfSome (g.R.Read.remaining c.loop-number.reader)
-    (λ text. ReadsLine 8193 text true c.read_line-read.new.line.items
-    (g.R.Read.remaining c.read_line-read.new.reader)) = search rules in
+    (λ text. ReadsLine (longest_in c.loop-number.buffers.form + 1) text true
+    c.read_line-read.new.buffers.line.items (g.R.Read.remaining c.read_line-read.new.reader)) =
+    search rules in
     let same : c.from_residual-in_err-load_line.result ≡ Err c.in_err-load_line.field-0.0 =
     search rules in
     let h = c.loop-number.invariant in
     rw same (stopped g.S.PageStore _ _ _ _ _ _ _ _ _ h.goes.honesty.1
     c.load_line.ensures.goes (λ honest t x le left.
     g.met.S.PageStore.counts_now (store_of c.load_line.new.db) t x honest le left)
-    h.loading read _ c.in_err-load_line.ensures.line)
+    h.loading (read_in _ _ _ _ _ _ h.form read) _ (subst (λ (form : TextForm).
+    LoadsLine (Err c.in_err-load_line.field-0.0)
+    (pair_in form c.read_line-read.new.buffers.line.items) c.loop-number.number c.loop-number.db
+    c.load_line.new.db) (c.read_line-read.ensures.form ∙ h.form) c.in_err-load_line.ensures.line))
 
 pub loop-number-preserved : goal.loop-number-preserved
 loop-number-preserved g c =
     let read : IfSome (g.R.Read.remaining c.loop-number.reader)
-    (λ text. ReadsLine 8193 text true c.read_line-read.new.line.items
-    (g.R.Read.remaining c.read_line-read.new.reader)) = search rules in
+    (λ text. ReadsLine (longest_in c.loop-number.buffers.form + 1) text true
+    c.read_line-read.new.buffers.line.items (g.R.Read.remaining c.read_line-read.new.reader)) =
+    search rules in
     let count : IsCounted (g.R.Read.remaining c.loop-number.reader) c.loop-number.left
     (g.R.Read.remaining c.read_line-read.new.reader) c.read_line-read.new.left = search rules in
     let h = c.loop-number.invariant in
@@ -48,7 +58,11 @@ loop-number-preserved g c =
       loading = go_on g.S.PageStore _ _ _ _ _ _ _ _ _ h.goes.honesty.1
           c.load_line.ensures.goes (λ honest t x le left.
           g.met.S.PageStore.counts_now (store_of c.load_line.new.db) t x honest le left)
-          h.loading read c.in_ok-load_line.ensures.line;
+          h.loading (read_in _ _ _ _ _ _ h.form read) (subst (λ (form : TextForm).
+          LoadsLine (Ok tt) (pair_in form c.read_line-read.new.buffers.line.items)
+          c.loop-number.number c.loop-number.db c.load_line.new.db)
+          (c.read_line-read.ensures.form ∙ h.form) c.in_ok-load_line.ensures.line);
+      form = c.load_line.ensures.form ∙ c.read_line-read.ensures.form ∙ h.form;
       goes = still_goes _ _ _ h.goes c.load_line.ensures.goes;
       counted = counted_on _ _ _ _ _ _ h.counted count;
     }

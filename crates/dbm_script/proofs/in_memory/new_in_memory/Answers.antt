@@ -1,5 +1,5 @@
 use Rattle.std.proofs.Common.{inl, true, false, refl, sym, subst, arith}
-use Rattle.dbm_model.specs.Bounds.{in_v1}
+use Rattle.dbm_script.specs.Scripts.{asked}
 use Rattle.dbm_file.specs.Opened.{IsOpenedAt}
 use Rattle.file_opening.specs.Opening.{Allows}
 use Rattle.file_opening.specs.declared.open_how.Access.TheVariants.{ReadWrite}
@@ -16,11 +16,12 @@ returns-in-Ok-clause-fresh c =
       truncate =
           false;
       limit = c.args.limit;
+      version = c.args.version;
     } in
     let found = c.in-Ok.ensures.stands tt (λ reads. absurd (cc))
     (λ image is. inl (blank_there _ _ c.new.ensures.stable image is)) in
     let new = opened_new how _ _ found.0 found.1 (blank_there _ _ c.new.ensures.stable) found.3 in
-    subst (λ map. IsOpenedAt true c.in-Ok.db map (in_v1 c.args.limit)) new.0
+    subst (λ map. IsOpenedAt true c.in-Ok.db map (asked c.args.limit c.args.version)) new.0
     (subst (IsOpenedAt true c.in-Ok.db found.0) new.1 found.2)
 
 pub returns-clause-only : goal.returns-clause-only
@@ -32,13 +33,14 @@ returns-clause-only c allowed =
       truncate =
           false;
       limit = c.args.limit;
+      version = c.args.version;
     } in
     let blank = blank_there _ _ c.new.ensures.stable in
     let room = makes_room how c.in-Some.sectors _ refl refl c.in-Some.ensures c.new.ensures.size in
     only_device (c.in-Err.ensures.opens tt
     (large_enough _ (omega (
       arith,
-      enough c.args.limit c.in-Some.sectors c.in-Some.ensures,
+      enough (asked c.args.limit c.args.version) c.in-Some.sectors c.in-Some.ensures,
       c.new.ensures.size,
     ))) (λ image is. inl (blank image is))
     (λ image is. subst (Allows how _) (sym (blank image is)) room))

@@ -32,11 +32,13 @@ returns-in_err-map_err-clause-stands g c honest start at =
     let so_far = c.loop.invariant in
     let h = so_far.answered honest start at in
     let mid = so_far.goes.honesty.1 honest in
-    stand_with g.S.PageStore _ _ _ start _ _ _ _ _ c.next_line.new.buffers.line.items _
+    let form = c.loop.buffers.form in
+    stand_with g.S.PageStore form _ _ _ start _ _ _ _ _ c.next_line.new.buffers.line.items _
     c.answer_and_flush.ensures.goes
     (λ t x le left. g.met.S.PageStore.counts_now (store_of c.answer_and_flush.new.db) t x
     (c.answer_and_flush.ensures.goes.honesty.1 mid) le left) h
-    (was_read _ _ _ _ (sym c.is_line.ensures ∙ c.if-not-is_line.false) c.in_ok-read.ensures.line)
+    (was_read form _ _ _ _ (sym c.is_line.ensures ∙ c.if-not-is_line.false)
+    c.in_ok-read.ensures.line)
     (c.answer_and_flush.ensures.line mid h.answered.run.after h.answered.run.is_at)
 
 -- at the end of the text
@@ -46,8 +48,10 @@ returns-then-not-is_line-clause-stands g c honest start at =
 
 pub returns-then-not-is_line-clause-tells : goal.returns-then-not-is_line-clause-tells
 returns-then-not-is_line-clause-tells g c =
-    told_whole _ _ _ _ _ _ _ c.next_line.new.buffers.line.items c.loop.invariant.told
-    (was_none _ _ _ _ (sym c.is_line.ensures ∙ c.if-not-is_line.true) c.in_ok-read.ensures.line)
+    let form = c.loop.buffers.form in
+    told_whole form _ _ _ _ _ _ _ c.next_line.new.buffers.line.items c.loop.invariant.told
+    (was_none form _ _ _ _ (sym c.is_line.ensures ∙ c.if-not-is_line.true)
+    c.in_ok-read.ensures.line)
 
 -- after as many lines as can be counted
 pub returns-clause-stands : goal.returns-clause-stands
@@ -61,21 +65,22 @@ returns-clause-cut g c honest start at is =
 pub loop-preserved : goal.loop-preserved
 loop-preserved g c =
     let so_far = c.loop.invariant in
+    let form = c.loop.buffers.form in
     let wrote : is_ok c.answer_and_flush.result ≡ true = search rules in
     record {
       answered = λ honest start at.
           let h = so_far.answered honest start at in
           let mid = so_far.goes.honesty.1 honest in
-          go_on g.S.PageStore _ _ _ start _ _ _ _ _ _ c.next_line.new.buffers.line.items
+          go_on g.S.PageStore form _ _ _ start _ _ _ _ _ _ c.next_line.new.buffers.line.items
           c.answer_and_flush.ensures.goes
           (λ t x le left. g.met.S.PageStore.counts_now (store_of c.answer_and_flush.new.db) t x
           (c.answer_and_flush.ensures.goes.honesty.1 mid) le left) h
-          (was_read _ _ _ _ (sym c.is_line.ensures ∙ c.if-not-is_line.false)
+          (was_read form _ _ _ _ (sym c.is_line.ensures ∙ c.if-not-is_line.false)
           c.in_ok-read.ensures.line)
           (said c.answer_and_flush.result _ _ _ h.answered.run.after _ wrote
           (c.answer_and_flush.ensures.line mid h.answered.run.after h.answered.run.is_at));
-      told = tell_on _ _ _ _ _ _ _ _ _ c.next_line.new.buffers.line.items so_far.told
-          (was_read _ _ _ _ (sym c.is_line.ensures ∙ c.if-not-is_line.false)
+      told = tell_on form _ _ _ _ _ _ _ _ _ c.next_line.new.buffers.line.items so_far.told
+          (was_read form _ _ _ _ (sym c.is_line.ensures ∙ c.if-not-is_line.false)
           c.in_ok-read.ensures.line)
           (told_well c.answer_and_flush.result _ _ _ _ wrote c.answer_and_flush.ensures.tells);
       goes = still_goes _ _ _ so_far.goes c.answer_and_flush.ensures.goes;

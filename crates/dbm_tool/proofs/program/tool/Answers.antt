@@ -11,7 +11,8 @@ returns-in-Ok-show-clause-done g c zero =
       refl,
       λ taken. ⊎_elim (λ memory. absurd (cc))
           (λ other. ⊎_elim (λ no_plan. absurd (cc))
-          (λ no_source. ⊎_elim (λ of_script. absurd (cc)) (λ of_rehearsal. absurd (cc)) no_source)
+          (λ no_source. ⊎_elim (λ of_script. absurd (cc))
+          (λ later. ⊎_elim (λ of_rehearsal. absurd (cc)) (λ of_version. absurd (cc)) later) no_source)
           other)
           (c.in-Err-Help.ensures.passes taken),
     )
@@ -25,8 +26,9 @@ returns-in-Err-show-clause-fault g c two =
         refl,
         λ taken. ⊎_elim (λ memory. absurd (cc))
             (λ other. ⊎_elim (λ no_plan. absurd (cc))
-            (λ no_source. ⊎_elim (λ of_script. absurd (cc)) (λ of_rehearsal. absurd (cc)) no_source)
-            other)
+            (λ no_source. ⊎_elim (λ of_script. absurd (cc))
+            (λ later. ⊎_elim (λ of_rehearsal. absurd (cc)) (λ of_version. absurd (cc)) later)
+            no_source) other)
             (c.in-Err-Help.ensures.passes taken),
       ));
       lines = plain_lines _ _ _ _ Write c.ended-in-Err-show.ensures.line;
@@ -37,7 +39,8 @@ returns-in-Err-show-clause-output g c =
     let is = c.in-Err-Help.field-0-is in
     inr (inr (λ taken. ⊎_elim (λ memory. absurd (cc))
     (λ other. ⊎_elim (λ no_plan. absurd (cc))
-    (λ no_source. ⊎_elim (λ of_script. absurd (cc)) (λ of_rehearsal. absurd (cc)) no_source)
+    (λ no_source. ⊎_elim (λ of_script. absurd (cc))
+    (λ later. ⊎_elim (λ of_rehearsal. absurd (cc)) (λ of_version. absurd (cc)) later) no_source)
     other)
     (c.in-Err-Help.ensures.passes taken)))
 

@@ -13,9 +13,19 @@ returns-in_err-number-in-create c =
     (Asks c.args.name.now (rows_of (found_of c.args.options.now)))
     c.from_residual-in_err-number-in-create.ensures
 
-pub returns-in_ok-number-in-create : goal.returns-in_ok-number-in-create
-returns-in_ok-number-in-create c =
-    (c.in-create.is, c.in_ok-file.ensures, c.in_ok-number-in-create.ensures)
+pub returns-in_err-version-in-create : goal.returns-in_err-version-in-create
+returns-in_err-version-in-create c =
+    if_none c.from_residual-in_err-version-in-create.result
+    (Asks c.args.name.now (rows_of (found_of c.args.options.now)))
+    c.from_residual-in_err-version-in-create.ensures
+
+pub returns-in_ok-version-in-create : goal.returns-in_ok-version-in-create
+returns-in_ok-version-in-create c = (
+  c.in-create.is,
+  c.in_ok-file.ensures,
+  c.in_ok-number-in-create.ensures,
+  c.in_ok-version-in-create.ensures,
+)
 
 pub returns-in-list : goal.returns-in-list
 returns-in-list c = (c.in-list.is, c.in_ok-file.ensures)
@@ -54,6 +64,9 @@ returns-in-stat c = (c.in-stat.is, c.in_ok-file.ensures)
 
 pub returns-in-verify : goal.returns-in-verify
 returns-in-verify c = (c.in-verify.is, c.in_ok-file.ensures)
+
+pub returns-in-upgrade : goal.returns-in-upgrade
+returns-in-upgrade c = (c.in-upgrade.is, c.in_ok-file.ensures)
 
 pub returns-in_default : goal.returns-in_default
 returns-in_default c = c.of_key.ensures

@@ -1,7 +1,7 @@
 use Rattle.std.proofs.Common.{◌≡◌, ◌∙◌, IfErr, IfOk, inl, map, ap, refl, codes}
 use Rattle.clap.specs.Words.{app_of, takes}
-use Rattle.dbm_words.specs.Asking.{IsVerbose, Names, NamesNoSource}
-use Rattle.dbm_words.specs.declared.words.WordsError.TheVariants.{RehearsalSource, ScriptSource}
+use Rattle.dbm_words.specs.Asking.{IsVerbose, Names, NamesNoMemory, NamesNoSource}
+use Rattle.dbm_words.specs.declared.words.WordsError.TheVariants.{RehearsalSource, ScriptSource, VersionSource}
 use Rattle.dbm_words.proofs.Reading.{of_words, rows_of_words}
 use Rattle.dbm_words.proofs.Refusing.{choice_is_sorted, choice_passes, memory_is_other}
 use Rattle.dbm_words.proofs.words.read_words.Goals as goal
@@ -35,11 +35,21 @@ returns-in-Ok-try_get_matches_from-clause-device c =
     (λ e. e ≡ RehearsalSource → NamesNoSource (codes "rehearse") entered))
     c.in-Ok.ensures.shape c.in-Ok-try_get_matches_from.ensures.matches c.requested.ensures.device
 
+pub returns-in-Ok-try_get_matches_from-clause-version : goal.returns-in-Ok-try_get_matches_from-clause-version
+returns-in-Ok-try_get_matches_from-clause-version c =
+    of_words c.in-Ok-try_get_matches_from.matches (app_of c.in-Ok.command)
+    (map (λ word. word.now) c.args.words.now)
+    (λ entered. IfErr c.requested.result (λ e. e ≡ VersionSource → NamesNoMemory entered))
+    c.in-Ok.ensures.shape c.in-Ok-try_get_matches_from.ensures.matches c.requested.ensures.version
+
 pub returns-in-Err-clause-source : goal.returns-in-Err-clause-source
 returns-in-Err-clause-source c = λ is. absurd (c.sorted.ensures.source.0 is)
 
 pub returns-in-Err-clause-device : goal.returns-in-Err-clause-device
 returns-in-Err-clause-device c = λ is. absurd (c.sorted.ensures.source.1 is)
+
+pub returns-in-Err-clause-version : goal.returns-in-Err-clause-version
+returns-in-Err-clause-version c = λ is. absurd (c.sorted.ensures.source.2 is)
 
 pub returns-in-Err-clause-passes : goal.returns-in-Err-clause-passes
 returns-in-Err-clause-passes c = λ taken.
@@ -52,6 +62,9 @@ returns-in_default-clause-source c = λ is. absurd (memory_is_other.0 is)
 
 pub returns-in_default-clause-device : goal.returns-in_default-clause-device
 returns-in_default-clause-device c = λ is. absurd (memory_is_other.1 is)
+
+pub returns-in_default-clause-version : goal.returns-in_default-clause-version
+returns-in_default-clause-version c = λ is. absurd (memory_is_other.2 is)
 
 pub returns-in_default-clause-passes : goal.returns-in_default-clause-passes
 returns-in_default-clause-passes c = λ _. inl refl

@@ -1,6 +1,6 @@
 use Rattle.std.proofs.Common.{◌≡◌, ◌≤◌, ◌<◌, ◌∷◌, ◌++◌, ℕ, length, flat_map, Err, sym, ap, subst, arith}
 use Rattle.std.proofs.lemmas.Result.{err_from_is_err_and}
-use Rattle.page_model.specs.Chain.{numbers, pairs_in}
+use Rattle.page_model.specs.Chain.{pages_in, pairs_in}
 use Rattle.dbm_model.specs.Sizes.{home}
 use Rattle.page_io.specs.declared.store.PageFault.TheVariants.{Damaged}
 use Rattle.page_marks.specs.Marks.{AreMarked, MayBeSeen, IsEachSeen}
@@ -8,7 +8,7 @@ use Rattle.seg_table.specs.MetaPages.{model_meta}
 use Rattle.chain_walks.proofs.ReadPages.{still_honest}
 use Rattle.file_check.specs.FreeLists.{IsList, IsListMarked}
 use Rattle.file_check.proofs.GoodFiles.{may_tables, may_buckets, may_free, whole_count, right_count}
-use Rattle.file_check.proofs.OneRead.{from_mid, to_mid}
+use Rattle.chain_check.proofs.StoreReads.{from_mid, to_mid}
 use Rattle.file_check.proofs.file.check_pages.Goals as goal
 use Rattle.file_check.proofs.file.check_pages.Goals.{then-end-most_pages-via-then-end-most_pages, then-end-most_pages-via-else-end-most_pages+then-not-mark_tables}
 
@@ -61,7 +61,7 @@ returns-in_err-check_free-clause-whole g c honest is damaged =
     (c.mark_tables.ensures.marked c.if-not-mark_tables.false) in
     let counted = c.in_ok-pairs.ensures.exact honest seen is.chains tables is.buckets
     (may_buckets _ _ m is) in
-    let before = seen ++ flat_map numbers is.chains in
+    let before = seen ++ flat_map pages_in is.chains in
     let p = err_from_is_err_and c.from_residual-in_err-check_free.result
     c.from_residual-in_err-check_free.ensures.1 in
     let fault : c.in_err-check_free.field-0.0 ≡ Damaged = let e = rw (p.1, p.2) at damaged in cc in
@@ -81,7 +81,7 @@ returns-then-are_all_marked-clause-sound g c honest =
     let tables = subst (λ (end : ℕ). AreMarked c.mark_tables.new.marks end seen) c.end-end.ensures
     (c.mark_tables.ensures.marked c.if-not-mark_tables.false) in
     let buckets = c.in_ok-pairs.ensures.sound honest seen tables in
-    let before = seen ++ flat_map numbers buckets.chains in
+    let before = seen ++ flat_map pages_in buckets.chains in
     let list = from_mid g.S.PageStore _ _ reads honest (λ at end. IsListMarked at end m.free_head
     m.free_count c.check_free.new.marks before)
     (c.in_ok-check_free.ensures.sound (still_honest g.S.PageStore _ _ reads honest) before
@@ -115,7 +115,7 @@ returns-else-are_all_marked-clause-whole g c honest is damaged =
     (c.mark_tables.ensures.marked c.if-not-mark_tables.false) in
     let counted = c.in_ok-pairs.ensures.exact honest seen is.chains tables is.buckets
     (may_buckets _ _ m is) in
-    let before = seen ++ flat_map numbers is.chains in
+    let before = seen ++ flat_map pages_in is.chains in
     let all = before ++ is.free in
     let marked = from_mid g.S.PageStore _ _ reads honest
     (λ at end. AreMarked c.check_free.new.marks end all)

@@ -1,4 +1,4 @@
-use Rattle.std.proofs.Common.{◌≡◌, Err, refl, sym, ap, ◌∙◌, subst, arith, rules}
+use Rattle.std.proofs.Common.{◌≡◌, Err, sym, ap, ◌∙◌, subst, arith, rules}
 use Rattle.std.proofs.lemmas.Result.{err_from_is_err_and}
 use Rattle.page_model.specs.PageBodies.{meta_of}
 use Rattle.page_io.specs.Views.{body_at}
@@ -7,7 +7,7 @@ use Rattle.seg_table.specs.MetaPages.{model_meta}
 use Rattle.chain_walks.proofs.ReadPages.{still_honest}
 use Rattle.file_check.specs.Good.{IsFilled}
 use Rattle.file_check.proofs.GoodFiles.{good_file, meta_valid, meta_said, filled, one_meta}
-use Rattle.file_check.proofs.OneRead.{from_mid, to_mid}
+use Rattle.chain_check.proofs.StoreReads.{from_mid, to_mid}
 use Rattle.file_check.proofs.file.verify.Goals as goal
 
 pub returns-in_err-meta-clause-damaged : goal.returns-in_err-meta-clause-damaged
@@ -15,7 +15,7 @@ returns-in_err-meta-clause-damaged g c honest damaged pairs file =
     let p = err_from_is_err_and c.from_residual.result c.from_residual.ensures.1 in
     let fault : c.in_err-meta.field-0.0 ≡ Damaged = let e = rw (p.1, p.2) at damaged in cc in
     c.in_err-meta.ensures.whole honest (meta_of file.placement) (meta_valid _ _ pairs file)
-    file.good.first (meta_said _ _ pairs file) (ap Err fault)
+    (meta_said _ _ pairs file) (ap Err fault)
 
 pub returns-in_err-check_pages-clause-damaged : goal.returns-in_err-check_pages-clause-damaged
 returns-in_err-check_pages-clause-damaged g c honest damaged pairs file =
@@ -38,7 +38,7 @@ returns-clause-good g c honest =
     let reads = c.in_ok-meta.ensures.reads in
     let m = model_meta c.in_ok-meta.meta in
     good_file _ _ m (omega (arith, (g.met.S.PageStore.in_range old).0)) c.in_ok-meta.ensures.valid
-    refl (c.in_ok-meta.ensures.says honest)
+    (c.in_ok-meta.ensures.says honest)
     (from_mid g.S.PageStore _ _ reads honest (λ at end. IsFilled at end m)
     (c.in_ok-check_pages.ensures.sound (still_honest g.S.PageStore _ _ reads honest)))
 

@@ -1,6 +1,6 @@
 use Rattle.std.proofs.Common.{◌≡◌, ◌<◌, ◌*◌, ◌++◌, ℕ, List, length, flat_map, take, Err, refl, ap, ◌∙◌, arith}
 use Rattle.std.proofs.lemmas.Result.{err_from_is_err_and}
-use Rattle.page_model.specs.Chain.{numbers}
+use Rattle.page_model.specs.Chain.{pages_in}
 use Rattle.page_io.specs.Store.{StoreState}
 use Rattle.page_io.specs.declared.store.PageFault.TheVariants.{Damaged}
 use Rattle.page_io.proofs.Views.{reads_then}
@@ -10,7 +10,7 @@ use Rattle.chain_walks.proofs.ReadPages.{reads_none, still_honest}
 use Rattle.file_check.specs.Segments.{AreCounted, AreInSegment, IsSegmentChecked}
 use Rattle.file_check.proofs.BucketReads.{no_segments, more_segments, all_segments, part, in_segment, may_segment, segment_counted, buckets_counted}
 use Rattle.file_check.proofs.ChainReads.{none_counted}
-use Rattle.file_check.proofs.OneRead.{from_mid, to_mid}
+use Rattle.chain_check.proofs.StoreReads.{from_mid, to_mid}
 use Rattle.file_check.proofs.segments.check_buckets.Goals as goal
 
 pub check_segment-requires-clause-marks : goal.check_segment-requires-clause-marks
@@ -30,7 +30,7 @@ pub returns-in_err-more-clause-whole : goal.returns-in_err-more-clause-whole
 returns-in_err-more-clause-whole g c honest seen chains are is may damaged =
     let reads = c.loop-s.invariant.reads in
     let m = model_meta c.args.meta.now in
-    let before = seen ++ flat_map numbers (take (508 * c.loop-s.s) chains) in
+    let before = seen ++ flat_map pages_in (take (508 * c.loop-s.s) chains) in
     let here = part c.loop-s.s chains in
     let p = err_from_is_err_and c.from_residual.result c.from_residual.ensures.1 in
     let fault : c.in_err-more.field-0.0 ≡ Damaged = let e = rw (p.1, p.2) at damaged in cc in
@@ -42,7 +42,7 @@ returns-in_err-more-clause-whole g c honest seen chains are is may damaged =
     (to_mid g.S.PageStore _ _ reads honest (λ at end. AreInSegment at m c.loop-s.s here)
     (in_segment _ m c.loop-s.s chains is within))
     (to_mid g.S.PageStore _ _ reads honest
-    (λ at end. MayBeSeen end (before ++ flat_map numbers here))
+    (λ at end. MayBeSeen end (before ++ flat_map pages_in here))
     (may_segment _ seen chains c.loop-s.s may))
     (ap Err fault)
 
@@ -64,7 +64,7 @@ loop-s-preserved g c =
           c.loop-s.marks _ seen c.requires.meta within (c.loop-s.invariant.sound honest seen are)
           (check honest) c.saturating_add-pairs.ensures;
       exact = λ honest seen chains are is may.
-          let before = seen ++ flat_map numbers (take (508 * c.loop-s.s) chains) in
+          let before = seen ++ flat_map pages_in (take (508 * c.loop-s.s) chains) in
           let here = part c.loop-s.s chains in
           let counted = c.loop-s.invariant.exact honest seen chains are is may in
           segment_counted _ chains c.loop-s.s c.loop-s.pairs c.in_ok-more.more _ c.loop-s.marks _
@@ -77,7 +77,7 @@ loop-s-preserved g c =
           (to_mid g.S.PageStore _ _ reads honest (λ at end. AreInSegment at m c.loop-s.s here)
           (in_segment _ m c.loop-s.s chains is within))
           (to_mid g.S.PageStore _ _ reads honest
-          (λ at end. MayBeSeen end (before ++ flat_map numbers here))
+          (λ at end. MayBeSeen end (before ++ flat_map pages_in here))
           (may_segment _ seen chains c.loop-s.s may)))) c.saturating_add-pairs.ensures;
     }
 

@@ -1,5 +1,5 @@
 use Rattle.std.proofs.Common.{◌≡◌, ◌*◌, ◌++◌, ℕ, List, length, flat_map, take}
-use Rattle.page_model.specs.Chain.{Chain, numbers}
+use Rattle.page_model.specs.Chain.{Chain, pages_in}
 use Rattle.page_io.specs.Views.{body_at, ReadsOnly}
 use Rattle.page_marks.specs.Marks.{AreMarked, MayBeSeen}
 use Rattle.seg_table.specs.MetaPages.{model_meta}
@@ -18,7 +18,7 @@ invariant-loop-s g l = record {
   exact : g.S.PageStore.honest l.fn.store → (seen : List ℕ) (chains : List Chain)
       → AreMarked l.fn.marks (g.S.PageStore.state l.fn.store).end seen
       → AreBuckets (body_at g.S.PageStore l.fn.store) (model_meta l.fn.meta) chains
-      → MayBeSeen (g.S.PageStore.state l.fn.store).end (seen ++ flat_map numbers chains)
+      → MayBeSeen (g.S.PageStore.state l.fn.store).end (seen ++ flat_map pages_in chains)
       → AreCounted (take (508 * l.s) chains) (g.S.PageStore.state l.fn.store).end l.pairs l.marks
       seen;
 }

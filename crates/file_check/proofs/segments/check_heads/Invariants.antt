@@ -1,8 +1,8 @@
 use Rattle.std.proofs.Common.{◌≡◌, ◌++◌, ℕ, List, length, flat_map, take}
-use Rattle.lin_addr.specs.Shapes.{shape_of}
-use Rattle.page_model.specs.Chain.{Chain, numbers}
+use Rattle.page_model.specs.Chain.{Chain, pages_in}
 use Rattle.page_io.specs.Views.{body_at, ReadsOnly}
 use Rattle.page_marks.specs.Marks.{AreMarked, MayBeSeen}
+use Rattle.seg_table.specs.MetaPages.{model_meta}
 use Rattle.file_check.specs.Segments.{AreHeadChains, AreHeadsChecked, AreCounted}
 use Rattle.file_check.proofs.segments.check_heads.Given as goal
 
@@ -13,11 +13,11 @@ invariant-loop-i g l = record {
   sound : g.S.PageStore.honest l.fn.store → (seen : List ℕ)
       → AreMarked l.fn.marks (g.S.PageStore.state l.fn.store).end seen
       → AreHeadsChecked (body_at g.S.PageStore l.fn.store) (g.S.PageStore.state l.fn.store).end
-      (shape_of l.fn.shape) l.fn.page.bytes l.fn.first l.i l.pairs l.marks seen;
+      (model_meta l.fn.meta) l.fn.page.bytes l.fn.first l.i l.pairs l.marks seen;
   exact : g.S.PageStore.honest l.fn.store → (seen : List ℕ) (chains : List Chain)
       → AreMarked l.fn.marks (g.S.PageStore.state l.fn.store).end seen
-      → AreHeadChains (body_at g.S.PageStore l.fn.store) (shape_of l.fn.shape) l.fn.page.bytes
+      → AreHeadChains (body_at g.S.PageStore l.fn.store) (model_meta l.fn.meta) l.fn.page.bytes
       l.fn.first l.fn.count chains
-      → MayBeSeen (g.S.PageStore.state l.fn.store).end (seen ++ flat_map numbers chains)
+      → MayBeSeen (g.S.PageStore.state l.fn.store).end (seen ++ flat_map pages_in chains)
       → AreCounted (take l.i chains) (g.S.PageStore.state l.fn.store).end l.pairs l.marks seen;
 }

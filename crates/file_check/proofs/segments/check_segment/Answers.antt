@@ -1,8 +1,7 @@
 use Rattle.std.proofs.Common.{◌≡◌, ◌*◌, ◌<◌, ◌++◌, ℕ, List, flat_map, get_or, Err, refl, sym, ap, ◌∙◌, subst, arith}
 use Rattle.std.proofs.lemmas.Result.{err_from_is_err_and}
 use Rattle.std.specs.Prelude.{IfOk}
-use Rattle.lin_addr.specs.Shapes.{shape_of}
-use Rattle.page_model.specs.Chain.{numbers}
+use Rattle.page_model.specs.Chain.{pages_in}
 use Rattle.page_model.specs.Reading.{body_of}
 use Rattle.page_io.specs.Views.{body_at}
 use Rattle.page_io.specs.declared.store.PageFault.TheVariants.{Damaged}
@@ -12,7 +11,7 @@ use Rattle.seg_table.specs.MetaPages.{model_meta}
 use Rattle.seg_table.specs.Segments.{heads_in}
 use Rattle.chain_walks.proofs.ReadPages.{still_honest}
 use Rattle.file_check.specs.Segments.{AreCounted, AreHeadChains, AreHeadsChecked}
-use Rattle.file_check.proofs.OneRead.{from_mid, to_mid}
+use Rattle.chain_check.proofs.StoreReads.{from_mid, to_mid}
 use Rattle.file_check.proofs.SegmentReads.{if_ok, segment_checked, is_segment, head_chains}
 use Rattle.file_check.proofs.segments.check_segment.Goals as goal
 
@@ -81,13 +80,13 @@ returns-clause-sound g c honest seen are =
     (to_mid g.S.PageStore old c.read.new.self first-read honest
     (λ at end. AreMarked c.args.marks.now end seen) are) in
     if_ok (λ pairs. AreHeadsChecked (body_at g.S.PageStore c.read.new.self)
-    (g.S.PageStore.state c.read.new.self).end (shape_of c.args.meta.now.shape) bytes
+    (g.S.PageStore.state c.read.new.self).end m bytes
     (508 * c.args.s) c.min-count.result pairs marks seen) _ c.check_heads.result checked
     (λ pairs is. segment_checked (body_at g.S.PageStore old)
     (g.S.PageStore.state old).end m c.args.s
     (508 * c.args.s) c.min-count.result pairs bytes marks seen
     (from_mid g.S.PageStore old c.read.new.self first-read honest (λ at end. AreHeadsChecked at end
-    (shape_of c.args.meta.now.shape) bytes (508 * c.args.s) c.min-count.result pairs marks seen) is)
+    m bytes (508 * c.args.s) c.min-count.result pairs marks seen) is)
     read segment used.1 many refl)
 
 pub returns-clause-exact : goal.returns-clause-exact
@@ -113,11 +112,11 @@ returns-clause-exact g c honest seen chains are is may =
     (to_mid g.S.PageStore old mid first-read honest
     (λ at end. AreMarked c.args.marks.now end seen) are)
     (to_mid g.S.PageStore old mid first-read honest (λ at end. AreHeadChains at
-    (shape_of c.args.meta.now.shape) bytes (508 * c.args.s) c.min-count.result chains)
+    m bytes (508 * c.args.s) c.min-count.result chains)
     (head_chains (body_at g.S.PageStore old) m c.args.s (508 * c.args.s) c.min-count.result bytes
     chains is c.read.new.page.whole read many refl))
     (to_mid g.S.PageStore old mid first-read honest
-    (λ at end. MayBeSeen end (seen ++ flat_map numbers chains)) may))
+    (λ at end. MayBeSeen end (seen ++ flat_map pages_in chains)) may))
 
 pub returns-clause-whole : goal.returns-clause-whole
 returns-clause-whole g c honest seen chains are is may damaged =
@@ -140,11 +139,11 @@ returns-clause-whole g c honest seen chains are is may damaged =
     (to_mid g.S.PageStore old mid first-read honest
     (λ at end. AreMarked c.args.marks.now end seen) are)
     (to_mid g.S.PageStore old mid first-read honest (λ at end. AreHeadChains at
-    (shape_of c.args.meta.now.shape) bytes (508 * c.args.s) c.min-count.result chains)
+    m bytes (508 * c.args.s) c.min-count.result chains)
     (head_chains (body_at g.S.PageStore old) m c.args.s (508 * c.args.s) c.min-count.result bytes
     chains is c.read.new.page.whole read many refl))
     (to_mid g.S.PageStore old mid first-read honest
-    (λ at end. MayBeSeen end (seen ++ flat_map numbers chains)) may) damaged
+    (λ at end. MayBeSeen end (seen ++ flat_map pages_in chains)) may) damaged
 
 pub returns-then-not-segment_ok-clause-reads : goal.returns-then-not-segment_ok-clause-reads
 returns-then-not-segment_ok-clause-reads g c =

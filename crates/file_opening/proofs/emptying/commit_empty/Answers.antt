@@ -1,6 +1,5 @@
 use Rattle.std.proofs.Common.{◌≡◌, ◌⊎◌, ⊎_elim, ◌+◌, ◌≤◌, true, IfOk, IfErr, OnErr, ◌∙◌, ap}
 use Rattle.std.specs.Prelude.{IsErrOf}
-use Rattle.dbm_model.specs.Bounds.{in_v1}
 use Rattle.sect_dev.specs.Device.{LeavesOnly}
 use Rattle.page_io.specs.Store.{StoreState, bytes_of, file_of}
 use Rattle.page_io.specs.declared.store.PageFault.TheVariants.{NoRoom}
@@ -73,7 +72,7 @@ returns-clause-any_moment g c honest =
     let h1 = staged.stages.honesty.1 honest in
     ⊎_elim
     (λ none. left_by_refusal g.S.PageStore c.args.store.now c.finish.new.store c.finish.result _
-    (in_v1 c.args.meta.now.limit) none c.requires.usable (is_forgotten g c)
+    (model_meta c.args.meta.now).bounds none c.requires.usable (is_forgotten g c)
     (since_unchanged g c honest))
     (λ due. leaves_old_or_empty g.S.PageStore c.args.store.now c.stage_empty-staged.new.store
     c.finish.new.store (model_meta c.args.meta.now) (bytes_of c.pages_of_empty.result)

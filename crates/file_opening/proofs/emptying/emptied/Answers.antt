@@ -1,7 +1,6 @@
 use Rattle.std.proofs.Common.{◌≡◌, ◌⊎◌, ⊎_elim, inl, inr, ◌/◌, ◌≤◌, Option, Some, None, Err, sym, ap, ◌∙◌, subst}
 use Rattle.std.specs.Option.{option_or}
 use Rattle.std.specs.FinMap.{empty}
-use Rattle.dbm_model.specs.Bounds.{in_v1}
 use Rattle.sect_dev.specs.Device.{IsImageOf, LeavesOnly, MoreFaults}
 use Rattle.sect_dev.specs.Moments.{IsOutcome}
 use Rattle.redo_commit.specs.File.{settled}
@@ -15,7 +14,8 @@ use Rattle.dbm_model.specs.Sizes.{sectors_for}
 use Rattle.dbm_fault.specs.Faults.{fault_from}
 use Rattle.dbm_fault.specs.declared.fault.Fault.{Fault}
 use Rattle.dbm_fault.specs.declared.fault.Fault.TheVariants.{Memory}
-use Rattle.file_opening.specs.Opening.{room_fault, commit_fault, emptying_fault}
+use Rattle.seg_table.specs.MetaPages.{model_meta}
+use Rattle.file_opening.specs.Opening.{bounds_of, room_fault, commit_fault, emptying_fault}
 use Rattle.file_opening.proofs.EmptyFiles.{settles_still, OldOrEmpty, left_as_before, still_good, still_capacity, state_of, reads_nothing, run_below}
 use Rattle.page_io.proofs.Exits.{both_ways, later_then}
 use Rattle.file_opening.proofs.Exits.{same_honest, same_faults, reads_leave}
@@ -32,8 +32,8 @@ returns-in-Some-clause-any_moment g c honest =
     (IsOutcome dev.left_since (settled (dev.sectors store.dev / 4))) store.dev d
     (OldOrEmpty (file_pages (overlaid (bytes_of store.waiting.items)
     (page_at (dev.seen store.dev))) store.end)
-    (emptying_fault (in_v1 c.args.limit) (dev.sectors store.dev) store.end ≡ None)
-    (in_v1 c.args.limit))) (sym c.into_dev.ensures)
+    (emptying_fault (bounds_of c.args.how) (dev.sectors store.dev) store.end ≡ None)
+    (bounds_of c.args.how))) (sym c.into_dev.ensures)
     (settles_still dev.moment dev.left_since dev.candidate store.dev (dev.sectors store.dev / 4) _
     (λ image left. g.met.D.SectorDev.only_now store.dev image honest left)
     (λ y is. inl (only_seen (dev.sectors store.dev / 4) (dev.candidate store.dev)
@@ -50,7 +50,7 @@ returns-in-Ok-clause-stands g c honest =
     let writable = ap (λ (st : StoreState). st.writable) c.in-Ok.ensures.ok
     ∙ c.requires.fresh.writable in record {
       holds = λ usable. holds;
-      rests = λ usable y left. subst (λ (z : Settled). ImageStandsFor z empty (in_v1 m.limit))
+      rests = λ usable y left. subst (λ (z : Settled). ImageStandsFor z empty (model_meta m).bounds)
           (sym (only_seen (dev.sectors new.dev / 4) (dev.candidate new.dev) (dev.seen new.dev) y _
           ((rest usable).waits writable).stable (rest usable).settles left)) holds.stands;
       bounds_are = ap (λ (n : Meta). n.bounds) c.of_empty-meta.ensures;
@@ -75,9 +75,9 @@ returns-in-Err-clause-left g c honest other after left =
 -- ---- there is no room for it
 
 room_is : (g : Over) (c : goal.After-into_dev g)
-    → room_fault (sectors_for (in_v1 c.args.limit)) (g.D.SectorDev.sectors c.args.store.dev)
+    → room_fault (sectors_for (bounds_of c.args.how)) (g.D.SectorDev.sectors c.args.store.dev)
     ≡ Some c.in-Some.fault
-room_is g c = ap (room_fault (sectors_for (in_v1 c.args.limit))) (sym c.requires.sectors)
+room_is g c = ap (room_fault (sectors_for (bounds_of c.args.how))) (sym c.requires.sectors)
     ∙ sym c.room_refusal.ensures ∙ c.in-Some.is
 
 pub returns-in-Some-clause-fresh : goal.returns-in-Some-clause-fresh
@@ -102,13 +102,13 @@ returns-in-Some-clause-left g c honest other =
 
 pub returns-in-Some-clause-device : goal.returns-in-Some-clause-device
 returns-in-Some-clause-device g c is =
-    of_room_apart (sectors_for (in_v1 c.args.limit)) (g.D.SectorDev.sectors c.args.store.dev)
+    of_room_apart (sectors_for (bounds_of c.args.how)) (g.D.SectorDev.sectors c.args.store.dev)
     c.in-Some.fault (room_is g c) is
 
 pub returns-in-Some-clause-only : goal.returns-in-Some-clause-only
 returns-in-Some-clause-only g c =
     ⊎_elim (λ limit. inl limit) (λ small. inr (inl small))
-    (of_room (sectors_for (in_v1 c.args.limit)) (g.D.SectorDev.sectors c.args.store.dev)
+    (of_room (sectors_for (bounds_of c.args.how)) (g.D.SectorDev.sectors c.args.store.dev)
     c.in-Some.fault (room_is g c))
 
 pub returns-in-Some-clause-honesty : goal.returns-in-Some-clause-honesty
@@ -137,17 +137,17 @@ pub commit_empty-requires-clause-limited : goal.commit_empty-requires-clause-lim
 commit_empty-requires-clause-limited g c =
     subst (λ n. (1 ≤ n) × (n ≤ 1000000))
     (sym (ap (λ (n : Meta). n.bounds.limit) c.of_empty-meta.ensures))
-    (limit_of_room (in_v1 c.args.limit) _ (sym c.room_refusal.ensures ∙ c.in_default.is))
+    (limit_of_room (bounds_of c.args.how) _ (sym c.room_refusal.ensures ∙ c.in_default.is))
 
 pub commit_empty-requires-clause-fresh : goal.commit_empty-requires-clause-fresh
-commit_empty-requires-clause-fresh g c = fresh_meta (in_v1 c.args.limit) _ c.of_empty-meta.ensures
+commit_empty-requires-clause-fresh g c = fresh_meta (bounds_of c.args.how) _ c.of_empty-meta.ensures
 
 pub invariant_of-result : goal.invariant_of-result
 invariant_of-result g c = record {
   idle = ap (λ (st : StoreState). st.staged) c.in-Ok.ensures.ok ∙ c.requires.fresh.staged;
   told = ap (λ (st : StoreState). st.writable) c.in-Ok.ensures.ok ∙ c.requires.fresh.writable;
-  valid = fresh_valid c.args.limit _
-      (limit_of_room (in_v1 c.args.limit) _ (sym c.room_refusal.ensures ∙ c.in_default.is))
+  valid = fresh_valid (bounds_of c.args.how) _
+      (limit_of_room (bounds_of c.args.how) _ (sym c.room_refusal.ensures ∙ c.in_default.is))
       c.of_empty-meta.ensures;
 }
 
@@ -164,8 +164,8 @@ returns-in-Ok-clause-any_moment g c honest =
     let dev = g.D.SectorDev in
     let old = c.args.store in
     let new = c.commit_empty.new.store in
-    let bounds = in_v1 c.args.limit in
-    run_below dev old new _ bounds (in_v1 c.of_empty-meta.result.limit)
+    let bounds = bounds_of c.args.how in
+    run_below dev old new _ bounds (model_meta c.of_empty-meta.result).bounds
     (ap (λ (n : Meta). n.bounds) c.of_empty-meta.ensures)
     (allows_emptying bounds (dev.sectors old.dev) old.end
     (has_room bounds (dev.sectors old.dev) c.args.sectors c.room_refusal.result
@@ -176,7 +176,7 @@ returns-in-Ok-clause-any_moment g c honest =
 pub returns-in-Ok-clause-room : goal.returns-in-Ok-clause-room
 returns-in-Ok-clause-room g c =
     let sectors = g.D.SectorDev.sectors c.args.store.dev in
-    let bounds = in_v1 c.args.limit in
+    let bounds = bounds_of c.args.how in
     let room = has_room bounds sectors c.args.sectors c.room_refusal.result c.requires.sectors
     c.room_refusal.ensures c.in_default.is in
     allows_emptying bounds sectors c.args.store.end room c.in-Ok.ensures.room
@@ -200,13 +200,13 @@ returns-in-Err-clause-any_moment g c honest =
     let dev = g.D.SectorDev in
     let old = c.args.store in
     let new = c.commit_empty.new.store in
-    let bounds = in_v1 c.args.limit in
+    let bounds = bounds_of c.args.how in
     subst (λ d. LeavesOnly dev.moment (IsOutcome dev.left_since (settled (dev.sectors old.dev / 4)))
     old.dev d (OldOrEmpty (file_pages
     (overlaid (bytes_of old.waiting.items) (page_at (dev.seen old.dev))) old.end)
     (emptying_fault bounds (dev.sectors old.dev) old.end ≡ None) bounds))
     (sym c.into_dev-in-Err.ensures)
-    (run_below dev old new _ bounds (in_v1 c.of_empty-meta.result.limit)
+    (run_below dev old new _ bounds (model_meta c.of_empty-meta.result).bounds
     (ap (λ (n : Meta). n.bounds) c.of_empty-meta.ensures)
     (allows_emptying bounds (dev.sectors old.dev) old.end
     (has_room bounds (dev.sectors old.dev) c.args.sectors c.room_refusal.result
@@ -217,7 +217,7 @@ returns-in-Err-clause-any_moment g c honest =
 pub returns-in-Err-clause-refused : goal.returns-in-Err-clause-refused
 returns-in-Err-clause-refused g c other =
     let all = c.in-Err.ensures in
-    let bounds = in_v1 c.args.limit in
+    let bounds = bounds_of c.args.how in
     let room = has_room bounds (g.D.SectorDev.sectors c.args.store.dev) c.args.sectors
     c.room_refusal.result c.requires.sectors c.room_refusal.ensures c.in_default.is in
     subst (λ f. (emptying_fault bounds (g.D.SectorDev.sectors c.args.store.dev)

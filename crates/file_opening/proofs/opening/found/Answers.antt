@@ -34,8 +34,8 @@ returns-in-Ok-clause-stands g c honest only map bounds stands =
     let read = all.found honest ∙ ap (λ (s : Pages). overlaid s (page_of file) 1)
     c.requires.fresh.staged in
     let is : model_meta m ≡ meta =
-    (c.in-Ok.ensures.body meta (bodies_valid stands.placement stands.good).0.1
-    stands.good.first).1 (ap (body_of 1) read ∙ stands.spelled.0) in
+    (c.in-Ok.ensures.body meta (bodies_valid stands.placement stands.good).0.1).1
+    (ap (body_of 1) read ∙ stands.spelled.0) in
     let same_bounds : (model_meta m).bounds ≡ bounds = ap (λ (x : Meta). x.bounds) is
     ∙ stands.bounded in
     let same = sym (all.kept honest).committed in
@@ -130,7 +130,7 @@ returns-in-Ok-clause-says g c honest =
     let valid = c.in-Ok.ensures.found.0 in (
       valid,
       ap (body_of 1) (sym read)
-          ∙ (c.in-Ok.ensures.body (model_meta c.in-Ok.meta) valid refl).0 refl,
+          ∙ (c.in-Ok.ensures.body (model_meta c.in-Ok.meta) valid).0 refl,
     )
 
 pub returns-in-Ok-clause-honesty : goal.returns-in-Ok-clause-honesty

@@ -51,7 +51,7 @@ says_here : (g : Over) (c : goal.After-emptied g) → g.D.SectorDev.honest c.arg
     (page_at (g.D.SectorDev.seen c.args.store.dev))) c.args.store.end) 1)
 says_here g c honest =
     let says = c.in-Ok.ensures.says honest in
-    record { meta = model_meta c.in-Ok.file.meta; valid = says.0; first = refl; says = says.1 }
+    record { meta = model_meta c.in-Ok.file.meta; valid = says.0; says = says.1 }
 
 pub returns-in-Ok-clause-opened : goal.returns-in-Ok-clause-opened
 returns-in-Ok-clause-opened g c honest =

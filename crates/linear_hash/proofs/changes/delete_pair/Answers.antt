@@ -17,7 +17,8 @@ returns-in_err-commit_delete-clause-turns g c honest usable map holds was =
     let result = c.from_residual in
     let exit = exit_is result.result c.in_err-commit_delete.field-0.0 result.ensures.1 in
     let before = model_meta c.args.meta.now in
-    refused_turn g.S.PageStore _ _ before _ _ exit _ _ _ _
+    refused_turn g.S.PageStore _ _ before _ _ exit _ _ _ _ _
     (turned g.S.PageStore _ _ before _ (model_meta c.commit_delete.new.meta) map
-    (remove map c.args.key.now) (λ (m : Meta). 0) _ c.copied-changed.ensures
+    (remove map c.args.key.now) (λ (m : Meta). m.bounds) (λ (m : Meta). 0) _
+    c.copied-changed.ensures
     (λ there. c.in_err-commit_delete.ensures.turns honest usable map there was) holds)

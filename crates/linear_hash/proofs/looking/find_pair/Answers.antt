@@ -52,7 +52,8 @@ chain_there : (g : Over) (c : goal.After-lookup g) → g.S.PageStore.honest c.ar
     → (p : Placement)
     → IsTable (body_at g.S.PageStore c.args.store.now) (model_meta c.args.meta.now)
     (g.S.PageStore.state c.args.store.now).end p
-    → IsChainAt (body_at g.S.PageStore c.head_of.new.store)
+    → IsChainAt (model_meta c.args.meta.now).bounds.version
+    (body_at g.S.PageStore c.head_of.new.store)
     (g.S.PageStore.state c.head_of.new.store).end c.in_ok-head.head
     (chain_at p (key_bucket p.shape c.args.key.now))
 chain_there g c honest p table =
@@ -63,9 +64,11 @@ chain_there g c honest p table =
     (table_below _ _ _ p table c.args.key.now c.bucket.result bucket) in
     let there = table_chain _ _ _ p table c.args.key.now c.bucket.result bucket
     c.in_ok-head.head head in
-    subst (λ (st : StoreState). IsChainAt (body_at g.S.PageStore c.head_of.new.store) st.end
+    subst (λ (st : StoreState). IsChainAt (model_meta c.args.meta.now).bounds.version
+    (body_at g.S.PageStore c.head_of.new.store) st.end
     c.in_ok-head.head chain) (sym reads.same)
-    (subst (λ (at : ℕ → Body). IsChainAt at (g.S.PageStore.state c.args.store.now).end
+    (subst (λ (at : ℕ → Body). IsChainAt (model_meta c.args.meta.now).bounds.version at
+    (g.S.PageStore.state c.args.store.now).end
     c.in_ok-head.head chain) (sym (same_said g.S.PageStore _ _ reads honest)) there)
 
 pub returns-clause-reads : goal.returns-clause-reads
@@ -92,8 +95,7 @@ returns-clause-searched g c honest =
 pub returns-clause-exact : goal.returns-clause-exact
 returns-clause-exact g c honest p table =
     IfOk-weaker c.lookup.result _ _
-    (λ place looked. found_in p c.args.key.now c.lookup.new.page.bytes place
-    table.good.sound looked)
+    (λ place looked. found_in _ _ _ p c.args.key.now c.lookup.new.page.bytes place table looked)
     (c.lookup.ensures.exact (c.in_ok-head.ensures.reads.stages_only.honesty.1 honest) _
     (chain_there g c honest p table))
 

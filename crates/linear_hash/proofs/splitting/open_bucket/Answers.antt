@@ -1,4 +1,4 @@
-use Rattle.std.proofs.Common.{ℕ, refl, sym, ap, ◌∙◌, subst, arith}
+use Rattle.std.proofs.Common.{ℕ, [], refl, sym, ap, ◌∙◌, subst, arith}
 use Rattle.std.proofs.lemmas.Result.{IfOk-from_err}
 use Rattle.page_model.specs.PageBodies.{heads_of}
 use Rattle.page_model.proofs.Ends.{kept_taken, kept_opened}
@@ -13,7 +13,7 @@ use Rattle.seg_table.specs.Heads.{AddsSegment}
 use Rattle.seg_table.specs.Setting.{IsEntrySet}
 use Rattle.seg_table.proofs.Stagings.{then_said, others_stay}
 use Rattle.page_io.proofs.OwnNumbers.{own_of_head}
-use Rattle.linear_hash.proofs.Openings.{split_placed, no_keys, midway_heads, next_bucket, says_head, given_free, given_apart, given_space, headed_space, can_set, opened_now}
+use Rattle.linear_hash.proofs.Openings.{split_placed, no_keys, none_held, midway_heads, next_bucket, says_head, given_free, given_apart, given_space, headed_space, can_set, opened_now}
 use Rattle.linear_hash.proofs.SplitPages.{emptied_alone}
 use Rattle.linear_hash.proofs.Refusals.{store_refused, take_refused, stage_refused, set_refused, no_refusal}
 use Rattle.linear_hash.proofs.splitting.open_bucket.Goals as goal
@@ -34,7 +34,8 @@ returns-in_err-store_all g c =
       opens = λ honest. IfOk-from_err _ _ c.from_residual.ensures.0;
       exact = λ honest p midway from. IfOk-from_err _ _ c.from_residual.ensures.0;
       whole = λ honest p midway from damaged.
-          told.whole honest _ _ (split_placed _ _ _ p _ midway from) no_keys
+          let placed = split_placed _ _ _ p _ midway c.requires.small from in
+          told.whole honest _ _ placed [] refl (none_held _ _ _ _ _ _ placed) no_keys
           (came _ _ exit Damaged damaged);
       room = λ honest p midway from none. absurd (told.room refl (came _ _ exit NoRoom none));
     }
@@ -58,12 +59,15 @@ returns-in_err-new_head g c =
       opens = λ honest. IfOk-from_err _ _ result.ensures.0;
       exact = λ honest p midway from. IfOk-from_err _ _ result.ensures.0;
       whole = λ honest p midway from damaged.
-          let placed = split_placed _ _ _ p _ midway from in
+          let placed = split_placed _ _ _ p _ midway c.requires.small from in
           told.whole (ok1.stages.honesty.1 honest) (given_space p)
-          (given_free p _ _ _ (ok1.exact honest _ _ placed no_keys) placed.free_is.some)
-          (given_apart p midway.sound _ _ _ placed) (came _ _ exit Damaged damaged);
+          (given_free p _ _ _ (ok1.exact honest _ _ placed [] refl (none_held _ _ _ _ _ _ placed)
+          no_keys) placed.free_is.some)
+          (given_apart p midway.sound _ _ _ _ placed) (came _ _ exit Damaged damaged);
       room = λ honest p midway from none.
-          let emptied = ok1.exact honest _ _ (split_placed _ _ _ p _ midway from) no_keys in
+          let placed = split_placed _ _ _ p _ midway c.requires.small from in
+          let emptied = ok1.exact honest _ _ placed [] refl (none_held _ _ _ _ _ _ placed) no_keys
+          in
           let full = told.answer.no_room.0 (came _ _ exit NoRoom none) in
           omega (
             arith,
@@ -142,14 +146,15 @@ returns-in_err-set_head g c =
           let at1 = body_at st c.store_all.new.store in
           let at2 = body_at st c.stage.new.self in
           let n = c.in_ok-new_head.new_head in
-          let placed = split_placed at0 _ _ p _ midway from in
-          let emptied = c.in_ok-store_all.ensures.exact honest _ _ placed no_keys in
+          let placed = split_placed at0 _ _ p _ midway c.requires.small from in
+          let emptied = c.in_ok-store_all.ensures.exact honest _ _ placed [] refl
+          (none_held _ _ _ _ _ _ placed) no_keys in
           let h1 = c.in_ok-store_all.ensures.stages.honesty.1 honest in
           let h2 = c.in_ok-new_head.ensures.reads.stages_only.honesty.1 h1 in
           let h3 = c.in_ok-stage.ensures.honesty.1 h2 in
           let taken = c.in_ok-new_head.ensures.exact h1 (given_space p)
           (given_free p _ _ _ emptied placed.free_is.some)
-          (given_apart p midway.sound _ _ _ placed) in
+          (given_apart p midway.sound _ _ _ _ placed) in
           let reads = c.in_ok-new_head.ensures.reads in
           let order = g.met.S.PageStore.in_order c.store_all.new.store in
           let done = c.stage.ensures in
@@ -171,12 +176,13 @@ returns-in_err-set_head g c =
           c.in_err-set_head.ensures.whole h3 (heads_of p.chains) (headed_space p) can
           (came _ _ exit Damaged damaged);
       room = λ honest p midway from none.
-          let placed = split_placed _ _ _ p _ midway from in
-          let emptied = c.in_ok-store_all.ensures.exact honest _ _ placed no_keys in
+          let placed = split_placed _ _ _ p _ midway c.requires.small from in
+          let emptied = c.in_ok-store_all.ensures.exact honest _ _ placed [] refl
+          (none_held _ _ _ _ _ _ placed) no_keys in
           let h1 = c.in_ok-store_all.ensures.stages.honesty.1 honest in
           let taken = c.in_ok-new_head.ensures.exact h1 (given_space p)
           (given_free p _ _ _ emptied placed.free_is.some)
-          (given_apart p midway.sound _ _ _ placed) in
+          (given_apart p midway.sound _ _ _ _ placed) in
           let full = c.in_err-set_head.ensures.answer.no_room (came _ _ exit NoRoom none) in
           let room = ap (λ (s : StoreState). s.capacity) c.in_ok-stage.ensures.ok
           ∙ ap (λ (s : StoreState). s.capacity) c.in_ok-new_head.ensures.reads.same
@@ -264,14 +270,15 @@ returns g c =
           let at1 = body_at st c.store_all.new.store in
           let at2 = body_at st c.stage.new.self in
           let n = c.in_ok-new_head.new_head in
-          let placed = split_placed at0 _ _ p _ midway from in
-          let emptied = c.in_ok-store_all.ensures.exact honest _ _ placed no_keys in
+          let placed = split_placed at0 _ _ p _ midway c.requires.small from in
+          let emptied = c.in_ok-store_all.ensures.exact honest _ _ placed [] refl
+          (none_held _ _ _ _ _ _ placed) no_keys in
           let h1 = c.in_ok-store_all.ensures.stages.honesty.1 honest in
           let h2 = c.in_ok-new_head.ensures.reads.stages_only.honesty.1 h1 in
           let h3 = c.in_ok-stage.ensures.honesty.1 h2 in
           let taken = c.in_ok-new_head.ensures.exact h1 (given_space p)
           (given_free p _ _ _ emptied placed.free_is.some)
-          (given_apart p midway.sound _ _ _ placed) in
+          (given_apart p midway.sound _ _ _ _ placed) in
           let reads = c.in_ok-new_head.ensures.reads in
           let order = g.met.S.PageStore.in_order c.store_all.new.store in
           let done = c.stage.ensures in

@@ -1,9 +1,10 @@
 use Rattle.std.proofs.Common.{map, take}
 use Rattle.page_model.specs.Placement.{Placement}
+use Rattle.page_io.specs.Versions.{model_version}
 use Rattle.page_io.specs.Views.{body_at, StagesOnly, MayEnd}
 use Rattle.free_pages.specs.FreeList.{HasEnds}
 use Rattle.lin_addr.specs.Shapes.{shape_of}
-use Rattle.chain_walks.specs.Pairs.{pair_of}
+use Rattle.chain_walks.specs.Pairs.{record_as}
 use Rattle.bucket_chain.specs.AnyFile.{AreAdded}
 use Rattle.linear_hash.specs.AnyFile.{head_for}
 use Rattle.linear_hash.specs.Splitting.{IsRefilled}
@@ -19,9 +20,11 @@ invariant-loop-pair g l = record {
   added : g.S.PageStore.honest l.fn.store
       → AreAdded (body_at g.S.PageStore l.fn.store) (body_at g.S.PageStore l.store)
       (MayEnd (g.S.PageStore.state l.fn.store) l.fn.space.file_end) l.fn.space l.space
-      (head_for l.fn.shape.level l.fn.head l.fn.new_head) (take l.pair-index (map pair_of l.fn.pairs));
+      (head_for l.fn.shape.level l.fn.heads.old l.fn.heads.new)
+      (take l.pair-index (map record_as l.fn.pairs));
   filling : g.S.PageStore.honest l.fn.store → (p : Placement)
-      → IsRefilled (body_at g.S.PageStore l.fn.store) l.fn.space (shape_of l.fn.shape) l.fn.head
-      l.fn.new_head (map pair_of l.fn.pairs) p
+      → IsRefilled (model_version l.fn.version) (body_at g.S.PageStore l.fn.store) l.fn.space
+      (shape_of l.fn.shape) l.fn.heads.old
+      l.fn.heads.new (map record_as l.fn.pairs) p
       → IsFilling (body_at g.S.PageStore l.store) l.space p l.pair-index;
 }

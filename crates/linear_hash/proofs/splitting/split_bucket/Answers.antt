@@ -1,6 +1,6 @@
 use Rattle.std.proofs.Common.{ℕ, ◌^◌, ◌<◌, List, map, refl, sym, ap, subst, ◌∙◌, arith}
 use Rattle.std.proofs.lemmas.Result.{IfOk-from_err}
-use Rattle.dbm_model.specs.Pairs.{Pair}
+use Rattle.page_model.specs.Pages.{Record}
 use Rattle.page_model.specs.Pages.{Meta, Body}
 use Rattle.page_model.specs.PageBodies.{heads_of}
 use Rattle.page_model.proofs.Ends.{kept_split}
@@ -10,11 +10,12 @@ use Rattle.page_io.specs.Views.{body_at, MayEnd}
 use Rattle.page_io.proofs.Views.{stages_then, same_said}
 use Rattle.page_io.proofs.Exits.{exit_is, came, cause_first, cause_then, cause_ok}
 use Rattle.seg_table.specs.MetaPages.{model_meta}
-use Rattle.chain_walks.specs.Pairs.{pair_of}
+use Rattle.chain_walks.specs.Pairs.{record_as}
 use Rattle.chain_walks.specs.Walks.{SaysAll}
 use Rattle.bucket_chain.specs.AnyFile.{AreAdded}
 use Rattle.bucket_chain.proofs.Added.{all_under}
 use Rattle.linear_hash.specs.AnyFile.{IsOpened, head_for}
+use Rattle.linear_hash.proofs.SplitPages.{all_of_version}
 use Rattle.linear_hash.proofs.Refusals.{head_refused, load_refused, change_refused, no_refusal, head_has_room, load_has_room}
 use Rattle.linear_hash.proofs.SplitLemmas.{heads_read, split_head, chain_then, honest_later, midway_later, refilled_later, midway_split, is_grown}
 use Rattle.linear_hash.proofs.splitting.split_bucket.Goals as goal
@@ -66,7 +67,7 @@ returns-in_err-pairs g c =
           let from = split_head _ _ _ p midway small _
           (c.in_ok-head.ensures.exact honest (heads_of p.chains)) in
           c.in_err-pairs.ensures.whole (one.stages_only.honesty.1 honest) _
-          (chain_then g.S.PageStore _ _ _ _ p _ from one honest midway near)
+          (chain_then g.S.PageStore _ _ _ _ p _ from one honest small midway near)
           (came _ _ exit Damaged damaged);
       room = λ honest p midway near none.
           absurd (load_has_room _ _ told.answer (came _ _ exit NoRoom none));
@@ -98,15 +99,16 @@ returns-in_err-new_head g c =
       whole = λ honest p midway near damaged.
           let from = split_head _ _ _ p midway small _
           (c.in_ok-head.ensures.exact honest (heads_of p.chains)) in
-          c.in_err-new_head.ensures.whole (honest_later st _ _ _ _ p _ from one honest midway _ two)
-          p (midway_later st _ _ _ _ p _ from one honest midway _ two) from
+          c.in_err-new_head.ensures.whole
+          (honest_later st _ _ _ _ p _ from one honest small midway _ two)
+          p (midway_later st _ _ _ _ p _ from one honest small midway _ two) from
           (came _ _ exit Damaged damaged);
       room = λ honest p midway near none.
           let from = split_head _ _ _ p midway small _
           (c.in_ok-head.ensures.exact honest (heads_of p.chains)) in
           let full = c.in_err-new_head.ensures.room
-          (honest_later st _ _ _ _ p _ from one honest midway _ two) p
-          (midway_later st _ _ _ _ p _ from one honest midway _ two) from
+          (honest_later st _ _ _ _ p _ from one honest small midway _ two) p
+          (midway_later st _ _ _ _ p _ from one honest small midway _ two) from
           (came _ _ exit NoRoom none) in
           omega (
             arith,
@@ -145,22 +147,24 @@ returns-in_err-refill g c =
       whole = λ honest p midway near damaged.
           let from = split_head _ _ _ p midway small _
           (c.in_ok-head.ensures.exact honest (heads_of p.chains)) in
-          let again = refilled_later st _ _ _ _ p _ from one honest midway _ two _ _ _ _ _ _ _ near
+          let again = refilled_later st _ _ _ _ p _ from one honest small midway _ two _ _ _ _ _ _
+          _ near
           c.in_ok-pairs.ensures.exact c.in_ok-new_head.ensures.exact
-          c.in_ok-new_head.ensures.added (ap (map pair_of) c.as_slice.ensures.value) in
+          c.in_ok-new_head.ensures.added (ap (map record_as) c.as_slice.ensures.value) in
           c.in_err-refill.ensures.whole
           (c.in_ok-new_head.ensures.stages.honesty.1
-          (honest_later st _ _ _ _ p _ from one honest midway _ two)) p again
+          (honest_later st _ _ _ _ p _ from one honest small midway _ two)) p again
           (came _ _ exit Damaged damaged);
       room = λ honest p midway near none.
           let from = split_head _ _ _ p midway small _
           (c.in_ok-head.ensures.exact honest (heads_of p.chains)) in
-          let again = refilled_later st _ _ _ _ p _ from one honest midway _ two _ _ _ _ _ _ _ near
+          let again = refilled_later st _ _ _ _ p _ from one honest small midway _ two _ _ _ _ _ _
+          _ near
           c.in_ok-pairs.ensures.exact c.in_ok-new_head.ensures.exact
-          c.in_ok-new_head.ensures.added (ap (map pair_of) c.as_slice.ensures.value) in
+          c.in_ok-new_head.ensures.added (ap (map record_as) c.as_slice.ensures.value) in
           let full = c.in_err-refill.ensures.room
           (c.in_ok-new_head.ensures.stages.honesty.1
-          (honest_later st _ _ _ _ p _ from one honest midway _ two)) p again
+          (honest_later st _ _ _ _ p _ from one honest small midway _ two)) p again
           (came _ _ exit NoRoom none) in
           let room = ap (λ (s : StoreState). s.capacity) (c.in_ok-new_head.ensures.stages.state)
           ∙ ap (λ (s : StoreState). s.capacity) (two.same ∙ one.same) in
@@ -201,26 +205,28 @@ returns g c =
           let opened = c.in_ok-new_head.ensures in
           let head = c.in_ok-head.head in
           let n = c.in_ok-new_head.new_head in
-          let pairs = map pair_of c.in_ok-pairs.pairs.items in
+          let records = map record_as c.in_ok-pairs.pairs.items in
           let at2 = body_at st c.open_bucket.new.store in
           let at3 = body_at st c.refill.new.store in
           let middle = c.open_bucket.new.space in
           let Start = MayEnd (st.state c.args.store.now) c.args.space.now.file_end in
           let Now = MayEnd (st.state c.open_bucket.new.store) middle.file_end in
-          let added = subst (λ (ps : List Pair).
-          AreAdded at2 at3 Now middle c.refill.new.space (head_for m.level head n) ps)
-          (ap (map pair_of) c.as_slice.ensures.value)
+          let added = subst (λ (rs : List Record).
+          AreAdded at2 at3 Now middle c.refill.new.space (head_for m.level head n) rs)
+          (ap (map record_as) c.as_slice.ensures.value)
           (subst (λ (l : ℕ).
           AreAdded at2 at3 Now middle c.refill.new.space (head_for l head n)
-          (map pair_of c.as_slice.result.now)) (ap (λ (x : Meta). x.level) opened.added.rest)
+          (map record_as c.as_slice.result.now)) (ap (λ (x : Meta). x.level) opened.added.rest)
           (four.added (opened.stages.honesty.1 h2))) in
           record {
             head = head;
             taken = n;
-            pairs = pairs;
+            records = records;
             entry = c.in_ok-head.ensures.entry honest;
-            says = subst (λ (f : ℕ → Body). SaysAll f head pairs) same1
+            says = subst (λ (f : ℕ → Body). SaysAll f head records) same1
                 (c.in_ok-pairs.ensures.walked h1);
+            of_version = all_of_version m.bounds.version c.in_ok-pairs.pairs.items
+                c.in_ok-pairs.ensures.small;
             change = record {
               mid = at2;
               between = middle;
@@ -228,7 +234,7 @@ returns g c =
                   c.args.space.now middle head n) (same2 ∙ same1) (opened.opens h2);
               second = all_under Now Start (λ may. opened.may_end
                   (subst (λ (s : StoreState). MayEnd s c.args.space.now.file_end)
-                  (sym (two.same ∙ one.same)) may)) (head_for m.level head n) at2 middle pairs at3
+                  (sym (two.same ∙ one.same)) may)) (head_for m.level head n) at2 middle records at3
                   c.refill.new.space added;
             };
             grown = is_grown _ _ _ opened.added c.grown-meta.ensures.grown refl refl;
@@ -236,12 +242,13 @@ returns g c =
       exact = λ honest p midway near.
           let from = split_head _ _ _ p midway small _
           (c.in_ok-head.ensures.exact honest (heads_of p.chains)) in
-          let again = refilled_later st _ _ _ _ p _ from one honest midway _ two _ _ _ _ _ _ _ near
+          let again = refilled_later st _ _ _ _ p _ from one honest small midway _ two _ _ _ _ _ _
+          _ near
           c.in_ok-pairs.ensures.exact c.in_ok-new_head.ensures.exact
-          c.in_ok-new_head.ensures.added (ap (map pair_of) c.as_slice.ensures.value) in
-          let honest2 = honest_later st _ _ _ _ p _ from one honest midway _ two in
+          c.in_ok-new_head.ensures.added (ap (map record_as) c.as_slice.ensures.value) in
+          let honest2 = honest_later st _ _ _ _ p _ from one honest small midway _ two in
           let now = c.in_ok-new_head.ensures.exact honest2 p
-          (midway_later st _ _ _ _ p _ from one honest midway _ two) from in
+          (midway_later st _ _ _ _ p _ from one honest small midway _ two) from in
           let below = c.in_ok-refill.ensures.exact
           (c.in_ok-new_head.ensures.stages.honesty.1 honest2) p again in
           midway_split _ _ _ _ _ _ _ _ _ p _ _ midway c.in_ok-new_head.ensures.added now below

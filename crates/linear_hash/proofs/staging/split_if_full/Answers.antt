@@ -39,27 +39,26 @@ returns-in_err-split_bucket g c =
       memory = λ is.
           subst (λ (b : ℕ). 8 * b < c.args.meta.now.pairs) c.buckets.ensures
           c.if-meta-buckets.true;
-      valid = IfOk-from_err _ _ result.ensures.0;
       kept = IfOk-from_err _ _ result.ensures.0;
-      shape = IfOk-from_err _ _ result.ensures.0;
       still = λ few.
           let full = subst (λ (b : ℕ). 8 * b < c.args.meta.now.pairs) c.buckets.ensures
           c.if-meta-buckets.true in
           absurd (omega (arith, few, full));
-      ends = told.ends;
-      may_end = λ may. IfOk-from_err _ _ result.ensures.0;
+      keeps = record { ends = told.ends; may_end = λ may. IfOk-from_err _ _ result.ensures.0 };
       splits = λ honest. IfOk-from_err _ _ result.ensures.0;
-      exact = λ honest p mid near counted. IfOk-from_err _ _ result.ensures.0;
+      exact = λ honest p mid near counted. (
+        IfOk-from_err _ _ result.ensures.0,
+        λ none.
+            let full = subst (λ (b : ℕ). 8 * b < c.args.meta.now.pairs) c.buckets.ensures
+            c.if-meta-buckets.true in
+            omega (
+              arith,
+              told.room honest p mid near (came _ _ exit NoRoom none),
+              ap (λ (q : Placement). q.space.end) (full_is_split _ _ _ p mid counted full),
+            ),
+      );
       whole = λ honest p mid near damaged.
           told.whole honest p mid near (came _ _ exit Damaged damaged);
-      room = λ honest p mid near counted none.
-          let full = subst (λ (b : ℕ). 8 * b < c.args.meta.now.pairs) c.buckets.ensures
-          c.if-meta-buckets.true in
-          omega (
-            arith,
-            told.room honest p mid near (came _ _ exit NoRoom none),
-            ap (λ (q : Placement). q.space.end) (full_is_split _ _ _ p mid counted full),
-          );
     }
 
 -- the bucket is split
@@ -75,8 +74,19 @@ returns-in_ok-split_bucket-clause-answer g c = no_refusal _ _
 
 pub returns-in_ok-split_bucket-clause-kept : goal.returns-in_ok-split_bucket-clause-kept
 returns-in_ok-split_bucket-clause-kept g c =
-    let rest = c.in_ok-split_bucket.ensures.grown.rest in
-    (ap (λ (m : Meta). m.bounds.limit) rest, ap (λ (m : Meta). m.pairs) rest)
+    let full = subst (λ (b : ℕ). 8 * b < c.args.meta.now.pairs) c.buckets.ensures
+    c.if-meta-buckets.true in
+    let grows = c.in_ok-split_bucket.ensures.grown in
+    record {
+      valid = grown_valid (model_meta c.args.meta.now) c.requires.valid c.requires.few.0 full
+          (model_meta c.split_bucket.new.meta) c.requires.few.1 grows;
+      bounds = ap (λ (m : Meta). m.bounds) grows.rest;
+      pairs = ap (λ (m : Meta). m.pairs) grows.rest;
+      shaped = subst (λ (n : ℕ). shape_in (model_meta c.split_bucket.new.meta)
+          ≡ shape_for n (shape_in (model_meta c.args.meta.now)))
+          (sym (ap (λ (m : Meta). m.pairs) grows.rest))
+          (grown_shape c.args.meta.now.pairs _ _ full grows.shape);
+    }
 
 pub returns-in_ok-split_bucket-clause-still : goal.returns-in_ok-split_bucket-clause-still
 returns-in_ok-split_bucket-clause-still g c few =
@@ -84,34 +94,14 @@ returns-in_ok-split_bucket-clause-still g c few =
     c.if-meta-buckets.true in
     absurd (omega (arith, few, full))
 
-pub returns-in_ok-split_bucket-clause-ends : goal.returns-in_ok-split_bucket-clause-ends
-returns-in_ok-split_bucket-clause-ends g c = c.in_ok-split_bucket.ensures.ends
-
-pub returns-in_ok-split_bucket-clause-may_end : goal.returns-in_ok-split_bucket-clause-may_end
-returns-in_ok-split_bucket-clause-may_end g c = c.in_ok-split_bucket.ensures.may_end
+pub returns-in_ok-split_bucket-clause-keeps : goal.returns-in_ok-split_bucket-clause-keeps
+returns-in_ok-split_bucket-clause-keeps g c = record {
+  ends = c.in_ok-split_bucket.ensures.ends;
+  may_end = c.in_ok-split_bucket.ensures.may_end;
+}
 
 pub returns-in_ok-split_bucket-clause-whole : goal.returns-in_ok-split_bucket-clause-whole
 returns-in_ok-split_bucket-clause-whole g c honest p mid near damaged = cc
-
-pub returns-in_ok-split_bucket-clause-room : goal.returns-in_ok-split_bucket-clause-room
-returns-in_ok-split_bucket-clause-room g c honest p mid near counted none = absurd cc
-
-pub returns-in_ok-split_bucket-clause-valid : goal.returns-in_ok-split_bucket-clause-valid
-returns-in_ok-split_bucket-clause-valid g c =
-    let full = subst (λ (b : ℕ). 8 * b < c.args.meta.now.pairs) c.buckets.ensures
-    c.if-meta-buckets.true in
-    grown_valid (model_meta c.args.meta.now) c.requires.valid c.requires.few.0 full
-    (model_meta c.split_bucket.new.meta) c.requires.few.1 c.in_ok-split_bucket.ensures.grown
-
-pub returns-in_ok-split_bucket-clause-shape : goal.returns-in_ok-split_bucket-clause-shape
-returns-in_ok-split_bucket-clause-shape g c =
-    let full = subst (λ (b : ℕ). 8 * b < c.args.meta.now.pairs) c.buckets.ensures
-    c.if-meta-buckets.true in
-    let grows = c.in_ok-split_bucket.ensures.grown in
-    subst (λ (n : ℕ). shape_in (model_meta c.split_bucket.new.meta)
-    ≡ shape_for n (shape_in (model_meta c.args.meta.now)))
-    (sym (ap (λ (m : Meta). m.pairs) grows.rest))
-    (grown_shape c.args.meta.now.pairs _ _ full grows.shape)
 
 pub returns-in_ok-split_bucket-clause-splits : goal.returns-in_ok-split_bucket-clause-splits
 returns-in_ok-split_bucket-clause-splits g c honest =
@@ -123,11 +113,13 @@ returns-in_ok-split_bucket-clause-splits g c honest =
 pub returns-in_ok-split_bucket-clause-exact : goal.returns-in_ok-split_bucket-clause-exact
 returns-in_ok-split_bucket-clause-exact g c honest p mid near counted =
     let full = subst (λ (b : ℕ). 8 * b < c.args.meta.now.pairs) c.buckets.ensures
-    c.if-meta-buckets.true in
-    subst (IsMidway (body_at g.S.PageStore c.split_bucket.new.store)
-    (model_meta c.split_bucket.new.meta) c.split_bucket.new.space)
-    (sym (full_is_split _ _ _ p mid counted full))
-    (c.in_ok-split_bucket.ensures.exact honest p mid near)
+    c.if-meta-buckets.true in (
+      subst (IsMidway (body_at g.S.PageStore c.split_bucket.new.store)
+          (model_meta c.split_bucket.new.meta) c.split_bucket.new.space)
+          (sym (full_is_split _ _ _ p mid counted full))
+          (c.in_ok-split_bucket.ensures.exact honest p mid near),
+      λ none. absurd (let x = none in cc),
+    )
 
 -- there are few pairs
 pub returns-else-meta-buckets-clause-stages : goal.returns-else-meta-buckets-clause-stages
@@ -144,34 +136,24 @@ pub returns-else-meta-buckets-clause-answer : goal.returns-else-meta-buckets-cla
 returns-else-meta-buckets-clause-answer g c = no_refusal _ _
 
 pub returns-else-meta-buckets-clause-kept : goal.returns-else-meta-buckets-clause-kept
-returns-else-meta-buckets-clause-kept g c = (refl, refl)
+returns-else-meta-buckets-clause-kept g c =
+    let few = subst (λ (b : ℕ). c.args.meta.now.pairs ≤ 8 * b) c.buckets.ensures
+    c.if-meta-buckets.false in
+    record {
+      valid = counted_valid (model_meta c.args.meta.now) c.requires.valid c.requires.few.0 few;
+      bounds = refl;
+      pairs = refl;
+      shaped = same_shape c.args.meta.now.pairs (shape_in (model_meta c.args.meta.now)) few;
+    }
 
 pub returns-else-meta-buckets-clause-still : goal.returns-else-meta-buckets-clause-still
 returns-else-meta-buckets-clause-still g c few = (refl, refl, refl)
 
-pub returns-else-meta-buckets-clause-ends : goal.returns-else-meta-buckets-clause-ends
-returns-else-meta-buckets-clause-ends g c e = e
-
-pub returns-else-meta-buckets-clause-may_end : goal.returns-else-meta-buckets-clause-may_end
-returns-else-meta-buckets-clause-may_end g c may = may
+pub returns-else-meta-buckets-clause-keeps : goal.returns-else-meta-buckets-clause-keeps
+returns-else-meta-buckets-clause-keeps g c = record { ends = λ e. e; may_end = λ may. may }
 
 pub returns-else-meta-buckets-clause-whole : goal.returns-else-meta-buckets-clause-whole
 returns-else-meta-buckets-clause-whole g c honest p mid near damaged = cc
-
-pub returns-else-meta-buckets-clause-room : goal.returns-else-meta-buckets-clause-room
-returns-else-meta-buckets-clause-room g c honest p mid near counted none = absurd cc
-
-pub returns-else-meta-buckets-clause-valid : goal.returns-else-meta-buckets-clause-valid
-returns-else-meta-buckets-clause-valid g c =
-    let few = subst (λ (b : ℕ). c.args.meta.now.pairs ≤ 8 * b) c.buckets.ensures
-    c.if-meta-buckets.false in
-    counted_valid (model_meta c.args.meta.now) c.requires.valid c.requires.few.0 few
-
-pub returns-else-meta-buckets-clause-shape : goal.returns-else-meta-buckets-clause-shape
-returns-else-meta-buckets-clause-shape g c =
-    let few = subst (λ (b : ℕ). c.args.meta.now.pairs ≤ 8 * b) c.buckets.ensures
-    c.if-meta-buckets.false in
-    same_shape c.args.meta.now.pairs (shape_in (model_meta c.args.meta.now)) few
 
 pub returns-else-meta-buckets-clause-splits : goal.returns-else-meta-buckets-clause-splits
 returns-else-meta-buckets-clause-splits g c honest =
@@ -183,6 +165,8 @@ returns-else-meta-buckets-clause-splits g c honest =
 pub returns-else-meta-buckets-clause-exact : goal.returns-else-meta-buckets-clause-exact
 returns-else-meta-buckets-clause-exact g c honest p mid near counted =
     let few = subst (λ (b : ℕ). c.args.meta.now.pairs ≤ 8 * b) c.buckets.ensures
-    c.if-meta-buckets.false in
-    subst (IsMidway (body_at g.S.PageStore c.args.store.now) (model_meta c.args.meta.now)
-    c.args.space.now) (sym (few_is_same _ _ _ p mid counted few)) mid
+    c.if-meta-buckets.false in (
+      subst (IsMidway (body_at g.S.PageStore c.args.store.now) (model_meta c.args.meta.now)
+          c.args.space.now) (sym (few_is_same _ _ _ p mid counted few)) mid,
+      λ none. absurd (let x = none in cc),
+    )

@@ -1,6 +1,7 @@
-use Rattle.std.proofs.Common.{◌∙◌}
+use Rattle.std.proofs.Common.{◌∙◌, length, ap, arith}
+use Rattle.page_io.specs.Store.{StoreState}
 use Rattle.page_io.specs.Views.{StagesOnly}
-use Rattle.page_io.proofs.Views.{after_stage, staged_said, others_said}
+use Rattle.page_io.proofs.Views.{after_stage, staged_said, others_said, length-put}
 use Rattle.page_io.proofs.OwnNumbers.{own_same}
 use Rattle.linear_hash.proofs.MetaStaging.{can_commit}
 use Rattle.linear_hash.proofs.staging.stage_meta.Given.{Over}
@@ -21,8 +22,20 @@ stages_one g c =
 pub returns-clause-may_commit : goal.returns-clause-may_commit
 returns-clause-may_commit g c may =
     let bytes = c.write_meta.new.page.bytes in
-    can_commit _ _ c.args.space.file_end bytes (g.met.S.PageStore.in_range c.args.store.now).0
-    (own_same bytes ∙ c.write_meta.ensures.number) c.in_ok-stage.ensures.ok may
+    record {
+      may_commit = can_commit _ _ c.args.space.file_end bytes
+          (g.met.S.PageStore.in_range c.args.store.now).0
+          (own_same bytes ∙ c.write_meta.ensures.number) c.in_ok-stage.ensures.ok may;
+      grows = may.least;
+    }
+
+pub returns-clause-few : goal.returns-clause-few
+returns-clause-few g c = omega (
+  arith,
+  ap (λ (s : StoreState). length s.staged) c.in_ok-stage.ensures.ok,
+  length-put (g.S.PageStore.state c.args.store.now).staged c.write_meta.new.page.bytes
+      (g.met.S.PageStore.in_order c.args.store.now),
+)
 
 pub returns-clause-page : goal.returns-clause-page
 returns-clause-page g c honest =

@@ -1,4 +1,4 @@
-use Rattle.page_model.proofs.PlacementExampleLemmas.{hashes, nine_pairs, seventeen_pairs, long_pairs, thick_pairs, full_pages}
+use Rattle.page_model.proofs.PlacementExampleLemmas.{hashes, nine_pairs, seventeen_pairs, long_pairs, thick_pairs, full_pages, far_pairs}
 use Rattle.page_model.proofs.placement_laws.placement_examples.Goals as goal
 
 pub returns : goal.returns
@@ -9,4 +9,5 @@ returns c = record {
   long_pairs = long_pairs;
   thick_pairs = thick_pairs;
   full_pages = full_pages;
+  far_pairs = far_pairs;
 }

@@ -3,7 +3,7 @@ use Rattle.sect_dev.specs.contracts.mem.MemDevSectorDev.TheImpl.{ghosts as MemDe
 use Rattle.sect_dev.proofs.Plans.{goes_until}
 use Rattle.dbm_sessions.specs.Sessions.{Disk}
 use Rattle.dbm_file.specs.Opened as files
-use Rattle.chain_walks.specs.declared.pair.Pair.{Pair}
+use Rattle.dbm_file.specs.declared.pair.Pair.{Pair}
 use Rattle.dbm_file.specs.declared.calls.Call.{Call}
 use Rattle.rehearsal.specs.Members.{AllStandFor}
 use Rattle.rehearsal.specs.Sessions.{plan_of, ending_of, Leaves}

@@ -4,7 +4,7 @@ use Rattle.std.proofs.lemmas.List.Elements.{All-nil}
 use Rattle.std.specs.Result.{result_unwrap_or}
 use Rattle.sect_dev.specs.Device.{LeavesOnly, MoreFaults}
 use Rattle.sect_dev.specs.Moments.{IsOutcome, followed_by, weaker}
-use Rattle.chain_walks.specs.Pairs.{pair_of}
+use Rattle.dbm_file.specs.Pairs.{pair_of}
 use Rattle.dbm_model.specs.Calls.{Reply, Refused, NoRoom}
 use Rattle.dbm_model.specs.States.{Handle}
 use Rattle.dbm_model.proofs.RoomLemmas.{room_is_known}

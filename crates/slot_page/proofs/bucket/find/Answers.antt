@@ -1,7 +1,7 @@
 use Rattle.std.proofs.Common.{arith}
 use Rattle.std.proofs.lemmas.Bool.Decides.{Decides-eqb}
 use Rattle.std.proofs.lemmas.Slice.Eq.{slice_eq-Decides}
-use Rattle.slot_page.specs.Contents.{page_pairs}
+use Rattle.slot_page.specs.Contents.{page_records}
 use Rattle.slot_page.proofs.Pages.{found_at, only_one, differs_here}
 use Rattle.slot_page.proofs.bucket.find.Goals as goal
 
@@ -20,7 +20,7 @@ returns-then-eq c =
 
 pub loop-i-preserved : goal.loop-i-preserved
 loop-i-preserved c =
-    differs_here (page_pairs c.args.page.now.bytes) c.args.key.now c.pair_at.result.0.now
+    differs_here (page_records c.args.page.now.bytes) c.args.key.now c.pair_at.result.0.now
     c.pair_at.result.1.now c.loop-i.i c.eq.result c.pair_at.ensures
     (slice_eq-Decides Decides-eqb _ _ _ c.eq.ensures) c.if-eq.false c.loop-i.invariant
 

@@ -1,7 +1,8 @@
 use Rattle.std.proofs.Common.{◌≢◌, ℕ, ◌<◌, get_or}
-use Rattle.dbm_model.specs.Pairs.{Pair}
-use Rattle.slot_page.specs.Contents.{page_pairs}
+use Rattle.page_model.specs.Pages.{Record}
+use Rattle.slot_page.specs.Contents.{page_records}
 use Rattle.slot_page.proofs.bucket.find.Given as goal
 
 abbrev pub invariant-loop-i : goal.invariant-loop-i
-invariant-loop-i l = (k : ℕ) (d : Pair) → k < l.i → (get_or (page_pairs l.page.bytes) k d).0 ≢ l.key
+invariant-loop-i l =
+    (k : ℕ) (d : Record) → k < l.i → (get_or (page_records l.page.bytes) k d).key ≢ l.key

@@ -7,6 +7,6 @@ pub returns : goal.returns
 returns c =
     let at = c.args.at in
     let key = c.args.key.now in
-    let content = c.args.content.now in
-    c.put-2.ensures ∙ ap (λ (xs : List ℕ). overwrite xs (at + length key) content) c.put.ensures
-    ∙ overwrite_then c.args.page.now.bytes key content at (at + length key) (omega arith) refl
+    let bytes = c.args.bytes.now in
+    c.put-2.ensures ∙ ap (λ (xs : List ℕ). overwrite xs (at + length key) bytes) c.put.ensures
+    ∙ overwrite_then c.args.page.now.bytes key bytes at (at + length key) (omega arith) refl

@@ -1,8 +1,8 @@
 use Rattle.std.proofs.Common.{take}
 use Rattle.std.specs.Prelude.{remove}
-use Rattle.slot_page.specs.Contents.{page_pairs, HasPairs}
+use Rattle.slot_page.specs.Contents.{page_records, HasRecords}
 use Rattle.slot_page.proofs.bucket.remove.Given as goal
 
 abbrev pub invariant-loop-j : goal.invariant-loop-j
-invariant-loop-j l = HasPairs l.page.bytes l.rebuilt.bytes
-    (take l.j (remove (page_pairs l.page.bytes) l.i))
+invariant-loop-j l = HasRecords l.page.bytes l.rebuilt.bytes
+    (take l.j (remove (page_records l.page.bytes) l.i))

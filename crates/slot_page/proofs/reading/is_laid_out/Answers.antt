@@ -4,7 +4,7 @@ use Rattle.slot_page.proofs.reading.is_laid_out.Goals as goal
 
 pub returns-then-low-gt-PAGE_LEN : goal.returns-then-low-gt-PAGE_LEN
 returns-then-low-gt-PAGE_LEN c =
-    ((λ e. absurd cc), λ h. absurd (not_laid_out c.args.page.now.bytes (omega arith) h))
+    ((λ e. absurd cc), λ h. absurd (not_laid_out c.args.page.now.bytes (omega arith) h.0))
 
 pub returns : goal.returns
 returns c = search rules

@@ -1,13 +1,12 @@
-use Rattle.std.proofs.Common.{◌∙◌, ℕ, List, [], Option, IfSome, refl, sym, ap, subst, rules}
+use Rattle.std.proofs.Common.{◌∙◌, ℕ, List, Option, IfSome, refl, sym, ap, subst, rules}
 use Rattle.std.specs.Borrow.{Bor}
 use Rattle.std.specs.Option.{option_map}
-use Rattle.dbm_model.specs.Pairs.{Pair}
 use Rattle.dbm_model.specs.States.{Behind}
 use Rattle.chain_walks.specs.Leasts.{pass_behind, IsAheadAt}
 use Rattle.dbm_file.specs.Passing.{pass_from}
 use Rattle.dbm_file.proofs.PassSteps.{least_of_map, table_at, begins_so, goes_on_so, given_step, ended_step, pass_failed, pass_flagged, short_key}
 use Rattle.dbm_file.proofs.ReadSteps.{after_reads}
-use Rattle.dbm_file.proofs.Searches.{passed_so}
+use Rattle.dbm_file.proofs.Searches.{blank, passed_so}
 use Rattle.dbm_file.proofs.database.Database.advance.Goals as goal
 
 pub go_behind-requires : goal.go_behind-requires
@@ -31,7 +30,7 @@ returns-in-Ok-Some-clause-step g c honest h at call falls =
     record { reads = all.reads; meta_is = refl; error_is = refl; pass_is = refl } honest
     c.requires.usable falls least.pages least.map_is _ _ least.least
     c.in-Ok-Some.slot c.pair_at.result.0.now c.in-Ok-Some.field-0-is
-    (ap (λ (pair : Pair). pair.0) (c.pair_at.ensures ([], []))) c.go_behind.ensures
+    (c.pair_at.ensures blank).0 c.go_behind.ensures
 
 pub returns-in-Ok-None-clause-step : goal.returns-in-Ok-None-clause-step
 returns-in-Ok-None-clause-step g c honest h at call falls =
@@ -89,7 +88,7 @@ returns-in-Ok-None-2-clause-passed g c honest =
 
 pub returns-in-Ok-Some-clause-stands : goal.returns-in-Ok-Some-clause-stands
 returns-in-Ok-Some-clause-stands g c =
-    c.go_behind.ensures ∙ sym (ap (λ (pair : Pair). Behind pair.0) (c.pair_at.ensures ([], [])))
+    c.go_behind.ensures ∙ sym (ap Behind (c.pair_at.ensures blank).0)
 
 pub returns-in-Ok-None-clause-stands : goal.returns-in-Ok-None-clause-stands
 returns-in-Ok-None-clause-stands g c = begins_so c.args.begins c.args.self.now c.if-begins.true

@@ -19,6 +19,7 @@ returns-in-Err g c =
       absent = end.absent;
       counted = end.counted;
       deleted = λ is. refused_is_none c.refuse.result _ _ c.refuse.ensures.answer is;
+      memory = end.memory;
       keeps = flagged_ended c.args.self.now mid _ _ _ c.refuse.new.error c.in-Err.fault
           c.refuse.ensures.flag c.refuse.result c.refuse.ensures.answer all.ends.keeps;
       only = end.only;
@@ -35,6 +36,7 @@ returns-in-Ok g c =
       absent = all.ends.absent;
       counted = all.ends.counted;
       deleted = all.ends.deleted;
+      memory = all.ends.memory;
       keeps = all.ends.keeps;
       only = all.ends.only;
       pass = all.pass;

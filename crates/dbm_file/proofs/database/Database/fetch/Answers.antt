@@ -1,13 +1,17 @@
-use Rattle.std.proofs.Common.{None, Some, Err, inl, refl, sym, ap, ◌∙◌}
-use Rattle.std.specs.FinMap.{get}
+use Rattle.std.proofs.Common.{◌∙◌, ℕ, ◌≤◌, List, length, None, Some, Err, inl, refl, sym, ap, subst}
+use Rattle.dbm_model.specs.Bounds.{Bounds}
 use Rattle.dbm_model.specs.Calls.{Fetch, NoRecord}
-use Rattle.dbm_model.specs.Pairs.{Contents}
+use Rattle.page_io.specs.Views.{body_at}
+use Rattle.dbm_file.specs.Database.{meta_kept}
+use Rattle.dbm_file.specs.Fetching.{content_in}
+use Rattle.dbm_file.specs.Rooms.{longest_content}
+use Rattle.dbm_file.specs.declared.database.Found.TheVariants.{InPage, InBuffer}
 use Rattle.dbm_file.proofs.Cases.{broken_fetch}
-use Rattle.dbm_file.proofs.FetchSteps.{short_content, same_content, no_content, fetched_well, fetch_failed, met_damage, only_these, walk_faults}
+use Rattle.dbm_file.proofs.ContentSteps.{near_short, found_in}
+use Rattle.dbm_file.proofs.FetchSteps.{fetched_well, fetch_failed, met_damage, met_want, only_these, load_faults}
 use Rattle.dbm_file.proofs.Lends.{lends_broken, lends_nothing}
-use Rattle.dbm_file.proofs.ReadSteps.{not_broken, after_reads}
-use Rattle.dbm_file.proofs.Searches.{nothing_searched, found_nothing, found_content}
-use Rattle.linear_hash.proofs.Tables.{placed, is_table, map_placed}
+use Rattle.dbm_file.proofs.ReadSteps.{not_broken, still_bounds}
+use Rattle.dbm_file.proofs.Searches.{blank, nothing_searched, searched_content}
 use Rattle.dbm_file.proofs.database.Database.fetch.Goals as goal
 
 pub returns-then-is_broken : goal.returns-then-is_broken
@@ -23,10 +27,11 @@ returns-then-is_broken g c =
       ),
       record {
         after = tt;
-        short = lends_nothing c.refuse.result _ answer;
+        short = lends_nothing _ c.refuse.result _ answer;
         searched =
             nothing_searched _ c.refuse.result _ answer;
         readable = λ can damaged. let both = sym answer ∙ damaged in cc;
+        memory = λ is. absurd (let both = sym answer ∙ is in cc);
         only =
             only_these c.refuse.result _ answer (inl refl);
       },
@@ -36,65 +41,91 @@ pub returns-in-Ok-None : goal.returns-in-Ok-None
 returns-in-Ok-None g c =
     let s = g.S.PageStore in
     let db = c.args.self.now in
+    let new = c.find.new.self in
     let key = c.args.key.now in
+    let all = c.in-Ok-None.ensures in
+    let is = ap (content_in new) c.in-Ok-None.field-0-is in
     let usable = not_broken _ _ c.is_broken.ensures c.if-is_broken.false in (
       (
         refl,
         (λ _. tt),
-        fetched_well s db _ key None record {
-          reads = c.find_pair.ensures.reads;
-          meta_is = refl;
-          error_is = refl;
-          pass_is = refl;
-        } usable
-            (λ honest map h.
-            let found = c.in-Ok-None.ensures.exact honest (placed s db.store _ map h)
-            (is_table s db.store _ map h (g.met.S.PageStore.ends db.store) db.idle) in
-            no_content key _ _ _ c.in-Ok-None.field-0-is found
-            ∙ ap (λ (m : Contents). get m key) (map_placed s db.store _ map h)),
+        fetched_well s db new key None all.reads usable
+            (λ honest map h. sym is ∙ all.exact honest map h),
       ),
       record {
         after = tt;
         short = tt;
-        searched = λ honest.
-            found_nothing _ _ key _ _ c.in-Ok-None.field-0-is
-            (c.in-Ok-None.ensures.searched honest);
+        searched = λ honest. searched_content (body_at s db.store) _ key _ _ is
+            (all.searched honest);
         readable = λ can damaged. cc;
+        memory = λ lacks. absurd (let e = lacks in cc);
         only = tt;
       },
     )
 
-pub returns-in-Ok-Some : goal.returns-in-Ok-Some
-returns-in-Ok-Some g c =
+pub returns-in-Ok-Some-InPage : goal.returns-in-Ok-Some-InPage
+returns-in-Ok-Some-InPage g c =
     let s = g.S.PageStore in
     let db = c.args.self.now in
+    let new = c.find.new.self in
     let key = c.args.key.now in
+    let found = c.in-Ok-Some-InPage in
+    let all = found.ensures in
+    let bytes = (c.pair_at.ensures blank).1 in
+    let there = found.field-0-is ∙ ap Some found.field-0-0-is in
+    let is = ap (content_in new) there ∙ ap Some bytes in
+    let held = found_in new found.field-0 (InPage found.slot) there all.held in
+    let short = near_short _ new.page.bytes found.slot held.0 held.1 in
     let usable = not_broken _ _ c.is_broken.ensures c.if-is_broken.false in (
       (
         refl,
         (λ _. tt),
-        fetched_well s db _ key (Some c.pair_at.result.1)
-            record {
-              reads = c.find_pair.ensures.reads;
-              meta_is = refl;
-              error_is = refl;
-              pass_is = refl;
-            } usable
-            (λ honest map h.
-            let found = c.in-Ok-Some.ensures.exact honest (placed s db.store _ map h)
-            (is_table s db.store _ map h (g.met.S.PageStore.ends db.store) db.idle) in
-            same_content key _ _ _ _ c.pair_at.result c.in-Ok-Some.field-0-is found
-            c.pair_at.ensures ∙ ap (λ (m : Contents). get m key)
-            (map_placed s db.store _ map h)),
+        fetched_well s db new key (Some c.pair_at.result.1) all.reads usable
+            (λ honest map h. sym is ∙ all.exact honest map h),
       ),
       record {
         after = tt;
-        short = short_content key _ _ _ _ _ c.in-Ok-Some.field-0-is
-            c.in-Ok-Some.ensures.held c.pair_at.ensures;
-        searched = λ honest.
-            found_content _ _ key _ _ _ c.pair_at.result c.in-Ok-Some.field-0-is c.pair_at.ensures
-            (c.in-Ok-Some.ensures.searched honest);
+        short = subst (λ (b : Bounds). length c.pair_at.result.1.now ≤ longest_content b.version)
+            (still_bounds s db new all.reads)
+            (subst (λ (l : List ℕ). length l ≤ longest_content (meta_kept new).bounds.version) bytes
+            short);
+        searched = λ honest. searched_content (body_at s db.store) _ key _ _ is
+            (all.searched honest);
         readable = λ can damaged. cc;
+        memory = λ lacks. absurd (let e = lacks in cc);
+        only = tt;
+      },
+    )
+
+pub returns-in-Ok-Some-InBuffer : goal.returns-in-Ok-Some-InBuffer
+returns-in-Ok-Some-InBuffer g c =
+    let s = g.S.PageStore in
+    let db = c.args.self.now in
+    let new = c.find.new.self in
+    let key = c.args.key.now in
+    let found = c.in-Ok-Some-InBuffer in
+    let all = found.ensures in
+    let bytes = sym c.as_slice.ensures.value in
+    let there = found.field-0-is ∙ ap Some found.field-0-0-is in
+    let is = ap (content_in new) there ∙ ap Some bytes in
+    let short = found_in new found.field-0 InBuffer there all.held in
+    let usable = not_broken _ _ c.is_broken.ensures c.if-is_broken.false in (
+      (
+        refl,
+        (λ _. tt),
+        fetched_well s db new key (Some c.as_slice.result) all.reads usable
+            (λ honest map h. sym is ∙ all.exact honest map h),
+      ),
+      record {
+        after = tt;
+        short = subst (λ (b : Bounds). length c.as_slice.result.now ≤ longest_content b.version)
+            (still_bounds s db new all.reads)
+            (subst (λ (l : List ℕ). length l ≤ longest_content (meta_kept new).bounds.version) bytes
+            short);
+        searched = λ honest. searched_content (body_at s db.store) _ key _ _ is
+            (all.searched honest);
+        readable = λ can damaged. cc;
+        memory = λ lacks. absurd (let e = lacks in cc);
         only = tt;
       },
     )
@@ -106,26 +137,26 @@ returns-in-Err g c =
     let usable = not_broken _ _ c.is_broken.ensures c.if-is_broken.false in
     let answer = c.refuse-in-Err.ensures.answer in
     let all = c.in-Err.ensures in
-    let new = after_reads s db c.find_pair.new.store c.find_pair.new.page all.reads in (
+    let fault = c.from.result in (
       (
         refl,
         (λ _. tt),
-        fetch_failed s new c.args.key.now _ _ _ c.refuse-in-Err.new.error c.from.result
-            c.refuse-in-Err.ensures.flag c.refuse-in-Err.result answer db c.in-Err.fault
-            record { reads = all.reads; meta_is = refl; error_is = refl; pass_is = refl }
-            c.from.ensures usable all.answer all.cause
-            (λ honest map h. all.whole honest (placed s db.store _ map h)
-            (is_table s db.store _ map h (g.met.S.PageStore.ends db.store) db.idle)),
+        fetch_failed s c.find.new.self c.args.key.now _ _ _ c.refuse-in-Err.new.error fault
+            c.refuse-in-Err.ensures.flag c.refuse-in-Err.result answer db c.in-Err.fault all.reads
+            c.from.ensures usable all.answer all.cause (λ honest map h. all.whole honest map h)
+            (λ honest map h. all.sparing honest map h),
       ),
       record {
         after = tt;
-        short = lends_nothing c.refuse-in-Err.result c.from.result answer;
-        searched = nothing_searched _ c.refuse-in-Err.result c.from.result answer;
-        readable = λ can damaged. all.readable can.0 can.1
-            (ap Err (met_damage c.refuse-in-Err.result c.in-Err.fault c.from.result answer
+        short = lends_nothing _ c.refuse-in-Err.result fault answer;
+        searched = nothing_searched _ c.refuse-in-Err.result fault answer;
+        readable = λ can damaged. all.readable can
+            (ap Err (met_damage c.refuse-in-Err.result c.in-Err.fault fault answer
             c.from.ensures damaged));
+        memory = λ lacks. all.memory (ap Err (met_want c.refuse-in-Err.result c.in-Err.fault fault
+            answer c.from.ensures lacks));
         only =
-            only_these c.refuse-in-Err.result c.from.result answer
-            (walk_faults c.in-Err.fault c.from.result c.from.ensures all.answer.only);
+            only_these c.refuse-in-Err.result fault answer
+            (load_faults c.in-Err.fault fault c.from.ensures all.answer.only);
       },
     )

@@ -1,5 +1,5 @@
 use Rattle.std.proofs.Common.{◌≡◌, ◌∙◌, List, map, take, length, subst, sym, arith}
-use Rattle.chain_walks.specs.Pairs.{pair_of}
+use Rattle.dbm_file.specs.Pairs.{pair_of}
 use Rattle.dbm_model.specs.Pairs.{Pair}
 use Rattle.dbm_file.specs.Database.{store_of}
 use Rattle.dbm_file.specs.Grouping.{StoresOne, StoresMany}

@@ -1,5 +1,5 @@
 use Rattle.std.proofs.Common.{map, take}
-use Rattle.chain_walks.specs.Pairs.{pair_of}
+use Rattle.dbm_file.specs.Pairs.{pair_of}
 use Rattle.dbm_file.specs.Grouping.{IsOver, StoresMany}
 use Rattle.dbm_file.specs.Trying.{IsRead}
 use Rattle.dbm_file.proofs.database.Database.fill.Given as goal

@@ -23,7 +23,7 @@ returns-then-is_broken g c =
       ),
       record {
         after = tt;
-        short = lends_nothing c.refuse.result _ answer;
+        short = lends_nothing _ c.refuse.result _ answer;
         passed =
             nothing_searched _ c.refuse.result _ answer;
         only =

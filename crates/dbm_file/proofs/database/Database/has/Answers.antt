@@ -45,7 +45,7 @@ returns g c =
           let table = is_table s store _ map h (g.met.S.PageStore.ends store)
           c.args.self.now.idle in
           let found = all.exact honest (placed s store _ map h) table in
-          c.is_some.ensures ∙ found_some c.args.key.now _ _ _ found
+          c.is_some.ensures ∙ found_some _ c.args.key.now _ _ _ found
           ∙ ap (λ (m : Contents). is_some (get m c.args.key.now)) (map_placed s store _ map h);
       whole = λ honest map h is. never_damaged c.is_some.result is;
     }

@@ -23,7 +23,7 @@ returns-then-is_broken g c =
       ),
       record {
         after = tt;
-        short = lends_nothing c.refuse.result _ answer;
+        short = lends_nothing _ c.refuse.result _ answer;
         passed =
             nothing_searched _ c.refuse.result _ answer;
         ahead =
@@ -54,7 +54,7 @@ returns-then-not-is_begun g c =
       ),
       record {
         after = tt;
-        short = lends_nothing c.refuse-then-not-is_begun.result _ answer;
+        short = lends_nothing _ c.refuse-then-not-is_begun.result _ answer;
         passed =
             nothing_searched _ c.refuse-then-not-is_begun.result _ answer;
         ahead =

@@ -2,7 +2,7 @@ use Rattle.std.proofs.Common.{◌∙◌, map, take, Ok, Err, refl, sym, ap, rule
 use Rattle.std.proofs.lemmas.List.{take-map}
 use Rattle.page_io.specs.Store.{StoreState}
 use Rattle.page_io.proofs.Exits.{more_later}
-use Rattle.chain_walks.specs.Pairs.{pair_of}
+use Rattle.dbm_file.specs.Pairs.{pair_of}
 use Rattle.dbm_fault.specs.Faults.{fault_from}
 use Rattle.dbm_file.specs.Database.{store_of, page_state}
 use Rattle.dbm_file.proofs.GroupEnds.{none_grouped, group_refused, group_told, all_grouped, group_broke}

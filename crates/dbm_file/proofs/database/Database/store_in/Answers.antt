@@ -1,5 +1,5 @@
 use Rattle.std.proofs.Common.{◌∙◌, subst, arith}
-use Rattle.chain_walks.specs.Pairs.{pair_of}
+use Rattle.dbm_file.specs.Pairs.{pair_of}
 use Rattle.dbm_file.specs.Database.{store_of}
 use Rattle.dbm_file.specs.Grouping.{StoresTried}
 use Rattle.page_io.proofs.Exits.{exit_is, cause_then, cause_ok}

@@ -1,5 +1,6 @@
-use Rattle.std.proofs.Common.{◌∙◌, ap, sym, subst, refl, Err, arith}
+use Rattle.std.proofs.Common.{◌∙◌, inr, ap, sym, subst, refl, Err, arith}
 use Rattle.std.specs.FinMap.{get, remove, len}
+use Rattle.dbm_model.specs.Bounds.{Bounds}
 use Rattle.dbm_model.specs.Calls as model
 use Rattle.dbm_model.specs.Steps.{Case, Suffers}
 use Rattle.page_io.specs.Store.{StoreState}
@@ -10,8 +11,10 @@ use Rattle.dbm_file.specs.Passing.{model_pass}
 use Rattle.dbm_file.specs.declared.calls.DeleteReply.TheVariants as deleted
 use Rattle.dbm_fault.specs.declared.fault.Fault.TheVariants.{ReadOnly}
 use Rattle.dbm_file.proofs.Cases.{broken_delete, delete_read_only, delete_rule, delete_fails, absent}
-use Rattle.dbm_file.proofs.ReadSteps.{from_own, no_read, still_meta, still_writable, not_broken, rejected_step, found_step, walk_failed_step, broken_step}
-use Rattle.dbm_file.proofs.ChangeSteps.{mid_honest, mid_usable, mid_holds, changed_step, no_growth, refused_step, told_keeps}
+use Rattle.dbm_file.proofs.ReadSteps.{from_own, no_read, still_meta, still_bounds, still_writable, not_broken, rejected_step, found_step, walk_failed_step, broken_step}
+use Rattle.dbm_file.proofs.AskedChanges.{mid_placed, mid_table, turns_to, fits_mid, lacks_room, frees}
+use Rattle.dbm_file.proofs.ChangeSteps.{mid_honest, mid_usable, mid_holds, changed_step, no_growth, refused_step}
+use Rattle.dbm_file.proofs.RefusedChanges.{told_keeps}
 use Rattle.dbm_file.proofs.Endings.{unusable_delete, unwritable_delete, told_delete, absent_delete, uncounted_delete, done_delete, walk_told, done_keeps}
 use Rattle.seg_table.specs.MetaPages.{model_meta}
 use Rattle.dbm_file.proofs.BucketSteps.{none_opened}
@@ -80,7 +83,7 @@ returns-in_err-has g c =
           c.from_residual.result c.from_residual.ensures.1);
       ends = told_delete db key usable writable c.has.new.self c.from_residual.result
           c.in_err-has.field-0.0 told (as_change _ all.answer.only)
-          (walk_no_memory _ all.answer.only)
+          (λ is. absurd (walk_no_memory _ all.answer.only is))
           (still_meta s db c.has.new.self all.reads) keeps;
       pass = ap model_pass c.in_err-has.ensures.reads.pass_is;
     }
@@ -149,16 +152,22 @@ returns-in_err-delete_pair g c =
           ∙ c.if-not-branch.false in
           let asked = delete_asked s db c.has.new.self map key c.in_ok-has.ensures.reads usable
           writable honest (at.map usable) (at.rests usable) there in
+          let turns = turns_to s asked c.delete_pair.new.store _
+          (all.turns (mid_honest s asked) (mid_usable s asked) map (mid_holds s asked) there) in
           from_own at (delete_told _ c.in_err-delete_pair.field-0.0
           (refused_step s asked _ c.in_err-delete_pair.field-0.0
-          record { ends = all.ends; error_is = refl; pass_is = refl }
-          (all.turns (mid_honest s asked) (mid_usable s asked) map (mid_holds s asked) there)
+          record { ends = all.ends; error_is = refl; pass_is = refl } _ turns
           (λ t x le left. g.met.S.PageStore.counts_now c.delete_pair.new.store t x
           (all.ends.honesty.1 (mid_honest s asked)) le left)
-          (λ is. absurd (all.no_memory (ap Err is))))
+          (λ is. frees s asked key (λ near. all.no_memory (mid_honest s asked) (mid_placed s asked)
+          (mid_table s asked (g.met.S.PageStore.ends c.has.new.self.store)) near (ap Err is)))
+          (λ is. lacks_room s asked c.delete_pair.new.store _ turns (ap Err is)))
           c.from_residual-in_err-delete_pair.result c.from_residual-in_err-delete_pair.ensures.1);
       ends = told_delete db key usable writable _ r c.in_err-delete_pair.field-0.0 told
-          all.ends.answer.only (λ is. all.no_memory (ap Err is)) (all.ends.err.1 ∙ still_meta s db c.has.new.self read) keeps;
+          all.ends.answer.only
+          (λ is. sym (ap (λ (b : Bounds). b.version) (still_bounds s db c.has.new.self read))
+          ∙ all.memory (ap Err is))
+          (all.ends.err.1 ∙ still_meta s db c.has.new.self read) keeps;
       pass = ap model_pass c.in_ok-has.ensures.reads.pass_is;
     }
 
@@ -172,8 +181,9 @@ returns g c =
     let read = c.in_ok-has.ensures.reads in
     let all = c.in_ok-delete_pair.ensures in
     let same = still_meta s db c.has.new.self read in
-    let keeps = done_keeps db c.has.new.self _ deleted.Deleted read usable
-    record { ends = all.ends; error_is = refl; pass_is = refl } in
+    let keeps = done_keeps db c.has.new.self _ _ deleted.Deleted read usable
+    record { ends = all.ends; error_is = refl; pass_is = refl }
+    (all.bounds ∙ still_bounds s db c.has.new.self read) in
     record {
       step = λ honest h at.
           let map = h.state.map in
@@ -181,12 +191,14 @@ returns g c =
           ∙ c.if-not-branch.false in
           let asked = delete_asked s db c.has.new.self map key c.in_ok-has.ensures.reads usable
           writable honest (at.map usable) (at.rests usable) there in
+          let turns = turns_to s asked c.delete_pair.new.store _
+          (all.turns (mid_honest s asked) (mid_usable s asked) map (mid_holds s asked) there) in
           from_own at (changed_step s asked _
-          record { ends = all.ends; error_is = refl; pass_is = refl }
-          (no_growth s asked)
+          record { ends = all.ends; error_is = refl; pass_is = refl } _
+          (no_growth s asked) (inr (fits_mid s asked turns.bounded))
           (none_opened (handle_of db map) model.Deleted (meta_kept c.has.new.self)
           (model_meta c.delete_pair.new.meta) (len (remove map key)) all.shape refl)
-          (all.turns (mid_honest s asked) (mid_usable s asked) map (mid_holds s asked) there)
+          turns
           (λ x left. g.met.S.PageStore.only_committed c.delete_pair.new.store x
           (all.ends.honesty.1 (mid_honest s asked))
           (ap (λ (st : StoreState). st.usable) all.ends.ok ∙ mid_usable s asked)

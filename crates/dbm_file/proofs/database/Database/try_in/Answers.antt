@@ -1,6 +1,6 @@
 use Rattle.std.proofs.Common.{Ok, ap, arith}
 use Rattle.dbm_fault.specs.Faults.{fault_of}
-use Rattle.chain_walks.specs.Pairs.{pair_of}
+use Rattle.dbm_file.specs.Pairs.{pair_of}
 use Rattle.dbm_file.specs.Database.{handle_of}
 use Rattle.dbm_file.proofs.GroupSteps.{stored_in, unstored_in, same_twice, over_after, is_stored, was_sound, is_sound, as_stored, as_refused}
 use Rattle.dbm_file.proofs.ReadSteps.{no_read}

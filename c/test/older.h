@@ -1,0 +1,97 @@
+/* ndbm.h as it was before version 2 of the file format, for the program that tries what is compiled with it. */
+#ifndef KUMQUATFEN_NDBM_H
+#define KUMQUATFEN_NDBM_H
+
+#include <stddef.h>
+#include <stdint.h>
+#include <sys/types.h>
+
+#ifdef __cplusplus
+extern "C" {
+#endif
+
+/* so many bytes; dptr may be null where they are none */
+typedef struct {
+    void *dptr;
+    size_t dsize;
+} datum;
+
+/* an open database */
+typedef struct ndbm_database DBM;
+
+/* the modes of dbm_store: a key that is there keeps its content, or gets the new one */
+#define DBM_INSERT 0
+#define DBM_REPLACE 1
+
+/* Where a call fails, it answers -1 or a null pointer, and errno says why. A call that succeeds leaves errno as it was. */
+
+/* opens the database in the file `file`.db; mode is that of a file that is made */
+DBM *dbm_open(const char *file, int flags, mode_t mode);
+void dbm_close(DBM *db);
+/* 0, or 1 where DBM_INSERT finds the key */
+int dbm_store(DBM *db, datum key, datum content, int store_mode);
+/* a null dptr where the key isn't there, with errno as it was */
+datum dbm_fetch(DBM *db, datum key);
+/* -1 with ENOENT where the key isn't there */
+int dbm_delete(DBM *db, datum key);
+/* the keys, each once; a null dptr behind the last, with errno as it was */
+datum dbm_firstkey(DBM *db);
+datum dbm_nextkey(DBM *db);
+/* 0, or the number of the first fault since the opening or the last clearing */
+int dbm_error(DBM *db);
+int dbm_clearerr(DBM *db);
+
+/* the file's descriptor, the same from both */
+int dbm_pagfno(DBM *db);
+int dbm_dirfno(DBM *db);
+/* 1 where the database was opened for reading, else 0 */
+int dbm_rdonly(DBM *db);
+
+/* the most bytes that a key and its content have together */
+#define DBMX_PAIR_MAX 2026
+
+/* an option of dbmx_how: the file isn't locked. The program then has to see to it that no other opening has the file while one
+ * may write it; else pairs are lost, and the file is damaged. */
+#define DBMX_UNLOCKED 1u
+
+/* how a database is opened; all members 0: as dbm_open does */
+typedef struct {
+    /* the most pairs of a database that is made or emptied, 1 to 1000000; 0: 1000000 */
+    unsigned limit;
+    /* for so many seconds the opening is tried again where another program has the file open */
+    unsigned wait;
+    /* 0 or DBMX_UNLOCKED */
+    unsigned options;
+} dbmx_how;
+
+typedef struct {
+    datum key;
+    datum content;
+} dbmx_pair;
+
+typedef struct {
+    /* how many pairs there are, and how many there may be */
+    uint32_t pairs, limit;
+    /* the linear hash table: its buckets, its level and the bucket that is split next */
+    uint32_t buckets, level, split;
+    /* how many pages the file has, and how many of them are free */
+    uint32_t pages, free;
+} dbmx_numbers;
+
+/* as dbm_open; how may be null, and fault too, which else gets the number of the fault, or 0 */
+DBM *dbmx_open(const char *file, int flags, mode_t mode, const dbmx_how *how, int *fault);
+/* puts the pages of the last commit in their places in the file; what was stored is on the disk without it */
+int dbmx_sync(DBM *db);
+/* stores pairs as by DBM_REPLACE, in order and many in one commit; stored may be null, and else gets how many are there */
+int dbmx_store_many(DBM *db, const dbmx_pair *pairs, size_t count, size_t *stored);
+int dbmx_stat(DBM *db, dbmx_numbers *numbers);
+/* reads every page: 0 where the structure of the file is whole */
+int dbmx_verify(DBM *db);
+/* what a fault of this number means */
+const char *dbmx_error_text(int fault);
+
+#ifdef __cplusplus
+}
+#endif
+
+#endif

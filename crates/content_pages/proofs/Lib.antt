@@ -1,0 +1,9 @@
+pub mod ContentGivings
+pub mod ContentTakes
+pub mod ContentTexts
+pub mod ContentWalks
+pub mod ContentWrites
+pub mod FarContents
+pub mod PageCounts
+pub mod StagedCounts
+pub mod StoreReads
