@@ -1,19 +1,22 @@
 -- Calls that were answered on any device.
-use Rattle.std.proofs.Common.{◌≡◌, ℕ, List, [], ◌∷◌, ◌++◌, None, Some, Result, Ok, Err, IfOk, refl, sym, ap, subst, arith}
+use Rattle.std.proofs.Common.{◌≡◌, ℕ, List, [], ◌∷◌, ◌++◌, None, Some, Result, Ok, Err, IfOk, OnOk, refl, sym, ap, subst, arith}
 use Rattle.dbm_fault.specs.Among.{IsErrAmong}
 use Rattle.dbm_fault.specs.declared.fault.Fault.{Fault}
 use Rattle.page_io.specs.Views.{body_at}
 use Rattle.page_io.specs.declared.store.PageStore.{Ghosts}
 use Rattle.chain_walks.specs.Walks.{EndsWithout}
-use Rattle.dbm_file.specs.Answers.{IsSameDatabase, IsCallEnded}
-use Rattle.dbm_file.specs.Changing.{WasDeleted, WasStored}
-use Rattle.dbm_file.specs.Calls.{reply_of, store_reply, delete_reply, Lent, lent_reply, seen}
+use Rattle.dbm_file.specs.Answers.{IsSameDatabase, IsCallEnded, IsCallEndedWith}
+use Rattle.dbm_file.specs.Changing.{WasDeleted, WasStored, WasUpgraded}
+use Rattle.dbm_file.specs.Calls.{reply_of, store_reply, delete_reply, upgrade_reply, Lent, lent_reply, seen}
 use Rattle.dbm_file.specs.Database.{store_of, meta_kept}
-use Rattle.dbm_file.specs.Replies.{IsCallAnswered, IsAnswered, AreAnswered, store_faults, delete_faults, fetch_faults, read_faults, next_faults, told_of_store, told_of_delete, told_of_bytes}
+use Rattle.dbm_file.specs.Replies.{IsCallAnswered, IsAnswered, AreAnswered, store_faults, delete_faults, upgrade_faults, fetch_faults, read_faults, next_faults, told_of_store, told_of_delete, told_of_upgrade, told_of_bytes}
+use Rattle.dbm_model.specs.Bounds.{V1}
+use Rattle.dbm_model.specs.Calls as model
+use Rattle.dbm_model.specs.Changes.{bounds_after}
 use Rattle.dbm_model.specs.States.{Begun}
 use Rattle.dbm_file.specs.Searches.{Searched, EndsWith, EndsAtContent, Passed, WentOn}
 use Rattle.dbm_file.specs.declared.calls.Call.{Call}
-use Rattle.dbm_file.specs.declared.calls.Call.TheVariants.{Store, Fetch, Delete, First, Next}
+use Rattle.dbm_file.specs.declared.calls.Call.TheVariants.{Store, Fetch, Delete, First, Next, Upgrade}
 use Rattle.dbm_file.specs.declared.calls.Reply.{Reply}
 use Rattle.dbm_file.specs.declared.calls.Reply.TheVariants.{NoRecord, End}
 use Rattle.dbm_file.specs.declared.calls.StoreMode.{StoreMode}
@@ -56,6 +59,12 @@ pub delete_is_told : (ended : Result DeleteReply Fault) (reply : Reply)
 delete_is_told (Ok deleted.Deleted) reply is = ap reply_of is
 delete_is_told (Ok deleted.Absent) reply is = ap reply_of is
 delete_is_told (Err fault) reply is = ap reply_of is
+
+-- an upgrade
+pub upgrade_is_told : (ended : Result (Unit {0}) Fault) (reply : Reply)
+    → reply ≡ told_of_upgrade ended → reply_of reply ≡ upgrade_reply ended
+upgrade_is_told (Ok done) reply is = ap reply_of is
+upgrade_is_told (Err fault) reply is = ap reply_of is
 
 -- a call that lends bytes
 pub bytes_are_told : (none : Reply) (found : Lent) (reply : Reply)
@@ -141,6 +150,17 @@ module _ {S : Type 0} {s : Ghosts S} {old new : Database S s} where
   passed_well (Err fault) passed only keeps =
       record { replied = only; read = tt; done = tt; keeps = keeps_err fault keeps }
 
+  upgraded_well : (ended : Result (Unit {0}) Fault)
+      → OnOk ended ((meta_kept old).bounds.version ≡ V1 → WasUpgraded old new)
+      → IsErrAmong ended upgrade_faults
+      → IsCallEndedWith (bounds_after (meta_kept old).bounds model.Upgrade (upgrade_reply ended))
+      old new ended
+      → IsCallAnswered old new Upgrade (told_of_upgrade ended)
+  upgraded_well (Ok done) raised only keeps =
+      record { replied = tt; read = tt; done = raised; keeps = keeps_as done tt keeps }
+  upgraded_well (Err fault) raised only keeps =
+      record { replied = only; read = tt; done = tt; keeps = keeps_err fault keeps }
+
   -- under the reply that was given, and the key that stands in the call
   pub store_answered : (ended : Result StoreReply Fault) (reply : Reply)
       (given key value content : List ℕ) (mode : StoreMode) → reply ≡ told_of_store ended
@@ -192,6 +212,17 @@ module _ {S : Type 0} {s : Ghosts S} {old new : Database S s} where
   next_answered found reply is passed only keeps =
       subst (λ (r : Reply). IsCallAnswered old new Next r) (sym is)
       (passed_well found passed only keeps)
+
+  pub upgrade_answered : (ended : Result (Unit {0}) Fault) (reply : Reply)
+      → reply ≡ told_of_upgrade ended
+      → OnOk ended ((meta_kept old).bounds.version ≡ V1 → WasUpgraded old new)
+      → IsErrAmong ended upgrade_faults
+      → IsCallEndedWith (bounds_after (meta_kept old).bounds model.Upgrade (upgrade_reply ended))
+      old new ended
+      → IsCallAnswered old new Upgrade reply
+  upgrade_answered ended reply is raised only keeps =
+      subst (λ (r : Reply). IsCallAnswered old new Upgrade r) (sym is)
+      (upgraded_well ended raised only keeps)
 
 -- the database with the same store and meta page
 pub same_goes : {S : Type 0} {s : Ghosts S} (old new : Database S s) → store_of new ≡ store_of old

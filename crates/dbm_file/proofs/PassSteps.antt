@@ -5,6 +5,7 @@ use Rattle.std.specs.Borrow.{Bor}
 use Rattle.std.specs.List.{HoldsAt}
 use Rattle.std.specs.FinMap as finmap
 use Rattle.sect_dev.specs.Moments.{started}
+use Rattle.dbm_model.specs.Bounds.{Bounds}
 use Rattle.dbm_model.specs.Calls as model
 use Rattle.dbm_model.specs.Pairs.{Key, Contents}
 use Rattle.dbm_model.specs.States.{State, Pass, NotBegun, Begun, Behind, Handle, error_number}
@@ -29,7 +30,7 @@ use Rattle.dbm_fault.specs.Faults.{fault_of, fault_from}
 use Rattle.dbm_fault.specs.declared.fault.Fault.{Fault}
 use Rattle.dbm_fault.specs.declared.fault.Fault.TheVariants.{Device, Broken, NoPass}
 use Rattle.dbm_file.specs.Held.{Held, held_by}
-use Rattle.dbm_file.specs.Answers.{MayBeLeft, StandsForSome, Survives, IsStep, IsCallEnded}
+use Rattle.dbm_file.specs.Answers.{MayBeLeft, StandsForSome, Survives, IsStep, IsCallEnded, IsCallEndedWith}
 use Rattle.dbm_file.specs.Calls.{Lent, lent_reply}
 use Rattle.dbm_file.specs.Database.{store_of, meta_kept, page_state, error_of, handle_of, IsAt}
 use Rattle.dbm_file.specs.Lending.{Lends}
@@ -204,8 +205,8 @@ pass_flagged s old db h idle access valid call error fault told_as flag same byt
     (sym same) step))
 
 -- what is kept does not depend on what is given
-pub keeps_as : {S T U : Type 0} {s : Ghosts S} {old new : Database S s} (value : T) (other : U)
-    → IsCallEnded old new (Ok value) → IsCallEnded old new (Ok other)
+pub keeps_as : {S T U : Type 0} {s : Ghosts S} {wanted : Bounds} {old new : Database S s} (value : T)
+    (other : U) → IsCallEndedWith wanted old new (Ok value) → IsCallEndedWith wanted old new (Ok other)
 keeps_as value other k = record {
   goes = k.goes;
   fault = λ is. absurd (let e = is in cc);
@@ -222,8 +223,9 @@ keeps_as value other k = record {
   );
 }
 
-pub keeps_err : {S T U : Type 0} {s : Ghosts S} {old new : Database S s} (fault : Fault)
-    → IsCallEnded {T = T} old new (Err fault) → IsCallEnded {T = U} old new (Err fault)
+pub keeps_err : {S T U : Type 0} {s : Ghosts S} {wanted : Bounds} {old new : Database S s}
+    (fault : Fault) → IsCallEndedWith {T = T} wanted old new (Err fault)
+    → IsCallEndedWith {T = U} wanted old new (Err fault)
 keeps_err fault k = record {
   goes = k.goes;
   fault = λ is. k.fault (let e = is in ap Err (let f : fault ≡ Device = cc in f));

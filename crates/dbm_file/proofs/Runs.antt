@@ -6,19 +6,24 @@ use Rattle.std.proofs.Math.Facts.{sfits_lit, to_z-of_z}
 use Rattle.std.proofs.lemmas.List.{take_more, map-append}
 use Rattle.sect_dev.specs.Device.{LeavesOnly}
 use Rattle.sect_dev.specs.Moments.{started, followed_by, weaker}
+use Rattle.dbm_model.specs.Bounds.{Bounds}
 use Rattle.dbm_model.specs.Calls as model
 use Rattle.dbm_model.specs.Calls.{Call, Reply}
+use Rattle.dbm_model.specs.Changes.{bounds_after}
 use Rattle.dbm_model.specs.States.{Handle}
 use Rattle.dbm_model.specs.Steps.{Step, Run}
 use Rattle.dbm_model.proofs.Runs.{run-push}
 use Rattle.page_io.specs.Store.{Settled}
 use Rattle.page_io.specs.declared.store.PageStore.{Ghosts}
 use Rattle.page_io.proofs.Exits.{both_ways}
-use Rattle.dbm_file.specs.Calls.{bits_of}
+use Rattle.dbm_file.specs.Calls.{bits_of, call_of, reply_of}
 use Rattle.dbm_file.specs.Held.{Held, held_by}
-use Rattle.dbm_file.specs.Database.{store_of, page_state, IsAt}
-use Rattle.dbm_file.specs.Answers.{MayBeLeft, StandsForSome, Survives, IsStep, IsSameDatabase}
+use Rattle.dbm_file.specs.Database.{store_of, meta_kept, page_state, IsAt}
+use Rattle.dbm_file.specs.Answers.{MayBeLeft, StandsForSome, Survives, IsStep, IsSameUnder, IsSameDatabase}
+use Rattle.dbm_file.specs.Replies.{AreAnswered, bounds_behind}
 use Rattle.dbm_file.specs.Runs.{MayBeLeftWithin, IsBreak, IsRun, AreSteps, IsMadeInSteps}
+use Rattle.dbm_file.specs.declared.calls.Call as made
+use Rattle.dbm_file.specs.declared.calls.Reply as told
 use Rattle.dbm_file.specs.declared.database.Database.{Database}
 use Rattle.dbm_file.proofs.Breaks.{rests_shown, CountsNow, breaks_now, breaks_before}
 
@@ -120,7 +125,7 @@ no_run s db h at now = record {
 -- one call more
 module _ {S : Type 0} (s : Ghosts S) (old mid new : Database S s) (h : Handle) (calls : List Call)
     (replies : List Reply) (call : Call) (reply : Reply)
-    (goes : IsSameDatabase mid new) (run : IsRun old mid h calls replies)
+    {wanted : Bounds} (goes : IsSameUnder wanted mid new) (run : IsRun old mid h calls replies)
     (step : IsStep mid new run.after call reply)
     (counts : CountsNow new) where
   abbrev Within : Held → Type 0
@@ -230,12 +235,14 @@ goes_nowhere db = record {
   still = λ broken. refl;
 }
 
-pub still_goes : {S : Type 0} {s : Ghosts S} (old mid new : Database S s) → IsSameDatabase old mid
-    → IsSameDatabase mid new → IsSameDatabase old new
-still_goes {S} {s} old mid new first second = record {
+-- one call more, whose bounds are told by those before it
+still_goes : {S : Type 0} {s : Ghosts S} {wanted : Bounds} (next : Bounds → Bounds)
+    (old mid new : Database S s) → IsSameUnder wanted old mid
+    → IsSameUnder (next (meta_kept mid).bounds) mid new → IsSameUnder (next wanted) old new
+still_goes {S} {s} next old mid new first second = record {
   honesty = both_ways second.honesty first.honesty;
   later = omega (arith, first.later, second.later);
-  bounds = second.bounds ∙ first.bounds;
+  bounds = second.bounds ∙ ap next first.bounds;
   capacity = second.capacity ∙ first.capacity;
   writable = second.writable ∙ first.writable;
   base = second.base ∙ first.base;
@@ -243,3 +250,41 @@ still_goes {S} {s} old mid new first second = record {
       (ap (λ (store : S). (s.state store).usable) (first.still broken) ∙ broken)
       ∙ first.still broken;
 }
+
+bounds_more : {S : Type 0} {s : Ghosts S} (first : Bounds) (old mid : Database S s)
+    (calls : List made.Call) (replies : List told.Reply) (call : made.Call) (reply : told.Reply)
+    → AreAnswered old mid calls replies
+    → bounds_behind first (calls ++ call ∷ []) (replies ++ reply ∷ [])
+    ≡ bounds_after (bounds_behind first calls replies) (call_of call) (reply_of reply)
+bounds_more first old mid [] [] call reply answered = refl
+bounds_more first old mid [] (r ∷ replies) call reply answered = absurd answered
+bounds_more first old mid (c ∷ calls) [] call reply answered = absurd answered
+bounds_more first old mid (c ∷ calls) (r ∷ replies) call reply (next, one, answered) =
+    bounds_more (bounds_after first (call_of c) (reply_of r)) next mid calls replies call reply
+    answered
+
+pub goes_further : {S : Type 0} {s : Ghosts S} (old mid new : Database S s)
+    (calls calls' : List made.Call) (replies replies' : List told.Reply) (call : made.Call)
+    (reply : told.Reply) → AreAnswered old mid calls replies
+    → IsSameUnder (bounds_behind (meta_kept old).bounds calls replies) old mid
+    → IsSameUnder (bounds_after (meta_kept mid).bounds (call_of call) (reply_of reply)) mid new
+    → calls' ≡ calls ++ call ∷ [] → replies' ≡ replies ++ reply ∷ []
+    → IsSameUnder (bounds_behind (meta_kept old).bounds calls' replies') old new
+goes_further old mid new calls calls' replies replies' call reply answered first second c r =
+    let b = (meta_kept old).bounds in
+    subst (λ (cs : List made.Call). IsSameUnder (bounds_behind b cs replies') old new) (sym c)
+    (subst (λ (rs : List told.Reply). IsSameUnder (bounds_behind b (calls ++ call ∷ []) rs) old new)
+    (sym r)
+    (subst (λ (wanted : Bounds). IsSameUnder wanted old new)
+    (sym (bounds_more b old mid calls replies call reply answered))
+    (still_goes (λ bounds. bounds_after bounds (call_of call) (reply_of reply)) old mid new first
+    second)))
+
+-- what a call leaves, under another name of the call
+pub goes_for : {S : Type 0} {s : Ghosts S} (old new : Database S s) (call call' : made.Call)
+    (reply : told.Reply) → call ≡ call'
+    → IsSameUnder (bounds_after (meta_kept old).bounds (call_of call') (reply_of reply)) old new
+    → IsSameUnder (bounds_after (meta_kept old).bounds (call_of call) (reply_of reply)) old new
+goes_for old new call call' reply is = subst
+    (λ (c : made.Call).
+    IsSameUnder (bounds_after (meta_kept old).bounds (call_of c) (reply_of reply)) old new) (sym is)

@@ -1,6 +1,6 @@
 -- Searches, by what they answered.
 use Rattle.std.proofs.Common.{◌≡◌, ◌⊎◌, ◌<◌, ℕ, zero, suc, Bool, true, false, is_some, List, [], ◌∷◌, length, get_or, refl, arith, Option, Some, None, Result, Err, IfOk, inl, inr, sym, ◌∙◌, ap, subst}
-use Rattle.std.specs.Prelude.{◌↔◌, ◌≢◌}
+use Rattle.std.specs.Prelude.{◌↔◌, ◌≢◌, IsSome}
 use Rattle.std.specs.Borrow.{Bor}
 use Rattle.std.specs.List.{HoldsAt}
 use Rattle.dbm_model.specs.Pairs.{Key}
@@ -18,7 +18,7 @@ use Rattle.dbm_fault.specs.declared.fault.Fault.{Fault}
 use Rattle.dbm_fault.specs.declared.fault.Fault.TheVariants.{NoPass, Device, Damaged}
 use Rattle.chain_walks.specs.Leasts.{IsAheadAt}
 use Rattle.linear_hash.specs.Passing.{IsPassed}
-use Rattle.dbm_file.specs.Searches.{EndsWith, EndsBy, EndsAtContent, IsGiven}
+use Rattle.dbm_file.specs.Searches.{EndsWith, EndsBy, EndsAtContent, EndsAtFar, IsGiven}
 
 -- no record
 abbrev pub blank : Record
@@ -102,6 +102,21 @@ near_content at m key bytes place there is within near s =
             content = subst (SaysContent at (record_in bytes there.slot).bytes
                 (record_in bytes there.slot).bytes) (sym (near blank)) refl;
           }),
+    ))
+    (subst (λ (p : Option Place). IsSearch at m key (EndsAt key bytes p)) is s)
+
+-- one whose content is far
+pub far_key : (at : ℕ → Body) (m : Meta) (key : Key) (bytes : List ℕ) (place : Option Place)
+    (there : Place) (first long : ℕ) → place ≡ Some there
+    → HoldsAt (λ r. told_content r ≡ Some (first, long)) (page_records bytes) there.slot
+    → IsSearch at m key (EndsAt key bytes place) → IsSearch at m key (EndsAtFar key)
+far_key at m key bytes place there first long is far s =
+    ended_so at m key (EndsAt key bytes (Some there)) (EndsAtFar key)
+    (λ leaf after ends. (
+      there.slot,
+      ends.has,
+      λ d. subst (λ (rs : List Record). IsSome (told_content (get_or rs there.slot d))) ends.records
+          (subst (λ (o : Option (ℕ × ℕ)). IsSome o) (sym (far d)) refl),
     ))
     (subst (λ (p : Option Place). IsSearch at m key (EndsAt key bytes p)) is s)
 

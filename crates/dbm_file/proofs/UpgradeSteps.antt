@@ -22,7 +22,7 @@ use Rattle.page_commit.specs.Committing.{Holds}
 use Rattle.dbm_fault.specs.Among.{IsAmong}
 use Rattle.dbm_fault.specs.Faults.{fault_of, fault_from}
 use Rattle.dbm_fault.specs.declared.fault.Fault.{Fault}
-use Rattle.dbm_fault.specs.declared.fault.Fault.TheVariants.{ReadOnly, TooSmall}
+use Rattle.dbm_fault.specs.declared.fault.Fault.TheVariants.{ReadOnly, TooSmall, NoRoom}
 use Rattle.dbm_file.specs.Answers.{IsStep, IsCallEnded, IsCallEndedWith}
 use Rattle.dbm_file.specs.Calls.{upgrade_reply}
 use Rattle.dbm_file.specs.Database.{store_of, meta_kept, page_state, handle_of}
@@ -102,6 +102,20 @@ among_upgrade e (inr (inr (inl is))) never = inr (inr (inr (inr (ap fault_from i
 among_upgrade e (inr (inr (inr (inl is)))) never = absurd (never (inr is))
 among_upgrade e (inr (inr (inr (inr is)))) never = inr (inr (inr (inl (ap fault_from is))))
 
+no_room_below : (e : PageFault) → fault_from e ≡ NoRoom → e ≡ page.NoRoom
+no_room_below page.Memory is = absurd (let x = is in cc)
+no_room_below page.Device is = absurd (let x = is in cc)
+no_room_below page.Broken is = absurd (let x = is in cc)
+no_room_below page.ReadOnly is = absurd (let x = is in cc)
+no_room_below page.NoRoom is = refl
+no_room_below page.Damaged is = absurd (let x = is in cc)
+
+-- what room lacks below
+lacked : (P : Type 0) (e : PageFault) (r : Result (Unit {0}) Fault)
+    → IsErrAnd r (λ fault. fault ≡ fault_from e) → (e ≡ page.NoRoom → P) → r ≡ Err NoRoom → P
+lacked P e r told room is = room (no_room_below e
+    (sym (subst (λ (x : Result (Unit {0}) Fault). IsErrAnd x (λ fault. fault ≡ fault_from e)) is told)))
+
 -- one that the pages below refuse
 pub told_upgrade : {S : Type 0} {s : Ghosts S} (old new : Database S s)
     (r : Result (Unit {0}) Fault) (e : PageFault)
@@ -109,9 +123,11 @@ pub told_upgrade : {S : Type 0} {s : Ghosts S} (old new : Database S s)
     → (meta_kept old).bounds.version ≡ bounds.V1
     → 2 * home (bounds.upgraded (meta_kept old).bounds) ≤ (page_state old).capacity
     → IsErrAnd r (λ fault. fault ≡ fault_from e) → IsOfChange e
-    → ((e ≡ page.Memory) ⊎ (e ≡ page.Damaged) → ⊥) → IsCallEnded old (with_error_of new r) r
+    → ((e ≡ page.Memory) ⊎ (e ≡ page.Damaged) → ⊥)
+    → (e ≡ page.NoRoom → (page_state old).capacity ≤ (page_state old).end)
+    → IsCallEnded old (with_error_of new r) r
     → IsUpgradeEnd old new (with_error_of new r) r
-told_upgrade old new r e usable writable first room told one never keeps = record {
+told_upgrade old new r e usable writable first room told one never lacks keeps = record {
   read_only = (
     λ is. absurd (told_other r e ReadOnly told (not_read_only e one) is),
     λ all. absurd (let x = sym writable ∙ all.1 in cc),
@@ -120,6 +136,7 @@ told_upgrade old new r e usable writable first room told one never keeps = recor
     λ is. absurd (told_other r e TooSmall told (never_too_small e) is),
     λ all. absurd (omega (arith, all.2, room)),
   );
+  room = lacked _ e r told lacks;
   second = λ may second. absurd (let x = sym first ∙ second in cc);
   upgraded = refused_no_value _ e r told;
   keeps = refusal_keeps old (with_error_of new r) e r told keeps;

@@ -11,9 +11,9 @@ use Rattle.dbm_file.specs.declared.calls.StoreReply.TheVariants as stored
 use Rattle.dbm_file.specs.declared.calls.DeleteReply.{DeleteReply}
 use Rattle.dbm_file.specs.declared.calls.DeleteReply.TheVariants as deleted
 use Rattle.dbm_file.specs.declared.calls.Call.{Call}
-use Rattle.dbm_file.specs.declared.calls.Call.TheVariants.{Store, Fetch, Delete, First, Next, Error, Clear}
+use Rattle.dbm_file.specs.declared.calls.Call.TheVariants.{Store, Fetch, Delete, First, Next, Error, Clear, Upgrade}
 use Rattle.dbm_file.specs.declared.calls.Reply.{Reply}
-use Rattle.dbm_file.specs.declared.calls.Reply.TheVariants.{Stored, Kept, Deleted, Absent, Bytes, NoRecord, End, Number, Refused}
+use Rattle.dbm_file.specs.declared.calls.Reply.TheVariants.{Stored, Kept, Deleted, Absent, Bytes, NoRecord, End, Number, Upgraded, Refused}
 
 abbrev pub mode_of : StoreMode → model.Mode
 mode_of Insert = model.Insert
@@ -27,6 +27,7 @@ call_of First = model.First
 call_of Next = model.Next
 call_of Error = model.Error
 call_of Clear = model.Clear
+call_of Upgrade = model.Upgrade
 
 -- a number by its 32 bits, so that no negative one is taken for another
 abbrev pub bits_of : ℤ → ℕ
@@ -42,6 +43,7 @@ reply_of (Bytes bytes) = model.Bytes bytes
 reply_of NoRecord = model.NoRecord
 reply_of End = model.End
 reply_of (Number number) = model.Number (bits_of number)
+reply_of Upgraded = model.Upgraded
 reply_of (Refused fault) = model.Refused (fault_of fault)
 
 -- a content or a key that lies in the database, or none

@@ -3,20 +3,22 @@ use Rattle.std.specs.Prelude.{◌≡◌, pos, List, [], ◌∷◌, None, Some, R
 use Rattle.dbm_fault.specs.Among.{IsAmong}
 use Rattle.dbm_fault.specs.declared.fault.Fault.{Fault}
 use Rattle.dbm_fault.specs.declared.fault.Fault.TheVariants.{Memory, Device, Broken, ReadOnly, TooLong, Full, NoPass, NoRoom, Damaged, TooSmall}
+use Rattle.dbm_model.specs.Bounds.{Bounds, V1}
+use Rattle.dbm_model.specs.Changes.{bounds_after}
 use Rattle.dbm_model.specs.States.{Begun, error_number}
 use Rattle.page_io.specs.declared.store.PageStore.{Ghosts}
 use Rattle.page_io.specs.Views.{body_at}
 use Rattle.chain_walks.specs.Walks.{EndsWithout}
-use Rattle.dbm_file.specs.Answers.{IsCallEnded}
-use Rattle.dbm_file.specs.Calls.{Lent}
-use Rattle.dbm_file.specs.Changing.{WasDeleted, WasStored}
+use Rattle.dbm_file.specs.Answers.{IsCallEndedWith}
+use Rattle.dbm_file.specs.Calls.{call_of, reply_of, Lent}
+use Rattle.dbm_file.specs.Changing.{WasDeleted, WasStored, WasUpgraded}
 use Rattle.dbm_file.specs.Passing.{pass_of}
 use Rattle.dbm_file.specs.Database.{store_of, meta_kept, error_of}
 use Rattle.dbm_file.specs.Searches.{Searched, EndsWith, EndsAtContent, Passed, WentOn}
 use Rattle.dbm_file.specs.declared.calls.Call.{Call}
-use Rattle.dbm_file.specs.declared.calls.Call.TheVariants.{Store, Fetch, Delete, First, Next, Error, Clear}
+use Rattle.dbm_file.specs.declared.calls.Call.TheVariants.{Store, Fetch, Delete, First, Next, Error, Clear, Upgrade}
 use Rattle.dbm_file.specs.declared.calls.Reply.{Reply}
-use Rattle.dbm_file.specs.declared.calls.Reply.TheVariants.{Stored, Kept, Deleted, Absent, Bytes, NoRecord, End, Number, Refused}
+use Rattle.dbm_file.specs.declared.calls.Reply.TheVariants.{Stored, Kept, Deleted, Absent, Bytes, NoRecord, End, Number, Upgraded, Refused}
 use Rattle.dbm_file.specs.declared.calls.StoreMode.TheVariants.{Insert}
 use Rattle.dbm_file.specs.declared.calls.StoreReply.{StoreReply}
 use Rattle.dbm_file.specs.declared.calls.StoreReply.TheVariants as stored
@@ -63,9 +65,11 @@ IsReplyTo (Delete key) (Refused fault) = IsAmong fault delete_faults
 IsReplyTo (Fetch key) reply = IsBytesOr NoRecord fetch_faults reply
 IsReplyTo First reply = IsBytesOr End read_faults reply
 IsReplyTo Next reply = IsBytesOr End next_faults reply
+IsReplyTo Upgrade Upgraded = Unit {0}
+IsReplyTo Upgrade (Refused fault) = IsAmong fault upgrade_faults
 IsReplyTo _ reply = ⊥
 
--- how a store and a delete are told
+-- how a store, a delete and an upgrade are told
 abbrev pub told_of_store : Result StoreReply Fault → Reply
 told_of_store (Ok stored.Stored) = Stored
 told_of_store (Ok stored.Kept) = Kept
@@ -75,6 +79,10 @@ abbrev pub told_of_delete : Result DeleteReply Fault → Reply
 told_of_delete (Ok deleted.Deleted) = Deleted
 told_of_delete (Ok deleted.Absent) = Absent
 told_of_delete (Err fault) = Refused fault
+
+abbrev pub told_of_upgrade : Result Unit Fault → Reply
+told_of_upgrade (Ok done) = Upgraded
+told_of_upgrade (Err fault) = Refused fault
 
 -- and bytes, or this reply where there are none
 abbrev pub told_of_bytes : Reply → Lent → Reply
@@ -107,6 +115,7 @@ abbrev pub WasDone : {S : Type 0} {s : Ghosts S} → Database S s → Database S
     → Reply → Type 0
 WasDone old new (Store key content mode) Stored = WasStored old new (key, content)
 WasDone old new (Delete key) Deleted = WasDeleted old new key
+WasDone old new Upgrade Upgraded = (meta_kept old).bounds.version ≡ V1 → WasUpgraded old new
 WasDone old new call reply = Unit {0}
 
 -- the error number was told, and nothing changed
@@ -128,7 +137,8 @@ pub record IsCallAnswered {S : Type 0} {s : Ghosts S} (old new : Database S s) (
   pub replied : IsReplyTo call reply
   pub read : WasRead old call reply
   pub done : WasDone old new call reply
-  pub keeps : IsCallEnded old new (refusal reply)
+  pub keeps : IsCallEndedWith (bounds_after (meta_kept old).bounds (call_of call) (reply_of reply))
+      old new (refusal reply)
 
 abbrev pub IsAnswered : {S : Type 0} {s : Ghosts S} → Database S s → Database S s → Call
     → Reply → Type 0
@@ -144,3 +154,10 @@ AreAnswered {S} {s} old new (call ∷ calls) (reply ∷ replies) =
     (mid : Database S s) × IsAnswered old mid call reply × AreAnswered mid new calls replies
 AreAnswered old new [] (reply ∷ replies) = ⊥
 AreAnswered old new (call ∷ calls) [] = ⊥
+
+-- the bounds behind calls that were answered so
+abbrev pub bounds_behind : Bounds → List Call → List Reply → Bounds
+bounds_behind bounds (call ∷ calls) (reply ∷ replies) =
+    bounds_behind (bounds_after bounds (call_of call) (reply_of reply)) calls replies
+bounds_behind bounds [] replies = bounds
+bounds_behind bounds (call ∷ calls) [] = bounds

@@ -30,7 +30,7 @@ pub record AreRooms (size count : ℕ) (rooms : Vec (Vec ℕ)) : Type 0 where
   pub many : vec_len rooms ≡ count
   pub each : All (IsRoom size) rooms.items
 
--- one for each call that gives a content, and one for each that gives a key
-pub record AreRoomsFor (version : Version) (calls : List Call) (rooms : Rooms) : Type 0 where
-  pub contents : AreRooms (longest_content version) (count_by gives_content calls) rooms.contents
+-- one of this size for each call that gives a content, and one for each that gives a key
+pub record AreRoomsFor (longest : ℕ) (calls : List Call) (rooms : Rooms) : Type 0 where
+  pub contents : AreRooms longest (count_by gives_content calls) rooms.contents
   pub keys : AreRooms 2026 (count_by gives_key calls) rooms.keys

@@ -1,5 +1,5 @@
 -- What a call has read that looks for a key, on any file.
-use Rattle.std.specs.Prelude.{◌≡◌, ◌≢◌, ◌<◌, length, ℕ, Bool, true, false, List, [], Option, Some, None}
+use Rattle.std.specs.Prelude.{◌≡◌, ◌≢◌, ◌<◌, length, ℕ, Bool, true, false, List, [], Option, Some, None, IsSome}
 use Rattle.std.specs.List.{HoldsAt}
 use Rattle.dbm_model.specs.Pairs.{Key}
 use Rattle.dbm_model.specs.States.{Pass, NotBegun}
@@ -42,6 +42,11 @@ abbrev pub EndsAtContent : (ℕ → Body) → Key → Option (List ℕ) → Read
 EndsAtContent at key None leaf after = EndsWithout key leaf after
 EndsAtContent at key (Some content) leaf after =
     (slot : ℕ) × (slot < length leaf.records) × HoldsAt (SaysPair at (key, content)) leaf.records slot
+
+-- at the key's record, whose content lies in pages of its own
+abbrev pub EndsAtFar : Key → ReadLeaf → ℕ → Type 0
+EndsAtFar key leaf after = (slot : ℕ) × HasKeyAt key leaf.records slot
+    × HoldsAt (λ r. IsSome (told_content r)) leaf.records slot
 
 -- where a record tells the first page of a content and its length, the pages say one of that length
 abbrev pub ContentIsThere : (ℕ → Body) → Record → Type 0

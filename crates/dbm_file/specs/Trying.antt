@@ -1,5 +1,5 @@
 -- A call of a database before its error is looked at.
-use Rattle.std.specs.Prelude.{◌≡◌, ◌↔◌, ◌+◌, ℕ, true, false, List, is_some, if◌then◌else◌, Option, Some, None, Result, Ok, Err, OnOk}
+use Rattle.std.specs.Prelude.{◌≡◌, ◌↔◌, ◌+◌, ◌≤◌, ℕ, true, false, List, is_some, if◌then◌else◌, Option, Some, None, Result, Ok, Err, OnOk}
 use Rattle.dbm_model.specs.Bounds.{V1, V2}
 use Rattle.dbm_model.specs.Calls as model
 use Rattle.dbm_model.specs.Changes.{bounds_after}
@@ -10,7 +10,7 @@ use Rattle.dbm_file.specs.Passing.{key_in}
 use Rattle.dbm_fault.specs.Faults.{fault_of}
 use Rattle.dbm_fault.specs.Among.{IsErrAmong}
 use Rattle.dbm_fault.specs.declared.fault.Fault.{Fault}
-use Rattle.dbm_fault.specs.declared.fault.Fault.TheVariants.{Memory, ReadOnly, TooLong, TooSmall}
+use Rattle.dbm_fault.specs.declared.fault.Fault.TheVariants.{Memory, ReadOnly, TooLong, TooSmall, NoRoom}
 use Rattle.linear_hash.specs.Tables.{shape_in, shape_for}
 use Rattle.chain_walks.specs.Walks.{EndsWithout}
 use Rattle.dbm_file.specs.Answers.{IsCallEnded, IsCallEndedWith}
@@ -83,6 +83,7 @@ pub record IsUpgradeEnd {S : Type 0} {s : Ghosts S} (old new told : Database S s
   pub read_only : (result ≡ Err ReadOnly)
       ↔ (((page_state old).usable ≡ true) × ((page_state old).writable ≡ false))
   pub too_small : (result ≡ Err TooSmall) ↔ IsTooSmall old
+  pub room : result ≡ Err NoRoom → (page_state old).capacity ≤ (page_state old).end
   pub second : MayUpgrade old → (meta_kept old).bounds.version ≡ V2 → OnOk result (new ≡ old)
   pub upgraded : OnOk result ((meta_kept old).bounds.version ≡ V1 → WasUpgraded old new)
   pub keeps : IsCallEndedWith (bounds_after (meta_kept old).bounds model.Upgrade (upgrade_reply result))

@@ -60,6 +60,8 @@ pub enum Call {
     Next,
     Error,
     Clear,
+    /// To version 2 of the file format.
+    Upgrade,
 }
 
 /// The reply to a call.
@@ -79,5 +81,7 @@ pub enum Reply {
     End,
     /// The number of the first fault since the opening or the last clearing, or 0.
     Number(i32),
+    /// The file is of version 2.
+    Upgraded,
     Refused(Fault),
 }

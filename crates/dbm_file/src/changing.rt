@@ -128,6 +128,10 @@ impl<S: PageStore> Database<S> {
             ↔ (((page_state self.old).usable ≡ true) × ((page_state self.old).writable ≡ false)) }
         ensures too_small { (result ≡ Err Fault.TooSmall) ↔ IsTooSmall self.old }
 
+        // Room lacks only where the device has no page behind the file.
+        ensures room { result ≡ Err Fault.NoRoom
+            → (page_state self.old).capacity ≤ (page_state self.old).end }
+
         // Of version 2 it is left as it is.
         ensures second { MayUpgrade self.old → (meta_kept self.old).bounds.version ≡ V2
             → OnOk result (self.new ≡ self.old) }

@@ -70,7 +70,7 @@ impl<S: PageStore> Database<S> {
     ghost use Rattle.dbm_file.specs.Passing.{pass_of};
     ghost use Rattle.dbm_file.specs.Replies.{fetch_faults};
     ghost use Rattle.dbm_file.specs.Rooms.{longest_content};
-    ghost use Rattle.dbm_file.specs.Searches.{Searched, CanFetch, EndsAtContent};
+    ghost use Rattle.dbm_file.specs.Searches.{Searched, CanFetch, EndsAtContent, EndsAtFar};
     ghost use Rattle.dbm_file.specs.Trying.{IsRead};
 
     /// The content that the key has (POSIX: `dbm_fetch`). The slice lies in the database, and ends
@@ -91,8 +91,11 @@ impl<S: PageStore> Database<S> {
         // A damaged page is met only where the search or the content has it.
         ensures readable { CanFetch self.old key.now → IsErrOf result Fault.Damaged → ⊥ }
 
-        // On any file of version 1 it takes no memory.
+        // On any file of version 1 it takes no memory, and in version 2 for a content alone that lies
+        // in pages of its own.
         ensures memory { IsErrOf result Fault.Memory → (meta_kept self.old).bounds.version ≡ V2 }
+        ensures far { IsErrOf result Fault.Memory
+            → Searched self.old key.now (EndsAtFar key.now) }
         ensures only { IsErrAmong result fetch_faults }
     {
         if self.store.is_broken() {
@@ -174,6 +177,7 @@ impl<S: PageStore> Database<S> {
             (S.faults (store_of self.new)) result }
         ensures answer { IsLoadAnswer (page_state self.old) result }
         ensures memory { IsErrOf result Memory → (meta_kept self.old).bounds.version ≡ V2 }
+        ensures far { IsErrOf result Memory → Searched self.old key.now (EndsAtFar key.now) }
         ensures held { IfOk result (λ found. IfSome found (IsThere self.new)) }
         ensures searched { IfOk result (λ found. Searched self.old key.now
             (EndsAtContent (body_at S.PageStore (store_of self.old)) key.now

@@ -1,11 +1,12 @@
 // A list of calls, one after another.
-ghost use Rattle.std.specs.Prelude.{◌≡◌, ◌<◌, ◌≤◌, ◌+◌, ◌∷◌, ℕ, List, IfOk, IfErr, IfSome, map, vec_len, length};
+ghost use Rattle.std.specs.Prelude.{◌≡◌, ◌<◌, ◌≤◌, ◌+◌, ◌∷◌, ℕ, List, All, IfOk, IfErr, IfSome, map, vec_len, length};
 ghost use Rattle.dbm_file.specs.declared.calls.Call.{Call};
 ghost use Rattle.dbm_file.specs.Calls.{call_of, reply_of};
+ghost use Rattle.dbm_model.specs.Changes.{bounds_after};
 ghost use Rattle.page_io.specs.Versions.{model_version};
 ghost use Rattle.dbm_file.specs.Database.{meta_kept, AtEachHandle};
-ghost use Rattle.dbm_file.specs.Answers.{IsStep, IsSameDatabase};
-ghost use Rattle.dbm_file.specs.Replies.{IsAnswered, AreAnswered, told_of_store, told_of_delete, told_of_bytes};
+ghost use Rattle.dbm_file.specs.Answers.{IsStep, IsSameUnder};
+ghost use Rattle.dbm_file.specs.Replies.{IsAnswered, AreAnswered, bounds_behind, told_of_store, told_of_delete, told_of_upgrade, told_of_bytes};
 ghost use Rattle.dbm_file.specs.Rooms.{IsRoom, AreRooms, AreRoomsFor, longest_content};
 ghost use Rattle.dbm_file.specs.Runs.{IsRun, IsMadeInSteps};
 
@@ -38,13 +39,15 @@ pub fn run<S: PageStore>(
     // Over an honest store a reply tells nothing of the file that wasn't read or done.
     ensures answers { IfOk result (λ replies. AreAnswered db.old db.new calls.now replies.items) }
     ensures one_each { IfOk result (λ replies. vec_len replies ≡ length calls.now) }
-    ensures goes { IsSameDatabase db.old db.new }
+    ensures goes { IfOk result (λ replies. IsSameUnder
+        (bounds_behind (meta_kept db.old).bounds calls.now replies.items) db.old db.new) }
     ensures memory { IfErr result (λ e. (e ≡ Fault.Memory) × (db.new ≡ db.old)) }
 {
     let Ok(mut replies) = Vec::with_capacity(alloc, calls.len()) else {
         return Err(Fault::Memory);
     };
-    let Ok(mut rooms) = rooms_for(alloc, calls, db.version()) else {
+    let longest = longest_in(calls, db.version());
+    let Ok(mut rooms) = rooms_for(alloc, calls, longest) else {
         return Err(Fault::Memory);
     };
     for call in calls {
@@ -71,9 +74,24 @@ fn longest_content(version: Version) -> usize
     }
 }
 
-/// A room for each call that gives bytes.
-fn rooms_for(alloc: Global, calls: &[Call], version: Version) -> Result<Rooms, AllocError>
-    ensures { IfOk result (AreRoomsFor (model_version version) calls.now) }
+/// The most bytes that a content may have in these calls, on a file that is of this version before
+/// them: an upgrade may be among them.
+fn longest_in(calls: &[Call], version: Version) -> usize
+    ensures before { longest_content (model_version version) ≤ result }
+    ensures behind { All (λ call. call ≡ Call.Upgrade → result ≡ 65535) calls.now }
+{
+    let mut longest = longest_content(version);
+    for call in calls {
+        if let Call::Upgrade = call {
+            longest = longest_content(Version::V2);
+        }
+    }
+    longest
+}
+
+/// A room for each call that gives bytes, for a content of so many at most.
+fn rooms_for(alloc: Global, calls: &[Call], longest: usize) -> Result<Rooms, AllocError>
+    ensures { IfOk result (AreRoomsFor longest calls.now) }
 {
     let mut rooms = Rooms {
         contents: Vec::new(alloc),
@@ -82,7 +100,7 @@ fn rooms_for(alloc: Global, calls: &[Call], version: Version) -> Result<Rooms, A
     for call in calls {
         match call {
             Call::Fetch(_) => {
-                let room = Vec::with_capacity(alloc, longest_content(version))?;
+                let room = Vec::with_capacity(alloc, longest)?;
                 rooms.contents.push(room)?;
             }
             Call::First | Call::Next => {
@@ -96,15 +114,18 @@ fn rooms_for(alloc: Global, calls: &[Call], version: Version) -> Result<Rooms, A
 
 /// Makes a call. One that gives bytes takes one of the rooms.
 fn answer<S: PageStore>(db: &mut Database<S>, call: &Call, rooms: &mut Rooms) -> Reply
-    requires { (later : List Call) × AreRoomsFor (meta_kept db.old).bounds.version
-        (call.now ∷ later) rooms.old }
+    requires { (later : List Call) × (longest : ℕ)
+        × (longest_content (meta_kept db.old).bounds.version ≤ longest)
+        × AreRoomsFor longest (call.now ∷ later) rooms.old }
     ensures step { AtEachHandle db.old
         (λ h. IsStep db.old db.new h (call_of call.now) (reply_of result)) }
     ensures answered { IsAnswered db.old db.new call.now result }
-    ensures goes { IsSameDatabase db.old db.new }
-    ensures rooms { (later : List Call) → AreRoomsFor (meta_kept db.old).bounds.version
-        (call.now ∷ later) rooms.old
-        → AreRoomsFor (meta_kept db.old).bounds.version later rooms.new }
+    ensures goes { IsSameUnder
+        (bounds_after (meta_kept db.old).bounds (call_of call.now) (reply_of result))
+        db.old db.new }
+    ensures rooms { (later : List Call) → (longest : ℕ)
+        → AreRoomsFor longest (call.now ∷ later) rooms.old
+        → AreRoomsFor longest later rooms.new }
 {
     match call {
         Call::Store { key, content, mode } => {
@@ -119,6 +140,7 @@ fn answer<S: PageStore>(db: &mut Database<S>, call: &Call, rooms: &mut Rooms) ->
         Call::Next => bytes_in(take_room(&mut rooms.keys), db.nextkey(), Reply::End),
         Call::Error => Reply::Number(db.error()),
         Call::Clear => Reply::Number(db.clearerr()),
+        Call::Upgrade => upgrade_told(db.upgrade()),
     }
 }
 
@@ -149,6 +171,16 @@ fn delete_told(ended: Result<DeleteReply, Fault>) -> Reply
     match ended {
         Ok(DeleteReply::Deleted) => Reply::Deleted,
         Ok(DeleteReply::Absent) => Reply::Absent,
+        Err(fault) => Reply::Refused(fault),
+    }
+}
+
+/// The reply to an upgrade.
+fn upgrade_told(ended: Result<(), Fault>) -> Reply
+    ensures { result ≡ told_of_upgrade ended }
+{
+    match ended {
+        Ok(()) => Reply::Upgraded,
         Err(fault) => Reply::Refused(fault),
     }
 }

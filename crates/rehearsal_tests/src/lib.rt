@@ -5,3 +5,7 @@
 mod drawn_tests;
 #[cfg(test)]
 mod stop_tests;
+#[cfg(test)]
+mod tables;
+#[cfg(test)]
+mod upgrade_tests;

@@ -58,6 +58,7 @@ fn next_call(alloc: Global, words: &mut SplitWhitespace) -> Result<Call, Fail> {
         "next" => Ok(Call::Next),
         "error" => Ok(Call::Error),
         "clear" => Ok(Call::Clear),
+        "upgrade" => Ok(Call::Upgrade),
         _ => Err("the name of a call".into()),
     }
 }

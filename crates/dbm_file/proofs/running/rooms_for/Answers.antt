@@ -1,5 +1,4 @@
 use Rattle.std.proofs.Common.{◌+◌, List, take, sym, ap, subst, arith}
-use Rattle.page_io.specs.Versions.{model_version}
 use Rattle.dbm_file.specs.Rooms.{AreRoomsFor, gives_content, gives_key}
 use Rattle.dbm_file.specs.declared.calls.Call.{Call}
 use Rattle.dbm_file.specs.declared.running.Rooms.{Rooms}
@@ -25,20 +24,20 @@ loop-call-preserved c =
     elim c.match-call.branch [
       | in-Fetch+in_ok-room-in-Fetch+in_ok-push-in-Fetch w ↦
           let room = w.in_ok-room-in-Fetch.ensures in
-          subst (λ (rooms : Rooms). AreRoomsFor (model_version c.args.version) (take (i + 1) calls) rooms)
+          subst (λ (rooms : Rooms). AreRoomsFor c.args.longest (take (i + 1) calls) rooms)
           (sym w.rooms-is) record {
             contents = one_more gives_content _ calls i call lt is _ w.push.new.self
                 w.in_ok-room-in-Fetch.room (ap gives_content w.in-Fetch.is) so_far.contents
                 (record {
                   empty = room.items;
-                  large = omega (arith, room.capacity, w.longest_content.ensures);
+                  large = room.capacity;
                 }) w.in_ok-push-in-Fetch.ensures.len w.in_ok-push-in-Fetch.ensures.items;
             keys = none_more gives_key _ calls i call lt is _ (ap gives_key w.in-Fetch.is) so_far.keys;
           }
       | in_default w ↦
           let none = takes_none call w.in_default.not-Fetch w.in_default.not-First
           w.in_default.not-Next in
-          subst (λ (rooms : Rooms). AreRoomsFor (model_version c.args.version) (take (i + 1) calls) rooms)
+          subst (λ (rooms : Rooms). AreRoomsFor c.args.longest (take (i + 1) calls) rooms)
           (sym w.rooms-is) record {
             contents = none_more gives_content _ calls i call lt is _ none.0 so_far.contents;
             keys = none_more gives_key _ calls i call lt is _ none.1 so_far.keys;
@@ -46,7 +45,7 @@ loop-call-preserved c =
       | in-First+in_ok-with_capacity-in-First+in_ok-push-in-First w ↦
           let room = w.in_ok-with_capacity-in-First.ensures in
           let key = takes_key call w.in-First.is in
-          subst (λ (rooms : Rooms). AreRoomsFor (model_version c.args.version) (take (i + 1) calls) rooms)
+          subst (λ (rooms : Rooms). AreRoomsFor c.args.longest (take (i + 1) calls) rooms)
           (sym w.rooms-is) record {
             contents = none_more gives_content _ calls i call lt is _ key.0 so_far.contents;
             keys = one_more gives_key _ calls i call lt is _ w.push-in-First.new.self
@@ -58,6 +57,6 @@ loop-call-preserved c =
 
 pub returns : goal.returns
 returns c =
-    subst (λ (calls : List Call). AreRoomsFor (model_version c.args.version) calls c.loop-call.rooms)
+    subst (λ (calls : List Call). AreRoomsFor c.args.longest calls c.loop-call.rooms)
     (all_taken c.args.calls.now c.loop-call.call-index (omega (arith, c.loop-call-test.false)))
     c.loop-call.invariant

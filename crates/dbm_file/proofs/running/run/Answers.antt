@@ -1,31 +1,38 @@
 use Rattle.std.proofs.Common.{◌≡◌, ◌+◌, ◌<◌, ◌++◌, ◌∷◌, [], length, slice_index_or, sym, ◌∙◌, ap, subst, arith, List, map, drop, take, refl, cond, is_ok, vec_len, ℕ, rules}
 use Rattle.std.proofs.lemmas.List.{drop_more}
+use Rattle.std.proofs.lemmas.List.Elements.{All-get_or}
+use Rattle.std.specs.Prelude.{All, ◌≤◌}
 use Rattle.dbm_model.specs.Bounds.{Version, Bounds}
 use Rattle.dbm_model.specs.Calls as model
+use Rattle.dbm_file.specs.Answers.{IsSameUnder}
 use Rattle.dbm_file.specs.Calls.{call_of, reply_of}
-use Rattle.dbm_file.specs.Database.{store_of}
-use Rattle.dbm_file.specs.Replies.{AreAnswered}
-use Rattle.dbm_file.specs.Rooms.{AreRoomsFor}
+use Rattle.dbm_file.specs.Database.{store_of, meta_kept}
+use Rattle.dbm_file.specs.Replies.{AreAnswered, bounds_behind}
+use Rattle.dbm_file.specs.Rooms.{AreRoomsFor, longest_content}
 use Rattle.dbm_file.specs.Runs.{IsRun, IsMadeInSteps}
 use Rattle.dbm_file.specs.declared.calls.Call.{Call}
+use Rattle.dbm_file.specs.declared.calls.Call.TheVariants.{Upgrade}
 use Rattle.dbm_file.specs.declared.calls.Reply.{Reply}
 use Rattle.dbm_file.specs.declared.running.Rooms.{Rooms}
 use Rattle.dbm_file.proofs.Answered.{answered_next}
-use Rattle.dbm_file.proofs.Runs.{all_taken, no_run, goes_on_with, step_more, taken_next, seen_next, seen_last, goes_nowhere, still_goes}
+use Rattle.dbm_file.proofs.Runs.{all_taken, no_run, goes_on_with, step_more, taken_next, seen_next, seen_last, goes_nowhere, goes_further}
+use Rattle.dbm_file.proofs.RoomCounts.{still_small}
 use Rattle.dbm_file.proofs.running.run.Goals as goal
 
--- rooms for the calls under a version that is the same
-rooms_under : (calls : List Call) (rooms : Rooms) {one other : Version} → one ≡ other
-    → AreRoomsFor one calls rooms → AreRoomsFor other calls rooms
-rooms_under calls rooms is = subst (λ (v : Version). AreRoomsFor v calls rooms) is
+-- the rooms of the calls from the next one on
+rooms_now : (longest : ℕ) (rooms : Rooms) (calls : List Call) (i : ℕ) (call : Call)
+    → i < length calls → call ≡ slice_index_or calls i call
+    → AreRoomsFor longest (drop i calls) rooms → AreRoomsFor longest (call ∷ drop (i + 1) calls) rooms
+rooms_now longest rooms calls i call lt is there =
+    subst (λ (cs : List Call). AreRoomsFor longest cs rooms)
+    (drop_more calls i call lt ∙ ap (λ (x : Call). x ∷ drop (i + 1) calls) (sym is)) there
 
--- the rooms of the calls from the next one on, as the database has its version
-rooms_now : (now first : Version) (rooms : Rooms) (calls : List Call) (i : ℕ) (call : Call)
-    → i < length calls → call ≡ slice_index_or calls i call → now ≡ first
-    → AreRoomsFor first (drop i calls) rooms → AreRoomsFor now (call ∷ drop (i + 1) calls) rooms
-rooms_now now first rooms calls i call lt is same there = rooms_under _ rooms (sym same)
-    (subst (λ (cs : List Call). AreRoomsFor first cs rooms)
-    (drop_more calls i call lt ∙ ap (λ (x : Call). x ∷ drop (i + 1) calls) (sym is)) there)
+-- an upgrade among the calls has room for the longest content
+most_at : (longest : ℕ) (calls : List Call) (i : ℕ) (call : Call) → i < length calls
+    → call ≡ slice_index_or calls i call → All (λ c. c ≡ Upgrade → longest ≡ 65535) calls
+    → call ≡ Upgrade → longest ≡ 65535
+most_at longest calls i call lt is all = subst (λ (c : Call). c ≡ Upgrade → longest ≡ 65535) (sym is)
+    (All-get_or (λ c. c ≡ Upgrade → longest ≡ 65535) calls i call lt all)
 
 pub loop-call-init : goal.loop-call-init
 loop-call-init g c = record {
@@ -44,7 +51,9 @@ loop-call-init g c = record {
   goes = goes_nowhere c.args.db.now;
   many = c.in-Ok.ensures.len;
   fits = c.in-Ok.ensures.capacity;
-  rooms = rooms_under c.args.calls.now _ c.version.ensures c.in-Ok-rooms_for.ensures;
+  small = subst (λ (v : Version). longest_content v ≤ c.longest_in-longest.result) c.version.ensures
+      c.longest_in-longest.ensures.before;
+  rooms = c.in-Ok-rooms_for.ensures;
 }
 
 pub loop-call-preserved : goal.loop-call-preserved
@@ -53,7 +62,6 @@ loop-call-preserved g c =
     let i = c.loop-call.call-index in
     let call = c.call-item.result in
     let so_far = c.loop-call.invariant in
-    let same = ap (λ (b : Bounds). b.version) so_far.goes.bounds in
     let items : c.push.new.self.items ≡ c.loop-call.replies.items ++ c.answer-reply.result ∷ [] =
     c.push.ensures.items ∙ ap (λ r.
     cond (is_ok r) (c.loop-call.replies.items ++ c.answer-reply.result ∷ [])
@@ -88,23 +96,29 @@ loop-call-preserved g c =
           (answered_next c.args.db.now c.loop-call.db c.answer-reply.new.db (take i calls)
           c.loop-call.replies.items call c.answer-reply.result so_far.answered
           c.answer-reply.ensures.answered));
-      goes = still_goes c.args.db.now c.loop-call.db c.answer-reply.new.db so_far.goes
-          c.answer-reply.ensures.goes;
+      goes = goes_further c.args.db.now c.loop-call.db c.answer-reply.new.db (take i calls)
+          (take (i + 1) calls) c.loop-call.replies.items c.push.new.self.items call
+          c.answer-reply.result so_far.answered so_far.goes c.answer-reply.ensures.goes
+          (taken_next calls i call c.loop-call-test.true c.call-item.is) items;
       many = c.push.ensures.len ∙ ap
           (λ r. cond (is_ok r) (vec_len c.loop-call.replies + 1) (vec_len c.loop-call.replies))
           c.unwrap.ensures ∙ ap (λ (n : ℕ). n + 1) so_far.many;
       fits = omega (arith, c.push.ensures.capacity);
-      rooms = rooms_under (drop (i + 1) calls) _ same
-          (c.answer-reply.ensures.rooms (drop (i + 1) calls) (rooms_now _ _ _ calls i call
-          c.loop-call-test.true c.call-item.is same so_far.rooms));
+      small = still_small c.longest_in-longest.result _ _ c.answer-reply.result so_far.small call
+          c.answer-reply.ensures.goes.bounds
+          (most_at c.longest_in-longest.result calls i call c.loop-call-test.true c.call-item.is
+          c.longest_in-longest.ensures.behind);
+      rooms = c.answer-reply.ensures.rooms (drop (i + 1) calls) c.longest_in-longest.result
+          (rooms_now _ _ calls i call c.loop-call-test.true c.call-item.is so_far.rooms);
     }
 
 pub answer-reply-requires : goal.answer-reply-requires
 answer-reply-requires g c = (
   drop (c.loop-call.call-index + 1) c.args.calls.now,
-  rooms_now _ _ _ c.args.calls.now c.loop-call.call-index c.call-item.result c.loop-call-test.true
-      c.call-item.is (ap (λ (b : Bounds). b.version) c.loop-call.invariant.goes.bounds)
-      c.loop-call.invariant.rooms,
+  c.longest_in-longest.result,
+  c.loop-call.invariant.small,
+  rooms_now _ _ c.args.calls.now c.loop-call.call-index c.call-item.result c.loop-call-test.true
+      c.call-item.is c.loop-call.invariant.rooms,
 )
 
 pub returns-clause-run : goal.returns-clause-run
@@ -129,6 +143,14 @@ returns-clause-answers g c =
     AreAnswered c.args.db.now c.loop-call.db calls c.loop-call.replies.items)
     (all_taken c.args.calls.now c.loop-call.call-index (omega (arith, c.loop-call-test.false)))
     c.loop-call.invariant.answered
+
+pub returns-clause-goes : goal.returns-clause-goes
+returns-clause-goes g c =
+    subst (λ (calls : List Call).
+    IsSameUnder (bounds_behind (meta_kept c.args.db.now).bounds calls c.loop-call.replies.items)
+    c.args.db.now c.loop-call.db)
+    (all_taken c.args.calls.now c.loop-call.call-index (omega (arith, c.loop-call-test.false)))
+    c.loop-call.invariant.goes
 
 pub returns-clause-one_each : goal.returns-clause-one_each
 returns-clause-one_each g c = search rules

@@ -32,6 +32,7 @@ returns-then-is_broken g c =
             nothing_searched _ c.refuse.result _ answer;
         readable = λ can damaged. let both = sym answer ∙ damaged in cc;
         memory = λ is. absurd (let both = sym answer ∙ is in cc);
+        far = λ is. absurd (let both = sym answer ∙ is in cc);
         only =
             only_these c.refuse.result _ answer (inl refl);
       },
@@ -59,6 +60,7 @@ returns-in-Ok-None g c =
             (all.searched honest);
         readable = λ can damaged. cc;
         memory = λ lacks. absurd (let e = lacks in cc);
+        far = λ lacks. absurd (let e = lacks in cc);
         only = tt;
       },
     )
@@ -93,6 +95,7 @@ returns-in-Ok-Some-InPage g c =
             (all.searched honest);
         readable = λ can damaged. cc;
         memory = λ lacks. absurd (let e = lacks in cc);
+        far = λ lacks. absurd (let e = lacks in cc);
         only = tt;
       },
     )
@@ -126,6 +129,7 @@ returns-in-Ok-Some-InBuffer g c =
             (all.searched honest);
         readable = λ can damaged. cc;
         memory = λ lacks. absurd (let e = lacks in cc);
+        far = λ lacks. absurd (let e = lacks in cc);
         only = tt;
       },
     )
@@ -154,6 +158,8 @@ returns-in-Err g c =
             (ap Err (met_damage c.refuse-in-Err.result c.in-Err.fault fault answer
             c.from.ensures damaged));
         memory = λ lacks. all.memory (ap Err (met_want c.refuse-in-Err.result c.in-Err.fault fault
+            answer c.from.ensures lacks));
+        far = λ lacks. all.far (ap Err (met_want c.refuse-in-Err.result c.in-Err.fault fault
             answer c.from.ensures lacks));
         only =
             only_these c.refuse-in-Err.result fault answer

@@ -4,7 +4,7 @@ use Rattle.page_io.specs.Views.{body_at}
 use Rattle.page_io.specs.declared.store.PageFault.TheVariants.{Damaged}
 use Rattle.page_io.proofs.Exits.{exit_is, came}
 use Rattle.linear_hash.proofs.Tables.{placed, is_table}
-use Rattle.dbm_file.proofs.Searches.{near_content, far_content}
+use Rattle.dbm_file.proofs.Searches.{near_content, far_key, far_content}
 use Rattle.dbm_file.proofs.ContentSteps.{held_there, second, far_short, is_far_here, near_map, far_map, none_map, found_for, said_there, said_behind, said_before}
 use Rattle.dbm_file.proofs.database.Database.find.Goals as goal
 
@@ -37,6 +37,11 @@ pub returns-in_err-read_content-clause-memory : goal.returns-in_err-read_content
 returns-in_err-read_content-clause-memory g c is =
     second _ _ _ _ (held_there c.in_ok-place.field-0 c.in-Some.place c.in-Some.is
     c.in_ok-place.ensures.held) _ _ c.in-Some-far_at.ensures
+
+pub returns-in_err-read_content-clause-far : goal.returns-in_err-read_content-clause-far
+returns-in_err-read_content-clause-far g c is honest =
+    far_key _ _ c.args.key.now _ _ c.in-Some.place _ _ c.in-Some.is c.in-Some-far_at.ensures
+    (c.in_ok-place.ensures.searched honest)
 
 pub returns-in_err-read_content-clause-readable : goal.returns-in_err-read_content-clause-readable
 returns-in_err-read_content-clause-readable g c can damaged =

@@ -97,6 +97,7 @@ returns-in_err-upgrade-clause-ends g c =
     (omega (arith, c.if-capacity-pages_needed.false, c.capacity.ensures, c.pages_needed.ensures))
     told all.ends.answer.only
     (λ is. all.never (⊎_elim (λ memory. inl (ap Err memory)) (λ damaged. inr (ap Err damaged)) is))
+    (λ is. all.room (ap Err is))
     (told_keeps s db db _ read usable e record { ends = all.ends; error_is = refl; pass_is = refl }
     c.from_residual.result told)
 
