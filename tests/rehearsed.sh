@@ -68,6 +68,20 @@ cp before t.db && "$program" delete t 61 -x || wrong "no pair was deleted"
 printf '\10' | dd of=t.db bs=1 seek=$((2048 + 27)) conv=notrunc status=none
 "$program" rehearse t < in > out 2> err; [ $? = 2 ] && [ ! -s out ] && [ "$(cat err)" = 'dbmtool: fault 9' ] || wrong "a file that lacks a pair is rehearsed"
 
+# A database that is wrong: the pages of one content are the first two of another one, so that a delete destroys both. Each stop from the write of
+# the armed sector on is told as lost. Behind that write come a sync, and in the closing four pages of four sectors, the clear sector and two syncs.
+times() { printf "$2%.0s" $(seq "$1"); }
+"$program" create wrong --limit 100 --v2 && printf 'S 6e 01\nS 66 %s\nS 6f %s\n' "$(times 5000 07)" "$(times 4064 08)" |
+  "$program" script wrong > out && [ "$(sort -u out)" = 0 ] || wrong "no file of far pairs was made"
+printf '\4' | dd of=wrong.db bs=1 seek=$((3 * 2048 + 2040)) conv=notrunc status=none
+[ "$("$program" dump wrong)" = "66 $(times 5000 07)"$'\n6e 01\n6f '"$(times 4064 07)" ] || wrong "the two contents don't share their pages"
+echo 'D 6f' | "$program" rehearse wrong > out 2> err; [ $? = 2 ] || wrong "a delete that destroys another content is kept"
+lost=$(($(count 'device calls') - (4 * 4 + 1 + 1 + 1) - 1))
+[ "$(cat err)" = "dbmtool: stop $lost" ] || wrong "another first stop is told than $lost"
+[ "$(count kept)" = $((lost)) ] && [ "$(count reopened)" = "$(count 'device calls')" ] || wrong "other stops are kept than those before $lost"
+echo 'D 6e' | "$program" rehearse wrong > out 2> err || wrong "a delete of the third pair isn't kept"
+stops_everywhere
+
 # Far pairs. A content of 2,033 bytes has two pages, each of which is written as a redo image and in its place, in four sectors: 16 writes more than
 # for a near pair. In version 1 the pair is refused, and nothing is written for it.
 far=$(printf '07%.0s' $(seq 2033))

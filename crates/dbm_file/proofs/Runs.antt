@@ -236,10 +236,10 @@ goes_nowhere db = record {
 }
 
 -- one call more, whose bounds are told by those before it
-still_goes : {S : Type 0} {s : Ghosts S} {wanted : Bounds} (next : Bounds → Bounds)
+one_more_goes : {S : Type 0} {s : Ghosts S} {wanted : Bounds} (next : Bounds → Bounds)
     (old mid new : Database S s) → IsSameUnder wanted old mid
     → IsSameUnder (next (meta_kept mid).bounds) mid new → IsSameUnder (next wanted) old new
-still_goes {S} {s} next old mid new first second = record {
+one_more_goes {S} {s} next old mid new first second = record {
   honesty = both_ways second.honesty first.honesty;
   later = omega (arith, first.later, second.later);
   bounds = second.bounds ∙ ap next first.bounds;
@@ -250,6 +250,11 @@ still_goes {S} {s} next old mid new first second = record {
       (ap (λ (store : S). (s.state store).usable) (first.still broken) ∙ broken)
       ∙ first.still broken;
 }
+
+-- one that keeps the bounds
+pub still_goes : {S : Type 0} {s : Ghosts S} (old mid new : Database S s) → IsSameDatabase old mid
+    → IsSameDatabase mid new → IsSameDatabase old new
+still_goes old mid new first second = one_more_goes (λ bounds. bounds) old mid new first second
 
 bounds_more : {S : Type 0} {s : Ghosts S} (first : Bounds) (old mid : Database S s)
     (calls : List made.Call) (replies : List told.Reply) (call : made.Call) (reply : told.Reply)
@@ -277,7 +282,7 @@ goes_further old mid new calls calls' replies replies' call reply answered first
     (sym r)
     (subst (λ (wanted : Bounds). IsSameUnder wanted old new)
     (sym (bounds_more b old mid calls replies call reply answered))
-    (still_goes (λ bounds. bounds_after bounds (call_of call) (reply_of reply)) old mid new first
+    (one_more_goes (λ bounds. bounds_after bounds (call_of call) (reply_of reply)) old mid new first
     second)))
 
 -- what a call leaves, under another name of the call

@@ -5,7 +5,6 @@ mod bounds;
 mod changes;
 mod choices;
 mod copying;
-mod counting;
 mod engine;
 mod finding;
 mod reading;

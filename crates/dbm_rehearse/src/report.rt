@@ -6,7 +6,7 @@ ghost use Rattle.dbm_rehearse.specs.Counts.{count_line, counts_text, AreCounted}
 use std::io::{self, Write};
 
 /// How a stop ended.
-#[derive(Clone, Copy, Debug, PartialEq, Eq, PartialOrd, Ord)]
+#[derive(Clone, Copy, Debug, PartialEq, Eq)]
 pub enum Outcome {
     /// The database wasn't opened again.
     NotReopened,

@@ -1,20 +1,20 @@
 // Sessions that are stopped.
-ghost use Rattle.std.specs.Prelude.{◌≡◌, ◌<◌, IfOk, length};
+ghost use Rattle.std.specs.Prelude.{◌≡◌, ◌<◌, ◌%◌, ◌↔◌, All, Contains, IfOk, length};
 ghost use Rattle.dbm_fault.specs.Among.{IsErrAmong};
+ghost use Rattle.rehearsal.specs.Rehearsals.{IsCutAfter};
 ghost use Rattle.dbm_rehearse.specs.Counts.{stops_of, AreCounted};
 ghost use Rattle.dbm_rehearse.specs.Faults.{database_faults};
 
 use crate::bounds::Bounds;
 use crate::changes::{Change, Pairs, acknowledged, is_kept};
 use crate::choices::{CHOICES, Choice, marks};
-use crate::counting::Counting;
 use crate::finding::{open_device, pairs_in, told};
 use crate::report::{Outcome, Rehearsed};
 use dbm_fault::EngineFault;
 use dbm_file::{Call, Fault, Reply};
 use dbm_progress::{Progress, Work};
-use rehearsal::{Ending, Opening, session};
-use sect_dev::{Fuse, MemDev};
+use rehearsal::{Ending, Opening, Stopped, stopped_session};
+use sect_dev::MemDev;
 use std::alloc::{AllocError, Global};
 
 // The reopening is stopped after less device calls than this. One that ends a commit takes 33, and
@@ -60,35 +60,36 @@ impl<'a> Rehearsal<'a> {
     }
 
     // Stops the session after so many device calls, and the reopening of what is left once more,
-    // with each choice of the unsynced writes.
+    // with each choice of the unsynced writes. The worst of them counts.
     fn outcome_at(&self, stop: u64) -> Result<Outcome, AllocError> {
-        let (stopped, ending) = self.stopped_at(stop)?;
-        let acknowledged = acknowledged(replies_of(&ending)?);
-        let mut outcome = Outcome::Kept;
+        let (left, stopped) = self.stopped_at(stop)?;
+        let acknowledged = acknowledged(replies_of(&stopped.ending)?);
+        let mut outcomes = Vec::new(self.alloc);
         for choice in CHOICES {
-            outcome = outcome.min(self.reopened(&stopped, acknowledged, choice, stop)?);
+            outcomes.push(self.reopened(&left, acknowledged, choice, stop)?)?;
         }
-        Ok(outcome)
+        Ok(worst(outcomes.as_slice()))
     }
 
     // The session, stopped.
-    fn stopped_at(&self, stop: u64) -> Result<(MemDev, Ending), AllocError> {
-        let copy = self.dev.crashed(self.alloc, &[])?;
-        let (left, ending, _) = cut_session(self.alloc, copy, stop, self.made, self.calls);
-        Ok((left, ending))
+    fn stopped_at(&self, stop: u64) -> Result<(MemDev, Stopped), AllocError>
+        ensures cut { IfOk result (λ r. IsCutAfter stop r.1) }
+    {
+        cut_session(self.alloc, self.dev, &[], stop, self.made, self.calls)
     }
 
     // How it ends where these unsynced writes have happened.
     fn reopened(
         &self,
-        stopped: &MemDev,
+        left: &MemDev,
         acknowledged: usize,
         choice: Choice,
         stop: u64,
     ) -> Result<Outcome, AllocError> {
-        let left = left_with(self.alloc, stopped, choice, stop)?;
-        let (cut, _, _) = cut_session(self.alloc, left, stop % REOPENING, self.made, &[]);
-        let left = left_with(self.alloc, &cut, choice, stop)?;
+        let keep = marks(self.alloc, choice, left.pending(), stop)?;
+        let (cut, _) = self.reopening_stopped(left, keep.as_slice(), stop)?;
+        let keep = marks(self.alloc, choice, cut.pending(), stop)?;
+        let left = cut.crashed(self.alloc, keep.as_slice())?;
         let mut db = match open_device(self.alloc, left, self.made) {
             Ok(db) => db,
             Err(EngineFault::Memory) => return Err(AllocError),
@@ -99,6 +100,18 @@ impl<'a> Rehearsal<'a> {
             Err(EngineFault::Memory) => Err(AllocError),
             Err(_) => Ok(Outcome::Lost),
         }
+    }
+
+    // The opening of what is left with these of the unsynced writes, stopped.
+    fn reopening_stopped(
+        &self,
+        left: &MemDev,
+        keep: &[bool],
+        stop: u64,
+    ) -> Result<(MemDev, Stopped), AllocError>
+        ensures cut { IfOk result (λ r. IsCutAfter (stop % 61) r.1) }
+    {
+        cut_session(self.alloc, left, keep, stop % REOPENING, self.made, &[])
     }
 
     // How it ends where these pairs are found.
@@ -118,10 +131,14 @@ pub fn unstopped(
 ) -> Result<(Vec<Reply>, u64), EngineFault>
     ensures { IsErrAmong result database_faults }
 {
-    let Ok(copy) = dev.crashed(alloc, &[]) else {
+    let Ok((_, stopped)) = cut_session(alloc, dev, &[], u64::MAX, made, calls) else {
         return Err(EngineFault::Memory);
     };
-    let (_, ending, device_calls) = cut_session(alloc, copy, u64::MAX, made, calls);
+    let Stopped {
+        ending,
+        device_calls,
+        is_cut: _,
+    } = stopped;
     match ending {
         Ending::Rested(replies, _) => {
             if lacked_memory(replies.as_slice()) {
@@ -146,17 +163,18 @@ pub fn pairs_before(alloc: Global, dev: &MemDev, made: Option<Bounds>) -> Result
     }
 }
 
-// A session that makes a database of these bounds where the device is blank and there are some, cut
-// after so many device calls. It gives what is left, and how many device calls were asked for. Each
-// session is on this one type of device, since the program has the code of a database once for each
-// type; and it has no clause, so that those of a session stand in no other goal.
+// A session on what these of the unsynced writes leave of a device, which makes a database of these
+// bounds where that is blank and there are some, cut after so many device calls.
 fn cut_session(
     alloc: Global,
-    dev: MemDev,
+    dev: &MemDev,
+    keep: &[bool],
     stop: u64,
     made: Option<Bounds>,
     calls: &[Call],
-) -> (MemDev, Ending, u64) {
+) -> Result<(MemDev, Stopped), AllocError>
+    ensures cut { IfOk result (λ r. IsCutAfter stop r.1) }
+{
     let Bounds { limit, version } = made.unwrap_or(Bounds::NONE);
     let how = Opening {
         create: made.is_some(),
@@ -164,16 +182,21 @@ fn cut_session(
         limit,
         version,
     };
-    let counting = Counting::new(Fuse::new(dev, stop));
-    let (dev, ending) = session(alloc, counting, how, calls, &[]);
-    let device_calls = dev.calls();
-    (dev.into_inner().into_inner(), ending, device_calls)
+    stopped_session(alloc, dev.crashed(alloc, keep)?, how, calls, &[], stop)
 }
 
-// What this choice of the unsynced writes leaves of the device.
-fn left_with(alloc: Global, dev: &MemDev, choice: Choice, seed: u64) -> Result<MemDev, AllocError> {
-    let keep = marks(alloc, choice, dev.pending(), seed)?;
-    dev.crashed(alloc, keep.as_slice())
+// The worst of these outcomes.
+fn worst(outcomes: &[Outcome]) -> Outcome
+    ensures refused { result ≡ Outcome.NotReopened ↔ Contains outcomes.now Outcome.NotReopened }
+    ensures kept { result ≡ Outcome.Kept ↔ All (λ outcome. outcome ≡ Outcome.Kept) outcomes.now }
+{
+    if outcomes.contains(&Outcome::NotReopened) {
+        Outcome::NotReopened
+    } else if outcomes.contains(&Outcome::Lost) {
+        Outcome::Lost
+    } else {
+        Outcome::Kept
+    }
 }
 
 // The replies that were given before the stop.

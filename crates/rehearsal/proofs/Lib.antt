@@ -1,8 +1,11 @@
+pub mod Cuts
+pub mod Databases
 pub mod Endings
 pub mod Groups
 pub mod Lists
 pub mod Moments
 pub mod Openings
 pub mod Refusals
+pub mod Reopenings
 pub mod Rooms
 pub mod Stops

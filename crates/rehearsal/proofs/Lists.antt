@@ -1,16 +1,21 @@
 -- Sessions one after another.
-use Rattle.std.proofs.Common.{◌≡◌, ℕ, List, [], ◌∷◌, ◌++◌, refl, sym, subst}
+use Rattle.std.proofs.Common.{◌≡◌, ◌⊎◌, inl, inr, ℕ, ◌<◌, true, All, List, [], ◌∷◌, ◌++◌, map, length, slice_index_or, Contains, refl, sym, ap, ◌∙◌, subst}
+use Rattle.std.proofs.lemmas.List.{get_or-map, length-map}
+use Rattle.std.proofs.lemmas.List.Elements.{All-nil, All-cons, All-append, All-head}
 use Rattle.sect_dev.specs.Device.{Image, Candidates, IsImageOf, IsStable}
 use Rattle.sect_dev.specs.Moments.{only_image}
 use Rattle.redo_commit.specs.File.{settled}
-use Rattle.dbm_sessions.specs.Members.{Members}
+use Rattle.dbm_sessions.specs.Members.{NoDatabase, Members}
 use Rattle.dbm_sessions.specs.Sessions as model
 use Rattle.dbm_sessions.specs.Sessions.{Disk, Plan, SessionStep, Sessions}
 use Rattle.dbm_sessions.proofs.Ways.{changes_stay}
 use Rattle.rehearsal.specs.Members.{StandsForOne, AllStandFor}
-use Rattle.rehearsal.specs.Sessions.{ending_of, Leaves}
-use Rattle.rehearsal.specs.Rehearsals.{AreTold, SessionLeaves, SessionsLeave, AreAllLeft}
+use Rattle.rehearsal.specs.Sessions.{ending_of}
+use Rattle.rehearsal.specs.Rehearsals.{planned, AreTold, SessionLeaves, SessionsLeave, AreAllLeft, IsOpenedBut, AreOpenedBut, FindOrMake, IsCutAfter, AreCutAsAsked}
 use Rattle.rehearsal.specs.declared.sessions.Ending.{Ending}
+use Rattle.rehearsal.specs.declared.cutting.Stopped.{Stopped}
+use Rattle.rehearsal.specs.declared.rehearsing.Stage.{Stage}
+use Rattle.rehearsal.proofs.Databases.{all_stay_there}
 
 -- one session more
 sessions-push : (pages : ℕ) (before mid after : Members) (plans : List Plan)
@@ -72,12 +77,13 @@ one_more before plans endings plan ending pages next candidate now so_far same
     }
 
 -- of the images that might have been left, the stop left this one
-pub after_stop : (members : Members) (pages : ℕ) (before after : Candidates) (image : Image)
+pub after_stop : (members : Members) (pages next : ℕ) (before after : Candidates) (image : Image)
     → AllStandFor members pages before → IsImageOf before image → IsStable after image
-    → AllStandFor members pages after
-after_stop members pages before after image stand is stable other there =
-    subst (λ (i : Image). StandsForOne members (settled pages i))
-    (sym (only_image after image other stable there)) (stand image is)
+    → next ≡ pages → AllStandFor members next after
+after_stop members pages next before after image stand is stable same =
+    subst (λ (n : ℕ). AllStandFor members n after) (sym same)
+    (λ other there. subst (λ (i : Image). StandsForOne members (settled pages i))
+    (sym (only_image after image other stable there)) (stand image is))
 
 pub all_left : (before : Members) (plans : List Plan) (endings : List Ending) (pages : ℕ)
     (candidate : Candidates) → SessionsLeave before plans endings pages candidate
@@ -91,14 +97,51 @@ all_left before plans endings pages candidate all = (
       record { member = one.0; stands = one.2; start = way.0; among = way.1; left = way.2 },
 )
 
--- the device that a stop left is as the session left it, or some of it
-pub stop_leaves : (disk : Disk) (before : Members) (plan : Plan) (ending : model.Ending)
-    (pages next : ℕ) (candidate now : Candidates) (image : Image)
-    → Leaves disk before plan ending pages candidate → IsImageOf candidate image
-    → IsStable now image → next ≡ pages → Leaves disk before plan ending next now
-stop_leaves disk before plan ending pages next candidate now image one is stable same = record {
-  after = one.after;
-  step = one.step;
-  stand = subst (λ (n : ℕ). AllStandFor one.after n now) (sym same)
-      (after_stop one.after pages candidate now image one.stand is stable);
-}
+-- ---- what is said of each session
+
+-- of one in a list
+pub one_of : {X Y : Type 0} (P : Y → Type 0) (f : X → Y) (xs : List X) (i : ℕ) (x : X)
+    → i < length xs → x ≡ slice_index_or xs i x → All P (map f xs) → P (f x)
+one_of P f xs i x lt is all =
+    subst P (get_or-map f xs i x (f x) lt ∙ ap f (sym is))
+    (all i (f x) (subst (λ (n : ℕ). i < n) (sym (length-map xs f)) lt))
+
+pub all_push : {X : Type 0} (P : X → Type 0) (xs : List X) (x : X) → All P xs → P x
+    → All P (xs ++ x ∷ [])
+all_push P xs x all one = All-append P xs (x ∷ []) all (All-cons P x [] one (All-nil P))
+
+pub opened_push : (plans : List Plan) (endings : List Ending) (plan : Plan) (ending : Ending)
+    → AreOpenedBut plans endings → IsOpenedBut plan ending
+    → AreOpenedBut (plans ++ plan ∷ []) (endings ++ ending ∷ [])
+opened_push [] [] plan ending all one = (one, tt)
+opened_push [] (other ∷ endings) plan ending all one = absurd all
+opened_push (other ∷ plans) [] plan ending all one = absurd all
+opened_push (first ∷ plans) (other ∷ endings) plan ending all one =
+    (all.0, opened_push plans endings plan ending all.1 one)
+
+pub cut_push : (stages : List Stage) (endings : List Stopped) (stage : Stage) (stopped : Stopped)
+    → AreCutAsAsked stages endings → IsCutAfter stage.device_calls stopped
+    → AreCutAsAsked (stages ++ stage ∷ []) (endings ++ stopped ∷ [])
+cut_push [] [] stage stopped all one = (one, tt)
+cut_push [] (other ∷ endings) stage stopped all one = absurd all
+cut_push (other ∷ stages) [] stage stopped all one = absurd all
+cut_push (first ∷ stages) (other ∷ endings) stage stopped all one =
+    (all.0, cut_push stages endings stage stopped all.1 one)
+
+-- each of the sessions to come finds a database, or makes one
+pub finds_or_makes : (pages : ℕ) (before after : Members) (plans : List Plan)
+    (endings : List model.Ending) (stages : List Stage) (i : ℕ) (one : Stage) → i < length stages
+    → one ≡ slice_index_or stages i one → FindOrMake before (map planned stages)
+    → Sessions pages before plans endings after → FindOrMake after (planned one ∷ [])
+finds_or_makes pages before after plans endings stages i one lt is (inl there) sessions =
+    inl (all_stay_there pages before after plans endings there sessions)
+finds_or_makes pages before after plans endings stages i one lt is (inr creates) sessions =
+    let Creates = λ (plan : Plan). plan.how.create ≡ true in
+    inr (All-cons Creates (planned one) [] (one_of Creates planned stages i one lt is creates)
+    (All-nil Creates))
+
+pub finds_or_makes_one : (before : Members) (plan : Plan) → FindOrMake before (plan ∷ [])
+    → (Contains before NoDatabase → ⊥) ⊎ (plan.how.create ≡ true)
+finds_or_makes_one before plan (inl there) = inl there
+finds_or_makes_one before plan (inr creates) =
+    inr (All-head (λ (p : Plan). p.how.create ≡ true) plan [] creates)

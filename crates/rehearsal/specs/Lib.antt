@@ -1,3 +1,4 @@
+pub mod Counting
 pub mod Members
 pub mod Rehearsals
 pub mod Sessions

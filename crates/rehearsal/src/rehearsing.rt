@@ -1,42 +1,55 @@
 // Sessions on a device in memory, each of them stopped.
-ghost use Rattle.std.specs.Prelude.{◌≡◌, ◌≤◌, ◌+◌, ◌/◌, ℕ, All, IfOk, map};
-ghost use Rattle.dbm_sessions.specs.Members.{Members, AllHaveRoom};
+ghost use Rattle.std.specs.Prelude.{◌≡◌, ◌≤◌, ◌+◌, ◌/◌, ◌∷◌, [], ℕ, All, IfOk, map};
+ghost use Rattle.sect_dev.specs.Device.{IsStable};
+ghost use Rattle.sect_dev.specs.Sector.{zeros};
+ghost use Rattle.dbm_sessions.specs.Members.{NoDatabase, Members, AllHaveRoom};
 ghost use Rattle.dbm_sessions.specs.Room.{AsksForRoom, IsNeverShort};
 ghost use Rattle.rehearsal.specs.Members.{AllStandFor};
-ghost use Rattle.rehearsal.specs.Rehearsals.{planned, SessionLeaves, SessionsLeave, AreAllLeft, AreNeverShort, most_changes};
+ghost use Rattle.rehearsal.specs.Rehearsals.{planned, endings_in, SessionLeaves, SessionsLeave, AreAllLeft, AreNeverShort, AreOpenedBut, IsOpenedBut, AsksForALimit, FindOrMake, IsSpared, IsCutAfter, AreCutAsAsked, most_changes};
 ghost use Rattle.rehearsal.specs.Sessions.{ending_of};
 
-use crate::{Ending, Opening, session};
+use crate::{Opening, Stopped, stopped_session};
 use dbm_file::{Call, Pair};
-use sect_dev::{Fuse, MemDev, SectorDev};
+use sect_dev::{MemDev, SectorDev};
 use std::alloc::{AllocError, Global};
 
-/// A session, and where it is stopped.
+/// A session on what a stop left, and where it is stopped itself.
 #[derive(Debug, Drop)]
 pub struct Stage {
+    /// Which of the writes have happened that were not synced at the stop before, the oldest first;
+    /// a missing mark counts as false.
+    pub keep: Vec<bool>,
     pub how: Opening,
     pub calls: Vec<Call>,
     /// Pairs that are then stored in one commit, as far as they go into one.
     pub group: Vec<Pair>,
     /// How many calls of the device there are before the stop.
     pub device_calls: u64,
-    /// Which of the writes have happened that were not synced at the stop, the oldest first; a
-    /// missing mark counts as false.
-    pub keep: Vec<bool>,
 }
 
+/// A device of which a stop leaves nothing but zeros holds no database, so a rehearsal can begin
+/// with a new one.
+pub fn blank_devices_hold_none(dev: &MemDev)
+    ensures { IsStable (⟦<MemDev as SectorDev>⟧.candidate dev.now) (λ _. zeros)
+        → AllStandFor (NoDatabase ∷ []) (⟦<MemDev as SectorDev>⟧.sectors dev.now / 4)
+        (⟦<MemDev as SectorDev>⟧.candidate dev.now) }
+{}
+
 /// Makes the sessions one after another on a device in memory, each of them stopped after so many
-/// calls of the device, and gives the device as the last stop left it, with each ending.
+/// calls of the device, and gives the device as the last stop found it, with nothing settled of its
+/// unsynced writes, and each ending. `AllocError` comes where a growth is refused, also one of the
+/// device.
 pub fn rehearse(
     alloc: Global,
     dev: MemDev,
     stages: &[Stage],
-) -> Result<(MemDev, Vec<Ending>), AllocError>
-    // They are sessions of the definitions.
+) -> Result<(MemDev, Vec<Stopped>), AllocError>
+    // They are sessions of the definitions, whichever unsynced writes will have happened at the last
+    // stop.
     ensures leaves { (before : Members)
         → AllStandFor before (⟦<MemDev as SectorDev>⟧.sectors dev / 4)
         (⟦<MemDev as SectorDev>⟧.candidate dev)
-        → IfOk result (λ r. SessionsLeave before (map planned stages.now) r.1.items
+        → IfOk result (λ r. SessionsLeave before (map planned stages.now) (endings_in r.1.items)
         (⟦<MemDev as SectorDev>⟧.sectors r.0 / 4) (⟦<MemDev as SectorDev>⟧.candidate r.0)) }
 
     // Each image then stands for what is left by their changes in order, with every acknowledged
@@ -44,7 +57,7 @@ pub fn rehearse(
     ensures stays { (before : Members)
         → AllStandFor before (⟦<MemDev as SectorDev>⟧.sectors dev / 4)
         (⟦<MemDev as SectorDev>⟧.candidate dev)
-        → IfOk result (λ r. AreAllLeft before (map planned stages.now) r.1.items
+        → IfOk result (λ r. AreAllLeft before (map planned stages.now) (endings_in r.1.items)
         (⟦<MemDev as SectorDev>⟧.sectors r.0 / 4) (⟦<MemDev as SectorDev>⟧.candidate r.0)) }
 
     // Where the device has twice the pages that the bounds need which are there or are asked for,
@@ -54,7 +67,26 @@ pub fn rehearse(
         (⟦<MemDev as SectorDev>⟧.candidate dev)
         → AllHaveRoom (⟦<MemDev as SectorDev>⟧.sectors dev / 4) before
         → All (AsksForRoom (⟦<MemDev as SectorDev>⟧.sectors dev / 4)) (map planned stages.now)
-        → IfOk result (λ r. AreNeverShort r.1.items) }
+        → IfOk result (λ r. AreNeverShort (endings_in r.1.items)) }
+
+    // Where besides each session finds a database or makes one, of a limit that is one, nothing but
+    // its stop refuses its opening, and want of memory where the database is to be emptied.
+    ensures reopens { (before : Members)
+        → AllStandFor before (⟦<MemDev as SectorDev>⟧.sectors dev / 4)
+        (⟦<MemDev as SectorDev>⟧.candidate dev)
+        → AllHaveRoom (⟦<MemDev as SectorDev>⟧.sectors dev / 4) before
+        → All (AsksForRoom (⟦<MemDev as SectorDev>⟧.sectors dev / 4)) (map planned stages.now)
+        → All AsksForALimit (map planned stages.now)
+        → FindOrMake before (map planned stages.now)
+        → IfOk result (λ r. AreOpenedBut (map planned stages.now) (endings_in r.1.items)) }
+
+    // Each session that was cut short was so after as many calls of the device as its stage asks
+    // for; in one that wasn't nothing was refused by the device.
+    ensures cut { IfOk result (λ r. AreCutAsAsked stages.now r.1.items) }
+    ensures spared { (before : Members)
+        → AllStandFor before (⟦<MemDev as SectorDev>⟧.sectors dev / 4)
+        (⟦<MemDev as SectorDev>⟧.candidate dev)
+        → IfOk result (λ r. All IsSpared r.1.items) }
 
     // Each session is stopped by then at the latest: the device, whose moments are its writes and
     // syncs, goes no further than the calls of it that there were to be, and the stops.
@@ -67,25 +99,37 @@ pub fn rehearse(
     let mut dev = dev;
     let mut endings = Vec::new(alloc);
     for stage in stages {
-        let (left, ending) = stopped(alloc, dev, stage)?;
+        let (left, stopped) = staged(alloc, dev, stage)?;
         dev = left;
-        endings.push(ending)?;
+        endings.push(stopped)?;
     }
     Ok((dev, endings))
 }
 
 // One of them.
-fn stopped(alloc: Global, dev: MemDev, stage: &Stage) -> Result<(MemDev, Ending), AllocError>
+fn staged(alloc: Global, dev: MemDev, stage: &Stage) -> Result<(MemDev, Stopped), AllocError>
     ensures leaves { (before : Members)
         → AllStandFor before (⟦<MemDev as SectorDev>⟧.sectors dev / 4)
         (⟦<MemDev as SectorDev>⟧.candidate dev)
-        → IfOk result (λ r. SessionLeaves before (planned stage.now) r.1
+        → IfOk result (λ r. SessionLeaves before (planned stage.now) r.1.ending
         (⟦<MemDev as SectorDev>⟧.sectors r.0 / 4) (⟦<MemDev as SectorDev>⟧.candidate r.0)) }
     ensures room { (before : Members)
         → AllStandFor before (⟦<MemDev as SectorDev>⟧.sectors dev / 4)
         (⟦<MemDev as SectorDev>⟧.candidate dev)
         → AllHaveRoom (⟦<MemDev as SectorDev>⟧.sectors dev / 4) before
-        → IfOk result (λ r. (count : ℕ) → IsNeverShort (ending_of r.1 count)) }
+        → IfOk result (λ r. (count : ℕ) → IsNeverShort (ending_of r.1.ending count)) }
+    ensures reopens { (before : Members)
+        → AllStandFor before (⟦<MemDev as SectorDev>⟧.sectors dev / 4)
+        (⟦<MemDev as SectorDev>⟧.candidate dev)
+        → AllHaveRoom (⟦<MemDev as SectorDev>⟧.sectors dev / 4) before
+        → AsksForRoom (⟦<MemDev as SectorDev>⟧.sectors dev / 4) (planned stage.now)
+        → AsksForALimit (planned stage.now) → FindOrMake before (planned stage.now ∷ [])
+        → IfOk result (λ r. IsOpenedBut (planned stage.now) r.1.ending) }
+    ensures cut { IfOk result (λ r. IsCutAfter stage.now.device_calls r.1) }
+    ensures spared { (before : Members)
+        → AllStandFor before (⟦<MemDev as SectorDev>⟧.sectors dev / 4)
+        (⟦<MemDev as SectorDev>⟧.candidate dev)
+        → IfOk result (λ r. IsSpared r.1) }
     ensures stops { (before : Members)
         → AllStandFor before (⟦<MemDev as SectorDev>⟧.sectors dev / 4)
         (⟦<MemDev as SectorDev>⟧.candidate dev)
@@ -94,9 +138,7 @@ fn stopped(alloc: Global, dev: MemDev, stage: &Stage) -> Result<(MemDev, Ending)
     ensures size { IfOk result (λ r. ⟦<MemDev as SectorDev>⟧.sectors r.0 / 4
         ≡ ⟦<MemDev as SectorDev>⟧.sectors dev / 4) }
 {
-    let fuse = Fuse::new(dev, stage.device_calls);
+    let start = dev.crashed(alloc, stage.keep.as_slice())?;
     let (calls, group) = (stage.calls.as_slice(), stage.group.as_slice());
-    let (fuse, ending) = session(alloc, fuse, stage.how, calls, group);
-    let left = fuse.into_inner().crashed(alloc, stage.keep.as_slice())?;
-    Ok((left, ending))
+    stopped_session(alloc, start, stage.how, calls, group, stage.device_calls)
 }

@@ -125,15 +125,16 @@ fn drawn_opening(generator: &mut SplitMix64) -> Opening {
 
 fn drawn_stage(alloc: Global, generator: &mut SplitMix64, most: Most) -> Result<Stage, Fail> {
     Ok(Stage {
+        keep: Vec::new(alloc),
         how: drawn_opening(generator),
         calls: drawn_calls(alloc, generator, most.calls)?,
         group: drawn_group(alloc, generator, most.calls)?,
         device_calls: draw(generator, most.device_calls),
-        keep: drawn_marks(alloc, generator)?,
     })
 }
 
-/// Makes a drawn session on a device, and gives what it leaves where that is right.
+/// Makes a drawn session on a device, draws which of its unsynced writes happened at the stop, and
+/// gives what that leaves where it is right.
 fn after_session(
     alloc: Global,
     generator: &mut SplitMix64,
@@ -145,8 +146,9 @@ fn after_session(
     let [stage] = &stages;
     let states = states_of(alloc, before, stage, dev.capacity())?;
     let (left, endings) = rehearse(alloc, dev, &stages)?;
-    let ending = endings.as_slice().first().ok_or("an ending")?;
-    let found = held_by(alloc, &left)?;
+    let left = left.crashed(alloc, drawn_marks(alloc, generator)?.as_slice())?;
+    let ending = &endings.as_slice().first().ok_or("an ending")?.ending;
+    let found = held_by(alloc, left.crashed(alloc, &[])?)?;
     let acknowledged = acknowledged(before, stage.how, ending);
     let group = stage.group.as_slice();
     if may_be_left(

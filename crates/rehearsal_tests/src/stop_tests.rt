@@ -1,7 +1,7 @@
 //! Two sessions on a device, the first of which is stopped.
 
 use dbm_file::{Pair, Reply, Version};
-use rehearsal::{Ending, Opening, Stage, rehearse};
+use rehearsal::{Ending, Opening, Stage, Stopped, rehearse};
 use sect_dev::MemDev;
 use std::alloc::Global;
 use std::test::Fail;
@@ -44,15 +44,17 @@ const MARKS: [[bool; 16]; 3] = [
     ],
 ];
 
-/// A session that makes a database of this limit where the device is blank.
+/// A session that makes a database of this limit where the device is blank. Of the writes that the
+/// session before has not synced those happened that are marked.
 fn stage_of(
     alloc: Global,
+    marks: &[bool],
     limit: u32,
     text: &str,
     device_calls: u64,
-    marks: &[bool],
 ) -> Result<Stage, Fail> {
     Ok(Stage {
+        keep: Vec::from_slice(alloc, marks)?,
         how: Opening {
             create: true,
             truncate: false,
@@ -62,12 +64,11 @@ fn stage_of(
         calls: calls_of(alloc, text)?,
         group: Vec::new(alloc),
         device_calls,
-        keep: Vec::from_slice(alloc, marks)?,
     })
 }
 
 /// How two sessions end on a blank device.
-fn endings_of(alloc: Global, first: Stage, second: Stage) -> Result<Vec<Ending>, Fail> {
+fn endings_of(alloc: Global, first: Stage, second: Stage) -> Result<Vec<Stopped>, Fail> {
     let (_, endings) = rehearse(alloc, MemDev::new(alloc, 928), &[first, second])?;
     Ok(endings)
 }
@@ -135,11 +136,11 @@ fn outcome(first: &Ending, second: &Ending) -> Option<Kept> {
 
 /// The same of stores that are stopped after so many calls of the device.
 fn stores_stopped(alloc: Global, calls: u64, marks: &[bool]) -> Result<Option<Kept>, Fail> {
-    let first = stage_of(alloc, 100, STORES, calls, marks)?;
-    let second = stage_of(alloc, 100, FETCHES, u64::MAX, &[true; 16])?;
+    let first = stage_of(alloc, &[], 100, STORES, calls)?;
+    let second = stage_of(alloc, marks, 100, FETCHES, u64::MAX)?;
     let endings = endings_of(alloc, first, second)?;
     Ok(match endings.as_slice() {
-        [first, second] => outcome(first, second),
+        [first, second] => outcome(&first.ending, &second.ending),
         _ => None,
     })
 }
@@ -189,11 +190,14 @@ fn a_stop_keeps_each_acknowledged_store(rt: HostRuntime) -> Result<(), Fail> {
 /// Whether a database of limit 5 is made where the making of one of limit 9 was stopped, with no
 /// unsynced write done.
 fn is_made_after_stop(alloc: Global, calls: u64) -> Result<bool, Fail> {
-    let first = stage_of(alloc, 9, "", calls, &[])?;
-    let second = stage_of(alloc, 5, STORES, u64::MAX, &[])?;
+    let first = stage_of(alloc, &[], 9, "", calls)?;
+    let second = stage_of(alloc, &[], 5, STORES, u64::MAX)?;
     let endings = endings_of(alloc, first, second)?;
-    Ok(match endings.as_slice() {
-        [Ending::NotOpened(_), Ending::Rested(replies, _)] => are_stored(replies.as_slice(), 5),
+    let [first, second] = endings.as_slice() else {
+        return Ok(false);
+    };
+    Ok(match (&first.ending, &second.ending) {
+        (Ending::NotOpened(_), Ending::Rested(replies, _)) => are_stored(replies.as_slice(), 5),
         _ => false,
     })
 }
@@ -245,18 +249,21 @@ struct Grouped {
 /// The same of a session that stores them in one commit, and is stopped after so many calls of the
 /// device. A second one looks for them.
 fn group_stopped(alloc: Global, calls: u64, marks: &[bool]) -> Result<Option<Grouped>, Fail> {
-    let mut first = stage_of(alloc, 100, "", calls, marks)?;
+    let mut first = stage_of(alloc, &[], 100, "", calls)?;
     first.group = nine_pairs(alloc)?;
-    let second = stage_of(alloc, 100, FETCHES, u64::MAX, &[])?;
+    let second = stage_of(alloc, marks, 100, FETCHES, u64::MAX)?;
     let endings = endings_of(alloc, first, second)?;
-    let [first, Ending::Rested(fetched, Ok(0))] = endings.as_slice() else {
+    let [first, second] = endings.as_slice() else {
         return Ok(None);
     };
-    let acknowledged = match first {
+    let Ending::Rested(fetched, Ok(0)) = &second.ending else {
+        return Ok(None);
+    };
+    let acknowledged = match &first.ending {
         Ending::Rested(_, Ok(stored)) | Ending::Unsettled(_, Ok(stored)) => *stored,
         _ => 0,
     };
-    let closed = matches!(first, Ending::Rested(..));
+    let closed = matches!(first.ending, Ending::Rested(..));
     Ok(none_or_all(fetched.as_slice()).map(|found| Grouped {
         acknowledged,
         found,

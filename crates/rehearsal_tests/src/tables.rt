@@ -177,9 +177,9 @@ fn table_of<S: PageStore>(alloc: Global, db: &mut Database<S>) -> Result<Table, 
     })
 }
 
-/// What a device holds, of which a copy is opened: none is a blank one.
-pub fn held_by(alloc: Global, dev: &MemDev) -> Result<Option<Table>, Fail> {
-    match opened(alloc, dev.crashed(alloc, &[])?, false, 0) {
+/// What a device holds: none is a blank one.
+pub fn held_by(alloc: Global, dev: MemDev) -> Result<Option<Table>, Fail> {
+    match opened(alloc, dev, false, 0) {
         Ok(mut db) => Ok(Some(table_of(alloc, &mut db)?)),
         Err(Fault::NotADatabase) => Ok(None),
         Err(fault) => Err(fault.into()),

@@ -28,14 +28,20 @@ const MOST_STOPS: u64 = 200;
 /// More marks than there are unsynced writes at a stop of the session.
 const MARKS: u32 = 64;
 
-/// The session, on a blank device. Of each two unsynced writes at its stop these happened.
-fn stage_of(alloc: Global, device_calls: u64, kept: (bool, bool)) -> Result<Stage, Fail> {
-    let mut keep = Vec::new(alloc);
+/// Of each two unsynced writes at a stop these happened.
+fn marks_of(alloc: Global, kept: (bool, bool)) -> Result<Vec<bool>, Fail> {
+    let mut marks = Vec::new(alloc);
     for _ in 0..MARKS / 2 {
-        keep.push(kept.0)?;
-        keep.push(kept.1)?;
+        marks.push(kept.0)?;
+        marks.push(kept.1)?;
     }
+    Ok(marks)
+}
+
+/// The session, on a blank device.
+fn stage_of(alloc: Global, device_calls: u64) -> Result<Stage, Fail> {
     Ok(Stage {
+        keep: Vec::new(alloc),
         how: Opening {
             create: true,
             truncate: false,
@@ -45,7 +51,6 @@ fn stage_of(alloc: Global, device_calls: u64, kept: (bool, bool)) -> Result<Stag
         calls: calls_of(alloc, CALLS)?,
         group: Vec::new(alloc),
         device_calls,
-        keep,
     })
 }
 
@@ -58,13 +63,16 @@ struct Outcome {
     has_ended: bool,
 }
 
-fn outcome_of(alloc: Global, stage: Stage) -> Result<Outcome, Fail> {
+fn outcome_of(alloc: Global, stage: Stage, kept: (bool, bool)) -> Result<Outcome, Fail> {
     let stages = [stage];
     let [stage] = &stages;
     let states = states_of(alloc, &None, stage, SECTORS)?;
     let (left, endings) = rehearse(alloc, MemDev::new(alloc, SECTORS), &stages)?;
-    let ending = endings.as_slice().first().ok_or("an ending")?;
-    let found = held_by(alloc, &left)?;
+    let ending = &endings.as_slice().first().ok_or("an ending")?.ending;
+    let found = held_by(
+        alloc,
+        left.crashed(alloc, marks_of(alloc, kept)?.as_slice())?,
+    )?;
     let done = acknowledged(&None, stage.how, ending);
     Ok(Outcome {
         is_right: may_be_left(alloc, states.as_slice(), done, &[], ending, &found)?,
@@ -75,7 +83,7 @@ fn outcome_of(alloc: Global, stage: Stage) -> Result<Outcome, Fail> {
 /// The first stop that leaves something else, where each is tried until the session ends.
 fn first_wrong_stop(alloc: Global, kept: (bool, bool)) -> Result<Option<u64>, Fail> {
     for stop in 0..MOST_STOPS {
-        let outcome = outcome_of(alloc, stage_of(alloc, stop, kept)?)?;
+        let outcome = outcome_of(alloc, stage_of(alloc, stop)?, kept)?;
         if !outcome.is_right {
             return Ok(Some(stop));
         }

@@ -3,7 +3,7 @@ use Rattle.sect_dev.specs.contracts.mem.MemDevSectorDev.TheImpl.{ghosts as MemDe
 use Rattle.dbm_sessions.specs.Members.{Members, AllHaveRoom}
 use Rattle.dbm_sessions.specs.Room.{AsksForRoom}
 use Rattle.rehearsal.specs.Members.{AllStandFor}
-use Rattle.rehearsal.specs.Rehearsals.{planned, SessionsLeave, AreNeverShort, most_changes}
+use Rattle.rehearsal.specs.Rehearsals.{planned, endings_in, SessionsLeave, AreNeverShort, AreOpenedBut, AsksForALimit, FindOrMake, IsSpared, AreCutAsAsked, most_changes}
 use Rattle.rehearsal.proofs.rehearsing.rehearse.Given as goal
 
 abbrev pub invariant-loop-stage : goal.invariant-loop-stage
@@ -11,7 +11,7 @@ invariant-loop-stage l = record {
   left : (before : Members)
       → AllStandFor before (MemDevGhosts.sectors l.initial.dev / 4)
       (MemDevGhosts.candidate l.initial.dev)
-      → SessionsLeave before (map planned (take l.stage-index l.stages)) l.endings.items
+      → SessionsLeave before (map planned (take l.stage-index l.stages)) (endings_in l.endings.items)
       (MemDevGhosts.sectors l.dev / 4) (MemDevGhosts.candidate l.dev);
   size : MemDevGhosts.sectors l.dev / 4 ≡ MemDevGhosts.sectors l.initial.dev / 4;
   short : (before : Members)
@@ -19,7 +19,18 @@ invariant-loop-stage l = record {
       (MemDevGhosts.candidate l.initial.dev)
       → AllHaveRoom (MemDevGhosts.sectors l.initial.dev / 4) before
       → All (AsksForRoom (MemDevGhosts.sectors l.initial.dev / 4)) (map planned l.stages)
-      → AreNeverShort l.endings.items;
+      → AreNeverShort (endings_in l.endings.items);
+  opened : (before : Members)
+      → AllStandFor before (MemDevGhosts.sectors l.initial.dev / 4)
+      (MemDevGhosts.candidate l.initial.dev)
+      → AllHaveRoom (MemDevGhosts.sectors l.initial.dev / 4) before
+      → All (AsksForRoom (MemDevGhosts.sectors l.initial.dev / 4)) (map planned l.stages)
+      → All AsksForALimit (map planned l.stages) → FindOrMake before (map planned l.stages)
+      → AreOpenedBut (map planned (take l.stage-index l.stages)) (endings_in l.endings.items);
+  cut : AreCutAsAsked (take l.stage-index l.stages) l.endings.items;
+  spared : (before : Members)
+      → AllStandFor before (MemDevGhosts.sectors l.initial.dev / 4)
+      (MemDevGhosts.candidate l.initial.dev) → All IsSpared l.endings.items;
   stops : (before : Members)
       → AllStandFor before (MemDevGhosts.sectors l.initial.dev / 4)
       (MemDevGhosts.candidate l.initial.dev)
