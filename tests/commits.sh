@@ -2,7 +2,7 @@
 # Which pages a change commits, by the redo images that the armed commit sector of a file names once the change is cut short; a store that is
 # acknowledged and waits for the closing: its commit sector is the armed one to the byte, and the pair is there for reading and writing; and
 # each call of the system of a store that opens a bucket, of its closing, of the opening that settles it, of one that reads it, and of two stores
-# in a row, in their order.
+# in a row, in their order, and of stores with many new pages.
 . "$(dirname "$0")/common"
 preloadable fail
 
@@ -101,6 +101,19 @@ all=$(pages read 2 3; pages write 4 5; printf 'sync\nwrite 0 512\nsync\n'
   pages write 6 7 1 3; printf 'sync\nwrite 0 512\nsync\n'; pages write 4 5 1 3; printf 'sync\nwrite 0 512\nsync\n'
   pages write 1 3; printf 'sync\nwrite 0 512\nsync')
 traced new $'S 61 01\nS 62 02\nS 63 03' "$opening"$'\n'"$all"
+
+# A commit with 16 new pages, those of a content in pages of its own, writes these in their places once, and redo images of the other two alone; the
+# pages that wait of the one before are brought home first. One with 15 new pages writes all of them as images.
+"$program" create far --limit 100 --v2 || exit 1
+far=$(printf '07%.0s' $(seq 32512)) shorter=$(printf '07%.0s' $(seq 30480))
+armed=$(printf 'sync\nwrite 0 512\nsync') home=$(pages write 1 3; printf 'sync\nwrite 0 512\nsync')
+# shellcheck disable=SC2046
+first=$(pages read 2 3; pages write $(seq 4 19) 20 21)$'\n'$armed
+# shellcheck disable=SC2046
+second=$(pages write $(seq 20 35) 36 37)$'\n'$armed
+traced far "S 61 $far"$'\n'"S 62 $far" "$opening"$'\n'"$first"$'\n'"$home"$'\n'"$second"$'\n'"$home"
+# shellcheck disable=SC2046
+traced far "S 61 $shorter" "$opening"$'\n'"$(pages read 2 3; pages write $(seq 19 35))"$'\n'"$armed"$'\n'"$(pages write 1 $(seq 3 18); printf 'sync\nwrite 0 512\nsync')"
 
 # A file that leaves its device room for two pages alone: the second store brings the pages of the first to their places before it writes its own
 # images over those. With room for four it does not. The device has 68,250,498 pages.

@@ -92,6 +92,21 @@ echo "S 61 $far" > in
 is_kept 1 --memory 1 --v2
 stops_everywhere
 [ "$(count 'device calls')" = $((near + 16)) ] || wrong "a far pair takes other than 16 device calls more than a near one's $near"
+
+# A content of 15 pages is written as redo images and in its place; the pages of one of 16 are new ones that come to their places at once.
+far=$(times 30480 07)
+echo "S 61 $far" > in
+is_kept 1 --memory 1 --v2
+[ "$(count 'device calls')" = $((near + 15 * 8)) ] || wrong "15 new pages take other than 120 device calls more than none"
+far=$(times 32512 07)
+echo "S 61 $far" > in
+is_kept 1 --memory 1 --v2
+stops_everywhere
+[ "$(count 'device calls')" = $((near + 16 * 4)) ] || wrong "16 new pages take other than 64 device calls more than none"
+# a row of such stores, of which one brings the pages of the one before home, and another takes pages that were given back
+printf 'S 61 %s\nS 62 %s\nD 61\nS 63 %s\nS 61 %s00\n' "$far" "$far" "$far" "$far" > in
+is_kept 5 --memory 9 --v2
+stops_everywhere
 is_kept 1 --memory 1
 [ "$(count 'device calls')" -lt "$near" ] || wrong "a refused pair takes device calls"
 # put, replaced by another far one, and deleted

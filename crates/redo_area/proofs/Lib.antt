@@ -2,6 +2,7 @@ mod Armings
 mod Kept
 mod Openings
 mod Orders
-pub mod ReadRuns
 mod Recoveries
 mod Results
+pub mod ReadRuns
+pub mod Splits

@@ -1,7 +1,7 @@
 // The first half of a commit, where pages of the last one may still wait.
-ghost use Rattle.std.specs.Prelude.{◌≡◌, ◌≤◌, ◌<◌, ◌+◌, ◌/◌, ◌↔◌, ℕ, true, length, max, OnOk, IfOk, IfSome, IfNone};
+ghost use Rattle.std.specs.Prelude.{◌≡◌, ◌≤◌, ◌<◌, ◌+◌, ◌-◌, ◌/◌, ◌↔◌, ℕ, true, length, take, max, OnOk, IfOk, IfSome, IfNone, IsTrue, IsFalse, slice_index_or, []};
 ghost use Rattle.sect_dev.specs.Device.{HasCause, LeavesOnly};
-ghost use Rattle.page_io.specs.Page.{page_at};
+ghost use Rattle.page_io.specs.Page.{page_at, own_number};
 ghost use Rattle.page_io.specs.Store.{bytes_of, file_pages, overlaid, are_in_order, has_page, committed_with, IsEither};
 ghost use Rattle.redo_commit.specs.File.{settled, IsArmed};
 ghost use Rattle.redo_area.specs.Arming.{IsBeside};
@@ -9,7 +9,7 @@ ghost use Rattle.redo_area.specs.Settling.{MayWait};
 
 use crate::settling::bring_home;
 use page_io::Page;
-use redo_commit::{arm, arm_next};
+use redo_commit::{arm, arm_grown, arm_next};
 use sect_dev::{DevFault, SectorDev};
 
 /// The first page from `least` on where `count` redo images fit beside those of pages that wait,
@@ -39,10 +39,114 @@ fn place_beside(least: u32, count: usize, start: u32, waiting: usize, capacity: 
     Some(place)
 }
 
-/// Arms the commit sector over redo images of these pages, and answers where the first one stands.
-/// Pages of the last commit that still wait are brought home: while the images are written, where
-/// there is room for them beside those of the last commit; else before.
+// So many new pages are written at their own numbers alone.
+const MANY: usize = 16;
+
+// Whether the last of the first `count` pages is from the old end on.
+fn is_new(pages: &[Page], count: usize, old_end: u32) -> bool
+    requires { count ≤ length pages.now }
+    ensures yes { IsTrue result → (0 < count)
+        × (old_end ≤ own_number (slice_index_or (bytes_of pages.now) (count - 1) [])) }
+    ensures no { IsFalse result → 0 < count
+        → own_number (slice_index_or (bytes_of pages.now) (count - 1) []) < old_end }
+{
+    count > 0 && pages[count - 1].own() >= old_end
+}
+
+// How many pages stand in front of the new ones, which are those from the old end on.
+fn changed_in(pages: &[Page], old_end: u32) -> usize
+    ensures within { result ≤ length pages.now }
+    ensures below { 0 < result
+        → own_number (slice_index_or (bytes_of pages.now) (result - 1) []) < old_end }
+    ensures from { (k : ℕ) → result ≤ k → k < length pages.now
+        → old_end ≤ own_number (slice_index_or (bytes_of pages.now) k []) }
+{
+    let mut count = pages.len();
+    while is_new(pages, count, old_end) {
+        count -= 1;
+    }
+    count
+}
+
+/// Redo images that a commit sector is armed over.
+#[derive(Clone, Copy)]
+pub struct Armed {
+    /// The page of the first one.
+    pub place: u32,
+    /// How many there are: the pages of the commit, or those of them that are not new.
+    pub images: usize,
+}
+
+/// Arms the commit sector over redo images of these pages. Pages of the last commit that still wait
+/// are brought home: while the images are written, where there is room for them beside those of the
+/// last commit; else before. Where there are 16 new pages or more, and others, the new ones come to
+/// their own numbers at once, and have no redo image; the pages that wait are brought home before.
 pub fn arm_over<D: SectorDev>(
+    dev: &mut D,
+    start: u32,
+    old_end: u32,
+    waiting: &[Page],
+    new_end: u32,
+    pages: &[Page],
+) -> Result<Armed, DevFault>
+    requires waits { D.honest dev.old
+        → MayWait (D.sectors dev.old / 4) old_end start (bytes_of waiting.now)
+        (D.candidate dev.old) (D.seen dev.old) }
+    requires old_least { 4 ≤ old_end }
+    requires behind { old_end ≤ start }
+    requires within { start ≤ D.sectors dev.old / 4 }
+    requires rising { are_in_order 1 old_end (bytes_of waiting.now) ≡ true }
+    requires some { 0 < length pages.now }
+    requires least { 4 ≤ new_end }
+    requires room { max old_end new_end + length pages.now ≤ D.sectors dev.old / 4 }
+    requires in_order { are_in_order 1 new_end (bytes_of pages.now) ≡ true }
+    requires grown { (n : ℕ) → old_end ≤ n → n < new_end → has_page (bytes_of pages.now) n ≡ true }
+
+    // Every image of every moment since the start settles to the old pages, those that waited among
+    // them, or to the new.
+    ensures any_moment { D.honest dev.old
+        → let before = file_pages (overlaid (bytes_of waiting.now) (page_at (D.seen dev.old)))
+        old_end in
+        LeavesOnly D.moment D.left_since dev.old dev.new
+        (λ image. IsEither before (committed_with before (bytes_of pages.now) new_end)
+        (settled (D.sectors dev.old / 4) image)) }
+    ensures armed { D.honest dev.old → IfOk result (λ armed.
+        IsArmed (D.sectors dev.old / 4) new_end armed.place
+        (bytes_of (take armed.images pages.now)) (D.candidate dev.new) (D.seen dev.new)) }
+
+    // The images over what the device shows are the new pages.
+    ensures pages { D.honest dev.old → IfOk result (λ armed.
+        file_pages (overlaid (bytes_of (take armed.images pages.now)) (page_at (D.seen dev.new)))
+        new_end ≡ committed_with
+        (file_pages (overlaid (bytes_of waiting.now) (page_at (D.seen dev.old))) old_end)
+        (bytes_of pages.now) new_end) }
+    ensures place { IfOk result (λ armed.
+        (new_end ≤ armed.place) × (armed.place ≤ D.sectors dev.old / 4)) }
+    ensures images { IfOk result (λ armed.
+        (0 < armed.images) × (armed.images ≤ length pages.now)) }
+    ensures honesty { D.honest dev.new ↔ D.honest dev.old }
+    ensures cause { HasCause (D.faults dev.old) (D.faults dev.new) result }
+    ensures size { D.sectors dev.new ≡ D.sectors dev.old }
+{
+    let changed = changed_in(pages, old_end);
+    if changed > 0 && pages.len() - changed >= MANY {
+        let (changed_pages, new) = pages.split_at(changed);
+        bring_home(dev, start, old_end, waiting)?;
+        arm_grown(dev, old_end, new_end, changed_pages, new)?;
+        return Ok(Armed {
+            place: new_end,
+            images: changed,
+        });
+    }
+    let place = arm_all(dev, start, old_end, waiting, new_end, pages)?;
+    Ok(Armed {
+        place,
+        images: pages.len(),
+    })
+}
+
+// The same with a redo image of each page. It answers where the first one stands.
+fn arm_all<D: SectorDev>(
     dev: &mut D,
     start: u32,
     old_end: u32,
@@ -62,9 +166,6 @@ pub fn arm_over<D: SectorDev>(
     requires room { max old_end new_end + length pages.now ≤ D.sectors dev.old / 4 }
     requires in_order { are_in_order 1 new_end (bytes_of pages.now) ≡ true }
     requires grown { (n : ℕ) → old_end ≤ n → n < new_end → has_page (bytes_of pages.now) n ≡ true }
-
-    // Every image of every moment since the start settles to the old pages, those that waited among
-    // them, or to the new.
     ensures any_moment { D.honest dev.old
         → let before = file_pages (overlaid (bytes_of waiting.now) (page_at (D.seen dev.old)))
         old_end in

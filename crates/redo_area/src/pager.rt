@@ -234,12 +234,13 @@ impl<D: SectorDev> PageStore for Pager<D> {
         let waiting = self.waiting.as_slice();
         let pages = self.staged.as_slice();
         let armed = arm_over(&mut self.dev, self.start, self.end, waiting, new_end, pages);
-        let Ok(start) = armed else {
+        let Ok(armed) = armed else {
             return Err(PageFault::Device);
         };
         self.waiting.clear();
+        self.staged.truncate(armed.images);
         hand_over(&mut self.staged, &mut self.waiting);
-        self.start = start;
+        self.start = armed.place;
         self.end = new_end;
         self.usable = true;
         Ok(())

@@ -8,4 +8,4 @@ mod steps;
 
 pub use format::format_pages;
 pub use header::{Header, clear_sector, read_header};
-pub use steps::{arm, arm_next, finish, put_header};
+pub use steps::{arm, arm_grown, arm_next, finish, put_header};

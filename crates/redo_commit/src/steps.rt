@@ -246,3 +246,45 @@ pub fn arm_next<D: SectorDev>(
     put_header(dev, &armed_sector(new_end, place, count))?;
     Ok(())
 }
+
+/// Steps 1 and 2 of a commit with new pages, which are those from the old end on. They are on the
+/// disk at their own numbers, where nothing stood, so they need no redo image; the others are there
+/// as redo images from the new end on, and the commit sector is armed over these.
+pub fn arm_grown<D: SectorDev>(
+    dev: &mut D,
+    old_end: u32,
+    new_end: u32,
+    changed: &[Page],
+    new: &[Page],
+) -> Result<(), DevFault>
+    requires rest { D.honest dev.old
+        → IsAtRest (D.sectors dev.old / 4) old_end (D.candidate dev.old) (D.seen dev.old) }
+    requires some { 0 < length changed.now }
+    requires least { 4 ≤ old_end }
+    requires grown { old_end ≤ new_end }
+    requires room { new_end + length changed.now ≤ D.sectors dev.old / 4 }
+    requires changed { are_in_order 1 old_end (bytes_of changed.now) ≡ true }
+    requires new { are_in_order old_end new_end (bytes_of new.now) ≡ true }
+
+    // Every image of every moment since the start settles to the old pages or to the new.
+    ensures any_moment { D.honest dev.old → LeavesOnly D.moment D.left_since dev.old dev.new
+        (λ image. IsEither (file_pages (page_at (D.seen dev.old)) old_end)
+        (file_pages (overlaid (bytes_of changed.now)
+        (overlaid (bytes_of new.now) (page_at (D.seen dev.old)))) new_end)
+        (settled (D.sectors dev.old / 4) image)) }
+    ensures armed { D.honest dev.old
+        → OnOk result (IsArmed (D.sectors dev.old / 4) new_end new_end (bytes_of changed.now)
+        (D.candidate dev.new) (D.seen dev.new)) }
+    ensures pages { D.honest dev.old
+        → OnOk result ((n : ℕ) → 0 < n → n < new_end → page_at (D.seen dev.new) n
+        ≡ overlaid (bytes_of new.now) (page_at (D.seen dev.old)) n) }
+    ensures honesty { D.honest dev.new ↔ D.honest dev.old }
+    ensures cause { HasCause (D.faults dev.old) (D.faults dev.new) result }
+    ensures size { D.sectors dev.new ≡ D.sectors dev.old }
+{
+    let count = changed.len() as u32;
+    write_homes(dev, new)?;
+    put_images(dev, new_end, changed)?;
+    put_header(dev, &armed_sector(new_end, new_end, count))?;
+    Ok(())
+}

@@ -1,10 +1,11 @@
-use Rattle.std.proofs.Common.{◌≡◌, ◌/◌, ℕ, List, inl, true, refl, sym, ◌∙◌, ap, subst}
+use Rattle.std.proofs.Common.{◌≡◌, ◌≤◌, ◌/◌, ℕ, List, length, take, inl, true, refl, sym, ◌∙◌, ap, subst}
 use Rattle.sect_dev.specs.Moments.{started}
 use Rattle.page_io.specs.Store.{file_of, IsEither, bytes_of, are_in_order, committed_with}
 use Rattle.page_io.specs.declared.page.Page.{Page}
 use Rattle.page_io.proofs.StagedPages.{order_below}
 use Rattle.redo_commit.specs.File.{settled, IsArmed}
 use Rattle.redo_area.specs.Settling.{SettlesToPages, only_seen, waits_at}
+use Rattle.redo_area.proofs.Splits.{some_taken, taken_in_order}
 use Rattle.redo_area.proofs.Kept.{pages_of, as_read, commit_leaves}
 use Rattle.redo_area.proofs.pager.PagerPageStore.commit.Goals as goal
 
@@ -40,30 +41,37 @@ returns-in_default-clause-any_moment g c honest usable writable =
     c.as_slice-pages.result.now c.arm_over-armed.ensures.size c.as_slice-waiting.ensures
     c.as_slice-pages.ensures (c.arm_over-armed.ensures.any_moment honest)
 
--- the pages wait
+-- the pages of the images wait
 pub invariant_of-self-2-clause-settles : goal.invariant_of-self-2-clause-settles
 invariant_of-self-2-clause-settles g c still usable =
     let dev = g.D.SectorDev in
     let old = c.args.self.now in
     let new = c.arm_over-armed.new.dev in
-    let start = c.in-Ok.start in
-    let armed = λ (cap : ℕ) (pages : List Page). IsArmed cap c.args.new_end start (bytes_of pages)
-    (dev.candidate new) (dev.seen new) in
+    let start = c.in-Ok.armed.place in
+    let images = take c.in-Ok.armed.images old.staged.items in
+    let armed = λ (cap : ℕ) (pages : List Page). IsArmed cap c.args.new_end start
+    (bytes_of (take c.in-Ok.armed.images pages)) (dev.candidate new) (dev.seen new) in
     let same : dev.sectors old.dev / 4 ≡ dev.sectors new / 4 =
     ap (λ (s : ℕ). s / 4) (sym c.arm_over-armed.ensures.size) in
     let is_armed = c.in-Ok.ensures.armed (c.arm_over-armed.ensures.honesty.0 still) in
     subst (λ ps. SettlesToPages old.writable (dev.sectors new / 4) c.args.new_end start
-    (bytes_of ps) (dev.candidate new) (dev.seen new)) (sym c.hand_over.ensures.given)
-    (waits_at old.writable (dev.sectors new / 4) c.args.new_end start (bytes_of old.staged.items)
-    (dev.candidate new) (dev.seen new) c.requires.some
+    (bytes_of ps) (dev.candidate new) (dev.seen new))
+    (sym (c.hand_over.ensures.given ∙ c.truncate.ensures.items))
+    (waits_at old.writable (dev.sectors new / 4) c.args.new_end start (bytes_of images)
+    (dev.candidate new) (dev.seen new)
+    (some_taken c.in-Ok.armed.images old.staged.items c.in-Ok.ensures.images.0
+    (subst (λ (ps : List Page). c.in-Ok.armed.images ≤ length ps) c.as_slice-pages.ensures
+    c.in-Ok.ensures.images.1))
     (subst (λ (cap : ℕ). armed cap old.staged.items) same
     (subst (armed (dev.sectors old.dev / 4)) c.as_slice-pages.ensures is_armed)))
 
 pub invariant_of-self-2-clause-rising : goal.invariant_of-self-2-clause-rising
 invariant_of-self-2-clause-rising g c =
-    ap (λ ps. are_in_order 1 c.args.new_end (bytes_of ps)) c.hand_over.ensures.given
-    ∙ order_below 1 4294967296 c.args.new_end (bytes_of c.args.self.now.staged.items)
-    c.args.self.now.order c.requires.below
+    ap (λ ps. are_in_order 1 c.args.new_end (bytes_of ps))
+    (c.hand_over.ensures.given ∙ c.truncate.ensures.items)
+    ∙ taken_in_order 1 c.args.new_end c.in-Ok.armed.images c.args.self.now.staged.items
+    (order_below 1 4294967296 c.args.new_end (bytes_of c.args.self.now.staged.items)
+    c.args.self.now.order c.requires.below)
 
 pub returns-clause-any_moment : goal.returns-clause-any_moment
 returns-clause-any_moment g c honest usable writable =
