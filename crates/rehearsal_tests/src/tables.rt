@@ -42,9 +42,15 @@ fn without_key(table: &Table, key: &[u8]) -> Result<Table, Fail> {
 }
 
 /// How many sectors a device has to have for a database of version 2 of this limit.
-fn sectors_for(limit: u32) -> u32 {
+fn sectors_for(limit: u32) -> u64 {
+    let limit = u64::from(limit);
     let buckets = limit.div_ceil(8);
     8 * (2 + buckets.div_ceil(508) + buckets + 34 * limit)
+}
+
+/// Whether a device of so many sectors is large enough for one.
+fn has_room(sectors: u32, limit: u32) -> bool {
+    u64::from(sectors) >= sectors_for(limit)
 }
 
 /// Whether a store of a key is taken. The tests' keys are short.
@@ -77,7 +83,7 @@ fn after_call(
             let (key, content) = (key.as_slice(), content.as_slice());
             Ok(Some(with_pair(alloc, table, key, content)?))
         }
-        Call::Upgrade if table.version == Version::V1 && sectors >= sectors_for(table.limit) => {
+        Call::Upgrade if table.version == Version::V1 && has_room(sectors, table.limit) => {
             Ok(Some(in_version_2(table)?))
         }
         Call::Delete(key) if table.pairs.contains_key(key.as_slice()) => {
