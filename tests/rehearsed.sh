@@ -68,13 +68,13 @@ cp before t.db && "$program" delete t 61 -x || wrong "no pair was deleted"
 printf '\10' | dd of=t.db bs=1 seek=$((2048 + 27)) conv=notrunc status=none
 "$program" rehearse t < in > out 2> err; [ $? = 2 ] && [ ! -s out ] && [ "$(cat err)" = 'dbmtool: fault 9' ] || wrong "a file that lacks a pair is rehearsed"
 
-# A database that is wrong: the pages of one content are the first two of another one, so that a delete destroys both. Each stop from the write of
+# A database that is wrong: the pages of one content are the last two of another one, so that a delete destroys both. Each stop from the write of
 # the armed sector on is told as lost. Behind that write come a sync, and in the closing four pages of four sectors, the clear sector and two syncs.
 times() { printf "$2%.0s" $(seq "$1"); }
-"$program" create wrong --limit 100 --v2 && printf 'S 6e 01\nS 66 %s\nS 6f %s\n' "$(times 5000 07)" "$(times 4064 08)" |
+"$program" create wrong --limit 100 --v2 && printf 'S 6e 01\nS 66 %s\nS 6f %s\n' "$(times 5000 07)" "$(times 2968 08)" |
   "$program" script wrong > out && [ "$(sort -u out)" = 0 ] || wrong "no file of far pairs was made"
-printf '\4' | dd of=wrong.db bs=1 seek=$((3 * 2048 + 2040)) conv=notrunc status=none
-[ "$("$program" dump wrong)" = "66 $(times 5000 07)"$'\n6e 01\n6f '"$(times 4064 07)" ] || wrong "the two contents don't share their pages"
+printf '\5' | dd of=wrong.db bs=1 seek=$((3 * 2048 + 2040)) conv=notrunc status=none
+[ "$("$program" dump wrong)" = "66 $(times 5000 07)"$'\n6e 01\n6f '"$(times 2968 07)" ] || wrong "the two contents don't share their pages"
 echo 'D 6f' | "$program" rehearse wrong > out 2> err; [ $? = 2 ] || wrong "a delete that destroys another content is kept"
 lost=$(($(count 'device calls') - (4 * 4 + 1 + 1 + 1) - 1))
 [ "$(cat err)" = "dbmtool: stop $lost" ] || wrong "another first stop is told than $lost"
@@ -92,21 +92,6 @@ echo "S 61 $far" > in
 is_kept 1 --memory 1 --v2
 stops_everywhere
 [ "$(count 'device calls')" = $((near + 16)) ] || wrong "a far pair takes other than 16 device calls more than a near one's $near"
-
-# A content of 15 pages is written as redo images and in its place; the pages of one of 16 are new ones that come to their places at once.
-far=$(times 30480 07)
-echo "S 61 $far" > in
-is_kept 1 --memory 1 --v2
-[ "$(count 'device calls')" = $((near + 15 * 8)) ] || wrong "15 new pages take other than 120 device calls more than none"
-far=$(times 32512 07)
-echo "S 61 $far" > in
-is_kept 1 --memory 1 --v2
-stops_everywhere
-[ "$(count 'device calls')" = $((near + 16 * 4)) ] || wrong "16 new pages take other than 64 device calls more than none"
-# a row of such stores, of which one brings the pages of the one before home, and another takes pages that were given back
-printf 'S 61 %s\nS 62 %s\nD 61\nS 63 %s\nS 61 %s00\n' "$far" "$far" "$far" "$far" > in
-is_kept 5 --memory 9 --v2
-stops_everywhere
 is_kept 1 --memory 1
 [ "$(count 'device calls')" -lt "$near" ] || wrong "a refused pair takes device calls"
 # put, replaced by another far one, and deleted
@@ -123,6 +108,21 @@ printf 'S 69 %s\nD 68\n' "${far//7/9}" > in
 is_kept 2 far
 stops_everywhere
 cmp -s far.db before || wrong "a rehearsal changed the file"
+
+# A content of 15 pages is written as redo images and in its place; the pages of one of 16 are new ones that come to their places at once.
+long=$(times 30480 07)
+echo "S 61 $long" > in
+is_kept 1 --memory 1 --v2
+[ "$(count 'device calls')" = $((near + 15 * 8)) ] || wrong "15 new pages take other than 120 device calls more than none"
+long=$(times 32512 07)
+echo "S 61 $long" > in
+is_kept 1 --memory 1 --v2
+stops_everywhere
+[ "$(count 'device calls')" = $((near + 16 * 4)) ] || wrong "16 new pages take other than 64 device calls more than none"
+# a row of such stores, of which one brings the pages of the one before home, and another takes pages that were given back
+printf 'S 61 %s\nS 62 %s\nD 61\nS 63 %s\nS 61 %s00\n' "$long" "$long" "$long" "$long" > in
+is_kept 5 --memory 9 --v2
+stops_everywhere
 
 # what is no database, or isn't there
 printf hello > text.db
