@@ -48,11 +48,12 @@ loads() {
   "$program" dump "$1" | cmp - "$wanted" || wrong "load ${*:4} of $2 stores other pairs"
 }
 
-# A commit has two syncs, an opening one, and the closing brings the pages of the last commit to their places with two.
+# A commit has two syncs, an opening one, and the closing brings the pages of the last commit to their places with two. So does a commit with 16 new
+# pages or more, before it writes its own: here each group of 350 lines, which opens some 44 buckets, but the first.
 loads text-lines fields $((1 + 2 * 1050 + 2)) --text
 loads text-ones fields $((1 + 2 * 1050 + 2)) --text --group 1
 loads text-groups fields $((1 + 2 * 11 + 2)) --text --group 100
-loads text-thirds fields $((1 + 2 * 3 + 2)) --text --group 350
+loads text-thirds fields $((1 + 2 * 3 + 2 * 2 + 2)) --text --group 350
 loads text-one-group fields $((1 + 2 * 1 + 2)) --group 100000 --text
 loads word-lines words $((1 + 2 * 1050 + 2))
 loads word-groups words $((1 + 2 * 11 + 2)) --group 100
@@ -75,10 +76,11 @@ BEGIN {
 }'
 [ "$(wc -l < far-wanted) $(awk 'length > 4 + 1 + 2 * 2024' far-wanted | wc -l)" = '57 19' ] || { echo "the check has other far lines"; exit 1; }
 option=(--v2) wanted=far-wanted
-loads far-lines far-words $((1 + 2 * 60 + 2))
-loads far-ones far-words $((1 + 2 * 60 + 2)) --group 1
-loads far-tens far-words $((1 + 2 * 6 + 2)) --group 10
-loads far-text far-fields $((1 + 2 * 9 + 2)) --text --group 7
+# the content of 65,535 bytes has 33 new pages
+loads far-lines far-words $((1 + 2 * 60 + 2 + 2))
+loads far-ones far-words $((1 + 2 * 60 + 2 + 2)) --group 1
+loads far-tens far-words $((1 + 2 * 6 + 2 + 2)) --group 10
+loads far-text far-fields $((1 + 2 * 9 + 2 + 2)) --text --group 7
 loads far-one-group far-fields $((1 + 2 * 1 + 2)) --group 100000 --text
 # one far pair alone, of 33 pages
 head -n 30 far-words | tail -n 1 > far-alone && wanted=far-alone
@@ -107,38 +109,42 @@ field() { od -An -tu4 --endian=big -j "$1" -N 4 t.db | tr -d ' '; }
 leaves() { is_whole "$2" && [ "$count" = "$1" ] || wrong "$2: $count lines are left, and not $1"; }
 
 # each_commit BUCKETS: the lines are loaded into the file empty.db in one group, which then has so many buckets, and their load is cut short around
-# each sync of its commits. $counts are how many lines there are once so many commits are done.
+# each sync of its commits. $counts are how many lines there are once so many commits are done. Between two commits the pages of the first one
+# are brought to their places, and the sector is cleared.
 each_commit() {
-  local pairs lose n sector images
+  local pairs lose sector images
   local -a sectors
   pairs=$(wc -l < lines)
   cp empty.db t.db && rm -f trace
   FAIL_CALL=0 FAIL_TRACE=trace LD_PRELOAD=./fail.so "$program" load t --group 100000 < lines 2> err || wrong "the load ends with status $?"
   leaves "$pairs" 'a whole load'
   [ "$("$program" stat t | sed -n 's/^buckets //p')" = "$1" ] || wrong "there are not $1 buckets"
-  # the commit sector is written once by each commit, and once by the closing
-  mapfile -t sectors < <(grep -nx 'write 0 512' trace | sed 's/:.*//')
-  commits=$((${#sectors[@]} - 1))
-  [ "$commits" -ge 2 ] && [ "$commits" -le 20 ] || { echo "there are $commits commits"; exit 1; }
-  counts=(0)
-  for ((n = 0; n < commits; n++)); do
-    sector=${sectors[n]}
-    # before the images are synced; then with the sector written and not synced, lost and kept; then with all done
+  # the last write of the commit sector is the closing's
+  mapfile -t sectors < <(grep -nx 'write 0 512' trace | sed 's/:.*//' | head -n -1)
+  commits=0 counts=(0)
+  for sector in "${sectors[@]}"; do
+    # before what was written is synced; then with the sector written and not synced, lost and kept; then with all done
     for lose in kept lost; do
       cut $((sector - 1)) $lose
-      leaves "${counts[n]}" "commit $n, images not synced and $lose"
+      leaves "${counts[commits]}" "commit $commits, images not synced and $lose"
     done
     cut $((sector + 1)) lost
-    leaves "${counts[n]}" "commit $n, its sector lost"
+    leaves "${counts[commits]}" "commit $commits, its sector lost"
     cut $((sector + 1)) kept
-    is_whole "commit $n, its sector kept" && [ "$count" -gt "${counts[n]}" ] || wrong "commit $n, its sector kept: $count lines are left"
-    counts+=("$count")
-    # the sector is armed, and has as many images as go into 4 MB, but for those that the last pair adds
-    images=$(field 20)
-    [ "$(field 8)" = 1 ] && [ "$images" -ge 1 ] && [ "$images" -le $((2048 + 8)) ] || wrong "commit $n has $images images"
+    is_whole "commit $commits, its sector kept" || continue
+    if [ "$(field 8)" = 1 ]; then
+      # the sector is armed, and has as many images as go into 4 MB at most, but for those that the last pair adds
+      images=$(field 20)
+      [ "$count" -gt "${counts[commits]}" ] && [ "$images" -ge 1 ] && [ "$images" -le $((2048 + 8)) ] ||
+        wrong "commit $commits has $images images and leaves $count lines"
+      counts+=("$count")
+      commits=$((commits + 1))
+    fi
+    [ "$count" = "${counts[commits]}" ] || wrong "a cleared sector behind commit $commits leaves $count lines"
     cut $((sector + 2)) lost
-    leaves "${counts[n + 1]}" "commit $n, synced"
+    leaves "${counts[commits]}" "commit $commits, synced"
   done
+  [ "$commits" -ge 2 ] && [ "$commits" -le 20 ] || { echo "there are $commits commits"; exit 1; }
   [ "${counts[commits]}" = "$pairs" ] || wrong "the last commit leaves ${counts[commits]} lines"
 }
 
