@@ -102,16 +102,18 @@ all=$(pages read 2 3; pages write 4 5; printf 'sync\nwrite 0 512\nsync\n'
   pages write 1 3; printf 'sync\nwrite 0 512\nsync')
 traced new $'S 61 01\nS 62 02\nS 63 03' "$opening"$'\n'"$all"
 
-# A commit with 16 new pages, those of a content in pages of its own, writes these in their places once, and redo images of the other two alone; the
-# pages that wait of the one before are brought home first. One with 15 new pages writes all of them as images.
+# A commit with 16 new pages, those of a content in pages of its own, writes these in their places once, and redo images of the other two alone. Behind
+# it, where these two wait, such a commit writes all of its pages as images, and with the same sync the two in their places. So does one with 15 new
+# pages where none waits.
 "$program" create far --limit 100 --v2 || exit 1
 far=$(printf '07%.0s' $(seq 32512)) shorter=$(printf '07%.0s' $(seq 30480))
 armed=$(printf 'sync\nwrite 0 512\nsync') home=$(pages write 1 3; printf 'sync\nwrite 0 512\nsync')
 # shellcheck disable=SC2046
 first=$(pages read 2 3; pages write $(seq 4 19) 20 21)$'\n'$armed
 # shellcheck disable=SC2046
-second=$(pages write $(seq 20 35) 36 37)$'\n'$armed
-traced far "S 61 $far"$'\n'"S 62 $far" "$opening"$'\n'"$first"$'\n'"$home"$'\n'"$second"$'\n'"$home"
+second=$(pages write $(seq 36 53) 1 3)$'\n'$armed
+# shellcheck disable=SC2046
+traced far "S 61 $far"$'\n'"S 62 $far" "$opening"$'\n'"$first"$'\n'"$second"$'\n'"$(pages write 1 3 $(seq 20 35); printf 'sync\nwrite 0 512\nsync')"
 # shellcheck disable=SC2046
 traced far "S 61 $shorter" "$opening"$'\n'"$(pages read 2 3; pages write $(seq 19 35))"$'\n'"$armed"$'\n'"$(pages write 1 $(seq 3 18); printf 'sync\nwrite 0 512\nsync')"
 

@@ -48,12 +48,11 @@ loads() {
   "$program" dump "$1" | cmp - "$wanted" || wrong "load ${*:4} of $2 stores other pairs"
 }
 
-# A commit has two syncs, an opening one, and the closing brings the pages of the last commit to their places with two. So does a commit with 16 new
-# pages or more, before it writes its own: here each group of 350 lines, which opens some 44 buckets, but the first.
+# A commit has two syncs, an opening one, and the closing brings the pages of the last commit to their places with two.
 loads text-lines fields $((1 + 2 * 1050 + 2)) --text
 loads text-ones fields $((1 + 2 * 1050 + 2)) --text --group 1
 loads text-groups fields $((1 + 2 * 11 + 2)) --text --group 100
-loads text-thirds fields $((1 + 2 * 3 + 2 * 2 + 2)) --text --group 350
+loads text-thirds fields $((1 + 2 * 3 + 2)) --text --group 350
 loads text-one-group fields $((1 + 2 * 1 + 2)) --group 100000 --text
 loads word-lines words $((1 + 2 * 1050 + 2))
 loads word-groups words $((1 + 2 * 11 + 2)) --group 100
@@ -76,11 +75,10 @@ BEGIN {
 }'
 [ "$(wc -l < far-wanted) $(awk 'length > 4 + 1 + 2 * 2024' far-wanted | wc -l)" = '57 19' ] || { echo "the check has other far lines"; exit 1; }
 option=(--v2) wanted=far-wanted
-# the content of 65,535 bytes has 33 new pages
-loads far-lines far-words $((1 + 2 * 60 + 2 + 2))
-loads far-ones far-words $((1 + 2 * 60 + 2 + 2)) --group 1
-loads far-tens far-words $((1 + 2 * 6 + 2 + 2)) --group 10
-loads far-text far-fields $((1 + 2 * 9 + 2 + 2)) --text --group 7
+loads far-lines far-words $((1 + 2 * 60 + 2))
+loads far-ones far-words $((1 + 2 * 60 + 2)) --group 1
+loads far-tens far-words $((1 + 2 * 6 + 2)) --group 10
+loads far-text far-fields $((1 + 2 * 9 + 2)) --text --group 7
 loads far-one-group far-fields $((1 + 2 * 1 + 2)) --group 100000 --text
 # one far pair alone, of 33 pages
 head -n 30 far-words | tail -n 1 > far-alone && wanted=far-alone
@@ -109,8 +107,8 @@ field() { od -An -tu4 --endian=big -j "$1" -N 4 t.db | tr -d ' '; }
 leaves() { is_whole "$2" && [ "$count" = "$1" ] || wrong "$2: $count lines are left, and not $1"; }
 
 # each_commit BUCKETS: the lines are loaded into the file empty.db in one group, which then has so many buckets, and their load is cut short around
-# each sync of its commits. $counts are how many lines there are once so many commits are done. Between two commits the pages of the first one
-# are brought to their places, and the sector is cleared.
+# each sync of its commits. $counts are how many lines there are once so many commits are done. Before a commit with 512 new pages or more the pages
+# of the one before are brought to their places, and the sector is cleared.
 each_commit() {
   local pairs lose sector images
   local -a sectors

@@ -39,8 +39,22 @@ fn place_beside(least: u32, count: usize, start: u32, waiting: usize, capacity: 
     Some(place)
 }
 
-// So many new pages are written at their own numbers alone.
+// So many new pages of a commit are written at their own numbers alone where no page waits.
 const MANY: usize = 16;
+
+// So many where pages wait, which are brought home before then, with two syncs more: 1 MB.
+const MANY_WAITING: usize = 512;
+
+// How many new pages a commit has at least that are written at their own numbers alone.
+fn least_new(waiting: &[Page]) -> usize
+    ensures { 0 < result }
+{
+    if waiting.is_empty() {
+        MANY
+    } else {
+        MANY_WAITING
+    }
+}
 
 // Whether the last of the first `count` pages is from the old end on.
 fn is_new(pages: &[Page], count: usize, old_end: u32) -> bool
@@ -80,7 +94,8 @@ pub struct Armed {
 /// Arms the commit sector over redo images of these pages. Pages of the last commit that still wait
 /// are brought home: while the images are written, where there is room for them beside those of the
 /// last commit; else before. Where there are 16 new pages or more, and others, the new ones come to
-/// their own numbers at once, and have no redo image; the pages that wait are brought home before.
+/// their own numbers at once, and have no redo image. Where pages wait, this takes 512 new ones, since
+/// those are brought home before.
 pub fn arm_over<D: SectorDev>(
     dev: &mut D,
     start: u32,
@@ -129,7 +144,7 @@ pub fn arm_over<D: SectorDev>(
     ensures size { D.sectors dev.new ≡ D.sectors dev.old }
 {
     let changed = changed_in(pages, old_end);
-    if changed > 0 && pages.len() - changed >= MANY {
+    if changed > 0 && pages.len() - changed >= least_new(waiting) {
         let (changed_pages, new) = pages.split_at(changed);
         bring_home(dev, start, old_end, waiting)?;
         arm_grown(dev, old_end, new_end, changed_pages, new)?;

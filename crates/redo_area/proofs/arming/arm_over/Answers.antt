@@ -17,7 +17,7 @@ arm_grown-requires-clause-grown g c =
     c.args.new_end c.split_at.ensures.by_index.0 c.split_at.ensures.front_len c.if-changed-gt0.true
     c.requires.in_order (c.changed_in-changed.ensures.below c.if-changed-gt0.true)
     c.changed_in-changed.ensures.from
-    (omega (arith, c.if-pages-changed-ge-MANY.true, c.split_at.ensures.back_len))
+    (omega (arith, c.if-pages-changed.true, c.least_new.ensures, c.split_at.ensures.back_len))
 
 pub arm_grown-requires-clause-changed : goal.arm_grown-requires-clause-changed
 arm_grown-requires-clause-changed g c =
@@ -65,8 +65,8 @@ returns-in_err-arm_grown-clause-any_moment g c honest =
     (sym both))
     (c.arm_grown.ensures.any_moment (c.bring_home.ensures.honesty.1 honest)))
 
-pub returns-then-pages-changed-ge-MANY-clause-any_moment : goal.returns-then-pages-changed-ge-MANY-clause-any_moment
-returns-then-pages-changed-ge-MANY-clause-any_moment g c honest =
+pub returns-then-pages-changed-clause-any_moment : goal.returns-then-pages-changed-clause-any_moment
+returns-then-pages-changed-clause-any_moment g c honest =
     let dev = g.D.SectorDev in
     let mid = c.bring_home.new.dev in
     let pages = c.args.pages.now in
@@ -95,8 +95,8 @@ returns-then-pages-changed-ge-MANY-clause-any_moment g c honest =
     (sym both))
     (c.arm_grown.ensures.any_moment (c.bring_home.ensures.honesty.1 honest)))
 
-pub returns-then-pages-changed-ge-MANY-clause-pages : goal.returns-then-pages-changed-ge-MANY-clause-pages
-returns-then-pages-changed-ge-MANY-clause-pages g c honest =
+pub returns-then-pages-changed-clause-pages : goal.returns-then-pages-changed-clause-pages
+returns-then-pages-changed-clause-pages g c honest =
     let dev = g.D.SectorDev in
     let mid = dev.seen c.bring_home.new.dev in
     let last = dev.seen c.arm_grown.new.dev in
