@@ -1,5 +1,5 @@
 -- The order in which a pass gives the keys.
-use Rattle.std.specs.Prelude.{◌≡◌, ℕ, ◌*◌, ◌%◌, ◌^◌, List, ◌∷◌, fold, bit_xor}
+use Rattle.std.specs.Prelude.{◌≡◌, ℕ, ◌*◌, ◌%◌, ◌^◌, List, ◌∷◌, fold, bit_xor, codes}
 use Rattle.std.specs.Int.{reverse_bits_onto}
 use Rattle.std.specs.Cmp.Lexicographic.{slice_cmp}
 use Rattle.std.specs.Ordering.{nat_cmp, on}
@@ -21,3 +21,9 @@ pass_cmp = on (λ key. rank (hash_of key) ∷ key) (slice_cmp nat_cmp)
 
 abbrev pub ComesBefore : Key → Key → Type 0
 ComesBefore key other = pass_cmp key other ≡ Less
+
+-- two words with one hash come in the order of their bytes
+pub record KeyOrderExamples : Type 0 where
+  pub one_hash : hash_of (codes "costarring") ≡ hash_of (codes "liquid")
+  pub by_bytes : ComesBefore (codes "costarring") (codes "liquid")
+  pub not_back : ComesBefore (codes "liquid") (codes "costarring") → ⊥

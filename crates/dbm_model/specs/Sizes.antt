@@ -38,6 +38,10 @@ sectors_for bounds = if is_limit bounds.limit then Some (8 * home bounds) else N
 -- a database of one pair has five pages, one of a hundred has 116; the largest has 1,125,249. In
 -- version 2 it is 38, 3,416 and 34,125,249
 pub record SizeExamples : Type 0 where
+  pub eight_pairs : buckets_for 8 ≡ 1
+  pub nine_pairs : buckets_for 9 ≡ 2
+  pub one_segment : segments_for 508 ≡ 1
+  pub two_segments : segments_for 509 ≡ 2
   pub none : sectors_for (in_v1 0) ≡ None
   pub least : sectors_for (in_v1 1) ≡ Some 40
   pub hundred : sectors_for (in_v1 100) ≡ Some 928

@@ -3,7 +3,9 @@
 // `specs/Sizes.antt` and `specs/Examples.antt`.
 ghost use Rattle.dbm_model.specs.Changes.{OnlyAcknowledgedChanges, OnlyUpgradesRaise, StoresPutAll, OnlyChangesBreak, BrokenStays};
 ghost use Rattle.dbm_model.specs.Refusals.{RefusesOnlyWhereDue, BrokenRefuses, ReadingRefuses, ReadingKeeps, SettingsStay, TooLongIsRefused, InsertKeeps, FullIsRefused, AbsentIsTold, ErrorIsTold, ErrorIsCleared, FirstFaultIsKept};
+ghost use Rattle.dbm_model.specs.FaultCount.{FaultCountExamples};
 ghost use Rattle.dbm_model.specs.FaultNumbers.{FaultsAreNumbered, NumbersDiffer, NoFaultIsZero};
+ghost use Rattle.dbm_model.specs.KeyOrder.{KeyOrderExamples};
 ghost use Rattle.dbm_model.specs.Passes.{PassesAreComplete, EmptyPassesEndAtOnce, LastingKeysAreGiven, PassesAscend, NoKeyIsGivenTwice, GivenKeysAreThere, RefusalsKeepPass, PassesStay};
 ghost use Rattle.dbm_model.specs.Holding.{StaysWithin};
 ghost use Rattle.dbm_model.specs.Room.{RoomStays, RoomIsKnown, PagesAreBounded, RoomExamples};
@@ -76,11 +78,21 @@ pub fn first_fault_is_kept()
     ensures kept { FirstFaultIsKept }
 {}
 
+/// The count of the device's faults rises, up to its greatest value.
+pub fn fault_counts_rise()
+    ensures { FaultCountExamples }
+{}
+
 /// Each fault has a number of its own, from 1 to 15, and 0 is told where there is none.
 pub fn faults_have_numbers()
     ensures in_order { FaultsAreNumbered }
     ensures differ { NumbersDiffer }
     ensures not_zero { NoFaultIsZero }
+{}
+
+/// Keys of one hash have an order, too.
+pub fn keys_of_one_hash_are_ordered()
+    ensures { KeyOrderExamples }
 {}
 
 /// A completed pass without a change gives each key exactly once; one that ends where it begins has

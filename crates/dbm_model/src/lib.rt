@@ -6,8 +6,9 @@ mod call_laws;
 mod version_laws;
 
 pub use call_laws::{
-    bounds_are_kept, broken_stays, faults_have_numbers, first_fault_is_kept,
-    only_acknowledged_changes, only_changes_break, passes_are_complete, passes_survive_changes,
-    refusals_are_due, room_is_known, room_stays, run_examples, settings_stay, stores_put_all,
+    bounds_are_kept, broken_stays, fault_counts_rise, faults_have_numbers, first_fault_is_kept,
+    keys_of_one_hash_are_ordered, only_acknowledged_changes, only_changes_break,
+    passes_are_complete, passes_survive_changes, refusals_are_due, room_is_known, room_stays,
+    run_examples, settings_stay, stores_put_all,
 };
 pub use version_laws::{pairs_by_version, upgrades_are_due};

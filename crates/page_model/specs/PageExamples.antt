@@ -54,6 +54,18 @@ FreedPages = pages_of (delete two_long (0x62 ∷ [])) ≡
     ∷ page (numbers_bytes (4 ∷ 0x05000000 ∷ 0 ∷ 0 ∷ [])) []
     ∷ []
 
+-- before the deletion it has the second pair
+abbrev pub OverflowPages : Type 0
+OverflowPages = pages_of two_long ≡
+    page (numbers_bytes (1 ∷ 0x01000000 ∷ 0 ∷ 0 ∷ 1 ∷ 100 ∷ 2 ∷ 0 ∷ 0 ∷ 0 ∷ 0 ∷ 1 ∷ 0 ∷ 0 ∷ 0
+    ∷ 0 ∷ 2 ∷ [])) []
+    ∷ page (numbers_bytes (2 ∷ 0x02000000 ∷ 0 ∷ 0 ∷ 3 ∷ [])) []
+    ∷ page (numbers_bytes (3 ∷ 0x03000001 ∷ 4 ∷ 0x02240000 ∷ [])
+    ++ (0x02 ∷ 0x24 ∷ 0x00 ∷ 0x01 ∷ 0x05 ∷ 0xdb ∷ [])) (0x61 ∷ replicate 1499 0)
+    ∷ page (numbers_bytes (4 ∷ 0x04000001 ∷ 0 ∷ 0x02240000 ∷ [])
+    ++ (0x02 ∷ 0x24 ∷ 0x00 ∷ 0x01 ∷ 0x05 ∷ 0xdb ∷ [])) (0x62 ∷ replicate 1499 0)
+    ∷ []
+
 -- a new file of version 2 and limit 1, after a content of 2,026 bytes was stored: its slot is far,
 -- and page 4 has the content and six zeros
 abbrev pub FarPages : Type 0

@@ -1,5 +1,5 @@
 // Laws of the pages of a placement. What each says stands in `specs/BodyLaws.antt`.
-ghost use Rattle.page_model.specs.PageExamples.{NewPages, NinePairPages, FreedPages, FarPages};
+ghost use Rattle.page_model.specs.PageExamples.{NewPages, NinePairPages, FreedPages, OverflowPages, FarPages};
 ghost use Rattle.page_model.specs.BodyLaws.{BodiesAreValid, PagesReadExactly, FlatIsContents, OneMap, OneMeaning, PagesHaveOneMeaning, GoodPagesStand, StoredStands, DeletedStands, PutEntryRewrites, PutRewrites, DeleteRewrites, OpenRewrites, MetaRewrites, RaisedRewrites, BodiesAreOfVersion};
 
 /// What a good placement says of its pages can be spelled.
@@ -83,10 +83,11 @@ pub fn bodies_are_of_version()
     ensures { BodiesAreOfVersion }
 {}
 
-/// The pages of four files that are worked out by hand, byte by byte.
+/// The pages of five files that are worked out by hand, byte by byte.
 pub fn page_examples()
     ensures new { NewPages }
     ensures nine_pairs { NinePairPages }
     ensures freed { FreedPages }
+    ensures overflow { OverflowPages }
     ensures far { FarPages }
 {}

@@ -6,5 +6,18 @@ pub returns : goal.returns
 returns c = record {
   known = room_is_known;
   bounded = pages_are_bounded;
-  sizes = record { none = refl; least = refl; hundred = refl; largest = refl; too_many = refl; least_v2 = refl; hundred_v2 = refl; largest_v2 = refl };
+  sizes = record {
+    eight_pairs = refl;
+    nine_pairs = refl;
+    one_segment = refl;
+    two_segments = refl;
+    none = refl;
+    least = refl;
+    hundred = refl;
+    largest = refl;
+    too_many = refl;
+    least_v2 = refl;
+    hundred_v2 = refl;
+    largest_v2 = refl;
+  };
 }
