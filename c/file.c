@@ -92,12 +92,27 @@ static void wait_shortly(void) {
     }
 }
 
+/* Whether the file still stands under its path. One that another file has taken the place of, between its opening and its
+ * lock, would be written where nobody finds it again. */
+static bool stands_under(int fd, const char *path) {
+    struct stat open, found;
+    return !fstat(fd, &open) && !stat(path, &found) && open.st_dev == found.st_dev && open.st_ino == found.st_ino;
+}
+
+/* Locks the file, alone where it is written, and tells EWOULDBLOCK where it can't be locked now. */
+static int lock_file(int fd, const char *path, bool writes) {
+    if (flock(fd, (writes ? LOCK_EX : LOCK_SH) | LOCK_NB)) return -1;
+    if (!writes || stands_under(fd, path)) return 0;
+    errno = EWOULDBLOCK;
+    return -1;
+}
+
 /* The file is opened anew at each try, since another one may have got its name. */
 int ndbm_file_open(const char *path, int flags, mode_t mode, const dbmx_how *how) {
     for (uint64_t tries = 0;; tries++) {
         int fd = above_standard(find_file(path, flags, mode));
         if (fd < 0 || (how->options & DBMX_UNLOCKED)) return fd;
-        if (!flock(fd, (ndbm_file_is_written(flags) ? LOCK_EX : LOCK_SH) | LOCK_NB)) return fd;
+        if (!lock_file(fd, path, ndbm_file_is_written(flags))) return fd;
         give_up(fd);
         if (errno != EWOULDBLOCK || tries >= (uint64_t)how->wait * 10) return -1;
         wait_shortly();

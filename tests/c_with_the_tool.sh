@@ -229,4 +229,14 @@ exec {from}<&-
 wait "$pid" || wrong "the listing ends with status $?"
 pid=
 opens open w 0
+
+# another file takes the place of one that was opened for writing and isn't locked yet: it is refused, or waited for, and the new one is opened
+preloadable replace
+"$program" create next --limit 100 && "$program" store next k new && ln t.db old.db && cp t.db before || exit 1
+reply=$(REPLACE=t.db REPLACE_BY=next.db LD_PRELOAD=./replace.so timeout 20 ./user open t w 0 < /dev/null)
+[ "$reply" = locked ] || wrong "a file that was replaced is opened for writing: $reply"
+[ "$("$program" fetch t k)" = new ] && cmp -s old.db before || wrong 'an opening of a file that was replaced changes one of the two'
+"$program" create next --limit 100 && "$program" store next k newer || exit 1
+echo 'S 6b 77' | REPLACE=t.db REPLACE_BY=next.db LD_PRELOAD=./replace.so timeout 20 ./user change t 2> err && wrong 'a file that was replaced is changed'
+[ "$("$program" fetch t k)" = newer ] || wrong "a file that took another one's place is changed"
 [ "$bad" = 0 ]

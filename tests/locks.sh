@@ -1,6 +1,7 @@
 #!/usr/bin/env bash
 # Programs side by side at one file: while one has it open for writing no other opens it, and those that only read have it open
-# together. What is refused is fault 2 and changes nothing, and a lock ends with its program, however that ends.
+# together. What is refused is fault 2 and changes nothing, and a lock ends with its program, however that ends. A file that another one takes the place
+# of, just before it is locked, is not written: that is refused as a locked one is.
 . "$(dirname "$0")/common"
 pid=
 trap '[ -z "$pid" ] || kill -9 "$pid" 2> /dev/null; rm -rf "$work"' EXIT
@@ -92,4 +93,16 @@ wait "$pid" || wrong "the listing ends with status $?"
 pid=
 answers 0 '' store t a c
 answers 0 c fetch t a
+
+# another file takes the place of one that was opened and isn't locked yet
+preloadable replace
+"$program" create next --limit 100 && "$program" store next k new && cp next.db new.db && ln t.db old.db && cp t.db before || exit 1
+status=0
+REPLACE=t.db REPLACE_BY=next.db LD_PRELOAD=./replace.so "$program" store t k lost > out 2> err || status=$?
+[ "$status $(cat err)" = '2 dbmtool: fault 2' ] || wrong "a store in a file that was replaced: status $status, $(cat err)"
+cmp -s t.db new.db && cmp -s old.db before || wrong "a store in a file that was replaced changes one of the two"
+answers 0 '' store t k stored
+answers 0 stored fetch t k
+cp new.db next.db
+REPLACE=t.db REPLACE_BY=next.db LD_PRELOAD=./replace.so "$program" fetch t k > out 2> err && [ "$(cat out)" = stored ] || wrong "a file that was replaced isn't read: $(cat err)"
 [ "$bad" = 0 ]

@@ -8,7 +8,7 @@ use crate::{DevFault, SectorDev};
 use std::fs::{File, OpenOptions, TryLockError};
 use std::io;
 use std::os::fd::AsRawFd;
-use std::os::unix::fs::FileExt;
+use std::os::unix::fs::{FileExt, MetadataExt};
 use std::path::Path;
 use std::rt::Files;
 use thiserror::Error;
@@ -118,7 +118,24 @@ fn find<R: Files<File = File>>(
     }
     let file = above_standard(file)?;
     lock(&file, write)?;
+    if write && !is_under(rt, &file, path)? {
+        return Err(io::Error::new(
+            io::ErrorKind::WouldBlock,
+            "another program has replaced the file",
+        ));
+    }
     Ok(Some(file))
+}
+
+// Whether an open file still stands under its path. One that another file has taken the place of,
+// between its opening and its lock, would be written where nobody finds it again.
+fn is_under<R: Files<File = File>>(rt: &R, file: &File, path: &str) -> io::Result<bool> {
+    let open = file.metadata()?;
+    match rt.metadata(path) {
+        Ok(found) => Ok(found.dev() == open.dev() && found.ino() == open.ino()),
+        Err(error) if error.kind() == io::ErrorKind::NotFound => Ok(false),
+        Err(error) => Err(error),
+    }
 }
 
 // Takes the system's advisory lock on a file, alone for writing and shared for reading, and waits
