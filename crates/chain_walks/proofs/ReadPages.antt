@@ -28,6 +28,7 @@ reads_none s store only = record {
     later = omega arith;
     kept = λ h. record {
       committed = refl;
+      still = refl;
       any_moment =
           record {
             later = omega arith;

@@ -235,4 +235,5 @@ same_goes {S} {s} old new store meta = record {
   writable = ap (λ (x : S). (s.state x).writable) store;
   base = ap (λ (x : S). (s.state x).base) store;
   still = λ broken. store;
+  reading = λ honest access. ap (λ (x : S). (s.moment x).at) store;
 }

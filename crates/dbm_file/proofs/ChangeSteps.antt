@@ -262,7 +262,7 @@ module _ {S : Type 0} (s : Ghosts S) {old mid : Database S s} {map changed : Con
 
         holds_on : (page_state new).usable ≡ true → Holds s (store_of new) (meta_kept new) map
         holds_on is =
-            let pages = sym (turns.kept is) in
+            let pages = sym (turns.kept is).committed in
             let m = sym ended.ends.err.1 in
             record {
               stands = subst (λ (n : Meta). FileStandsFor (s.committed (store_of new)) map n.bounds)

@@ -311,6 +311,7 @@ module _ {S : Type 0} {s : Ghosts S} where
             writable = k.goes.writable;
             base = k.goes.base;
             still = λ broken. k.goes.still broken;
+            reading = λ honest access. k.goes.reading honest access;
           };
           fault = λ is. k.fault is;
           no_error = k.no_error;
@@ -362,9 +363,10 @@ module _ {S : Type 0} {s : Ghosts S} where
 
   -- what a change that was done leaves
   pub done_keeps : {T : Type 0} (old mid new : Database S s) (wanted : Bounds) (value : T)
-      → IsRead old mid → (page_state old).usable ≡ true → IsDone s mid new (Ok tt)
-      → (meta_kept new).bounds ≡ wanted → IsCallEndedWith wanted old new (Ok value)
-  done_keeps old mid new wanted value read usable done bounds = record {
+      → IsRead old mid → (page_state old).usable ≡ true → (page_state old).writable ≡ true
+      → IsDone s mid new (Ok tt) → (meta_kept new).bounds ≡ wanted
+      → IsCallEndedWith wanted old new (Ok value)
+  done_keeps old mid new wanted value read usable writable done bounds = record {
     goes = record {
       honesty = both_ways done.ends.honesty read.reads.stages_only.honesty;
       later = omega (arith, read.reads.stages_only.later, done.ends.cause.later);
@@ -375,6 +377,7 @@ module _ {S : Type 0} {s : Ghosts S} where
       base = ap (λ (st : StoreState). st.base) done.ends.ok
           ∙ ap (λ (st : StoreState). st.base) read.reads.same;
       still = λ broken. absurd (let x = sym usable ∙ broken in cc);
+      reading = λ honest access. absurd (let x = sym writable ∙ access in cc);
     };
     fault = λ is. absurd (let x = is in cc);
     no_error = ap (λ (o : Option Fault). option_map fault_of o) (done.error_is ∙ read.error_is);

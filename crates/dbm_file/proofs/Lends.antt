@@ -84,6 +84,7 @@ module _ {S : Type 0} (s : Ghosts S) (db : Database S s) (call : model.Call) (no
                 f.keeps.goes.writable;
             base = f.keeps.goes.base;
             still = λ broken. f.keeps.goes.still broken;
+            reading = λ honest access. f.keeps.goes.reading honest access;
           };
           fault = λ e. f.keeps.fault e;
           no_error = f.keeps.no_error;

@@ -256,6 +256,7 @@ keeps_passed old new value k = record {
     writable = k.goes.writable;
     base = k.goes.base;
     still = λ broken. k.goes.still broken;
+    reading = λ honest access. k.goes.reading honest access;
   };
   fault = λ is. k.fault is;
   no_error = k.no_error;

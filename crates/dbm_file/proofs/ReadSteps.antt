@@ -466,6 +466,7 @@ module _ {S : Type 0} (s : Ghosts S) (old new : Database S s) (read : IsRead old
     writable = still_writable s old new read;
     base = ap (λ (st : store.StoreState). st.base) read.reads.same;
     still = λ broken. absurd (let e = broken in cc);
+    reading = λ honest access. (read.reads.stages_only.kept honest).still;
   }
 
   pub read_keeps : {T : Type 0} (value : T) → IsCallEnded old new (Ok value)
@@ -493,6 +494,7 @@ module _ {S : Type 0} (s : Ghosts S) (old new : Database S s) (read : IsRead old
       writable = read_goes.writable;
       base = read_goes.base;
       still = λ broken. read_goes.still broken;
+      reading = λ honest access. read_goes.reading honest access;
     };
     fault = λ is. more (let e = is in cc);
     no_error = tt;
@@ -503,7 +505,9 @@ module _ {S : Type 0} (s : Ghosts S) (old new : Database S s) (read : IsRead old
       ap (λ (st : store.StoreState). st.end) read.reads.same,
       ap model_pass read.pass_is,
     );
-    kept = λ honest usable_now. (read.reads.stages_only.kept honest).committed;
+    kept = λ honest usable_now.
+        let left = read.reads.stages_only.kept honest in
+        record { committed = left.committed; still = left.still };
     breaks = inl (still_usable s old new read);
     broken = (λ is. absurd (sound (let e = is in cc)), λ broken. absurd (let e = broken in cc));
   }
@@ -519,12 +523,13 @@ broken_keeps T s old broken = record {
     writable = refl;
     base = refl;
     still = λ is. refl;
+    reading = λ honest access. refl;
   };
   fault = λ is. absurd (let e = is in cc);
   no_error = tt;
   error = kept_first old.error Broken;
   refused = (refl, refl, refl);
-  kept = λ honest usable. refl;
+  kept = λ honest usable. record { committed = refl; still = refl };
   breaks = inl refl;
   broken = (λ is. broken, λ is. refl);
 }

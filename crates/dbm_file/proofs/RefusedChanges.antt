@@ -39,8 +39,8 @@ told_broken page.Damaged is = absurd (let x = is in cc)
 
 -- what a refused change leaves on any device
 module _ {S : Type 0} (s : Ghosts S) (old mid new : Database S s) (read : IsRead old mid)
-    (usable : (page_state old).usable ≡ true) (e : PageFault)
-    (ended : IsDone s mid new (Err e)) where
+    (usable : (page_state old).usable ≡ true) (writable : (page_state old).writable ≡ true)
+    (e : PageFault) (ended : IsDone s mid new (Err e)) where
   sound : e ≡ page.Broken → ⊥
   sound is = let broken = ended.ends.answer.broken (ap Err is) in let was =
       still_usable s old mid read ∙ usable in absurd (cc)
@@ -80,6 +80,7 @@ module _ {S : Type 0} (s : Ghosts S) (old mid new : Database S s) (read : IsRead
           base = forgotten_base (page_state mid) (page_state new) e ended.ends.err.0
               ∙ ap (λ (st : store.StoreState). st.base) read.reads.same;
           still = λ broken. absurd (let x = broken in cc);
+          reading = λ honest access. absurd (let x = sym writable ∙ access in cc);
         };
         fault = λ is. more_later _ _ _ read.reads.stages_only.later
             (ended.ends.cause.fault (ap Err (told_device e (let x = is in cc))));
@@ -93,8 +94,12 @@ module _ {S : Type 0} (s : Ghosts S) (old mid new : Database S s) (read : IsRead
           ap model_pass (ended.pass_is ∙ read.pass_is),
         );
         kept = λ honest usable_now.
-            ended.ends.kept (read.reads.stages_only.honesty.1 honest) usable_now
-            ∙ (read.reads.stages_only.kept honest).committed;
+            let read_on = read.reads.stages_only in
+            let left = ended.ends.kept (read_on.honesty.1 honest) usable_now in
+            record {
+              committed = left.committed ∙ (read_on.kept honest).committed;
+              still = left.still ∙ (read_on.kept honest).still;
+            };
         breaks = ⊎_elim (λ same. inl same)
             (λ broke. inr (ap Err (ap fault_from broke.0), broke.1)) was.breaks;
         broken = (

@@ -233,6 +233,7 @@ goes_nowhere db = record {
   writable = refl;
   base = refl;
   still = λ broken. refl;
+  reading = λ honest access. refl;
 }
 
 -- one call more, whose bounds are told by those before it
@@ -249,6 +250,8 @@ one_more_goes {S} {s} next old mid new first second = record {
   still = λ broken. second.still
       (ap (λ (store : S). (s.state store).usable) (first.still broken) ∙ broken)
       ∙ first.still broken;
+  reading = λ honest access. second.reading (first.honesty.1 honest) (first.writable ∙ access)
+      ∙ first.reading honest access;
 }
 
 -- one that keeps the bounds

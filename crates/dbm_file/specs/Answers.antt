@@ -8,6 +8,7 @@ use Rattle.dbm_model.specs.States.{Handle, State, first_fault}
 use Rattle.dbm_model.specs.Steps.{Changes, case_of, Step}
 use Rattle.page_io.specs.Store.{Settled}
 use Rattle.page_io.specs.Meaning.{ImageStandsFor}
+use Rattle.page_commit.specs.Committing.{IsUntouched}
 use Rattle.page_io.specs.declared.store.PageStore.{Ghosts}
 use Rattle.dbm_fault.specs.Faults.{fault_of}
 use Rattle.dbm_file.specs.Passing.{pass_of}
@@ -58,6 +59,9 @@ pub record IsSameUnder {S : Type 0} {s : Ghosts S} (wanted : Bounds) (old new : 
   pub base : (page_state new).base ≡ (page_state old).base
   -- a broken one makes no device call
   pub still : (page_state old).usable ≡ false → store_of new ≡ store_of old
+  -- one that was opened for reading writes nothing and syncs nothing
+  pub reading : s.honest (store_of old) → (page_state old).writable ≡ false →
+      (s.moment (store_of new)).at ≡ (s.moment (store_of old)).at
 
 -- but for an upgrade with the bounds that were there
 abbrev pub IsSameDatabase : {S : Type 0} {s : Ghosts S} → Database S s → Database S s → Type 0
@@ -74,10 +78,9 @@ pub record IsCallEndedWith {S T : Type 0} {s : Ghosts S} (wanted : Bounds) (old 
   -- a refusal changes nothing, but that a fault of the device may break the database
   pub refused : OnErr result ((meta_kept new ≡ meta_kept old)
       × ((page_state new).end ≡ (page_state old).end) × (pass_of new ≡ pass_of old))
-  -- and commits nothing
-  pub kept : s.honest (store_of old)
-      → OnErr result ((page_state new).usable ≡ true
-      → s.committed (store_of new) ≡ s.committed (store_of old))
+  -- and commits nothing, writes nothing and syncs nothing
+  pub kept : s.honest (store_of old) → OnErr result ((page_state new).usable ≡ true
+      → IsUntouched s (store_of old) (store_of new))
   pub breaks : ((page_state new).usable ≡ (page_state old).usable)
       ⊎ (IsErrOf result Device × ((page_state new).usable ≡ false))
   pub broken : IsErrOf result Broken ↔ ((page_state old).usable ≡ false)

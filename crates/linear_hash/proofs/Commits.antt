@@ -10,7 +10,7 @@ use Rattle.page_io.specs.declared.store.PageStore.{Ghosts}
 use Rattle.page_io.specs.declared.store.PageFault.{PageFault}
 use Rattle.page_io.specs.declared.store.PageFault.TheVariants.{Device}
 use Rattle.page_io.proofs.Exits.{both_ways, cause_last}
-use Rattle.page_commit.specs.Committing.{MayCommit, IsForgotten}
+use Rattle.page_commit.specs.Committing.{MayCommit, IsForgotten, IsUntouched}
 use Rattle.linear_hash.specs.Holding.{IsCommitted}
 use Rattle.linear_hash.specs.Staging.{IsChangeAnswer, IsNewEnd}
 use Rattle.linear_hash.proofs.Changing.{change_answer, ok_then}
@@ -72,15 +72,17 @@ module _ {S : Type 0} (s : Ghosts S) (old mid new : S) (after : Meta) (r : Resul
       → IfOk r (λ end. IsCommitAnswer (s.state mid) end result)
       → IfOk r (λ end. HasDeviceCause (s.faults mid) (s.faults new) result)
       → s.faults mid ≤ s.faults new → (s.honest new ↔ s.honest mid)
-      → (s.honest mid → OnErr result ((s.state new).usable ≡ true
-      → s.committed new ≡ s.committed mid))
+      → (s.honest mid → OnErr result ((s.state new).usable ≡ true → IsUntouched s mid new))
       → IsCommitted s old new after result
   committed_so staged caused valid refused ok err answer cause later honesty kept = record {
     ok = state_then (s.state old) (s.state mid) (s.state new) _ r result stages.state idle refused
         ok;
     err = forgotten_then (s.state old) (s.state mid) (s.state new) result stages.state err;
     kept = λ honest. on_err_weaker result
-        (λ same usable_now. same usable_now ∙ (stages.kept honest).committed)
+        (λ same usable_now. record {
+          committed = (same usable_now).committed ∙ (stages.kept honest).committed;
+          still = (same usable_now).still ∙ (stages.kept honest).still;
+        })
         (kept (stages.honesty.1 honest));
     valid = ok_then _ _ r result refused valid;
     cause = cause_of _ _ _ _ r result caused refused cause later;

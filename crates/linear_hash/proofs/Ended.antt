@@ -7,7 +7,7 @@ use Rattle.page_model.specs.Valid.{IsMeta}
 use Rattle.page_io.specs.Answers.{HasDeviceCause}
 use Rattle.page_io.specs.declared.store.PageStore.{Ghosts}
 use Rattle.page_io.specs.declared.store.PageFault.{PageFault}
-use Rattle.page_commit.specs.Committing.{Holds, IsForgotten}
+use Rattle.page_commit.specs.Committing.{Holds, IsForgotten, IsUntouched}
 use Rattle.linear_hash.specs.Holding.{IsEnded, ChangesMap}
 use Rattle.linear_hash.specs.Staging.{IsChangeAnswer}
 
@@ -26,7 +26,7 @@ module _ {S : Type 0} (s : Ghosts S) (old new : S) (before : Meta) where
   -- where it was refused, nothing of the copy is kept
   module _ (result : Result Unit PageFault) (e : PageFault) (exit : result ≡ Err e) where
     pub refused_ends : IsMeta before → IsForgotten (s.state old) (s.state new) e
-        → (s.honest old → (s.state new).usable ≡ true → s.committed new ≡ s.committed old)
+        → (s.honest old → (s.state new).usable ≡ true → IsUntouched s old new)
         → HasDeviceCause {T = Unit} (s.faults old) (s.faults new) (Err e)
         → (s.honest new ↔ s.honest old)
         → IsChangeAnswer {T = Unit} (s.state old) (Err e) → IsEnded s old new before before result

@@ -12,7 +12,7 @@ use Rattle.page_io.specs.Meaning.{ImageStandsFor}
 use Rattle.page_io.specs.declared.store.PageStore.{Ghosts}
 use Rattle.page_io.specs.declared.store.PageFault.{PageFault}
 use Rattle.page_io.specs.declared.store.PageFault.TheVariants.{NoRoom, Damaged}
-use Rattle.page_commit.specs.Committing.{Holds, IsForgotten}
+use Rattle.page_commit.specs.Committing.{Holds, IsForgotten, IsUntouched}
 use Rattle.linear_hash.specs.Staging.{IsChangeAnswer}
 
 -- an image stands for one of two maps, each with its bounds
@@ -27,7 +27,7 @@ pub record IsCommitted {S : Type 0} (s : Ghosts S) (old new : S) (after : Meta)
   pub ok : OnOk result (s.state new ≡ record (s.state old) { end = (s.state new).end })
   pub err : IfErr result (IsForgotten (s.state old) (s.state new))
   pub kept : s.honest old
-      → OnErr result ((s.state new).usable ≡ true → s.committed new ≡ s.committed old)
+      → OnErr result ((s.state new).usable ≡ true → IsUntouched s old new)
   pub valid : OnOk result (IsMeta after)
   pub cause : HasDeviceCause (s.faults old) (s.faults new) result
   pub honesty : s.honest new ↔ s.honest old
@@ -39,9 +39,9 @@ pub record IsEnded {S : Type 0} (s : Ghosts S) (old new : S) (before after : Met
     (result : Result Unit PageFault) : Type 0 where
   pub ok : OnOk result (s.state new ≡ record (s.state old) { end = (s.state new).end })
   pub err : IfErr result (λ e. IsForgotten (s.state old) (s.state new) e × (after ≡ before))
-  -- on any bytes a refusal commits nothing
+  -- on any bytes a refusal commits nothing, writes nothing and syncs nothing
   pub kept : s.honest old
-      → OnErr result ((s.state new).usable ≡ true → s.committed new ≡ s.committed old)
+      → OnErr result ((s.state new).usable ≡ true → IsUntouched s old new)
   pub valid : IsMeta after
   pub cause : HasDeviceCause (s.faults old) (s.faults new) result
   pub honesty : s.honest new ↔ s.honest old
@@ -56,7 +56,7 @@ pub record ChangesMap {S : Type 0} (s : Ghosts S) (old new : S) (before after : 
     : Type 0 where
   pub done : OnOk result (Holds s new after changed)
   pub bounds : OnOk result (after.bounds ≡ wanted)
-  pub kept : OnErr result ((s.state new).usable ≡ true → s.committed new ≡ s.committed old)
+  pub kept : OnErr result ((s.state new).usable ≡ true → IsUntouched s old new)
   pub any_moment : LeavesOnly s.moment s.settled_since old new
       (StandsForEither map before.bounds changed wanted)
   pub unchanged : OnErr result ((s.state new).usable ≡ true

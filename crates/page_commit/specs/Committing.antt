@@ -22,6 +22,11 @@ pub record Holds {S : Type 0} (s : Ghosts S) (store : S) (m : Meta) (map : Conte
   pub stands : FileStandsFor (s.committed store) map m.bounds
   pub meta_is : said_by (page_of (s.committed store)) 1 ≡ MetaPage m
 
+-- no page was committed, nothing was written and nothing synced
+pub record IsUntouched {S : Type 0} (s : Ghosts S) (old new : S) : Type 0 where
+  pub committed : s.committed new ≡ s.committed old
+  pub still : (s.moment new).at ≡ (s.moment old).at
+
 -- what was staged is forgotten, and the store broken where the device was the cause of the fault in
 -- a commit
 abbrev pub IsForgotten : StoreState → StoreState → PageFault → Type 0

@@ -4,7 +4,7 @@ ghost use Rattle.std.specs.Prelude.{◌≡◌, ◌⊎◌, ◌↔◌, ◌≤◌, 
 ghost use Rattle.sect_dev.specs.Device.{LeavesOnly};
 ghost use Rattle.page_io.specs.Answers.{HasDeviceCause, IsCommitAnswer};
 ghost use Rattle.page_io.specs.Store.{file_of, committed_with};
-ghost use Rattle.page_commit.specs.Committing.{MayCommit, IsForgotten};
+ghost use Rattle.page_commit.specs.Committing.{MayCommit, IsForgotten, IsUntouched};
 
 use page_io::{PageFault, PageStore};
 
@@ -27,9 +27,10 @@ pub fn finish<S: PageStore>(store: &mut S, staged: Result<u32, PageFault>) -> Re
         → IfOk staged (λ end. OnOk result
         (S.committed store.new ≡ committed_with (S.committed store.old)
         (S.state store.old).staged end)) }
-    ensures kept { S.honest store.old
-        → OnErr result ((S.state store.new).usable ≡ true
-        → S.committed store.new ≡ S.committed store.old) }
+
+    // A refusal that leaves the store usable has written nothing and synced nothing.
+    ensures kept { S.honest store.old → OnErr result ((S.state store.new).usable ≡ true
+        → IsUntouched S.PageStore store.old store.new) }
     ensures any_moment { S.honest store.old → (S.state store.old).usable ≡ true
         → (S.state store.old).writable ≡ true
         → LeavesOnly S.moment S.settled_since store.old store.new

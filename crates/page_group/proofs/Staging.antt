@@ -16,7 +16,7 @@ use Rattle.page_io.specs.declared.store.PageFault.TheVariants.{Memory, Broken}
 use Rattle.page_io.proofs.Exits.{came, if_exit}
 use Rattle.page_io.proofs.Runs.{kept_then_either}
 use Rattle.page_io.proofs.Views.{stages_then}
-use Rattle.page_commit.specs.Committing.{IsForgotten}
+use Rattle.page_commit.specs.Committing.{IsForgotten, IsUntouched}
 use Rattle.page_group.specs.Staging.{IsStagingAnswer}
 use Rattle.page_group.specs.Whole.{IsWhole}
 use Rattle.page_group.specs.declared.supplied_pages.SuppliedPages.{SuppliedPages}
@@ -33,6 +33,7 @@ none_yet s store only = record {
   later = omega arith;
   kept = λ h. record {
     committed = refl;
+    still = refl;
     any_moment = record {
       later = omega arith;
       until = omega arith;
@@ -126,15 +127,16 @@ module _ {S : Type 0} (s : Ghosts S) (old mid new : S) where
       → (s.state old).staged ≡ [] → StagesOnly s old mid
       → (e : PageFault) → (s.state new).usable ≡ true → IsForgotten (s.state mid) (s.state new) e
       → (s.honest new ↔ s.honest mid) → s.faults mid ≤ s.faults new
-      → (s.honest mid → s.committed new ≡ s.committed mid)
+      → (s.honest mid → IsUntouched s mid new)
       → (s.honest mid → LeavesOnly s.moment s.settled_since mid new
       (λ y. y ≡ file_of (s.committed mid)))
       → ReadsOnly s old new
-  refused_reads counts stays idle stages e usable forgot_all honesty later committed leaves =
+  refused_reads counts stays idle stages e usable forgot_all honesty later untouched leaves =
       let forgot = forgotten (s.state mid) (s.state new) e usable forgot_all in
       let kept : s.honest mid
       → KeepsPages s.committed s.moment s.settled_since s.settles_to mid new = λ h. record {
-        committed = committed h;
+        committed = (untouched h).committed;
+        still = (untouched h).still;
         any_moment = weaker s.moment s.settled_since mid new (s.settles_to mid)
             (λ y. y ≡ file_of (s.committed mid)) (leaves h)
             (λ y is. subst (s.settles_to mid) (sym is) (stays h));

@@ -15,6 +15,7 @@ module _ {S : Type 0} (committed : S → Pages) (moment : S → Moment)
       → KeepsPages committed moment settled_since settles_to old new
   kept_twice old mid new counts first second = record {
     committed = second.committed ∙ first.committed;
+    still = second.still ∙ first.still;
     any_moment = followed_by moment settled_since old mid new (settles_to old) (settles_to mid)
         first.any_moment second.any_moment
         (λ y is. first.any_moment.each y (counts (moment old).at y first.any_moment.later is));

@@ -89,6 +89,7 @@ pub unasked : {D : Type 0} (dev : Ghosts D) (old new : Pager D dev) → new.dev 
     (λ (p : Pager D dev). SettlesTo (dev.sectors p.dev / 4) (dev.candidate p.dev)) old new
 unasked {D} dev old new same pages only_now = record {
   committed = pages;
+  still = ap (λ (d : D). (dev.moment d).at) same;
   any_moment = read_leaves dev old new (ap dev.sectors same)
       (subst (λ (d : D). LeavesOnly dev.moment dev.left_since old.dev d
       (IsImageOf (dev.candidate old.dev))) (sym same)

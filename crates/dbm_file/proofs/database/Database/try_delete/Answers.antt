@@ -143,7 +143,7 @@ returns-in_err-delete_pair g c =
     let all = c.in_err-delete_pair.ensures in
     let told = c.from_residual-in_err-delete_pair.ensures.1 in
     let r = c.from_residual-in_err-delete_pair.result in
-    let keeps = told_keeps s db c.has.new.self _ read usable c.in_err-delete_pair.field-0.0
+    let keeps = told_keeps s db c.has.new.self _ read usable writable c.in_err-delete_pair.field-0.0
     record { ends = all.ends; error_is = refl; pass_is = refl } r told in
     record {
       step = λ honest h at.
@@ -181,7 +181,7 @@ returns g c =
     let read = c.in_ok-has.ensures.reads in
     let all = c.in_ok-delete_pair.ensures in
     let same = still_meta s db c.has.new.self read in
-    let keeps = done_keeps db c.has.new.self _ _ deleted.Deleted read usable
+    let keeps = done_keeps db c.has.new.self _ _ deleted.Deleted read usable writable
     record { ends = all.ends; error_is = refl; pass_is = refl }
     (all.bounds ∙ still_bounds s db c.has.new.self read) in
     record {

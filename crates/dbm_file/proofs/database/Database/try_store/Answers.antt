@@ -202,7 +202,7 @@ returns-in_err-store_pair g c =
     let all = c.in_err-store_pair.ensures in
     let told = c.from_residual-in_err-store_pair.ensures.1 in
     let r = c.from_residual-in_err-store_pair.result in
-    let keeps = told_keeps s db c.has.new.self _ read usable c.in_err-store_pair.field-0.0
+    let keeps = told_keeps s db c.has.new.self _ read usable writable c.in_err-store_pair.field-0.0
     record { ends = all.ends; error_is = refl; pass_is = refl } r told in
     let replaces : c.in_ok-was_there.was_there ≡ true → mode ≡ Replace =
     elim c.else-was_there.branch [
@@ -260,7 +260,7 @@ returns g c =
     let short = sym c.is_allowed.ensures ∙ c.if-not-is_allowed.false in
     let read = c.in_ok-was_there.ensures.reads in
     let all = c.in_ok-store_pair.ensures in
-    let keeps = done_keeps db c.has.new.self _ _ stored.Stored read usable
+    let keeps = done_keeps db c.has.new.self _ _ stored.Stored read usable writable
     record { ends = all.ends; error_is = refl; pass_is = refl }
     (all.bounds ∙ still_bounds s db c.has.new.self read) in
     record {

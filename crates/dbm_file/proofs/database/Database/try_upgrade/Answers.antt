@@ -98,7 +98,7 @@ returns-in_err-upgrade-clause-ends g c =
     told all.ends.answer.only
     (λ is. all.never (⊎_elim (λ memory. inl (ap Err memory)) (λ damaged. inr (ap Err damaged)) is))
     (λ is. all.room (ap Err is))
-    (told_keeps s db db _ read usable e record { ends = all.ends; error_is = refl; pass_is = refl }
+    (told_keeps s db db _ read usable (db.told ∙ c.if-not-self.false) e record { ends = all.ends; error_is = refl; pass_is = refl }
     c.from_residual.result told)
 
 pub returns-clause-step : goal.returns-clause-step

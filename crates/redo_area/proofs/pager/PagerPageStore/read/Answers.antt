@@ -112,6 +112,7 @@ returns-then-is_err-clause-kept g c honest =
     record {
       committed = ap (λ (s : Image). file_pages (overlaid (bytes_of old.waiting.items) (page_at s))
           old.end) (page.seen honest);
+      still = page.still;
       any_moment = read_leaves g.D.SectorDev old _ page.size (page.any_moment honest);
     }
 
@@ -134,6 +135,7 @@ returns-clause-kept g c honest =
     record {
       committed = ap (λ (s : Image). file_pages (overlaid (bytes_of old.waiting.items) (page_at s))
           old.end) (page.seen honest);
+      still = page.still;
       any_moment = read_leaves g.D.SectorDev old _ page.size (page.any_moment honest);
     }
 
