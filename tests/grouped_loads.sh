@@ -1,8 +1,8 @@
 #!/usr/bin/env bash
 # Loads in groups. A load of lines of text in groups has as many syncs as its groups take, and the pairs that it stores are those of the load line
-# by line and of the load of words. Of a load whose groups are cut by their pages, at 4 MB, all pairs are there, the file verifies, and what is left
-# is whole groups: where it is cut short around each sync of its commits, the unsynced sectors kept or lost, and where it is killed. So it is with far
-# pairs among the lines, on a file of version 2.
+# by line and of the load of words. Of a load in several groups, into a new file and into one whose groups are cut by their pages, at 32 MB, all pairs
+# are there, the file verifies, and what is left is whole groups: where it is cut short around each sync of its commits, the unsynced sectors kept or
+# lost, and where it is killed. So it is with far pairs among the lines, on a file of version 2.
 . "$(dirname "$0")/common"
 preloadable syncs
 preloadable fail
@@ -84,19 +84,23 @@ loads far-one-group far-fields $((1 + 2 * 1 + 2)) --group 100000 --text
 head -n 30 far-words | tail -n 1 > far-alone && wanted=far-alone
 for group in 1 2 100000; do loads "far-alone-$group" far-alone $((1 + 2 * 1 + 2)) --group $group; done
 
-# is_whole: t.db has the first lines of the text, and is a good file; how many lines they are is in $count
+# is_whole WHERE: t.db has the first ones of the lines in the place of what the file old has for their keys, and the rest of that, and is a good file; how
+# many lines they are is in $count. Each content of a line begins with ff, and none of old.
 is_whole() {
   "$program" dump t > found 2> err || { wrong "$1: no dump, $(cat err)"; return 1; }
-  count=$(wc -l < found)
-  head -n "$count" lines | cmp -s - found || { wrong "$1: other pairs than the first $count lines"; return 1; }
-  [ "$("$program" verify t 2>&1)" = "$count" ] || { wrong "$1: $count pairs do not verify"; return 1; }
+  awk 'substr($2, 1, 2) == "ff"' found > found.new
+  count=$(wc -l < found.new)
+  head -n "$count" lines | cmp -s - found.new || { wrong "$1: other pairs than the first $count lines"; return 1; }
+  awk 'NR == FNR { new[$1]; next } !($1 in new)' found.new old | cmp -s - <(awk 'substr($2, 1, 2) != "ff"' found) ||
+    { wrong "$1: other pairs beside the first $count lines"; return 1; }
+  [ "$("$program" verify t 2>&1)" = "$(wc -l < found)" ] || { wrong "$1: $(wc -l < found) pairs do not verify"; return 1; }
 }
 
 # cut CALL LOSE: the load with all calls from that one on failed
 cut() {
   local status=0
-  cp empty.db t.db
-  FAIL_CALL=$1 FAIL_HOW=from FAIL_LOSE=$2 LD_PRELOAD=./fail.so "$program" load t --group 100000 < lines > out 2> err || status=$?
+  cp old.db t.db
+  FAIL_CALL=$1 FAIL_HOW=from FAIL_LOSE=$2 LD_PRELOAD=./fail.so "$program" load t --group "$group" < lines > out 2> err || status=$?
   [ "$status $(cat err)" = '2 dbmtool: fault 2' ] || wrong "call $1 fails: status $status, $(cat err)"
 }
 
@@ -106,17 +110,19 @@ field() { od -An -tu4 --endian=big -j "$1" -N 4 t.db | tr -d ' '; }
 # leaves COUNT WHERE: t.db has so many lines
 leaves() { is_whole "$2" && [ "$count" = "$1" ] || wrong "$2: $count lines are left, and not $1"; }
 
-# each_commit BUCKETS: the lines are loaded into the file empty.db in one group, which then has so many buckets, and their load is cut short around
-# each sync of its commits. $counts are how many lines there are once so many commits are done. Before a commit with 512 new pages or more the pages
-# of the one before are brought to their places, and the sector is cleared.
+# each_commit GROUP BUCKETS COMMITS MOST: the lines are loaded into old.db in groups of so many, which takes so many commits, each of at most MOST redo
+# images, and leaves so many buckets; and their load is cut short around each sync of its commits. $counts are how many lines there are once so many
+# commits are done. Before a commit with 512 new pages or more the pages of the one before are brought to their places, and the sector is cleared.
 each_commit() {
   local pairs lose sector images
   local -a sectors
+  group=$1
   pairs=$(wc -l < lines)
-  cp empty.db t.db && rm -f trace
-  FAIL_CALL=0 FAIL_TRACE=trace LD_PRELOAD=./fail.so "$program" load t --group 100000 < lines 2> err || wrong "the load ends with status $?"
+  "$program" dump old > old || exit 1
+  cp old.db t.db && rm -f trace
+  FAIL_CALL=0 FAIL_TRACE=trace LD_PRELOAD=./fail.so "$program" load t --group "$group" < lines 2> err || wrong "the load ends with status $?"
   leaves "$pairs" 'a whole load'
-  [ "$("$program" stat t | sed -n 's/^buckets //p')" = "$1" ] || wrong "there are not $1 buckets"
+  [ "$("$program" stat t | sed -n 's/^buckets //p')" = "$2" ] || wrong "there are not $2 buckets"
   # the last write of the commit sector is the closing's
   mapfile -t sectors < <(grep -nx 'write 0 512' trace | sed 's/:.*//' | head -n -1)
   commits=0 counts=(0)
@@ -131,9 +137,8 @@ each_commit() {
     cut $((sector + 1)) kept
     is_whole "commit $commits, its sector kept" || continue
     if [ "$(field 8)" = 1 ]; then
-      # the sector is armed, and has as many images as go into 4 MB at most, but for those that the last pair adds
       images=$(field 20)
-      [ "$count" -gt "${counts[commits]}" ] && [ "$images" -ge 1 ] && [ "$images" -le $((2048 + 8)) ] ||
+      [ "$count" -gt "${counts[commits]}" ] && [ "$images" -ge 1 ] && [ "$images" -le "$4" ] ||
         wrong "commit $commits has $images images and leaves $count lines"
       counts+=("$count")
       commits=$((commits + 1))
@@ -142,29 +147,32 @@ each_commit() {
     cut $((sector + 2)) lost
     leaves "${counts[commits]}" "commit $commits, synced"
   done
-  [ "$commits" -ge 2 ] && [ "$commits" -le 20 ] || { echo "there are $commits commits"; exit 1; }
+  [ "$commits" = "$3" ] || { echo "there are $commits commits, and not $3"; exit 1; }
   [ "${counts[commits]}" = "$pairs" ] || wrong "the last commit leaves ${counts[commits]} lines"
 }
 
-# 13,000 pairs, of which each twentieth is far: 650 pages of far contents, and 1,625 buckets.
+# 13,000 pairs, of which each twentieth is far: 650 pages of far contents, and 1,625 buckets. The first 6,000 of them, into a new file, have more new
+# pages than 16, and the last 1,000 fewer than 512.
 far=$(printf '5a%.0s' $(seq 2030))
-awk -v far="$far" 'BEGIN { for (i = 0; i < 13000; i++) printf "%08x %04x%s\n", i, i, i % 20 == 19 ? far : "" }' > lines
-"$program" create empty --limit 100000 --v2 || exit 1
-each_commit 1625
+awk -v far="$far" 'BEGIN { for (i = 0; i < 13000; i++) printf "%08x ff%04x%s\n", i, i, i % 20 == 19 ? far : "" }' > lines
+"$program" create old --limit 100000 --v2 || exit 1
+each_commit 6000 1625 3 2048
 echo "$commits commits leave ${counts[*]} lines with far pairs among them"
 
-# 19,000 short pairs, which is 300 KB of keys and contents: eight a bucket are 2,375 buckets, each with a page of its own, and so above 4 MB of pages.
-awk 'BEGIN { for (i = 0; i < 19000; i++) printf "%08x %08x\n", i, 19000 - i }' > lines
-rm empty.db && "$program" create empty --limit 100000 || exit 1
-each_commit 2375
+# 70,000 short pairs in 8,750 buckets, and a content for each in the order of their keys, which none has by its hash. A group holds each page that it
+# changes as it was, and changed: 16,384 pages in all, of which the last line may add some.
+awk 'BEGIN { for (i = 0; i < 70000; i++) printf "%08x %08x\n", i, 70000 - i }' > older
+rm old.db && "$program" create old --limit 100000 && "$program" load old --group 100000 < older || exit 1
+awk 'BEGIN { for (i = 0; i < 70000; i++) printf "%08x ff%06x\n", i, i }' > lines
+each_commit 100000 8750 $commits_of_pages 8200
 
 # Killed at some moment, it leaves the lines of as many of these commits.
 began=$EPOCHREALTIME
-cp empty.db t.db && "$program" load t --group 100000 < lines || wrong "the load ends with status $?"
+cp old.db t.db && "$program" load t --group 100000 < lines || wrong "the load ends with status $?"
 took=$(awk -v from="$began" -v to="$EPOCHREALTIME" 'BEGIN { print to - from }')
 left=
 for ((n = 1; n <= 12; n++)); do
-  cp empty.db t.db
+  cp old.db t.db
   "$program" load t --group 100000 < lines 2> err &
   pid=$!
   sleep "$(awk -v took="$took" -v n="$n" 'BEGIN { print took * n / 13 }')"

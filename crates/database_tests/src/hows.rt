@@ -13,6 +13,7 @@ pub const PLAIN: OpenHow = OpenHow {
     truncate: false,
     limit: 0,
     version: Version::V1,
+    kept_pages: None,
 };
 
 /// How some words say, which are an access, flags and a limit. Without a word it is `PLAIN`.

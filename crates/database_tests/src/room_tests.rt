@@ -36,6 +36,7 @@ fn emptied(alloc: Global, dev: MemDev, limit: u8) -> Result<Db<MemDev>, Fault> {
         truncate: true,
         limit: u32::from(limit),
         version: Version::V1,
+        kept_pages: None,
     };
     open(alloc, dev, how)
 }

@@ -1,5 +1,5 @@
 -- A database over a device.
-use Rattle.std.specs.Prelude.{◌≡◌, ◌⊎◌, ℕ, ◌*◌, ◌≤◌, Bool, true, None, Result, Ok, Err}
+use Rattle.std.specs.Prelude.{◌≡◌, ◌⊎◌, ℕ, ◌*◌, ◌≤◌, Bool, true, Option, None, Some, max, min, Result, Ok, Err}
 use Rattle.dbm_model.specs.Bounds.{Bounds}
 use Rattle.sect_dev.specs.Device.{Image, Candidates, IsImageOf}
 use Rattle.sect_dev.specs.declared.device.SectorDev.{Ghosts}
@@ -32,6 +32,11 @@ abbrev pub device_opened : {D : Type 0} {bound : Ghosts D} {p : store.Ghosts (Pa
     → Result (Database (CachedPages (Pager D bound) p) s) (D × Fault) → D
 device_opened (Ok db) = device_below db
 device_opened (Err e) = e.0
+
+-- how many pages are kept in memory at most: 256 where none is asked for, else 1 to 65,536
+abbrev pub pages_kept : Option ℕ → ℕ
+pages_kept None = 256
+pages_kept (Some pages) = max 1 (min pages 65536)
 
 -- a database as an opening leaves it
 pub record IsNewlyOpened {S : Type 0} {s : store.Ghosts S} (for_writing : Bool) (pages : ℕ)

@@ -11,8 +11,8 @@ use crate::{Fault, Pair, StoreMode};
 use page_group::GroupPages;
 use page_io::{Page, PageFault, PageStore};
 
-/// How many pages a group may hold in memory before it ends, 4 MB of them.
-const GROUP_PAGES: usize = 2048;
+/// How many pages a group may hold in memory before it ends, 32 MB of them.
+const GROUP_PAGES: usize = 16_384;
 
 impl<S: PageStore> Database<S> {
     ghost use Rattle.dbm_file.specs.Answers.{IsCallEnded};
@@ -24,7 +24,7 @@ impl<S: PageStore> Database<S> {
 
     /// Stores pairs in one commit, each in the place of its key's where that is there, and answers
     /// how many: those from the first one on up to the first that a store alone might refuse, or
-    /// that takes more than 4 MB of pages with the others, or more memory than there is. So it may
+    /// that takes more than 32 MB of pages with the others, or more memory than there is. So it may
     /// be none, and the next one is then for `store`. In this order: `Broken`; `ReadOnly`; `Device`
     /// while pages are read or in the commit. Where the commit fails, the database is broken, and
     /// opening the device again settles whether all of them are there or none.

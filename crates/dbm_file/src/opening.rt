@@ -13,7 +13,8 @@ ghost use Rattle.sect_dev.specs.Reads.{OnlyReads};
 ghost use Rattle.dbm_model.specs.States.{Handle};
 ghost use Rattle.dbm_file.specs.Database.{store_of, meta_kept, page_state, IsAt};
 ghost use Rattle.file_opening.specs.Opening.{writes, early_fault, IsRefusedOpening, AllAllow, MayRemain, AllStand, KeepsMeta, IsOpened};
-ghost use Rattle.dbm_file.specs.Opened.{device_below, device_opened, AllHaveRoom, HasRoom, IsNewlyOpened, IsOpenedAt};
+ghost use Rattle.page_cache.specs.Stores.{store_below, most_kept};
+ghost use Rattle.dbm_file.specs.Opened.{pages_kept, device_below, device_opened, AllHaveRoom, HasRoom, IsNewlyOpened, IsOpenedAt};
 
 use crate::database::{Database, Db};
 use crate::pass::Pass;
@@ -24,6 +25,25 @@ use page_io::{Page, PageStore};
 use redo_area::Pager;
 use sect_dev::SectorDev;
 use std::alloc::Global;
+use std::num::NonZeroUsize;
+
+/// How many pages that were read may be kept in memory.
+const MOST_KEPT: u32 = 65_536;
+
+/// A store over this one that keeps so many of the pages that were read, or 256.
+fn keeping<S: PageStore>(alloc: Global, store: S, pages: Option<u32>) -> CachedPages<S>
+    ensures store { store_below result ≡ store }
+    ensures most { most_kept result ≡ pages_kept pages }
+{
+    let mut cached = CachedPages::new(alloc, store);
+    if let Some(pages) = pages {
+        let most = NonZeroUsize::new(pages.clamp(1, MOST_KEPT) as usize);
+        if let Some(most) = most {
+            cached.keep_up_to(most);
+        }
+    }
+    cached
+}
 
 impl<D: SectorDev> Database<CachedPages<Pager<D>>> {
     /// Opens a device that a stop may have left, or hands it back with the fault. In this order:
@@ -48,6 +68,8 @@ impl<D: SectorDev> Database<CachedPages<Pager<D>>> {
         ensures early { IfSome (early_fault how (D.sectors dev))
             (λ fault. result ≡ Err (dev, fault)) }
         ensures fresh { IfOk result (IsNewlyOpened (writes how.access) (D.sectors dev / 4)) }
+        ensures kept_pages { IfOk result (λ db.
+            most_kept (store_of db) ≡ pages_kept how.kept_pages) }
 
         // Every image of every moment settles as one did at the start, or stands for the empty
         // database that was asked for.
@@ -101,7 +123,7 @@ impl<D: SectorDev> Database<CachedPages<Pager<D>>> {
     {
         match open_file(alloc, dev, how) {
             Ok(file) => Ok(Database {
-                store: CachedPages::new(alloc, file.store),
+                store: keeping(alloc, file.store, how.kept_pages),
                 meta: file.meta,
                 page: Page::blank(),
                 content: Vec::new(alloc),

@@ -25,7 +25,7 @@ use std::io::BufRead;
 /// 4,294,967,295. `Memory` comes before anything is read; a store that finds none is told as `Db`.
 /// `Read` comes where reading fails or the text is too long. The stores made so far stand.
 ///
-/// So many lines as `group` says may share a commit, as far as they go into 4 MB; of 0 and 1 each
+/// So many lines as `group` says may share a commit, as far as they go into 32 MB; of 0 and 1 each
 /// line has its own, and takes no memory of its own. A pair for which there is no memory beside
 /// the others has a commit of its own. Each line before a bad one, and before a failed reading, is
 /// stored.

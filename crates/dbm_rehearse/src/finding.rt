@@ -28,6 +28,7 @@ pub fn open_device(
         truncate: false,
         limit,
         version,
+        kept_pages: None,
     };
     match Db::open(alloc, dev, how) {
         Ok(db) => Ok(db),

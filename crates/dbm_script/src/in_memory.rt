@@ -67,6 +67,7 @@ fn new_in_memory(alloc: Global, limit: u32, version: Version) -> Result<Db<MemDe
         truncate: false,
         limit,
         version,
+        kept_pages: None,
     };
     match Db::open(alloc, MemDev::new(alloc, sectors), how) {
         Ok(db) => Ok(db),

@@ -129,6 +129,7 @@ fn create<T: Files<File = File>>(
         truncate: false,
         limit,
         version: file_version(version),
+        kept_pages: None,
     };
     let db = host.open(file, how)?;
     host.close(db, Ok(Outcome::Done))

@@ -32,6 +32,7 @@ impl<T: Files<File = File>> Host<'_, T> {
                 truncate: false,
                 limit: 0,
                 version: Version::V1,
+                kept_pages: None,
             },
         )
     }

@@ -43,6 +43,9 @@ pub struct OpenHow {
     pub limit: u32,
     /// The version of a database that is made or emptied. It is looked at in no other case.
     pub version: Version,
+    /// How many pages that were read are kept in memory at most, of 2,048 bytes each: 1 to 65,536,
+    /// and 256 where none is said. Memory is taken as they are read.
+    pub kept_pages: Option<u32>,
 }
 
 impl OpenHow {

@@ -37,6 +37,7 @@ how_of how = record {
   truncate = how.truncate;
   limit = how.limit;
   version = if how.first_version then V1 else V2;
+  kept_pages = Some 16384;
 }
 
 -- it holds a device of the file's size, to which happened what happened to the file

@@ -5,6 +5,9 @@ ghost use Rattle.ndbm_c.specs.Opening.{how_of};
 use dbm_file::{Access, OpenHow, Version};
 use sect_dev::Past;
 
+// How many pages are kept in memory at most, 32 MB of them.
+const KEPT_PAGES: u32 = 16_384;
+
 /// A file that C serves.
 #[repr(C)]
 pub struct ServedFile {
@@ -46,6 +49,7 @@ impl How {
             } else {
                 Version::V2
             },
+            kept_pages: Some(KEPT_PAGES),
         }
     }
 }

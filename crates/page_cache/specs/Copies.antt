@@ -15,6 +15,10 @@ entries_of (Some cache) = cache.entries
 abbrev pub copies_of : CleanPages → List (ℕ × Box Page)
 copies_of clean = entries_of clean.pages
 
+-- how many there may be
+abbrev pub most_of : CleanPages → ℕ
+most_of clean = clean.most
+
 -- is one of page n
 abbrev pub has_copy : List (ℕ × Box Page) → ℕ → Bool
 has_copy copies n = is_some (lookup (nat_eq n) copies)

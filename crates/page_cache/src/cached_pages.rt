@@ -7,9 +7,10 @@ use crate::clean_pages::CleanPages;
 use page_io::{Page, PageFault, PageStore, ServedStore};
 use sect_dev::Told;
 use std::alloc::{AllocError, Global};
+use std::num::NonZeroUsize;
 
-/// A store of pages over another one. It keeps copies of up to 256 committed pages that were read,
-/// and reads them there.
+/// A store of pages over another one. It keeps copies of committed pages that were read, of up to
+/// 256 where nobody asks for another number, and reads them there.
 #[derive(Drop)]
 pub struct CachedPages<S: PageStore> {
     store: S,
@@ -19,18 +20,29 @@ pub struct CachedPages<S: PageStore> {
 
 impl<S: PageStore> CachedPages<S> {
     ghost use Rattle.std.specs.Prelude.{◌↔◌, IsTrue};
+    ghost use Rattle.std.specs.NonZero.{non_zero_usize_get};
     ghost use Rattle.page_io.specs.Store.{page_of, overlaid};
     ghost use Rattle.page_cache.specs.Clean.{IsReadable};
-    ghost use Rattle.page_cache.specs.Stores.{store_below, HasCopy};
+    ghost use Rattle.page_cache.specs.Stores.{store_below, most_kept, HasCopy};
 
     /// A store over this one, with no copies. Where the room for copies is refused it keeps none.
     pub fn new(alloc: Global, store: S) -> CachedPages<S>
-        ensures { store_below result ≡ store }
+        ensures store { store_below result ≡ store }
+        ensures most { most_kept result ≡ 256 }
     {
         CachedPages {
             store,
             clean: CleanPages::new(alloc),
         }
+    }
+
+    /// Keeps copies of up to so many pages from now on, 2,048 bytes each. Its memory is taken as they
+    /// are read. Copies beyond that number which were not used for longest go.
+    pub fn keep_up_to(&mut self, most: NonZeroUsize)
+        ensures store { store_below self.new ≡ store_below self.old }
+        ensures most { most_kept self.new ≡ non_zero_usize_get most }
+    {
+        self.clean.resize(most);
     }
 
     /// The store below.

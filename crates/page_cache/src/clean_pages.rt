@@ -2,6 +2,7 @@
 ghost use Rattle.std.specs.Prelude.{◌≡◌, ◌⊎◌, ℕ, [], Contains, IsTrue, nat_eq};
 ghost use Rattle.std.specs.Global.{Box};
 ghost use Rattle.std.specs.Map.{remove_entry};
+ghost use Rattle.std.specs.NonZero.{non_zero_usize_get};
 ghost use Rattle.lru.specs.LruCache.{promoted};
 ghost use Rattle.page_cache.specs.Room.{HasRoomFor};
 ghost use Rattle.page_io.specs.declared.page.Page.{Page as OnePage};
@@ -11,7 +12,7 @@ use page_io::Page;
 use std::alloc::Global;
 use std::num::NonZeroUsize;
 
-/// How many pages are kept.
+/// How many pages are kept where nobody asks for another number.
 const MOST: usize = 256;
 
 /// Copies of pages by their numbers, each boxed, so that no whole page moves where one goes to the
@@ -19,24 +20,40 @@ const MOST: usize = 256;
 #[derive(Drop)]
 pub struct CleanPages {
     pages: Option<LruCache<u32, Box<Page>>>,
+    most: usize,
     alloc: Global,
-    ghost room: { HasRoomFor 256 pages },
+    ghost room: { HasRoomFor most pages },
 }
 
 impl CleanPages {
-    ghost use Rattle.page_cache.specs.Copies.{copies_of, has_copy, HasNone};
+    ghost use Rattle.page_cache.specs.Copies.{copies_of, most_of, has_copy, HasNone};
 
     /// No copies yet, and room for `MOST` of them where it isn't refused.
     pub fn new(alloc: Global) -> CleanPages
-        ensures { copies_of result ≡ [] }
+        ensures none { copies_of result ≡ [] }
+        ensures most { most_of result ≡ 256 }
     {
-        let Some(most) = NonZeroUsize::new(MOST) else {
-            return CleanPages { pages: None, alloc };
+        let pages = match NonZeroUsize::new(MOST) {
+            Some(most) => LruCache::new(alloc, most).ok(),
+            None => None,
         };
         CleanPages {
-            pages: LruCache::new(alloc, most).ok(),
+            pages,
+            most: MOST,
             alloc,
         }
+    }
+
+    /// Keeps up to so many copies from now on. Those beyond that which were not used for longest go.
+    pub fn resize(&mut self, most: NonZeroUsize)
+        ensures most { most_of self.new ≡ non_zero_usize_get most }
+        ensures copies { (k : ℕ) (one : Box OnePage) → Contains (copies_of self.new) (k, one)
+            → Contains (copies_of self.old) (k, one) }
+    {
+        if let Some(pages) = &mut self.pages {
+            pages.resize(most);
+        }
+        self.most = most.get();
     }
 
     /// Writes the copy of page n to `page`, and says whether there is one.

@@ -45,6 +45,7 @@ impl Opening {
             truncate: self.truncate,
             limit: self.limit,
             version: self.version,
+            kept_pages: None,
         }
     }
 }

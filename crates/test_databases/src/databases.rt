@@ -17,6 +17,7 @@ pub fn opening(create: bool, limit: u32) -> OpenHow {
         truncate: false,
         limit,
         version: Version::V1,
+        kept_pages: None,
     }
 }
 

@@ -19,7 +19,7 @@ returns-in-Ok-clause-stands g c honest one stand =
       found.1,
       opened_over _ (writes c.args.how.access) _ _ c.in-Ok.file.store found.0 found.1
           (λ cached. record { committed = refl; state = refl; settles = λ y left. left })
-          c.new.ensures found.2.holds found.2.rests found.2.bounds_are all.fresh.usable
+          c.keeping.ensures.store found.2.holds found.2.rests found.2.bounds_are all.fresh.usable
           all.fresh.writable all.fresh.capacity refl refl,
       found.3,
     )
@@ -32,7 +32,7 @@ returns-in-Ok-clause-room g c honest enough =
       tt,
       opened_has_room _ _ c.in-Ok.file.store (dev.sectors old / 4)
           (λ cached. record { committed = refl; state = refl; settles = λ y left. left })
-          c.new.ensures all.fresh.capacity
+          c.keeping.ensures.store all.fresh.capacity
           (opened_room c.args.how (dev.sectors old) (dev.candidate old) _ enough (all.opened honest)),
     )
 
