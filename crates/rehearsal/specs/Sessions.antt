@@ -58,6 +58,7 @@ for_writing how = record {
   truncate = how.truncate;
   limit = how.limit;
   version = how.version;
+  kept_pages = None;
 }
 
 -- how it ended, where the commit of the group had so many pairs if it broke the database

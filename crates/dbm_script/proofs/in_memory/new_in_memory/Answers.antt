@@ -1,4 +1,4 @@
-use Rattle.std.proofs.Common.{inl, true, false, refl, sym, subst, arith}
+use Rattle.std.proofs.Common.{inl, true, false, None, refl, sym, subst, arith}
 use Rattle.dbm_script.specs.Scripts.{asked}
 use Rattle.dbm_file.specs.Opened.{IsOpenedAt}
 use Rattle.file_opening.specs.Opening.{Allows}
@@ -17,6 +17,7 @@ returns-in-Ok-clause-fresh c =
           false;
       limit = c.args.limit;
       version = c.args.version;
+      kept_pages = None;
     } in
     let found = c.in-Ok.ensures.stands tt (λ reads. absurd (cc))
     (λ image is. inl (blank_there _ _ c.new.ensures.stable image is)) in
@@ -34,6 +35,7 @@ returns-clause-only c allowed =
           false;
       limit = c.args.limit;
       version = c.args.version;
+      kept_pages = None;
     } in
     let blank = blank_there _ _ c.new.ensures.stable in
     let room = makes_room how c.in-Some.sectors _ refl refl c.in-Some.ensures c.new.ensures.size in
