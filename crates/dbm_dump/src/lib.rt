@@ -6,3 +6,4 @@ mod gather;
 mod pairs;
 
 pub use dump::{dump_engine, dump_text_engine, list_engine};
+pub use pairs::gather_pairs;

@@ -1,3 +1,4 @@
+pub mod BadLines
 pub mod Dumps
 pub mod FieldBytes
 pub mod PairLines

@@ -1,3 +1,4 @@
+pub mod BadLines
 pub mod Bounds
 pub mod Forms
 pub mod LineLaws

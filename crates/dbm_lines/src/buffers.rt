@@ -1,10 +1,12 @@
 // What an engine that reads lines keeps between them.
 ghost use Rattle.std.specs.Prelude.{◌≡◌, ◌<◌, ◌≤◌, IfOk, Some, None, [], vec_capacity, if◌then◌else◌};
 ghost use Rattle.dbm_text.specs.Lines.{call_in_line};
+ghost use Rattle.dbm_lines.specs.BadLines.{IsBadBy};
 ghost use Rattle.dbm_lines.specs.Bounds.{longest_in, longest_part};
 ghost use Rattle.dbm_lines.specs.Forms.{pair_in};
 ghost use Rattle.dbm_lines.specs.Requests.{asked};
 
+use crate::bad_lines::{BadLine, why_bad};
 use crate::bounds::{longest_in, longest_part};
 use crate::forms::{TextForm, pair_in_form};
 use crate::parsing::{Request, request_of};
@@ -53,7 +55,16 @@ impl Buffers {
         ensures pair { (if result then Some (self.new.key.items, self.new.content.items) else None)
             ≡ pair_in self.old.form self.old.line.items }
         ensures form { self.new.form ≡ self.old.form }
+        ensures line { self.new.line.items ≡ self.old.line.items }
     {
         pair_in_form(self.form, &self.line, &mut self.key, &mut self.content)
+    }
+
+    /// Why the line says no pair in the form.
+    pub fn why_bad(&self) -> BadLine
+        ensures { pair_in self.now.form self.now.line.items ≡ None
+            → IsBadBy self.now.form self.now.line.items result }
+    {
+        why_bad(self.form, &self.line)
     }
 }

@@ -2,6 +2,7 @@
 //! an empty body is a law, which its clause says.
 #![tactic(auto)]
 
+mod bad_lines;
 mod bounds;
 mod buffers;
 mod fields;
@@ -12,6 +13,7 @@ mod parsing;
 mod replies;
 mod splitting;
 
+pub use bad_lines::BadLine;
 pub use bounds::{LONGEST_LINE, LONGEST_TEXT_LINE};
 pub use buffers::Buffers;
 pub use fields::{unescape, write_escaped};

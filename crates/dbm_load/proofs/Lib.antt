@@ -1,4 +1,5 @@
 pub mod Batching
+pub mod Endings
 pub mod Gathering
 pub mod GroupRuns
 pub mod Loading

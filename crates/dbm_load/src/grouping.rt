@@ -3,6 +3,7 @@ ghost use Rattle.std.specs.Prelude.{◌≡◌, ◌≤◌, Err, OnOk, IfSome, Som
 ghost use Rattle.dbm_file.specs.Answers.{IsSameDatabase};
 ghost use Rattle.dbm_lines.specs.Forms.{pair_in};
 ghost use Rattle.dbm_load.specs.Batches.{pairs_in, GroupsPair, GroupsLine};
+ghost use Rattle.dbm_load.specs.Endings.{EndsByLine};
 ghost use Rattle.dbm_load.specs.Refusals.{StopsByFault};
 ghost use Rattle.dbm_load.specs.Loading.{Loads};
 
@@ -26,6 +27,9 @@ pub fn load_groups<S: PageStore, R: BufRead, P: Progress>(
     requires none { pairs_in batch.old ≡ [] }
     ensures loads { Loads (pair_in buffers.old.form) result (R.remaining reader.old)
         db.old db.new }
+    ensures line { EndsByLine buffers.old.form result (R.remaining reader.old)
+        buffers.new.line.items }
+    ensures form { buffers.new.form ≡ buffers.old.form }
     ensures read { OnOk result (IfSome (R.remaining reader.old)
         (λ text. R.remaining reader.new ≡ Some [])) }
     ensures size { OnOk result (IfSome (R.remaining reader.old)
@@ -62,6 +66,7 @@ fn group_line<S: PageStore, P: Progress>(
     ensures line { GroupsLine result (pair_in buffers.old.form buffers.old.line.items) number
         db.old db.new (pairs_in batch.old) (pairs_in batch.new) }
     ensures form { buffers.new.form ≡ buffers.old.form }
+    ensures kept { buffers.new.line.items ≡ buffers.old.line.items }
     ensures faults { StopsByFault result }
     ensures goes { IsSameDatabase db.old db.new }
 {

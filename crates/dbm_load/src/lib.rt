@@ -6,4 +6,7 @@ mod grouping;
 mod load;
 mod storing;
 
+pub use batch::Batch;
+pub use dbm_lines::BadLine;
 pub use load::{load_engine, load_text_engine};
+pub use storing::store_batch;

@@ -5,6 +5,7 @@ ghost use Rattle.dbm_text.specs.Dumps.{dump_of, text_dump_of};
 ghost use Rattle.dbm_text.specs.Escapes.{pair_of_text_line};
 ghost use Rattle.dbm_lines.specs.Forms.{pair_in, dump_in};
 ghost use Rattle.dbm_lines.specs.PairLines.{pair_of_line};
+ghost use Rattle.dbm_load.specs.Endings.{EndsByLine, IsWhyOf, TellsWhy};
 ghost use Rattle.dbm_load.specs.Refusals.{StopsByFault};
 ghost use Rattle.dbm_load.specs.Loading.{Loads, LoadsDump, LoadsLine};
 
@@ -13,7 +14,7 @@ use crate::grouping::load_groups;
 use crate::storing::store_pair;
 use dbm_fault::EngineFault;
 use dbm_file::Database;
-use dbm_lines::{Buffers, TextForm, read_line};
+use dbm_lines::{BadLine, Buffers, TextForm, read_line};
 use dbm_progress::{Progress, Work};
 use page_io::PageStore;
 use std::alloc::Global;
@@ -23,7 +24,8 @@ use std::io::BufRead;
 /// line that says none, told by its number from 1 as `Line`, or at the first store that is refused,
 /// told as `Db`. A line is `key content`, may have 139,264 bytes without its line feed, and a text
 /// 4,294,967,295. `Memory` comes before anything is read; a store that finds none is told as `Db`.
-/// `Read` comes where reading fails or the text is too long. The stores made so far stand.
+/// `Read` comes where reading fails or the text is too long. The stores made so far stand. After
+/// `Line`, `why` says why that line is bad.
 ///
 /// So many lines as `group` says may share a commit, as far as they go into 32 MB; of 0 and 1 each
 /// line has its own, and takes no memory of its own. A pair for which there is no memory beside
@@ -34,9 +36,11 @@ pub fn load_engine<S: PageStore, R: BufRead, P: Progress>(
     db: &mut Database<S>,
     reader: &mut R,
     group: u32,
+    why: &mut Option<BadLine>,
     progress: &mut P,
 ) -> Result<(), EngineFault>
     ensures loads { Loads pair_of_line result (R.remaining reader.old) db.old db.new }
+    ensures why { TellsWhy TextForm.Hexadecimal result (R.remaining reader.old) why.new }
     ensures read { OnOk result (IfSome (R.remaining reader.old)
         (λ text. R.remaining reader.new ≡ Some [])) }
     ensures size { OnOk result (IfSome (R.remaining reader.old)
@@ -53,7 +57,15 @@ pub fn load_engine<S: PageStore, R: BufRead, P: Progress>(
         → (db.new ≡ db.old) × (reader.new ≡ reader.old) }
     ensures only { result ≡ Err EngineFault.Write → ⊥ }
 {
-    load_in_form(alloc, db, reader, TextForm::Hexadecimal, group, progress)
+    load_in_form(
+        alloc,
+        db,
+        reader,
+        TextForm::Hexadecimal,
+        group,
+        why,
+        progress,
+    )
 }
 
 /// Stores the pair that each line says as two fields with a tab between them, and otherwise does
@@ -64,9 +76,11 @@ pub fn load_text_engine<S: PageStore, R: BufRead, P: Progress>(
     db: &mut Database<S>,
     reader: &mut R,
     group: u32,
+    why: &mut Option<BadLine>,
     progress: &mut P,
 ) -> Result<(), EngineFault>
     ensures loads { Loads pair_of_text_line result (R.remaining reader.old) db.old db.new }
+    ensures why { TellsWhy TextForm.Escaped result (R.remaining reader.old) why.new }
     ensures read { OnOk result (IfSome (R.remaining reader.old)
         (λ text. R.remaining reader.new ≡ Some [])) }
     ensures size { OnOk result (IfSome (R.remaining reader.old)
@@ -83,7 +97,7 @@ pub fn load_text_engine<S: PageStore, R: BufRead, P: Progress>(
         → (db.new ≡ db.old) × (reader.new ≡ reader.old) }
     ensures only { result ≡ Err EngineFault.Write → ⊥ }
 {
-    load_in_form(alloc, db, reader, TextForm::Escaped, group, progress)
+    load_in_form(alloc, db, reader, TextForm::Escaped, group, why, progress)
 }
 
 /// Stores the pair that each line of this form says.
@@ -93,9 +107,11 @@ fn load_in_form<S: PageStore, R: BufRead, P: Progress>(
     reader: &mut R,
     form: TextForm,
     group: u32,
+    why: &mut Option<BadLine>,
     progress: &mut P,
 ) -> Result<(), EngineFault>
     ensures loads { Loads (pair_in form) result (R.remaining reader.old) db.old db.new }
+    ensures why { TellsWhy form result (R.remaining reader.old) why.new }
     ensures read { OnOk result (IfSome (R.remaining reader.old)
         (λ text. R.remaining reader.new ≡ Some [])) }
     ensures size { OnOk result (IfSome (R.remaining reader.old)
@@ -112,14 +128,56 @@ fn load_in_form<S: PageStore, R: BufRead, P: Progress>(
     let Ok(mut buffers) = Buffers::new(alloc, form) else {
         return Err(EngineFault::Memory);
     };
-    if group < 2 {
-        return load_lines(db, reader, &mut buffers, progress);
+    match load_with(alloc, db, reader, &mut buffers, group, progress) {
+        Ok(()) => Ok(()),
+        Err(fault) => {
+            *why = why_of(fault, &buffers);
+            Err(fault)
+        }
     }
-    let mut batch = Batch::new(alloc, group);
-    load_groups(db, reader, &mut buffers, &mut batch, progress)
 }
 
-/// The engine with its buffers.
+/// Why the line in the buffers is bad, where that is the fault.
+fn why_of(fault: EngineFault, buffers: &Buffers) -> Option<BadLine>
+    ensures { IsWhyOf fault buffers.now.form buffers.now.line.items result }
+{
+    match fault {
+        EngineFault::Line(_) => Some(buffers.why_bad()),
+        EngineFault::Memory | EngineFault::Read | EngineFault::Write | EngineFault::Db(_) => None,
+    }
+}
+
+/// The engine with its buffers, which keep the line that it ends by.
+fn load_with<S: PageStore, R: BufRead, P: Progress>(
+    alloc: Global,
+    db: &mut Database<S>,
+    reader: &mut R,
+    buffers: &mut Buffers,
+    group: u32,
+    progress: &mut P,
+) -> Result<(), EngineFault>
+    ensures loads { Loads (pair_in buffers.old.form) result (R.remaining reader.old)
+        db.old db.new }
+    ensures line { EndsByLine buffers.old.form result (R.remaining reader.old)
+        buffers.new.line.items }
+    ensures form { buffers.new.form ≡ buffers.old.form }
+    ensures read { OnOk result (IfSome (R.remaining reader.old)
+        (λ text. R.remaining reader.new ≡ Some [])) }
+    ensures size { OnOk result (IfSome (R.remaining reader.old)
+        (λ text. length text ≤ 4294967295)) }
+    ensures faults { StopsByFault result }
+    ensures goes { IsSameDatabase db.old db.new }
+    ensures no_memory { result ≡ Err EngineFault.Memory → ⊥ }
+    ensures no_write { result ≡ Err EngineFault.Write → ⊥ }
+{
+    if group < 2 {
+        return load_lines(db, reader, buffers, progress);
+    }
+    let mut batch = Batch::new(alloc, group);
+    load_groups(db, reader, buffers, &mut batch, progress)
+}
+
+/// The same, of lines with a commit each.
 fn load_lines<S: PageStore, R: BufRead, P: Progress>(
     db: &mut Database<S>,
     reader: &mut R,
@@ -128,6 +186,9 @@ fn load_lines<S: PageStore, R: BufRead, P: Progress>(
 ) -> Result<(), EngineFault>
     ensures loads { Loads (pair_in buffers.old.form) result (R.remaining reader.old)
         db.old db.new }
+    ensures line { EndsByLine buffers.old.form result (R.remaining reader.old)
+        buffers.new.line.items }
+    ensures form { buffers.new.form ≡ buffers.old.form }
     ensures read { OnOk result (IfSome (R.remaining reader.old)
         (λ text. R.remaining reader.new ≡ Some [])) }
     ensures size { OnOk result (IfSome (R.remaining reader.old)
@@ -158,6 +219,7 @@ fn load_line<S: PageStore>(
     ensures line { LoadsLine result (pair_in buffers.old.form buffers.old.line.items) number
         db.old db.new }
     ensures form { buffers.new.form ≡ buffers.old.form }
+    ensures kept { buffers.new.line.items ≡ buffers.old.line.items }
     ensures faults { StopsByFault result }
     ensures goes { IsSameDatabase db.old db.new }
 {

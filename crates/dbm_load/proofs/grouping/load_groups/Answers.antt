@@ -7,6 +7,7 @@ use Rattle.dbm_lines.specs.Reading.{ReadsLine, IsCounted}
 use Rattle.dbm_lines.specs.declared.forms.TextForm.{TextForm}
 use Rattle.dbm_lines.proofs.TextLines.{counted_first, counted_on}
 use Rattle.dbm_load.specs.Batches.{pairs_in, GroupsLine}
+use Rattle.dbm_load.proofs.Endings.{grouped_ends}
 use Rattle.dbm_load.proofs.Loading.{read_in}
 use Rattle.dbm_load.proofs.Gathering.{none_held, batch_refused, unread, ended, line_went, line_stopped}
 use Rattle.dbm_load.proofs.grouping.load_groups.Goals as goal
@@ -99,3 +100,20 @@ returns-clause-loads g c =
     let h = c.loop-number.invariant in
     unread g.S.PageStore _ _ _ _ _ _ _ _ h.goes c.store_batch-2.ensures.goes h.gathering
     c.in_ok-store_batch-2.ensures.stores
+
+pub returns-in_err-group_line-clause-line : goal.returns-in_err-group_line-clause-line
+returns-in_err-group_line-clause-line g c =
+    let read : IfSome (g.R.Read.remaining c.loop-number.reader)
+    (λ text. ReadsLine (longest_in c.loop-number.buffers.form + 1) text true
+    c.read_line.new.buffers.line.items (g.R.Read.remaining c.read_line.new.reader)) =
+    search rules in
+    let same : c.from_residual-in_err-group_line.result ≡ Err c.in_err-group_line.field-0.0 =
+    search rules in
+    let h = c.loop-number.invariant in
+    rw same (grouped_ends c.args.buffers.now.form _ _ _ _ _ _ _ h.gathering.done _
+    h.gathering.read h.gathering.counted (read_in _ _ _ _ _ _ h.form read)
+    c.group_line.ensures.kept _ _ _ (subst (λ (form : TextForm).
+    GroupsLine (Err c.in_err-group_line.field-0.0)
+    (pair_in form c.read_line.new.buffers.line.items) c.loop-number.number c.loop-number.db
+    c.group_line.new.db (pairs_in c.loop-number.batch) (pairs_in c.group_line.new.batch))
+    (c.read_line.ensures.form ∙ h.form) c.in_err-group_line.ensures.line))

@@ -1,5 +1,6 @@
 use Rattle.dbm_file.proofs.Runs.{no_run}
 use Rattle.dbm_lines.specs.Forms.{pair_in}
+use Rattle.dbm_load.proofs.Endings.{tells_why}
 use Rattle.dbm_load.proofs.Loading.{not_begun, loads_in, dump_back}
 use Rattle.dbm_load.proofs.load.load_in_form.Goals as goal
 
@@ -10,22 +11,13 @@ returns-in_default-clause-loads g c =
     no_run g.S.PageStore db start at
     (λ x left. g.met.S.PageStore.only_now db.store x honest left))
 
-pub returns-then-group-lt2-clause-loads : goal.returns-then-group-lt2-clause-loads
-returns-then-group-lt2-clause-loads g c =
-    loads_in c.args.form c.in-Ok.buffers.form _ _ _ _ c.in-Ok.ensures.0 c.load_lines.ensures.loads
-
-pub returns-then-group-lt2-clause-dump : goal.returns-then-group-lt2-clause-dump
-returns-then-group-lt2-clause-dump g c =
-    dump_back c.args.form c.load_lines.result _ _ _
+pub returns-in-Ok-load_with-clause-dump : goal.returns-in-Ok-load_with-clause-dump
+returns-in-Ok-load_with-clause-dump g c =
+    dump_back c.args.form _ _ _ _
     (loads_in c.args.form c.in-Ok.buffers.form _ _ _ _ c.in-Ok.ensures.0
-    c.load_lines.ensures.loads)
+    c.in-Ok-load_with.ensures.loads)
 
-pub returns-clause-loads : goal.returns-clause-loads
-returns-clause-loads g c =
-    loads_in c.args.form c.in-Ok.buffers.form _ _ _ _ c.in-Ok.ensures.0 c.load_groups.ensures.loads
-
-pub returns-clause-dump : goal.returns-clause-dump
-returns-clause-dump g c =
-    dump_back c.args.form c.load_groups.result _ _ _
-    (loads_in c.args.form c.in-Ok.buffers.form _ _ _ _ c.in-Ok.ensures.0
-    c.load_groups.ensures.loads)
+pub returns-clause-why : goal.returns-clause-why
+returns-clause-why g c =
+    tells_why c.args.form c.in-Ok.buffers.form _ c.in-Err.fault _ _ _ c.in-Ok.ensures.0
+    c.load_with.ensures.form c.in-Err.ensures.line c.why_of.ensures

@@ -8,6 +8,7 @@ use Rattle.dbm_lines.specs.declared.forms.TextForm.{TextForm}
 use Rattle.dbm_fault.specs.declared.engine_fault.EngineFault.TheVariants.{Read}
 use Rattle.dbm_lines.proofs.TextLines.{counted_first, counted_on}
 use Rattle.dbm_load.specs.Loading.{LoadsLine}
+use Rattle.dbm_load.proofs.Endings.{alone_ends}
 use Rattle.dbm_load.proofs.Loading.{at_start, read_in, go_on, stopped, not_read}
 use Rattle.dbm_load.proofs.load.load_lines.Goals as goal
 
@@ -69,3 +70,18 @@ loop-number-preserved g c =
 
 pub returns-clause-loads : goal.returns-clause-loads
 returns-clause-loads g c = not_read _ _ _ _ _ _ c.loop-number.invariant.loading
+
+pub returns-in_err-load_line-clause-line : goal.returns-in_err-load_line-clause-line
+returns-in_err-load_line-clause-line g c =
+    let read : IfSome (g.R.Read.remaining c.loop-number.reader)
+    (λ text. ReadsLine (longest_in c.loop-number.buffers.form + 1) text true
+    c.read_line-read.new.buffers.line.items (g.R.Read.remaining c.read_line-read.new.reader)) =
+    search rules in
+    let same : c.from_residual-in_err-load_line.result ≡ Err c.in_err-load_line.field-0.0 =
+    search rules in
+    let h = c.loop-number.invariant in
+    rw same (alone_ends c.args.buffers.now.form _ _ _ _ _ _ _ h.loading.done _ h.loading.read
+    h.loading.counted (read_in _ _ _ _ _ _ h.form read) c.load_line.ensures.kept _
+    (subst (λ (form : TextForm). LoadsLine (Err c.in_err-load_line.field-0.0)
+    (pair_in form c.read_line-read.new.buffers.line.items) c.loop-number.number c.loop-number.db
+    c.load_line.new.db) (c.read_line-read.ensures.form ∙ h.form) c.in_err-load_line.ensures.line))

@@ -1,0 +1,113 @@
+// Copies of a table's file.
+ghost use Rattle.std.specs.Prelude.{IfErr};
+ghost use Rattle.dbm_aside.specs.Stops.{IsOfDatabase};
+
+use crate::aside::{Aside, give_up, own_as};
+use crate::naming::{Names, above_standard, found_at, names_of};
+use crate::stop::Stop;
+use crate::verified::Verified;
+use dbm_file::Fault;
+use dbm_progress::Progress;
+use std::alloc::Global;
+use std::fs::{File, Metadata, TryLockError};
+use std::io::{self, ErrorKind};
+use std::os::unix::fs::{FileExt, MetadataExt};
+use std::rt::Files;
+
+/// Copies the table of one name to another name, at which there is none, and answers how many pairs
+/// it has. The source, the file `FILE.db`, is locked for reading. Its bytes are copied into
+/// `TO.db.new`, with its owner and its mode; the copy is synced, opened for reading and looked
+/// through, gets the name `TO.db`, and the folder is synced.
+///
+/// `Missing` where the source isn't there, `Exists` where the copy's name is, which then stays as
+/// it is: a copy that is damaged or older is never lost before there is another, since no name is
+/// given twice. `Device` where a writer has the source open, or another process makes that copy.
+/// Then what an opening for reading and `verify` are refused by.
+pub fn backup<T: Files<File = File>, P: Progress>(
+    rt: &T,
+    alloc: Global,
+    file: &str,
+    to: &str,
+    progress: &mut P,
+) -> Result<u32, Stop>
+    ensures { IfErr result (λ stop. IsOfDatabase stop.fault) }
+{
+    let from = names_of(alloc, file)?;
+    let to = names_of(alloc, to)?;
+    let source = open_source(rt, &from.file)?;
+    if found_at(rt, &to.file)?.is_some() {
+        return Err(Stop::from(Fault::Exists));
+    }
+    let aside = Aside::make(rt, &to.aside)?;
+    let done = copied(rt, alloc, &source, aside, &to, progress);
+    if done.is_err() {
+        give_up(rt, &to.aside);
+    }
+    done
+}
+
+/// Opens the file of a table, with a lock that other readers share.
+fn open_source<T: Files<File = File>>(rt: &T, path: &str) -> Result<File, Stop>
+    ensures { IfErr result (λ stop. IsOfDatabase stop.fault) }
+{
+    let source = match File::open(rt, path) {
+        Err(error) if error.kind() == ErrorKind::NotFound => {
+            return Err(Stop::from(Fault::Missing));
+        }
+        opened => above_standard(opened?)?,
+    };
+    match source.try_lock_shared() {
+        Ok(()) => Ok(source),
+        Err(TryLockError::WouldBlock) => Err(Stop::from(io::Error::new(
+            ErrorKind::WouldBlock,
+            "another program has the file open",
+        ))),
+        Err(TryLockError::Error(error)) => Err(Stop::from(error)),
+    }
+}
+
+/// Copies the source into the file beside the copy's name, and gives it that name.
+fn copied<T: Files<File = File>, P: Progress>(
+    rt: &T,
+    alloc: Global,
+    source: &File,
+    aside: Aside,
+    to: &Names,
+    progress: &mut P,
+) -> Result<u32, Stop>
+    ensures { IfErr result (λ stop. IsOfDatabase stop.fault) }
+{
+    let like = source.metadata()?;
+    let made = written(source, &like, aside)?;
+    let whole = Verified::of(rt, alloc, &to.aside, &made, like.mode(), progress)?;
+    match whole.put(rt, &to.aside, &to.file) {
+        Ok(pairs) => Ok(pairs),
+        Err(error) if error.kind() == ErrorKind::AlreadyExists => Err(Stop::from(Fault::Exists)),
+        Err(error) => Err(Stop::from(error)),
+    }
+}
+
+/// Writes the bytes of the source into the file that was made, and gives up its lock.
+fn written(source: &File, like: &Metadata, aside: Aside) -> io::Result<File> {
+    own_as(&aside.made, like)?;
+    copy_bytes(source, &aside.made)?;
+    Ok(aside.made)
+}
+
+/// Copies the bytes of a file to its end.
+fn copy_bytes(source: &File, made: &File) -> io::Result<()> {
+    let mut bytes = [0; 16384];
+    let mut at = 0u64;
+    for _ in 0..u64::MAX {
+        match source.read_at(&mut bytes, at) {
+            Ok(0) => return Ok(()),
+            Ok(more) => {
+                made.write_all_at(&bytes[..more], at)?;
+                at = at.saturating_add(more as u64);
+            }
+            Err(error) if error.kind() == ErrorKind::Interrupted => {}
+            Err(error) => return Err(error),
+        }
+    }
+    Err(ErrorKind::Interrupted.into())
+}

@@ -1,0 +1,19 @@
+//! A table that is built beside the one of its name, and takes its place whole.
+#![tactic(auto)]
+
+mod aside;
+mod backing;
+mod building;
+mod filling;
+mod looking;
+mod naming;
+mod replacing;
+mod stop;
+mod verified;
+
+pub use backing::backup;
+pub use filling::fill;
+pub use looking::look_through;
+pub use replacing::{replace, resize};
+pub use stop::Stop;
+pub use verified::Verified;

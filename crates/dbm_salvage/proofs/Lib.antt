@@ -1,0 +1,5 @@
+pub mod ContentParts
+pub mod FoundPages
+pub mod LookRuns
+pub mod PageKinds
+pub mod RecordPairs

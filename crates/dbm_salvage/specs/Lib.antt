@@ -1,0 +1,3 @@
+pub mod Reads
+pub mod Salvage
+pub mod Telling

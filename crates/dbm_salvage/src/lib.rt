@@ -1,0 +1,11 @@
+//! What can be read of a damaged file: the pairs of each page that reads as a bucket page.
+#![tactic(auto)]
+
+mod contents;
+mod looks;
+mod records;
+mod salvage;
+mod trouble;
+
+pub use salvage::{Salvaged, salvage_engine};
+pub use trouble::{Trouble, Troubles, Unshown};
