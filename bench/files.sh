@@ -13,10 +13,10 @@ cc -O2 -o bare "$top/bench/bare_stores.c"
 pairs() { awk -v count="$1" 'BEGIN { for (i = 0; i < count; i++) printf "%08x%08x %08x\n", i * 2654435761 % 4294967296, i, i }'; }
 pairs 10000 > pairs
 "$program" create t --limit 1000000
-printf 'load of 10,000 pairs: '; time "$program" load t < pairs
+printf 'load of 10,000 pairs, each with its own commit: '; time "$program" load t --group 1 < pairs
 printf 'dump of them: '; time "$program" dump t > dumped
 printf 'list of them: '; time "$program" list t > listed
-printf 'the same stores again: '; time "$program" load t < pairs
+printf 'the same stores again: '; time "$program" load t --group 1 < pairs
 printf 'as many stores as bare system calls: '; time ./bare file 10000
 pairs 100000 > more
 "$program" load t < more

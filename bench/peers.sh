@@ -4,11 +4,11 @@
 # the disk that is to be measured, and counts (10000 and 100000 where none is given).
 #
 # Each change of a script is synced, by LMDB as a transaction of its own. A load of dbmtool commits
-# each pair, or GROUP of them; the others sync once, at the end, LMDB one transaction. A time is that of the whole
-# program, with its opening, closing, reading and writing of lines. The programs take turns, so that
-# each meets the machine in the same state, and the best of ROUNDS runs counts.
+# up to GROUP pairs at once; the others sync once, at the end, LMDB one transaction. A time is that of
+# the whole program, with its opening, closing, reading and writing of lines. The programs take turns,
+# so that each meets the machine in the same state, and the best of ROUNDS runs counts.
 #
-# In the environment: ROUNDS (3); GROUP (1), how many lines of a load of dbmtool share a commit; MOST
+# In the environment: ROUNDS (3); GROUP (10000), how many lines of a load of dbmtool share a commit; MOST
 # (2000), the most pairs that are stored one by one, and as many deleted, since on a disk each may
 # take milliseconds; DBMTOOL, a built program to measure in place of this tree's.
 set -euo pipefail
@@ -17,7 +17,7 @@ folder=${1:?the folder that is to be measured}
 counts=("${@:2}")
 [ ${#counts[@]} -gt 0 ] || counts=(10000 100000)
 rounds=${ROUNDS:-3}
-group=${GROUP:-1}
+group=${GROUP:-10000}
 most=${MOST:-2000}
 
 work=$(realpath "$(mktemp -d "$folder/peers.XXXXXX")")

@@ -21,16 +21,23 @@ _dbmtool_places() {
 }
 
 _dbmtool() {
-  local commands='create store insert fetch delete list dump load stat verify upgrade script rehearse faults help'
-  local word=${COMP_WORDS[COMP_CWORD]} options='' places
+  local commands='create store insert fetch delete list dump load stat verify upgrade resize backup salvage script rehearse faults help'
+  local word=${COMP_WORDS[COMP_CWORD]} options='' places own
   COMPREPLY=()
-  # The program's own option stands before the command.
-  if [ "${COMP_WORDS[1]}" = --verbose ] && [ "$COMP_CWORD" -gt 1 ]; then
-    COMP_WORDS=("${COMP_WORDS[0]}" "${COMP_WORDS[@]:2}")
-    COMP_CWORD=$((COMP_CWORD - 1))
-  fi
+  # The program's own options stand before the command.
+  while [ "$COMP_CWORD" -gt 1 ]; do
+    case ${COMP_WORDS[1]} in
+      --verbose) own=1 ;;
+      --wait) own=2; [ "${COMP_WORDS[2]}" != = ] || own=3 ;;
+      *) break ;;
+    esac
+    # the seconds are a number
+    [ "$COMP_CWORD" -gt "$own" ] || return
+    COMP_WORDS=("${COMP_WORDS[0]}" "${COMP_WORDS[@]:own + 1}")
+    COMP_CWORD=$((COMP_CWORD - own))
+  done
   if [ "$COMP_CWORD" = 1 ]; then
-    mapfile -t COMPREPLY < <(compgen -W "$commands --verbose -h --help -V --version" -- "$word")
+    mapfile -t COMPREPLY < <(compgen -W "$commands --verbose --wait -h --help -V --version" -- "$word")
     return
   fi
   case ${COMP_WORDS[COMP_CWORD - 1]} in
@@ -39,11 +46,12 @@ _dbmtool() {
   case ${COMP_WORDS[1]} in
     create) options='--limit --v2 -h --help' ;;
     store | insert | fetch | delete) options='-x -h --help' ;;
-    script) options='--memory --v2 -h --help' ;;
+    script) options='--memory --read --v2 -h --help' ;;
     rehearse) options='--memory --stops --v2 -h --help' ;;
     dump) options='--text -h --help' ;;
-    load) options='--group --text -h --help' ;;
-    list | stat | verify | upgrade | faults) options='-h --help' ;;
+    load) options='--group --limit --replace --text -h --help' ;;
+    resize) options='--limit -h --help' ;;
+    list | stat | verify | upgrade | backup | salvage | faults) options='-h --help' ;;
   esac
   places=$(_dbmtool_places)
   case $word,$places,${COMP_WORDS[1]} in

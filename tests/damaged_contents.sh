@@ -330,12 +330,12 @@ input=$work/input
 for line in "66 $o" '66 .'; do
   echo "$line" > "$input"
   run 2 '' 'dbmtool: fault 9' load t
-  run 2 '' 'dbmtool: fault 9' load t --group 10
+  run 2 '' 'dbmtool: fault 9' load t --group 1
   stays
 done
 # The lines before it are stored.
 printf 'n\tv\nf\tv\n' > "$input"
-for group in '' '--group 10'; do
+for group in '' '--group 1'; do
   cp damaged.db t.db
   # shellcheck disable=SC2086
   run 2 '' 'dbmtool: fault 9' load --text t $group

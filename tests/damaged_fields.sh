@@ -203,7 +203,7 @@ stays
 for line in '61 02' '6b 02'; do
   echo "$line" > "$input"
   run 2 '' 'dbmtool: fault 9' load t
-  run 2 '' 'dbmtool: fault 9' load t --group 10
+  run 2 '' 'dbmtool: fault 9' load t --group 1
   stays
 done
 printf 'a\t2\n' > "$input"

@@ -67,6 +67,11 @@ agrees "bash's names" "$(offered dbmtool fetch '')" 'mail tables'
 agrees "bash's names behind an option" "$(offered dbmtool create --limit 7 m)" mail
 agrees "bash's names for a number" "$(offered dbmtool create --limit '')" ''
 agrees "bash's names behind --verbose" "$(offered dbmtool --verbose fetch '')" 'mail tables'
+agrees "bash's names behind --wait" "$(offered dbmtool --wait 7 --verbose fetch '')" 'mail tables'
+agrees "bash's names behind --wait=" "$(offered dbmtool --verbose --wait = 7 fetch '')" 'mail tables'
+agrees "bash's names for seconds" "$(offered dbmtool --wait '')" ''
+agrees "bash's commands behind --wait" "$(offered dbmtool --wait 7 fet)" fetch
+agrees "bash's names behind --read" "$(offered dbmtool script --read '')" 'mail tables'
 agrees "bash's names for a key" "$(offered dbmtool fetch mail '')" ''
 
 # the page says of the statuses and the faults what the program says

@@ -23,7 +23,8 @@ static int from, late, lose_odd, lose_even;
 struct written {
     struct written *before;
     long number;
-    int file;
+    // the program's descriptor, and one of our own, which is that of the sector before where they are of one file
+    int of, file;
     off_t at, length;
     char bytes[SECTOR];
 };
@@ -78,7 +79,8 @@ static void note(int file, off_t at) {
     one->before = unsynced;
     one->number = unsynced ? unsynced->number + 1 : 1;
     // the program may have closed its own descriptor before the end
-    one->file = dup(file);
+    one->of = file;
+    one->file = unsynced && unsynced->of == file ? unsynced->file : dup(file);
     one->at = at;
     one->length = now.st_size;
     unsynced = one;
@@ -94,7 +96,7 @@ static void forget(int back) {
         struct written *one = unsynced;
         if (back && (one->number % 2 ? lose_odd : lose_even)) take_back(one);
         unsynced = one->before;
-        close(one->file);
+        if (!unsynced || unsynced->file != one->file) close(one->file);
         free(one);
     }
 }

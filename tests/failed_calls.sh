@@ -81,9 +81,9 @@ for how in once late from; do
     failed 'before before+1' store t 69 09 -x
     failed 'before changed' store t 64 ff -x
     failed 'before deleted' delete t 65 -x
-    failed 'before before+1 before+2 before+3' load t
+    failed 'before before+1 before+2 before+3' load t --group 1
     failed 'before before+2 before+3' load t --group 2
-    failed 'before before+3' load t --group 100
+    failed 'before before+3' load t
     failed before verify t
     failed before dump t
     failed empty create t --limit 100

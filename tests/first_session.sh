@@ -1,8 +1,8 @@
 #!/usr/bin/env bash
-# The first session of README.md, and its rehearsal, line by line: each command prints what stands below it.
+# The first session of README.md, its rehearsal and its faults, line by line: each command prints what stands below it.
 . "$(dirname "$0")/common"
 ln -s "$program" dbmtool
-for part in 'A first session' 'See it stopped'; do
+for part in 'A first session' 'See it stopped' 'When something is wrong'; do
   sed -n "/^## $part\$/,/^## /p" "$top/README.md" | sed -n 's/^    //p' >> session
 done
 commands=0

@@ -88,7 +88,7 @@ file='open flock pread pwrite fsync fdatasync'
 # open, a lock, two reads and, for writing, a sync.
 interrupts 14 "$file write" none store t 69 09 -x
 interrupts 14 "$file write" none delete t 61 -x
-interrupts 14 "$file read write" pairs load t
+interrupts 14 "$file read write" pairs load t --group 1
 interrupts 14 "$file read write" pairs load t --group 2
 interrupts 14 "$file read write" calls script t
 # one of the folder besides

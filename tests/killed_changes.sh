@@ -35,7 +35,7 @@ deletes() {
 }
 
 loads() {
-  "$program" load t < lines && seq 1 40 > done
+  "$program" load t --group 1 < lines && seq 1 40 > done
 }
 
 grouped() {

@@ -38,18 +38,18 @@ loads() {
   "$program" "${dump[@]}" | cmp - after || wrong "load $* of long $form leaves other pairs"
 }
 
-# Line 1,000,001 is a new key, and line 1,000,002 is bad, so that a load without a group has stored the one before.
+# Line 1,000,001 is a new key, and line 1,000,002 is bad, so that a load whose lines have a commit each has stored the one before.
 { stays text; printf 'last\tone\n'; } > after
+loads text fields 'last\tone\nno tab\n' 'dbmtool: line 1000002' --text --group 1
 loads text fields 'last\tone\nno tab\n' 'dbmtool: line 1000002' --text
-loads text fields 'last\tone\nno tab\n' 'dbmtool: line 1000002' --text --group 10000
 loads text fields 'last\tone' '' --text --group 100000
 # a group that divides no number of lines here
 loads text fields 'last\tone\nno tab\n' 'dbmtool: line 1000002' --text --group 777
 { stays words; echo 'ff .'; } > after
-loads words hex 'FF .\n' '' --group 10000
+loads words hex 'FF .\n' ''
 # line 1,000,002 has one key more than the limit allows
-loads words hex 'ff .\nfe .\n' 'dbmtool: fault 6' --group 10000
 loads words hex 'ff .\nfe .\n' 'dbmtool: fault 6'
+loads words hex 'ff .\nfe .\n' 'dbmtool: fault 6' --group 1
 
 # 2,000,000 lines: a store, fetches of it and of an absent key by turns, a bad line now and then, and at the end a number that says which was the last
 awk 'BEGIN {

@@ -44,8 +44,8 @@ counts 0 'pairs read|pairs written' '' "$slow dump t > out"
 cmp -s out pairs || wrong "another dump where it is slow"
 counts 0 'buckets verified' '' "$slow verify t > out"
 [ "$(cat out)" = 600 ] || wrong "another number of pairs where a verify is slow"
-counts 0 'lines loaded' '' "cp empty.db new.db; $slow load new < some"
-counts 2 'lines loaded' 'dbmtool: line 41' "cp empty.db new.db; $slow load new < bad_line"
+counts 0 'lines loaded' '' "cp empty.db new.db; $slow load new --group 1 < some"
+counts 2 'lines loaded' 'dbmtool: line 41' "cp empty.db new.db; $slow load new --group 1 < bad_line"
 counts 0 'stops made' '' "$program rehearse --memory 200 < calls > out"
 [ "$(head -n 1 out)" = 'calls 90' ] || wrong "the rehearsal is another"
 
@@ -58,7 +58,7 @@ on_terminal "$slow list t"
 head -n 1 shown | grep -q 'keys read' || wrong "a list on a terminal shows nothing"
 sed '1s/.*\r \{34\}\r//; s/\r$//' shown | cmp - listed || wrong "a list on a terminal is mixed with its progress"
 cp empty.db new.db
-script -qec "$slow load new" /dev/null < some > shown
+script -qec "$slow load new --group 1" /dev/null < some > shown
 [ "$("$program" stat new | head -n 1)" = 'pairs 40' ] || wrong "lines that are typed aren't loaded"
 grep -q 'lines loaded' shown && wrong "progress stands among lines that are typed"
 

@@ -1,5 +1,5 @@
 #!/usr/bin/env bash
-# Commands that read: stat, dump, verify, list, fetch and rehearse answer what the file has, and leave it to the byte as it was, beside a lock that is
+# Commands that read: stat, dump, verify, list, fetch, rehearse and script --read answer what the file has, and leave it to the byte as it was, beside a lock that is
 # shared, beside another one that reads, on a file and in a folder that may not be written, and on a file system that is mounted for reading alone.
 # So they do on a file whose last commit was cut short when its pages weren't in their places. Commands that write are refused there by fault 2.
 . "$(dirname "$0")/common"
@@ -57,6 +57,12 @@ all_read() {
   reads "$1" "$name" 0 content fetch "$name" "$(head -n 1 keys)" -x
   reads "$1" "$name" 1 nothing fetch "$name" absent
   if [ "$name" = armed ]; then echo 01 > content; reads "$1" "$name" 0 content fetch "$name" ff -x; fi
+  # a script that reads: its changes are refused, line by line
+  printf 'F %s\nS 6b 76\nI 6b 76\nD %s\nC\nF 6b\n' "$(head -n 1 keys)" "$(head -n 1 keys)" > calls
+  printf '0bb8\n-1 fault 4\n-1 fault 4\n-1 fault 4\n0\nnone\n' > replies
+  reads "$1" "$name" 0 replies script --read "$name"
+  reads "$1" "$name" 0 replies script "$name" --read
+  echo 'S 6b 76' > calls
   (cd "$folder" && "${as[@]}" "$tool" stat "$name") > stated 2> err || wrong "$1, stat $name: status $?, $(cat err)"
   [ "$(head -n 2 stated)" = "pairs $pairs"$'\n''limit 3100' ] || wrong "$1, stat $name: $(head -n 2 stated | xargs)"
   (cd "$folder" && "${as[@]}" "$tool" rehearse "$name" --stops 2) < calls > rehearsed 2> err || wrong "$1, rehearse $name: status $?, $(cat err)"
@@ -101,6 +107,18 @@ for name in t armed; do
   wait "$pid" || wrong "the listing ends with status $?"
   pid=
 done
+
+# scripts that read, side by side, while they are talked to
+"$program" script --read folder/t < <(sleep 20 & echo $! > sleeper; wait) > first &
+pid=$!
+until [ -s sleeper ]; do sleep 0.1; done
+for name in armed t; do
+  all_read 'beside a script that reads' $name
+done
+none_writes 'beside a script that reads' t
+kill "$(cat sleeper)" 2> /dev/null
+wait "$pid" || wrong "a script that reads ends with status $?"
+pid=
 
 # a file, and a folder, that somebody who isn't root may read and not write
 cp "$program" dbmtool && chmod 755 . dbmtool && tool=$work/dbmtool

@@ -57,8 +57,9 @@ grep -v '^6b6579 ' dumped > deleted
 after=deleted
 refused nothing delete t key
 after=loaded
-refused nothing load t
+refused nothing load t --group 1
 refused nothing load t --group 2
+refused nothing load t
 
 # A far pair among those, whose content has two pages, in a file of version 2; and an upgrade, which leaves the pairs.
 before=dumped

@@ -373,7 +373,22 @@ dump t --group 5|'--group'
 load t --group 0|'0'
 load t --group 100001|'100001'
 load t --group many|'many'
+load t --limit 5|dbmtool: --limit needs --replace
+load --replace --replace t|--replace
+resize|<FILE>
+resize t --limit 4294967296|'4294967296'
+backup t|<TO>
+salvage t --text|'--text'
 script --memory -1|-1
+script --memory 5 --read|dbmtool: --read needs FILE
+script --read|dbmtool: script needs FILE or --memory
+script t --read --memory 5|dbmtool: script needs FILE or --memory
+script t --read --v2|dbmtool: --v2 needs --memory
+rehearse t --read|'--read'
+fetch t k --read|'--read'
+--wait many fetch t k|'many'
+--wait 86401 fetch t k|'86401'
+fetch t k --wait 1|'--wait'
 ROWS
 
 # help, and each command's own, with an example that names it
@@ -381,7 +396,7 @@ for words in --help -h help; do
   runs "$words"
   [ "$status" = 0 ] && [ ! -s err ] && grep -A1 '^Example:' out | grep -q '^  dbmtool create' || wrong "dbmtool $words"
 done
-commands='create store insert fetch delete list dump load stat verify upgrade script'
+commands='create store insert fetch delete list dump load stat verify upgrade resize backup salvage script'
 for command in $commands; do
   grep -qE "^  $command " out || wrong "the help doesn't name $command"
 done
@@ -395,5 +410,5 @@ for line in 'S KEY CONTENT' 'I KEY CONTENT' 'F KEY' 'D KEY' 1 N E C; do
 done
 
 echo "$rows rows"
-[ "$rows" = 361 ] || wrong "not each row was read"
+[ "$rows" = 376 ] || wrong "not each row was read"
 exit $bad

@@ -17,9 +17,11 @@ number_rule name = record (new_rule name) {
       Some (parser.Signed (pos 0) (pos 4294967295));
 }
 
--- `--group N`, and N from 1 to 100000
+-- `--group N`, and N from 1 to 100000; 10000 where it isn't given
 abbrev pub group_rule : Rule
 group_rule = record (number_rule (codes "group")) {
+  defaults =
+      codes "10000" ∷ [];
   parser =
       Some (parser.Signed (pos 1) (pos 100000));
 }
@@ -45,6 +47,27 @@ version_rule = record (new_rule (codes "v2")) {
   action = Some SetTrue;
 }
 
+-- `--read`
+abbrev pub read_rule : Rule
+read_rule = record (new_rule (codes "read")) {
+  long = Some (codes "read");
+  action = Some SetTrue;
+}
+
+-- `--replace`
+abbrev pub replace_rule : Rule
+replace_rule = record (new_rule (codes "replace")) {
+  long = Some (codes "replace");
+  action = Some SetTrue;
+}
+
+-- `--wait SECONDS`, from 0 to 86400
+abbrev pub wait_rule : Rule
+wait_rule = record (number_rule (codes "wait")) {
+  parser =
+      Some (parser.Signed (pos 0) (pos 86400));
+}
+
 -- `--verbose`
 abbrev pub verbose_rule : Rule
 verbose_rule = record (new_rule (codes "verbose")) {
@@ -63,9 +86,18 @@ file_line name = line name (word_rule (codes "file") ∷ [])
 abbrev pub pairs_line : Text → Shape
 pairs_line name = line name (word_rule (codes "file") ∷ text_rule ∷ [])
 
--- `load FILE [--text] [--group N]`
+-- `load FILE [--text] [--group N] [--replace] [--limit N]`
 abbrev pub load_line : Shape
-load_line = line (codes "load") (word_rule (codes "file") ∷ text_rule ∷ group_rule ∷ [])
+load_line = line (codes "load") (word_rule (codes "file") ∷ text_rule ∷ group_rule ∷ replace_rule
+    ∷ number_rule (codes "limit") ∷ [])
+
+-- `resize FILE [--limit N]`
+abbrev pub resize_line : Shape
+resize_line = line (codes "resize") (word_rule (codes "file") ∷ number_rule (codes "limit") ∷ [])
+
+-- `backup FILE TO`
+abbrev pub backup_line : Shape
+backup_line = line (codes "backup") (word_rule (codes "file") ∷ word_rule (codes "to") ∷ [])
 
 -- `NAME FILE KEY [-x]`
 abbrev pub key_line : Text → Shape
@@ -85,11 +117,11 @@ create_line = line (codes "create")
           codes "1000000" ∷ [];
     } ∷ version_rule ∷ [])
 
--- `script [FILE] [--memory N] [--v2]`
+-- `script [FILE] [--memory N] [--v2] [--read]`
 abbrev pub script_line : Shape
 script_line = line (codes "script")
     (record (word_rule (codes "file")) { required = false } ∷ number_rule (codes "memory")
-    ∷ version_rule ∷ [])
+    ∷ version_rule ∷ read_rule ∷ [])
 
 -- `rehearse [FILE] [--memory N] [--v2] [--stops N]`
 abbrev pub rehearse_line : Shape
@@ -101,9 +133,9 @@ rehearse_line = line (codes "rehearse")
 abbrev pub faults_line : Shape
 faults_line = line (codes "faults") []
 
--- `dbmtool [--verbose] [--version]`, whose name is none of the words that are read
+-- `dbmtool [--verbose] [--wait SECONDS] [--version]`, whose name is none of the words that are read
 abbrev pub program_line : Shape
-program_line = record (line (codes "dbmtool") (verbose_rule ∷ [])) {
+program_line = record (line (codes "dbmtool") (verbose_rule ∷ wait_rule ∷ [])) {
   has_version = true;
   no_binary_name = true;
   subcommand_required = true;
@@ -117,5 +149,6 @@ command_line = record {
       ∷ key_line (codes "fetch") ∷ key_line (codes "delete")
       ∷ file_line (codes "list") ∷ pairs_line (codes "dump") ∷ load_line
       ∷ file_line (codes "stat") ∷ file_line (codes "verify") ∷ file_line (codes "upgrade")
+      ∷ resize_line ∷ backup_line ∷ file_line (codes "salvage")
       ∷ script_line ∷ rehearse_line ∷ faults_line ∷ [];
 }

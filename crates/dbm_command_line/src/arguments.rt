@@ -1,8 +1,10 @@
 // The words and options that commands take.
 ghost use Rattle.dbm_command_line.specs.Building.{IsRule};
-ghost use Rattle.dbm_command_line.specs.CommandLine.{group_rule, hexadecimal_rule, number_rule, text_rule, verbose_rule, version_rule, word_rule};
+ghost use Rattle.dbm_command_line.specs.CommandLine.{group_rule, hexadecimal_rule, number_rule, read_rule, replace_rule, text_rule, verbose_rule, version_rule, wait_rule, word_rule};
 
-use crate::names::{GROUP, HEXADECIMAL, MOST_LINES, TEXT, V2, VERBOSE};
+use crate::names::{
+    GROUP, HEXADECIMAL, LONGEST_WAIT, MOST_LINES, READ, REPLACE, TEXT, V2, VERBOSE, WAIT,
+};
 use clap::{Arg, ArgAction, value_parser};
 use std::alloc::Global;
 
@@ -27,7 +29,7 @@ pub fn number<'a>(alloc: Global, name: &'a str, help: &'a str) -> Arg<'a>
         .help(help)
 }
 
-/// The option `--group`, whose value is from 1 to `MOST_LINES`.
+/// The option `--group`, whose value is from 1 to `MOST_LINES`, and 10000 where it isn't given.
 pub fn group<'a>(alloc: Global) -> Arg<'a>
     ensures { IsRule result group_rule }
 {
@@ -35,8 +37,9 @@ pub fn group<'a>(alloc: Global) -> Arg<'a>
         .long(GROUP)
         .value_name("N")
         .value_parser(value_parser!(u32).range(1..=i64::from(MOST_LINES)))
+        .default_value("10000")
         .help(
-            "Store up to N lines (1 to 100000) in one commit, in place of one: faster, and a stop leaves all of a group or none",
+            "Store up to N lines (1 to 100000) in one commit, of which a stop leaves all or none; with 1 each line is on the disk before the next is read",
         )
 }
 
@@ -74,6 +77,30 @@ pub fn version<'a>(alloc: Global, help: &'a str) -> Arg<'a>
         .help(help)
 }
 
+/// The flag `--read` of a script.
+pub fn for_reading<'a>(alloc: Global) -> Arg<'a>
+    ensures { IsRule result read_rule }
+{
+    Arg::new(alloc, READ)
+        .long(READ)
+        .action(ArgAction::SetTrue)
+        .help(
+            "Open FILE for reading, beside others that read it; a change is answered by `-1 fault 4`",
+        )
+}
+
+/// The flag `--replace` of a load.
+pub fn replace<'a>(alloc: Global) -> Arg<'a>
+    ensures { IsRule result replace_rule }
+{
+    Arg::new(alloc, REPLACE)
+        .long(REPLACE)
+        .action(ArgAction::SetTrue)
+        .help(
+            "Put a new table with these pairs in the place of the old one: those who read it meanwhile go on, and a stop leaves the old or the new one whole",
+        )
+}
+
 /// The flag `--verbose`, in front of the command.
 pub fn verbose<'a>(alloc: Global) -> Arg<'a>
     ensures { IsRule result verbose_rule }
@@ -81,5 +108,16 @@ pub fn verbose<'a>(alloc: Global) -> Arg<'a>
     Arg::new(alloc, VERBOSE)
         .long(VERBOSE)
         .action(ArgAction::SetTrue)
-        .help("After `fault 2`, a second line has the system's own words")
+        .help("At status 2, a second line says in words what happened, and in which file")
+}
+
+/// The option `--wait`, in front of the command, whose value is from 0 to `LONGEST_WAIT`.
+pub fn wait<'a>(alloc: Global) -> Arg<'a>
+    ensures { IsRule result wait_rule }
+{
+    Arg::new(alloc, WAIT)
+        .long(WAIT)
+        .value_name("SECONDS")
+        .value_parser(value_parser!(u32).range(0..=i64::from(LONGEST_WAIT)))
+        .help("Where another program has the file open, try again for so many seconds (0 to 86400)")
 }

@@ -1,13 +1,16 @@
 // The commands.
 ghost use Rattle.std.specs.Prelude.{IfOk, codes};
 ghost use Rattle.dbm_command_line.specs.Building.{Adds, IsApp, alone};
-ghost use Rattle.dbm_command_line.specs.CommandLine.{command_line, create_line, faults_line, file_line, key_line, load_line, pair_line, pairs_line, program_line, rehearse_line, script_line};
+ghost use Rattle.dbm_command_line.specs.CommandLine.{backup_line, command_line, create_line, faults_line, file_line, key_line, load_line, pair_line, pairs_line, program_line, rehearse_line, resize_line, script_line};
 
-use crate::arguments::{group, hexadecimal, number, text_form, verbose, version, word};
-use crate::names::{
-    CONTENT, CREATE, DELETE, DUMP, FAULTS, FETCH, FILE, INSERT, KEY, LIMIT, LIST, LOAD, MEMORY,
-    REHEARSE, SCRIPT, STAT, STOPS, STORE, UPGRADE, VERIFY,
+use crate::arguments::{
+    for_reading, group, hexadecimal, number, replace, text_form, verbose, version, wait, word,
 };
+use crate::names::{
+    BACKUP, CONTENT, CREATE, DELETE, DUMP, FAULTS, FETCH, FILE, INSERT, KEY, LIMIT, LIST, LOAD,
+    MEMORY, REHEARSE, RESIZE, SALVAGE, SCRIPT, STAT, STOPS, STORE, TO, UPGRADE, VERIFY,
+};
+use crate::texts::{about_text, load_examples, rehearse_steps, script_lines};
 use clap::Command;
 use dbm_plan::fault_table;
 use std::alloc::{AllocError, Global};
@@ -33,48 +36,6 @@ const DUMP_USAGE: &str = "dbmtool dump [--text] <FILE>
 
 Pairs are printed in hexadecimal but for --text, so there is no -x.";
 
-const ABOUT: &str = "Keeps pairs of a key and a content in a file, as the dbm interface does.
-
-A KEY or CONTENT that begins with a hyphen, or is not UTF-8, is given in
-hexadecimal, with -x.
-
-Example:
-  dbmtool create colors
-  dbmtool store colors sky blue
-  dbmtool fetch colors sky";
-
-const LOAD_EXAMPLES: &str = "Example:
-  dbmtool load colors < colors.txt
-  dbmtool load colors --group 1000 < colors.txt
-  printf 'sky\\tblue\\n' | dbmtool load --text colors";
-
-const SCRIPT_LINES: &str =
-    "Each line is a call, its words one space apart and bytes in hexadecimal, `.` for none:
-  S KEY CONTENT   stores a pair; answers `0`
-  I KEY CONTENT   stores a pair where KEY is new; answers `0`, or `1` where it is not
-  F KEY           fetches; answers the content, or `none`
-  D KEY           deletes; answers `0`, or `-1 absent`
-  1               begins a pass; answers the first key, or `end`
-  N               goes on with the pass; answers the next key, or `end`
-  E               answers the error number
-  C               clears the error number; answers `0`
-A refused call is answered by `-1 fault N`, and a line that is no call by `-1 line`.
-
-Example:
-  echo 'S 6b 76' | dbmtool script --memory 100";
-
-const REHEARSE_STEPS: &str =
-    "The calls are those of a script. They are made in memory, on a copy of FILE or on a
-new database, and FILE stays as it is. The calls are cut short before each of
-their reads, writes and syncs in turn. What is left, with none, all, every
-second or a draw of the unsynced writes, is opened again, which is cut short
-too, and once more; then all acknowledged changes are looked for, and no more
-than the one that was under way besides. Five counts are printed; it exits with
-0 where each stop kept the database.
-
-Example:
-  echo 'S 6b 76' | dbmtool rehearse --memory 100";
-
 /// The whole command line, of the words after the program's name.
 pub fn command<'a>(alloc: Global) -> Result<Command<'a>, AllocError>
     ensures { IfOk result (λ c. IsApp c command_line) }
@@ -90,6 +51,9 @@ pub fn command<'a>(alloc: Global) -> Result<Command<'a>, AllocError>
     let command = added(command, stat_command(alloc));
     let command = added(command, verify_command(alloc));
     let command = added(command, upgrade_command(alloc));
+    let command = added(command, resize_command(alloc));
+    let command = added(command, backup_command(alloc));
+    let command = added(command, salvage_command(alloc));
     let command = added(command, script_command(alloc));
     let command = added(command, rehearse_command(alloc));
     added(command, Ok(faults_command(alloc)))
@@ -117,13 +81,8 @@ fn program<'a>(alloc: Global) -> Result<Command<'a>, AllocError>
         .subcommand_required(true)
         .after_help(fault_table())
         .bin_name(NAME)?
-        .arg(verbose(alloc))
-}
-
-// A long text stands in a function of its own, since each step of a function's proof repeats the
-// texts in it.
-fn about_text<'a>() -> &'a str {
-    ABOUT
+        .arg(verbose(alloc))?
+        .arg(wait(alloc))
 }
 
 fn create_command<'a>(alloc: Global) -> Result<Command<'a>, AllocError>
@@ -215,17 +174,20 @@ fn dump_command<'a>(alloc: Global) -> Result<Command<'a>, AllocError>
 fn load_command<'a>(alloc: Global) -> Result<Command<'a>, AllocError>
     ensures { IfOk result (λ c. IsApp c (alone load_line)) }
 {
+    let limit = number(
+        alloc,
+        LIMIT,
+        "With --replace: how many pairs the new table may have; else as many as the old one",
+    );
     pairs_command(
         alloc,
         LOAD,
         "Stores the pairs on standard input, as `dump` prints them",
         load_examples(),
     )?
-    .arg(group(alloc))
-}
-
-fn load_examples<'a>() -> &'a str {
-    LOAD_EXAMPLES
+    .arg(group(alloc))?
+    .arg(replace(alloc))?
+    .arg(limit)
 }
 
 fn stat_command<'a>(alloc: Global) -> Result<Command<'a>, AllocError>
@@ -261,6 +223,46 @@ fn upgrade_command<'a>(alloc: Global) -> Result<Command<'a>, AllocError>
     )
 }
 
+fn resize_command<'a>(alloc: Global) -> Result<Command<'a>, AllocError>
+    ensures { IfOk result (λ c. IsApp c (alone resize_line)) }
+{
+    let limit = number(
+        alloc,
+        LIMIT,
+        "How many pairs it may have then, from 1 to 1000000; else as many as before",
+    );
+    file_command(
+        alloc,
+        RESIZE,
+        "Puts a table with the same pairs and another limit in the place of the old one, or makes its file small",
+        "Example:\n  dbmtool resize colors --limit 2000",
+    )?
+    .arg(limit)
+}
+
+fn backup_command<'a>(alloc: Global) -> Result<Command<'a>, AllocError>
+    ensures { IfOk result (λ c. IsApp c (alone backup_line)) }
+{
+    file_command(
+        alloc,
+        BACKUP,
+        "Makes a whole copy of a database, which was looked through, under a name that is free",
+        "Example:\n  dbmtool backup colors colors-monday",
+    )?
+    .arg(word(alloc, TO, "TO", "The name of the copy, without `.db`"))
+}
+
+fn salvage_command<'a>(alloc: Global) -> Result<Command<'a>, AllocError>
+    ensures { IfOk result (λ c. IsApp c (alone (file_line (codes "salvage")))) }
+{
+    file_command(
+        alloc,
+        SALVAGE,
+        "Prints the pairs of each page that can be read, also of a damaged file, and tells the other pages",
+        "Example:\n  dbmtool salvage colors > saved.txt",
+    )
+}
+
 fn script_command<'a>(alloc: Global) -> Result<Command<'a>, AllocError>
     ensures { IfOk result (λ c. IsApp c (alone script_line)) }
 {
@@ -274,11 +276,8 @@ fn script_command<'a>(alloc: Global) -> Result<Command<'a>, AllocError>
         .after_help(script_lines())
         .arg(word(alloc, FILE, "FILE", FILE_HELP).required(false))?
         .arg(memory)?
-        .arg(version(alloc, MEMORY_V2_HELP))
-}
-
-fn script_lines<'a>() -> &'a str {
-    SCRIPT_LINES
+        .arg(version(alloc, MEMORY_V2_HELP))?
+        .arg(for_reading(alloc))
 }
 
 fn rehearse_command<'a>(alloc: Global) -> Result<Command<'a>, AllocError>
@@ -301,10 +300,6 @@ fn rehearse_command<'a>(alloc: Global) -> Result<Command<'a>, AllocError>
         .arg(memory)?
         .arg(version(alloc, MEMORY_V2_HELP))?
         .arg(stops)
-}
-
-fn rehearse_steps<'a>() -> &'a str {
-    REHEARSE_STEPS
 }
 
 /// The command that prints the statuses and the faults.

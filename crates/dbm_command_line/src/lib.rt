@@ -5,5 +5,6 @@
 mod arguments;
 mod commands;
 pub mod names;
+mod texts;
 
 pub use commands::command;

@@ -1,5 +1,5 @@
 //! The names of the commands, the names under which the parser keeps what was given for a word or
-//! an option, and the most lines of a load that may share a commit.
+//! an option, the most lines of a load that may share a commit, and the longest wait.
 
 // The commands by their names.
 
@@ -25,6 +25,12 @@ pub const VERIFY: &str = "verify";
 
 pub const UPGRADE: &str = "upgrade";
 
+pub const RESIZE: &str = "resize";
+
+pub const BACKUP: &str = "backup";
+
+pub const SALVAGE: &str = "salvage";
+
 pub const SCRIPT: &str = "script";
 
 pub const REHEARSE: &str = "rehearse";
@@ -45,6 +51,10 @@ pub const TEXT: &str = "text";
 
 pub const LIMIT: &str = "limit";
 
+pub const REPLACE: &str = "replace";
+
+pub const TO: &str = "to";
+
 pub const MEMORY: &str = "memory";
 
 pub const V2: &str = "v2";
@@ -53,7 +63,14 @@ pub const STOPS: &str = "stops";
 
 pub const GROUP: &str = "group";
 
+pub const READ: &str = "read";
+
 pub const VERBOSE: &str = "verbose";
+
+pub const WAIT: &str = "wait";
 
 /// The most lines of a load that may share a commit.
 pub const MOST_LINES: u32 = 100_000;
+
+/// The most seconds to wait for a file: a day.
+pub const LONGEST_WAIT: u32 = 86_400;

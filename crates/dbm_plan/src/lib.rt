@@ -1,7 +1,7 @@
 //! What the program may be asked to do, and the text of its statuses and faults.
 #![tactic(auto)]
 
-mod help_text;
+pub mod help_text;
 mod plan;
 
 pub use help_text::{FAULT_TABLE, fault_table};

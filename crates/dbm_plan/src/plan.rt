@@ -4,8 +4,11 @@
 #[derive(Clone, Copy, Debug, PartialEq, Eq)]
 pub struct Request<'a> {
     pub plan: Plan<'a>,
-    /// Whether the system's own words are to be told of a fault of the device.
+    /// Whether the line of a fault is to be followed by one that says in words what happened.
     pub verbose: bool,
+    /// How many seconds to wait for a file that another program has locked, where that was asked
+    /// for.
+    pub wait: Option<u32>,
 }
 
 /// What the words ask for. Each `file` is a name without `.db`, and each `key` and `content` is the
@@ -61,6 +64,29 @@ pub enum Plan<'a> {
         /// How many lines may share a commit, from 1 to 100000.
         group: u32,
     },
+    /// Put a new database with the pairs on standard input in the place of one that is there, which
+    /// others may read meanwhile. It has the limit of the old one, or this one.
+    Replace {
+        file: &'a str,
+        spelling: Spelling,
+        limit: Option<u32>,
+    },
+    /// Put a new database with the same pairs in the place of one that is there, of its limit, or of
+    /// this one.
+    Resize {
+        file: &'a str,
+        limit: Option<u32>,
+    },
+    /// Make a whole copy of a database under another name.
+    Backup {
+        file: &'a str,
+        /// The name of the copy, without `.db`.
+        to: &'a str,
+    },
+    /// Print the pairs of each page that reads as such, also of a file that is damaged.
+    Salvage {
+        file: &'a str,
+    },
     /// Print the numbers of a database.
     Stat {
         file: &'a str,
@@ -75,6 +101,10 @@ pub enum Plan<'a> {
     },
     /// Run the script on standard input.
     Script(Source<'a>),
+    /// Run the script on standard input on a database that is opened for reading.
+    ReadScript {
+        file: &'a str,
+    },
     /// Run the script on standard input in memory, stopped before each of its device calls, or
     /// before so many of them, and look at what is left.
     Rehearse {

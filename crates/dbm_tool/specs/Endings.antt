@@ -1,7 +1,7 @@
 -- How a plan may end.
 use Rattle.std.specs.Prelude.{◌≡◌, ◌⊎◌, ℕ, Bool, true, false, Option, None, Result, Ok, Err}
 use Rattle.dbm_plan.specs.declared.plan.Plan.{Plan}
-use Rattle.dbm_plan.specs.declared.plan.Plan.TheVariants.{Store, Insert, Fetch, Delete, List as ListKeys, Dump, Load, Stat, Verify, Script, Rehearse, Faults}
+use Rattle.dbm_plan.specs.declared.plan.Plan.TheVariants.{Store, Insert, Fetch, Delete, List as ListKeys, Dump, Load, Replace, Salvage, Stat, Verify, Script, ReadScript, Rehearse, Faults}
 use Rattle.dbm_plan.specs.declared.plan.Source.{Source}
 use Rattle.dbm_plan.specs.declared.plan.Source.TheVariants.{Memory as InMemory}
 use Rattle.dbm_commands.specs.Words.{spelled}
@@ -18,7 +18,9 @@ use Rattle.dbm_model.specs.Sizes.{is_limit}
 -- it reads standard input
 abbrev pub reads : Plan → Bool
 reads (Load file spelling group) = true
+reads (Replace file spelling limit) = true
 reads (Script source) = true
+reads (ReadScript file) = true
 reads (Rehearse source stops) = true
 reads _ = false
 
@@ -27,9 +29,11 @@ abbrev pub prints : Plan → Bool
 prints (Fetch file key spelling) = true
 prints (ListKeys file) = true
 prints (Dump file spelling) = true
+prints (Salvage file) = true
 prints (Stat file) = true
 prints (Verify file) = true
 prints (Script source) = true
+prints (ReadScript file) = true
 prints (Rehearse source stops) = true
 prints Faults = true
 prints _ = false
@@ -44,6 +48,7 @@ looks_for_a_key _ = false
 -- a line of its input may be bad
 abbrev pub has_lines : Plan → Bool
 has_lines (Load file spelling group) = true
+has_lines (Replace file spelling limit) = true
 has_lines _ = false
 
 -- it looks at what stops leave

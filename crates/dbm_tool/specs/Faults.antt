@@ -1,5 +1,5 @@
 -- How a fault is told.
-use Rattle.std.specs.Prelude.{◌≡◌, ℕ, List, ◌++◌, codes}
+use Rattle.std.specs.Prelude.{ℕ, List, ◌++◌, codes}
 use Rattle.std.specs.Fmt.{decimal}
 use Rattle.dbm_model.specs.Calls.{number_of}
 use Rattle.dbm_text.specs.Lines.{with_line_feed}
@@ -27,7 +27,3 @@ failure_line failure.NotText =
     with_line_feed (codes "dbmtool: not UTF-8: such a KEY or CONTENT is given in hexadecimal, with -x")
 failure_line (failure.Fault fault) = fault_line fault
 failure_line (failure.NotKept stop) = with_line_feed (codes "dbmtool: stop " ++ decimal stop)
-
--- a line in the system's own words
-abbrev pub IsCauseLine : List ℕ → Type 0
-IsCauseLine line = (words : List ℕ) × (line ≡ with_line_feed (codes "dbmtool: " ++ words))

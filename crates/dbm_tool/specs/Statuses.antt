@@ -1,18 +1,18 @@
 -- What the exit statuses tell of the words.
-use Rattle.std.specs.Prelude.{◌≡◌, ◌⊎◌, ℕ, List, [], ◌++◌, Bool, true, Option, Result, Ok, Err, codes}
+use Rattle.std.specs.Prelude.{◌≡◌, ◌⊎◌, ℕ, List, [], ◌++◌, Bool, true, false, ◌&&◌, ◌||◌, Option, None, Result, Ok, Err, codes}
 use Rattle.std.specs.Io.KnownBytes.{Appends}
-use Rattle.dbm_words.specs.Asking.{AreTaken, AreVerbose, IsPlan, IsWithoutMemory, IsWithoutSource}
+use Rattle.dbm_words.specs.Asking.{AreTaken, AreVerbose, IsPlan, IsWithoutFile, IsWithoutMemory, IsWithoutReplace, IsWithoutSource}
 use Rattle.dbm_plan.specs.declared.plan.Plan.{Plan}
 use Rattle.dbm_commands.specs.declared.outcomes.Outcome.{Outcome}
 use Rattle.dbm_commands.specs.declared.outcomes.Outcome.TheVariants.{Done, Nothing}
 use Rattle.dbm_commands.specs.declared.outcomes.Failure.{Failure}
 use Rattle.dbm_commands.specs.declared.outcomes.Failure.TheVariants.{NotHex, NotText, Fault, NotKept}
 use Rattle.dbm_fault.specs.declared.engine_fault.EngineFault.{EngineFault}
-use Rattle.dbm_fault.specs.declared.engine_fault.EngineFault.TheVariants.{Memory, Write, Db}
-use Rattle.dbm_fault.specs.declared.fault.Fault.TheVariants.{Device}
+use Rattle.dbm_fault.specs.declared.engine_fault.EngineFault.TheVariants.{Memory, Write}
 use Rattle.dbm_text.specs.Lines.{with_line_feed}
-use Rattle.dbm_tool.specs.Endings.{CanMeet, LacksDigits, looks_at_stops}
-use Rattle.dbm_tool.specs.Faults.{IsCauseLine, failure_line, fault_line}
+use Rattle.dbm_tool.specs.Causes.{IsCauseLine, file_of, is_fault}
+use Rattle.dbm_tool.specs.Endings.{CanMeet, LacksDigits, has_lines, looks_at_stops}
+use Rattle.dbm_tool.specs.Faults.{failure_line}
 use Rattle.dbm_tool.specs.Plans.{Loses}
 
 abbrev pub status_of : Result Outcome Failure → ℕ
@@ -27,16 +27,18 @@ status_of (Err NotText) = 3
 abbrev pub Tells : Bool → Option (List ℕ) → Option (List ℕ) → List ℕ → Type 0
 Tells told old new line = told ≡ true → Appends old new line
 
--- the bytes grew by a line in the system's words, or stayed
-abbrev pub MoreIsTold : Option (List ℕ) → Option (List ℕ) → Type 0
-MoreIsTold old new = (more : List ℕ) × Appends old new more × ((more ≡ []) ⊎ IsCauseLine more)
+-- behind the line of a failure that is a fault one stands that says in words what happened, where
+-- that is asked for, and else nothing
+abbrev pub Follows : Bool → Option (List ℕ) → Option ℕ → Failure → List ℕ → Type 0
+Follows false file number failure more = more ≡ []
+Follows true file number failure more = IsCauseLine file number failure more
 
--- Where the failure was told, the bytes grew by exactly its line, and of a fault of the device they
--- may have grown by one more, where that is asked for.
-abbrev pub TellsMore : Bool → Bool → Option (List ℕ) → Option (List ℕ) → Failure → Type 0
-TellsMore asked told old new failure =
+-- Where the failure was told, the bytes grew by exactly its line and what follows it.
+abbrev pub TellsMore : Bool → Option (List ℕ) → Option ℕ → Bool → Option (List ℕ)
+    → Option (List ℕ) → Failure → Type 0
+TellsMore asked file number told old new failure =
     told ≡ true → (more : List ℕ) × Appends old new (failure_line failure ++ more)
-    × ((more ≡ []) ⊎ ((failure ≡ Fault (Db Device)) × (asked ≡ true) × IsCauseLine more))
+    × Follows (is_fault failure && asked) file number failure more
 
 -- the words are a plan, and it is so
 pub record AskFor (words : List (List ℕ)) (IsSo : Plan → Type 0) : Type 0 where
@@ -48,34 +50,51 @@ pub record AskFor (words : List (List ℕ)) (IsSo : Plan → Type 0) : Type 0 wh
 abbrev pub AreRefused : List (List ℕ) → Type 0
 AreRefused words = AreTaken words → ⊥
 
--- the plan may meet the fault, or the reading of the words or the printing of help did
-abbrev pub CanMeetBy : List (List ℕ) → EngineFault → Type 0
-CanMeetBy words met = AskFor words (λ plan. CanMeet plan met)
-    ⊎ ((met ≡ Memory) ⊎ ((met ≡ Write) × AreRefused words))
+-- The words are a plan, which failed so, and that was told; in words too, where these words or the
+-- environment ask for it. They name the plan's file, and no line but one of a load.
+pub record TellsFailure (words : List (List ℕ)) (plan : Plan) (environment told : Bool)
+    (old new : Option (List ℕ)) (failure : Failure) : Type 0 where
+  pub is_plan : IsPlan words plan
+  pub verbose : Bool
+  pub is_verbose : AreVerbose words verbose
+  pub number : Option ℕ
+  pub of_load : (number ≡ None) ⊎ (has_lines plan ≡ true)
+  pub lines : TellsMore (verbose || environment) (file_of plan) number told old new failure
 
--- Where the fault was told, the bytes grew by exactly its line, and of a fault of the device they
--- may have grown by one in the system's words, where these words ask for it.
-abbrev pub TellsLines : List (List ℕ) → Bool → Option (List ℕ) → Option (List ℕ) → EngineFault
-    → Type 0
-TellsLines words told old new met =
-    told ≡ true → (more : List ℕ) × Appends old new (fault_line met ++ more)
-    × ((more ≡ []) ⊎ ((met ≡ Db Device) × AreVerbose words true × IsCauseLine more))
+-- a fault that the plan can meet
+pub record TellsFaultOfPlan (words : List (List ℕ)) (environment told : Bool)
+    (old new : Option (List ℕ)) : Type 0 where
+  pub plan : Plan
+  pub met : EngineFault
+  pub can_be_met : CanMeet plan met
+  pub tells : TellsFailure words plan environment told old new (Fault met)
+
+-- one that the reading of the words met, or the printing of help
+pub record TellsFaultOfWords (words : List (List ℕ)) (environment told : Bool)
+    (old new : Option (List ℕ)) : Type 0 where
+  pub met : EngineFault
+  pub can_be_met : (met ≡ Memory) ⊎ ((met ≡ Write) × AreRefused words)
+  pub lines : TellsMore environment None None told old new (Fault met)
 
 -- a fault that these words can meet was told
-pub record TellsFault (words : List (List ℕ)) (told : Bool) (old new : Option (List ℕ)) : Type 0 where
-  pub met : EngineFault
-  pub can_be_met : CanMeetBy words met
-  pub lines : TellsLines words told old new met
+abbrev pub TellsFault : List (List ℕ) → Bool → Bool → Option (List ℕ) → Option (List ℕ) → Type 0
+TellsFault words environment told old new =
+    TellsFaultOfPlan words environment told old new
+    ⊎ TellsFaultOfWords words environment told old new
 
 -- a rehearsal lost a change, and the stop was told
-pub record TellsLoss (words : List (List ℕ)) (input printed_old printed_new : Option (List ℕ))
-    (told : Bool) (old new : Option (List ℕ)) : Type 0 where
+pub record TellsLoss (words : List (List ℕ)) (environment : Bool)
+    (input printed_old printed_new : Option (List ℕ)) (told : Bool) (old new : Option (List ℕ))
+    : Type 0 where
   pub plan : Plan
-  pub is_plan : IsPlan words plan
   pub rehearses : looks_at_stops plan ≡ true
   pub stop : ℕ
   pub loses : Loses plan (NotKept stop) input printed_old printed_new
-  pub line : Tells told old new (failure_line (NotKept stop))
+  pub tells : TellsFailure words plan environment told old new (NotKept stop)
+
+abbrev pub bad_wait_line : List ℕ
+bad_wait_line =
+    with_line_feed (codes "dbmtool: DBMTOOL_WAIT is no number of seconds from 0 to 86400")
 
 abbrev pub no_command_line : List ℕ
 no_command_line = with_line_feed (codes "error: no such command")
@@ -85,10 +104,11 @@ abbrev pub LackSource : List (List ℕ) → Type 0
 LackSource words =
     IsWithoutSource (codes "script") words ⊎ IsWithoutSource (codes "rehearse") words
 
--- a KEY or CONTENT is not hexadecimal, a version is asked of a script or a rehearsal on a file, or the
--- words are no plan
+-- a KEY or CONTENT is not hexadecimal, a version is asked of a script or a rehearsal on a file,
+-- reading alone of a script in memory, a limit of a load that replaces nothing, or the words are no
+-- plan
 abbrev pub TellsMisuse : List (List ℕ) → Bool → Option (List ℕ) → Option (List ℕ) → Type 0
 TellsMisuse words told old new =
     (AskFor words LacksDigits × Tells told old new (failure_line NotHex))
-    ⊎ (AreRefused words ⊎ (LackSource words ⊎ (IsWithoutMemory words
-    ⊎ Tells told old new no_command_line)))
+    ⊎ (AreRefused words ⊎ (LackSource words ⊎ (IsWithoutMemory words ⊎ (IsWithoutFile words
+    ⊎ (IsWithoutReplace words ⊎ Tells told old new no_command_line)))))

@@ -6,7 +6,10 @@ ghost use Rattle.dbm_tool.specs.Endings.{EndsAs, prints, reads};
 ghost use Rattle.dbm_tool.specs.Plans.{Does, Loses, asked_bounds};
 
 use crate::host::Host;
+use crate::lines::Lines;
 use crate::rehearsals::{rehearse_file, rehearse_new};
+use crate::replacements::{copy_table, replace_table, resize_table};
+use crate::salvages::salvage;
 use crate::versions::file_version;
 use crate::{
     EngineFault, dump_engine, dump_text_engine, list_engine, load_engine, load_text_engine,
@@ -16,18 +19,21 @@ use dbm_commands::{Failure, Outcome, bytes_of, flushed};
 use dbm_file::{Access, OpenHow, StoreMode};
 use dbm_plan::{FAULT_TABLE, Plan, Source, Spelling, Version};
 use dbm_progress::Progress;
+use dbm_salvage::Troubles;
 use dbm_script::script_in_memory;
 use std::alloc::Global;
 use std::fs::File;
 use std::io::{self, BufRead, Write};
 use std::rt::Files;
+use std::time::Clock;
 
 /// Carries out a plan.
-pub fn carry_out<T: Files<File = File>, R: BufRead, O: Write, P: Progress>(
+pub fn carry_out<T: Files<File = File> + Clock, R: BufRead, O: Write, S: Troubles, P: Progress>(
     host: &mut Host<'_, T>,
     plan: Plan,
     input: &mut R,
     output: &mut O,
+    troubles: &mut S,
     progress: &mut P,
 ) -> Result<Outcome, Failure>
     ensures does { OnOk result (Does plan.entry (R.remaining input.old) (O.contents output.old)
@@ -77,10 +83,19 @@ pub fn carry_out<T: Files<File = File>, R: BufRead, O: Write, P: Progress>(
             spelling,
             group,
         } => load(host, file, spelling, group, input, progress),
+        Plan::Replace {
+            file,
+            spelling,
+            limit,
+        } => replace_table(host, file, spelling, limit, input, progress),
+        Plan::Resize { file, limit } => resize_table(host, file, limit, progress),
+        Plan::Backup { file, to } => copy_table(host, file, to, progress),
+        Plan::Salvage { file } => salvage(host, file, output, troubles, progress),
         Plan::Stat { file } => stat(host, file, output),
         Plan::Verify { file } => verify(host, file, output, progress),
         Plan::Upgrade { file } => upgrade(host, file),
-        Plan::Script(Source::File(file)) => script(host, file, input, output),
+        Plan::Script(Source::File(file)) => script(host, file, Access::ReadWrite, input, output),
+        Plan::ReadScript { file } => script(host, file, Access::ReadOnly, input, output),
         Plan::Script(Source::Memory { limit, version }) => {
             new_script(host.alloc, limit, version, input, output)
         }
@@ -114,7 +129,7 @@ pub fn unwritten(_: io::Error) -> Failure
     Failure::Fault(EngineFault::Write)
 }
 
-fn create<T: Files<File = File>>(
+fn create<T: Files<File = File> + Clock>(
     host: &mut Host<'_, T>,
     file: &str,
     limit: u32,
@@ -135,7 +150,7 @@ fn create<T: Files<File = File>>(
     host.close(db, Ok(Outcome::Done))
 }
 
-fn store<T: Files<File = File>>(
+fn store<T: Files<File = File> + Clock>(
     host: &mut Host<'_, T>,
     file: &str,
     key: &str,
@@ -155,7 +170,7 @@ fn store<T: Files<File = File>>(
     host.close(db, done)
 }
 
-fn delete<T: Files<File = File>>(
+fn delete<T: Files<File = File> + Clock>(
     host: &mut Host<'_, T>,
     file: &str,
     key: &str,
@@ -169,7 +184,7 @@ fn delete<T: Files<File = File>>(
     host.close(db, done)
 }
 
-fn fetch<T: Files<File = File>, O: Write>(
+fn fetch<T: Files<File = File> + Clock, O: Write>(
     host: &mut Host<'_, T>,
     file: &str,
     key: &str,
@@ -186,7 +201,7 @@ fn fetch<T: Files<File = File>, O: Write>(
     host.close(db, done)
 }
 
-fn list<T: Files<File = File>, O: Write, P: Progress>(
+fn list<T: Files<File = File> + Clock, O: Write, P: Progress>(
     host: &mut Host<'_, T>,
     file: &str,
     output: &mut O,
@@ -199,7 +214,7 @@ fn list<T: Files<File = File>, O: Write, P: Progress>(
     host.close(db, flushed(done, output))
 }
 
-fn dump<T: Files<File = File>, O: Write, P: Progress>(
+fn dump<T: Files<File = File> + Clock, O: Write, P: Progress>(
     host: &mut Host<'_, T>,
     file: &str,
     spelling: Spelling,
@@ -216,7 +231,7 @@ fn dump<T: Files<File = File>, O: Write, P: Progress>(
     host.close(db, flushed(done, output))
 }
 
-fn load<T: Files<File = File>, R: BufRead, P: Progress>(
+fn load<T: Files<File = File> + Clock, R: BufRead, P: Progress>(
     host: &mut Host<'_, T>,
     file: &str,
     spelling: Spelling,
@@ -227,10 +242,18 @@ fn load<T: Files<File = File>, R: BufRead, P: Progress>(
     ensures { EndsAs (Plan.Load file.entry spelling group) result }
 {
     let mut db = host.open_there(file, Access::ReadWrite)?;
+    let mut lines = Lines::told_to(progress);
+    let mut why = None;
     let loaded = match spelling {
-        Spelling::Hexadecimal => load_engine(host.alloc, &mut db, input, group, progress),
-        Spelling::Text => load_text_engine(host.alloc, &mut db, input, group, progress),
+        Spelling::Hexadecimal => {
+            load_engine(host.alloc, &mut db, input, group, &mut why, &mut lines)
+        }
+        Spelling::Text => {
+            load_text_engine(host.alloc, &mut db, input, group, &mut why, &mut lines)
+        }
     };
+    host.line = lines.refused(loaded);
+    host.bad_line = why.map(|why| (why, spelling));
     let done = match loaded {
         Ok(()) => Ok(Outcome::Done),
         Err(fault) => Err(Failure::from(fault)),
@@ -238,15 +261,17 @@ fn load<T: Files<File = File>, R: BufRead, P: Progress>(
     host.close(db, done)
 }
 
-fn script<T: Files<File = File>, R: BufRead, O: Write>(
+fn script<T: Files<File = File> + Clock, R: BufRead, O: Write>(
     host: &mut Host<'_, T>,
     file: &str,
+    access: Access,
     input: &mut R,
     output: &mut O,
 ) -> Result<Outcome, Failure>
-    ensures { EndsAs (Plan.Script (Source.File file.entry)) result }
+    ensures changes { EndsAs (Plan.Script (Source.File file.entry)) result }
+    ensures reads { EndsAs (Plan.ReadScript file.entry) result }
 {
-    let mut db = host.open_there(file, Access::ReadWrite)?;
+    let mut db = host.open_there(file, access)?;
     let done = script_engine(host.alloc, &mut db, input, output);
     host.close(db, flushed(done, output))
 }
@@ -268,7 +293,7 @@ fn new_script<R: BufRead, O: Write>(
     Ok(Outcome::Done)
 }
 
-fn stat<T: Files<File = File>, O: Write>(
+fn stat<T: Files<File = File> + Clock, O: Write>(
     host: &mut Host<'_, T>,
     file: &str,
     output: &mut O,
@@ -281,7 +306,10 @@ fn stat<T: Files<File = File>, O: Write>(
 }
 
 /// Makes the database one of version 2.
-fn upgrade<T: Files<File = File>>(host: &mut Host<'_, T>, file: &str) -> Result<Outcome, Failure>
+fn upgrade<T: Files<File = File> + Clock>(
+    host: &mut Host<'_, T>,
+    file: &str,
+) -> Result<Outcome, Failure>
     ensures { EndsAs (Plan.Upgrade file.entry) result }
 {
     let mut db = host.open_there(file, Access::ReadWrite)?;
@@ -289,7 +317,7 @@ fn upgrade<T: Files<File = File>>(host: &mut Host<'_, T>, file: &str) -> Result<
     host.close(db, done.map(|()| Outcome::Done).map_err(Failure::from))
 }
 
-fn verify<T: Files<File = File>, O: Write, P: Progress>(
+fn verify<T: Files<File = File> + Clock, O: Write, P: Progress>(
     host: &mut Host<'_, T>,
     file: &str,
     output: &mut O,

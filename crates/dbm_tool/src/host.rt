@@ -3,24 +3,48 @@ ghost use Rattle.std.specs.Prelude.{◌≡◌, ◌⊎◌, true, false, Ok, Err, 
 ghost use Rattle.dbm_file.specs.Database.{page_state};
 
 use crate::EngineFault;
+use crate::waiting::opened;
 use dbm_commands::{Failure, Outcome, closed};
-use dbm_file::{Access, Db, Fault, OpenHow, Version, open_named};
+use dbm_file::{Access, Db, Fault, OpenHow, Refusal, Version, open_named};
+use dbm_load::BadLine;
+use dbm_plan::Spelling;
 use sect_dev::FileDev;
 use std::alloc::Global;
 use std::fs::File;
 use std::io;
 use std::rt::Files;
+use std::time::Clock;
 
 /// Files and memory, and what the system told of them.
 #[derive(Drop)]
 pub struct Host<'a, T> {
     pub rt: &'a T,
     pub alloc: Global,
+    /// How many seconds to wait for a file that another program has open.
+    pub wait: u32,
     /// The system's error at the last call on a database's file that failed, if one has.
     pub cause: Option<io::Error>,
+    /// The first line of a load that was not stored, where the database refused to.
+    pub line: Option<u64>,
+    /// Why the line of a load is bad, where one is, and how its words are spelled.
+    pub bad_line: Option<(BadLine, Spelling)>,
 }
 
-impl<T: Files<File = File>> Host<'_, T> {
+impl<'a, T> Host<'a, T> {
+    /// Nothing was told yet.
+    pub fn new(rt: &'a T, alloc: Global, wait: u32) -> Host<'a, T> {
+        Host {
+            rt,
+            alloc,
+            wait,
+            cause: None,
+            line: None,
+            bad_line: None,
+        }
+    }
+}
+
+impl<T: Files<File = File> + Clock> Host<'_, T> {
     /// Opens a database that is there.
     pub fn open_there(&mut self, file: &str, access: Access) -> Result<Db<FileDev>, Fault> {
         self.open(
@@ -37,15 +61,23 @@ impl<T: Files<File = File>> Host<'_, T> {
         )
     }
 
-    /// Opens a database.
+    /// Opens a database, and waits for its file where another program has it open.
     pub fn open(&mut self, file: &str, how: OpenHow) -> Result<Db<FileDev>, Fault> {
-        match open_named(self.rt, self.alloc, file, how) {
+        let rt = self.rt;
+        let alloc = self.alloc;
+        match opened(rt, self.wait, || open_named(rt, alloc, file, how)) {
             Ok(db) => Ok(db),
-            Err(refusal) => {
-                self.cause = refusal.system;
-                Err(refusal.fault)
-            }
+            Err(refusal) => Err(self.refused(refusal)),
         }
+    }
+
+    /// The fault of a refused opening, whose cause is kept.
+    pub fn refused(&mut self, refusal: Refusal) -> Fault
+        ensures fault { result ≡ refusal.fault }
+        ensures cause { self.new.cause ≡ refusal.system }
+    {
+        self.cause = refusal.system;
+        refusal.fault
     }
 
     /// Closes a database after what was done with it. Of two failures the earlier one is told.

@@ -1,14 +1,23 @@
 //! The program over its words: each command on a file, and the status.
 #![tactic(auto)]
 
+mod causes;
 mod commands;
 mod host;
+mod lines;
 mod program;
 mod rehearsals;
+mod replacements;
+mod salvages;
+mod streams;
 mod versions;
+mod waiting;
 
 pub use dbm_dump::{dump_engine, dump_text_engine, list_engine};
 pub use dbm_fault::EngineFault;
 pub use dbm_load::{load_engine, load_text_engine};
 pub use dbm_script::script_engine;
-pub use program::{Exit, not_text, out_of_memory, tool};
+pub use dbm_words::seconds_in;
+pub use program::{Environment, Exit, bad_wait, not_text, out_of_memory, tool};
+pub use salvages::Told;
+pub use streams::{Failing, Noting};

@@ -1,23 +1,29 @@
 // The program over its words.
-ghost use Rattle.std.specs.Prelude.{◌≡◌, ◌⊎◌, OnErr, OnOk, IfErr, Err, is_some, map, true, codes};
+ghost use Rattle.std.specs.Prelude.{◌≡◌, ◌⊎◌, ◌||◌, OnErr, OnOk, IfErr, Err, None, map, false, true, codes};
+ghost use Rattle.std.specs.Option.{option_map};
 ghost use Rattle.std.specs.Io.KnownBytes.{Appends};
 ghost use Rattle.dbm_words.specs.Asking.{AreTaken};
-ghost use Rattle.dbm_tool.specs.Endings.{looks_for_a_key, prints, reads};
+ghost use Rattle.dbm_tool.specs.Causes.{file_of, is_fault};
+ghost use Rattle.dbm_tool.specs.Endings.{has_lines, looks_for_a_key, prints, reads};
 ghost use Rattle.dbm_tool.specs.Faults.{failure_line, fault_line};
 ghost use Rattle.dbm_tool.specs.Plans.{DoesWords};
-ghost use Rattle.dbm_tool.specs.Statuses.{AreRefused, AskFor, MoreIsTold, Tells, TellsFault, TellsLoss, TellsMisuse, TellsMore, no_command_line, status_of};
+ghost use Rattle.dbm_tool.specs.Statuses.{AreRefused, AskFor, Tells, TellsFault, TellsLoss, TellsMisuse, TellsMore, bad_wait_line, no_command_line, status_of};
 
 use crate::EngineFault;
+use crate::causes::{Known, text_of, told_by, write_cause};
 use crate::commands::carry_out;
 use crate::host::Host;
+use crate::streams::Failing;
 use dbm_commands::{Failure, Outcome};
-use dbm_file::Fault;
+use dbm_plan::{Plan, Source};
 use dbm_progress::Progress;
+use dbm_salvage::Troubles;
 use dbm_words::{WordsError, read_words};
 use std::alloc::Global;
 use std::fs::File;
 use std::io::{self, BufRead, Write};
 use std::rt::Files;
+use std::time::Clock;
 
 /// The status where all was done, also where calls of a script were refused.
 const DONE: u8 = 0;
@@ -40,20 +46,45 @@ pub struct Exit {
     pub told: bool,
 }
 
+/// What the environment asks for.
+#[derive(Clone, Copy, Debug, PartialEq, Eq)]
+pub struct Environment {
+    /// Whether the line of a fault is to be followed by one that says in words what happened, also
+    /// where the words don't ask for that.
+    pub verbose: bool,
+    /// How many seconds to wait for a file that another program has open, where the words don't
+    /// say.
+    pub wait: u32,
+}
+
 /// The program over the words after its name. The exit status is 0 where all was done, or help or
 /// the version was asked for, which goes to `output`; 1 where a fetched or deleted key isn't there
 /// or an inserted one is, with nothing printed; 2 for a fault, the first one, which alone is told
 /// in one line on `faults`, or for a rehearsal that lost a change, told so too; and 3 for words
 /// that are no plan or no hexadecimal, of which one text goes to `faults`. Faults are looked for in
 /// the words, in the words' hexadecimal digits, in the opening, in the call or the engine with the
-/// last of its output, and in the closing, in this order.
-pub fn tool<T: Files<File = File>, R: BufRead, O: Write, F: Write, P: Progress>(
+/// last of its output, and in the closing, in this order. Where the words or the environment ask
+/// for it, the line of status 2 is followed by one that says in words what happened. A fault that
+/// is met in the words themselves is told so where the environment asks for it. An opening is tried
+/// again while another program has the file open, as long as the words say, or else the
+/// environment. Pages that a salvage finds in trouble are told to `troubles`, which is no part of
+/// `faults`.
+pub fn tool<
+    T: Files<File = File> + Clock,
+    R: BufRead + Failing,
+    O: Write + Failing,
+    F: Write,
+    S: Troubles,
+    P: Progress,
+>(
     rt: &T,
     alloc: Global,
+    environment: Environment,
     words: &[&str],
     input: &mut R,
     output: &mut O,
     faults: &mut F,
+    troubles: &mut S,
     progress: &mut P,
 ) -> Exit
     ensures status { (result.status ≡ 0)
@@ -67,10 +98,10 @@ pub fn tool<T: Files<File = File>, R: BufRead, O: Write, F: Write, P: Progress>(
         (O.contents output.old) (O.contents output.new) }
     ensures nothing { result.status ≡ 1 → AskFor (map (λ word. word.now) words.now)
         (λ plan. looks_for_a_key plan ≡ true) }
-    ensures fault { result.status ≡ 2 → TellsFault (map (λ word. word.now) words.now) result.told
-        (F.contents faults.old) (F.contents faults.new)
-        ⊎ TellsLoss (map (λ word. word.now) words.now) (R.remaining input.old)
-        (O.contents output.old) (O.contents output.new) result.told
+    ensures fault { result.status ≡ 2 → TellsFault (map (λ word. word.now) words.now)
+        environment.verbose result.told (F.contents faults.old) (F.contents faults.new)
+        ⊎ TellsLoss (map (λ word. word.now) words.now) environment.verbose
+        (R.remaining input.old) (O.contents output.old) (O.contents output.new) result.told
         (F.contents faults.old) (F.contents faults.new) }
     ensures usage { result.status ≡ 3 → TellsMisuse (map (λ word. word.now) words.now) result.told
         (F.contents faults.old) (F.contents faults.new) }
@@ -85,81 +116,173 @@ pub fn tool<T: Files<File = File>, R: BufRead, O: Write, F: Write, P: Progress>(
 {
     match read_words(alloc, words) {
         Ok(request) => {
-            let mut host = Host {
-                rt,
-                alloc,
-                cause: None,
-            };
-            let done = carry_out(&mut host, request.plan, input, output, progress);
+            let wait = request.wait.unwrap_or(environment.wait);
+            let mut host = Host::new(rt, alloc, wait);
+            let done = carry_out(&mut host, request.plan, input, output, troubles, progress);
             progress.clear();
-            ended_by(alloc, done, asked(request.verbose, host.cause), faults)
+            let told = told_by(alloc, cause_of(done, host.cause, input, output));
+            let known = known_of(request.plan, &host, text_of(&told));
+            ended_by(done, asked(request.verbose, environment), known, faults)
         }
-        Err(WordsError::Memory) => out_of_memory(faults),
+        Err(WordsError::Memory) => out_of_memory(environment, faults),
         Err(WordsError::Help(text)) => match show(output, WordsError::Help(text)) {
             Ok(()) => ended(Ok(Outcome::Done), faults),
-            Err(_) => ended(Err(Failure::Fault(EngineFault::Write)), faults),
+            Err(_) => unwritten_help(alloc, environment, output.first_error(), faults),
         },
         Err(error) => refused(error, faults),
     }
 }
 
-/// The system's error, where it is asked for.
-fn asked(verbose: bool, cause: Option<io::Error>) -> Option<io::Error>
-    ensures { is_some result ≡ true → verbose ≡ true }
+/// Whether more than the line of a fault is asked for.
+fn asked(verbose: bool, environment: Environment) -> bool
+    ensures { result ≡ (verbose || environment.verbose) }
 {
-    if verbose { cause } else { None }
+    verbose || environment.verbose
 }
 
-/// The end of a plan. Behind the line of a fault of the device there is one with its cause, if
-/// there is one.
-fn ended_by<F: Write>(
-    alloc: Global,
+/// The system's error at what ended a plan so, if it told one.
+fn cause_of<R: Failing, O: Failing>(
     done: Result<Outcome, Failure>,
-    cause: Option<io::Error>,
+    of_file: Option<io::Error>,
+    input: &R,
+    output: &O,
+) -> Option<io::Error> {
+    match done {
+        Err(Failure::Fault(EngineFault::Read)) => input.first_error(),
+        Err(Failure::Fault(EngineFault::Write)) => output.first_error(),
+        _ => of_file,
+    }
+}
+
+/// What is known of the end of a plan.
+fn known_of<'a, T>(plan: Plan<'a>, host: &Host<'_, T>, system: Option<&'a str>) -> Known<'a>
+    ensures file { option_map (λ name. name.now) result.file ≡ file_of plan.entry }
+    ensures line { (result.line ≡ None) ⊎ (has_lines plan.entry ≡ true) }
+{
+    Known {
+        file: file_of(plan),
+        line: line_of(plan, host.line),
+        bad_line: host.bad_line,
+        system,
+    }
+}
+
+/// The name of the file that a plan opens, without `.db`.
+fn file_of<'a>(plan: Plan<'a>) -> Option<&'a str>
+    ensures { option_map (λ name. name.now) result ≡ file_of plan.entry }
+{
+    match plan {
+        Plan::Create { file, .. } => Some(file),
+        Plan::Store { file, .. } => Some(file),
+        Plan::Insert { file, .. } => Some(file),
+        Plan::Fetch { file, .. } => Some(file),
+        Plan::Delete { file, .. } => Some(file),
+        Plan::List { file } => Some(file),
+        Plan::Dump { file, .. } => Some(file),
+        Plan::Load { file, .. } => Some(file),
+        Plan::Replace { file, .. } => Some(file),
+        Plan::Resize { file, .. } => Some(file),
+        Plan::Backup { file, .. } => Some(file),
+        Plan::Salvage { file } => Some(file),
+        Plan::Stat { file } => Some(file),
+        Plan::Verify { file } => Some(file),
+        Plan::Upgrade { file } => Some(file),
+        Plan::ReadScript { file } => Some(file),
+        Plan::Script(source) | Plan::Rehearse { source, .. } => match source {
+            Source::File(file) => Some(file),
+            Source::Memory { .. } => None,
+        },
+        Plan::Faults => None,
+    }
+}
+
+/// The line of a plan that has lines.
+fn line_of(plan: Plan<'_>, line: Option<u64>) -> Option<u64>
+    ensures { (result ≡ None) ⊎ (has_lines plan.entry ≡ true) }
+{
+    match plan {
+        Plan::Load { .. } => line,
+        _ => None,
+    }
+}
+
+/// The end where help could not be written.
+fn unwritten_help<F: Write>(
+    alloc: Global,
+    environment: Environment,
+    error: Option<io::Error>,
+    faults: &mut F,
+) -> Exit
+    ensures status { result.status ≡ 2 }
+    ensures line { TellsMore environment.verbose None None result.told (F.contents faults.old)
+        (F.contents faults.new) (Failure.Fault EngineFault.Write) }
+{
+    let told = told_by(alloc, error);
+    let known = Known::of_no_file(text_of(&told));
+    failed(
+        Failure::Fault(EngineFault::Write),
+        environment.verbose,
+        known,
+        faults,
+    )
+}
+
+/// The end of a plan. Where more is asked for, the line of status 2 is followed by one in words.
+fn ended_by<F: Write>(
+    done: Result<Outcome, Failure>,
+    more: bool,
+    known: Known<'_>,
     faults: &mut F,
 ) -> Exit
     ensures status { result.status ≡ status_of done }
     ensures quiet { OnOk done (faults.new ≡ faults.old) }
-    ensures line { IfErr done (TellsMore (is_some cause) result.told (F.contents faults.old)
-        (F.contents faults.new)) }
+    ensures line { IfErr done (TellsMore more (option_map (λ name. name.now) known.entry.file)
+        known.entry.line result.told (F.contents faults.old) (F.contents faults.new)) }
 {
-    let exit = ended(done, faults);
-    let Some(error) = cause else {
-        return exit;
-    };
-    if !is_of_device(done) {
+    match done {
+        Ok(outcome) => ended(Ok(outcome), faults),
+        Err(failure) => failed(failure, more, known, faults),
+    }
+}
+
+/// The end of a plan that failed.
+fn failed<F: Write>(failure: Failure, more: bool, known: Known<'_>, faults: &mut F) -> Exit
+    ensures status { result.status ≡ status_of (Err failure) }
+    ensures line { TellsMore more (option_map (λ name. name.now) known.entry.file)
+        known.entry.line result.told (F.contents faults.old) (F.contents faults.new) failure }
+{
+    let exit = ended(Err(failure), faults);
+    if !exit.told || !more || !is_fault(failure) {
         return exit;
     }
     Exit {
         status: exit.status,
-        told: exit.told && write_cause(alloc, faults, error).is_ok(),
+        told: write_cause(faults, failure, known).is_ok(),
     }
 }
 
-/// Whether it failed by a fault of the device.
-fn is_of_device(done: Result<Outcome, Failure>) -> bool
-    ensures { result ≡ true → done ≡ Err (Failure.Fault (EngineFault.Db Fault.Device)) }
+/// Whether a failure ends with the status of a fault.
+fn is_fault(failure: Failure) -> bool
+    ensures { result ≡ is_fault failure }
 {
-    matches!(done, Err(Failure::Fault(EngineFault::Db(Fault::Device))))
-}
-
-/// Writes the system's error in a line, unless there is no memory for its words.
-fn write_cause<F: Write>(alloc: Global, faults: &mut F, error: io::Error) -> io::Result<()>
-    ensures { OnOk result (MoreIsTold (F.contents faults.old) (F.contents faults.new)) }
-{
-    let Ok(words) = format!(in alloc; "{error}") else {
-        return Ok(());
-    };
-    writeln!(faults, "dbmtool: {}", words.as_str())
+    match failure {
+        Failure::Fault(_) | Failure::NotKept(_) => true,
+        Failure::NotHex | Failure::NotText => false,
+    }
 }
 
 /// Tells on `faults` that there is no memory, which is fault 1.
-pub fn out_of_memory<F: Write>(faults: &mut F) -> Exit
+pub fn out_of_memory<F: Write>(environment: Environment, faults: &mut F) -> Exit
     ensures status { result.status ≡ 2 }
-    ensures line { Tells result.told (F.contents faults.old) (F.contents faults.new)
-        (fault_line EngineFault.Memory) }
+    ensures line { TellsMore environment.verbose None None result.told (F.contents faults.old)
+        (F.contents faults.new) (Failure.Fault EngineFault.Memory) }
 {
-    ended(Err(Failure::Fault(EngineFault::Memory)), faults)
+    failed(
+        Failure::Fault(EngineFault::Memory),
+        environment.verbose,
+        Known::of_no_file(None),
+        faults,
+    )
 }
 
 /// Tells on `faults` that one of the words is not UTF-8, which `tool` can't be given.
@@ -169,6 +292,20 @@ pub fn not_text<F: Write>(faults: &mut F) -> Exit
         (failure_line Failure.NotText) }
 {
     ended(Err(Failure::NotText), faults)
+}
+
+/// Tells on `faults` that `DBMTOOL_WAIT` is no number of seconds, for which `tool` has no words.
+pub fn bad_wait<F: Write>(faults: &mut F) -> Exit
+    ensures status { result.status ≡ 3 }
+    ensures line { Tells result.told (F.contents faults.old) (F.contents faults.new)
+        bad_wait_line }
+{
+    let written = writeln!(
+        faults,
+        "dbmtool: DBMTOOL_WAIT is no number of seconds from 0 to 86400"
+    );
+    let (status, told) = (USAGE, written.is_ok());
+    Exit { status, told }
 }
 
 /// The end of a plan: a failure is told in one line.

@@ -6,20 +6,22 @@ ghost use Rattle.dbm_tool.specs.Plans.{Loses, Rehearses};
 use crate::commands::unwritten;
 use crate::host::Host;
 use crate::versions::file_version;
+use crate::waiting::opened;
 use dbm_commands::{Failure, Outcome};
-use dbm_file::{FILE_SECTORS, Fault, needed_sectors_of};
+use dbm_file::{FILE_SECTORS, Fault, Refusal, needed_sectors_of};
 use dbm_plan::{Plan, Source, Version};
 use dbm_progress::Progress;
 use dbm_rehearse::{Bounds, Rehearsed, device_with, rehearse_script};
 use sect_dev::MemDev;
 use std::alloc::Global;
-use std::fs::File;
+use std::fs::{File, TryLockError};
 use std::io::{self, BufRead, ErrorKind, Read, Write};
 use std::rt::Files;
+use std::time::Clock;
 
 /// Rehearses the script on a copy in memory of a database's file, which is locked (flock) while it
 /// is read, and shared with others that read it.
-pub fn rehearse_file<T: Files<File = File>, R: BufRead, O: Write, P: Progress>(
+pub fn rehearse_file<T: Files<File = File> + Clock, R: BufRead, O: Write, P: Progress>(
     host: &mut Host<'_, T>,
     file: &str,
     stops: Option<u32>,
@@ -103,33 +105,57 @@ fn verdict(counts: &Rehearsed) -> Result<Outcome, Failure>
 }
 
 // A copy of a database's file.
-fn copy_of<T: Files<File = File>>(host: &mut Host<'_, T>, name: &str) -> Result<MemDev, Fault> {
-    match content_of(host.rt, host.alloc, name) {
-        Ok(bytes) => {
-            device_with(host.alloc, FILE_SECTORS, bytes.as_slice()).map_err(|_| Fault::Memory)
-        }
-        Err(error) => {
-            host.cause = Some(error);
-            Err(refusal(error))
-        }
+fn copy_of<T: Files<File = File> + Clock>(
+    host: &mut Host<'_, T>,
+    name: &str,
+) -> Result<MemDev, Fault> {
+    let rt = host.rt;
+    let alloc = host.alloc;
+    match opened(
+        rt,
+        host.wait,
+        || content_of(rt, alloc, name).map_err(refusal),
+    ) {
+        Ok(bytes) => device_with(alloc, FILE_SECTORS, bytes.as_slice()).map_err(|_| Fault::Memory),
+        Err(refusal) => Err(host.refused(refusal)),
     }
 }
 
 // The bytes of a database's file.
-fn content_of<T: Files<File = File>>(rt: &T, alloc: Global, name: &str) -> io::Result<Vec<u8>> {
+fn content_of<T: Files<File = File> + Clock>(
+    rt: &T,
+    alloc: Global,
+    name: &str,
+) -> io::Result<Vec<u8>> {
     let path = format!(in alloc; "{name}.db")?;
     let mut file = File::open(rt, path.as_str())?;
-    file.try_lock_shared()?;
+    lock(&file)?;
     let mut bytes = Vec::new(alloc);
     file.read_to_end(&mut bytes)?;
     Ok(bytes)
 }
 
-// The fault of a file that can't be read.
-fn refusal(error: io::Error) -> Fault {
-    match error.kind() {
+// Locks a file beside others that read it.
+fn lock(file: &File) -> io::Result<()> {
+    match file.try_lock_shared() {
+        Ok(()) => Ok(()),
+        Err(TryLockError::WouldBlock) => Err(io::Error::new(
+            ErrorKind::WouldBlock,
+            "another program has the file open",
+        )),
+        Err(TryLockError::Error(error)) => Err(error),
+    }
+}
+
+// The refusal of a file that can't be read.
+fn refusal(error: io::Error) -> Refusal {
+    let fault = match error.kind() {
         ErrorKind::NotFound => Fault::Missing,
         ErrorKind::OutOfMemory => Fault::Memory,
         _ => Fault::Device,
+    };
+    Refusal {
+        fault,
+        system: Some(error),
     }
 }

@@ -1,5 +1,5 @@
 -- What a parse entered, as a plan.
-use Rattle.std.proofs.Common.{◌≡◌, ◌∙◌, ◌⊎◌, ℕ, Bool, true, false, List, Option, Some, None, IfSome, MatchBool, MatchOption, Ok, Result, option_map, IfOk, refl, sym, ap, ap₂, subst, eqb, codes}
+use Rattle.std.proofs.Common.{◌≡◌, ◌∙◌, ℕ, Bool, true, false, List, Option, Some, None, IfSome, MatchBool, MatchOption, Ok, Result, option_map, IfOk, refl, sym, ap, ap₂, subst, eqb, codes}
 use Rattle.std.specs.Option.{ok_or}
 use Rattle.std.proofs.lemmas.Bool.Decides.{Decides-eqb}
 use Rattle.std.proofs.lemmas.Slice.Eq.{slice_eq-Decides}
@@ -11,7 +11,7 @@ use Rattle.clap.specs.declared.parser.matches.ArgMatches.{ArgMatches}
 use Rattle.clap.specs.declared.parser.matches.Found.{Found}
 use Rattle.clap.proofs.WalkLemmas.{first_value-rows, one_text-rows}
 use lib.Pointwise.{pointwise}
-use Rattle.dbm_words.specs.Asking.{Asks, IsNumberText, IsText, LacksMemory, LacksSource, Names, NamesNoMemory, NamesNoSource}
+use Rattle.dbm_words.specs.Asking.{Asks, IsNumberText, IsText, Names}
 use Rattle.dbm_plan.specs.declared.plan.Plan.{Plan}
 use Rattle.dbm_words.specs.declared.words.WordsError.{WordsError}
 use Rattle.dbm_words.specs.declared.words.WordsError.TheVariants.{NoPlan}
@@ -59,16 +59,6 @@ module _ (m : ArgMatches) (name : Text) (rows : List Row) (named : Some name ≡
           → IfOk (ok_or o NoPlan) (Names (subcommand_rows_of m))
       of_found None asks = tt
       of_found (Some plan) asks = names_plan plan asks
-
-  pub names_no_source : (command : Text) → name ≡ command → LacksSource rows
-      → NamesNoSource command (subcommand_rows_of m)
-  names_no_source command is lacks = subst (NamesNoSource command)
-      (sym (entered_is m name rows named read)) (is, lacks)
-
-  pub names_no_memory : (name ≡ codes "script") ⊎ (name ≡ codes "rehearse") → LacksMemory rows
-      → NamesNoMemory (subcommand_rows_of m)
-  names_no_memory is lacks = subst NamesNoMemory
-      (sym (entered_is m name rows named read)) (is, lacks)
 
 -- a text that was compared
 pub is_name : (text name : Text) (same : Bool) → same ≡ pointwise eqb text name

@@ -1,76 +1,42 @@
 -- Why words gave no plan.
-use Rattle.std.proofs.Common.{◌≡◌, ◌≢◌, ◌⊎◌, inl, inr, false, Option, Some, None, Result, Ok, Err, IfErr, sym, subst, ap, ◌∙◌, arith}
+use Rattle.std.proofs.Common.{◌≡◌, ◌≢◌, ◌⊎◌, inl, inr, false, Option, Some, None, Result, Ok, Err, IfErr, sym, subst, arith}
 use Rattle.std.specs.Bool.{IsTrue}
 use Rattle.std.specs.Option.{ok_or}
-use Rattle.std.specs.Result.{IsErrAnd}
 use Rattle.clap.specs.declared.error.Error.{Error}
 use Rattle.clap.specs.declared.error.kind.ErrorKind.{ErrorKind}
 use Rattle.clap.specs.declared.error.kind.ErrorKind.TheVariants.{DisplayHelp, DisplayVersion}
 use Rattle.dbm_words.specs.Sorting.{IsOfChoice, IsSorted}
 use Rattle.dbm_words.specs.declared.words.WordsError.{WordsError}
-use Rattle.dbm_words.specs.declared.words.WordsError.TheVariants.{Memory, Help, Usage, ScriptSource, RehearsalSource, VersionSource, NoPlan}
+use Rattle.dbm_words.specs.declared.words.WordsError.TheVariants.{Memory, Help, Usage, ScriptSource, RehearsalSource, VersionSource, ReadSource, LoadLimit, NoPlan}
 
 -- ---- the faults of a script and of a rehearsal with no source, or with the version of a file that
--- ---- is there, are none of the others
+-- ---- is there, and of a load with a limit, are none of the others
 
 pub memory_is_other : (Memory ≢ ScriptSource) × (Memory ≢ RehearsalSource)
-    × (Memory ≢ VersionSource)
-memory_is_other = ((λ is. cc), (λ is. cc), (λ is. cc))
+    × (Memory ≢ VersionSource) × (Memory ≢ ReadSource)
+    × (Memory ≢ LoadLimit)
+memory_is_other = ((λ is. cc), (λ is. cc), (λ is. cc), (λ is. cc), (λ is. cc))
 
 pub help_is_other : (text : Error) → (Help text ≢ ScriptSource) × (Help text ≢ RehearsalSource)
-    × (Help text ≢ VersionSource)
-help_is_other text = ((λ is. cc), (λ is. cc), (λ is. cc))
+    × (Help text ≢ VersionSource) × (Help text ≢ ReadSource)
+    × (Help text ≢ LoadLimit)
+help_is_other text = ((λ is. cc), (λ is. cc), (λ is. cc), (λ is. cc), (λ is. cc))
 
 pub usage_is_other : (text : Error) → (Usage text ≢ ScriptSource) × (Usage text ≢ RehearsalSource)
-    × (Usage text ≢ VersionSource)
-usage_is_other text = ((λ is. cc), (λ is. cc), (λ is. cc))
+    × (Usage text ≢ VersionSource) × (Usage text ≢ ReadSource)
+    × (Usage text ≢ LoadLimit)
+usage_is_other text = ((λ is. cc), (λ is. cc), (λ is. cc), (λ is. cc), (λ is. cc))
 
 pub no_plan_is_other : (NoPlan ≢ ScriptSource) × (NoPlan ≢ RehearsalSource)
-    × (NoPlan ≢ VersionSource)
-no_plan_is_other = ((λ is. cc), (λ is. cc), (λ is. cc))
+    × (NoPlan ≢ VersionSource) × (NoPlan ≢ ReadSource)
+    × (NoPlan ≢ LoadLimit)
+no_plan_is_other = ((λ is. cc), (λ is. cc), (λ is. cc), (λ is. cc), (λ is. cc))
 
 -- what the choice of a source is told by
-pub script_is_other : (ScriptSource ≢ RehearsalSource) × (ScriptSource ≢ VersionSource)
-script_is_other = ((λ is. cc), (λ is. cc))
-
 pub version_is_other : (VersionSource ≢ ScriptSource) × (VersionSource ≢ RehearsalSource)
 version_is_other = ((λ is. cc), (λ is. cc))
 
-pub script_is_no_rehearsal : (e : WordsError)
-    → (e ≡ NoPlan) ⊎ ((e ≡ ScriptSource) ⊎ (e ≡ VersionSource)) → e ≢ RehearsalSource
-script_is_no_rehearsal e (inl no_plan) is = no_plan_is_other.1 (sym no_plan ∙ is)
-script_is_no_rehearsal e (inr (inl script)) is = script_is_other.0 (sym script ∙ is)
-script_is_no_rehearsal e (inr (inr version)) is = version_is_other.1 (sym version ∙ is)
-
-pub rehearsal_is_no_script : (e : WordsError)
-    → (e ≡ NoPlan) ⊎ ((e ≡ RehearsalSource) ⊎ (e ≡ VersionSource)) → e ≢ ScriptSource
-rehearsal_is_no_script e (inl no_plan) is = no_plan_is_other.0 (sym no_plan ∙ is)
-rehearsal_is_no_script e (inr (inl rehearsal)) is = script_is_other.0 (sym is ∙ rehearsal)
-rehearsal_is_no_script e (inr (inr version)) is = version_is_other.0 (sym version ∙ is)
-
-pub script_is_of_choice : (e : WordsError)
-    → (e ≡ NoPlan) ⊎ ((e ≡ ScriptSource) ⊎ (e ≡ VersionSource)) → IsOfChoice e
-script_is_of_choice e (inl no_plan) = inl no_plan
-script_is_of_choice e (inr (inl script)) = inr (inl script)
-script_is_of_choice e (inr (inr version)) = inr (inr (inr version))
-
-pub rehearsal_is_of_choice : (e : WordsError)
-    → (e ≡ NoPlan) ⊎ ((e ≡ RehearsalSource) ⊎ (e ≡ VersionSource)) → IsOfChoice e
-rehearsal_is_of_choice e (inl no_plan) = inl no_plan
-rehearsal_is_of_choice e (inr others) = inr (inr others)
-
 -- ---- what is told of a result
-
--- the result is the fault that came
-pub exit_is : {T : Type 0} (result : Result T WordsError) (e : WordsError)
-    → IsErrAnd result (λ y. y ≡ e) → result ≡ Err e
-exit_is (Ok x) e told = absurd told
-exit_is (Err y) e told = ap Err told
-
--- what holds of the fault
-pub if_exit : {T : Type 0} (Q : WordsError → Type 0) (result : Result T WordsError) (e : WordsError)
-    → result ≡ Err e → Q e → IfErr result Q
-if_exit {T} Q result e exit q = subst (λ (r : Result T WordsError). IfErr r Q) (sym exit) q
 
 -- where nothing was found, which is no plan
 pub no_plan_or : {T : Type 0} (Q : WordsError → Type 0) (found : Option T)
@@ -89,7 +55,9 @@ choice_is_sorted (Ok x) is = tt
 choice_is_sorted (Err e) (inl is) = subst IsSorted (sym is) tt
 choice_is_sorted (Err e) (inr (inl is)) = subst IsSorted (sym is) tt
 choice_is_sorted (Err e) (inr (inr (inl is))) = subst IsSorted (sym is) tt
-choice_is_sorted (Err e) (inr (inr (inr is))) = subst IsSorted (sym is) tt
+choice_is_sorted (Err e) (inr (inr (inr (inl is)))) = subst IsSorted (sym is) tt
+choice_is_sorted (Err e) (inr (inr (inr (inr (inl is))))) = subst IsSorted (sym is) tt
+choice_is_sorted (Err e) (inr (inr (inr (inr (inr is))))) = subst IsSorted (sym is) tt
 
 pub choice_passes : {T : Type 0} (result : Result T WordsError) → IfErr result IsOfChoice
     → IfErr result (λ e. (e ≡ Memory) ⊎ IsOfChoice e)

@@ -5,7 +5,7 @@ use Rattle.std.specs.declared.num.ParseIntError.{ParseIntError}
 use Rattle.clap.specs.Words.{Row, Text, first_of, matches_of, one_of, subcommand_of, takes}
 use Rattle.dbm_command_line.specs.CommandLine.{command_line}
 use Rattle.dbm_plan.specs.declared.plan.Plan.{Plan}
-use Rattle.dbm_plan.specs.declared.plan.Plan.TheVariants.{Create, Store, Insert, Fetch, Delete, List as ListKeys, Dump, Load, Stat, Verify, Upgrade, Script, Rehearse, Faults}
+use Rattle.dbm_plan.specs.declared.plan.Plan.TheVariants.{Create, Store, Insert, Fetch, Delete, List as ListKeys, Dump, Load, Replace, Resize, Backup, Salvage, Stat, Verify, Upgrade, Script, ReadScript, Rehearse, Faults}
 use Rattle.dbm_plan.specs.declared.plan.Source.{Source}
 use Rattle.dbm_plan.specs.declared.plan.Source.TheVariants.{File, Memory}
 use Rattle.dbm_plan.specs.declared.plan.Spelling.{Spelling}
@@ -28,10 +28,16 @@ abbrev pub IsOptional : List Row → Text → Option ℕ → Type 0
 IsOptional rows id None = first_of id rows ≡ None
 IsOptional rows id (Some number) = IsNumberText rows id number
 
--- a number under `group` from 1 to 100000, or no text, which stands for 1
+-- the number under `group`, from 1 to 100000
 abbrev pub IsGroup : List Row → ℕ → Type 0
-IsGroup rows group = ((first_of (codes "group") rows ≡ None) × (group ≡ 1))
-    ⊎ (IsNumberText rows (codes "group") group × (1 ≤ group) × (group ≤ 100000))
+IsGroup rows group =
+    IsNumberText rows (codes "group") group × (1 ≤ group) × (group ≤ 100000)
+
+-- the number under `wait`, up to 86400, or no text
+abbrev pub IsWait : List Row → Option ℕ → Type 0
+IsWait rows None = first_of (codes "wait") rows ≡ None
+IsWait rows (Some seconds) =
+    IsNumberText rows (codes "wait") seconds × (seconds ≤ 86400)
 
 abbrev pub flag_text : Spelling → Text
 flag_text spelling.Text = codes "false"
@@ -80,6 +86,28 @@ abbrev pub LacksMemory : List Row → Type 0
 LacksMemory rows = (is_some (first_of (codes "file") rows) ≡ true)
     × (first_of (codes "memory") rows ≡ None) × IsVersion rows V2
 
+-- what is entered for a flag
+abbrev pub flag_entry : Bool → Text
+flag_entry true = codes "true"
+flag_entry false = codes "false"
+
+-- `--read` is given, or not
+abbrev pub IsForReading : List Row → Bool → Type 0
+IsForReading rows reading = one_of (codes "read") rows ≡ Some (flag_entry reading)
+
+-- `--read` is given with `--memory`, and not with FILE
+abbrev pub LacksFile : List Row → Type 0
+LacksFile rows = (first_of (codes "file") rows ≡ None)
+    × (is_some (first_of (codes "memory") rows) ≡ true) × IsForReading rows true
+
+-- `--replace` is given, or not
+abbrev pub IsReplacing : List Row → Bool → Type 0
+IsReplacing rows replacing = one_of (codes "replace") rows ≡ Some (flag_entry replacing)
+
+-- `--limit` is given, and not `--replace`
+abbrev pub LacksReplace : List Row → Type 0
+LacksReplace rows = (is_some (first_of (codes "limit") rows) ≡ true) × IsReplacing rows false
+
 -- the command of this name, with what was entered for it, asks for the plan
 abbrev pub Asks : Text → List Row → Plan → Type 0
 Asks name rows (Create file limit version) =
@@ -97,10 +125,22 @@ Asks name rows (ListKeys file) = (name ≡ codes "list") × IsText rows (codes "
 Asks name rows (Dump file spelled) = (name ≡ codes "dump") × ArePairs rows file.now spelled
 Asks name rows (Load file spelled group) = (name ≡ codes "load")
     × ArePairs rows file.now spelled × IsGroup rows group
+    × (first_of (codes "limit") rows ≡ None) × IsReplacing rows false
+Asks name rows (Replace file spelled limit) = (name ≡ codes "load")
+    × ArePairs rows file.now spelled × IsOptional rows (codes "limit") limit
+    × IsReplacing rows true
+Asks name rows (Resize file limit) = (name ≡ codes "resize")
+    × IsText rows (codes "file") file.now × IsOptional rows (codes "limit") limit
+Asks name rows (Backup file to) = (name ≡ codes "backup")
+    × IsText rows (codes "file") file.now × IsText rows (codes "to") to.now
+Asks name rows (Salvage file) = (name ≡ codes "salvage") × IsText rows (codes "file") file.now
 Asks name rows (Stat file) = (name ≡ codes "stat") × IsText rows (codes "file") file.now
 Asks name rows (Verify file) = (name ≡ codes "verify") × IsText rows (codes "file") file.now
 Asks name rows (Upgrade file) = (name ≡ codes "upgrade") × IsText rows (codes "file") file.now
 Asks name rows (Script source) = (name ≡ codes "script") × IsSource rows source
+    × IsForReading rows false
+Asks name rows (ReadScript file) = (name ≡ codes "script") × IsSource rows (File file)
+    × IsForReading rows true
 Asks name rows (Rehearse source stops) = (name ≡ codes "rehearse") × IsSource rows source
     × IsOptional rows (codes "stops") stops
 Asks name rows Faults = name ≡ codes "faults"
@@ -113,11 +153,6 @@ Names (Some entered) plan = Asks entered.0 entered.1 plan
 abbrev pub IsPlan : List Text → Plan → Type 0
 IsPlan words plan = Names (subcommand_of command_line words) plan
 
--- what is entered for a flag
-abbrev pub flag_entry : Bool → Text
-flag_entry true = codes "true"
-flag_entry false = codes "false"
-
 -- `--verbose` was entered, or not
 abbrev pub IsVerbose : List Row → Bool → Type 0
 IsVerbose rows verbose = one_of (codes "verbose") rows ≡ Some (flag_entry verbose)
@@ -125,6 +160,10 @@ IsVerbose rows verbose = one_of (codes "verbose") rows ≡ Some (flag_entry verb
 -- the words enter it, or not
 abbrev pub AreVerbose : List Text → Bool → Type 0
 AreVerbose words verbose = IsVerbose (matches_of command_line words) verbose
+
+-- the words enter how long to wait, or nothing
+abbrev pub AreToWait : List Text → Option ℕ → Type 0
+AreToWait words wait = IsWait (matches_of command_line words) wait
 
 -- the parser takes the words: they are no mistake, and don't ask for help
 abbrev pub AreTaken : List Text → Type 0
@@ -148,3 +187,21 @@ NamesNoMemory (Some entered) = ((entered.0 ≡ codes "script") ⊎ (entered.0 �
 -- what the words enter is a script or a rehearsal, with FILE and `--v2`
 abbrev pub IsWithoutMemory : List Text → Type 0
 IsWithoutMemory words = NamesNoMemory (subcommand_of command_line words)
+
+-- a script was entered, with `--memory` and `--read`
+abbrev pub NamesNoFile : Option (Text × List Row) → Type 0
+NamesNoFile None = ⊥
+NamesNoFile (Some entered) = (entered.0 ≡ codes "script") × LacksFile entered.1
+
+-- what the words enter is a script, with `--memory` and `--read`
+abbrev pub IsWithoutFile : List Text → Type 0
+IsWithoutFile words = NamesNoFile (subcommand_of command_line words)
+
+-- a load was entered, with `--limit` and not `--replace`
+abbrev pub NamesNoReplace : Option (Text × List Row) → Type 0
+NamesNoReplace None = ⊥
+NamesNoReplace (Some entered) = (entered.0 ≡ codes "load") × LacksReplace entered.1
+
+-- what the words enter is a load, with `--limit` and not `--replace`
+abbrev pub IsWithoutReplace : List Text → Type 0
+IsWithoutReplace words = NamesNoReplace (subcommand_of command_line words)

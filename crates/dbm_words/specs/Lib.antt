@@ -1,2 +1,3 @@
 pub mod Asking
+pub mod Seconds
 pub mod Sorting

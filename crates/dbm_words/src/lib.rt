@@ -2,6 +2,8 @@
 #![tactic(auto)]
 
 mod options;
+mod seconds;
 mod words;
 
+pub use seconds::seconds_in;
 pub use words::{WordsError, read_words};

@@ -1,15 +1,15 @@
 // The plan that a parse entered.
 ghost use Rattle.std.specs.Prelude.{◌≡◌, ◌⊎◌, IfErr, IfOk, IfSome, MatchOption, None, Some, codes};
 ghost use Rattle.clap.specs.Words.{first_of, found_of, one_of, rows_of, subcommand_rows_of};
-ghost use Rattle.dbm_words.specs.Asking.{Asks, IsGroup, IsNumberText, IsOptional, IsSource, IsText, IsVerbose, IsVersion, LacksMemory, LacksSource, Names, NamesNoMemory, NamesNoSource, flag_text, text_flag};
+ghost use Rattle.dbm_words.specs.Asking.{Asks, IsForReading, IsGroup, IsNumberText, IsOptional, IsReplacing, IsSource, IsText, IsVerbose, IsVersion, IsWait, LacksFile, LacksMemory, LacksReplace, LacksSource, Names, NamesNoFile, NamesNoMemory, NamesNoReplace, NamesNoSource, flag_text, text_flag};
 ghost use Rattle.dbm_words.specs.Sorting.{IsOfChoice};
 
 use crate::WordsError;
 use clap::ArgMatches;
 use dbm_command_line::names::{
-    CONTENT, CREATE, DELETE, DUMP, FAULTS, FETCH, FILE, GROUP, HEXADECIMAL, INSERT, KEY, LIMIT,
-    LIST, LOAD, MEMORY, MOST_LINES, REHEARSE, SCRIPT, STAT, STOPS, STORE, TEXT, UPGRADE, V2,
-    VERBOSE, VERIFY,
+    BACKUP, CONTENT, CREATE, DELETE, DUMP, FAULTS, FETCH, FILE, GROUP, HEXADECIMAL, INSERT, KEY,
+    LIMIT, LIST, LOAD, LONGEST_WAIT, MEMORY, MOST_LINES, READ, REHEARSE, REPLACE, RESIZE, SALVAGE,
+    SCRIPT, STAT, STOPS, STORE, TEXT, TO, UPGRADE, V2, VERBOSE, VERIFY, WAIT,
 };
 use dbm_plan::{Plan, Request, Source, Spelling, Version};
 
@@ -17,20 +17,45 @@ use dbm_plan::{Plan, Request, Source, Spelling, Version};
 pub fn requested<'a>(matches: &ArgMatches<'a>) -> Result<Request<'a>, WordsError>
     ensures plan { IfOk result (λ r. Names (subcommand_rows_of matches.now) r.plan) }
     ensures verbose { IfOk result (λ r. IsVerbose (rows_of (found_of matches.now)) r.verbose) }
+    ensures wait { IfOk result (λ r. IsWait (rows_of (found_of matches.now)) r.wait) }
     ensures source { IfErr result (λ e. e ≡ WordsError.ScriptSource
         → NamesNoSource (codes "script") (subcommand_rows_of matches.now)) }
     ensures device { IfErr result (λ e. e ≡ WordsError.RehearsalSource
         → NamesNoSource (codes "rehearse") (subcommand_rows_of matches.now)) }
     ensures version { IfErr result (λ e. e ≡ WordsError.VersionSource
         → NamesNoMemory (subcommand_rows_of matches.now)) }
+    ensures read { IfErr result (λ e. e ≡ WordsError.ReadSource
+        → NamesNoFile (subcommand_rows_of matches.now)) }
+    ensures limit { IfErr result (λ e. e ≡ WordsError.LoadLimit
+        → NamesNoReplace (subcommand_rows_of matches.now)) }
     ensures others { IfErr result IsOfChoice }
 {
     let plan = chosen(matches)?;
     let verbose = verbose(matches).ok_or(WordsError::NoPlan)?;
-    Ok(Request { plan, verbose })
+    let wait = wait(matches).ok_or(WordsError::NoPlan)?;
+    Ok(Request {
+        plan,
+        verbose,
+        wait,
+    })
 }
 
-/// Whether the system's own words are to be told.
+/// How many seconds to wait for a file, if that was given. None where it is no number of up to
+/// `LONGEST_WAIT`, as the parser has refused before.
+fn wait(options: &ArgMatches<'_>) -> Option<Option<u32>>
+    ensures { IfSome result (IsWait (rows_of (found_of options.now))) }
+{
+    if text(options, WAIT).is_none() {
+        return Some(None);
+    }
+    let seconds = number(options, WAIT)?;
+    if LONGEST_WAIT < seconds {
+        return None;
+    }
+    Some(Some(seconds))
+}
+
+/// Whether a fault is to be told in words.
 fn verbose(options: &ArgMatches<'_>) -> Option<bool>
     ensures { IfSome result (IsVerbose (rows_of (found_of options.now))) }
 {
@@ -50,13 +75,17 @@ fn chosen<'a>(matches: &ArgMatches<'a>) -> Result<Plan<'a>, WordsError>
         → NamesNoSource (codes "rehearse") (subcommand_rows_of matches.now)) }
     ensures version { IfErr result (λ e. e ≡ WordsError.VersionSource
         → NamesNoMemory (subcommand_rows_of matches.now)) }
+    ensures read { IfErr result (λ e. e ≡ WordsError.ReadSource
+        → NamesNoFile (subcommand_rows_of matches.now)) }
+    ensures limit { IfErr result (λ e. e ≡ WordsError.LoadLimit
+        → NamesNoReplace (subcommand_rows_of matches.now)) }
     ensures others { IfErr result IsOfChoice }
 {
     let Some((name, options)) = matches.subcommand() else {
         return Err(WordsError::NoPlan);
     };
     if name == SCRIPT {
-        return Ok(Plan::Script(source(options)?));
+        return script(options);
     }
     if name == FAULTS {
         return Ok(Plan::Faults);
@@ -64,7 +93,90 @@ fn chosen<'a>(matches: &ArgMatches<'a>) -> Result<Plan<'a>, WordsError>
     if name == REHEARSE {
         return rehearsal(options);
     }
+    if name == LOAD {
+        return load(options);
+    }
     of_file(name, options).ok_or(WordsError::NoPlan)
+}
+
+/// The load, or the replacement by what is loaded.
+fn load<'a>(options: &ArgMatches<'a>) -> Result<Plan<'a>, WordsError>
+    ensures plan { IfOk result (Asks (codes "load") (rows_of (found_of options.now))) }
+    ensures lacks { IfErr result (λ e.
+        e ≡ WordsError.LoadLimit → LacksReplace (rows_of (found_of options.now))) }
+    ensures others { IfErr result (λ e. (e ≡ WordsError.NoPlan) ⊎ (e ≡ WordsError.LoadLimit)) }
+{
+    let file = text(options, FILE).ok_or(WordsError::NoPlan)?;
+    let spelling = form(options).ok_or(WordsError::NoPlan)?;
+    let replacing = replacing(options).ok_or(WordsError::NoPlan)?;
+    match (replacing, text(options, LIMIT)) {
+        (true, _) => {
+            let limit = optional(options, LIMIT).ok_or(WordsError::NoPlan)?;
+            Ok(Plan::Replace {
+                file,
+                spelling,
+                limit,
+            })
+        }
+        (false, None) => {
+            let group = group(options).ok_or(WordsError::NoPlan)?;
+            Ok(Plan::Load {
+                file,
+                spelling,
+                group,
+            })
+        }
+        (false, Some(_)) => Err(WordsError::LoadLimit),
+    }
+}
+
+/// Whether a load is to replace the pairs that are there.
+fn replacing(options: &ArgMatches<'_>) -> Option<bool>
+    ensures { IfSome result (IsReplacing (rows_of (found_of options.now))) }
+{
+    if options.get_one::<bool>(REPLACE)? {
+        Some(true)
+    } else {
+        Some(false)
+    }
+}
+
+/// The script that is to be run.
+fn script<'a>(options: &ArgMatches<'a>) -> Result<Plan<'a>, WordsError>
+    ensures plan { IfOk result (Asks (codes "script") (rows_of (found_of options.now))) }
+    ensures lacks { IfErr result (λ e.
+        e ≡ WordsError.ScriptSource → LacksSource (rows_of (found_of options.now))) }
+    ensures version { IfErr result (λ e.
+        e ≡ WordsError.VersionSource → LacksMemory (rows_of (found_of options.now))) }
+    ensures read { IfErr result (λ e.
+        e ≡ WordsError.ReadSource → LacksFile (rows_of (found_of options.now))) }
+    ensures others { IfErr result (λ e. (e ≡ WordsError.NoPlan) ⊎ ((e ≡ WordsError.ScriptSource)
+        ⊎ ((e ≡ WordsError.VersionSource) ⊎ (e ≡ WordsError.ReadSource)))) }
+{
+    match source(options) {
+        Ok(source) => {
+            let reading = for_reading(options).ok_or(WordsError::NoPlan)?;
+            match (source, reading) {
+                (source, false) => Ok(Plan::Script(source)),
+                (Source::File(file), true) => Ok(Plan::ReadScript { file }),
+                (Source::Memory { .. }, true) => Err(WordsError::ReadSource),
+            }
+        }
+        Err(WordsError::ScriptSource) => Err(WordsError::ScriptSource),
+        Err(WordsError::VersionSource) => Err(WordsError::VersionSource),
+        Err(_) => Err(WordsError::NoPlan),
+    }
+}
+
+/// Whether the database of a script is to be opened for reading.
+fn for_reading(options: &ArgMatches<'_>) -> Option<bool>
+    ensures { IfSome result (IsForReading (rows_of (found_of options.now))) }
+{
+    if options.get_one::<bool>(READ)? {
+        Some(true)
+    } else {
+        Some(false)
+    }
 }
 
 /// What is to be rehearsed.
@@ -79,7 +191,7 @@ fn rehearsal<'a>(options: &ArgMatches<'a>) -> Result<Plan<'a>, WordsError>
 {
     match source(options) {
         Ok(source) => {
-            let stops = stops(options).ok_or(WordsError::NoPlan)?;
+            let stops = optional(options, STOPS).ok_or(WordsError::NoPlan)?;
             Ok(Plan::Rehearse { source, stops })
         }
         Err(WordsError::ScriptSource) => Err(WordsError::RehearsalSource),
@@ -88,14 +200,14 @@ fn rehearsal<'a>(options: &ArgMatches<'a>) -> Result<Plan<'a>, WordsError>
     }
 }
 
-/// How many stops there are to be, if that was given. None where it is no number.
-fn stops(options: &ArgMatches<'_>) -> Option<Option<u32>>
-    ensures { IfSome result (IsOptional (rows_of (found_of options.now)) (codes "stops")) }
+/// The number that was given under `id`, if one was. None where it is no number.
+fn optional(options: &ArgMatches<'_>, id: &str) -> Option<Option<u32>>
+    ensures { IfSome result (IsOptional (rows_of (found_of options.now)) id.now) }
 {
-    if text(options, STOPS).is_none() {
+    if text(options, id).is_none() {
         return Some(None);
     }
-    Some(Some(number(options, STOPS)?))
+    Some(Some(number(options, id)?))
 }
 
 /// The database that a script is to run on.
@@ -149,26 +261,27 @@ fn of_file<'a>(name: &str, options: &ArgMatches<'a>) -> Option<Plan<'a>>
             file,
             spelling: form(options)?,
         }),
-        LOAD => Some(Plan::Load {
-            file,
-            spelling: form(options)?,
-            group: group(options)?,
-        }),
         STAT => Some(Plan::Stat { file }),
         VERIFY => Some(Plan::Verify { file }),
         UPGRADE => Some(Plan::Upgrade { file }),
+        RESIZE => Some(Plan::Resize {
+            file,
+            limit: optional(options, LIMIT)?,
+        }),
+        BACKUP => Some(Plan::Backup {
+            file,
+            to: text(options, TO)?,
+        }),
+        SALVAGE => Some(Plan::Salvage { file }),
         _ => of_key(name, options),
     }
 }
 
-/// How many lines of a load may share a commit: one, where that wasn't given. None where it is no
-/// number from 1 to `MOST_LINES`, as the parser has refused before.
+/// How many lines of a load may share a commit. None where it is no number from 1 to `MOST_LINES`,
+/// as the parser has refused before.
 fn group(options: &ArgMatches<'_>) -> Option<u32>
     ensures { IfSome result (IsGroup (rows_of (found_of options.now))) }
 {
-    if text(options, GROUP).is_none() {
-        return Some(1);
-    }
     let lines = number(options, GROUP)?;
     if lines == 0 || MOST_LINES < lines {
         return None;

@@ -1,7 +1,7 @@
 // The words after the program's name.
 ghost use Rattle.std.specs.Prelude.{◌≡◌, ◌≢◌, ◌⊎◌, IfErr, IfOk, map, codes};
 ghost use Rattle.clap.specs.Words.{kind_of};
-ghost use Rattle.dbm_words.specs.Asking.{AreTaken, AreVerbose, IsPlan, IsWithoutMemory, IsWithoutSource};
+ghost use Rattle.dbm_words.specs.Asking.{AreTaken, AreToWait, AreVerbose, IsPlan, IsWithoutFile, IsWithoutMemory, IsWithoutReplace, IsWithoutSource};
 ghost use Rattle.dbm_words.specs.Sorting.{IsOfChoice, IsSorted};
 
 use crate::options::requested;
@@ -33,6 +33,12 @@ pub enum WordsError {
     /// The parser took the words, but a script or a rehearsal of FILE has `--v2`.
     #[error("dbmtool: --v2 needs --memory\n")]
     VersionSource,
+    /// The parser took the words, but a script in memory has `--read`.
+    #[error("dbmtool: --read needs FILE\n")]
+    ReadSource,
+    /// The parser took the words, but a load has `--limit` and not `--replace`.
+    #[error("dbmtool: --limit needs --replace\n")]
+    LoadLimit,
     /// The words passed the parser and name no plan.
     #[error("error: no such command\n")]
     NoPlan,
@@ -40,13 +46,16 @@ pub enum WordsError {
 
 /// Reads the words after the program's name. `Help` where they ask for help or the version, and
 /// `Usage` where they are no plan: no command, an unknown one, an option too many or too few, a
-/// number that is no `u32`, or a group outside 1 to 100000. `ScriptSource` where the parser takes
-/// the words, and a script has both of FILE and `--memory` or neither; `RehearsalSource` where a
-/// rehearsal does; `VersionSource` where either has FILE, no `--memory`, and `--v2`.
+/// number that is no `u32`, a group outside 1 to 100000, or a wait of more than 86400 seconds.
+/// `ScriptSource` where the parser takes the words, and a script has both of FILE and `--memory` or
+/// neither; `RehearsalSource` where a rehearsal does; `VersionSource` where either has FILE, no
+/// `--memory`, and `--v2`; `ReadSource` where a script has `--memory`, no FILE, and `--read`;
+/// `LoadLimit` where a load has `--limit`, and not `--replace`.
 pub fn read_words<'a>(alloc: Global, words: &'a [&'a str]) -> Result<Request<'a>, WordsError>
     ensures plan { IfOk result (λ r. IsPlan (map (λ word. word.now) words.now) r.plan) }
     ensures verbose { IfOk result
         (λ r. AreVerbose (map (λ word. word.now) words.now) r.verbose) }
+    ensures wait { IfOk result (λ r. AreToWait (map (λ word. word.now) words.now) r.wait) }
     ensures sorted { IfErr result IsSorted }
     ensures source { IfErr result (λ e. e ≡ WordsError.ScriptSource
         → IsWithoutSource (codes "script") (map (λ word. word.now) words.now)) }
@@ -54,6 +63,10 @@ pub fn read_words<'a>(alloc: Global, words: &'a [&'a str]) -> Result<Request<'a>
         → IsWithoutSource (codes "rehearse") (map (λ word. word.now) words.now)) }
     ensures version { IfErr result (λ e. e ≡ WordsError.VersionSource
         → IsWithoutMemory (map (λ word. word.now) words.now)) }
+    ensures read { IfErr result (λ e. e ≡ WordsError.ReadSource
+        → IsWithoutFile (map (λ word. word.now) words.now)) }
+    ensures limit { IfErr result (λ e. e ≡ WordsError.LoadLimit
+        → IsWithoutReplace (map (λ word. word.now) words.now)) }
     ensures passes { AreTaken (map (λ word. word.now) words.now)
         → IfErr result (λ e. (e ≡ WordsError.Memory) ⊎ IsOfChoice e) }
 {
@@ -70,7 +83,8 @@ pub fn read_words<'a>(alloc: Global, words: &'a [&'a str]) -> Result<Request<'a>
 fn sorted(refusal: Refusal) -> WordsError
     ensures sorted { IsSorted result }
     ensures source { (result ≢ WordsError.ScriptSource) × (result ≢ WordsError.RehearsalSource)
-        × (result ≢ WordsError.VersionSource) }
+        × (result ≢ WordsError.VersionSource) × (result ≢ WordsError.ReadSource)
+        × (result ≢ WordsError.LoadLimit) }
     ensures memory { kind_of refusal ≡ ErrorKind.OutOfMemory → result ≡ WordsError.Memory }
 {
     if refusal.kind() == ErrorKind::OutOfMemory {

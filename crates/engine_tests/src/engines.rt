@@ -24,7 +24,8 @@ pub fn load<R: BufRead, P: Progress>(
     group: u32,
     progress: &mut P,
 ) -> Result<(), EngineFault> {
-    load_engine(alloc, db, reader, group, progress)
+    let mut why = None;
+    load_engine(alloc, db, reader, group, &mut why, progress)
 }
 
 /// Writes the pairs of a database.

@@ -6,7 +6,7 @@ use Rattle.clap.specs.declared.builder.value_parser.ValueParser.{ValueParser}
 use Rattle.clap.specs.declared.builder.value_parser.ValueParser.TheVariants as parser
 use Rattle.dbm_command_line.specs.Building.{IsRule}
 use Rattle.dbm_command_line.specs.CommandLine.{group_rule}
-use Rattle.dbm_command_line.proofs.Building.{with_help, with_long, with_parser, with_value_name}
+use Rattle.dbm_command_line.proofs.Building.{with_default, with_help, with_long, with_parser, with_value_name}
 use Rattle.dbm_command_line.proofs.arguments.group.Goals as goal
 
 -- the parser of a `u32`, narrowed
@@ -31,9 +31,13 @@ returns c =
     narrowed_by c.range.result (range_inclusive_start c.new-2.result)
     (range_inclusive_end c.new-2.result) (c.new-2.ensures.start)
     (rw c.from.ensures at c.new-2.ensures.end) (rw c.value_parser.ensures at c.range.ensures) in
-    let read : IsRule c.value_parser-2.result group_rule =
+    let bounded : Rule = record shown { parser = Some (parser.Signed (pos 1) (pos 100000)) } in
+    let read : IsRule c.value_parser-2.result bounded =
     with_parser (parser.Signed (pos 1) (pos 100000)) c.value_name.result c.value_parser-2.result
     shown c.value_parser-2.ensures.others
     (c.value_parser-2.ensures.given.1
     ∙ ap Some (c.value_parser-2.ensures.given.2 ∙ narrowed)) value in
-    with_help c.value_parser-2.result c.help.result group_rule c.help.ensures read
+    let given : IsRule c.default_value.result group_rule =
+    with_default (codes "10000") c.value_parser-2.result c.default_value.result bounded
+    (rw c.default_value.ensures) (rw c.default_value.ensures) read in
+    with_help c.default_value.result c.help.result group_rule c.help.ensures given

@@ -1,12 +1,12 @@
 use Rattle.std.proofs.Common.{true, codes}
 use Rattle.std.proofs.lemmas.Result.{IfOk-from_err}
-use Rattle.clap.specs.Words.{App, Shape, new_app}
+use Rattle.clap.specs.Words.{App, Shape, new_app, with_rule}
 use Rattle.dbm_command_line.specs.Building.{IsApp, alone}
-use Rattle.dbm_command_line.specs.CommandLine.{program_line, verbose_rule}
-use Rattle.dbm_command_line.proofs.Building.{option_added, with_about, with_after_help, with_bin_name, with_no_binary_name, with_subcommand_required, with_version}
+use Rattle.dbm_command_line.specs.CommandLine.{program_line, verbose_rule, wait_rule}
+use Rattle.dbm_command_line.proofs.Building.{option_added, with_about, with_after_help, with_bin_name, with_no_binary_name, with_option, with_subcommand_required, with_version}
 use Rattle.dbm_command_line.proofs.commands.program.Goals as goal
 
--- without its option
+-- without its options
 abbrev bare_line : Shape
 bare_line = record (new_app (codes "dbmtool")).top {
   has_version = true;
@@ -18,6 +18,11 @@ pub returns-in_err-bin_name : goal.returns-in_err-bin_name
 returns-in_err-bin_name c =
     IfOk-from_err c.from_residual.result (λ made. IsApp made (alone program_line))
     c.from_residual.ensures.0
+
+pub returns-in_err-arg : goal.returns-in_err-arg
+returns-in_err-arg c =
+    IfOk-from_err c.from_residual-in_err-arg.result (λ made. IsApp made (alone program_line))
+    c.from_residual-in_err-arg.ensures.0
 
 pub returns : goal.returns
 returns c =
@@ -48,5 +53,9 @@ returns c =
     let named : IsApp c.in_ok-bin_name.field-0 (alone bare_line) =
     with_bin_name c.after_help.result c.in_ok-bin_name.field-0 (alone bare_line)
     c.in_ok-bin_name.ensures.0 helped in
-    option_added c.in_ok-bin_name.field-0 c.verbose.result c.arg.result (alone bare_line)
-    verbose_rule named c.verbose.ensures c.arg.ensures
+    let with_verbose : IsApp c.in_ok-arg.field-0 (with_rule (alone bare_line) verbose_rule) =
+    with_option c.in_ok-bin_name.field-0 c.in_ok-arg.field-0 c.verbose.result (alone bare_line)
+    verbose_rule named c.verbose.ensures c.in_ok-arg.ensures in
+    option_added c.in_ok-arg.field-0 c.wait.result c.arg-2.result
+    (with_rule (alone bare_line) verbose_rule) wait_rule with_verbose c.wait.ensures
+    c.arg-2.ensures

@@ -2,7 +2,7 @@ use Rattle.std.proofs.Common.{codes, false}
 use Rattle.std.proofs.lemmas.Result.{IfOk-from_err}
 use Rattle.clap.specs.Words.{App, Rule, new_app, with_rule}
 use Rattle.dbm_command_line.specs.Building.{IsApp, IsRule, alone}
-use Rattle.dbm_command_line.specs.CommandLine.{number_rule, script_line, version_rule, word_rule}
+use Rattle.dbm_command_line.specs.CommandLine.{number_rule, read_rule, script_line, version_rule, word_rule}
 use Rattle.dbm_command_line.proofs.Building.{option_added, with_about, with_after_help, with_option, with_required}
 use Rattle.dbm_command_line.proofs.commands.script_command.Goals as goal
 
@@ -13,6 +13,10 @@ returns-in_err-arg c = IfOk-from_err c.from_residual.result (λ made. IsApp made
 pub returns-in_err-arg-2 : goal.returns-in_err-arg-2
 returns-in_err-arg-2 c = IfOk-from_err c.from_residual-in_err-arg-2.result
     (λ made. IsApp made (alone script_line)) c.from_residual-in_err-arg-2.ensures.0
+
+pub returns-in_err-arg-3 : goal.returns-in_err-arg-3
+returns-in_err-arg-3 c = IfOk-from_err c.from_residual-in_err-arg-3.result
+    (λ made. IsApp made (alone script_line)) c.from_residual-in_err-arg-3.ensures.0
 
 pub returns : goal.returns
 returns c =
@@ -34,6 +38,11 @@ returns c =
     with_option c.in_ok-arg.field-0 c.in_ok-arg-2.field-0 c.number-memory.result
     (with_rule bare free) (number_rule (codes "memory")) with_file c.number-memory.ensures
     c.in_ok-arg-2.ensures in
-    option_added c.in_ok-arg-2.field-0 c.version.result c.arg-3.result
+    let with_version : IsApp c.in_ok-arg-3.field-0
+    (with_rule (with_rule (with_rule bare free) (number_rule (codes "memory"))) version_rule) =
+    with_option c.in_ok-arg-2.field-0 c.in_ok-arg-3.field-0 c.version.result
     (with_rule (with_rule bare free) (number_rule (codes "memory"))) version_rule with_memory
-    c.version.ensures c.arg-3.ensures
+    c.version.ensures c.in_ok-arg-3.ensures in
+    option_added c.in_ok-arg-3.field-0 c.for_reading.result c.arg-4.result
+    (with_rule (with_rule (with_rule bare free) (number_rule (codes "memory"))) version_rule)
+    read_rule with_version c.for_reading.ensures c.arg-4.ensures

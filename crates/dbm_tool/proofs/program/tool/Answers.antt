@@ -1,7 +1,6 @@
-use Rattle.std.proofs.Common.{inl, inr, ⊎_elim, map, refl, subst, Bool}
-use Rattle.dbm_words.specs.Asking.{AreVerbose}
+use Rattle.std.proofs.Common.{inl, inr, ⊎_elim, refl}
 use Rattle.dbm_fault.specs.declared.engine_fault.EngineFault.TheVariants.{Write}
-use Rattle.dbm_tool.proofs.Statuses.{done_at_zero, plain_lines, prints_or_stays, reads_or_stays, tells_fault, tells_misuse}
+use Rattle.dbm_tool.proofs.Statuses.{done_at_zero, lines_as, prints_or_stays, reads_or_stays, tells_fault, tells_misuse}
 use Rattle.dbm_tool.proofs.program.tool.Goals as goal
 
 pub returns-in-Ok-show-clause-done : goal.returns-in-Ok-show-clause-done
@@ -12,7 +11,9 @@ returns-in-Ok-show-clause-done g c zero =
       λ taken. ⊎_elim (λ memory. absurd (cc))
           (λ other. ⊎_elim (λ no_plan. absurd (cc))
           (λ no_source. ⊎_elim (λ of_script. absurd (cc))
-          (λ later. ⊎_elim (λ of_rehearsal. absurd (cc)) (λ of_version. absurd (cc)) later) no_source)
+          (λ later. ⊎_elim (λ of_rehearsal. absurd (cc))
+          (λ last. ⊎_elim (λ of_version. absurd (cc)) (λ rest. ⊎_elim (λ of_reading. absurd (cc))
+          (λ of_limit. absurd (cc)) rest) last) later) no_source)
           other)
           (c.in-Err-Help.ensures.passes taken),
     )
@@ -20,19 +21,21 @@ returns-in-Ok-show-clause-done g c zero =
 pub returns-in-Err-show-clause-fault : goal.returns-in-Err-show-clause-fault
 returns-in-Err-show-clause-fault g c two =
     let is = c.in-Err-Help.field-0-is in
-    inl record {
+    inl (inr record {
       met = Write;
-      can_be_met = inr (inr (
+      can_be_met = inr (
         refl,
         λ taken. ⊎_elim (λ memory. absurd (cc))
             (λ other. ⊎_elim (λ no_plan. absurd (cc))
             (λ no_source. ⊎_elim (λ of_script. absurd (cc))
-            (λ later. ⊎_elim (λ of_rehearsal. absurd (cc)) (λ of_version. absurd (cc)) later)
+            (λ later. ⊎_elim (λ of_rehearsal. absurd (cc))
+            (λ last. ⊎_elim (λ of_version. absurd (cc)) (λ rest. ⊎_elim (λ of_reading. absurd (cc))
+            (λ of_limit. absurd (cc)) rest) last) later)
             no_source) other)
             (c.in-Err-Help.ensures.passes taken),
-      ));
-      lines = plain_lines _ _ _ _ Write c.ended-in-Err-show.ensures.line;
-    }
+      );
+      lines = c.unwritten_help.ensures.line;
+    })
 
 pub returns-in-Err-show-clause-output : goal.returns-in-Err-show-clause-output
 returns-in-Err-show-clause-output g c =
@@ -40,7 +43,9 @@ returns-in-Err-show-clause-output g c =
     inr (inr (λ taken. ⊎_elim (λ memory. absurd (cc))
     (λ other. ⊎_elim (λ no_plan. absurd (cc))
     (λ no_source. ⊎_elim (λ of_script. absurd (cc))
-    (λ later. ⊎_elim (λ of_rehearsal. absurd (cc)) (λ of_version. absurd (cc)) later) no_source)
+    (λ later. ⊎_elim (λ of_rehearsal. absurd (cc))
+    (λ last. ⊎_elim (λ of_version. absurd (cc)) (λ rest. ⊎_elim (λ of_reading. absurd (cc))
+    (λ of_limit. absurd (cc)) rest) last) later) no_source)
     other)
     (c.in-Err-Help.ensures.passes taken)))
 
@@ -53,15 +58,16 @@ returns-in-Ok-clause-done g c zero = inr record {
 
 pub returns-in-Ok-clause-fault : goal.returns-in-Ok-clause-fault
 returns-in-Ok-clause-fault g c two =
-    tells_fault _ c.in-Ok.request.plan c.carry_out-done.result _ _ _ _ _ _ _ _ c.in-Ok.ensures.plan
-    c.carry_out-done.ensures.ends c.carry_out-done.ensures.loses
-    (λ is. subst (λ (b : Bool). AreVerbose (map (λ word. word.now) c.args.words.now) b)
-    (c.asked.ensures is) c.in-Ok.ensures.verbose)
-    c.ended_by.ensures.line c.ended_by.ensures.status two
+    tells_fault _ c.in-Ok.request.plan c.carry_out-done.result _ c.in-Ok.request.verbose
+    c.args.environment.verbose _ c.known_of-known.result.line _ _ _ _ _ c.in-Ok.ensures.plan
+    c.carry_out-done.ensures.ends c.carry_out-done.ensures.loses c.in-Ok.ensures.verbose
+    c.known_of-known.ensures.line (lines_as c.carry_out-done.result _ _ _ _ _ _ _ _
+    c.asked.ensures c.known_of-known.ensures.file c.ended_by.ensures.line)
+    c.ended_by.ensures.status two
 
 pub returns-in-Ok-clause-usage : goal.returns-in-Ok-clause-usage
 returns-in-Ok-clause-usage g c three =
-    tells_misuse _ c.in-Ok.request.plan c.carry_out-done.result _ _ _ _ _ c.in-Ok.ensures.plan
+    tells_misuse _ c.in-Ok.request.plan c.carry_out-done.result _ _ _ _ _ _ _ c.in-Ok.ensures.plan
     c.carry_out-done.ensures.ends c.ended_by.ensures.line c.ended_by.ensures.status three
 
 pub returns-in-Ok-clause-output : goal.returns-in-Ok-clause-output

@@ -40,25 +40,6 @@ pub returns-in_ok-form-in-dump : goal.returns-in_ok-form-in-dump
 returns-in_ok-form-in-dump c =
     (c.in-dump.is, record { file = c.in_ok-file.ensures; flag = c.in_ok-form-in-dump.ensures })
 
-pub returns-in_err-form-in-load : goal.returns-in_err-form-in-load
-returns-in_err-form-in-load c =
-    if_none c.from_residual-in_err-form-in-load.result
-    (Asks c.args.name.now (rows_of (found_of c.args.options.now)))
-    c.from_residual-in_err-form-in-load.ensures
-
-pub returns-in_err-group-in-load : goal.returns-in_err-group-in-load
-returns-in_err-group-in-load c =
-    if_none c.from_residual-in_err-group-in-load.result
-    (Asks c.args.name.now (rows_of (found_of c.args.options.now)))
-    c.from_residual-in_err-group-in-load.ensures
-
-pub returns-in_ok-group-in-load : goal.returns-in_ok-group-in-load
-returns-in_ok-group-in-load c = (
-  c.in-load.is,
-  record { file = c.in_ok-file.ensures; flag = c.in_ok-form-in-load.ensures },
-  c.in_ok-group-in-load.ensures,
-)
-
 pub returns-in-stat : goal.returns-in-stat
 returns-in-stat c = (c.in-stat.is, c.in_ok-file.ensures)
 
@@ -67,6 +48,29 @@ returns-in-verify c = (c.in-verify.is, c.in_ok-file.ensures)
 
 pub returns-in-upgrade : goal.returns-in-upgrade
 returns-in-upgrade c = (c.in-upgrade.is, c.in_ok-file.ensures)
+
+pub returns-in_err-optional-in-resize : goal.returns-in_err-optional-in-resize
+returns-in_err-optional-in-resize c =
+    if_none c.from_residual-in_err-optional-in-resize.result
+    (Asks c.args.name.now (rows_of (found_of c.args.options.now)))
+    c.from_residual-in_err-optional-in-resize.ensures
+
+pub returns-in_ok-optional-in-resize : goal.returns-in_ok-optional-in-resize
+returns-in_ok-optional-in-resize c =
+    (c.in-resize.is, c.in_ok-file.ensures, c.in_ok-optional-in-resize.ensures)
+
+pub returns-in_err-text-in-backup : goal.returns-in_err-text-in-backup
+returns-in_err-text-in-backup c =
+    if_none c.from_residual-in_err-text-in-backup.result
+    (Asks c.args.name.now (rows_of (found_of c.args.options.now)))
+    c.from_residual-in_err-text-in-backup.ensures
+
+pub returns-in_ok-text-in-backup : goal.returns-in_ok-text-in-backup
+returns-in_ok-text-in-backup c =
+    (c.in-backup.is, c.in_ok-file.ensures, c.in_ok-text-in-backup.ensures)
+
+pub returns-in-salvage : goal.returns-in-salvage
+returns-in-salvage c = (c.in-salvage.is, c.in_ok-file.ensures)
 
 pub returns-in_default : goal.returns-in_default
 returns-in_default c = c.of_key.ensures

@@ -1,7 +1,7 @@
 use Rattle.std.proofs.Common.{◌≡◌, ◌∙◌, IfErr, IfOk, inl, map, ap, refl, codes}
 use Rattle.clap.specs.Words.{app_of, takes}
-use Rattle.dbm_words.specs.Asking.{IsVerbose, Names, NamesNoMemory, NamesNoSource}
-use Rattle.dbm_words.specs.declared.words.WordsError.TheVariants.{RehearsalSource, ScriptSource, VersionSource}
+use Rattle.dbm_words.specs.Asking.{IsVerbose, IsWait, Names, NamesNoFile, NamesNoMemory, NamesNoReplace, NamesNoSource}
+use Rattle.dbm_words.specs.declared.words.WordsError.TheVariants.{LoadLimit, ReadSource, RehearsalSource, ScriptSource, VersionSource}
 use Rattle.dbm_words.proofs.Reading.{of_words, rows_of_words}
 use Rattle.dbm_words.proofs.Refusing.{choice_is_sorted, choice_passes, memory_is_other}
 use Rattle.dbm_words.proofs.words.read_words.Goals as goal
@@ -18,6 +18,13 @@ returns-in-Ok-try_get_matches_from-clause-verbose c =
     (map (λ word. word.now) c.args.words.now)
     (λ rows. IfOk c.requested.result (λ r. IsVerbose rows r.verbose))
     c.in-Ok.ensures.shape c.in-Ok-try_get_matches_from.ensures.matches c.requested.ensures.verbose
+
+pub returns-in-Ok-try_get_matches_from-clause-wait : goal.returns-in-Ok-try_get_matches_from-clause-wait
+returns-in-Ok-try_get_matches_from-clause-wait c =
+    rows_of_words c.in-Ok-try_get_matches_from.matches (app_of c.in-Ok.command)
+    (map (λ word. word.now) c.args.words.now)
+    (λ rows. IfOk c.requested.result (λ r. IsWait rows r.wait))
+    c.in-Ok.ensures.shape c.in-Ok-try_get_matches_from.ensures.matches c.requested.ensures.wait
 
 pub returns-in-Ok-try_get_matches_from-clause-source : goal.returns-in-Ok-try_get_matches_from-clause-source
 returns-in-Ok-try_get_matches_from-clause-source c =
@@ -42,6 +49,20 @@ returns-in-Ok-try_get_matches_from-clause-version c =
     (λ entered. IfErr c.requested.result (λ e. e ≡ VersionSource → NamesNoMemory entered))
     c.in-Ok.ensures.shape c.in-Ok-try_get_matches_from.ensures.matches c.requested.ensures.version
 
+pub returns-in-Ok-try_get_matches_from-clause-read : goal.returns-in-Ok-try_get_matches_from-clause-read
+returns-in-Ok-try_get_matches_from-clause-read c =
+    of_words c.in-Ok-try_get_matches_from.matches (app_of c.in-Ok.command)
+    (map (λ word. word.now) c.args.words.now)
+    (λ entered. IfErr c.requested.result (λ e. e ≡ ReadSource → NamesNoFile entered))
+    c.in-Ok.ensures.shape c.in-Ok-try_get_matches_from.ensures.matches c.requested.ensures.read
+
+pub returns-in-Ok-try_get_matches_from-clause-limit : goal.returns-in-Ok-try_get_matches_from-clause-limit
+returns-in-Ok-try_get_matches_from-clause-limit c =
+    of_words c.in-Ok-try_get_matches_from.matches (app_of c.in-Ok.command)
+    (map (λ word. word.now) c.args.words.now)
+    (λ entered. IfErr c.requested.result (λ e. e ≡ LoadLimit → NamesNoReplace entered))
+    c.in-Ok.ensures.shape c.in-Ok-try_get_matches_from.ensures.matches c.requested.ensures.limit
+
 pub returns-in-Err-clause-source : goal.returns-in-Err-clause-source
 returns-in-Err-clause-source c = λ is. absurd (c.sorted.ensures.source.0 is)
 
@@ -50,6 +71,12 @@ returns-in-Err-clause-device c = λ is. absurd (c.sorted.ensures.source.1 is)
 
 pub returns-in-Err-clause-version : goal.returns-in-Err-clause-version
 returns-in-Err-clause-version c = λ is. absurd (c.sorted.ensures.source.2 is)
+
+pub returns-in-Err-clause-read : goal.returns-in-Err-clause-read
+returns-in-Err-clause-read c = λ is. absurd (c.sorted.ensures.source.3 is)
+
+pub returns-in-Err-clause-limit : goal.returns-in-Err-clause-limit
+returns-in-Err-clause-limit c = λ is. absurd (c.sorted.ensures.source.4 is)
 
 pub returns-in-Err-clause-passes : goal.returns-in-Err-clause-passes
 returns-in-Err-clause-passes c = λ taken.
@@ -65,6 +92,12 @@ returns-in_default-clause-device c = λ is. absurd (memory_is_other.1 is)
 
 pub returns-in_default-clause-version : goal.returns-in_default-clause-version
 returns-in_default-clause-version c = λ is. absurd (memory_is_other.2 is)
+
+pub returns-in_default-clause-read : goal.returns-in_default-clause-read
+returns-in_default-clause-read c = λ is. absurd (memory_is_other.3 is)
+
+pub returns-in_default-clause-limit : goal.returns-in_default-clause-limit
+returns-in_default-clause-limit c = λ is. absurd (memory_is_other.4 is)
 
 pub returns-in_default-clause-passes : goal.returns-in_default-clause-passes
 returns-in_default-clause-passes c = λ _. inl refl

@@ -1,0 +1,29 @@
+-- Openings that are tried again while another program has the file open.
+use Rattle.std.specs.Prelude.{◌≡◌, ◌≤◌, ℕ, List, length, Some, Result, Err, IfErr}
+use Rattle.std.specs.IoError.{error_kind}
+use Rattle.std.specs.List.{All, FoldsTo}
+use Rattle.std.specs.declared.io.Error.{Error}
+use Rattle.std.specs.declared.io.ErrorKind.TheVariants.{WouldBlock}
+use Rattle.dbm_file.specs.declared.named.Refusal.{Refusal}
+
+-- another program has the file open
+abbrev pub IsLocked : Refusal → Type 0
+IsLocked refusal =
+    (error : Error) × (refusal.system ≡ Some error) × (error_kind error ≡ WouldBlock)
+
+-- the opening was refused so
+abbrev pub FindsLocked : {T : Type 0} → Result T Refusal → Type 0
+FindsLocked opened = (refusal : Refusal) × (opened ≡ Err refusal) × IsLocked refusal
+
+-- The result is that of the last of some openings, of which each before the last found the file
+-- locked. There are no more than `most` of those, and so many where the last found it locked too.
+pub record EndsWaiting {T F : Type 0} (opening : F → Result T Refusal → F → Type 0) (most : ℕ)
+    (first : F) (result : Result T Refusal) : Type 0 where
+  pub before : List (Result T Refusal)
+  pub next : F
+  pub last : F
+  pub opened : FoldsTo opening first before next
+  pub locked : All FindsLocked before
+  pub few : length before ≤ most
+  pub ended : opening next result last
+  pub patient : IfErr result (λ refusal. IsLocked refusal → length before ≡ most)

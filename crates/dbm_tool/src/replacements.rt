@@ -1,0 +1,82 @@
+// Tables that are put in the place of others, and copies.
+ghost use Rattle.std.specs.Prelude.{◌≡◌};
+ghost use Rattle.dbm_tool.specs.Endings.{EndsAs};
+
+use crate::host::Host;
+use dbm_aside::{Stop, backup, replace, resize};
+use dbm_commands::{Failure, Outcome};
+use dbm_lines::TextForm;
+use dbm_plan::{Plan, Spelling};
+use dbm_progress::Progress;
+use std::fs::File;
+use std::io::BufRead;
+use std::rt::Files;
+
+/// Puts a table with the pairs of a text in the place of the one that is there.
+pub fn replace_table<T: Files<File = File>, R: BufRead, P: Progress>(
+    host: &mut Host<'_, T>,
+    file: &str,
+    spelling: Spelling,
+    limit: Option<u32>,
+    input: &mut R,
+    progress: &mut P,
+) -> Result<Outcome, Failure>
+    ensures { EndsAs (Plan.Replace file.entry spelling limit) result }
+{
+    let mut why = None;
+    let form = form_of(spelling);
+    let replaced = replace(
+        host.rt, host.alloc, file, limit, form, input, &mut why, progress,
+    );
+    host.bad_line = why.map(|why| (why, spelling));
+    match replaced {
+        Ok(_pairs) => Ok(Outcome::Done),
+        Err(stop) => Err(stopped(host, stop)),
+    }
+}
+
+/// Puts a table with the same pairs in the place of the one that is there.
+pub fn resize_table<T: Files<File = File>, P: Progress>(
+    host: &mut Host<'_, T>,
+    file: &str,
+    limit: Option<u32>,
+    progress: &mut P,
+) -> Result<Outcome, Failure>
+    ensures { EndsAs (Plan.Resize file.entry limit) result }
+{
+    match resize(host.rt, host.alloc, file, limit, progress) {
+        Ok(_pairs) => Ok(Outcome::Done),
+        Err(stop) => Err(stopped(host, stop)),
+    }
+}
+
+/// Makes a whole copy of a table under a name that is free.
+pub fn copy_table<T: Files<File = File>, P: Progress>(
+    host: &mut Host<'_, T>,
+    file: &str,
+    to: &str,
+    progress: &mut P,
+) -> Result<Outcome, Failure>
+    ensures { EndsAs (Plan.Backup file.entry to.entry) result }
+{
+    match backup(host.rt, host.alloc, file, to, progress) {
+        Ok(_pairs) => Ok(Outcome::Done),
+        Err(stop) => Err(stopped(host, stop)),
+    }
+}
+
+/// How the lines of a text are spelled.
+fn form_of(spelling: Spelling) -> TextForm {
+    match spelling {
+        Spelling::Hexadecimal => TextForm::Hexadecimal,
+        Spelling::Text => TextForm::Escaped,
+    }
+}
+
+/// The failure by what stopped it, whose cause is kept.
+fn stopped<T>(host: &mut Host<'_, T>, stop: Stop) -> Failure
+    ensures { result ≡ Failure.Fault stop.fault }
+{
+    host.cause = stop.system;
+    Failure::Fault(stop.fault)
+}
