@@ -46,7 +46,7 @@ static int make_alone(const char *path, int flags, mode_t mode) {
     int fd = open(path, flags | O_CREAT | O_EXCL, mode);
     if (fd >= 0 || errno != EEXIST) return fd;
     struct stat it;
-    fd = open(path, flags | O_NOFOLLOW | O_NONBLOCK);
+    fd = open(path, flags | O_NOFOLLOW);
     if (fd >= 0 && !fstat(fd, &it) && is_blank(&it) && it.st_uid == geteuid()) return fd;
     if (fd >= 0) close(fd);
     errno = EEXIST;
@@ -70,11 +70,20 @@ static int make_file(const char *path, int flags, mode_t mode, bool alone) {
 static int find_file(const char *path, int flags, mode_t mode) {
     bool writes = ndbm_file_is_written(flags), creates = flags & O_CREAT, alone = creates && (flags & O_EXCL);
     int passed = flags & (O_NOFOLLOW | O_SYNC | O_DSYNC | O_NONBLOCK | O_NOCTTY | O_NOATIME);
-    passed |= O_CLOEXEC | (writes ? O_RDWR : O_RDONLY);
+    /* A pipe is opened at once too, and then refused. */
+    passed |= O_CLOEXEC | O_NONBLOCK | (writes ? O_RDWR : O_RDONLY);
     if (creates && writes) return make_file(path, passed, mode, alone);
     int fd = open(path, passed);
     if (fd < 0 || !alone) return fd;
     errno = EEXIST;
+    return give_up(fd);
+}
+
+/* A database is a plain file. Nothing else is read or written: a pipe would have its readers wait. */
+static int plain_file(int fd) {
+    struct stat it;
+    if (fd < 0 || (!fstat(fd, &it) && S_ISREG(it.st_mode))) return fd;
+    errno = S_ISDIR(it.st_mode) ? EISDIR : EINVAL;
     return give_up(fd);
 }
 
@@ -110,7 +119,7 @@ static int lock_file(int fd, const char *path, bool writes) {
 /* The file is opened anew at each try, since another one may have got its name. */
 int ndbm_file_open(const char *path, int flags, mode_t mode, const dbmx_how *how) {
     for (uint64_t tries = 0;; tries++) {
-        int fd = above_standard(find_file(path, flags, mode));
+        int fd = above_standard(plain_file(find_file(path, flags, mode)));
         if (fd < 0 || (how->options & DBMX_UNLOCKED)) return fd;
         if (!lock_file(fd, path, ndbm_file_is_written(flags))) return fd;
         give_up(fd);

@@ -48,10 +48,10 @@ _dbmtool() {
     store | insert | fetch | delete) options='-x -h --help' ;;
     script) options='--memory --read --v2 -h --help' ;;
     rehearse) options='--memory --stops --v2 -h --help' ;;
-    dump) options='--text -h --help' ;;
+    list | dump) options='--text -h --help' ;;
     load) options='--group --limit --replace --text -h --help' ;;
     resize) options='--limit -h --help' ;;
-    list | stat | verify | upgrade | backup | salvage | faults) options='-h --help' ;;
+    stat | verify | upgrade | backup | salvage | faults) options='-h --help' ;;
   esac
   places=$(_dbmtool_places)
   case $word,$places,${COMP_WORDS[1]} in

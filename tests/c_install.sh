@@ -65,6 +65,7 @@ mv usr moved && is_usable "$work/moved" && mv moved usr
 # taken away, with what else is there left
 touch usr/lib/another
 "$top/install" --remove "$work/usr" || wrong "./install --remove"
+[ ! -e usr/include/kumquatfen ] || wrong "the folder of the header is left behind"
 [ "$(find usr ! -type d)" = usr/lib/another ] || { wrong "left behind:"; find usr ! -type d; }
 DESTDIR=$work/dest "$top/install" --remove /opt/it && [ -z "$(find dest ! -type d)" ] || wrong "left behind below DESTDIR"
 "$top/install" "$work/tool" > out 2>&1 || { wrong "./install:"; cat out; }

@@ -27,6 +27,7 @@ head -n 1000 dumped > some
 "$program" create fourth && "$program" load --text fourth < fields && "$program" dump fourth | cmp - some ||
   { echo "the dump of fields doesn't load back"; exit 1; }
 [ "$(LC_ALL=C tr -d '\t\n -~' < fields | wc -c)" = 0 ] || { echo "the dump of fields isn't printable"; exit 1; }
+"$program" list --text third > listed && cut -f1 fields | cmp - listed || { echo "the list of fields isn't the keys of the dump"; exit 1; }
 echo "$(wc -l < dumped) pairs, in a file of $(stat -c %s first.db) bytes"
 
 # Near pairs and far ones: under a key of each length up to 1,023 a far one, whose content is the shortest that is far, or fills one page or two, or

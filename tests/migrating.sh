@@ -83,6 +83,22 @@ END
   follows 'From a table of Postfix' && are_there Postfix
 
   anew
+  cat > aliases <<'END'
+# who gets whose mail
+Abuse: alice
+
+root :ann,
+   bob
+  # not this
+"Two Words": carol
+"a\"b":dave
+info:	"|/usr/bin/count x"  
+owner-list: :include:/etc/list
+END
+  printf '%s\n' '612262 64617665' '6162757365 616c696365' '696e666f 227c2f7573722f62696e2f636f756e74207822' '6f776e65722d6c697374 3a696e636c7564653a2f6574632f6c697374' '726f6f74 616e6e2c202020626f62' '74776f20776f726473 6361726f6c' > wanted
+  follows 'From aliases(5)' && are_there 'aliases(5)'
+
+  anew
   rows > table.tabs
   follows 'From lines of a key, a tab and a content' || wrong 'tabs'
   rows > before && rm table.tabs

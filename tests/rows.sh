@@ -296,6 +296,7 @@ v2 fetch -x far 61 [] [07*2033/] [] 0
 v2 insert far a x [] [] [] 1
 v2 store far b aa*1500 [] [] [] 0
 v2 list far [] [61/62/] [] 0
+v2 list --text far [] [a/b/] [] 0
 v2 dump far [] [61 07*2033/62 61*3000/] [] 0
 v2 stat far [] [pairs 2/limit 100/buckets 1/level 0/split 0/pages 8/free 0/] [] 0
 v2 store far a x [] [] [] 0
@@ -371,6 +372,8 @@ upgrade t --v2|'--v2'
 dump t --memory 5|'--memory'
 dump t --group 5|'--group'
 load t --group 0|'0'
+rehearse --memory 5 --stops 0|'0'
+list t --text --text|--text
 load t --group 100001|'100001'
 load t --group many|'many'
 load t --limit 5|dbmtool: --limit needs --replace

@@ -39,11 +39,11 @@ long=$(printf '%02100d' 0)
 
 # the words of each fault that a command may end by
 tells 'dbmtool: fault 5' "t.db: the pair is longer than the file's version allows: key and content together have more than 2026 bytes, and in version 2 the key more than 1023 or the content more than 65535: shorten them, or \`dbmtool upgrade\`" store t key "$long"
-tells 'dbmtool: fault 6' 'one.db: the limit is reached, and the key is new: dump, create a database with a higher limit, and load' store one new content
-tells 'dbmtool: fault 6' 'one.db: the limit is reached, and the key is new: dump, create a database with a higher limit, and load' insert one new content
+tells 'dbmtool: fault 6' 'one.db: the limit is reached, and the key is new: take a higher one, by `dbmtool resize`' store one new content
+tells 'dbmtool: fault 6' 'one.db: the limit is reached, and the key is new: take a higher one, by `dbmtool resize`' insert one new content
 cp t.db damaged.db
 printf '\377\377' | dd of=damaged.db bs=1 seek=2080 conv=notrunc 2> /dev/null
-tells 'dbmtool: fault 9' 'damaged.db: the file is damaged: load a dump, or restore the file' verify damaged
+tells 'dbmtool: fault 9' 'damaged.db: the file is damaged: restore a backup or load a dump, or take what `dbmtool salvage` prints' verify damaged
 tells 'dbmtool: fault 10' 'text.db: the file is no database: look at the name, which is given without `.db`' fetch text key
 cp t.db new.db
 printf '\000\000\000\003' | dd of=new.db bs=1 seek=2064 conv=notrunc 2> /dev/null
@@ -55,7 +55,14 @@ tells 'dbmtool: fault 15' 't.db: there is such a file already: take another name
 
 # the name is the one that was given
 tells 'dbmtool: fault 14' 'below/none.db: there is no such file: look at the name, or use `dbmtool create`' list below/none
-tells 'dbmtool: fault 6' './one.db: the limit is reached, and the key is new: dump, create a database with a higher limit, and load' store ./one new content
+tells 'dbmtool: fault 6' './one.db: the limit is reached, and the key is new: take a higher one, by `dbmtool resize`' store ./one new content
+
+# where the name has `.db` already, and there is a file of that name, the words say so
+suffixed='there is no such file, but there is one without the second `.db`: leave `.db` off the name'
+tells 'dbmtool: fault 14' "t.db.db: $suffixed" fetch t.db key
+tells 'dbmtool: fault 14' "below/t.db.db: $suffixed" load --replace below/t.db
+tells 'dbmtool: fault 14' 'none.db.db: there is no such file: look at the name, or use `dbmtool create`' fetch none.db key
+tells 'dbmtool: fault 14' 'in.db: there is no such file: look at the name, or use `dbmtool create`' fetch in key
 
 # what has no file
 tells 'dbmtool: fault 13' 'a limit outside 1 to 1000000: take one within' script --memory 0
@@ -169,7 +176,7 @@ tells 'dbmtool: line 1' 't.db: the line is too long' load t --text
 "$program" create three --limit 3 || exit 1
 printf '61 01\n62 02\n61 03\n63 04\n64 05\n65 06\n' > in
 for group in 1 2 4 100; do
-  tells 'dbmtool: fault 6' 'three.db: line 5: the limit is reached, and the key is new: dump, create a database with a higher limit, and load' load three --group $group
+  tells 'dbmtool: fault 6' 'three.db: line 5: the limit is reached, and the key is new: take a higher one, by `dbmtool resize`' load three --group $group
 done
 { printf '61 01\n62 '; printf '0a%.0s' $(seq 2026); echo; } > in
 for group in 1 100; do
@@ -200,7 +207,7 @@ for asked in "env DBMTOOL_VERBOSE=1 $program" "$program --verbose"; do
   told 0 '' $asked store t key new
   told 3 'dbmtool: not hex' $asked store t key x -x
   told 3 'dbmtool: script needs FILE or --memory' $asked script
-  told 3 'dbmtool: not UTF-8: such a KEY or CONTENT is given in hexadecimal, with -x' $asked fetch t $'\xff'
+  told 3 'dbmtool: not UTF-8: such a KEY or CONTENT is given in hexadecimal, with -x; a FILE needs another name' $asked fetch t $'\xff'
 done
 
 # it stands in front of the command alone

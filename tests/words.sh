@@ -13,7 +13,7 @@ run() {
 # a word that is not UTF-8, as the command, the file's name, the key and the content
 run 0 create t --limit 100
 cp t.db before
-printf 'dbmtool: not UTF-8: such a KEY or CONTENT is given in hexadecimal, with -x\n' > not_text
+printf 'dbmtool: not UTF-8: such a KEY or CONTENT is given in hexadecimal, with -x; a FILE needs another name\n' > not_text
 no_text() {
   run 3 "$@"
   [ ! -s out ] && cmp -s err not_text || { printf 'dbmtool %q:\n' "$*"; cat out err; bad=1; }
@@ -69,7 +69,7 @@ while read -r command said; do
     [ ! -s out ] && grep -q -- "'-x'" err && grep -q "$said" err || { wrong "dbmtool $words:"; cat out err; }
   done
 done <<'ROWS'
-list in hexadecimal always
+list in hexadecimal but for --text
 dump in hexadecimal but for --text
 ROWS
 exit $bad

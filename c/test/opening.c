@@ -86,7 +86,7 @@ static void descriptors(void) {
     for (size_t i = 0; i < sizeof passed / sizeof *passed; i++) {
         DBM *db = open_or_end("t", O_RDWR | passed[i]);
         int flags = fcntl(dbm_pagfno(db), F_GETFL);
-        CHECK((flags & shown) == (passed[i] & shown) && !(flags & O_APPEND));
+        CHECK((flags & shown) == ((passed[i] | O_NONBLOCK) & shown) && !(flags & O_APPEND));
         CHECK(fcntl(dbm_pagfno(db), F_GETFD) == FD_CLOEXEC);
         CHECK(dbm_store(db, of("a"), of("1"), DBM_REPLACE) == 0);
         dbm_close(db);
@@ -215,6 +215,13 @@ static void refusals(void) {
     REFUSED(EISDIR, 2, "below", O_RDWR, NULL);
     REFUSED(EISDIR, 2, "below", O_RDWR | O_CREAT, NULL);
     REFUSED(EISDIR, 2, "below", O_RDONLY, NULL);
+
+    /* a pipe, which nobody has open at its other end */
+    CHECK(!mkfifo("pipe.db", 0600));
+    REFUSED(EINVAL, 2, "pipe", O_RDONLY, NULL);
+    REFUSED(EINVAL, 2, "pipe", O_RDWR, NULL);
+    REFUSED(EINVAL, 2, "pipe", O_RDWR | O_CREAT, NULL);
+    REFUSED(EINVAL, 2, "pipe", O_RDWR | O_CREAT | O_TRUNC, NULL);
 }
 
 static void rights(void) {

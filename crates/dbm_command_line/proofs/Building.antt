@@ -1,9 +1,10 @@
 -- What an option and a subcommand add to a command's definitions.
-use Rattle.std.proofs.Common.{◌≡◌, ◌∙◌, ◌||◌, true, false, List, [], ◌∷◌, Some, Bool, ℕ, ap, ap₂, IfOk, Result}
+use Rattle.std.proofs.Common.{◌≡◌, ◌∙◌, ◌||◌, true, false, List, [], ◌∷◌, Some, Bool, ℕ, ℤ, pos, ap, ap₂, IfOk, Result}
 use Rattle.std.specs.Borrow.{Bor}
+use Rattle.std.specs.Int.{int_max, int_min}
 use Rattle.std.proofs.lemmas.Result.{IfOk-weaker}
 use Rattle.clap.specs.Simple.{app_of_fields}
-use Rattle.clap.specs.Words.{AddsArg, AddsSubcommand, App, Rule, Shape, Text, rule_of, with_rule, with_subcommand}
+use Rattle.clap.specs.Words.{AddsArg, AddsSubcommand, App, Rule, Shape, Text, rule_of, signed_between, with_rule, with_subcommand}
 use Rattle.clap.specs.declared.builder.arg.Arg.{Arg}
 use Rattle.clap.specs.declared.builder.action.ArgAction.{ArgAction}
 use Rattle.clap.specs.declared.builder.command.Command.{Command}
@@ -89,6 +90,14 @@ pub with_help : {text : Bor Text} (old new : Arg) (rule : Rule)
     → new ≡ record old { help = Some text } → IsRule old rule → IsRule new rule
 with_help {text} old new rule is was =
     with_settings new (record old { help = Some text }) rule is was.shape was.local
+
+-- the parser of a `u32`, narrowed to the numbers from one to another
+pub narrowed_by : (narrow : ValueParser) (least most first last : ℤ) → first ≡ least → last ≡ most
+    → narrow ≡ signed_between (int_max (pos 0) first) (int_min (pos 4294967295) last)
+    → narrow ≡ signed_between (int_max (pos 0) least) (int_min (pos 4294967295) most)
+narrowed_by narrow least most first last first_is last_is is =
+    is ∙ ap₂ (λ a b. signed_between (int_max (pos 0) a) (int_min (pos 4294967295) b))
+    first_is last_is
 
 -- what stands behind these two has no name here, so their caller shows what the parser reads of it
 pub with_value_name : (old new : Arg) (rule : Rule)

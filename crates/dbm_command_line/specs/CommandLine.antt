@@ -26,6 +26,13 @@ group_rule = record (number_rule (codes "group")) {
       Some (parser.Signed (pos 1) (pos 100000));
 }
 
+-- `--stops N`, and N from 1
+abbrev pub stops_rule : Rule
+stops_rule = record (number_rule (codes "stops")) {
+  parser =
+      Some (parser.Signed (pos 1) (pos 4294967295));
+}
+
 -- `-x`
 abbrev pub hexadecimal_rule : Rule
 hexadecimal_rule = record (new_rule (codes "hexadecimal")) {
@@ -127,7 +134,7 @@ script_line = line (codes "script")
 abbrev pub rehearse_line : Shape
 rehearse_line = line (codes "rehearse")
     (record (word_rule (codes "file")) { required = false } ∷ number_rule (codes "memory")
-    ∷ version_rule ∷ number_rule (codes "stops") ∷ [])
+    ∷ version_rule ∷ stops_rule ∷ [])
 
 -- `faults`
 abbrev pub faults_line : Shape
@@ -147,7 +154,7 @@ command_line = record {
   top = record program_line { is_leaf = false };
   subs = create_line ∷ pair_line (codes "store") ∷ pair_line (codes "insert")
       ∷ key_line (codes "fetch") ∷ key_line (codes "delete")
-      ∷ file_line (codes "list") ∷ pairs_line (codes "dump") ∷ load_line
+      ∷ pairs_line (codes "list") ∷ pairs_line (codes "dump") ∷ load_line
       ∷ file_line (codes "stat") ∷ file_line (codes "verify") ∷ file_line (codes "upgrade")
       ∷ resize_line ∷ backup_line ∷ file_line (codes "salvage")
       ∷ script_line ∷ rehearse_line ∷ faults_line ∷ [];

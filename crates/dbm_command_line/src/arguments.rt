@@ -1,9 +1,9 @@
 // The words and options that commands take.
 ghost use Rattle.dbm_command_line.specs.Building.{IsRule};
-ghost use Rattle.dbm_command_line.specs.CommandLine.{group_rule, hexadecimal_rule, number_rule, read_rule, replace_rule, text_rule, verbose_rule, version_rule, wait_rule, word_rule};
+ghost use Rattle.dbm_command_line.specs.CommandLine.{group_rule, hexadecimal_rule, number_rule, read_rule, replace_rule, stops_rule, text_rule, verbose_rule, version_rule, wait_rule, word_rule};
 
 use crate::names::{
-    GROUP, HEXADECIMAL, LONGEST_WAIT, MOST_LINES, READ, REPLACE, TEXT, V2, VERBOSE, WAIT,
+    GROUP, HEXADECIMAL, LONGEST_WAIT, MOST_LINES, READ, REPLACE, STOPS, TEXT, V2, VERBOSE, WAIT,
 };
 use clap::{Arg, ArgAction, value_parser};
 use std::alloc::Global;
@@ -43,6 +43,17 @@ pub fn group<'a>(alloc: Global) -> Arg<'a>
         )
 }
 
+/// The option `--stops`, whose value is from 1 on.
+pub fn stops<'a>(alloc: Global) -> Arg<'a>
+    ensures { IsRule result stops_rule }
+{
+    Arg::new(alloc, STOPS)
+        .long(STOPS)
+        .value_name("N")
+        .value_parser(value_parser!(u32).range(1..=i64::from(u32::MAX)))
+        .help("Stop N times at most, spread evenly, and not before each read, write and sync")
+}
+
 /// The flag `-x`.
 pub fn hexadecimal<'a>(alloc: Global) -> Arg<'a>
     ensures { IsRule result hexadecimal_rule }
@@ -55,16 +66,14 @@ pub fn hexadecimal<'a>(alloc: Global) -> Arg<'a>
         )
 }
 
-/// The flag `--text` of a command of all pairs.
-pub fn text_form<'a>(alloc: Global) -> Arg<'a>
+/// The flag `--text` of a command of all pairs, or of all keys.
+pub fn text_form<'a>(alloc: Global, help: &'a str) -> Arg<'a>
     ensures { IsRule result text_rule }
 {
     Arg::new(alloc, TEXT)
         .long(TEXT)
         .action(ArgAction::SetTrue)
-        .help(
-            "Lines are key and content with a tab between them, and `\\t`, `\\n`, `\\\\`, `\\xHH` for bytes; else two words in hexadecimal",
-        )
+        .help(help)
 }
 
 /// The flag `--v2` of a command that makes a database.

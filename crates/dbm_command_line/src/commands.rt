@@ -4,11 +4,12 @@ ghost use Rattle.dbm_command_line.specs.Building.{Adds, IsApp, alone};
 ghost use Rattle.dbm_command_line.specs.CommandLine.{backup_line, command_line, create_line, faults_line, file_line, key_line, load_line, pair_line, pairs_line, program_line, rehearse_line, resize_line, script_line};
 
 use crate::arguments::{
-    for_reading, group, hexadecimal, number, replace, text_form, verbose, version, wait, word,
+    for_reading, group, hexadecimal, number, replace, stops, text_form, verbose, version, wait,
+    word,
 };
 use crate::names::{
     BACKUP, CONTENT, CREATE, DELETE, DUMP, FAULTS, FETCH, FILE, INSERT, KEY, LIMIT, LIST, LOAD,
-    MEMORY, REHEARSE, RESIZE, SALVAGE, SCRIPT, STAT, STOPS, STORE, TO, UPGRADE, VERIFY,
+    MEMORY, REHEARSE, RESIZE, SALVAGE, SCRIPT, STAT, STORE, TO, UPGRADE, VERIFY,
 };
 use crate::texts::{about_text, load_examples, rehearse_steps, script_lines};
 use clap::Command;
@@ -27,10 +28,16 @@ const CREATE_V2_HELP: &str =
 
 const MEMORY_V2_HELP: &str = "With --memory: a database of version 2 of the format";
 
-// Whoever gives -x to these is told by their usage that it isn't needed.
-const LIST_USAGE: &str = "dbmtool list <FILE>
+const KEYS_TEXT_HELP: &str =
+    "Keys as text, with `\\t`, `\\n`, `\\\\`, `\\xHH` for bytes; else in hexadecimal";
 
-Keys are printed in hexadecimal always, so there is no -x.";
+const PAIRS_TEXT_HELP: &str =
+    "Lines are key and content with a tab between them, and `\\t`, `\\n`, `\\\\`, `\\xHH` for bytes; else two words in hexadecimal";
+
+// Whoever gives -x to these is told by their usage that it isn't needed.
+const LIST_USAGE: &str = "dbmtool list [--text] <FILE>
+
+Keys are printed in hexadecimal but for --text, so there is no -x.";
 
 const DUMP_USAGE: &str = "dbmtool dump [--text] <FILE>
 
@@ -148,13 +155,14 @@ fn delete_command<'a>(alloc: Global) -> Result<Command<'a>, AllocError>
 }
 
 fn list_command<'a>(alloc: Global) -> Result<Command<'a>, AllocError>
-    ensures { IfOk result (λ c. IsApp c (alone (file_line (codes "list")))) }
+    ensures { IfOk result (λ c. IsApp c (alone (pairs_line (codes "list")))) }
 {
-    let command = file_command(
+    let command = text_command(
         alloc,
         LIST,
-        "Prints the keys in hexadecimal, one a line",
-        "Example:\n  dbmtool list colors",
+        "Prints the keys, one a line, in hexadecimal or as text",
+        KEYS_TEXT_HELP,
+        "Example:\n  dbmtool list colors\n  dbmtool list --text colors",
     )?;
     Ok(command.override_usage(LIST_USAGE))
 }
@@ -288,18 +296,13 @@ fn rehearse_command<'a>(alloc: Global) -> Result<Command<'a>, AllocError>
         MEMORY,
         "In place of FILE: a new database of at most N pairs (1 to 1000000)",
     );
-    let stops = number(
-        alloc,
-        STOPS,
-        "Stop N times at most, spread evenly, and not before each read, write and sync",
-    );
     Command::new(alloc, REHEARSE)
         .about("Makes a script's calls in memory, stopped anywhere, and looks at what is left")
         .after_help(rehearse_steps())
         .arg(word(alloc, FILE, "FILE", FILE_HELP).required(false))?
         .arg(memory)?
         .arg(version(alloc, MEMORY_V2_HELP))?
-        .arg(stops)
+        .arg(stops(alloc))
 }
 
 /// The command that prints the statuses and the faults.
@@ -320,7 +323,20 @@ fn pairs_command<'a>(
 ) -> Result<Command<'a>, AllocError>
     ensures { IfOk result (λ c. IsApp c (alone (pairs_line name.now))) }
 {
-    file_command(alloc, name, about, after)?.arg(text_form(alloc))
+    text_command(alloc, name, about, PAIRS_TEXT_HELP, after)
+}
+
+/// A command whose lines may be text, of which `help` says how they are.
+fn text_command<'a>(
+    alloc: Global,
+    name: &'a str,
+    about: &'a str,
+    help: &'a str,
+    after: &'a str,
+) -> Result<Command<'a>, AllocError>
+    ensures { IfOk result (λ c. IsApp c (alone (pairs_line name.now))) }
+{
+    file_command(alloc, name, about, after)?.arg(text_form(alloc, help))
 }
 
 /// A command of a pair, as `key_command` has a key.

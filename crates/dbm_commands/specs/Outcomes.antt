@@ -8,7 +8,7 @@ use Rattle.dbm_file.specs.Database.{AtEachHandle}
 use Rattle.dbm_file.specs.Replies.{IsAnswered}
 use Rattle.dbm_file.specs.declared.calls.Call.{Call}
 use Rattle.dbm_file.specs.declared.calls.Reply.{Reply}
-use Rattle.dbm_file.specs.declared.calls.Reply.TheVariants.{Stored, Kept, Deleted, Absent, NoRecord, Refused}
+use Rattle.dbm_file.specs.declared.calls.Reply.TheVariants.{Stored, Kept, Deleted, Absent, NoRecord, Upgraded, Refused}
 use Rattle.dbm_file.specs.declared.database.Database.{Database}
 use Rattle.dbm_commands.specs.declared.outcomes.Outcome.{Outcome}
 use Rattle.dbm_commands.specs.declared.outcomes.Outcome.TheVariants.{Done, Nothing}
@@ -22,6 +22,7 @@ IsTold result Kept = result ≡ Ok Nothing
 IsTold result Deleted = result ≡ Ok Done
 IsTold result Absent = result ≡ Ok Nothing
 IsTold result NoRecord = result ≡ Ok Nothing
+IsTold result Upgraded = result ≡ Ok Done
 IsTold result (Refused fault) = result ≡ Err (Fault (Db fault))
 IsTold result _ = ⊥
 

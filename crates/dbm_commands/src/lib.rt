@@ -10,7 +10,7 @@ mod words;
 
 pub use ending::{closed, flushed};
 pub use outcomes::{Failure, Outcome};
-pub use pairs::{delete, fetch, store};
+pub use pairs::{delete, fetch, store, upgrade};
 pub use printing::stat;
 pub use verifying::verify;
 pub use words::bytes_of;

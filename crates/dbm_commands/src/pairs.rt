@@ -1,7 +1,7 @@
-// The commands on one pair.
+// The commands on one pair, and on the whole database.
 ghost use Rattle.std.specs.Prelude.{◌≡◌, ◌≢◌, ◌≤◌, Ok, Err, IfOk, IfSome, length};
-ghost use Rattle.dbm_file.specs.Replies.{told_of_store, told_of_delete, told_of_bytes};
-ghost use Rattle.dbm_file.specs.declared.calls.Call.TheVariants.{Store, Fetch, Delete};
+ghost use Rattle.dbm_file.specs.Replies.{told_of_store, told_of_delete, told_of_upgrade, told_of_bytes};
+ghost use Rattle.dbm_file.specs.declared.calls.Call.TheVariants.{Store, Fetch, Delete, Upgrade};
 ghost use Rattle.dbm_file.specs.declared.calls.Reply.TheVariants.{NoRecord};
 ghost use Rattle.dbm_commands.specs.Outcomes.{IsTold, MakesCall};
 ghost use Rattle.dbm_commands.specs.Printing.{IsFetched};
@@ -32,6 +32,13 @@ pub fn delete<S: PageStore>(db: &mut Database<S>, key: &[u8]) -> Result<Outcome,
     ensures { MakesCall db.old db.new (Delete key.now) (IsTold result) }
 {
     delete_told(db.delete(key))
+}
+
+/// Makes the database one of version 2 by one call, whose faults come in its order.
+pub fn upgrade<S: PageStore>(db: &mut Database<S>) -> Result<Outcome, Failure>
+    ensures { MakesCall db.old db.new Upgrade (IsTold result) }
+{
+    upgrade_told(db.upgrade())
 }
 
 /// Prints the content that the key has, as it is or as a word, and a line feed, and flushes the
@@ -69,6 +76,16 @@ fn delete_told(ended: Result<DeleteReply, Fault>) -> Result<Outcome, Failure>
     match ended {
         Ok(DeleteReply::Deleted) => Ok(Outcome::Done),
         Ok(DeleteReply::Absent) => Ok(Outcome::Nothing),
+        Err(fault) => Err(Failure::from(fault)),
+    }
+}
+
+/// What an upgrade tells.
+fn upgrade_told(ended: Result<(), Fault>) -> Result<Outcome, Failure>
+    ensures { IsTold result (told_of_upgrade ended) }
+{
+    match ended {
+        Ok(()) => Ok(Outcome::Done),
         Err(fault) => Err(Failure::from(fault)),
     }
 }

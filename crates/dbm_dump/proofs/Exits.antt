@@ -6,7 +6,7 @@ use Rattle.std.specs.BTreeSet.{BTreeSet}
 use Rattle.std.specs.Io.KnownBytes.{Appends}
 use Rattle.std.specs.Result.{is_ok}
 use Rattle.std.proofs.lemmas.List.{length-map}
-use Rattle.dbm_model.specs.Pairs.{Pair}
+use Rattle.dbm_model.specs.Pairs.{Key, Pair}
 use Rattle.dbm_fault.specs.Among.{IsAmong}
 use Rattle.dbm_fault.specs.declared.engine_fault.EngineFault.{EngineFault}
 use Rattle.dbm_fault.specs.declared.engine_fault.EngineFault.TheVariants.{Memory, Write, Db}
@@ -14,7 +14,7 @@ use Rattle.dbm_fault.specs.declared.fault.Fault.{Fault}
 use Rattle.dbm_fault.specs.declared.fault.Fault.TheVariants.{Device, Broken, NoPass, Damaged}
 use Rattle.dbm_fault.specs.declared.fault.Fault.TheVariants as fault
 use Rattle.page_io.proofs.Exits.{came}
-use Rattle.dbm_dump.specs.Dumping.{bytes_of_keys, bytes_of_pairs, key_lines, WritesPairs, WritesKeys}
+use Rattle.dbm_dump.specs.Dumping.{bytes_of_keys, bytes_of_pairs, WritesPairs, WritesKeys}
 
 -- the fault is the one that the callee was bound to answer
 pub same_exit : {T U : Type 0} (result : Result T EngineFault) (e f : EngineFault) → result ≡ Err e
@@ -112,16 +112,17 @@ writes_pairs line_of (Ok x) pairs most before after bound written = (
 )
 writes_pairs line_of (Err e) pairs most before after bound written = tt
 
-pub writes_keys : {E : Type 0} (wrote : Result Unit E) (keys : BTreeSet (Vec ℕ)) (most : ℕ)
-    (before after : Option (List ℕ)) → length keys.keys ≡ most
-    → OnOk wrote (Appends before after (key_lines (bytes_of_keys keys)))
-    → OnOk wrote (WritesKeys most before after)
-writes_keys (Ok x) keys most before after bound written = (
+pub writes_keys : {E : Type 0} (line_of : Key → List ℕ) (wrote : Result Unit E)
+    (keys : BTreeSet (Vec ℕ)) (most : ℕ) (before after : Option (List ℕ))
+    → length keys.keys ≡ most
+    → OnOk wrote (Appends before after (flat_map line_of (bytes_of_keys keys)))
+    → OnOk wrote (WritesKeys line_of most before after)
+writes_keys line_of (Ok x) keys most before after bound written = (
   bytes_of_keys keys,
   omega (arith, length-map keys.keys (λ (key : Vec ℕ). key.items), bound),
   written,
 )
-writes_keys (Err e) keys most before after bound written = tt
+writes_keys line_of (Err e) keys most before after bound written = tt
 
 -- no call on the database was refused
 pub no_call_refused : (result : Result Unit EngineFault) (fault : Fault)

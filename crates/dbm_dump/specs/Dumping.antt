@@ -7,11 +7,9 @@ use Rattle.std.specs.FinMap.{get}
 use Rattle.std.specs.Io.KnownBytes.{Appends}
 use Rattle.sect_dev.specs.Device.{MoreFaults}
 use Rattle.dbm_model.specs.Calls.{Call, Reply}
-use Rattle.dbm_text.specs.Lines.{with_line_feed}
 use Rattle.dbm_model.specs.Pairs.{Key, Pair, Contents}
 use Rattle.dbm_model.specs.States.{State, Handle, first_fault}
 use Rattle.dbm_model.specs.Steps.{holds_far}
-use Rattle.dbm_text.specs.Words.{word_of}
 use Rattle.page_io.specs.declared.store.PageStore.{Ghosts}
 use Rattle.dbm_file.specs.Answers.{IsStep, Survives, IsSameDatabase}
 use Rattle.dbm_file.specs.Calls.{Lent, lent_reply}
@@ -89,15 +87,12 @@ abbrev pub CopiesStep : {S : Type 0} {s : Ghosts S} → Database S s → Databas
 CopiesStep old new start call none result =
     (lent : Lent) × IsCopied lent result × IsStep old new start call (lent_reply none lent)
 
-abbrev pub key_lines : List Key → List ℕ
-key_lines keys = flat_map (λ key. with_line_feed (word_of key)) keys
-
 -- the lines of so many pairs were written
 abbrev pub WritesPairs : (Pair → List ℕ) → ℕ → Option (List ℕ) → Option (List ℕ) → Type 0
 WritesPairs line_of count before after =
     (pairs : List Pair) × (length pairs ≡ count) × Appends before after (flat_map line_of pairs)
 
 -- the same of keys
-abbrev pub WritesKeys : ℕ → Option (List ℕ) → Option (List ℕ) → Type 0
-WritesKeys count before after =
-    (keys : List Key) × (length keys ≡ count) × Appends before after (key_lines keys)
+abbrev pub WritesKeys : (Key → List ℕ) → ℕ → Option (List ℕ) → Option (List ℕ) → Type 0
+WritesKeys line_of count before after =
+    (keys : List Key) × (length keys ≡ count) × Appends before after (flat_map line_of keys)

@@ -2,11 +2,12 @@
 ghost use Rattle.std.specs.Prelude.{◌≡◌, ◌⊎◌, true, false, OnOk, IfErr, Err, ◌∷◌, [], flat_map};
 ghost use Rattle.dbm_fault.specs.Among.{IsErrAmong};
 ghost use Rattle.std.specs.Io.KnownBytes.{Appends};
-ghost use Rattle.dbm_text.specs.Dumps.{dump_line, dump_of, listing_of, text_dump_of, text_line};
+ghost use Rattle.dbm_text.specs.Dumps.{dump_line, dump_of, listing_of, text_dump_of, text_line, text_listing_of};
 ghost use Rattle.dbm_model.specs.Bounds.{V2};
-ghost use Rattle.dbm_lines.specs.Forms.{line_in, dump_in};
+ghost use Rattle.dbm_lines.specs.Forms.{line_in, key_line_in, dump_in, listing_in};
+ghost use Rattle.dbm_lines.specs.declared.forms.TextForm.TheVariants as form;
 ghost use Rattle.dbm_file.specs.Database.{meta_kept, page_state, AtEachHandle};
-ghost use Rattle.dbm_dump.specs.Dumping.{Reads, IsChance, IsPairChance, bytes_of_keys, bytes_of_pairs, WritesPairs, WritesKeys, key_lines};
+ghost use Rattle.dbm_dump.specs.Dumping.{Reads, IsChance, IsPairChance, bytes_of_keys, bytes_of_pairs, WritesPairs, WritesKeys};
 
 use crate::gather::gather_keys;
 use crate::pairs::gather_pairs;
@@ -92,10 +93,11 @@ pub fn dump_text_engine<S: PageStore, W: Write, P: Progress>(
     dump_in_form(alloc, db, writer, TextForm::Escaped, progress)
 }
 
-/// Writes each key in a line, in ascending byte order. It reads all keys before it writes, by a
-/// pass, and keeps them in memory until it ends. `Db(Damaged)` comes where the pass gives more keys
-/// than the file counts pairs, or fewer. After `Write` some of the text may be out. Each key that
-/// was read or written is a step of `progress`, which is cleared before the first one is written.
+/// Writes each key as a word in a line, in ascending byte order. It reads all keys before it writes,
+/// by a pass, and keeps them in memory until it ends. `Db(Damaged)` comes where the pass gives more
+/// keys than the file counts pairs, or fewer. After `Write` some of the text may be out. Each key
+/// that was read or written is a step of `progress`, which is cleared before the first one is
+/// written.
 pub fn list_engine<S: PageStore, W: Write, P: Progress>(
     alloc: Global,
     db: &mut Database<S>,
@@ -112,8 +114,70 @@ pub fn list_engine<S: PageStore, W: Write, P: Progress>(
     ensures reads { Reads db.old db.new result }
 
     // On any device.
-    ensures lines { OnOk result (WritesKeys (meta_kept db.old).pairs (W.contents writer.old)
-        (W.contents writer.new)) }
+    ensures lines { OnOk result (WritesKeys (key_line_in form.Hexadecimal) (meta_kept db.old).pairs
+        (W.contents writer.old) (W.contents writer.new)) }
+    ensures broken { (page_state db.old).usable ≡ false
+        → result ≡ Err (EngineFault.Db Fault.Broken) }
+    ensures unwritten { IfErr result (λ e. (e ≡ EngineFault.Write) ⊎ (writer.new ≡ writer.old)) }
+    ensures only { IsErrAmong result
+        (EngineFault.Memory ∷ EngineFault.Write ∷ EngineFault.Db Fault.Broken
+        ∷ EngineFault.Db Fault.NoPass ∷ EngineFault.Db Fault.Device
+        ∷ EngineFault.Db Fault.Damaged ∷ []) }
+{
+    list_in_form(alloc, db, writer, TextForm::Hexadecimal, progress)
+}
+
+/// Writes each key as a field in a line, with escapes, in ascending byte order. It reads, keeps in
+/// memory, tells its progress and fails as `list_engine` does.
+pub fn list_text_engine<S: PageStore, W: Write, P: Progress>(
+    alloc: Global,
+    db: &mut Database<S>,
+    writer: &mut W,
+    progress: &mut P,
+) -> Result<(), EngineFault>
+    ensures list { AtEachHandle db.old (λ h.
+        h.state.usable ≡ true → OnOk result
+        (Appends (W.contents writer.old) (W.contents writer.new) (text_listing_of h.state.map))) }
+    ensures whole { AtEachHandle db.old (λ h.
+        h.state.usable ≡ true → IfErr result (λ e. (e ≡ EngineFault.Write) ⊎ IsChance e)) }
+
+    // Whatever it answers, the map stays.
+    ensures reads { Reads db.old db.new result }
+
+    // On any device.
+    ensures lines { OnOk result (WritesKeys (key_line_in form.Escaped) (meta_kept db.old).pairs
+        (W.contents writer.old) (W.contents writer.new)) }
+    ensures broken { (page_state db.old).usable ≡ false
+        → result ≡ Err (EngineFault.Db Fault.Broken) }
+    ensures unwritten { IfErr result (λ e. (e ≡ EngineFault.Write) ⊎ (writer.new ≡ writer.old)) }
+    ensures only { IsErrAmong result
+        (EngineFault.Memory ∷ EngineFault.Write ∷ EngineFault.Db Fault.Broken
+        ∷ EngineFault.Db Fault.NoPass ∷ EngineFault.Db Fault.Device
+        ∷ EngineFault.Db Fault.Damaged ∷ []) }
+{
+    list_in_form(alloc, db, writer, TextForm::Escaped, progress)
+}
+
+/// Writes each key in a line of this form.
+fn list_in_form<S: PageStore, W: Write, P: Progress>(
+    alloc: Global,
+    db: &mut Database<S>,
+    writer: &mut W,
+    form: TextForm,
+    progress: &mut P,
+) -> Result<(), EngineFault>
+    ensures list { AtEachHandle db.old (λ h.
+        h.state.usable ≡ true → OnOk result
+        (Appends (W.contents writer.old) (W.contents writer.new) (listing_in form h.state.map))) }
+    ensures whole { AtEachHandle db.old (λ h.
+        h.state.usable ≡ true → IfErr result (λ e. (e ≡ EngineFault.Write) ⊎ IsChance e)) }
+
+    // Whatever it answers, the map stays.
+    ensures reads { Reads db.old db.new result }
+
+    // On any device.
+    ensures lines { OnOk result (WritesKeys (key_line_in form) (meta_kept db.old).pairs
+        (W.contents writer.old) (W.contents writer.new)) }
     ensures broken { (page_state db.old).usable ≡ false
         → result ≡ Err (EngineFault.Db Fault.Broken) }
     ensures unwritten { IfErr result (λ e. (e ≡ EngineFault.Write) ⊎ (writer.new ≡ writer.old)) }
@@ -124,7 +188,7 @@ pub fn list_engine<S: PageStore, W: Write, P: Progress>(
 {
     let keys = gather_keys(alloc, db, progress)?;
     progress.clear();
-    write_keys(writer, &keys, progress).map_err(|_| EngineFault::Write)
+    write_keys(writer, &keys, form, progress).map_err(|_| EngineFault::Write)
 }
 
 /// Writes each pair in a line of this form.
@@ -221,14 +285,29 @@ fn write_fields<W: Write>(writer: &mut W, key: &[u8], content: &[u8]) -> io::Res
 fn write_keys<W: Write, P: Progress>(
     writer: &mut W,
     keys: &BTreeSet<Vec<u8>>,
+    form: TextForm,
     progress: &mut P,
 ) -> io::Result<()>
     ensures { OnOk result (Appends (W.contents writer.old) (W.contents writer.new)
-        (key_lines (bytes_of_keys keys.now))) }
+        (flat_map (key_line_in form) (bytes_of_keys keys.now))) }
 {
     for key in keys {
-        write_bytes(writer, key)?;
+        write_key(writer, key, form)?;
         progress.step(Work::KeysWritten);
     }
     Ok(())
+}
+
+/// Writes the line of a key.
+fn write_key<W: Write>(writer: &mut W, key: &[u8], form: TextForm) -> io::Result<()>
+    ensures { OnOk result (Appends (W.contents writer.old) (W.contents writer.new)
+        (key_line_in form key.now)) }
+{
+    match form {
+        TextForm::Hexadecimal => write_bytes(writer, key),
+        TextForm::Escaped => {
+            write_escaped(writer, key)?;
+            writer.write_all(b"\n")
+        }
+    }
 }

@@ -50,8 +50,8 @@ macro_rules! failure {
     };
     (full $form:ident $($front:tt)*) => {
         $form! { $($front)* {
-            "  6   " "the limit is reached, and the key is new: dump, create a database with a"
-            "higher limit, and load"
+            "  6   " "the limit is reached, and the key is new: take a higher one, by"
+            "`dbmtool resize`"
         } }
     };
     (no_pass $form:ident $($front:tt)*) => {
@@ -61,7 +61,10 @@ macro_rules! failure {
         $form! { $($front)* { "  8   " "no room in the file for the change: take a larger device" } }
     };
     (damaged $form:ident $($front:tt)*) => {
-        $form! { $($front)* { "  9   " "the file is damaged: load a dump, or restore the file" } }
+        $form! { $($front)* {
+            "  9   " "the file is damaged: restore a backup or load a dump, or take what"
+            "`dbmtool salvage` prints"
+        } }
     };
     (not_a_database $form:ident $($front:tt)*) => {
         $form! { $($front)* {

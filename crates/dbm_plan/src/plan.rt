@@ -48,9 +48,10 @@ pub enum Plan<'a> {
         key: &'a str,
         spelling: Spelling,
     },
-    /// Print the keys.
+    /// Print the keys: as words, or as text, which has a field with escapes in each line.
     List {
         file: &'a str,
+        spelling: Spelling,
     },
     /// Print the pairs: as two words a line, or as text, which has two fields with escapes.
     Dump {

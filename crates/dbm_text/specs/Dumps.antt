@@ -22,6 +22,10 @@ text_line pair = with_line_feed (escaped pair.0 ++ 9 ∷ escaped pair.1)
 abbrev pub text_dump_of : Contents → List ℕ
 text_dump_of map = flat_map text_line (entries map)
 
--- the keys alone, in that order
+-- the keys alone as words, in that order
 abbrev pub listing_of : Contents → List ℕ
 listing_of map = flat_map (λ key. with_line_feed (word_of key)) (keys map)
+
+-- and as fields
+abbrev pub text_listing_of : Contents → List ℕ
+text_listing_of map = flat_map (λ key. with_line_feed (escaped key)) (keys map)

@@ -2,7 +2,7 @@
 use Rattle.std.specs.Prelude.{◌≡◌, ℕ, ◌<◌, ◌≤◌, List, [], ◌∷◌, length, slice_index, Some, None, codes}
 use Rattle.std.specs.List.{All}
 use Rattle.std.specs.FinMap.{empty}
-use Rattle.dbm_text.specs.Dumps.{text_dump_of}
+use Rattle.dbm_text.specs.Dumps.{text_dump_of, text_listing_of}
 use Rattle.dbm_text.specs.Escapes.{escaped, unescaped, pair_of_text_line, pair_of_fields, fields_in}
 use Rattle.dbm_text.specs.Texts.{two_pairs}
 
@@ -48,6 +48,7 @@ pub record TextLineExamples : Type 0 where
   pub empty_line : pair_of_text_line [] ≡ None
   pub no_pairs : text_dump_of empty ≡ []
   pub dump : text_dump_of two_pairs ≡ codes "a\\xff\t\\x01\nb\t\n"
+  pub listing : text_listing_of two_pairs ≡ codes "a\\xff\nb\n"
 
 -- a line of 266,240 bytes may say a pair, and one of more says none
 pub record LongTextLines : Type 0 where

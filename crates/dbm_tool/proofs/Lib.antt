@@ -1,3 +1,4 @@
+pub mod Carrying
 pub mod Statuses
 pub mod Tries
 pub mod Wording

@@ -1,5 +1,5 @@
 -- What a status tells.
-use Rattle.std.proofs.Common.{◌≡◌, ◌⊎◌, inl, inr, refl, ◌∙◌, sym, ap, subst, append-nil, ℕ, List, [], ◌++◌, Bool, Option, None, Result, Ok, Err, OnOk, IfErr, true, false, ◌||◌}
+use Rattle.std.proofs.Common.{◌≡◌, ◌⊎◌, inl, inr, refl, ◌∙◌, sym, ap, subst, append-nil, ℕ, List, [], ◌++◌, Bool, Option, None, Result, Ok, Err, IfErr, true, false, ◌||◌}
 use Rattle.std.specs.Io.KnownBytes.{Appends}
 use Rattle.dbm_words.specs.Asking.{AreVerbose, IsPlan}
 use Rattle.dbm_plan.specs.declared.plan.Plan.{Plan}
@@ -10,17 +10,26 @@ use Rattle.dbm_commands.specs.declared.outcomes.Failure.TheVariants.{NotHex, Not
 use Rattle.dbm_tool.specs.Causes.{file_of, is_fault}
 use Rattle.dbm_tool.specs.Endings.{EndsAs, has_lines, prints, reads}
 use Rattle.dbm_tool.specs.Faults.{failure_line}
-use Rattle.dbm_tool.specs.Plans.{Loses}
-use Rattle.dbm_tool.specs.Statuses.{AreRefused, AskFor, Tells, TellsFault, TellsLoss, TellsMisuse, TellsMore, status_of}
+use Rattle.dbm_tool.specs.Statuses.{AreRefused, AskFor, Tells, TellsFault, TellsMisuse, TellsMore, status_of}
 
--- at status 0 all was done
-pub done_at_zero : {P : Type 0} (r : Result Outcome Failure) (status : ℕ)
-    → status ≡ status_of r → status ≡ 0 → OnOk r P → P
-done_at_zero (Ok x) status is zero p = p
-done_at_zero (Err NotHex) status is zero p = absurd (let e = sym is ∙ zero in cc)
-done_at_zero (Err NotText) status is zero p = absurd (let e = sym is ∙ zero in cc)
-done_at_zero (Err (Fault met)) status is zero p = absurd (let e = sym is ∙ zero in cc)
-done_at_zero (Err (NotKept stop)) status is zero p = absurd (let e = sym is ∙ zero in cc)
+-- how a plan ended, by its status
+pub done_at_zero : (r : Result Outcome Failure) (status : ℕ) → status ≡ status_of r → status ≡ 0
+    → r ≡ Ok Done
+done_at_zero (Ok Done) status is zero = refl
+done_at_zero (Ok Nothing) status is zero = absurd (let e = sym is ∙ zero in cc)
+done_at_zero (Err NotHex) status is zero = absurd (let e = sym is ∙ zero in cc)
+done_at_zero (Err NotText) status is zero = absurd (let e = sym is ∙ zero in cc)
+done_at_zero (Err (Fault met)) status is zero = absurd (let e = sym is ∙ zero in cc)
+done_at_zero (Err (NotKept stop)) status is zero = absurd (let e = sym is ∙ zero in cc)
+
+pub nothing_at_one : (r : Result Outcome Failure) (status : ℕ) → status ≡ status_of r
+    → status ≡ 1 → r ≡ Ok Nothing
+nothing_at_one (Ok Done) status is one = absurd (let e = sym is ∙ one in cc)
+nothing_at_one (Ok Nothing) status is one = refl
+nothing_at_one (Err NotHex) status is one = absurd (let e = sym is ∙ one in cc)
+nothing_at_one (Err NotText) status is one = absurd (let e = sym is ∙ one in cc)
+nothing_at_one (Err (Fault met)) status is one = absurd (let e = sym is ∙ one in cc)
+nothing_at_one (Err (NotKept stop)) status is one = absurd (let e = sym is ∙ one in cc)
 
 -- of a failure that is no fault its line alone was told
 line_alone : (asked : Bool) (file : Option (List ℕ)) (number : Option ℕ) (told : Bool)
@@ -44,43 +53,26 @@ lines_as r asked wanted file name number told old new same same_file lines =
 
 -- at status 2 it told a fault of the plan, or a stop that lost a change
 pub tells_fault : (words : List (List ℕ)) (p : Plan) (r : Result Outcome Failure)
+    (EndsBy : Plan → Result Outcome Failure → Type 0)
     (status : ℕ) (verbose environment told : Bool) (number : Option ℕ)
-    (input printed_old printed_new old new : Option (List ℕ))
-    → IsPlan words p → EndsAs p r
-    → IfErr r (λ failure. Loses p failure input printed_old printed_new)
+    (old new : Option (List ℕ)) → IsPlan words p → EndsAs p r → EndsBy p r
     → AreVerbose words verbose → (number ≡ None) ⊎ (has_lines p ≡ true)
     → IfErr r (TellsMore (verbose || environment) (file_of p) number told old new)
-    → status ≡ status_of r
-    → status ≡ 2 → TellsFault words environment told old new
-    ⊎ TellsLoss words environment input printed_old printed_new told old new
-tells_fault words p (Ok Done) status verbose environment told number input was is old new is_plan
-    ends loses are_verbose of_load lines s two = absurd (let e = sym s ∙ two in cc)
-tells_fault words p (Ok Nothing) status verbose environment told number input was is old new is_plan
-    ends loses are_verbose of_load lines s two = absurd (let e = sym s ∙ two in cc)
-tells_fault words p (Err NotHex) status verbose environment told number input was is old new is_plan
-    ends loses are_verbose of_load lines s two = absurd (let e = sym s ∙ two in cc)
-tells_fault words p (Err NotText) status verbose environment told number input was is old new
-    is_plan ends loses are_verbose of_load lines s two = absurd (let e = sym s ∙ two in cc)
-tells_fault words p (Err (Fault met)) status verbose environment told number input was is old new
-    is_plan ends loses are_verbose of_load lines s two = inl (inl record {
+    → status ≡ status_of r → status ≡ 2 → TellsFault words environment told old new EndsBy
+tells_fault words p (Ok Done) EndsBy status verbose environment told number old new is_plan ends by
+    are_verbose of_load lines s two = absurd (let e = sym s ∙ two in cc)
+tells_fault words p (Ok Nothing) EndsBy status verbose environment told number old new is_plan ends
+    by are_verbose of_load lines s two = absurd (let e = sym s ∙ two in cc)
+tells_fault words p (Err NotHex) EndsBy status verbose environment told number old new is_plan ends
+    by are_verbose of_load lines s two = absurd (let e = sym s ∙ two in cc)
+tells_fault words p (Err NotText) EndsBy status verbose environment told number old new is_plan ends
+    by are_verbose of_load lines s two = absurd (let e = sym s ∙ two in cc)
+tells_fault words p (Err (Fault met)) EndsBy status verbose environment told number old new is_plan
+    ends by are_verbose of_load lines s two = inl record {
       plan = p;
       met = met;
       can_be_met = ends;
-      tells = record {
-        is_plan = is_plan;
-        verbose = verbose;
-        is_verbose = are_verbose;
-        number = number;
-        of_load = of_load;
-        lines = lines;
-      };
-    })
-tells_fault words p (Err (NotKept stop)) status verbose environment told number input was is old new
-    is_plan ends loses are_verbose of_load lines s two = inr record {
-      plan = p;
-      rehearses = ends;
-      stop = stop;
-      loses = loses;
+      ends = by;
       tells = record {
         is_plan = is_plan;
         verbose = verbose;
@@ -90,6 +82,21 @@ tells_fault words p (Err (NotKept stop)) status verbose environment told number 
         lines = lines;
       };
     }
+tells_fault words p (Err (NotKept stop)) EndsBy status verbose environment told number old new
+    is_plan ends by are_verbose of_load lines s two = inr (inr record {
+      plan = p;
+      rehearses = ends;
+      stop = stop;
+      ends = by;
+      tells = record {
+        is_plan = is_plan;
+        verbose = verbose;
+        is_verbose = are_verbose;
+        number = number;
+        of_load = of_load;
+        lines = lines;
+      };
+    })
 
 -- at status 3 it told a word that is not hexadecimal
 pub tells_misuse : (words : List (List ℕ)) (p : Plan) (r : Result Outcome Failure)

@@ -31,7 +31,7 @@ file_of (Store file key content spelling) = Some file.now
 file_of (Insert file key content spelling) = Some file.now
 file_of (Fetch file key spelling) = Some file.now
 file_of (Delete file key spelling) = Some file.now
-file_of (ListKeys file) = Some file.now
+file_of (ListKeys file spelling) = Some file.now
 file_of (Dump file spelling) = Some file.now
 file_of (Load file spelling group) = Some file.now
 file_of (Replace file spelling limit) = Some file.now
@@ -99,13 +99,25 @@ abbrev pub AreStreamWords : List ℕ → List ℕ → Type 0
 AreStreamWords stream words =
     (words ≡ stream) ⊎ ((told : List ℕ) × (words ≡ stream ++ (codes ": " ++ told)))
 
--- the words of a failure; in the place of those of fault 2 the system's own may stand
+-- there is no file of the name, but one that has `.db` in it already
+abbrev pub suffixed_words : List ℕ
+suffixed_words =
+    codes "there is no such file, but there is one without the second `.db`: leave `.db` off the name"
+
+-- the words of a refusal; in the place of those of fault 2 the system's own may stand
+abbrev pub AreRefusalWords : Refusal → List ℕ → Type 0
+AreRefusalWords refusal.Device words = Unit {0}
+AreRefusalWords refusal.Missing words =
+    (words ≡ fault_words refusal.Missing) ⊎ (words ≡ suffixed_words)
+AreRefusalWords fault words = words ≡ fault_words fault
+
+-- the words of a failure
 abbrev pub AreWords : Failure → List ℕ → Type 0
 AreWords (Fault Memory) words = words ≡ MEMORY_WORDS.now
 AreWords (Fault Read) words = AreStreamWords READ_WORDS.now words
 AreWords (Fault Write) words = AreStreamWords WRITE_WORDS.now words
 AreWords (Fault (Line n)) words = AreBadLineWords words
-AreWords (Fault (Db fault)) words = (fault ≡ refusal.Device) ⊎ (words ≡ fault_words fault)
+AreWords (Fault (Db fault)) words = AreRefusalWords fault words
 AreWords (NotKept stop) words = words ≡ STOPPED_WORDS.now ++ decimal stop ++ LOST_WORDS.now
 AreWords NotHex words = ⊥
 AreWords NotText words = ⊥

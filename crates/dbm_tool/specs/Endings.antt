@@ -27,7 +27,7 @@ reads _ = false
 -- it writes standard output
 abbrev pub prints : Plan → Bool
 prints (Fetch file key spelling) = true
-prints (ListKeys file) = true
+prints (ListKeys file spelling) = true
 prints (Dump file spelling) = true
 prints (Salvage file) = true
 prints (Stat file) = true

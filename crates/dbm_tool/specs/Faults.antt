@@ -24,6 +24,6 @@ fault_line fault = with_line_feed (codes "dbmtool: " ++ fault_text fault)
 abbrev pub failure_line : Failure → List ℕ
 failure_line failure.NotHex = with_line_feed (codes "dbmtool: not hex")
 failure_line failure.NotText =
-    with_line_feed (codes "dbmtool: not UTF-8: such a KEY or CONTENT is given in hexadecimal, with -x")
+    with_line_feed (codes "dbmtool: not UTF-8: such a KEY or CONTENT is given in hexadecimal, with -x; a FILE needs another name")
 failure_line (failure.Fault fault) = fault_line fault
 failure_line (failure.NotKept stop) = with_line_feed (codes "dbmtool: stop " ++ decimal stop)

@@ -1,7 +1,9 @@
 pub use Rattle.dbm_script.specs.Scripts
 pub mod Causes
+pub mod Commands
 pub mod Endings
 pub mod Faults
+pub mod Files
 pub mod Plans
 pub mod Statuses
 pub mod Waiting

@@ -13,7 +13,6 @@ use Rattle.dbm_text.specs.Lines.{with_line_feed}
 use Rattle.dbm_tool.specs.Causes.{IsCauseLine, file_of, is_fault}
 use Rattle.dbm_tool.specs.Endings.{CanMeet, LacksDigits, has_lines, looks_at_stops}
 use Rattle.dbm_tool.specs.Faults.{failure_line}
-use Rattle.dbm_tool.specs.Plans.{Loses}
 
 abbrev pub status_of : Result Outcome Failure → ℕ
 status_of (Ok Done) = 0
@@ -61,12 +60,13 @@ pub record TellsFailure (words : List (List ℕ)) (plan : Plan) (environment tol
   pub of_load : (number ≡ None) ⊎ (has_lines plan ≡ true)
   pub lines : TellsMore (verbose || environment) (file_of plan) number told old new failure
 
--- a fault that the plan can meet
+-- a fault that the plan can meet, and by which it ended
 pub record TellsFaultOfPlan (words : List (List ℕ)) (environment told : Bool)
-    (old new : Option (List ℕ)) : Type 0 where
+    (old new : Option (List ℕ)) (EndsBy : Plan → Result Outcome Failure → Type 0) : Type 0 where
   pub plan : Plan
   pub met : EngineFault
   pub can_be_met : CanMeet plan met
+  pub ends : EndsBy plan (Err (Fault met))
   pub tells : TellsFailure words plan environment told old new (Fault met)
 
 -- one that the reading of the words met, or the printing of help
@@ -76,21 +76,22 @@ pub record TellsFaultOfWords (words : List (List ℕ)) (environment told : Bool)
   pub can_be_met : (met ≡ Memory) ⊎ ((met ≡ Write) × AreRefused words)
   pub lines : TellsMore environment None None told old new (Fault met)
 
--- a fault that these words can meet was told
-abbrev pub TellsFault : List (List ℕ) → Bool → Bool → Option (List ℕ) → Option (List ℕ) → Type 0
-TellsFault words environment told old new =
-    TellsFaultOfPlan words environment told old new
-    ⊎ TellsFaultOfWords words environment told old new
-
 -- a rehearsal lost a change, and the stop was told
-pub record TellsLoss (words : List (List ℕ)) (environment : Bool)
-    (input printed_old printed_new : Option (List ℕ)) (told : Bool) (old new : Option (List ℕ))
-    : Type 0 where
+pub record TellsLoss (words : List (List ℕ)) (environment told : Bool)
+    (old new : Option (List ℕ)) (EndsBy : Plan → Result Outcome Failure → Type 0) : Type 0 where
   pub plan : Plan
   pub rehearses : looks_at_stops plan ≡ true
   pub stop : ℕ
-  pub loses : Loses plan (NotKept stop) input printed_old printed_new
+  pub ends : EndsBy plan (Err (NotKept stop))
   pub tells : TellsFailure words plan environment told old new (NotKept stop)
+
+-- a fault that these words can meet was told, or a stop that lost a change
+abbrev pub TellsFault : List (List ℕ) → Bool → Bool → Option (List ℕ) → Option (List ℕ)
+    → (Plan → Result Outcome Failure → Type 0) → Type 0
+TellsFault words environment told old new EndsBy =
+    TellsFaultOfPlan words environment told old new EndsBy
+    ⊎ (TellsFaultOfWords words environment told old new
+    ⊎ TellsLoss words environment told old new EndsBy)
 
 abbrev pub bad_wait_line : List ℕ
 bad_wait_line =

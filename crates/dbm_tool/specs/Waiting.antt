@@ -1,7 +1,7 @@
 -- Openings that are tried again while another program has the file open.
 use Rattle.std.specs.Prelude.{◌≡◌, ◌≤◌, ℕ, List, length, Some, Result, Err, IfErr}
 use Rattle.std.specs.IoError.{error_kind}
-use Rattle.std.specs.List.{All, FoldsTo}
+use Rattle.std.specs.List.{All}
 use Rattle.std.specs.declared.io.Error.{Error}
 use Rattle.std.specs.declared.io.ErrorKind.TheVariants.{WouldBlock}
 use Rattle.dbm_file.specs.declared.named.Refusal.{Refusal}
@@ -17,13 +17,11 @@ FindsLocked opened = (refusal : Refusal) × (opened ≡ Err refusal) × IsLocked
 
 -- The result is that of the last of some openings, of which each before the last found the file
 -- locked. There are no more than `most` of those, and so many where the last found it locked too.
-pub record EndsWaiting {T F : Type 0} (opening : F → Result T Refusal → F → Type 0) (most : ℕ)
-    (first : F) (result : Result T Refusal) : Type 0 where
+pub record EndsWaiting {T : Type 0} (Opening : Result T Refusal → Type 0) (most : ℕ)
+    (result : Result T Refusal) : Type 0 where
   pub before : List (Result T Refusal)
-  pub next : F
-  pub last : F
-  pub opened : FoldsTo opening first before next
+  pub opened : All Opening before
   pub locked : All FindsLocked before
   pub few : length before ≤ most
-  pub ended : opening next result last
+  pub ended : Opening result
   pub patient : IfErr result (λ refusal. IsLocked refusal → length before ≡ most)

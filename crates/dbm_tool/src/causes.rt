@@ -1,8 +1,8 @@
 // What happened, in words: the second line of a failure.
-ghost use Rattle.std.specs.Prelude.{◌≡◌, ◌⊎◌, None, true, OnOk};
+ghost use Rattle.std.specs.Prelude.{◌≡◌, None, true, OnOk};
 ghost use Rattle.std.specs.Option.{option_map};
 ghost use Rattle.std.specs.Io.KnownBytes.{Appends};
-ghost use Rattle.dbm_tool.specs.Causes.{AreBadLineWords, AreStreamWords, AreWords, GrowsBy, IsCauseLine, bad_line_words, fault_words, file_text, is_fault, line_text};
+ghost use Rattle.dbm_tool.specs.Causes.{AreBadLineWords, AreRefusalWords, AreStreamWords, AreWords, GrowsBy, IsCauseLine, bad_line_words, fault_words, file_text, is_fault, line_text};
 
 use crate::EngineFault;
 use dbm_commands::Failure;
@@ -18,6 +18,9 @@ use dbm_plan::help_text::{
 use std::alloc::Global;
 use std::io::{self, Write};
 
+const SUFFIXED_WORDS: &str =
+    "there is no such file, but there is one without the second `.db`: leave `.db` off the name";
+
 /// What is known of a failure beside its kind.
 #[derive(Clone, Copy)]
 pub struct Known<'a> {
@@ -29,6 +32,8 @@ pub struct Known<'a> {
     pub bad_line: Option<(BadLine, Spelling)>,
     /// What the system told, in its own words.
     pub system: Option<&'a str>,
+    /// Whether the name of the database has `.db` already, and there is a file of that name.
+    pub is_suffixed: bool,
 }
 
 impl<'a> Known<'a> {
@@ -42,6 +47,7 @@ impl<'a> Known<'a> {
             line: None,
             bad_line: None,
             system,
+            is_suffixed: false,
         }
     }
 }
@@ -109,7 +115,7 @@ fn write_words<F: Write>(faults: &mut F, failure: Failure, known: Known<'_>) -> 
         Failure::Fault(EngineFault::Write) => write_stream(faults, WRITE_WORDS, known.system),
         Failure::Fault(EngineFault::Line(_)) => write_bad_line(faults, known.bad_line),
         Failure::Fault(EngineFault::Db(fault)) => {
-            faults.write_all(refusal_words(fault, known.system).as_bytes())
+            faults.write_all(refusal_words(fault, known).as_bytes())
         }
         Failure::NotKept(stop) => write!(faults, "{}{stop}{}", STOPPED_WORDS, LOST_WORDS),
         Failure::NotHex | Failure::NotText => Ok(()),
@@ -138,13 +144,14 @@ fn write_bad_line<F: Write>(faults: &mut F, bad_line: Option<(BadLine, Spelling)
     }
 }
 
-/// The words of a fault: the system's for one of the device, where it told some, and else those of
-/// the table.
-fn refusal_words<'a>(fault: Fault, system: Option<&'a str>) -> &'a str
-    ensures { (fault ≡ Fault.Device) ⊎ (result.now ≡ fault_words fault) }
+/// The words of a fault: the system's for one of the device, where it told some, what is wrong with
+/// the name of a file that isn't there, where that is known, and else those of the table.
+fn refusal_words<'a>(fault: Fault, known: Known<'a>) -> &'a str
+    ensures { AreRefusalWords fault result.now }
 {
-    match (fault, system) {
+    match (fault, known.system) {
         (Fault::Device, Some(words)) => words,
+        (Fault::Missing, _) if known.is_suffixed => SUFFIXED_WORDS,
         (fault, _) => fault_words(fault),
     }
 }

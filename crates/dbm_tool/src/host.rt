@@ -1,6 +1,9 @@
 // What a command on a file has of the system.
-ghost use Rattle.std.specs.Prelude.{◌≡◌, ◌⊎◌, true, false, Ok, Err, IfErr, IfOk, IsSome, OnOk};
-ghost use Rattle.dbm_file.specs.Database.{page_state};
+ghost use Rattle.std.specs.Prelude.{◌≡◌, Err, IfErr, IfOk, IsSome, OnOk};
+ghost use Rattle.file_opening.specs.Opening.{writes};
+ghost use Rattle.dbm_file.specs.Named.{OpensFile};
+ghost use Rattle.dbm_file.specs.Opened.{IsNewlyOpened};
+ghost use Rattle.dbm_tool.specs.Files.{IsClosed, IsOpening, RefusesOpening, there};
 
 use crate::EngineFault;
 use crate::waiting::opened;
@@ -8,12 +11,17 @@ use dbm_commands::{Failure, Outcome, closed};
 use dbm_file::{Access, Db, Fault, OpenHow, Refusal, Version, open_named};
 use dbm_load::BadLine;
 use dbm_plan::Spelling;
-use sect_dev::FileDev;
+use page_cache::CachedPages;
+use redo_area::Pager;
+use sect_dev::{FileDev, SectorDev};
 use std::alloc::Global;
 use std::fs::File;
 use std::io;
 use std::rt::Files;
 use std::time::Clock;
+
+/// The store of the pages of a file.
+pub type FileStore = CachedPages<Pager<FileDev>>;
 
 /// Files and memory, and what the system told of them.
 #[derive(Drop)]
@@ -44,9 +52,26 @@ impl<'a, T> Host<'a, T> {
     }
 }
 
+/// Opens a database, and waits for nothing.
+fn open_once<T: Files<File = File>>(
+    rt: &T,
+    alloc: Global,
+    file: &str,
+    how: OpenHow,
+) -> Result<Db<FileDev>, Refusal>
+    ensures { IsOpening ⟦<FileDev as SectorDev>⟧ how result }
+{
+    open_named(rt, alloc, file, how)
+}
+
 impl<T: Files<File = File> + Clock> Host<'_, T> {
     /// Opens a database that is there.
-    pub fn open_there(&mut self, file: &str, access: Access) -> Result<Db<FileDev>, Fault> {
+    pub fn open_there(&mut self, file: &str, access: Access) -> Result<Db<FileDev>, Fault>
+        ensures opens { IfOk result (OpensFile (there access)) }
+        ensures fresh { IfOk result (IsNewlyOpened (writes access) 68250498) }
+        ensures refused { IfErr result
+            (RefusesOpening ⟦<FileDev as SectorDev>⟧ (there access)) }
+    {
         self.open(
             file,
             OpenHow {
@@ -62,10 +87,14 @@ impl<T: Files<File = File> + Clock> Host<'_, T> {
     }
 
     /// Opens a database, and waits for its file where another program has it open.
-    pub fn open(&mut self, file: &str, how: OpenHow) -> Result<Db<FileDev>, Fault> {
+    pub fn open(&mut self, file: &str, how: OpenHow) -> Result<Db<FileDev>, Fault>
+        ensures opens { IfOk result (OpensFile how) }
+        ensures fresh { IfOk result (IsNewlyOpened (writes how.access) 68250498) }
+        ensures refused { IfErr result (RefusesOpening ⟦<FileDev as SectorDev>⟧ how) }
+    {
         let rt = self.rt;
         let alloc = self.alloc;
-        match opened(rt, self.wait, || open_named(rt, alloc, file, how)) {
+        match opened(rt, self.wait, || open_once(rt, alloc, file, how)) {
             Ok(db) => Ok(db),
             Err(refusal) => Err(self.refused(refusal)),
         }
@@ -86,11 +115,7 @@ impl<T: Files<File = File> + Clock> Host<'_, T> {
         db: Db<FileDev>,
         done: Result<Outcome, Failure>,
     ) -> Result<Outcome, Failure>
-        ensures failed { IfErr done (λ failure. result ≡ Err failure) }
-        ensures done { IfOk done (λ outcome. (page_state db).usable ≡ true → (result ≡ Ok outcome)
-            ⊎ (result ≡ Err (Failure.Fault (EngineFault.Db Fault.Device)))) }
-        ensures broken { OnOk done ((page_state db).usable ≡ false
-            → result ≡ Err (Failure.Fault (EngineFault.Db Fault.Broken))) }
+        ensures closed { IsClosed db done result }
 
         // A closing that fails has the system's error.
         ensures told { OnOk done (result ≡ Err (Failure.Fault (EngineFault.Db Fault.Device))

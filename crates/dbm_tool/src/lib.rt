@@ -1,19 +1,22 @@
 //! The program over its words: each command on a file, and the status.
 #![tactic(auto)]
 
+mod calls;
 mod causes;
 mod commands;
 mod host;
+mod known;
 mod lines;
 mod program;
 mod rehearsals;
 mod replacements;
 mod salvages;
 mod streams;
+mod texts;
 mod versions;
 mod waiting;
 
-pub use dbm_dump::{dump_engine, dump_text_engine, list_engine};
+pub use dbm_dump::{dump_engine, dump_text_engine, list_engine, list_text_engine};
 pub use dbm_fault::EngineFault;
 pub use dbm_load::{load_engine, load_text_engine};
 pub use dbm_script::script_engine;

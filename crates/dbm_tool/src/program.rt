@@ -1,24 +1,25 @@
 // The program over its words.
-ghost use Rattle.std.specs.Prelude.{◌≡◌, ◌⊎◌, ◌||◌, OnErr, OnOk, IfErr, Err, None, map, false, true, codes};
+ghost use Rattle.std.specs.Prelude.{◌≡◌, ◌⊎◌, ◌||◌, OnErr, OnOk, IfErr, Ok, Err, None, map, false, true, codes};
 ghost use Rattle.std.specs.Option.{option_map};
 ghost use Rattle.std.specs.Io.KnownBytes.{Appends};
 ghost use Rattle.dbm_words.specs.Asking.{AreTaken};
-ghost use Rattle.dbm_tool.specs.Causes.{file_of, is_fault};
-ghost use Rattle.dbm_tool.specs.Endings.{has_lines, looks_for_a_key, prints, reads};
+ghost use Rattle.dbm_tool.specs.Causes.{is_fault};
+ghost use Rattle.dbm_tool.specs.Endings.{looks_for_a_key, prints, reads};
 ghost use Rattle.dbm_tool.specs.Faults.{failure_line, fault_line};
-ghost use Rattle.dbm_tool.specs.Plans.{DoesWords};
-ghost use Rattle.dbm_tool.specs.Statuses.{AreRefused, AskFor, Tells, TellsFault, TellsLoss, TellsMisuse, TellsMore, bad_wait_line, no_command_line, status_of};
+ghost use Rattle.dbm_tool.specs.Plans.{CarriesOut};
+ghost use Rattle.dbm_tool.specs.Statuses.{AreRefused, AskFor, Tells, TellsFault, TellsMisuse, TellsMore, bad_wait_line, no_command_line, status_of};
 
 use crate::EngineFault;
 use crate::causes::{Known, text_of, told_by, write_cause};
 use crate::commands::carry_out;
-use crate::host::Host;
+use crate::host::{FileStore, Host};
+use crate::known::{cause_of, known_of};
 use crate::streams::Failing;
 use dbm_commands::{Failure, Outcome};
-use dbm_plan::{Plan, Source};
 use dbm_progress::Progress;
 use dbm_salvage::Troubles;
 use dbm_words::{WordsError, read_words};
+use page_io::PageStore;
 use std::alloc::Global;
 use std::fs::File;
 use std::io::{self, BufRead, Write};
@@ -94,15 +95,17 @@ pub fn tool<
     // The words are a plan that was carried out; where they name no command, nothing was read.
     ensures done { result.status ≡ 0 → ((input.new ≡ input.old)
         × (AreTaken (map (λ word. word.now) words.now) → ⊥))
-        ⊎ DoesWords (map (λ word. word.now) words.now) (R.remaining input.old)
-        (O.contents output.old) (O.contents output.new) }
+        ⊎ AskFor (map (λ word. word.now) words.now) (λ plan. CarriesOut
+        ⟦<FileStore as PageStore>⟧ plan (Ok Outcome.Done) (R.remaining input.old)
+        (O.contents output.old) (O.contents output.new)) }
     ensures nothing { result.status ≡ 1 → AskFor (map (λ word. word.now) words.now)
-        (λ plan. looks_for_a_key plan ≡ true) }
+        (λ plan. (looks_for_a_key plan ≡ true) × CarriesOut
+        ⟦<FileStore as PageStore>⟧ plan (Ok Outcome.Nothing) (R.remaining input.old)
+        (O.contents output.old) (O.contents output.new)) }
     ensures fault { result.status ≡ 2 → TellsFault (map (λ word. word.now) words.now)
         environment.verbose result.told (F.contents faults.old) (F.contents faults.new)
-        ⊎ TellsLoss (map (λ word. word.now) words.now) environment.verbose
-        (R.remaining input.old) (O.contents output.old) (O.contents output.new) result.told
-        (F.contents faults.old) (F.contents faults.new) }
+        (λ plan ended. CarriesOut ⟦<FileStore as PageStore>⟧ plan ended (R.remaining input.old)
+        (O.contents output.old) (O.contents output.new)) }
     ensures usage { result.status ≡ 3 → TellsMisuse (map (λ word. word.now) words.now) result.told
         (F.contents faults.old) (F.contents faults.new) }
 
@@ -121,7 +124,7 @@ pub fn tool<
             let done = carry_out(&mut host, request.plan, input, output, troubles, progress);
             progress.clear();
             let told = told_by(alloc, cause_of(done, host.cause, input, output));
-            let known = known_of(request.plan, &host, text_of(&told));
+            let known = known_of(request.plan, done, &host, text_of(&told));
             ended_by(done, asked(request.verbose, environment), known, faults)
         }
         Err(WordsError::Memory) => out_of_memory(environment, faults),
@@ -138,72 +141,6 @@ fn asked(verbose: bool, environment: Environment) -> bool
     ensures { result ≡ (verbose || environment.verbose) }
 {
     verbose || environment.verbose
-}
-
-/// The system's error at what ended a plan so, if it told one.
-fn cause_of<R: Failing, O: Failing>(
-    done: Result<Outcome, Failure>,
-    of_file: Option<io::Error>,
-    input: &R,
-    output: &O,
-) -> Option<io::Error> {
-    match done {
-        Err(Failure::Fault(EngineFault::Read)) => input.first_error(),
-        Err(Failure::Fault(EngineFault::Write)) => output.first_error(),
-        _ => of_file,
-    }
-}
-
-/// What is known of the end of a plan.
-fn known_of<'a, T>(plan: Plan<'a>, host: &Host<'_, T>, system: Option<&'a str>) -> Known<'a>
-    ensures file { option_map (λ name. name.now) result.file ≡ file_of plan.entry }
-    ensures line { (result.line ≡ None) ⊎ (has_lines plan.entry ≡ true) }
-{
-    Known {
-        file: file_of(plan),
-        line: line_of(plan, host.line),
-        bad_line: host.bad_line,
-        system,
-    }
-}
-
-/// The name of the file that a plan opens, without `.db`.
-fn file_of<'a>(plan: Plan<'a>) -> Option<&'a str>
-    ensures { option_map (λ name. name.now) result ≡ file_of plan.entry }
-{
-    match plan {
-        Plan::Create { file, .. } => Some(file),
-        Plan::Store { file, .. } => Some(file),
-        Plan::Insert { file, .. } => Some(file),
-        Plan::Fetch { file, .. } => Some(file),
-        Plan::Delete { file, .. } => Some(file),
-        Plan::List { file } => Some(file),
-        Plan::Dump { file, .. } => Some(file),
-        Plan::Load { file, .. } => Some(file),
-        Plan::Replace { file, .. } => Some(file),
-        Plan::Resize { file, .. } => Some(file),
-        Plan::Backup { file, .. } => Some(file),
-        Plan::Salvage { file } => Some(file),
-        Plan::Stat { file } => Some(file),
-        Plan::Verify { file } => Some(file),
-        Plan::Upgrade { file } => Some(file),
-        Plan::ReadScript { file } => Some(file),
-        Plan::Script(source) | Plan::Rehearse { source, .. } => match source {
-            Source::File(file) => Some(file),
-            Source::Memory { .. } => None,
-        },
-        Plan::Faults => None,
-    }
-}
-
-/// The line of a plan that has lines.
-fn line_of(plan: Plan<'_>, line: Option<u64>) -> Option<u64>
-    ensures { (result ≡ None) ⊎ (has_lines plan.entry ≡ true) }
-{
-    match plan {
-        Plan::Load { .. } => line,
-        _ => None,
-    }
 }
 
 /// The end where help could not be written.
@@ -362,7 +299,7 @@ fn write_failure<F: Write>(faults: &mut F, failure: Failure) -> io::Result<()>
         Failure::NotHex => writeln!(faults, "dbmtool: not hex"),
         Failure::NotText => writeln!(
             faults,
-            "dbmtool: not UTF-8: such a KEY or CONTENT is given in hexadecimal, with -x"
+            "dbmtool: not UTF-8: such a KEY or CONTENT is given in hexadecimal, with -x; a FILE needs another name"
         ),
         Failure::NotKept(stop) => writeln!(faults, "dbmtool: stop {stop}"),
         Failure::Fault(EngineFault::Memory) => writeln!(faults, "dbmtool: fault 1"),

@@ -1,7 +1,7 @@
 // Rehearsals of a script, on a new database or on a copy of a file.
 ghost use Rattle.std.specs.Prelude.{◌≡◌, OnOk, IfErr, IfOk, IfSome, MatchOption, None, Ok, Err};
 ghost use Rattle.dbm_tool.specs.Endings.{EndsAs, MayEndRehearsal};
-ghost use Rattle.dbm_tool.specs.Plans.{Loses, Rehearses};
+ghost use Rattle.dbm_tool.specs.Plans.{EndsRehearsal};
 
 use crate::commands::unwritten;
 use crate::host::Host;
@@ -29,10 +29,8 @@ pub fn rehearse_file<T: Files<File = File> + Clock, R: BufRead, O: Write, P: Pro
     output: &mut O,
     progress: &mut P,
 ) -> Result<Outcome, Failure>
-    ensures does { OnOk result (IfSome (R.remaining input.old) (λ text.
-        Rehearses stops None text (O.contents output.old) (O.contents output.new))) }
-    ensures loses { IfErr result (λ failure. Loses (Plan.Rehearse (Source.File file.entry) stops)
-        failure (R.remaining input.old) (O.contents output.old) (O.contents output.new)) }
+    ensures told { IfSome (R.remaining input.old) (λ text. EndsRehearsal stops result text
+        (O.contents output.old) (O.contents output.new)) }
     ensures ends { EndsAs (Plan.Rehearse (Source.File file.entry) stops) result }
 {
     let dev = copy_of(host, file)?;
@@ -49,10 +47,8 @@ pub fn rehearse_new<R: BufRead, O: Write, P: Progress>(
     output: &mut O,
     progress: &mut P,
 ) -> Result<Outcome, Failure>
-    ensures does { OnOk result (IfSome (R.remaining input.old) (λ text.
-        Rehearses stops None text (O.contents output.old) (O.contents output.new))) }
-    ensures loses { IfErr result (λ failure. Loses (Plan.Rehearse (Source.Memory limit version) stops)
-        failure (R.remaining input.old) (O.contents output.old) (O.contents output.new)) }
+    ensures told { IfSome (R.remaining input.old) (λ text. EndsRehearsal stops result text
+        (O.contents output.old) (O.contents output.new)) }
     ensures ends { EndsAs (Plan.Rehearse (Source.Memory limit version) stops) result }
 {
     let version = file_version(version);
@@ -80,10 +76,8 @@ fn rehearse<R: BufRead, O: Write, P: Progress>(
     output: &mut O,
     progress: &mut P,
 ) -> Result<Outcome, Failure>
-    ensures does { OnOk result (IfSome (R.remaining input.old) (λ text.
-        Rehearses stops None text (O.contents output.old) (O.contents output.new))) }
-    ensures loses { (source : Source) → IfErr result (λ failure. Loses (Plan.Rehearse source stops)
-        failure (R.remaining input.old) (O.contents output.old) (O.contents output.new)) }
+    ensures told { IfSome (R.remaining input.old) (λ text. EndsRehearsal stops result text
+        (O.contents output.old) (O.contents output.new)) }
     ensures ends { MayEndRehearsal result }
 {
     let done = rehearse_script(alloc, dev, made, stops, input, output, progress);

@@ -1,13 +1,15 @@
 // Versions of the file format, as the words ask for them.
 ghost use Rattle.std.specs.Prelude.{◌≡◌};
 ghost use Rattle.page_io.specs.Versions.{model_version};
+ghost use Rattle.dbm_tool.specs.Files.{version_of};
 ghost use Rattle.dbm_tool.specs.Plans.{asked_version};
 
 use dbm_file::Version;
 
 /// The version that the words ask for.
 pub fn file_version(asked: dbm_plan::Version) -> Version
-    ensures { model_version result ≡ asked_version asked }
+    ensures model { model_version result ≡ asked_version asked }
+    ensures file { result ≡ version_of asked }
 {
     match asked {
         dbm_plan::Version::V1 => Version::V1,

@@ -15,13 +15,13 @@ const PAUSE: u64 = 100;
 
 /// Opens a file by `opening`, which is tried again, ten times a second and for so many seconds, while
 /// another program has the file open. Of no seconds it is tried once.
-pub fn opened<T, C: Clock, F: FnMut() -> Result<T, Refusal>>(
+pub fn opened<T, C: Clock, F: Fn() -> Result<T, Refusal>>(
     clock: &C,
     seconds: u32,
-    mut opening: F,
+    opening: F,
 ) -> Result<T, Refusal>
     requires { F.IsAlwaysCallable opening }
-    ensures { EndsWaiting F.step (seconds * 10) opening result }
+    ensures { EndsWaiting (F.post opening) (seconds * 10) result }
 {
     for _again in 0..u64::from(seconds) * TRIES_A_SECOND {
         match opening() {

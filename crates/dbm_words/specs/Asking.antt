@@ -121,7 +121,7 @@ Asks name rows (Fetch file key spelled) =
     (name ≡ codes "fetch") × IsKey rows file.now key.now spelled
 Asks name rows (Delete file key spelled) =
     (name ≡ codes "delete") × IsKey rows file.now key.now spelled
-Asks name rows (ListKeys file) = (name ≡ codes "list") × IsText rows (codes "file") file.now
+Asks name rows (ListKeys file spelled) = (name ≡ codes "list") × ArePairs rows file.now spelled
 Asks name rows (Dump file spelled) = (name ≡ codes "dump") × ArePairs rows file.now spelled
 Asks name rows (Load file spelled group) = (name ≡ codes "load")
     × ArePairs rows file.now spelled × IsGroup rows group

@@ -256,7 +256,10 @@ fn of_file<'a>(name: &str, options: &ArgMatches<'a>) -> Option<Plan<'a>>
             limit: number(options, LIMIT)?,
             version: version(options)?,
         }),
-        LIST => Some(Plan::List { file }),
+        LIST => Some(Plan::List {
+            file,
+            spelling: form(options)?,
+        }),
         DUMP => Some(Plan::Dump {
             file,
             spelling: form(options)?,
@@ -349,7 +352,7 @@ fn spelling(options: &ArgMatches<'_>) -> Option<Spelling>
     }
 }
 
-/// How the lines of all pairs are spelled.
+/// How the lines of all pairs, or of all keys, are spelled.
 fn form(options: &ArgMatches<'_>) -> Option<Spelling>
     ensures { IfSome result (λ spelled.
         one_of (codes "text") (rows_of (found_of options.now)) ≡ Some (text_flag spelled)) }

@@ -1,21 +1,11 @@
-use Rattle.std.proofs.Common.{◌≡◌, ◌∙◌, ℤ, Some, ap, ap₂, codes, pos}
-use Rattle.std.specs.Int.{int_max, int_min}
+use Rattle.std.proofs.Common.{◌≡◌, ◌∙◌, Some, ap, codes, pos}
 use Rattle.std.specs.Range.{range_inclusive_end, range_inclusive_start}
-use Rattle.clap.specs.Words.{Rule, new_rule, signed_between}
-use Rattle.clap.specs.declared.builder.value_parser.ValueParser.{ValueParser}
+use Rattle.clap.specs.Words.{Rule, new_rule}
 use Rattle.clap.specs.declared.builder.value_parser.ValueParser.TheVariants as parser
 use Rattle.dbm_command_line.specs.Building.{IsRule}
 use Rattle.dbm_command_line.specs.CommandLine.{group_rule}
-use Rattle.dbm_command_line.proofs.Building.{with_default, with_help, with_long, with_parser, with_value_name}
+use Rattle.dbm_command_line.proofs.Building.{narrowed_by, with_default, with_help, with_long, with_parser, with_value_name}
 use Rattle.dbm_command_line.proofs.arguments.group.Goals as goal
-
--- the parser of a `u32`, narrowed
-narrowed_by : (narrow : ValueParser) (first last : ℤ) → first ≡ pos 1 → last ≡ pos 100000
-    → narrow ≡ signed_between (int_max (pos 0) first) (int_min (pos 4294967295) last)
-    → narrow ≡ parser.Signed (pos 1) (pos 100000)
-narrowed_by narrow first last first_is last_is is =
-    is ∙ ap₂ (λ a b. signed_between (int_max (pos 0) a) (int_min (pos 4294967295) b))
-    first_is last_is
 
 pub returns : goal.returns
 returns c =
@@ -28,7 +18,7 @@ returns c =
     with_value_name c.long.result c.value_name.result named (rw c.value_name.ensures)
     (rw c.value_name.ensures) long in
     let narrowed : c.range.result ≡ parser.Signed (pos 1) (pos 100000) =
-    narrowed_by c.range.result (range_inclusive_start c.new-2.result)
+    narrowed_by c.range.result (pos 1) (pos 100000) (range_inclusive_start c.new-2.result)
     (range_inclusive_end c.new-2.result) (c.new-2.ensures.start)
     (rw c.from.ensures at c.new-2.ensures.end) (rw c.value_parser.ensures at c.range.ensures) in
     let bounded : Rule = record shown { parser = Some (parser.Signed (pos 1) (pos 100000)) } in

@@ -8,7 +8,7 @@ unfolding command_line
 returns c =
     seventeen_lines_added program_line create_line (pair_line (codes "store"))
     (pair_line (codes "insert")) (key_line (codes "fetch")) (key_line (codes "delete"))
-    (file_line (codes "list")) (pairs_line (codes "dump")) load_line
+    (pairs_line (codes "list")) (pairs_line (codes "dump")) load_line
     (file_line (codes "stat")) (file_line (codes "verify")) (file_line (codes "upgrade"))
     resize_line backup_line (file_line (codes "salvage"))
     script_line rehearse_line faults_line

@@ -2,7 +2,7 @@ use Rattle.std.proofs.Common.{codes, false}
 use Rattle.std.proofs.lemmas.Result.{IfOk-from_err}
 use Rattle.clap.specs.Words.{App, Rule, new_app, with_rule}
 use Rattle.dbm_command_line.specs.Building.{IsApp, IsRule, alone}
-use Rattle.dbm_command_line.specs.CommandLine.{number_rule, rehearse_line, version_rule, word_rule}
+use Rattle.dbm_command_line.specs.CommandLine.{number_rule, rehearse_line, stops_rule, version_rule, word_rule}
 use Rattle.dbm_command_line.proofs.Building.{option_added, with_about, with_after_help, with_option, with_required}
 use Rattle.dbm_command_line.proofs.commands.rehearse_command.Goals as goal
 
@@ -43,6 +43,6 @@ returns c =
     with_option c.in_ok-arg-2.field-0 c.in_ok-arg-3.field-0 c.version.result
     (with_rule (with_rule bare free) (number_rule (codes "memory"))) version_rule with_memory
     c.version.ensures c.in_ok-arg-3.ensures in
-    option_added c.in_ok-arg-3.field-0 c.number-stops.result c.arg-4.result
+    option_added c.in_ok-arg-3.field-0 c.stops.result c.arg-4.result
     (with_rule (with_rule (with_rule bare free) (number_rule (codes "memory"))) version_rule)
-    (number_rule (codes "stops")) with_version c.number-stops.ensures c.arg-4.ensures
+    stops_rule with_version c.stops.ensures c.arg-4.ensures

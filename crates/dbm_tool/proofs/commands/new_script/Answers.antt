@@ -8,7 +8,7 @@ returns-clause-answered g c = subst
     (λ (v : Version). IfSome (g.R.Read.remaining c.args.input.now) (λ (text : List ℕ).
     AnswersInMemory (record { limit = c.args.limit; version = v }) text
     (g.O.Write.contents c.args.output.now) (g.O.Write.contents c.script_in_memory.new.output)))
-    c.file_version.ensures c.in_ok-script_in_memory.ensures.answer
+    c.file_version.ensures.model c.in_ok-script_in_memory.ensures.answer
 
 pub returns-in_err-script_in_memory-clause-ends : goal.returns-in_err-script_in_memory-clause-ends
 returns-in_err-script_in_memory-clause-ends g c = search rules

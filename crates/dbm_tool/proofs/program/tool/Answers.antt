@@ -1,6 +1,6 @@
 use Rattle.std.proofs.Common.{inl, inr, ⊎_elim, refl}
 use Rattle.dbm_fault.specs.declared.engine_fault.EngineFault.TheVariants.{Write}
-use Rattle.dbm_tool.proofs.Statuses.{done_at_zero, lines_as, prints_or_stays, reads_or_stays, tells_fault, tells_misuse}
+use Rattle.dbm_tool.proofs.Statuses.{done_at_zero, lines_as, nothing_at_one, prints_or_stays, reads_or_stays, tells_fault, tells_misuse}
 use Rattle.dbm_tool.proofs.program.tool.Goals as goal
 
 pub returns-in-Ok-show-clause-done : goal.returns-in-Ok-show-clause-done
@@ -21,7 +21,7 @@ returns-in-Ok-show-clause-done g c zero =
 pub returns-in-Err-show-clause-fault : goal.returns-in-Err-show-clause-fault
 returns-in-Err-show-clause-fault g c two =
     let is = c.in-Err-Help.field-0-is in
-    inl (inr record {
+    inr (inl record {
       met = Write;
       can_be_met = inr (
         refl,
@@ -50,17 +50,31 @@ returns-in-Err-show-clause-output g c =
     (c.in-Err-Help.ensures.passes taken)))
 
 pub returns-in-Ok-clause-done : goal.returns-in-Ok-clause-done
-returns-in-Ok-clause-done g c zero = inr record {
-  plan = c.in-Ok.request.plan;
-  is_plan = c.in-Ok.ensures.plan;
-  does = done_at_zero c.carry_out-done.result _ c.ended_by.ensures.status zero c.carry_out-done.ensures.does;
-}
+returns-in-Ok-clause-done g c zero =
+    let is = done_at_zero c.carry_out-done.result _ c.ended_by.ensures.status zero in
+    inr record {
+      plan = c.in-Ok.request.plan;
+      is_plan = c.in-Ok.ensures.plan;
+      is_so = rw is at c.carry_out-done.ensures.carried;
+    }
+
+pub returns-in-Ok-clause-nothing : goal.returns-in-Ok-clause-nothing
+returns-in-Ok-clause-nothing g c one =
+    let is = nothing_at_one c.carry_out-done.result _ c.ended_by.ensures.status one in
+    record {
+      plan = c.in-Ok.request.plan;
+      is_plan = c.in-Ok.ensures.plan;
+      is_so = (
+        rw is at c.carry_out-done.ensures.ends,
+        rw is at c.carry_out-done.ensures.carried,
+      );
+    }
 
 pub returns-in-Ok-clause-fault : goal.returns-in-Ok-clause-fault
 returns-in-Ok-clause-fault g c two =
-    tells_fault _ c.in-Ok.request.plan c.carry_out-done.result _ c.in-Ok.request.verbose
-    c.args.environment.verbose _ c.known_of-known.result.line _ _ _ _ _ c.in-Ok.ensures.plan
-    c.carry_out-done.ensures.ends c.carry_out-done.ensures.loses c.in-Ok.ensures.verbose
+    tells_fault _ c.in-Ok.request.plan c.carry_out-done.result _ _ c.in-Ok.request.verbose
+    c.args.environment.verbose _ c.known_of-known.result.line _ _ c.in-Ok.ensures.plan
+    c.carry_out-done.ensures.ends c.carry_out-done.ensures.carried c.in-Ok.ensures.verbose
     c.known_of-known.ensures.line (lines_as c.carry_out-done.result _ _ _ _ _ _ _ _
     c.asked.ensures c.known_of-known.ensures.file c.ended_by.ensures.line)
     c.ended_by.ensures.status two

@@ -2,6 +2,4 @@ use Rattle.dbm_tool.proofs.Tries.{HasWaited}
 use Rattle.dbm_tool.proofs.waiting.opened.Given as goal
 
 abbrev pub invariant-loop-again : goal.invariant-loop-again
-invariant-loop-again g l =
-    HasWaited (goal.F-step g) l._again l.initial.opening l.opening
-    × goal.F-IsAlwaysCallable g l.opening
+invariant-loop-again g l = HasWaited (goal.F-post g l.opening) l._again

@@ -27,8 +27,15 @@ returns-in_ok-version-in-create c = (
   c.in_ok-version-in-create.ensures,
 )
 
-pub returns-in-list : goal.returns-in-list
-returns-in-list c = (c.in-list.is, c.in_ok-file.ensures)
+pub returns-in_err-form-in-list : goal.returns-in_err-form-in-list
+returns-in_err-form-in-list c =
+    if_none c.from_residual-in_err-form-in-list.result
+    (Asks c.args.name.now (rows_of (found_of c.args.options.now)))
+    c.from_residual-in_err-form-in-list.ensures
+
+pub returns-in_ok-form-in-list : goal.returns-in_ok-form-in-list
+returns-in_ok-form-in-list c =
+    (c.in-list.is, record { file = c.in_ok-file.ensures; flag = c.in_ok-form-in-list.ensures })
 
 pub returns-in_err-form-in-dump : goal.returns-in_err-form-in-dump
 returns-in_err-form-in-dump c =

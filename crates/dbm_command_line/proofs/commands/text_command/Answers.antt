@@ -1,7 +1,7 @@
 use Rattle.dbm_command_line.specs.Building.{alone}
 use Rattle.dbm_command_line.specs.CommandLine.{file_line, text_rule}
 use Rattle.dbm_command_line.proofs.Building.{option_added}
-use Rattle.dbm_command_line.proofs.commands.pairs_command.Goals as goal
+use Rattle.dbm_command_line.proofs.commands.text_command.Goals as goal
 
 pub returns : goal.returns
 returns c =

@@ -2,11 +2,12 @@ use Rattle.std.proofs.Common.{◌≡◌, IfErr, inr, refl, rules}
 use Rattle.std.proofs.lemmas.Result.{IfOk-from_err}
 use Rattle.dbm_fault.specs.declared.fault.Fault.TheVariants.{Device, Broken}
 use Rattle.dbm_fault.specs.declared.engine_fault.EngineFault.TheVariants.{Write, Db}
+use Rattle.dbm_lines.specs.Forms.{key_line_in}
 use Rattle.dbm_dump.proofs.Dumping.{reads_well, reads_told, reads_refused}
 use Rattle.page_io.proofs.Exits.{exit_is, if_exit, no_err}
 use Rattle.dbm_dump.proofs.Exits.{same_exit, of_keys, wrote_well, write_or, write_among_keys, no_call_refused, writes_keys}
-use Rattle.dbm_dump.proofs.dump.list_engine.Given.{Over}
-use Rattle.dbm_dump.proofs.dump.list_engine.Goals as goal
+use Rattle.dbm_dump.proofs.dump.list_in_form.Given.{Over}
+use Rattle.dbm_dump.proofs.dump.list_in_form.Goals as goal
 
 -- ---- a key is not read
 
@@ -59,7 +60,7 @@ returns-clause-reads g c =
 pub returns-clause-lines : goal.returns-clause-lines
 returns-clause-lines g c =
     wrote_well _ c.write_keys.result _ c.map_err.ensures.variant
-    (writes_keys c.write_keys.result c.in_ok-keys.keys _ (g.W.Write.contents c.args.writer.now)
+    (writes_keys (key_line_in c.args.form) c.write_keys.result c.in_ok-keys.keys _ (g.W.Write.contents c.args.writer.now)
     (g.W.Write.contents c.write_keys.new.writer) c.in_ok-keys.ensures.counted
     c.write_keys.ensures)
 

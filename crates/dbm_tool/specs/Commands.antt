@@ -1,0 +1,94 @@
+-- What the commands do with the database of their file, and how they end.
+use Rattle.std.specs.Prelude.{◌≡◌, ◌⊎◌, ℕ, List, true, Option, None, Some, IfSome, Result, Ok, Err, OnOk}
+use Rattle.std.specs.Io.KnownBytes.{Appends}
+use Rattle.page_io.specs.declared.store.PageStore.{Ghosts}
+use Rattle.dbm_commands.specs.Printing.{stat_of, stat_text}
+use Rattle.dbm_commands.specs.Verifying.{TellsPairs}
+use Rattle.dbm_commands.specs.Words.{spelled}
+use Rattle.dbm_commands.specs.declared.outcomes.Outcome.{Outcome}
+use Rattle.dbm_commands.specs.declared.outcomes.Outcome.TheVariants.{Done}
+use Rattle.dbm_commands.specs.declared.outcomes.Failure.{Failure}
+use Rattle.dbm_commands.specs.declared.outcomes.Failure.TheVariants.{NotHex, Fault}
+use Rattle.dbm_dump.specs.Dumping.{Reads}
+use Rattle.dbm_fault.specs.declared.engine_fault.EngineFault.{EngineFault}
+use Rattle.dbm_fault.specs.declared.engine_fault.EngineFault.TheVariants.{Memory, Read, Line, Db}
+use Rattle.dbm_fault.specs.declared.fault.Fault.TheVariants.{Damaged}
+use Rattle.dbm_file.specs.Database.{store_of, AtEachHandle}
+use Rattle.dbm_file.specs.Verifying.{IsFileOf}
+use Rattle.dbm_file.specs.declared.database.Database.{Database}
+use Rattle.dbm_lines.specs.Forms.{pair_in}
+use Rattle.dbm_lines.specs.declared.forms.TextForm.{TextForm}
+use Rattle.dbm_lines.specs.declared.forms.TextForm.TheVariants.{Hexadecimal, Escaped}
+use Rattle.dbm_load.specs.Loading.{Loads}
+use Rattle.dbm_model.specs.Pairs.{Contents}
+use Rattle.dbm_plan.specs.declared.plan.Spelling.{Spelling}
+use Rattle.dbm_plan.specs.declared.plan.Spelling.TheVariants as spelling
+use Rattle.dbm_script.specs.Scripts.{AnswersScript, MakesFirst}
+use Rattle.dbm_script.specs.Tellings.{TellsScript}
+use Rattle.dbm_text.specs.Scripts.{script_of}
+
+-- the form of a text that is spelled so
+abbrev pub form_of : Spelling → TextForm
+form_of spelling.Text = Escaped
+form_of spelling.Hexadecimal = Hexadecimal
+
+-- The bytes that a word spells were taken, and it is so of them; or the word spells none, or there
+-- was no memory for them.
+abbrev pub Takes : Spelling → List ℕ → (List ℕ → Result Outcome Failure → Type 0)
+    → Result Outcome Failure → Type 0
+Takes spelled_so word IsSo result =
+    ((bytes : List ℕ) × (spelled spelled_so word ≡ Some bytes) × IsSo bytes result)
+    ⊎ (((spelled spelled_so word ≡ None) × (result ≡ Err NotHex))
+    ⊎ (result ≡ Err (Fault Memory)))
+
+-- how an engine ended, as a command is told to have
+abbrev pub told : Result Unit EngineFault → Result Outcome Failure
+told (Ok done) = Ok Done
+told (Err fault) = Err (Fault fault)
+
+-- a dump or a list may end by this fault: by no failed reading of a text, and by no line
+abbrev pub IsOfPrinting : EngineFault → Type 0
+IsOfPrinting Read = ⊥
+IsOfPrinting (Line n) = ⊥
+IsOfPrinting fault = Unit {0}
+
+module _ {S : Type 0} {s : Ghosts S} where
+  -- exactly this text of the map was printed, and the map stays
+  pub record Prints (text_of : Contents → List ℕ) (old new : Database S s)
+      (before after : Option (List ℕ)) (done : Result Outcome Failure) : Type 0 where
+    pub printed : AtEachHandle old (λ h. h.state.usable ≡ true
+        → OnOk done (Appends before after (text_of h.state.map)))
+    pub ended : Result Unit EngineFault
+    pub reads : Reads old new ended
+
+  -- a text was loaded
+  pub record LoadsText (form : TextForm) (text : Option (List ℕ)) (old new : Database S s)
+      (done : Result Outcome Failure) : Type 0 where
+    pub ended : Result Unit EngineFault
+    pub loads : Loads (pair_in form) ended text old new
+    pub is_told : done ≡ told ended
+
+  -- A script was run: the calls of its first lines were made, and where it ended well those of all
+  -- its lines, with exactly the answer printed, also on any device.
+  pub record RunsScript (text : Option (List ℕ)) (old new : Database S s)
+      (before after : Option (List ℕ)) (done : Result Outcome Failure) : Type 0 where
+    pub made : AtEachHandle old (λ h. MakesFirst text old new h)
+    pub answered : AtEachHandle old (λ h. OnOk done (IfSome text
+        (λ bytes. AnswersScript (script_of bytes) old new h before after)))
+    pub tells : OnOk done (IfSome text
+        (λ bytes. TellsScript (script_of bytes) old new before after))
+
+  -- the seven numbers of a database were printed
+  abbrev pub PrintsNumbers : Database S s → Database S s → Option (List ℕ) → Option (List ℕ)
+      → Result Outcome Failure → Type 0
+  PrintsNumbers old new before after done =
+      (new ≡ old) × OnOk done (Appends before after (stat_text (stat_of old)))
+
+  -- A file was looked through: how many pairs there are was printed only of a good one, and of a
+  -- good one it wasn't told that it is damaged.
+  pub record LooksThrough (old : Database S s) (before after : Option (List ℕ))
+      (done : Result Outcome Failure) : Type 0 where
+    pub good : s.honest (store_of old)
+        → OnOk done (TellsPairs (s.committed (store_of old)) before after)
+    pub damaged : s.honest (store_of old) → done ≡ Err (Fault (Db Damaged)) → (pairs : ℕ)
+        → IsFileOf (s.committed (store_of old)) pairs → ⊥

@@ -1,0 +1,179 @@
+// The commands that read or print a text.
+ghost use Rattle.std.specs.Prelude.{◌≡◌, true, None, OnOk, IfErr};
+ghost use Rattle.std.specs.Io.KnownBytes.{Appends};
+ghost use Rattle.dbm_dump.specs.Dumping.{Reads};
+ghost use Rattle.dbm_file.specs.Database.{AtEachHandle};
+ghost use Rattle.dbm_lines.specs.Forms.{dump_in, listing_in, pair_in};
+ghost use Rattle.dbm_load.specs.Loading.{Loads};
+ghost use Rattle.dbm_load.specs.Refusals.{StopsByFault};
+ghost use Rattle.dbm_tool.specs.Commands.{IsOfPrinting, RunsScript, form_of, told};
+ghost use Rattle.dbm_tool.specs.Endings.{EndsAs};
+ghost use Rattle.dbm_tool.specs.Files.{Opens, there};
+ghost use Rattle.dbm_tool.specs.Plans.{CarriesOut};
+
+use crate::host::{FileStore, Host};
+use crate::lines::Lines;
+use crate::{
+    EngineFault, dump_engine, dump_text_engine, list_engine, list_text_engine, load_engine,
+    load_text_engine, script_engine,
+};
+use dbm_commands::{Failure, Outcome, flushed};
+use dbm_file::{Access, Database};
+use dbm_load::BadLine;
+use dbm_plan::{Plan, Source, Spelling};
+use dbm_progress::Progress;
+use page_io::PageStore;
+use std::alloc::Global;
+use std::fs::File;
+use std::io::{BufRead, Write};
+use std::rt::Files;
+use std::time::Clock;
+
+/// Prints the keys.
+pub fn list<T: Files<File = File> + Clock, O: Write, P: Progress>(
+    host: &mut Host<'_, T>,
+    file: &str,
+    spelling: Spelling,
+    output: &mut O,
+    progress: &mut P,
+) -> Result<Outcome, Failure>
+    ensures carried { CarriesOut ⟦<FileStore as PageStore>⟧
+        (Plan.List file.entry spelling) result None (O.contents output.old)
+        (O.contents output.new) }
+    ensures ends { EndsAs (Plan.List file.entry spelling) result }
+{
+    let mut db = host.open_there(file, Access::ReadOnly)?;
+    let done = print_keys(host.alloc, &mut db, spelling, output, progress);
+    host.close(db, flushed(done, output))
+}
+
+/// Prints the pairs.
+pub fn dump<T: Files<File = File> + Clock, O: Write, P: Progress>(
+    host: &mut Host<'_, T>,
+    file: &str,
+    spelling: Spelling,
+    output: &mut O,
+    progress: &mut P,
+) -> Result<Outcome, Failure>
+    ensures carried { CarriesOut ⟦<FileStore as PageStore>⟧
+        (Plan.Dump file.entry spelling) result None (O.contents output.old)
+        (O.contents output.new) }
+    ensures ends { EndsAs (Plan.Dump file.entry spelling) result }
+{
+    let mut db = host.open_there(file, Access::ReadOnly)?;
+    let done = print_pairs(host.alloc, &mut db, spelling, output, progress);
+    host.close(db, flushed(done, output))
+}
+
+/// Stores the pairs of a text.
+pub fn load<T: Files<File = File> + Clock, R: BufRead, P: Progress>(
+    host: &mut Host<'_, T>,
+    file: &str,
+    spelling: Spelling,
+    group: u32,
+    input: &mut R,
+    progress: &mut P,
+) -> Result<Outcome, Failure>
+    ensures carried { CarriesOut ⟦<FileStore as PageStore>⟧
+        (Plan.Load file.entry spelling group) result (R.remaining input.old) None None }
+    ensures ends { EndsAs (Plan.Load file.entry spelling group) result }
+{
+    let mut db = host.open_there(file, Access::ReadWrite)?;
+    let mut lines = Lines::told_to(progress);
+    let mut why = None;
+    let loaded = load_pairs(
+        host.alloc, &mut db, spelling, group, input, &mut why, &mut lines,
+    );
+    host.line = lines.refused(loaded);
+    host.bad_line = why.map(|why| (why, spelling));
+    host.close(db, told(loaded))
+}
+
+/// Runs a script.
+pub fn script<T: Files<File = File> + Clock, R: BufRead, O: Write>(
+    host: &mut Host<'_, T>,
+    file: &str,
+    access: Access,
+    input: &mut R,
+    output: &mut O,
+) -> Result<Outcome, Failure>
+    ensures carried { Opens ⟦<FileStore as PageStore>⟧ (there access)
+        (λ db after. RunsScript (R.remaining input.old) db after (O.contents output.old)
+        (O.contents output.new)) result }
+    ensures changes { EndsAs (Plan.Script (Source.File file.entry)) result }
+    ensures reads { EndsAs (Plan.ReadScript file.entry) result }
+{
+    let mut db = host.open_there(file, access)?;
+    let done = script_engine(host.alloc, &mut db, input, output);
+    host.close(db, flushed(done, output))
+}
+
+/// Prints the keys in the form of this spelling.
+fn print_keys<S: PageStore, O: Write, P: Progress>(
+    alloc: Global,
+    db: &mut Database<S>,
+    spelling: Spelling,
+    output: &mut O,
+    progress: &mut P,
+) -> Result<(), EngineFault>
+    ensures printed { AtEachHandle db.old (λ h. h.state.usable ≡ true → OnOk result
+        (Appends (O.contents output.old) (O.contents output.new)
+        (listing_in (form_of spelling) h.state.map))) }
+    ensures reads { Reads db.old db.new result }
+    ensures only { IfErr result IsOfPrinting }
+{
+    match spelling {
+        Spelling::Hexadecimal => list_engine(alloc, db, output, progress),
+        Spelling::Text => list_text_engine(alloc, db, output, progress),
+    }
+}
+
+/// Prints the pairs in the form of this spelling.
+fn print_pairs<S: PageStore, O: Write, P: Progress>(
+    alloc: Global,
+    db: &mut Database<S>,
+    spelling: Spelling,
+    output: &mut O,
+    progress: &mut P,
+) -> Result<(), EngineFault>
+    ensures printed { AtEachHandle db.old (λ h. h.state.usable ≡ true → OnOk result
+        (Appends (O.contents output.old) (O.contents output.new)
+        (dump_in (form_of spelling) h.state.map))) }
+    ensures reads { Reads db.old db.new result }
+    ensures only { IfErr result IsOfPrinting }
+{
+    match spelling {
+        Spelling::Hexadecimal => dump_engine(alloc, db, output, progress),
+        Spelling::Text => dump_text_engine(alloc, db, output, progress),
+    }
+}
+
+/// Stores the pairs of a text in the form of this spelling.
+fn load_pairs<S: PageStore, R: BufRead, P: Progress>(
+    alloc: Global,
+    db: &mut Database<S>,
+    spelling: Spelling,
+    group: u32,
+    input: &mut R,
+    why: &mut Option<BadLine>,
+    progress: &mut P,
+) -> Result<(), EngineFault>
+    ensures loads { Loads (pair_in (form_of spelling)) result (R.remaining input.old)
+        db.old db.new }
+    ensures faults { StopsByFault result }
+{
+    match spelling {
+        Spelling::Hexadecimal => load_engine(alloc, db, input, group, why, progress),
+        Spelling::Text => load_text_engine(alloc, db, input, group, why, progress),
+    }
+}
+
+/// How an engine ended, as a command.
+fn told(ended: Result<(), EngineFault>) -> Result<Outcome, Failure>
+    ensures { result ≡ told ended }
+{
+    match ended {
+        Ok(()) => Ok(Outcome::Done),
+        Err(fault) => Err(Failure::from(fault)),
+    }
+}
