@@ -413,5 +413,5 @@ for line in 'S KEY CONTENT' 'I KEY CONTENT' 'F KEY' 'D KEY' 1 N E C; do
 done
 
 echo "$rows rows"
-[ "$rows" = 376 ] || wrong "not each row was read"
+[ "$rows" = 380 ] || wrong "not each row was read"
 exit $bad

@@ -57,7 +57,7 @@ run 0 help
 tail -n "$(wc -l < faults)" out | cmp -s - faults || wrong "help doesn't end with the faults"
 awk 'length($0) >= 80 { exit 1 }' faults || wrong "a line of the faults is long"
 [ "$(sed -n '/^Faults:/,$p' faults | grep -oE '^  [0-9]+' | xargs)" = "$(seq 15 | xargs)" ] || wrong "not each fault is told"
-[ "$(sed '/^Faults:/,$d' faults | grep -oE '^  [0-9]+' | xargs)" = '0 1 2 3' ] || wrong "not each status is told"
+[ "$(sed '/^Faults:/,$d' faults | grep -oE '^  [0-9]+' | xargs)" = '0 1 2 3 141' ] || wrong "not each status is told"
 run 3 faults t
 "$program" faults > /dev/full 2> err; [ $? = 2 ] && [ "$(cat err)" = 'dbmtool: write' ] || wrong "a full output isn't told"
 

@@ -129,6 +129,7 @@ macro_rules! table {
   3   words that make no sense: usage, or one line on standard error:
         dbmtool: not hex     with -x give digits in pairs, or `.` for no bytes
         dbmtool: not UTF-8   give such a KEY or CONTENT in hexadecimal, with -x
+  141 nobody reads standard output any more, as of `dump | head`
 
 Faults:
 ",

@@ -1,5 +1,5 @@
 // The program over its words.
-ghost use Rattle.std.specs.Prelude.{◌≡◌, ◌⊎◌, ◌||◌, OnErr, OnOk, IfErr, Ok, Err, None, map, false, true, codes};
+ghost use Rattle.std.specs.Prelude.{◌≡◌, ◌⊎◌, ◌||◌, OnErr, OnOk, IfErr, IsTrue, Ok, Err, None, map, false, true, codes};
 ghost use Rattle.std.specs.Option.{option_map};
 ghost use Rattle.std.specs.Io.KnownBytes.{Appends};
 ghost use Rattle.dbm_words.specs.Asking.{AreTaken};
@@ -22,7 +22,7 @@ use dbm_words::{WordsError, read_words};
 use page_io::PageStore;
 use std::alloc::Global;
 use std::fs::File;
-use std::io::{self, BufRead, Write};
+use std::io::{self, BufRead, ErrorKind, Write};
 use std::rt::Files;
 use std::time::Clock;
 
@@ -37,6 +37,10 @@ const FAULT: u8 = 2;
 
 /// The status of words that are no plan.
 const USAGE: u8 = 3;
+
+/// The status where nobody reads any more what a plan prints: the one that a shell tells of a program
+/// which the signal SIGPIPE has ended.
+const UNREAD: u8 = 141;
 
 /// How the program ended.
 #[derive(Clone, Copy, Debug, PartialEq, Eq)]
@@ -62,7 +66,8 @@ pub struct Environment {
 /// the version was asked for, which goes to `output`; 1 where a fetched or deleted key isn't there
 /// or an inserted one is, with nothing printed; 2 for a fault, the first one, which alone is told
 /// in one line on `faults`, or for a rehearsal that lost a change, told so too; and 3 for words
-/// that are no plan or no hexadecimal, of which one text goes to `faults`. Faults are looked for in
+/// that are no plan or no hexadecimal, of which one text goes to `faults`. Where a plan prints to a
+/// pipe that nobody reads any more it ends silently, with 141. Faults are looked for in
 /// the words, in the words' hexadecimal digits, in the opening, in the call or the engine with the
 /// last of its output, and in the closing, in this order. Where the words or the environment ask
 /// for it, the line of status 2 is followed by one that says in words what happened. A fault that
@@ -88,8 +93,8 @@ pub fn tool<
     troubles: &mut S,
     progress: &mut P,
 ) -> Exit
-    ensures status { (result.status ≡ 0)
-        ⊎ ((result.status ≡ 1) ⊎ ((result.status ≡ 2) ⊎ (result.status ≡ 3))) }
+    ensures status { (result.status ≡ 0) ⊎ ((result.status ≡ 1) ⊎ ((result.status ≡ 2)
+        ⊎ ((result.status ≡ 3) ⊎ (result.status ≡ 141)))) }
     ensures quiet { (result.status ≡ 0) ⊎ (result.status ≡ 1) → faults.new ≡ faults.old }
 
     // The words are a plan that was carried out; where they name no command, nothing was read.
@@ -106,6 +111,10 @@ pub fn tool<
         environment.verbose result.told (F.contents faults.old) (F.contents faults.new)
         (λ plan ended. CarriesOut ⟦<FileStore as PageStore>⟧ plan ended (R.remaining input.old)
         (O.contents output.old) (O.contents output.new)) }
+    ensures unread { result.status ≡ 141 → (faults.new ≡ faults.old)
+        × AskFor (map (λ word. word.now) words.now) (λ plan. CarriesOut
+        ⟦<FileStore as PageStore>⟧ plan (Err (Failure.Fault EngineFault.Write))
+        (R.remaining input.old) (O.contents output.old) (O.contents output.new)) }
     ensures usage { result.status ≡ 3 → TellsMisuse (map (λ word. word.now) words.now) result.told
         (F.contents faults.old) (F.contents faults.new) }
 
@@ -123,6 +132,9 @@ pub fn tool<
             let mut host = Host::new(rt, alloc, wait);
             let done = carry_out(&mut host, request.plan, input, output, troubles, progress);
             progress.clear();
+            if is_unread(done, output.first_error()) {
+                return unread();
+            }
             let told = told_by(alloc, cause_of(done, host.cause, input, output));
             let known = known_of(request.plan, done, &host, text_of(&told));
             ended_by(done, asked(request.verbose, environment), known, faults)
@@ -133,6 +145,28 @@ pub fn tool<
             Err(_) => unwritten_help(alloc, environment, output.first_error(), faults),
         },
         Err(error) => refused(error, faults),
+    }
+}
+
+/// Whether a plan ended since nobody reads its output any more.
+fn is_unread(done: Result<Outcome, Failure>, error: Option<io::Error>) -> bool
+    ensures { IsTrue result → done ≡ Err (Failure.Fault EngineFault.Write) }
+{
+    match (done, error) {
+        (Err(Failure::Fault(EngineFault::Write)), Some(error)) => {
+            error.kind() == ErrorKind::BrokenPipe
+        }
+        _ => false,
+    }
+}
+
+/// The end of a plan whose output nobody reads any more. There is nobody to tell it to.
+fn unread() -> Exit
+    ensures { result.status ≡ 141 }
+{
+    Exit {
+        status: UNREAD,
+        told: true,
     }
 }
 

@@ -49,8 +49,8 @@ returns-in-Err-show-clause-output g c =
     other)
     (c.in-Err-Help.ensures.passes taken)))
 
-pub returns-in-Ok-clause-done : goal.returns-in-Ok-clause-done
-returns-in-Ok-clause-done g c zero =
+pub returns-else-is_unread-clause-done : goal.returns-else-is_unread-clause-done
+returns-else-is_unread-clause-done g c zero =
     let is = done_at_zero c.carry_out-done.result _ c.ended_by.ensures.status zero in
     inr record {
       plan = c.in-Ok.request.plan;
@@ -58,8 +58,8 @@ returns-in-Ok-clause-done g c zero =
       is_so = rw is at c.carry_out-done.ensures.carried;
     }
 
-pub returns-in-Ok-clause-nothing : goal.returns-in-Ok-clause-nothing
-returns-in-Ok-clause-nothing g c one =
+pub returns-else-is_unread-clause-nothing : goal.returns-else-is_unread-clause-nothing
+returns-else-is_unread-clause-nothing g c one =
     let is = nothing_at_one c.carry_out-done.result _ c.ended_by.ensures.status one in
     record {
       plan = c.in-Ok.request.plan;
@@ -70,8 +70,8 @@ returns-in-Ok-clause-nothing g c one =
       );
     }
 
-pub returns-in-Ok-clause-fault : goal.returns-in-Ok-clause-fault
-returns-in-Ok-clause-fault g c two =
+pub returns-else-is_unread-clause-fault : goal.returns-else-is_unread-clause-fault
+returns-else-is_unread-clause-fault g c two =
     tells_fault _ c.in-Ok.request.plan c.carry_out-done.result _ _ c.in-Ok.request.verbose
     c.args.environment.verbose _ c.known_of-known.result.line _ _ c.in-Ok.ensures.plan
     c.carry_out-done.ensures.ends c.carry_out-done.ensures.carried c.in-Ok.ensures.verbose
@@ -79,15 +79,19 @@ returns-in-Ok-clause-fault g c two =
     c.asked.ensures c.known_of-known.ensures.file c.ended_by.ensures.line)
     c.ended_by.ensures.status two
 
-pub returns-in-Ok-clause-usage : goal.returns-in-Ok-clause-usage
-returns-in-Ok-clause-usage g c three =
+pub returns-else-is_unread-clause-usage : goal.returns-else-is_unread-clause-usage
+returns-else-is_unread-clause-usage g c three =
     tells_misuse _ c.in-Ok.request.plan c.carry_out-done.result _ _ _ _ _ _ _ c.in-Ok.ensures.plan
     c.carry_out-done.ensures.ends c.ended_by.ensures.line c.ended_by.ensures.status three
 
-pub returns-in-Ok-clause-output : goal.returns-in-Ok-clause-output
-returns-in-Ok-clause-output g c =
+pub returns-else-is_unread-clause-output : goal.returns-else-is_unread-clause-output
+returns-else-is_unread-clause-output g c =
     prints_or_stays _ c.in-Ok.request.plan _ c.in-Ok.ensures.plan c.carry_out-done.ensures.output
 
-pub returns-in-Ok-clause-input : goal.returns-in-Ok-clause-input
-returns-in-Ok-clause-input g c =
+pub returns-else-is_unread-clause-input : goal.returns-else-is_unread-clause-input
+returns-else-is_unread-clause-input g c =
+    reads_or_stays _ c.in-Ok.request.plan _ c.in-Ok.ensures.plan c.carry_out-done.ensures.input
+
+pub returns-then-is_unread-clause-input : goal.returns-then-is_unread-clause-input
+returns-then-is_unread-clause-input g c =
     reads_or_stays _ c.in-Ok.request.plan _ c.in-Ok.ensures.plan c.carry_out-done.ensures.input
