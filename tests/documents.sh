@@ -80,7 +80,7 @@ sed '1,/^Faults:/d' faults | tr -s ' ' '\n' | sed '/^$/d' > told
 sed '1,/^The faults, by/d' "$page" | sed -n '/^\.Bl/,/^\.El/p' | sed '/^\.[BE]l/d; s/^\.It //' | tr -s ' ' '\n' > page.told
 [ "$(wc -l < told)" -ge 100 ] || wrong "the faults are read wrong"
 diff told page.told || wrong "the page says something else of the faults (< program, > page)"
-agrees "the page's statuses" "$(sed -n '/^\.Sh EXIT STATUS/,/^\.El/s/^\.It //p' "$page")" "$(sed -n '/^Faults:/q; s/^  \([0-9]\).*/\1/p' faults)"
+agrees "the page's statuses" "$(sed -n '/^\.Sh EXIT STATUS/,/^\.El/s/^\.It //p' "$page")" "$(sed -n '/^Faults:/q; s/^  \([0-9][0-9]*\).*/\1/p' faults)"
 
 if command -v mandoc > lint; then
   mandoc -T lint -W warning "$page" > lint || { wrong "the manual page:"; cat lint; }
