@@ -8,17 +8,18 @@ use Rattle.redo_area.specs.declared.pager.Pager.{Pager}
 use Rattle.page_cache.specs.declared.cached_pages.CachedPages.{CachedPages}
 use Rattle.file_opening.specs.Opening.{writes}
 use Rattle.file_opening.specs.declared.open_how.OpenHow.{OpenHow}
-use Rattle.dbm_dump.specs.Dumping.{Reads}
+use Rattle.dbm_dump.specs.Dumping.{IsPairChance, Reads}
 use Rattle.dbm_file.specs.Database.{AtEachHandle}
 use Rattle.dbm_file.specs.Named.{OpensFile}
 use Rattle.dbm_file.specs.Opened.{IsNewlyOpened}
 use Rattle.dbm_file.specs.declared.database.Database.{Database}
-use Rattle.dbm_fault.specs.Among.{IsAmong}
+use Rattle.dbm_fault.specs.Among.{IsAmong, IsErrAmong}
 use Rattle.dbm_fault.specs.declared.fault.Fault.{Fault as Refusal}
 use Rattle.dbm_fault.specs.declared.engine_fault.EngineFault.{EngineFault}
-use Rattle.dbm_fault.specs.declared.engine_fault.EngineFault.TheVariants.{Memory, Db}
+use Rattle.dbm_fault.specs.declared.engine_fault.EngineFault.TheVariants.{Memory, Read, Write, Db}
 use Rattle.dbm_commands.specs.Words.{spelled}
 use Rattle.dbm_commands.specs.declared.outcomes.Outcome.{Outcome}
+use Rattle.dbm_commands.specs.declared.outcomes.Outcome.TheVariants.{Done}
 use Rattle.dbm_commands.specs.declared.outcomes.Failure.{Failure}
 use Rattle.dbm_commands.specs.declared.outcomes.Failure.TheVariants.{NotHex, Fault}
 use Rattle.dbm_model.specs.Pairs.{Contents}
@@ -26,7 +27,7 @@ use Rattle.dbm_plan.specs.declared.plan.Spelling.{Spelling}
 use Rattle.dbm_script.specs.Scripts.{AnswersScript, MakesFirst}
 use Rattle.dbm_script.specs.Tellings.{TellsScript}
 use Rattle.dbm_text.specs.Scripts.{script_of}
-use Rattle.dbm_tool.specs.Commands.{Prints, RunsScript}
+use Rattle.dbm_tool.specs.Commands.{IsFlushed, Prints, RunsScript}
 use Rattle.dbm_tool.specs.Files.{IsClosed, IsUnopened, Opens, RefusesOpening}
 
 -- a word spells no bytes, or there was no memory for them
@@ -47,6 +48,13 @@ flushed_so (Ok x) (Err e) P Q failed p then = tt
 flushed_so (Err f) (Ok y) P Q failed p then = absurd (let is = failed in cc)
 flushed_so (Err f) (Err e) P Q failed p then = tt
 
+-- how a command ends behind it
+flushed_told : (ended : Result Unit EngineFault) (done : Result Outcome Failure)
+    → IfErr ended (λ fault. done ≡ Err (Fault fault))
+    → OnOk ended ((done ≡ Ok Done) ⊎ (done ≡ Err (Fault Write))) → IsFlushed ended done
+flushed_told (Ok x) done failed well = well
+flushed_told (Err f) done failed well = failed
+
 of_text : (text : Option (List ℕ)) (P Q : List ℕ → Type 0) → ((bytes : List ℕ) → P bytes → Q bytes)
     → IfSome text P → IfSome text Q
 of_text None P Q then p = tt
@@ -55,16 +63,21 @@ of_text (Some bytes) P Q then p = then bytes p
 module _ {S : Type 0} {s : store.Ghosts S} (old new : Database S s)
     (before mid after : Option (List ℕ)) (ended : Result Unit EngineFault)
     (done : Result Outcome Failure) (failed : IfErr ended (λ fault. done ≡ Err (Fault fault)))
+    (well : OnOk ended ((done ≡ Ok Done) ⊎ (done ≡ Err (Fault Write))))
     (keeps : Keeps mid after) where
   -- a text was printed, and the output flushed
   pub printed : (text_of : Contents → List ℕ) → AtEachHandle old (λ h. h.state.usable ≡ true
-      → OnOk ended (Appends before mid (text_of h.state.map))) → Reads old new ended
-      → Prints text_of old new before after done
-  printed text_of prints reads = record {
+      → OnOk ended (Appends before mid (text_of h.state.map)))
+      → AtEachHandle old (λ h. h.state.usable ≡ true
+      → IfErr ended (λ fault. (fault ≡ Write) ⊎ IsPairChance h.state.map fault))
+      → Reads old new ended → Prints text_of old new before after done
+  printed text_of prints whole reads = record {
     printed = λ honest h at usable. flushed_so ended done _ _ failed (prints honest h at usable)
         (λ all. Appends-kept before mid after (text_of h.state.map) all keeps);
     ended = ended;
     reads = reads;
+    whole = whole;
+    is_told = flushed_told ended done failed well;
   }
 
   -- a script was run, and the output flushed
@@ -72,8 +85,9 @@ module _ {S : Type 0} {s : store.Ghosts S} (old new : Database S s)
       → AtEachHandle old (λ h. OnOk ended (IfSome text
       (λ bytes. AnswersScript (script_of bytes) old new h before mid)))
       → OnOk ended (IfSome text (λ bytes. TellsScript (script_of bytes) old new before mid))
+      → IsErrAmong ended (Memory ∷ Read ∷ Write ∷ [])
       → RunsScript text old new before after done
-  ran text made answers tells = record {
+  ran text made answers tells only = record {
     made = made;
     answered = λ honest h at. flushed_so ended done _ _ failed (answers honest h at)
         (of_text text _ _ (λ bytes one. record {
@@ -88,6 +102,9 @@ module _ {S : Type 0} {s : store.Ghosts S} (old new : Database S s)
       answered = one.answered;
       written = Appends-kept before mid after _ one.written keeps;
     }));
+    ended = ended;
+    only = only;
+    is_told = flushed_told ended done failed well;
   }
 
 module _ {D : Type 0} {bound : device.Ghosts D} {p : store.Ghosts (Pager D bound)}

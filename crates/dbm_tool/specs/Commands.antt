@@ -1,17 +1,18 @@
 -- What the commands do with the database of their file, and how they end.
-use Rattle.std.specs.Prelude.{◌≡◌, ◌⊎◌, ℕ, List, true, Option, None, Some, IfSome, Result, Ok, Err, OnOk}
+use Rattle.std.specs.Prelude.{◌≡◌, ◌⊎◌, ℕ, List, [], ◌∷◌, true, Option, None, Some, IfSome, Result, Ok, Err, OnOk, IfErr}
 use Rattle.std.specs.Io.KnownBytes.{Appends}
 use Rattle.page_io.specs.declared.store.PageStore.{Ghosts}
 use Rattle.dbm_commands.specs.Printing.{stat_of, stat_text}
-use Rattle.dbm_commands.specs.Verifying.{TellsPairs}
+use Rattle.dbm_commands.specs.Verifying.{TellsPairs, verify_failures}
 use Rattle.dbm_commands.specs.Words.{spelled}
 use Rattle.dbm_commands.specs.declared.outcomes.Outcome.{Outcome}
 use Rattle.dbm_commands.specs.declared.outcomes.Outcome.TheVariants.{Done}
 use Rattle.dbm_commands.specs.declared.outcomes.Failure.{Failure}
 use Rattle.dbm_commands.specs.declared.outcomes.Failure.TheVariants.{NotHex, Fault}
-use Rattle.dbm_dump.specs.Dumping.{Reads}
+use Rattle.dbm_dump.specs.Dumping.{IsPairChance, Reads}
+use Rattle.dbm_fault.specs.Among.{IsErrAmong}
 use Rattle.dbm_fault.specs.declared.engine_fault.EngineFault.{EngineFault}
-use Rattle.dbm_fault.specs.declared.engine_fault.EngineFault.TheVariants.{Memory, Read, Line, Db}
+use Rattle.dbm_fault.specs.declared.engine_fault.EngineFault.TheVariants.{Memory, Read, Write, Line, Db}
 use Rattle.dbm_fault.specs.declared.fault.Fault.TheVariants.{Damaged}
 use Rattle.dbm_file.specs.Database.{store_of, AtEachHandle}
 use Rattle.dbm_file.specs.Verifying.{IsFileOf}
@@ -46,6 +47,11 @@ abbrev pub told : Result Unit EngineFault → Result Outcome Failure
 told (Ok done) = Ok Done
 told (Err fault) = Err (Fault fault)
 
+-- how an engine ended that prints, as a command is told to have once the output was flushed
+abbrev pub IsFlushed : Result Unit EngineFault → Result Outcome Failure → Type 0
+IsFlushed (Ok ended) done = (done ≡ Ok Done) ⊎ (done ≡ Err (Fault Write))
+IsFlushed (Err fault) done = done ≡ Err (Fault fault)
+
 -- a dump or a list may end by this fault: by no failed reading of a text, and by no line
 abbrev pub IsOfPrinting : EngineFault → Type 0
 IsOfPrinting Read = ⊥
@@ -53,13 +59,17 @@ IsOfPrinting (Line n) = ⊥
 IsOfPrinting fault = Unit {0}
 
 module _ {S : Type 0} {s : Ghosts S} where
-  -- exactly this text of the map was printed, and the map stays
+  -- Exactly this text of the map was printed, and the map stays. A database that is at a usable
+  -- handle is refused by nothing but a failed write, want of memory and a fault of the device.
   pub record Prints (text_of : Contents → List ℕ) (old new : Database S s)
       (before after : Option (List ℕ)) (done : Result Outcome Failure) : Type 0 where
     pub printed : AtEachHandle old (λ h. h.state.usable ≡ true
         → OnOk done (Appends before after (text_of h.state.map)))
     pub ended : Result Unit EngineFault
     pub reads : Reads old new ended
+    pub whole : AtEachHandle old (λ h. h.state.usable ≡ true
+        → IfErr ended (λ fault. (fault ≡ Write) ⊎ IsPairChance h.state.map fault))
+    pub is_told : IsFlushed ended done
 
   -- a text was loaded
   pub record LoadsText (form : TextForm) (text : Option (List ℕ)) (old new : Database S s)
@@ -77,12 +87,16 @@ module _ {S : Type 0} {s : Ghosts S} where
         (λ bytes. AnswersScript (script_of bytes) old new h before after)))
     pub tells : OnOk done (IfSome text
         (λ bytes. TellsScript (script_of bytes) old new before after))
+    pub ended : Result Unit EngineFault
+    pub only : IsErrAmong ended (Memory ∷ Read ∷ Write ∷ [])
+    pub is_told : IsFlushed ended done
 
-  -- the seven numbers of a database were printed
+  -- the seven numbers of a database were printed, or the write failed
   abbrev pub PrintsNumbers : Database S s → Database S s → Option (List ℕ) → Option (List ℕ)
       → Result Outcome Failure → Type 0
   PrintsNumbers old new before after done =
       (new ≡ old) × OnOk done (Appends before after (stat_text (stat_of old)))
+      × ((done ≡ Ok Done) ⊎ (done ≡ Err (Fault Write)))
 
   -- A file was looked through: how many pairs there are was printed only of a good one, and of a
   -- good one it wasn't told that it is damaged.
@@ -92,3 +106,4 @@ module _ {S : Type 0} {s : Ghosts S} where
         → OnOk done (TellsPairs (s.committed (store_of old)) before after)
     pub damaged : s.honest (store_of old) → done ≡ Err (Fault (Db Damaged)) → (pairs : ℕ)
         → IsFileOf (s.committed (store_of old)) pairs → ⊥
+    pub only : IsErrAmong done verify_failures

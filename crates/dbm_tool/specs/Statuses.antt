@@ -1,6 +1,9 @@
 -- What the exit statuses tell of the words.
-use Rattle.std.specs.Prelude.{◌≡◌, ◌⊎◌, ℕ, List, [], ◌++◌, Bool, true, false, ◌&&◌, ◌||◌, Option, None, Result, Ok, Err, codes}
+use Rattle.std.specs.Prelude.{◌≡◌, ◌⊎◌, ℕ, List, [], ◌++◌, Bool, true, false, ◌&&◌, ◌||◌, Option, None, Some, Result, Ok, Err, codes}
 use Rattle.std.specs.Io.KnownBytes.{Appends}
+use Rattle.std.specs.IoError.{error_kind}
+use Rattle.std.specs.declared.io.Error.{Error}
+use Rattle.std.specs.declared.io.ErrorKind.TheVariants.{BrokenPipe}
 use Rattle.dbm_words.specs.Asking.{AreTaken, AreVerbose, IsPlan, IsWithoutFile, IsWithoutMemory, IsWithoutReplace, IsWithoutSource}
 use Rattle.dbm_plan.specs.declared.plan.Plan.{Plan}
 use Rattle.dbm_commands.specs.declared.outcomes.Outcome.{Outcome}
@@ -92,6 +95,10 @@ TellsFault words environment told old new EndsBy =
     TellsFaultOfPlan words environment told old new EndsBy
     ⊎ (TellsFaultOfWords words environment told old new
     ⊎ TellsLoss words environment told old new EndsBy)
+
+-- the system told that nobody reads the pipe any more
+abbrev pub IsClosedPipe : Option Error → Type 0
+IsClosedPipe told = (error : Error) × (told ≡ Some error) × (error_kind error ≡ BrokenPipe)
 
 abbrev pub bad_wait_line : List ℕ
 bad_wait_line =

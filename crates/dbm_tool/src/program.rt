@@ -7,7 +7,7 @@ ghost use Rattle.dbm_tool.specs.Causes.{is_fault};
 ghost use Rattle.dbm_tool.specs.Endings.{looks_for_a_key, prints, reads};
 ghost use Rattle.dbm_tool.specs.Faults.{failure_line, fault_line};
 ghost use Rattle.dbm_tool.specs.Plans.{CarriesOut};
-ghost use Rattle.dbm_tool.specs.Statuses.{AreRefused, AskFor, Tells, TellsFault, TellsMisuse, TellsMore, bad_wait_line, no_command_line, status_of};
+ghost use Rattle.dbm_tool.specs.Statuses.{AreRefused, AskFor, IsClosedPipe, Tells, TellsFault, TellsMisuse, TellsMore, bad_wait_line, no_command_line, status_of};
 
 use crate::EngineFault;
 use crate::causes::{Known, text_of, told_by, write_cause};
@@ -150,7 +150,8 @@ pub fn tool<
 
 /// Whether a plan ended since nobody reads its output any more.
 fn is_unread(done: Result<Outcome, Failure>, error: Option<io::Error>) -> bool
-    ensures { IsTrue result → done ≡ Err (Failure.Fault EngineFault.Write) }
+    ensures write { IsTrue result → done ≡ Err (Failure.Fault EngineFault.Write) }
+    ensures pipe { IsTrue result → IsClosedPipe error }
 {
     match (done, error) {
         (Err(Failure::Fault(EngineFault::Write)), Some(error)) => {

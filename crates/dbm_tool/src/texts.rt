@@ -1,7 +1,7 @@
 // The commands that read or print a text.
-ghost use Rattle.std.specs.Prelude.{◌≡◌, true, None, OnOk, IfErr};
+ghost use Rattle.std.specs.Prelude.{◌≡◌, ◌⊎◌, true, None, OnOk, IfErr};
 ghost use Rattle.std.specs.Io.KnownBytes.{Appends};
-ghost use Rattle.dbm_dump.specs.Dumping.{Reads};
+ghost use Rattle.dbm_dump.specs.Dumping.{IsPairChance, Reads};
 ghost use Rattle.dbm_file.specs.Database.{AtEachHandle};
 ghost use Rattle.dbm_lines.specs.Forms.{dump_in, listing_in, pair_in};
 ghost use Rattle.dbm_load.specs.Loading.{Loads};
@@ -119,6 +119,8 @@ fn print_keys<S: PageStore, O: Write, P: Progress>(
     ensures printed { AtEachHandle db.old (λ h. h.state.usable ≡ true → OnOk result
         (Appends (O.contents output.old) (O.contents output.new)
         (listing_in (form_of spelling) h.state.map))) }
+    ensures whole { AtEachHandle db.old (λ h. h.state.usable ≡ true
+        → IfErr result (λ e. (e ≡ EngineFault.Write) ⊎ IsPairChance h.state.map e)) }
     ensures reads { Reads db.old db.new result }
     ensures only { IfErr result IsOfPrinting }
 {
@@ -139,6 +141,8 @@ fn print_pairs<S: PageStore, O: Write, P: Progress>(
     ensures printed { AtEachHandle db.old (λ h. h.state.usable ≡ true → OnOk result
         (Appends (O.contents output.old) (O.contents output.new)
         (dump_in (form_of spelling) h.state.map))) }
+    ensures whole { AtEachHandle db.old (λ h. h.state.usable ≡ true
+        → IfErr result (λ e. (e ≡ EngineFault.Write) ⊎ IsPairChance h.state.map e)) }
     ensures reads { Reads db.old db.new result }
     ensures only { IfErr result IsOfPrinting }
 {

@@ -7,4 +7,4 @@ use Rattle.dbm_tool.proofs.calls.stat.Goals as goal
 pub returns-clause-carried : goal.returns-clause-carried
 returns-clause-carried g c =
     was_closed _ (there ReadOnly) _ _ c.in_ok-db.db c.in_ok-db.db c.stat-done.result
-    c.in_ok-db.ensures.opens c.in_ok-db.ensures.fresh (refl, c.stat-done.ensures.printed) c.close.ensures.closed
+    c.in_ok-db.ensures.opens c.in_ok-db.ensures.fresh (refl, c.stat-done.ensures.printed, c.stat-done.ensures.only) c.close.ensures.closed

@@ -9,6 +9,6 @@ pub returns-clause-carried : goal.returns-clause-carried
 returns-clause-carried g c =
     was_closed _ (there ReadOnly) _ _ c.in_ok-db.db c.print_pairs-done.new.db c.flushed.result
     c.in_ok-db.ensures.opens c.in_ok-db.ensures.fresh
-    (printed _ _ _ _ _ c.print_pairs-done.result _ c.flushed.ensures.failed c.flushed.ensures.bytes
-    (dump_in (form_of c.args.spelling)) c.print_pairs-done.ensures.printed c.print_pairs-done.ensures.reads)
+    (printed _ _ _ _ _ c.print_pairs-done.result _ c.flushed.ensures.failed c.flushed.ensures.done c.flushed.ensures.bytes
+    (dump_in (form_of c.args.spelling)) c.print_pairs-done.ensures.printed c.print_pairs-done.ensures.whole c.print_pairs-done.ensures.reads)
     c.close.ensures.closed

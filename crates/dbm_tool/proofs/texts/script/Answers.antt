@@ -6,6 +6,7 @@ pub returns-clause-carried : goal.returns-clause-carried
 returns-clause-carried g c =
     was_closed _ (there c.args.access) _ _ c.in_ok-db.db c.script_engine-done.new.db
     c.flushed.result c.in_ok-db.ensures.opens c.in_ok-db.ensures.fresh
-    (ran _ _ _ _ _ c.script_engine-done.result _ c.flushed.ensures.failed c.flushed.ensures.bytes _
+    (ran _ _ _ _ _ c.script_engine-done.result _ c.flushed.ensures.failed c.flushed.ensures.done c.flushed.ensures.bytes _
     c.script_engine-done.ensures.stands c.script_engine-done.ensures.answer
-    c.script_engine-done.ensures.tells) c.close.ensures.closed
+    c.script_engine-done.ensures.tells
+    c.script_engine-done.ensures.only) c.close.ensures.closed
