@@ -12,6 +12,7 @@ use sect_dev::{FileDev, FileFault, SectorDev};
 use std::alloc::{AllocError, Global};
 use std::fs::File;
 use std::io;
+use std::os::unix::fs::FileTypeExt;
 use std::rt::Files;
 use thiserror::Error;
 
@@ -92,7 +93,7 @@ pub fn open_named<R: Files<File = File>>(
         return Err(untold(Fault::Memory));
     };
     let writable = how.access.is_writable();
-    match FileDev::open(rt, path.as_str(), writable, how.create, FILE_SECTORS) {
+    match open_path(rt, path.as_str(), writable, how.create) {
         Ok(dev) => match Db::open(alloc, dev, how) {
             Ok(db) => Ok(db),
             Err((dev, fault)) => Err(refused_by(&dev, fault)),
@@ -103,6 +104,38 @@ pub fn open_named<R: Files<File = File>>(
             fault: Fault::Device,
             system: Some(error),
         }),
+    }
+}
+
+/// Opens the file of that path as a device with room for a database of any limit, as
+/// `FileDev::open` does. A pipe is refused as `Device`, and not opened.
+pub fn open_path<R: Files<File = File>>(
+    rt: &R,
+    path: &str,
+    write: bool,
+    create: bool,
+) -> Result<FileDev, FileFault>
+    ensures size { IfOk result (λ dev. ⟦<FileDev as SectorDev>⟧.sectors dev ≡ 273001992) }
+    ensures faults { IfOk result (λ dev. ⟦<FileDev as SectorDev>⟧.faults dev ≡ 0) }
+    ensures begins { IfOk result (λ dev. (⟦<FileDev as SectorDev>⟧.moment dev).at ≡ 0) }
+    ensures missing { IfErr result
+        (λ fault. fault ≡ FileFault.Missing → (write && create) ≡ false) }
+{
+    match refuse_pipe(rt, path) {
+        Ok(()) => FileDev::open(rt, path, write, create, FILE_SECTORS),
+        Err(error) => Err(FileFault::Device(error)),
+    }
+}
+
+/// Refuses a pipe, whose opening would wait until somebody else opens its other end. What isn't
+/// there, or can't be looked at, is left to the opening.
+pub fn refuse_pipe<R: Files<File = File>>(rt: &R, path: &str) -> io::Result<()> {
+    match rt.metadata(path) {
+        Ok(found) if found.file_type().is_fifo() => Err(io::Error::new(
+            io::ErrorKind::InvalidInput,
+            "it is a pipe and no file",
+        )),
+        _ => Ok(()),
     }
 }
 

@@ -6,7 +6,8 @@ use Rattle.sect_dev.specs.Device.{LeavesOnly}
 use Rattle.sect_dev.specs.Moments.{weaker}
 use Rattle.dbm_model.specs.Calls.{Call, Reply, Stored}
 use Rattle.dbm_model.specs.Changes.{replacing, with_pairs}
-use Rattle.dbm_model.specs.Pairs.{Pair}
+use Rattle.dbm_model.specs.Bounds.{Bounds}
+use Rattle.dbm_model.specs.Pairs.{Pair, Contents}
 use Rattle.dbm_model.specs.States.{State, Handle}
 use Rattle.dbm_model.specs.Steps.{with_map, Run}
 use Rattle.dbm_model.proofs.StoreLemmas.{stores_put_all}
@@ -122,6 +123,64 @@ pub same_settles : {S : Type 0} (s : Ghosts S) (old new : Database S s) (y : Set
     → store_of new ≡ store_of old → s.settles_to (store_of new) y → s.settles_to (store_of old) y
 same_settles s old new y same left = subst (λ store. s.settles_to store y) same left
 
+-- ---- what images stand for in whose group the pairs are stored
+
+-- one of two states
+pub one_of_two : (a b : State) (y : Settled)
+    → StandsForSome (λ left. (left ≡ held_by a) ⊎ (left ≡ held_by b)) y
+    → StandsForOne (held a ∷ held b ∷ []) y
+one_of_two a b y (left, may, stands) = (
+  Holding left.map left.bounds,
+  ⊎_elim
+      (λ one. is_first (held a) (held b ∷ []) (Holding left.map left.bounds)
+      (ap (λ (h : Held). Holding h.map h.bounds) one))
+      (λ other. is_later (held a) (held b ∷ []) (Holding left.map left.bounds)
+      (is_first (held b) [] (Holding left.map left.bounds)
+      (ap (λ (h : Held). Holding h.map h.bounds) other))) may,
+  stands,
+)
+
+-- what was held before these pairs were stored, or is with them
+abbrev pub HoldsNoneOrAll : State → List Pair → Held → Type 0
+HoldsNoneOrAll before pairs left = (left ≡ held_by before)
+    ⊎ (left ≡ held_by (with_map before (with_pairs before.map pairs)))
+
+pub none_or_all : (last stored : Handle) (pairs : List Pair)
+    → Run (record last { faults = stored.faults }) (map replacing pairs) (map (λ _. Stored) pairs)
+    stored → (y : Settled) → StandsForSome (HoldsNoneOrAll last.state pairs) y
+    → StandsForOne (held last.state ∷ held stored.state ∷ []) y
+none_or_all last stored pairs steps y (left, may, stands) =
+    let all : held_by (with_map last.state (with_pairs last.state.map pairs))
+    ≡ held_by stored.state =
+    ap₂ (λ (m : Contents) (b : Bounds). record { map = m; bounds = b })
+    (sym (stores_put_all (record last { faults = stored.faults }) stored pairs steps))
+    (sym (bounds_stay (record last { faults = stored.faults }) stored pairs steps)) in
+    one_of_two last.state stored.state y
+    (left, ⊎_elim (λ none. inl none) (λ some. inr (some ∙ all)) may, stands)
+
+-- a group that left the database usable, at any moment: none of its pairs is stored, or those are
+-- that it tells
+pub group_stands : {S : Type 0} (s : Ghosts S) (old new : Database S s) (last : Handle)
+    (group : List Pair) (stored : Result ℕ Fault) (ends : GroupEnds old new last group stored)
+    → (page_state old).usable ≡ true → (now : (page_state new).usable ≡ true)
+    → LeavesOnly s.moment s.settled_since (store_of old) (store_of new)
+    (StandsForOne (held last.state
+    ∷ held (stored_group s old new last group stored ends now).done.state ∷ []))
+unfolding stored_group
+group_stands s old new last group (Ok count) ends was now =
+    weaker s.moment s.settled_since (store_of old) (store_of new) _ _ (ends.survives was)
+    (one_of_two last.state ends.after.state)
+group_stands s old new last group (Err fault) ends was now =
+    weaker s.moment s.settled_since (store_of old) (store_of new) _ _ (ends.survives was)
+    (λ y some. one_of_two last.state last.state y (
+      some.0,
+      ⊎_elim
+          (λ none. inl none)
+          (λ broken. absurd (false≢true (sym broken.0
+          ∙ ap (λ (x : Handle). x.state.usable) ends.is_at.shows ∙ now))) some.1,
+      some.2,
+    ))
+
 -- ---- behind the calls of a session
 
 module _ (most : ℕ) (first last : Handle) (calls : List Call) (group : List Pair)
@@ -157,30 +216,13 @@ module _ (most : ℕ) (first last : Handle) (calls : List Call) (group : List Pa
       left = refl;
     }
 
-    with_first : held stored.state
-        ≡ Holding (with_pairs last.state.map (take count group)) last.state.bounds
-    with_first = ap₂ Holding
-        (stores_put_all (record last { faults = stored.faults }) stored (take count group) steps)
-        (bounds_stay (record last { faults = stored.faults }) stored (take count group) steps)
-
     -- what was held before it, or is with those pairs
     abbrev pub MayBeHeld : Held → Type 0
-    MayBeHeld left = (left ≡ held_by last.state)
-        ⊎ (left ≡ held_by (with_map last.state (with_pairs last.state.map (take count group))))
+    MayBeHeld = HoldsNoneOrAll last.state (take count group)
 
     -- an image that stands for one of them
     pub doubted_one : (y : Settled) → StandsForSome MayBeHeld y → StandsForOne doubted y
-    doubted_one y (left, may, stands) = (
-      Holding left.map left.bounds,
-      ⊎_elim
-          (λ none. is_first (held last.state) (held stored.state ∷ [])
-          (Holding left.map left.bounds) (ap (λ (h : Held). Holding h.map h.bounds) none))
-          (λ some. is_later (held last.state) (held stored.state ∷ [])
-          (Holding left.map left.bounds)
-          (is_first (held stored.state) [] (Holding left.map left.bounds)
-          (ap (λ (h : Held). Holding h.map h.bounds) some ∙ sym with_first))) may,
-      stands,
-    )
+    doubted_one = none_or_all last stored (take count group) steps
 
     -- a stop within a commit that broke the database
     pub left_in_group : (y : Settled) → StandsForSome MayBeHeld y

@@ -5,6 +5,7 @@ pub mod Groups
 pub mod Lists
 pub mod Moments
 pub mod Openings
+pub mod Positions
 pub mod Refusals
 pub mod Reopenings
 pub mod Rooms

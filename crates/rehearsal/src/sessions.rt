@@ -13,9 +13,13 @@ ghost use Rattle.dbm_file.specs.Calls.{call_of};
 ghost use Rattle.dbm_file.specs.Database.{page_state, IsAt};
 ghost use Rattle.dbm_file.specs.Opened.{device_below, AllHaveRoom};
 ghost use Rattle.rehearsal.specs.Members.{AllStandFor};
-ghost use Rattle.rehearsal.specs.Sessions.{plan_of, for_writing, ending_of, disk_of, IsOneEach, IfNotOpened, IfRested, IfUnsettled, IfGrouped, IsSettled, WhyNotOpened, Leaves, IsLeftByStop, CallsLeave, IsLeftByCalls};
+ghost use Rattle.rehearsal.specs.Positions.{GoesInSteps, IfMade, MadeInSteps};
+ghost use Rattle.rehearsal.specs.Sessions.{opening_of, plan_of, for_writing, ending_of, disk_of, IsOneEach, IfNotOpened, IfRested, IfUnsettled, IfGrouped, IsSettled, WhyNotOpened, Leaves, IsLeftByStop, CallsLeave, IsLeftByCalls};
 
 use dbm_file::{Access, Call, Db, Fault, OpenHow, Pair, Reply, Version, run};
+use page_cache::CachedPages;
+use page_io::PageStore;
+use redo_area::Pager;
 use sect_dev::SectorDev;
 use std::alloc::Global;
 
@@ -95,6 +99,13 @@ pub fn session<D: SectorDev>(
         × LeavesOnly D.moment (IsOutcome D.left_since (settled (D.sectors dev / 4))) dev result.0
         (IsLeftByStop (disk_of D.SectorDev dev result.0) before
         (plan_of how calls.now group.now) (ending_of result.1 count)) }
+
+    // From the moment on at which a call had answered, a stop leaves nothing of earlier ones.
+    ensures steps { D.honest dev → (before : Members)
+        → AllStandFor before (D.sectors dev / 4) (D.candidate dev)
+        → IfMade result.1 (GoesInSteps D.SectorDev ⟦<Pager<D> as PageStore>⟧
+        ⟦<CachedPages<Pager<D>> as PageStore>⟧ (disk_of D.SectorDev dev result.0) before
+        (opening_of how) dev result.0 (map call_of calls.now) (map pair_of group.now)) }
     ensures one_each { IsOneEach calls.now result.1 }
 
     // No more pairs of the group are stored than it has, and only a fault of the device refuses it.
@@ -147,6 +158,11 @@ fn make_calls<D: SectorDev>(alloc: Global, db: Db<D>, calls: &[Call], group: &[P
         (device_below db) result.0
         (IsLeftByCalls (D.faults result.0) h (map call_of calls.now) (map pair_of group.now)
         (ending_of result.1 count)) }
+    ensures steps { D.honest (device_below db) → (h : Handle) → IsAt db h
+        → h.state.usable ≡ true
+        → IfMade result.1 (MadeInSteps D.SectorDev ⟦<Pager<D> as PageStore>⟧
+        ⟦<CachedPages<Pager<D>> as PageStore>⟧ db result.0 h (map call_of calls.now)
+        (map pair_of group.now)) }
     ensures room { D.honest (device_below db) → (h : Handle) → IsAt db h → HasRoom h
         → (count : ℕ) → IsNeverShort (ending_of result.1 count) }
     ensures closed { D.honest (device_below db) → (page_state db).writable ≡ true

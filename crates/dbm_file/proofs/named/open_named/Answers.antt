@@ -6,14 +6,14 @@ use Rattle.dbm_file.proofs.EnoughRoom.{file_has_room}
 use Rattle.dbm_file.proofs.OpenedFiles.{refuses_file}
 use Rattle.dbm_file.proofs.named.open_named.Goals as goal
 
-pub returns-in-Ok-open-2-clause-opens : goal.returns-in-Ok-open-2-clause-opens
-returns-in-Ok-open-2-clause-opens g c = record {
-  first = c.in-Ok-open.dev;
-  begins = c.in-Ok-open.ensures.begins;
-  size = c.in-Ok-open.ensures.size;
-  stands = λ honest one stand. c.in-Ok-open-2.ensures.stands honest one stand;
-  opened = λ honest. c.in-Ok-open-2.ensures.opened honest;
-  any_moment = λ honest. c.in-Ok-open-2.ensures.any_moment honest;
+pub returns-in-Ok-open-clause-opens : goal.returns-in-Ok-open-clause-opens
+returns-in-Ok-open-clause-opens g c = record {
+  first = c.in-Ok-open_path.dev;
+  begins = c.in-Ok-open_path.ensures.begins;
+  size = c.in-Ok-open_path.ensures.size;
+  stands = λ honest one stand. c.in-Ok-open.ensures.stands honest one stand;
+  opened = λ honest. c.in-Ok-open.ensures.opened honest;
+  any_moment = λ honest. c.in-Ok-open.ensures.any_moment honest;
 }
 
 pub returns-in-Err-Missing-clause-missing : goal.returns-in-Err-Missing-clause-missing
@@ -22,26 +22,26 @@ returns-in-Err-Missing-clause-missing g c _ =
     ∙ c.in-Err-Missing.ensures.missing c.in-Err-Missing.field-0-is
 
 -- the refusal has the fault of the opening
-pub returns-in-Ok-open-clause-refused : goal.returns-in-Ok-open-clause-refused
-returns-in-Ok-open-clause-refused g c memory missing other =
+pub returns-in-Ok-open_path-clause-refused : goal.returns-in-Ok-open_path-clause-refused
+returns-in-Ok-open_path-clause-refused g c memory missing other =
     let told = c.in-Err.ensures in
     let same = c.refused_by.ensures.fault in
     subst (λ (fault : Fault). RefusesFile FileDevGhosts c.args.how fault) (sym same)
-    (refuses_file _ FileDevGhosts c.args.how c.in-Ok-open.dev c.in-Err.dev c.in-Err.fault
-    c.in-Ok-open.ensures.begins c.in-Ok-open.ensures.size told.early
+    (refuses_file _ FileDevGhosts c.args.how c.in-Ok-open_path.dev c.in-Err.dev c.in-Err.fault
+    c.in-Ok-open_path.ensures.begins c.in-Ok-open_path.ensures.size told.early
     (λ honest none. told.refused honest none (λ is. other (same ∙ is))))
 
 -- a device that failed has counted it
-pub returns-in-Ok-open-clause-told : goal.returns-in-Ok-open-clause-told
-returns-in-Ok-open-clause-told g c device =
+pub returns-in-Ok-open_path-clause-told : goal.returns-in-Ok-open_path-clause-told
+returns-in-Ok-open_path-clause-told g c device =
     c.refused_by.ensures.system
     (omega (arith, c.in-Err.ensures.device (sym c.refused_by.ensures.fault ∙ device)))
 
-pub returns-in-Ok-open-2-clause-room : goal.returns-in-Ok-open-2-clause-room
-returns-in-Ok-open-2-clause-room g c =
-    let db = c.in-Ok-open-2.db in
-    file_has_room db db.valid (c.in-Ok-open-2.ensures.fresh.capacity
-    ∙ ap (λ (n : ℕ). n / 4) c.in-Ok-open.ensures.size)
+pub returns-in-Ok-open-clause-room : goal.returns-in-Ok-open-clause-room
+returns-in-Ok-open-clause-room g c =
+    let db = c.in-Ok-open.db in
+    file_has_room db db.valid (c.in-Ok-open.ensures.fresh.capacity
+    ∙ ap (λ (n : ℕ). n / 4) c.in-Ok-open_path.ensures.size)
 
-pub returns-in-Ok-open-2-clause-fresh : goal.returns-in-Ok-open-2-clause-fresh
-returns-in-Ok-open-2-clause-fresh g c = search rules
+pub returns-in-Ok-open-clause-fresh : goal.returns-in-Ok-open-clause-fresh
+returns-in-Ok-open-clause-fresh g c = search rules

@@ -1,4 +1,4 @@
-use Rattle.std.proofs.Common.{◌≡◌, ◌≢◌, ◌≤◌, ◌/◌, ℕ, true, [], ◌∷◌, inl, ⊎_elim, length, map, Result, IfOk, IfErr, refl, sym, ◌∙◌, ap, subst, arith}
+use Rattle.std.proofs.Common.{◌≡◌, ◌≢◌, ◌≤◌, ◌/◌, ℕ, true, [], ◌∷◌, inl, ⊎_elim, length, map, take, Result, IfOk, IfErr, refl, sym, ◌∙◌, ap, subst, arith}
 use Rattle.std.proofs.lemmas.Bool.{false≢true}
 use Rattle.std.proofs.lemmas.List.Elements.{All-nil}
 use Rattle.std.specs.Result.{result_unwrap_or}
@@ -13,7 +13,7 @@ use Rattle.dbm_sessions.specs.Sessions.{Ending, Rested, Broke, Grouped, BrokeGro
 use Rattle.dbm_sessions.specs.Members.{held}
 use Rattle.dbm_sessions.specs.Room.{IsNeverShort}
 use Rattle.dbm_sessions.proofs.Failures.{counts_up}
-use Rattle.dbm_sessions.proofs.Lists.{is_first}
+use Rattle.dbm_sessions.proofs.Lists.{is_first, is_later}
 use Rattle.redo_commit.specs.File.{settled}
 use Rattle.redo_area.specs.Pagers.{device_of}
 use Rattle.page_cache.specs.Stores.{store_below}
@@ -26,10 +26,11 @@ use Rattle.dbm_file.specs.Opened.{device_below}
 use Rattle.dbm_file.proofs.Closings.{lower, left_now}
 use Rattle.dbm_file.proofs.OpenedFiles.{stands_for}
 use Rattle.rehearsal.specs.Members.{StandsForOne, AllStandFor}
+use Rattle.rehearsal.specs.Positions.{IfMade, MadeInSteps}
 use Rattle.rehearsal.specs.Sessions.{ending_of, IsOneEach, IfGrouped, replies_in, CallsLeave, IsLeftByCalls}
 use Rattle.rehearsal.proofs.Moments.{left_within, left_unmade}
 use Rattle.rehearsal.proofs.Endings.{none_made, which_ending, by_ending, broke}
-use Rattle.rehearsal.proofs.Groups.{by_device, stored_group, broken_group, grouped, doubted, cut_short, doubted_one, left_in_group, left_grouped, group_moments, same_settles}
+use Rattle.rehearsal.proofs.Groups.{by_device, stored_group, broken_group, grouped, doubted, cut_short, doubted_one, left_in_group, left_grouped, group_moments, group_stands, none_or_all, same_settles}
 use Rattle.rehearsal.proofs.sessions.make_calls.Goals as goal
 
 -- ---- no call was made
@@ -330,3 +331,82 @@ returns-clause-group_refused g c writable =
     (λ e. IfGrouped e (λ (stored : Result ℕ Fault). IfErr stored (λ fault. (fault ≡ Device)
     × MoreFaults (dev.faults old) (dev.faults left))))
     (λ was now. (refused was, refused was)) (λ was now. tt) (λ broken. tt)
+
+-- ---- by position
+
+pub returns-clause-steps : goal.returns-clause-steps
+returns-clause-steps g c honest h at usable =
+    let dev = g.D.SectorDev in
+    let closed = c.close-dev.ensures in
+    let left = c.close-dev.result.0 in
+    let mid = c.run.new.db in
+    let new = c.store_many-stored.new.self in
+    let stored = c.store_many-stored.result in
+    let calls = map call_of c.args.calls.now in
+    let group = map pair_of c.args.group.now in
+    let made = c.in-Ok.ensures.steps honest h at in
+    let last = made.after in
+    let more = c.store_many-stored.ensures in
+    let still = c.in-Ok.ensures.goes.honesty.1 honest in
+    let then = more.keeps.goes.honesty.1 still in
+    let ends = more.ends still last made.is_at in
+    let all = ap (λ (x : Handle). x.state.usable) made.is_at.shows in
+    let outcome = λ (n : ℕ). IsOutcome dev.left_since (settled n) in
+    let pages : ℕ = dev.sectors (device_below mid) / 4 in
+    which_ending (page_state mid).usable (page_state new).usable stored c.close-dev.result.1
+    c.ended.result c.in-Ok.replies more.keeps.broken closed.broken c.ended.ensures.rested
+    c.ended.ensures.failed c.ended.ensures.broke_group c.ended.ensures.broke
+    (λ e. IfMade e (λ replies. MadeInSteps dev _ _ c.args.db left h calls group replies))
+    (λ was now.
+    let one = stored_group _ mid new last group stored ends now in
+    let Some = StandsForOne (held last.state ∷ held one.done.state ∷ []) in
+    let steps : MadeInSteps dev _ _ c.args.db left h calls group
+    (map reply_of c.in-Ok.replies.items) = record {
+      last = mid;
+      made = made;
+      ends = λ _. record {
+        count = result_unwrap_or stored 0;
+        stored = one.done;
+        run = one.run;
+        leaves = followed_by dev.moment (outcome pages) (device_below mid) (device_below new) left
+            Some Some
+            (lower dev (λ cached. device_of (store_below cached)) mid.store new.store _ Some
+            more.keeps.goes.capacity (group_stands _ mid new last group stored ends was now)
+            (λ y is. is))
+            (subst (λ (n : ℕ). LeavesOnly dev.moment (outcome n) (device_below new) left Some)
+            more.keeps.goes.capacity
+            (weaker dev.moment (outcome (dev.sectors (device_below new) / 4)) (device_below new)
+            left Some _ (closed.any_moment then)
+            (λ y may. (
+              held one.done.state,
+              is_later (held last.state) (held one.done.state ∷ []) (held one.done.state)
+                  (is_first (held one.done.state) [] (held one.done.state) refl),
+              subst (λ (x : Held). ImageStandsFor y x.map x.bounds) one.same
+                  (stands_for _ new one.shown y one.is_at
+                  (ap (λ (x : Handle). x.state.usable) one.is_at.shows ∙ now) may),
+            ))))
+            (λ y is. is);
+      };
+    } in (steps, steps))
+    (λ was now.
+    let one = broken_group _ mid new last group stored ends more.keeps.breaks was (all ∙ was) now in
+    let Some = StandsForOne (held last.state ∷ held one.broken.stored.state ∷ []) in
+    record {
+      last = mid;
+      made = made;
+      ends = λ _. record {
+        count = one.count;
+        stored = one.broken.stored;
+        run = one.broken.run;
+        leaves = subst (λ d. LeavesOnly dev.moment (outcome pages) (device_below mid) d Some)
+            (sym (closed.untouched (inl now)))
+            (lower dev (λ cached. device_of (store_below cached)) mid.store new.store _ Some
+            more.keeps.goes.capacity one.survives
+            (none_or_all last one.broken.stored (take one.count group) one.broken.run));
+      };
+    })
+    (λ none. record {
+      last = mid;
+      made = made;
+      ends = λ sound. absurd (false≢true (sym none ∙ sym all ∙ sound));
+    })

@@ -4,7 +4,9 @@ use Rattle.sect_dev.specs.Moments.{IsOutcome, weaker, followed_by}
 use Rattle.dbm_sessions.specs.Members.{opened}
 use Rattle.dbm_sessions.specs.Sessions.{NotOpened}
 use Rattle.dbm_fault.specs.Faults.{fault_of}
+use Rattle.dbm_file.specs.Calls.{call_of}
 use Rattle.dbm_file.specs.Opened.{device_below}
+use Rattle.dbm_file.specs.Pairs.{pair_of}
 use Rattle.dbm_file.proofs.EnoughRoom.{room_at}
 use Rattle.redo_commit.specs.File.{settled}
 use Rattle.file_opening.specs.Opening.{writes, early_fault, AllAllow, MayRemain}
@@ -13,9 +15,11 @@ use Rattle.page_cache.specs.Stores.{store_below}
 use Rattle.page_io.specs.Counts.{counts_end}
 use Rattle.dbm_file.specs.Database.{store_of}
 use Rattle.rehearsal.specs.Members.{StandsForOne, AllStandFor}
+use Rattle.rehearsal.specs.Positions.{GoesInSteps, MadeInSteps}
 use Rattle.rehearsal.specs.Sessions.{disk_of, plan_of, opening_of, ending_of, IsLeftByStop, IsLeftByCalls}
 use Rattle.rehearsal.proofs.Moments.{left_in_opening, left_in_calls}
 use Rattle.rehearsal.proofs.Openings.{all_stand, remains, never_reads, begun}
+use Rattle.rehearsal.proofs.Positions.{if_made}
 use Rattle.rehearsal.proofs.Refusals.{refused_leaves, early_stays, refused_stays}
 use Rattle.rehearsal.proofs.Endings.{step_of, none_refused, refused_since}
 use Rattle.rehearsal.proofs.Rooms.{not_short, are_maps, members_have_room}
@@ -178,3 +182,40 @@ returns-in-Ok-clause-group_refused g c =
     (dev.faults (device_below c.in-Ok.db)) (dev.faults c.make_calls.result.0)
     c.in-Ok.ensures.later
     (c.make_calls.ensures.group_refused (c.in-Ok.ensures.fresh.writable ∙ asked))
+
+-- ---- by position
+
+pub returns-in-Ok-clause-steps : goal.returns-in-Ok-clause-steps
+returns-in-Ok-clause-steps g c honest before stand =
+    let dev = g.D.SectorDev in
+    let old = c.args.dev in
+    let new = c.make_calls.result.0 in
+    let how = c.args.how in
+    let is_asked = c.for_writing.ensures in
+    let disk = disk_of dev old new in
+    let calls = map call_of c.args.calls.now in
+    let group = map pair_of c.args.group.now in
+    let rose : dev.faults old ≤ dev.faults (device_below c.in-Ok.db) = c.in-Ok.ensures.later in
+    let start = begun c.in-Ok.db disk before how c.for_writing.result (dev.sectors old)
+    (dev.candidate old) is_asked stand c.in-Ok.ensures.fresh.capacity rose
+    (counts_end _ _ (store_below (store_of c.in-Ok.db)).least) (c.in-Ok.ensures.stands honest
+    (λ reads. absurd (never_reads how c.for_writing.result is_asked reads))
+    (all_stand before (dev.sectors old / 4) (dev.candidate old) stand)) in
+    if_made c.make_calls.result.1
+    (MadeInSteps dev _ _ c.in-Ok.db new start.handle calls group)
+    (GoesInSteps dev _ _ disk before (opening_of how) old new calls group)
+    (λ replies steps. record {
+      first = c.in-Ok.db;
+      h = start.handle;
+      is_at = start.is_at;
+      begins = start.begins;
+      opening = weaker dev.moment (IsOutcome dev.left_since (settled (dev.sectors old / 4))) old
+          (device_below c.in-Ok.db) (StandsForOne (before ++ map (opened (opening_of how)) before)) _
+          (c.in-Ok.ensures.any_moment honest)
+          (λ y remained. remains before how (dev.sectors old) (dev.candidate old) stand y
+          (subst (λ (h : OpenHow). MayRemain h (dev.sectors old) (dev.candidate old) y) is_asked
+          remained));
+      steps = steps;
+    })
+    (c.make_calls.ensures.steps (c.in-Ok.ensures.honesty.1 honest) start.handle start.is_at
+    start.usable)
