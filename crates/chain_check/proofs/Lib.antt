@@ -14,3 +14,4 @@ pub mod RecordTimes
 pub mod SameWays
 pub mod SeenPages
 pub mod StoreReads
+pub mod ToldFlaws

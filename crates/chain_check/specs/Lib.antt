@@ -1,1 +1,2 @@
 pub mod BucketChains
+pub mod Flaws

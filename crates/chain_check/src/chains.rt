@@ -10,32 +10,37 @@ ghost use Rattle.page_io.specs.declared.store.PageFault.TheVariants.{Damaged};
 ghost use Rattle.page_marks.specs.Marks.{AreMarked, MayBeSeen};
 ghost use Rattle.chain_walks.specs.Answers.{IsWalkAnswer};
 ghost use Rattle.chain_check.specs.BucketChains.{IsBucketChain, IsChecked};
+ghost use Rattle.chain_check.specs.Flaws.{IsTold};
 
 use crate::buckets::are_in_bucket;
 use crate::contents::check_contents;
+use crate::flaws::{Flaw, Rule, Watch};
 use crate::keys::check_keys;
-use chain_walks::{HEAD, OVERFLOW, read_link};
+use crate::marking::mark;
+use crate::reading::read_link;
+use chain_walks::{HEAD, OVERFLOW};
 use lin_addr::Shape;
 use page_io::{Page, PageFault, PageStore, Version};
-use page_marks::mark;
 
 /// Reads the chain of a bucket from page `head` on and its contents, marks their pages, and answers
 /// how many pairs it has, 4,294,967,295 where there are more. Damaged is answered where it isn't
 /// such a chain, a key of another bucket or one twice stands in it, or one of the pages is marked
-/// already.
-pub fn check_chain<S: PageStore>(
+/// already; which of them, and of which page, is told to `watch`.
+pub fn check_chain<S: PageStore, W: Watch>(
     store: &mut S,
     shape: Shape,
     bucket: u32,
     head: u32,
     marks: &mut [bool],
     version: Version,
+    watch: &mut W,
 ) -> Result<u32, PageFault>
     requires { (S.state store.old).end ≤ length marks.old }
     ensures reads { ReadsOnly S.PageStore store.old store.new }
     ensures length { length marks.new ≡ length marks.old }
     ensures cause { HasDeviceCause (S.faults store.old) (S.faults store.new) result }
     ensures answer { IsWalkAnswer (S.state store.old) result }
+    ensures told { IsTold (IsErrOf result Damaged) (W.has_told watch.old) (W.has_told watch.new) }
 
     // It is a bucket's chain where the pages say one, whose pages are not marked yet, and nowhere
     // else.
@@ -56,12 +61,19 @@ pub fn check_chain<S: PageStore>(
     let mut kind = HEAD;
     let mut pairs: u32 = 0;
     for _step in 0..end {
-        let next = read_link(store, at, kind, &mut page, version)?;
-        if !mark(marks, at, end) || !are_in_bucket(&page, shape, bucket) {
+        let next = read_link(store, at, kind, &mut page, version, watch)?;
+        if !mark(marks, at, end, watch) {
             return Err(PageFault::Damaged);
         }
-        check_keys(store, head, at, &page, version)?;
-        check_contents(store, &page, marks, &mut other, version)?;
+        if !are_in_bucket(&page, shape, bucket) {
+            watch.flaw(Flaw {
+                page: at,
+                rule: Rule::Bucket,
+            });
+            return Err(PageFault::Damaged);
+        }
+        check_keys(store, head, at, &page, version, watch)?;
+        check_contents(store, &page, marks, &mut other, version, watch)?;
         pairs = pairs.saturating_add(page.slots() as u32);
         if next == 0 {
             return Ok(pairs);
@@ -69,5 +81,9 @@ pub fn check_chain<S: PageStore>(
         at = next;
         kind = OVERFLOW;
     }
+    watch.flaw(Flaw {
+        page: at,
+        rule: Rule::Twice,
+    });
     Err(PageFault::Damaged)
 }

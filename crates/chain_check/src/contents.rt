@@ -10,10 +10,13 @@ ghost use Rattle.page_marks.specs.Marks.{AreMarked, MayBeSeen};
 ghost use Rattle.slot_page.specs.Contents.{IsPageOf, page_records};
 ghost use Rattle.chain_walks.specs.Answers.{IsWalkAnswer};
 ghost use Rattle.chain_check.specs.BucketChains.{AreContentPages, IsContentChecked, AreEntriesOf, AreContentsChecked};
+ghost use Rattle.chain_check.specs.Flaws.{IsTold};
 
-use content_pages::{PER_PAGE, check_part, pages_for};
+use crate::flaws::{Flaw, Rule, Watch};
+use crate::marking::mark;
+use crate::reading::check_part;
+use content_pages::{PER_PAGE, pages_for};
 use page_io::{Page, PageFault, PageStore, Version};
-use page_marks::mark;
 use slot_page::far_at;
 
 /// A proof learns here that the bytes of a page are below 256.
@@ -23,18 +26,20 @@ fn are_bytes(bytes: &[u8])
 
 /// Reads the content of so many bytes that begins in page `first`, and marks its pages. Damaged is
 /// answered as by `read_content`, and where one of its pages is marked already.
-fn check_content<S: PageStore>(
+fn check_content<S: PageStore, W: Watch>(
     store: &mut S,
     first: u32,
     long: u16,
     marks: &mut [bool],
     page: &mut Page,
+    watch: &mut W,
 ) -> Result<(), PageFault>
     requires { (S.state store.old).end ≤ length marks.old }
     ensures reads { ReadsOnly S.PageStore store.old store.new }
     ensures length { length marks.new ≡ length marks.old }
     ensures cause { HasDeviceCause (S.faults store.old) (S.faults store.new) result }
     ensures answer { IsWalkAnswer (S.state store.old) result }
+    ensures told { IsTold (IsErrOf result Damaged) (W.has_told watch.old) (W.has_told watch.new) }
     ensures sound { S.honest store.old → (seen : List ℕ)
         → AreMarked marks.old (S.state store.old).end seen
         → OnOk result (IsContentChecked (body_at S.PageStore store.old) (S.state store.old).end
@@ -46,30 +51,37 @@ fn check_content<S: PageStore>(
 {
     let end = store.end();
     let mut at = first;
+    let mut last = first;
     let mut left = usize::from(long);
     for _page in 0..pages_for(long) {
         let part = left.min(PER_PAGE);
-        let next = check_part(store, at, part, page)?;
-        if !mark(marks, at, end) {
+        let next = check_part(store, at, last, part, page, watch)?;
+        if !mark(marks, at, end, watch) {
             return Err(PageFault::Damaged);
         }
+        last = at;
         at = next;
         left -= part;
     }
     if at == 0 {
         Ok(())
     } else {
+        watch.flaw(Flaw {
+            page: last,
+            rule: Rule::ContentLong,
+        });
         Err(PageFault::Damaged)
     }
 }
 
 /// Reads the contents of a page's far records, and marks their pages. Pages are read into `other`.
-pub fn check_contents<S: PageStore>(
+pub fn check_contents<S: PageStore, W: Watch>(
     store: &mut S,
     page: &Page,
     marks: &mut [bool],
     other: &mut Page,
     version: Version,
+    watch: &mut W,
 ) -> Result<(), PageFault>
     requires page { IsPageOf (model_version version) page.now.bytes }
     requires marks { (S.state store.old).end ≤ length marks.old }
@@ -77,6 +89,7 @@ pub fn check_contents<S: PageStore>(
     ensures length { length marks.new ≡ length marks.old }
     ensures cause { HasDeviceCause (S.faults store.old) (S.faults store.new) result }
     ensures answer { IsWalkAnswer (S.state store.old) result }
+    ensures told { IsTold (IsErrOf result Damaged) (W.has_told watch.old) (W.has_told watch.new) }
     ensures sound { S.honest store.old → (seen : List ℕ)
         → AreMarked marks.old (S.state store.old).end seen
         → OnOk result (AreContentsChecked (model_version version) (body_at S.PageStore store.old)
@@ -91,7 +104,7 @@ pub fn check_contents<S: PageStore>(
     are_bytes(&page.bytes);
     for slot in 0..page.slots() as usize {
         if let Some((first, long)) = far_at(page, slot) {
-            check_content(store, first, long, marks, other)?;
+            check_content(store, first, long, marks, other, watch)?;
         }
     }
     Ok(())

@@ -9,8 +9,11 @@ ghost use Rattle.page_io.specs.declared.store.PageFault.TheVariants.{Damaged};
 ghost use Rattle.slot_page.specs.Contents.{IsBucketPage, page_records};
 ghost use Rattle.chain_walks.specs.Answers.{IsWalkAnswer};
 ghost use Rattle.chain_check.specs.BucketChains.{AreApart, HasNewKeys, AreNewInChain};
+ghost use Rattle.chain_check.specs.Flaws.{IsTold};
 
-use chain_walks::{HEAD, OVERFLOW, read_link};
+use crate::flaws::{Flaw, Rule, Watch};
+use crate::reading::read_link;
+use chain_walks::{HEAD, OVERFLOW};
 use page_io::{Page, PageFault, PageStore, Version};
 use slot_page::{find, pair_at};
 
@@ -30,18 +33,21 @@ fn are_apart(page: &Page, other: &Page) -> bool
     true
 }
 
-/// Looks whether a page of the chain, page `n`, has a key that one of the pages before it has.
-pub fn check_keys<S: PageStore>(
+/// Looks whether a page of the chain, page `n`, has a key that one of the pages before it has. On
+/// an honest device the chain comes to page `n`.
+pub fn check_keys<S: PageStore, W: Watch>(
     store: &mut S,
     head: u32,
     n: u32,
     page: &Page,
     version: Version,
+    watch: &mut W,
 ) -> Result<(), PageFault>
     requires { IsBucketPage page.now.bytes }
     ensures reads { ReadsOnly S.PageStore store.old store.new }
     ensures cause { HasDeviceCause (S.faults store.old) (S.faults store.new) result }
     ensures answer { IsWalkAnswer (S.state store.old) result }
+    ensures told { IsTold (IsErrOf result Damaged) (W.has_told watch.old) (W.has_told watch.new) }
     ensures sound { S.honest store.old
         → OnOk result (HasNewKeys (body_at S.PageStore store.old) head n
         (page_records page.now.bytes)) }
@@ -57,12 +63,20 @@ pub fn check_keys<S: PageStore>(
         if at == n {
             return Ok(());
         }
-        let next = read_link(store, at, kind, &mut other, version)?;
+        let next = read_link(store, at, kind, &mut other, version, watch)?;
         if next == 0 || !are_apart(page, &other) {
+            watch.flaw(Flaw {
+                page: n,
+                rule: Rule::Key,
+            });
             return Err(PageFault::Damaged);
         }
         at = next;
         kind = OVERFLOW;
     }
+    watch.flaw(Flaw {
+        page: at,
+        rule: Rule::Twice,
+    });
     Err(PageFault::Damaged)
 }

@@ -5,6 +5,12 @@
 mod buckets;
 mod chains;
 mod contents;
+mod flaws;
 mod keys;
+mod marking;
+mod reading;
 
 pub use chains::check_chain;
+pub use flaws::{Flaw, Rule, Unwatched, Watch};
+pub use marking::{mark, mark_all};
+pub use reading::is_in_file;

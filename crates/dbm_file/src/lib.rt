@@ -19,7 +19,7 @@ mod verifying;
 
 pub use calls::{Call, DeleteReply, Reply, Stat, StoreMode, StoreReply};
 pub use database::{Database, Db};
-pub use file_check::{Unwatched, Watch};
+pub use file_check::{Flaw, Rule, Unwatched, Watch};
 pub use file_opening::{Access, Fault, OpenHow, needed_sectors, needed_sectors_of};
 pub use named::{FILE_SECTORS, Refusal, dbm_open, open_named, open_path, refuse_pipe};
 pub use octets::Octets;

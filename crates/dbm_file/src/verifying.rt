@@ -8,6 +8,7 @@ use page_io::PageStore;
 impl<S: PageStore> Database<S> {
     ghost use Rattle.std.specs.FinMap.{len};
     ghost use Rattle.sect_dev.specs.Device.{MoreFaults};
+    ghost use Rattle.chain_check.specs.Flaws.{IsTold};
     ghost use Rattle.dbm_fault.specs.Among.{IsErrAmong};
     ghost use Rattle.dbm_file.specs.Database.{store_of, page_state, AtEachHandle};
     ghost use Rattle.dbm_file.specs.Replies.{read_faults};
@@ -19,7 +20,8 @@ impl<S: PageStore> Database<S> {
     /// `Device`, or `Damaged` where it is no good file: where a page doesn't say what the format
     /// asks of it or stands in two places or in none, a pair is in another bucket than its key's, a
     /// key stands there twice, a count is wrong, or there are more pages than the limit asks for.
-    /// Each bucket that was looked at is told to `watch` (`Unwatched` does nothing with it).
+    /// Each bucket that was looked at is told to `watch`, and where the file is no good one, the
+    /// first page that breaks a rule, with the rule (`Unwatched` does nothing with it).
     pub fn verify<W: Watch>(&mut self, marks: &mut [bool], watch: &mut W) -> Result<u32, Fault>
         requires { (page_state self.old).end ≤ length marks.old }
 
@@ -45,6 +47,10 @@ impl<S: PageStore> Database<S> {
         ensures device { result ≡ Err Fault.Device
             → MoreFaults (S.faults (store_of self.old)) (S.faults (store_of self.new)) }
         ensures only { IsErrAmong result read_faults }
+
+        // A flaw was told exactly where it says that the file is damaged.
+        ensures told { IsTold (result ≡ Err Fault.Damaged) (W.has_told watch.old)
+            (W.has_told watch.new) }
     {
         if self.store.is_broken() {
             return Err(Fault::Broken);

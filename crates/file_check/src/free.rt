@@ -6,24 +6,45 @@ ghost use Rattle.page_io.specs.Views.{body_at, ReadsOnly};
 ghost use Rattle.page_io.specs.declared.store.PageFault.TheVariants.{Damaged};
 ghost use Rattle.page_marks.specs.Marks.{AreMarked, MayBeSeen};
 ghost use Rattle.chain_walks.specs.Answers.{IsWalkAnswer};
+ghost use Rattle.chain_check.specs.Flaws.{IsTold};
 ghost use Rattle.file_check.specs.FreeLists.{IsList, IsListMarked};
 
-use free_pages::read_free;
+use crate::reading::{read, read_free};
+use chain_check::{Flaw, Rule, Watch, mark};
 use page_io::{Page, PageFault, PageStore};
-use page_marks::mark;
+
+/// The list is longer or shorter than the meta page counts.
+const WRONG_COUNT: Flaw = Flaw {
+    page: 1,
+    rule: Rule::FreeCount,
+};
+
+/// What is wrong where the next page of the list is page `n`, and the file has no such page.
+fn no_page(n: u32) -> Flaw {
+    if n == 0 {
+        WRONG_COUNT
+    } else {
+        Flaw {
+            page: n,
+            rule: Rule::Outside,
+        }
+    }
+}
 
 /// Reads the free list of `count` pages from page `head` on, 0 for none, and marks its pages.
-pub fn check_free<S: PageStore>(
+pub fn check_free<S: PageStore, W: Watch>(
     store: &mut S,
     head: u32,
     count: u32,
     marks: &mut [bool],
+    watch: &mut W,
 ) -> Result<(), PageFault>
     requires { (S.state store.old).end ≤ length marks.old }
     ensures reads { ReadsOnly S.PageStore store.old store.new }
     ensures length { length marks.new ≡ length marks.old }
     ensures cause { HasDeviceCause (S.faults store.old) (S.faults store.new) result }
     ensures answer { IsWalkAnswer (S.state store.old) result }
+    ensures told { IsTold (IsErrOf result Damaged) (W.has_told watch.old) (W.has_told watch.new) }
     ensures sound { S.honest store.old → (seen : List ℕ)
         → AreMarked marks.old (S.state store.old).end seen
         → OnOk result (IsListMarked (body_at S.PageStore store.old) (S.state store.old).end
@@ -42,9 +63,9 @@ pub fn check_free<S: PageStore>(
     let mut page = Page::blank();
     let mut at = head;
     for _ in 0..count {
-        store.read(at, &mut page)?;
-        let next = read_free(&page, at).ok_or(PageFault::Damaged)?;
-        if !mark(marks, at, end) {
+        read(store, at, &mut page, no_page(at), watch)?;
+        let next = read_free(&page, at, watch).ok_or(PageFault::Damaged)?;
+        if !mark(marks, at, end, watch) {
             return Err(PageFault::Damaged);
         }
         at = next;
@@ -52,6 +73,7 @@ pub fn check_free<S: PageStore>(
     if at == 0 {
         Ok(())
     } else {
+        watch.flaw(WRONG_COUNT);
         Err(PageFault::Damaged)
     }
 }

@@ -3,9 +3,10 @@
 
 mod file;
 mod free;
+mod reading;
 mod segments;
 mod sizes;
-mod watch;
+mod unmarked;
 
+pub use chain_check::{Flaw, Rule, Unwatched, Watch};
 pub use file::verify;
-pub use watch::{Unwatched, Watch};

@@ -10,11 +10,12 @@ ghost use Rattle.page_marks.specs.Marks.{AreMarked, MayBeSeen};
 ghost use Rattle.seg_table.specs.MetaPages.{model_meta};
 ghost use Rattle.seg_table.specs.Segments.{heads_in};
 ghost use Rattle.chain_walks.specs.Answers.{IsWalkAnswer};
+ghost use Rattle.chain_check.specs.Flaws.{IsTold};
 ghost use Rattle.file_check.specs.Segments.{AreHeadChains, AreHeadsChecked, AreInSegment, IsSegmentChecked, AreBuckets, AreChecked, AreCounted};
 
+use crate::reading::read;
 use crate::sizes::PER_SEGMENT;
-use crate::watch::Watch;
-use chain_check::check_chain;
+use chain_check::{Flaw, Rule, Watch, check_chain};
 use page_io::{Page, PageFault, PageStore};
 use seg_table::{Meta, segment_ok};
 
@@ -39,6 +40,7 @@ fn check_heads<S: PageStore, W: Watch>(
     ensures length { length marks.new ≡ length marks.old }
     ensures cause { HasDeviceCause (S.faults store.old) (S.faults store.new) result }
     ensures answer { IsWalkAnswer (S.state store.old) result }
+    ensures told { IsTold (IsErrOf result Damaged) (W.has_told watch.old) (W.has_told watch.new) }
     ensures sound { S.honest store.old → (seen : List ℕ)
         → AreMarked marks.old (S.state store.old).end seen
         → IfOk result (λ pairs. AreHeadsChecked (body_at S.PageStore store.old)
@@ -58,7 +60,15 @@ fn check_heads<S: PageStore, W: Watch>(
     let mut pairs: u32 = 0;
     for i in 0..count {
         let head = page.u32_at(HEADS_AT + 4 * i as usize);
-        let more = check_chain(store, meta.shape, first + i, head, marks, meta.version)?;
+        let more = check_chain(
+            store,
+            meta.shape,
+            first + i,
+            head,
+            marks,
+            meta.version,
+            watch,
+        )?;
         pairs = pairs.saturating_add(more);
         watch.bucket();
     }
@@ -80,6 +90,7 @@ fn check_segment<S: PageStore, W: Watch>(
     ensures length { length marks.new ≡ length marks.old }
     ensures cause { HasDeviceCause (S.faults store.old) (S.faults store.new) result }
     ensures answer { IsWalkAnswer (S.state store.old) result }
+    ensures told { IsTold (IsErrOf result Damaged) (W.has_told watch.old) (W.has_told watch.new) }
     ensures sound { S.honest store.old → (seen : List ℕ)
         → AreMarked marks.old (S.state store.old).end seen
         → IfOk result (λ pairs. IsSegmentChecked (body_at S.PageStore store.old)
@@ -97,8 +108,16 @@ fn check_segment<S: PageStore, W: Watch>(
 {
     let n = meta.segments[s as usize];
     let mut page = Page::blank();
-    store.read(n, &mut page)?;
+    let outside = Flaw {
+        page: n,
+        rule: Rule::Outside,
+    };
+    read(store, n, &mut page, outside, watch)?;
     if !segment_ok(&page, meta, s as usize) {
+        watch.flaw(Flaw {
+            page: n,
+            rule: Rule::Segment,
+        });
         return Err(PageFault::Damaged);
     }
     let first = PER_SEGMENT * s;
@@ -120,6 +139,7 @@ pub fn check_buckets<S: PageStore, W: Watch>(
     ensures length { length marks.new ≡ length marks.old }
     ensures cause { HasDeviceCause (S.faults store.old) (S.faults store.new) result }
     ensures answer { IsWalkAnswer (S.state store.old) result }
+    ensures told { IsTold (IsErrOf result Damaged) (W.has_told watch.old) (W.has_told watch.new) }
     ensures sound { S.honest store.old → (seen : List ℕ)
         → AreMarked marks.old (S.state store.old).end seen
         → IfOk result (λ pairs. AreChecked (body_at S.PageStore store.old) (S.state store.old).end

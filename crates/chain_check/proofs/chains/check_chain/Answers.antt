@@ -16,8 +16,8 @@ use Rattle.chain_check.proofs.GoodChains.{good_chain, good_page, good_mark, good
 use Rattle.chain_check.proofs.PartChains.{no_part, part_more, is_checked}
 use Rattle.chain_check.proofs.SeenPages.{mark_more, not_refused}
 use Rattle.chain_check.proofs.StoreReads.{from_mid, to_mid}
+use Rattle.chain_check.proofs.ToldFlaws.{kept_then}
 use Rattle.chain_check.proofs.chains.check_chain.Goals as goal
-use Rattle.chain_check.proofs.chains.check_chain.Goals.{then-not-mark-via-then-not-mark, then-not-mark-via-else-not-mark+then-not-are_in_bucket}
 
 pub loop-step-init : goal.loop-step-init
 loop-step-init g c = record {
@@ -25,6 +25,7 @@ loop-step-init g c = record {
   marks = refl;
   reads = reads_none g.S.PageStore c.args.store.now
       (λ y h left. g.met.S.PageStore.only_now c.args.store.now y h left);
+  told = λ told was. was;
   part = λ honest seen are. no_part (model_version c.args.version)
       (body_at g.S.PageStore c.args.store.now) (g.S.PageStore.state c.args.store.now).end
       c.args.head (shape_of c.args.shape) c.args.bucket c.args.marks.now seen are;
@@ -50,18 +51,21 @@ returns-then-not-mark-clause-whole g c honest seen chain are is may damaged =
     let part = c.loop-step.invariant.part honest seen are in
     let small : (st.state c.args.store.now).end ≤ 2 ^ 32 =
     omega (arith, g.met.S.PageStore.in_range c.args.store.now) in
+    not_refused c.loop-step.marks c.mark.result c.end-end.result
+    (st.state c.args.store.now).end c.loop-step.at (seen ++ pages_in part.chain)
+    c.end-end.ensures c.mark.ensures.may_be part.marked
+    (good_mark _ _ _ _ _ _ seen chain is small may _ _ _ _ _ part) c.if-not-mark.true
+
+pub returns-then-not-are_in_bucket-clause-whole : goal.returns-then-not-are_in_bucket-clause-whole
+returns-then-not-are_in_bucket-clause-whole g c honest seen chain are is may damaged =
+    let st = g.S.PageStore in
+    let part = c.loop-step.invariant.part honest seen are in
+    let small : (st.state c.args.store.now).end ≤ 2 ^ 32 =
+    omega (arith, g.met.S.PageStore.in_range c.args.store.now) in
     let link = link_before _ st _ _ c.loop-step.invariant.reads honest _ _ _ _
     c.in_ok-next.ensures.says in
-    elim c.then-not-mark.branch [
-      | then-not-mark-via-then-not-mark w ↦
-          not_refused c.loop-step.marks c.mark.result c.end-end.result
-          (st.state c.args.store.now).end c.loop-step.at (seen ++ pages_in part.chain)
-          c.end-end.ensures c.mark.ensures.may_be part.marked
-          (good_mark _ _ _ _ _ _ seen chain is small may _ _ _ _ _ part) w.if-not-mark.true
-      | then-not-mark-via-else-not-mark+then-not-are_in_bucket w ↦
-          (let yes = w.are_in_bucket.ensures.1
-          (good_keys _ _ _ _ _ _ seen chain is small may _ _ _ _ _ part _ _ link) in cc)
-    ]
+    let yes = c.are_in_bucket.ensures.1
+    (good_keys _ _ _ _ _ _ seen chain is small may _ _ _ _ _ part _ _ link) in cc
 
 pub returns-in_err-check_keys-clause-whole : goal.returns-in_err-check_keys-clause-whole
 returns-in_err-check_keys-clause-whole g c honest seen chain are is may damaged =
@@ -159,6 +163,11 @@ loop-step-preserved g c =
           ∙ c.loop-step.invariant.marks;
       reads = reads_then st _ _ _ (g.met.S.PageStore.counts_now c.check_keys.new.store) all_reads
           c.in_ok-check_contents.ensures.reads;
+      told = kept_then (kept_then (kept_then (kept_then c.loop-step.invariant.told
+          c.in_ok-next.ensures.told (λ is. cc))
+          c.mark.ensures.told (λ is. let marked = c.if-not-mark.false in cc))
+          c.in_ok-check_keys.ensures.told (λ is. cc))
+          c.in_ok-check_contents.ensures.told (λ is. cc);
       part = λ honest seen are.
           let part = c.loop-step.invariant.part honest seen are in
           let link = link_before _ st _ _ c.loop-step.invariant.reads honest _ _ _ _

@@ -4,6 +4,7 @@ use Rattle.page_io.specs.Views.{body_at, ReadsOnly}
 use Rattle.page_marks.specs.Marks.{AreMarked}
 use Rattle.lin_addr.specs.Shapes.{shape_of}
 use Rattle.chain_check.proofs.PartChains.{IsPart}
+use Rattle.chain_check.proofs.ToldFlaws.{Keeps}
 use Rattle.chain_check.proofs.chains.check_chain.Given as goal
 
 abbrev pub invariant-loop-step : goal.invariant-loop-step
@@ -11,6 +12,7 @@ invariant-loop-step g l = record {
   kinds : (l.kind ≡ 3) ⊎ (l.kind ≡ 4);
   marks : length l.marks ≡ length l.fn.marks;
   reads : ReadsOnly g.S.PageStore l.fn.store l.store;
+  told : Keeps (g.W.Watch.has_told l.fn.watch) (g.W.Watch.has_told l.watch);
   part : g.S.PageStore.honest l.fn.store → (seen : List ℕ)
       → AreMarked l.fn.marks (g.S.PageStore.state l.fn.store).end seen
       → IsPart (model_version l.fn.version) (body_at g.S.PageStore l.fn.store)

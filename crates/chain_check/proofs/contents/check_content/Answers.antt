@@ -7,6 +7,7 @@ use Rattle.chain_walks.proofs.ReadPages.{reads_none, still_honest}
 use Rattle.content_pages.proofs.ContentWalks.{said_too}
 use Rattle.chain_check.proofs.ContentChecks.{none_checked, part_more, all_checked, whole_rest, no_rest, rest_mark, rest_part, rest_more}
 use Rattle.chain_check.proofs.SeenPages.{mark_more, not_refused}
+use Rattle.chain_check.proofs.ToldFlaws.{kept_then}
 use Rattle.chain_check.proofs.contents.check_content.Goals as goal
 
 pub loop-page-init : goal.loop-page-init
@@ -14,6 +15,7 @@ loop-page-init g c = record {
   marks = refl;
   reads = reads_none g.S.PageStore c.args.store.now
       (λ y h left. g.met.S.PageStore.only_now c.args.store.now y h left);
+  told = λ told was. was;
   left = omega (arith, c.from-left.ensures);
   part = λ honest seen are. none_checked (body_at g.S.PageStore c.args.store.now)
       (g.S.PageStore.state c.args.store.now).end c.args.first c.args.long c.from-left.result
@@ -79,6 +81,8 @@ loop-page-preserved g c =
       marks = c.if-not-mark.ensures.length ∙ so_far.marks;
       reads = reads_then st _ _ _ (g.met.S.PageStore.counts_now c.loop-page.store) so_far.reads
           told.reads;
+      told = kept_then (kept_then so_far.told told.told (λ is. cc)) c.mark.ensures.told
+          (λ is. let marked = c.if-not-mark.false in cc);
       left = omega (arith, so_far.left, c.min-part.ensures);
       part = λ honest seen are.
           let same = same_said st _ _ so_far.reads honest in

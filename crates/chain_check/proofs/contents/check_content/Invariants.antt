@@ -3,12 +3,14 @@ use Rattle.page_io.specs.Views.{body_at, ReadsOnly}
 use Rattle.page_marks.specs.Marks.{AreMarked}
 use Rattle.chain_check.specs.BucketChains.{AreContentPages}
 use Rattle.chain_check.proofs.ContentChecks.{IsPartChecked, IsContentRest}
+use Rattle.chain_check.proofs.ToldFlaws.{Keeps}
 use Rattle.chain_check.proofs.contents.check_content.Given as goal
 
 abbrev pub invariant-loop-page : goal.invariant-loop-page
 invariant-loop-page g l = record {
   marks : length l.marks ≡ length l.fn.marks;
   reads : ReadsOnly g.S.PageStore l.fn.store l.store;
+  told : Keeps (g.W.Watch.has_told l.fn.watch) (g.W.Watch.has_told l.watch);
   left : l.left ≡ l.fn.long - 2032 * l._page;
   part : g.S.PageStore.honest l.fn.store → (seen : List ℕ)
       → AreMarked l.fn.marks (g.S.PageStore.state l.fn.store).end seen

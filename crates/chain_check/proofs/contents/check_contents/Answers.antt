@@ -14,6 +14,7 @@ use Rattle.chain_check.specs.BucketChains.{AreContentPages, IsContentChecked}
 use Rattle.chain_check.proofs.BucketRecords.{within_page, whole_page}
 use Rattle.chain_check.proofs.EntryChecks.{AreFirstRead, none_read, near_more, far_more, all_read, content_here}
 use Rattle.chain_check.proofs.StoreReads.{from_mid, to_mid}
+use Rattle.chain_check.proofs.ToldFlaws.{Keeps, kept_then}
 use Rattle.chain_check.proofs.contents.check_contents.Goals as goal
 use Rattle.chain_check.proofs.contents.check_contents.Goals.{in-Some+in_ok-check_content, in_default}
 
@@ -22,6 +23,7 @@ loop-slot-init g c = record {
   marks = refl;
   reads = reads_none g.S.PageStore c.args.store.now
       (λ y h left. g.met.S.PageStore.only_now c.args.store.now y h left);
+  told = λ told was. was;
   part = λ honest seen are. none_read (model_version c.args.version)
       (body_at g.S.PageStore c.args.store.now) (g.S.PageStore.state c.args.store.now).end
       (page_records c.args.page.now.bytes) c.args.marks.now seen are;
@@ -87,6 +89,9 @@ loop-slot-preserved g c =
                 (sym w.store-is)
                 (reads_then st _ _ _ (g.met.S.PageStore.counts_now c.loop-slot.store) so_far.reads
                 told.reads);
+            told = subst (λ (watch : g.row.W.Denot).
+                Keeps (g.W.Watch.has_told c.args.watch.now) (g.W.Watch.has_told watch))
+                (sym w.watch-is) (kept_then so_far.told told.told (λ is. cc));
             part = λ honest seen are.
                 let part = so_far.part honest seen are in
                 let seen' = seen ++ pages_of part.entries in
@@ -107,6 +112,9 @@ loop-slot-preserved g c =
         marks = c.match-far_at.auto.marks ∙ so_far.marks;
         reads = subst (λ (store : g.row.S.Denot). ReadsOnly st c.args.store.now store)
             (sym w.store-is) so_far.reads;
+        told = subst (λ (watch : g.row.W.Denot).
+            Keeps (g.W.Watch.has_told c.args.watch.now) (g.W.Watch.has_told watch))
+            (sym w.watch-is) so_far.told;
         part = λ honest seen are.
             subst (λ (ms : List Bool). AreFirstRead version at end (page_records bytes)
             (slot + 1) ms seen) (sym w.marks-is)

@@ -4,12 +4,14 @@ use Rattle.page_io.specs.Views.{body_at, ReadsOnly}
 use Rattle.page_marks.specs.Marks.{AreMarked}
 use Rattle.slot_page.specs.Contents.{page_records}
 use Rattle.chain_check.proofs.EntryChecks.{AreFirstRead}
+use Rattle.chain_check.proofs.ToldFlaws.{Keeps}
 use Rattle.chain_check.proofs.contents.check_contents.Given as goal
 
 abbrev pub invariant-loop-slot : goal.invariant-loop-slot
 invariant-loop-slot g l = record {
   marks : length l.marks ≡ length l.fn.marks;
   reads : ReadsOnly g.S.PageStore l.fn.store l.store;
+  told : Keeps (g.W.Watch.has_told l.fn.watch) (g.W.Watch.has_told l.watch);
   part : g.S.PageStore.honest l.fn.store → (seen : List ℕ)
       → AreMarked l.fn.marks (g.S.PageStore.state l.fn.store).end seen
       → AreFirstRead (model_version l.fn.version) (body_at g.S.PageStore l.fn.store)

@@ -6,6 +6,7 @@ use Rattle.slot_page.specs.Contents.{page_records}
 use Rattle.chain_walks.proofs.ReadPages.{still_honest, link_before, link_after}
 use Rattle.chain_walks.proofs.Walks.{read_as, walk_goes_on, walk_is_here, some_page, not_too_long}
 use Rattle.chain_check.proofs.KeyPasses.{has_new, not_last, are_apart}
+use Rattle.chain_check.proofs.ToldFlaws.{kept_then}
 use Rattle.chain_check.proofs.keys.check_keys.Goals as goal
 use Rattle.chain_check.proofs.keys.check_keys.Goals.{then-next-eq0-via-then-next-eq0, then-next-eq0-via-else-next-eq0+then-not-are_apart}
 
@@ -50,6 +51,7 @@ loop-step-preserved g c = record {
   kinds = inr refl;
   reads = reads_then g.S.PageStore _ _ _ (g.met.S.PageStore.counts_now c.loop-step.store)
       c.loop-step.invariant.reads c.in_ok-next.ensures.reads;
+  told = kept_then c.loop-step.invariant.told c.in_ok-next.ensures.told (λ is. cc);
   walked = λ honest.
       let link = link_before _ g.S.PageStore _ _ c.loop-step.invariant.reads honest _ _ _ _
       c.in_ok-next.ensures.says in

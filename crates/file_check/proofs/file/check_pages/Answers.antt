@@ -10,7 +10,6 @@ use Rattle.file_check.specs.FreeLists.{IsList, IsListMarked}
 use Rattle.file_check.proofs.GoodFiles.{may_tables, may_buckets, may_free, whole_count, right_count}
 use Rattle.chain_check.proofs.StoreReads.{from_mid, to_mid}
 use Rattle.file_check.proofs.file.check_pages.Goals as goal
-use Rattle.file_check.proofs.file.check_pages.Goals.{then-end-most_pages-via-then-end-most_pages, then-end-most_pages-via-else-end-most_pages+then-not-mark_tables}
 
 pub returns-in_err-pairs-clause-whole : goal.returns-in_err-pairs-clause-whole
 returns-in_err-pairs-clause-whole g c honest is damaged =
@@ -23,23 +22,22 @@ returns-in_err-pairs-clause-whole g c honest is damaged =
     c.in_err-pairs.ensures.whole honest seen is.chains tables is.buckets
     (may_buckets _ _ (model_meta c.args.meta.now) is) (ap Err fault)
 
-pub returns-then-end-most_pages-clause-whole : goal.returns-then-end-most_pages-clause-whole
-returns-then-end-most_pages-clause-whole g c honest is damaged =
-    let m = model_meta c.args.meta.now in
-    let seen = 1 ∷ c.args.meta.now.segments.items in
-    elim c.then-end-most_pages.branch [
-      | then-end-most_pages-via-then-end-most_pages w ↦
-          too_many c.end-end.result _ (home m.bounds) c.most_pages.result w.if-end-most_pages.true
-          c.most_pages.ensures c.end-end.ensures is.bounded
-      | then-end-most_pages-via-else-end-most_pages+then-not-mark_tables w ↦
-          let yes = w.mark_tables.ensures.may_be.1 (subst (λ (end : ℕ). MayBeSeen end seen)
-          (sym c.end-end.ensures) (may_tables _ _ m is)) in
-          absurd (cc (yes, w.if-not-mark_tables.true))
-    ]
+pub returns-then-end-most-clause-whole : goal.returns-then-end-most-clause-whole
+returns-then-end-most-clause-whole g c honest is damaged =
+    too_many c.end-end.result _ (home (model_meta c.args.meta.now).bounds) c.most_pages-most.result
+    c.if-end-most.true c.most_pages-most.ensures c.end-end.ensures is.bounded
   where
     too_many : (end there most found : ℕ) → found < end → found ≡ most → end ≡ there
         → there ≤ most → ⊥
     too_many end there most found lt a b le = absurd (omega arith)
+
+pub returns-then-not-mark_tables-clause-whole : goal.returns-then-not-mark_tables-clause-whole
+returns-then-not-mark_tables-clause-whole g c honest is damaged =
+    let m = model_meta c.args.meta.now in
+    let seen = 1 ∷ c.args.meta.now.segments.items in
+    let yes = c.mark_tables.ensures.may_be.1 (subst (λ (end : ℕ). MayBeSeen end seen)
+    (sym c.end-end.ensures) (may_tables _ _ m is)) in
+    absurd (cc (yes, c.if-not-mark_tables.true))
 
 pub returns-then-pairs-meta-clause-whole : goal.returns-then-pairs-meta-clause-whole
 returns-then-pairs-meta-clause-whole g c honest is damaged =
@@ -99,8 +97,8 @@ returns-then-are_all_marked-clause-sound g c honest =
       each = subst (λ (end : ℕ). IsEachSeen end all) c.end-end.ensures each;
       counted = whole_count m (length (flat_map pairs_in buckets.chains)) _ c.requires.meta
           buckets.counted c.if-pairs-meta.false;
-      bounded = few c.end-end.result _ (home m.bounds) c.most_pages.result c.if-end-most_pages.false
-          c.most_pages.ensures c.end-end.ensures;
+      bounded = few c.end-end.result _ (home m.bounds) c.most_pages-most.result c.if-end-most.false
+          c.most_pages-most.ensures c.end-end.ensures;
     }
   where
     few : (end there most found : ℕ) → end ≤ found → found ≡ most → end ≡ there → there ≤ most

@@ -7,6 +7,7 @@ use Rattle.free_pages.proofs.FreeLists.{none_read as no_next}
 use Rattle.chain_walks.proofs.ReadPages.{reads_none}
 use Rattle.file_check.proofs.FreeReads.{none_read, starts_there, more_read, all_read, says_free, may_next, next_marked, none_behind, all_marked, is_some}
 use Rattle.file_check.proofs.OneRead.{said_before, said_after, must_be_known, read_then}
+use Rattle.chain_check.proofs.ToldFlaws.{kept_then}
 use Rattle.file_check.proofs.free.check_free.Goals as goal
 
 pub returns-in_err-read-clause-whole : goal.returns-in_err-read-clause-whole
@@ -59,9 +60,13 @@ loop-preserved g c =
     record {
       length = c.mark.ensures.length ∙ c.loop.invariant.length;
       reads = read_then g.S.PageStore _ _ _ (g.met.S.PageStore.counts_now c.loop.store)
-          (g.met.S.PageStore.counts_now c.read.new.self) c.loop.invariant.reads
+          (g.met.S.PageStore.counts_now c.read.new.store) c.loop.invariant.reads
           c.read.ensures.state c.read.ensures.honesty c.read.ensures.cause.later
           c.read.ensures.kept;
+      told = kept_then (kept_then (kept_then c.loop.invariant.told c.in_ok-read.ensures.told
+          (λ is. cc)) c.read_free.ensures.told
+          (λ is. let found = c.in_ok-next.ensures.ok_part in cc)) c.mark.ensures.told
+          (λ is. let marked = c.if-not-mark.false in cc);
       sound = λ honest seen are. more_read _ _ _ c.loop.counter c.loop.at _ _ _ seen
           (c.loop.invariant.sound honest seen are)
           (said_before g.S.PageStore _ _ c.loop.invariant.reads honest c.loop.at
@@ -99,6 +104,7 @@ loop-init g c = record {
   length = refl;
   reads = reads_none g.S.PageStore c.args.store.now
       (λ y h left. g.met.S.PageStore.only_now c.args.store.now y h left);
+  told = λ told was. was;
   sound = λ honest seen are. none_read _ _ _ _ seen are;
   exact = λ honest seen free are is may. (
     starts_there _ _ _ free is,
@@ -110,17 +116,17 @@ loop-init g c = record {
 pub returns-in_err-read-clause-reads : goal.returns-in_err-read-clause-reads
 returns-in_err-read-clause-reads g c =
     read_then g.S.PageStore _ _ _ (g.met.S.PageStore.counts_now c.loop.store)
-    (g.met.S.PageStore.counts_now c.read.new.self) c.loop.invariant.reads
+    (g.met.S.PageStore.counts_now c.read.new.store) c.loop.invariant.reads
     c.read.ensures.state c.read.ensures.honesty c.read.ensures.cause.later c.read.ensures.kept
 
 pub returns-in_err-next-clause-reads : goal.returns-in_err-next-clause-reads
 returns-in_err-next-clause-reads g c =
     read_then g.S.PageStore _ _ _ (g.met.S.PageStore.counts_now c.loop.store)
-    (g.met.S.PageStore.counts_now c.read.new.self) c.loop.invariant.reads
+    (g.met.S.PageStore.counts_now c.read.new.store) c.loop.invariant.reads
     c.read.ensures.state c.read.ensures.honesty c.read.ensures.cause.later c.read.ensures.kept
 
 pub returns-then-not-mark-clause-reads : goal.returns-then-not-mark-clause-reads
 returns-then-not-mark-clause-reads g c =
     read_then g.S.PageStore _ _ _ (g.met.S.PageStore.counts_now c.loop.store)
-    (g.met.S.PageStore.counts_now c.read.new.self) c.loop.invariant.reads
+    (g.met.S.PageStore.counts_now c.read.new.store) c.loop.invariant.reads
     c.read.ensures.state c.read.ensures.honesty c.read.ensures.cause.later c.read.ensures.kept

@@ -3,12 +3,14 @@ use Rattle.page_io.specs.Views.{body_at, ReadsOnly}
 use Rattle.page_marks.specs.Marks.{AreMarked, MayBeSeen}
 use Rattle.file_check.specs.FreeLists.{IsList}
 use Rattle.file_check.proofs.FreeReads.{IsRead}
+use Rattle.chain_check.proofs.ToldFlaws.{Keeps}
 use Rattle.file_check.proofs.free.check_free.Given as goal
 
 abbrev pub invariant-loop : goal.invariant-loop
 invariant-loop g l = record {
   length : length l.marks ≡ length l.fn.marks;
   reads : ReadsOnly g.S.PageStore l.fn.store l.store;
+  told : Keeps (g.W.Watch.has_told l.fn.watch) (g.W.Watch.has_told l.watch);
   sound : g.S.PageStore.honest l.fn.store → (seen : List ℕ)
       → AreMarked l.fn.marks (g.S.PageStore.state l.fn.store).end seen
       → IsRead (body_at g.S.PageStore l.fn.store) (g.S.PageStore.state l.fn.store).end

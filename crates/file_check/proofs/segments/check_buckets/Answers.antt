@@ -11,6 +11,7 @@ use Rattle.file_check.specs.Segments.{AreCounted, AreInSegment, IsSegmentChecked
 use Rattle.file_check.proofs.BucketReads.{no_segments, more_segments, all_segments, part, in_segment, may_segment, segment_counted, buckets_counted}
 use Rattle.file_check.proofs.ChainReads.{none_counted}
 use Rattle.chain_check.proofs.StoreReads.{from_mid, to_mid}
+use Rattle.chain_check.proofs.ToldFlaws.{kept_then}
 use Rattle.file_check.proofs.segments.check_buckets.Goals as goal
 
 pub check_segment-requires-clause-marks : goal.check_segment-requires-clause-marks
@@ -22,6 +23,7 @@ loop-s-init g c = record {
   length = refl;
   reads = reads_none g.S.PageStore c.args.store.now
       (λ y h left. g.met.S.PageStore.only_now c.args.store.now y h left);
+  told = λ told was. was;
   sound = λ honest seen are. no_segments _ _ _ _ seen are;
   exact = λ honest seen chains are is may. none_counted _ _ seen are;
 }
@@ -60,6 +62,7 @@ loop-s-preserved g c =
       length = c.in_ok-more.ensures.length ∙ c.loop-s.invariant.length;
       reads = reads_then g.S.PageStore _ _ _ (g.met.S.PageStore.counts_now c.loop-s.store) reads
           c.in_ok-more.ensures.reads;
+      told = kept_then c.loop-s.invariant.told c.in_ok-more.ensures.told (λ is. cc);
       sound = λ honest seen are. more_segments _ _ m c.loop-s.s c.loop-s.pairs c.in_ok-more.more _
           c.loop-s.marks _ seen c.requires.meta within (c.loop-s.invariant.sound honest seen are)
           (check honest) c.saturating_add-pairs.ensures;

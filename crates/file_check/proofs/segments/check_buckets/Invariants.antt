@@ -5,12 +5,14 @@ use Rattle.page_marks.specs.Marks.{AreMarked, MayBeSeen}
 use Rattle.seg_table.specs.MetaPages.{model_meta}
 use Rattle.file_check.specs.Segments.{AreBuckets, AreCounted}
 use Rattle.file_check.proofs.BucketReads.{AreSegmentsChecked}
+use Rattle.chain_check.proofs.ToldFlaws.{Keeps}
 use Rattle.file_check.proofs.segments.check_buckets.Given as goal
 
 abbrev pub invariant-loop-s : goal.invariant-loop-s
 invariant-loop-s g l = record {
   length : length l.marks ≡ length l.fn.marks;
   reads : ReadsOnly g.S.PageStore l.fn.store l.store;
+  told : Keeps (g.W.Watch.has_told l.fn.watch) (g.W.Watch.has_told l.watch);
   sound : g.S.PageStore.honest l.fn.store → (seen : List ℕ)
       → AreMarked l.fn.marks (g.S.PageStore.state l.fn.store).end seen
       → AreSegmentsChecked (body_at g.S.PageStore l.fn.store) (g.S.PageStore.state l.fn.store).end

@@ -11,6 +11,7 @@ use Rattle.chain_walks.proofs.ReadPages.{reads_none, still_honest}
 use Rattle.file_check.proofs.ChainReads.{none_counted}
 use Rattle.file_check.proofs.HeadReads.{no_heads, more_heads, may_chain, chain_there, more_exact, all_exact}
 use Rattle.chain_check.proofs.StoreReads.{from_mid, to_mid}
+use Rattle.chain_check.proofs.ToldFlaws.{kept_then}
 use Rattle.file_check.proofs.segments.check_heads.Goals as goal
 
 pub loop-i-init : goal.loop-i-init
@@ -18,6 +19,7 @@ loop-i-init g c = record {
   length = refl;
   reads = reads_none g.S.PageStore c.args.store.now
       (λ y h left. g.met.S.PageStore.only_now c.args.store.now y h left);
+  told = λ told was. was;
   sound = λ honest seen are. no_heads _ _ _ _ _ _ seen are;
   exact = λ honest seen chains are is may. none_counted _ _ seen are;
 }
@@ -55,6 +57,8 @@ loop-i-preserved g c =
       length = c.in_ok-more.ensures.length ∙ c.loop-i.invariant.length;
       reads = reads_then g.S.PageStore _ _ _ (g.met.S.PageStore.counts_now c.loop-i.store) reads
           c.in_ok-more.ensures.reads;
+      told = λ told was. c.bucket.ensures told
+          (kept_then c.loop-i.invariant.told c.in_ok-more.ensures.told (λ is. cc) told was);
       sound = λ honest seen are. more_heads _ _ _ _ _ c.loop-i.i c.loop-i.pairs c.in_ok-more.more _
           c.u32_at-head.result c.loop-i.marks _ seen (c.loop-i.invariant.sound honest seen are)
           c.u32_at-head.ensures (check honest) c.saturating_add-pairs.ensures;

@@ -50,9 +50,9 @@ returns-then-not-segment_ok-clause-whole g c honest seen chains are is may damag
 
 pub returns-clause-reads : goal.returns-clause-reads
 returns-clause-reads g c =
-    reads_then g.S.PageStore _ _ _ (g.met.S.PageStore.counts_now c.read.new.self)
-    (after_read g.S.PageStore c.args.store.now c.read.new.self
-    (g.met.S.PageStore.counts_now c.read.new.self) c.read.ensures.state c.read.ensures.honesty
+    reads_then g.S.PageStore _ _ _ (g.met.S.PageStore.counts_now c.read.new.store)
+    (after_read g.S.PageStore c.args.store.now c.read.new.store
+    (g.met.S.PageStore.counts_now c.read.new.store) c.read.ensures.state c.read.ensures.honesty
     c.read.ensures.cause.later c.read.ensures.kept) c.check_heads.ensures.reads
 
 pub returns-clause-sound : goal.returns-clause-sound
@@ -62,8 +62,8 @@ returns-clause-sound g c honest seen are =
     let bytes = c.read.new.page.bytes in
     let n = get_or c.args.meta.now.segments.items c.args.s 0 in
     let marks = c.check_heads.new.marks in
-    let first-read = after_read g.S.PageStore old c.read.new.self
-    (g.met.S.PageStore.counts_now c.read.new.self) c.read.ensures.state c.read.ensures.honesty
+    let first-read = after_read g.S.PageStore old c.read.new.store
+    (g.met.S.PageStore.counts_now c.read.new.store) c.read.ensures.state c.read.ensures.honesty
     c.read.ensures.cause.later c.read.ensures.kept in
     let own : get_or c.deref.result.now c.args.s 0 ≡ n =
     ap (λ (ns : List ℕ). get_or ns c.args.s 0) c.deref.ensures.0 in
@@ -76,23 +76,23 @@ returns-clause-sound g c honest seen are =
     omega (arith, c.min-count.ensures, c.buckets.ensures) in
     let segment = c.segment_ok.ensures.0 c.if-not-segment_ok.false in
     let checked = c.check_heads.ensures.sound
-    (still_honest g.S.PageStore old c.read.new.self first-read honest) seen
-    (to_mid g.S.PageStore old c.read.new.self first-read honest
+    (still_honest g.S.PageStore old c.read.new.store first-read honest) seen
+    (to_mid g.S.PageStore old c.read.new.store first-read honest
     (λ at end. AreMarked c.args.marks.now end seen) are) in
-    if_ok (λ pairs. AreHeadsChecked (body_at g.S.PageStore c.read.new.self)
-    (g.S.PageStore.state c.read.new.self).end m bytes
+    if_ok (λ pairs. AreHeadsChecked (body_at g.S.PageStore c.read.new.store)
+    (g.S.PageStore.state c.read.new.store).end m bytes
     (508 * c.args.s) c.min-count.result pairs marks seen) _ c.check_heads.result checked
     (λ pairs is. segment_checked (body_at g.S.PageStore old)
     (g.S.PageStore.state old).end m c.args.s
     (508 * c.args.s) c.min-count.result pairs bytes marks seen
-    (from_mid g.S.PageStore old c.read.new.self first-read honest (λ at end. AreHeadsChecked at end
+    (from_mid g.S.PageStore old c.read.new.store first-read honest (λ at end. AreHeadsChecked at end
     m bytes (508 * c.args.s) c.min-count.result pairs marks seen) is)
     read segment used.1 many refl)
 
 pub returns-clause-exact : goal.returns-clause-exact
 returns-clause-exact g c honest seen chains are is may =
     let old = c.args.store.now in
-    let mid = c.read.new.self in
+    let mid = c.read.new.store in
     let m = model_meta c.args.meta.now in
     let bytes = c.read.new.page.bytes in
     let n = get_or c.args.meta.now.segments.items c.args.s 0 in
@@ -121,7 +121,7 @@ returns-clause-exact g c honest seen chains are is may =
 pub returns-clause-whole : goal.returns-clause-whole
 returns-clause-whole g c honest seen chains are is may damaged =
     let old = c.args.store.now in
-    let mid = c.read.new.self in
+    let mid = c.read.new.store in
     let m = model_meta c.args.meta.now in
     let bytes = c.read.new.page.bytes in
     let n = get_or c.args.meta.now.segments.items c.args.s 0 in
@@ -147,6 +147,6 @@ returns-clause-whole g c honest seen chains are is may damaged =
 
 pub returns-then-not-segment_ok-clause-reads : goal.returns-then-not-segment_ok-clause-reads
 returns-then-not-segment_ok-clause-reads g c =
-    after_read g.S.PageStore c.args.store.now c.read.new.self
-    (g.met.S.PageStore.counts_now c.read.new.self) c.read.ensures.state c.read.ensures.honesty
+    after_read g.S.PageStore c.args.store.now c.read.new.store
+    (g.met.S.PageStore.counts_now c.read.new.store) c.read.ensures.state c.read.ensures.honesty
     c.read.ensures.cause.later c.read.ensures.kept
