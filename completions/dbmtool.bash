@@ -46,7 +46,7 @@ _dbmtool() {
   case ${COMP_WORDS[1]} in
     create) options='--limit --v2 -h --help' ;;
     store | insert | fetch | delete) options='-x -h --help' ;;
-    script) options='--memory --read --v2 -h --help' ;;
+    script) options='--memory --read --text --v2 -h --help' ;;
     rehearse) options='--memory --stops --v2 -h --help' ;;
     list | dump) options='--text -h --help' ;;
     load) options='--group --limit --replace --text -h --help' ;;

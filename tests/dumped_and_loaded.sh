@@ -30,6 +30,26 @@ head -n 1000 dumped > some
 "$program" list --text third > listed && cut -f1 fields | cmp - listed || { echo "the list of fields isn't the keys of the dump"; exit 1; }
 echo "$(wc -l < dumped) pairs, in a file of $(stat -c %s first.db) bytes"
 
+# Keys that begin with `#`, and contents that do: no line of a dump begins so, and it loads back, line by line, in groups and in the place of a table.
+printf '%s\n' '0a23 .' '2061 23' '23 23' '2323 0a23' '23610a 2309' '5c23 23' '6123 2323' > hashes
+"$program" create hashes && "$program" load hashes < hashes && "$program" dump --text hashes > fields || exit 1
+printf '%s\n' '\n#'$'\t' ' a'$'\t''#' '\x23'$'\t''#' '\x23#'$'\t''\n#' '\x23a\n'$'\t''#\t' '\\#'$'\t''#' 'a#'$'\t''##' > wanted
+cmp fields wanted || { echo "keys that begin with # are dumped as $(cat fields)"; exit 1; }
+# with comments and empty lines in front, between and at the end, one of them longer than a line of a pair may be
+{ printf '\n# a\tb\n'; sed 's/^/# before\n\n/; s/$/\n#\tbehind/' fields; head -c 300000 /dev/zero | tr '\0' '#'; printf '\n\n#'; } > commented
+for group in 1 2 100; do
+  "$program" create "hashes-$group" && "$program" load --text "hashes-$group" --group $group < fields && "$program" dump "hashes-$group" | cmp - hashes ||
+    { echo "a dump with keys that begin with # doesn't load back, in groups of $group"; exit 1; }
+  "$program" create "commented-$group" && "$program" load --text "commented-$group" --group $group < commented && "$program" dump "commented-$group" | cmp - hashes ||
+    { echo "a text with comments is loaded as other pairs, in groups of $group"; exit 1; }
+done
+"$program" load --replace --text third < commented && "$program" dump third | cmp - hashes || { echo "a text with comments replaces a table by other pairs"; exit 1; }
+# a text of comments alone: a load stores nothing, and a replacement leaves no pair
+printf '# one\n\n#\ttwo\n' > comments
+"$program" load --text hashes < comments && "$program" load --text hashes --group 1 < comments && "$program" dump hashes | cmp - hashes ||
+  { echo "a text of comments stores pairs"; exit 1; }
+"$program" load --replace --text hashes < comments && [ "$("$program" verify hashes)" = 0 ] || { echo "a table that is replaced by comments has pairs"; exit 1; }
+
 # Near pairs and far ones: under a key of each length up to 1,023 a far one, whose content is the shortest that is far, or fills one page or two, or
 # is a byte longer than that. Contents begin with each byte value, and have all; each fourth one ends in a thousand zeros, and the last one is the
 # longest. In front of each third one there is a near pair, as long as one may be. So the first three lines are near pairs, and the fourth is far.

@@ -37,6 +37,20 @@ for ((n = 0; n < 7; n++)); do
   if ((n < 2)); then holds '61 01/' "${replies:0:n}"; else holds '61 01/62 02/' "${replies:0:n}"; fi
 done
 
+# The same of a script in the text form.
+printf 'S\ta\t1\nS\tb\t2\nF\ta\n' > in
+for ((n = 0; n < 16; n++)); do
+  cp empty.db t.db
+  fails INPUT "$n" script --text t
+  if ((n < 6)); then holds '' ''; elif ((n < 12)); then holds '61 31/' '0/'; else holds '61 31/62 32/' '0/0/'; fi
+done
+replies='0/0/1/'
+for ((n = 0; n < 6; n++)); do
+  cp empty.db t.db
+  fails OUTPUT "$n" script --text t
+  if ((n < 2)); then holds '61 31/' "${replies:0:n}"; else holds '61 31/62 32/' "${replies:0:n}"; fi
+done
+
 # The pairs of the whole lines are stored, whatever number of them may share a commit.
 printf '61 01\n62 02\n' > in
 for group in 1 2 100; do

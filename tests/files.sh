@@ -115,6 +115,18 @@ mkdir closed && chmod 555 closed
 "${as[@]}" ./dbmtool create closed/t > out 2> err; [ $? = 2 ] && [ "$(cat err)" = 'dbmtool: fault 2' ] || wrong "a folder that may not be written: $(cat err)"
 run 0 '01\n' '' fetch nine 61 -x < /dev/null
 
+# A pipe under a table's name: each command is refused at once, and none waits for who has its other end.
+mkfifo pipe.db
+for words in 'fetch pipe k' 'store pipe k v' 'insert pipe k v' 'delete pipe k' 'create pipe' 'list pipe' 'dump pipe' 'load pipe' 'load --replace pipe' \
+  'stat pipe' 'verify pipe' 'script pipe' 'script --read pipe' 'rehearse pipe' 'resize pipe' 'salvage pipe' 'backup pipe copied' 'upgrade pipe'; do
+  # shellcheck disable=SC2086
+  timeout 20 "$program" --verbose $words > out 2> err < /dev/null
+  status=$?
+  [ $status = 2 ] && [ ! -s out ] && [ "$(cat err)" = $'dbmtool: fault 2\ndbmtool: pipe.db: it is a pipe and no file' ] ||
+    wrong "dbmtool $words of a pipe: status $status, $(cat out err)"
+done
+[ -p pipe.db ] && [ -z "$(ls pipe.db.new copied.db 2> /dev/null)" ] || wrong "a command has put something else in the place of a pipe"
+
 # output that can't be written, and input that can't be read
 "$program" dump nine > /dev/full 2> err; [ $? = 2 ] && [ "$(cat err)" = 'dbmtool: write' ] || wrong "a full output isn't told"
 run 2 '' 'dbmtool: read\n' load nine < .

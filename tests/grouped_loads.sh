@@ -54,6 +54,11 @@ loads text-ones fields $((1 + 2 * 1050 + 2)) --text --group 1
 loads text-groups fields $((1 + 2 * 11 + 2)) --text --group 100
 loads text-thirds fields $((1 + 2 * 3 + 2)) --text --group 350
 loads text-one-group fields $((1 + 2 * 1 + 2)) --group 100000 --text
+# comments and empty lines among them count for no group
+{ printf '# %s\n\n' 'first'; sed 's/^/# one more\n/; s/$/\n/' fields; echo '#'; } > commented
+[ "$(wc -l < commented)" = $((3 * 1050 + 3)) ] || { echo "the check has another number of commented lines"; exit 1; }
+loads text-commented commented $((1 + 2 * 11 + 2)) --text --group 100
+loads text-commented-ones commented $((1 + 2 * 1050 + 2)) --text --group 1
 loads word-lines words $((1 + 2 * 1 + 2))
 loads word-ones words $((1 + 2 * 1050 + 2)) --group 1
 loads word-groups words $((1 + 2 * 11 + 2)) --group 100

@@ -38,7 +38,7 @@ pairs() {
 empty='. 6e6f206b6579'
 
 # rows: pairs that lines of tabs can tell
-rows() { printf 'a b\tc\td\nempty\t\nsky\tblue\nz\303\274rich\tZ\n'; }
+rows() { printf '#a\tb#\na b\tc\td\nempty\t\nsky\tblue\nz\303\274rich\tZ\n'; }
 
 if has gdbm_dump gdbm_load; then
   anew

@@ -62,6 +62,11 @@ all_read() {
   printf '0bb8\n-1 fault 4\n-1 fault 4\n-1 fault 4\n0\nnone\n' > replies
   reads "$1" "$name" 0 replies script --read "$name"
   reads "$1" "$name" 0 replies script "$name" --read
+  # the same in the text form
+  printf 'F\t%s\nS\tk\tv\nI\tk\tv\nD\tk\nC\nF\tk\n' "$(printf '\\x00%.0s' {1..16})" > calls
+  printf '\\x0b\\xb8\n-1 fault 4\n-1 fault 4\n-1 fault 4\n0\nnone\n' > replies
+  reads "$1" "$name" 0 replies script --read --text "$name"
+  reads "$1" "$name" 0 replies script --text "$name" --read
   echo 'S 6b 76' > calls
   (cd "$folder" && "${as[@]}" "$tool" stat "$name") > stated 2> err || wrong "$1, stat $name: status $?, $(cat err)"
   [ "$(head -n 2 stated)" = "pairs $pairs"$'\n''limit 3100' ] || wrong "$1, stat $name: $(head -n 2 stated | xargs)"

@@ -156,6 +156,18 @@ answers_long 'S 6b ' 65535 '-1 fault 5/none/' '0/none/'
 answers_long 'S 6b ' 65536 '-1 fault 5/none/'
 answers_long 'S . ' 69630 '-1 fault 5/none/'
 answers_long 'S 6b ' 69630 '-1 line/none/'
+# text_answers_long FIELD ANSWER: the same of a line in the text form, whose greatest length is 266,240 bytes
+text_answers_long() {
+  printf 'S\tk\t%s\nF\tm\n' "$1" > in
+  version=v2; runs script --text --memory 100 --v2
+  [ "$status" = 0 ] && says out "$2" || wrong "a script's line of ${#1} bytes of text"
+}
+plain=$(printf '%0266237d' 0)
+text_answers_long "${plain:0:65535}" '0/none/'
+text_answers_long "$(printf '\\x00%.0s' $(seq 65535))" '0/none/'
+text_answers_long "${plain:0:65536}" '-1 fault 5/none/'
+text_answers_long "${plain:0:266236}" '-1 fault 5/none/'
+text_answers_long "$plain" '-1 line/none/'
 # loads_long WORDS BYTES FAULTS [FAULTS]: the second ones are those of version 2
 loads_long() {
   long "$1" "$2" > in
@@ -283,6 +295,46 @@ load --text fields [a	b	c/] [] [dbmtool: line 1/] 2
 load --text fields [k	v/k	\q/] [] [dbmtool: line 2/] 2
 load --text fields [k	\x4/] [] [dbmtool: line 1/] 2
 fetch fields k [] [v/] [] 0
+create comments --limit 10 [] [] [] 0
+load --text comments [# a	b//a	b/# /	z/#/c	# d//] [] [] 0
+dump comments [] [. 7a/61 62/63 232064/] [] 0
+load --text comments --group 1 [//#/a	1/# a	2/ # x	y] [] [] 0
+dump comments [] [. 7a/20232078 79/61 31/63 232064/] [] 0
+load --text comments [#//# only/] [] [] 0
+load --text comments [/] [] [] 0
+load --text comments --group 1 [#] [] [] 0
+verify comments [] [4/] [] 0
+load --text comments [#//k	v/##//bad/x	y/] [] [dbmtool: line 6/] 2
+load --text comments --group 1 [/# bad/bad/x	y/] [] [dbmtool: line 3/] 2
+fetch comments k [] [v/] [] 0
+fetch comments x [] [] [] 1
+load comments [61 02//62 03/] [] [dbmtool: line 2/] 2
+load comments [# 62 03/] [] [dbmtool: line 1/] 2
+load --replace --text comments [/# none/#	a/] [] [] 0
+verify comments [] [0/] [] 0
+script comments [S 2361 23/S 23 ./S . ./S 6123 2323/] [0/0/0/0/] [] 0
+dump --text comments [] [	/\x23	/\x23a	#/a#	##/] [] 0
+list --text comments [] [/#/#a/a#/] [] 0
+load --replace --text comments [	/\x23	/\x23a	#/# a	b/] [] [] 0
+dump comments [] [. ./23 ./2361 23/] [] 0
+create talk --limit 100 [] [] [] 0
+script --text talk [S	k	a\tb/F	k/I	k	c/I	l	/F	l/F	m/S		/F	/D	/D	l/D	l/1/N/E/C/] [0/a\tb/1/0//none/0//0/0/-1 absent/k/end/0/0/] [] 0
+script --text talk [Q/q/S	k/F	k	/f	k/F k/F		k/S	\q	v/S	k	\x4/N	//F	k/] [-1 line/-1 line/-1 line/-1 line/-1 line/-1 line/-1 line/-1 line/-1 line/-1 line/-1 line/a\tb/] [] 0
+script talk [F 6b/S 6b 00FF/] [610962/0/] [] 0
+script --text talk [F	k/S	\x00	\\\n/I	\x00	/] [\x00\xff/0/1/] [] 0
+script talk --text [F	\x6B/] [\x00\xff/] [] 0
+script talk [F 00/D 00/] [5c0a/0/] [] 0
+script --read --text talk [F	k/S	k	v/E/] [\x00\xff/-1 fault 4/4/] [] 0
+script talk --text --read [1/N/D	k/] [k/end/-1 fault 4/] [] 0
+create marked --limit 100 [] [] [] 0
+script --text marked [S	none	end/S	end	-1 x/S	e	none/S	f	ends/S	g	-1/S	h	0/] [0/0/0/0/0/0/] [] 0
+script --text marked [F	none/F	end/F	e/F	f/F	g/F	h/F	\x6eone/F	i/] [\x65nd/\x2d1 x/\x6eone/ends/-1/0/\x65nd/none/] [] 0
+script marked [F 6e6f6e65/F 65/] [656e64/6e6f6e65/] [] 0
+create keyed --limit 100 [] [] [] 0
+script --text keyed [S	none	/1/N/D	\x6eone/1/S	-1 absent	/1/] [0/\x6eone/end/0/end/0/\x2d1 absent/] [] 0
+script --memory 1 --text [S	k	v/F	k/S	l	v/E/] [0/v/-1 fault 6/6/] [] 0
+script --text --memory 100 [S	k	aa*1014/F	k/] [-1 fault 5/none/] [] 0
+script --v2 --text --memory 100 [S	k	aa*1014/F	k/] [0/aa*1014/] [] 0
 create old --limit 100 [] [] [] 0
 v1 insert -x old 61 07*2026 [] [] [dbmtool: fault 5/] 2
 v1 load --text old [a	bb*1013/] [] [dbmtool: fault 5/] 2
@@ -387,6 +439,11 @@ script --memory 5 --read|dbmtool: --read needs FILE
 script --read|dbmtool: script needs FILE or --memory
 script t --read --memory 5|dbmtool: script needs FILE or --memory
 script t --read --v2|dbmtool: --v2 needs --memory
+script --text|dbmtool: script needs FILE or --memory
+script t --text --text|--text
+script t --text --v2|dbmtool: --v2 needs --memory
+script --memory 5 --text --read|dbmtool: --read needs FILE
+rehearse t --text|'--text'
 rehearse t --read|'--read'
 fetch t k --read|'--read'
 --wait many fetch t k|'many'
@@ -413,5 +470,5 @@ for line in 'S KEY CONTENT' 'I KEY CONTENT' 'F KEY' 'D KEY' 1 N E C; do
 done
 
 echo "$rows rows"
-[ "$rows" = 380 ] || wrong "not each row was read"
+[ "$rows" = 465 ] || wrong "not each row was read"
 exit $bad

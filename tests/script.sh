@@ -30,6 +30,12 @@ expects 0 '0\n-1 fault 6\n1\n0\n02\n' '' 'S 61 01\nS 62 01\nI 61 03\nS 61 02\nF 
 expects 0 '-1 fault 7\nend\nend\n7\n' '' 'N\n1\nN\nE\n' script --memory 100
 expects 0 '0\n61\n01\n1\nend\nend\n' '' 'S 61 01\n1\nF 61\nI 61 02\nN\nN\n' script --memory 100
 expects 0 '0\n61\n0\nend\n61\n' '' 'S 61 01\n1\nS 61 02\nN\n1\n' script --memory 100
+expects 0 '0\n1\na\\tb\n0\n\nnone\n' '' 'S\tk\ta\\tb\nI\tk\tc\nF\tk\nS\tl\t\nF\tl\nF\tm\n' script --text --memory 100
+expects 0 '0\nk\nend\n0\n-1 absent\nend\n0\n0\n' '' 'S\tk\tv\n1\nN\nD\tk\nD\tk\n1\nE\nC\n' script --memory 100 --text
+expects 0 '0\n\\x6eone\n-1 fault 6\n6\n' '' 'S\tk\tnone\nF\tk\nS\tl\tend\nE' script --v2 --text --memory 1
+expects 0 '-1 line\n-1 line\n-1 line\n-1 line\n-1 line\n-1 line\nnone\n' '' 'Q\nS\tk\nF\tk\tk\n\nF k\nF\t\\q\nF\tk\n' script --text --memory 100
+expects 2 '' 'dbmtool: fault 13' 'S\tk\tv\n' script --text --memory 0
+expects 3 '' 'dbmtool: script needs FILE or --memory' '' script --text
 expects 0 '' '' '' script --memory 1000000
 expects 2 '' 'dbmtool: fault 13' 'S 6b 76\n' script --memory 0
 expects 2 '' 'dbmtool: fault 13' 'S 6b 76\n' script --memory 1000001

@@ -72,6 +72,35 @@ S 6|-1 line
 S 6b|-1 line
 D 6b|0'
 
+# the same in the text form: `\t` is a tab of the line, and `\\` a backslash
+text_round='E|0
+1|end
+S\tk\tv w|0
+F\tk|v w
+F\t\\x6b|v w
+I\tk\tx|1
+S\tl\t|0
+F\tl|
+D\tl|0
+F\tl|none
+D\tl|-1 absent
+1|k
+N|end
+S\tk\tnone|0
+F\tk|\x6eone
+S\tk\tend|0
+F\tk|\x65nd
+S\tk\t-1 fault 1|0
+F\tk|\x2d1 fault 1
+S\tk\ta\\tb|0
+F\tk|a\tb
+C|0
+Q|-1 line
+F k|-1 line
+S\tk|-1 line
+|-1 line
+D\tk|0'
+
 # talks WORDS..: a dozen rounds, and lines in parts, with the program of these words
 talks() {
   local line reply long
@@ -96,6 +125,23 @@ talks() {
   starts "$@"; ends 0
 }
 
+# talks_text WORDS..: some rounds in the text form, and lines in parts, with the program of these words
+talks_text() {
+  local line reply
+  starts "$@"
+  for _ in 1 2 3; do
+    while IFS='|' read -r line reply; do
+      sends "$line\\n"; replied "$reply" "$line"
+    done <<< "$text_round"
+  done
+  # a line in two halves, a line and half of the next, and lines together
+  sends 'S\tk'; waits 'S k'; sends '\tv\n'; replied 0 'S k v'
+  sends 'F\tk\nF\t'; replied v 'F k'; waits 'F'; sends 'l\n'; replied none 'F l'
+  sends 'F\tk\nD\tk\n\n'; replied v 'F k'; replied 0 'D k'; replied '-1 line' ''
+  # the last line without its line feed
+  sends 'S\tk\tw\nF\tk'; replied 0 'S k w'; waits 'F k'; ends 0 w
+}
+
 # looks TURN: the stores that were answered in this turn are there
 looks() {
   local key
@@ -108,6 +154,10 @@ looks() {
 talks script t
 [ "$("$program" dump t)" = '6b 77' ] || wrong "after the talk the database has other pairs"
 talks script --memory 100
+"$program" create text --limit 100 || exit 1
+talks_text script --text text
+[ "$("$program" dump --text text)" = $'k\tw' ] || wrong "after the talk in the text form the database has other pairs"
+talks_text script --memory 100 --text
 
 # stores that were answered, and a kill
 "$program" create killed --limit 10000 || exit 1

@@ -167,6 +167,12 @@ bad_line 2 'the line has more than one tab' 'key\tcontent\nkey\tcontent\t\n' --t
 bad_line 1 'a field of the line has a backslash with no escape' 'key\tC:\\bin\n' --text
 bad_line 2 'a field of the line has a backslash with no escape' 'a\tb\n\\x6g\tb\n' --text
 bad_line 1 'a field of the line has a backslash with no escape' 'a\tb\\\n' --text
+bad_line 4 'the line has no tab between key and content' '# first\n\na\tb\nkey\n#\n' --text
+bad_line 3 'the line has more than one tab' '\n#\t\t\na\tb\tc\n' --text
+bad_line 5 'a field of the line has a backslash with no escape' '#\\\n#\n#\n\n\\\tb\n' --text
+bad_line 2 'the line has no tab between key and content' 'a\tb\n # a\n' --text
+bad_line 1 'the line has more than one blank' '# 61 62\n'
+bad_line 2 'the line has no blank between key and content' '61 62\n\n'
 { printf '61 62\n61 '; head -c 139263 /dev/zero | tr '\0' 6; echo; } > in
 tells 'dbmtool: line 2' 't.db: the line is too long' load t
 { printf 'a\t'; head -c 266239 /dev/zero | tr '\0' b; echo; } > in
@@ -178,6 +184,12 @@ printf '61 01\n62 02\n61 03\n63 04\n64 05\n65 06\n' > in
 for group in 1 2 4 100; do
   tells 'dbmtool: fault 6' 'three.db: line 5: the limit is reached, and the key is new: take a higher one, by `dbmtool resize`' load three --group $group
 done
+# behind lines that are passed over, its number is that among all lines; of a replacement it is named too
+printf '# one\na\t1\n\nb\t2\n#\n\n#\nc\t3\na\t4\n# the limit\nd\t5\n# e\ne\t6\n' > in
+for group in 1 2 3 4 5 100; do
+  tells 'dbmtool: fault 6' 'three.db: line 11: the limit is reached, and the key is new: take a higher one, by `dbmtool resize`' load three --text --group $group
+done
+tells 'dbmtool: fault 6' 'three.db: line 8: the limit is reached, and the key is new: take a higher one, by `dbmtool resize`' load --replace three --text --limit 2
 { printf '61 01\n62 '; printf '0a%.0s' $(seq 2026); echo; } > in
 for group in 1 100; do
   tells 'dbmtool: fault 5' "t.db: line 2: the pair is longer than the file's version allows: key and content together have more than 2026 bytes, and in version 2 the key more than 1023 or the content more than 65535: shorten them, or \`dbmtool upgrade\`" load t --group $group

@@ -6,7 +6,7 @@ use crate::aside::{Aside, give_up, own_as};
 use crate::naming::{Names, above_standard, found_at, names_of};
 use crate::stop::Stop;
 use crate::verified::Verified;
-use dbm_file::Fault;
+use dbm_file::{Fault, refuse_pipe};
 use dbm_progress::Progress;
 use std::alloc::Global;
 use std::fs::{File, Metadata, TryLockError};
@@ -50,6 +50,7 @@ pub fn backup<T: Files<File = File>, P: Progress>(
 fn open_source<T: Files<File = File>>(rt: &T, path: &str) -> Result<File, Stop>
     ensures { IfErr result (λ stop. IsOfDatabase stop.fault) }
 {
+    refuse_pipe(rt, path)?;
     let source = match File::open(rt, path) {
         Err(error) if error.kind() == ErrorKind::NotFound => {
             return Err(Stop::from(Fault::Missing));

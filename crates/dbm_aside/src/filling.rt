@@ -1,15 +1,14 @@
 // A new table that is filled from a text.
-ghost use Rattle.std.specs.Prelude.{◌≡◌, ◌≤◌, Err, OnOk, IfSome, Some, [], length};
+ghost use Rattle.std.specs.Prelude.{◌≡◌, ◌≤◌, OnOk, IfSome, Some, [], length};
 ghost use Rattle.dbm_file.specs.Answers.{IsSameDatabase};
-ghost use Rattle.dbm_lines.specs.Forms.{pair_in, dump_in};
+ghost use Rattle.dbm_lines.specs.Forms.{dump_in};
 ghost use Rattle.dbm_load.specs.Endings.{TellsWhy};
 ghost use Rattle.dbm_load.specs.Refusals.{StopsByFault};
 ghost use Rattle.dbm_load.specs.Loading.{Loads, LoadsDump};
 
-use dbm_fault::EngineFault;
 use dbm_file::Database;
 use dbm_lines::TextForm;
-use dbm_load::{BadLine, load_engine, load_text_engine};
+use dbm_load::{LoadStop, load_engine, load_text_engine};
 use dbm_progress::Progress;
 use page_io::PageStore;
 use std::alloc::Global;
@@ -24,11 +23,10 @@ pub fn fill<S: PageStore, R: BufRead, P: Progress>(
     db: &mut Database<S>,
     reader: &mut R,
     form: TextForm,
-    why: &mut Option<BadLine>,
     progress: &mut P,
-) -> Result<(), EngineFault>
-    ensures loads { Loads (pair_in form) result (R.remaining reader.old) db.old db.new }
-    ensures why { TellsWhy form result (R.remaining reader.old) why.new }
+) -> Result<(), LoadStop>
+    ensures loads { Loads form result (R.remaining reader.old) db.old db.new }
+    ensures why { TellsWhy form result (R.remaining reader.old) }
     ensures read { OnOk result (IfSome (R.remaining reader.old)
         (λ text. R.remaining reader.new ≡ Some [])) }
     ensures size { OnOk result (IfSome (R.remaining reader.old)
@@ -38,10 +36,9 @@ pub fn fill<S: PageStore, R: BufRead, P: Progress>(
     ensures dump { OnOk result (LoadsDump (dump_in form) (R.remaining reader.old) db.old db.new) }
     ensures faults { StopsByFault result }
     ensures goes { IsSameDatabase db.old db.new }
-    ensures only { result ≡ Err EngineFault.Write → ⊥ }
 {
     match form {
-        TextForm::Hexadecimal => load_engine(alloc, db, reader, GROUP, why, progress),
-        TextForm::Escaped => load_text_engine(alloc, db, reader, GROUP, why, progress),
+        TextForm::Hexadecimal => load_engine(alloc, db, reader, GROUP, progress),
+        TextForm::Escaped => load_text_engine(alloc, db, reader, GROUP, progress),
     }
 }

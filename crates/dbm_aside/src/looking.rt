@@ -5,7 +5,7 @@ ghost use Rattle.dbm_file.specs.Database.{store_of, page_state};
 ghost use Rattle.dbm_file.specs.Verifying.{IsFileOf, IsReadThrough};
 
 use dbm_fault::{EngineFault, Fault};
-use dbm_file::{Database, Watch};
+use dbm_file::{Database, Flaw, Watch};
 use dbm_progress::{Progress, Work};
 use page_io::PageStore;
 use std::alloc::{AllocError, Global};
@@ -17,9 +17,13 @@ struct Steps<'a, P> {
 }
 
 impl<P: Progress> Watch for Steps<'_, P> {
+    ghost has_told = { λ steps told. Unit {0} };
+
     fn bucket(&mut self) {
         self.progress.step(Work::BucketsVerified);
     }
+
+    fn flaw(&mut self, _flaw: Flaw) {}
 }
 
 /// Reads every page of a table, and answers how many pairs it has. Each bucket is a step of the

@@ -7,7 +7,7 @@ use crate::filling::fill;
 use crate::stop::Stop;
 use dbm_copy::copy_engine;
 use dbm_lines::TextForm;
-use dbm_load::BadLine;
+use dbm_load::{LoadStop, as_engine};
 use dbm_progress::Progress;
 use std::alloc::Global;
 use std::fs::File;
@@ -23,9 +23,9 @@ use std::rt::Files;
 ///
 /// Whatever is refused, and wherever it is stopped, the table of the name is the old one whole or
 /// the new one whole. `Missing` where there is none; then what an opening for reading is refused by,
-/// `BadLimit` of a limit outside 1 to 1,000,000, and what a load, a closing and `verify` are; after
-/// `Line`, `why` says why that line is bad. Where
-/// the folder can't be synced after the renaming, `Device`, and the new table stands.
+/// `BadLimit` of a limit outside 1 to 1,000,000, and what a load, a closing and `verify` are. Where
+/// the load is what stopped, `load_stop` says at which line. Where the folder can't be synced after
+/// the renaming, `Device`, and the new table stands.
 pub fn replace<T: Files<File = File>, R: BufRead, P: Progress>(
     rt: &T,
     alloc: Global,
@@ -33,7 +33,7 @@ pub fn replace<T: Files<File = File>, R: BufRead, P: Progress>(
     limit: Option<u32>,
     form: TextForm,
     input: &mut R,
-    why: &mut Option<BadLine>,
+    load_stop: &mut Option<LoadStop>,
     progress: &mut P,
 ) -> Result<u32, Stop>
     ensures read { OnOk result (IfSome (R.remaining input.old)
@@ -43,8 +43,9 @@ pub fn replace<T: Files<File = File>, R: BufRead, P: Progress>(
     ensures only { IfErr result (λ stop. IsOfLoad stop.fault) }
 {
     let mut building = build(rt, alloc, file, limit)?;
-    let filled = fill(alloc, &mut building.new, input, form, why, progress);
-    building.end(rt, alloc, filled, progress)
+    let filled = fill(alloc, &mut building.new, input, form, progress);
+    *load_stop = filled.err();
+    building.end(rt, alloc, as_engine(filled), progress)
 }
 
 /// Replaces the table of this name by one with the same pairs, of another limit, or of its own where

@@ -124,11 +124,11 @@ create_line = line (codes "create")
           codes "1000000" ∷ [];
     } ∷ version_rule ∷ [])
 
--- `script [FILE] [--memory N] [--v2] [--read]`
+-- `script [FILE] [--memory N] [--v2] [--read] [--text]`
 abbrev pub script_line : Shape
 script_line = line (codes "script")
     (record (word_rule (codes "file")) { required = false } ∷ number_rule (codes "memory")
-    ∷ version_rule ∷ read_rule ∷ [])
+    ∷ version_rule ∷ read_rule ∷ text_rule ∷ [])
 
 -- `rehearse [FILE] [--memory N] [--v2] [--stops N]`
 abbrev pub rehearse_line : Shape

@@ -66,7 +66,7 @@ pub fn hexadecimal<'a>(alloc: Global) -> Arg<'a>
         )
 }
 
-/// The flag `--text` of a command of all pairs, or of all keys.
+/// The flag `--text` of a command of all pairs, of all keys, or of a script.
 pub fn text_form<'a>(alloc: Global, help: &'a str) -> Arg<'a>
     ensures { IsRule result text_rule }
 {

@@ -34,6 +34,9 @@ const KEYS_TEXT_HELP: &str =
 const PAIRS_TEXT_HELP: &str =
     "Lines are key and content with a tab between them, and `\\t`, `\\n`, `\\\\`, `\\xHH` for bytes; else two words in hexadecimal";
 
+const SCRIPT_TEXT_HELP: &str =
+    "A call and its bytes have tabs between them, and `\\t`, `\\n`, `\\\\`, `\\xHH` for bytes; else words in hexadecimal";
+
 // Whoever gives -x to these is told by their usage that it isn't needed.
 const LIST_USAGE: &str = "dbmtool list [--text] <FILE>
 
@@ -285,7 +288,8 @@ fn script_command<'a>(alloc: Global) -> Result<Command<'a>, AllocError>
         .arg(word(alloc, FILE, "FILE", FILE_HELP).required(false))?
         .arg(memory)?
         .arg(version(alloc, MEMORY_V2_HELP))?
-        .arg(for_reading(alloc))
+        .arg(for_reading(alloc))?
+        .arg(text_form(alloc, SCRIPT_TEXT_HELP))
 }
 
 fn rehearse_command<'a>(alloc: Global) -> Result<Command<'a>, AllocError>

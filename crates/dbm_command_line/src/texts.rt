@@ -11,7 +11,9 @@ Example:
   dbmtool store colors sky blue
   dbmtool fetch colors sky";
 
-const LOAD_EXAMPLES: &str = "Example:
+const LOAD_EXAMPLES: &str = "With --text an empty line and one that begins with `#` are passed over.
+
+Example:
   dbmtool load colors < colors.txt
   dbmtool load colors --group 1 < colors.txt
   dbmtool load colors --replace --limit 2000 < colors.txt
@@ -29,8 +31,13 @@ const SCRIPT_LINES: &str =
   C               clears the error number; answers `0`
 A refused call is answered by `-1 fault N`, and a line that is no call by `-1 line`.
 
+With --text tabs stand in place of the spaces, and KEY and CONTENT are text, empty for
+no bytes. So are the answers. A content or a key that would read as another answer, as
+`none`, `end` or what begins with `-1 `, has its first byte as `\\xHH` there.
+
 Example:
-  echo 'S 6b 76' | dbmtool script --memory 100";
+  echo 'S 6b 76' | dbmtool script --memory 100
+  printf 'S\\tsky\\tblue\\n' | dbmtool script --text colors";
 
 const REHEARSE_STEPS: &str =
     "The calls are those of a script. They are made in memory, on a copy of FILE or on a

@@ -1,5 +1,5 @@
 // The command that looks a file through.
-ghost use Rattle.std.specs.Prelude.{◌≡◌, ◌≢◌, ℕ, Ok, Err, IfOk, OnOk, length};
+ghost use Rattle.std.specs.Prelude.{◌≡◌, ◌≢◌, ℕ, Ok, Err, IfOk, IsSome, OnOk, length};
 ghost use Rattle.std.specs.Fmt.{decimal};
 ghost use Rattle.std.specs.Io.KnownBytes.{Appends};
 ghost use Rattle.dbm_text.specs.Lines.{with_line_feed};
@@ -11,21 +11,28 @@ ghost use Rattle.dbm_commands.specs.Verifying.{TellsPairs, verify_failures};
 use crate::outcomes::unwritten;
 use crate::{Failure, Outcome};
 use dbm_fault::{EngineFault, Fault};
-use dbm_file::{Database, Watch};
+use dbm_file::{Database, Flaw, Watch};
 use dbm_progress::{Progress, Work};
 use page_io::PageStore;
 use std::alloc::{AllocError, Global};
 use std::io::{self, Write};
 
-/// Tells a progress each bucket that was looked at.
+/// Tells a progress each bucket that was looked at, and keeps the flaw that was found.
 #[derive(Drop)]
 struct Steps<'a, P> {
     progress: &'a mut P,
+    flaw: Option<Flaw>,
 }
 
 impl<P: Progress> Watch for Steps<'_, P> {
+    ghost has_told = { λ steps told. steps.flaw ≡ told };
+
     fn bucket(&mut self) {
         self.progress.step(Work::BucketsVerified);
+    }
+
+    fn flaw(&mut self, flaw: Flaw) {
+        self.flaw = Some(flaw);
     }
 }
 
@@ -33,11 +40,13 @@ impl<P: Progress> Watch for Steps<'_, P> {
 /// bucket that was looked at is a step of `progress`, which is cleared before the number is
 /// printed. `Memory` is answered where there is none for a mark of each page, before the file is
 /// read; then the call's faults come in its order, before anything is printed. After `Write` some
-/// of the number may be out.
+/// of the number may be out. Where the file is damaged, `flaw` is the first page that breaks a rule,
+/// with the rule.
 pub fn verify<S: PageStore, W: Write, P: Progress>(
     alloc: Global,
     db: &mut Database<S>,
     output: &mut W,
+    flaw: &mut Option<Flaw>,
     progress: &mut P,
 ) -> Result<Outcome, Failure>
     ensures good { S.honest (store_of db.old)
@@ -46,6 +55,9 @@ pub fn verify<S: PageStore, W: Write, P: Progress>(
     ensures damaged { S.honest (store_of db.old)
         → result ≡ Err (Failure.Fault (EngineFault.Db Fault.Damaged)) → (pairs : ℕ)
         → IsFileOf (S.committed (store_of db.old)) pairs → ⊥ }
+    ensures flaw { result ≡ Err (Failure.Fault (EngineFault.Db Fault.Damaged)) → IsSome flaw.new }
+    ensures none { result ≢ Err (Failure.Fault (EngineFault.Db Fault.Damaged))
+        → flaw.new ≡ flaw.old }
     ensures quiet { result ≢ Ok Outcome.Done → result ≢ Err (Failure.Fault EngineFault.Write)
         → output.new ≡ output.old }
     ensures done { IfOk result (λ outcome. outcome ≡ Outcome.Done) }
@@ -54,7 +66,13 @@ pub fn verify<S: PageStore, W: Write, P: Progress>(
     let Ok(mut marks) = marks_of(alloc, db) else {
         return Err(Failure::Fault(EngineFault::Memory));
     };
-    let pairs = match db.verify(&mut marks, &mut Steps { progress }) {
+    let mut steps = Steps {
+        progress,
+        flaw: *flaw,
+    };
+    let looked = db.verify(&mut marks, &mut steps);
+    *flaw = steps.flaw;
+    let pairs = match looked {
         Ok(pairs) => pairs,
         Err(fault) => return Err(Failure::from(fault)),
     };

@@ -1,17 +1,17 @@
 // The engine that copies pairs.
-ghost use Rattle.std.specs.Prelude.{◌≡◌, ◌<◌, true, OnOk, IfOk, Err};
+ghost use Rattle.std.specs.Prelude.{◌≡◌, ◌<◌, true, OnOk, IfOk, Err, map};
 ghost use Rattle.std.specs.FinMap.{empty};
 ghost use Rattle.dbm_fault.specs.Among.{IsErrAmong};
 ghost use Rattle.dbm_file.specs.Answers.{IsSameDatabase};
 ghost use Rattle.dbm_file.specs.Database.{meta_kept, AtEachHandle};
-ghost use Rattle.dbm_load.specs.Batches.{pairs_in};
+ghost use Rattle.dbm_load.specs.Storing.{pair_of};
 ghost use Rattle.dbm_dump.specs.Dumping.{Stays, bytes_of_pairs};
 ghost use Rattle.dbm_copy.specs.Copying.{HasMap, CopiesPairs, StoresPairs, StopsWithinMap, copy_faults};
 
 use dbm_dump::gather_pairs;
 use dbm_fault::EngineFault;
 use dbm_file::{Database, Fault, Pair};
-use dbm_load::{Batch, store_batch};
+use dbm_load::store_pairs;
 use dbm_progress::{Progress, Work};
 use page_io::PageStore;
 use std::alloc::{AllocError, Global};
@@ -83,19 +83,22 @@ fn store_map<T: PageStore, P: Progress>(
     ensures goes { IsSameDatabase to.old to.new }
     ensures only { IsErrAmong result copy_faults }
 {
-    let Ok(mut batch) = batch_of(alloc, pairs) else {
+    let Ok(pairs) = listed(alloc, pairs) else {
         return Err(EngineFault::Memory);
     };
-    store_batch(to, &mut batch, &mut Written { progress })
+    match store_pairs(to, &pairs, &mut Written { progress }) {
+        Ok(()) => Ok(()),
+        Err(stop) => Err(EngineFault::Db(stop.fault)),
+    }
 }
 
-/// A batch of these pairs.
-fn batch_of(alloc: Global, pairs: BTreeMap<Vec<u8>, Vec<u8>>) -> Result<Batch, AllocError>
-    ensures { IfOk result (λ batch. pairs_in batch ≡ bytes_of_pairs pairs) }
+/// These pairs as a list, in the order of their keys.
+fn listed(alloc: Global, pairs: BTreeMap<Vec<u8>, Vec<u8>>) -> Result<Vec<Pair>, AllocError>
+    ensures { IfOk result (λ listed. map pair_of listed.items ≡ bytes_of_pairs pairs) }
 {
-    let mut batch = Batch::new(alloc, 0);
+    let mut listed = Vec::new(alloc);
     for (key, content) in pairs {
-        batch.pairs.push(Pair { key, content })?;
+        listed.push(Pair { key, content })?;
     }
-    Ok(batch)
+    Ok(listed)
 }

@@ -13,7 +13,7 @@ use crate::gather::gather_keys;
 use crate::pairs::gather_pairs;
 use dbm_fault::EngineFault;
 use dbm_file::{Database, Fault};
-use dbm_lines::{TextForm, write_bytes, write_escaped, write_word};
+use dbm_lines::{TextForm, write_bytes, write_escaped, write_key_field, write_word};
 use dbm_progress::{Progress, Work};
 use page_io::PageStore;
 use std::alloc::Global;
@@ -60,7 +60,8 @@ pub fn dump_engine<S: PageStore, W: Write, P: Progress>(
 }
 
 /// Writes each pair as two fields in a line, a tab between them, with escapes, in ascending byte
-/// order of keys. It reads, keeps in memory, tells its progress and fails as `dump_engine` does.
+/// order of keys. A key's first byte is an escape where it is `#`. It reads, keeps in memory, tells
+/// its progress and fails as `dump_engine` does.
 pub fn dump_text_engine<S: PageStore, W: Write, P: Progress>(
     alloc: Global,
     db: &mut Database<S>,
@@ -275,7 +276,7 @@ fn write_fields<W: Write>(writer: &mut W, key: &[u8], content: &[u8]) -> io::Res
     ensures { OnOk result (Appends (W.contents writer.old) (W.contents writer.new)
         (text_line (key.now, content.now))) }
 {
-    write_escaped(writer, key)?;
+    write_key_field(writer, key)?;
     writer.write_all(b"\t")?;
     write_escaped(writer, content)?;
     writer.write_all(b"\n")

@@ -4,12 +4,12 @@ use Rattle.std.specs.List.{All, flat_map}
 use Rattle.std.proofs.lemmas.Bool.{leb-true, or_cases, and_parts}
 use Rattle.std.proofs.lemmas.Bool.Decides.{leb_tells}
 use Rattle.std.proofs.lemmas.List.Elements.{All-head, All-tail}
-use Rattle.hex.specs.Hex.{lower_digits}
+use Rattle.hex.specs.Hex.{encode_lower, lower_digits}
 use Rattle.hex.proofs.HexLemmas.{length-encode_with}
 use Rattle.page_model.specs.PairLists.{HasBytes}
 use Rattle.dbm_model.specs.Bounds.{V2}
 use Rattle.dbm_model.specs.Pairs.{Pair, IsAllowed}
-use Rattle.dbm_text.specs.Escapes.{escape_of, escaped, longest_text_line, pair_of_text_line}
+use Rattle.dbm_text.specs.Escapes.{escape_of, escaped, key_field, marked, longest_text_line, pair_of_text_line}
 use Rattle.dbm_text.specs.Lines.{lines_of, with_line_feed, longest_line}
 use Rattle.dbm_text.specs.Words.{word_of}
 use Rattle.dbm_lines.specs.LineLaws.{DumpsReadBack}
@@ -76,14 +76,26 @@ words_say pair small allowed =
     ))
     ∙ words_stand pair small
 
+key_length : (key : List ℕ) → length (key_field key) ≤ 4 * length key
+key_length [] = omega arith
+key_length (x ∷ xs) =
+    let digits = length-encode_with lower_digits (x ∷ []) in
+    either (x == 35) (marked (x ∷ xs)) (escaped (x ∷ xs)) (4 * length (x ∷ xs))
+    (omega (
+      arith,
+      digits,
+      length-append (encode_lower (x ∷ [])) (escaped xs),
+      field_length xs,
+    )) (field_length (x ∷ xs))
+
 fields_say : (pair : Pair) → HasBytes pair → IsAllowed V2 pair
     → pair_of_text_line (fields pair) ≡ Some pair
 fields_say pair small allowed =
     within longest_text_line (length (fields pair)) _
     (omega (
       arith,
-      length-append (escaped pair.0) (9 ∷ escaped pair.1),
-      field_length pair.0,
+      length-append (key_field pair.0) (9 ∷ escaped pair.1),
+      key_length pair.0,
       field_length pair.1,
       allowed_length pair allowed,
     ))

@@ -8,14 +8,16 @@ use Rattle.std.proofs.lemmas.List.Elements.{All-append, All-cons, All-head, All-
 use Rattle.std.proofs.lemmas.List.Splits.{slice_split_at, slice_split_none}
 use Rattle.hex.specs.Hex.{encode_lower, is_hex_digit}
 use Rattle.hex.proofs.HexLemmas.{decode_of-ok, decode_of-encode_lower}
-use Rattle.dbm_text.specs.Escapes.{escaped, unescaped, fields_in, pair_of_fields, longest_text_line, pair_of_text_line}
+use Rattle.dbm_text.specs.Escapes.{escaped, key_field, unescaped, fields_in, pair_of_fields, longest_text_line, pair_of_text_line}
 use Rattle.dbm_text.specs.Lines.{lines_of, onto_line, words_in, with_line_feed, longest_line}
 use Rattle.page_model.specs.PairLists.{AreBytes, HasBytes}
 use Rattle.dbm_model.specs.Pairs.{Pair}
 use Rattle.dbm_text.specs.Words.{word_of, word_bytes}
+use Rattle.dbm_text.specs.EscapeTexts.{IsPrintable}
 use Rattle.dbm_text.proofs.EscapeLemmas.{escapes_back, printable}
+use Rattle.dbm_text.proofs.KeyFields.{is_read, key_back, key_printable}
 use Rattle.dbm_text.proofs.WordLemmas.{reads_back}
-use Rattle.dbm_lines.specs.Forms.{pair_in, line_in}
+use Rattle.dbm_lines.specs.Forms.{pair_in, is_passed_in, line_in, lines_said}
 use Rattle.dbm_lines.specs.declared.forms.TextForm.{TextForm}
 use Rattle.dbm_lines.specs.declared.forms.TextForm.TheVariants.{Hexadecimal, Escaped}
 use Rattle.dbm_lines.specs.PairLines.{pair_of_words, pair_of_line, Say}
@@ -108,28 +110,30 @@ words_say pair said small is =
 -- ---- lines of fields
 
 -- a field has printable bytes alone
-field_without : (byte : ℕ) → byte < 32 → (bytes : List ℕ) → AreBytes bytes
-    → IsWithout byte (escaped bytes)
-field_without byte low bytes small k d lt = elim (eqb_tells (get_or (escaped bytes) k d) byte) [
-  | inl same ↦ absurd (omega (arith, (printable bytes small k d lt).0, same.1, low))
+field_without : (byte : ℕ) → byte < 32 → (field : List ℕ) → All IsPrintable field
+    → IsWithout byte field
+field_without byte low field is k d lt = elim (eqb_tells (get_or field k d) byte) [
+  | inl same ↦ absurd (omega (arith, (is k d lt).0, same.1, low))
   | inr other ↦ other.0
 ]
 
 abbrev pub fields : Pair → List ℕ
-fields pair = escaped pair.0 ++ 9 ∷ escaped pair.1
+fields pair = key_field pair.0 ++ 9 ∷ escaped pair.1
 
 pub fields_without : (pair : Pair) → HasBytes pair → IsWithout 10 (fields pair)
 fields_without pair small =
-    parts_without (escaped pair.0) (escaped pair.1) 9 refl
-    (field_without 10 (omega arith) pair.0 small.0) (field_without 10 (omega arith) pair.1 small.1)
+    parts_without (key_field pair.0) (escaped pair.1) 9 refl
+    (field_without 10 (omega arith) (key_field pair.0) (key_printable pair.0 small.0))
+    (field_without 10 (omega arith) (escaped pair.1) (printable pair.1 small.1))
 
 pub fields_stand : (pair : Pair) → HasBytes pair
     → pair_of_fields (fields_in (fields pair)) ≡ Some pair
 fields_stand pair small =
-    ap pair_of_fields (parts_apart (escaped pair.0) (escaped pair.1) 9 refl
-    (field_without 9 (omega arith) pair.0 small.0) (field_without 9 (omega arith) pair.1 small.1))
-    ∙ two_parts unescaped pair.0 pair.1 (escaped pair.0) (escaped pair.1)
-    (escapes_back pair.0 small.0) (escapes_back pair.1 small.1)
+    ap pair_of_fields (parts_apart (key_field pair.0) (escaped pair.1) 9 refl
+    (field_without 9 (omega arith) (key_field pair.0) (key_printable pair.0 small.0))
+    (field_without 9 (omega arith) (escaped pair.1) (printable pair.1 small.1)))
+    ∙ two_parts unescaped pair.0 pair.1 (key_field pair.0) (escaped pair.1)
+    (key_back pair.0 small.0) (escapes_back pair.1 small.1)
 
 fields_say : (pair said : Pair) → HasBytes pair → pair_of_text_line (fields pair) ≡ Some said
     → said ≡ pair
@@ -177,3 +181,35 @@ lines_say Hexadecimal pairs said small is =
     bodies_say pair_of_line words words_without words_say pairs said small is
 lines_say Escaped pairs said small is =
     bodies_say pair_of_text_line fields fields_without fields_say pairs said small is
+
+-- ---- none of them is passed over
+
+module _ (form : TextForm) (body : Pair → List ℕ)
+    (plain : (pair : Pair) → HasBytes pair → IsWithout 10 (body pair))
+    (read : (pair : Pair) → is_passed_in form (body pair) ≡ false) where
+  bodies_read : (pairs : List Pair) → All HasBytes pairs
+      → lines_said form (lines_of (flat_map (λ pair. with_line_feed (body pair)) pairs))
+      ≡ lines_of (flat_map (λ pair. with_line_feed (body pair)) pairs)
+  bodies_read [] small = refl
+  bodies_read (pair ∷ pairs) small =
+      let one = All-head HasBytes pair pairs small in
+      let rest = flat_map (λ pair. with_line_feed (body pair)) pairs in
+      let cut : lines_of (flat_map (λ pair. with_line_feed (body pair)) (pair ∷ pairs))
+      ≡ body pair ∷ lines_of rest =
+      ap lines_of (append_assoc (body pair) (10 ∷ []) rest)
+      ∙ lines_after (body pair) rest (plain pair one) in
+      ap (lines_said form) cut
+      ∙ ap (λ b. cond b (lines_said form (lines_of rest))
+      (body pair ∷ lines_said form (lines_of rest))) (read pair)
+      ∙ ap (λ (lines : List (List ℕ)). body pair ∷ lines)
+      (bodies_read pairs (All-tail HasBytes pair pairs small))
+      ∙ sym cut
+
+pub lines_read : (form : TextForm) (pairs : List Pair) → All HasBytes pairs
+    → lines_said form (lines_of (flat_map (line_in form) pairs))
+    ≡ lines_of (flat_map (line_in form) pairs)
+lines_read Hexadecimal pairs small =
+    bodies_read Hexadecimal words words_without (λ pair. refl) pairs small
+lines_read Escaped pairs small =
+    bodies_read Escaped fields fields_without
+    (λ pair. is_read pair.0 (escaped pair.1)) pairs small

@@ -3,9 +3,10 @@ use Rattle.std.proofs.Common.{◌≡◌, inl, inr, ℕ, suc, ◌+◌, ◌<◌, �
 use Rattle.std.proofs.lemmas.List.{take_all, length-take-le}
 use Rattle.std.proofs.lemmas.Bool.Decides.{leb_tells}
 use Rattle.dbm_text.specs.Escapes.{longest_text_line, fields_in, pair_of_fields}
-use Rattle.dbm_text.specs.Lines.{longest_line, lines_of, onto_line, words_in, call_in_line, call_of_words}
+use Rattle.dbm_text.specs.Lines.{longest_line, lines_of, onto_line, words_in, call_of_words}
+use Rattle.dbm_text.specs.TextScripts.{call_of_fields}
 use Rattle.dbm_lines.specs.Bounds.{longest_in}
-use Rattle.dbm_lines.specs.Forms.{pair_in}
+use Rattle.dbm_lines.specs.Forms.{call_in, pair_in, is_passed_in}
 use Rattle.dbm_lines.specs.PairLines.{pair_of_words}
 use Rattle.dbm_lines.specs.declared.forms.TextForm.{TextForm}
 use Rattle.dbm_lines.specs.declared.forms.TextForm.TheVariants.{Hexadecimal, Escaped}
@@ -55,14 +56,21 @@ pair_in-kept Escaped line =
     limited-take (λ line. pair_of_fields (fields_in line)) longest_text_line
     (longest_text_line + 1) line (omega arith)
 
-pub call_in_line-kept : (form : TextForm) (line : List ℕ)
-    → call_in_line (take (longest_in form + 1) line) ≡ call_in_line line
-call_in_line-kept Hexadecimal line =
+-- and it is passed over where the whole line is
+pub is_passed_in-kept : (form : TextForm) (line : List ℕ)
+    → is_passed_in form (take (longest_in form + 1) line) ≡ is_passed_in form line
+is_passed_in-kept Hexadecimal line = refl
+is_passed_in-kept Escaped [] = refl
+is_passed_in-kept Escaped (byte ∷ line) = refl
+
+pub call_in-kept : (form : TextForm) (line : List ℕ)
+    → call_in form (take (longest_in form + 1) line) ≡ call_in form line
+call_in-kept Hexadecimal line =
     limited-take (λ line. call_of_words (words_in line)) longest_line (longest_line + 1) line
     (omega arith)
-call_in_line-kept Escaped line =
-    limited-take (λ line. call_of_words (words_in line)) longest_line (longest_text_line + 1) line
-    (omega arith)
+call_in-kept Escaped line =
+    limited-take (λ line. call_of_fields (fields_in line)) longest_text_line
+    (longest_text_line + 1) line (omega arith)
 
 -- at the end of a text nothing is left of it
 pub nothing_left : (limit : ℕ) (first now next : Option (List ℕ)) (start left : ℕ)

@@ -6,7 +6,7 @@ ghost use Rattle.dbm_lines.specs.Forms.{pair_in};
 
 use crate::bounds::longest_in;
 use crate::forms::TextForm;
-use crate::splitting::split_at;
+use crate::splitting::split_part;
 
 /// Why a line says no pair.
 #[derive(Clone, Copy, Debug, PartialEq, Eq)]
@@ -44,18 +44,6 @@ pub fn why_bad(form: TextForm, line: &[u8]) -> BadLine
     match form {
         TextForm::Hexadecimal => why_bad_words(key, content),
         TextForm::Escaped => BadLine::BadEscape,
-    }
-}
-
-/// The part before the first separator, and what is behind the separator, if there is one.
-fn split_part(form: TextForm, line: &[u8]) -> Option<(&[u8], &[u8])>
-    ensures split { IfSome result
-        (λ parts. parts_in form line.now ≡ parts.0.now ∷ parts_in form parts.1.now) }
-    ensures single { IfNone result (parts_in form line.now ≡ line.now ∷ []) }
-{
-    match form {
-        TextForm::Hexadecimal => split_at(line, b' '),
-        TextForm::Escaped => split_at(line, b'\t'),
     }
 }
 

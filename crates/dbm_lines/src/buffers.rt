@@ -1,14 +1,13 @@
 // What an engine that reads lines keeps between them.
 ghost use Rattle.std.specs.Prelude.{◌≡◌, ◌<◌, ◌≤◌, IfOk, Some, None, [], vec_capacity, if◌then◌else◌};
-ghost use Rattle.dbm_text.specs.Lines.{call_in_line};
 ghost use Rattle.dbm_lines.specs.BadLines.{IsBadBy};
 ghost use Rattle.dbm_lines.specs.Bounds.{longest_in, longest_part};
-ghost use Rattle.dbm_lines.specs.Forms.{pair_in};
+ghost use Rattle.dbm_lines.specs.Forms.{call_in, pair_in, is_passed_in};
 ghost use Rattle.dbm_lines.specs.Requests.{asked};
 
 use crate::bad_lines::{BadLine, why_bad};
 use crate::bounds::{longest_in, longest_part};
-use crate::forms::{TextForm, pair_in_form};
+use crate::forms::{TextForm, is_passed_in, pair_in_form};
 use crate::parsing::{Request, request_of};
 use std::alloc::{AllocError, Global};
 
@@ -29,7 +28,7 @@ pub struct Buffers {
 }
 
 impl Buffers {
-    /// Takes the memory for lines of this form, and has no line yet. A script has lines of words.
+    /// Takes the memory for lines of this form, and has no line yet.
     pub fn new(alloc: Global, form: TextForm) -> Result<Buffers, AllocError>
         ensures { IfOk result (λ buffers. (buffers.form ≡ form) × (buffers.line.items ≡ [])) }
     {
@@ -41,13 +40,13 @@ impl Buffers {
         })
     }
 
-    /// What the line asks for. The bytes of its words are then `key` and `content`.
+    /// What the line asks for in the form. The bytes of its parts are then `key` and `content`.
     pub fn request(&mut self) -> Request
         ensures request { asked result self.new.key.items self.new.content.items
-            ≡ call_in_line self.old.line.items }
+            ≡ call_in self.old.form self.old.line.items }
         ensures form { self.new.form ≡ self.old.form }
     {
-        request_of(&self.line, &mut self.key, &mut self.content)
+        request_of(self.form, &self.line, &mut self.key, &mut self.content)
     }
 
     /// Whether the line says a pair in the form, which is then `key` and `content`.
@@ -58,6 +57,13 @@ impl Buffers {
         ensures line { self.new.line.items ≡ self.old.line.items }
     {
         pair_in_form(self.form, &self.line, &mut self.key, &mut self.content)
+    }
+
+    /// Whether a load passes over the line in the form.
+    pub fn is_passed_over(&self) -> bool
+        ensures { result ≡ is_passed_in self.now.form self.now.line.items }
+    {
+        is_passed_in(self.form, &self.line)
     }
 
     /// Why the line says no pair in the form.

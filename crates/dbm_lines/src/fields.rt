@@ -1,9 +1,10 @@
 // Fields with escapes: their bytes, and the pair of a line of two.
-ghost use Rattle.std.specs.Prelude.{◌≡◌, ◌≤◌, ◌<◌, ◌∷◌, [], Some, IfSome, IfNone, OnOk, IsTrue, length, option_and_then, None, vec_capacity, if◌then◌else◌};
+ghost use Rattle.std.specs.Prelude.{◌≡◌, ◌≤◌, ◌<◌, ◌∷◌, ◌++◌, [], Some, IfSome, IfNone, OnOk, IsTrue, codes, length, option_and_then, None, vec_capacity, if◌then◌else◌};
 ghost use Rattle.std.specs.Option.{option_map};
 ghost use Rattle.std.specs.Io.KnownBytes.{Appends};
+ghost use Rattle.hex.specs.Hex.{encode_lower};
 ghost use Rattle.dbm_text.specs.Words.{decoded};
-ghost use Rattle.dbm_text.specs.Escapes.{escape_of, escaped, unescaped, behind_backslash, behind_x, joined, fields_in, pair_of_fields, longest_text_line, pair_of_text_line};
+ghost use Rattle.dbm_text.specs.Escapes.{escape_of, escaped, key_field, marked, unescaped, behind_backslash, behind_x, joined, fields_in, pair_of_fields, longest_text_line, pair_of_text_line};
 
 use crate::bounds::LONGEST_TEXT_LINE;
 use crate::splitting::split_at;
@@ -26,6 +27,29 @@ pub fn write_escaped<W: Write>(writer: &mut W, bytes: &[u8]) -> io::Result<()>
     writer.write_all(&bytes[start..])
 }
 
+/// Writes the bytes as a field whose first byte, if there is one, is written as `\xhh`.
+pub fn write_marked<W: Write>(writer: &mut W, bytes: &[u8]) -> io::Result<()>
+    ensures { OnOk result (Appends (W.contents writer.old) (W.contents writer.new)
+        (marked bytes.now)) }
+{
+    let [first, rest @ ..] = bytes else {
+        return Ok(());
+    };
+    write_digits(writer, *first)?;
+    write_escaped(writer, rest)
+}
+
+/// Writes a key as the field at the head of a line. It never begins with `#`.
+pub fn write_key_field<W: Write>(writer: &mut W, key: &[u8]) -> io::Result<()>
+    ensures { OnOk result (Appends (W.contents writer.old) (W.contents writer.new)
+        (key_field key.now)) }
+{
+    match key {
+        [b'#', ..] => write_marked(writer, key),
+        _ => write_escaped(writer, key),
+    }
+}
+
 /// Whether a field has the byte as it is.
 fn is_plain(byte: u8) -> bool
     ensures { IsTrue result → escape_of byte ≡ byte ∷ [] }
@@ -43,13 +67,19 @@ fn write_escape<W: Write>(writer: &mut W, byte: u8) -> io::Result<()>
         b'\t' => writer.write_all(b"\\t"),
         b'\n' => writer.write_all(b"\\n"),
         b' '..=b'~' => writer.write_all(&[byte]),
-        _ => {
-            let mut digits = [0; 2];
-            hex::encode_to_slice([byte].as_slice(), &mut digits).unwrap();
-            writer.write_all(b"\\x")?;
-            writer.write_all(&digits)
-        }
+        _ => write_digits(writer, byte),
     }
+}
+
+/// Writes the byte as `\xhh`.
+fn write_digits<W: Write>(writer: &mut W, byte: u8) -> io::Result<()>
+    ensures { OnOk result (Appends (W.contents writer.old) (W.contents writer.new)
+        (codes "\\x" ++ encode_lower (byte ∷ []))) }
+{
+    let mut digits = [0; 2];
+    hex::encode_to_slice([byte].as_slice(), &mut digits).unwrap();
+    writer.write_all(b"\\x")?;
+    writer.write_all(&digits)
 }
 
 /// Puts the bytes that a field stands for into `bytes`, which has room for them. Answers whether it
@@ -140,7 +170,7 @@ pub fn pair_in_text_line(line: &[u8], key: &mut Vec<u8>, content: &mut Vec<u8>) 
 }
 
 /// Reads a key and a content that are two fields. Answers whether they are.
-fn pair_in_fields(fields: &[u8], key: &mut Vec<u8>, content: &mut Vec<u8>) -> bool
+pub fn pair_in_fields(fields: &[u8], key: &mut Vec<u8>, content: &mut Vec<u8>) -> bool
     requires key { length fields.now ≤ vec_capacity key.old }
     requires content { length fields.now ≤ vec_capacity content.old }
     ensures pair { (if result then Some (key.new.items, content.new.items) else None)

@@ -16,12 +16,12 @@ mod splitting;
 pub use bad_lines::BadLine;
 pub use bounds::{LONGEST_LINE, LONGEST_TEXT_LINE};
 pub use buffers::Buffers;
-pub use fields::{unescape, write_escaped};
+pub use fields::{unescape, write_escaped, write_key_field, write_marked};
 pub use forms::TextForm;
 pub use line_laws::dumps_read_back;
 pub use lines::{LineRead, read_line};
 pub use parsing::{Request, decode_word};
 pub use replies::{
-    write_absent, write_bad_line, write_bytes, write_deleted, write_end, write_kept,
-    write_no_record, write_number, write_refused, write_stored, write_word,
+    write_absent, write_bad_line, write_bytes, write_bytes_in, write_deleted, write_end,
+    write_kept, write_no_record, write_number, write_refused, write_stored, write_word,
 };

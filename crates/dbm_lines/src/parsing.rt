@@ -1,15 +1,20 @@
 // Lines as requests and as pairs.
 ghost use Rattle.std.specs.Prelude.{◌≡◌, ◌≤◌, ◌*◌, ◌∷◌, [], IfSome, IfNone, length, codes, Some, None, vec_capacity, if◌then◌else◌};
 ghost use Rattle.dbm_text.specs.Words.{word_bytes};
-ghost use Rattle.dbm_text.specs.Lines.{longest_line, words_in, call_in_line, call_of_words, bare_call};
+ghost use Rattle.dbm_text.specs.Lines.{longest_line, words_in, call_of_parts, bare_call};
 ghost use Rattle.dbm_model.specs.Calls.{Fetch, Delete};
+ghost use Rattle.dbm_lines.specs.BadLines.{parts_in};
+ghost use Rattle.dbm_lines.specs.Bounds.{longest_in, longest_part};
+ghost use Rattle.dbm_lines.specs.Forms.{call_in};
 ghost use Rattle.dbm_lines.specs.PairLines.{pair_of_line, pair_of_words};
-ghost use Rattle.dbm_lines.specs.Requests.{asked, IsNamed};
+ghost use Rattle.dbm_lines.specs.Requests.{asked, bytes_in, pair_of_parts, IsNamed};
 
-use crate::bounds::LONGEST_LINE;
-use crate::splitting::split_at;
+use crate::bounds::{LONGEST_LINE, longest_in};
+use crate::fields::{pair_in_fields, unescape};
+use crate::forms::TextForm;
+use crate::splitting::{split_at, split_part};
 
-/// What a line asks for, of a key and a content that its words say.
+/// What a line asks for, of a key and a content that its parts say.
 #[derive(Clone, Copy)]
 pub enum Request {
     Store,
@@ -24,15 +29,16 @@ pub enum Request {
     Bad,
 }
 
-/// Reads a line without its line feed. The bytes of the words go to `key` and `content`.
-pub fn request_of(line: &[u8], key: &mut Vec<u8>, content: &mut Vec<u8>) -> Request
-    requires key { longest_line ≤ 2 * vec_capacity key.old }
-    requires content { longest_line ≤ 2 * vec_capacity content.old }
-    ensures request { asked result key.new.items content.new.items ≡ call_in_line line.now }
+/// Reads a line of this form without its line feed. The bytes of its parts go to `key` and
+/// `content`.
+pub fn request_of(form: TextForm, line: &[u8], key: &mut Vec<u8>, content: &mut Vec<u8>) -> Request
+    requires key { longest_part form ≤ vec_capacity key.old }
+    requires content { longest_part form ≤ vec_capacity content.old }
+    ensures request { asked result key.new.items content.new.items ≡ call_in form line.now }
     ensures key { vec_capacity key.old ≤ vec_capacity key.new }
     ensures content { vec_capacity content.old ≤ vec_capacity content.new }
 {
-    if line.len() > LONGEST_LINE {
+    if line.len() > longest_in(form) {
         return Request::Bad;
     }
     match line {
@@ -40,11 +46,11 @@ pub fn request_of(line: &[u8], key: &mut Vec<u8>, content: &mut Vec<u8>) -> Requ
         b"N" => Request::Next,
         b"E" => Request::Error,
         b"C" => Request::Clear,
-        _ => request_with_words(line, key, content),
+        _ => request_with_parts(form, line, key, content),
     }
 }
 
-/// A call that has words after its name.
+/// A call that has parts after its name.
 #[derive(Clone, Copy)]
 enum Name {
     Store,
@@ -53,28 +59,34 @@ enum Name {
     Delete,
 }
 
-/// The request of a line that has words after a name.
-fn request_with_words(line: &[u8], key: &mut Vec<u8>, content: &mut Vec<u8>) -> Request
-    requires key { length line.now ≤ 2 * vec_capacity key.old }
-    requires content { length line.now ≤ 2 * vec_capacity content.old }
-    ensures request { bare_call line.now ≡ None
-        → asked result key.new.items content.new.items ≡ call_of_words (words_in line.now) }
+/// The request of a line that has parts after a name.
+fn request_with_parts(
+    form: TextForm,
+    line: &[u8],
+    key: &mut Vec<u8>,
+    content: &mut Vec<u8>,
+) -> Request
+    requires line { length line.now ≤ longest_in form }
+    requires key { longest_part form ≤ vec_capacity key.old }
+    requires content { longest_part form ≤ vec_capacity content.old }
+    ensures request { bare_call line.now ≡ None → asked result key.new.items content.new.items
+        ≡ call_of_parts (bytes_in form) (parts_in form line.now) }
     ensures key { vec_capacity key.old ≤ vec_capacity key.new }
     ensures content { vec_capacity content.old ≤ vec_capacity content.new }
 {
-    let Some((name, rest)) = split_word(line) else {
+    let Some((name, rest)) = split_part(form, line) else {
         return Request::Bad;
     };
     match name_of(name) {
-        Some(Name::Store) if pair_in_words(rest, key, content) => Request::Store,
-        Some(Name::Insert) if pair_in_words(rest, key, content) => Request::Insert,
-        Some(Name::Fetch) if key_in_words(rest, key) => Request::Fetch,
-        Some(Name::Delete) if key_in_words(rest, key) => Request::Delete,
+        Some(Name::Store) if pair_in_parts(form, rest, key, content) => Request::Store,
+        Some(Name::Insert) if pair_in_parts(form, rest, key, content) => Request::Insert,
+        Some(Name::Fetch) if key_in_parts(form, rest, key) => Request::Fetch,
+        Some(Name::Delete) if key_in_parts(form, rest, key) => Request::Delete,
         _ => Request::Bad,
     }
 }
 
-/// The call of a name, if it has words after it.
+/// The call of a name, if it has parts after it.
 fn name_of(name: &[u8]) -> Option<Name>
     ensures { IsNamed name.now result }
 {
@@ -87,20 +99,51 @@ fn name_of(name: &[u8]) -> Option<Name>
     }
 }
 
-/// Reads the key that a fetch or a delete names, of the words after its name. Answers whether they
+/// Reads the key that a fetch or a delete names, of the parts after its name. Answers whether they
 /// name one.
-fn key_in_words(words: &[u8], key: &mut Vec<u8>) -> bool
-    requires { length words.now ≤ 2 * vec_capacity key.old }
+fn key_in_parts(form: TextForm, parts: &[u8], key: &mut Vec<u8>) -> bool
+    requires parts { length parts.now ≤ longest_in form }
+    requires key { longest_part form ≤ vec_capacity key.old }
     ensures fetch { (if result then Some (Fetch key.new.items) else None)
-        ≡ call_of_words (codes "F" ∷ words_in words.now) }
+        ≡ call_of_parts (bytes_in form) (codes "F" ∷ parts_in form parts.now) }
     ensures delete { (if result then Some (Delete key.new.items) else None)
-        ≡ call_of_words (codes "D" ∷ words_in words.now) }
+        ≡ call_of_parts (bytes_in form) (codes "D" ∷ parts_in form parts.now) }
     ensures room { vec_capacity key.old ≤ vec_capacity key.new }
 {
-    if split_word(words).is_some() {
+    if split_part(form, parts).is_some() {
         return false;
     }
-    decode_word(words, key)
+    decode_part(form, parts, key)
+}
+
+/// Puts the bytes that a part of a line of this form stands for into `bytes`. Answers whether it is
+/// a good one; if not, any bytes may stand there.
+fn decode_part(form: TextForm, part: &[u8], bytes: &mut Vec<u8>) -> bool
+    requires part { length part.now ≤ longest_in form }
+    requires bytes { longest_part form ≤ vec_capacity bytes.old }
+    ensures bytes { (if result then Some bytes.new.items else None) ≡ bytes_in form part.now }
+    ensures room { vec_capacity bytes.old ≤ vec_capacity bytes.new }
+{
+    match form {
+        TextForm::Hexadecimal => decode_word(part, bytes),
+        TextForm::Escaped => unescape(part, bytes),
+    }
+}
+
+/// Reads a key and a content that are two parts of a line of this form. Answers whether they are.
+fn pair_in_parts(form: TextForm, parts: &[u8], key: &mut Vec<u8>, content: &mut Vec<u8>) -> bool
+    requires parts { length parts.now ≤ longest_in form }
+    requires key { longest_part form ≤ vec_capacity key.old }
+    requires content { longest_part form ≤ vec_capacity content.old }
+    ensures pair { (if result then Some (key.new.items, content.new.items) else None)
+        ≡ pair_of_parts form (parts_in form parts.now) }
+    ensures key { vec_capacity key.old ≤ vec_capacity key.new }
+    ensures content { vec_capacity content.old ≤ vec_capacity content.new }
+{
+    match form {
+        TextForm::Hexadecimal => pair_in_words(parts, key, content),
+        TextForm::Escaped => pair_in_fields(parts, key, content),
+    }
 }
 
 /// Reads the pair of a line `key content` without its line feed. The bytes of the words go to `key`

@@ -3,8 +3,12 @@ ghost use Rattle.std.specs.Prelude.{◌≡◌, ℕ, pos, OnOk};
 ghost use Rattle.std.specs.Io.KnownBytes.{Appends};
 ghost use Rattle.dbm_model.specs.Calls.{Fault, Stored, Kept, Deleted, Absent, Bytes, NoRecord, End, Number, Refused, number_of};
 ghost use Rattle.dbm_text.specs.Lines.{reply_line, bad_line};
+ghost use Rattle.dbm_text.specs.TextScripts.{is_like_reply, reply_field};
 ghost use Rattle.dbm_text.specs.Words.{word_of};
+ghost use Rattle.dbm_lines.specs.Forms.{reply_line_in};
 
+use crate::fields::{write_escaped, write_marked};
+use crate::forms::TextForm;
 use std::io::{self, Write};
 
 /// How many bytes of a word are written at once.
@@ -84,13 +88,44 @@ pub fn write_refused<W: Write>(writer: &mut W, number: i32) -> io::Result<()>
     writeln!(writer, "{number}")
 }
 
-/// Writes the line of a content or a key.
+/// Writes the line of a content or a key as a word.
 pub fn write_bytes<W: Write>(writer: &mut W, bytes: &[u8]) -> io::Result<()>
     ensures { OnOk result (Appends (W.contents writer.old) (W.contents writer.new)
         (reply_line (Bytes bytes.now))) }
 {
     write_word(writer, bytes)?;
     writer.write_all(b"\n")
+}
+
+/// Writes the line of a content or a key, in a script of this form.
+pub fn write_bytes_in<W: Write>(writer: &mut W, form: TextForm, bytes: &[u8]) -> io::Result<()>
+    ensures { OnOk result (Appends (W.contents writer.old) (W.contents writer.new)
+        (reply_line_in form (Bytes bytes.now))) }
+{
+    match form {
+        TextForm::Hexadecimal => write_word(writer, bytes)?,
+        TextForm::Escaped => write_reply_field(writer, bytes)?,
+    }
+    writer.write_all(b"\n")
+}
+
+/// Writes a content or a key as a field that is read as no other reply.
+fn write_reply_field<W: Write>(writer: &mut W, bytes: &[u8]) -> io::Result<()>
+    ensures { OnOk result (Appends (W.contents writer.old) (W.contents writer.new)
+        (reply_field bytes.now)) }
+{
+    if is_like_reply(bytes) {
+        write_marked(writer, bytes)
+    } else {
+        write_escaped(writer, bytes)
+    }
+}
+
+/// Whether the field of a content or a key would be read as another reply.
+fn is_like_reply(bytes: &[u8]) -> bool
+    ensures { result ≡ is_like_reply bytes.now }
+{
+    matches!(bytes, b"none" | b"end" | [b'-', b'1', b' ', ..])
 }
 
 /// Writes the word of a content or a key. It takes no memory, and writes the digits of up to 128

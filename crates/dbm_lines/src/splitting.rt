@@ -1,8 +1,25 @@
 // Lines cut into parts.
 ghost use Rattle.std.specs.Prelude.{◌≡◌, ◌==◌, ◌≤◌, ◌∷◌, [], IfSome, IfNone, length, position};
 ghost use Rattle.std.specs.List.{slice_split};
+ghost use Rattle.dbm_lines.specs.BadLines.{parts_in};
 
+use crate::forms::TextForm;
 use memchr::memchr;
+
+/// The part of a line of this form before the first separator, and what is behind the separator, if
+/// there is one.
+pub fn split_part(form: TextForm, line: &[u8]) -> Option<(&[u8], &[u8])>
+    ensures split { IfSome result
+        (λ parts. parts_in form line.now ≡ parts.0.now ∷ parts_in form parts.1.now) }
+    ensures shorter { IfSome result
+        (λ parts. (length parts.0.now ≤ length line.now) × (length parts.1.now ≤ length line.now)) }
+    ensures single { IfNone result (parts_in form line.now ≡ line.now ∷ []) }
+{
+    match form {
+        TextForm::Hexadecimal => split_at(line, b' '),
+        TextForm::Escaped => split_at(line, b'\t'),
+    }
+}
 
 /// The part before the first separator, and what is behind the separator, if there is one.
 pub fn split_at(line: &[u8], separator: u8) -> Option<(&[u8], &[u8])>

@@ -2,8 +2,10 @@ pub mod Batching
 pub mod Endings
 pub mod Gathering
 pub mod GroupRuns
+pub mod Held
 pub mod Loading
 pub mod LoadingRuns
 pub mod RunsOn
+pub mod Saying
 pub mod Stores
 pub mod Survivals

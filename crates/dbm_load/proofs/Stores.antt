@@ -1,5 +1,5 @@
 -- Stores of pairs, one after another and until one is refused.
-use Rattle.std.proofs.Common.{◌≡◌, inl, inr, ◌+◌, ◌<◌, ◌≤◌, ℕ, suc, List, [], ◌∷◌, ◌++◌, length, map, take, drop, get_or, add-one, length-drop, ◌-◌, refl, sym, ap, subst, ◌∙◌, arith, append-nil, append_assoc}
+use Rattle.std.proofs.Common.{◌≡◌, inl, inr, ◌+◌, ◌<◌, ◌≤◌, ℕ, suc, List, [], ◌∷◌, ◌++◌, length, map, take, drop, get_or, add-one, length-drop, ◌-◌, refl, sym, ap, subst, ◌∙◌, arith, append-nil, append_assoc, length-append}
 use Rattle.std.proofs.lemmas.List.{map-append, length-take-le, drop-map, length-map, take_rest, take_all, take-append-drop}
 use Rattle.std.proofs.Math.Seq.{drop-cons, take-add}
 use Rattle.dbm_model.specs.Calls.{Call, Reply, Stored, Refused}
@@ -17,7 +17,7 @@ use Rattle.dbm_file.specs.Runs.{IsRun}
 use Rattle.dbm_file.specs.declared.database.Database.{Database}
 use Rattle.dbm_file.proofs.Breaks.{CountsNow}
 use Rattle.dbm_file.proofs.Runs.{goes_on_with, goes_nowhere, still_goes}
-use Rattle.dbm_load.specs.Storing.{StoresAll, StoresBefore, StoresThenGroup, IsRefused, StopsWithin}
+use Rattle.dbm_load.specs.Storing.{StoresAll, StoresBefore, StoresThenGroup, IsRefused, StopsBehind}
 use Rattle.dbm_load.proofs.GroupRuns.{group_runs, step_after_none}
 use Rattle.dbm_load.proofs.RunsOn.{no_calls, runs_as}
 
@@ -49,17 +49,27 @@ module _ {S : Type 0} (s : Ghosts S) (old new : Database S s) (only : OnlyNow ol
       → StoresAll old new (pair ∷ [])
   stores_one pair step = one_runs (replacing pair) Stored step
 
-  -- its refusal, of the first of some pairs
+  -- its refusal
+  pub refused_first : (pair : Pair) (fault : Fault)
+      → AtEachHandle old (λ h. IsStep old new h (replacing pair) (Refused (fault_of fault)))
+      → IsRefused old new [] (pair ∷ []) fault
+  refused_first pair fault step =
+      inl (pair, refl, one_runs (replacing pair) (Refused (fault_of fault)) step)
+
+  -- of the first of some pairs
   pub stops_at : (pair : Pair) (later : List Pair) (fault : Fault)
       → AtEachHandle old (λ h. IsStep old new h (replacing pair) (Refused (fault_of fault)))
-      → StopsWithin old new (pair ∷ later) fault
-  stops_at pair later fault step = record {
-    stored = [];
-    refused = pair ∷ [];
-    later = later;
-    pairs_are = refl;
-    how = inl (pair, refl, one_runs (replacing pair) (Refused (fault_of fault)) step);
-  }
+      → StopsBehind old new (pair ∷ later) 0 fault
+  stops_at pair later fault step = (
+    record {
+      stored = [];
+      refused = pair ∷ [];
+      later = later;
+      pairs_are = refl;
+      how = refused_first pair fault step;
+    },
+    refl,
+  )
 
 -- a store of a group
 pub stores_group : {S : Type 0} (s : Ghosts S) (old new : Database S s) (pairs : List Pair) (n : ℕ)
@@ -73,23 +83,26 @@ stores_group s old new pairs n some within group honest h at =
 pub stops_group : {S : Type 0} (s : Ghosts S) (old new : Database S s) (pairs : List Pair)
     (fault : Fault) → OnlyNow old → 0 < length pairs
     → AtEachHandle old (λ h. IsGroupRefused old new h pairs fault)
-    → StopsWithin old new pairs fault
-stops_group s old new pairs fault only some refused = record {
-  stored = [];
-  refused = pairs;
-  later = [];
-  pairs_are = sym (append-nil pairs);
-  how = inr (
-    some,
-    λ honest h at. let none = no_calls s old h at (λ x left. only x honest left) in record {
-      mid = old;
-      goes = goes_nowhere old;
-      run = none.0;
-      refused = subst (λ (x : Handle). IsGroupRefused old new x pairs fault) (sym none.1)
-          (refused honest h at);
-    },
-  );
-}
+    → StopsBehind old new pairs 0 fault
+stops_group s old new pairs fault only some refused = (
+  record {
+    stored = [];
+    refused = pairs;
+    later = [];
+    pairs_are = sym (append-nil pairs);
+    how = inr (
+      some,
+      λ honest h at. let none = no_calls s old h at (λ x left. only x honest left) in record {
+        mid = old;
+        goes = goes_nowhere old;
+        run = none.0;
+        refused = subst (λ (x : Handle). IsGroupRefused old new x pairs fault) (sym none.1)
+            (refused honest h at);
+      },
+    );
+  },
+  refl,
+)
 
 -- a call after a group that took no pair
 pub after_none : {S : Type 0} (s : Ghosts S) (old mid new : Database S s) (call : Call)
@@ -114,7 +127,7 @@ module _ {S : Type 0} (s : Ghosts S) (old mid : Database S s) (goes : IsSameData
       (map replacing (pairs ++ more)) (map (λ _. Stored) (pairs ++ more))
       (sym (map-append replacing pairs more)) (sym (map-append (λ _. Stored) pairs more))).0
 
-  refused_later : (new : Database S s) (stored refused : List Pair) (fault : Fault)
+  pub refused_later : (new : Database S s) (stored refused : List Pair) (fault : Fault)
       → IsSameDatabase mid new → IsRefused mid new stored refused fault
       → IsRefused old new (pairs ++ stored) refused fault
   refused_later new stored refused fault rest (inl (pair, is, before)) = inl (pair, is, told)
@@ -154,31 +167,20 @@ module _ {S : Type 0} (s : Ghosts S) (old mid : Database S s) (goes : IsSameData
           }
 
   -- or some of them, until one is refused
-  pub stops_later : (new : Database S s) (more : List Pair) (fault : Fault)
-      → IsSameDatabase mid new → StopsWithin mid new more fault
-      → StopsWithin old new (pairs ++ more) fault
-  stops_later new more fault rest stops = record {
-    stored = pairs ++ stops.stored;
-    refused = stops.refused;
-    later = stops.later;
-    pairs_are = ap (λ (xs : List Pair). pairs ++ xs) stops.pairs_are
-        ∙ sym (append_assoc pairs stops.stored (stops.refused ++ stops.later));
-    how = refused_later new stops.stored stops.refused fault rest stops.how;
-  }
-
--- of more pairs
-pub stops_before : {S : Type 0} {s : Ghosts S} (old new : Database S s) (pairs more : List Pair)
-    (fault : Fault) → StopsWithin old new pairs fault → StopsWithin old new (pairs ++ more) fault
-stops_before old new pairs more fault stops = record {
-  stored = stops.stored;
-  refused = stops.refused;
-  later = stops.later ++ more;
-  pairs_are = ap (λ (xs : List Pair). xs ++ more) stops.pairs_are
-      ∙ append_assoc stops.stored (stops.refused ++ stops.later) more
-      ∙ ap (λ (xs : List Pair). stops.stored ++ xs)
-      (append_assoc stops.refused stops.later more);
-  how = stops.how;
-}
+  pub stops_later : (new : Database S s) (more : List Pair) (count : ℕ) (fault : Fault)
+      → IsSameDatabase mid new → StopsBehind mid new more count fault
+      → StopsBehind old new (pairs ++ more) (length pairs + count) fault
+  stops_later new more count fault rest (stops, is) = (
+    record {
+      stored = pairs ++ stops.stored;
+      refused = stops.refused;
+      later = stops.later;
+      pairs_are = ap (λ (xs : List Pair). pairs ++ xs) stops.pairs_are
+          ∙ sym (append_assoc pairs stops.stored (stops.refused ++ stops.later));
+      how = refused_later new stops.stored stops.refused fault rest stops.how;
+    },
+    length-append pairs stops.stored ∙ ap (λ (n : ℕ). length pairs + n) is,
+  )
 
 -- the pairs of the rest of a list
 pub rest_of : {X Y : Type 0} (f : X → Y) (n : ℕ) (xs ys : List X) → ys ≡ xs
@@ -187,9 +189,13 @@ rest_of {X} f n xs ys same =
     ap (map f) (take_rest ys n) ∙ ap (λ (zs : List X). map f (drop n zs)) same
     ∙ sym (drop-map f n xs)
 
-pub some_left : {X Y : Type 0} (f : X → Y) (n : ℕ) (xs : List X) → n < length xs
-    → 0 < length (drop n (map f xs))
-some_left f n xs lt = simp (length-drop, length-map) (omega (arith, lt))
+pub rest_length : {X : Type 0} (n : ℕ) (xs : List X)
+    → length (take (length xs - n) (drop n xs)) ≡ length xs - n
+rest_length n xs = ap length (take_rest xs n) ∙ length-drop n xs
+
+pub some_mapped : {X Y : Type 0} (f : X → Y) (xs : List X) → 0 < length xs
+    → 0 < length (map f xs)
+some_mapped f xs lt = simp length-map lt
 
 -- the next of them, before the others
 pub next_of : {X Y : Type 0} (f : X → Y) (n : ℕ) (xs : List X) (x : X) → n < length xs
@@ -218,11 +224,13 @@ module _ {S : Type 0} (s : Ghosts S) (old mid new : Database S s) (was : IsSameD
       (stores_more s old mid was (take n pairs) stores new (take m (drop n pairs)) goes more)
 
   -- or until one is refused
-  pub stopped_on : (fault : Fault) → StopsWithin mid new (drop n pairs) fault
-      → StopsWithin old new pairs fault
-  stopped_on fault stops =
-      subst (λ (ps : List Pair). StopsWithin old new ps fault) (take-append-drop n pairs)
-      (stops_later s old mid was (take n pairs) stores new (drop n pairs) fault goes stops)
+  pub stopped_on : (fault : Fault) → n ≤ length pairs → StopsBehind mid new (drop n pairs) 0 fault
+      → StopsBehind old new pairs n fault
+  stopped_on fault le stops =
+      let count : length (take n pairs) + 0 ≡ n = omega (arith, length-take-le n pairs le) in
+      subst (λ (ps : List Pair). StopsBehind old new ps n fault) (take-append-drop n pairs)
+      (subst (λ (m : ℕ). StopsBehind old new (take n pairs ++ drop n pairs) m fault) count
+      (stops_later s old mid was (take n pairs) stores new (drop n pairs) 0 fault goes stops))
 
 pub stored_all : {S : Type 0} (s : Ghosts S) (old new : Database S s) (pairs : List Pair) (n : ℕ)
     → length pairs ≤ n → StoresAll old new (take n pairs) → StoresAll old new pairs

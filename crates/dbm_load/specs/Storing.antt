@@ -12,9 +12,15 @@ use Rattle.dbm_file.specs.Groups.{IsGroupRefused}
 use Rattle.dbm_file.specs.Runs.{IsRun}
 use Rattle.dbm_fault.specs.Faults.{fault_of}
 use Rattle.dbm_fault.specs.declared.fault.Fault.{Fault}
-use Rattle.dbm_fault.specs.declared.engine_fault.EngineFault.{EngineFault}
-use Rattle.dbm_fault.specs.declared.engine_fault.EngineFault.TheVariants.{Db}
+use Rattle.dbm_file.specs.declared.Pair as code
 use Rattle.dbm_file.specs.declared.database.Database.{Database}
+use Rattle.dbm_load.specs.declared.load_stop.LoadStop.{LoadStop}
+use Rattle.dbm_load.specs.declared.load_stop.LoadStop.TheVariants.{Refused as RefusedAt}
+use Rattle.dbm_load.specs.declared.storing.StoreStop.{StoreStop}
+
+-- a pair of the code, as one of the model
+abbrev pub pair_of : code.Pair → Pair
+pair_of pair = (pair.key.items, pair.content.items)
 
 -- on an honest store the pairs were stored one after another, and no other call was made
 abbrev pub StoresAll : {S : Type 0} {s : Ghosts S} → Database S s → Database S s
@@ -63,28 +69,30 @@ StoresPair (Ok done) old new pair =
 StoresPair (Err fault) old new pair =
     AtEachHandle old (λ h. IsStep old new h (replacing pair) (Refused (fault_of fault)))
 
-abbrev pub StoresAlone : {S : Type 0} {s : Ghosts S} → Result Unit EngineFault → Database S s
+-- the same of the pair of the line of this number
+abbrev pub StoresAlone : {S : Type 0} {s : Ghosts S} → Result Unit LoadStop → ℕ → Database S s
     → Database S s → Pair → Type 0
-StoresAlone (Ok done) old new pair =
+StoresAlone (Ok done) number old new pair =
     AtEachHandle old (λ h. IsStep old new h (replacing pair) Stored)
-StoresAlone (Err (Db fault)) old new pair =
-    AtEachHandle old (λ h. IsStep old new h (replacing pair) (Refused (fault_of fault)))
-StoresAlone _ old new pair = ⊥
+StoresAlone (Err (RefusedAt line fault)) number old new pair =
+    (line ≡ number)
+    × AtEachHandle old (λ h. IsStep old new h (replacing pair) (Refused (fault_of fault)))
+StoresAlone _ number old new pair = ⊥
+
+-- so many of the pairs were stored, from the first one on, and the next ones refused
+abbrev pub StopsBehind : {S : Type 0} {s : Ghosts S} → Database S s → Database S s → List Pair
+    → ℕ → Fault → Type 0
+StopsBehind old new pairs count fault =
+    (stops : StopsWithin old new pairs fault) × (length stops.stored ≡ count)
 
 -- what a store of some of these pairs answers: how many, from the first one on
 abbrev pub StoresSome : {S : Type 0} {s : Ghosts S} → Result ℕ Fault → Database S s → Database S s
     → List Pair → Type 0
 StoresSome (Ok stored) old new pairs = StoresAll old new (take stored pairs)
-StoresSome (Err fault) old new pairs = StopsWithin old new pairs fault
+StoresSome (Err fault) old new pairs = StopsBehind old new pairs 0 fault
 
 -- and of all of them
-abbrev pub StoresEach : {S : Type 0} {s : Ghosts S} → Result Unit Fault → Database S s
+abbrev pub StoresEach : {S : Type 0} {s : Ghosts S} → Result Unit StoreStop → Database S s
     → Database S s → List Pair → Type 0
 StoresEach (Ok done) old new pairs = StoresAll old new pairs
-StoresEach (Err fault) old new pairs = StopsWithin old new pairs fault
-
-abbrev pub StoresBatch : {S : Type 0} {s : Ghosts S} → Result Unit EngineFault → Database S s
-    → Database S s → List Pair → Type 0
-StoresBatch (Ok done) old new pairs = StoresAll old new pairs
-StoresBatch (Err (Db fault)) old new pairs = StopsWithin old new pairs fault
-StoresBatch _ old new pairs = ⊥
+StoresEach (Err stop) old new pairs = StopsBehind old new pairs stop.stored stop.fault

@@ -1,15 +1,15 @@
 //! Loads in which lines share commits.
 ghost use Rattle.std.specs.Prelude.{◌≡◌, ◌≤◌, Err, OnOk, IfSome, Some, [], length};
 ghost use Rattle.dbm_file.specs.Answers.{IsSameDatabase};
-ghost use Rattle.dbm_lines.specs.Forms.{pair_in};
-ghost use Rattle.dbm_load.specs.Batches.{pairs_in, GroupsPair, GroupsLine};
-ghost use Rattle.dbm_load.specs.Endings.{EndsByLine};
+ghost use Rattle.dbm_lines.specs.Forms.{pair_in, is_passed_in};
+ghost use Rattle.dbm_load.specs.Batches.{held_in, GroupsPair, GroupsLine};
+ghost use Rattle.dbm_load.specs.Endings.{IsBadFor, TellsWhy};
 ghost use Rattle.dbm_load.specs.Refusals.{StopsByFault};
 ghost use Rattle.dbm_load.specs.Loading.{Loads};
 
 use crate::batch::Batch;
+use crate::load_stop::LoadStop;
 use crate::storing::{store_alone, store_batch};
-use dbm_fault::EngineFault;
 use dbm_file::Database;
 use dbm_lines::{Buffers, read_line};
 use dbm_progress::Progress;
@@ -23,27 +23,23 @@ pub fn load_groups<S: PageStore, R: BufRead, P: Progress>(
     buffers: &mut Buffers,
     batch: &mut Batch,
     progress: &mut P,
-) -> Result<(), EngineFault>
-    requires none { pairs_in batch.old ≡ [] }
-    ensures loads { Loads (pair_in buffers.old.form) result (R.remaining reader.old)
-        db.old db.new }
-    ensures line { EndsByLine buffers.old.form result (R.remaining reader.old)
-        buffers.new.line.items }
-    ensures form { buffers.new.form ≡ buffers.old.form }
+) -> Result<(), LoadStop>
+    requires none { held_in batch.old ≡ [] }
+    ensures loads { Loads buffers.old.form result (R.remaining reader.old) db.old db.new }
+    ensures why { TellsWhy buffers.old.form result (R.remaining reader.old) }
     ensures read { OnOk result (IfSome (R.remaining reader.old)
         (λ text. R.remaining reader.new ≡ Some [])) }
     ensures size { OnOk result (IfSome (R.remaining reader.old)
         (λ text. length text ≤ 4294967295)) }
     ensures faults { StopsByFault result }
     ensures goes { IsSameDatabase db.old db.new }
-    ensures no_memory { result ≡ Err EngineFault.Memory → ⊥ }
-    ensures no_write { result ≡ Err EngineFault.Write → ⊥ }
+    ensures no_memory { result ≡ Err LoadStop.Memory → ⊥ }
 {
     let mut left = u32::MAX;
     for number in 1..u64::MAX {
         let Ok(read) = read_line(reader, buffers, &mut left) else {
             store_batch(db, batch, progress)?;
-            return Err(EngineFault::Read);
+            return Err(LoadStop::Read);
         };
         if !read.is_line() {
             return store_batch(db, batch, progress);
@@ -51,49 +47,56 @@ pub fn load_groups<S: PageStore, R: BufRead, P: Progress>(
         group_line(db, buffers, batch, number, progress)?;
     }
     store_batch(db, batch, progress)?;
-    Err(EngineFault::Read)
+    Err(LoadStop::Read)
 }
 
 /// Puts the pair that the line says, which has this number, into the batch, and stores the batch
-/// where it ends there.
+/// where it ends there. A line that is passed over leaves all as it is.
 fn group_line<S: PageStore, P: Progress>(
     db: &mut Database<S>,
     buffers: &mut Buffers,
     batch: &mut Batch,
     number: u64,
     progress: &mut P,
-) -> Result<(), EngineFault>
-    ensures line { GroupsLine result (pair_in buffers.old.form buffers.old.line.items) number
-        db.old db.new (pairs_in batch.old) (pairs_in batch.new) }
+) -> Result<(), LoadStop>
+    ensures line { GroupsLine (is_passed_in buffers.old.form buffers.old.line.items) result
+        (pair_in buffers.old.form buffers.old.line.items) number db.old db.new
+        (held_in batch.old) (held_in batch.new) }
+    ensures why { IsBadFor buffers.old.form buffers.old.line.items result }
     ensures form { buffers.new.form ≡ buffers.old.form }
-    ensures kept { buffers.new.line.items ≡ buffers.old.line.items }
     ensures faults { StopsByFault result }
     ensures goes { IsSameDatabase db.old db.new }
+    ensures no_memory { result ≡ Err LoadStop.Memory → ⊥ }
 {
+    if buffers.is_passed_over() {
+        return Ok(());
+    }
     if !buffers.pair() {
         store_batch(db, batch, progress)?;
-        return Err(EngineFault::Line(number));
+        let why = buffers.why_bad();
+        return Err(LoadStop::Bad { line: number, why });
     }
-    group_pair(db, batch, &buffers.key, &buffers.content, progress)
+    group_pair(db, batch, number, &buffers.key, &buffers.content, progress)
 }
 
-/// Puts a pair into the batch, and stores the batch where it is full, or where there is no memory
-/// for the pair, which is then stored alone.
+/// Puts the pair of the line of this number into the batch, and stores the batch where it is full,
+/// or where there is no memory for the pair, which is then stored alone.
 fn group_pair<S: PageStore, P: Progress>(
     db: &mut Database<S>,
     batch: &mut Batch,
+    number: u64,
     key: &[u8],
     content: &[u8],
     progress: &mut P,
-) -> Result<(), EngineFault>
-    ensures pair { GroupsPair result (key.now, content.now) db.old db.new
-        (pairs_in batch.old) (pairs_in batch.new) }
+) -> Result<(), LoadStop>
+    ensures pair { GroupsPair result (number, (key.now, content.now)) db.old db.new
+        (held_in batch.old) (held_in batch.new) }
     ensures faults { StopsByFault result }
     ensures goes { IsSameDatabase db.old db.new }
 {
-    let Ok(()) = batch.keep(key, content) else {
+    let Ok(()) = batch.keep(number, key, content) else {
         store_batch(db, batch, progress)?;
-        return store_alone(db, key, content, progress);
+        return store_alone(db, number, key, content, progress);
     };
     if batch.is_full() {
         return store_batch(db, batch, progress);

@@ -3,10 +3,12 @@
 
 mod batch;
 mod grouping;
+mod keeping;
 mod load;
+mod load_stop;
 mod storing;
 
-pub use batch::Batch;
 pub use dbm_lines::BadLine;
 pub use load::{load_engine, load_text_engine};
-pub use storing::store_batch;
+pub use load_stop::{LoadStop, as_engine};
+pub use storing::{StoreStop, store_pairs};

@@ -2,30 +2,27 @@
 ghost use Rattle.std.specs.Prelude.{◌≡◌, ◌≤◌, Err, OnOk, IfSome, Some, [], length};
 ghost use Rattle.dbm_file.specs.Answers.{IsSameDatabase};
 ghost use Rattle.dbm_text.specs.Dumps.{dump_of, text_dump_of};
-ghost use Rattle.dbm_text.specs.Escapes.{pair_of_text_line};
-ghost use Rattle.dbm_lines.specs.Forms.{pair_in, dump_in};
-ghost use Rattle.dbm_lines.specs.PairLines.{pair_of_line};
-ghost use Rattle.dbm_load.specs.Endings.{EndsByLine, IsWhyOf, TellsWhy};
+ghost use Rattle.dbm_lines.specs.Forms.{pair_in, is_passed_in, dump_in};
+ghost use Rattle.dbm_load.specs.Endings.{IsBadFor, TellsWhy};
 ghost use Rattle.dbm_load.specs.Refusals.{StopsByFault};
 ghost use Rattle.dbm_load.specs.Loading.{Loads, LoadsDump, LoadsLine};
 
 use crate::batch::Batch;
 use crate::grouping::load_groups;
-use crate::storing::store_pair;
-use dbm_fault::EngineFault;
+use crate::load_stop::LoadStop;
+use crate::storing::store_alone;
 use dbm_file::Database;
-use dbm_lines::{BadLine, Buffers, TextForm, read_line};
-use dbm_progress::{Progress, Work};
+use dbm_lines::{Buffers, TextForm, read_line};
+use dbm_progress::Progress;
 use page_io::PageStore;
 use std::alloc::Global;
 use std::io::BufRead;
 
 /// Stores the pair that each line says, in place of an older one of its key, and stops at the first
-/// line that says none, told by its number from 1 as `Line`, or at the first store that is refused,
-/// told as `Db`. A line is `key content`, may have 139,264 bytes without its line feed, and a text
-/// 4,294,967,295. `Memory` comes before anything is read; a store that finds none is told as `Db`.
-/// `Read` comes where reading fails or the text is too long. The stores made so far stand. After
-/// `Line`, `why` says why that line is bad.
+/// line that says none, told as `Bad`, or at the first store that is refused, told as `Refused`. A
+/// line is `key content`, may have 139,264 bytes without its line feed, and a text 4,294,967,295.
+/// `Memory` comes before anything is read; a store that finds none is told as `Refused`. `Read`
+/// comes where reading fails or the text is too long. The stores made so far stand.
 ///
 /// So many lines as `group` says may share a commit, as far as they go into 32 MB; of 0 and 1 each
 /// line has its own, and takes no memory of its own. A pair for which there is no memory beside
@@ -36,11 +33,10 @@ pub fn load_engine<S: PageStore, R: BufRead, P: Progress>(
     db: &mut Database<S>,
     reader: &mut R,
     group: u32,
-    why: &mut Option<BadLine>,
     progress: &mut P,
-) -> Result<(), EngineFault>
-    ensures loads { Loads pair_of_line result (R.remaining reader.old) db.old db.new }
-    ensures why { TellsWhy TextForm.Hexadecimal result (R.remaining reader.old) why.new }
+) -> Result<(), LoadStop>
+    ensures loads { Loads TextForm.Hexadecimal result (R.remaining reader.old) db.old db.new }
+    ensures why { TellsWhy TextForm.Hexadecimal result (R.remaining reader.old) }
     ensures read { OnOk result (IfSome (R.remaining reader.old)
         (λ text. R.remaining reader.new ≡ Some [])) }
     ensures size { OnOk result (IfSome (R.remaining reader.old)
@@ -53,34 +49,25 @@ pub fn load_engine<S: PageStore, R: BufRead, P: Progress>(
     // and of memory.
     ensures faults { StopsByFault result }
     ensures goes { IsSameDatabase db.old db.new }
-    ensures memory { result ≡ Err EngineFault.Memory
+    ensures memory { result ≡ Err LoadStop.Memory
         → (db.new ≡ db.old) × (reader.new ≡ reader.old) }
-    ensures only { result ≡ Err EngineFault.Write → ⊥ }
 {
-    load_in_form(
-        alloc,
-        db,
-        reader,
-        TextForm::Hexadecimal,
-        group,
-        why,
-        progress,
-    )
+    load_in_form(alloc, db, reader, TextForm::Hexadecimal, group, progress)
 }
 
 /// Stores the pair that each line says as two fields with a tab between them, and otherwise does
-/// and fails as `load_engine`. A line may have 266,240 bytes without its line feed. A byte of a
+/// and fails as `load_engine`. An empty line and one that begins with `#` are passed over. A line
+/// may have 266,240 bytes without its line feed, one that is passed over any number. A byte of a
 /// field that no backslash begins stands for itself, so a text typed by hand loads.
 pub fn load_text_engine<S: PageStore, R: BufRead, P: Progress>(
     alloc: Global,
     db: &mut Database<S>,
     reader: &mut R,
     group: u32,
-    why: &mut Option<BadLine>,
     progress: &mut P,
-) -> Result<(), EngineFault>
-    ensures loads { Loads pair_of_text_line result (R.remaining reader.old) db.old db.new }
-    ensures why { TellsWhy TextForm.Escaped result (R.remaining reader.old) why.new }
+) -> Result<(), LoadStop>
+    ensures loads { Loads TextForm.Escaped result (R.remaining reader.old) db.old db.new }
+    ensures why { TellsWhy TextForm.Escaped result (R.remaining reader.old) }
     ensures read { OnOk result (IfSome (R.remaining reader.old)
         (λ text. R.remaining reader.new ≡ Some [])) }
     ensures size { OnOk result (IfSome (R.remaining reader.old)
@@ -93,11 +80,10 @@ pub fn load_text_engine<S: PageStore, R: BufRead, P: Progress>(
     // and of memory.
     ensures faults { StopsByFault result }
     ensures goes { IsSameDatabase db.old db.new }
-    ensures memory { result ≡ Err EngineFault.Memory
+    ensures memory { result ≡ Err LoadStop.Memory
         → (db.new ≡ db.old) × (reader.new ≡ reader.old) }
-    ensures only { result ≡ Err EngineFault.Write → ⊥ }
 {
-    load_in_form(alloc, db, reader, TextForm::Escaped, group, why, progress)
+    load_in_form(alloc, db, reader, TextForm::Escaped, group, progress)
 }
 
 /// Stores the pair that each line of this form says.
@@ -107,11 +93,10 @@ fn load_in_form<S: PageStore, R: BufRead, P: Progress>(
     reader: &mut R,
     form: TextForm,
     group: u32,
-    why: &mut Option<BadLine>,
     progress: &mut P,
-) -> Result<(), EngineFault>
-    ensures loads { Loads (pair_in form) result (R.remaining reader.old) db.old db.new }
-    ensures why { TellsWhy form result (R.remaining reader.old) why.new }
+) -> Result<(), LoadStop>
+    ensures loads { Loads form result (R.remaining reader.old) db.old db.new }
+    ensures why { TellsWhy form result (R.remaining reader.old) }
     ensures read { OnOk result (IfSome (R.remaining reader.old)
         (λ text. R.remaining reader.new ≡ Some [])) }
     ensures size { OnOk result (IfSome (R.remaining reader.old)
@@ -121,33 +106,16 @@ fn load_in_form<S: PageStore, R: BufRead, P: Progress>(
     ensures dump { OnOk result (LoadsDump (dump_in form) (R.remaining reader.old) db.old db.new) }
     ensures faults { StopsByFault result }
     ensures goes { IsSameDatabase db.old db.new }
-    ensures memory { result ≡ Err EngineFault.Memory
+    ensures memory { result ≡ Err LoadStop.Memory
         → (db.new ≡ db.old) × (reader.new ≡ reader.old) }
-    ensures only { result ≡ Err EngineFault.Write → ⊥ }
 {
     let Ok(mut buffers) = Buffers::new(alloc, form) else {
-        return Err(EngineFault::Memory);
+        return Err(LoadStop::Memory);
     };
-    match load_with(alloc, db, reader, &mut buffers, group, progress) {
-        Ok(()) => Ok(()),
-        Err(fault) => {
-            *why = why_of(fault, &buffers);
-            Err(fault)
-        }
-    }
+    load_with(alloc, db, reader, &mut buffers, group, progress)
 }
 
-/// Why the line in the buffers is bad, where that is the fault.
-fn why_of(fault: EngineFault, buffers: &Buffers) -> Option<BadLine>
-    ensures { IsWhyOf fault buffers.now.form buffers.now.line.items result }
-{
-    match fault {
-        EngineFault::Line(_) => Some(buffers.why_bad()),
-        EngineFault::Memory | EngineFault::Read | EngineFault::Write | EngineFault::Db(_) => None,
-    }
-}
-
-/// The engine with its buffers, which keep the line that it ends by.
+/// The engine with its buffers.
 fn load_with<S: PageStore, R: BufRead, P: Progress>(
     alloc: Global,
     db: &mut Database<S>,
@@ -155,20 +123,16 @@ fn load_with<S: PageStore, R: BufRead, P: Progress>(
     buffers: &mut Buffers,
     group: u32,
     progress: &mut P,
-) -> Result<(), EngineFault>
-    ensures loads { Loads (pair_in buffers.old.form) result (R.remaining reader.old)
-        db.old db.new }
-    ensures line { EndsByLine buffers.old.form result (R.remaining reader.old)
-        buffers.new.line.items }
-    ensures form { buffers.new.form ≡ buffers.old.form }
+) -> Result<(), LoadStop>
+    ensures loads { Loads buffers.old.form result (R.remaining reader.old) db.old db.new }
+    ensures why { TellsWhy buffers.old.form result (R.remaining reader.old) }
     ensures read { OnOk result (IfSome (R.remaining reader.old)
         (λ text. R.remaining reader.new ≡ Some [])) }
     ensures size { OnOk result (IfSome (R.remaining reader.old)
         (λ text. length text ≤ 4294967295)) }
     ensures faults { StopsByFault result }
     ensures goes { IsSameDatabase db.old db.new }
-    ensures no_memory { result ≡ Err EngineFault.Memory → ⊥ }
-    ensures no_write { result ≡ Err EngineFault.Write → ⊥ }
+    ensures no_memory { result ≡ Err LoadStop.Memory → ⊥ }
 {
     if group < 2 {
         return load_lines(db, reader, buffers, progress);
@@ -183,51 +147,49 @@ fn load_lines<S: PageStore, R: BufRead, P: Progress>(
     reader: &mut R,
     buffers: &mut Buffers,
     progress: &mut P,
-) -> Result<(), EngineFault>
-    ensures loads { Loads (pair_in buffers.old.form) result (R.remaining reader.old)
-        db.old db.new }
-    ensures line { EndsByLine buffers.old.form result (R.remaining reader.old)
-        buffers.new.line.items }
-    ensures form { buffers.new.form ≡ buffers.old.form }
+) -> Result<(), LoadStop>
+    ensures loads { Loads buffers.old.form result (R.remaining reader.old) db.old db.new }
+    ensures why { TellsWhy buffers.old.form result (R.remaining reader.old) }
     ensures read { OnOk result (IfSome (R.remaining reader.old)
         (λ text. R.remaining reader.new ≡ Some [])) }
     ensures size { OnOk result (IfSome (R.remaining reader.old)
         (λ text. length text ≤ 4294967295)) }
     ensures faults { StopsByFault result }
     ensures goes { IsSameDatabase db.old db.new }
-    ensures no_memory { result ≡ Err EngineFault.Memory → ⊥ }
-    ensures no_write { result ≡ Err EngineFault.Write → ⊥ }
+    ensures no_memory { result ≡ Err LoadStop.Memory → ⊥ }
 {
     let mut left = u32::MAX;
     for number in 1..u64::MAX {
         let read = read_line(reader, buffers, &mut left);
-        if !read.map_err(|_| EngineFault::Read)?.is_line() {
+        if !read.map_err(|_| LoadStop::Read)?.is_line() {
             return Ok(());
         }
-        load_line(db, buffers, number)?;
-        progress.step(Work::LinesLoaded);
+        load_line(db, buffers, number, progress)?;
     }
-    Err(EngineFault::Read)
+    Err(LoadStop::Read)
 }
 
-/// Stores the pair that the line says, which has this number.
-fn load_line<S: PageStore>(
+/// Stores the pair that the line says, which has this number, or passes over the line.
+fn load_line<S: PageStore, P: Progress>(
     db: &mut Database<S>,
     buffers: &mut Buffers,
     number: u64,
-) -> Result<(), EngineFault>
-    ensures line { LoadsLine result (pair_in buffers.old.form buffers.old.line.items) number
-        db.old db.new }
+    progress: &mut P,
+) -> Result<(), LoadStop>
+    ensures line { LoadsLine (is_passed_in buffers.old.form buffers.old.line.items) result
+        (pair_in buffers.old.form buffers.old.line.items) number db.old db.new }
+    ensures why { IsBadFor buffers.old.form buffers.old.line.items result }
     ensures form { buffers.new.form ≡ buffers.old.form }
-    ensures kept { buffers.new.line.items ≡ buffers.old.line.items }
     ensures faults { StopsByFault result }
     ensures goes { IsSameDatabase db.old db.new }
+    ensures no_memory { result ≡ Err LoadStop.Memory → ⊥ }
 {
+    if buffers.is_passed_over() {
+        return Ok(());
+    }
     if !buffers.pair() {
-        return Err(EngineFault::Line(number));
+        let why = buffers.why_bad();
+        return Err(LoadStop::Bad { line: number, why });
     }
-    match store_pair(db, &buffers.key, &buffers.content) {
-        Ok(()) => Ok(()),
-        Err(fault) => Err(EngineFault::Db(fault)),
-    }
+    store_alone(db, number, &buffers.key, &buffers.content, progress)
 }

@@ -100,11 +100,15 @@ pub enum Plan<'a> {
     Upgrade {
         file: &'a str,
     },
-    /// Run the script on standard input.
-    Script(Source<'a>),
+    /// Run the script on standard input, of words, or as text, which has fields with escapes.
+    Script {
+        source: Source<'a>,
+        spelling: Spelling,
+    },
     /// Run the script on standard input on a database that is opened for reading.
     ReadScript {
         file: &'a str,
+        spelling: Spelling,
     },
     /// Run the script on standard input in memory, stopped before each of its device calls, or
     /// before so many of them, and look at what is left.

@@ -5,19 +5,19 @@ use Rattle.std.proofs.KnownBytes.{Appends-nil, Appends-trans}
 use Rattle.dbm_model.specs.Calls.{Call}
 use Rattle.dbm_text.specs.Lines.{call_in_line, bad_line}
 use Rattle.dbm_text.specs.Scripts.{script_of, calls_in}
-use Rattle.dbm_lines.proofs.TextLines.{first_line, call_in_line-kept}
+use Rattle.dbm_lines.proofs.TextLines.{first_line, call_in-kept}
 use Rattle.dbm_lines.specs.Bounds.{longest_in}
-use Rattle.dbm_lines.specs.declared.forms.TextForm.{TextForm}
+use Rattle.dbm_lines.specs.declared.forms.TextForm.TheVariants.{Hexadecimal}
 use Rattle.dbm_lines.specs.Reading.{line_bytes, after_line, ReadsLine}
 use Rattle.dbm_rehearse.specs.Lines.{bad_lines, AddsLine}
 
 -- the first line of a script and the rest
-first_call : (form : TextForm) (x : ℕ) (xs line : List ℕ)
-    → line ≡ take (longest_in form + 1) (line_bytes (x ∷ xs))
+first_call : (x : ℕ) (xs line : List ℕ)
+    → line ≡ take (longest_in Hexadecimal + 1) (line_bytes (x ∷ xs))
     → script_of (x ∷ xs) ≡ call_in_line line ∷ script_of (after_line (x ∷ xs))
-first_call form x xs line h = ap (map call_in_line) (first_line x xs)
+first_call x xs line h = ap (map call_in_line) (first_line x xs)
     ∙ ap (λ call. call ∷ script_of (after_line (x ∷ xs)))
-    (sym (ap call_in_line h ∙ call_in_line-kept form (line_bytes (x ∷ xs))))
+    (sym (ap call_in_line h ∙ call_in-kept Hexadecimal (line_bytes (x ∷ xs))))
 
 calls_in-push : (script : List (Option Call)) (call : Option Call)
     → calls_in (script ++ call ∷ []) ≡ calls_in script ++ calls_in (call ∷ [])
@@ -39,16 +39,16 @@ IsLeft None now done = Unit {0}
 IsLeft (Some text) None done = ⊥
 IsLeft (Some text) (Some rest) done = done ++ script_of rest ≡ script_of text
 
-left_after : (form : TextForm) (first now next : Option (List ℕ)) (line : List ℕ)
+left_after : (first now next : Option (List ℕ)) (line : List ℕ)
     (done : List (Option Call)) → IsLeft first now done
-    → IfSome now (λ text. ReadsLine (longest_in form + 1) text true line next)
+    → IfSome now (λ text. ReadsLine (longest_in Hexadecimal + 1) text true line next)
     → IsLeft first next (done ++ call_in_line line ∷ [])
-left_after form None now next line done h r = tt
-left_after form (Some text) None next line done h r = absurd h
-left_after form (Some text) (Some []) next line done h r = let e = r.0 in cc
-left_after form (Some text) (Some (x ∷ xs)) next line done h r =
+left_after None now next line done h r = tt
+left_after (Some text) None next line done h r = absurd h
+left_after (Some text) (Some []) next line done h r = let e = r.0 in cc
+left_after (Some text) (Some (x ∷ xs)) next line done h r =
     rw (r.2) (append_assoc done (call_in_line line ∷ []) (script_of (after_line (x ∷ xs)))
-    ∙ ap (λ rest. done ++ rest) (sym (first_call form x xs line r.1)) ∙ h)
+    ∙ ap (λ rest. done ++ rest) (sym (first_call x xs line r.1)) ∙ h)
 
 -- how far a script was read: its calls, and the answers to its bad lines
 pub record IsRead (first now before after : Option (List ℕ)) (calls : List Call) : Type 0 where
@@ -70,15 +70,15 @@ at_start first before = record {
 }
 
 -- a line was read
-module _ (form : TextForm) (first now next before mid after : Option (List ℕ)) (line : List ℕ)
+module _ (first now next before mid after : Option (List ℕ)) (line : List ℕ)
     (calls more : List Call)
-    (read : IfSome now (λ text. ReadsLine (longest_in form + 1) text true line next))
+    (read : IfSome now (λ text. ReadsLine (longest_in Hexadecimal + 1) text true line next))
     (h : IsRead first now before mid calls) where
   by_call : (call : Option Call) → call ≡ call_in_line line → AddsLine call calls more mid after
       → IsRead first next before after more
   by_call None says adds = record {
     done = h.done ++ call_in_line line ∷ [];
-    left = left_after form first now next line h.done h.left read;
+    left = left_after first now next line h.done h.left read;
     asked = rw (← says, calls_in-push h.done None, append-nil (calls_in h.done))
         (adds.0 ∙ h.asked);
     told = rw (← says, bad_lines-push h.done None)
@@ -86,7 +86,7 @@ module _ (form : TextForm) (first now next before mid after : Option (List ℕ))
   }
   by_call (Some call) says adds = record {
     done = h.done ++ call_in_line line ∷ [];
-    left = left_after form first now next line h.done h.left read;
+    left = left_after first now next line h.done h.left read;
     asked = rw (← says, calls_in-push h.done (Some call))
         (adds.0 ∙ ap (λ calls. calls ++ call ∷ []) h.asked);
     told = rw (← says, bad_lines-push h.done (Some call), append-nil (bad_lines h.done), adds.1)

@@ -51,9 +51,11 @@ fn keep_call<W: Write>(
     calls: &mut Vec<Call>,
     writer: &mut W,
 ) -> Result<(), EngineFault>
+    requires { buffers.old.form ≡ TextForm.Hexadecimal }
     ensures line { OnOk result (AddsLine (call_in_line buffers.old.line.items)
         (map call_of calls.old.items) (map call_of calls.new.items)
         (W.contents writer.old) (W.contents writer.new)) }
+    ensures form { buffers.new.form ≡ buffers.old.form }
     ensures only { IsErrAmong result script_faults }
 {
     match call_in(alloc, buffers) {
@@ -65,7 +67,10 @@ fn keep_call<W: Write>(
 
 // The call that the line asks for, if it is no bad line.
 fn call_in(alloc: Global, buffers: &mut Buffers) -> Result<Option<Call>, AllocError>
-    ensures { IfOk result (λ call. option_map call_of call ≡ call_in_line buffers.old.line.items) }
+    requires { buffers.old.form ≡ TextForm.Hexadecimal }
+    ensures call { IfOk result
+        (λ call. option_map call_of call ≡ call_in_line buffers.old.line.items) }
+    ensures form { buffers.new.form ≡ buffers.old.form }
 {
     match buffers.request() {
         Request::Store => store_of(alloc, buffers, StoreMode::Replace),

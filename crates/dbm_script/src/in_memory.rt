@@ -9,20 +9,23 @@ ghost use Rattle.dbm_script.specs.Scripts.{AnswersInMemory, asked};
 use crate::script_engine;
 use dbm_fault::EngineFault;
 use dbm_file::{Access, Db, Fault, OpenHow, Version, needed_sectors_of};
+use dbm_lines::TextForm;
 use sect_dev::MemDev;
 use std::alloc::Global;
 use std::io::{BufRead, Write};
 
-/// Answers the script on `input` by a new database in memory, of this limit and version.
+/// Answers the script on `input`, which has lines of this form, by a new database in memory, of this
+/// limit and version.
 pub fn script_in_memory<R: BufRead, O: Write>(
     alloc: Global,
     limit: u32,
     version: Version,
+    form: TextForm,
     input: &mut R,
     output: &mut O,
 ) -> Result<(), EngineFault>
     ensures answer { OnOk result (IfSome (R.remaining input.old)
-        (λ text. AnswersInMemory (asked limit version) text
+        (λ text. AnswersInMemory form (asked limit version) text
         (O.contents output.old) (O.contents output.new))) }
     ensures limit { is_limit limit ≡ false → result ≡ Err (EngineFault.Db Fault.BadLimit) }
     ensures only { IfErr result (CanMeetInMemory limit) }
@@ -31,7 +34,7 @@ pub fn script_in_memory<R: BufRead, O: Write>(
         Ok(db) => db,
         Err(fault) => return Err(in_memory(fault)),
     };
-    let done = script_engine(alloc, &mut db, input, output);
+    let done = script_engine(alloc, &mut db, form, input, output);
     let (_, closed) = db.close();
     let flushed = output.flush();
     done?;

@@ -2,13 +2,12 @@
 ghost use Rattle.std.specs.Prelude.{◌≡◌, ◌+◌, ◌≤◌, OnOk, IfOk, IfErr, IfSome, Some, [], length, ◌∷◌};
 ghost use Rattle.dbm_fault.specs.Among.{IsErrAmong};
 ghost use Rattle.std.specs.Io.KnownBytes.{Appends};
-ghost use Rattle.dbm_text.specs.Lines.{call_in_line};
 ghost use Rattle.dbm_model.specs.Calls.{Store, Fetch, Delete, First, Next, Error, Clear};
-ghost use Rattle.dbm_text.specs.Scripts.{script_of};
 ghost use Rattle.dbm_file.specs.Answers.{IsSameDatabase};
 ghost use Rattle.dbm_file.specs.Calls.{mode_of};
 ghost use Rattle.dbm_file.specs.Database.{AtEachHandle};
 ghost use Rattle.dbm_lines.specs.Bounds.{longest_in};
+ghost use Rattle.dbm_lines.specs.Forms.{call_in, script_in};
 ghost use Rattle.dbm_lines.specs.Reading.{is_line, ReadsLine, IsCounted};
 ghost use Rattle.dbm_script.specs.Scripts.{MakesFirst, AnswersFirst, AnswersScript, AnswersLine};
 ghost use Rattle.dbm_script.specs.Tellings.{TellsLine, TellsScript};
@@ -24,15 +23,16 @@ use page_io::PageStore;
 use std::alloc::Global;
 use std::io::{self, BufRead, Write};
 
-/// Reads lines to the end, makes the call that each asks for, and writes one line for each: the
-/// reply, or `-1 line` where the line asks for no call. A line may have 139,264 bytes without its
-/// line feed, and a text 4,294,967,295. What is written is flushed where the reader's buffer holds
-/// no further whole line, since reading on may wait. `Memory` comes before anything is read, `Read`
-/// where reading fails or the text is too long, and `Write` where writing fails, also of a call
-/// that was made; the calls made so far stand.
+/// Reads lines of this form to the end, makes the call that each asks for, and writes one line for
+/// each: the reply, or `-1 line` where the line asks for no call. A line of words may have 139,264
+/// bytes without its line feed, one of fields 266,240, and a text 4,294,967,295. What is written is
+/// flushed where the reader's buffer holds no further whole line, since reading on may wait.
+/// `Memory` comes before anything is read, `Read` where reading fails or the text is too long, and
+/// `Write` where writing fails, also of a call that was made; the calls made so far stand.
 pub fn script_engine<S: PageStore, R: BufRead, W: Write>(
     alloc: Global,
     db: &mut Database<S>,
+    form: TextForm,
     reader: &mut R,
     writer: &mut W,
 ) -> Result<(), EngineFault>
@@ -42,22 +42,22 @@ pub fn script_engine<S: PageStore, R: BufRead, W: Write>(
         (λ text. length text ≤ 4294967295)) }
     ensures answer { AtEachHandle db.old (λ h.
         OnOk result (IfSome (R.remaining reader.old)
-        (λ text. AnswersScript (script_of text) db.old db.new h (W.contents writer.old)
+        (λ text. AnswersScript form (script_in form text) db.old db.new h (W.contents writer.old)
         (W.contents writer.new)))) }
 
     // Whatever it answers, the calls made are those of the first lines, and they stand. A line that
     // was cut short makes none.
     ensures stands { AtEachHandle db.old
-        (λ h. MakesFirst (R.remaining reader.old) db.old db.new h) }
+        (λ h. MakesFirst form (R.remaining reader.old) db.old db.new h) }
     ensures cut { AtEachHandle db.old (λ h.
         result ≡ Err EngineFault.Read
-        → AnswersFirst (R.remaining reader.old) db.old db.new h (W.contents writer.old)
+        → AnswersFirst form (R.remaining reader.old) db.old db.new h (W.contents writer.old)
         (W.contents writer.new)) }
 
     // On any device, whatever its bytes: each line that is written tells a reply that the database
     // gave to its own call.
     ensures tells { OnOk result (IfSome (R.remaining reader.old)
-        (λ text. TellsScript (script_of text) db.old db.new (W.contents writer.old)
+        (λ text. TellsScript form (script_in form text) db.old db.new (W.contents writer.old)
         (W.contents writer.new))) }
     ensures goes { IsSameDatabase db.old db.new }
     ensures memory { result ≡ Err EngineFault.Memory
@@ -65,7 +65,7 @@ pub fn script_engine<S: PageStore, R: BufRead, W: Write>(
     ensures only { IsErrAmong result
         (EngineFault.Memory ∷ EngineFault.Read ∷ EngineFault.Write ∷ []) }
 {
-    let Ok(mut buffers) = Buffers::new(alloc, TextForm::Hexadecimal) else {
+    let Ok(mut buffers) = Buffers::new(alloc, form) else {
         return Err(EngineFault::Memory);
     };
     run_lines(db, reader, writer, &mut buffers)
@@ -84,17 +84,17 @@ fn run_lines<S: PageStore, R: BufRead, W: Write>(
         (λ text. length text ≤ 4294967295)) }
     ensures answer { AtEachHandle db.old (λ h.
         OnOk result (IfSome (R.remaining reader.old)
-        (λ text. AnswersScript (script_of text) db.old db.new h (W.contents writer.old)
-        (W.contents writer.new)))) }
+        (λ text. AnswersScript buffers.old.form (script_in buffers.old.form text) db.old db.new h
+        (W.contents writer.old) (W.contents writer.new)))) }
     ensures stands { AtEachHandle db.old
-        (λ h. MakesFirst (R.remaining reader.old) db.old db.new h) }
+        (λ h. MakesFirst buffers.old.form (R.remaining reader.old) db.old db.new h) }
     ensures cut { AtEachHandle db.old (λ h.
         result ≡ Err EngineFault.Read
-        → AnswersFirst (R.remaining reader.old) db.old db.new h (W.contents writer.old)
-        (W.contents writer.new)) }
+        → AnswersFirst buffers.old.form (R.remaining reader.old) db.old db.new h
+        (W.contents writer.old) (W.contents writer.new)) }
     ensures tells { OnOk result (IfSome (R.remaining reader.old)
-        (λ text. TellsScript (script_of text) db.old db.new (W.contents writer.old)
-        (W.contents writer.new))) }
+        (λ text. TellsScript buffers.old.form (script_in buffers.old.form text) db.old db.new
+        (W.contents writer.old) (W.contents writer.new))) }
     ensures goes { IsSameDatabase db.old db.new }
     ensures only { IsErrAmong result (EngineFault.Read ∷ EngineFault.Write ∷ []) }
 {
@@ -121,6 +121,7 @@ fn next_line<R: BufRead>(
         buffers.new.line.items (R.remaining reader.new))) }
     ensures counted { OnOk result
         (IsCounted (R.remaining reader.old) left.old (R.remaining reader.new) left.new) }
+    ensures form { buffers.new.form ≡ buffers.old.form }
     ensures only { IfErr result (λ e. e ≡ EngineFault.Read) }
 {
     read_line(reader, buffers, left).map_err(|_| EngineFault::Read)
@@ -134,11 +135,14 @@ fn answer_and_flush<S: PageStore, W: Write>(
     read: LineRead,
 ) -> io::Result<()>
     ensures line { AtEachHandle db.old (λ h.
-        AnswersLine (call_in_line buffers.old.line.items) db.old db.new h
+        AnswersLine buffers.old.form (call_in buffers.old.form buffers.old.line.items) db.old
+        db.new h
         (λ text. OnOk result (Appends (W.contents writer.old) (W.contents writer.new) text))) }
-    ensures tells { TellsLine (call_in_line buffers.old.line.items) db.old db.new
+    ensures tells { TellsLine buffers.old.form
+        (call_in buffers.old.form buffers.old.line.items) db.old db.new
         (λ text. OnOk result (Appends (W.contents writer.old) (W.contents writer.new) text)) }
     ensures goes { IsSameDatabase db.old db.new }
+    ensures form { buffers.new.form ≡ buffers.old.form }
 {
     answer_line(db, buffers, writer)?;
     match read {
@@ -154,22 +158,26 @@ fn answer_line<S: PageStore, W: Write>(
     writer: &mut W,
 ) -> io::Result<()>
     ensures line { AtEachHandle db.old (λ h.
-        AnswersLine (call_in_line buffers.old.line.items) db.old db.new h
+        AnswersLine buffers.old.form (call_in buffers.old.form buffers.old.line.items) db.old
+        db.new h
         (λ text. OnOk result (Appends (W.contents writer.old) (W.contents writer.new) text))) }
-    ensures tells { TellsLine (call_in_line buffers.old.line.items) db.old db.new
+    ensures tells { TellsLine buffers.old.form
+        (call_in buffers.old.form buffers.old.line.items) db.old db.new
         (λ text. OnOk result (Appends (W.contents writer.old) (W.contents writer.new) text)) }
     ensures goes { IsSameDatabase db.old db.new }
+    ensures form { buffers.new.form ≡ buffers.old.form }
 {
     let request = buffers.request();
+    let form = buffers.form;
     let key = buffers.key.as_slice();
     let content = buffers.content.as_slice();
     match request {
         Request::Store => answer_store(db, key, content, StoreMode::Replace, writer),
         Request::Insert => answer_store(db, key, content, StoreMode::Insert, writer),
-        Request::Fetch => answer_fetch(db, key, writer),
+        Request::Fetch => answer_fetch(db, form, key, writer),
         Request::Delete => answer_delete(db, key, writer),
-        Request::First => answer_first(db, writer),
-        Request::Next => answer_next(db, writer),
+        Request::First => answer_first(db, form, writer),
+        Request::Next => answer_next(db, form, writer),
         Request::Error => answer_error(db, writer),
         Request::Clear => answer_clear(db, writer),
         Request::Bad => write_bad_line(writer),
@@ -184,10 +192,11 @@ fn answer_store<S: PageStore, W: Write>(
     mode: StoreMode,
     writer: &mut W,
 ) -> io::Result<()>
-    ensures line { AtEachHandle db.old (λ h.
-        AnswersLine (Some (Store key.now content.now (mode_of mode))) db.old db.new h
+    ensures line { (form : TextForm) → AtEachHandle db.old (λ h.
+        AnswersLine form (Some (Store key.now content.now (mode_of mode))) db.old db.new h
         (λ text. OnOk result (Appends (W.contents writer.old) (W.contents writer.new) text))) }
-    ensures tells { TellsLine (Some (Store key.now content.now (mode_of mode))) db.old db.new
+    ensures tells { (form : TextForm)
+        → TellsLine form (Some (Store key.now content.now (mode_of mode))) db.old db.new
         (λ text. OnOk result (Appends (W.contents writer.old) (W.contents writer.new) text)) }
     ensures goes { IsSameDatabase db.old db.new }
 {
@@ -201,17 +210,18 @@ fn answer_store<S: PageStore, W: Write>(
 /// Fetches, and writes the reply before the next call ends the content that is lent.
 fn answer_fetch<S: PageStore, W: Write>(
     db: &mut Database<S>,
+    form: TextForm,
     key: &[u8],
     writer: &mut W,
 ) -> io::Result<()>
     ensures line { AtEachHandle db.old (λ h.
-        AnswersLine (Some (Fetch key.now)) db.old db.new h
+        AnswersLine form (Some (Fetch key.now)) db.old db.new h
         (λ text. OnOk result (Appends (W.contents writer.old) (W.contents writer.new) text))) }
-    ensures tells { TellsLine (Some (Fetch key.now)) db.old db.new
+    ensures tells { TellsLine form (Some (Fetch key.now)) db.old db.new
         (λ text. OnOk result (Appends (W.contents writer.old) (W.contents writer.new) text)) }
     ensures goes { IsSameDatabase db.old db.new }
 {
-    write_fetched(writer, db.fetch(key))
+    write_fetched(writer, form, db.fetch(key))
 }
 
 /// Deletes, and writes the reply.
@@ -220,10 +230,10 @@ fn answer_delete<S: PageStore, W: Write>(
     key: &[u8],
     writer: &mut W,
 ) -> io::Result<()>
-    ensures line { AtEachHandle db.old (λ h.
-        AnswersLine (Some (Delete key.now)) db.old db.new h
+    ensures line { (form : TextForm) → AtEachHandle db.old (λ h.
+        AnswersLine form (Some (Delete key.now)) db.old db.new h
         (λ text. OnOk result (Appends (W.contents writer.old) (W.contents writer.new) text))) }
-    ensures tells { TellsLine (Some (Delete key.now)) db.old db.new
+    ensures tells { (form : TextForm) → TellsLine form (Some (Delete key.now)) db.old db.new
         (λ text. OnOk result (Appends (W.contents writer.old) (W.contents writer.new) text)) }
     ensures goes { IsSameDatabase db.old db.new }
 {
@@ -235,35 +245,43 @@ fn answer_delete<S: PageStore, W: Write>(
 }
 
 /// Begins a pass, and writes the reply before the next call ends the key that is lent.
-fn answer_first<S: PageStore, W: Write>(db: &mut Database<S>, writer: &mut W) -> io::Result<()>
+fn answer_first<S: PageStore, W: Write>(
+    db: &mut Database<S>,
+    form: TextForm,
+    writer: &mut W,
+) -> io::Result<()>
     ensures line { AtEachHandle db.old (λ h.
-        AnswersLine (Some First) db.old db.new h
+        AnswersLine form (Some First) db.old db.new h
         (λ text. OnOk result (Appends (W.contents writer.old) (W.contents writer.new) text))) }
-    ensures tells { TellsLine (Some First) db.old db.new
+    ensures tells { TellsLine form (Some First) db.old db.new
         (λ text. OnOk result (Appends (W.contents writer.old) (W.contents writer.new) text)) }
     ensures goes { IsSameDatabase db.old db.new }
 {
-    write_passed(writer, db.firstkey())
+    write_passed(writer, form, db.firstkey())
 }
 
 /// Goes on with a pass, and writes the reply before the next call ends the key that is lent.
-fn answer_next<S: PageStore, W: Write>(db: &mut Database<S>, writer: &mut W) -> io::Result<()>
+fn answer_next<S: PageStore, W: Write>(
+    db: &mut Database<S>,
+    form: TextForm,
+    writer: &mut W,
+) -> io::Result<()>
     ensures line { AtEachHandle db.old (λ h.
-        AnswersLine (Some Next) db.old db.new h
+        AnswersLine form (Some Next) db.old db.new h
         (λ text. OnOk result (Appends (W.contents writer.old) (W.contents writer.new) text))) }
-    ensures tells { TellsLine (Some Next) db.old db.new
+    ensures tells { TellsLine form (Some Next) db.old db.new
         (λ text. OnOk result (Appends (W.contents writer.old) (W.contents writer.new) text)) }
     ensures goes { IsSameDatabase db.old db.new }
 {
-    write_passed(writer, db.nextkey())
+    write_passed(writer, form, db.nextkey())
 }
 
 /// Writes the error number.
 fn answer_error<S: PageStore, W: Write>(db: &mut Database<S>, writer: &mut W) -> io::Result<()>
-    ensures line { AtEachHandle db.old (λ h.
-        AnswersLine (Some Error) db.old db.new h
+    ensures line { (form : TextForm) → AtEachHandle db.old (λ h.
+        AnswersLine form (Some Error) db.old db.new h
         (λ text. OnOk result (Appends (W.contents writer.old) (W.contents writer.new) text))) }
-    ensures tells { TellsLine (Some Error) db.old db.new
+    ensures tells { (form : TextForm) → TellsLine form (Some Error) db.old db.new
         (λ text. OnOk result (Appends (W.contents writer.old) (W.contents writer.new) text)) }
     ensures goes { IsSameDatabase db.old db.new }
 {
@@ -272,10 +290,10 @@ fn answer_error<S: PageStore, W: Write>(db: &mut Database<S>, writer: &mut W) ->
 
 /// Clears the error number, and writes the reply.
 fn answer_clear<S: PageStore, W: Write>(db: &mut Database<S>, writer: &mut W) -> io::Result<()>
-    ensures line { AtEachHandle db.old (λ h.
-        AnswersLine (Some Clear) db.old db.new h
+    ensures line { (form : TextForm) → AtEachHandle db.old (λ h.
+        AnswersLine form (Some Clear) db.old db.new h
         (λ text. OnOk result (Appends (W.contents writer.old) (W.contents writer.new) text))) }
-    ensures tells { TellsLine (Some Clear) db.old db.new
+    ensures tells { (form : TextForm) → TellsLine form (Some Clear) db.old db.new
         (λ text. OnOk result (Appends (W.contents writer.old) (W.contents writer.new) text)) }
     ensures goes { IsSameDatabase db.old db.new }
 {

@@ -20,7 +20,7 @@ one_byte byte small zero = small
 one_byte byte small (suc i) = omega arith
 
 -- one byte behind a backslash and `x`
-digits_read : (byte : ℕ) (rest : List ℕ) → byte < 256
+pub digits_read : (byte : ℕ) (rest : List ℕ) → byte < 256
     → unescaped ((codes "\\x" ++ encode_lower (byte ∷ [])) ++ rest)
     ≡ joined (Some (byte ∷ [])) (unescaped rest)
 unfolding encode_with
@@ -58,7 +58,7 @@ escapes_back (byte ∷ bytes) small =
 printable_digit : (x : ℕ) → is_hex_digit x ≡ true → IsPrintable x
 printable_digit x digit = grind (arith, nat_tests)
 
-two_printable : (x y : ℕ) → IsPrintable x → IsPrintable y → All IsPrintable (x ∷ y ∷ [])
+pub two_printable : (x y : ℕ) → IsPrintable x → IsPrintable y → All IsPrintable (x ∷ y ∷ [])
 two_printable x y first second =
     All-cons IsPrintable x (y ∷ []) first (All-cons IsPrintable y [] second (All-nil IsPrintable))
 
@@ -78,7 +78,7 @@ plain_printable byte other h = elim (leb_tells 32 byte) [
   | inr under ↦ rw (under.0) h
 ]
 
-digits_printable : (byte : ℕ) → byte < 256 → All IsPrintable (encode_lower (byte ∷ []))
+pub digits_printable : (byte : ℕ) → byte < 256 → All IsPrintable (encode_lower (byte ∷ []))
 digits_printable byte small =
     let digits = (decode_of-ok (encode_lower (byte ∷ [])) (byte ∷ [])
     (decode_of-encode_lower (byte ∷ []) (one_byte byte small))).1 in

@@ -1,4 +1,6 @@
 pub mod DumpLemmas
 pub mod EscapeLemmas
+pub mod KeyFields
 pub mod LineLemmas
+pub mod TextScriptLemmas
 pub mod WordLemmas

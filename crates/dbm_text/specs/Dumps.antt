@@ -1,7 +1,7 @@
 -- A database as a text.
 use Rattle.std.specs.Prelude.{ℕ, List, ◌∷◌, ◌++◌, flat_map}
 use Rattle.std.specs.FinMap.{entries, keys}
-use Rattle.dbm_text.specs.Escapes.{escaped}
+use Rattle.dbm_text.specs.Escapes.{escaped, key_field}
 use Rattle.dbm_text.specs.Lines.{with_line_feed}
 use Rattle.dbm_model.specs.Pairs.{Pair, Contents}
 use Rattle.dbm_text.specs.Words.{word_of}
@@ -16,7 +16,7 @@ dump_of map = flat_map dump_line (entries map)
 
 -- `key content` as fields, a tab between them
 abbrev pub text_line : Pair → List ℕ
-text_line pair = with_line_feed (escaped pair.0 ++ 9 ∷ escaped pair.1)
+text_line pair = with_line_feed (key_field pair.0 ++ 9 ∷ escaped pair.1)
 
 -- such a line of each pair, in that order
 abbrev pub text_dump_of : Contents → List ℕ

@@ -1,9 +1,9 @@
 -- Fields and their lines, worked out by hand, and the laws of fields.
-use Rattle.std.specs.Prelude.{◌≡◌, ℕ, ◌<◌, ◌≤◌, List, [], ◌∷◌, length, slice_index, Some, None, codes}
+use Rattle.std.specs.Prelude.{◌≡◌, ℕ, ◌<◌, ◌≤◌, true, false, List, [], ◌∷◌, ◌++◌, length, slice_index, Some, None, codes}
 use Rattle.std.specs.List.{All}
 use Rattle.std.specs.FinMap.{empty}
-use Rattle.dbm_text.specs.Dumps.{text_dump_of, text_listing_of}
-use Rattle.dbm_text.specs.Escapes.{escaped, unescaped, pair_of_text_line, pair_of_fields, fields_in}
+use Rattle.dbm_text.specs.Dumps.{text_dump_of, text_line, text_listing_of}
+use Rattle.dbm_text.specs.Escapes.{escaped, key_field, unescaped, is_passed_over, pair_of_text_line, pair_of_fields, fields_in}
 use Rattle.dbm_text.specs.Texts.{two_pairs}
 
 -- a field stands for the bytes that it was made of
@@ -18,6 +18,14 @@ IsPrintable byte = (32 ≤ byte) × (byte ≤ 126)
 abbrev pub FieldsArePrintable : Type 0
 FieldsArePrintable = (bytes : List ℕ) → ((i : ℕ) → slice_index bytes i < 256)
     → All IsPrintable (escaped bytes)
+
+-- the field of a key stands for the key, is printable, and begins no line that is passed over
+pub record KeyFieldLaws : Type 0 where
+  pub read_back : (key : List ℕ) → ((i : ℕ) → slice_index key i < 256)
+      → unescaped (key_field key) ≡ Some key
+  pub printable : (key : List ℕ) → ((i : ℕ) → slice_index key i < 256)
+      → All IsPrintable (key_field key)
+  pub read : (key content : List ℕ) → is_passed_over (key_field key ++ 9 ∷ content) ≡ false
 
 pub record EscapeExamples : Type 0 where
   pub nothing : escaped [] ≡ []
@@ -36,6 +44,20 @@ pub record EscapeExamples : Type 0 where
   pub one_digit : unescaped (codes "\\x4") ≡ None
   pub no_digit : unescaped (codes "\\x4g") ≡ None
   pub trailing : unescaped (codes "a\\") ≡ None
+
+pub record KeyFieldExamples : Type 0 where
+  pub nothing : key_field [] ≡ []
+  pub plain : key_field (codes "a#") ≡ codes "a#"
+  pub hash : key_field (codes "#") ≡ codes "\\x23"
+  pub more : key_field (codes "#a #\\") ≡ codes "\\x23a #\\\\"
+  pub escape : key_field (codes "\t#") ≡ codes "\\t#"
+  pub line : text_line (codes "#a", codes "#") ≡ codes "\\x23a\t#\n"
+  pub no_bytes : text_line ([], []) ≡ codes "\t\n"
+  pub empty_line : is_passed_over [] ≡ true
+  pub comment : is_passed_over (codes "# a\tb") ≡ true
+  pub space : is_passed_over (codes " # a") ≡ false
+  pub tab : is_passed_over (codes "\t") ≡ false
+  pub marked_hash : is_passed_over (codes "\\x23a\t") ≡ false
 
 pub record TextLineExamples : Type 0 where
   pub pair : pair_of_text_line (codes "a b\t\\t") ≡ Some (codes "a b", codes "\t")

@@ -1,5 +1,5 @@
 -- Byte strings as fields of a text for people.
-use Rattle.std.specs.Prelude.{ℕ, ◌==◌, ◌&&◌, nat_le, nat_lt, List, [], ◌∷◌, ◌++◌, length, flat_map, Option, Some, None, option_and_then, codes, if◌then◌else◌}
+use Rattle.std.specs.Prelude.{ℕ, ◌==◌, ◌&&◌, Bool, true, nat_le, nat_lt, List, [], ◌∷◌, ◌++◌, length, flat_map, Option, Some, None, option_and_then, codes, if◌then◌else◌}
 use Rattle.std.specs.List.{slice_split}
 use Rattle.std.specs.Option.{option_map}
 use Rattle.hex.specs.Hex.{encode_lower}
@@ -18,6 +18,16 @@ escape_of byte =
 
 abbrev pub escaped : List ℕ → List ℕ
 escaped bytes = flat_map escape_of bytes
+
+-- a field whose first byte is written as `\xhh`
+abbrev pub marked : List ℕ → List ℕ
+marked [] = []
+marked (byte ∷ rest) = codes "\\x" ++ encode_lower (byte ∷ []) ++ escaped rest
+
+-- the field of a key at the head of a line: where the key begins with `#`, that byte is `\x23`
+abbrev pub key_field : List ℕ → List ℕ
+key_field [] = []
+key_field (byte ∷ rest) = if byte == 35 then marked (byte ∷ rest) else escaped (byte ∷ rest)
 
 -- one behind the other, where both are there
 abbrev pub joined : Option (List ℕ) → Option (List ℕ) → Option (List ℕ)
@@ -48,6 +58,11 @@ abbrev mutual
   behind_x [] = None
   behind_x (high ∷ []) = None
   behind_x (high ∷ low ∷ rest) = joined (decoded (high ∷ low ∷ [])) (unescaped rest)
+
+-- a line that a load passes over: it is empty, or begins with `#`
+abbrev pub is_passed_over : List ℕ → Bool
+is_passed_over [] = true
+is_passed_over (byte ∷ rest) = byte == 35
 
 -- the fields of a line stand one tab apart
 abbrev pub fields_in : List ℕ → List (List ℕ)

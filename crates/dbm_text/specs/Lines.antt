@@ -43,12 +43,16 @@ pair_call name key content =
     else if bytes_eq name (codes "I") then Some (Store key content Insert)
     else None
 
+-- the call of the parts of a line, each of which stands for some bytes, if it is a good one
+abbrev pub call_of_parts : (List ℕ → Option (List ℕ)) → List (List ℕ) → Option Call
+call_of_parts bytes_of (name ∷ []) = bare_call name
+call_of_parts bytes_of (name ∷ key ∷ []) = option_and_then (key_call name) (bytes_of key)
+call_of_parts bytes_of (name ∷ key ∷ content ∷ []) =
+    option_and_then (λ k. option_and_then (pair_call name k) (bytes_of content)) (bytes_of key)
+call_of_parts bytes_of _ = None
+
 abbrev pub call_of_words : List (List ℕ) → Option Call
-call_of_words (name ∷ []) = bare_call name
-call_of_words (name ∷ key ∷ []) = option_and_then (key_call name) (word_bytes key)
-call_of_words (name ∷ key ∷ content ∷ []) =
-    option_and_then (λ k. option_and_then (pair_call name k) (word_bytes content)) (word_bytes key)
-call_of_words _ = None
+call_of_words = call_of_parts word_bytes
 
 -- the bytes that a line of words may have, of a script or of a text of pairs
 abbrev pub longest_line : ℕ
@@ -59,24 +63,25 @@ abbrev pub call_in_line : List ℕ → Option Call
 call_in_line line =
     if nat_lt longest_line (length line) then None else call_of_words (words_in line)
 
-abbrev pub reply_text : Reply → List ℕ
-reply_text Stored = codes "0"
-reply_text Kept = codes "1"
-reply_text Deleted = codes "0"
-reply_text Absent = codes "-1 absent"
-reply_text (Bytes bytes) = word_of bytes
-reply_text NoRecord = codes "none"
-reply_text End = codes "end"
-reply_text (Number n) = decimal n
-reply_text Upgraded = codes "0"
-reply_text (Refused fault) = codes "-1 fault " ++ decimal (number_of fault)
+-- the text of a reply, which tells a content or a key so
+abbrev pub reply_by : (List ℕ → List ℕ) → Reply → List ℕ
+reply_by told Stored = codes "0"
+reply_by told Kept = codes "1"
+reply_by told Deleted = codes "0"
+reply_by told Absent = codes "-1 absent"
+reply_by told (Bytes bytes) = told bytes
+reply_by told NoRecord = codes "none"
+reply_by told End = codes "end"
+reply_by told (Number n) = decimal n
+reply_by told Upgraded = codes "0"
+reply_by told (Refused fault) = codes "-1 fault " ++ decimal (number_of fault)
 
 abbrev pub with_line_feed : List ℕ → List ℕ
 with_line_feed text = text ++ 10 ∷ []
 
--- the line of a reply
+-- the line of a reply in words
 abbrev pub reply_line : Reply → List ℕ
-reply_line reply = with_line_feed (reply_text reply)
+reply_line reply = with_line_feed (reply_by word_of reply)
 
 -- the line that answers a bad line
 abbrev pub bad_line : List ℕ

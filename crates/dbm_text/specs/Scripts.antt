@@ -13,8 +13,13 @@ abbrev pub calls_in : List (Option Call) → List Call
 calls_in script = filter_map (λ line. line) script
 
 -- the line of each reply in order, and `-1 line` where the line is bad
+abbrev pub answer_by : (Reply → List ℕ) → List (Option Call) → List Reply → List ℕ
+answer_by line_of [] replies = []
+answer_by line_of (None ∷ script) replies = bad_line ++ answer_by line_of script replies
+answer_by line_of (Some call ∷ script) [] = []
+answer_by line_of (Some call ∷ script) (reply ∷ replies) =
+    line_of reply ++ answer_by line_of script replies
+
+-- the answer in words
 abbrev pub answer_of : List (Option Call) → List Reply → List ℕ
-answer_of [] replies = []
-answer_of (None ∷ script) replies = bad_line ++ answer_of script replies
-answer_of (Some call ∷ script) [] = []
-answer_of (Some call ∷ script) (reply ∷ replies) = reply_line reply ++ answer_of script replies
+answer_of = answer_by reply_line

@@ -5,6 +5,6 @@
 mod text_laws;
 
 pub use text_laws::{
-    dump_examples, escape_examples, escapes_read_back, fields_are_printable, line_examples,
-    script_example, text_line_examples, word_examples, words_read_back,
+    dump_examples, escape_examples, escapes_read_back, fields_are_printable, key_field_examples,
+    key_fields, line_examples, script_example, text_line_examples, word_examples, words_read_back,
 };

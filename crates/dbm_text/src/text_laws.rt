@@ -1,6 +1,7 @@
-// Laws of words, fields, lines and scripts. What each says stands in `specs/Texts.antt`
-// and `specs/EscapeTexts.antt`.
-ghost use Rattle.dbm_text.specs.EscapeTexts.{EscapesReadBack, FieldsArePrintable, EscapeExamples, TextLineExamples, LongTextLines};
+// Laws of words, fields, lines and scripts. What each says stands in `specs/Texts.antt`,
+// `specs/EscapeTexts.antt` and `specs/TextScriptExamples.antt`.
+ghost use Rattle.dbm_text.specs.EscapeTexts.{EscapesReadBack, FieldsArePrintable, KeyFieldLaws, EscapeExamples, KeyFieldExamples, TextLineExamples, LongTextLines};
+ghost use Rattle.dbm_text.specs.TextScriptExamples.{TextCallExamples, TextReplyExamples, LongTextCalls, TextScriptExample, ReplyFields, RepliesDiffer};
 ghost use Rattle.dbm_text.specs.Texts.{WordsReadBack, WordExamples, LineExamples, LongLines, ScriptExample, DumpExamples};
 
 /// A word stands for the bytes that it was made of.
@@ -39,6 +40,16 @@ pub fn fields_are_printable()
     ensures { FieldsArePrintable }
 {}
 
+/// The field of a key at the head of a line stands for the key, and its line is not passed over.
+pub fn key_fields()
+    ensures { KeyFieldLaws }
+{}
+
+/// Such fields and lines that are worked out by hand.
+pub fn key_field_examples()
+    ensures { KeyFieldExamples }
+{}
+
 /// Fields that are worked out by hand.
 pub fn escape_examples()
     ensures { EscapeExamples }
@@ -48,4 +59,23 @@ pub fn escape_examples()
 pub fn text_line_examples()
     ensures examples { TextLineExamples }
     ensures long { LongTextLines }
+{}
+
+/// Calls and replies of scripts in the text form that are worked out by hand, a script of them, and
+/// how long a line may be.
+pub fn text_script_examples()
+    ensures calls { TextCallExamples }
+    ensures replies { TextReplyExamples }
+    ensures script { TextScriptExample }
+    ensures long { LongTextCalls }
+{}
+
+/// A content or a key in a reply is a field, on one line, that stands for its bytes.
+pub fn replies_read_back()
+    ensures { ReplyFields }
+{}
+
+/// A content or a key is told otherwise than any other reply to its call, and than a bad line.
+pub fn replies_differ()
+    ensures { RepliesDiffer }
 {}

@@ -26,7 +26,8 @@ use Rattle.dbm_model.specs.Pairs.{Contents}
 use Rattle.dbm_plan.specs.declared.plan.Spelling.{Spelling}
 use Rattle.dbm_script.specs.Scripts.{AnswersScript, MakesFirst}
 use Rattle.dbm_script.specs.Tellings.{TellsScript}
-use Rattle.dbm_text.specs.Scripts.{script_of}
+use Rattle.dbm_lines.specs.Forms.{script_in}
+use Rattle.dbm_lines.specs.declared.forms.TextForm.{TextForm}
 use Rattle.dbm_tool.specs.Commands.{IsFlushed, Prints, RunsScript}
 use Rattle.dbm_tool.specs.Files.{IsClosed, IsUnopened, Opens, RefusesOpening}
 
@@ -81,13 +82,15 @@ module _ {S : Type 0} {s : store.Ghosts S} (old new : Database S s)
   }
 
   -- a script was run, and the output flushed
-  pub ran : (text : Option (List ℕ)) → AtEachHandle old (λ h. MakesFirst text old new h)
+  pub ran : (form : TextForm) (text : Option (List ℕ))
+      → AtEachHandle old (λ h. MakesFirst form text old new h)
       → AtEachHandle old (λ h. OnOk ended (IfSome text
-      (λ bytes. AnswersScript (script_of bytes) old new h before mid)))
-      → OnOk ended (IfSome text (λ bytes. TellsScript (script_of bytes) old new before mid))
+      (λ bytes. AnswersScript form (script_in form bytes) old new h before mid)))
+      → OnOk ended (IfSome text
+      (λ bytes. TellsScript form (script_in form bytes) old new before mid))
       → IsErrAmong ended (Memory ∷ Read ∷ Write ∷ [])
-      → RunsScript text old new before after done
-  ran text made answers tells only = record {
+      → RunsScript form text old new before after done
+  ran form text made answers tells only = record {
     made = made;
     answered = λ honest h at. flushed_so ended done _ _ failed (answers honest h at)
         (of_text text _ _ (λ bytes one. record {

@@ -1,3 +1,4 @@
+pub mod CarriedPlans
 pub mod Carrying
 pub mod Statuses
 pub mod Tries

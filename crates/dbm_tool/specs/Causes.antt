@@ -16,6 +16,7 @@ use Rattle.dbm_fault.specs.declared.fault.Fault.{Fault as Refusal}
 use Rattle.dbm_fault.specs.declared.fault.Fault.TheVariants as refusal
 use Rattle.dbm_lines.specs.declared.bad_lines.BadLine.{BadLine}
 use Rattle.dbm_lines.specs.declared.bad_lines.BadLine.TheVariants.{TooLong, OnePart, ManyParts, NoDigits, OddDigits, NotADigit, BadEscape}
+use Rattle.dbm_tool.specs.Flaws.{AreDamageWords}
 
 -- it ends with status 2
 abbrev pub is_fault : Failure → Bool
@@ -41,9 +42,9 @@ file_of (Salvage file) = Some file.now
 file_of (Stat file) = Some file.now
 file_of (Verify file) = Some file.now
 file_of (Upgrade file) = Some file.now
-file_of (Script (File file)) = Some file.now
-file_of (ReadScript file) = Some file.now
-file_of (Script (InMemory limit version)) = None
+file_of (Script (File file) spelling) = Some file.now
+file_of (ReadScript file spelling) = Some file.now
+file_of (Script (InMemory limit version) spelling) = None
 file_of (Rehearse (File file) stops) = Some file.now
 file_of (Rehearse (InMemory limit version) stops) = None
 file_of Faults = None
@@ -104,11 +105,13 @@ abbrev pub suffixed_words : List ℕ
 suffixed_words =
     codes "there is no such file, but there is one without the second `.db`: leave `.db` off the name"
 
--- the words of a refusal; in the place of those of fault 2 the system's own may stand
+-- the words of a refusal; in the place of those of fault 2 the system's own may stand, and in the
+-- place of those of fault 9 which page breaks a rule
 abbrev pub AreRefusalWords : Refusal → List ℕ → Type 0
 AreRefusalWords refusal.Device words = Unit {0}
 AreRefusalWords refusal.Missing words =
     (words ≡ fault_words refusal.Missing) ⊎ (words ≡ suffixed_words)
+AreRefusalWords refusal.Damaged words = AreDamageWords words
 AreRefusalWords fault words = words ≡ fault_words fault
 
 -- the words of a failure

@@ -17,16 +17,19 @@ use Rattle.dbm_fault.specs.declared.fault.Fault.TheVariants.{Damaged}
 use Rattle.dbm_file.specs.Database.{store_of, AtEachHandle}
 use Rattle.dbm_file.specs.Verifying.{IsFileOf}
 use Rattle.dbm_file.specs.declared.database.Database.{Database}
-use Rattle.dbm_lines.specs.Forms.{pair_in}
+use Rattle.dbm_lines.specs.Forms.{script_in}
 use Rattle.dbm_lines.specs.declared.forms.TextForm.{TextForm}
 use Rattle.dbm_lines.specs.declared.forms.TextForm.TheVariants.{Hexadecimal, Escaped}
+use Rattle.dbm_lines.specs.declared.bad_lines.BadLine.{BadLine}
 use Rattle.dbm_load.specs.Loading.{Loads}
+use Rattle.dbm_load.specs.Refusals.{stop_fault}
+use Rattle.dbm_load.specs.declared.load_stop.LoadStop.{LoadStop}
+use Rattle.dbm_load.specs.declared.load_stop.LoadStop.TheVariants.{Bad, Refused}
 use Rattle.dbm_model.specs.Pairs.{Contents}
 use Rattle.dbm_plan.specs.declared.plan.Spelling.{Spelling}
 use Rattle.dbm_plan.specs.declared.plan.Spelling.TheVariants as spelling
 use Rattle.dbm_script.specs.Scripts.{AnswersScript, MakesFirst}
 use Rattle.dbm_script.specs.Tellings.{TellsScript}
-use Rattle.dbm_text.specs.Scripts.{script_of}
 
 -- the form of a text that is spelled so
 abbrev pub form_of : Spelling → TextForm
@@ -42,10 +45,20 @@ Takes spelled_so word IsSo result =
     ⊎ (((spelled spelled_so word ≡ None) × (result ≡ Err NotHex))
     ⊎ (result ≡ Err (Fault Memory)))
 
--- how an engine ended, as a command is told to have
-abbrev pub told : Result Unit EngineFault → Result Outcome Failure
+-- how a load ended, as a command is told to have
+abbrev pub told : Result Unit LoadStop → Result Outcome Failure
 told (Ok done) = Ok Done
-told (Err fault) = Err (Fault fault)
+told (Err stop) = Err (Fault (stop_fault stop))
+
+-- the first line of a load that was not stored, where the database refused to store it
+abbrev pub refused_line_at : Option LoadStop → Option ℕ
+refused_line_at (Some (Refused line fault)) = Some line
+refused_line_at _ = None
+
+-- why the line of a load is bad, where one is, and how its words are spelled
+abbrev pub bad_line_at : Option LoadStop → Spelling → Option (BadLine × Spelling)
+bad_line_at (Some (Bad line why)) spelling = Some (why, spelling)
+bad_line_at _ spelling = None
 
 -- how an engine ended that prints, as a command is told to have once the output was flushed
 abbrev pub IsFlushed : Result Unit EngineFault → Result Outcome Failure → Type 0
@@ -74,19 +87,19 @@ module _ {S : Type 0} {s : Ghosts S} where
   -- a text was loaded
   pub record LoadsText (form : TextForm) (text : Option (List ℕ)) (old new : Database S s)
       (done : Result Outcome Failure) : Type 0 where
-    pub ended : Result Unit EngineFault
-    pub loads : Loads (pair_in form) ended text old new
+    pub ended : Result Unit LoadStop
+    pub loads : Loads form ended text old new
     pub is_told : done ≡ told ended
 
-  -- A script was run: the calls of its first lines were made, and where it ended well those of all
-  -- its lines, with exactly the answer printed, also on any device.
-  pub record RunsScript (text : Option (List ℕ)) (old new : Database S s)
+  -- A script of this form was run: the calls of its first lines were made, and where it ended well
+  -- those of all its lines, with exactly the answer printed, also on any device.
+  pub record RunsScript (form : TextForm) (text : Option (List ℕ)) (old new : Database S s)
       (before after : Option (List ℕ)) (done : Result Outcome Failure) : Type 0 where
-    pub made : AtEachHandle old (λ h. MakesFirst text old new h)
+    pub made : AtEachHandle old (λ h. MakesFirst form text old new h)
     pub answered : AtEachHandle old (λ h. OnOk done (IfSome text
-        (λ bytes. AnswersScript (script_of bytes) old new h before after)))
+        (λ bytes. AnswersScript form (script_in form bytes) old new h before after)))
     pub tells : OnOk done (IfSome text
-        (λ bytes. TellsScript (script_of bytes) old new before after))
+        (λ bytes. TellsScript form (script_in form bytes) old new before after))
     pub ended : Result Unit EngineFault
     pub only : IsErrAmong ended (Memory ∷ Read ∷ Write ∷ [])
     pub is_told : IsFlushed ended done

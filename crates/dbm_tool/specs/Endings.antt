@@ -19,8 +19,8 @@ use Rattle.dbm_model.specs.Sizes.{is_limit}
 abbrev pub reads : Plan → Bool
 reads (Load file spelling group) = true
 reads (Replace file spelling limit) = true
-reads (Script source) = true
-reads (ReadScript file) = true
+reads (Script source spelling) = true
+reads (ReadScript file spelling) = true
 reads (Rehearse source stops) = true
 reads _ = false
 
@@ -32,8 +32,8 @@ prints (Dump file spelling) = true
 prints (Salvage file) = true
 prints (Stat file) = true
 prints (Verify file) = true
-prints (Script source) = true
-prints (ReadScript file) = true
+prints (Script source spelling) = true
+prints (ReadScript file spelling) = true
 prints (Rehearse source stops) = true
 prints Faults = true
 prints _ = false
@@ -64,7 +64,7 @@ has_database _ = true
 -- its database may refuse it so: one in memory, only for the limit
 abbrev pub CanBeRefused : Plan → Refusal → Type 0
 CanBeRefused Faults refusal = ⊥
-CanBeRefused (Script (InMemory limit version)) refusal =
+CanBeRefused (Script (InMemory limit version) spelling) refusal =
     (refusal ≡ BadLimit) × (is_limit limit ≡ false)
 CanBeRefused _ refusal = Unit {0}
 

@@ -4,6 +4,7 @@ pub mod Commands
 pub mod Endings
 pub mod Faults
 pub mod Files
+pub mod Flaws
 pub mod Plans
 pub mod Statuses
 pub mod Waiting

@@ -92,13 +92,15 @@ module _ {D : Type 0} {bound : device.Ghosts D} {p : store.Ghosts (Pager D bound
   CarriesOut (Upgrade file) result input old new =
       Opens s (there ReadWrite) (λ db after done. MakesCall db after call.Upgrade (IsTold done))
       result
-  CarriesOut (Script (File file)) result input old new =
-      Opens s (there ReadWrite) (λ db after. RunsScript input db after old new) result
-  CarriesOut (ReadScript file) result input old new =
-      Opens s (there ReadOnly) (λ db after. RunsScript input db after old new) result
-  CarriesOut (Script (Memory limit version)) result input old new =
+  CarriesOut (Script (File file) spelled) result input old new =
+      Opens s (there ReadWrite)
+      (λ db after. RunsScript (form_of spelled) input db after old new) result
+  CarriesOut (ReadScript file spelled) result input old new =
+      Opens s (there ReadOnly)
+      (λ db after. RunsScript (form_of spelled) input db after old new) result
+  CarriesOut (Script (Memory limit version) spelled) result input old new =
       OnOk result (IfSome input
-      (λ text. AnswersInMemory (asked_bounds limit version) text old new))
+      (λ text. AnswersInMemory (form_of spelled) (asked_bounds limit version) text old new))
   CarriesOut (Rehearse source stops) result input old new =
       IfSome input (λ text. EndsRehearsal stops result text old new)
   CarriesOut Faults result input old new = OnOk result (Appends old new FAULT_TABLE.now)

@@ -157,6 +157,8 @@ pub fn verify<T: Files<File = File> + Clock, O: Write, P: Progress>(
     ensures ends { EndsAs (Plan.Verify file.entry) result }
 {
     let mut db = host.open_there(file, Access::ReadOnly)?;
-    let done = dbm_commands::verify(host.alloc, &mut db, output, progress);
+    let mut flaw = None;
+    let done = dbm_commands::verify(host.alloc, &mut db, output, &mut flaw, progress);
+    host.flaw = flaw;
     host.close(db, done)
 }

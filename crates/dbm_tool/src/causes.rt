@@ -5,8 +5,9 @@ ghost use Rattle.std.specs.Io.KnownBytes.{Appends};
 ghost use Rattle.dbm_tool.specs.Causes.{AreBadLineWords, AreRefusalWords, AreStreamWords, AreWords, GrowsBy, IsCauseLine, bad_line_words, fault_words, file_text, is_fault, line_text};
 
 use crate::EngineFault;
+use crate::flaws::write_damage;
 use dbm_commands::Failure;
-use dbm_file::Fault;
+use dbm_file::{Fault, Flaw};
 use dbm_load::BadLine;
 use dbm_plan::Spelling;
 use dbm_plan::help_text::{
@@ -30,6 +31,8 @@ pub struct Known<'a> {
     pub line: Option<u64>,
     /// Why the line of a load is bad, where one is, and how its words are spelled.
     pub bad_line: Option<(BadLine, Spelling)>,
+    /// The page of a damaged file that breaks a rule, and the rule, where they are known.
+    pub flaw: Option<Flaw>,
     /// What the system told, in its own words.
     pub system: Option<&'a str>,
     /// Whether the name of the database has `.db` already, and there is a file of that name.
@@ -41,11 +44,13 @@ impl<'a> Known<'a> {
     pub fn of_no_file(system: Option<&'a str>) -> Known<'a>
         ensures file { result.file ≡ None }
         ensures line { result.line ≡ None }
+        ensures flaw { result.flaw ≡ None }
     {
         Known {
             file: None,
             line: None,
             bad_line: None,
+            flaw: None,
             system,
             is_suffixed: false,
         }
@@ -114,6 +119,7 @@ fn write_words<F: Write>(faults: &mut F, failure: Failure, known: Known<'_>) -> 
         Failure::Fault(EngineFault::Read) => write_stream(faults, READ_WORDS, known.system),
         Failure::Fault(EngineFault::Write) => write_stream(faults, WRITE_WORDS, known.system),
         Failure::Fault(EngineFault::Line(_)) => write_bad_line(faults, known.bad_line),
+        Failure::Fault(EngineFault::Db(Fault::Damaged)) => write_damage(faults, known.flaw),
         Failure::Fault(EngineFault::Db(fault)) => {
             faults.write_all(refusal_words(fault, known).as_bytes())
         }

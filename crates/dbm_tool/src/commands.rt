@@ -2,6 +2,7 @@
 ghost use Rattle.std.specs.Prelude.{◌≡◌, ◌⊎◌, false, Ok, Err, OnOk, IfSome};
 ghost use Rattle.std.specs.Io.KnownBytes.{Appends};
 ghost use Rattle.dbm_script.specs.Scripts.{AnswersInMemory};
+ghost use Rattle.dbm_tool.specs.Commands.{form_of};
 ghost use Rattle.dbm_tool.specs.Endings.{EndsAs, prints, reads};
 ghost use Rattle.dbm_tool.specs.Plans.{CarriesOut, asked_bounds};
 
@@ -11,11 +12,11 @@ use crate::host::{FileStore, Host};
 use crate::rehearsals::{rehearse_file, rehearse_new};
 use crate::replacements::{copy_table, replace_table, resize_table};
 use crate::salvages::salvage;
-use crate::texts::{dump, list, load, script};
+use crate::texts::{dump, form_of, list, load, script};
 use crate::versions::file_version;
 use dbm_commands::{Failure, Outcome};
 use dbm_file::Access;
-use dbm_plan::{FAULT_TABLE, Plan, Source, Version};
+use dbm_plan::{FAULT_TABLE, Plan, Source, Spelling, Version};
 use dbm_progress::Progress;
 use dbm_salvage::Troubles;
 use dbm_script::script_in_memory;
@@ -91,11 +92,17 @@ pub fn carry_out<T: Files<File = File> + Clock, R: BufRead, O: Write, S: Trouble
         Plan::Stat { file } => stat(host, file, output),
         Plan::Verify { file } => verify(host, file, output, progress),
         Plan::Upgrade { file } => upgrade(host, file),
-        Plan::Script(Source::File(file)) => script(host, file, Access::ReadWrite, input, output),
-        Plan::ReadScript { file } => script(host, file, Access::ReadOnly, input, output),
-        Plan::Script(Source::Memory { limit, version }) => {
-            new_script(host.alloc, limit, version, input, output)
+        Plan::Script {
+            source: Source::File(file),
+            spelling,
+        } => script(host, file, Access::ReadWrite, spelling, input, output),
+        Plan::ReadScript { file, spelling } => {
+            script(host, file, Access::ReadOnly, spelling, input, output)
         }
+        Plan::Script {
+            source: Source::Memory { limit, version },
+            spelling,
+        } => new_script(host.alloc, limit, version, spelling, input, output),
         Plan::Rehearse {
             source: Source::File(file),
             stops,
@@ -126,19 +133,21 @@ pub fn unwritten(_: io::Error) -> Failure
     Failure::Fault(EngineFault::Write)
 }
 
-/// Answers a script by a new database in memory.
+/// Answers a script, whose lines are spelled so, by a new database in memory.
 fn new_script<R: BufRead, O: Write>(
     alloc: Global,
     limit: u32,
     version: Version,
+    spelling: Spelling,
     input: &mut R,
     output: &mut O,
 ) -> Result<Outcome, Failure>
     ensures answered { OnOk result (IfSome (R.remaining input.old) (λ text.
-        AnswersInMemory (asked_bounds limit version) text (O.contents output.old)
-        (O.contents output.new))) }
-    ensures ends { EndsAs (Plan.Script (Source.Memory limit version)) result }
+        AnswersInMemory (form_of spelling) (asked_bounds limit version) text
+        (O.contents output.old) (O.contents output.new))) }
+    ensures ends { EndsAs (Plan.Script (Source.Memory limit version) spelling) result }
 {
-    script_in_memory(alloc, limit, file_version(version), input, output)?;
+    let version = file_version(version);
+    script_in_memory(alloc, limit, version, form_of(spelling), input, output)?;
     Ok(Outcome::Done)
 }

@@ -8,7 +8,7 @@ ghost use Rattle.dbm_tool.specs.Files.{IsClosed, IsOpening, RefusesOpening, ther
 use crate::EngineFault;
 use crate::waiting::opened;
 use dbm_commands::{Failure, Outcome, closed};
-use dbm_file::{Access, Db, Fault, OpenHow, Refusal, Version, open_named};
+use dbm_file::{Access, Db, Fault, Flaw, OpenHow, Refusal, Version, open_named};
 use dbm_load::BadLine;
 use dbm_plan::Spelling;
 use page_cache::CachedPages;
@@ -36,6 +36,8 @@ pub struct Host<'a, T> {
     pub line: Option<u64>,
     /// Why the line of a load is bad, where one is, and how its words are spelled.
     pub bad_line: Option<(BadLine, Spelling)>,
+    /// The first page of a file that was looked through and breaks a rule, and the rule.
+    pub flaw: Option<Flaw>,
 }
 
 impl<'a, T> Host<'a, T> {
@@ -48,6 +50,7 @@ impl<'a, T> Host<'a, T> {
             cause: None,
             line: None,
             bad_line: None,
+            flaw: None,
         }
     }
 }

@@ -38,11 +38,13 @@ pub fn known_of<'a, T: Files<File = File>>(
 ) -> Known<'a>
     ensures file { option_map (λ name. name.now) result.file ≡ file_of plan.entry }
     ensures line { (result.line ≡ None) ⊎ (has_lines plan.entry ≡ true) }
+    ensures flaw { result.flaw ≡ host.now.flaw }
 {
     Known {
         file: file_of(plan),
         line: line_of(plan, host.line),
         bad_line: host.bad_line,
+        flaw: host.flaw,
         system,
         is_suffixed: is_missing(done) && has_suffix(host.rt, file_of(plan)),
     }
@@ -81,8 +83,8 @@ fn file_of<'a>(plan: Plan<'a>) -> Option<&'a str>
         Plan::Stat { file } => Some(file),
         Plan::Verify { file } => Some(file),
         Plan::Upgrade { file } => Some(file),
-        Plan::ReadScript { file } => Some(file),
-        Plan::Script(source) | Plan::Rehearse { source, .. } => match source {
+        Plan::ReadScript { file, .. } => Some(file),
+        Plan::Script { source, .. } | Plan::Rehearse { source, .. } => match source {
             Source::File(file) => Some(file),
             Source::Memory { .. } => None,
         },
@@ -95,7 +97,7 @@ fn line_of(plan: Plan<'_>, line: Option<u64>) -> Option<u64>
     ensures { (result ≡ None) ⊎ (has_lines plan.entry ≡ true) }
 {
     match plan {
-        Plan::Load { .. } => line,
+        Plan::Load { .. } | Plan::Replace { .. } => line,
         _ => None,
     }
 }

@@ -4,6 +4,7 @@
 mod calls;
 mod causes;
 mod commands;
+mod flaws;
 mod host;
 mod known;
 mod lines;

@@ -1,40 +1,26 @@
-// The lines of a load.
+// The line that a load stopped at.
+ghost use Rattle.std.specs.Prelude.{◌≡◌};
+ghost use Rattle.dbm_tool.specs.Commands.{bad_line_at, refused_line_at};
 
-use crate::EngineFault;
-use dbm_progress::{Progress, Work};
+use dbm_load::{BadLine, LoadStop};
+use dbm_plan::Spelling;
 
-/// Counts the lines of a load that are stored, and tells a progress each of its steps.
-#[derive(Drop)]
-pub struct Lines<'a, P> {
-    progress: &'a mut P,
-    stored: u64,
-}
-
-impl<'a, P: Progress> Lines<'a, P> {
-    /// None is stored yet.
-    pub fn told_to(progress: &'a mut P) -> Lines<'a, P> {
-        Lines {
-            progress,
-            stored: 0,
-        }
-    }
-
-    /// The first line that was not stored, where the database refused to store it.
-    pub fn refused(&self, loaded: Result<(), EngineFault>) -> Option<u64> {
-        match loaded {
-            Err(EngineFault::Db(_)) => Some(self.stored.saturating_add(1)),
-            _ => None,
-        }
+/// The first line of a load that was not stored, where the database refused to store it.
+pub fn refused_line(stop: Option<LoadStop>) -> Option<u64>
+    ensures { result ≡ refused_line_at stop }
+{
+    match stop {
+        Some(LoadStop::Refused { line, .. }) => Some(line),
+        _ => None,
     }
 }
 
-impl<P: Progress> Progress for Lines<'_, P> {
-    fn step(&mut self, work: Work) {
-        self.stored = self.stored.saturating_add(1);
-        self.progress.step(work);
-    }
-
-    fn clear(&mut self) {
-        self.progress.clear();
+/// Why the line of a load is bad, where one is, and how its words are spelled.
+pub fn bad_line(stop: Option<LoadStop>, spelling: Spelling) -> Option<(BadLine, Spelling)>
+    ensures { result ≡ bad_line_at stop spelling }
+{
+    match stop {
+        Some(LoadStop::Bad { why, .. }) => Some((why, spelling)),
+        _ => None,
     }
 }

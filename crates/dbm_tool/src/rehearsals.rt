@@ -8,7 +8,7 @@ use crate::host::Host;
 use crate::versions::file_version;
 use crate::waiting::opened;
 use dbm_commands::{Failure, Outcome};
-use dbm_file::{FILE_SECTORS, Fault, Refusal, needed_sectors_of};
+use dbm_file::{FILE_SECTORS, Fault, Refusal, needed_sectors_of, refuse_pipe};
 use dbm_plan::{Plan, Source, Version};
 use dbm_progress::Progress;
 use dbm_rehearse::{Bounds, Rehearsed, device_with, rehearse_script};
@@ -122,6 +122,7 @@ fn content_of<T: Files<File = File> + Clock>(
     name: &str,
 ) -> io::Result<Vec<u8>> {
     let path = format!(in alloc; "{name}.db")?;
+    refuse_pipe(rt, path.as_str())?;
     let mut file = File::open(rt, path.as_str())?;
     lock(&file)?;
     let mut bytes = Vec::new(alloc);

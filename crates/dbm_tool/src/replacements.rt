@@ -3,9 +3,10 @@ ghost use Rattle.std.specs.Prelude.{◌≡◌};
 ghost use Rattle.dbm_tool.specs.Endings.{EndsAs};
 
 use crate::host::Host;
+use crate::lines::{bad_line, refused_line};
+use crate::texts::form_of;
 use dbm_aside::{Stop, backup, replace, resize};
 use dbm_commands::{Failure, Outcome};
-use dbm_lines::TextForm;
 use dbm_plan::{Plan, Spelling};
 use dbm_progress::Progress;
 use std::fs::File;
@@ -23,12 +24,20 @@ pub fn replace_table<T: Files<File = File>, R: BufRead, P: Progress>(
 ) -> Result<Outcome, Failure>
     ensures { EndsAs (Plan.Replace file.entry spelling limit) result }
 {
-    let mut why = None;
+    let mut load_stop = None;
     let form = form_of(spelling);
     let replaced = replace(
-        host.rt, host.alloc, file, limit, form, input, &mut why, progress,
+        host.rt,
+        host.alloc,
+        file,
+        limit,
+        form,
+        input,
+        &mut load_stop,
+        progress,
     );
-    host.bad_line = why.map(|why| (why, spelling));
+    host.line = refused_line(load_stop);
+    host.bad_line = bad_line(load_stop, spelling);
     match replaced {
         Ok(_pairs) => Ok(Outcome::Done),
         Err(stop) => Err(stopped(host, stop)),
@@ -62,14 +71,6 @@ pub fn copy_table<T: Files<File = File>, P: Progress>(
     match backup(host.rt, host.alloc, file, to, progress) {
         Ok(_pairs) => Ok(Outcome::Done),
         Err(stop) => Err(stopped(host, stop)),
-    }
-}
-
-/// How the lines of a text are spelled.
-fn form_of(spelling: Spelling) -> TextForm {
-    match spelling {
-        Spelling::Hexadecimal => TextForm::Hexadecimal,
-        Spelling::Text => TextForm::Escaped,
     }
 }
 

@@ -7,7 +7,7 @@ use crate::commands::unwritten;
 use crate::host::Host;
 use crate::waiting::opened;
 use dbm_commands::{Failure, Outcome};
-use dbm_file::{FILE_SECTORS, Fault, Refusal};
+use dbm_file::{Fault, Refusal, open_path};
 use dbm_plan::Plan;
 use dbm_progress::Progress;
 use dbm_salvage::{Salvaged, Trouble, Troubles, salvage_engine};
@@ -125,7 +125,7 @@ fn device<T: Files<File = File>>(
     let Ok(path) = format!(in alloc; "{name}.db") else {
         return Err(untold(Fault::Memory));
     };
-    let dev = FileDev::open(rt, path.as_str(), false, false, FILE_SECTORS).map_err(refusal)?;
+    let dev = open_path(rt, path.as_str(), false, false).map_err(refusal)?;
     match fs::metadata(rt, path.as_str()) {
         Ok(found) => Ok((dev, found.len())),
         Err(error) => Err(Refusal {

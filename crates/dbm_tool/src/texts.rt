@@ -3,7 +3,7 @@ ghost use Rattle.std.specs.Prelude.{◌≡◌, ◌⊎◌, true, None, OnOk, IfEr
 ghost use Rattle.std.specs.Io.KnownBytes.{Appends};
 ghost use Rattle.dbm_dump.specs.Dumping.{IsPairChance, Reads};
 ghost use Rattle.dbm_file.specs.Database.{AtEachHandle};
-ghost use Rattle.dbm_lines.specs.Forms.{dump_in, listing_in, pair_in};
+ghost use Rattle.dbm_lines.specs.Forms.{dump_in, listing_in};
 ghost use Rattle.dbm_load.specs.Loading.{Loads};
 ghost use Rattle.dbm_load.specs.Refusals.{StopsByFault};
 ghost use Rattle.dbm_tool.specs.Commands.{IsOfPrinting, RunsScript, form_of, told};
@@ -12,14 +12,15 @@ ghost use Rattle.dbm_tool.specs.Files.{Opens, there};
 ghost use Rattle.dbm_tool.specs.Plans.{CarriesOut};
 
 use crate::host::{FileStore, Host};
-use crate::lines::Lines;
+use crate::lines::{bad_line, refused_line};
 use crate::{
     EngineFault, dump_engine, dump_text_engine, list_engine, list_text_engine, load_engine,
     load_text_engine, script_engine,
 };
 use dbm_commands::{Failure, Outcome, flushed};
 use dbm_file::{Access, Database};
-use dbm_load::BadLine;
+use dbm_lines::TextForm;
+use dbm_load::LoadStop;
 use dbm_plan::{Plan, Source, Spelling};
 use dbm_progress::Progress;
 use page_io::PageStore;
@@ -79,32 +80,29 @@ pub fn load<T: Files<File = File> + Clock, R: BufRead, P: Progress>(
     ensures ends { EndsAs (Plan.Load file.entry spelling group) result }
 {
     let mut db = host.open_there(file, Access::ReadWrite)?;
-    let mut lines = Lines::told_to(progress);
-    let mut why = None;
-    let loaded = load_pairs(
-        host.alloc, &mut db, spelling, group, input, &mut why, &mut lines,
-    );
-    host.line = lines.refused(loaded);
-    host.bad_line = why.map(|why| (why, spelling));
+    let loaded = load_pairs(host.alloc, &mut db, spelling, group, input, progress);
+    host.line = refused_line(loaded.err());
+    host.bad_line = bad_line(loaded.err(), spelling);
     host.close(db, told(loaded))
 }
 
-/// Runs a script.
+/// Runs a script, whose lines are spelled so.
 pub fn script<T: Files<File = File> + Clock, R: BufRead, O: Write>(
     host: &mut Host<'_, T>,
     file: &str,
     access: Access,
+    spelling: Spelling,
     input: &mut R,
     output: &mut O,
 ) -> Result<Outcome, Failure>
     ensures carried { Opens ⟦<FileStore as PageStore>⟧ (there access)
-        (λ db after. RunsScript (R.remaining input.old) db after (O.contents output.old)
-        (O.contents output.new)) result }
-    ensures changes { EndsAs (Plan.Script (Source.File file.entry)) result }
-    ensures reads { EndsAs (Plan.ReadScript file.entry) result }
+        (λ db after. RunsScript (form_of spelling) (R.remaining input.old) db after
+        (O.contents output.old) (O.contents output.new)) result }
+    ensures changes { EndsAs (Plan.Script (Source.File file.entry) spelling) result }
+    ensures reads { EndsAs (Plan.ReadScript file.entry spelling) result }
 {
     let mut db = host.open_there(file, access)?;
-    let done = script_engine(host.alloc, &mut db, input, output);
+    let done = script_engine(host.alloc, &mut db, form_of(spelling), input, output);
     host.close(db, flushed(done, output))
 }
 
@@ -159,25 +157,33 @@ fn load_pairs<S: PageStore, R: BufRead, P: Progress>(
     spelling: Spelling,
     group: u32,
     input: &mut R,
-    why: &mut Option<BadLine>,
     progress: &mut P,
-) -> Result<(), EngineFault>
-    ensures loads { Loads (pair_in (form_of spelling)) result (R.remaining input.old)
-        db.old db.new }
+) -> Result<(), LoadStop>
+    ensures loads { Loads (form_of spelling) result (R.remaining input.old) db.old db.new }
     ensures faults { StopsByFault result }
 {
     match spelling {
-        Spelling::Hexadecimal => load_engine(alloc, db, input, group, why, progress),
-        Spelling::Text => load_text_engine(alloc, db, input, group, why, progress),
+        Spelling::Hexadecimal => load_engine(alloc, db, input, group, progress),
+        Spelling::Text => load_text_engine(alloc, db, input, group, progress),
     }
 }
 
-/// How an engine ended, as a command.
-fn told(ended: Result<(), EngineFault>) -> Result<Outcome, Failure>
+/// The form of a text that is spelled so.
+pub fn form_of(spelling: Spelling) -> TextForm
+    ensures { result ≡ form_of spelling }
+{
+    match spelling {
+        Spelling::Hexadecimal => TextForm::Hexadecimal,
+        Spelling::Text => TextForm::Escaped,
+    }
+}
+
+/// How a load ended, as a command.
+fn told(ended: Result<(), LoadStop>) -> Result<Outcome, Failure>
     ensures { result ≡ told ended }
 {
     match ended {
         Ok(()) => Ok(Outcome::Done),
-        Err(fault) => Err(Failure::from(fault)),
+        Err(stop) => Err(Failure::Fault(stop.fault())),
     }
 }

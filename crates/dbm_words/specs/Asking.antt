@@ -57,9 +57,13 @@ v2_flag V2 = codes "true"
 abbrev pub IsVersion : List Row → Version → Type 0
 IsVersion rows version = one_of (codes "v2") rows ≡ Some (v2_flag version)
 
+-- `--text` was given where the lines are text, and not where they have hexadecimal words
+abbrev pub IsForm : List Row → Spelling → Type 0
+IsForm rows spelled = one_of (codes "text") rows ≡ Some (text_flag spelled)
+
 pub record ArePairs (rows : List Row) (name : Text) (spelled : Spelling) : Type 0 where
   pub file : IsText rows (codes "file") name
-  pub flag : one_of (codes "text") rows ≡ Some (text_flag spelled)
+  pub flag : IsForm rows spelled
 
 pub record IsKey (rows : List Row) (name word : Text) (spelled : Spelling) : Type 0 where
   pub file : IsText rows (codes "file") name
@@ -137,10 +141,10 @@ Asks name rows (Salvage file) = (name ≡ codes "salvage") × IsText rows (codes
 Asks name rows (Stat file) = (name ≡ codes "stat") × IsText rows (codes "file") file.now
 Asks name rows (Verify file) = (name ≡ codes "verify") × IsText rows (codes "file") file.now
 Asks name rows (Upgrade file) = (name ≡ codes "upgrade") × IsText rows (codes "file") file.now
-Asks name rows (Script source) = (name ≡ codes "script") × IsSource rows source
-    × IsForReading rows false
-Asks name rows (ReadScript file) = (name ≡ codes "script") × IsSource rows (File file)
-    × IsForReading rows true
+Asks name rows (Script source spelled) = (name ≡ codes "script") × IsSource rows source
+    × IsForReading rows false × IsForm rows spelled
+Asks name rows (ReadScript file spelled) = (name ≡ codes "script") × IsSource rows (File file)
+    × IsForReading rows true × IsForm rows spelled
 Asks name rows (Rehearse source stops) = (name ≡ codes "rehearse") × IsSource rows source
     × IsOptional rows (codes "stops") stops
 Asks name rows Faults = name ≡ codes "faults"

@@ -1,7 +1,7 @@
 // The plan that a parse entered.
 ghost use Rattle.std.specs.Prelude.{◌≡◌, ◌⊎◌, IfErr, IfOk, IfSome, MatchOption, None, Some, codes};
 ghost use Rattle.clap.specs.Words.{first_of, found_of, one_of, rows_of, subcommand_rows_of};
-ghost use Rattle.dbm_words.specs.Asking.{Asks, IsForReading, IsGroup, IsNumberText, IsOptional, IsReplacing, IsSource, IsText, IsVerbose, IsVersion, IsWait, LacksFile, LacksMemory, LacksReplace, LacksSource, Names, NamesNoFile, NamesNoMemory, NamesNoReplace, NamesNoSource, flag_text, text_flag};
+ghost use Rattle.dbm_words.specs.Asking.{Asks, IsForReading, IsForm, IsGroup, IsNumberText, IsOptional, IsReplacing, IsSource, IsText, IsVerbose, IsVersion, IsWait, LacksFile, LacksMemory, LacksReplace, LacksSource, Names, NamesNoFile, NamesNoMemory, NamesNoReplace, NamesNoSource, flag_text};
 ghost use Rattle.dbm_words.specs.Sorting.{IsOfChoice};
 
 use crate::WordsError;
@@ -156,9 +156,10 @@ fn script<'a>(options: &ArgMatches<'a>) -> Result<Plan<'a>, WordsError>
     match source(options) {
         Ok(source) => {
             let reading = for_reading(options).ok_or(WordsError::NoPlan)?;
+            let spelling = form(options).ok_or(WordsError::NoPlan)?;
             match (source, reading) {
-                (source, false) => Ok(Plan::Script(source)),
-                (Source::File(file), true) => Ok(Plan::ReadScript { file }),
+                (source, false) => Ok(Plan::Script { source, spelling }),
+                (Source::File(file), true) => Ok(Plan::ReadScript { file, spelling }),
                 (Source::Memory { .. }, true) => Err(WordsError::ReadSource),
             }
         }
@@ -352,10 +353,9 @@ fn spelling(options: &ArgMatches<'_>) -> Option<Spelling>
     }
 }
 
-/// How the lines of all pairs, or of all keys, are spelled.
+/// How the lines of all pairs, of all keys, or of a script are spelled.
 fn form(options: &ArgMatches<'_>) -> Option<Spelling>
-    ensures { IfSome result (λ spelled.
-        one_of (codes "text") (rows_of (found_of options.now)) ≡ Some (text_flag spelled)) }
+    ensures { IfSome result (IsForm (rows_of (found_of options.now))) }
 {
     if options.get_one::<bool>(TEXT)? {
         Some(Spelling::Text)

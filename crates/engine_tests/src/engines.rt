@@ -4,7 +4,7 @@
 use dbm_dump::{dump_engine, list_engine};
 use dbm_fault::EngineFault;
 use dbm_file::{Db, Fault};
-use dbm_load::load_engine;
+use dbm_load::{as_engine, load_engine};
 use dbm_progress::Progress;
 use sect_dev::MemDev;
 use std::alloc::Global;
@@ -24,8 +24,7 @@ pub fn load<R: BufRead, P: Progress>(
     group: u32,
     progress: &mut P,
 ) -> Result<(), EngineFault> {
-    let mut why = None;
-    load_engine(alloc, db, reader, group, &mut why, progress)
+    as_engine(load_engine(alloc, db, reader, group, progress))
 }
 
 /// Writes the pairs of a database.

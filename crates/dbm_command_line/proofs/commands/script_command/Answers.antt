@@ -2,7 +2,7 @@ use Rattle.std.proofs.Common.{codes, false}
 use Rattle.std.proofs.lemmas.Result.{IfOk-from_err}
 use Rattle.clap.specs.Words.{App, Rule, new_app, with_rule}
 use Rattle.dbm_command_line.specs.Building.{IsApp, IsRule, alone}
-use Rattle.dbm_command_line.specs.CommandLine.{number_rule, read_rule, script_line, version_rule, word_rule}
+use Rattle.dbm_command_line.specs.CommandLine.{number_rule, read_rule, script_line, text_rule, version_rule, word_rule}
 use Rattle.dbm_command_line.proofs.Building.{option_added, with_about, with_after_help, with_option, with_required}
 use Rattle.dbm_command_line.proofs.commands.script_command.Goals as goal
 
@@ -17,6 +17,10 @@ returns-in_err-arg-2 c = IfOk-from_err c.from_residual-in_err-arg-2.result
 pub returns-in_err-arg-3 : goal.returns-in_err-arg-3
 returns-in_err-arg-3 c = IfOk-from_err c.from_residual-in_err-arg-3.result
     (λ made. IsApp made (alone script_line)) c.from_residual-in_err-arg-3.ensures.0
+
+pub returns-in_err-arg-4 : goal.returns-in_err-arg-4
+returns-in_err-arg-4 c = IfOk-from_err c.from_residual-in_err-arg-4.result
+    (λ made. IsApp made (alone script_line)) c.from_residual-in_err-arg-4.ensures.0
 
 pub returns : goal.returns
 returns c =
@@ -43,6 +47,13 @@ returns c =
     with_option c.in_ok-arg-2.field-0 c.in_ok-arg-3.field-0 c.version.result
     (with_rule (with_rule bare free) (number_rule (codes "memory"))) version_rule with_memory
     c.version.ensures c.in_ok-arg-3.ensures in
-    option_added c.in_ok-arg-3.field-0 c.for_reading.result c.arg-4.result
+    let with_reading : IsApp c.in_ok-arg-4.field-0
+    (with_rule (with_rule (with_rule (with_rule bare free) (number_rule (codes "memory")))
+    version_rule) read_rule) =
+    with_option c.in_ok-arg-3.field-0 c.in_ok-arg-4.field-0 c.for_reading.result
     (with_rule (with_rule (with_rule bare free) (number_rule (codes "memory"))) version_rule)
-    read_rule with_version c.for_reading.ensures c.arg-4.ensures
+    read_rule with_version c.for_reading.ensures c.in_ok-arg-4.ensures in
+    option_added c.in_ok-arg-4.field-0 c.text_form.result c.arg-5.result
+    (with_rule (with_rule (with_rule (with_rule bare free) (number_rule (codes "memory")))
+    version_rule) read_rule)
+    text_rule with_reading c.text_form.ensures c.arg-5.ensures

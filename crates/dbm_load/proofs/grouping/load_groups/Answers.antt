@@ -2,12 +2,13 @@ use Rattle.std.proofs.Common.{◌≡◌, ◌∙◌, ◌+◌, true, false, Ok, Er
 use Rattle.dbm_file.specs.Database.{store_of}
 use Rattle.dbm_file.proofs.Runs.{goes_nowhere, still_goes}
 use Rattle.dbm_lines.specs.Bounds.{longest_in}
-use Rattle.dbm_lines.specs.Forms.{pair_in}
+use Rattle.dbm_lines.specs.Forms.{is_passed_in, pair_in}
 use Rattle.dbm_lines.specs.Reading.{ReadsLine, IsCounted}
 use Rattle.dbm_lines.specs.declared.forms.TextForm.{TextForm}
 use Rattle.dbm_lines.proofs.TextLines.{counted_first, counted_on}
-use Rattle.dbm_load.specs.Batches.{pairs_in, GroupsLine}
-use Rattle.dbm_load.proofs.Endings.{grouped_ends}
+use Rattle.dbm_load.specs.Batches.{held_in, GroupsLine}
+use Rattle.dbm_load.specs.Endings.{IsBadFor}
+use Rattle.dbm_load.proofs.Endings.{batch_why, grouped_why}
 use Rattle.dbm_load.proofs.Loading.{read_in}
 use Rattle.dbm_load.proofs.Gathering.{none_held, batch_refused, unread, ended, line_went, line_stopped}
 use Rattle.dbm_load.proofs.grouping.load_groups.Goals as goal
@@ -59,9 +60,9 @@ returns-in_err-group_line-clause-loads g c =
     (λ honest t x le left.
     g.met.S.PageStore.counts_now (store_of c.group_line.new.db) t x honest le left)
     h.gathering (read_in _ _ _ _ _ _ h.form read) _ _ (subst (λ (form : TextForm).
-    GroupsLine (Err c.in_err-group_line.field-0.0)
-    (pair_in form c.read_line.new.buffers.line.items) c.loop-number.number c.loop-number.db
-    c.group_line.new.db (pairs_in c.loop-number.batch) (pairs_in c.group_line.new.batch))
+    GroupsLine (is_passed_in form c.read_line.new.buffers.line.items)
+    (Err c.in_err-group_line.field-0.0) (pair_in form c.read_line.new.buffers.line.items) c.loop-number.number c.loop-number.db
+    c.group_line.new.db (held_in c.loop-number.batch) (held_in c.group_line.new.batch))
     (c.read_line.ensures.form ∙ h.form) c.in_err-group_line.ensures.line))
 
 pub loop-number-preserved : goal.loop-number-preserved
@@ -78,9 +79,9 @@ loop-number-preserved g c =
           (λ honest t x le left.
           g.met.S.PageStore.counts_now (store_of c.group_line.new.db) t x honest le left)
           h.gathering (read_in _ _ _ _ _ _ h.form read) _ (subst (λ (form : TextForm).
-          GroupsLine (Ok tt) (pair_in form c.read_line.new.buffers.line.items)
+          GroupsLine (is_passed_in form c.read_line.new.buffers.line.items) (Ok tt) (pair_in form c.read_line.new.buffers.line.items)
           c.loop-number.number c.loop-number.db c.group_line.new.db
-          (pairs_in c.loop-number.batch) (pairs_in c.group_line.new.batch))
+          (held_in c.loop-number.batch) (held_in c.group_line.new.batch))
           (c.read_line.ensures.form ∙ h.form) c.in_ok-group_line.ensures.line);
       form = c.group_line.ensures.form ∙ c.read_line.ensures.form ∙ h.form;
       goes = still_goes _ _ _ h.goes c.group_line.ensures.goes;
@@ -101,8 +102,8 @@ returns-clause-loads g c =
     unread g.S.PageStore _ _ _ _ _ _ _ _ h.goes c.store_batch-2.ensures.goes h.gathering
     c.in_ok-store_batch-2.ensures.stores
 
-pub returns-in_err-group_line-clause-line : goal.returns-in_err-group_line-clause-line
-returns-in_err-group_line-clause-line g c =
+pub returns-in_err-group_line-clause-why : goal.returns-in_err-group_line-clause-why
+returns-in_err-group_line-clause-why g c =
     let read : IfSome (g.R.Read.remaining c.loop-number.reader)
     (λ text. ReadsLine (longest_in c.loop-number.buffers.form + 1) text true
     c.read_line.new.buffers.line.items (g.R.Read.remaining c.read_line.new.reader)) =
@@ -110,10 +111,34 @@ returns-in_err-group_line-clause-line g c =
     let same : c.from_residual-in_err-group_line.result ≡ Err c.in_err-group_line.field-0.0 =
     search rules in
     let h = c.loop-number.invariant in
-    rw same (grouped_ends c.args.buffers.now.form _ _ _ _ _ _ _ h.gathering.done _
-    h.gathering.read h.gathering.counted (read_in _ _ _ _ _ _ h.form read)
-    c.group_line.ensures.kept _ _ _ (subst (λ (form : TextForm).
-    GroupsLine (Err c.in_err-group_line.field-0.0)
-    (pair_in form c.read_line.new.buffers.line.items) c.loop-number.number c.loop-number.db
-    c.group_line.new.db (pairs_in c.loop-number.batch) (pairs_in c.group_line.new.batch))
-    (c.read_line.ensures.form ∙ h.form) c.in_err-group_line.ensures.line))
+    let form = c.read_line.ensures.form ∙ h.form in
+    rw same (grouped_why c.args.buffers.now.form c.loop-number.db c.group_line.new.db _ _ _ _
+    h.gathering.done _ h.gathering.read h.gathering.counted (read_in _ _ _ _ _ _ h.form read) _
+    (held_in c.loop-number.batch) (held_in c.group_line.new.batch)
+    (subst (λ (form : TextForm). GroupsLine (is_passed_in form c.read_line.new.buffers.line.items)
+    (Err c.in_err-group_line.field-0.0) (pair_in form c.read_line.new.buffers.line.items)
+    c.loop-number.number c.loop-number.db c.group_line.new.db (held_in c.loop-number.batch)
+    (held_in c.group_line.new.batch)) form c.in_err-group_line.ensures.line)
+    (subst (λ (form : TextForm). IsBadFor form c.read_line.new.buffers.line.items
+    (Err c.in_err-group_line.field-0.0)) form c.in_err-group_line.ensures.why))
+
+pub returns-then-not-is_line-clause-why : goal.returns-then-not-is_line-clause-why
+returns-then-not-is_line-clause-why g c =
+    batch_why g.S.PageStore c.args.buffers.now.form c.store_batch-then-not-is_line.result
+    c.loop-number.db c.store_batch-then-not-is_line.new.db (held_in c.loop-number.batch)
+    (g.R.Read.remaining c.args.reader.now) c.store_batch-then-not-is_line.ensures.stores
+
+pub returns-in_err-store_batch-clause-why : goal.returns-in_err-store_batch-clause-why
+returns-in_err-store_batch-clause-why g c =
+    let same : c.from_residual.result ≡ Err c.in_err-store_batch.field-0.0 = search rules in
+    rw same (batch_why g.S.PageStore c.args.buffers.now.form (Err c.in_err-store_batch.field-0.0)
+    c.loop-number.db c.store_batch.new.db (held_in c.loop-number.batch)
+    (g.R.Read.remaining c.args.reader.now) c.in_err-store_batch.ensures.stores)
+
+pub returns-in_err-store_batch-2-clause-why : goal.returns-in_err-store_batch-2-clause-why
+returns-in_err-store_batch-2-clause-why g c =
+    let same : c.from_residual-in_err-store_batch-2.result ≡ Err c.in_err-store_batch-2.field-0.0 =
+    search rules in
+    rw same (batch_why g.S.PageStore c.args.buffers.now.form (Err c.in_err-store_batch-2.field-0.0)
+    c.loop-number.db c.store_batch-2.new.db (held_in c.loop-number.batch)
+    (g.R.Read.remaining c.args.reader.now) c.in_err-store_batch-2.ensures.stores)

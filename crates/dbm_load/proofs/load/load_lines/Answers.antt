@@ -2,13 +2,14 @@ use Rattle.std.proofs.Common.{◌≡◌, ◌∙◌, ◌+◌, true, Ok, Err, IfSo
 use Rattle.dbm_file.specs.Database.{store_of}
 use Rattle.dbm_file.proofs.Runs.{no_run, goes_nowhere, still_goes}
 use Rattle.dbm_lines.specs.Bounds.{longest_in}
-use Rattle.dbm_lines.specs.Forms.{pair_in}
+use Rattle.dbm_lines.specs.Forms.{is_passed_in, pair_in}
 use Rattle.dbm_lines.specs.Reading.{ReadsLine, IsCounted}
 use Rattle.dbm_lines.specs.declared.forms.TextForm.{TextForm}
-use Rattle.dbm_fault.specs.declared.engine_fault.EngineFault.TheVariants.{Read}
+use Rattle.dbm_load.specs.declared.load_stop.LoadStop.TheVariants.{Read}
 use Rattle.dbm_lines.proofs.TextLines.{counted_first, counted_on}
+use Rattle.dbm_load.specs.Endings.{IsBadFor}
 use Rattle.dbm_load.specs.Loading.{LoadsLine}
-use Rattle.dbm_load.proofs.Endings.{alone_ends}
+use Rattle.dbm_load.proofs.Endings.{alone_why}
 use Rattle.dbm_load.proofs.Loading.{at_start, read_in, go_on, stopped, not_read}
 use Rattle.dbm_load.proofs.load.load_lines.Goals as goal
 
@@ -42,9 +43,9 @@ returns-in_err-load_line-clause-loads g c =
     c.load_line.ensures.goes (λ honest t x le left.
     g.met.S.PageStore.counts_now (store_of c.load_line.new.db) t x honest le left)
     h.loading (read_in _ _ _ _ _ _ h.form read) _ (subst (λ (form : TextForm).
-    LoadsLine (Err c.in_err-load_line.field-0.0)
-    (pair_in form c.read_line-read.new.buffers.line.items) c.loop-number.number c.loop-number.db
-    c.load_line.new.db) (c.read_line-read.ensures.form ∙ h.form) c.in_err-load_line.ensures.line))
+    LoadsLine (is_passed_in form c.read_line-read.new.buffers.line.items)
+    (Err c.in_err-load_line.field-0.0) (pair_in form c.read_line-read.new.buffers.line.items)
+    c.loop-number.number c.loop-number.db c.load_line.new.db) (c.read_line-read.ensures.form ∙ h.form) c.in_err-load_line.ensures.line))
 
 pub loop-number-preserved : goal.loop-number-preserved
 loop-number-preserved g c =
@@ -60,8 +61,9 @@ loop-number-preserved g c =
           c.load_line.ensures.goes (λ honest t x le left.
           g.met.S.PageStore.counts_now (store_of c.load_line.new.db) t x honest le left)
           h.loading (read_in _ _ _ _ _ _ h.form read) (subst (λ (form : TextForm).
-          LoadsLine (Ok tt) (pair_in form c.read_line-read.new.buffers.line.items)
-          c.loop-number.number c.loop-number.db c.load_line.new.db)
+          LoadsLine (is_passed_in form c.read_line-read.new.buffers.line.items) (Ok tt)
+          (pair_in form c.read_line-read.new.buffers.line.items) c.loop-number.number
+          c.loop-number.db c.load_line.new.db)
           (c.read_line-read.ensures.form ∙ h.form) c.in_ok-load_line.ensures.line);
       form = c.load_line.ensures.form ∙ c.read_line-read.ensures.form ∙ h.form;
       goes = still_goes _ _ _ h.goes c.load_line.ensures.goes;
@@ -71,8 +73,8 @@ loop-number-preserved g c =
 pub returns-clause-loads : goal.returns-clause-loads
 returns-clause-loads g c = not_read _ _ _ _ _ _ c.loop-number.invariant.loading
 
-pub returns-in_err-load_line-clause-line : goal.returns-in_err-load_line-clause-line
-returns-in_err-load_line-clause-line g c =
+pub returns-in_err-load_line-clause-why : goal.returns-in_err-load_line-clause-why
+returns-in_err-load_line-clause-why g c =
     let read : IfSome (g.R.Read.remaining c.loop-number.reader)
     (λ text. ReadsLine (longest_in c.loop-number.buffers.form + 1) text true
     c.read_line-read.new.buffers.line.items (g.R.Read.remaining c.read_line-read.new.reader)) =
@@ -80,8 +82,13 @@ returns-in_err-load_line-clause-line g c =
     let same : c.from_residual-in_err-load_line.result ≡ Err c.in_err-load_line.field-0.0 =
     search rules in
     let h = c.loop-number.invariant in
-    rw same (alone_ends c.args.buffers.now.form _ _ _ _ _ _ _ h.loading.done _ h.loading.read
-    h.loading.counted (read_in _ _ _ _ _ _ h.form read) c.load_line.ensures.kept _
-    (subst (λ (form : TextForm). LoadsLine (Err c.in_err-load_line.field-0.0)
-    (pair_in form c.read_line-read.new.buffers.line.items) c.loop-number.number c.loop-number.db
-    c.load_line.new.db) (c.read_line-read.ensures.form ∙ h.form) c.in_err-load_line.ensures.line))
+    let form = c.read_line-read.ensures.form ∙ h.form in
+    rw same (alone_why c.args.buffers.now.form c.loop-number.db c.load_line.new.db _ _ _ _ h.loading.done _
+    h.loading.read h.loading.counted (read_in _ _ _ _ _ _ h.form read) _
+    (subst (λ (form : TextForm).
+    LoadsLine (is_passed_in form c.read_line-read.new.buffers.line.items)
+    (Err c.in_err-load_line.field-0.0) (pair_in form c.read_line-read.new.buffers.line.items)
+    c.loop-number.number c.loop-number.db c.load_line.new.db) form
+    c.in_err-load_line.ensures.line)
+    (subst (λ (form : TextForm). IsBadFor form c.read_line-read.new.buffers.line.items
+    (Err c.in_err-load_line.field-0.0)) form c.in_err-load_line.ensures.why))

@@ -1,9 +1,10 @@
-use Rattle.std.proofs.Common.{◌≡◌, ◌≤◌, length, Err, arith, rules}
+use Rattle.std.proofs.Common.{◌≤◌, List, length, map, take, arith, refl, subst}
 use Rattle.std.proofs.lemmas.List.{length-map}
+use Rattle.dbm_model.specs.Pairs.{Pair}
 use Rattle.dbm_file.specs.Database.{store_of}
 use Rattle.dbm_file.proofs.Runs.{goes_nowhere, still_goes}
-use Rattle.dbm_load.specs.Batches.{pairs_in}
-use Rattle.dbm_load.proofs.Stores.{stores_none, stored_on, stopped_on, stored_all}
+use Rattle.dbm_load.specs.Storing.{StopsBehind, StoresAll, pair_of}
+use Rattle.dbm_load.proofs.Stores.{rest_length, rest_of, stores_none, stored_on, stopped_on, stored_all}
 use Rattle.dbm_load.proofs.storing.store_pairs.Goals as goal
 
 pub loop-round-init : goal.loop-round-init
@@ -18,37 +19,49 @@ loop-round-init g c = record {
 pub loop-round-preserved : goal.loop-round-preserved
 loop-round-preserved g c =
     let h = c.loop-round.invariant in
+    let pairs = c.args.pairs.now in
+    let rest = rest_of pair_of c.loop-round.done pairs pairs refl in
     record {
       stores = stored_on g.S.PageStore c.args.db.now c.loop-round.db c.store_some.new.db h.goes
-          c.store_some.ensures.goes (pairs_in c.args.batch.now) c.loop-round.done h.stores
-          c.in_ok-stored.stored c.in_ok-stored.ensures.stores;
+          c.store_some.ensures.goes (map pair_of pairs) c.loop-round.done h.stores
+          c.in-Ok.stored (subst (λ (ps : List Pair).
+          StoresAll c.loop-round.db c.store_some.new.db (take c.in-Ok.stored ps)) rest
+          c.in-Ok.ensures.stores);
       goes = still_goes _ _ _ h.goes c.store_some.ensures.goes;
-      within = omega (arith, c.in_ok-stored.ensures.within);
-      rounds = omega (arith, c.in_ok-stored.ensures.within, h.rounds);
+      within = omega (
+        arith,
+        c.in-Ok.ensures.within,
+        rest_length c.loop-round.done pairs,
+        c.if-done-pairs.false,
+      );
+      rounds = omega (arith, c.in-Ok.ensures.within, h.rounds);
     }
 
-pub returns-in_err-stored-clause-stores : goal.returns-in_err-stored-clause-stores
-returns-in_err-stored-clause-stores g c =
-    let same : c.from_residual.result ≡ Err c.in_err-stored.field-0.0 = search rules in
+pub returns-in-Err-clause-stores : goal.returns-in-Err-clause-stores
+returns-in-Err-clause-stores g c =
     let h = c.loop-round.invariant in
-    rw same (stopped_on g.S.PageStore c.args.db.now c.loop-round.db c.store_some.new.db h.goes
-    c.store_some.ensures.goes (pairs_in c.args.batch.now) c.loop-round.done h.stores
-    c.in_err-stored.field-0.0 c.in_err-stored.ensures.stores)
+    let pairs = c.args.pairs.now in
+    let rest = rest_of pair_of c.loop-round.done pairs pairs refl in
+    stopped_on g.S.PageStore c.args.db.now c.loop-round.db c.store_some.new.db h.goes
+    c.store_some.ensures.goes (map pair_of pairs) c.loop-round.done h.stores c.in-Err.fault
+    (simp length-map h.within)
+    (subst (λ (ps : List Pair). StopsBehind c.loop-round.db c.store_some.new.db ps 0 c.in-Err.fault)
+    rest c.in-Err.ensures.stores)
 
-pub returns-in_err-stored-clause-goes : goal.returns-in_err-stored-clause-goes
-returns-in_err-stored-clause-goes g c =
+pub returns-in-Err-clause-goes : goal.returns-in-Err-clause-goes
+returns-in-Err-clause-goes g c =
     still_goes _ _ _ c.loop-round.invariant.goes c.store_some.ensures.goes
 
-pub returns-then-done-len-clause-stores : goal.returns-then-done-len-clause-stores
-returns-then-done-len-clause-stores g c =
-    let all : length (pairs_in c.args.batch.now) ≤ c.loop-round.done =
+pub returns-then-done-pairs-clause-stores : goal.returns-then-done-pairs-clause-stores
+returns-then-done-pairs-clause-stores g c =
+    let all : length (map pair_of c.args.pairs.now) ≤ c.loop-round.done =
     simp length-map (omega arith) in
-    stored_all g.S.PageStore c.args.db.now c.loop-round.db (pairs_in c.args.batch.now)
+    stored_all g.S.PageStore c.args.db.now c.loop-round.db (map pair_of c.args.pairs.now)
     c.loop-round.done all c.loop-round.invariant.stores
 
 pub returns-clause-stores : goal.returns-clause-stores
 returns-clause-stores g c =
-    let all : length (pairs_in c.args.batch.now) ≤ c.loop-round.done =
+    let all : length (map pair_of c.args.pairs.now) ≤ c.loop-round.done =
     simp length-map (omega (arith, c.loop-round.invariant.rounds)) in
-    stored_all g.S.PageStore c.args.db.now c.loop-round.db (pairs_in c.args.batch.now)
+    stored_all g.S.PageStore c.args.db.now c.loop-round.db (map pair_of c.args.pairs.now)
     c.loop-round.done all c.loop-round.invariant.stores

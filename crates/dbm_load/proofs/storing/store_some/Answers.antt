@@ -1,87 +1,69 @@
-use Rattle.std.proofs.Common.{◌≡◌, ◌+◌, ◌-◌, ◌<◌, List, ◌∷◌, length, map, take, drop, Err, subst, sym, ap, ◌∙◌, arith, rules}
+use Rattle.std.proofs.Common.{◌≡◌, List, ◌∷◌, map, take, drop, Err, subst, sym, ap, ◌∙◌, rules}
 use Rattle.std.proofs.lemmas.List.{length-map}
 use Rattle.dbm_model.specs.Calls.{Stored}
 use Rattle.dbm_model.specs.Changes.{replacing}
 use Rattle.dbm_model.specs.Pairs.{Pair}
 use Rattle.dbm_file.specs.Database.{store_of}
 use Rattle.dbm_file.proofs.Runs.{still_goes}
-use Rattle.dbm_load.specs.Batches.{pair_of, pairs_in}
-use Rattle.dbm_load.specs.Storing.{StoresAll, StopsWithin}
-use Rattle.dbm_load.proofs.Stores.{stops_group, stores_group, rest_of, some_left, next_of, none_taken, after_none, stops_at, stores_one}
+use Rattle.dbm_load.specs.Storing.{StoresAll, StopsBehind, pair_of}
+use Rattle.dbm_load.proofs.Stores.{stops_group, stores_group, some_mapped, next_of, none_taken, after_none, stops_at, stores_one}
 use Rattle.dbm_load.proofs.storing.store_some.Goals as goal
 
 pub returns-in_err-stored-clause-stores : goal.returns-in_err-stored-clause-stores
 returns-in_err-stored-clause-stores g c =
     let same : c.from_residual.result ≡ Err c.in_err-stored.field-0.0 = search rules in
-    let rest = rest_of pair_of c.args.done c.args.batch.now.pairs.items c.deref.result.now
-    c.deref.ensures.value in
-    let lt : c.args.done < length c.args.batch.now.pairs.items =
-    omega (arith, ap length c.deref.ensures.value) in
     let db = c.args.db.now in
-    rw same (subst
-    (λ (ps : List Pair). StopsWithin db c.store_many.new.self ps c.in_err-stored.field-0.0) rest
-    (stops_group g.S.PageStore db c.store_many.new.self _ c.in_err-stored.field-0.0
+    rw same (stops_group g.S.PageStore db c.store_many.new.self _ c.in_err-stored.field-0.0
     (λ x honest left. g.met.S.PageStore.only_now (store_of db) x honest left)
-    (subst (λ (ps : List Pair). 0 < length ps) (sym rest)
-    (some_left pair_of c.args.done c.args.batch.now.pairs.items lt)) c.in_err-stored.ensures.ends))
+    (some_mapped pair_of c.args.pairs.now c.requires) c.in_err-stored.ensures.ends)
 
 pub returns-then-stored-gt0-clause-stores : goal.returns-then-stored-gt0-clause-stores
 returns-then-stored-gt0-clause-stores g c =
-    let rest = rest_of pair_of c.args.done c.args.batch.now.pairs.items c.deref.result.now
-    c.deref.ensures.value in
-    let slice = take (length c.deref.result.now - c.args.done) (drop c.args.done c.deref.result.now) in
-    subst
-    (λ (ps : List Pair). StoresAll c.args.db.now c.store_many.new.self (take c.in_ok-stored.stored ps))
-    rest
-    (stores_group g.S.PageStore c.args.db.now c.store_many.new.self (map pair_of slice)
+    stores_group g.S.PageStore c.args.db.now c.store_many.new.self (map pair_of c.args.pairs.now)
     c.in_ok-stored.stored c.if-stored-gt0.true
-    (simp length-map c.in_ok-stored.ensures.within)
-    c.in_ok-stored.ensures.ends)
+    (simp length-map c.in_ok-stored.ensures.within) c.in_ok-stored.ensures.ends
 
 pub returns-in_err-store_pair-clause-stores : goal.returns-in_err-store_pair-clause-stores
 returns-in_err-store_pair-clause-stores g c =
-    let same : c.from_residual-in_err-store_pair.result ≡ Err c.in_err-store_pair.field-0.0 = search rules in
-    let lt : c.args.done < length c.args.batch.now.pairs.items =
-    omega (arith, ap length c.deref.ensures.value) in
-    let next = next_of pair_of c.args.done c.args.batch.now.pairs.items c.index-next.result.now lt
-    c.index-next.ensures in
-    let told : (c.deref-2.result.now, c.deref-3.result.now) ≡ pair_of c.index-next.result.now =
-    (λ i. (c.deref-2.ensures.value i, c.deref-3.ensures.value i)) in
+    let same : c.from_residual-in_err-store_pair.result ≡ Err c.in_err-store_pair.field-0.0 =
+    search rules in
     let db = c.args.db.now in
+    let pairs = c.args.pairs.now in
+    let next = next_of pair_of 0 pairs c.index-pairs-0.result c.requires c.index-pairs-0.is in
+    let told : (c.deref.result.now, c.deref-2.result.now) ≡ pair_of c.index-pairs-0.result =
+    (λ i. (c.deref.ensures.value i, c.deref-2.ensures.value i)) in
     let none = none_taken g.S.PageStore db c.store_many.new.self _ c.in_ok-stored.stored
     c.if-stored-gt0.false c.in_ok-stored.ensures.ends in
     let step = after_none g.S.PageStore db c.store_many.new.self c.store_pair.new.db _ _
     c.in_ok-stored.ensures.keeps.goes none c.in_err-store_pair.ensures.stores in
-    rw same (subst
-    (λ (ps : List Pair). StopsWithin db c.store_pair.new.db ps c.in_err-store_pair.field-0.0)
-    (ap (λ (p : Pair). p ∷ drop (c.args.done + 1) (pairs_in c.args.batch.now)) told ∙ sym next)
+    rw same (subst (λ (ps : List Pair).
+    StopsBehind db c.store_pair.new.db ps 0 c.in_err-store_pair.field-0.0)
+    (ap (λ (p : Pair). p ∷ drop 1 (map pair_of pairs)) told ∙ sym next)
     (stops_at g.S.PageStore db c.store_pair.new.db
     (λ x honest left. g.met.S.PageStore.only_now (store_of db) x honest left)
     (λ honest t x le left.
     g.met.S.PageStore.counts_now (store_of c.store_pair.new.db) t x honest le left)
     (still_goes db c.store_many.new.self c.store_pair.new.db c.in_ok-stored.ensures.keeps.goes
-    c.store_pair.ensures.goes) (c.deref-2.result.now, c.deref-3.result.now)
-    (drop (c.args.done + 1) (pairs_in c.args.batch.now)) c.in_err-store_pair.field-0.0 step))
+    c.store_pair.ensures.goes) (c.deref.result.now, c.deref-2.result.now)
+    (drop 1 (map pair_of pairs)) c.in_err-store_pair.field-0.0 step))
 
 pub returns-clause-stores : goal.returns-clause-stores
 returns-clause-stores g c =
-    let lt : c.args.done < length c.args.batch.now.pairs.items =
-    omega (arith, ap length c.deref.ensures.value) in
-    let next = next_of pair_of c.args.done c.args.batch.now.pairs.items c.index-next.result.now lt
-    c.index-next.ensures in
-    let told : (c.deref-2.result.now, c.deref-3.result.now) ≡ pair_of c.index-next.result.now =
-    (λ i. (c.deref-2.ensures.value i, c.deref-3.ensures.value i)) in
     let db = c.args.db.now in
+    let pairs = c.args.pairs.now in
+    let next = next_of pair_of 0 pairs c.index-pairs-0.result c.requires c.index-pairs-0.is in
+    let told : (c.deref.result.now, c.deref-2.result.now) ≡ pair_of c.index-pairs-0.result =
+    (λ i. (c.deref.ensures.value i, c.deref-2.ensures.value i)) in
     let none = none_taken g.S.PageStore db c.store_many.new.self _ c.in_ok-stored.stored
     c.if-stored-gt0.false c.in_ok-stored.ensures.ends in
     let step = after_none g.S.PageStore db c.store_many.new.self c.store_pair.new.db
-    (replacing (c.deref-2.result.now, c.deref-3.result.now)) Stored
+    (replacing (c.deref.result.now, c.deref-2.result.now)) Stored
     c.in_ok-stored.ensures.keeps.goes none c.in_ok-store_pair.ensures.stores in
     subst (λ (ps : List Pair). StoresAll db c.store_pair.new.db (take 1 ps))
-    (ap (λ (p : Pair). p ∷ drop (c.args.done + 1) (pairs_in c.args.batch.now)) told ∙ sym next)
+    (ap (λ (p : Pair). p ∷ drop 1 (map pair_of pairs)) told ∙ sym next)
     (stores_one g.S.PageStore db c.store_pair.new.db
     (λ x honest left. g.met.S.PageStore.only_now (store_of db) x honest left)
     (λ honest t x le left.
     g.met.S.PageStore.counts_now (store_of c.store_pair.new.db) t x honest le left)
     (still_goes db c.store_many.new.self c.store_pair.new.db c.in_ok-stored.ensures.keeps.goes
-    c.store_pair.ensures.goes) (c.deref-2.result.now, c.deref-3.result.now) step)
+    c.store_pair.ensures.goes) (c.deref.result.now, c.deref-2.result.now) step)

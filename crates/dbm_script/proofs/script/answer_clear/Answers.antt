@@ -6,7 +6,7 @@ use Rattle.dbm_script.proofs.script.answer_clear.Goals as goal
 
 -- on any device
 pub returns-clause-tells : goal.returns-clause-tells
-returns-clause-tells g c = (
+returns-clause-tells g c form = (
   call.Clear,
   refl,
   Number (pos 0),

@@ -1,7 +1,10 @@
-use Rattle.std.proofs.Common.{ap, refl, ◌∙◌, Ok, rules}
+use Rattle.std.proofs.Common.{ap, subst, refl, ◌∙◌, Ok, rules}
+use Rattle.dbm_model.specs.Calls as model
+use Rattle.dbm_file.specs.Answers.{IsStep}
 use Rattle.dbm_file.specs.Calls.{delete_reply}
 use Rattle.dbm_file.specs.Replies.{told_of_delete}
 use Rattle.dbm_file.specs.declared.calls.Call.TheVariants.{Delete}
+use Rattle.dbm_fault.specs.Faults.{fault_of}
 use Rattle.dbm_file.proofs.Answered.{delete_answered, delete_is_told}
 use Rattle.dbm_script.proofs.script.answer_delete.Goals.{After-delete}
 use Rattle.dbm_script.proofs.script.answer_delete.Goals as goal
@@ -9,9 +12,17 @@ use Rattle.dbm_script.proofs.script.answer_delete.Goals as goal
 pub returns-in-Ok-Absent-clause-line : goal.returns-in-Ok-Absent-clause-line
 returns-in-Ok-Absent-clause-line g c = search rules
 
+pub returns-in-Err-clause-line : goal.returns-in-Err-clause-line
+returns-in-Err-clause-line g c form honest h at = (
+  model.Refused (fault_of c.in-Err.fault),
+  subst (λ r. IsStep c.args.db.now c.delete.new.self h (model.Delete c.args.key.now) r)
+      (ap delete_reply c.in-Err.is) (c.delete.ensures.step honest h at),
+  c.write_fault.ensures,
+)
+
 -- on any device
 pub returns-in-Ok-Deleted-clause-tells : goal.returns-in-Ok-Deleted-clause-tells
-returns-in-Ok-Deleted-clause-tells g c = (
+returns-in-Ok-Deleted-clause-tells g c form = (
   Delete c.args.key.now,
   refl,
   told_of_delete c.delete.result,
@@ -22,7 +33,7 @@ returns-in-Ok-Deleted-clause-tells g c = (
 )
 
 pub returns-in-Ok-Absent-clause-tells : goal.returns-in-Ok-Absent-clause-tells
-returns-in-Ok-Absent-clause-tells g c = (
+returns-in-Ok-Absent-clause-tells g c form = (
   Delete c.args.key.now,
   refl,
   told_of_delete c.delete.result,
@@ -33,7 +44,7 @@ returns-in-Ok-Absent-clause-tells g c = (
 )
 
 pub returns-in-Err-clause-tells : goal.returns-in-Err-clause-tells
-returns-in-Err-clause-tells g c = (
+returns-in-Err-clause-tells g c form = (
   Delete c.args.key.now,
   refl,
   told_of_delete c.delete.result,

@@ -7,7 +7,7 @@ use Rattle.dbm_file.proofs.Runs.{same_number}
 use Rattle.dbm_script.proofs.script.answer_error.Goals as goal
 
 pub returns-clause-line : goal.returns-clause-line
-returns-clause-line g c honest h at = (
+returns-clause-line g c form honest h at = (
   _,
   c.error.ensures.step honest h at,
   c.write_number.ensures _ (same_number c.error.result c.error.type_inv
@@ -16,7 +16,7 @@ returns-clause-line g c honest h at = (
 
 -- on any device
 pub returns-clause-tells : goal.returns-clause-tells
-returns-clause-tells g c = (
+returns-clause-tells g c form = (
   call.Error,
   refl,
   Number (pos (error_number (error_of c.args.db.now))),

@@ -20,7 +20,7 @@ returns-clause-line g c honest h at = (
 pub returns-clause-tells : goal.returns-clause-tells
 returns-clause-tells g c =
     let ended = c.fetch.follows.holds-at-none in
-    told_line c.args.db.now c.fetch.follows.lender-at-none (call.Fetch c.args.key.now)
+    told_line c.args.form c.args.db.now c.fetch.follows.lender-at-none (call.Fetch c.args.key.now)
     (told_of_bytes code.NoRecord c.fetch.result) (lent_reply model.NoRecord c.fetch.result)
     (λ text. OnOk c.write_fetched.result
     (Appends (g.W.Write.contents c.args.writer.now) (g.W.Write.contents c.write_fetched.new.writer) text))

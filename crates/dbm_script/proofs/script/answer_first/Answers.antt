@@ -20,7 +20,7 @@ returns-clause-line g c honest h at = (
 pub returns-clause-tells : goal.returns-clause-tells
 returns-clause-tells g c =
     let ended = c.firstkey.follows.holds-at-none in
-    told_line c.args.db.now c.firstkey.follows.lender-at-none call.First
+    told_line c.args.form c.args.db.now c.firstkey.follows.lender-at-none call.First
     (told_of_bytes code.End c.firstkey.result) (lent_reply model.End c.firstkey.result)
     (λ text. OnOk c.write_passed.result
     (Appends (g.W.Write.contents c.args.writer.now) (g.W.Write.contents c.write_passed.new.writer) text))

@@ -10,7 +10,7 @@ use Rattle.dbm_script.proofs.script.answer_store.Goals.{After-store}
 use Rattle.dbm_script.proofs.script.answer_store.Goals as goal
 
 pub returns-in-Err-clause-line : goal.returns-in-Err-clause-line
-returns-in-Err-clause-line g c honest h at = (
+returns-in-Err-clause-line g c form honest h at = (
   model.Refused (fault_of c.in-Err.fault),
   subst (λ r. IsStep c.args.db.now c.store.new.self h
       (model.Store c.args.key.now c.args.content.now (mode_of c.args.mode)) r)
@@ -20,7 +20,7 @@ returns-in-Err-clause-line g c honest h at = (
 
 -- on any device
 pub returns-in-Ok-Stored-clause-tells : goal.returns-in-Ok-Stored-clause-tells
-returns-in-Ok-Stored-clause-tells g c = (
+returns-in-Ok-Stored-clause-tells g c form = (
   call.Store c.args.key.now c.args.content.now c.args.mode,
   refl,
   told_of_store c.store.result,
@@ -33,7 +33,7 @@ returns-in-Ok-Stored-clause-tells g c = (
 )
 
 pub returns-in-Ok-Kept-clause-tells : goal.returns-in-Ok-Kept-clause-tells
-returns-in-Ok-Kept-clause-tells g c = (
+returns-in-Ok-Kept-clause-tells g c form = (
   call.Store c.args.key.now c.args.content.now c.args.mode,
   refl,
   told_of_store c.store.result,
@@ -45,7 +45,7 @@ returns-in-Ok-Kept-clause-tells g c = (
 )
 
 pub returns-in-Err-clause-tells : goal.returns-in-Err-clause-tells
-returns-in-Err-clause-tells g c = (
+returns-in-Err-clause-tells g c form = (
   call.Store c.args.key.now c.args.content.now c.args.mode,
   refl,
   told_of_store c.store.result,

@@ -5,5 +5,5 @@ use Rattle.dbm_script.proofs.script.script_engine.Goals as goal
 pub returns-in_default-clause-stands : goal.returns-in_default-clause-stands
 returns-in_default-clause-stands g c honest start at =
     let db = c.args.db.now in
-    no_call db start _ (no_run g.S.PageStore db start at
+    no_call c.args.form db start _ (no_run g.S.PageStore db start at
     (λ x left. g.met.S.PageStore.only_now db.store x honest left))

@@ -1,6 +1,6 @@
-use Rattle.std.proofs.Common.{◌≡◌, Some, codes, false, true}
-use Rattle.clap.specs.Words.{found_of, one_of, rows_of}
-use Rattle.dbm_words.specs.Asking.{text_flag}
+use Rattle.std.proofs.Common.{codes, false, true}
+use Rattle.clap.specs.Words.{found_of, rows_of}
+use Rattle.dbm_words.specs.Asking.{IsForm}
 use Rattle.dbm_words.proofs.Naming.{flag_read, if_none}
 use Rattle.dbm_words.proofs.options.form.Goals as goal
 
@@ -16,5 +16,4 @@ returns-else-branch c = flag_read (found_of c.args.options.now) (codes "text")
 
 pub returns-in_err-get_one : goal.returns-in_err-get_one
 returns-in_err-get_one c = if_none c.from_residual.result
-    (λ spelled. one_of (codes "text") (rows_of (found_of c.args.options.now))
-    ≡ Some (text_flag spelled)) c.from_residual.ensures
+    (IsForm (rows_of (found_of c.args.options.now))) c.from_residual.ensures
