@@ -1,5 +1,6 @@
-// The writes and syncs of stores as bare system calls: for each store of two pages, their images, the armed sector, the pages
-// themselves and the clear sector, each followed by a sync (redo_area). Arguments: the file, and how many stores.
+// The writes and syncs of stores in a row as bare system calls: for each store of two pages their images, at two places in turn, and
+// those of the store before at home, with one sync, and then the armed sector, with another (redo_area). Arguments: the file, and how
+// many stores.
 #define _GNU_SOURCE
 #include <fcntl.h>
 #include <stdlib.h>
@@ -21,11 +22,9 @@ int main(int count, char **words) {
     if (file < 0) return 1;
     for (long n = atol(words[2]); n > 0; n--) {
         bytes[0] = (char)n;
-        put(file, 4 * 1300, 4);
-        put(file, 4 * 1301, 4);
-        settle(file);
-        put(file, 0, 1);
-        settle(file);
+        long place = 1300 + 2 * (n % 2);
+        put(file, 4 * place, 4);
+        put(file, 4 * (place + 1), 4);
         put(file, 4, 4);
         put(file, 4 * (3 + n % 1200), 4);
         settle(file);
