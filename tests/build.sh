@@ -105,6 +105,64 @@ changes crates.txt 's/^dbm_progress:/& hex/'
 changes "$work/kit/KIT-ID" 's/one/two/'
 echo '// a change' >> crates/device_tests/src/lib.rt
 tools/built.py is-built || wrong "a crate that the program doesn't stand on makes it anew"
+
+# texts that haven't changed for a while are not read again
+texts_read() {
+  python3 -c '
+import builtins, sys
+sys.path.insert(0, "tools")
+import built
+files, opened = [], open
+def noting(file, *more, **named):
+    files.append(str(file))
+    return opened(file, *more, **named)
+builtins.open = noting
+built.is_program_built()
+print(sum(f"/{part}/" in file for file in files for part in built.kit.PARTS))'
+}
+text=crates/dbm_plan/src/lib.rt
+note=crates/dbmtool/out/noted
+rests() {
+  sleep 3.2
+  tools/built.py is-built || wrong "the program isn't taken for built $1"
+  [ "$(texts_read)" = 0 ] || wrong "texts are read that haven't changed $1"
+}
+seen() { tools/built.py is-built && wrong "$1 goes unseen"; }
+rests "at first"
+# but a change is seen that leaves the size and the time as they were
+cp -p "$text" "$work/before"
+printf '\n' | dd of="$text" conv=notrunc status=none
+touch -r "$work/before" "$text"
+cmp -s "$text" "$work/before" && wrong "nothing was changed"
+[ "$(stat -c '%s %y' "$text")" = "$(stat -c '%s %y' "$work/before")" ] || wrong "the change has another size or time"
+seen "a change that leaves the size and the time"
+cp -p "$work/before" "$text"
+tools/built.py is-built || wrong "the program isn't taken for built once the change is taken back"
+[ "$(texts_read)" -gt 1000 ] || wrong "what changed just now is noted"
+rests "behind a change that was taken back"
+# and so is a text that comes, goes or takes another's place
+mkdir crates/dbm_progress/src/more
+rests "behind an empty folder"
+echo '// a text' > crates/dbm_progress/src/more/more.rt
+seen "a new text"
+rm -r crates/dbm_progress/src/more
+rests "behind a text that came and went"
+mv "$text" "$work/before"
+seen "a text that is gone"
+cp -p crates/dbm_progress/src/lib.rt "$text"
+seen "a text in place of another"
+mv "$work/before" "$text"
+rests "behind a text that went and came"
+# a part of a note is no note, and where none can be written there is none
+head -n 100 "$note" > "$work/part"
+cp "$work/part" "$note"
+[ "$(texts_read)" -gt 1000 ] || wrong "a part of a note is believed"
+rm "$note"
+mkdir "$note"
+[ -z "$(tools/built.py is-built 2>&1 || echo "status $?")" ] || wrong "a note that can't be written is told"
+rmdir "$note"
+[ -z "$(compgen -G "$note*")" ] || wrong "parts of notes are left"
+
 : > "$LOG"
 echo 'kit two' > "$work/kit/KIT-ID"
 ./dbmtool > /dev/null 2>&1

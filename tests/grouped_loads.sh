@@ -165,12 +165,12 @@ awk -v far="$far" 'BEGIN { for (i = 0; i < 13000; i++) printf "%08x ff%04x%s\n",
 each_commit 6000 1625 3 3 2048
 echo "$commits commits leave ${counts[*]} lines with far pairs among them"
 
-# 70,000 short pairs in 8,750 buckets, and a content for each in the order of their keys. A group holds each page that it changes as it was, and changed:
-# 16,384 pages in all, to which the last line may add some. So its lines meet 8,190 buckets, and are as many at least: there are 8 commits or 9 at most.
-awk 'BEGIN { for (i = 0; i < 70000; i++) printf "%08x %08x\n", i, 70000 - i }' > older
-rm old.db && "$program" create old --limit 100000 && "$program" load old --group 100000 < older || exit 1
-awk 'BEGIN { for (i = 0; i < 70000; i++) printf "%08x ff%06x\n", i, i }' > lines
-each_commit 100000 8750 2 9 8200
+# 140,000 short pairs in 17,500 buckets, and a content for each of 60,000 in the order of their keys. A group ends once it holds 16,384 pages that it changed,
+# to which its last line may add some. So it has as many lines at least: there are 4 commits at most. The lines meet more buckets, so there are 2 at least.
+awk 'BEGIN { for (i = 0; i < 140000; i++) printf "%08x %08x\n", i, 140000 - i }' > older
+rm old.db && "$program" create old --limit 200000 && "$program" load old --group 100000 < older || exit 1
+awk 'BEGIN { for (i = 0; i < 60000; i++) printf "%08x ff%06x\n", i, i }' > lines
+each_commit 100000 17500 2 4 16400
 
 # Killed at some moment, it leaves the lines of as many of these commits.
 began=$EPOCHREALTIME

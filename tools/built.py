@@ -21,6 +21,10 @@ import kit  # noqa: E402
 MADE = "out/rlib/build"
 # what says how a crate is made
 TOOLS = ("build", "tools/kit.py", "tools/built.py")
+# the last line of a note
+NOTE_END = "end\n"
+# so many nanoseconds behind a change, another one has another time, on any file system
+SETTLED = 3_000_000_000
 
 
 def made_of(name):
@@ -83,19 +87,80 @@ def word_of(name):
     return f"{sum_of(name)} {kit.version()}"
 
 
-def is_made(name):
+def is_made(name, texts=sum_of):
     """Whether the crate's library, or the program, is made of what is there now. With no rt the kit isn't known, and the texts alone decide."""
     stands = os.path.isfile(program()) and os.access(program(), os.X_OK) if name == kit.PROGRAM else os.path.isdir(rlib_of(name))
     try:
         with open(stamp_of(name), encoding="utf-8") as stamp:
-            word = stamp.read()
+            made_of_texts, _, made_by = stamp.read().partition(" ")
     except FileNotFoundError:
         return False
-    return stands and (word == word_of(name) if kit.home() else word.partition(" ")[0] == sum_of(name))
+    return stands and (not kit.home() or made_by == kit.version()) and made_of_texts == texts(name)
 
 
 def is_program_built():
-    return is_made(kit.PROGRAM)
+    return is_made(kit.PROGRAM, noted_sum_of)
+
+
+def note_of(name):
+    """The file that notes the sum of a crate's texts, with the times and sizes that these had."""
+    return f"{os.path.dirname(stamp_of(name))}/noted"
+
+
+def places(name):
+    """What the sum of a crate is made of, below the top: the tools, and the folders and files of the crates. A folder comes before what is in it."""
+    yield from TOOLS
+    for it in (*kit.below(name), name):
+        for folder in (f"{kit.crates()[it].folder}/{part}" for part in kit.PARTS):
+            yield folder.removeprefix(f"{kit.TOP}/")
+            for at, folders, files in os.walk(folder):
+                yield from (f"{at}/{below}".removeprefix(f"{kit.TOP}/") for below in folders + files)
+
+
+def state_of(place):
+    """A line that is another one after any change of a file, or of the names in a folder."""
+    try:
+        it = os.stat(f"{kit.TOP}/{place}")
+    except OSError:
+        return f"{place}\tnone\n"
+    return f"{place}\t{it.st_dev} {it.st_ino} {it.st_size} {it.st_mtime_ns} {it.st_ctime_ns}\n"
+
+
+def is_settled(state, begun):
+    """Whether the last change was so long before that a later one has another time."""
+    return all(int(time) < begun - SETTLED for time in state.rpartition("\t")[2].split()[3:])
+
+
+def crates_of(name):
+    """A line of a crate and those below it, as crates.txt has them."""
+    return f"{[kit.crates()[it] for it in (*kit.below(name), name)]!r}\n"
+
+
+def noted_sum_of(name):
+    """As sum_of, but no text is read where all is as it was when the sum was noted."""
+    try:
+        with open(note_of(name), encoding="utf-8") as note:
+            noted, crates, *states, end = note
+    except (OSError, ValueError):
+        return sum_and_note_of(name)
+    is_whole = crates == crates_of(name) and end == NOTE_END
+    return noted.rstrip("\n") if is_whole and all(it == state_of(it.partition("\t")[0]) for it in states) else sum_and_note_of(name)
+
+
+def sum_and_note_of(name):
+    """As sum_of, and notes it, unless a text changed just before. Each text is read behind its state."""
+    new = f"{note_of(name)}.{os.getpid()}"
+    with contextlib.suppress(OSError):
+        with open(new, "w", encoding="utf-8") as note:
+            begun = os.fstat(note.fileno()).st_mtime_ns
+            states = [state_of(place) for place in places(name)]
+            look_anew()
+            note.writelines([f"{sum_of(name)}\n", crates_of(name), *states, NOTE_END])
+        if all(is_settled(state, begun) for state in states):
+            os.replace(new, note_of(name))
+    with contextlib.suppress(OSError):
+        os.remove(new)
+    return sum_of(name)
 
 
 def note_made(name, word):

@@ -2,7 +2,7 @@
 import functools
 import os
 import shutil
-from dataclasses import dataclass
+from collections import namedtuple
 
 TOP = os.path.dirname(os.path.dirname(os.path.realpath(__file__)))
 PROGRAM = "dbmtool"
@@ -11,14 +11,8 @@ PARTS = ("src", "specs", "proofs")
 ONE_CHECK = 2_300_000
 
 
-@dataclass(frozen=True)
-class Crate:
-    name: str
-    # what it uses of the kit and of the repository
-    of_kit: tuple
-    uses: tuple
-    # a library for C
-    is_static: bool
+class Crate(namedtuple("Crate", ("name", "of_kit", "uses", "is_static"))):
+    """A crate, what it uses of the kit and of the repository, and whether it is a library for C."""
 
     @property
     def folder(self):

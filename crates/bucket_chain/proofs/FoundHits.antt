@@ -15,7 +15,8 @@ use Rattle.page_model.proofs.GoodBodies.{from_times}
 use Rattle.free_pages.specs.declared.free_state.FreeState.{FreeState}
 use Rattle.free_pages.specs.FreeList.{IsFreeList, IsApart}
 use Rattle.free_pages.specs.Giving.{AreGiven}
-use Rattle.slot_page.specs.Contents.{HasKeyAt, page_records, told_content}
+use Rattle.page_io.specs.BucketPages.{page_records}
+use Rattle.slot_page.specs.Contents.{HasKeyAt, told_content}
 use Rattle.content_pages.proofs.PageCounts.{times_both}
 use Rattle.chain_walks.specs.Links.{link_body}
 use Rattle.chain_walks.specs.Chains.{ReadLeaf, ReadChain, BeginsAt, kind_behind}

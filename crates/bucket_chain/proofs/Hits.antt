@@ -4,7 +4,8 @@ use Rattle.dbm_model.specs.Bounds.{Version}
 use Rattle.dbm_model.specs.Pairs.{Key}
 use Rattle.page_model.specs.PairLists.{times}
 use Rattle.page_model.specs.Pages.{Body, Record}
-use Rattle.slot_page.specs.Contents.{HasKeyAt, page_records}
+use Rattle.page_io.specs.BucketPages.{page_records}
+use Rattle.slot_page.specs.Contents.{HasKeyAt}
 use Rattle.chain_walks.specs.Chains.{ReadLeaf, record_pair}
 use Rattle.chain_walks.specs.Links.{SaysLink, IsLink}
 use Rattle.chain_walks.specs.Walks.{LacksKey}

@@ -5,7 +5,8 @@ use Rattle.dbm_model.specs.Bounds.{Version}
 use Rattle.page_model.specs.Pages.{Bucket}
 use Rattle.page_model.specs.Reading.{bucket_of, body_of}
 use Rattle.page_model.specs.Valid.{IsOf}
-use Rattle.slot_page.specs.Contents.{IsBucketPage, page_records, with_next}
+use Rattle.page_io.specs.BucketPages.{IsBucketPage, page_records}
+use Rattle.slot_page.specs.Contents.{with_next}
 use Rattle.chain_walks.specs.Links.{IsLink, link_body}
 use Rattle.chain_walks.specs.Chains.{ReadChain, kind_behind}
 use Rattle.chain_walks.proofs.LinkBodies.{says_link}

@@ -11,7 +11,7 @@ use Rattle.page_model.specs.PageBodies.{free_bodies, leaf_bodies, entry_bodies, 
 use Rattle.page_model.proofs.Absent.{add-append}
 use Rattle.page_model.proofs.Chains.{AllByRecursion-append, AllByRecursion-left, AllByRecursion-right, All-add}
 use Rattle.page_model.proofs.Spaces.{times_head, times_tail}
-use Rattle.slot_page.specs.Contents.{page_records}
+use Rattle.page_io.specs.BucketPages.{page_records}
 use Rattle.free_pages.specs.declared.free_state.FreeState.{FreeState}
 use Rattle.free_pages.specs.FreeList.{state_of, IsApart}
 use Rattle.content_pages.proofs.PageCounts.{times_both}

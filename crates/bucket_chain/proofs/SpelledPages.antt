@@ -18,7 +18,8 @@ use Rattle.page_model.specs.Valid.{MayTell, IsRecord, IsBucket}
 use Rattle.page_model.proofs.Texts.{at_front, skip}
 use Rattle.page_model.proofs.Buckets.{length-slots_ending, length-slots_bytes, length-records, header_again}
 use Rattle.page_model.proofs.Chains.{AllByRecursion-append}
-use Rattle.slot_page.specs.Contents.{IsBucketPage, page_records, with_records}
+use Rattle.page_io.specs.BucketPages.{IsBucketPage, page_records}
+use Rattle.slot_page.specs.Contents.{with_records}
 use Rattle.slot_page.proofs.Adding.{taken-push}
 use Rattle.chain_walks.specs.Links.{link_body, IsLink}
 

@@ -5,7 +5,7 @@ use Rattle.std.proofs.lemmas.Bool.{le-leb, lt-leb, false≢true}
 use Rattle.dbm_model.specs.Bounds.{Version}
 use Rattle.page_model.specs.Pages.{Body, Record}
 use Rattle.page_model.specs.Slots.{taken, room_of}
-use Rattle.slot_page.specs.Contents.{page_records}
+use Rattle.page_io.specs.BucketPages.{page_records}
 use Rattle.chain_walks.specs.Chains.{ReadLeaf}
 use Rattle.chain_walks.specs.Links.{IsLink, SaysLink}
 use Rattle.chain_walks.specs.Walks.{IsFull, fits_leaf}

@@ -10,7 +10,8 @@ use Rattle.page_model.specs.Valid.{IsOf}
 use Rattle.page_model.specs.Reading.{body_of}
 use Rattle.page_model.specs.Chain.{Chain}
 use Rattle.page_model.proofs.Chains.{AllByRecursion-left, AllByRecursion-right}
-use Rattle.slot_page.specs.Contents.{HasRecords, HasKeyAt, page_records, with_records}
+use Rattle.page_io.specs.BucketPages.{page_records}
+use Rattle.slot_page.specs.Contents.{HasRecords, HasKeyAt, with_records}
 use Rattle.chain_walks.specs.Links.{link_body, IsLink, SaysLink}
 use Rattle.chain_walks.specs.Chains.{ReadLeaf, ReadChain, chain_read, IsChainAt, AreLinked, BeginsAt, kind_behind}
 use Rattle.chain_walks.proofs.LinkBodies.{says_link}

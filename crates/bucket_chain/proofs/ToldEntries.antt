@@ -18,7 +18,8 @@ use Rattle.page_io.specs.Views.{body_at}
 use Rattle.page_io.specs.declared.store.PageStore.{Ghosts}
 use Rattle.page_io.proofs.StagedPages.{in_range, has_between}
 use Rattle.page_io.proofs.Views.{unknown_said}
-use Rattle.slot_page.specs.Contents.{IsPageOf, HasKeyAt, page_records, told_content}
+use Rattle.page_io.specs.BucketPages.{IsPageOf, page_records}
+use Rattle.slot_page.specs.Contents.{HasKeyAt, told_content}
 use Rattle.slot_page.proofs.Tellings.{holds_there}
 use Rattle.content_pages.proofs.FarContents.{far_pages_are}
 use Rattle.chain_walks.proofs.ContentReads.{told_far}

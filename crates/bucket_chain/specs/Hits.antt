@@ -7,7 +7,8 @@ use Rattle.page_model.specs.Chain.{pages_long}
 use Rattle.page_model.specs.Pages.{Body, Record}
 use Rattle.page_model.specs.Reading.{own_number}
 use Rattle.page_io.specs.Store.{StoreState, IsKnown}
-use Rattle.slot_page.specs.Contents.{IsPageOf, HasKeyAt, page_records, told_content}
+use Rattle.page_io.specs.BucketPages.{IsPageOf, page_records}
+use Rattle.slot_page.specs.Contents.{HasKeyAt, told_content}
 use Rattle.chain_walks.specs.Links.{IsLink, SaysLink}
 use Rattle.chain_walks.specs.Chains.{ReadLeaf, ReadChain, kind_behind}
 use Rattle.chain_walks.specs.Walks.{IsWalk, LacksKey, EndsWithout}

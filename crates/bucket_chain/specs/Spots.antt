@@ -4,7 +4,7 @@ use Rattle.std.specs.List.{AllByRecursion}
 use Rattle.dbm_model.specs.Bounds.{Version}
 use Rattle.page_model.specs.Pages.{Body, Record}
 use Rattle.page_model.specs.Slots.{size, room_of}
-use Rattle.slot_page.specs.Contents.{page_records}
+use Rattle.page_io.specs.BucketPages.{page_records}
 use Rattle.chain_walks.specs.Links.{IsLink}
 use Rattle.chain_walks.specs.Chains.{ReadLeaf, ReadChain, BeginsAt, kind_behind}
 use Rattle.chain_walks.specs.Walks.{IsFull, fits_leaf}

@@ -7,7 +7,7 @@ mod removes;
 mod staging;
 mod stores;
 
-pub use chain_walks::{Pair, Place, least_behind, load_all, lookup};
+pub use chain_walks::{PageRanks, Pair, Place, least_behind, load_all, lookup};
 pub use laws::{
     chains_are_placed, entries_are_placements, puts_are_placements, removals_are_placements,
 };

@@ -5,7 +5,7 @@ use Rattle.std.proofs.lemmas.Bool.{cases_lt}
 use Rattle.std.proofs.lemmas.List.Elements.{recursion_from_All, All-from_recursion}
 use Rattle.page_model.specs.Pages.{Record}
 use Rattle.page_model.specs.Reading.{slot_count}
-use Rattle.slot_page.specs.Contents.{IsBucketPage, page_records}
+use Rattle.page_io.specs.BucketPages.{IsBucketPage, page_records}
 use Rattle.slot_page.proofs.Pages.{counted}
 
 -- of each of the first records this is true

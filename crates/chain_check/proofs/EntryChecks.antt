@@ -21,7 +21,8 @@ use Rattle.page_model.proofs.Texts.{four_text}
 use Rattle.page_marks.specs.Marks.{AreMarked, MayBeSeen}
 use Rattle.page_marks.proofs.Seen.{are_seen}
 use Rattle.page_model.specs.Space.{times_of}
-use Rattle.slot_page.specs.Contents.{IsPageOf, page_records, told_content}
+use Rattle.page_io.specs.BucketPages.{IsPageOf, page_records}
+use Rattle.slot_page.specs.Contents.{told_content}
 use Rattle.chain_check.specs.BucketChains.{AreContentPages, IsContentChecked, AreEntriesOf, AreContentsChecked}
 use Rattle.chain_check.proofs.OneChain.{IsStored, are_stored, one_entries}
 use Rattle.chain_check.proofs.PageBytes.{RecordHasBytes, record_bytes, are_bytes}

@@ -5,7 +5,7 @@ use Rattle.page_model.specs.Pages.{Record}
 use Rattle.page_model.specs.PairLists.{AreBytes, HasBytes}
 use Rattle.page_model.specs.Slots.{Slot, key_size, bytes_size}
 use Rattle.page_model.specs.Reading.{slot_count, slots_from, slot_record, bucket_of}
-use Rattle.slot_page.specs.Contents.{page_records}
+use Rattle.page_io.specs.BucketPages.{page_records}
 use Rattle.chain_walks.specs.Chains.{record_pair}
 
 pub bytes_of_take : (n : ℕ) (bytes : List ℕ) → AreBytes bytes → AreBytes (take n bytes)

@@ -18,7 +18,7 @@ use Rattle.page_model.proofs.Chains.{AllByRecursion-append}
 use Rattle.page_model.proofs.GoodBodies.{key_is}
 use Rattle.page_marks.specs.Marks.{AreMarked}
 use Rattle.page_marks.proofs.Seen.{are_seen}
-use Rattle.slot_page.specs.Contents.{IsPageOf, page_records}
+use Rattle.page_io.specs.BucketPages.{IsPageOf, page_records}
 use Rattle.slot_page.proofs.Pages.{counted}
 use Rattle.chain_walks.specs.Links.{SaysLink}
 use Rattle.chain_walks.specs.Chains.{ReadLeaf, ReadChain, leaf_read, chain_read, all_records, BeginsAt}

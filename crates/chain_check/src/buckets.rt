@@ -2,7 +2,7 @@
 
 ghost use Rattle.std.specs.Prelude.{◌≡◌, ◌↔◌, IsTrue};
 ghost use Rattle.lin_addr.specs.Shapes.{shape_of};
-ghost use Rattle.slot_page.specs.Contents.{IsBucketPage, page_records};
+ghost use Rattle.page_io.specs.BucketPages.{IsBucketPage, page_records};
 ghost use Rattle.chain_check.specs.BucketChains.{AreInBucket};
 
 use lin_addr::{Shape, hash};

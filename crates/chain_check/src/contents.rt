@@ -7,7 +7,7 @@ ghost use Rattle.page_io.specs.Versions.{model_version};
 ghost use Rattle.page_io.specs.Views.{body_at, ReadsOnly};
 ghost use Rattle.page_io.specs.declared.store.PageFault.TheVariants.{Damaged};
 ghost use Rattle.page_marks.specs.Marks.{AreMarked, MayBeSeen};
-ghost use Rattle.slot_page.specs.Contents.{IsPageOf, page_records};
+ghost use Rattle.page_io.specs.BucketPages.{IsPageOf, page_records};
 ghost use Rattle.chain_walks.specs.Answers.{IsWalkAnswer};
 ghost use Rattle.chain_check.specs.BucketChains.{AreContentPages, IsContentChecked, AreEntriesOf, AreContentsChecked};
 ghost use Rattle.chain_check.specs.Flaws.{IsTold};

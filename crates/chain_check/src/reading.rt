@@ -8,7 +8,7 @@ ghost use Rattle.page_io.specs.Store.{IsKnown};
 ghost use Rattle.page_io.specs.Views.{body_at, ReadsOnly};
 ghost use Rattle.page_io.specs.Versions.{model_version};
 ghost use Rattle.page_io.specs.declared.store.PageFault.TheVariants.{Damaged};
-ghost use Rattle.slot_page.specs.Contents.{page_records};
+ghost use Rattle.page_io.specs.BucketPages.{page_records};
 ghost use Rattle.chain_walks.specs.Links.{IsLink, SaysLink};
 ghost use Rattle.chain_walks.specs.Answers.{IsWalkAnswer};
 ghost use Rattle.chain_check.specs.Flaws.{IsTold};

@@ -4,7 +4,7 @@ use Rattle.dbm_model.specs.Bounds.{Version}
 use Rattle.page_model.specs.Pages.{Record, Bucket, bucket}
 use Rattle.page_model.specs.Reading.{own_number, kind_of, slot_count, next_of, bucket_of}
 use Rattle.page_io.proofs.OwnNumbers.{own_is}
-use Rattle.slot_page.specs.Contents.{IsPageOf, page_records}
+use Rattle.page_io.specs.BucketPages.{IsPageOf, page_records}
 use Rattle.slot_page.proofs.Pages.{counted}
 use Rattle.chain_walks.specs.Links.{IsLink}
 

@@ -17,7 +17,8 @@ use Rattle.page_model.proofs.Chains.{AllByRecursion-append, AllByRecursion-right
 use Rattle.page_model.proofs.GoodBodies.{key_is}
 use Rattle.page_model.proofs.PairLists.{value_in}
 use Rattle.page_model.proofs.Places.{same_key}
-use Rattle.slot_page.specs.Contents.{IsBucketPage, HasKeyAt, IsAbsent, page_records}
+use Rattle.page_io.specs.BucketPages.{IsBucketPage, page_records}
+use Rattle.slot_page.specs.Contents.{HasKeyAt, IsAbsent}
 use Rattle.chain_walks.specs.Links.{SaysLink}
 use Rattle.chain_walks.specs.Chains.{ReadLeaf, ReadChain, chain_read, record_pair, all_records, number_or, IsChainAt}
 use Rattle.chain_walks.specs.Walks.{LacksKey, IsFoundIn}

@@ -1,5 +1,5 @@
 -- The least key of the pairs that were read, as more are read.
-use Rattle.std.proofs.Common.{◌≡◌, ℕ, ◌+◌, ◌<◌, ◌↔◌, Bool, true, false, cond, List, [], ◌∷◌, ◌++◌, length, map, get_or, take, Option, None, Some, IsTrue, refl, sym, ap, ◌∙◌, subst, arith}
+use Rattle.std.proofs.Common.{◌≡◌, ℕ, ◌+◌, ◌<◌, ◌↔◌, Bool, true, false, cond, List, [], ◌∷◌, ◌++◌, map, get_or, take, Option, None, Some, IsTrue, refl, sym, ap, ◌∙◌, subst, arith}
 use Rattle.std.specs.Prelude.{IfSome, IfNone}
 use Rattle.std.specs.Cmp.{IsTotalOrder}
 use Rattle.std.specs.Cmp.Lexicographic.{on_texts}
@@ -19,7 +19,8 @@ use Rattle.page_model.specs.Pages.{Record}
 use Rattle.page_model.specs.Chain.{Entry, Chain, entries_in, pairs_in, record_of}
 use Rattle.page_model.proofs.Chains.{AllByRecursion-append, pairs_of_entries}
 use Rattle.page_model.proofs.GoodBodies as bodies
-use Rattle.slot_page.specs.Contents.{IsBucketPage, HasKeyAt, page_records}
+use Rattle.page_io.specs.BucketPages.{IsBucketPage, page_records}
+use Rattle.slot_page.specs.Contents.{HasKeyAt}
 use Rattle.chain_walks.specs.Chains.{record_pair}
 use Rattle.chain_walks.specs.Bests.{slot_of, IsRankedAt}
 use Rattle.chain_walks.specs.Leasts.{IsLeastKey, IsLeastAt, IsLeast, IsAheadAt}
@@ -147,6 +148,15 @@ abbrev IsBetter : List ℕ → Option Best → Key → Bool → Type 0
 IsBetter bytes best key better = IfSome best (λ at. (other : Key)
     → HasKeyAt other (page_records bytes) at.slot → IsTrue better ↔ ComesBefore key other)
 
+-- of two slots, each with its rank, so it is of the keys in them
+pub better_key : (look bytes : List ℕ) (slot : ℕ) (best : Option Best) (key : Key) (better : Bool)
+    → HasKeyAt key (page_records look) slot
+    → IfSome best (λ held. (key other : Key) → HasKeyAt key (page_records look) slot
+    → HasKeyAt other (page_records bytes) held.slot → IsTrue better ↔ ComesBefore key other)
+    → IsBetter bytes best key better
+better_key look bytes slot None key better has before = tt
+better_key look bytes slot (Some held) key better has before = λ other. before key other has
+
 module _ (old here : List Pair) (from : Pass) (bytes look : List ℕ) (at : ℕ)
     (new : IsLeastAt here from look at) (key : Key) (has : HasKeyAt key
     (page_records look) at) where
@@ -211,15 +221,17 @@ pub record IsBest (pairs : List Pair) (from : Pass) (bytes : List ℕ) (best : O
 abbrev pub page_pairs : List ℕ → List Pair
 page_pairs bytes = map record_pair (page_records bytes)
 
-module _ (bytes : List ℕ) (slot : ℕ) (key : Key) (content : List ℕ)
-    (within : slot < length (page_records bytes))
-    (there : HoldsAt (λ r. (r.key ≡ key) × (r.bytes ≡ content)) (page_records bytes) slot)
+module _ (bytes : List ℕ) (slot : ℕ) (key : Key) (has : HasKeyAt key (page_records bytes) slot)
     (from : Pass) (best next : Option Best) (ahead : Bool)
     (ahead_is : IsTrue ahead ↔ IsAhead from key)
     (so_far : IsBest (take slot (page_pairs bytes)) from bytes best) where
+  content : List ℕ
+  content = (get_or (page_records bytes) slot blank).bytes
+
   pair_there : get_or (page_pairs bytes) slot (key, content) ≡ (key, content)
-  pair_there = get_or-map record_pair (page_records bytes) slot blank (key, content) within
-      ∙ (λ i. ((there blank).0 i, (there blank).1 i))
+  unfolding content
+  pair_there = get_or-map record_pair (page_records bytes) slot blank (key, content) has.0
+      ∙ ap (λ (k : Key). (k, content)) (has.1 blank)
 
   with_slot : (now : Option Best) → next ≡ now → IfSome now (IsRankedAt bytes)
       → IsLeast (take slot (page_pairs bytes) ++ (key, content) ∷ []) from bytes (slot_of now)
@@ -230,7 +242,7 @@ module _ (bytes : List ℕ) (slot : ℕ) (key : Key) (content : List ℕ)
         least = subst (λ (pairs : List Pair). IsLeast pairs from bytes (slot_of now))
             (ap (λ (p : Pair). take slot (page_pairs bytes) ++ p ∷ []) (sym pair_there)
             ∙ sym (take_more (page_pairs bytes) slot (key, content)
-            (omega (arith, within, length-map (page_records bytes) record_pair)))) least;
+            (omega (arith, has.0, length-map (page_records bytes) record_pair)))) least;
       }
 
   -- the pass has its key behind it
@@ -242,15 +254,12 @@ module _ (bytes : List ℕ) (slot : ℕ) (key : Key) (content : List ℕ)
       (best_over (take slot (page_pairs bytes)) ((key, content) ∷ []) from bytes best so_far.least
       (none, tt))
 
-  slot_has : HasKeyAt key (page_records bytes) slot
-  slot_has = (within, λ d. (there d).0)
-
   slot_least : IsBucketPage bytes → ahead ≡ true
       → IsLeastAt ((key, content) ∷ []) from bytes slot
   slot_least page is = record {
     key = key;
     page = page;
-    has = slot_has;
+    has = has;
     least = alone from key content (ahead_is.0 is);
   }
 
@@ -261,7 +270,7 @@ module _ (bytes : List ℕ) (slot : ℕ) (key : Key) (content : List ℕ)
   slot_left page is better first before not same =
       with_slot best same so_far.ranked
       (best_stays (take slot (page_pairs bytes)) ((key, content) ∷ []) from bytes bytes slot
-      (slot_least page is) key slot_has best better so_far.least first before not)
+      (slot_least page is) key has best better so_far.least first before not)
 
   -- it is less
   pub slot_taken : IsBucketPage bytes → ahead ≡ true → (better : Bool)
@@ -270,9 +279,9 @@ module _ (bytes : List ℕ) (slot : ℕ) (key : Key) (content : List ℕ)
       → IsBest (take (slot + 1) (page_pairs bytes)) from bytes next
   slot_taken page is better first before less of of_key now =
       with_slot (Some (record { slot = slot; rank = of })) now
-      record { key = key; page = page; has = slot_has; rank_is = of_key }
+      record { key = key; page = page; has = has; rank_is = of_key }
       (best_changes (take slot (page_pairs bytes)) ((key, content) ∷ []) from bytes bytes slot
-      (slot_least page is) key slot_has best better so_far.least first before less)
+      (slot_least page is) key has best better so_far.least first before less)
 
 -- ---- the pairs of entries, by their records
 

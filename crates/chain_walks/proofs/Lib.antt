@@ -1,10 +1,12 @@
 pub mod ContentReads
 pub mod Headers
+pub mod KeyRanks
 pub mod KeyWalks
 pub mod LeastKeys
 pub mod LeastWalks
 pub mod LinkBodies
 pub mod LoadedRecords
 pub mod ReadPages
+pub mod SamePages
 pub mod SoundLooks
 pub mod Walks

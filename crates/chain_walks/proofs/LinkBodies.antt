@@ -12,7 +12,7 @@ use Rattle.page_model.specs.Reading.{kind_of, next_of, read_as, body_by_kind, bu
 use Rattle.page_model.specs.Valid.{IsBucket, IsOf}
 use Rattle.page_model.proofs.Bodies.{body_spelled}
 use Rattle.page_model.proofs.Buckets.{length-slots_ending, length-slots_bytes, length-records}
-use Rattle.slot_page.specs.Contents.{IsBucketPage, IsPageOf}
+use Rattle.page_io.specs.BucketPages.{IsBucketPage, IsPageOf}
 use Rattle.slot_page.proofs.Pages.{is_head, is_overflow}
 use Rattle.chain_walks.specs.Links.{link_body, AreSound, IsLink, SaysLink}
 

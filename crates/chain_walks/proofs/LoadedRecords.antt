@@ -11,7 +11,7 @@ use Rattle.page_model.specs.Pages.{Body, Record}
 use Rattle.page_model.specs.Valid.{IsRecord, IsOf}
 use Rattle.page_model.specs.Chain.{Chain, entries_in, record_of}
 use Rattle.page_model.proofs.Chains.{AllByRecursion-append, AllByRecursion-right}
-use Rattle.slot_page.specs.Contents.{IsPageOf, page_records}
+use Rattle.page_io.specs.BucketPages.{IsPageOf, page_records}
 use Rattle.chain_walks.specs.Links.{SaysLink}
 use Rattle.chain_walks.specs.Chains.{ReadLeaf, ReadChain, all_records, chain_read, IsChainAt, BeginsAt}
 use Rattle.chain_walks.specs.Walks.{SaysAll}

@@ -5,7 +5,8 @@ use Rattle.dbm_model.specs.Bounds.{Version}
 use Rattle.dbm_model.specs.Pairs.{Key}
 use Rattle.dbm_model.specs.States.{Pass, Begun, Behind}
 use Rattle.page_model.specs.Pages.{Body, Record}
-use Rattle.slot_page.specs.Contents.{IsBucketPage, HasKeyAt, page_records}
+use Rattle.page_io.specs.BucketPages.{IsBucketPage, page_records}
+use Rattle.slot_page.specs.Contents.{HasKeyAt}
 use Rattle.chain_walks.specs.Links.{SaysLink}
 use Rattle.lin_addr.specs.declared.order.Ranked.{Ranked}
 use Rattle.chain_walks.specs.declared.leasts.Best.{Best}

@@ -7,7 +7,8 @@ use Rattle.dbm_model.specs.States.{Pass, Begun, Behind}
 use Rattle.dbm_model.specs.Steps.{IsAhead}
 use Rattle.page_model.specs.PairLists.{times}
 use Rattle.page_model.specs.Pages.{Body, Record}
-use Rattle.slot_page.specs.Contents.{IsBucketPage, HasKeyAt, page_records}
+use Rattle.page_io.specs.BucketPages.{IsBucketPage, page_records}
+use Rattle.slot_page.specs.Contents.{HasKeyAt}
 use Rattle.chain_walks.specs.Chains.{record_pair}
 use Rattle.chain_walks.specs.Walks.{SaysAll}
 

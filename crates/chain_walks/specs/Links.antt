@@ -5,7 +5,7 @@ use Rattle.dbm_model.specs.Bounds.{Version}
 use Rattle.page_model.specs.Pages.{Body, HeadPage, OverflowPage, Record, bucket}
 use Rattle.page_model.specs.Reading.{bucket_of}
 use Rattle.page_model.specs.Valid.{IsRecord, IsOf}
-use Rattle.slot_page.specs.Contents.{IsPageOf}
+use Rattle.page_io.specs.BucketPages.{IsPageOf}
 
 -- a head page, of kind 3, or an overflow page
 abbrev pub link_body : ℕ → ℕ → List Record → Body

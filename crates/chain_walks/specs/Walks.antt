@@ -8,7 +8,8 @@ use Rattle.page_model.specs.PairLists.{times}
 use Rattle.page_model.specs.Pages.{Body, Record}
 use Rattle.page_model.specs.Chain.{Chain, Entry, entries_in, pairs_in, record_of}
 use Rattle.page_model.specs.Slots.{size, taken}
-use Rattle.slot_page.specs.Contents.{IsBucketPage, HasKeyAt, page_records}
+use Rattle.page_io.specs.BucketPages.{IsBucketPage, page_records}
+use Rattle.slot_page.specs.Contents.{HasKeyAt}
 use Rattle.chain_walks.specs.Chains.{ReadLeaf, ReadChain, pairs_read, all_records, BeginsAt}
 use Rattle.chain_walks.specs.Links.{AreSound}
 use Rattle.chain_walks.specs.declared.place.Place.{Place}

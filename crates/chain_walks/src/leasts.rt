@@ -10,18 +10,22 @@ ghost use Rattle.page_io.specs.Answers.{HasDeviceCause};
 ghost use Rattle.page_io.specs.Views.{body_at, ReadsOnly};
 ghost use Rattle.page_io.specs.Versions.{model_version};
 ghost use Rattle.page_io.specs.declared.store.PageFault.TheVariants.{Damaged};
-ghost use Rattle.slot_page.specs.Contents.{IsBucketPage, HasKeyAt, page_records};
+ghost use Rattle.page_io.specs.BucketPages.{IsBucketPage, page_records};
+ghost use Rattle.slot_page.specs.Contents.{HasKeyAt};
 ghost use Rattle.chain_walks.specs.Answers.{IsWalkAnswer};
 ghost use Rattle.chain_walks.specs.Bests.{pass_from, slot_of, IsRankedAt, IsHeadRead};
 ghost use Rattle.chain_walks.specs.Chains.{record_pair, ForEachChain};
+ghost use Rattle.chain_walks.specs.KeyRanks.{key_ranks};
 ghost use Rattle.chain_walks.specs.Leasts.{pass_behind, IsLeast, IsLeastRead, IsAheadAt};
 
+use crate::PageRanks;
 use crate::link::{HEAD, OVERFLOW, read_link};
+use crate::page_ranks::{SlotRanks, take_ranks};
 use lin_addr::Ranked;
 use page_io::{Page, PageFault, PageStore, Version};
 use slot_page::pair_at;
 
-/// The best key so far: its slot in its page, and its rank.
+/// A key by its slot in its page, as the best one so far, with its rank.
 #[derive(Clone, Copy)]
 struct Best {
     slot: usize,
@@ -41,7 +45,7 @@ fn ranked(last: Option<&[u8]>) -> Option<Ranked<'_>>
     last.map(Ranked::of)
 }
 
-/// The key of a page's best slot, with the rank that was taken of it.
+/// The key in a slot, with the rank that was taken of it.
 fn ranked_at(page: &Page, best: Best) -> Ranked<'_>
     requires { IsRankedAt page.now.bytes best }
     ensures { HasKeyAt result.key.now (page_records page.now.bytes) best.slot }
@@ -52,45 +56,64 @@ fn ranked_at(page: &Page, best: Best) -> Ranked<'_>
     }
 }
 
-/// Whether the pass that gave `last` has the key before it.
-fn is_behind(last: Option<Ranked<'_>>, key: &Ranked<'_>) -> bool
-    ensures { IsTrue result ↔ IsAhead (pass_from last.entry) key.now.key.now }
+/// Whether the pass that gave `last` has the key in a slot before it. The key is read only where
+/// its rank is that of `last`.
+fn is_behind(last: Option<Ranked<'_>>, page: &Page, at: Best) -> bool
+    requires { IsRankedAt page.now.bytes at }
+    ensures { (key : Key) → HasKeyAt key (page_records page.now.bytes) at.slot
+        → IsTrue result ↔ IsAhead (pass_from last.entry) key }
 {
     match last {
-        Some(last) => last.comes_before(key),
+        Some(last) => {
+            if last.rank == at.rank {
+                last.comes_before(&ranked_at(page, at))
+            } else {
+                last.rank < at.rank
+            }
+        }
         None => true,
     }
 }
 
-/// Whether the key comes before the best one so far, which is one of `page`.
-fn is_better(key: &Ranked<'_>, page: &Page, best: Option<Best>) -> bool
-    requires { IfSome best (IsRankedAt page.now.bytes) }
+/// Whether the key in a slot of `look` comes before the best one so far, which is one of `page`.
+/// They are read only where they have one rank.
+fn is_better(look: &Page, at: Best, page: &Page, best: Option<Best>) -> bool
+    requires at { IsRankedAt look.now.bytes at }
+    requires best { IfSome best (IsRankedAt page.now.bytes) }
     ensures first { IfNone best (IsTrue result) }
-    ensures before { IfSome best (λ at. (other : Key)
-        → HasKeyAt other (page_records page.now.bytes) at.slot
-        → IsTrue result ↔ ComesBefore key.now.key.now other) }
+    ensures before { IfSome best (λ held. (key other : Key)
+        → HasKeyAt key (page_records look.now.bytes) at.slot
+        → HasKeyAt other (page_records page.now.bytes) held.slot
+        → IsTrue result ↔ ComesBefore key other) }
 {
     match best {
-        Some(best) => key.comes_before(&ranked_at(page, best)),
+        Some(best) => {
+            if at.rank == best.rank {
+                ranked_at(look, at).comes_before(&ranked_at(page, best))
+            } else {
+                at.rank < best.rank
+            }
+        }
         None => true,
     }
 }
 
-/// The least of the page's keys behind `last`. Each hash is taken once.
-fn least_in(page: &Page, last: Option<Ranked<'_>>) -> Option<Best>
-    requires { IsBucketPage page.now.bytes }
+/// The least of the page's keys behind `last`, where these are the ranks of its keys.
+fn least_in(page: &Page, ranks: &[u32], last: Option<Ranked<'_>>) -> Option<Best>
+    requires page { IsBucketPage page.now.bytes }
+    requires ranks { ranks.now ≡ key_ranks page.now.bytes }
     ensures ranked { IfSome result (IsRankedAt page.now.bytes) }
     ensures least { IsLeast (map record_pair (page_records page.now.bytes))
         (pass_from last.entry) page.now.bytes (slot_of result) }
 {
     let mut best = None;
-    for slot in 0..page.slots() as usize {
-        let key = Ranked::of(pair_at(page, slot).0);
-        if is_behind(last, &key) && is_better(&key, page, best) {
-            best = Some(Best {
-                slot,
-                rank: key.rank,
-            });
+    for slot in 0..ranks.len() {
+        let at = Best {
+            slot,
+            rank: ranks[slot],
+        };
+        if is_behind(last, page, at) && is_better(page, at, page, best) {
+            best = Some(at);
         }
     }
     best
@@ -102,20 +125,22 @@ fn best_of(
     page: &mut Page,
     best: Option<Best>,
     look: &Page,
+    ranks: &[u32],
     last: Option<Ranked<'_>>,
 ) -> Option<Best>
     requires best { IfSome best (IsRankedAt page.old.bytes) }
     requires look { IsBucketPage look.now.bytes }
+    requires ranks { ranks.now ≡ key_ranks look.now.bytes }
     ensures ranked { IfSome result (IsRankedAt page.new.bytes) }
     ensures least { (pairs : List Pair)
         → IsLeast pairs (pass_from last.entry) page.old.bytes (slot_of best)
         → IsLeast (pairs ++ map record_pair (page_records look.now.bytes))
         (pass_from last.entry) page.new.bytes (slot_of result) }
 {
-    let Some(least) = least_in(look, last) else {
+    let Some(least) = least_in(look, ranks, last) else {
         return best;
     };
-    if !is_better(&ranked_at(look, least), page, best) {
+    if !is_better(look, least, page, best) {
         return best;
     }
     *page = *look;
@@ -124,6 +149,8 @@ fn best_of(
 
 /// The slot of the least key of a chain, where `best` is that of its head page, which is `page`,
 /// and the overflow pages begin at page `first`; `page` is then its page.
+// Not inlined: its page and its ranks would be made ready for chains of one page too.
+#[inline(never)]
 fn least_with_overflow<S: PageStore>(
     store: &mut S,
     first: u32,
@@ -158,10 +185,12 @@ fn least_with_overflow<S: PageStore>(
         (λ chain. IsErrOf result Damaged → ⊥) }
 {
     let mut look = Page::blank();
+    let mut ranks = SlotRanks::new();
     let mut at = first;
     for _step in 1..store.end() {
         let next = read_link(store, at, OVERFLOW, &mut look, version)?;
-        best = best_of(page, best, &look, last);
+        take_ranks(&mut ranks, &look);
+        best = best_of(page, best, &look, ranks.as_slice(), last);
         if next == 0 {
             return Ok(slot_in(best));
         }
@@ -172,13 +201,15 @@ fn least_with_overflow<S: PageStore>(
 
 /// The slot of the least key behind `last` in the chain from page `head` on, in the order of a
 /// pass, or of the least of all where that is `None`; `page` is then its page. It reads each page
-/// of the chain once, at most as many as the file has, and takes no memory of its own. Damaged is
-/// answered as by `lookup`.
+/// of the chain once, at most as many as the file has, and takes no memory of its own. The keys of
+/// the head page are ranked where `ranks` is of other bytes, and `ranks` is then of that page.
+/// Damaged is answered as by `lookup`.
 pub fn least_behind<S: PageStore>(
     store: &mut S,
     head: u32,
     last: Option<&[u8]>,
     page: &mut Page,
+    ranks: &mut PageRanks,
     version: Version,
 ) -> Result<Option<usize>, PageFault>
     ensures reads { ReadsOnly S.PageStore store.old store.new }
@@ -203,7 +234,8 @@ pub fn least_behind<S: PageStore>(
 {
     let last = ranked(last);
     let next = read_link(store, head, HEAD, page, version)?;
-    let best = least_in(page, last);
+    ranks.set_page(page);
+    let best = least_in(page, ranks.ranks(), last);
     if next == 0 {
         return Ok(slot_in(best));
     }

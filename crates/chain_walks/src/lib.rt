@@ -6,12 +6,14 @@ mod leasts;
 mod link;
 mod loads;
 mod lookups;
+mod page_ranks;
 mod pair;
 mod place;
 
 pub use leasts::least_behind;
-pub use link::{HEAD, OVERFLOW, link_of, read_link};
+pub use link::{HEAD, OVERFLOW, read_link};
 pub use loads::load_all;
 pub use lookups::lookup;
+pub use page_ranks::PageRanks;
 pub use pair::Pair;
 pub use place::Place;

@@ -8,7 +8,8 @@ ghost use Rattle.page_io.specs.declared.store.PageFault.TheVariants.{Damaged};
 ghost use Rattle.chain_walks.specs.Chains.{ForEachChain};
 ghost use Rattle.chain_walks.specs.Walks.{IsLookup, IsLookedUp, CanLook};
 ghost use Rattle.chain_walks.specs.Answers.{IsWalkAnswer};
-ghost use Rattle.slot_page.specs.Contents.{IsPageOf, HasKeyAt, page_records};
+ghost use Rattle.page_io.specs.BucketPages.{IsPageOf, page_records};
+ghost use Rattle.slot_page.specs.Contents.{HasKeyAt};
 
 use crate::Place;
 use crate::link::{HEAD, OVERFLOW, read_link};

@@ -15,7 +15,8 @@ use Rattle.chain_walks.specs.Chains.{ReadLeaf}
 use Rattle.page_model.specs.Slots.{size, taken}
 use Rattle.page_model.specs.Valid.{IsFar, MayTell, IsRecord, IsOf}
 use Rattle.chain_walks.specs.declared.place.Place.{Place}
-use Rattle.slot_page.specs.Contents.{IsPageOf, HasKeyAt, page_records, told_content}
+use Rattle.page_io.specs.BucketPages.{IsPageOf, page_records}
+use Rattle.slot_page.specs.Contents.{HasKeyAt, told_content}
 use Rattle.content_pages.specs.Contents.{IsContentAt}
 use Rattle.linear_hash.specs.Looking.{IsHeld, IsFound, IsSearch, EndsAt, SaysContent, SaysPair}
 use Rattle.linear_hash.proofs.Tables.{placed, map_placed}

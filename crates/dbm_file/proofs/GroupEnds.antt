@@ -1,10 +1,9 @@
 -- How a store of many pairs ends, on a database at a handle.
-use Rattle.std.proofs.Common.{◌≡◌, ◌⊎◌, inl, inr, ⊎_elim, ℕ, ◌≤◌, List, [], take, map, true, false, cond, is_some, Option, Some, Result, Ok, Err, refl, sym, ◌∙◌, ap, subst, arith}
+use Rattle.std.proofs.Common.{◌≡◌, ◌⊎◌, inl, inr, ⊎_elim, ℕ, ◌≤◌, List, [], take, map, true, false, cond, is_some, Option, Some, Result, Err, refl, sym, ◌∙◌, ap, subst, arith}
 use Rattle.std.specs.Option.{option_map}
-use Rattle.std.specs.Prelude.{IsErrAnd}
 use Rattle.dbm_model.specs.Bounds.{Bounds}
 use Rattle.sect_dev.specs.Device.{LeavesOnly, MoreFaults}
-use Rattle.sect_dev.specs.Moments.{followed_by}
+use Rattle.sect_dev.specs.Moments.{weaker}
 use Rattle.dbm_model.specs.Calls as model
 use Rattle.dbm_model.specs.Changes.{replacing, with_pairs}
 use Rattle.dbm_model.specs.Pairs.{Pair, Contents}
@@ -16,9 +15,8 @@ use Rattle.page_model.specs.Valid.{IsMeta, meta_buckets}
 use Rattle.page_io.specs.Store.{Pages, Settled, StoreState, IsEither, file_of, page_of}
 use Rattle.page_io.specs.Meaning.{FileStandsFor, ImageStandsFor}
 use Rattle.page_io.specs.declared.store.PageStore.{Ghosts}
-use Rattle.page_io.specs.declared.store.PageFault.{PageFault}
 use Rattle.page_commit.specs.Committing.{Holds}
-use Rattle.dbm_fault.specs.Faults.{fault_of, fault_from}
+use Rattle.dbm_fault.specs.Faults.{fault_of}
 use Rattle.dbm_fault.specs.declared.fault.Fault.{Fault}
 use Rattle.dbm_fault.specs.declared.fault.Fault.TheVariants.{Device, Broken}
 use Rattle.dbm_file.specs.Held.{Held, held_by}
@@ -27,7 +25,7 @@ use Rattle.dbm_file.specs.Database.{store_of, meta_kept, page_state, handle_of, 
 use Rattle.dbm_file.specs.Grouping.{handle_in, IsAlike, HasStored}
 use Rattle.dbm_file.specs.Groups.{IsGroup, IsGroupRefused, GroupEnds}
 use Rattle.dbm_file.specs.Passing.{pass_of}
-use Rattle.dbm_file.specs.Trying.{with_fault, with_error_of, IsRead}
+use Rattle.dbm_file.specs.Trying.{with_fault, IsRead}
 use Rattle.dbm_file.specs.declared.database.Database.{Database}
 use Rattle.dbm_file.proofs.Breaks.{bounds_shown, held_shown}
 use Rattle.dbm_file.proofs.Lends.{kept_error}
@@ -42,16 +40,6 @@ same_handles h k state faults pages capacity buckets =
     ∙ ap (λ (n : ℕ). record h { state = k.state; faults = k.faults; pages = n }) pages
     ∙ ap (λ (n : ℕ). record k { capacity = n; buckets = h.buckets }) capacity
     ∙ ap (λ (n : ℕ). record k { buckets = n }) buckets
-
--- what a `?` answers of a fault of the pages
-pub group_told : {S : Type 0} (s : Ghosts S) (old new : Database S s) (h : Handle)
-    (pairs : List Pair) (e : PageFault) (r : Result ℕ Fault)
-    → IsErrAnd r (λ fault. fault ≡ fault_from e)
-    → IsGroupRefused old (with_fault new (fault_from e)) h pairs (fault_from e)
-    → GroupEnds old (with_error_of new r) h pairs r
-group_told s old new h pairs e (Ok stored) told refused = absurd told
-group_told s old new h pairs e (Err fault) told refused = subst
-    (λ (f : Fault). IsGroupRefused old (with_fault new f) h pairs f) (sym told) refused
 
 -- a refusal whose fault was then kept as the first one
 pub group_flagged : {S : Type 0} (s : Ghosts S) (old db : Database S s) (h : Handle)
@@ -93,29 +81,6 @@ broken_refuses s db h at broken pairs = record {
       (λ usable. absurd (let e = sym broken ∙ usable in cc));
   survives = λ usable. absurd (let e = sym broken ∙ usable in cc);
 }
-
--- a group that has just begun is at the map of the database
-pub group_at : {S G : Type 0} (s : Ghosts S) (g : Ghosts G) (db : Database S s)
-    (group : Database G g) (h : Handle) → IsAt db h → (page_state db).usable ≡ true
-    → g.committed (store_of group) ≡ s.committed (store_of db) → meta_kept group ≡ meta_kept db
-    → ((x : Settled) → g.settles_to (store_of group) x → x ≡ file_of (g.committed (store_of group)))
-    → IsAt group (handle_of group h.state.map)
-group_at s g db group h at usable committed meta only =
-    at_own group h.state.map (λ u. holds) (λ u x left.
-    subst (λ (y : Settled). ImageStandsFor y h.state.map (meta_kept group).bounds)
-    (sym (only x left)) holds.stands)
-  where
-    holds : Holds g (store_of group) (meta_kept group) h.state.map
-    holds = record {
-      stands = subst (λ (m : Meta). FileStandsFor (g.committed (store_of group)) h.state.map m.bounds)
-          (sym meta) (subst (λ (ps : Pages).
-          FileStandsFor ps h.state.map (meta_kept db).bounds) (sym committed)
-          (at.map usable).stands);
-      meta_is = subst (λ (m : Meta).
-          said_by (page_of (g.committed (store_of group))) 1 ≡ MetaPage m) (sym meta)
-          (subst (λ (ps : Pages). said_by (page_of ps) 1 ≡ MetaPage (meta_kept db))
-          (sym committed) (at.map usable).meta_is);
-    }
 
 module _ {S : Type 0} (s : Ghosts S) (old new : Database S s) (h : Handle) (at : IsAt old h)
     (honest : s.honest (store_of old)) (usable : (page_state old).usable ≡ true) where
@@ -179,27 +144,25 @@ module _ {S : Type 0} (s : Ghosts S) (old new : Database S s) (h : Handle) (at :
           (inl (held_shown old h at));
     }
 
--- what a commit leaves where it follows reads
-pub record IsCommitted {S : Type 0} (s : Ghosts S) (old mid new : Database S s)
+-- what a commit of a group leaves
+pub record IsCommitted {S : Type 0} (s : Ghosts S) (old new : Database S s)
     (grouped : Pages) : Type 0 where
-  pub read : IsRead old mid
   pub error_is : new.error ≡ old.error
   pub pass_is : new.pass ≡ old.pass
-  pub later : s.faults (store_of mid) ≤ s.faults (store_of new)
-  pub any_moment : LeavesOnly s.moment s.settled_since (store_of mid) (store_of new)
-      (IsEither (s.committed (store_of mid)) grouped)
+  pub later : s.faults (store_of old) ≤ s.faults (store_of new)
+  pub any_moment : LeavesOnly s.moment s.settled_since (store_of old) (store_of new)
+      (IsEither (s.committed (store_of old)) grouped)
 
-module _ {S G : Type 0} (s : Ghosts S) (g : Ghosts G) (old mid new : Database S s)
+module _ {S G : Type 0} (s : Ghosts S) (g : Ghosts G) (old new : Database S s)
     (first last : Database G g) (h : Handle) (at : IsAt old h)
-    (honest : s.honest (store_of old)) (usable : (page_state old).usable ≡ true)
-    (writable : (page_state old).writable ≡ true)
+    (usable : (page_state old).usable ≡ true) (writable : (page_state old).writable ≡ true)
     (pairs : List Pair) (stored : HasStored first last h.state.map pairs)
     (last_usable : (page_state last).usable ≡ true)
     (end : (page_state first).end ≡ (page_state old).end)
     (meta : meta_kept first ≡ meta_kept old)
     (capacity : (page_state first).capacity ≡ (page_state old).capacity)
     (bounds : (meta_kept last).bounds ≡ (meta_kept old).bounds)
-    (done : IsCommitted s old mid new (g.committed (store_of last))) where
+    (done : IsCommitted s old new (g.committed (store_of last))) where
   abbrev before : Contents
   before = h.state.map
 
@@ -212,17 +175,14 @@ module _ {S G : Type 0} (s : Ghosts S) (g : Ghosts G) (old mid new : Database S 
   held : Holds g (store_of last) (meta_kept last) grouped
   held = stored.is_at.map last_usable
 
-  mid_holds : Holds s (store_of mid) (meta_kept mid) before
-  mid_holds = still_holds s old mid before done.read honest (at.map usable)
-
   -- each image at any moment stands for the map before or the one after
   each_either : (x : Settled)
-      → IsEither (s.committed (store_of mid)) (g.committed (store_of last)) x
+      → IsEither (s.committed (store_of old)) (g.committed (store_of last)) x
       → ImageStandsFor x before h.state.bounds ⊎ ImageStandsFor x grouped h.state.bounds
   each_either x (inl is) = inl (subst (λ (y : Settled).
       ImageStandsFor y before h.state.bounds) (sym is)
-      (subst (λ (n : Bounds). FileStandsFor (s.committed (store_of mid)) before n)
-      (still_bounds s old mid done.read ∙ sym (bounds_shown old h at)) mid_holds.stands))
+      (subst (λ (n : Bounds). FileStandsFor (s.committed (store_of old)) before n)
+      (sym (bounds_shown old h at)) (at.map usable).stands))
   each_either x (inr is) = inr (subst (λ (y : Settled).
       ImageStandsFor y grouped h.state.bounds) (sym is)
       (subst (λ (n : Bounds). FileStandsFor (g.committed (store_of last)) grouped n)
@@ -231,23 +191,14 @@ module _ {S G : Type 0} (s : Ghosts S) (g : Ghosts G) (old mid new : Database S 
   survives_so : (Left : Held → Type 0) → Left (held_by h.state)
       → Left (held_by (with_map h.state grouped)) → Survives old new Left
   survives_so Left left also =
-      followed_by s.moment s.settled_since (store_of old) (store_of mid) (store_of new)
-      (StandsForSome Left)
-      (IsEither (s.committed (store_of mid)) (g.committed (store_of last)))
-      (still_survives s old mid before done.read honest (at.rests usable) Left
-      (subst Left (sym (held_shown old h at)) left))
-      done.any_moment
+      weaker s.moment s.settled_since (store_of old) (store_of new) (StandsForSome Left)
+      (IsEither (s.committed (store_of old)) (g.committed (store_of last))) done.any_moment
       (λ x is. ⊎_elim (λ stands. (held_by h.state, left, stands))
       (λ stands. (held_by (with_map h.state grouped), also, stands))
       (each_either x is))
 
   faults_so : h.faults ≤ rises
-  faults_so = omega (
-    arith,
-    ap (λ (x : Handle). x.faults) at.shows,
-    done.read.reads.stages_only.later,
-    done.later,
-  )
+  faults_so = omega (arith, ap (λ (x : Handle). x.faults) at.shows, done.later)
 
   -- the handle that the group began from is the one before
   begins_so : handle_in h rises first before ≡ record h { faults = rises }

@@ -1,5 +1,5 @@
 -- Stores in a group, as steps of the database that it began from.
-use Rattle.std.proofs.Common.{◌≡◌, ◌⊎◌, inl, inr, ⊎_elim, ℕ, ◌+◌, ◌≤◌, List, [], ◌∷◌, ◌++◌, length, map, Bool, true, false, cond, Option, Some, None, Ok, refl, sym, ◌∙◌, ap, subst, arith}
+use Rattle.std.proofs.Common.{◌≡◌, ◌⊎◌, inl, inr, ⊎_elim, ℕ, ◌+◌, ◌≤◌, List, [], ◌∷◌, ◌++◌, map, Bool, true, false, cond, Option, Some, None, Ok, refl, sym, ◌∙◌, ap, subst, arith}
 use Rattle.std.specs.Prelude.{nat_le}
 use Rattle.std.specs.FinMap.{get, insert, len}
 use Rattle.std.proofs.lemmas.List.{map-append}
@@ -13,21 +13,16 @@ use Rattle.dbm_model.specs.Steps.{Case, Tells, Refuses, Declines, Finds, Passes,
 use Rattle.dbm_model.proofs.CaseLemmas.{map_of_usable}
 use Rattle.dbm_model.proofs.Runs.{run-push}
 use Rattle.page_model.specs.Valid.{meta_buckets}
-use Rattle.page_io.specs.Store.{Pages, Settled}
 use Rattle.page_io.specs.declared.store.PageStore.{Ghosts}
-use Rattle.page_io.proofs.Exits.{both_ways}
-use Rattle.page_io.proofs.Views.{reads_then}
-use Rattle.dbm_file.specs.Answers.{IsStep, IsSameDatabase, IsCallEnded}
+use Rattle.dbm_file.specs.Answers.{IsStep, IsCallEnded}
 use Rattle.dbm_file.specs.Calls.{store_reply}
 use Rattle.dbm_file.specs.Database.{store_of, meta_kept, page_state, handle_of, IsAt}
-use Rattle.dbm_file.specs.Grouping.{IsOver, IsSameGroup, handle_in, IsAlike, IsStoredIn, StoresOne, StoresMany}
-use Rattle.dbm_file.specs.Trying.{IsRead}
+use Rattle.dbm_file.specs.Grouping.{IsSameGroup, handle_in, IsAlike, IsStoredIn, StoresOne, StoresMany}
 use Rattle.dbm_file.specs.declared.calls.StoreReply.{StoreReply}
 use Rattle.dbm_file.specs.declared.calls.StoreReply.TheVariants.{Kept}
 use Rattle.dbm_file.specs.declared.calls.StoreReply.TheVariants as done
 use Rattle.dbm_file.specs.declared.database.Database.{Database}
 use Rattle.dbm_file.proofs.Cases.{by_length}
-use Rattle.dbm_file.proofs.ReadSteps.{at_own, still_capacity, still_bounds}
 
 -- a store that was acknowledged changed the map
 abbrev inserted : State → List ℕ → List ℕ → State
@@ -183,70 +178,6 @@ module _ {G : Type 0} {g : Ghosts G} (old new : Database G g) where
           is_at = subst (IsAt new) after_is is.is_at;
         }
 
-  -- what one that was refused leaves there
-  pub unstored_in : (pair : Pair) (fault : model.Fault) → meta_kept new ≡ meta_kept old
-      → (page_state new).end ≡ (page_state old).end
-      → (g.honest (store_of old) → (contents : Contents) → IsAt old (handle_of old contents)
-      → IsStep old new (handle_of old contents) (replacing pair) (model.Refused fault))
-      → IsSameGroup old new
-  unstored_in pair fault meta end step = record {
-    meta = meta;
-    end = end;
-    stays = λ honest contents at. stays contents (step honest contents at);
-  }
-    where
-      stays : (contents : Contents)
-          → IsStep old new (handle_of old contents) (replacing pair) (model.Refused fault)
-          → IsAt new (handle_of new contents)
-      stays contents is = elim (page_state new).usable as
-          (λ b. (page_state new).usable ≡ b → IsAt new (handle_of new contents)) [
-            | true ↦ λ usable.
-                let after_usable = ap (λ (h : Handle). h.state.usable) is.is_at.shows ∙ usable in
-                let left = map_of_usable (handle_of old contents) is.after (replacing pair)
-                (model.Refused fault) is.step after_usable in
-                subst (IsAt new) (is.is_at.shows ∙ ap (handle_of new) left) is.is_at
-            | false ↦ λ broken.
-                at_own new contents (λ usable. absurd (let e = sym broken ∙ usable in cc))
-                (λ usable. absurd (let e = sym broken ∙ usable in cc))
-          ] refl
-
--- reads one after another; `counts` is the store's law `counts_now`
-pub read_on : {S : Type 0} (s : Ghosts S) (old mid new : Database S s)
-    → ((t : ℕ) (y : Settled) → s.honest (store_of mid) → t ≤ (s.moment (store_of mid)).at
-    → s.settles_to (store_of mid) y → s.settled_since (store_of mid) t y)
-    → IsRead old mid → IsRead mid new → IsRead old new
-read_on s old mid new counts first second = record {
-  reads = reads_then s (store_of old) (store_of mid) (store_of new) counts first.reads second.reads;
-  meta_is = second.meta_is ∙ first.meta_is;
-  error_is = second.error_is ∙ first.error_is;
-  pass_is = second.pass_is ∙ first.pass_is;
-}
-
--- a group over a database stays over it while either is only called
-module _ {S G : Type 0} {s : Ghosts S} {g : Ghosts G} where
-  pub over_after : (db : Database S s) (old new : Database G g) → IsOver db old
-      → IsSameDatabase old new → IsOver db new
-  over_after db old new over goes = record {
-    ends = ap (λ (ps : Pages). length ps + 1) goes.base ∙ over.ends;
-    same = λ honest. goes.base ∙ over.same honest;
-    honesty = both_ways goes.honesty over.honesty;
-    bounds = goes.bounds ∙ over.bounds;
-    capacity = goes.capacity ∙ over.capacity;
-    writable = goes.writable ∙ over.writable;
-  }
-
-  module _ (old new : Database S s) (first last : Database G g) (begins : IsOver old first)
-      (read : IsRead old new) (over : IsOver new last) where
-    pub group_honest : g.honest (store_of first) → g.honest (store_of last)
-    group_honest honest =
-        over.honesty.1 (read.reads.stages_only.honesty.1 (begins.honesty.0 honest))
-
-    pub group_capacity : (page_state last).capacity ≡ (page_state first).capacity
-    group_capacity = over.capacity ∙ still_capacity s old new read ∙ sym begins.capacity
-
-    pub group_limit : (meta_kept last).bounds ≡ (meta_kept first).bounds
-    group_limit = over.bounds ∙ still_bounds s old new read ∙ sym begins.bounds
-
 -- a replacing store that is answered has stored its pair
 pub is_stored : (reply : StoreReply) → (reply ≡ Kept → ⊥) → reply ≡ done.Stored
 is_stored done.Stored not_kept = refl
@@ -277,16 +208,6 @@ as_stored {old = old} {new = new} {h = h} key content pair reply k v is step =
     (subst (λ (r : StoreReply). IsStep old new h (model.Store key content model.Replace)
     (store_reply (Ok r))) is step))
 
-pub as_refused : {G : Type 0} {g : Ghosts G} {old new : Database G g} {h : Handle}
-    (key content : List ℕ) (pair : Pair) (fault : model.Fault) → key ≡ pair.0 → content ≡ pair.1
-    → IsStep old new h (model.Store key content model.Replace) (model.Refused fault)
-    → IsStep old new h (replacing pair) (model.Refused fault)
-as_refused {old = old} {new = new} {h = h} key content pair fault k v step =
-    subst (λ (x : List ℕ). IsStep old new h (model.Store x pair.1 model.Replace)
-    (model.Refused fault)) k
-    (subst (λ (x : List ℕ). IsStep old new h (model.Store key x model.Replace)
-    (model.Refused fault)) v step)
-
 -- the pairs stored so far, with one more
 last_pair : (contents : Contents) (pairs : List Pair) (pair : Pair)
     → with_pairs contents (pairs ++ pair ∷ []) ≡ insert (with_pairs contents pairs) pair.0 pair.1
@@ -295,18 +216,6 @@ last_pair contents (first ∷ pairs) pair = last_pair (insert contents first.0 f
 
 -- groups whose files are the same
 module _ {G : Type 0} {g : Ghosts G} where
-  pub same_group : (group : Database G g) → IsSameGroup group group
-  same_group group = record { meta = refl; end = refl; stays = λ honest contents at. at }
-
-  pub same_twice : (old mid new : Database G g) → IsSameGroup old mid → IsSameGroup mid new
-      → (g.honest (store_of old) → g.honest (store_of mid)) → IsSameGroup old new
-  same_twice old mid new first second honesty = record {
-    meta = second.meta ∙ first.meta;
-    end = second.end ∙ first.end;
-    stays = λ honest contents at.
-        second.stays (honesty honest) contents (first.stays honest contents at);
-  }
-
   same_handle : (old new : Database G g) → IsSameGroup old new → (before : Handle) (faults : ℕ)
       (contents : Contents)
       → handle_in before faults new contents ≡ handle_in before faults old contents
@@ -326,39 +235,6 @@ module _ {G : Type 0} {g : Ghosts G} where
     writable = alike.writable;
     bounds = alike.bounds ∙ sym bounds;
     capacity = alike.capacity ∙ sym capacity;
-  }
-
-  -- a pair stored in a group that was the same before
-  pub then_one : (old mid new : Database G g) (pair : Pair) → IsSameGroup old mid
-      → (page_state mid).capacity ≡ (page_state old).capacity
-      → (g.honest (store_of old) → g.honest (store_of mid))
-      → StoresOne mid new pair true → StoresOne old new pair true
-  then_one old mid new pair same capacity honesty one honest contents at =
-      let done = one (honesty honest) contents (same.stays honest contents at) in
-      record {
-        step = λ before faults alike.
-            subst (λ (h : Handle). Step h (replacing pair) model.Stored
-            (handle_in before faults new (insert contents pair.0 pair.1)))
-            (same_handle old mid same before faults contents)
-            (done.step before faults (alike_still old mid before (ap (λ m. m.bounds) same.meta)
-            capacity alike));
-        is_at = done.is_at;
-      }
-
-  -- whether it was stored or not
-  pub after_same : (old mid new : Database G g) (pair : Pair) (stored : Bool) → IsSameGroup old mid
-      → (page_state mid).capacity ≡ (page_state old).capacity
-      → (g.honest (store_of old) → g.honest (store_of mid))
-      → StoresOne mid new pair stored → StoresOne old new pair stored
-  after_same old mid new pair true same capacity honesty one =
-      then_one old mid new pair same capacity honesty one
-  after_same old mid new pair false same capacity honesty one =
-      same_twice old mid new same one honesty
-
-  pub none_stored : (group : Database G g) → StoresMany group group []
-  none_stored group honest contents at = record {
-    run = λ before faults alike. refl;
-    is_at = at;
   }
 
   pub one_more_stored : (old mid new : Database G g) (pairs : List Pair) (pair : Pair)

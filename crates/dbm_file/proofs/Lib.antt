@@ -12,6 +12,7 @@ pub mod EnoughRoom
 pub mod FetchSteps
 pub mod GoodFiles
 pub mod GroupEnds
+pub mod GroupLoans
 pub mod GroupSteps
 pub mod Lends
 pub mod OpenedFiles

@@ -21,7 +21,7 @@ use Rattle.page_io.specs.Views.{body_at}
 use Rattle.page_io.specs.declared.store.PageStore.{Ghosts}
 use Rattle.page_io.specs.declared.store.PageFault.{PageFault}
 use Rattle.page_io.specs.declared.store.PageFault.TheVariants as page
-use Rattle.slot_page.specs.Contents.{IsBucketPage, page_records}
+use Rattle.page_io.specs.BucketPages.{IsBucketPage, page_records}
 use Rattle.chain_walks.specs.Answers.{IsWalkAnswer}
 use Rattle.chain_walks.specs.Leasts.{IsLeast}
 use Rattle.linear_hash.specs.Tables.{IsTable, ForEachTable}

@@ -1,5 +1,5 @@
 -- Calls that read pages at most, as steps.
-use Rattle.std.proofs.Common.{◌≡◌, ◌⊎◌, ◌↔◌, inl, inr, ℕ, ◌+◌, ◌≤◌, Bool, true, false, cond, Option, Some, None, is_some, Ok, Err, IsErrOf, refl, sym, ◌∙◌, ap, subst, arith}
+use Rattle.std.proofs.Common.{◌≡◌, ◌⊎◌, ◌↔◌, inl, inr, ℕ, ◌+◌, ◌≤◌, Bool, true, false, cond, List, Option, Some, None, is_some, Ok, Err, IsErrOf, refl, sym, ◌∙◌, ap, subst, arith}
 use Rattle.std.specs.Prelude.{IsTrue}
 use Rattle.std.specs.Option.{option_map}
 use Rattle.std.specs.FinMap.{len}
@@ -104,12 +104,13 @@ no_read s db only = record {
   pass_is = refl;
 }
 
--- with another store, of which pages were read, and another page
+-- with another store, of which pages were read, another page, and the ranks of another
 abbrev pub after_reads : {S : Type 0} (s : Ghosts S) (db : Database S s) (read : S) (page : Page)
-    → ReadsOnly s (store_of db) read → Database S s
-after_reads s db read page reads = record db {
+    (ranked : List ℕ) → ReadsOnly s (store_of db) read → Database S s
+after_reads s db read page ranked reads = record db {
   store = read;
   page = page;
+  ranks = ranked;
   idle = ap (λ (st : store.StoreState). st.staged) reads.same ∙ db.idle;
   told = ap (λ (st : store.StoreState). st.writable) reads.same ∙ db.told;
 }

@@ -8,7 +8,8 @@ use Rattle.dbm_model.specs.States.{Pass, NotBegun}
 use Rattle.dbm_model.specs.Steps.{IsAhead}
 use Rattle.chain_walks.specs.Chains.{ReadLeaf}
 use Rattle.page_model.specs.Pages.{Meta, Body, Record}
-use Rattle.slot_page.specs.Contents.{page_records, told_content}
+use Rattle.page_io.specs.BucketPages.{page_records}
+use Rattle.slot_page.specs.Contents.{told_content}
 use Rattle.content_pages.specs.Contents.{IsContentAt}
 use Rattle.chain_walks.specs.Walks.{EndsWithout}
 use Rattle.chain_walks.specs.declared.place.Place.{Place}

@@ -2,7 +2,7 @@
 use Rattle.std.specs.Prelude.{◌≤◌, ◌<◌, ℕ, List, [], length, Option, Some, None, slice_index_or}
 use Rattle.page_model.specs.Pages.{Record}
 use Rattle.page_io.specs.declared.store.PageStore.{Ghosts}
-use Rattle.slot_page.specs.Contents.{IsPageOf, page_records}
+use Rattle.page_io.specs.BucketPages.{IsPageOf, page_records}
 use Rattle.dbm_file.specs.Database.{meta_kept}
 use Rattle.dbm_file.specs.Rooms.{longest_content}
 use Rattle.dbm_file.specs.declared.database.Database.{Database}

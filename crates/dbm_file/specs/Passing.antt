@@ -4,7 +4,7 @@ use Rattle.std.specs.Borrow.{Bor}
 use Rattle.dbm_model.specs.Calls.{Call, First, Next}
 use Rattle.dbm_model.specs.States as model
 use Rattle.page_io.specs.declared.store.PageStore.{Ghosts}
-use Rattle.slot_page.specs.Contents.{page_records}
+use Rattle.page_io.specs.BucketPages.{page_records}
 use Rattle.dbm_file.specs.declared.pass.Pass.{Pass}
 use Rattle.dbm_file.specs.declared.pass.Pass.TheVariants.{NotBegun, Begun, Behind}
 use Rattle.dbm_file.specs.declared.database.Database.{Database}

@@ -5,7 +5,8 @@ use Rattle.dbm_model.specs.Pairs.{Key}
 use Rattle.dbm_model.specs.States.{Pass, NotBegun}
 use Rattle.chain_walks.specs.Chains.{ReadLeaf}
 use Rattle.page_model.specs.Pages.{Meta, Body, Record}
-use Rattle.slot_page.specs.Contents.{HasKeyAt, page_records, told_content}
+use Rattle.page_io.specs.BucketPages.{page_records}
+use Rattle.slot_page.specs.Contents.{HasKeyAt, told_content}
 use Rattle.content_pages.specs.Contents.{IsContentAt}
 use Rattle.page_io.specs.Views.{body_at}
 use Rattle.page_io.specs.declared.store.PageStore.{Ghosts}

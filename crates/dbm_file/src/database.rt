@@ -6,6 +6,7 @@ ghost use Rattle.seg_table.specs.MetaPages.{model_meta};
 
 use crate::pass::Pass;
 use crate::{Fault, Stat};
+use chain_walks::PageRanks;
 use content_pages::read_content;
 use linear_hash::find_pair;
 use page_cache::CachedPages;
@@ -37,6 +38,8 @@ pub struct Database<S: PageStore> {
     pub(crate) content: Vec<u8>,
     pub(crate) error: Option<Fault>,
     pub(crate) pass: Pass,
+    // Of the head page that a pass looked at last.
+    pub(crate) ranks: PageRanks,
     pub(crate) writable: bool,
     pub(crate) alloc: Global,
     pub(crate) ghost idle: { (S.state store).staged ≡ [] },

@@ -1,33 +1,40 @@
 //! Stores of many pairs in one commit.
-ghost use Rattle.std.specs.Prelude.{◌≡◌, ◌↔◌, ◌≤◌, true, false, Ok, Err, IfOk, IfErr, length, map, take, [], ◌∷◌};
+ghost use Rattle.std.specs.Prelude.{◌≡◌, ◌↔◌, ◌≤◌, true, false, Some, Ok, Err, IfOk, IfErr, length, map, take, [], ◌∷◌};
 ghost use Rattle.dbm_fault.specs.Among.{IsErrAmong};
-ghost use Rattle.page_io.specs.Answers.{HasDeviceCause};
-ghost use Rattle.page_io.specs.declared.store.PageFault.TheVariants.{Device};
+ghost use Rattle.page_group.specs.Base.{MayBegin};
+ghost use Rattle.page_model.specs.Valid.{IsMeta};
+ghost use Rattle.seg_table.specs.MetaPages.{model_meta};
+ghost use Rattle.dbm_file.specs.Answers.{IsSameDatabase};
+ghost use Rattle.dbm_file.specs.Database.{page_state, AtEachHandle};
+ghost use Rattle.dbm_file.specs.Grouping.{IsBegun, BeginsAt, IsDeviceEnd, StoresOne, StoresMany, IsLeft, EndsLent};
 ghost use Rattle.dbm_file.specs.Pairs.{pair_of};
 
 use crate::database::{Database, refuse};
 use crate::pass::Pass;
 use crate::{Fault, Pair, StoreMode};
-use page_group::GroupPages;
+use chain_walks::PageRanks;
+use page_group::{GroupEnd, GroupPages, Loan};
 use page_io::{Page, PageFault, PageStore};
+use seg_table::Meta;
+use std::alloc::Global;
+use std::marker::Brand;
 
-/// How many pages a group may hold in memory before it ends, 32 MB of them.
+/// How many pages a group may change in memory before it ends, 32 MB of them.
 const GROUP_PAGES: usize = 16_384;
 
 impl<S: PageStore> Database<S> {
     ghost use Rattle.dbm_file.specs.Answers.{IsCallEnded};
-    ghost use Rattle.dbm_file.specs.Database.{store_of, meta_kept, page_state, handle_of, IsAt, AtEachHandle};
-    ghost use Rattle.dbm_file.specs.Grouping.{IsOver, IsSameGroup, StoresOne, StoresTried, StoresMany};
     ghost use Rattle.dbm_file.specs.Groups.{GroupEnds};
     ghost use Rattle.dbm_file.specs.Passing.{pass_of};
-    ghost use Rattle.dbm_file.specs.Trying.{with_error_of, IsRead};
+    ghost use Rattle.dbm_file.specs.Trying.{with_error_of};
 
     /// Stores pairs in one commit, each in the place of its key's where that is there, and answers
     /// how many: those from the first one on up to the first that a store alone might refuse, or
-    /// that takes more than 32 MB of pages with the others, or more memory than there is. So it may
-    /// be none, and the next one is then for `store`. In this order: `Broken`; `ReadOnly`; `Device`
-    /// while pages are read or in the commit. Where the commit fails, the database is broken, and
-    /// opening the device again settles whether all of them are there or none.
+    /// that changes more than 32 MB of pages with the others, or takes more memory than there is.
+    /// So it may be none, and the next one is then for `store`. In this order: `Broken`;
+    /// `ReadOnly`; `Device` while pages are read or in the commit. Where the commit fails, the
+    /// database is broken, and opening the device again settles whether all of them are there or
+    /// none.
     pub fn store_many(&mut self, pairs: &[Pair]) -> Result<usize, Fault>
         ensures ends { AtEachHandle self.old (λ h.
             GroupEnds self.old self.new h (map pair_of pairs.now) result) }
@@ -61,137 +68,142 @@ impl<S: PageStore> Database<S> {
         ensures keeps { IsCallEnded self.old (with_error_of self.new result) result }
         ensures only { IfErr result (λ fault. fault ≡ Fault.Device) }
     {
-        let mut group = self.group();
-        let stored = self.fill(&mut group, pairs)?;
-        if stored == 0 || group.store.is_broken() {
-            return Ok(0);
-        }
-        match group.store.commit_into(&mut self.store) {
-            Ok(true) => {
-                self.meta = group.meta.copied();
-                Ok(stored)
-            }
-            Ok(false) => Ok(0),
-            Err(fault) => Err(Fault::from(fault)),
-        }
+        let Grouped { stored, .. } = store_lent::<S, Brand>(
+            self.alloc,
+            &mut self.store,
+            &mut self.meta,
+            pairs,
+        );
+        stored
     }
+}
 
-    // A database in memory that is as this one.
-    fn group(&self) -> Database<GroupPages<S>>
-        requires usable { (page_state self.now).usable ≡ true }
-        requires writable { (page_state self.now).writable ≡ true }
-        ensures over { IsOver self.now result }
-        ensures end { (page_state result).end ≡ (page_state self.now).end }
-        ensures meta { meta_kept result ≡ meta_kept self.now }
-        ensures is_at { AtEachHandle self.now (λ h.
-            IsAt result (handle_of result h.state.map)) }
-    {
-        Database {
-            store: GroupPages::over(self.alloc, &self.store),
-            meta: self.meta.copied(),
-            page: Page::blank(),
-            content: Vec::new(self.alloc),
-            error: None,
-            pass: Pass::NotBegun,
-            writable: true,
-            alloc: self.alloc,
-        }
-    }
+// What became of a group.
+#[derive(Drop)]
+struct Grouped<'a, S: PageStore> {
+    // The store that was lent.
+    base: &'a mut S,
+    // How many pairs were committed.
+    stored: Result<usize, Fault>,
+}
 
-    // Stores pairs in the group, from the first one on, and answers how many it has taken.
-    fn fill(
-        &mut self,
-        group: &mut Database<GroupPages<S>>,
-        pairs: &[Pair],
-    ) -> Result<usize, PageFault>
-        requires usable { (page_state self.old).usable ≡ true }
-        requires over { IsOver self.old group.old }
-        ensures reads { IsRead self.old self.new }
-        ensures over { IsOver self.new group.new }
-        ensures stored { IfOk result (λ stored.
-            StoresMany group.old group.new (map pair_of (take stored pairs.now))) }
-        ensures within { IfOk result (λ stored. stored ≤ length pairs.now) }
-        ensures cause { HasDeviceCause (S.faults (store_of self.old)) (S.faults (store_of self.new))
-            result }
-        ensures only { IfErr result (λ e. e ≡ Device) }
-    {
-        for (count, pair) in pairs.iter().enumerate() {
-            if group.store.held() >= GROUP_PAGES {
-                return Ok(count);
-            }
-            if !self.store_in(group, pair)? {
-                return Ok(count);
-            }
-        }
-        Ok(pairs.len())
-    }
-
-    // Stores a pair in the group, with the pages that this takes. Where the group can't take it,
-    // nothing has changed there.
-    fn store_in(
-        &mut self,
-        group: &mut Database<GroupPages<S>>,
-        pair: &Pair,
-    ) -> Result<bool, PageFault>
-        requires usable { (page_state self.old).usable ≡ true }
-        requires over { IsOver self.old group.old }
-        ensures reads { IsRead self.old self.new }
-        ensures over { IsOver self.new group.new }
-        ensures stored { IfOk result (StoresOne group.old group.new (pair_of pair.now)) }
-        ensures cause { HasDeviceCause (S.faults (store_of self.old)) (S.faults (store_of self.new))
-            result }
-        ensures only { IfErr result (λ e. e ≡ Device) }
-    {
-        for _ in 0..self.store.end() {
-            if let Some(stored) = self.try_in(group, pair)? {
-                return Ok(stored);
+// Stores pairs in a group over this store, and commits them. Where they are, the meta page is then
+// the new one.
+fn store_lent<'a, S: PageStore, L: Loan<S>>(
+    alloc: Global,
+    base: &'a mut S,
+    meta: &mut Meta,
+    pairs: &[Pair],
+) -> Grouped<'a, S>
+    requires same { base.ghost_name ≡ L.name }
+    requires lent { L.began ≡ Some base.old }
+    requires ready { MayBegin (S.state base.old) }
+    requires valid { IsMeta (model_meta meta.old) }
+    ensures same { result.base.ghost_name ≡ base.entry.ghost_name }
+    ensures ends { EndsLent S.PageStore base.old result.base.now meta.old meta.new
+        (map pair_of pairs.now) result.stored }
+    ensures left { IsLeft S.PageStore base.old result.base.now (model_meta meta.old)
+        (model_meta meta.new) (length pairs.now) result.stored }
+{
+    let mut group: Database<GroupPages<'a, S, L>> = group_over(alloc, base, meta);
+    let filled = fill(&mut group, pairs);
+    let Database {
+        store,
+        meta: grouped,
+        ..
+    } = group;
+    match filled {
+        Ok(count) if !store.is_broken() => {
+            let GroupEnd { base, done } = store.commit_all();
+            match done {
+                Ok(true) => {
+                    *meta = grouped;
+                    Grouped {
+                        base,
+                        stored: Ok(count),
+                    }
+                }
+                Ok(false) => Grouped {
+                    base,
+                    stored: Ok(0),
+                },
+                Err(fault) => Grouped {
+                    base,
+                    stored: Err(Fault::from(fault)),
+                },
             }
         }
-        Ok(false)
+        Ok(_) => Grouped {
+            base: store.into_base(),
+            stored: Ok(0),
+        },
+        Err(fault) => Grouped {
+            base: store.into_base(),
+            stored: Err(Fault::from(fault)),
+        },
     }
+}
 
-    // Tries to store a pair in the group: whether it has, or `None` where the group lacked a page
-    // and was given it, so that it may be tried again.
-    fn try_in(
-        &mut self,
-        group: &mut Database<GroupPages<S>>,
-        pair: &Pair,
-    ) -> Result<Option<bool>, PageFault>
-        requires usable { (page_state self.old).usable ≡ true }
-        requires over { IsOver self.old group.old }
-        ensures reads { IsRead self.old self.new }
-        ensures over { IsOver self.new group.new }
-        ensures stored { IfOk result (StoresTried group.old group.new (pair_of pair.now)) }
-        ensures cause { HasDeviceCause (S.faults (store_of self.old)) (S.faults (store_of self.new))
-            result }
-        ensures only { IfErr result (λ e. e ≡ Device) }
-    {
-        match group.store(&pair.key, &pair.content, StoreMode::Replace) {
-            Ok(_) => Ok(Some(true)),
-            Err(Fault::Device) => Ok(if self.supply(group)? {
-                None
-            } else {
-                Some(false)
-            }),
-            Err(_) => Ok(Some(false)),
+// A database in memory over the pages of this store, to which this meta page belongs.
+fn group_over<'a, S: PageStore, L: Loan<S>>(
+    alloc: Global,
+    base: &'a mut S,
+    meta: &Meta,
+) -> Database<GroupPages<'a, S, L>>
+    requires same { base.ghost_name ≡ L.name }
+    requires lent { L.began ≡ Some base.old }
+    requires ready { MayBegin (S.state base.old) }
+    requires valid { IsMeta (model_meta meta.now) }
+    ensures begins { IsBegun S.PageStore base.old (model_meta meta.now) result }
+    ensures is_at { BeginsAt S.PageStore base.old (model_meta meta.now) result }
+{
+    Database {
+        store: GroupPages::over(alloc, base),
+        meta: meta.copied(),
+        page: Page::blank(),
+        content: Vec::new(alloc),
+        error: None,
+        pass: Pass::NotBegun,
+        ranks: PageRanks::new(),
+        writable: true,
+        alloc,
+    }
+}
+
+// Stores pairs in the group, from the first one on, and answers how many it has taken.
+fn fill<S: PageStore, L: Loan<S>>(
+    group: &mut Database<GroupPages<'_, S, L>>,
+    pairs: &[Pair],
+) -> Result<usize, PageFault>
+    ensures goes { IsSameDatabase group.old group.new }
+    ensures stored { IfOk result (λ stored.
+        StoresMany group.old group.new (map pair_of (take stored pairs.now))) }
+    ensures within { IfOk result (λ stored. stored ≤ length pairs.now) }
+    ensures device { IfErr result (IsDeviceEnd group.old group.new) }
+{
+    for (count, pair) in pairs.iter().enumerate() {
+        if group.store.held() >= GROUP_PAGES {
+            return Ok(count);
+        }
+        if !store_in(group, pair)? {
+            return Ok(count);
         }
     }
+    Ok(pairs.len())
+}
 
-    // Gives the group the page that it asked for last.
-    fn supply(&mut self, group: &mut Database<GroupPages<S>>) -> Result<bool, PageFault>
-        requires usable { (page_state self.old).usable ≡ true }
-        requires over { IsOver self.old group.old }
-        ensures reads { IsRead self.old self.new }
-        ensures over { IsOver self.new group.new }
-        ensures same { IsSameGroup group.old group.new }
-        ensures cause { HasDeviceCause (S.faults (store_of self.old)) (S.faults (store_of self.new))
-            result }
-        ensures only { IfErr result (λ e. e ≡ Device) }
-    {
-        let Some(n) = group.store.missed() else {
-            return Ok(false);
-        };
-        self.store.read(n, &mut self.page)?;
-        Ok(group.store.supply(n, &self.page).is_ok())
+// Stores a pair in the group. Where the group can't take it, nothing has changed there.
+fn store_in<S: PageStore, L: Loan<S>>(
+    group: &mut Database<GroupPages<'_, S, L>>,
+    pair: &Pair,
+) -> Result<bool, PageFault>
+    ensures goes { IsSameDatabase group.old group.new }
+    ensures stored { IfOk result (StoresOne group.old group.new (pair_of pair.now)) }
+    ensures device { IfErr result (IsDeviceEnd group.old group.new) }
+{
+    match group.store(&pair.key, &pair.content, StoreMode::Replace) {
+        Ok(_) => Ok(true),
+        Err(Fault::Device) if !group.store.is_broken() => Err(PageFault::Device),
+        Err(_) => Ok(false),
     }
 }

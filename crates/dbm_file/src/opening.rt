@@ -19,6 +19,7 @@ ghost use Rattle.dbm_file.specs.Opened.{pages_kept, device_below, device_opened,
 use crate::database::{Database, Db};
 use crate::pass::Pass;
 use crate::{Fault, OpenHow};
+use chain_walks::PageRanks;
 use file_opening::open_file;
 use page_cache::CachedPages;
 use page_io::{Page, PageStore};
@@ -129,6 +130,7 @@ impl<D: SectorDev> Database<CachedPages<Pager<D>>> {
                 content: Vec::new(alloc),
                 error: None,
                 pass: Pass::NotBegun,
+                ranks: PageRanks::new(),
                 writable: file.writable,
                 alloc,
             }),

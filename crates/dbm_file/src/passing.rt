@@ -103,7 +103,13 @@ impl<S: PageStore> Database<S> {
         ensures only { IsErrAmong result (Fault.Device ∷ Fault.Damaged ∷ []) }
     {
         let last = self.pass.last(begins);
-        match next_pair(&mut self.store, &self.meta, last, &mut self.page) {
+        match next_pair(
+            &mut self.store,
+            &self.meta,
+            last,
+            &mut self.page,
+            &mut self.ranks,
+        ) {
             Ok(Some(slot)) => {
                 self.pass.go_behind(pair_at(&self.page, slot).0);
                 Ok(Some(slot))

@@ -19,14 +19,14 @@ byte_decoded (Ok bytes) (x ∷ []) done answer well h one = ap (λ l. Some l) h.
 byte_decoded (Ok bytes) (x ∷ y ∷ more) done answer well h one = absurd (omega (arith, one))
 byte_decoded (Err e) out done answer well h one = cc
 
-nothing_before : (bytes : Option (List ℕ)) → bytes ≡ joined (Some []) bytes
+pub nothing_before : (bytes : Option (List ℕ)) → bytes ≡ joined (Some []) bytes
 nothing_before None = refl
 nothing_before (Some bytes) = refl
 
-one_behind : (front : List ℕ) (byte : ℕ) (rest : Option (List ℕ))
-    → joined (Some front) (joined (Some (byte ∷ [])) rest) ≡ joined (Some (front ++ byte ∷ [])) rest
-one_behind front byte None = refl
-one_behind front byte (Some bytes) = ap (λ l. Some l) (sym (append_assoc front (byte ∷ []) bytes))
+pub behind_both : (first second : List ℕ) (rest : Option (List ℕ))
+    → joined (Some first) (joined (Some second) rest) ≡ joined (Some (first ++ second)) rest
+behind_both first second None = refl
+behind_both first second (Some rest) = ap (λ l. Some l) (sym (append_assoc first second rest))
 
 -- nothing is read yet
 pub read_first : (front : List ℕ) (bytes : Option (List ℕ)) → front ≡ []
@@ -38,7 +38,7 @@ pub read_on : (whole rest behind : Option (List ℕ)) (front longer : List ℕ) 
     → whole ≡ joined (Some front) rest → rest ≡ joined (Some (byte ∷ [])) behind
     → longer ≡ front ++ byte ∷ [] → whole ≡ joined (Some longer) behind
 read_on whole rest behind front longer byte so_far one more =
-    so_far ∙ ap (joined (Some front)) one ∙ one_behind front byte behind
+    so_far ∙ ap (joined (Some front)) one ∙ behind_both front (byte ∷ []) behind
     ∙ ap (λ l. joined (Some l) behind) (sym more)
 
 -- a pair has two fields

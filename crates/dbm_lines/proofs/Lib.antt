@@ -1,6 +1,10 @@
 pub mod BadLines
+pub mod DigitLanes
+pub mod DigitPairs
+pub mod DigitRuns
 pub mod Dumps
 pub mod FieldBytes
+pub mod FieldRuns
 pub mod PairLines
 pub mod Reading
 pub mod Requests

@@ -26,12 +26,15 @@ module _ (p : ℕ → Bool) where
     | inr w ↦ let e = rw (w.0) at h in cc
   ]
 
+  pub past_all : (xs : List ℕ) → None ≡ position p xs → length xs ≤ position_or_len p xs
+  past_all xs h = elim (leb_tells (suc (position_or_len p xs)) (length xs)) [
+    | inl w ↦ let e = rw (w.0) at h in cc
+    | inr w ↦ omega (arith, w.1)
+  ]
+
   -- one part where none passes
   pub split_nowhere : (xs : List ℕ) → None ≡ position p xs → slice_split p xs ≡ xs ∷ []
-  split_nowhere xs h = elim (leb_tells (suc (position_or_len p xs)) (length xs)) [
-    | inl w ↦ let e = rw (w.0) at h in cc
-    | inr w ↦ whole xs (omega (arith, w.1))
-  ]
+  split_nowhere xs h = whole xs (past_all xs h)
 
   -- the parts before and behind the first that passes
   pub split_there : (xs : List ℕ) (i : ℕ) → Some i ≡ position p xs

@@ -5,7 +5,7 @@ use Rattle.hex.specs.Hex.{encode_with, encode_lower}
 use Rattle.dbm_text.specs.Words.{word_of}
 use Rattle.dbm_lines.proofs.FieldBytes.{appends_on}
 
-encode-append : (digits xs ys : List ℕ)
+pub encode-append : (digits xs ys : List ℕ)
     → encode_with digits (xs ++ ys) ≡ encode_with digits xs ++ encode_with digits ys
 unfolding encode_with
 encode-append digits [] ys = refl

@@ -1,5 +1,6 @@
 pub mod BadLines
 pub mod Bounds
+pub mod Digits
 pub mod Forms
 pub mod LineLaws
 pub mod PairLines

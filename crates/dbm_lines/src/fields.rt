@@ -1,5 +1,5 @@
 // Fields with escapes: their bytes, and the pair of a line of two.
-ghost use Rattle.std.specs.Prelude.{◌≡◌, ◌≤◌, ◌<◌, ◌∷◌, ◌++◌, [], Some, IfSome, IfNone, OnOk, IsTrue, codes, length, option_and_then, None, vec_capacity, if◌then◌else◌};
+ghost use Rattle.std.specs.Prelude.{◌≡◌, ◌≤◌, ◌<◌, ◌∷◌, ◌++◌, [], Some, IfSome, IfNone, OnOk, IsTrue, codes, length, option_and_then, position, ◌==◌, None, vec_capacity, vec_len, ◌+◌, if◌then◌else◌};
 ghost use Rattle.std.specs.Option.{option_map};
 ghost use Rattle.std.specs.Io.KnownBytes.{Appends};
 ghost use Rattle.hex.specs.Hex.{encode_lower};
@@ -7,7 +7,7 @@ ghost use Rattle.dbm_text.specs.Words.{decoded};
 ghost use Rattle.dbm_text.specs.Escapes.{escape_of, escaped, key_field, marked, unescaped, behind_backslash, behind_x, joined, fields_in, pair_of_fields, longest_text_line, pair_of_text_line};
 
 use crate::bounds::LONGEST_TEXT_LINE;
-use crate::splitting::split_at;
+use crate::splitting::{first_separator, split_at};
 use std::io::{self, Write};
 
 /// Writes the bytes as a field. It takes no memory, and writes the bytes between two escapes at
@@ -91,27 +91,40 @@ pub fn unescape(field: &[u8], bytes: &mut Vec<u8>) -> bool
 {
     bytes.clear();
     let mut rest = field;
-    while !rest.is_empty() {
-        let Some((byte, behind)) = first_byte(rest) else {
+    while let Some(plain) = first_backslash(rest) {
+        append(bytes, &rest[..plain]);
+        let Some((byte, behind)) = byte_of_letter(&rest[plain + 1..]) else {
             return false;
         };
         bytes.push(byte).unwrap();
         rest = behind;
     }
+    append(bytes, rest);
     true
 }
 
-/// The first byte that a field stands for, and the field behind it.
-fn first_byte(field: &[u8]) -> Option<(u8, &[u8])>
-    requires { 0 < length field.now }
-    ensures bytes { unescaped field.now ≡ option_and_then
-        (λ parts. joined (Some (parts.0 ∷ [])) (unescaped parts.1.now)) result }
-    ensures shorter { IfSome result (λ parts. length parts.1.now < length field.now) }
+/// Appends the bytes, for which there is room.
+fn append(bytes: &mut Vec<u8>, run: &[u8])
+    requires { vec_len bytes.old + length run.now ≤ vec_capacity bytes.old }
+    ensures items { bytes.new.items ≡ bytes.old.items ++ run.now }
+    ensures len { vec_len bytes.new ≡ vec_len bytes.old + length run.now }
+    ensures capacity { vec_capacity bytes.old ≤ vec_capacity bytes.new }
+{
+    if !run.is_empty() {
+        bytes.extend_from_slice(run).unwrap();
+    }
+}
+
+/// Where the first backslash of a field stands, if there is one. One that is near is found without a
+/// search.
+fn first_backslash(field: &[u8]) -> Option<usize>
+    ensures { result ≡ position (λ byte. byte == 92) field.now }
 {
     match field {
-        [b'\\', behind @ ..] => byte_of_letter(behind),
-        [byte, behind @ ..] => Some((*byte, behind)),
-        [] => None,
+        [b'\\', ..] => Some(0),
+        [_, b'\\', ..] => Some(1),
+        [_, _, b'\\', ..] => Some(2),
+        _ => first_separator(field, b'\\'),
     }
 }
 

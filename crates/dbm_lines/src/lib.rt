@@ -5,6 +5,7 @@
 mod bad_lines;
 mod bounds;
 mod buffers;
+mod digits;
 mod fields;
 mod forms;
 mod line_laws;

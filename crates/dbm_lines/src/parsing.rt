@@ -10,6 +10,7 @@ ghost use Rattle.dbm_lines.specs.PairLines.{pair_of_line, pair_of_words};
 ghost use Rattle.dbm_lines.specs.Requests.{asked, bytes_in, pair_of_parts, IsNamed};
 
 use crate::bounds::{LONGEST_LINE, longest_in};
+use crate::digits::decode;
 use crate::fields::{pair_in_fields, unescape};
 use crate::forms::TextForm;
 use crate::splitting::{split_at, split_part};
@@ -203,5 +204,5 @@ pub fn decode_word(word: &[u8], bytes: &mut Vec<u8>) -> bool
         return false;
     }
     bytes.resize(word.len() / 2, 0).unwrap();
-    hex::decode_to_slice(word, bytes).is_ok()
+    decode(word, bytes)
 }

@@ -7,6 +7,7 @@ ghost use Rattle.dbm_text.specs.TextScripts.{is_like_reply, reply_field};
 ghost use Rattle.dbm_text.specs.Words.{word_of};
 ghost use Rattle.dbm_lines.specs.Forms.{reply_line_in};
 
+use crate::digits::encode;
 use crate::fields::{write_escaped, write_marked};
 use crate::forms::TextForm;
 use std::io::{self, Write};
@@ -142,7 +143,7 @@ pub fn write_word<W: Write>(writer: &mut W, bytes: &[u8]) -> io::Result<()>
     while !rest.is_empty() {
         let (run, behind) = rest.split_at(rest.len().min(RUN));
         let text = &mut digits[..2 * run.len()];
-        hex::encode_to_slice(run, text).unwrap();
+        encode(run, text);
         writer.write_all(text)?;
         rest = behind;
     }

@@ -35,7 +35,7 @@ pub fn split_at(line: &[u8], separator: u8) -> Option<(&[u8], &[u8])>
 }
 
 /// Where the first separator of a line stands, if there is one.
-fn first_separator(line: &[u8], separator: u8) -> Option<usize>
+pub fn first_separator(line: &[u8], separator: u8) -> Option<usize>
     ensures { result ≡ position (λ byte. byte == separator) line.now }
 {
     memchr(separator, line)

@@ -17,7 +17,7 @@ use Rattle.content_pages.proofs.ContentTexts.{content_said, said_headed}
 use Rattle.free_pages.proofs.FreePageTexts.{free_said, said_again}
 use Rattle.seg_table.proofs.HeadTexts.{heads_spelled}
 use Rattle.seg_table.proofs.Segments.{segment_found, segment_again}
-use Rattle.slot_page.specs.Contents.{IsBucketPage, IsPageOf, page_records}
+use Rattle.page_io.specs.BucketPages.{IsBucketPage, IsPageOf, page_records}
 use Rattle.slot_page.proofs.Pages.{spelled_page}
 use Rattle.dbm_salvage.specs.Salvage.{ReadsAs}
 

@@ -10,7 +10,7 @@ use Rattle.dbm_model.specs.Pairs.{Pair}
 use Rattle.page_model.specs.Pages.{Body, Record}
 use Rattle.page_model.specs.Reading.{slot_count}
 use Rattle.page_model.specs.Slots.{size, total_size}
-use Rattle.slot_page.specs.Contents.{IsBucketPage, page_records}
+use Rattle.page_io.specs.BucketPages.{IsBucketPage, page_records}
 use Rattle.slot_page.proofs.Pages.{counted}
 use Rattle.dbm_salvage.specs.Salvage.{IsPairOf, ArePairsOf, printed, line_of}
 

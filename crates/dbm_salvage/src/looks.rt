@@ -3,7 +3,7 @@
 ghost use Rattle.std.specs.Prelude.{◌≡◌, ◌↔◌, ◌<◌, ◌⊎◌, ◌≢◌, ℕ, IsTrue, IsFalse, IfErr, OnOk, Ok, true, false, [], slice_index};
 ghost use Rattle.page_model.specs.Meaning.{records_on};
 ghost use Rattle.page_model.specs.Reading.{kind_of, body_of};
-ghost use Rattle.slot_page.specs.Contents.{IsBucketPage, page_records};
+ghost use Rattle.page_io.specs.BucketPages.{IsBucketPage, page_records};
 ghost use Rattle.dbm_salvage.specs.Salvage.{ReadsAs, IsNoPage};
 
 use crate::trouble::Trouble;

@@ -9,7 +9,7 @@ ghost use Rattle.dbm_text.specs.Dumps.{dump_line};
 ghost use Rattle.page_model.specs.Meaning.{records_on};
 ghost use Rattle.page_model.specs.Reading.{body_of};
 ghost use Rattle.page_io.specs.Page.{page_at};
-ghost use Rattle.slot_page.specs.Contents.{IsBucketPage, page_records};
+ghost use Rattle.page_io.specs.BucketPages.{IsBucketPage, page_records};
 ghost use Rattle.dbm_salvage.specs.Reads.{Looks};
 ghost use Rattle.dbm_salvage.specs.Salvage.{said_in, ReadsAs, IsContentBy, is_failed, IsRecordSalvaged, IsPageSalvaged};
 ghost use Rattle.dbm_salvage.specs.declared.trouble.Trouble.TheVariants.{Unread, Content};

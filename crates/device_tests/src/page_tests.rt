@@ -5,7 +5,7 @@ ghost use Rattle.page_io.specs.Store.{StoreState};
 
 use crate::sectors::sector_of;
 use crate::stores::{may_end_at_5, numbered, stage};
-use page_io::{MemPages, Page, PageFault, PageStore, read_page, replace_byte, write_page};
+use page_io::{MemPages, Page, PageFault, PageStore, read_page, write_page};
 use sect_dev::{DevFault, Fuse, MemDev, SectorDev};
 use std::alloc::{AllocError, Global};
 use std::test::Fail;
@@ -27,9 +27,9 @@ fn header_fields_are_big_endian(rt: HostRuntime) {
     assert!(rt; page == Page::default());
     page.set_own(0x0102_0304);
     page.set_kind(3);
-    page.set_slots(0x0506);
+    page.set_u16_at(6, 0x0506);
     page.set_next(0x0708_090a);
-    page.set_low(0x07f6);
+    page.set_u16_at(12, 0x07f6);
     let bytes = [1, 2, 3, 4, 3, 0, 5, 6, 7, 8, 9, 10, 7, 0xf6, 0, 0];
     let fields = [0x0102_0304, 3, 0x0506, 0x0708_090a, 0x07f6];
     assert!(rt; page.bytes.starts_with(&bytes) && header_of(&page) == fields);
@@ -59,7 +59,7 @@ fn a_page_without_slots(rt: HostRuntime) {
     assert!(rt; page.bytes.starts_with(&bytes));
     assert!(rt; page.is_plain(2, 2) && !page.is_plain(3, 2) && !page.is_plain(2, 5));
     assert!(rt; page.is_clear(24, 2048) && page.is_clear(23, 23) && !page.is_clear(23, 2048));
-    page.set_low(1);
+    page.set_u16_at(12, 1);
     assert!(rt; !page.is_plain(2, 2));
 }
 
@@ -130,7 +130,7 @@ fn last_byte<S: PageStore>(store: &mut S, n: u32) -> Result<u8, PageFault>
 {
     let mut page = Page::blank();
     match store.read(n, &mut page) {
-        Ok(()) => Ok(page.bytes[2047]),
+        Ok(_) => Ok(page.bytes[2047]),
         Err(PageFault::Damaged) => Ok(0),
         Err(fault) => Err(fault),
     }
@@ -195,13 +195,5 @@ fn a_commit_without_room(rt: HostRuntime) -> Result<(), Fail> {
     assert!(rt; answer == Err(PageFault::NoRoom) && store.is_staged(4));
     store.unstage();
     assert!(rt; !store.is_staged(4) && end_with(&mut store, [1, 4, 4], [1, 0, 0])?);
-    Ok(())
-}
-
-#[test]
-fn one_byte_is_replaced(rt: HostRuntime) -> Result<(), Fail> {
-    let mut store = three_pages(rt.alloc())?;
-    replace_byte(&mut store, &mut Page::blank(), 2, 2047, 9)?;
-    assert!(rt; end_with(&mut store, [1, 2, 2], [1, 9, 9])? && !store.is_staged(2));
     Ok(())
 }

@@ -31,11 +31,15 @@ pub fn read<S: PageStore, W: Watch>(
     ensures cause { HasDeviceCause (S.faults store.old) (S.faults store.new) result }
     ensures told { IsTold (IsErrOf result Damaged) (W.has_told watch.old) (W.has_told watch.new) }
 {
-    let read = store.read(n, page);
-    if read == Err(PageFault::Damaged) {
-        watch.flaw(flaw);
+    match store.read(n, page) {
+        Ok(_) => Ok(()),
+        Err(fault) => {
+            if fault == PageFault::Damaged {
+                watch.flaw(flaw);
+            }
+            Err(fault)
+        }
     }
-    read
 }
 
 /// The next free page after page `n`, as `free_pages` reads it.

@@ -10,4 +10,4 @@ mod order;
 pub use fnv::hash;
 pub use growth::Shape;
 pub use laws::buckets_are_intervals;
-pub use order::{Ranked, comes_before, rank};
+pub use order::{Ranked, rank};

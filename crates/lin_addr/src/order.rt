@@ -42,10 +42,3 @@ impl<'a> Ranked<'a> {
         self.rank < other.rank || (self.rank == other.rank && self.key < other.key)
     }
 }
-
-/// Whether a key comes before another one in a pass.
-pub fn comes_before(key: &[u8], other: &[u8]) -> bool
-    ensures { IsTrue result ↔ ComesBefore key.now other.now }
-{
-    Ranked::of(key).comes_before(&Ranked::of(other))
-}

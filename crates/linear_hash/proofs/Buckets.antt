@@ -9,7 +9,7 @@ use Rattle.page_model.specs.Numbers.{IsNumber}
 use Rattle.page_model.specs.Pages.{Meta, Body, Record}
 use Rattle.dbm_model.specs.Pairs.{Key, Pair, key_cmp}
 use Rattle.page_model.specs.Chain.{Chain, numbers, pairs_in, record_of}
-use Rattle.slot_page.specs.Contents.{page_records}
+use Rattle.page_io.specs.BucketPages.{page_records}
 use Rattle.page_model.specs.Placement.{Placement, contents, key_bucket, chain_at, IsSound}
 use Rattle.page_model.specs.PageBodies.{first_of, heads_of, segment_bodies, lower_bodies, AreRead}
 use Rattle.page_model.proofs.AddressLemmas.{address_below}

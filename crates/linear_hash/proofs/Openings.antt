@@ -24,7 +24,7 @@ use Rattle.page_model.proofs.Frames.{kept, at_most_one}
 use Rattle.page_model.proofs.Openings.{segments_split, taken_dropped, touched, places, heads_opened, open_rewrites}
 use Rattle.page_model.proofs.Spaces.{times_head, times_tail}
 use Rattle.page_model.proofs.Splits.{headed_pages, opened_sound}
-use Rattle.slot_page.specs.Contents.{IsBucketPage, page_records}
+use Rattle.page_io.specs.BucketPages.{IsBucketPage, page_records}
 use Rattle.free_pages.specs.declared.free_state.FreeState.{FreeState}
 use Rattle.free_pages.specs.FreeList.{state_of, IsFreeList, IsApart}
 use Rattle.seg_table.specs.Heads.{CanSet, IsHeadSet, needs_segment, with_head}

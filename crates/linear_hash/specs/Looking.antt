@@ -6,7 +6,8 @@ use Rattle.dbm_model.specs.Pairs.{Key, Pair}
 use Rattle.page_model.specs.Pages.{Meta, Body, Record}
 use Rattle.page_model.specs.Placement.{key_bucket}
 use Rattle.seg_table.specs.Heads.{HasEntry, SaysSegment}
-use Rattle.slot_page.specs.Contents.{IsPageOf, HasKeyAt, page_records, told_content}
+use Rattle.page_io.specs.BucketPages.{IsPageOf, page_records}
+use Rattle.slot_page.specs.Contents.{HasKeyAt, told_content}
 use Rattle.content_pages.specs.Contents.{IsContentAt}
 use Rattle.chain_walks.specs.Chains.{ReadLeaf}
 use Rattle.chain_walks.specs.Walks.{IsWalk, LacksKey, EndsWithout, IsRecordAt, CanLook}

@@ -12,14 +12,15 @@ ghost use Rattle.chain_walks.specs.Leasts.{pass_behind, IsLeast, IsAheadAt};
 ghost use Rattle.linear_hash.specs.Tables.{ForEachTable};
 ghost use Rattle.linear_hash.specs.Passing.{IsPassed};
 
-use bucket_chain::least_behind;
+use bucket_chain::{PageRanks, least_behind};
 use lin_addr::hash;
 use page_io::{Page, PageFault, PageStore};
 use seg_table::{Meta, head_of};
 
 /// The slot of the least key behind `last`, in the order of a pass, or of the least of all where
 /// that is `None`; `page` is then its page. It looks in the bucket of `last` and then in those that
-/// follow it, and reads a segment page and all pages of a chain for each. It takes no memory.
+/// follow it, and reads a segment page and all pages of a chain for each. It takes no memory. The
+/// keys of a head page are ranked where `ranks` is of other bytes, and `ranks` is then of that page.
 /// Damaged is answered where one of these pages is none of a segment, or none of a chain of the
 /// file's version; Broken only where the store isn't usable; Device where a read of the device
 /// fails.
@@ -28,6 +29,7 @@ pub fn next_pair<S: PageStore>(
     meta: &Meta,
     last: Option<&[u8]>,
     page: &mut Page,
+    ranks: &mut PageRanks,
 ) -> Result<Option<usize>, PageFault>
     requires { IsMeta (model_meta meta.now) }
     ensures reads { ReadsOnly S.PageStore store.old store.new }
@@ -54,7 +56,7 @@ pub fn next_pair<S: PageStore>(
     let mut bucket = last.map_or(0, |key| meta.shape.bucket(hash(key)));
     loop {
         let head = head_of(store, meta, bucket, page)?;
-        if let Some(slot) = least_behind(store, head, last, page, meta.version)? {
+        if let Some(slot) = least_behind(store, head, last, page, ranks, meta.version)? {
             return Ok(Some(slot));
         }
         match meta.shape.following(bucket) {

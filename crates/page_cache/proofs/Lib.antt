@@ -1,3 +1,3 @@
-mod Cleanness
+mod CurrentCopies
 mod Lookups
 mod Whole

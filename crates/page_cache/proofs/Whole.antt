@@ -3,19 +3,19 @@ use Rattle.std.proofs.Common.{◌≡◌}
 use Rattle.std.proofs.Props.{props}
 use mathlib.Core.HLevel.{is_prop→PathP}
 use Rattle.page_io.specs.declared.store.PageStore.{Ghosts}
-use Rattle.page_cache.specs.Clean.{AreClean}
+use Rattle.page_cache.specs.Current.{AreCurrent}
 use Rattle.page_cache.specs.Copies.{copies_of}
 use Rattle.page_cache.specs.declared.cached_pages.CachedPages.{CachedPages}
-use Rattle.page_cache.specs.declared.clean_pages.CleanPages.{CleanPages}
+use Rattle.page_cache.specs.declared.page_copies.PageCopies.{PageCopies}
 
-pub same_store : {S : Type 0} (s : Ghosts S) (old new : S) (clean : CleanPages)
-    (now : AreClean s new (copies_of clean)) (before : AreClean s old (copies_of clean))
+pub same_store : {S : Type 0} (s : Ghosts S) (old new : S) (copies : PageCopies)
+    (now : AreCurrent s new (copies_of copies)) (before : AreCurrent s old (copies_of copies))
     → new ≡ old
-    → ◌≡◌ {A = CachedPages S s} (record { store = new; clean = clean; are_clean = now })
-    (record { store = old; clean = clean; are_clean = before })
-same_store s old new clean now before same = λ i. record {
+    → ◌≡◌ {A = CachedPages S s} (record { store = new; copies = copies; are_current = now })
+    (record { store = old; copies = copies; are_current = before })
+same_store s old new copies now before same = λ i. record {
   store = same i;
-  clean = clean;
-  are_clean = is_prop→PathP (λ j. AreClean s (same j) (copies_of clean))
+  copies = copies;
+  are_current = is_prop→PathP (λ j. AreCurrent s (same j) (copies_of copies))
       (λ j. Prim.hlevel props) now before i;
 }

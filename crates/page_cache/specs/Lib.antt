@@ -1,4 +1,4 @@
-pub mod Clean
 pub mod Copies
+pub mod Current
 pub mod Room
 pub mod Stores

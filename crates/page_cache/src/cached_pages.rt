@@ -1,29 +1,31 @@
-// A store that keeps copies of clean pages.
+// A store that keeps copies of its pages.
 ghost use Rattle.std.specs.Prelude.{◌≡◌};
-ghost use Rattle.page_cache.specs.Clean.{AreClean};
 ghost use Rattle.page_cache.specs.Copies.{copies_of};
+ghost use Rattle.page_cache.specs.Current.{AreCurrent};
 
-use crate::clean_pages::CleanPages;
-use page_io::{Page, PageFault, PageStore, ServedStore};
+use crate::page_copies::PageCopies;
+use page_io::{Page, PageFault, PageStore, ServedStore, Version};
 use sect_dev::Told;
 use std::alloc::{AllocError, Global};
 use std::num::NonZeroUsize;
 
-/// A store of pages over another one. It keeps copies of committed pages that were read, of up to
-/// 256 where nobody asks for another number, and reads them there.
+/// A store of pages over another one. It keeps copies of pages that were read or staged, of up to
+/// 256 where nobody asks for another number, with what is known of them, and reads them there.
 #[derive(Drop)]
 pub struct CachedPages<S: PageStore> {
     store: S,
-    clean: CleanPages,
-    ghost are_clean: { AreClean S.PageStore store (copies_of clean) },
+    copies: PageCopies,
+    ghost are_current: { AreCurrent S.PageStore store (copies_of copies) },
 }
 
 impl<S: PageStore> CachedPages<S> {
-    ghost use Rattle.std.specs.Prelude.{◌↔◌, IsTrue};
+    ghost use Rattle.std.specs.Prelude.{◌↔◌, IfSome, IsSome, IsTrue};
     ghost use Rattle.std.specs.NonZero.{non_zero_usize_get};
-    ghost use Rattle.page_io.specs.Store.{page_of, overlaid};
-    ghost use Rattle.page_cache.specs.Clean.{IsReadable};
-    ghost use Rattle.page_cache.specs.Stores.{store_below, most_kept, HasCopy};
+    ghost use Rattle.page_io.specs.BucketPages.{IsPageOf};
+    ghost use Rattle.page_io.specs.Versions.{model_version};
+    ghost use Rattle.page_io.specs.Views.{visible_page};
+    ghost use Rattle.page_cache.specs.Current.{IsReadable, HasNoStaged};
+    ghost use Rattle.page_cache.specs.Stores.{store_below, most_kept, HasCopy, kept_copies};
 
     /// A store over this one, with no copies. Where the room for copies is refused it keeps none.
     pub fn new(alloc: Global, store: S) -> CachedPages<S>
@@ -32,7 +34,7 @@ impl<S: PageStore> CachedPages<S> {
     {
         CachedPages {
             store,
-            clean: CleanPages::new(alloc),
+            copies: PageCopies::new(alloc),
         }
     }
 
@@ -42,7 +44,7 @@ impl<S: PageStore> CachedPages<S> {
         ensures store { store_below self.new ≡ store_below self.old }
         ensures most { most_kept self.new ≡ non_zero_usize_get most }
     {
-        self.clean.resize(most);
+        self.copies.resize(most);
     }
 
     /// The store below.
@@ -59,28 +61,51 @@ impl<S: PageStore> CachedPages<S> {
         self.store
     }
 
-    // Gives the copy of page n, if it has one that a read may answer.
-    fn find(&mut self, n: u32, page: &mut Page) -> bool
-        ensures hit { IsTrue result
+    // Whether a read may answer a copy of page n.
+    fn is_readable(&self, n: u32) -> bool
+        ensures { IsTrue result ↔ IsReadable (S.state (store_below self.now)) n }
+    {
+        !self.store.is_broken() && n >= 1 && n < self.store.end()
+    }
+
+    // Gives the copy of page n and what is known of it, if it has one that a read may answer.
+    fn find(&mut self, n: u32, page: &mut Page) -> Option<Option<Version>>
+        ensures hit { IsSome result
             ↔ (IsReadable (S.state (store_below self.old)) n × HasCopy self.old n) }
-        ensures found { S.honest (store_below self.old) → IsTrue result
-            → page.new.bytes ≡ overlaid (S.state (store_below self.old)).staged
-            (page_of (S.committed (store_below self.old))) n }
+        ensures found { S.honest (store_below self.old) → IsSome result
+            → page.new.bytes ≡ visible_page S.PageStore (store_below self.old) n }
+        ensures known { IfSome result (λ known. IfSome known
+            (λ version. IsPageOf (model_version version) page.new.bytes)) }
         ensures store { store_below self.new ≡ store_below self.old }
     {
-        if self.store.is_broken() || n < 1 || self.store.end() <= n {
-            return false;
+        if !self.is_readable(n) {
+            return None;
         }
-        self.clean.find(n, page)
+        self.copies.find(n, page)
+    }
+
+    // Takes the copies of all staged pages out.
+    fn forget_staged(&mut self)
+        ensures store { store_below self.new ≡ store_below self.old }
+        ensures unstaged { HasNoStaged (S.state (store_below self.old)).staged
+            (kept_copies self.new) }
+    {
+        let mut from = 0;
+        while let Some(n) = self.store.next_staged(from) {
+            self.copies.forget(n);
+            from = n;
+        }
     }
 }
 
 impl<S: PageStore> PageStore for CachedPages<S> {
-    ghost use Rattle.std.specs.Prelude.{◌↔◌, OnOk, IsOk};
+    ghost use Rattle.std.specs.Prelude.{◌↔◌, OnOk, IfOk, IfSome, IsOk};
+    ghost use Rattle.page_io.specs.BucketPages.{IsPageOf};
     ghost use Rattle.page_io.specs.Answers.{HasDeviceCause, IsReadAnswer};
     ghost use Rattle.page_io.specs.Kept.{KeepsPages};
     ghost use Rattle.page_io.specs.Store.{page_of, overlaid};
-    ghost use Rattle.page_cache.specs.Clean.{IsReadable};
+    ghost use Rattle.page_io.specs.Versions.{model_version};
+    ghost use Rattle.page_cache.specs.Current.{IsReadable};
     ghost use Rattle.page_cache.specs.Stores.{store_below, HasCopy};
 
     ghost state = { λ c. S.state c.store };
@@ -118,11 +143,13 @@ impl<S: PageStore> PageStore for CachedPages<S> {
     ghost in_order = { λ c. S.in_order c.store };
 
     /// As the trait says, and a page that has a copy is answered from it.
-    fn read(&mut self, n: u32, page: &mut Page) -> Result<(), PageFault>
+    fn read(&mut self, n: u32, page: &mut Page) -> Result<Option<Version>, PageFault>
         ensures found { ⟦<CachedPages<S> as PageStore>⟧.honest self.old
             → OnOk result (page.new.bytes
             ≡ overlaid (⟦<CachedPages<S> as PageStore>⟧.state self.old).staged
             (page_of (⟦<CachedPages<S> as PageStore>⟧.committed self.old)) n) }
+        ensures known { IfOk result (λ known. IfSome known
+            (λ version. IsPageOf (model_version version) page.new.bytes)) }
         ensures answer { IsReadAnswer (⟦<CachedPages<S> as PageStore>⟧.state self.old) n result }
         ensures state { ⟦<CachedPages<S> as PageStore>⟧.state self.new
             ≡ ⟦<CachedPages<S> as PageStore>⟧.state self.old }
@@ -140,26 +167,30 @@ impl<S: PageStore> PageStore for CachedPages<S> {
         ensures hit { IsReadable (⟦<CachedPages<S> as PageStore>⟧.state self.old) n
             → HasCopy self.old n → IsOk result × (store_below self.new ≡ store_below self.old) }
     {
-        if self.find(n, page) {
-            return Ok(());
+        if let Some(known) = self.find(n, page) {
+            return Ok(known);
         }
-        self.store.read(n, page)?;
-        if !self.store.is_staged(n) {
-            self.clean.keep(n, page);
-        }
-        Ok(())
+        let known = self.store.read(n, page)?;
+        self.copies.keep(n, page, known);
+        Ok(known)
+    }
+
+    fn note(&mut self, n: u32, page: &Page, version: Version) {
+        self.copies.keep(n, page, Some(version));
     }
 
     fn stage(&mut self, n: u32, page: &Page) -> Result<(), PageFault> {
-        self.clean.forget(n);
-        self.store.stage(n, page)
+        self.store.stage(n, page)?;
+        self.copies.keep(n, page, None);
+        Ok(())
     }
 
     fn unstage(&mut self) {
+        self.forget_staged();
         self.store.unstage();
     }
 
-    // A page that it changes was staged, and so has no copy.
+    // What a read gave of a staged page it gives of the committed one.
     fn commit(&mut self, new_end: u32) -> Result<(), PageFault> {
         self.store.commit(new_end)
     }
@@ -179,6 +210,10 @@ impl<S: PageStore> PageStore for CachedPages<S> {
 
     fn is_staged(&self, n: u32) -> bool {
         self.store.is_staged(n)
+    }
+
+    fn next_staged(&self, n: u32) -> Option<u32> {
+        self.store.next_staged(n)
     }
 
     fn is_broken(&self) -> bool {

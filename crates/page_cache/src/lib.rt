@@ -1,7 +1,8 @@
-//! A store of pages over another one, which keeps clean pages in memory.
+//! A store of pages over another one, which keeps copies of its pages in memory.
 #![tactic(auto)]
 
 mod cached_pages;
-mod clean_pages;
+mod page_copies;
+mod page_copy;
 
 pub use cached_pages::CachedPages;

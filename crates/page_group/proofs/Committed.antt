@@ -1,12 +1,11 @@
 -- Laws of the committed pages of a group.
-use Rattle.std.proofs.Common.{◌≡◌, inl, inr, ℕ, suc, ◌+◌, ◌-◌, ◌<◌, ◌≤◌, List, [], ◌∷◌, length, get_or, max, true, false, refl, sym, ◌∙◌, ap, arith}
+use Rattle.std.proofs.Common.{◌≡◌, inl, inr, ℕ, suc, ◌+◌, ◌-◌, ◌<◌, ◌≤◌, List, [], ◌∷◌, length, get_or, true, false, refl, sym, ◌∙◌, ap, arith}
 use Rattle.std.proofs.lemmas.Bool.{cases_lt}
 use Rattle.page_io.specs.Store.{Pages, pages_from, page_of, overlaid, has_page, are_in_order, committed_with, AllBelow}
 use Rattle.page_io.proofs.Overlays.{same_file, page_of-file, overlaid-staged, overlaid-none}
 use Rattle.page_io.proofs.StagedPages.{order_below, order_wider, in_range, replaced}
 use Rattle.page_group.specs.Changed.{put_all}
 use Rattle.page_group.specs.Whole.{IsWhole}
-use Rattle.page_group.specs.declared.supplied_pages.SuppliedPages.{SuppliedPages}
 use Rattle.page_group.proofs.Putting.{AreWithin, order-put_all, has_page-put_all, overlaid-put_all}
 
 -- the pages of a list, one by one
@@ -42,10 +41,10 @@ changed_one base changed end n bytes old some within has is =
     is ∙ overlaid-staged changed (page_of base) old n has
     ∙ sym (page_of-file (overlaid changed (page_of base)) end n some within)
 
-pub supplied_one : (base changed : Pages) (end n : ℕ) (bytes : List ℕ) → 1 ≤ n → n < end
+pub base_one : (base changed : Pages) (end n : ℕ) (bytes : List ℕ) → 1 ≤ n → n < end
     → has_page changed n ≡ false → bytes ≡ page_of base n
     → bytes ≡ page_of (committed_with base changed end) n
-supplied_one base changed end n bytes some within none is =
+base_one base changed end n bytes some within none is =
     is ∙ sym (overlaid-none changed (page_of base) n none)
     ∙ sym (page_of-file (overlaid changed (page_of base)) end n some within)
 
@@ -73,22 +72,13 @@ module _ (base changed staged : Pages) (high old_end new_end : ℕ)
       ∙ replaced home old_end new_end staged grown
 
   -- all is held of them that was held before
-  pub whole_now : (Honest : Type 0) (supplied : SuppliedPages)
-      → IsWhole Honest base changed supplied old_end
+  pub whole_now : (base_end : ℕ) → IsWhole base_end changed old_end
       → ((n : ℕ) → old_end ≤ n → n < new_end → has_page staged n ≡ true)
-      → IsWhole Honest base (put_all changed staged) supplied new_end
-  whole_now Honest supplied whole grown = record {
-    same = whole.same;
+      → IsWhole base_end (put_all changed staged) new_end
+  whole_now base_end whole grown = record {
     below = committed_order;
     grown = λ n ge lt. has_page-put_all changed staged n (elim (cases_lt n old_end) [
       | inl old ↦ inl (whole.grown n ge old)
       | inr new ↦ inr (grown n new lt)
     ]);
   }
-
--- where the staged pages fit behind the greater end, the new end does
-pub room_left : (room capacity greater old_end new_end count staged : ℕ)
-    → room ≡ capacity - greater → greater ≡ max old_end new_end → count ≡ staged → count ≤ room
-    → 0 < staged → new_end ≤ capacity
-room_left room capacity greater old_end new_end count staged is greatest counted fits some =
-    omega (arith, is, greatest, counted, fits, some)

@@ -1,3 +1,4 @@
+mod Bases
 mod Committed
 mod Entries
 mod Putting

@@ -1,5 +1,5 @@
 -- Laws of staging all changed pages in a store.
-use Rattle.std.proofs.Common.{◌≡◌, ◌⊎◌, ◌↔◌, inl, inr, ℕ, ◌+◌, ◌≤◌, [], Bool, true, false, Result, Ok, Err, OnOk, refl, sym, ◌∙◌, ap, subst, arith}
+use Rattle.std.proofs.Common.{◌≡◌, ◌⊎◌, ◌↔◌, inl, inr, ℕ, ◌<◌, ◌≤◌, [], ◌∷◌, Bool, true, false, Result, Ok, Err, OnOk, refl, sym, ◌∙◌, ap, subst, arith}
 use Rattle.std.proofs.lemmas.Bool.{false≢true}
 use Rattle.std.specs.Bool.{IsTrue}
 use Rattle.std.specs.Prelude.{length}
@@ -16,10 +16,9 @@ use Rattle.page_io.specs.declared.store.PageFault.TheVariants.{Memory, Broken}
 use Rattle.page_io.proofs.Exits.{came, if_exit}
 use Rattle.page_io.proofs.Runs.{kept_then_either}
 use Rattle.page_io.proofs.Views.{stages_then}
-use Rattle.page_commit.specs.Committing.{IsForgotten, IsUntouched}
+use Rattle.page_commit.specs.Committing.{MayCommit, IsForgotten, IsUntouched}
 use Rattle.page_group.specs.Staging.{IsStagingAnswer}
 use Rattle.page_group.specs.Whole.{IsWhole}
-use Rattle.page_group.specs.declared.supplied_pages.SuppliedPages.{SuppliedPages}
 use Rattle.page_group.proofs.Putting.{order_all_below}
 
 -- before the first page. `only` is the store's law `only_now`
@@ -44,22 +43,35 @@ none_yet s store only = record {
   now = λ h y is. is;
 }
 
--- once all are staged, a commit may end the file where the group's ends
-pub all_staged : {T E : Type 0} (result : Result T E) (old new : StoreState)
-    (Honest : Type 0) (base changed : Pages) (supplied : SuppliedPages) (end : ℕ)
-    → IsWhole Honest base changed supplied end
-    → length base + 1 ≤ end → length base + 1 ≡ old.end
+-- a list that has a page is not empty
+not_none : (pages : Pages) (n : ℕ) → has_page pages n ≡ true → 0 < length pages
+not_none [] n has = absurd (false≢true has)
+not_none (page ∷ pages) n has = omega arith
+
+-- once all are staged, a commit may end the file there
+pub all_staged : {T E : Type 0} (result : Result T E) (old new : StoreState) (changed : Pages)
+    (end : ℕ) → IsWhole old.end changed end → old.end ≤ end
     → new ≡ record old { staged = new.staged } → OnOk result (new.staged ≡ changed)
     → OnOk result (MayEnd new end)
-all_staged (Ok x) old new Honest base changed supplied end whole longer same stages staged =
+all_staged (Ok x) old new changed end whole longer stages staged =
     let ends = ap (λ (state : StoreState). state.end) stages in
     record {
-      least = omega (arith, longer, same, ends);
+      least = omega (arith, longer, ends);
       below = subst (AllBelow end) (sym staged) (order_all_below 1 end changed whole.below);
       grown = λ n ge lt. ap (λ (ps : Pages). has_page ps n) staged
-          ∙ whole.grown n (omega (arith, same, ends, ge)) lt;
+          ∙ whole.grown n (omega (arith, ends, ge)) lt;
     }
-all_staged (Err e) old new Honest base changed supplied end whole longer same stages staged = tt
+all_staged (Err e) old new changed end whole longer stages staged = tt
+
+-- and may be committed then, once page 1 is among them
+pub may_commit : (state : StoreState) (n end : ℕ) → MayEnd state end → has_page state.staged n ≡ true
+    → 4 ≤ end → MayCommit state end
+may_commit state n end may has least = record {
+  below = may.below;
+  grown = may.grown;
+  some = not_none state.staged n has;
+  least = least;
+}
 
 -- where one is not staged
 pub not_staged : {T U : Type 0} (result : Result T PageFault) (e : PageFault) (reserved n : ℕ)
@@ -96,7 +108,7 @@ forgotten old new e usable (inr broke) =
 module _ {S : Type 0} (s : Ghosts S) (old mid new : S) where
   -- A commit of what was staged over these pages leaves the old ones or the new. `only` is the
   -- store's law `only_committed`.
-  pub commit_leaves : (base staged pages : Pages) (end ends : ℕ)
+  pub commit_leaves : (staged changed : Pages) (end : ℕ)
       → ((y : Settled) → s.honest old → (s.state old).usable ≡ true → (s.state old).writable ≡ true
       → s.settles_to old y → y ≡ file_of (s.committed old))
       → StagesOnly s old mid
@@ -104,14 +116,15 @@ module _ {S : Type 0} (s : Ghosts S) (old mid new : S) where
       → LeavesOnly s.moment s.settled_since mid new
       (IsEither (s.committed mid) (committed_with (s.committed mid) staged end)))
       → s.honest old → (s.state old).usable ≡ true → (s.state old).writable ≡ true
-      → base ≡ s.committed old → pages ≡ committed_with base staged ends → end ≡ ends
-      → LeavesOnly s.moment s.settled_since old new (IsEither (s.committed old) pages)
-  commit_leaves base staged pages end ends only stages run honest usable writable same is ending =
+      → staged ≡ changed
+      → LeavesOnly s.moment s.settled_since old new
+      (IsEither (s.committed old) (committed_with (s.committed old) changed end))
+  commit_leaves staged changed end only stages run honest usable writable is =
       let kept = stages.kept honest in
       subst (λ (ps : Pages). LeavesOnly s.moment s.settled_since old new
       (IsEither (s.committed old) ps))
-      (ap (λ (ps : Pages). committed_with ps staged end) (kept.committed ∙ sym same)
-      ∙ ap (committed_with base staged) ending ∙ sym is)
+      (ap (λ (ps : Pages). committed_with ps staged end) kept.committed
+      ∙ ap (λ (ps : Pages). committed_with (s.committed old) ps end) is)
       (kept_then_either s.committed s.moment s.settled_since s.settles_to old mid new
       (committed_with (s.committed mid) staged end)
       (λ y settles. only y honest usable writable settles) kept

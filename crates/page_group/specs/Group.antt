@@ -1,24 +1,25 @@
--- A group of changes over the pages of a store.
-use Rattle.std.specs.Prelude.{◌≡◌, ℕ, ◌+◌, true, Bool, length, Option}
-use Rattle.page_io.specs.Store.{Pages, Settled, file_of}
+-- What a group shows as a store of pages.
+use Rattle.std.specs.Prelude.{◌≡◌, ℕ, ◌+◌, true, length, if◌then◌else◌}
+use Rattle.page_io.specs.Store.{Pages, Settled, file_of, committed_with}
 use Rattle.page_io.specs.declared.store.PageStore.{Ghosts}
 use Rattle.page_group.specs.Changed.{changed_pages}
-use Rattle.page_group.specs.Supplied.{has_copy, copy_count}
-use Rattle.page_group.specs.declared.group_pages.GroupPages.{GroupPages}
+use Rattle.page_group.specs.Over.{Over}
 
--- the one outcome, while the group can be used
-abbrev pub SettlesTo : Bool → Pages → Settled → Type 0
-SettlesTo usable pages settled = (usable ≡ true) × (settled ≡ file_of pages)
+module _ {S : Type 0} where
+  -- how many pages were changed
+  abbrev pub changed_count : Over S → ℕ
+  changed_count group = length (changed_pages group.held.changed)
 
-module _ {S : Type 0} {bound : Ghosts S} where
-  -- page n of the base was supplied
-  abbrev pub HasPage : GroupPages S bound → ℕ → Type 0
-  HasPage group n = has_copy group.supplied n ≡ true
+  module _ (s : Ghosts S) (group : Over S) where
+    -- the changed pages over those of the base
+    abbrev pub pages_over : Pages
+    pages_over =
+        committed_with (s.committed group.first) (changed_pages group.held.changed) group.held.end
 
-  -- the page that was last asked for and isn't held
-  abbrev pub missed_page : GroupPages S bound → Option ℕ
-  missed_page group = group.missed
+    -- the one outcome, while the group can be used
+    abbrev pub SettlesTo : Settled → Type 0
+    SettlesTo settled = (group.held.usable ≡ true) × (settled ≡ file_of pages_over)
 
-  -- how many pages are held: the changed ones, and those that were supplied
-  abbrev pub held_count : GroupPages S bound → ℕ
-  held_count group = length (changed_pages group.changed) + copy_count group.supplied
+    -- how often a device has failed: that of the base, and once more where the group has broken
+    abbrev pub faults_over : ℕ
+    faults_over = s.faults group.base + (if group.held.usable then 0 else 1)

@@ -1,6 +1,8 @@
+pub mod Base
 pub mod Changed
+pub mod Ending
 pub mod Group
 pub mod Numbered
+pub mod Over
 pub mod Staging
-pub mod Supplied
 pub mod Whole

@@ -1,12 +1,9 @@
 -- What is held of the pages of a file.
-use Rattle.std.specs.Prelude.{◌≡◌, ℕ, ◌+◌, ◌<◌, ◌≤◌, true, length}
+use Rattle.std.specs.Prelude.{◌≡◌, ℕ, ◌<◌, ◌≤◌, true}
 use Rattle.page_io.specs.Store.{Pages, are_in_order, has_page}
-use Rattle.page_group.specs.Supplied.{AreOfBase}
-use Rattle.page_group.specs.declared.supplied_pages.SuppliedPages.{SuppliedPages}
 
--- Of a file that ends before page `end`: pages of the base as they are there where it is honest,
--- changed pages below the end, and each page behind the base's.
-pub record IsWhole (Honest : Type 0) (base changed : Pages) (supplied : SuppliedPages) (end : ℕ) : Type 0 where
-  pub same : AreOfBase Honest base supplied
+-- Of a file that ends before page `end`, and whose base ends before page `base_end`: changed pages
+-- below the end, and each page behind the base's.
+pub record IsWhole (base_end : ℕ) (changed : Pages) (end : ℕ) : Type 0 where
   pub below : are_in_order 1 end changed ≡ true
-  pub grown : (n : ℕ) → length base + 1 ≤ n → n < end → has_page changed n ≡ true
+  pub grown : (n : ℕ) → base_end ≤ n → n < end → has_page changed n ≡ true

@@ -1,9 +1,10 @@
 // Pages in memory by their own numbers.
-ghost use Rattle.std.specs.Prelude.{◌≡◌, ◌<◌, ◌≤◌, ◌^◌, true, [], length, OnOk, IfOk};
+ghost use Rattle.std.specs.Prelude.{◌≡◌, ◌<◌, ◌≤◌, ◌^◌, ℕ, true, [], length, OnOk, IfOk};
 ghost use Rattle.page_io.specs.Page.{own_number};
 ghost use Rattle.page_io.specs.Store.{bytes_of, overlaid, put_page, has_page, are_in_order};
 ghost use Rattle.page_group.specs.Numbered.{pages_in, AreNumbered};
 
+use page_commit::finish;
 use page_io::{Page, PageFault, PageStore};
 use std::alloc::{AllocError, Global};
 use std::collections::BTreeMap;
@@ -34,10 +35,16 @@ fn boxed(alloc: Global, spare: Option<Box<Page>>, page: &Page) -> Result<Box<Pag
 }
 
 impl ChangedPages {
+    ghost use Rattle.std.specs.Prelude.{◌↔◌, false, Ok, IfErr};
+    ghost use Rattle.sect_dev.specs.Device.{LeavesOnly};
     ghost use Rattle.page_io.specs.Answers.{HasDeviceCause};
-    ghost use Rattle.page_io.specs.Views.{StagesOnly};
+    ghost use Rattle.page_io.specs.Store.{IsEither, committed_with};
+    ghost use Rattle.page_io.specs.Views.{ReadsOnly, StagesOnly};
+    ghost use Rattle.page_io.specs.declared.store.PageFault.TheVariants.{Device};
+    ghost use Rattle.page_group.specs.Base.{MayBegin};
     ghost use Rattle.page_group.specs.Changed.{changed_pages, put_all};
     ghost use Rattle.page_group.specs.Staging.{IsStagingAnswer};
+    ghost use Rattle.page_group.specs.Whole.{IsWhole};
 
     /// No page yet.
     pub fn new(alloc: Global) -> ChangedPages
@@ -108,5 +115,38 @@ impl ChangedPages {
             store.stage(page.own(), page)?;
         }
         Ok(())
+    }
+
+    /// Commits all pages to a store, in one commit, and answers whether they are. Its file then ends
+    /// before page `new_end`. Where they aren't, for want of memory or of room or because there is
+    /// none, nothing has changed.
+    pub fn commit_into<S: PageStore>(&self, store: &mut S, new_end: u32) -> Result<bool, PageFault>
+        requires ready { MayBegin (S.state store.old) }
+        requires longer { (S.state store.old).end ≤ new_end }
+        requires whole { IsWhole (S.state store.old).end (changed_pages self.now) new_end }
+        ensures done { result ≡ Ok true → S.state store.new
+            ≡ record (S.state store.old) { end = new_end } }
+        ensures committed { S.honest store.old → result ≡ Ok true
+            → S.committed store.new
+            ≡ committed_with (S.committed store.old) (changed_pages self.now) new_end }
+        ensures any_moment { S.honest store.old
+            → LeavesOnly S.moment S.settled_since store.old store.new
+            (IsEither (S.committed store.old)
+            (committed_with (S.committed store.old) (changed_pages self.now) new_end)) }
+        ensures refused { result ≡ Ok false → ReadsOnly S.PageStore store.old store.new }
+        ensures broke { IfErr result (λ e. (e ≡ Device)
+            × (S.state store.new ≡ record (S.state store.old) { usable = false })) }
+        ensures honesty { S.honest store.new ↔ S.honest store.old }
+        ensures cause { HasDeviceCause (S.faults store.old) (S.faults store.new) result }
+    {
+        if self.stage_into(store).is_err() || !store.is_staged(1) {
+            store.unstage();
+            return Ok(false);
+        }
+        match finish(store, Ok(new_end)) {
+            Ok(()) => Ok(true),
+            Err(fault) if store.is_broken() => Err(fault),
+            Err(_) => Ok(false),
+        }
     }
 }

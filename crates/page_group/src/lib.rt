@@ -2,7 +2,9 @@
 #![tactic(auto)]
 
 mod changed_pages;
+mod changes;
 mod group_pages;
-mod supplied_pages;
+mod loan;
 
-pub use group_pages::GroupPages;
+pub use group_pages::{GroupEnd, GroupPages};
+pub use loan::Loan;

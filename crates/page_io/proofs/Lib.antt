@@ -1,3 +1,4 @@
+pub mod BucketPages
 pub mod Exits
 pub mod Fields
 pub mod Meanings
@@ -9,7 +10,6 @@ pub mod PageLaws
 pub mod PageLists
 mod Places
 pub mod PlainPages
-mod Replacing
 pub mod Runs
 mod Slices
 pub mod StagedPages

@@ -1,5 +1,5 @@
 pub mod Answers
-pub mod ByteChange
+pub mod BucketPages
 pub mod Counts
 pub mod Kept
 pub mod Meaning

@@ -1,5 +1,5 @@
 -- The pages of a store: those that it has, and those that are staged over them.
-use Rattle.std.specs.Prelude.{◌≡◌, ◌⊎◌, ◌==◌, ◌<◌, ◌≤◌, ℕ, zero, suc, ◌+◌, ◌-◌, Bool, true, false, ◌&&◌, nat_le, nat_lt, if◌then◌else◌, List, [], ◌∷◌, slice_index_or, map}
+use Rattle.std.specs.Prelude.{◌≡◌, ◌⊎◌, ◌==◌, ◌<◌, ◌≤◌, ℕ, zero, suc, ◌+◌, ◌-◌, Bool, true, false, ◌&&◌, nat_le, nat_lt, if◌then◌else◌, List, [], ◌∷◌, Option, Some, None, slice_index_or, map}
 use Rattle.page_io.specs.Page.{own_number}
 use Rattle.page_io.specs.declared.page.Page.{Page}
 
@@ -51,6 +51,12 @@ put_page (page ∷ pages) new =
 abbrev pub has_page : Pages → ℕ → Bool
 has_page [] n = false
 has_page (page ∷ pages) n = if own_number page == n then true else has_page pages n
+
+-- the first of these pages behind page n
+abbrev pub IsNextOf : Pages → ℕ → Option ℕ → Type 0
+IsNextOf pages n None = (m : ℕ) → n < m → has_page pages m ≡ false
+IsNextOf pages n (Some next) = (n < next) × (has_page pages next ≡ true)
+    × ((m : ℕ) → n < m → m < next → has_page pages m ≡ false)
 
 -- each own number is below the end
 abbrev pub AllBelow : ℕ → Pages → Type 0

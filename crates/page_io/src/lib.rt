@@ -1,7 +1,6 @@
 //! Pages of four sectors over a device, and stores of pages that change whole or not at all.
 #![tactic(auto)]
 
-mod byte_change;
 mod laws;
 mod mem_pages;
 mod page;
@@ -12,12 +11,11 @@ mod staged;
 mod store;
 mod version;
 
-pub use byte_change::replace_byte;
 pub use laws::{commits_stand, images_have_one_meaning};
 pub use mem_pages::MemPages;
 pub use page::{PAGE_LEN, Page, SECTORS_PER_PAGE};
 pub use sectors::{read_page, write_page};
 pub use served::ServedStore;
-pub use staged::{StagedPages, find_staged, hand_over, is_among, put_staged};
+pub use staged::{StagedPages, find_staged, hand_over, is_among, next_staged, put_staged};
 pub use store::{PageFault, PageStore};
 pub use version::Version;

@@ -3,7 +3,10 @@ ghost use Rattle.std.specs.Prelude.{◌≡◌, ◌≤◌, ◌<◌, ◌+◌, ◌^
 ghost use Rattle.page_io.specs.Page.{own_number};
 ghost use Rattle.page_io.specs.Store.{bytes_of, file_pages, page_of, overlaid, are_in_order};
 
-use crate::{Page, PageFault, PageStore, StagedPages, find_staged, is_among, put_staged};
+use crate::{
+    Page, PageFault, PageStore, StagedPages, Version, find_staged, is_among, next_staged,
+    put_staged,
+};
 use std::alloc::{AllocError, Global};
 
 // Puts each page at its own number.
@@ -115,15 +118,15 @@ impl PageStore for MemPages {
 
     ghost in_order = { λ p. p.order };
 
-    fn read(&mut self, n: u32, page: &mut Page) -> Result<(), PageFault> {
+    fn read(&mut self, n: u32, page: &mut Page) -> Result<Option<Version>, PageFault> {
         if find_staged(self.staged.as_slice(), n, page) {
-            return Ok(());
+            return Ok(None);
         }
         if n < 1 || self.end <= n {
             return Err(PageFault::Damaged);
         }
         *page = self.pages[n as usize - 1];
-        Ok(())
+        Ok(None)
     }
 
     fn stage(&mut self, n: u32, page: &Page) -> Result<(), PageFault> {
@@ -163,6 +166,10 @@ impl PageStore for MemPages {
 
     fn is_staged(&self, n: u32) -> bool {
         is_among(self.staged.as_slice(), n)
+    }
+
+    fn next_staged(&self, n: u32) -> Option<u32> {
+        next_staged(self.staged.as_slice(), n)
     }
 
     fn is_broken(&self) -> bool {

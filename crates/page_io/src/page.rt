@@ -132,28 +132,12 @@ impl Page {
         self.bytes[4] = kind;
     }
 
-    /// Writes how many slots the page has.
-    pub fn set_slots(&mut self, slots: u16)
-        ensures bytes { self.new.bytes ≡ overwrite self.old.bytes 6 (u16_bytes slots) }
-        ensures number { own_number self.new.bytes ≡ own_number self.old.bytes }
-    {
-        self.set_u16_at(6, slots);
-    }
-
     /// Writes the number of the next page.
     pub fn set_next(&mut self, next: u32)
         ensures bytes { self.new.bytes ≡ overwrite self.old.bytes 8 (u32_bytes next) }
         ensures number { own_number self.new.bytes ≡ own_number self.old.bytes }
     {
         self.set_u32_at(8, next);
-    }
-
-    /// Writes where the lowest record begins.
-    pub fn set_low(&mut self, low: u16)
-        ensures bytes { self.new.bytes ≡ overwrite self.old.bytes 12 (u16_bytes low) }
-        ensures number { own_number self.new.bytes ≡ own_number self.old.bytes }
-    {
-        self.set_u16_at(12, low);
     }
 }
 

@@ -1,7 +1,7 @@
 // The staged pages of a store.
 ghost use Rattle.std.specs.Prelude.{◌≡◌, ◌≢◌, ◌<◌, ◌≤◌, ◌^◌, ℕ, length, true, false, IsTrue, IsFalse, OnOk, OnErr, slice_index_or, []};
 ghost use Rattle.page_io.specs.Page.{own_number};
-ghost use Rattle.page_io.specs.Store.{bytes_of, overlaid, put_page, has_page, are_in_order};
+ghost use Rattle.page_io.specs.Store.{bytes_of, overlaid, put_page, has_page, are_in_order, IsNextOf};
 
 use crate::Page;
 use smallvec::SmallVec;
@@ -54,6 +54,32 @@ pub fn is_among(staged: &[Page], n: u32) -> bool
     ensures { result ≡ has_page (bytes_of staged.now) n }
 {
     is_at(staged, place_of(staged, n), n)
+}
+
+// The place of the first page whose number is above n.
+fn place_behind(staged: &[Page], n: u32) -> usize
+    requires order { are_in_order 1 (2 ^ 32) (bytes_of staged.now) ≡ true }
+    ensures within { result ≤ length staged.now }
+    ensures before { (k : ℕ) → k < result
+        → own_number (slice_index_or (bytes_of staged.now) k []) ≤ n }
+    ensures after { result < length staged.now
+        → n < own_number (slice_index_or (bytes_of staged.now) result []) }
+{
+    let at = place_of(staged, n);
+    if is_at(staged, at, n) { at + 1 } else { at }
+}
+
+/// The number of the first page behind page n among these, which are in order of their numbers.
+pub fn next_staged(staged: &[Page], n: u32) -> Option<u32>
+    requires order { are_in_order 1 (2 ^ 32) (bytes_of staged.now) ≡ true }
+    ensures { IsNextOf (bytes_of staged.now) n result }
+{
+    let at = place_behind(staged, n);
+    if at < staged.len() {
+        Some(staged[at].own())
+    } else {
+        None
+    }
 }
 
 /// Whether page n is among these, which are in order of their numbers. If it is, the buffer becomes

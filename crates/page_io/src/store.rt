@@ -1,13 +1,15 @@
 // A store of pages as the layers above see it.
-ghost use Rattle.std.specs.Prelude.{◌≡◌, ◌⊎◌, ◌<◌, ◌≤◌, ◌+◌, ◌^◌, ◌↔◌, ℕ, [], true, false, length, IfErr, OnOk, OnErr, IsErrOf, IsTrue};
+ghost use Rattle.std.specs.Prelude.{◌≡◌, ◌⊎◌, ◌<◌, ◌≤◌, ◌+◌, ◌^◌, ◌↔◌, ℕ, [], true, false, length, IfErr, OnOk, OnErr, IfOk, IfSome, IsErrOf, IsTrue};
 ghost use Rattle.sect_dev.specs.Device.{Moment, LeavesOnly};
 ghost use Rattle.page_io.specs.Page.{own_number};
-ghost use Rattle.page_io.specs.Store.{Pages, Settled, file_of, StoreState, IsEither, page_of, overlaid, put_page, has_page, are_in_order, committed_with, AllBelow};
+ghost use Rattle.page_io.specs.Store.{Pages, Settled, file_of, StoreState, IsEither, page_of, overlaid, put_page, has_page, are_in_order, committed_with, AllBelow, IsNextOf};
+ghost use Rattle.page_io.specs.BucketPages.{IsPageOf};
 ghost use Rattle.page_io.specs.Kept.{KeepsPages};
 ghost use Rattle.page_io.specs.Answers.{HasDeviceCause, IsReadAnswer, IsStageAnswer, IsCommitAnswer, IsSettleAnswer, IsRefusal};
+ghost use Rattle.page_io.specs.Versions.{model_version};
 ghost use Rattle.page_io.specs.declared.store.PageFault.TheVariants.{Device};
 
-use crate::Page;
+use crate::{Page, Version};
 
 /// Why a store refused a call.
 #[derive(Clone, Copy, Debug, PartialEq, Eq)]
@@ -62,18 +64,34 @@ pub trait PageStore {
     /// As many as a store changes that splits no bucket.
     ghost reserves: { 5 ≤ reserved };
 
-    /// Gives the staged page n, else the committed one. It is never refused for want of memory. At
-    /// `Err` the bytes of `page` are unspecified.
-    fn read(&mut self, n: u32, page: &mut Page) -> Result<(), PageFault>
+    /// Gives the staged page n, else the committed one, and the version of which it is known to be
+    /// a bucket page, if it is known of one. It is never refused for want of memory. At `Err` the
+    /// bytes of `page` are unspecified.
+    fn read(&mut self, n: u32, page: &mut Page) -> Result<Option<Version>, PageFault>
         ensures found { honest self.old
             → OnOk result (page.new.bytes
             ≡ overlaid (state self.old).staged (page_of (committed self.old)) n) }
+        ensures known { IfOk result (λ known. IfSome known
+            (λ version. IsPageOf (model_version version) page.new.bytes)) }
         ensures answer { IsReadAnswer (state self.old) n result }
         ensures state { state self.new ≡ state self.old }
         ensures kept { honest self.old
             → KeepsPages committed moment settled_since settles_to self.old self.new }
         ensures honesty { honest self.new ↔ honest self.old }
         ensures cause { HasDeviceCause (faults self.old) (faults self.new) result };
+
+    /// Is told that page n, which is this one, is a bucket page of the version. A store that keeps
+    /// pages may answer so where it is read again.
+    fn note(&mut self, n: u32, page: &Page, version: Version)
+        requires bucket { IsPageOf (model_version version) page.now.bytes }
+        requires read { honest self.old → page.now.bytes
+            ≡ overlaid (state self.old).staged (page_of (committed self.old)) n }
+        ensures state { state self.new ≡ state self.old }
+        ensures kept { honest self.old
+            → KeepsPages committed moment settled_since settles_to self.old self.new }
+        ensures honesty { honest self.new ↔ honest self.old }
+        ensures faults { faults self.new ≡ faults self.old }
+    {}
 
     /// Stages a page in the place of its own number.
     fn stage(&mut self, n: u32, page: &Page) -> Result<(), PageFault>
@@ -159,6 +177,10 @@ pub trait PageStore {
     /// Whether page n is staged.
     fn is_staged(&self, n: u32) -> bool
         ensures { result ≡ has_page (state self.now).staged n };
+
+    /// The number of the first staged page behind page n.
+    fn next_staged(&self, n: u32) -> Option<u32>
+        ensures { IsNextOf (state self.now).staged n result };
 
     /// Whether a commit or its settling has failed on the device. Every later call then answers
     /// Broken.

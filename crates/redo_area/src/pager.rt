@@ -12,8 +12,8 @@ mod serving;
 use crate::arming::arm_over;
 use crate::settling::bring_home;
 use page_io::{
-    Page, PageFault, PageStore, StagedPages, find_staged, hand_over, is_among, put_staged,
-    read_page,
+    Page, PageFault, PageStore, StagedPages, Version, find_staged, hand_over, is_among,
+    next_staged, put_staged, read_page,
 };
 use sect_dev::SectorDev;
 
@@ -44,13 +44,15 @@ pub struct Pager<D: SectorDev> {
 }
 
 impl<D: SectorDev> PageStore for Pager<D> {
-    ghost use Rattle.std.specs.Prelude.{OnOk, IsErrOf};
+    ghost use Rattle.std.specs.Prelude.{OnOk, IfOk, IfSome, IsErrOf};
     ghost use Rattle.std.proofs.Math.Nat.{le_refl};
     ghost use Rattle.sect_dev.specs.Device.{LeavesOnly};
     ghost use Rattle.page_io.specs.Answers.{HasDeviceCause, IsReadAnswer, IsCommitAnswer, IsRefusal};
+    ghost use Rattle.page_io.specs.BucketPages.{IsPageOf};
     ghost use Rattle.page_io.specs.Counts.{counts_end};
     ghost use Rattle.page_io.specs.Kept.{KeepsPages};
     ghost use Rattle.page_io.specs.Store.{IsEither, page_of, has_page, committed_with, AllBelow};
+    ghost use Rattle.page_io.specs.Versions.{model_version};
     ghost use Rattle.page_io.specs.declared.store.PageFault.TheVariants.{Device};
     ghost use Rattle.redo_area.specs.Pagers.{device_of};
     ghost use Rattle.sect_dev.specs.Reads.{OnlyReads};
@@ -121,11 +123,13 @@ impl<D: SectorDev> PageStore for Pager<D> {
     ghost in_order = { λ p. p.order };
 
     /// As the trait says, and the device below is only read.
-    fn read(&mut self, n: u32, page: &mut Page) -> Result<(), PageFault>
+    fn read(&mut self, n: u32, page: &mut Page) -> Result<Option<Version>, PageFault>
         ensures found { ⟦<Pager<D> as PageStore>⟧.honest self.old
             → OnOk result (page.new.bytes
             ≡ overlaid (⟦<Pager<D> as PageStore>⟧.state self.old).staged
             (page_of (⟦<Pager<D> as PageStore>⟧.committed self.old)) n) }
+        ensures known { IfOk result (λ known. IfSome known
+            (λ version. IsPageOf (model_version version) page.new.bytes)) }
         ensures answer { IsReadAnswer (⟦<Pager<D> as PageStore>⟧.state self.old) n result }
         ensures state { ⟦<Pager<D> as PageStore>⟧.state self.new
             ≡ ⟦<Pager<D> as PageStore>⟧.state self.old }
@@ -147,18 +151,18 @@ impl<D: SectorDev> PageStore for Pager<D> {
             return Err(PageFault::Broken);
         }
         if find_staged(self.staged.as_slice(), n, page) {
-            return Ok(());
+            return Ok(None);
         }
         if n < 1 || self.end <= n {
             return Err(PageFault::Damaged);
         }
         if find_staged(self.waiting.as_slice(), n, page) {
-            return Ok(());
+            return Ok(None);
         }
         if read_page(&mut self.dev, n, page).is_err() {
             return Err(PageFault::Device);
         }
-        Ok(())
+        Ok(None)
     }
 
     fn stage(&mut self, n: u32, page: &Page) -> Result<(), PageFault> {
@@ -272,6 +276,10 @@ impl<D: SectorDev> PageStore for Pager<D> {
 
     fn is_staged(&self, n: u32) -> bool {
         is_among(self.staged.as_slice(), n)
+    }
+
+    fn next_staged(&self, n: u32) -> Option<u32> {
+        next_staged(self.staged.as_slice(), n)
     }
 
     fn is_broken(&self) -> bool {

@@ -8,7 +8,8 @@ use Rattle.page_model.specs.Slots.{Slot, size, key_number, content_number, total
 use Rattle.page_model.specs.Spelling.{header, bucket_header, bucket_spelling}
 use Rattle.page_model.specs.Reading.{low, bucket_of}
 use Rattle.page_model.specs.Valid.{IsRecord, IsBucket}
-use Rattle.slot_page.specs.Contents.{IsBucketPage, page_records, with_records, with_next, IsAbsent, HasRecords}
+use Rattle.page_io.specs.BucketPages.{IsBucketPage, page_records}
+use Rattle.slot_page.specs.Contents.{with_records, with_next, IsAbsent, HasRecords}
 use Rattle.page_model.proofs.Chains.{AllByRecursion-append}
 use Rattle.page_model.proofs.Writes.{overwrite_mid}
 use Rattle.page_model.proofs.Buckets.{bucket_again, length-slots_ending, length-slots_bytes}

@@ -15,7 +15,8 @@ use Rattle.slot_page.specs.declared.slot.Slot.{Slot as Held}
 use Rattle.slot_page.specs.Layout.{AreSlotsOf, IsLaidOut}
 use Rattle.slot_page.specs.Slots.{as_spelled, first_slots}
 use Rattle.slot_page.proofs.Held.{first_are}
-use Rattle.slot_page.specs.Contents.{IsBucketPage, IsPageOf, HasRecords, KeepsHeader, HasKeyAt, record_of, page_records, with_records, with_next}
+use Rattle.page_io.specs.BucketPages.{IsBucketPage, IsPageOf, page_records}
+use Rattle.slot_page.specs.Contents.{HasRecords, KeepsHeader, HasKeyAt, record_of, with_records, with_next}
 use Rattle.page_model.proofs.Buckets.{length-bucket_spelling, header_again, bucket_again}
 use Rattle.page_model.proofs.Bodies.{body_is}
 use Rattle.slot_page.proofs.Tellings.{each_record, each_slot, four_bytes, holds_there}

@@ -12,7 +12,8 @@ use Rattle.page_model.specs.Slots.{size, total_size, taken, room_of}
 use Rattle.page_model.specs.Spelling.{header, bucket_spelling}
 use Rattle.page_model.specs.Reading.{bucket_of}
 use Rattle.page_model.specs.Valid.{IsRecord, IsBucket}
-use Rattle.slot_page.specs.Contents.{IsBucketPage, page_records, with_records, IsAbsent, HasRecords}
+use Rattle.page_io.specs.BucketPages.{IsBucketPage, page_records}
+use Rattle.slot_page.specs.Contents.{with_records, IsAbsent, HasRecords}
 use Rattle.slot_page.proofs.Tellings.{holds_there}
 use Rattle.page_model.proofs.Buckets.{bucket_again}
 

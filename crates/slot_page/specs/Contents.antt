@@ -1,27 +1,12 @@
--- A page that is spelled as a bucket page, and the list of records in it.
+-- The records of a bucket page, and what changes of it leave.
 use Rattle.std.specs.Prelude.{◌≡◌, ◌≢◌, ℕ, ◌<◌, List, length, All, Option, Some, None}
-use Rattle.std.specs.List.{HoldsAt, AllByRecursion}
+use Rattle.std.specs.List.{HoldsAt}
 use Rattle.std.specs.Option.{option_map}
-use Rattle.dbm_model.specs.Bounds.{Version}
 use Rattle.dbm_model.specs.Pairs.{Key}
 use Rattle.page_model.specs.Bytes.{u32_bytes, u32_at}
 use Rattle.page_model.specs.Pages.{Record, Bucket}
-use Rattle.page_model.specs.Spelling.{bucket_spelling}
 use Rattle.page_model.specs.Reading.{own_number, kind_of, next_of, bucket_of}
-use Rattle.page_model.specs.Valid.{IsBucket, IsOf}
-
--- the bytes are the one spelling of a page of records, near or far
-pub record IsBucketPage (bytes : List ℕ) : Type 0 where
-  pub sound : IsBucket (bucket_of bytes)
-  pub spelled : bytes ≡ bucket_spelling (bucket_of bytes)
-
-abbrev pub page_records : List ℕ → List Record
-page_records bytes = (bucket_of bytes).held
-
--- and a page of this version: in version 1 no record is far
-pub record IsPageOf (version : Version) (bytes : List ℕ) : Type 0 where
-  pub page : IsBucketPage bytes
-  pub of_version : AllByRecursion (IsOf version) (page_records bytes)
+use Rattle.page_io.specs.BucketPages.{IsBucketPage}
 
 abbrev pub with_records : Bucket → List Record → Bucket
 with_records b rs = record b { held = rs }

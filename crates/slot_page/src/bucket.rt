@@ -10,7 +10,8 @@ ghost use Rattle.page_model.specs.Reading.{own_number, bucket_of};
 ghost use Rattle.page_model.specs.Valid.{IsFar, IsRecord, IsBucket, IsOf};
 ghost use Rattle.page_io.specs.Versions.{model_version};
 ghost use Rattle.slot_page.specs.Slots.{as_spelled};
-ghost use Rattle.slot_page.specs.Contents.{IsBucketPage, IsPageOf, HasRecords, KeepsHeader, HasKeyAt, IsAbsent, page_records, with_records, with_next, record_of, near_record, far_record, told_content};
+ghost use Rattle.page_io.specs.BucketPages.{IsBucketPage, IsPageOf, page_records};
+ghost use Rattle.slot_page.specs.Contents.{HasRecords, KeepsHeader, HasKeyAt, IsAbsent, with_records, with_next, record_of, near_record, far_record, told_content};
 
 use crate::layout::{COUNT_AT, HEADER_LEN, KIND_AT, LOW_AT, NEXT_AT, OWN_AT, SLOT_LEN};
 use crate::reading::{are_bytes, bytes_at, is_laid_out, key_at, read_slots, slot_at};

@@ -5,7 +5,7 @@ ghost use Rattle.page_model.specs.Pages.{Record, Bucket, HeadPage, OverflowPage,
 ghost use Rattle.page_model.specs.Spelling.{bucket_spelling};
 ghost use Rattle.page_model.specs.Reading.{own_number, kind_of, next_of, bucket_of, body_of};
 ghost use Rattle.page_model.specs.Valid.{IsBucket};
-ghost use Rattle.slot_page.specs.Contents.{IsBucketPage, page_records};
+ghost use Rattle.page_io.specs.BucketPages.{IsBucketPage, page_records};
 
 /// Under an own number, a kind and a next page a list of records has one spelling: two pages that
 /// say these have the same bytes.

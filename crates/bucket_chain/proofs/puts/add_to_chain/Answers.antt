@@ -12,7 +12,7 @@ use Rattle.page_io.proofs.Views.{stages_then, reads_then, same_said, known_below
 use Rattle.page_io.proofs.Exits.{exit_is, came, cause_first, cause_then, cause_stage, cause_stage_last, stage_not_damaged, stage_has_room, last_not_damaged, last_has_room}
 use Rattle.free_pages.specs.FreeList.{IsFreeList, IsTaken}
 use Rattle.free_pages.specs.declared.free_state.FreeState.{FreeState}
-use Rattle.slot_page.specs.Contents.{page_records}
+use Rattle.page_io.specs.BucketPages.{page_records}
 use Rattle.chain_walks.specs.Links.{link_body}
 use Rattle.chain_walks.specs.Chains.{IsChainAt, kind_behind}
 use Rattle.page_io.specs.Versions.{model_version}

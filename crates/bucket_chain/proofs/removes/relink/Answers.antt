@@ -9,7 +9,7 @@ use Rattle.page_io.specs.Views.{body_at, MayEnd}
 use Rattle.page_io.specs.declared.store.PageFault.TheVariants.{Damaged}
 use Rattle.page_io.proofs.Views.{stages_then, same_said, known_below}
 use Rattle.page_io.proofs.Exits.{exit_is, came, cause_first, cause_stage_last, last_not_damaged}
-use Rattle.slot_page.specs.Contents.{page_records}
+use Rattle.page_io.specs.BucketPages.{page_records}
 use Rattle.chain_walks.specs.Links.{SaysLink}
 use Rattle.chain_walks.proofs.Headers.{header_of}
 use Rattle.chain_walks.proofs.LinkBodies.{says_link}

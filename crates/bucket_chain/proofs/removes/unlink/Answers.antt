@@ -5,7 +5,7 @@ use Rattle.page_io.specs.declared.store.PageFault.TheVariants.{Damaged}
 use Rattle.page_io.proofs.Views.{known_below}
 use Rattle.page_io.proofs.Exits.{exit_is, came}
 use Rattle.page_io.proofs.OwnNumbers.{own_same}
-use Rattle.slot_page.specs.Contents.{page_records}
+use Rattle.page_io.specs.BucketPages.{page_records}
 use Rattle.chain_walks.proofs.Headers.{header_of}
 use Rattle.bucket_chain.proofs.StagedPages.{rewritten_next}
 use Rattle.bucket_chain.proofs.TakenOut.{taken_from, taken_with, prior_says}

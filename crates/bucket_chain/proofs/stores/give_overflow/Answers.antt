@@ -6,7 +6,7 @@ use Rattle.page_io.specs.Views.{body_at, MayEnd}
 use Rattle.page_io.specs.declared.store.PageFault.TheVariants.{NoRoom, Damaged}
 use Rattle.page_io.proofs.Views.{stages_then, same_said, known_below}
 use Rattle.page_io.proofs.Exits.{exit_is, came, cause_then, cause_ok}
-use Rattle.slot_page.specs.Contents.{page_records}
+use Rattle.page_io.specs.BucketPages.{page_records}
 use Rattle.free_pages.specs.declared.free_state.FreeState.{FreeState}
 use Rattle.free_pages.specs.FreeList.{IsFreeList, HasEnds}
 use Rattle.chain_walks.proofs.ReadPages.{reads_none}

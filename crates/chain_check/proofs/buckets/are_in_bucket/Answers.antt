@@ -2,7 +2,7 @@ use Rattle.std.proofs.Common.{◌≡◌, refl, sym, ap, ◌∙◌}
 use Rattle.page_model.specs.Address.{address}
 use Rattle.page_model.specs.Placement.{key_bucket}
 use Rattle.lin_addr.specs.Shapes.{shape_of}
-use Rattle.slot_page.specs.Contents.{page_records}
+use Rattle.page_io.specs.BucketPages.{page_records}
 use Rattle.chain_check.proofs.BucketRecords.{none_first, first_more, all_of_first, not_all, within_page, whole_page}
 use Rattle.chain_check.proofs.buckets.are_in_bucket.Goals as goal
 

@@ -1,7 +1,7 @@
 use Rattle.std.proofs.Common.{◌≡◌}
 use Rattle.page_model.specs.Placement.{key_bucket}
 use Rattle.lin_addr.specs.Shapes.{shape_of}
-use Rattle.slot_page.specs.Contents.{page_records}
+use Rattle.page_io.specs.BucketPages.{page_records}
 use Rattle.chain_check.proofs.BucketRecords.{AreFirst}
 use Rattle.chain_check.proofs.buckets.are_in_bucket.Given as goal
 

@@ -7,7 +7,7 @@ use Rattle.page_io.specs.declared.store.PageFault.TheVariants.{Damaged}
 use Rattle.page_io.proofs.Exits.{exit_is, came}
 use Rattle.page_io.proofs.Views.{reads_then}
 use Rattle.page_marks.specs.Marks.{AreMarked, MayBeSeen}
-use Rattle.slot_page.specs.Contents.{page_records}
+use Rattle.page_io.specs.BucketPages.{page_records}
 use Rattle.lin_addr.specs.Shapes.{shape_of}
 use Rattle.chain_walks.proofs.ReadPages.{reads_none, still_honest, link_before, link_after}
 use Rattle.chain_walks.proofs.Walks.{read_as, some_page, not_too_long}

@@ -8,7 +8,7 @@ use Rattle.page_io.specs.declared.store.PageFault.TheVariants.{Damaged}
 use Rattle.page_io.proofs.Exits.{exit_is, came}
 use Rattle.page_io.proofs.Views.{reads_then}
 use Rattle.page_marks.specs.Marks.{AreMarked, MayBeSeen}
-use Rattle.slot_page.specs.Contents.{page_records}
+use Rattle.page_io.specs.BucketPages.{page_records}
 use Rattle.chain_walks.proofs.ReadPages.{reads_none, still_honest}
 use Rattle.chain_check.specs.BucketChains.{AreContentPages, IsContentChecked}
 use Rattle.chain_check.proofs.BucketRecords.{within_page, whole_page}

@@ -2,7 +2,7 @@ use Rattle.std.proofs.Common.{◌≡◌, ℕ, List, length}
 use Rattle.page_io.specs.Versions.{model_version}
 use Rattle.page_io.specs.Views.{body_at, ReadsOnly}
 use Rattle.page_marks.specs.Marks.{AreMarked}
-use Rattle.slot_page.specs.Contents.{page_records}
+use Rattle.page_io.specs.BucketPages.{page_records}
 use Rattle.chain_check.proofs.EntryChecks.{AreFirstRead}
 use Rattle.chain_check.proofs.ToldFlaws.{Keeps}
 use Rattle.chain_check.proofs.contents.check_contents.Given as goal

@@ -1,7 +1,7 @@
 use Rattle.std.proofs.Common.{◌≡◌, ℕ, true, false, Option, None, Some, get_or, refl, sym, ◌∙◌}
 use Rattle.std.specs.Prelude.{IfNone, IfSome}
 use Rattle.std.specs.Option.{is_some}
-use Rattle.slot_page.specs.Contents.{page_records}
+use Rattle.page_io.specs.BucketPages.{page_records}
 use Rattle.chain_check.proofs.ApartRecords.{IsNew, new_if_absent, not_new}
 use Rattle.chain_check.proofs.BucketRecords.{none_first, first_more, all_of_first, not_all, within_page, whole_page}
 use Rattle.chain_check.proofs.keys.are_apart.Goals as goal

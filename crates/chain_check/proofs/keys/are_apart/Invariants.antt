@@ -1,4 +1,4 @@
-use Rattle.slot_page.specs.Contents.{page_records}
+use Rattle.page_io.specs.BucketPages.{page_records}
 use Rattle.chain_check.proofs.ApartRecords.{IsNew}
 use Rattle.chain_check.proofs.BucketRecords.{AreFirst}
 use Rattle.chain_check.proofs.keys.are_apart.Given as goal

@@ -2,7 +2,7 @@ use Rattle.std.proofs.Common.{◌≡◌, inr, refl, ap, Err, arith}
 use Rattle.std.proofs.lemmas.Result.{err_from_is_err_and}
 use Rattle.page_io.specs.declared.store.PageFault.TheVariants.{Damaged}
 use Rattle.page_io.proofs.Views.{reads_then}
-use Rattle.slot_page.specs.Contents.{page_records}
+use Rattle.page_io.specs.BucketPages.{page_records}
 use Rattle.chain_walks.proofs.ReadPages.{still_honest, link_before, link_after}
 use Rattle.chain_walks.proofs.Walks.{read_as, walk_goes_on, walk_is_here, some_page, not_too_long}
 use Rattle.chain_check.proofs.KeyPasses.{has_new, not_last, are_apart}

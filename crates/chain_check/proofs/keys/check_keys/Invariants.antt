@@ -1,6 +1,6 @@
 use Rattle.std.proofs.Common.{◌≡◌, ◌⊎◌}
 use Rattle.page_io.specs.Views.{body_at, ReadsOnly}
-use Rattle.slot_page.specs.Contents.{page_records}
+use Rattle.page_io.specs.BucketPages.{page_records}
 use Rattle.chain_walks.proofs.Walks.{IsUnderWay}
 use Rattle.chain_check.proofs.KeyPasses.{IsBefore}
 use Rattle.chain_check.proofs.ToldFlaws.{Keeps}

@@ -1,48 +1,52 @@
-use Rattle.std.proofs.Common.{◌≡◌, ◌<◌, length, sym, subst, arith, ℕ, List}
-use Rattle.std.specs.List.{HoldsAt}
+use Rattle.std.proofs.Common.{◌<◌, ap, length, subst, arith, List}
 use Rattle.std.proofs.lemmas.List.{take_all, length-map}
 use Rattle.dbm_model.specs.Pairs.{Pair}
-use Rattle.slot_page.specs.Contents.{page_records}
-use Rattle.slot_page.proofs.Pages.{counted}
+use Rattle.dbm_model.specs.KeyOrder.{rank, hash_of}
+use Rattle.page_model.specs.Pages.{Record}
+use Rattle.page_io.specs.BucketPages.{page_records}
 use Rattle.chain_walks.specs.Chains.{record_pair}
 use Rattle.chain_walks.specs.Bests.{pass_from, slot_of}
 use Rattle.chain_walks.specs.Leasts.{IsLeast}
-use Rattle.chain_walks.proofs.LeastKeys.{page_pairs, slot_passed, slot_left, slot_taken}
+use Rattle.chain_walks.proofs.KeyRanks.{ranked_slot}
+use Rattle.chain_walks.proofs.LeastKeys.{page_pairs, better_key, slot_passed, slot_left, slot_taken}
 use Rattle.chain_walks.proofs.leasts.least_in.Goals as goal
 use Rattle.chain_walks.proofs.leasts.least_in.Goals.{then-is_behind+then-is_better, else-is_behind, else-is_behind-via-then-is_behind+else-is_better, else-is_behind-via-else-is_behind}
-
-pub pair_at-requires-clause-within : goal.pair_at-requires-clause-within
-pair_at-requires-clause-within c =
-    omega (arith, (counted c.args.page.now.bytes c.requires).count_is, c.slots-slot-end.ensures)
 
 pub loop-slot-init : goal.loop-slot-init
 loop-slot-init c = record { ranked = tt; least = tt }
 
+pub is_behind-requires : goal.is_behind-requires
+is_behind-requires c = ranked_slot _ _ _ c.requires.page c.requires.ranks (omega arith)
+
 pub is_better-requires : goal.is_better-requires
-is_better-requires c = c.loop-slot.invariant.ranked
+is_better-requires c = record {
+  at = ranked_slot _ _ _ c.requires.page c.requires.ranks (omega arith);
+  best = c.loop-slot.invariant.ranked;
+}
 
 pub loop-slot-preserved : goal.loop-slot-preserved
 loop-slot-preserved c =
     let bytes = c.args.page.now.bytes in
-    let within : c.loop-slot.slot < length (page_records bytes) =
-    omega (arith, (counted bytes c.requires).count_is, c.slots-slot-end.ensures) in
-    let there = subst (λ (key : List ℕ).
-    HoldsAt (λ r. (r.key ≡ key) × (r.bytes ≡ c.pair_at.result.1.now)) (page_records bytes)
-    c.loop-slot.slot)
-    (sym c.of-key.ensures) c.pair_at.ensures in
+    let within : c.loop-slot.slot < length c.args.ranks.now = omega arith in
+    let at = ranked_slot bytes c.args.ranks.now c.loop-slot.slot c.requires.page c.requires.ranks
+    within in
+    let behind = c.is_behind.ensures at.key at.has in
     elim c.if-is_behind.branch [
       | then-is_behind+then-is_better w ↦
-          slot_taken bytes _ _ _ within there _ _ _ _ c.is_behind.ensures
-          c.loop-slot.invariant c.requires w.if-is_behind.true _
-          w.is_better.ensures.first w.is_better.ensures.before w.if-is_better.true
-          _ c.of-key.result.is_rank w.best-is
+          slot_taken bytes _ _ at.has _ _ _ _ behind
+          c.loop-slot.invariant c.requires.page w.if-is_behind.true _
+          w.is_better.ensures.first
+          (better_key bytes bytes _ _ at.key _ at.has w.is_better.ensures.before)
+          w.if-is_better.true _ at.rank_is w.best-is
       | else-is_behind w ↦ elim w.else-is_behind.branch [
         | else-is_behind-via-then-is_behind+else-is_better v ↦
-            slot_left bytes _ _ _ within there _ _ _ _ c.is_behind.ensures
-            c.loop-slot.invariant c.requires v.if-is_behind.true _
-            v.is_better.ensures.first v.is_better.ensures.before v.if-is_better.false w.best-is
+            slot_left bytes _ _ at.has _ _ _ _ behind
+            c.loop-slot.invariant c.requires.page v.if-is_behind.true _
+            v.is_better.ensures.first
+            (better_key bytes bytes _ _ at.key _ at.has v.is_better.ensures.before)
+            v.if-is_better.false w.best-is
         | else-is_behind-via-else-is_behind v ↦
-            slot_passed bytes _ _ _ within there _ _ _ _ c.is_behind.ensures
+            slot_passed bytes _ _ at.has _ _ _ _ behind
             c.loop-slot.invariant v.if-is_behind.false w.best-is
       ]
     ]
@@ -58,8 +62,8 @@ returns-clause-least c =
     (take_all c.loop-slot.slot (page_pairs bytes)
     (omega (
       arith,
-      (counted bytes c.requires).count_is,
-      c.slots-slot-end.ensures,
+      ap length c.requires.ranks,
+      length-map (page_records bytes) (λ (r : Record). rank (hash_of r.key)),
       length-map (page_records bytes) record_pair,
     )))
     c.loop-slot.invariant.least

@@ -1,7 +1,7 @@
 use Rattle.std.proofs.Common.{◌++◌, ◌<◌, ◌≤◌, List, length, map, ap, ◌∙◌, arith, rules}
 use Rattle.std.proofs.lemmas.List.{take_all}
 use Rattle.page_model.specs.Pages.{Record}
-use Rattle.slot_page.specs.Contents.{page_records}
+use Rattle.page_io.specs.BucketPages.{page_records}
 use Rattle.slot_page.proofs.Pages.{counted}
 use Rattle.chain_walks.specs.Pairs.{record_as}
 use Rattle.chain_walks.proofs.LoadedRecords.{copied_more}

@@ -2,7 +2,7 @@ use Rattle.std.proofs.Common.{◌≡◌, ◌+◌, ◌<◌, ◌++◌, ◌∷◌, 
 use Rattle.std.proofs.lemmas.List.{drop_more}
 use Rattle.std.proofs.lemmas.List.Elements.{All-get_or}
 use Rattle.std.specs.Prelude.{All, ◌≤◌}
-use Rattle.dbm_model.specs.Bounds.{Version, Bounds}
+use Rattle.dbm_model.specs.Bounds.{Version}
 use Rattle.dbm_model.specs.Calls as model
 use Rattle.dbm_file.specs.Answers.{IsSameUnder}
 use Rattle.dbm_file.specs.Calls.{call_of, reply_of}

@@ -2,12 +2,12 @@ use Rattle.std.proofs.Common.{◌≡◌, ◌+◌, ◌≤◌, length, Some, vec_l
 use Rattle.dbm_text.specs.Escapes.{unescaped, joined}
 use Rattle.dbm_lines.proofs.fields.unescape.Given as goal
 
-abbrev pub invariant-loop-rest : goal.invariant-loop-rest
-invariant-loop-rest l = record {
+abbrev pub invariant-loop-plain : goal.invariant-loop-plain
+invariant-loop-plain l = record {
   fits : vec_len l.bytes + length l.rest ≤ vec_capacity l.bytes;
   room : vec_capacity l.fn.bytes ≤ vec_capacity l.bytes;
   bytes : unescaped l.fn.field ≡ joined (Some l.bytes.items) (unescaped l.rest);
 }
 
-abbrev pub decreases-loop-rest : goal.decreases-loop-rest
-decreases-loop-rest l = length l.rest
+abbrev pub decreases-loop-plain : goal.decreases-loop-plain
+decreases-loop-plain l = length l.rest

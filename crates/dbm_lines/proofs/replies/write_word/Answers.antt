@@ -10,4 +10,4 @@ pub loop-rest-preserved : goal.loop-rest-preserved
 loop-rest-preserved g c =
     run_more _ _ _ _ c.loop-rest.rest.now c.split_at.result.0.now _ c.loop-rest.invariant
     (c.split_at.ensures.by_index.0) (subst (Appends _ _)
-    (rw c.unwrap.ensures at c.encode_to_slice.ensures.written) c.in_ok-write_all.ensures.bytes)
+    c.encode.ensures c.in_ok-write_all.ensures.bytes)

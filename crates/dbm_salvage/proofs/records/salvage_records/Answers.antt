@@ -1,7 +1,7 @@
 use Rattle.std.proofs.Common.{◌≤◌, ℕ, cond, Bool, true, false, ⊎_elim, ap, ◌∙◌, subst, arith}
 use Rattle.std.specs.Option.{is_none}
 use Rattle.sect_dev.specs.Device.{Image}
-use Rattle.slot_page.specs.Contents.{page_records}
+use Rattle.page_io.specs.BucketPages.{page_records}
 use Rattle.page_io.proofs.Exits.{more_later}
 use Rattle.dbm_salvage.specs.Salvage.{said_in, is_failed, IsRecordSalvaged}
 use Rattle.dbm_salvage.proofs.LookRuns.{looks_then}

@@ -1,6 +1,6 @@
 use Rattle.std.proofs.Common.{◌≡◌, ◌≤◌, true, vec_capacity}
 use Rattle.sect_dev.specs.Device.{MoreFaults}
-use Rattle.slot_page.specs.Contents.{page_records}
+use Rattle.page_io.specs.BucketPages.{page_records}
 use Rattle.dbm_salvage.specs.Reads.{Looks}
 use Rattle.dbm_salvage.specs.Salvage.{said_in}
 use Rattle.dbm_salvage.proofs.RecordPairs.{AreDone}

@@ -2,7 +2,8 @@ use Rattle.std.proofs.Common.{◌+◌, ◌*◌, ◌-◌, ◌++◌, ◌∷◌, []
 use Rattle.slot_page.specs.Slots.{as_spelled}
 use Rattle.page_model.specs.Bytes.{overwrite, u16_bytes}
 use Rattle.page_model.specs.Slots.{slot_bytes}
-use Rattle.slot_page.specs.Contents.{page_records, record_of}
+use Rattle.page_io.specs.BucketPages.{page_records}
+use Rattle.slot_page.specs.Contents.{record_of}
 use Rattle.slot_page.proofs.Adding.{HasRoom, taken-push, added, added_holds}
 use Rattle.slot_page.proofs.Pages.{kept}
 use Rattle.slot_page.proofs.bucket.add_record.Goals as goal

@@ -2,7 +2,7 @@ use Rattle.std.proofs.Common.{length, ap, refl, sym, ◌∙◌}
 use Rattle.std.proofs.lemmas.List.{length-map}
 use Rattle.page_io.specs.Versions.{model_version}
 use Rattle.page_model.proofs.Buckets.{length-slots_ending, bucket_again}
-use Rattle.slot_page.specs.Contents.{page_records}
+use Rattle.page_io.specs.BucketPages.{page_records}
 use Rattle.slot_page.specs.Slots.{as_spelled}
 use Rattle.slot_page.proofs.Pages.{spelled_of_version, slots_read}
 use Rattle.slot_page.proofs.bucket.decode.Goals as goal

@@ -1,7 +1,7 @@
 use Rattle.std.proofs.Common.{arith}
 use Rattle.std.proofs.lemmas.Bool.Decides.{Decides-eqb}
 use Rattle.std.proofs.lemmas.Slice.Eq.{slice_eq-Decides}
-use Rattle.slot_page.specs.Contents.{page_records}
+use Rattle.page_io.specs.BucketPages.{page_records}
 use Rattle.slot_page.proofs.Pages.{found_at, only_one, differs_here}
 use Rattle.slot_page.proofs.bucket.find.Goals as goal
 

@@ -1,6 +1,6 @@
 use Rattle.std.proofs.Common.{◌≢◌, ℕ, ◌<◌, get_or}
 use Rattle.page_model.specs.Pages.{Record}
-use Rattle.slot_page.specs.Contents.{page_records}
+use Rattle.page_io.specs.BucketPages.{page_records}
 use Rattle.slot_page.proofs.bucket.find.Given as goal
 
 abbrev pub invariant-loop-i : goal.invariant-loop-i

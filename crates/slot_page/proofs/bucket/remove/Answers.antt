@@ -1,7 +1,8 @@
 use Rattle.std.proofs.Common.{◌+◌, ◌<◌, length, arith}
 use Rattle.std.specs.Prelude.{remove}
 use Rattle.std.proofs.lemmas.List.Edits.{length-remove}
-use Rattle.slot_page.specs.Contents.{page_records, record_of}
+use Rattle.page_io.specs.BucketPages.{page_records}
+use Rattle.slot_page.specs.Contents.{record_of}
 use Rattle.slot_page.proofs.Pages.{kept_by}
 use Rattle.slot_page.proofs.Removing.{begins, kind_is, next_kept, fits_next, goes_on, ends}
 use Rattle.slot_page.proofs.bucket.remove.Goals as goal

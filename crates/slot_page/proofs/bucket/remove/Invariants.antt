@@ -1,6 +1,7 @@
 use Rattle.std.proofs.Common.{take}
 use Rattle.std.specs.Prelude.{remove}
-use Rattle.slot_page.specs.Contents.{page_records, HasRecords}
+use Rattle.page_io.specs.BucketPages.{page_records}
+use Rattle.slot_page.specs.Contents.{HasRecords}
 use Rattle.slot_page.proofs.bucket.remove.Given as goal
 
 abbrev pub invariant-loop-j : goal.invariant-loop-j

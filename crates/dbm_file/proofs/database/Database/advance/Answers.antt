@@ -63,7 +63,8 @@ returns-in-Err-clause-step g c honest h at call falls =
     let s = g.S.PageStore in
     let db = c.args.self.now in
     let all = c.in-Err.ensures in
-    let new = after_reads s db c.next_pair.new.store c.next_pair.new.page all.reads in
+    let new = after_reads s db c.next_pair.new.store c.next_pair.new.page c.next_pair.new.ranks
+    all.reads in
     pass_flagged s db new h _ _ _ call c.refuse.new.error c.from.result _ c.refuse.ensures.flag
     c.from.ensures _ c.refuse.result c.refuse.ensures.answer
     (pass_failed s db new h at call (pass_from c.args.begins db) falls

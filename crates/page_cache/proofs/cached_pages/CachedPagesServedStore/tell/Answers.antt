@@ -1,4 +1,4 @@
-use Rattle.page_cache.proofs.Cleanness.{unchanged}
+use Rattle.page_cache.proofs.CurrentCopies.{unchanged}
 use Rattle.page_cache.specs.Copies.{copies_of}
 use Rattle.page_cache.proofs.cached_pages.CachedPagesServedStore.tell.Goals as goal
 
@@ -7,6 +7,7 @@ invariant_of-self g c =
     let old = c.args.self.now in
     let reads = c.tell.ensures.reads in
     record {
-      are_clean = unchanged g.S.PageStore old.store c.tell.new.self (copies_of old.clean)
-          old.are_clean reads.stages_only.honesty.0 reads.same reads.stages_only.kept;
+      are_current = unchanged g.S.PageStore old.store c.tell.new.self
+          reads.stages_only.honesty.0 (copies_of old.copies) old.are_current reads.same
+          reads.stages_only.kept;
     }

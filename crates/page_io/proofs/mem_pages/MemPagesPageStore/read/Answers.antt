@@ -1,4 +1,4 @@
-use Rattle.std.proofs.Common.{◌≡◌, ◌<◌, ◌≤◌, ◌-◌, List, length, true, false, inl, inr, refl, sym, ◌∙◌, ap, arith}
+use Rattle.std.proofs.Common.{◌≡◌, ◌<◌, ◌≤◌, ◌-◌, List, length, None, true, false, inl, inr, refl, sym, ◌∙◌, ap, arith}
 use Rattle.page_io.specs.Store.{bytes_of, file_pages, overlaid, page_of, has_page}
 use Rattle.page_io.proofs.Overlays.{overlaid-staged, overlaid-none, page_of-file}
 use Rattle.page_io.proofs.MemoryAnswers.{known_answer}
@@ -37,7 +37,7 @@ returns-then-find_staged-clause-answer c =
     let has : has_page (bytes_of c.args.self.now.staged.items) n ≡ true =
     ap (λ (ps : List Page). has_page (bytes_of ps) n) (sym c.as_slice.ensures)
     ∙ sym c.find_staged.ensures.found ∙ c.if-find_staged.true in
-    known_answer _ n refl tt (inl has)
+    known_answer _ n refl None (inl has)
 
 pub returns-clause-answer : goal.returns-clause-answer
-returns-clause-answer c = known_answer _ c.args.n refl tt (inr (omega arith, omega arith))
+returns-clause-answer c = known_answer _ c.args.n refl None (inr (omega arith, omega arith))
