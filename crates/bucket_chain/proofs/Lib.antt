@@ -11,6 +11,7 @@ pub mod HeldCleared
 pub mod Hits
 pub mod KeyRemovals
 pub mod KeySlots
+pub mod KnownPages
 pub mod LeavesSound
 pub mod LinkedPages
 pub mod NearPuts

@@ -21,7 +21,7 @@ use Rattle.bucket_chain.specs.AnyFile.{IsTakenFrom, IsTakenWith}
 use Rattle.bucket_chain.specs.declared.removes.Hit.{Hit}
 use Rattle.bucket_chain.proofs.LinkedPages.{kinds_behind}
 
-all_remove : {X : Type 0} (P : X → Type 0) (xs : List X) (i : ℕ) → AllByRecursion P xs
+pub all_remove : {X : Type 0} (P : X → Type 0) (xs : List X) (i : ℕ) → AllByRecursion P xs
     → AllByRecursion P (remove_at xs i)
 all_remove P [] zero all = tt
 all_remove P [] (suc i) all = tt

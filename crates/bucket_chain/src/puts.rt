@@ -1,15 +1,17 @@
 //! One more pair in a chain.
 
-ghost use Rattle.std.specs.Prelude.{◌≡◌, ◌+◌, ◌≤◌, ◌<◌, ◌∷◌, [], true, false, IfOk, OnOk, IsErrOf, length};
+ghost use Rattle.std.specs.Prelude.{◌≡◌, ◌+◌, ◌≤◌, ◌<◌, ◌∷◌, [], true, false, IfOk, IfSome, OnOk, IsErrOf, length};
 ghost use Rattle.dbm_model.specs.Pairs.{IsAllowed, is_far};
 ghost use Rattle.page_model.specs.PairLists.{times};
 ghost use Rattle.page_model.specs.Chain.{Chain, Entry, content_pages, pairs_in, pages_in, has_room, record_of};
 ghost use Rattle.page_io.specs.Answers.{HasDeviceCause};
+ghost use Rattle.page_io.specs.BucketPages.{IsBucketPage, page_records};
 ghost use Rattle.page_io.specs.Store.{IsKnown};
 ghost use Rattle.page_io.specs.Versions.{model_version};
 ghost use Rattle.page_io.specs.Views.{body_at, StagesOnly, ReadsOnly, MayEnd};
 ghost use Rattle.page_io.specs.declared.store.PageFault.TheVariants.{NoRoom, Damaged};
 ghost use Rattle.free_pages.specs.FreeList.{HasEnds};
+ghost use Rattle.slot_page.specs.Contents.{IsAbsent};
 ghost use Rattle.chain_walks.specs.Answers.{IsWalkAnswer};
 ghost use Rattle.chain_walks.specs.Chains.{IsChainAt};
 ghost use Rattle.chain_walks.specs.Pairs.{record_as, IsSmall};
@@ -25,7 +27,7 @@ use chain_walks::{HEAD, OVERFLOW, Pair, read_link};
 use content_pages::put_content;
 use free_pages::{FreeState, take};
 use page_io::{Page, PageFault, PageStore, Version};
-use slot_page::{MAX_NEAR, add_record, empty, fits, set_next};
+use slot_page::{MAX_NEAR, add_record, empty, find, fits, set_next};
 
 /// A record that is to be added: a key and the bytes behind it, and where the content is far its
 /// length.
@@ -80,6 +82,19 @@ fn find_spot<S: PageStore>(
     Err(PageFault::Damaged)
 }
 
+/// The version of the page once a record of this key is added, which is none where a record of the
+/// page has the key already.
+fn version_beside(page: &Page, key: &[u8], version: Version) -> Option<Version>
+    requires { IsBucketPage page.now.bytes }
+    ensures { IfSome result (λ told.
+        (told ≡ version) × IsAbsent key.now (page_records page.now.bytes)) }
+{
+    match find(page, key) {
+        Some(_) => None,
+        None => Some(version),
+    }
+}
+
 /// Adds a record to the chain from page `head` on: to the first page that it fits, as the last
 /// slot, else to a page that is taken and becomes the last. The key must not be in the chain
 /// already. The pages of the chain are read into `page`.
@@ -117,15 +132,16 @@ fn add_to_chain<S: PageStore>(
 {
     let spot = find_spot(store, head, space.file_end, added, page, version)?;
     if spot.has_room {
+        let known = version_beside(page, added.key, version);
         add_record(page, added.key, added.bytes, added.far);
-        return stage_page(store, page);
+        return stage_page(store, page, known);
     }
     let taken = take(store, space)?;
     let mut last = empty(taken, OVERFLOW, 0);
     add_record(&mut last, added.key, added.bytes, added.far);
-    stage_page(store, &last)?;
+    stage_page(store, &last, Some(version))?;
     set_next(page, taken);
-    stage_page(store, page)
+    stage_page(store, page, Some(version))
 }
 
 /// Adds a record as it is to the chain from page `head` on, as `put` adds that of a pair: a split

@@ -123,7 +123,7 @@ fn relink<S: PageStore>(
 {
     read_link(store, n, kind, page, version)?;
     set_next(page, next);
-    stage_page(store, page)
+    stage_page(store, page, Some(version))
 }
 
 /// Takes a record that was found out of its page, which is read into `page`. Where it is alone in
@@ -158,7 +158,7 @@ fn unlink<S: PageStore>(
         return Ok(true);
     }
     remove_record(page, hit.slot);
-    stage_page(store, page)?;
+    stage_page(store, page, Some(version))?;
     Ok(false)
 }
 

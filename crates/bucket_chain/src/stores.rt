@@ -87,7 +87,7 @@ fn clear<S: PageStore>(
     let mut page = Page::blank();
     let first = read_link(store, head, HEAD, &mut page, version)?;
     give_overflow(store, space, first, version)?;
-    stage_page(store, &empty(head, HEAD, 0))
+    stage_page(store, &empty(head, HEAD, 0), Some(version))
 }
 
 /// Puts records into an empty chain, in order.

@@ -12,7 +12,8 @@ use Rattle.page_io.proofs.Views.{stages_then, reads_then, same_said, known_below
 use Rattle.page_io.proofs.Exits.{exit_is, came, cause_first, cause_then, cause_stage, cause_stage_last, stage_not_damaged, stage_has_room, last_not_damaged, last_has_room}
 use Rattle.free_pages.specs.FreeList.{IsFreeList, IsTaken}
 use Rattle.free_pages.specs.declared.free_state.FreeState.{FreeState}
-use Rattle.page_io.specs.BucketPages.{page_records}
+use Rattle.page_io.specs.BucketPages.{IsPageOf, page_records}
+use Rattle.page_model.specs.Valid.{IsOf}
 use Rattle.chain_walks.specs.Links.{link_body}
 use Rattle.chain_walks.specs.Chains.{IsChainAt, kind_behind}
 use Rattle.page_io.specs.Versions.{model_version}
@@ -27,7 +28,8 @@ use Rattle.bucket_chain.proofs.Added.{says_nothing, added_to, added_behind}
 use Rattle.bucket_chain.proofs.SpelledPages.{added_body, fresh_body}
 use Rattle.bucket_chain.proofs.StagedPages.{on_ok, if_ok, with_own, known_same, IsRewrittenAlone, AreRewritten, rewritten_alone, rewritten_next, both_rewritten}
 use Rattle.bucket_chain.proofs.PutLemmas.{put_here, put_last, no_room, new_apart, apart_alone}
-use Rattle.bucket_chain.proofs.LinkedPages.{linked_body}
+use Rattle.bucket_chain.proofs.KnownPages.{some_then, page_with, empty_page, none_there}
+use Rattle.bucket_chain.proofs.LinkedPages.{link_linked, linked_body}
 use Rattle.bucket_chain.proofs.Refusals.{walk_puts, take_puts, stage_puts, stage_puts_last, walk_has_room, few_same, few_then, few_both, few_more}
 use Rattle.bucket_chain.proofs.puts.add_to_chain.Given.{Over}
 use Rattle.bucket_chain.proofs.puts.add_to_chain.Goals as goal
@@ -52,8 +54,8 @@ spot_for {version} {at} {head} {r} {bytes} {spot} e is found = record {
   );
 }
 
-pub stage_page-requires : goal.stage_page-requires
-stage_page-requires g c =
+pub stage_page-requires-clause-own : goal.stage_page-requires-clause-own
+stage_page-requires-clause-own g c =
     let page = c.in_ok-spot.ensures.page in
     let own = (header_of _ _ _ _ _ _ page.link).own in
     omega (
@@ -64,8 +66,8 @@ stage_page-requires g c =
       c.in_ok-spot.ensures.known.0,
     )
 
-pub stage_page-requires-2 : goal.stage_page-requires-2
-stage_page-requires-2 g c =
+pub stage_page-requires-2-clause-own : goal.stage_page-requires-2-clause-own
+stage_page-requires-2-clause-own g c =
     let own : (bucket_of c.empty-last.result.bytes).own ≡ c.in_ok-taken.taken =
     ap (λ (b : Bucket). b.own) c.empty-last.ensures.says in
     omega (
@@ -77,8 +79,8 @@ stage_page-requires-2 g c =
       c.in_ok-taken.ensures.number,
     )
 
-pub stage_page-requires-3 : goal.stage_page-requires-3
-stage_page-requires-3 g c =
+pub stage_page-requires-3-clause-own : goal.stage_page-requires-3-clause-own
+stage_page-requires-3-clause-own g c =
     let page = c.in_ok-spot.ensures.page in
     let own = (header_of _ _ _ _ _ _ page.link).own in
     omega (
@@ -88,6 +90,28 @@ stage_page-requires-3 g c =
       own,
       c.in_ok-spot.ensures.known.0,
     )
+
+pub stage_page-requires-clause-known : goal.stage_page-requires-clause-known
+stage_page-requires-clause-known g c =
+    some_then _ c.version_beside-known.ensures (λ told is.
+    page_with (model_version told) c.find_spot.new.page.bytes _ (as_record c.args.added)
+    (subst (λ v. IsPageOf (model_version v) c.find_spot.new.page.bytes) (sym is.0)
+    c.in_ok-spot.ensures.page.link.page)
+    (subst (λ v. IsOf (model_version v) (as_record c.args.added)) (sym is.0)
+    c.requires.of_version)
+    (c.add_record.ensures.holds is.1))
+
+pub stage_page-requires-2-clause-known : goal.stage_page-requires-2-clause-known
+stage_page-requires-2-clause-known g c =
+    page_with (model_version c.args.version) c.empty-last.result.bytes _ (as_record c.args.added)
+    (empty_page (model_version c.args.version) _ _ _ _ c.empty-last.ensures.page
+    c.empty-last.ensures.says) c.requires.of_version
+    (c.add_record-2.ensures.holds (none_there _ _ _ _ _ c.empty-last.ensures.says))
+
+pub stage_page-requires-3-clause-known : goal.stage_page-requires-3-clause-known
+stage_page-requires-3-clause-known g c =
+    (link_linked _ c.find_spot.new.page.bytes _ _ _ _ c.in_ok-taken.taken
+    c.in_ok-spot.ensures.page.link c.set_next.ensures.page c.set_next.ensures.says).page
 
 -- no page is told
 pub returns-in_err-spot : goal.returns-in_err-spot

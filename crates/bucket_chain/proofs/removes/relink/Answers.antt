@@ -22,14 +22,19 @@ use Rattle.bucket_chain.proofs.Refusals.{walk_removes, stage_removes_last, few_s
 use Rattle.bucket_chain.proofs.removes.relink.Given.{Over}
 use Rattle.bucket_chain.proofs.removes.relink.Goals as goal
 
-pub stage_page-requires : goal.stage_page-requires
-stage_page-requires g c = omega (
+pub stage_page-requires-clause-own : goal.stage_page-requires-clause-own
+stage_page-requires-clause-own g c = omega (
   arith,
   own_same c.set_next.new.page.bytes,
   c.set_next.ensures.own,
   (header_of _ _ _ _ _ _ c.in_ok-read_link.ensures.link).own,
   c.in_ok-read_link.ensures.known.0,
 )
+
+pub stage_page-requires-clause-known : goal.stage_page-requires-clause-known
+stage_page-requires-clause-known g c =
+    (link_linked _ _ _ _ _ _ c.args.next c.in_ok-read_link.ensures.link c.set_next.ensures.page
+    c.set_next.ensures.says).page
 
 -- the page that is staged is page n
 number : (g : Over) (c : goal.After-stage_page g) → own_number c.set_next.new.page.bytes ≡ c.args.n

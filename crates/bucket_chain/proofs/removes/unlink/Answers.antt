@@ -7,6 +7,8 @@ use Rattle.page_io.proofs.Exits.{exit_is, came}
 use Rattle.page_io.proofs.OwnNumbers.{own_same}
 use Rattle.page_io.specs.BucketPages.{page_records}
 use Rattle.chain_walks.proofs.Headers.{header_of}
+use Rattle.page_io.specs.Versions.{model_version}
+use Rattle.bucket_chain.proofs.KnownPages.{page_without}
 use Rattle.bucket_chain.proofs.StagedPages.{rewritten_next}
 use Rattle.bucket_chain.proofs.TakenOut.{taken_from, taken_with, prior_says}
 use Rattle.bucket_chain.proofs.removes.unlink.Given.{Over}
@@ -28,8 +30,8 @@ returns-then-slots-eq1-clause-unlinked g c honest head key is =
     (sym count ∙ sym c.slots.ensures ∙ c.if-slots-eq1.true)
     (c.in_ok-relink.ensures.relinked honest) (c.in_ok-relink.ensures.others honest)
 
-pub stage_page-requires : goal.stage_page-requires
-stage_page-requires g c =
+pub stage_page-requires-clause-own : goal.stage_page-requires-clause-own
+stage_page-requires-clause-own g c =
     let held = c.requires.1 in
     omega (
       arith,
@@ -38,6 +40,11 @@ stage_page-requires g c =
       held.own,
       held.some,
     )
+
+pub stage_page-requires-clause-known : goal.stage_page-requires-clause-known
+stage_page-requires-clause-known g c =
+    page_without (model_version c.args.version) c.args.page.now.bytes _ c.args.hit.slot
+    c.requires.1.page c.remove.ensures.holds
 
 -- the page that is staged is the hit's
 number : (g : Over) (c : goal.In_ok-stage_page g)

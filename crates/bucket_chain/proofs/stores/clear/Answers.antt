@@ -17,6 +17,7 @@ use Rattle.bucket_chain.specs.Changes.{IsCleared, store_in}
 use Rattle.page_io.proofs.OwnNumbers.{own_is, own_same}
 use Rattle.chain_walks.specs.Links.{IsLink}
 use Rattle.chain_walks.proofs.LinkBodies.{says_link}
+use Rattle.bucket_chain.proofs.KnownPages.{empty_page}
 use Rattle.bucket_chain.proofs.StagedPages.{on_ok, if_ok, IsRewrittenAlone, rewritten_next}
 use Rattle.bucket_chain.proofs.Clearing.{placed_same}
 use Rattle.bucket_chain.proofs.Clearing.{was_read, emptied, first_is, head_link, head_some, cleared, each_chain}
@@ -24,8 +25,8 @@ use Rattle.bucket_chain.proofs.Refusals.{walk_stores, store_stores, stage_stores
 use Rattle.bucket_chain.proofs.stores.clear.Given.{Over}
 use Rattle.bucket_chain.proofs.stores.clear.Goals as goal
 
-pub stage_page-requires : goal.stage_page-requires
-stage_page-requires g c =
+pub stage_page-requires-clause-own : goal.stage_page-requires-clause-own
+stage_page-requires-clause-own g c =
     let own : (bucket_of c.empty.result.bytes).own ≡ c.args.head =
     ap (λ (b : Bucket). b.own) c.empty.ensures.says in
     omega (
@@ -35,6 +36,10 @@ stage_page-requires g c =
       own,
       c.in_ok-first.ensures.known.0,
     )
+
+pub stage_page-requires-clause-known : goal.stage_page-requires-clause-known
+stage_page-requires-clause-known g c =
+    empty_page (model_version c.args.version) _ _ _ _ c.empty.ensures.page c.empty.ensures.says
 
 -- the head page is not read
 pub returns-in_err-first : goal.returns-in_err-first
