@@ -1,11 +1,12 @@
 // Pages in memory by their own numbers.
-ghost use Rattle.std.specs.Prelude.{◌≡◌, ◌<◌, ◌≤◌, ◌^◌, ℕ, true, [], length, OnOk, IfOk};
+ghost use Rattle.std.specs.Prelude.{◌≡◌, ◌<◌, ◌≤◌, ◌^◌, ℕ, true, [], length, None, OnOk, IfOk};
 ghost use Rattle.page_io.specs.Page.{own_number};
 ghost use Rattle.page_io.specs.Store.{bytes_of, overlaid, put_page, has_page, are_in_order};
 ghost use Rattle.page_group.specs.Numbered.{pages_in, AreNumbered};
 
+use crate::changed_page::ChangedPage;
 use page_commit::finish;
-use page_io::{Page, PageFault, PageStore};
+use page_io::{Page, PageFault, PageStore, Version};
 use std::alloc::{AllocError, Global};
 use std::collections::BTreeMap;
 
@@ -13,32 +14,46 @@ use std::collections::BTreeMap;
 /// whole pages about.
 #[derive(Drop)]
 pub struct ChangedPages {
-    pages: BTreeMap<u32, Box<Page>>,
+    pages: BTreeMap<u32, Box<ChangedPage>>,
     // The box of a page that another one took the place of.
-    spare: Option<Box<Page>>,
+    spare: Option<Box<ChangedPage>>,
     alloc: Global,
     ghost numbered: { AreNumbered pages.entries },
     ghost order: { are_in_order 1 (2 ^ 32) (pages_in pages.entries) ≡ true },
 }
 
-// A copy of a page in a box: the spare one, if there is one.
-fn boxed(alloc: Global, spare: Option<Box<Page>>, page: &Page) -> Result<Box<Page>, AllocError>
-    ensures { IfOk result (λ copy. copy.value ≡ page.now) }
+// A page in a box, of which nothing is known: in the spare box, if there is one.
+fn boxed(
+    alloc: Global,
+    spare: Option<Box<ChangedPage>>,
+    page: &Page,
+) -> Result<Box<ChangedPage>, AllocError>
+    ensures page { IfOk result (λ changed. changed.value.page ≡ page.now) }
+    ensures unknown { IfOk result (λ changed. changed.value.known ≡ None) }
 {
     match spare {
         Some(mut spare) => {
-            *spare = *page;
+            spare.known = None;
+            spare.page = *page;
             Ok(spare)
         }
-        None => Ok(Box::new(alloc, *page)?),
+        None => Ok(Box::new(
+            alloc,
+            ChangedPage {
+                page: *page,
+                known: None,
+            },
+        )?),
     }
 }
 
 impl ChangedPages {
-    ghost use Rattle.std.specs.Prelude.{◌↔◌, false, Ok, IfErr};
+    ghost use Rattle.std.specs.Prelude.{◌↔◌, false, Ok, IfErr, IfSome, is_some};
     ghost use Rattle.sect_dev.specs.Device.{LeavesOnly};
     ghost use Rattle.page_io.specs.Answers.{HasDeviceCause};
+    ghost use Rattle.page_io.specs.BucketPages.{IsPageOf};
     ghost use Rattle.page_io.specs.Store.{IsEither, committed_with};
+    ghost use Rattle.page_io.specs.Versions.{model_version};
     ghost use Rattle.page_io.specs.Views.{ReadsOnly, StagesOnly};
     ghost use Rattle.page_io.specs.declared.store.PageFault.TheVariants.{Device};
     ghost use Rattle.page_group.specs.Base.{MayBegin};
@@ -65,14 +80,33 @@ impl ChangedPages {
         self.pages.len()
     }
 
-    /// Whether page n is among them. If it is, the buffer becomes that page, else it is unchanged.
-    pub fn find(&self, n: u32, page: &mut Page) -> bool
-        ensures found { result ≡ has_page (changed_pages self.now) n }
+    /// Writes page n to the buffer and answers what is known of it, if it is among them. Else the
+    /// buffer is unchanged.
+    pub fn find(&self, n: u32, page: &mut Page) -> Option<Option<Version>>
+        ensures found { is_some result ≡ has_page (changed_pages self.now) n }
         ensures page { page.new.bytes ≡ overlaid (changed_pages self.now) (λ _. page.old.bytes) n }
+        ensures known { IfSome result (λ known. IfSome known
+            (λ version. IsPageOf (model_version version) page.new.bytes)) }
     {
         match self.pages.get(&n) {
             Some(found) => {
-                *page = **found;
+                *page = found.page;
+                Some(found.known)
+            }
+            None => None,
+        }
+    }
+
+    /// Whether page n is among them. If it is this one, it is known from now on to be a bucket page
+    /// of the version.
+    pub fn note(&mut self, n: u32, page: &Page, version: Version) -> bool
+        requires { IsPageOf (model_version version) page.now.bytes }
+        ensures found { result ≡ has_page (changed_pages self.old) n }
+        ensures same { changed_pages self.new ≡ changed_pages self.old }
+    {
+        match self.pages.get_mut(&n) {
+            Some(found) => {
+                found.note(page, version);
                 true
             }
             None => false,
@@ -111,7 +145,8 @@ impl ChangedPages {
         ensures answer { IsStagingAnswer S.reserved (S.state store.old) (S.state store.new) result }
         ensures staged { OnOk result ((S.state store.new).staged ≡ changed_pages self.now) }
     {
-        for page in self.pages.values() {
+        for changed in self.pages.values() {
+            let page = &changed.page;
             store.stage(page.own(), page)?;
         }
         Ok(())

@@ -67,10 +67,21 @@ impl<'a, S: PageStore, L: Loan<S>> PageStore for GroupPages<'a, S, L> {
         if n < 1 || self.held.end <= n {
             return Err(PageFault::Damaged);
         }
-        if self.held.changed.find(n, page) {
-            return Ok(None);
+        match self.held.changed.find(n, page) {
+            Some(known) => Ok(known),
+            None => self.base.read(n, page),
         }
-        self.base.read(n, page)
+    }
+
+    // Nothing is kept of a staged page. A page that is neither staged nor changed is the base's.
+    fn note(&mut self, n: u32, page: &Page, version: Version) {
+        let held = &mut self.held;
+        if n < 1 || held.end <= n || is_among(held.staged.as_slice(), n) {
+            return;
+        }
+        if !held.changed.note(n, page, version) {
+            self.base.note(n, page, version);
+        }
     }
 
     fn stage(&mut self, n: u32, page: &Page) -> Result<(), PageFault> {

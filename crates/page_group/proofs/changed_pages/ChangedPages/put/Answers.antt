@@ -10,7 +10,7 @@ use Rattle.page_group.proofs.changed_pages.ChangedPages.put.Goals as goal
 pub invariant_of-self-2 : goal.invariant_of-self-2
 invariant_of-self-2 c =
     let old = c.args.self.now in
-    let own = ap (λ (page : Page). own_number page.bytes) c.in_ok-one.ensures
+    let own = ap (λ (page : Page). own_number page.bytes) c.in_ok-one.ensures.page
     ∙ sym c.own.ensures.number in
     let after = after_put c.insert.result old.pages.entries c.insert.new.self.entries c.own.result
     4294967296 c.in_ok-one.one old.numbered old.order own
@@ -21,8 +21,8 @@ invariant_of-self-2 c =
 pub returns : goal.returns
 returns c =
     let old = c.args.self.now in
-    let own = ap (λ (page : Page). own_number page.bytes) c.in_ok-one.ensures
+    let own = ap (λ (page : Page). own_number page.bytes) c.in_ok-one.ensures.page
     ∙ sym c.own.ensures.number in
     ap pages_in c.in_ok-replaced.ensures.entries
     ∙ put_entry old.pages.entries c.own.result c.in_ok-one.one old.numbered own
-    ∙ ap (λ (page : Page). put_page (changed_pages old) page.bytes) c.in_ok-one.ensures
+    ∙ ap (λ (page : Page). put_page (changed_pages old) page.bytes) c.in_ok-one.ensures.page
