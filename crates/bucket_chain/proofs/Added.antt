@@ -13,8 +13,8 @@ use Rattle.page_io.proofs.Views.{below_end}
 use Rattle.free_pages.specs.declared.free_state.FreeState.{FreeState}
 use Rattle.free_pages.specs.FreeList.{IsTaken}
 use Rattle.page_io.specs.BucketPages.{page_records}
-use Rattle.chain_walks.specs.Links.{link_body}
-use Rattle.chain_walks.specs.Chains.{ReadChain, AreLinked, BeginsAt, kind_behind}
+use Rattle.bucket_chain.specs.Links.{link_body}
+use Rattle.bucket_chain.specs.Chains.{ReadChain, AreLinked, BeginsAt, kind_behind}
 use Rattle.bucket_chain.specs.Spots.{leaf_on, IsSpot}
 use Rattle.bucket_chain.specs.AnyFile.{IsAdded, AreAdded}
 use Rattle.bucket_chain.specs.declared.puts.Spot.{Spot}

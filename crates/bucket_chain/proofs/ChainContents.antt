@@ -8,7 +8,7 @@ use Rattle.page_model.specs.PageBodies.{content_bodies, entry_bodies, AreRead}
 use Rattle.page_model.proofs.Chains.{AllByRecursion-append, AllByRecursion-left, AllByRecursion-right}
 use Rattle.page_model.proofs.Frames.{kept}
 use Rattle.content_pages.proofs.PageCounts.{times_both}
-use Rattle.chain_walks.specs.Chains.{ReadLeaf, ReadChain, leaf_read, chain_read}
+use Rattle.bucket_chain.specs.Chains.{ReadLeaf, ReadChain, leaf_read, chain_read}
 
 abbrev Says : (ℕ → Body) → NumberedBody → Type 0
 Says at b = at b.number ≡ b.body

@@ -12,14 +12,14 @@ use Rattle.page_model.proofs.Chains.{AllByRecursion-right}
 use Rattle.page_model.proofs.Spaces.{times_head}
 use Rattle.free_pages.specs.declared.free_state.FreeState.{FreeState}
 use Rattle.free_pages.specs.FreeList.{IsFreeList}
-use Rattle.chain_walks.specs.Links.{SaysLink}
-use Rattle.chain_walks.specs.Chains.{ReadLeaf, ReadChain, leaf_read, chain_read, number_or}
-use Rattle.chain_walks.specs.Walks.{IsReadToEnd}
+use Rattle.bucket_chain.specs.Links.{SaysLink}
+use Rattle.bucket_chain.specs.Chains.{ReadLeaf, ReadChain, leaf_read, chain_read, number_or}
+use Rattle.bucket_chain.specs.Walks.{IsReadToEnd}
 use Rattle.bucket_chain.specs.Giving.{AreOverflowGiven}
 use Rattle.bucket_chain.specs.AnyFile.{IsEmptied, numbers_read}
 use Rattle.bucket_chain.specs.Changes.{IsPlaced, IsCleared, store_in}
-use Rattle.chain_walks.proofs.Walks.{leaf_of, AreNumbered, one_next, read_as}
-use Rattle.chain_walks.proofs.KeyWalks.{none_later}
+use Rattle.bucket_chain.proofs.Walks.{leaf_of, AreNumbered, one_next, read_as}
+use Rattle.bucket_chain.proofs.KeyWalks.{none_later}
 use Rattle.bucket_chain.proofs.Rewriting.{free_kept, not_there, not_here}
 use Rattle.content_pages.proofs.PageCounts.{times_both}
 use Rattle.bucket_chain.proofs.Givings.{times_given}

@@ -11,10 +11,10 @@ use Rattle.page_model.specs.Chain.{Leaf, Chain, Entry, entries_in, leaf_pairs, p
 use Rattle.page_model.proofs.Chains.{AllByRecursion-left, AllByRecursion-right}
 use Rattle.page_model.proofs.GoodBodies.{key_is}
 use Rattle.slot_page.specs.Contents.{HasKeyAt}
-use Rattle.chain_walks.specs.Chains.{ReadLeaf, ReadChain, leaf_read, chain_read, record_pair, number_or, IsChainAt}
-use Rattle.chain_walks.specs.Walks.{LacksKey, EndsWithout}
-use Rattle.chain_walks.proofs.Walks.{AreNumbered, IsSplit, IsReadAs, read_as, begins_same}
-use Rattle.chain_walks.proofs.KeyWalks.{none_later}
+use Rattle.bucket_chain.specs.Chains.{ReadLeaf, ReadChain, leaf_read, chain_read, record_pair, number_or, IsChainAt}
+use Rattle.bucket_chain.specs.Walks.{LacksKey, EndsWithout}
+use Rattle.bucket_chain.proofs.Walks.{AreNumbered, IsSplit, IsReadAs, read_as, begins_same}
+use Rattle.bucket_chain.proofs.KeyWalks.{none_later}
 use Rattle.bucket_chain.specs.Hits.{IsNumberedWalk}
 use Rattle.bucket_chain.proofs.ChainContents.{parts_of}
 use Rattle.bucket_chain.proofs.KeySlots.{slot_times}

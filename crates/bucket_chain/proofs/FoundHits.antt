@@ -18,8 +18,8 @@ use Rattle.free_pages.specs.Giving.{AreGiven}
 use Rattle.page_io.specs.BucketPages.{page_records}
 use Rattle.slot_page.specs.Contents.{HasKeyAt, told_content}
 use Rattle.content_pages.proofs.PageCounts.{times_both}
-use Rattle.chain_walks.specs.Links.{link_body}
-use Rattle.chain_walks.specs.Chains.{ReadLeaf, ReadChain, BeginsAt, kind_behind}
+use Rattle.bucket_chain.specs.Links.{link_body}
+use Rattle.bucket_chain.specs.Chains.{ReadLeaf, ReadChain, BeginsAt, kind_behind}
 use Rattle.bucket_chain.specs.AnyFile.{AreToldPages, IsNoContent, IsUnlinked, IsTakenOut, AreGivenBack, emptied_page}
 use Rattle.bucket_chain.specs.Changes.{IsPlaced, BecomesPlaced, LacksFar, remove_from}
 use Rattle.bucket_chain.specs.Hits.{IsHit}

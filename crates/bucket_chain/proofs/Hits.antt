@@ -6,11 +6,11 @@ use Rattle.page_model.specs.PairLists.{times}
 use Rattle.page_model.specs.Pages.{Body, Record}
 use Rattle.page_io.specs.BucketPages.{page_records}
 use Rattle.slot_page.specs.Contents.{HasKeyAt}
-use Rattle.chain_walks.specs.Chains.{ReadLeaf, record_pair}
-use Rattle.chain_walks.specs.Links.{SaysLink, IsLink}
-use Rattle.chain_walks.specs.Walks.{LacksKey}
+use Rattle.bucket_chain.specs.Chains.{ReadLeaf, record_pair}
+use Rattle.bucket_chain.specs.Links.{SaysLink, IsLink}
+use Rattle.bucket_chain.specs.Walks.{LacksKey}
 use Rattle.bucket_chain.specs.Hits.{IsPrior, IsNumberedWalk, IsHitAt, IsHit}
-use Rattle.chain_walks.proofs.Walks.{leaf_of, IsUnderWay, walk_starts, walk_goes_on, passed_more, numbered_more}
+use Rattle.bucket_chain.proofs.Walks.{leaf_of, IsUnderWay, walk_starts, walk_goes_on, passed_more, numbered_more}
 
 -- the walk stands at page n, and has passed page `prior` last
 pub record IsTracked (at : ℕ → Body) (head : ℕ) (key : Key)

@@ -12,7 +12,7 @@ use Rattle.page_model.specs.Pages.{Record}
 use Rattle.page_model.specs.Chain.{Leaf, Chain, Entry, numbers, entries_in, leaf_pairs, pairs_in, record_of, is_at, without, take_out, is_bare, remove, emptied}
 use Rattle.page_model.proofs.GoodBodies.{key_is}
 use Rattle.slot_page.specs.Contents.{HasKeyAt}
-use Rattle.chain_walks.proofs.KeyWalks.{has_key_is}
+use Rattle.bucket_chain.proofs.KeyWalks.{has_key_is}
 
 abbrev pub pairs_at : List Entry → List Pair
 pairs_at entries = map (λ (e : Entry). e.pair) entries

@@ -5,9 +5,9 @@ use Rattle.dbm_model.specs.Pairs.{Key, Pair}
 use Rattle.page_model.specs.PairLists.{has_key, times}
 use Rattle.page_model.specs.Pages.{Body, Record}
 use Rattle.slot_page.specs.Contents.{HasKeyAt}
-use Rattle.chain_walks.specs.Chains.{record_pair}
-use Rattle.chain_walks.specs.Walks.{IsWalk, LacksKey, HasKey}
-use Rattle.chain_walks.proofs.KeyWalks.{has_key_is}
+use Rattle.bucket_chain.specs.Chains.{record_pair}
+use Rattle.bucket_chain.specs.Walks.{IsWalk, LacksKey, HasKey}
+use Rattle.bucket_chain.proofs.KeyWalks.{has_key_is}
 use Rattle.bucket_chain.specs.Hits.{IsHit}
 use Rattle.bucket_chain.specs.declared.removes.Hit.{Hit}
 use Rattle.dbm_model.specs.Bounds.{Version}

@@ -17,8 +17,8 @@ use Rattle.page_model.specs.Valid.{IsRecord, IsOf}
 use Rattle.page_model.specs.Chain.{Entry, Chain, record_with, record_of, entries_in, leaf_pairs, pairs_in, pages_of, IsEntry}
 use Rattle.page_model.proofs.Chains.{near_if, AllByRecursion-left, AllByRecursion-right}
 use Rattle.page_model.proofs.GoodBodies.{IsPageNumber, key_is, far_pages, number_again}
-use Rattle.chain_walks.specs.Chains.{chain_read}
-use Rattle.chain_walks.specs.Links.{AreSound}
+use Rattle.bucket_chain.specs.Chains.{chain_read}
+use Rattle.bucket_chain.specs.Links.{AreSound}
 
 own_key : (p : Pair) → has_key p.0 p ≡ true
 own_key p = is_eq-slice_cmp p.0 p.0 ∙ (bytes_eq-Decides p.0 p.0).1 refl

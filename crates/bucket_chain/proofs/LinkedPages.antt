@@ -7,9 +7,9 @@ use Rattle.page_model.specs.Reading.{bucket_of, body_of}
 use Rattle.page_model.specs.Valid.{IsOf}
 use Rattle.page_io.specs.BucketPages.{IsBucketPage, page_records}
 use Rattle.slot_page.specs.Contents.{with_next}
-use Rattle.chain_walks.specs.Links.{IsLink, link_body}
-use Rattle.chain_walks.specs.Chains.{ReadChain, kind_behind}
-use Rattle.chain_walks.proofs.LinkBodies.{says_link}
+use Rattle.bucket_chain.specs.Links.{IsLink, link_body}
+use Rattle.bucket_chain.specs.Chains.{ReadChain, kind_behind}
+use Rattle.bucket_chain.proofs.LinkBodies.{says_link}
 
 pub link_linked : (version : Version) (old new : List ℕ) (n kind next next' : ℕ)
     → IsLink version old n kind next (page_records old) → IsBucketPage new

@@ -13,9 +13,9 @@ use Rattle.free_pages.specs.declared.free_state.FreeState.{FreeState}
 use Rattle.free_pages.specs.FreeList.{IsFreeList, IsApart}
 use Rattle.free_pages.specs.Giving.{IsFree, AreGiven}
 use Rattle.content_pages.proofs.PageCounts.{times_both}
-use Rattle.chain_walks.specs.Links.{SaysLink}
-use Rattle.chain_walks.specs.Chains.{ReadLeaf, ReadChain, leaf_read, chain_read, number_or, AreLinked, BeginsAt}
-use Rattle.chain_walks.proofs.Walks.{leaf_of, AreNumbered, number_more, linked_more, IsSplit, IsReadAs, read_as, begins_at, begins_same, IsHere, walk_is_here}
+use Rattle.bucket_chain.specs.Links.{SaysLink}
+use Rattle.bucket_chain.specs.Chains.{ReadLeaf, ReadChain, leaf_read, chain_read, number_or, AreLinked, BeginsAt}
+use Rattle.bucket_chain.proofs.Walks.{leaf_of, AreNumbered, number_more, linked_more, IsSplit, IsReadAs, read_as, begins_at, begins_same, IsHere, walk_is_here}
 use Rattle.bucket_chain.specs.AnyFile.{numbers_read}
 use Rattle.bucket_chain.specs.Changes.{IsPlaced}
 use Rattle.bucket_chain.proofs.Givings.{given_none, given_more}

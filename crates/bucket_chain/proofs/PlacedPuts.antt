@@ -18,10 +18,10 @@ use Rattle.page_model.proofs.GoodBodies.{key_is}
 use Rattle.free_pages.specs.declared.free_state.FreeState.{FreeState}
 use Rattle.free_pages.specs.FreeList.{IsApart}
 use Rattle.content_pages.proofs.PageCounts.{times_both}
-use Rattle.chain_walks.specs.Chains.{ReadLeaf, leaf_read, chain_read}
-use Rattle.chain_walks.specs.Links.{AreSound}
-use Rattle.chain_walks.specs.Pairs.{IsSmall}
-use Rattle.chain_walks.proofs.KeyWalks.{has_key_is}
+use Rattle.bucket_chain.specs.Chains.{ReadLeaf, leaf_read, chain_read}
+use Rattle.bucket_chain.specs.Links.{AreSound}
+use Rattle.bucket_chain.specs.Pairs.{IsSmall}
+use Rattle.bucket_chain.proofs.KeyWalks.{has_key_is}
 use Rattle.bucket_chain.specs.Changes.{IsPlaced, AreHeld, put_in, BecomesPlaced}
 use Rattle.bucket_chain.proofs.ChainContents.{contents_kept}
 use Rattle.bucket_chain.proofs.PutLemmas.{one_or_none}

@@ -15,14 +15,14 @@ use Rattle.page_io.specs.BucketPages.{page_records}
 use Rattle.free_pages.specs.declared.free_state.FreeState.{FreeState}
 use Rattle.free_pages.specs.FreeList.{state_of, IsApart}
 use Rattle.content_pages.proofs.PageCounts.{times_both}
-use Rattle.chain_walks.specs.Links.{link_body}
-use Rattle.chain_walks.specs.Chains.{ReadLeaf, ReadChain, leaf_read, chain_read, number_or, kind_behind}
-use Rattle.chain_walks.specs.Walks.{IsFull, fits_leaf}
+use Rattle.bucket_chain.specs.Links.{link_body}
+use Rattle.bucket_chain.specs.Chains.{ReadLeaf, ReadChain, leaf_read, chain_read, number_or, kind_behind}
+use Rattle.bucket_chain.specs.Walks.{IsFull, fits_leaf}
 use Rattle.bucket_chain.specs.Spots.{leaf_on, IsSpot}
 use Rattle.bucket_chain.specs.Changes.{IsPlaced, AreHeld, BecomesPlaced, put_in}
 use Rattle.bucket_chain.specs.declared.puts.Spot.{Spot}
-use Rattle.chain_walks.proofs.Walks.{AreNumbered, IsSplit, IsReadAs, read_as, begins_same}
-use Rattle.chain_walks.proofs.KeyWalks.{none_later}
+use Rattle.bucket_chain.proofs.Walks.{AreNumbered, IsSplit, IsReadAs, read_as, begins_same}
+use Rattle.bucket_chain.proofs.KeyWalks.{none_later}
 use Rattle.bucket_chain.proofs.ChainContents.{contents_each, contents_all, contents_kept, parts_of}
 use Rattle.bucket_chain.proofs.Rewriting.{AreSaid, chain_said, leaves_read, free_kept, times_in, not_here, middle_there, rewritten_said, later_said, said_kept}
 

@@ -8,7 +8,7 @@ use Rattle.page_io.specs.declared.store.PageFault.TheVariants.{Memory, Device, B
 use Rattle.page_io.proofs.Exits.{came, if_exit}
 use Rattle.free_pages.specs.Answers.{IsTakeAnswer, IsGiveAnswer}
 use Rattle.free_pages.specs.declared.free_state.FreeState.{FreeState}
-use Rattle.chain_walks.specs.Answers.{IsWalkAnswer}
+use Rattle.bucket_chain.specs.WalkAnswers.{IsWalkAnswer}
 use Rattle.bucket_chain.specs.Answers.{IsPutAnswer, IsRemoveAnswer, IsStoreAnswer}
 
 -- the faults of a walk, of a remove and of a put

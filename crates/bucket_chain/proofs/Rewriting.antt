@@ -9,8 +9,8 @@ use Rattle.page_model.specs.PageBodies.{first_of, leaf_bodies, overflow_bodies, 
 use Rattle.page_model.proofs.Frames.{kept, at_most_one}
 use Rattle.page_model.proofs.Flat.{numbers-free}
 use Rattle.page_model.proofs.Spaces.{times_head, times_tail}
-use Rattle.chain_walks.specs.Links.{link_body}
-use Rattle.chain_walks.specs.Chains.{chain_read, number_or, kind_behind}
+use Rattle.bucket_chain.specs.Links.{link_body}
+use Rattle.bucket_chain.specs.Chains.{chain_read, number_or, kind_behind}
 
 -- each page of a part of a chain says its records and the next page: the first has this kind, and
 -- page `after` follows the last

@@ -21,7 +21,7 @@ use Rattle.page_model.proofs.Chains.{AllByRecursion-append}
 use Rattle.page_io.specs.BucketPages.{IsBucketPage, page_records}
 use Rattle.slot_page.specs.Contents.{with_records}
 use Rattle.slot_page.proofs.Adding.{taken-push}
-use Rattle.chain_walks.specs.Links.{link_body, IsLink}
+use Rattle.bucket_chain.specs.Links.{link_body, IsLink}
 
 -- two bytes that stand at place k of a text
 two_again : (bytes t : List ℕ) (a k at x : ℕ) → drop a bytes ≡ t → a + k ≡ at → x < 2 ^ 16

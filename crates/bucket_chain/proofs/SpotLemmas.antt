@@ -6,11 +6,11 @@ use Rattle.dbm_model.specs.Bounds.{Version}
 use Rattle.page_model.specs.Pages.{Body, Record}
 use Rattle.page_model.specs.Slots.{taken, room_of}
 use Rattle.page_io.specs.BucketPages.{page_records}
-use Rattle.chain_walks.specs.Chains.{ReadLeaf}
-use Rattle.chain_walks.specs.Links.{IsLink, SaysLink}
-use Rattle.chain_walks.specs.Walks.{IsFull, fits_leaf}
+use Rattle.bucket_chain.specs.Chains.{ReadLeaf}
+use Rattle.bucket_chain.specs.Links.{IsLink, SaysLink}
+use Rattle.bucket_chain.specs.Walks.{IsFull, fits_leaf}
 use Rattle.bucket_chain.specs.Spots.{IsSpot}
-use Rattle.chain_walks.proofs.Walks.{leaf_of, IsUnderWay, passed_more, numbered_more}
+use Rattle.bucket_chain.proofs.Walks.{leaf_of, IsUnderWay, passed_more, numbered_more}
 
 -- whether the bytes of a record fit the room, as the code asks it
 abbrev pub HasRoom : Record → List Record → Type 0

@@ -12,8 +12,8 @@ use Rattle.page_model.proofs.Chains.{sum_by-add, pairs_of_entries}
 use Rattle.page_model.proofs.Places.{same_key}
 use Rattle.free_pages.specs.declared.free_state.FreeState.{FreeState}
 use Rattle.content_pages.proofs.PageCounts.{times_both}
-use Rattle.chain_walks.specs.Pairs.{IsSmall, record_as}
-use Rattle.chain_walks.specs.declared.pair.Pair as code
+use Rattle.bucket_chain.specs.Pairs.{IsSmall, record_as}
+use Rattle.bucket_chain.specs.declared.pair.Pair as code
 use Rattle.bucket_chain.specs.Changes.{IsPlaced, AreHeld, HaveKeysOnce, Placed, put_in, BecomesPlaced}
 use Rattle.bucket_chain.proofs.PlacedPuts.{held_still, put_keeps, put_after}
 

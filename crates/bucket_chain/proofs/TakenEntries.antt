@@ -11,8 +11,8 @@ use Rattle.page_model.specs.Space.{Space, is_page, times_of}
 use Rattle.page_model.proofs.Spaces.{times_head}
 use Rattle.free_pages.specs.FreeList.{IsApart}
 use Rattle.content_pages.proofs.PageCounts.{times_both}
-use Rattle.chain_walks.specs.Links.{link_body}
-use Rattle.chain_walks.specs.Chains.{ReadLeaf, ReadChain, chain_read, number_or, kind_behind}
+use Rattle.bucket_chain.specs.Links.{link_body}
+use Rattle.bucket_chain.specs.Chains.{ReadLeaf, ReadChain, chain_read, number_or, kind_behind}
 use Rattle.bucket_chain.specs.AnyFile.{IsTakenFrom, IsTakenWith, IsUnlinked, emptied_page}
 use Rattle.bucket_chain.proofs.ChainContents.{parts_of}
 use Rattle.bucket_chain.proofs.FoundEntries.{IsFoundHere}

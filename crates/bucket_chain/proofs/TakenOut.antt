@@ -12,10 +12,10 @@ use Rattle.page_model.specs.Chain.{Chain}
 use Rattle.page_model.proofs.Chains.{AllByRecursion-left, AllByRecursion-right}
 use Rattle.page_io.specs.BucketPages.{page_records}
 use Rattle.slot_page.specs.Contents.{HasRecords, HasKeyAt, with_records}
-use Rattle.chain_walks.specs.Links.{link_body, IsLink, SaysLink}
-use Rattle.chain_walks.specs.Chains.{ReadLeaf, ReadChain, chain_read, IsChainAt, AreLinked, BeginsAt, kind_behind}
-use Rattle.chain_walks.proofs.LinkBodies.{says_link}
-use Rattle.chain_walks.proofs.Walks.{AreLinks, IsSplit, IsReadAs, read_as, begins_same, links_behind, kind_same}
+use Rattle.bucket_chain.specs.Links.{link_body, IsLink, SaysLink}
+use Rattle.bucket_chain.specs.Chains.{ReadLeaf, ReadChain, chain_read, IsChainAt, AreLinked, BeginsAt, kind_behind}
+use Rattle.bucket_chain.proofs.LinkBodies.{says_link}
+use Rattle.bucket_chain.proofs.Walks.{AreLinks, IsSplit, IsReadAs, read_as, begins_same, links_behind, kind_same}
 use Rattle.bucket_chain.specs.Hits.{IsLast, IsHit, IsRelinked}
 use Rattle.bucket_chain.specs.AnyFile.{IsTakenFrom, IsTakenWith}
 use Rattle.bucket_chain.specs.declared.removes.Hit.{Hit}

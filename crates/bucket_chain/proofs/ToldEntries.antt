@@ -22,7 +22,7 @@ use Rattle.page_io.specs.BucketPages.{IsPageOf, page_records}
 use Rattle.slot_page.specs.Contents.{HasKeyAt, told_content}
 use Rattle.slot_page.proofs.Tellings.{holds_there}
 use Rattle.content_pages.proofs.FarContents.{far_pages_are}
-use Rattle.chain_walks.proofs.ContentReads.{told_far}
+use Rattle.bucket_chain.proofs.ContentReads.{told_far}
 use Rattle.bucket_chain.specs.AnyFile.{AreToldPages}
 use Rattle.bucket_chain.specs.Hits.{pages_told}
 

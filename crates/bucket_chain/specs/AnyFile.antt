@@ -10,9 +10,9 @@ use Rattle.free_pages.specs.FreeList.{IsTaken}
 use Rattle.free_pages.specs.Giving.{AreGiven}
 use Rattle.content_pages.specs.Contents.{IsContentPage, ArePagesOf, IsContentPut}
 use Rattle.slot_page.specs.Contents.{HasKeyAt, told_content}
-use Rattle.chain_walks.specs.Links.{link_body, SaysLink}
-use Rattle.chain_walks.specs.Chains.{ReadLeaf, ReadChain, BeginsAt, kind_behind}
-use Rattle.chain_walks.specs.Walks.{IsWalk, IsRoomWalk, LacksKey, HasKey, IsFull, fits_leaf}
+use Rattle.bucket_chain.specs.Links.{link_body, SaysLink}
+use Rattle.bucket_chain.specs.Chains.{ReadLeaf, ReadChain, BeginsAt, kind_behind}
+use Rattle.bucket_chain.specs.Walks.{IsWalk, IsRoomWalk, LacksKey, HasKey, IsFull, fits_leaf}
 
 -- the numbers of pages that were read
 abbrev pub numbers_read : ReadChain → List ℕ

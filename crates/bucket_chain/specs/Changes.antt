@@ -14,7 +14,7 @@ use Rattle.page_model.specs.Placement.{bared}
 use Rattle.page_model.specs.Rewrites.{IsRewritten}
 use Rattle.free_pages.specs.declared.free_state.FreeState.{FreeState}
 use Rattle.free_pages.specs.FreeList.{state_of, IsFreeList, IsApart}
-use Rattle.chain_walks.specs.Chains.{IsChainAt}
+use Rattle.bucket_chain.specs.Chains.{IsChainAt}
 use Rattle.page_io.specs.declared.store.PageStore.{Ghosts}
 use Rattle.page_io.specs.Views.{body_at}
 

@@ -4,7 +4,7 @@ use Rattle.std.specs.List.{AllByRecursion}
 use Rattle.page_model.specs.Pages.{Body}
 use Rattle.free_pages.specs.declared.free_state.FreeState.{FreeState}
 use Rattle.free_pages.specs.Giving.{AreGiven}
-use Rattle.chain_walks.specs.Chains.{ReadChain, number_or, AreLinked}
+use Rattle.bucket_chain.specs.Chains.{ReadChain, number_or, AreLinked}
 use Rattle.bucket_chain.specs.AnyFile.{numbers_read}
 
 -- the overflow pages from page `first` on, the last of which names none, were read and given

@@ -9,9 +9,9 @@ use Rattle.page_model.specs.Reading.{own_number}
 use Rattle.page_io.specs.Store.{StoreState, IsKnown}
 use Rattle.page_io.specs.BucketPages.{IsPageOf, page_records}
 use Rattle.slot_page.specs.Contents.{HasKeyAt, told_content}
-use Rattle.chain_walks.specs.Links.{IsLink, SaysLink}
-use Rattle.chain_walks.specs.Chains.{ReadLeaf, ReadChain, kind_behind}
-use Rattle.chain_walks.specs.Walks.{IsWalk, LacksKey, EndsWithout}
+use Rattle.bucket_chain.specs.Links.{IsLink, SaysLink}
+use Rattle.bucket_chain.specs.Chains.{ReadLeaf, ReadChain, kind_behind}
+use Rattle.bucket_chain.specs.Walks.{IsWalk, LacksKey, EndsWithout}
 use Rattle.bucket_chain.specs.declared.removes.Hit.{Hit}
 
 -- a head page or an overflow page

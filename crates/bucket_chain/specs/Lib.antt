@@ -1,8 +1,16 @@
 pub mod Answers
 pub mod AnyFile
+pub mod Bests
+pub mod Chains
 pub mod Changes
 pub mod Giving
 pub mod Hits
+pub mod KeyRanks
+pub mod Leasts
+pub mod Links
+pub mod Pairs
 pub mod Placements
 pub mod Records
 pub mod Spots
+pub mod WalkAnswers
+pub mod Walks

@@ -5,9 +5,9 @@ use Rattle.dbm_model.specs.Bounds.{Version}
 use Rattle.page_model.specs.Pages.{Body, Record}
 use Rattle.page_model.specs.Slots.{size, room_of}
 use Rattle.page_io.specs.BucketPages.{page_records}
-use Rattle.chain_walks.specs.Links.{IsLink}
-use Rattle.chain_walks.specs.Chains.{ReadLeaf, ReadChain, BeginsAt, kind_behind}
-use Rattle.chain_walks.specs.Walks.{IsFull, fits_leaf}
+use Rattle.bucket_chain.specs.Links.{IsLink}
+use Rattle.bucket_chain.specs.Chains.{ReadLeaf, ReadChain, BeginsAt, kind_behind}
+use Rattle.bucket_chain.specs.Walks.{IsFull, fits_leaf}
 use Rattle.bucket_chain.specs.declared.puts.Spot.{Spot}
 
 -- the page of the spot, with the records of these bytes

@@ -1,16 +1,30 @@
-//! The chain of a bucket: its head page and its overflow pages.
+//! The chain of a bucket, its head page and its overflow pages: walks along it, which look a key up,
+//! find the next key of a pass and load all records, and changes of it.
 #![tactic(auto)]
 
 mod laws;
+mod leasts;
+mod link;
+mod loads;
+mod lookups;
+mod page_ranks;
+mod pair;
+mod place;
 mod puts;
 mod removes;
 mod staging;
 mod stores;
 
-pub use chain_walks::{PageRanks, Pair, Place, least_behind, load_all, lookup};
 pub use laws::{
     chains_are_placed, entries_are_placements, puts_are_placements, removals_are_placements,
 };
+pub use leasts::least_behind;
+pub use link::{HEAD, OVERFLOW, read_link};
+pub use loads::load_all;
+pub use lookups::lookup;
+pub use page_ranks::PageRanks;
+pub use pair::Pair;
+pub use place::Place;
 pub use puts::{put, put_record};
 pub use removes::remove;
 pub use stores::store_all;

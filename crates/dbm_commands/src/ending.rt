@@ -3,7 +3,7 @@ ghost use Rattle.std.specs.Prelude.{◌≡◌, ◌⊎◌, ◌/◌, true, false, 
 ghost use Rattle.std.specs.Io.KnownBytes.{Keeps};
 ghost use Rattle.sect_dev.specs.Device.{LeavesOnly, MoreFaults};
 ghost use Rattle.sect_dev.specs.Moments.{IsOutcome};
-ghost use Rattle.redo_commit.specs.File.{settled, IsAtRest};
+ghost use Rattle.redo_area.specs.File.{settled, IsAtRest};
 ghost use Rattle.dbm_file.specs.Database.{store_of, page_state};
 ghost use Rattle.dbm_file.specs.Opened.{device_below};
 

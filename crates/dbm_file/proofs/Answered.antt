@@ -4,7 +4,7 @@ use Rattle.dbm_fault.specs.Among.{IsErrAmong}
 use Rattle.dbm_fault.specs.declared.fault.Fault.{Fault}
 use Rattle.page_io.specs.Views.{body_at}
 use Rattle.page_io.specs.declared.store.PageStore.{Ghosts}
-use Rattle.chain_walks.specs.Walks.{EndsWithout}
+use Rattle.bucket_chain.specs.Walks.{EndsWithout}
 use Rattle.dbm_file.specs.Answers.{IsSameDatabase, IsCallEnded, IsCallEndedWith}
 use Rattle.dbm_file.specs.Changing.{WasDeleted, WasStored, WasUpgraded}
 use Rattle.dbm_file.specs.Calls.{reply_of, store_reply, delete_reply, upgrade_reply, Lent, lent_reply, seen}

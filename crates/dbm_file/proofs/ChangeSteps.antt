@@ -21,7 +21,7 @@ use Rattle.page_io.specs.declared.store.PageFault.{PageFault}
 use Rattle.page_io.specs.declared.store.PageFault.TheVariants as page
 use Rattle.page_io.proofs.Exits.{more_later}
 use Rattle.dbm_fault.specs.Faults.{fault_of, fault_from}
-use Rattle.page_commit.specs.Committing.{Holds, IsForgotten}
+use Rattle.page_io.specs.Committing.{Holds, IsForgotten}
 use Rattle.linear_hash.specs.Holding.{StandsForEither, IsEnded, ChangesMap}
 use Rattle.dbm_file.specs.Held.{Held, held_by}
 use Rattle.dbm_file.specs.Passing.{model_pass}

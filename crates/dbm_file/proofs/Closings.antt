@@ -7,7 +7,7 @@ use Rattle.sect_dev.specs.declared.device.SectorDev as device
 use Rattle.page_io.specs.Store.{Settled, StoreState}
 use Rattle.page_io.specs.declared.store.PageFault.{PageFault}
 use Rattle.page_io.specs.declared.store.PageFault.TheVariants.{Broken, Device}
-use Rattle.redo_commit.specs.File.{settled}
+use Rattle.redo_area.specs.File.{settled}
 
 -- the moments of a device are those of a layer above it
 pub lower : {S D : Type 0} (dev : device.Ghosts D) (below : S → D) (old new : S)

@@ -7,14 +7,14 @@ use Rattle.std.specs.FinMap.{get}
 use Rattle.dbm_model.specs.Pairs.{Key, Contents, is_far}
 use Rattle.page_model.specs.Pages.{Meta, Body, Record}
 use Rattle.page_model.specs.Placement.{contents}
-use Rattle.page_commit.specs.Committing.{Holds}
+use Rattle.page_io.specs.Committing.{Holds}
 use Rattle.page_io.specs.Views.{body_at, ReadsOnly}
 use Rattle.page_io.specs.declared.store.PageStore.{Ghosts}
 use Rattle.page_io.proofs.Views.{same_said}
-use Rattle.chain_walks.specs.Chains.{ReadLeaf}
+use Rattle.bucket_chain.specs.Chains.{ReadLeaf}
 use Rattle.page_model.specs.Slots.{size, taken}
 use Rattle.page_model.specs.Valid.{IsFar, MayTell, IsRecord, IsOf}
-use Rattle.chain_walks.specs.declared.place.Place.{Place}
+use Rattle.bucket_chain.specs.declared.place.Place.{Place}
 use Rattle.page_io.specs.BucketPages.{IsPageOf, page_records}
 use Rattle.slot_page.specs.Contents.{HasKeyAt, told_content}
 use Rattle.content_pages.specs.Contents.{IsContentAt}

@@ -19,8 +19,8 @@ use Rattle.dbm_fault.specs.Faults.{fault_of, fault_from}
 use Rattle.dbm_fault.specs.declared.fault.Fault.{Fault}
 use Rattle.dbm_fault.specs.declared.fault.Fault.TheVariants.{Memory, Broken, ReadOnly, TooLong, Full, Damaged}
 use Rattle.linear_hash.specs.Tables.{shape_in, shape_for}
-use Rattle.chain_walks.specs.Answers.{IsWalkAnswer}
-use Rattle.chain_walks.specs.Walks.{EndsWithout}
+use Rattle.bucket_chain.specs.WalkAnswers.{IsWalkAnswer}
+use Rattle.bucket_chain.specs.Walks.{EndsWithout}
 use Rattle.dbm_file.specs.Answers.{IsCallEnded, IsCallEndedWith}
 use Rattle.dbm_file.specs.Changing.{WasDeleted, WasStored, MayNeedMemory}
 use Rattle.dbm_file.specs.Database.{store_of, meta_kept, page_state}

@@ -20,8 +20,8 @@ use Rattle.page_io.specs.Meaning.{FileStandsFor, ImageStandsFor}
 use Rattle.page_io.specs.declared.store.PageStore as store
 use Rattle.page_cache.specs.Stores.{store_below}
 use Rattle.page_cache.specs.declared.cached_pages.CachedPages.{CachedPages}
-use Rattle.redo_commit.specs.File.{settled}
-use Rattle.redo_commit.specs.Header.{has_magic}
+use Rattle.redo_area.specs.File.{settled}
+use Rattle.redo_area.specs.Header.{has_magic}
 use Rattle.file_opening.specs.Opening.{writes, is_exclusive, early_fault, room_fault, making_fault, commit_fault, emptying_fault, RefusesFound, RefusesBy, IsRefusedOpening, KeepsMeta, bounds_of}
 use Rattle.file_opening.specs.declared.open_how.OpenHow.{OpenHow}
 use Rattle.file_opening.proofs.Rooms.{of_room}

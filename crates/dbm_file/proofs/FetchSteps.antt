@@ -12,10 +12,10 @@ use Rattle.page_io.specs.Answers.{HasDeviceCause}
 use Rattle.page_io.specs.declared.store.PageStore.{Ghosts}
 use Rattle.page_io.specs.declared.store.PageFault.{PageFault}
 use Rattle.page_io.specs.declared.store.PageFault.TheVariants as page
-use Rattle.chain_walks.specs.Answers.{IsLoadAnswer}
+use Rattle.bucket_chain.specs.WalkAnswers.{IsLoadAnswer}
 use Rattle.dbm_file.specs.Calls.{Lent, lent_reply}
 use Rattle.dbm_fault.specs.Faults.{fault_from}
-use Rattle.page_commit.specs.Committing.{Holds}
+use Rattle.page_io.specs.Committing.{Holds}
 use Rattle.dbm_file.specs.Lending.{Lends}
 use Rattle.dbm_file.specs.Passing.{model_pass}
 use Rattle.dbm_file.specs.Database.{store_of, meta_kept, page_state, handle_of}

@@ -16,7 +16,7 @@ use Rattle.page_io.specs.Views.{body_at, ReadsOnly}
 use Rattle.page_io.specs.declared.store.PageStore.{Ghosts}
 use Rattle.page_io.specs.declared.store.PageFault.{PageFault}
 use Rattle.page_io.specs.declared.store.PageFault.TheVariants as page
-use Rattle.page_commit.specs.Committing.{Holds}
+use Rattle.page_io.specs.Committing.{Holds}
 use Rattle.linear_hash.proofs.Tables.{committed_said}
 use Rattle.dbm_fault.specs.Faults.{fault_from}
 use Rattle.dbm_fault.specs.declared.fault.Fault.{Fault}

@@ -13,7 +13,7 @@ use Rattle.page_model.specs.Meaning.{said_by}
 use Rattle.page_io.specs.Store.{Settled, StoreState, page_of}
 use Rattle.page_io.specs.Meaning.{FileStandsFor, ImageStandsFor}
 use Rattle.page_io.specs.declared.store.PageStore as store
-use Rattle.page_commit.specs.Committing.{Holds}
+use Rattle.page_io.specs.Committing.{Holds}
 use Rattle.page_cache.specs.Stores.{store_below}
 use Rattle.page_cache.specs.declared.cached_pages.CachedPages.{CachedPages}
 use Rattle.dbm_file.specs.Passing.{pass_of}

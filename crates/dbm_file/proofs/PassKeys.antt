@@ -13,7 +13,7 @@ use Rattle.dbm_model.specs.Steps.{IsAhead, IsNextKey, IsOver}
 use Rattle.page_model.specs.PairLists.{has_key, times}
 use Rattle.page_model.specs.Placement.{Placement, pairs_of, contents}
 use Rattle.page_model.proofs.PairLists.{value_in}
-use Rattle.chain_walks.specs.Leasts.{IsLeastKey}
+use Rattle.bucket_chain.specs.Leasts.{IsLeastKey}
 
 abbrev order : IsTotalOrder key_cmp
 order = nat_list_cmp_total

@@ -22,8 +22,8 @@ use Rattle.page_io.specs.declared.store.PageStore.{Ghosts}
 use Rattle.page_io.specs.declared.store.PageFault.{PageFault}
 use Rattle.page_io.specs.declared.store.PageFault.TheVariants as page
 use Rattle.page_io.specs.BucketPages.{IsBucketPage, page_records}
-use Rattle.chain_walks.specs.Answers.{IsWalkAnswer}
-use Rattle.chain_walks.specs.Leasts.{IsLeast}
+use Rattle.bucket_chain.specs.WalkAnswers.{IsWalkAnswer}
+use Rattle.bucket_chain.specs.Leasts.{IsLeast}
 use Rattle.linear_hash.specs.Tables.{IsTable, ForEachTable}
 use Rattle.linear_hash.proofs.Tables.{placed, is_table, map_placed}
 use Rattle.dbm_fault.specs.Faults.{fault_of, fault_from}

@@ -23,14 +23,14 @@ use Rattle.page_io.specs.declared.store.PageStore.{Ghosts}
 use Rattle.page_io.specs.declared.store.PageFault.{PageFault}
 use Rattle.page_io.specs.declared.store.PageFault.TheVariants as page
 use Rattle.seg_table.specs.MetaPages.{model_meta}
-use Rattle.chain_walks.specs.Answers.{IsWalkAnswer, IsLoadAnswer}
+use Rattle.bucket_chain.specs.WalkAnswers.{IsWalkAnswer, IsLoadAnswer}
 use Rattle.dbm_fault.specs.Faults.{fault_of, fault_from}
-use Rattle.page_commit.specs.Committing.{Holds}
+use Rattle.page_io.specs.Committing.{Holds}
 use Rattle.dbm_file.specs.Held.{Held, held_by}
 use Rattle.dbm_file.specs.Database.{store_of, meta_kept, page_state, HoldsMap, StandsAfterStop, handle_of, IsAt}
 use Rattle.dbm_file.specs.Passing.{model_pass}
 use Rattle.dbm_file.specs.Answers.{MayBeLeft, StandsForSome, Survives, IsStep, IsSameDatabase, IsCallEnded}
-use Rattle.chain_walks.proofs.ReadPages.{reads_none}
+use Rattle.bucket_chain.proofs.ReadPages.{reads_none}
 use Rattle.dbm_file.specs.Trying.{with_fault, IsRead}
 use Rattle.dbm_fault.specs.declared.fault.Fault.{Fault}
 use Rattle.dbm_fault.specs.declared.fault.Fault.TheVariants.{Memory, Device, Broken}

@@ -11,7 +11,7 @@ use Rattle.page_io.proofs.Exits.{more_later, both_ways}
 use Rattle.dbm_fault.specs.Faults.{fault_of, fault_from}
 use Rattle.dbm_fault.specs.declared.fault.Fault.{Fault}
 use Rattle.dbm_fault.specs.declared.fault.Fault.TheVariants.{Device, Broken}
-use Rattle.page_commit.specs.Committing.{IsForgotten}
+use Rattle.page_io.specs.Committing.{IsForgotten}
 use Rattle.dbm_file.specs.Passing.{model_pass}
 use Rattle.dbm_file.specs.Database.{page_state}
 use Rattle.dbm_file.specs.Answers.{IsCallEnded}

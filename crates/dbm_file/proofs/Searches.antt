@@ -6,18 +6,18 @@ use Rattle.std.specs.List.{HoldsAt}
 use Rattle.dbm_model.specs.Pairs.{Key}
 use Rattle.dbm_model.specs.States.{Pass, NotBegun}
 use Rattle.dbm_model.specs.Steps.{IsAhead}
-use Rattle.chain_walks.specs.Chains.{ReadLeaf}
+use Rattle.bucket_chain.specs.Chains.{ReadLeaf}
 use Rattle.page_model.specs.Pages.{Meta, Body, Record}
 use Rattle.page_io.specs.BucketPages.{page_records}
 use Rattle.slot_page.specs.Contents.{told_content}
 use Rattle.content_pages.specs.Contents.{IsContentAt}
-use Rattle.chain_walks.specs.Walks.{EndsWithout}
-use Rattle.chain_walks.specs.declared.place.Place.{Place}
+use Rattle.bucket_chain.specs.Walks.{EndsWithout}
+use Rattle.bucket_chain.specs.declared.place.Place.{Place}
 use Rattle.linear_hash.specs.Looking.{IsSearch, EndsAt, SaysContent, SaysPair}
 use Rattle.dbm_file.specs.Fetching.{record_in}
 use Rattle.dbm_fault.specs.declared.fault.Fault.{Fault}
 use Rattle.dbm_fault.specs.declared.fault.Fault.TheVariants.{NoPass, Device, Damaged}
-use Rattle.chain_walks.specs.Leasts.{IsAheadAt}
+use Rattle.bucket_chain.specs.Leasts.{IsAheadAt}
 use Rattle.linear_hash.specs.Passing.{IsPassed}
 use Rattle.dbm_file.specs.Searches.{EndsWith, EndsBy, EndsAtContent, EndsAtFar, IsGiven}
 

@@ -12,7 +12,7 @@ use Rattle.page_io.specs.declared.store.PageStore.{Ghosts}
 use Rattle.page_io.specs.declared.store.PageFault.{PageFault}
 use Rattle.seg_table.specs.declared.meta.Meta as code
 use Rattle.dbm_fault.specs.Faults.{fault_of, fault_from}
-use Rattle.page_commit.specs.Committing.{Holds}
+use Rattle.page_io.specs.Committing.{Holds}
 use Rattle.dbm_file.specs.Calls.{mode_of, store_reply, delete_reply}
 use Rattle.dbm_model.specs.States.{Handle}
 use Rattle.dbm_file.specs.Database.{store_of, meta_kept, page_state, handle_of}

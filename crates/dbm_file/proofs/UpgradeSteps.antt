@@ -18,7 +18,7 @@ use Rattle.page_io.specs.declared.store.PageFault.TheVariants as page
 use Rattle.page_io.specs.declared.version.Version.{Version}
 use Rattle.page_io.specs.declared.version.Version.TheVariants.{V1, V2}
 use Rattle.page_io.specs.contracts.version.Version.{the_type}
-use Rattle.page_commit.specs.Committing.{Holds}
+use Rattle.page_io.specs.Committing.{Holds}
 use Rattle.dbm_fault.specs.Among.{IsAmong}
 use Rattle.dbm_fault.specs.Faults.{fault_of, fault_from}
 use Rattle.dbm_fault.specs.declared.fault.Fault.{Fault}

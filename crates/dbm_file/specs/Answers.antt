@@ -8,7 +8,7 @@ use Rattle.dbm_model.specs.States.{Handle, State, first_fault}
 use Rattle.dbm_model.specs.Steps.{Changes, case_of, Step}
 use Rattle.page_io.specs.Store.{Settled}
 use Rattle.page_io.specs.Meaning.{ImageStandsFor}
-use Rattle.page_commit.specs.Committing.{IsUntouched}
+use Rattle.page_io.specs.Committing.{IsUntouched}
 use Rattle.page_io.specs.declared.store.PageStore.{Ghosts}
 use Rattle.dbm_fault.specs.Faults.{fault_of}
 use Rattle.dbm_file.specs.Passing.{pass_of}

@@ -11,7 +11,7 @@ use Rattle.page_io.specs.Meaning.{ImageStandsFor}
 use Rattle.page_io.specs.declared.store.PageStore.{Ghosts}
 use Rattle.seg_table.specs.MetaPages.{model_meta}
 use Rattle.dbm_fault.specs.Faults.{fault_of}
-use Rattle.page_commit.specs.Committing.{Holds}
+use Rattle.page_io.specs.Committing.{Holds}
 use Rattle.dbm_file.specs.Passing.{pass_of}
 use Rattle.dbm_file.specs.declared.database.Database.{Database}
 

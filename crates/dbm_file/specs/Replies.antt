@@ -8,7 +8,7 @@ use Rattle.dbm_model.specs.Changes.{bounds_after}
 use Rattle.dbm_model.specs.States.{Begun, error_number}
 use Rattle.page_io.specs.declared.store.PageStore.{Ghosts}
 use Rattle.page_io.specs.Views.{body_at}
-use Rattle.chain_walks.specs.Walks.{EndsWithout}
+use Rattle.bucket_chain.specs.Walks.{EndsWithout}
 use Rattle.dbm_file.specs.Answers.{IsCallEndedWith}
 use Rattle.dbm_file.specs.Calls.{call_of, reply_of, Lent}
 use Rattle.dbm_file.specs.Changing.{WasDeleted, WasStored, WasUpgraded}

@@ -3,14 +3,14 @@ use Rattle.std.specs.Prelude.{◌≡◌, ◌≢◌, ◌<◌, length, ℕ, Bool, 
 use Rattle.std.specs.List.{HoldsAt}
 use Rattle.dbm_model.specs.Pairs.{Key}
 use Rattle.dbm_model.specs.States.{Pass, NotBegun}
-use Rattle.chain_walks.specs.Chains.{ReadLeaf}
+use Rattle.bucket_chain.specs.Chains.{ReadLeaf}
 use Rattle.page_model.specs.Pages.{Meta, Body, Record}
 use Rattle.page_io.specs.BucketPages.{page_records}
 use Rattle.slot_page.specs.Contents.{HasKeyAt, told_content}
 use Rattle.content_pages.specs.Contents.{IsContentAt}
 use Rattle.page_io.specs.Views.{body_at}
 use Rattle.page_io.specs.declared.store.PageStore.{Ghosts}
-use Rattle.chain_walks.specs.Walks.{EndsWithout}
+use Rattle.bucket_chain.specs.Walks.{EndsWithout}
 use Rattle.linear_hash.specs.Looking.{IsSearch, CanSearch, SaysPair}
 use Rattle.linear_hash.specs.Passing.{IsPassed}
 use Rattle.dbm_file.specs.Passing.{pass_of}

@@ -12,7 +12,7 @@ use Rattle.dbm_fault.specs.Among.{IsErrAmong}
 use Rattle.dbm_fault.specs.declared.fault.Fault.{Fault}
 use Rattle.dbm_fault.specs.declared.fault.Fault.TheVariants.{Memory, ReadOnly, TooLong, TooSmall, NoRoom}
 use Rattle.linear_hash.specs.Tables.{shape_in, shape_for}
-use Rattle.chain_walks.specs.Walks.{EndsWithout}
+use Rattle.bucket_chain.specs.Walks.{EndsWithout}
 use Rattle.dbm_file.specs.Answers.{IsCallEnded, IsCallEndedWith}
 use Rattle.dbm_file.specs.Calls.{upgrade_reply}
 use Rattle.dbm_file.specs.Changing.{WasDeleted, WasStored, WasUpgraded, MayNeedMemory, MayUpgrade, IsTooSmall}

@@ -28,11 +28,11 @@ impl<S: PageStore> Database<S> {
     ghost use Rattle.dbm_model.specs.Pairs.{Contents, is_allowed};
     ghost use Rattle.dbm_fault.specs.Among.{IsErrAmong};
     ghost use Rattle.linear_hash.specs.Tables.{shape_in, shape_for};
-    ghost use Rattle.page_commit.specs.Committing.{Holds};
+    ghost use Rattle.page_io.specs.Committing.{Holds};
     ghost use Rattle.page_io.specs.Answers.{HasDeviceCause};
     ghost use Rattle.page_io.specs.declared.store.PageFault.TheVariants.{Damaged};
-    ghost use Rattle.chain_walks.specs.Answers.{IsWalkAnswer};
-    ghost use Rattle.chain_walks.specs.Walks.{EndsWithout};
+    ghost use Rattle.bucket_chain.specs.WalkAnswers.{IsWalkAnswer};
+    ghost use Rattle.bucket_chain.specs.Walks.{EndsWithout};
     ghost use Rattle.dbm_file.specs.Answers.{IsStep, IsCallEnded, IsCallEndedWith};
     ghost use Rattle.dbm_file.specs.Calls.{mode_of, store_reply, delete_reply, upgrade_reply};
     ghost use Rattle.dbm_file.specs.Changing.{WasDeleted, WasStored, WasUpgraded, MayNeedMemory, MayUpgrade, IsTooSmall};

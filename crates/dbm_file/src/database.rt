@@ -6,7 +6,7 @@ ghost use Rattle.seg_table.specs.MetaPages.{model_meta};
 
 use crate::pass::Pass;
 use crate::{Fault, Stat};
-use chain_walks::PageRanks;
+use bucket_chain::PageRanks;
 use content_pages::read_content;
 use linear_hash::find_pair;
 use page_cache::CachedPages;
@@ -58,12 +58,12 @@ impl<S: PageStore> Database<S> {
     ghost use Rattle.dbm_model.specs.States.{Handle, error_number};
     ghost use Rattle.dbm_model.specs.Steps.{holds_far};
     ghost use Rattle.page_model.specs.Valid.{meta_buckets};
-    ghost use Rattle.page_commit.specs.Committing.{Holds};
+    ghost use Rattle.page_io.specs.Committing.{Holds};
     ghost use Rattle.page_io.specs.Answers.{HasDeviceCause};
     ghost use Rattle.page_io.specs.Versions.{model_version};
     ghost use Rattle.page_io.specs.Views.{body_at};
     ghost use Rattle.page_io.specs.declared.store.PageFault.TheVariants.{Memory, Damaged};
-    ghost use Rattle.chain_walks.specs.Answers.{IsLoadAnswer};
+    ghost use Rattle.bucket_chain.specs.WalkAnswers.{IsLoadAnswer};
     ghost use Rattle.dbm_file.specs.Answers.{IsStep};
     ghost use Rattle.dbm_file.specs.Calls.{lent_reply, seen};
     ghost use Rattle.dbm_file.specs.Database.{store_of, meta_kept, page_state, error_of, IsAt, AtEachHandle};

@@ -12,7 +12,7 @@ ghost use Rattle.dbm_file.specs.Pairs.{pair_of};
 use crate::database::{Database, refuse};
 use crate::pass::Pass;
 use crate::{Fault, Pair, StoreMode};
-use chain_walks::PageRanks;
+use bucket_chain::PageRanks;
 use page_group::{GroupEnd, GroupPages, Loan};
 use page_io::{Page, PageFault, PageStore};
 use seg_table::Meta;

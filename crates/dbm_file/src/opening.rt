@@ -7,7 +7,7 @@ ghost use Rattle.sect_dev.specs.Device.{Image, IsImageOf, IsStable, LeavesOnly, 
 ghost use Rattle.sect_dev.specs.Moments.{IsOutcome};
 ghost use Rattle.dbm_model.specs.Pairs.{Contents};
 ghost use Rattle.page_io.specs.Meaning.{ImageStandsFor};
-ghost use Rattle.redo_commit.specs.File.{settled, IsAtRest};
+ghost use Rattle.redo_area.specs.File.{settled, IsAtRest};
 ghost use Rattle.dbm_fault.specs.Among.{IsErrAmong};
 ghost use Rattle.sect_dev.specs.Reads.{OnlyReads};
 ghost use Rattle.dbm_model.specs.States.{Handle};
@@ -19,7 +19,7 @@ ghost use Rattle.dbm_file.specs.Opened.{pages_kept, device_below, device_opened,
 use crate::database::{Database, Db};
 use crate::pass::Pass;
 use crate::{Fault, OpenHow};
-use chain_walks::PageRanks;
+use bucket_chain::PageRanks;
 use file_opening::open_file;
 use page_cache::CachedPages;
 use page_io::{Page, PageStore};

@@ -2,7 +2,7 @@
 ghost use Rattle.std.specs.Prelude.{◌≡◌, ◌≢◌, ◌⊎◌, ◌↔◌, ◌≤◌, true, IsTrue, length, if◌then◌else◌};
 ghost use Rattle.std.specs.Option.{option_map};
 ghost use Rattle.dbm_model.specs.States as model;
-ghost use Rattle.chain_walks.specs.Leasts.{pass_behind};
+ghost use Rattle.bucket_chain.specs.Leasts.{pass_behind};
 ghost use Rattle.dbm_file.specs.Passing.{model_pass};
 
 use arrayvec::ArrayVec;

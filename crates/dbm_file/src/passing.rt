@@ -15,7 +15,7 @@ impl<S: PageStore> Database<S> {
     ghost use Rattle.dbm_model.specs.Steps.{Passes, IsAhead, case_of};
     ghost use Rattle.dbm_fault.specs.Among.{IsErrAmong};
     ghost use Rattle.linear_hash.specs.Passing.{IsPassed};
-    ghost use Rattle.chain_walks.specs.Leasts.{IsAheadAt};
+    ghost use Rattle.bucket_chain.specs.Leasts.{IsAheadAt};
     ghost use Rattle.page_io.specs.Views.{body_at};
     ghost use Rattle.dbm_file.specs.Answers.{IsStep, IsCallEnded};
     ghost use Rattle.dbm_file.specs.Calls.{lent_reply, seen};

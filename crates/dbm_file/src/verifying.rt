@@ -8,7 +8,7 @@ use page_io::PageStore;
 impl<S: PageStore> Database<S> {
     ghost use Rattle.std.specs.FinMap.{len};
     ghost use Rattle.sect_dev.specs.Device.{MoreFaults};
-    ghost use Rattle.chain_check.specs.Flaws.{IsTold};
+    ghost use Rattle.file_check.specs.Flaws.{IsTold};
     ghost use Rattle.dbm_fault.specs.Among.{IsErrAmong};
     ghost use Rattle.dbm_file.specs.Database.{store_of, page_state, AtEachHandle};
     ghost use Rattle.dbm_file.specs.Replies.{read_faults};

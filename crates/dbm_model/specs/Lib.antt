@@ -7,10 +7,15 @@ pub mod FaultCount
 pub mod FaultNumbers
 pub mod Holding
 pub mod KeyOrder
+pub mod Members
 pub mod Pairs
 pub mod Passes
 pub mod Refusals
 pub mod Room
+pub mod SessionChanges
+pub mod SessionExamples
+pub mod SessionRoom
+pub mod Sessions
 pub mod Sizes
 pub mod States
 pub mod Steps

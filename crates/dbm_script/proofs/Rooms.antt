@@ -11,10 +11,10 @@ use Rattle.dbm_model.specs.Pairs.{Contents}
 use Rattle.dbm_model.specs.Sizes.{is_limit, home, sectors_for}
 use Rattle.page_io.specs.Store.{Settled, blank}
 use Rattle.page_io.specs.Meaning.{ImageStandsFor}
-use Rattle.redo_commit.specs.Header.{header_of}
-use Rattle.redo_commit.specs.File.{settled, settled_by}
-use Rattle.redo_commit.specs.declared.header.Header.{Header}
-use Rattle.redo_commit.specs.declared.header.Header.TheVariants.{Blank}
+use Rattle.redo_area.specs.Header.{header_of}
+use Rattle.redo_area.specs.File.{settled, settled_by}
+use Rattle.redo_area.specs.declared.header.Header.{Header}
+use Rattle.redo_area.specs.declared.header.Header.TheVariants.{Blank}
 use Rattle.file_opening.specs.Opening.{writes, bounds_of, room_fault, making_fault, IsOpened}
 use Rattle.file_opening.specs.declared.open_how.OpenHow.{OpenHow}
 use Rattle.dbm_fault.specs.declared.fault.Fault.{Fault}

@@ -1,9 +1,9 @@
 -- How a flaw of a file is told in words.
 use Rattle.std.specs.Prelude.{◌≡◌, ℕ, List, ◌++◌, Option, Some, None, codes}
 use Rattle.std.specs.Fmt.{decimal}
-use Rattle.chain_check.specs.declared.flaws.Flaw.{Flaw}
-use Rattle.chain_check.specs.declared.flaws.Rule.{Rule}
-use Rattle.chain_check.specs.declared.flaws.Rule.TheVariants as rule
+use Rattle.file_check.specs.declared.flaws.Flaw.{Flaw}
+use Rattle.file_check.specs.declared.flaws.Rule.{Rule}
+use Rattle.file_check.specs.declared.flaws.Rule.TheVariants as rule
 use Rattle.dbm_plan.specs.declared.help_text.TheConstants.{DAMAGED_WORDS}
 
 -- what is wrong with a page that breaks the rule

@@ -11,7 +11,7 @@ use dbm_file::{Fault, Refusal, open_path};
 use dbm_plan::Plan;
 use dbm_progress::Progress;
 use dbm_salvage::{Salvaged, Trouble, Troubles, salvage_engine};
-use redo_commit::{Header, read_header};
+use redo_area::{Header, read_header};
 use sect_dev::{FileDev, FileFault, SectorDev};
 use std::alloc::Global;
 use std::fs::{self, File};

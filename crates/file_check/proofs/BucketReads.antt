@@ -9,9 +9,9 @@ use Rattle.page_model.specs.Pages as model
 use Rattle.page_model.specs.Pages.{Body, SegmentPage}
 use Rattle.dbm_model.specs.Sizes.{segments_for}
 use Rattle.page_model.specs.Valid.{IsMeta, meta_buckets}
-use Rattle.page_marks.specs.Marks.{AreMarked, MayBeSeen}
+use Rattle.file_check.specs.Marks.{AreMarked, MayBeSeen}
 use Rattle.seg_table.proofs.Tables.{part_read}
-use Rattle.chain_check.specs.BucketChains.{IsBucketChain}
+use Rattle.file_check.specs.BucketChains.{IsBucketChain}
 use Rattle.file_check.specs.Segments.{shape_in, AreChains, AreCounted, AreInSegment, IsSegmentChecked, AreBuckets, AreChecked}
 use Rattle.file_check.proofs.ChainReads.{length-heads, chains_behind, no_chains, counted_behind, none_counted}
 use Rattle.file_check.proofs.HeadReads.{may_chains}

@@ -11,12 +11,12 @@ use Rattle.page_model.specs.Pages.{Body, HeadPage, OverflowPage, NumberedBody, R
 use Rattle.page_model.specs.Chain.{Chain, IsChain, numbers, record_of, entries_in, pages_in, pairs_in}
 use Rattle.page_model.specs.PageBodies.{first_of, heads_of, leaf_bodies, overflow_bodies, entry_bodies, AreRead}
 use Rattle.page_model.proofs.Chains.{AllByRecursion-left}
-use Rattle.page_marks.specs.Marks.{AreMarked, MayBeSeen}
-use Rattle.chain_walks.specs.Chains.{chain_read}
-use Rattle.chain_check.specs.BucketChains.{IsBucketChain}
-use Rattle.chain_check.proofs.GoodChains.{stored}
-use Rattle.chain_check.proofs.OneChain.{one_chain as one_reading}
-use Rattle.chain_check.proofs.SeenPages.{numbered_in}
+use Rattle.file_check.specs.Marks.{AreMarked, MayBeSeen}
+use Rattle.bucket_chain.specs.Chains.{chain_read}
+use Rattle.file_check.specs.BucketChains.{IsBucketChain}
+use Rattle.file_check.proofs.GoodChains.{stored}
+use Rattle.file_check.proofs.OneChain.{one_chain as one_reading}
+use Rattle.file_check.proofs.SeenPages.{numbered_in}
 use Rattle.file_check.specs.Segments.{shape_in, AreChains, AreCounted}
 
 -- ---- numbers

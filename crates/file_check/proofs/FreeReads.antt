@@ -3,8 +3,8 @@ use Rattle.std.proofs.Common.{◌≡◌, inl, ℕ, zero, suc, ◌+◌, ◌<◌, 
 use Rattle.std.proofs.lemmas.List.{take_all}
 use Rattle.page_model.specs.Pages.{Body, FreePage}
 use Rattle.page_model.specs.PageBodies.{first_of, free_bodies, AreRead}
-use Rattle.page_marks.specs.Marks.{AreMarked, MayBeSeen}
-use Rattle.page_marks.proofs.Seen.{first_more, may_first, no_page}
+use Rattle.file_check.specs.Marks.{AreMarked, MayBeSeen}
+use Rattle.file_check.proofs.Seen.{first_more, may_first, no_page}
 use Rattle.file_check.specs.FreeLists.{IsList, IsListMarked}
 
 -- i pages were read, and page n comes next

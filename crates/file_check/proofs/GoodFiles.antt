@@ -15,11 +15,11 @@ use Rattle.page_model.proofs.Chains.{AllByRecursion-append, AllByRecursion-left,
 use Rattle.page_model.proofs.Flat.{same_sums, times-range_with_len}
 use Rattle.page_model.proofs.GoodBodies.{bodies_valid}
 use Rattle.page_model.proofs.PairLists.{length-sum_by}
-use Rattle.page_marks.specs.Marks.{MayBeSeen, IsEachSeen}
-use Rattle.page_marks.proofs.Seen.{may_front}
+use Rattle.file_check.specs.Marks.{MayBeSeen, IsEachSeen}
+use Rattle.file_check.proofs.Seen.{may_front}
 use Rattle.file_check.specs.Good.{IsGoodFile, IsFilled}
 use Rattle.file_check.specs.Segments.{shape_in}
-use Rattle.file_check.proofs.Buckets.{chains_read, all_bytes, all_entered, all_in_place, no_key_twice, each_chain}
+use Rattle.file_check.proofs.AllChains.{chains_read, all_bytes, all_entered, all_in_place, no_key_twice, each_chain}
 
 -- ---- from the parts
 

@@ -10,9 +10,9 @@ use Rattle.page_model.specs.Pages.{Body}
 use Rattle.page_model.specs.Chain.{Chain, numbers, pages_in, IsChain}
 use Rattle.page_model.specs.PageBodies.{first_of, heads_of}
 use Rattle.page_model.proofs.Chains.{AllByRecursion-append}
-use Rattle.page_marks.specs.Marks.{AreMarked, MayBeSeen}
-use Rattle.page_marks.proofs.Seen.{may_front, are_seen}
-use Rattle.chain_check.specs.BucketChains.{IsBucketChain, IsChecked}
+use Rattle.file_check.specs.Marks.{AreMarked, MayBeSeen}
+use Rattle.file_check.proofs.Seen.{may_front, are_seen}
+use Rattle.file_check.specs.BucketChains.{IsBucketChain, IsChecked}
 use Rattle.file_check.specs.Segments.{shape_in, AreCounted, AreHeadChains, AreHeadsChecked}
 use Rattle.file_check.proofs.ChainReads.{get_or-front, get_or-behind, chains_behind, no_chains, one_chain, counted_behind, none_counted, one_counted, chain_same}
 

@@ -7,7 +7,7 @@ use Rattle.page_io.specs.Store.{Settled, IsKnown}
 use Rattle.page_io.specs.Views.{visible_page, body_at, ReadsOnly}
 use Rattle.page_io.specs.declared.store.PageStore.{Ghosts}
 use Rattle.page_io.proofs.Views.{after_read, reads_then, same_said, unknown_said}
-use Rattle.chain_walks.proofs.ReadPages.{still_honest}
+use Rattle.bucket_chain.proofs.ReadPages.{still_honest}
 
 module _ {S : Type 0} (s : Ghosts S) (old mid : S) (reads : ReadsOnly s old mid)
     (honest : s.honest old) where

@@ -2,7 +2,7 @@
 use Rattle.std.specs.Prelude.{◌≡◌, ℕ, Bool, List, ◌++◌, length}
 use Rattle.page_model.specs.Pages.{Body}
 use Rattle.page_model.specs.PageBodies.{first_of, free_bodies, AreRead}
-use Rattle.page_marks.specs.Marks.{AreMarked}
+use Rattle.file_check.specs.Marks.{AreMarked}
 
 -- the pages say this list, of so many pages from page `head` on
 pub record IsList (at : ℕ → Body) (head count : ℕ) (free : List ℕ) : Type 0 where

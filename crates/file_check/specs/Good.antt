@@ -5,7 +5,7 @@ use Rattle.page_model.specs.Chain.{Chain, pages_in, pairs_in}
 use Rattle.dbm_model.specs.Sizes.{home}
 use Rattle.page_model.specs.Placement.{Placement, pairs_of, IsGood}
 use Rattle.page_model.specs.PageBodies.{IsSpelled}
-use Rattle.page_marks.specs.Marks.{IsEachSeen}
+use Rattle.file_check.specs.Marks.{IsEachSeen}
 use Rattle.file_check.specs.FreeLists.{IsList}
 use Rattle.file_check.specs.Segments.{AreBuckets}
 

@@ -8,9 +8,9 @@ use Rattle.page_model.specs.Pages as model
 use Rattle.page_model.specs.Chain.{Chain, numbers, pages_in, pairs_in}
 use Rattle.page_model.specs.Valid.{meta_buckets}
 use Rattle.page_model.specs.PageBodies.{first_of, heads_of, segment_bodies, AreRead}
-use Rattle.page_marks.specs.Marks.{AreMarked}
+use Rattle.file_check.specs.Marks.{AreMarked}
 use Rattle.seg_table.specs.Segments.{heads_in}
-use Rattle.chain_check.specs.BucketChains.{IsBucketChain}
+use Rattle.file_check.specs.BucketChains.{IsBucketChain}
 
 -- the shape that the meta page says
 abbrev pub shape_in : model.Meta → Shape

@@ -7,20 +7,21 @@ ghost use Rattle.page_model.specs.Valid.{IsMeta};
 ghost use Rattle.page_io.specs.Answers.{HasDeviceCause};
 ghost use Rattle.page_io.specs.Views.{body_at, ReadsOnly};
 ghost use Rattle.page_io.specs.declared.store.PageFault.TheVariants.{Damaged};
-ghost use Rattle.page_marks.specs.Marks.{AreMarked, MayBeSeen};
+ghost use Rattle.file_check.specs.Marks.{AreMarked, MayBeSeen};
 ghost use Rattle.seg_table.specs.MetaPages.{model_meta};
-ghost use Rattle.chain_walks.specs.Answers.{IsWalkAnswer};
-ghost use Rattle.chain_check.specs.Flaws.{IsTold};
+ghost use Rattle.bucket_chain.specs.WalkAnswers.{IsWalkAnswer};
+ghost use Rattle.file_check.specs.Flaws.{IsTold};
 ghost use Rattle.file_check.specs.Good.{IsFilled, IsGoodFile};
 
+use crate::flaws::{Flaw, Rule, Watch};
 use crate::free::check_free;
+use crate::marking::{mark, mark_all};
+use crate::marks::{are_all_marked, clear};
 use crate::reading::read;
 use crate::segments::check_buckets;
 use crate::sizes::most_pages;
 use crate::unmarked::first_unmarked;
-use chain_check::{Flaw, Rule, Watch, mark, mark_all};
 use page_io::{Page, PageFault, PageStore};
-use page_marks::{are_all_marked, clear};
 use seg_table::{Meta, read_meta};
 
 /// Page 1 is no meta page.

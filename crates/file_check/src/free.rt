@@ -4,13 +4,14 @@ ghost use Rattle.std.specs.Prelude.{◌≡◌, ◌≤◌, ◌++◌, ℕ, List, l
 ghost use Rattle.page_io.specs.Answers.{HasDeviceCause};
 ghost use Rattle.page_io.specs.Views.{body_at, ReadsOnly};
 ghost use Rattle.page_io.specs.declared.store.PageFault.TheVariants.{Damaged};
-ghost use Rattle.page_marks.specs.Marks.{AreMarked, MayBeSeen};
-ghost use Rattle.chain_walks.specs.Answers.{IsWalkAnswer};
-ghost use Rattle.chain_check.specs.Flaws.{IsTold};
+ghost use Rattle.file_check.specs.Marks.{AreMarked, MayBeSeen};
+ghost use Rattle.bucket_chain.specs.WalkAnswers.{IsWalkAnswer};
+ghost use Rattle.file_check.specs.Flaws.{IsTold};
 ghost use Rattle.file_check.specs.FreeLists.{IsList, IsListMarked};
 
+use crate::flaws::{Flaw, Rule, Watch};
+use crate::marking::mark;
 use crate::reading::{read, read_free};
-use chain_check::{Flaw, Rule, Watch, mark};
 use page_io::{Page, PageFault, PageStore};
 
 /// The list is longer or shorter than the meta page counts.

@@ -7,9 +7,9 @@ ghost use Rattle.page_io.specs.Answers.{HasDeviceCause, IsReadAnswer};
 ghost use Rattle.page_io.specs.Kept.{KeepsPages};
 ghost use Rattle.page_io.specs.Store.{overlaid, page_of};
 ghost use Rattle.page_io.specs.declared.store.PageFault.TheVariants.{Damaged};
-ghost use Rattle.chain_check.specs.Flaws.{IsTold};
+ghost use Rattle.file_check.specs.Flaws.{IsTold};
 
-use chain_check::{Flaw, Rule, Watch};
+use crate::flaws::{Flaw, Rule, Watch};
 use page_io::{Page, PageFault, PageStore};
 
 /// Reads page `n` as the store does. The flaw is told where the file has no such page.

@@ -6,16 +6,17 @@ ghost use Rattle.page_model.specs.Valid.{IsMeta};
 ghost use Rattle.page_io.specs.Answers.{HasDeviceCause};
 ghost use Rattle.page_io.specs.Views.{body_at, ReadsOnly};
 ghost use Rattle.page_io.specs.declared.store.PageFault.TheVariants.{Damaged};
-ghost use Rattle.page_marks.specs.Marks.{AreMarked, MayBeSeen};
+ghost use Rattle.file_check.specs.Marks.{AreMarked, MayBeSeen};
 ghost use Rattle.seg_table.specs.MetaPages.{model_meta};
 ghost use Rattle.seg_table.specs.Segments.{heads_in};
-ghost use Rattle.chain_walks.specs.Answers.{IsWalkAnswer};
-ghost use Rattle.chain_check.specs.Flaws.{IsTold};
+ghost use Rattle.bucket_chain.specs.WalkAnswers.{IsWalkAnswer};
+ghost use Rattle.file_check.specs.Flaws.{IsTold};
 ghost use Rattle.file_check.specs.Segments.{AreHeadChains, AreHeadsChecked, AreInSegment, IsSegmentChecked, AreBuckets, AreChecked, AreCounted};
 
+use crate::chains::check_chain;
+use crate::flaws::{Flaw, Rule, Watch};
 use crate::reading::read;
 use crate::sizes::PER_SEGMENT;
-use chain_check::{Flaw, Rule, Watch, check_chain};
 use page_io::{Page, PageFault, PageStore};
 use seg_table::{Meta, segment_ok};
 

@@ -14,7 +14,7 @@ use Rattle.page_io.specs.declared.store.PageStore.{Ghosts}
 use Rattle.page_io.specs.declared.store.PageFault.{PageFault}
 use Rattle.page_io.specs.declared.store.PageFault.TheVariants.{Memory, Device, Broken, NoRoom}
 use Rattle.page_io.proofs.Exits.{cause_last, not_both}
-use Rattle.page_commit.specs.Committing.{MayCommit, IsForgotten}
+use Rattle.page_io.specs.Committing.{MayCommit, IsForgotten}
 use Rattle.file_opening.proofs.EmptyFiles.{OldOrEmpty}
 
 below_four : (pages : Pages) (end : ℕ) → end ≡ 4 → map own_number pages ≡ 1 ∷ 2 ∷ 3 ∷ []

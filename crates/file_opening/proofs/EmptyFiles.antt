@@ -14,12 +14,12 @@ use Rattle.page_io.specs.Meaning.{FileStandsFor, ImageStandsFor}
 use Rattle.page_io.specs.Views.{StagesOnly}
 use Rattle.page_io.specs.declared.store.PageStore.{Ghosts}
 use Rattle.page_io.specs.declared.store.PageFault.{PageFault}
-use Rattle.redo_commit.specs.File.{settled, SettlesAsBefore}
+use Rattle.redo_area.specs.File.{settled, SettlesAsBefore}
 use Rattle.sect_dev.specs.Reads.{OnlyReads}
 use Rattle.redo_area.specs.Settling.{SettlesTo}
 use Rattle.redo_area.specs.declared.pager.Pager.{Pager}
 use Rattle.dbm_fault.specs.Faults.{fault_from}
-use Rattle.page_commit.specs.Committing.{Holds, IsForgotten}
+use Rattle.page_io.specs.Committing.{Holds, IsForgotten}
 use Rattle.dbm_fault.specs.declared.fault.Fault.{Fault}
 use Rattle.dbm_fault.specs.declared.fault.Fault.TheVariants.{Device}
 use Rattle.file_opening.proofs.NewFiles.{three_committed}

@@ -12,7 +12,7 @@ use Rattle.page_io.specs.Store.{Settled, StoreState}
 use Rattle.page_io.specs.declared.store.PageFault.{PageFault}
 use Rattle.page_io.specs.declared.store.PageFault.TheVariants as page
 use Rattle.page_io.specs.declared.store.PageStore as store
-use Rattle.redo_commit.specs.File.{settled, SettlesAsBefore}
+use Rattle.redo_area.specs.File.{settled, SettlesAsBefore}
 use Rattle.redo_area.specs.Opening.{IsFresh as IsFreshStore}
 use Rattle.sect_dev.specs.Reads.{OnlyReads}
 use Rattle.redo_area.specs.Settling.{SettlesTo, only_seen}

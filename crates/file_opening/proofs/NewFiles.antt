@@ -14,7 +14,7 @@ use Rattle.page_model.proofs.Stores.{fresh_is_good}
 use Rattle.page_io.specs.Page.{own_number}
 use Rattle.page_io.specs.Store.{Pages, Settled, blank, committed_with, page_of}
 use Rattle.page_io.specs.Meaning.{FileStandsFor, ImageStandsFor}
-use Rattle.redo_commit.specs.File.{IsBlankOr}
+use Rattle.redo_area.specs.File.{IsBlankOr}
 use Rattle.page_io.specs.BucketPages.{IsBucketPage}
 use Rattle.slot_page.proofs.Pages.{is_head}
 use Rattle.file_opening.specs.Opening.{writes, bounds_of, room_fault, making_fault}

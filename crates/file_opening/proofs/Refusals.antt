@@ -13,8 +13,8 @@ use Rattle.page_model.specs.PageBodies.{meta_of}
 use Rattle.page_model.proofs.GoodBodies.{bodies_valid}
 use Rattle.page_io.specs.Store.{Settled, Pages, blank, file_of, nothing, page_of}
 use Rattle.page_io.specs.Meaning.{FileStandsFor, ImageStandsFor}
-use Rattle.redo_commit.specs.File.{settled}
-use Rattle.redo_commit.specs.Header.{has_magic}
+use Rattle.redo_area.specs.File.{settled}
+use Rattle.redo_area.specs.Header.{has_magic}
 use Rattle.redo_area.specs.Opening.{refusal_by, refusal_of, IsRefused, SaysArmed}
 use Rattle.page_io.specs.declared.store.PageStore as store
 use Rattle.sect_dev.specs.Reads.{OnlyReads}

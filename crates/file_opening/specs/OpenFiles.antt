@@ -11,7 +11,7 @@ use Rattle.redo_area.specs.Pagers.{device_of}
 use Rattle.redo_area.specs.declared.pager.Pager.{Pager}
 use Rattle.seg_table.specs.MetaPages.{model_meta}
 use Rattle.dbm_model.specs.Pairs.{Contents}
-use Rattle.page_commit.specs.Committing.{Holds}
+use Rattle.page_io.specs.Committing.{Holds}
 use Rattle.file_opening.specs.declared.open_how.OpenHow.{OpenHow}
 use Rattle.dbm_fault.specs.declared.fault.Fault.{Fault}
 use Rattle.file_opening.specs.declared.file.OpenFile.{OpenFile}

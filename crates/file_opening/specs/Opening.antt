@@ -16,8 +16,8 @@ use Rattle.page_model.specs.Valid.{IsMeta}
 use Rattle.page_io.specs.Store.{Pages, Settled, blank, file_of, nothing, page_of}
 use Rattle.page_io.specs.Meaning.{ImageStandsFor}
 use Rattle.seg_table.specs.MetaPages.{HasMetaHeader, IsUnknown}
-use Rattle.redo_commit.specs.Header.{has_magic}
-use Rattle.redo_commit.specs.File.{settled}
+use Rattle.redo_area.specs.Header.{has_magic}
+use Rattle.redo_area.specs.File.{settled}
 use Rattle.redo_area.specs.Opening.{SaysArmed}
 use Rattle.redo_area.specs.Settling.{SettlesTo}
 use Rattle.file_opening.specs.declared.open_how.Access.{Access}

@@ -11,7 +11,7 @@ ghost use Rattle.dbm_model.specs.Sizes.{sectors_for};
 ghost use Rattle.page_io.specs.Meaning.{FileStandsFor, ImageStandsFor};
 ghost use Rattle.page_io.specs.Page.{own_number};
 ghost use Rattle.page_io.specs.Store.{blank, bytes_of, page_of};
-ghost use Rattle.redo_commit.specs.File.{settled};
+ghost use Rattle.redo_area.specs.File.{settled};
 ghost use Rattle.seg_table.specs.MetaPages.{model_meta};
 ghost use Rattle.file_opening.specs.Opening.{room_fault, making_fault, bounds_of};
 ghost use Rattle.file_opening.specs.OpenFiles.{device_left, IsJustOpened, StandsAs};

@@ -11,7 +11,7 @@ ghost use Rattle.page_model.specs.Reading.{body_of};
 ghost use Rattle.page_model.specs.Valid.{IsMeta};
 ghost use Rattle.page_io.specs.Meaning.{FileStandsFor, ImageStandsFor};
 ghost use Rattle.page_io.specs.Store.{Settled, blank, file_of, page_of};
-ghost use Rattle.redo_commit.specs.File.{settled};
+ghost use Rattle.redo_area.specs.File.{settled};
 ghost use Rattle.redo_area.specs.Opening.{IsFresh as IsFreshStore};
 ghost use Rattle.redo_area.specs.Pagers.{device_of};
 ghost use Rattle.sect_dev.specs.Reads.{OnlyReads};

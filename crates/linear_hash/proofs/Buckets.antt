@@ -23,10 +23,10 @@ use Rattle.seg_table.specs.declared.meta.Meta as code
 use Rattle.seg_table.specs.Heads.{AreHeads}
 use Rattle.seg_table.specs.Placements.{HasHeads}
 use Rattle.seg_table.proofs.PlacementHeads.{heads_read, used_segments}
-use Rattle.chain_walks.specs.Chains.{IsChainAt}
+use Rattle.bucket_chain.specs.Chains.{IsChainAt}
 use Rattle.bucket_chain.specs.Changes.{IsPlaced}
-use Rattle.chain_walks.specs.Walks.{IsLookedUp}
-use Rattle.chain_walks.specs.declared.place.Place.{Place}
+use Rattle.bucket_chain.specs.Walks.{IsLookedUp}
+use Rattle.bucket_chain.specs.declared.place.Place.{Place}
 use Rattle.bucket_chain.proofs.PlacedChains.{chains_placed}
 use Rattle.linear_hash.specs.Tables.{shape_in, IsTable}
 use Rattle.linear_hash.specs.Looking.{IsFound, SaysPair}

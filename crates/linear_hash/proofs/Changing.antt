@@ -20,7 +20,7 @@ use Rattle.page_io.specs.declared.store.PageFault.{PageFault}
 use Rattle.page_io.specs.declared.store.PageFault.TheVariants.{Memory, Device, Broken, NoRoom, Damaged}
 use Rattle.page_io.proofs.Meanings.{commits}
 use Rattle.page_io.proofs.Overlays.{page_of-file}
-use Rattle.page_commit.specs.Committing.{Holds}
+use Rattle.page_io.specs.Committing.{Holds}
 use Rattle.linear_hash.specs.Holding.{StandsForEither}
 use Rattle.linear_hash.specs.Staging.{IsStaged, IsChangeAnswer}
 

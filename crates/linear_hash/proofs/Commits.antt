@@ -10,7 +10,7 @@ use Rattle.page_io.specs.declared.store.PageStore.{Ghosts}
 use Rattle.page_io.specs.declared.store.PageFault.{PageFault}
 use Rattle.page_io.specs.declared.store.PageFault.TheVariants.{Device}
 use Rattle.page_io.proofs.Exits.{both_ways, cause_last}
-use Rattle.page_commit.specs.Committing.{MayCommit, IsForgotten, IsUntouched}
+use Rattle.page_io.specs.Committing.{MayCommit, IsForgotten, IsUntouched}
 use Rattle.linear_hash.specs.Holding.{IsCommitted}
 use Rattle.linear_hash.specs.Staging.{IsChangeAnswer, IsNewEnd}
 use Rattle.linear_hash.proofs.Changing.{change_answer, ok_then}

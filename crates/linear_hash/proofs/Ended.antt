@@ -7,7 +7,7 @@ use Rattle.page_model.specs.Valid.{IsMeta}
 use Rattle.page_io.specs.Answers.{HasDeviceCause}
 use Rattle.page_io.specs.declared.store.PageStore.{Ghosts}
 use Rattle.page_io.specs.declared.store.PageFault.{PageFault}
-use Rattle.page_commit.specs.Committing.{Holds, IsForgotten, IsUntouched}
+use Rattle.page_io.specs.Committing.{Holds, IsForgotten, IsUntouched}
 use Rattle.linear_hash.specs.Holding.{IsEnded, ChangesMap}
 use Rattle.linear_hash.specs.Staging.{IsChangeAnswer}
 

@@ -29,9 +29,9 @@ use Rattle.free_pages.specs.declared.free_state.FreeState.{FreeState}
 use Rattle.free_pages.specs.FreeList.{IsApart}
 use Rattle.page_model.proofs.GoodBodies.{key_is}
 use Rattle.bucket_chain.specs.Changes.{IsPlaced, AreHeld, BecomesPlaced, put_in}
-use Rattle.chain_walks.specs.Pairs.{record_as}
+use Rattle.bucket_chain.specs.Pairs.{record_as}
 use Rattle.bucket_chain.specs.Placements.{IsBelow, placed_for}
-use Rattle.chain_walks.specs.declared.pair.Pair as code
+use Rattle.bucket_chain.specs.declared.pair.Pair as code
 use Rattle.bucket_chain.proofs.PlacedChains.{chains_placed, entries_placements}
 use Rattle.bucket_chain.proofs.Storing.{record_there}
 use Rattle.linear_hash.specs.Splitting.{entries_split, IsRefilled}

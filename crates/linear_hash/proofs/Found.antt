@@ -2,7 +2,7 @@
 use Rattle.std.proofs.Common.{◌≡◌, ℕ, List, Option, Some, None, is_some, ap, refl}
 use Rattle.dbm_model.specs.Pairs.{Key}
 use Rattle.page_model.specs.Pages.{Body}
-use Rattle.chain_walks.specs.declared.place.Place.{Place}
+use Rattle.bucket_chain.specs.declared.place.Place.{Place}
 use Rattle.linear_hash.specs.Looking.{IsFound}
 
 -- a place is found where the key has a content

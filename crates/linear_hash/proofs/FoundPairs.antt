@@ -13,7 +13,7 @@ use Rattle.page_model.proofs.Chains.{AllByRecursion-left, AllByRecursion-right}
 use Rattle.page_model.proofs.GoodBodies.{key_is, from_times}
 use Rattle.free_pages.specs.declared.free_state.FreeState.{FreeState}
 use Rattle.content_pages.proofs.PageCounts.{times_both}
-use Rattle.chain_walks.proofs.ContentReads.{entry_read, told_far, near_is}
+use Rattle.bucket_chain.proofs.ContentReads.{entry_read, told_far, near_is}
 use Rattle.bucket_chain.specs.Changes.{IsPlaced}
 use Rattle.linear_hash.specs.Looking.{SaysContent, SaysPair}
 

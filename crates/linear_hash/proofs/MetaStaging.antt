@@ -4,7 +4,7 @@ use Rattle.page_io.specs.Page.{own_number}
 use Rattle.page_io.specs.Store.{Pages, StoreState, put_page}
 use Rattle.page_io.specs.Views.{MayEnd}
 use Rattle.free_pages.proofs.OneStage.{may_still_end}
-use Rattle.page_commit.specs.Committing.{MayCommit}
+use Rattle.page_io.specs.Committing.{MayCommit}
 
 put_some : (pages : Pages) (new : List ℕ) → 0 < length (put_page pages new)
 put_some [] new = omega arith

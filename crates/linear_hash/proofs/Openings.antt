@@ -34,7 +34,7 @@ use Rattle.content_pages.proofs.PageCounts.{times_both}
 use Rattle.bucket_chain.specs.Placements.{IsBelow}
 use Rattle.bucket_chain.specs.Changes.{IsPlaced, AreHeld, HaveKeysOnce, BecomesPlaced, store_in}
 use Rattle.bucket_chain.proofs.Givings.{times_given}
-use Rattle.chain_walks.proofs.LinkBodies.{says_link}
+use Rattle.bucket_chain.proofs.LinkBodies.{says_link}
 use Rattle.bucket_chain.proofs.PlacedChains.{chains_placed}
 use Rattle.bucket_chain.proofs.Rewriting.{not_here}
 use Rattle.linear_hash.specs.Tables.{shape_in}

@@ -9,7 +9,7 @@ use Rattle.page_model.proofs.AddressLemmas.{address_below}
 use Rattle.lin_addr.specs.Intervals.{Precedes, IsFollowing, PrecedesNone}
 use Rattle.lin_addr.proofs.Precedence.{never_both, never_itself, chained, before_next, before_end}
 use Rattle.seg_table.specs.Heads.{HasEntry}
-use Rattle.chain_walks.specs.Leasts.{IsLeastRead}
+use Rattle.bucket_chain.specs.Leasts.{IsLeastRead}
 use Rattle.linear_hash.specs.Passing.{bucket_of_pass, IsToRead, IsBucketRead, HaveNone}
 use Rattle.linear_hash.specs.Tables.{shape_in}
 

@@ -18,7 +18,7 @@ use Rattle.lin_addr.specs.Intervals.{Precedes, IsFollowing, PrecedesNone}
 use Rattle.lin_addr.proofs.Intervals.{from_zero}
 use Rattle.lin_addr.proofs.KeyRanks.{hash_below, not_by_rank}
 use Rattle.lin_addr.proofs.Precedence.{compared}
-use Rattle.chain_walks.specs.Leasts.{IsLeastAt}
+use Rattle.bucket_chain.specs.Leasts.{IsLeastAt}
 use Rattle.linear_hash.specs.Passing.{bucket_of_pass}
 use Rattle.linear_hash.specs.Tables.{shape_in, IsTable}
 use Rattle.linear_hash.proofs.Buckets.{table_shape}

@@ -9,7 +9,7 @@ use Rattle.page_model.specs.PairLists.{HasBytes}
 use Rattle.page_model.specs.Placement.{Placement, contents, delete, store, IsGood, MayStore}
 use Rattle.page_model.proofs.Stores.{counts_keys, store_stays_good, delete_stays_good}
 use Rattle.page_io.specs.declared.store.PageStore.{Ghosts}
-use Rattle.page_commit.specs.Committing.{Holds}
+use Rattle.page_io.specs.Committing.{Holds}
 use Rattle.linear_hash.proofs.Tables.{placed, meta_held, map_placed}
 
 module _ {S : Type 0} (s : Ghosts S) (old : S) (m : Meta) (map : Contents)

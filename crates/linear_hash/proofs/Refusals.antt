@@ -9,7 +9,7 @@ use Rattle.page_io.proofs.Exits.{came, if_exit}
 use Rattle.free_pages.specs.Answers.{IsTakeAnswer}
 use Rattle.free_pages.specs.declared.free_state.FreeState.{FreeState}
 use Rattle.seg_table.specs.Answers.{IsHeadAnswer, IsSetAnswer}
-use Rattle.chain_walks.specs.Answers.{IsWalkAnswer, IsLoadAnswer}
+use Rattle.bucket_chain.specs.WalkAnswers.{IsWalkAnswer, IsLoadAnswer}
 use Rattle.bucket_chain.specs.Answers.{IsPutAnswer, IsRemoveAnswer, IsStoreAnswer}
 use Rattle.linear_hash.specs.Staging.{IsChangeAnswer}
 

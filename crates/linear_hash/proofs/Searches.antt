@@ -4,8 +4,8 @@ use Rattle.page_model.specs.Address.{address, hash_of}
 use Rattle.page_model.specs.Pages.{Meta, Body}
 use Rattle.dbm_model.specs.Pairs.{Key}
 use Rattle.seg_table.specs.Heads.{HasEntry, SaysSegment}
-use Rattle.chain_walks.specs.Walks.{IsWalk, LacksKey, IsLookup, CanLook}
-use Rattle.chain_walks.specs.declared.place.Place.{Place}
+use Rattle.bucket_chain.specs.Walks.{IsWalk, LacksKey, IsLookup, CanLook}
+use Rattle.bucket_chain.specs.declared.place.Place.{Place}
 use Rattle.linear_hash.specs.Looking.{IsSearch, CanSearch, key_segment, key_entry, EndsAt}
 use Rattle.linear_hash.specs.Tables.{shape_in}
 

@@ -8,8 +8,8 @@ use Rattle.std.proofs.lemmas.Bool.Decides.{nat_tests}
 use Rattle.dbm_model.specs.Bounds.{Version}
 use Rattle.page_model.specs.Pages.{Meta, Body}
 use Rattle.page_model.specs.Valid.{IsOf}
-use Rattle.chain_walks.specs.Pairs.{record_as, IsSmall}
-use Rattle.chain_walks.specs.declared.pair.Pair as code
+use Rattle.bucket_chain.specs.Pairs.{record_as, IsSmall}
+use Rattle.bucket_chain.specs.declared.pair.Pair as code
 use Rattle.free_pages.specs.declared.free_state.FreeState.{FreeState}
 use Rattle.seg_table.specs.Heads.{AddsSegment}
 use Rattle.bucket_chain.specs.AnyFile.{AreInTurn, AreAdded, AreStored, IsEmptied}

@@ -13,11 +13,11 @@ use Rattle.page_io.proofs.Views.{same_said}
 use Rattle.seg_table.specs.Heads.{AreHeads}
 use Rattle.seg_table.proofs.PlacementHeads.{heads_read, used_segments}
 use Rattle.free_pages.specs.FreeList.{state_of}
-use Rattle.chain_walks.specs.Chains.{IsChainAt}
+use Rattle.bucket_chain.specs.Chains.{IsChainAt}
 use Rattle.bucket_chain.specs.Changes.{IsPlaced}
 use Rattle.dbm_model.specs.Bounds.{Bounds}
 use Rattle.bucket_chain.proofs.PlacedChains.{chains_placed}
-use Rattle.chain_walks.proofs.ReadPages.{still_honest}
+use Rattle.bucket_chain.proofs.ReadPages.{still_honest}
 use Rattle.linear_hash.specs.Tables.{shape_in, IsTable}
 use Rattle.linear_hash.proofs.Buckets.{table_heads, table_bounds}
 

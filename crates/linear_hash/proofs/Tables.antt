@@ -13,7 +13,7 @@ use Rattle.page_io.specs.Store.{Pages, page_of, overlaid}
 use Rattle.page_io.specs.Views.{body_at}
 use Rattle.page_io.specs.declared.store.PageStore.{Ghosts}
 use Rattle.linear_hash.specs.Tables.{IsTable}
-use Rattle.page_commit.specs.Committing.{Holds}
+use Rattle.page_io.specs.Committing.{Holds}
 
 same_meta : (m n : Meta) (body : Body) → body ≡ MetaPage m → body ≡ MetaPage n → m ≡ n
 same_meta m n body is also = let e = sym is ∙ also in cc

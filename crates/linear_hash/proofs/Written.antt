@@ -10,7 +10,7 @@ use Rattle.page_io.specs.Views.{body_at, MayEnd}
 use Rattle.page_io.specs.declared.store.PageStore.{Ghosts}
 use Rattle.page_io.specs.declared.store.PageFault.{PageFault}
 use Rattle.page_io.proofs.Overlays.{page_of-file}
-use Rattle.page_commit.specs.Committing.{MayCommit}
+use Rattle.page_io.specs.Committing.{MayCommit}
 use Rattle.free_pages.specs.declared.free_state.FreeState.{FreeState}
 use Rattle.seg_table.specs.Heads.{HasEntry}
 use Rattle.bucket_chain.specs.AnyFile.{IsPut, IsTakenOut}

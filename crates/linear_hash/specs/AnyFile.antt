@@ -9,7 +9,7 @@ use Rattle.free_pages.specs.declared.free_state.FreeState.{FreeState}
 use Rattle.free_pages.specs.FreeList.{IsTaken}
 use Rattle.seg_table.specs.Heads.{HasEntry}
 use Rattle.seg_table.specs.Setting.{IsEntrySet}
-use Rattle.chain_walks.specs.Walks.{SaysAll}
+use Rattle.bucket_chain.specs.Walks.{SaysAll}
 use Rattle.bucket_chain.specs.AnyFile.{AreInTurn, AreAdded, IsEmptied}
 use Rattle.linear_hash.specs.Staging.{IsGrown}
 

@@ -12,7 +12,7 @@ use Rattle.page_io.specs.Meaning.{ImageStandsFor}
 use Rattle.page_io.specs.declared.store.PageStore.{Ghosts}
 use Rattle.page_io.specs.declared.store.PageFault.{PageFault}
 use Rattle.page_io.specs.declared.store.PageFault.TheVariants.{NoRoom, Damaged}
-use Rattle.page_commit.specs.Committing.{Holds, IsForgotten, IsUntouched}
+use Rattle.page_io.specs.Committing.{Holds, IsForgotten, IsUntouched}
 use Rattle.linear_hash.specs.Staging.{IsChangeAnswer}
 
 -- an image stands for one of two maps, each with its bounds

@@ -9,9 +9,9 @@ use Rattle.seg_table.specs.Heads.{HasEntry, SaysSegment}
 use Rattle.page_io.specs.BucketPages.{IsPageOf, page_records}
 use Rattle.slot_page.specs.Contents.{HasKeyAt, told_content}
 use Rattle.content_pages.specs.Contents.{IsContentAt}
-use Rattle.chain_walks.specs.Chains.{ReadLeaf}
-use Rattle.chain_walks.specs.Walks.{IsWalk, LacksKey, EndsWithout, IsRecordAt, CanLook}
-use Rattle.chain_walks.specs.declared.place.Place.{Place}
+use Rattle.bucket_chain.specs.Chains.{ReadLeaf}
+use Rattle.bucket_chain.specs.Walks.{IsWalk, LacksKey, EndsWithout, IsRecordAt, CanLook}
+use Rattle.bucket_chain.specs.declared.place.Place.{Place}
 use Rattle.linear_hash.specs.Tables.{shape_in}
 
 -- on any file: the bytes are a page of records of the version, and the key is in that slot

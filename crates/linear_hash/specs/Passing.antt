@@ -5,7 +5,7 @@ use Rattle.page_model.specs.Pages.{Meta, Body}
 use Rattle.page_model.specs.Placement.{key_bucket}
 use Rattle.page_model.specs.Valid.{meta_buckets}
 use Rattle.lin_addr.specs.Intervals.{Precedes}
-use Rattle.chain_walks.specs.Leasts.{IsLeastRead}
+use Rattle.bucket_chain.specs.Leasts.{IsLeastRead}
 use Rattle.seg_table.specs.Heads.{HasEntry}
 use Rattle.linear_hash.specs.Tables.{shape_in}
 

@@ -19,7 +19,7 @@ use Rattle.bucket_chain.specs.Placements.{IsBelow}
 use Rattle.linear_hash.specs.Tables.{shape_in}
 use Rattle.page_io.specs.declared.store.PageStore.{Ghosts}
 use Rattle.page_io.specs.Views.{body_at, MayEnd}
-use Rattle.page_commit.specs.Committing.{MayCommit}
+use Rattle.page_io.specs.Committing.{MayCommit}
 use Rattle.free_pages.specs.FreeList.{HasEnds}
 
 -- the pages but the meta page say a sound placement midway in a change, and this is kept of it

@@ -14,12 +14,11 @@ ghost use Rattle.seg_table.specs.MetaPages.{model_meta};
 ghost use Rattle.linear_hash.specs.Tables.{shape_in, shape_for, ForEachTable};
 ghost use Rattle.linear_hash.specs.Staging.{MayTakeMemory, TakesMemory};
 ghost use Rattle.linear_hash.specs.Changing.{IsDeleted, IsStored, IsUpgraded};
-ghost use Rattle.page_commit.specs.Committing.{Holds};
+ghost use Rattle.page_io.specs.Committing.{Holds};
 ghost use Rattle.linear_hash.specs.Holding.{IsCommitted, IsEnded, ChangesMap};
 
 use crate::staging::{stage_delete, stage_store, stage_upgrade};
-use page_commit::finish;
-use page_io::{PageFault, PageStore, Version};
+use page_io::{PageFault, PageStore, Version, finish};
 use seg_table::Meta;
 use std::alloc::Global;
 

@@ -9,7 +9,7 @@ ghost use Rattle.page_io.specs.Versions.{model_version};
 ghost use Rattle.page_io.specs.Views.{body_at, ReadsOnly};
 ghost use Rattle.page_io.specs.declared.store.PageFault.TheVariants.{Damaged};
 ghost use Rattle.seg_table.specs.MetaPages.{model_meta};
-ghost use Rattle.chain_walks.specs.Answers.{IsWalkAnswer};
+ghost use Rattle.bucket_chain.specs.WalkAnswers.{IsWalkAnswer};
 ghost use Rattle.linear_hash.specs.Tables.{ForEachTable};
 ghost use Rattle.linear_hash.specs.Looking.{IsHeld, IsFound, IsSearch, CanSearch, EndsAt};
 

@@ -7,8 +7,8 @@ ghost use Rattle.page_io.specs.Answers.{HasDeviceCause};
 ghost use Rattle.page_io.specs.Views.{body_at, ReadsOnly};
 ghost use Rattle.page_io.specs.declared.store.PageFault.TheVariants.{Damaged};
 ghost use Rattle.seg_table.specs.MetaPages.{model_meta};
-ghost use Rattle.chain_walks.specs.Answers.{IsWalkAnswer};
-ghost use Rattle.chain_walks.specs.Leasts.{pass_behind, IsLeast, IsAheadAt};
+ghost use Rattle.bucket_chain.specs.WalkAnswers.{IsWalkAnswer};
+ghost use Rattle.bucket_chain.specs.Leasts.{pass_behind, IsLeast, IsAheadAt};
 ghost use Rattle.linear_hash.specs.Tables.{ForEachTable};
 ghost use Rattle.linear_hash.specs.Passing.{IsPassed};
 

@@ -15,7 +15,7 @@ ghost use Rattle.seg_table.specs.MetaPages.{model_meta};
 ghost use Rattle.seg_table.specs.Heads.{AddsSegment};
 ghost use Rattle.linear_hash.specs.Staging.{IsMidway, IsChangeAnswer, IsGrown, ForEachMidway};
 ghost use Rattle.lin_addr.specs.Shapes.{shape_of};
-ghost use Rattle.chain_walks.specs.Pairs.{record_as, IsSmall};
+ghost use Rattle.bucket_chain.specs.Pairs.{record_as, IsSmall};
 ghost use Rattle.bucket_chain.specs.AnyFile.{AreAdded};
 ghost use Rattle.bucket_chain.specs.Placements.{IsBelow};
 ghost use Rattle.linear_hash.specs.AnyFile.{IsOpened, IsSplit, head_for};

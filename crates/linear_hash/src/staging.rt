@@ -22,7 +22,7 @@ ghost use Rattle.bucket_chain.specs.Changes.{BecomesPlaced, LacksFar, ForEachPla
 ghost use Rattle.linear_hash.specs.AnyFile.{IsSplitWhere};
 ghost use Rattle.linear_hash.specs.Changing.{IsDeleted, IsStored, PutIn, TookOut};
 ghost use Rattle.linear_hash.specs.Tables.{space_in, shape_in, shape_for, split_where_full, ForEachTable};
-ghost use Rattle.page_commit.specs.Committing.{MayCommit};
+ghost use Rattle.page_io.specs.Committing.{MayCommit};
 ghost use Rattle.linear_hash.specs.Staging.{IsMidway, IsChangeAnswer, IsReplaceAnswer, IsDeleteAnswer, IsKept, IsNewEnd, KeepsEnds, LacksOnlyRoom, IsStaged, ForEachMidway, MayTakeMemory, TakesMemory, removal_pages};
 
 use crate::splitting::split_bucket;

@@ -4,7 +4,7 @@ use Rattle.dbm_model.specs.Pairs.{Pair}
 use Rattle.dbm_file.specs.Database.{page_state, AtEachHandle}
 use Rattle.dbm_file.specs.Passing.{pass_of}
 use Rattle.dbm_file.specs.Syncing.{StandsStill}
-use Rattle.redo_commit.specs.File.{IsAtRest}
+use Rattle.redo_area.specs.File.{IsAtRest}
 use Rattle.dbm_file.specs.Opened.{device_below}
 use Rattle.listed_dev.specs.contracts.listed_dev.ListedDevSectorDev.TheImpl.{ghosts as served}
 use Rattle.ndbm_calls.specs.Groups.{pairs_in, IsAdded, IsGroupTold}

@@ -6,7 +6,7 @@ use Rattle.sect_dev.specs.Moments.{IsOutcome}
 use Rattle.sect_dev.specs.Reads.{OnlyReads}
 use Rattle.dbm_model.specs.Calls.{Broken}
 use Rattle.dbm_model.specs.Pairs.{Contents}
-use Rattle.redo_commit.specs.File.{settled}
+use Rattle.redo_area.specs.File.{settled}
 use Rattle.dbm_fault.specs.Faults.{fault_of}
 use Rattle.dbm_fault.specs.declared.fault.Fault as code
 use Rattle.dbm_fault.specs.declared.fault.Fault.TheVariants as faults

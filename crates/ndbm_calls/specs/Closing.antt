@@ -7,7 +7,7 @@ use Rattle.dbm_model.specs.Calls.{Broken, Device}
 use Rattle.dbm_model.specs.States.{Handle}
 use Rattle.page_io.specs.Meaning.{ImageStandsFor}
 use Rattle.page_io.specs.declared.store.PageStore as store
-use Rattle.redo_commit.specs.File.{settled, IsAtRest}
+use Rattle.redo_area.specs.File.{settled, IsAtRest}
 use Rattle.redo_area.specs.declared.pager.Pager.{Pager}
 use Rattle.page_cache.specs.declared.cached_pages.CachedPages.{CachedPages}
 use Rattle.dbm_file.specs.Database.{store_of, page_state, IsAt}

@@ -16,7 +16,7 @@ use Rattle.page_io.specs.declared.store.PageFault.TheVariants.{Memory, Broken}
 use Rattle.page_io.proofs.Exits.{came, if_exit}
 use Rattle.page_io.proofs.Runs.{kept_then_either}
 use Rattle.page_io.proofs.Views.{stages_then}
-use Rattle.page_commit.specs.Committing.{MayCommit, IsForgotten, IsUntouched}
+use Rattle.page_io.specs.Committing.{MayCommit, IsForgotten, IsUntouched}
 use Rattle.page_group.specs.Staging.{IsStagingAnswer}
 use Rattle.page_group.specs.Whole.{IsWhole}
 use Rattle.page_group.proofs.Putting.{order_all_below}

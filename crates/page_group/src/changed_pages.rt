@@ -5,8 +5,7 @@ ghost use Rattle.page_io.specs.Store.{bytes_of, overlaid, put_page, has_page, ar
 ghost use Rattle.page_group.specs.Numbered.{pages_in, AreNumbered};
 
 use crate::changed_page::ChangedPage;
-use page_commit::finish;
-use page_io::{Page, PageFault, PageStore, Version};
+use page_io::{Page, PageFault, PageStore, Version, finish};
 use std::alloc::{AllocError, Global};
 use std::collections::BTreeMap;
 

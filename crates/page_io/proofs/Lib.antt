@@ -1,4 +1,5 @@
 pub mod BucketPages
+pub mod CommitResults
 pub mod Exits
 pub mod Fields
 pub mod Meanings

@@ -1,5 +1,6 @@
 pub mod Answers
 pub mod BucketPages
+pub mod Committing
 pub mod Counts
 pub mod Kept
 pub mod Meaning

@@ -1,6 +1,8 @@
-//! Pages of four sectors over a device, and stores of pages that change whole or not at all.
+//! Pages of four sectors over a device, stores of pages that change whole or not at all, and the end
+//! of a change: one commit, or nothing.
 #![tactic(auto)]
 
+mod committing;
 mod laws;
 mod mem_pages;
 mod page;
@@ -11,6 +13,7 @@ mod staged;
 mod store;
 mod version;
 
+pub use committing::finish;
 pub use laws::{commits_stand, images_have_one_meaning};
 pub use mem_pages::MemPages;
 pub use page::{PAGE_LEN, Page, SECTORS_PER_PAGE};

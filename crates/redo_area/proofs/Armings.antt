@@ -5,7 +5,7 @@ use Rattle.sect_dev.specs.Moments.{weaker, followed_by}
 use Rattle.sect_dev.specs.declared.device.SectorDev.{Ghosts}
 use Rattle.page_io.specs.Page.{page_at}
 use Rattle.page_io.specs.Store.{Pages, file_of, file_pages, overlaid, has_page, committed_with, IsEither}
-use Rattle.redo_commit.specs.File.{settled}
+use Rattle.redo_area.specs.File.{settled}
 use Rattle.redo_area.proofs.Kept.{either}
 
 module _ {D : Type 0} (dev : Ghosts D) (first after : D) (old_end new_end : ℕ)

@@ -7,7 +7,7 @@ use Rattle.page_io.specs.Kept.{KeepsPages}
 use Rattle.page_io.specs.Page.{page_at}
 use Rattle.page_io.specs.Store.{Pages, Settled, file_of, file_pages, page_of, overlaid, has_page, bytes_of, committed_with, IsEither}
 use Rattle.page_io.specs.declared.page.Page.{Page}
-use Rattle.redo_commit.specs.File.{settled}
+use Rattle.redo_area.specs.File.{settled}
 use Rattle.redo_area.specs.Settling.{SettlesTo}
 use Rattle.redo_area.specs.declared.pager.Pager.{Pager}
 use Rattle.page_io.proofs.Overlays.{overlaid-none, page_of-file}

@@ -4,14 +4,14 @@ use Rattle.sect_dev.specs.Device.{Image}
 use Rattle.page_io.specs.Page.{page_at}
 use Rattle.page_io.specs.Store.{Pages, Settled, nothing, file_of, pages_from, file_pages, overlaid, are_in_order}
 use Rattle.page_io.specs.Counts.{length-pages_from}
-use Rattle.redo_commit.specs.Header.{header_of, has_magic}
-use Rattle.redo_commit.specs.declared.header.Header.{Header}
-use Rattle.redo_commit.specs.declared.header.Header.TheVariants.{Blank, Clear, Armed, NotOurs, Damaged}
-use Rattle.redo_commit.specs.File.{settled, redo_images}
+use Rattle.redo_area.specs.Header.{header_of, has_magic}
+use Rattle.redo_area.specs.declared.header.Header.{Header}
+use Rattle.redo_area.specs.declared.header.Header.TheVariants.{Blank, Clear, Armed, NotOurs, Damaged}
+use Rattle.redo_area.specs.File.{settled, redo_images}
 use Rattle.redo_area.specs.Opening.{refusal_by, refusal_of, SaysArmed}
 use Rattle.redo_area.specs.declared.open_fault.OpenFault.{OpenFault}
 use Rattle.redo_area.specs.declared.open_fault.OpenFault.TheVariants.{Memory, Device, Blank as BlankFault, NotOurs as NotOursFault, Damaged as DamagedFault}
-use Rattle.redo_commit.proofs.Images.{settled-blank, settled-clear, settled-armed, settled-disordered, settled-not_ours, settled-damaged}
+use Rattle.redo_area.proofs.Images.{settled-blank, settled-clear, settled-armed, settled-disordered, settled-not_ours, settled-damaged}
 
 -- an end below the redo images
 pub below_room : (end start count capacity : ℕ) → end ≤ start → start + count ≤ capacity

@@ -4,7 +4,7 @@ use Rattle.sect_dev.specs.Device.{Image, IsImageOf, NoNewCandidate, Elapses, Lea
 use Rattle.sect_dev.specs.Moments.{fewer_images, started, by_call, followed_by, weaker}
 use Rattle.sect_dev.specs.declared.device.SectorDev.{Ghosts}
 use Rattle.page_io.specs.Page.{KeepsWhere}
-use Rattle.redo_commit.proofs.WriteRuns.{Keeps, keeps_on}
+use Rattle.redo_area.proofs.WriteRuns.{Keeps, keeps_on}
 use Rattle.sect_dev.specs.Reads.{OnlyReads}
 
 module _ {D : Type 0} (dev : Ghosts D) where

@@ -6,11 +6,11 @@ use Rattle.sect_dev.specs.declared.device.SectorDev.{Ghosts}
 use Rattle.page_io.specs.Page.{page_at, KeepsWhere}
 use Rattle.page_io.specs.Store.{Pages, file_of, pages_from, file_pages, overlaid, are_in_order}
 use Rattle.page_io.specs.Counts.{length-pages_from}
-use Rattle.redo_commit.specs.Header.{header_of, spelled}
-use Rattle.redo_commit.specs.declared.header.Header.TheVariants.{Armed}
-use Rattle.redo_commit.specs.File.{settled, redo_images, SettlesAsBefore, IsOutsideAll, IsArmed}
-use Rattle.redo_commit.proofs.Images.{settled-armed}
-use Rattle.redo_commit.proofs.CommitRuns.{under_images, homes_leave, clear_leaves}
+use Rattle.redo_area.specs.Header.{header_of, spelled}
+use Rattle.redo_area.specs.declared.header.Header.TheVariants.{Armed}
+use Rattle.redo_area.specs.File.{settled, redo_images, SettlesAsBefore, IsOutsideAll, IsArmed}
+use Rattle.redo_area.proofs.Images.{settled-armed}
+use Rattle.redo_area.proofs.CommitRuns.{under_images, homes_leave, clear_leaves}
 
 -- calls that add no candidate
 pub as_before : {D : Type 0} (dev : Ghosts D) (first new : D)

@@ -2,9 +2,9 @@
 use Rattle.std.specs.Prelude.{◌≡◌, ◌≢◌, ◌≤◌, ℕ, [], true, Bool, if◌then◌else◌, Option, Some, None, Result, IfErr}
 use Rattle.sect_dev.specs.Device.{Image, Candidates, IsImageOf, IsStable, MoreFaults}
 use Rattle.page_io.specs.Store.{Settled, StoreState, blank, file_of, nothing}
-use Rattle.redo_commit.specs.Header.{header_of, has_magic}
-use Rattle.redo_commit.specs.declared.header.Header.TheVariants.{Armed}
-use Rattle.redo_commit.specs.File.{settled}
+use Rattle.redo_area.specs.Header.{header_of, has_magic}
+use Rattle.redo_area.specs.declared.header.Header.TheVariants.{Armed}
+use Rattle.redo_area.specs.File.{settled}
 use Rattle.redo_area.specs.declared.open_fault.OpenFault.{OpenFault}
 use Rattle.redo_area.specs.declared.open_fault.OpenFault.TheVariants.{Memory, Device, Blank, NotOurs, Damaged}
 

@@ -4,10 +4,10 @@ use Rattle.std.proofs.Common.{sym, ◌∙◌, ap, arith}
 use Rattle.sect_dev.specs.Device.{Image, Candidates, IsImageOf, IsStable}
 use Rattle.page_io.specs.Page.{page_at}
 use Rattle.page_io.specs.Store.{Pages, Settled, nothing, file_of, file_pages, overlaid}
-use Rattle.redo_commit.specs.Header.{header_of}
-use Rattle.redo_commit.specs.declared.header.Header.{Header}
-use Rattle.redo_commit.specs.declared.header.Header.TheVariants.{Clear}
-use Rattle.redo_commit.specs.File.{settled, settled_by, settled_over, IsAtRest, IsArmed}
+use Rattle.redo_area.specs.Header.{header_of}
+use Rattle.redo_area.specs.declared.header.Header.{Header}
+use Rattle.redo_area.specs.declared.header.Header.TheVariants.{Clear}
+use Rattle.redo_area.specs.File.{settled, settled_by, settled_over, IsAtRest, IsArmed}
 
 -- all is on the disk; the commit sector is clear where no page waits, else it is armed over the
 -- redo images of those that wait

@@ -3,13 +3,13 @@ ghost use Rattle.std.specs.Prelude.{◌≡◌, ◌≤◌, ◌<◌, ◌+◌, ◌-
 ghost use Rattle.sect_dev.specs.Device.{HasCause, LeavesOnly};
 ghost use Rattle.page_io.specs.Page.{page_at, own_number};
 ghost use Rattle.page_io.specs.Store.{bytes_of, file_pages, overlaid, are_in_order, has_page, committed_with, IsEither};
-ghost use Rattle.redo_commit.specs.File.{settled, IsArmed};
+ghost use Rattle.redo_area.specs.File.{settled, IsArmed};
 ghost use Rattle.redo_area.specs.Arming.{IsBeside};
 ghost use Rattle.redo_area.specs.Settling.{MayWait};
 
 use crate::settling::bring_home;
+use crate::steps::{arm, arm_grown, arm_next};
 use page_io::Page;
-use redo_commit::{arm, arm_grown, arm_next};
 use sect_dev::{DevFault, SectorDev};
 
 /// The first page from `least` on where `count` redo images fit beside those of pages that wait,

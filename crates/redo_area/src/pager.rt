@@ -3,7 +3,7 @@ ghost use Rattle.std.specs.Prelude.{◌≡◌, ◌≤◌, ◌<◌, ◌/◌, ◌^
 ghost use Rattle.sect_dev.specs.Moments.{IsOutcome};
 ghost use Rattle.page_io.specs.Page.{page_at};
 ghost use Rattle.page_io.specs.Store.{bytes_of, file_pages, overlaid, are_in_order};
-ghost use Rattle.redo_commit.specs.File.{settled};
+ghost use Rattle.redo_area.specs.File.{settled};
 ghost use Rattle.redo_area.specs.Settling.{SettlesIfUsable, SettlesTo};
 
 mod opening;
@@ -57,7 +57,7 @@ impl<D: SectorDev> PageStore for Pager<D> {
     ghost use Rattle.redo_area.specs.Pagers.{device_of};
     ghost use Rattle.sect_dev.specs.Reads.{OnlyReads};
     ghost use Rattle.redo_area.specs.Settling.{only_seen, quarter_fits};
-    ghost use Rattle.redo_commit.specs.File.{IsAtRest};
+    ghost use Rattle.redo_area.specs.File.{IsAtRest};
 
     ghost state = { λ p. record {
       staged = bytes_of p.staged.items;

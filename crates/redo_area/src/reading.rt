@@ -3,13 +3,13 @@ ghost use Rattle.std.specs.Prelude.{◌≡◌, ◌≢◌, ◌⊎◌, ◌≤◌, 
 ghost use Rattle.sect_dev.specs.Device.{MoreFaults};
 ghost use Rattle.page_io.specs.Page.{page_at};
 ghost use Rattle.page_io.specs.Store.{bytes_of, file_of, file_pages, overlaid, are_in_order};
-ghost use Rattle.redo_commit.specs.File.{settled, redo_images};
+ghost use Rattle.redo_area.specs.File.{settled, redo_images};
 ghost use Rattle.redo_area.specs.Opening.{refusal_of, SaysArmed};
 ghost use Rattle.sect_dev.specs.Reads.{OnlyReads};
 
 use crate::OpenFault;
+use crate::header::{Header, read_header};
 use page_io::{Page, StagedPages, read_page};
-use redo_commit::{Header, read_header};
 use sect_dev::SectorDev;
 use std::alloc::Global;
 

@@ -3,14 +3,15 @@ ghost use Rattle.std.specs.Prelude.{◌≡◌, ◌≢◌, ◌≤◌, ◌<◌, �
 ghost use Rattle.sect_dev.specs.Device.{IsImageOf, IsStable, NoNewCandidate, HasCause, MoreFaults, LeavesOnly};
 ghost use Rattle.page_io.specs.Page.{page_at, KeepsWhere};
 ghost use Rattle.page_io.specs.Store.{file_of, nothing, file_pages, overlaid, are_in_order};
-ghost use Rattle.redo_commit.specs.Header.{header_of};
-ghost use Rattle.redo_commit.specs.declared.header.Header.TheVariants.{Armed};
-ghost use Rattle.redo_commit.specs.File.{settled, redo_images, SettlesAsBefore, IsOutsideAll, IsAtRest, IsArmed};
+ghost use Rattle.redo_area.specs.Header.{header_of};
+ghost use Rattle.redo_area.specs.declared.header.Header.TheVariants.{Armed};
+ghost use Rattle.redo_area.specs.File.{settled, redo_images, SettlesAsBefore, IsOutsideAll, IsAtRest, IsArmed};
 ghost use Rattle.redo_area.specs.Opening.{IsRefused};
 
 use crate::OpenFault;
+use crate::header::{Header, clear_sector, read_header};
+use crate::steps::put_header;
 use page_io::{Page, read_page, write_page};
-use redo_commit::{Header, clear_sector, put_header, read_header};
 use sect_dev::{DevFault, SectorDev};
 
 /// Copies the redo images home. It answers false where a number is out of range, which an honest

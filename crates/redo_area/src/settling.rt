@@ -3,11 +3,11 @@ ghost use Rattle.std.specs.Prelude.{◌≡◌, ◌≤◌, ◌/◌, ◌↔◌, tr
 ghost use Rattle.sect_dev.specs.Device.{HasCause, LeavesOnly};
 ghost use Rattle.page_io.specs.Page.{page_at};
 ghost use Rattle.page_io.specs.Store.{bytes_of, file_of, file_pages, overlaid, are_in_order};
-ghost use Rattle.redo_commit.specs.File.{settled, IsAtRest};
+ghost use Rattle.redo_area.specs.File.{settled, IsAtRest};
 ghost use Rattle.redo_area.specs.Settling.{MayWait};
 
+use crate::steps::finish;
 use page_io::Page;
-use redo_commit::finish;
 use sect_dev::{DevFault, SectorDev};
 
 /// Puts the pages that wait in their places, and clears the commit sector. Where none waits, no

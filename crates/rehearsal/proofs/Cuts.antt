@@ -5,10 +5,10 @@ use Rattle.sect_dev.specs.Device.{Candidates, MoreFaults}
 use Rattle.dbm_fault.specs.Faults.{fault_of}
 use Rattle.dbm_fault.specs.declared.fault.Fault.{Fault}
 use Rattle.dbm_fault.specs.declared.fault.Fault.TheVariants.{Device}
-use Rattle.dbm_sessions.specs.Members.{Members}
-use Rattle.dbm_sessions.specs.Changes as changes
-use Rattle.dbm_sessions.specs.Sessions.{Disk, Plan}
-use Rattle.dbm_sessions.proofs.Failures.{device_is_the_cause}
+use Rattle.dbm_model.specs.Members.{Members}
+use Rattle.dbm_model.specs.SessionChanges as changes
+use Rattle.dbm_model.specs.Sessions.{Disk, Plan}
+use Rattle.dbm_model.proofs.Failures.{device_is_the_cause}
 use Rattle.rehearsal.specs.Rehearsals.{IsNeverFailed}
 use Rattle.rehearsal.specs.Sessions.{ending_of, IfUnsettled, IfGrouped, Leaves}
 use Rattle.rehearsal.specs.declared.sessions.Ending.{Ending}

@@ -4,9 +4,9 @@ use Rattle.std.specs.FinMap.{empty}
 use Rattle.std.proofs.lemmas.List.Elements.{Contains-append_cases}
 use Rattle.dbm_model.specs.States.{State}
 use Rattle.dbm_model.specs.Steps.{Case, Tells, Refuses, Declines, Finds, Passes, Changes, case_of}
-use Rattle.dbm_sessions.specs.Members.{Member, NoDatabase, Holding, Members, held, Opening, opened}
-use Rattle.dbm_sessions.specs.Sessions.{Disk, Plan, Ending, NotOpened, StoppedOpening, Rested, StoppedCall, Broke, Grouped, StoppedGroup, BrokeGroup, left_by, SessionStep, Sessions}
-use Rattle.dbm_sessions.proofs.Lists.{in_one, in_two, in_map}
+use Rattle.dbm_model.specs.Members.{Member, NoDatabase, Holding, Members, held, Opening, opened}
+use Rattle.dbm_model.specs.Sessions.{Disk, Plan, Ending, NotOpened, StoppedOpening, Rested, StoppedCall, Broke, Grouped, StoppedGroup, BrokeGroup, left_by, SessionStep, Sessions}
+use Rattle.dbm_model.proofs.Lists.{in_one, in_two, in_map}
 
 -- a database is there, whatever was left
 abbrev pub IsThere : Members → Type 0

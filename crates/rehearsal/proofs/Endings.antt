@@ -13,13 +13,13 @@ use Rattle.dbm_model.specs.Steps.{case_of, Run}
 use Rattle.page_io.specs.Store.{Settled}
 use Rattle.page_io.proofs.Exits.{more_later}
 use Rattle.page_io.specs.declared.store.PageStore.{Ghosts}
-use Rattle.redo_commit.specs.File.{settled}
-use Rattle.dbm_sessions.specs.Members.{Member, Holding, Members, held}
-use Rattle.dbm_sessions.specs.Sessions as model
-use Rattle.dbm_sessions.specs.Sessions.{Disk, Plan, StoppedOpening, StoppedCall, StoppedGroup, Begins, Goes, Rests, Breaks, left_by, SessionStep}
-use Rattle.dbm_sessions.proofs.Cuts.{broken_leaves}
-use Rattle.dbm_sessions.proofs.Failures.{counts_up}
-use Rattle.dbm_sessions.proofs.Lists.{is_first, is_later}
+use Rattle.redo_area.specs.File.{settled}
+use Rattle.dbm_model.specs.Members.{Member, Holding, Members, held}
+use Rattle.dbm_model.specs.Sessions as model
+use Rattle.dbm_model.specs.Sessions.{Disk, Plan, StoppedOpening, StoppedCall, StoppedGroup, Begins, Goes, Rests, Breaks, left_by, SessionStep}
+use Rattle.dbm_model.proofs.Cuts.{broken_leaves}
+use Rattle.dbm_model.proofs.Failures.{counts_up}
+use Rattle.dbm_model.proofs.Lists.{is_first, is_later}
 use Rattle.dbm_fault.specs.declared.fault.Fault.{Fault}
 use Rattle.dbm_fault.specs.declared.fault.Fault.TheVariants.{Device, Broken}
 use Rattle.dbm_file.specs.Calls.{reply_of}

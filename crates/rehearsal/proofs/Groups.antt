@@ -14,11 +14,11 @@ use Rattle.dbm_model.proofs.StoreLemmas.{stores_put_all}
 use Rattle.page_io.specs.Store.{Settled}
 use Rattle.page_io.specs.Meaning.{ImageStandsFor}
 use Rattle.page_io.specs.declared.store.PageStore.{Ghosts}
-use Rattle.dbm_sessions.specs.Members.{Holding, Members, held}
-use Rattle.dbm_sessions.specs.Sessions as model
-use Rattle.dbm_sessions.specs.Sessions.{StoppedGroup, Groups, GroupCutShort}
-use Rattle.dbm_sessions.proofs.Lists.{is_first, is_later}
-use Rattle.dbm_sessions.proofs.Rooms.{bounds_stay}
+use Rattle.dbm_model.specs.Members.{Holding, Members, held}
+use Rattle.dbm_model.specs.Sessions as model
+use Rattle.dbm_model.specs.Sessions.{StoppedGroup, Groups, GroupCutShort}
+use Rattle.dbm_model.proofs.Lists.{is_first, is_later}
+use Rattle.dbm_model.proofs.SessionRooms.{bounds_stay}
 use Rattle.dbm_fault.specs.Among.{IsErrAmong}
 use Rattle.dbm_fault.specs.declared.fault.Fault.{Fault}
 use Rattle.dbm_fault.specs.declared.fault.Fault.TheVariants.{Device, Broken, ReadOnly}

@@ -4,11 +4,11 @@ use Rattle.std.proofs.lemmas.List.{get_or-map, length-map}
 use Rattle.std.proofs.lemmas.List.Elements.{All-nil, All-cons, All-append, All-head}
 use Rattle.sect_dev.specs.Device.{Image, Candidates, IsImageOf, IsStable}
 use Rattle.sect_dev.specs.Moments.{only_image}
-use Rattle.redo_commit.specs.File.{settled}
-use Rattle.dbm_sessions.specs.Members.{NoDatabase, Members}
-use Rattle.dbm_sessions.specs.Sessions as model
-use Rattle.dbm_sessions.specs.Sessions.{Disk, Plan, SessionStep, Sessions}
-use Rattle.dbm_sessions.proofs.Ways.{changes_stay}
+use Rattle.redo_area.specs.File.{settled}
+use Rattle.dbm_model.specs.Members.{NoDatabase, Members}
+use Rattle.dbm_model.specs.Sessions as model
+use Rattle.dbm_model.specs.Sessions.{Disk, Plan, SessionStep, Sessions}
+use Rattle.dbm_model.proofs.Ways.{changes_stay}
 use Rattle.rehearsal.specs.Members.{StandsForOne, AllStandFor}
 use Rattle.rehearsal.specs.Sessions.{ending_of}
 use Rattle.rehearsal.specs.Rehearsals.{planned, AreTold, SessionLeaves, SessionsLeave, AreAllLeft, IsOpenedBut, AreOpenedBut, FindOrMake, IsCutAfter, AreCutAsAsked}

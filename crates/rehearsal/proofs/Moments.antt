@@ -10,10 +10,10 @@ use Rattle.page_io.specs.Store.{Settled}
 use Rattle.page_io.specs.Meaning.{ImageStandsFor}
 use Rattle.file_opening.specs.Opening.{MayRemain}
 use Rattle.file_opening.specs.declared.open_how.OpenHow.{OpenHow}
-use Rattle.dbm_sessions.specs.Members.{Holding, Members, held, opened}
-use Rattle.dbm_sessions.specs.Sessions as model
-use Rattle.dbm_sessions.specs.Sessions.{Disk, Plan, StoppedOpening, StoppedCall, StoppedGroup, Begins}
-use Rattle.dbm_sessions.proofs.Lists.{is_first}
+use Rattle.dbm_model.specs.Members.{Holding, Members, held, opened}
+use Rattle.dbm_model.specs.Sessions as model
+use Rattle.dbm_model.specs.Sessions.{Disk, Plan, StoppedOpening, StoppedCall, StoppedGroup, Begins}
+use Rattle.dbm_model.proofs.Lists.{is_first}
 use Rattle.dbm_file.specs.Answers.{StandsForSome}
 use Rattle.dbm_file.specs.Runs.{MayBeLeftWithin}
 use Rattle.rehearsal.specs.Members.{AllStandFor}

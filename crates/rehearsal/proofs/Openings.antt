@@ -9,11 +9,11 @@ use Rattle.dbm_model.specs.States.{State, Handle, fresh}
 use Rattle.page_io.specs.Store.{Pages, Settled, blank, file_of}
 use Rattle.page_io.specs.Meaning.{ImageStandsFor}
 use Rattle.page_io.proofs.Meanings.{one_meaning}
-use Rattle.redo_commit.specs.File.{settled}
+use Rattle.redo_area.specs.File.{settled}
 use Rattle.redo_area.specs.Settling.{SettlesTo}
-use Rattle.dbm_sessions.specs.Members.{Member, NoDatabase, Holding, Members, held, opened}
-use Rattle.dbm_sessions.specs.Sessions.{Disk, IsOn, Begins}
-use Rattle.dbm_sessions.proofs.Lists.{map_has}
+use Rattle.dbm_model.specs.Members.{Member, NoDatabase, Holding, Members, held, opened}
+use Rattle.dbm_model.specs.Sessions.{Disk, IsOn, Begins}
+use Rattle.dbm_model.proofs.Lists.{map_has}
 use Rattle.file_opening.specs.Opening.{writes, making_fault, room_fault, BeginsEmpty, IsRefusedOpening, MayRemain, AllStand, IsOpened}
 use Rattle.dbm_fault.specs.declared.fault.Fault.{Fault}
 use Rattle.dbm_fault.specs.declared.fault.Fault.TheVariants.{NotADatabase}

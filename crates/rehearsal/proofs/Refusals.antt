@@ -6,9 +6,9 @@ use Rattle.dbm_model.specs.Calls as calls
 use Rattle.dbm_fault.specs.Faults.{fault_of}
 use Rattle.dbm_fault.specs.declared.fault.Fault.{Fault}
 use Rattle.dbm_fault.specs.declared.fault.Fault.TheVariants.{Device, NoRoom}
-use Rattle.dbm_sessions.specs.Members.{Members, AllHaveRoom, opened}
-use Rattle.dbm_sessions.specs.Sessions as model
-use Rattle.dbm_sessions.specs.Sessions.{Disk, Plan}
+use Rattle.dbm_model.specs.Members.{Members, AllHaveRoom, opened}
+use Rattle.dbm_model.specs.Sessions as model
+use Rattle.dbm_model.specs.Sessions.{Disk, Plan}
 use Rattle.file_opening.specs.Opening.{early_fault, IsRefusedOpening}
 use Rattle.file_opening.specs.declared.open_how.OpenHow.{OpenHow}
 use Rattle.rehearsal.specs.Members.{AllStandFor}

@@ -9,12 +9,12 @@ use Rattle.sect_dev.specs.Device.{Candidates, IsStable}
 use Rattle.sect_dev.specs.Sector.{zeros}
 use Rattle.sect_dev.specs.Moments.{only_image}
 use Rattle.page_io.specs.Store.{Settled, blank, file_of, nothing}
-use Rattle.redo_commit.specs.File.{settled}
-use Rattle.redo_commit.proofs.Blanks.{blank_image}
+use Rattle.redo_area.specs.File.{settled}
+use Rattle.redo_area.proofs.Blanks.{blank_image}
 use Rattle.file_opening.specs.Opening.{early_fault, room_fault, making_fault, commit_fault, emptying_fault, Allows, AllAllow}
 use Rattle.dbm_fault.specs.declared.fault.Fault.TheVariants.{ReadOnly, NotADatabase, TooSmall}
-use Rattle.dbm_sessions.specs.Members.{Member, NoDatabase, Holding, Members, AllHaveRoom}
-use Rattle.dbm_sessions.proofs.Lists.{is_first}
+use Rattle.dbm_model.specs.Members.{Member, NoDatabase, Holding, Members, AllHaveRoom}
+use Rattle.dbm_model.proofs.Lists.{is_first}
 use Rattle.rehearsal.specs.Members.{StandsFor, AllStandFor}
 use Rattle.rehearsal.specs.Sessions.{asked_bounds, for_writing}
 use Rattle.rehearsal.specs.declared.sessions.Opening.{Opening}

@@ -8,9 +8,9 @@ use Rattle.dbm_model.specs.Pairs.{Contents}
 use Rattle.dbm_model.specs.Sizes.{home}
 use Rattle.page_io.specs.Store.{blank}
 use Rattle.page_io.specs.Meaning.{ImageStandsFor}
-use Rattle.redo_commit.specs.File.{settled}
-use Rattle.dbm_sessions.specs.Members.{Member, NoDatabase, Holding, Members, HasRoomFor, AllHaveRoom}
-use Rattle.dbm_sessions.specs.Room.{IsNeverShort}
+use Rattle.redo_area.specs.File.{settled}
+use Rattle.dbm_model.specs.Members.{Member, NoDatabase, Holding, Members, HasRoomFor, AllHaveRoom}
+use Rattle.dbm_model.specs.SessionRoom.{IsNeverShort}
 use Rattle.dbm_fault.specs.Faults.{fault_of}
 use Rattle.dbm_fault.specs.declared.fault.Fault.{Fault}
 use Rattle.dbm_fault.specs.declared.fault.Fault.TheVariants.{Memory, Device, Broken, ReadOnly, TooLong, Full, NoPass, NoRoom, Damaged, NotADatabase, Version, TooSmall, BadLimit, Missing, Exists}

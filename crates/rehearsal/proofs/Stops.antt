@@ -8,11 +8,11 @@ use Rattle.dbm_model.specs.Steps.{Case, Tells, Refuses, Declines, Finds, Passes,
 use Rattle.dbm_model.proofs.CaseLemmas.{Suits, suits}
 use Rattle.dbm_model.proofs.RuleLemmas.{ByCase, if_broken, falls}
 use Rattle.dbm_model.proofs.Runs.{run-push}
-use Rattle.dbm_sessions.specs.Members.{Member, Holding, Members, held}
-use Rattle.dbm_sessions.specs.Sessions as model
-use Rattle.dbm_sessions.specs.Sessions.{StoppedCall, left_by}
-use Rattle.dbm_sessions.proofs.Failures.{counts_up}
-use Rattle.dbm_sessions.proofs.Lists.{is_first, is_later}
+use Rattle.dbm_model.specs.Members.{Member, Holding, Members, held}
+use Rattle.dbm_model.specs.Sessions as model
+use Rattle.dbm_model.specs.Sessions.{StoppedCall, left_by}
+use Rattle.dbm_model.proofs.Failures.{counts_up}
+use Rattle.dbm_model.proofs.Lists.{is_first, is_later}
 use Rattle.dbm_file.specs.Answers.{MayBeLeft}
 use Rattle.dbm_file.specs.Held.{Held, held_by}
 use Rattle.dbm_file.specs.Runs.{MayBeLeftWithin}

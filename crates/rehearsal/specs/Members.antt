@@ -3,8 +3,8 @@ use Rattle.std.specs.Prelude.{◌≡◌, ℕ, Contains}
 use Rattle.sect_dev.specs.Device.{Image, Candidates, IsImageOf}
 use Rattle.page_io.specs.Store.{Settled, blank}
 use Rattle.page_io.specs.Meaning.{ImageStandsFor}
-use Rattle.redo_commit.specs.File.{settled}
-use Rattle.dbm_sessions.specs.Members.{Member, NoDatabase, Holding, Members}
+use Rattle.redo_area.specs.File.{settled}
+use Rattle.dbm_model.specs.Members.{Member, NoDatabase, Holding, Members}
 
 -- an image that settles so stands for the member: a blank one for no database
 abbrev pub StandsFor : Settled → Member → Type 0

@@ -4,7 +4,7 @@ use Rattle.sect_dev.specs.Device.{LeavesOnly}
 use Rattle.sect_dev.specs.Moments.{IsOutcome}
 use Rattle.sect_dev.specs.declared.device.SectorDev.{Ghosts}
 use Rattle.page_io.specs.declared.store.PageStore as store
-use Rattle.redo_commit.specs.File.{settled}
+use Rattle.redo_area.specs.File.{settled}
 use Rattle.redo_area.specs.declared.pager.Pager.{Pager}
 use Rattle.page_cache.specs.declared.cached_pages.CachedPages.{CachedPages}
 use Rattle.dbm_model.specs.Calls.{Call, Reply, Stored}
@@ -12,9 +12,9 @@ use Rattle.dbm_model.specs.Changes.{replacing}
 use Rattle.dbm_model.specs.Pairs.{Pair}
 use Rattle.dbm_model.specs.States.{Handle}
 use Rattle.dbm_model.specs.Steps.{Run}
-use Rattle.dbm_sessions.specs.Members.{Members, held, opened}
-use Rattle.dbm_sessions.specs.Members as members
-use Rattle.dbm_sessions.specs.Sessions.{Disk, Begins}
+use Rattle.dbm_model.specs.Members.{Members, held, opened}
+use Rattle.dbm_model.specs.Members as members
+use Rattle.dbm_model.specs.Sessions.{Disk, Begins}
 use Rattle.dbm_file.specs.Calls.{reply_of}
 use Rattle.dbm_file.specs.Database.{IsAt}
 use Rattle.dbm_file.specs.Opened.{device_below}

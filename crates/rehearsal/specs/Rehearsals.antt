@@ -1,15 +1,15 @@
 -- What sessions leave that are made one after another, each with its ending.
 use Rattle.std.specs.Prelude.{◌≡◌, ◌≢◌, ◌⊎◌, ◌+◌, ◌||◌, ℕ, true, false, All, List, [], ◌∷◌, map, Contains, IsOk, sum_by}
 use Rattle.sect_dev.specs.Device.{Image, Candidates, IsImageOf}
-use Rattle.redo_commit.specs.File.{settled}
+use Rattle.redo_area.specs.File.{settled}
 use Rattle.dbm_model.specs.Sizes.{is_limit}
 use Rattle.dbm_fault.specs.declared.fault.Fault.TheVariants.{Memory, Device}
 use Rattle.dbm_file.specs.Calls.{reply_of}
-use Rattle.dbm_sessions.specs.Members.{Member, NoDatabase, Members}
-use Rattle.dbm_sessions.specs.Sessions as model
-use Rattle.dbm_sessions.specs.Sessions.{Disk, Plan, Sessions}
-use Rattle.dbm_sessions.specs.Changes.{changes_of, has_device, LeftBy}
-use Rattle.dbm_sessions.specs.Room.{IsNeverShort}
+use Rattle.dbm_model.specs.Members.{Member, NoDatabase, Members}
+use Rattle.dbm_model.specs.Sessions as model
+use Rattle.dbm_model.specs.Sessions.{Disk, Plan, Sessions}
+use Rattle.dbm_model.specs.SessionChanges.{changes_of, has_device, LeftBy}
+use Rattle.dbm_model.specs.SessionRoom.{IsNeverShort}
 use Rattle.rehearsal.specs.Members.{StandsFor, AllStandFor}
 use Rattle.rehearsal.specs.Sessions.{plan_of, ending_of, IfNotOpened, Leaves}
 use Rattle.rehearsal.specs.declared.sessions.Ending.{Ending}

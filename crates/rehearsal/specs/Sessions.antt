@@ -9,11 +9,11 @@ use Rattle.page_io.specs.Versions.{model_version}
 use Rattle.dbm_model.specs.Calls as calls
 use Rattle.dbm_model.specs.Pairs as model_pairs
 use Rattle.dbm_model.specs.States.{Handle}
-use Rattle.dbm_sessions.specs.Members as members
-use Rattle.dbm_sessions.specs.Members.{Members}
-use Rattle.dbm_sessions.specs.Sessions as model
-use Rattle.dbm_sessions.specs.Sessions.{Disk, Plan, StoppedOpening, StoppedCall, StoppedGroup, Rests, CutShort, Breaks, Groups, GroupCutShort, SessionStep}
-use Rattle.redo_commit.specs.File.{IsAtRest}
+use Rattle.dbm_model.specs.Members as members
+use Rattle.dbm_model.specs.Members.{Members}
+use Rattle.dbm_model.specs.Sessions as model
+use Rattle.dbm_model.specs.Sessions.{Disk, Plan, StoppedOpening, StoppedCall, StoppedGroup, Rests, CutShort, Breaks, Groups, GroupCutShort, SessionStep}
+use Rattle.redo_area.specs.File.{IsAtRest}
 use Rattle.dbm_fault.specs.Faults.{fault_of}
 use Rattle.dbm_fault.specs.declared.fault.Fault.{Fault}
 use Rattle.dbm_fault.specs.declared.fault.Fault.TheVariants.{Device}

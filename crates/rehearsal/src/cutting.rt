@@ -2,8 +2,8 @@
 ghost use Rattle.std.specs.Prelude.{◌≡◌, ◌⊎◌, ◌+◌, ◌≤◌, ◌/◌, ℕ, None, IfOk, true};
 ghost use Rattle.sect_dev.specs.Device.{IsImageOf};
 ghost use Rattle.file_opening.specs.Opening.{early_fault, AllStand, AllAllow};
-ghost use Rattle.dbm_sessions.specs.Members.{Members, AllHaveRoom};
-ghost use Rattle.dbm_sessions.specs.Room.{IsNeverShort};
+ghost use Rattle.dbm_model.specs.Members.{Members, AllHaveRoom};
+ghost use Rattle.dbm_model.specs.SessionRoom.{IsNeverShort};
 ghost use Rattle.rehearsal.specs.Members.{AllStandFor};
 ghost use Rattle.rehearsal.specs.Rehearsals.{SessionLeaves, IsSpared, IsCutAfter, IsOpenedBut};
 ghost use Rattle.rehearsal.specs.Sessions.{plan_of, for_writing, ending_of};

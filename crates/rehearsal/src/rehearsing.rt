@@ -2,8 +2,8 @@
 ghost use Rattle.std.specs.Prelude.{◌≡◌, ◌≤◌, ◌+◌, ◌/◌, ◌∷◌, [], ℕ, All, IfOk, map};
 ghost use Rattle.sect_dev.specs.Device.{IsStable};
 ghost use Rattle.sect_dev.specs.Sector.{zeros};
-ghost use Rattle.dbm_sessions.specs.Members.{NoDatabase, Members, AllHaveRoom};
-ghost use Rattle.dbm_sessions.specs.Room.{AsksForRoom, IsNeverShort};
+ghost use Rattle.dbm_model.specs.Members.{NoDatabase, Members, AllHaveRoom};
+ghost use Rattle.dbm_model.specs.SessionRoom.{AsksForRoom, IsNeverShort};
 ghost use Rattle.rehearsal.specs.Members.{AllStandFor};
 ghost use Rattle.rehearsal.specs.Rehearsals.{planned, endings_in, SessionLeaves, SessionsLeave, AreAllLeft, AreNeverShort, AreOpenedBut, IsOpenedBut, AsksForALimit, FindOrMake, IsSpared, IsCutAfter, AreCutAsAsked, most_changes};
 ghost use Rattle.rehearsal.specs.Sessions.{ending_of};

@@ -2,11 +2,11 @@
 ghost use Rattle.std.specs.Prelude.{◌≡◌, ◌≢◌, ◌⊎◌, ◌↔◌, ◌≤◌, ◌/◌, ℕ, None, true, length, map, Err, IfOk, IfErr, OnOk};
 ghost use Rattle.sect_dev.specs.Device.{Image, IsImageOf, LeavesOnly, MoreFaults};
 ghost use Rattle.sect_dev.specs.Moments.{IsOutcome};
-ghost use Rattle.redo_commit.specs.File.{settled};
+ghost use Rattle.redo_area.specs.File.{settled};
 ghost use Rattle.dbm_model.specs.Room.{HasRoom};
 ghost use Rattle.dbm_model.specs.States.{Handle};
-ghost use Rattle.dbm_sessions.specs.Members.{Members};
-ghost use Rattle.dbm_sessions.specs.Room.{IsNeverShort};
+ghost use Rattle.dbm_model.specs.Members.{Members};
+ghost use Rattle.dbm_model.specs.SessionRoom.{IsNeverShort};
 ghost use Rattle.dbm_file.specs.Pairs.{pair_of};
 ghost use Rattle.file_opening.specs.Opening.{early_fault, AllStand, AllAllow};
 ghost use Rattle.dbm_file.specs.Calls.{call_of};

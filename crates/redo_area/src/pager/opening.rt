@@ -2,17 +2,17 @@
 ghost use Rattle.std.specs.Prelude.{◌≡◌, ◌≢◌, ◌≤◌, ◌<◌, ◌+◌, ◌/◌, ◌↔◌, true, false, length, [], Some, IfOk, IfErr};
 ghost use Rattle.sect_dev.specs.Device.{Image, IsImageOf, LeavesOnly};
 ghost use Rattle.page_io.specs.Store.{bytes_of, blank, file_of};
-ghost use Rattle.redo_commit.specs.File.{settled, SettlesAsBefore, IsBlankOr};
+ghost use Rattle.redo_area.specs.File.{settled, SettlesAsBefore, IsBlankOr};
 ghost use Rattle.redo_area.specs.Settling.{SettlesTo};
 ghost use Rattle.redo_area.specs.Opening.{refusal_of, SaysArmed, IsFresh, IsRefused, HasOpenCause};
 ghost use Rattle.redo_area.specs.Pagers.{device_of, device_after};
 ghost use Rattle.sect_dev.specs.Reads.{OnlyReads};
 
+use crate::format::format_pages;
 use crate::reading::read_file;
 use crate::recovery::recover;
 use crate::{OpenFault, Pager};
 use page_io::{Page, PageStore, StagedPages};
-use redo_commit::format_pages;
 use sect_dev::SectorDev;
 use std::alloc::Global;
 

@@ -14,16 +14,16 @@ use Rattle.free_pages.specs.FreeList.{IsFreeList, IsTaken}
 use Rattle.free_pages.specs.declared.free_state.FreeState.{FreeState}
 use Rattle.page_io.specs.BucketPages.{IsPageOf, page_records}
 use Rattle.page_model.specs.Valid.{IsOf}
-use Rattle.chain_walks.specs.Links.{link_body}
-use Rattle.chain_walks.specs.Chains.{IsChainAt, kind_behind}
+use Rattle.bucket_chain.specs.Links.{link_body}
+use Rattle.bucket_chain.specs.Chains.{IsChainAt, kind_behind}
 use Rattle.page_io.specs.Versions.{model_version}
 use Rattle.bucket_chain.specs.Records.{as_record}
 use Rattle.bucket_chain.specs.Spots.{leaf_on, IsSpot}
 use Rattle.std.specs.List.{AllByRecursion}
-use Rattle.chain_walks.specs.Walks.{IsFull, fits_leaf}
+use Rattle.bucket_chain.specs.Walks.{IsFull, fits_leaf}
 use Rattle.bucket_chain.specs.declared.puts.Spot.{Spot}
 use Rattle.page_io.proofs.OwnNumbers.{own_is, own_same}
-use Rattle.chain_walks.proofs.Headers.{header_of}
+use Rattle.bucket_chain.proofs.Headers.{header_of}
 use Rattle.bucket_chain.proofs.Added.{says_nothing, added_to, added_behind}
 use Rattle.bucket_chain.proofs.SpelledPages.{added_body, fresh_body}
 use Rattle.bucket_chain.proofs.StagedPages.{on_ok, if_ok, with_own, known_same, IsRewrittenAlone, AreRewritten, rewritten_alone, rewritten_next, both_rewritten}

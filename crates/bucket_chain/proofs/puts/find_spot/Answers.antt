@@ -4,8 +4,8 @@ use Rattle.page_io.specs.Store.{StoreState}
 use Rattle.page_io.specs.declared.store.PageFault.TheVariants.{Damaged}
 use Rattle.page_io.proofs.Views.{reads_then}
 use Rattle.page_io.proofs.Exits.{exit_is, came, cause_then, cause_ok}
-use Rattle.chain_walks.proofs.ReadPages.{still_honest, link_before, link_after}
-use Rattle.chain_walks.proofs.Walks.{read_as, walk_goes_on, walk_is_here, some_page, not_too_long}
+use Rattle.bucket_chain.proofs.ReadPages.{still_honest, link_before, link_after}
+use Rattle.bucket_chain.proofs.Walks.{read_as, walk_goes_on, walk_is_here, some_page, not_too_long}
 use Rattle.bucket_chain.specs.Records.{as_record}
 use Rattle.bucket_chain.proofs.SpotLemmas.{spot_found, is_full, true_false}
 use Rattle.bucket_chain.proofs.StagedPages.{known_same}

@@ -1,7 +1,7 @@
 use Rattle.std.proofs.Common.{◌≡◌, ◌⊎◌}
 use Rattle.page_io.specs.Views.{body_at, ReadsOnly}
-use Rattle.chain_walks.specs.Walks.{IsFull}
-use Rattle.chain_walks.proofs.Walks.{IsUnderWay}
+use Rattle.bucket_chain.specs.Walks.{IsFull}
+use Rattle.bucket_chain.proofs.Walks.{IsUnderWay}
 use Rattle.bucket_chain.specs.Records.{as_record}
 use Rattle.bucket_chain.proofs.puts.find_spot.Given as goal
 

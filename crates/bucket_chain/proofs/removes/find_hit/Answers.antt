@@ -6,11 +6,11 @@ use Rattle.page_io.specs.declared.store.PageFault.TheVariants.{Damaged}
 use Rattle.page_io.proofs.Views.{reads_then}
 use Rattle.page_io.proofs.Exits.{exit_is, came, cause_then, cause_ok}
 use Rattle.page_io.specs.BucketPages.{page_records}
-use Rattle.chain_walks.specs.Walks.{EndsWithout}
-use Rattle.chain_walks.proofs.Headers.{header_of}
-use Rattle.chain_walks.proofs.ReadPages.{reads_none, still_honest, link_before, link_after}
-use Rattle.chain_walks.proofs.Walks.{read_as, walk_is_here, some_page, not_too_long}
-use Rattle.chain_walks.proofs.KeyWalks.{absent_times}
+use Rattle.bucket_chain.specs.Walks.{EndsWithout}
+use Rattle.bucket_chain.proofs.Headers.{header_of}
+use Rattle.bucket_chain.proofs.ReadPages.{reads_none, still_honest, link_before, link_after}
+use Rattle.bucket_chain.proofs.Walks.{read_as, walk_is_here, some_page, not_too_long}
+use Rattle.bucket_chain.proofs.KeyWalks.{absent_times}
 use Rattle.bucket_chain.proofs.StagedPages.{known_same}
 use Rattle.bucket_chain.proofs.KeySlots.{hit_walk}
 use Rattle.bucket_chain.proofs.Hits.{track_starts, track_goes_on, track_ends, track_hits}

@@ -10,11 +10,11 @@ use Rattle.page_io.specs.declared.store.PageFault.TheVariants.{Damaged}
 use Rattle.page_io.proofs.Views.{stages_then, same_said, known_below}
 use Rattle.page_io.proofs.Exits.{exit_is, came, cause_first, cause_stage_last, last_not_damaged}
 use Rattle.page_io.specs.BucketPages.{page_records}
-use Rattle.chain_walks.specs.Links.{SaysLink}
-use Rattle.chain_walks.proofs.Headers.{header_of}
-use Rattle.chain_walks.proofs.LinkBodies.{says_link}
-use Rattle.chain_walks.proofs.ReadPages.{still_honest}
-use Rattle.chain_walks.proofs.Walks.{one_next}
+use Rattle.bucket_chain.specs.Links.{SaysLink}
+use Rattle.bucket_chain.proofs.Headers.{header_of}
+use Rattle.bucket_chain.proofs.LinkBodies.{says_link}
+use Rattle.bucket_chain.proofs.ReadPages.{still_honest}
+use Rattle.bucket_chain.proofs.Walks.{one_next}
 use Rattle.page_io.proofs.OwnNumbers.{own_same}
 use Rattle.bucket_chain.proofs.StagedPages.{on_ok, if_ok}
 use Rattle.bucket_chain.proofs.LinkedPages.{link_linked}

@@ -8,7 +8,7 @@ use Rattle.page_io.specs.Views.{body_at, MayEnd}
 use Rattle.page_io.specs.declared.store.PageFault.TheVariants.{Damaged}
 use Rattle.page_io.proofs.Exits.{exit_is, came}
 use Rattle.page_io.proofs.Views.{stages_then, same_said, known_below}
-use Rattle.chain_walks.specs.Chains.{IsChainAt}
+use Rattle.bucket_chain.specs.Chains.{IsChainAt}
 use Rattle.bucket_chain.specs.AnyFile.{IsUnlinked}
 use Rattle.bucket_chain.specs.Hits.{IsHit, IsHitOrNone, IsHeldHit, pages_told}
 use Rattle.bucket_chain.specs.declared.removes.Hit.{Hit}

@@ -6,7 +6,7 @@ use Rattle.page_io.proofs.Views.{known_below}
 use Rattle.page_io.proofs.Exits.{exit_is, came}
 use Rattle.page_io.proofs.OwnNumbers.{own_same}
 use Rattle.page_io.specs.BucketPages.{page_records}
-use Rattle.chain_walks.proofs.Headers.{header_of}
+use Rattle.bucket_chain.proofs.Headers.{header_of}
 use Rattle.page_io.specs.Versions.{model_version}
 use Rattle.bucket_chain.proofs.KnownPages.{page_without}
 use Rattle.bucket_chain.proofs.StagedPages.{rewritten_next}

@@ -15,8 +15,8 @@ use Rattle.page_io.proofs.Exits.{exit_is, came, cause_first, cause_then, cause_s
 use Rattle.bucket_chain.specs.Giving.{AreOverflowGiven}
 use Rattle.bucket_chain.specs.Changes.{IsCleared, store_in}
 use Rattle.page_io.proofs.OwnNumbers.{own_is, own_same}
-use Rattle.chain_walks.specs.Links.{IsLink}
-use Rattle.chain_walks.proofs.LinkBodies.{says_link}
+use Rattle.bucket_chain.specs.Links.{IsLink}
+use Rattle.bucket_chain.proofs.LinkBodies.{says_link}
 use Rattle.bucket_chain.proofs.KnownPages.{empty_page}
 use Rattle.bucket_chain.proofs.StagedPages.{on_ok, if_ok, IsRewrittenAlone, rewritten_next}
 use Rattle.bucket_chain.proofs.Clearing.{placed_same}

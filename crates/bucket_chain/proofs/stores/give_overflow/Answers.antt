@@ -9,8 +9,8 @@ use Rattle.page_io.proofs.Exits.{exit_is, came, cause_then, cause_ok}
 use Rattle.page_io.specs.BucketPages.{page_records}
 use Rattle.free_pages.specs.declared.free_state.FreeState.{FreeState}
 use Rattle.free_pages.specs.FreeList.{IsFreeList, HasEnds}
-use Rattle.chain_walks.proofs.ReadPages.{reads_none}
-use Rattle.chain_walks.specs.Chains.{number_or, AreLinked}
+use Rattle.bucket_chain.proofs.ReadPages.{reads_none}
+use Rattle.bucket_chain.specs.Chains.{number_or, AreLinked}
 use Rattle.bucket_chain.proofs.OverflowGivings.{giving_starts, giving_goes_on, next_link, room_left, not_all}
 use Rattle.bucket_chain.proofs.Refusals.{walk_stores, give_stores, cause_give, walk_has_room, give_has_room, no_store_refusal, no_fault, long_walk_stores, long_walk_cause, long_walk_has_room}
 use Rattle.bucket_chain.proofs.stores.give_overflow.Goals as goal

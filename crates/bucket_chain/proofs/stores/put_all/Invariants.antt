@@ -4,7 +4,7 @@ use Rattle.page_io.specs.Views.{body_at, StagesOnly, MayEnd}
 use Rattle.page_model.specs.Chain.{Chain, Entry, entries_in, pages_in, record_of}
 use Rattle.page_model.specs.Space.{Space}
 use Rattle.free_pages.specs.FreeList.{HasEnds}
-use Rattle.chain_walks.specs.Pairs.{record_as}
+use Rattle.bucket_chain.specs.Pairs.{record_as}
 use Rattle.bucket_chain.specs.AnyFile.{AreAdded}
 use Rattle.bucket_chain.specs.Changes.{IsPlaced, AreHeld, HaveKeysOnce}
 use Rattle.bucket_chain.proofs.Storing.{HavePut}

@@ -5,7 +5,7 @@ use Rattle.page_io.specs.Views.{body_at}
 use Rattle.page_io.specs.declared.store.PageFault.TheVariants.{NoRoom, Damaged}
 use Rattle.page_io.proofs.Exits.{exit_is, came, cause_first, cause_last}
 use Rattle.page_io.proofs.Views.{stages_then}
-use Rattle.chain_walks.specs.Pairs.{record_as}
+use Rattle.bucket_chain.specs.Pairs.{record_as}
 use Rattle.bucket_chain.proofs.HeldCleared.{held_cleared}
 use Rattle.bucket_chain.proofs.Added.{all_under}
 use Rattle.bucket_chain.proofs.Refusals.{store_stores, stores_last}

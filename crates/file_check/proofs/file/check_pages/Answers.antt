@@ -3,12 +3,12 @@ use Rattle.std.proofs.lemmas.Result.{err_from_is_err_and}
 use Rattle.page_model.specs.Chain.{pages_in, pairs_in}
 use Rattle.dbm_model.specs.Sizes.{home}
 use Rattle.page_io.specs.declared.store.PageFault.TheVariants.{Damaged}
-use Rattle.page_marks.specs.Marks.{AreMarked, MayBeSeen, IsEachSeen}
+use Rattle.file_check.specs.Marks.{AreMarked, MayBeSeen, IsEachSeen}
 use Rattle.seg_table.specs.MetaPages.{model_meta}
-use Rattle.chain_walks.proofs.ReadPages.{still_honest}
+use Rattle.bucket_chain.proofs.ReadPages.{still_honest}
 use Rattle.file_check.specs.FreeLists.{IsList, IsListMarked}
 use Rattle.file_check.proofs.GoodFiles.{may_tables, may_buckets, may_free, whole_count, right_count}
-use Rattle.chain_check.proofs.StoreReads.{from_mid, to_mid}
+use Rattle.file_check.proofs.StoreReads.{from_mid, to_mid}
 use Rattle.file_check.proofs.file.check_pages.Goals as goal
 
 pub returns-in_err-pairs-clause-whole : goal.returns-in_err-pairs-clause-whole

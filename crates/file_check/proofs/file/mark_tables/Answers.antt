@@ -1,5 +1,5 @@
 use Rattle.std.proofs.Common.{◌∷◌, [], ℕ, List, sym, subst}
-use Rattle.page_marks.specs.Marks.{AreMarked, MayBeSeen}
+use Rattle.file_check.specs.Marks.{AreMarked, MayBeSeen}
 use Rattle.file_check.proofs.file.mark_tables.Goals as goal
 
 pub returns-then-mark-clause-marked : goal.returns-then-mark-clause-marked

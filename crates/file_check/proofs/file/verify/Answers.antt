@@ -4,10 +4,10 @@ use Rattle.page_model.specs.PageBodies.{meta_of}
 use Rattle.page_io.specs.Views.{body_at}
 use Rattle.page_io.specs.declared.store.PageFault.TheVariants.{Damaged}
 use Rattle.seg_table.specs.MetaPages.{model_meta}
-use Rattle.chain_walks.proofs.ReadPages.{still_honest}
+use Rattle.bucket_chain.proofs.ReadPages.{still_honest}
 use Rattle.file_check.specs.Good.{IsFilled}
 use Rattle.file_check.proofs.GoodFiles.{good_file, meta_valid, meta_said, filled, one_meta}
-use Rattle.chain_check.proofs.StoreReads.{from_mid, to_mid}
+use Rattle.file_check.proofs.StoreReads.{from_mid, to_mid}
 use Rattle.file_check.proofs.file.verify.Goals as goal
 
 pub returns-in_err-meta-clause-damaged : goal.returns-in_err-meta-clause-damaged

@@ -2,12 +2,12 @@ use Rattle.std.proofs.Common.{◌≡◌, ◌+◌, ◌++◌, ◌∷◌, [], ℕ, 
 use Rattle.std.proofs.lemmas.Result.{err_from_is_err_and}
 use Rattle.page_model.specs.Pages.{FreePage}
 use Rattle.page_io.specs.declared.store.PageFault.TheVariants.{Damaged}
-use Rattle.page_marks.specs.Marks.{AreMarked, MayBeSeen}
+use Rattle.file_check.specs.Marks.{AreMarked, MayBeSeen}
 use Rattle.free_pages.proofs.FreeLists.{none_read as no_next}
-use Rattle.chain_walks.proofs.ReadPages.{reads_none}
+use Rattle.bucket_chain.proofs.ReadPages.{reads_none}
 use Rattle.file_check.proofs.FreeReads.{none_read, starts_there, more_read, all_read, says_free, may_next, next_marked, none_behind, all_marked, is_some}
 use Rattle.file_check.proofs.OneRead.{said_before, said_after, must_be_known, read_then}
-use Rattle.chain_check.proofs.ToldFlaws.{kept_then}
+use Rattle.file_check.proofs.ToldFlaws.{kept_then}
 use Rattle.file_check.proofs.free.check_free.Goals as goal
 
 pub returns-in_err-read-clause-whole : goal.returns-in_err-read-clause-whole

@@ -1,9 +1,9 @@
 use Rattle.std.proofs.Common.{◌≡◌, ◌++◌, ℕ, List, length, get_or, take}
 use Rattle.page_io.specs.Views.{body_at, ReadsOnly}
-use Rattle.page_marks.specs.Marks.{AreMarked, MayBeSeen}
+use Rattle.file_check.specs.Marks.{AreMarked, MayBeSeen}
 use Rattle.file_check.specs.FreeLists.{IsList}
 use Rattle.file_check.proofs.FreeReads.{IsRead}
-use Rattle.chain_check.proofs.ToldFlaws.{Keeps}
+use Rattle.file_check.proofs.ToldFlaws.{Keeps}
 use Rattle.file_check.proofs.free.check_free.Given as goal
 
 abbrev pub invariant-loop : goal.invariant-loop

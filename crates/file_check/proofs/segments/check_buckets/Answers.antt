@@ -4,14 +4,14 @@ use Rattle.page_model.specs.Chain.{pages_in}
 use Rattle.page_io.specs.Store.{StoreState}
 use Rattle.page_io.specs.declared.store.PageFault.TheVariants.{Damaged}
 use Rattle.page_io.proofs.Views.{reads_then}
-use Rattle.page_marks.specs.Marks.{AreMarked, MayBeSeen}
+use Rattle.file_check.specs.Marks.{AreMarked, MayBeSeen}
 use Rattle.seg_table.specs.MetaPages.{model_meta}
-use Rattle.chain_walks.proofs.ReadPages.{reads_none, still_honest}
+use Rattle.bucket_chain.proofs.ReadPages.{reads_none, still_honest}
 use Rattle.file_check.specs.Segments.{AreCounted, AreInSegment, IsSegmentChecked}
 use Rattle.file_check.proofs.BucketReads.{no_segments, more_segments, all_segments, part, in_segment, may_segment, segment_counted, buckets_counted}
 use Rattle.file_check.proofs.ChainReads.{none_counted}
-use Rattle.chain_check.proofs.StoreReads.{from_mid, to_mid}
-use Rattle.chain_check.proofs.ToldFlaws.{kept_then}
+use Rattle.file_check.proofs.StoreReads.{from_mid, to_mid}
+use Rattle.file_check.proofs.ToldFlaws.{kept_then}
 use Rattle.file_check.proofs.segments.check_buckets.Goals as goal
 
 pub check_segment-requires-clause-marks : goal.check_segment-requires-clause-marks

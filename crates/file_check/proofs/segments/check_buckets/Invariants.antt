@@ -1,11 +1,11 @@
 use Rattle.std.proofs.Common.{◌≡◌, ◌*◌, ◌++◌, ℕ, List, length, flat_map, take}
 use Rattle.page_model.specs.Chain.{Chain, pages_in}
 use Rattle.page_io.specs.Views.{body_at, ReadsOnly}
-use Rattle.page_marks.specs.Marks.{AreMarked, MayBeSeen}
+use Rattle.file_check.specs.Marks.{AreMarked, MayBeSeen}
 use Rattle.seg_table.specs.MetaPages.{model_meta}
 use Rattle.file_check.specs.Segments.{AreBuckets, AreCounted}
 use Rattle.file_check.proofs.BucketReads.{AreSegmentsChecked}
-use Rattle.chain_check.proofs.ToldFlaws.{Keeps}
+use Rattle.file_check.proofs.ToldFlaws.{Keeps}
 use Rattle.file_check.proofs.segments.check_buckets.Given as goal
 
 abbrev pub invariant-loop-s : goal.invariant-loop-s

@@ -3,15 +3,15 @@ use Rattle.std.proofs.lemmas.Result.{err_from_is_err_and}
 use Rattle.page_model.specs.Chain.{pages_in}
 use Rattle.page_io.specs.declared.store.PageFault.TheVariants.{Damaged}
 use Rattle.page_io.proofs.Views.{reads_then}
-use Rattle.page_marks.specs.Marks.{AreMarked, MayBeSeen}
+use Rattle.file_check.specs.Marks.{AreMarked, MayBeSeen}
 use Rattle.seg_table.specs.MetaPages.{model_meta}
 use Rattle.file_check.specs.Segments.{shape_in}
-use Rattle.chain_check.specs.BucketChains.{IsBucketChain, IsChecked}
-use Rattle.chain_walks.proofs.ReadPages.{reads_none, still_honest}
+use Rattle.file_check.specs.BucketChains.{IsBucketChain, IsChecked}
+use Rattle.bucket_chain.proofs.ReadPages.{reads_none, still_honest}
 use Rattle.file_check.proofs.ChainReads.{none_counted}
 use Rattle.file_check.proofs.HeadReads.{no_heads, more_heads, may_chain, chain_there, more_exact, all_exact}
-use Rattle.chain_check.proofs.StoreReads.{from_mid, to_mid}
-use Rattle.chain_check.proofs.ToldFlaws.{kept_then}
+use Rattle.file_check.proofs.StoreReads.{from_mid, to_mid}
+use Rattle.file_check.proofs.ToldFlaws.{kept_then}
 use Rattle.file_check.proofs.segments.check_heads.Goals as goal
 
 pub loop-i-init : goal.loop-i-init

@@ -1,10 +1,10 @@
 use Rattle.std.proofs.Common.{◌≡◌, ◌++◌, ℕ, List, length, flat_map, take}
 use Rattle.page_model.specs.Chain.{Chain, pages_in}
 use Rattle.page_io.specs.Views.{body_at, ReadsOnly}
-use Rattle.page_marks.specs.Marks.{AreMarked, MayBeSeen}
+use Rattle.file_check.specs.Marks.{AreMarked, MayBeSeen}
 use Rattle.seg_table.specs.MetaPages.{model_meta}
 use Rattle.file_check.specs.Segments.{AreHeadChains, AreHeadsChecked, AreCounted}
-use Rattle.chain_check.proofs.ToldFlaws.{Keeps}
+use Rattle.file_check.proofs.ToldFlaws.{Keeps}
 use Rattle.file_check.proofs.segments.check_heads.Given as goal
 
 abbrev pub invariant-loop-i : goal.invariant-loop-i

@@ -6,12 +6,12 @@ use Rattle.page_model.specs.Reading.{body_of}
 use Rattle.page_io.specs.Views.{body_at}
 use Rattle.page_io.specs.declared.store.PageFault.TheVariants.{Damaged}
 use Rattle.page_io.proofs.Views.{after_read, reads_then, unknown_said}
-use Rattle.page_marks.specs.Marks.{AreMarked, MayBeSeen}
+use Rattle.file_check.specs.Marks.{AreMarked, MayBeSeen}
 use Rattle.seg_table.specs.MetaPages.{model_meta}
 use Rattle.seg_table.specs.Segments.{heads_in}
-use Rattle.chain_walks.proofs.ReadPages.{still_honest}
+use Rattle.bucket_chain.proofs.ReadPages.{still_honest}
 use Rattle.file_check.specs.Segments.{AreCounted, AreHeadChains, AreHeadsChecked}
-use Rattle.chain_check.proofs.StoreReads.{from_mid, to_mid}
+use Rattle.file_check.proofs.StoreReads.{from_mid, to_mid}
 use Rattle.file_check.proofs.SegmentReads.{if_ok, segment_checked, is_segment, head_chains}
 use Rattle.file_check.proofs.segments.check_segment.Goals as goal
 

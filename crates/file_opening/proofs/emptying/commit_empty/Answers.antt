@@ -3,9 +3,9 @@ use Rattle.std.specs.Prelude.{IsErrOf}
 use Rattle.sect_dev.specs.Device.{LeavesOnly}
 use Rattle.page_io.specs.Store.{StoreState, bytes_of, file_of}
 use Rattle.page_io.specs.declared.store.PageFault.TheVariants.{NoRoom}
-use Rattle.page_commit.specs.Committing.{IsForgotten}
+use Rattle.page_io.specs.Committing.{IsForgotten}
 use Rattle.seg_table.specs.MetaPages.{model_meta}
-use Rattle.page_commit.proofs.CommitResults.{commit_ok}
+use Rattle.page_io.proofs.CommitResults.{commit_ok}
 use Rattle.file_opening.proofs.EmptyCommits.{may_commit, committed_state, forgotten_since, cause_of, only_of, no_room_of, no_room_or_room, room_of_ok, left_by_refusal, unchanged_since}
 use Rattle.file_opening.proofs.EmptyFiles.{holds_empty, leaves_old_or_empty}
 use Rattle.page_io.proofs.Exits.{both_ways}

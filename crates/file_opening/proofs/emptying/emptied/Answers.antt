@@ -3,7 +3,7 @@ use Rattle.std.specs.Option.{option_or}
 use Rattle.std.specs.FinMap.{empty}
 use Rattle.sect_dev.specs.Device.{IsImageOf, LeavesOnly, MoreFaults}
 use Rattle.sect_dev.specs.Moments.{IsOutcome}
-use Rattle.redo_commit.specs.File.{settled}
+use Rattle.redo_area.specs.File.{settled}
 use Rattle.page_io.specs.Meaning.{ImageStandsFor}
 use Rattle.page_io.specs.Store.{Settled, StoreState, bytes_of, file_pages, overlaid}
 use Rattle.page_io.specs.Page.{page_at}

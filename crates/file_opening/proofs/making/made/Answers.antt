@@ -6,7 +6,7 @@ use Rattle.page_model.specs.Pages.{Meta, MetaPage}
 use Rattle.page_io.specs.Store.{Pages, Settled, StoreState, bytes_of, page_of}
 use Rattle.page_io.specs.Meaning.{FileStandsFor, ImageStandsFor}
 use Rattle.redo_area.specs.Settling.{only_seen}
-use Rattle.redo_commit.specs.File.{settled, IsBlankOr}
+use Rattle.redo_area.specs.File.{settled, IsBlankOr}
 use Rattle.redo_area.specs.Pagers.{device_of}
 use Rattle.seg_table.specs.MetaPages.{model_meta}
 use Rattle.file_opening.specs.Opening.{bounds_of, making_fault}

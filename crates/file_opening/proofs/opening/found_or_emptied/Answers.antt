@@ -5,7 +5,7 @@ use Rattle.page_io.specs.Counts.{counts_end}
 use Rattle.page_io.specs.Meaning.{ImageStandsFor}
 use Rattle.page_io.specs.Page.{page_at}
 use Rattle.page_io.specs.Store.{Pages, Settled, bytes_of, file_of, file_pages, overlaid, page_of}
-use Rattle.redo_commit.specs.File.{settled}
+use Rattle.redo_area.specs.File.{settled}
 use Rattle.redo_area.specs.Opening.{IsFresh as IsFreshStore}
 use Rattle.sect_dev.specs.Reads.{OnlyReads}
 use Rattle.redo_area.specs.Settling.{SettlesTo}

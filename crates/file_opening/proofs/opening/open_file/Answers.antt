@@ -6,7 +6,7 @@ use Rattle.sect_dev.specs.Device.{LeavesOnly}
 use Rattle.sect_dev.specs.Moments.{IsOutcome}
 use Rattle.page_io.specs.Page.{page_at}
 use Rattle.page_io.specs.Store.{Settled, bytes_of, file_pages, overlaid}
-use Rattle.redo_commit.specs.File.{settled}
+use Rattle.redo_area.specs.File.{settled}
 use Rattle.sect_dev.specs.Reads.{OnlyReads}
 use Rattle.redo_area.specs.Settling.{SettlesTo, only_seen}
 use Rattle.redo_area.proofs.ReadRuns.{more_reads}

@@ -11,10 +11,10 @@ use Rattle.page_io.specs.declared.store.PageFault.TheVariants.{Memory, Damaged}
 use Rattle.page_io.specs.declared.store.PageFault.{PageFault}
 use Rattle.seg_table.specs.MetaPages.{model_meta}
 use Rattle.linear_hash.specs.Tables.{shape_in, IsTable}
-use Rattle.page_commit.specs.Committing.{Holds}
+use Rattle.page_io.specs.Committing.{Holds}
 use Rattle.linear_hash.specs.Holding.{StandsForEither}
 use Rattle.linear_hash.specs.Staging.{IsKept, IsNewEnd, IsStaged}
-use Rattle.page_commit.proofs.CommitResults.{commit_ok}
+use Rattle.page_io.proofs.CommitResults.{commit_ok}
 use Rattle.linear_hash.proofs.Commits.{committed_so, can_commit_so, grows_so}
 use Rattle.linear_hash.proofs.Changing.{never_damaged, never_memory, few_staged, ok_then, grows_to, ends_within, lacks_twice, short_by, commit_holds, staged_stands, leaves_either, leaves_old, told_by, no_room_by}
 use Rattle.linear_hash.proofs.Plans.{now, was_placed, deleted_good, deleted_map, deleted_bounded}

@@ -10,8 +10,8 @@ use Rattle.page_io.specs.declared.store.PageFault.TheVariants.{Damaged}
 use Rattle.page_io.specs.declared.store.PageFault.{PageFault}
 use Rattle.page_io.proofs.Exits.{last_not_damaged, last_has_room}
 use Rattle.seg_table.specs.MetaPages.{model_meta}
-use Rattle.page_commit.specs.Committing.{Holds, MayCommit}
-use Rattle.page_commit.proofs.CommitResults.{commit_ok}
+use Rattle.page_io.specs.Committing.{Holds, MayCommit}
+use Rattle.page_io.proofs.CommitResults.{commit_ok}
 use Rattle.linear_hash.specs.Staging.{IsStaged}
 use Rattle.linear_hash.specs.Tables.{space_in, IsTable}
 use Rattle.linear_hash.proofs.Commits.{committed_so}

@@ -10,8 +10,8 @@ use Rattle.page_io.specs.declared.store.PageFault.TheVariants.{Damaged}
 use Rattle.page_io.proofs.Views.{same_said, reads_then}
 use Rattle.page_io.proofs.Exits.{exit_is, came, cause_first, cause_last}
 use Rattle.seg_table.specs.MetaPages.{model_meta}
-use Rattle.chain_walks.specs.Answers.{IsWalkAnswer}
-use Rattle.chain_walks.specs.Chains.{IsChainAt}
+use Rattle.bucket_chain.specs.WalkAnswers.{IsWalkAnswer}
+use Rattle.bucket_chain.specs.Chains.{IsChainAt}
 use Rattle.linear_hash.specs.Tables.{shape_in, IsTable}
 use Rattle.linear_hash.proofs.Buckets.{table_heads, table_below, table_chain, found_in}
 use Rattle.linear_hash.proofs.Refusals.{head_of_walk}

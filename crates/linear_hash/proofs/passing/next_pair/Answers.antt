@@ -14,8 +14,8 @@ use Rattle.lin_addr.proofs.Ranks.{rank_below}
 use Rattle.lin_addr.specs.Shapes.{shape_of}
 use Rattle.seg_table.specs.MetaPages.{model_meta}
 use Rattle.seg_table.specs.declared.meta.Meta as code
-use Rattle.chain_walks.specs.Leasts.{pass_behind, IsLeast, IsLeastRead}
-use Rattle.chain_walks.proofs.ReadPages.{still_honest}
+use Rattle.bucket_chain.specs.Leasts.{pass_behind, IsLeast, IsLeastRead}
+use Rattle.bucket_chain.proofs.ReadPages.{still_honest}
 use Rattle.linear_hash.specs.Passing.{bucket_of_pass, IsBucketRead, HaveNone}
 use Rattle.linear_hash.specs.Tables.{shape_in, IsTable}
 use Rattle.linear_hash.proofs.PassedBuckets.{bucket_read, first_below, to_read_next, none_before_first, none_before_next, none_at_all}

@@ -4,7 +4,7 @@ use Rattle.page_model.specs.Valid.{meta_buckets}
 use Rattle.page_io.specs.Views.{body_at, ReadsOnly}
 use Rattle.lin_addr.specs.Intervals.{Precedes}
 use Rattle.seg_table.specs.MetaPages.{model_meta}
-use Rattle.chain_walks.specs.Leasts.{pass_behind}
+use Rattle.bucket_chain.specs.Leasts.{pass_behind}
 use Rattle.linear_hash.specs.Tables.{shape_in, ForEachTable}
 use Rattle.linear_hash.specs.Passing.{IsToRead, HaveNone}
 use Rattle.linear_hash.proofs.Passes.{IsLeft}

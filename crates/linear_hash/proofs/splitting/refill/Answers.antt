@@ -8,8 +8,8 @@ use Rattle.page_io.specs.Views.{body_at, MayEnd}
 use Rattle.page_io.specs.declared.store.PageFault.TheVariants.{NoRoom, Damaged}
 use Rattle.page_io.proofs.Views.{stages_then}
 use Rattle.page_io.proofs.Exits.{exit_is, came, cause_then}
-use Rattle.chain_walks.specs.Pairs.{record_as}
-use Rattle.chain_walks.proofs.ReadPages.{reads_none}
+use Rattle.bucket_chain.specs.Pairs.{record_as}
+use Rattle.bucket_chain.proofs.ReadPages.{reads_none}
 use Rattle.bucket_chain.specs.AnyFile.{IsAdded, AreAdded}
 use Rattle.bucket_chain.proofs.Added.{added_under, one_added}
 use Rattle.bucket_chain.proofs.Storing.{next_record}

@@ -4,7 +4,7 @@ use Rattle.page_io.specs.Versions.{model_version}
 use Rattle.page_io.specs.Views.{body_at, StagesOnly, MayEnd}
 use Rattle.free_pages.specs.FreeList.{HasEnds}
 use Rattle.lin_addr.specs.Shapes.{shape_of}
-use Rattle.chain_walks.specs.Pairs.{record_as}
+use Rattle.bucket_chain.specs.Pairs.{record_as}
 use Rattle.bucket_chain.specs.AnyFile.{AreAdded}
 use Rattle.linear_hash.specs.AnyFile.{head_for}
 use Rattle.linear_hash.specs.Splitting.{IsRefilled}

@@ -10,8 +10,8 @@ use Rattle.page_io.specs.Views.{body_at, MayEnd}
 use Rattle.page_io.proofs.Views.{stages_then, same_said}
 use Rattle.page_io.proofs.Exits.{exit_is, came, cause_first, cause_then, cause_ok}
 use Rattle.seg_table.specs.MetaPages.{model_meta}
-use Rattle.chain_walks.specs.Pairs.{record_as}
-use Rattle.chain_walks.specs.Walks.{SaysAll}
+use Rattle.bucket_chain.specs.Pairs.{record_as}
+use Rattle.bucket_chain.specs.Walks.{SaysAll}
 use Rattle.bucket_chain.specs.AnyFile.{AreAdded}
 use Rattle.bucket_chain.proofs.Added.{all_under}
 use Rattle.linear_hash.specs.AnyFile.{IsOpened, head_for}

@@ -7,7 +7,7 @@ use Rattle.page_io.specs.Views.{body_at, MayEnd}
 use Rattle.page_io.specs.declared.store.PageFault.TheVariants.{NoRoom, Damaged}
 use Rattle.page_io.proofs.Exits.{exit_is, came, cause_first, cause_ok}
 use Rattle.seg_table.specs.MetaPages.{model_meta}
-use Rattle.chain_walks.proofs.ReadPages.{reads_none}
+use Rattle.bucket_chain.proofs.ReadPages.{reads_none}
 use Rattle.linear_hash.specs.Tables.{shape_in, shape_for}
 use Rattle.linear_hash.specs.Staging.{IsMidway}
 use Rattle.linear_hash.proofs.Fullness.{few_where_full, counted_valid, grown_valid, grown_shape, same_shape, full_is_split, few_is_same}

@@ -2,7 +2,7 @@ use Rattle.std.proofs.Common.{refl, ◌∙◌, arith}
 use Rattle.page_io.specs.Page.{page_at}
 use Rattle.page_io.specs.Store.{bytes_of, file_pages, overlaid}
 use Rattle.page_io.proofs.Overlays.{same_file, overlaid-over}
-use Rattle.redo_commit.proofs.Images.{same_new}
+use Rattle.redo_area.proofs.Images.{same_new}
 use Rattle.redo_area.proofs.Armings.{beside, behind}
 use Rattle.redo_area.proofs.Kept.{new_pages}
 use Rattle.redo_area.proofs.arming.arm_all.Goals as goal

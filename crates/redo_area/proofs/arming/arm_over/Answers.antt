@@ -4,7 +4,7 @@ use Rattle.page_io.specs.Page.{page_at}
 use Rattle.page_io.specs.Store.{Pages, bytes_of, file_pages, overlaid, IsEither}
 use Rattle.page_io.specs.declared.page.Page.{Page}
 use Rattle.page_io.proofs.Overlays.{same_file, overlaid-over}
-use Rattle.redo_commit.specs.File.{settled}
+use Rattle.redo_area.specs.File.{settled}
 use Rattle.redo_area.proofs.Armings.{behind}
 use Rattle.redo_area.proofs.Kept.{new_pages}
 use Rattle.redo_area.proofs.Splits.{bytes_are, first_is, rest_is, grows, either_way}

@@ -4,7 +4,7 @@ use Rattle.sect_dev.specs.Device.{Image}
 use Rattle.page_io.specs.Store.{bytes_of, are_in_order}
 use Rattle.page_io.proofs.Exits.{exit_is, came, if_exit, no_err, later_then, more_later, both_ways}
 use Rattle.page_io.specs.declared.page.Page.{Page}
-use Rattle.redo_commit.specs.File.{redo_images}
+use Rattle.redo_area.specs.File.{redo_images}
 use Rattle.redo_area.specs.Opening.{refusal_of}
 use Rattle.redo_area.specs.declared.open_fault.OpenFault.{OpenFault}
 use Rattle.redo_area.specs.declared.open_fault.OpenFault.TheVariants.{Memory, Device, Blank, NotOurs, Damaged}

@@ -7,9 +7,9 @@ use Rattle.page_io.specs.Store.{Pages, pages_from, overlaid, are_in_order}
 use Rattle.page_io.proofs.Overlays.{overlaid-push, pages_more, get_or-pages_from}
 use Rattle.page_io.specs.Counts.{length-pages_from}
 use Rattle.page_io.proofs.StagedPages.{in_range}
-use Rattle.redo_commit.specs.File.{redo_images, IsOutsideAll}
-use Rattle.redo_commit.proofs.Images.{outside_at, outside-above}
-use Rattle.redo_commit.proofs.WriteRuns.{Keeps, none_written, keeps_on, home_more}
+use Rattle.redo_area.specs.File.{redo_images, IsOutsideAll}
+use Rattle.redo_area.proofs.Images.{outside_at, outside-above}
+use Rattle.redo_area.proofs.WriteRuns.{Keeps, none_written, keeps_on, home_more}
 use Rattle.redo_area.proofs.ReadRuns.{read_on}
 use Rattle.redo_area.proofs.recovery.copy_images.Goals as goal
 use Rattle.redo_area.proofs.recovery.copy_images.Goals.{then-own-lt1-via-then-own-lt1, then-own-lt1-via-else-own-lt1+then-end-own}

@@ -4,10 +4,10 @@ use Rattle.sect_dev.specs.Device.{Image}
 use Rattle.page_io.specs.Page.{page_at}
 use Rattle.page_io.specs.Store.{are_in_order, pages_from}
 use Rattle.page_io.specs.Counts.{length-pages_from}
-use Rattle.redo_commit.specs.Header.{header_of}
-use Rattle.redo_commit.specs.declared.header.Header.TheVariants.{Armed}
-use Rattle.redo_commit.specs.File.{redo_images}
-use Rattle.redo_commit.proofs.Images.{settled-disordered}
+use Rattle.redo_area.specs.Header.{header_of}
+use Rattle.redo_area.specs.declared.header.Header.TheVariants.{Armed}
+use Rattle.redo_area.specs.File.{redo_images}
+use Rattle.redo_area.proofs.Images.{settled-disordered}
 use Rattle.redo_area.proofs.Recoveries.{check_leaves, copy_leaves}
 use Rattle.redo_area.proofs.recovery.finish_armed.Goals as goal
 

@@ -1,6 +1,6 @@
 use Rattle.std.proofs.Common.{◌≡◌, ◌/◌, ℕ, subst, rules}
 use Rattle.sect_dev.specs.Moments.{followed_by}
-use Rattle.redo_commit.specs.File.{settled, SettlesAsBefore}
+use Rattle.redo_area.specs.File.{settled, SettlesAsBefore}
 use Rattle.redo_area.proofs.Openings.{refused-blank, refused-not_ours, refused-damaged}
 use Rattle.redo_area.proofs.Recoveries.{as_before}
 use Rattle.redo_area.proofs.recovery.recover.Goals as goal

@@ -2,10 +2,10 @@ use Rattle.std.proofs.Common.{◌/◌, ◌∙◌, ap, arith}
 use Rattle.sect_dev.specs.Device.{Image}
 use Rattle.page_io.specs.Page.{page_at}
 use Rattle.page_io.specs.Store.{file_pages}
-use Rattle.redo_commit.specs.File.{redo_images}
-use Rattle.redo_commit.proofs.Headers.{says_clear}
-use Rattle.redo_commit.proofs.Images.{now_clear, rest_after}
-use Rattle.redo_commit.proofs.CommitRuns.{homes_leave}
+use Rattle.redo_area.specs.File.{redo_images}
+use Rattle.redo_area.proofs.Headers.{says_clear}
+use Rattle.redo_area.proofs.Images.{now_clear, rest_after}
+use Rattle.redo_area.proofs.CommitRuns.{homes_leave}
 use Rattle.redo_area.proofs.Recoveries.{sync_leaves, replay_leaves}
 use Rattle.redo_area.proofs.recovery.replay.Goals as goal
 

@@ -4,7 +4,7 @@ use Rattle.sect_dev.specs.Moments.{started}
 use Rattle.page_io.specs.Page.{page_at}
 use Rattle.page_io.specs.Store.{Pages, bytes_of, file_of, file_pages, overlaid}
 use Rattle.page_io.specs.declared.page.Page.{Page}
-use Rattle.redo_commit.specs.File.{settled}
+use Rattle.redo_area.specs.File.{settled}
 use Rattle.redo_area.specs.Settling.{only_seen, rests_at}
 use Rattle.redo_area.proofs.settling.bring_home.Goals as goal
 

@@ -2,7 +2,7 @@ use Rattle.std.proofs.Common.{◌≡◌, ◌+◌, ◌/◌, None, sym, ap, ◌∙
 use Rattle.std.proofs.lemmas.Bool.{ltb-false}
 use Rattle.sect_dev.specs.contracts.mem.MemDevSectorDev.TheImpl.{ghosts as MemDevGhosts}
 use Rattle.sect_dev.proofs.Plans.{goes_until}
-use Rattle.dbm_sessions.specs.Sessions.{Disk}
+use Rattle.dbm_model.specs.Sessions.{Disk}
 use Rattle.dbm_file.specs.Opened as files
 use Rattle.file_opening.specs.Opening.{early_fault, AllStand, AllAllow}
 use Rattle.rehearsal.specs.Members.{AllStandFor}

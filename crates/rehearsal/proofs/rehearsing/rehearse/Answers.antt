@@ -3,10 +3,10 @@ use Rattle.std.proofs.lemmas.List.{take-map}
 use Rattle.std.proofs.lemmas.List.Elements.{All-nil, All-take}
 use Rattle.std.proofs.lemmas.List.Sums.{sum_by-append}
 use Rattle.sect_dev.specs.contracts.mem.MemDevSectorDev.TheImpl.{ghosts as MemDevGhosts}
-use Rattle.dbm_sessions.specs.Members.{AllHaveRoom}
-use Rattle.dbm_sessions.specs.Room.{AsksForRoom, IsNeverShort}
-use Rattle.dbm_sessions.specs.Sessions.{Plan, Sessions}
-use Rattle.dbm_sessions.proofs.Rooms.{sessions_keep_room}
+use Rattle.dbm_model.specs.Members.{AllHaveRoom}
+use Rattle.dbm_model.specs.SessionRoom.{AsksForRoom, IsNeverShort}
+use Rattle.dbm_model.specs.Sessions.{Plan, Sessions}
+use Rattle.dbm_model.proofs.SessionRooms.{sessions_keep_room}
 use Rattle.dbm_file.proofs.Runs.{all_taken, taken_next, seen_next, seen_last}
 use Rattle.rehearsal.specs.Rehearsals.{planned, endings_in, SessionsLeave, AreNeverShort, AreOpenedBut, AsksForALimit, IsSpared, AreCutAsAsked, most_changes}
 use Rattle.rehearsal.specs.Sessions.{ending_of}

@@ -1,7 +1,7 @@
 use Rattle.std.proofs.Common.{◌≡◌, ◌≤◌, ◌+◌, ◌/◌, All, map, take}
 use Rattle.sect_dev.specs.contracts.mem.MemDevSectorDev.TheImpl.{ghosts as MemDevGhosts}
-use Rattle.dbm_sessions.specs.Members.{Members, AllHaveRoom}
-use Rattle.dbm_sessions.specs.Room.{AsksForRoom}
+use Rattle.dbm_model.specs.Members.{Members, AllHaveRoom}
+use Rattle.dbm_model.specs.SessionRoom.{AsksForRoom}
 use Rattle.rehearsal.specs.Members.{AllStandFor}
 use Rattle.rehearsal.specs.Rehearsals.{planned, endings_in, SessionsLeave, AreNeverShort, AreOpenedBut, AsksForALimit, FindOrMake, IsSpared, AreCutAsAsked, most_changes}
 use Rattle.rehearsal.proofs.rehearsing.rehearse.Given as goal

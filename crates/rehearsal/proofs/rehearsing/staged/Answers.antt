@@ -2,7 +2,7 @@ use Rattle.std.proofs.Common.{ℕ, ◌*◌, ◌+◌, ◌/◌, ◌≤◌, List, I
 use Rattle.std.proofs.lemmas.Result.{IfOk-weaker}
 use Rattle.sect_dev.specs.contracts.mem.MemDevSectorDev.TheImpl.{ghosts as MemDevGhosts}
 use Rattle.dbm_model.specs.Sizes.{home}
-use Rattle.dbm_sessions.specs.Members.{AllHaveRoom}
+use Rattle.dbm_model.specs.Members.{AllHaveRoom}
 use Rattle.dbm_file.specs.declared.pair.Pair.{Pair}
 use Rattle.dbm_file.specs.declared.calls.Call.{Call}
 use Rattle.rehearsal.specs.Sessions.{asked_bounds, plan_of}

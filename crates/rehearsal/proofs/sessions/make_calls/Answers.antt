@@ -9,12 +9,12 @@ use Rattle.dbm_model.specs.Calls.{Reply, Refused, NoRoom}
 use Rattle.dbm_model.specs.States.{Handle}
 use Rattle.dbm_model.proofs.RoomLemmas.{room_is_known}
 use Rattle.page_io.specs.Meaning.{ImageStandsFor}
-use Rattle.dbm_sessions.specs.Sessions.{Ending, Rested, Broke, Grouped, BrokeGroup}
-use Rattle.dbm_sessions.specs.Members.{held}
-use Rattle.dbm_sessions.specs.Room.{IsNeverShort}
-use Rattle.dbm_sessions.proofs.Failures.{counts_up}
-use Rattle.dbm_sessions.proofs.Lists.{is_first, is_later}
-use Rattle.redo_commit.specs.File.{settled}
+use Rattle.dbm_model.specs.Sessions.{Ending, Rested, Broke, Grouped, BrokeGroup}
+use Rattle.dbm_model.specs.Members.{held}
+use Rattle.dbm_model.specs.SessionRoom.{IsNeverShort}
+use Rattle.dbm_model.proofs.Failures.{counts_up}
+use Rattle.dbm_model.proofs.Lists.{is_first, is_later}
+use Rattle.redo_area.specs.File.{settled}
 use Rattle.redo_area.specs.Pagers.{device_of}
 use Rattle.page_cache.specs.Stores.{store_below}
 use Rattle.dbm_fault.specs.declared.fault.Fault.{Fault}

@@ -1,14 +1,14 @@
 use Rattle.std.proofs.Common.{◌≡◌, ⊎_elim, inl, inr, ℕ, ◌/◌, ◌≤◌, ◌++◌, map, None, refl, sym, ap, ◌∙◌, subst}
 use Rattle.sect_dev.specs.Device.{LeavesOnly}
 use Rattle.sect_dev.specs.Moments.{IsOutcome, weaker, followed_by}
-use Rattle.dbm_sessions.specs.Members.{opened}
-use Rattle.dbm_sessions.specs.Sessions.{NotOpened}
+use Rattle.dbm_model.specs.Members.{opened}
+use Rattle.dbm_model.specs.Sessions.{NotOpened}
 use Rattle.dbm_fault.specs.Faults.{fault_of}
 use Rattle.dbm_file.specs.Calls.{call_of}
 use Rattle.dbm_file.specs.Opened.{device_below}
 use Rattle.dbm_file.specs.Pairs.{pair_of}
 use Rattle.dbm_file.proofs.EnoughRoom.{room_at}
-use Rattle.redo_commit.specs.File.{settled}
+use Rattle.redo_area.specs.File.{settled}
 use Rattle.file_opening.specs.Opening.{writes, early_fault, AllAllow, MayRemain}
 use Rattle.file_opening.specs.declared.open_how.OpenHow.{OpenHow}
 use Rattle.page_cache.specs.Stores.{store_below}

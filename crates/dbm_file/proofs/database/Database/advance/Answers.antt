@@ -2,7 +2,7 @@ use Rattle.std.proofs.Common.{◌∙◌, ℕ, List, Option, IfSome, refl, sym, a
 use Rattle.std.specs.Borrow.{Bor}
 use Rattle.std.specs.Option.{option_map}
 use Rattle.dbm_model.specs.States.{Behind}
-use Rattle.chain_walks.specs.Leasts.{pass_behind, IsAheadAt}
+use Rattle.bucket_chain.specs.Leasts.{pass_behind, IsAheadAt}
 use Rattle.dbm_file.specs.Passing.{pass_from}
 use Rattle.dbm_file.proofs.PassSteps.{least_of_map, table_at, begins_so, goes_on_so, given_step, ended_step, pass_failed, pass_flagged, short_key}
 use Rattle.dbm_file.proofs.ReadSteps.{after_reads}

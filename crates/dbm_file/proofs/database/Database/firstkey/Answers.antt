@@ -1,6 +1,6 @@
 use Rattle.std.proofs.Common.{◌∙◌, ℕ, true, Option, Some, None, IfSome, Ok, Err, refl, inl, inr, subst, ap, rules}
 use Rattle.dbm_model.specs.Calls.{First, End}
-use Rattle.chain_walks.specs.Leasts.{IsAheadAt}
+use Rattle.bucket_chain.specs.Leasts.{IsAheadAt}
 use Rattle.dbm_file.specs.Passing.{pass_from}
 use Rattle.dbm_file.specs.Trying.{slot_reply}
 use Rattle.dbm_file.proofs.Cases.{broken_first}

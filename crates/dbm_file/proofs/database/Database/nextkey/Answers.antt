@@ -1,6 +1,6 @@
 use Rattle.std.proofs.Common.{◌∙◌, ℕ, false, Option, Some, None, IfSome, Ok, Err, refl, inl, inr, subst, ap}
 use Rattle.dbm_model.specs.Calls.{Next, End}
-use Rattle.chain_walks.specs.Leasts.{IsAheadAt}
+use Rattle.bucket_chain.specs.Leasts.{IsAheadAt}
 use Rattle.dbm_file.specs.Passing.{pass_of, pass_from}
 use Rattle.dbm_file.specs.Trying.{slot_reply}
 use Rattle.dbm_fault.specs.declared.fault.Fault.TheVariants.{NoPass}

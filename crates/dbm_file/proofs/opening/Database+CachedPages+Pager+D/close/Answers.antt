@@ -1,7 +1,7 @@
 use Rattle.std.proofs.Common.{rules, ◌/◌, inl, sym, ◌∙◌, ap, subst}
 use Rattle.sect_dev.specs.Device.{LeavesOnly}
 use Rattle.sect_dev.specs.Moments.{IsOutcome}
-use Rattle.redo_commit.specs.File.{settled}
+use Rattle.redo_area.specs.File.{settled}
 use Rattle.redo_area.specs.Pagers.{device_of}
 use Rattle.redo_area.specs.Settling.{SettlesTo}
 use Rattle.page_cache.specs.Stores.{store_below}

@@ -1,9 +1,9 @@
 use Rattle.std.proofs.Common.{◌≡◌, ◌/◌, ◌+◌, ℕ, [], length, true, sym, ap, arith, subst}
 use Rattle.page_io.specs.Store.{bytes_of}
-use Rattle.redo_commit.specs.File.{IsAtRest}
+use Rattle.redo_area.specs.File.{IsAtRest}
 use Rattle.redo_area.specs.Settling.{rests_at}
 use Rattle.redo_area.proofs.Results.{from_test}
-use Rattle.redo_commit.proofs.Blanks.{blank_candidates}
+use Rattle.redo_area.proofs.Blanks.{blank_candidates}
 use Rattle.redo_area.proofs.pager.Pager.format.Goals as goal
 
 pub returns-then-is_err-clause-any_moment : goal.returns-then-is_err-clause-any_moment

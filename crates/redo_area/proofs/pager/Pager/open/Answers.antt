@@ -1,6 +1,6 @@
 use Rattle.std.proofs.Common.{◌≡◌, ◌/◌, ℕ, true, [], sym, ◌∙◌, ap, subst}
 use Rattle.page_io.specs.Store.{bytes_of}
-use Rattle.redo_commit.specs.File.{IsAtRest}
+use Rattle.redo_area.specs.File.{IsAtRest}
 use Rattle.redo_area.specs.Settling.{rests_at}
 use Rattle.redo_area.proofs.Recoveries.{as_before}
 use Rattle.redo_area.proofs.pager.Pager.open.Goals as goal

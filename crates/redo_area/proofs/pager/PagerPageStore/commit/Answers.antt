@@ -3,7 +3,7 @@ use Rattle.sect_dev.specs.Moments.{started}
 use Rattle.page_io.specs.Store.{file_of, IsEither, bytes_of, are_in_order, committed_with}
 use Rattle.page_io.specs.declared.page.Page.{Page}
 use Rattle.page_io.proofs.StagedPages.{order_below}
-use Rattle.redo_commit.specs.File.{settled, IsArmed}
+use Rattle.redo_area.specs.File.{settled, IsArmed}
 use Rattle.redo_area.specs.Settling.{SettlesToPages, only_seen, waits_at}
 use Rattle.redo_area.proofs.Splits.{some_taken, taken_in_order}
 use Rattle.redo_area.proofs.Kept.{pages_of, as_read, commit_leaves}

@@ -1,2 +1,0 @@
-pub mod BucketChains
-pub mod Flaws

@@ -1,8 +1,0 @@
-use Rattle.std.proofs.Common.{take}
-use Rattle.chain_walks.specs.Bests.{pass_from}
-use Rattle.chain_walks.proofs.LeastKeys.{IsBest, page_pairs}
-use Rattle.chain_walks.proofs.leasts.least_in.Given as goal
-
-abbrev pub invariant-loop-slot : goal.invariant-loop-slot
-invariant-loop-slot l =
-    IsBest (take l.slot (page_pairs l.page.bytes)) (pass_from l.last) l.page.bytes l.best

@@ -1,6 +1,0 @@
-use Rattle.std.proofs.Common.{◌≡◌, take}
-use Rattle.chain_walks.specs.KeyRanks.{key_ranks}
-use Rattle.chain_walks.proofs.page_ranks.take_ranks.Given as goal
-
-abbrev pub invariant-loop-slot : goal.invariant-loop-slot
-invariant-loop-slot l = l.ranks.items ≡ take l.slot (key_ranks l.page.bytes)

@@ -1,5 +1,0 @@
-use Rattle.dbm_sessions.proofs.Failures.{device_is_the_cause}
-use Rattle.dbm_sessions.proofs.session_laws.device_is_the_cause.Goals as goal
-
-pub returns : goal.returns
-returns c = device_is_the_cause

@@ -1,0 +1,251 @@
+-- What the images of each step of a commit settle to.
+use Rattle.std.proofs.Common.{◌≡◌, ◌⊎◌, inl, inr, ℕ, zero, suc, ◌+◌, ◌*◌, ◌<◌, ◌≤◌, List, [], ◌∷◌, length, get_or, Bool, true, false, cond, ◌&&◌, leb, ltb, refl, sym, ◌∙◌, ap, arith}
+use Rattle.std.proofs.lemmas.Bool.{cases_lt, and_parts, leb-true, ltb-true}
+use Rattle.sect_dev.specs.Device.{Image, Candidates, IsStable, with_sector}
+use Rattle.page_io.specs.Page.{page_at, own_number, IsOutside, IsOutsidePage}
+use Rattle.page_io.proofs.PageLaws.{same_page, at_same, at_other}
+use Rattle.page_io.specs.Store.{Pages, blank, file_of, nothing, pages_from, file_pages, overlaid, are_in_order}
+use Rattle.page_io.proofs.Overlays.{same_pages, same_file, IsApart, overlaid-over}
+use Rattle.redo_area.specs.Header.{header_of}
+use Rattle.redo_area.specs.declared.header.Header.{Header}
+use Rattle.redo_area.specs.declared.header.Header.TheVariants.{Blank, Clear, Armed, NotOurs, Damaged}
+use Rattle.redo_area.specs.File.{settled, settled_by, settled_over, redo_images, IsOutsideAll, IsAtRest, IsArmed}
+
+record Parts (least end own : ℕ) (rest : Bool) : Type 0 where
+  low : least ≤ own
+  high : own < end
+  later : rest ≡ true
+
+parts : (least end : ℕ) (page : List ℕ) (pages : Pages)
+    → are_in_order least end (page ∷ pages) ≡ true
+    → Parts least end (own_number page) (are_in_order (own_number page + 1) end pages)
+parts least end page pages is =
+    let both = and_parts (leb least (own_number page) && ltb (own_number page) end)
+    (are_in_order (own_number page + 1) end pages) is in
+    let ends = and_parts (leb least (own_number page)) (ltb (own_number page) end) both.0 in
+    record { low = leb-true _ _ ends.0; high = ltb-true _ _ ends.1; later = both.1 }
+
+-- a sector below the least page
+pub outside-below : (least end : ℕ) (pages : Pages) (m : ℕ) → are_in_order least end pages ≡ true
+    → m < 4 * least → IsOutsideAll pages m
+outside-below least end [] m order lt = tt
+outside-below least end (page ∷ pages) m order lt =
+    let p = parts least end page pages order in (
+      inl (omega (arith, lt, p.low)),
+      outside-below (own_number page + 1) end pages m p.later (omega (arith, lt, p.low)),
+    )
+
+-- a sector from the end on
+pub outside-above : (least end : ℕ) (pages : Pages) (m : ℕ) → are_in_order least end pages ≡ true
+    → 4 * end ≤ m → IsOutsideAll pages m
+outside-above least end [] m order le = tt
+outside-above least end (page ∷ pages) m order le =
+    let p = parts least end page pages order in
+    (inr (omega (arith, le, p.high)), outside-above (own_number page + 1) end pages m p.later le)
+
+-- a sector of a page that has none of their numbers
+pub outside-apart : (pages : Pages) (n m : ℕ) → IsApart pages n → 4 * n ≤ m → m < 4 * n + 4
+    → IsOutsideAll pages m
+outside-apart [] n m apart ge lt = tt
+outside-apart (page ∷ pages) n m apart ge lt =
+    let other = apart.0 in (
+      elim (cases_lt (own_number page) n) [
+        | inl below ↦ inr (omega (arith, below, ge))
+        | inr above ↦ inl (omega (arith, above, lt, other))
+      ],
+      outside-apart pages n m apart.1 ge lt,
+    )
+
+-- one of the pages
+pub outside_at : (pages : Pages) (m k : ℕ) → IsOutsideAll pages m → k < length pages
+    → IsOutsidePage (own_number (get_or pages k [])) m
+outside_at [] m k out lt = absurd (omega (arith, lt))
+outside_at (page ∷ pages) m zero out lt = out.0
+outside_at (page ∷ pages) m (suc k) out lt = outside_at pages m k out.1 (omega (arith, lt))
+
+pub below_end : (least end : ℕ) (pages : Pages) (k : ℕ) → are_in_order least end pages ≡ true
+    → k < length pages → own_number (get_or pages k []) < end
+below_end least end [] k order lt = absurd (omega (arith, lt))
+below_end least end (page ∷ pages) zero order lt = (parts least end page pages order).high
+below_end least end (page ∷ pages) (suc k) order lt =
+    below_end (own_number page + 1) end pages k (parts least end page pages order).later
+    (omega (arith, lt))
+
+-- pages behind sector 0 are as they were
+pub same_new : (first mid : Image) (redo : Pages) (end start : ℕ) → end ≤ start
+    → ((m : ℕ) → 0 < m → m < 4 * start → mid m ≡ first m)
+    → file_pages (overlaid redo (page_at mid)) end ≡ file_pages (overlaid redo (page_at first)) end
+same_new first mid redo end start le same =
+    same_file (overlaid redo (page_at mid)) (overlaid redo (page_at first)) end
+    (λ n ge lt. overlaid-over redo (page_at first) (page_at mid) n
+    (λ apart. same_page mid first n
+    (λ m ge4 lt4. same m (omega (arith, ge, ge4)) (omega (arith, lt, le, lt4)))))
+
+-- a sector of redo images is none of those that are written beside them
+beside : (start long from count n m : ℕ) → (from + count ≤ start) ⊎ (start + long ≤ from)
+    → start ≤ n → n < start + long → 4 * n ≤ m → m < 4 * n + 4
+    → IsOutside (4 * from) (4 * (from + count)) m
+beside start long from count n m (inl below) ge lt ge4 lt4 = inr (omega (arith, below, ge, ge4))
+beside start long from count n m (inr above) ge lt ge4 lt4 = inl (omega (arith, above, lt, lt4))
+
+-- pages came to their own numbers, and what else was written stands behind
+pub now_home : (first written mid : Image) (from : ℕ) (redo : Pages)
+    → ((n : ℕ) → page_at mid n ≡ overlaid redo (page_at written) n)
+    → ((m : ℕ) → m < 4 * from → written m ≡ first m)
+    → (n : ℕ) → n < from → page_at mid n ≡ overlaid redo (page_at first) n
+now_home first written mid from redo home same n lt =
+    home n ∙ overlaid-over redo (page_at first) (page_at written) n
+    (λ apart. same_page written first n (λ m ge4 lt4. same m (omega (arith, lt, lt4))))
+
+-- images stay behind pages that come to their own numbers
+pub images_stay : (written mid : Image) (end start count : ℕ) (redo pages : Pages)
+    → are_in_order 1 end redo ≡ true → end ≤ start
+    → ((m : ℕ) → IsOutsideAll redo m → mid m ≡ written m)
+    → pages_from (page_at written) start count ≡ pages
+    → pages_from (page_at mid) start count ≡ pages
+images_stay written mid end start count redo pages order le others is =
+    same_pages (page_at mid) (page_at written) start count
+    (λ n ge lt. same_page mid written n
+    (λ m ge4 lt4. others m (outside-above 1 end redo m order (omega (arith, ge, ge4, le))))) ∙ is
+
+module _ (capacity : ℕ) where
+  pub settled-clear : (image : Image) (end : ℕ) → header_of capacity (image 0) ≡ Clear end
+      → settled capacity image ≡ file_of (file_pages (page_at image) end)
+  unfolding settled
+  settled-clear image end is = ap (λ (h : Header). settled_by h image) is
+
+  pub settled-armed : (image : Image) (end start : ℕ) (redo : Pages)
+      → header_of capacity (image 0) ≡ Armed end start (length redo)
+      → redo_images image start (length redo) ≡ redo → are_in_order 1 end redo ≡ true
+      → settled capacity image ≡ file_of (file_pages (overlaid redo (page_at image)) end)
+  unfolding settled
+  settled-armed image end start redo is images order =
+      ap (λ (h : Header). settled_by h image) is
+      ∙ ap (λ (r : Pages). settled_over r image end) images
+      ∙ ap (λ (b : Bool). cond b (file_of (file_pages (overlaid redo (page_at image)) end)) nothing)
+      order
+
+  pub settled-blank : (image : Image) → header_of capacity (image 0) ≡ Blank
+      → settled capacity image ≡ blank
+  unfolding settled
+  settled-blank image is = ap (λ (h : Header). settled_by h image) is
+
+  pub settled-not_ours : (image : Image) → header_of capacity (image 0) ≡ NotOurs
+      → settled capacity image ≡ nothing
+  unfolding settled
+  settled-not_ours image is = ap (λ (h : Header). settled_by h image) is
+
+  pub settled-damaged : (image : Image) → header_of capacity (image 0) ≡ Damaged
+      → settled capacity image ≡ nothing
+  unfolding settled
+  settled-damaged image is = ap (λ (h : Header). settled_by h image) is
+
+  pub settled-disordered : (image : Image) (end start count : ℕ)
+      → header_of capacity (image 0) ≡ Armed end start count
+      → are_in_order 1 end (redo_images image start count) ≡ false
+      → settled capacity image ≡ nothing
+  unfolding settled
+  settled-disordered image end start count is order =
+      let redo = redo_images image start count in
+      ap (λ (h : Header). settled_by h image) is
+      ∙ ap (λ (b : Bool). cond b (file_of (file_pages (overlaid redo (page_at image)) end))
+      nothing) order
+
+  -- step 1: what is written stands behind the file
+  pub staging : (seen image : Image) (end start : ℕ) → header_of capacity (seen 0) ≡ Clear end
+      → end ≤ start → 1 ≤ start
+      → ((m : ℕ) → m < 4 * start → image m ≡ seen m)
+      → settled capacity image ≡ file_of (file_pages (page_at seen) end)
+  staging seen image end start header le some same =
+      settled-clear image end (ap (header_of capacity) (same 0 (omega (arith, some))) ∙ header)
+      ∙ ap file_of (same_file (page_at image) (page_at seen) end
+      (λ n ge lt. same_page image seen n
+      (λ m ge4 lt4. same m (omega (arith, lt, le, lt4)))))
+
+  -- step 2: the images are armed
+  pub armed_over : (seen image : Image) (end start : ℕ) (redo : Pages)
+      → header_of capacity (image 0) ≡ Armed end start (length redo)
+      → redo_images image start (length redo) ≡ redo → are_in_order 1 end redo ≡ true → end ≤ start
+      → ((m : ℕ) → 0 < m → m < 4 * start → image m ≡ seen m)
+      → settled capacity image ≡ file_of (file_pages (overlaid redo (page_at seen)) end)
+  armed_over seen image end start redo header images order le same =
+      settled-armed image end start redo header images order
+      ∙ ap file_of (same_new seen image redo end start le same)
+
+  -- step 3: home pages are written under the images
+  pub going_home : (candidate : Candidates) (seen image : Image) (end start : ℕ) (redo : Pages)
+      → IsArmed capacity end start redo candidate seen → end ≤ start
+      → ((m : ℕ) → IsOutsideAll redo m → image m ≡ seen m)
+      → settled capacity image ≡ file_of (file_pages (overlaid redo (page_at seen)) end)
+  going_home candidate seen image end start redo is le same =
+      settled-armed image end start redo
+      (ap (header_of capacity) (same 0 (outside-below 1 end redo 0 is.in_order (omega arith)))
+      ∙ is.header)
+      (same_pages (page_at image) (page_at seen) start (length redo)
+      (λ n ge lt. same_page image seen n
+      (λ m ge4 lt4. same m (outside-above 1 end redo m is.in_order
+      (omega (arith, ge, le, ge4))))) ∙ is.images)
+      is.in_order
+      ∙ ap file_of (same_file (overlaid redo (page_at image)) (overlaid redo (page_at seen)) end
+      (λ n ge lt. overlaid-over redo (page_at seen) (page_at image) n
+      (λ apart. same_page image seen n
+      (λ m ge4 lt4. same m (outside-apart redo n m apart ge4 lt4)))))
+
+  -- steps 3 and 1: home pages are written under the images, and further images beside these
+  pub going_on : (candidate : Candidates) (seen image : Image) (end start from count : ℕ)
+      (redo : Pages) → IsArmed capacity end start redo candidate seen → end ≤ start → end ≤ from
+      → 1 ≤ from → (from + count ≤ start) ⊎ (start + length redo ≤ from)
+      → ((m : ℕ) → IsOutsideAll redo m → IsOutside (4 * from) (4 * (from + count)) m
+      → image m ≡ seen m)
+      → settled capacity image ≡ file_of (file_pages (overlaid redo (page_at seen)) end)
+  going_on candidate seen image end start from count redo is le low some far same =
+      settled-armed image end start redo
+      (ap (header_of capacity) (same 0 (outside-below 1 end redo 0 is.in_order (omega arith))
+      (inl (omega (arith, some)))) ∙ is.header)
+      (same_pages (page_at image) (page_at seen) start (length redo)
+      (λ n ge lt. same_page image seen n
+      (λ m ge4 lt4. same m (outside-above 1 end redo m is.in_order
+      (omega (arith, ge, le, ge4)))
+      (beside start (length redo) from count n m far ge lt ge4 lt4))) ∙ is.images)
+      is.in_order
+      ∙ ap file_of (same_file (overlaid redo (page_at image)) (overlaid redo (page_at seen)) end
+      (λ n ge lt. overlaid-over redo (page_at seen) (page_at image) n
+      (λ apart. same_page image seen n
+      (λ m ge4 lt4. same m (outside-apart redo n m apart ge4 lt4)
+      (inl (omega (arith, lt, low, lt4)))))))
+
+  -- after step 2
+  pub now_armed : (mid : Image) (content : List ℕ) (end start count : ℕ) (redo : Pages)
+      → length redo ≡ count → header_of capacity content ≡ Armed end start count
+      → pages_from (page_at mid) start count ≡ redo → 1 ≤ start
+      → (header_of capacity (with_sector mid 0 content 0) ≡ Armed end start (length redo))
+      × (redo_images (with_sector mid 0 content) start (length redo) ≡ redo)
+  now_armed mid content end start count redo long header images some = (
+    ap (header_of capacity) (at_same mid 0 content 0 refl) ∙ header
+        ∙ ap (Armed end start) (sym long),
+    ap (pages_from (page_at (with_sector mid 0 content)) start) long
+        ∙ same_pages (page_at (with_sector mid 0 content)) (page_at mid) start count
+        (λ n ge lt. same_page (with_sector mid 0 content) mid n
+        (λ m ge4 lt4. at_other mid 0 content m (omega (arith, some, ge, ge4)))) ∙ images,
+  )
+
+  -- after step 4
+  pub now_clear : (first mid : Image) (content : List ℕ) (end : ℕ) (redo : Pages)
+      → ((n : ℕ) → page_at mid n ≡ overlaid redo (page_at first) n)
+      → file_pages (page_at (with_sector mid 0 content)) end
+      ≡ file_pages (overlaid redo (page_at first)) end
+  now_clear first mid content end redo written =
+      same_file (page_at (with_sector mid 0 content)) (overlaid redo (page_at first)) end
+      (λ n ge lt. same_page (with_sector mid 0 content) mid n
+      (λ m ge4 lt4. at_other mid 0 content m (omega (arith, ge, ge4))) ∙ written n)
+
+  -- the commit sector is put, and is clear
+  pub rest_after : (candidate : Candidates) (mid seen : Image) (content : List ℕ) (end : ℕ)
+      → IsStable candidate seen → seen ≡ with_sector mid 0 content
+      → header_of capacity content ≡ Clear end
+      → IsAtRest capacity end candidate seen
+  rest_after candidate mid seen content end stable is header = record {
+    stable = stable;
+    header = ap (λ (s : Image). header_of capacity (s 0)) is
+        ∙ ap (header_of capacity) (at_same mid 0 content 0 refl) ∙ header;
+  }

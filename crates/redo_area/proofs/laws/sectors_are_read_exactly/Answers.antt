@@ -1,0 +1,24 @@
+use Rattle.std.proofs.Common.{refl}
+use Rattle.sect_dev.specs.Sector.{zeros}
+use Rattle.redo_area.specs.Header.{magic, fields, spelled, header_of}
+use Rattle.redo_area.proofs.laws.sectors_are_read_exactly.Goals as goal
+
+pub returns-clause-good : goal.returns-clause-good
+unfolding zeros magic fields spelled header_of
+returns-clause-good c = record { blank = refl; clear = refl; armed = refl; bytes = refl }
+
+pub returns-clause-wrong : goal.returns-clause-wrong
+unfolding zeros magic fields spelled header_of
+returns-clause-wrong c = record {
+  magic = refl;
+  state = refl;
+  low_end = refl;
+  high_end = refl;
+  clear_start = refl;
+  clear_count = refl;
+  no_image = refl;
+  low_start = refl;
+  high_count = refl;
+  byte_24 = refl;
+  byte_511 = refl;
+}

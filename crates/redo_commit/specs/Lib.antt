@@ -1,3 +1,0 @@
-pub mod File
-pub mod Header
-pub mod SectorExamples
