@@ -28,23 +28,6 @@ pub fn mark(marks: &mut [bool], n: u32, end: u32) -> bool
     true
 }
 
-/// Marks these pages, up to the first that is refused.
-pub fn mark_all(marks: &mut [bool], pages: &[u32], end: u32) -> bool
-    requires { end ≤ length marks.old }
-    ensures length { length marks.new ≡ length marks.old }
-    ensures marked { (seen : List ℕ) → AreMarked marks.old end seen → IsTrue result
-        → AreMarked marks.new end (seen ++ pages.now) }
-    ensures may_be { (seen : List ℕ) → AreMarked marks.old end seen
-        → IsTrue result ↔ MayBeSeen end (seen ++ pages.now) }
-{
-    for n in pages {
-        if !mark(marks, *n, end) {
-            return false;
-        }
-    }
-    true
-}
-
 /// Whether each page of the file is marked.
 pub fn are_all_marked(marks: &[bool], end: u32) -> bool
     requires { end ≤ length marks.now }
