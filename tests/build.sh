@@ -87,7 +87,7 @@ PAUSE=0
 # (with one more crate, whose name is that of tests)
 mkdir -p crates/test_plan/src
 echo '// a text' > crates/test_plan/src/lib.rt
-sed -i 's/^dbm_plan:/& test_plan/; $a test_plan:' crates.txt
+sed -i 's/^dbm_command_line:/& test_plan/; $a test_plan:' crates.txt
 ./dbmtool > /dev/null 2>&1
 for crate in linear_hash dbm_file dbmtool; do grep -qx "$crate" "$LOG" || wrong "$crate, built while a text was another, is not built anew"; done
 grep -qx page_model "$LOG" && wrong "what stands below a change that was taken back is built again"
@@ -100,7 +100,7 @@ changes() {
   cp "$work/before" "$1"
   tools/built.py is-built || wrong "without the change of $1 the program isn't taken for built"
 }
-for file in build tools/kit.py tools/built.py crates/dbm_plan/src/lib.rt crates/test_plan/src/lib.rt; do changes "$file" '$a # a change'; done
+for file in build tools/kit.py tools/built.py crates/dbm_command_line/src/lib.rt crates/test_plan/src/lib.rt; do changes "$file" '$a # a change'; done
 changes crates.txt 's/^dbm_progress:/& hex/'
 changes "$work/kit/KIT-ID" 's/one/two/'
 echo '// a change' >> crates/device_tests/src/lib.rt
@@ -120,7 +120,7 @@ builtins.open = noting
 built.is_program_built()
 print(sum(f"/{part}/" in file for file in files for part in built.kit.PARTS))'
 }
-text=crates/dbm_plan/src/lib.rt
+text=crates/dbm_command_line/src/lib.rt
 note=crates/dbmtool/out/noted
 rests() {
   sleep 3.2
@@ -208,13 +208,13 @@ made_by_ci() {
 # a text that changed meanwhile
 cp crates/linear_hash/src/lib.rt "$work/before"
 made_by_ci program
-rm crates/dbm_text/out/rlib/dbm_text.rlib/format
+rm crates/dbm_lines/out/rlib/dbm_lines.rlib/format
 echo '// a change' >> crates/linear_hash/src/lib.rt
 tools/built.py take < "$work/sums" 2> "$work/err"
 [ "$(wc -l < "$work/err")" = 1 ] || { wrong "what isn't taken is not told in one line:"; cat "$work/err"; }
 for crate in linear_hash dbm_file dbmtool; do grep -qw "$crate" "$work/err" || wrong "that $crate isn't taken is not told"; done
 cp "$work/before" crates/linear_hash/src/lib.rt
-for crate in linear_hash dbm_file dbm_text; do [ -e "crates/$crate/out/rlib/build/stamp" ] && wrong "$crate was taken"; done
+for crate in linear_hash dbm_file dbm_lines; do [ -e "crates/$crate/out/rlib/build/stamp" ] && wrong "$crate was taken"; done
 [ "$(cat crates/page_io/out/rlib/build/page_io.rlib/format)" = page_io ] || wrong "page_io, below the change, was not taken"
 tools/built.py is-built && wrong "a program over a changed text was taken"
 

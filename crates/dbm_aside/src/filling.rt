@@ -2,13 +2,13 @@
 ghost use Rattle.std.specs.Prelude.{◌≡◌, ◌≤◌, OnOk, IfSome, Some, [], length};
 ghost use Rattle.dbm_file.specs.Answers.{IsSameDatabase};
 ghost use Rattle.dbm_lines.specs.Forms.{dump_in};
-ghost use Rattle.dbm_load.specs.Endings.{TellsWhy};
-ghost use Rattle.dbm_load.specs.Refusals.{StopsByFault};
-ghost use Rattle.dbm_load.specs.Loading.{Loads, LoadsDump};
+ghost use Rattle.dbm_engines.specs.Endings.{TellsWhy};
+ghost use Rattle.dbm_engines.specs.Refusals.{StopsByFault};
+ghost use Rattle.dbm_engines.specs.Loading.{Loads, LoadsDump};
 
+use dbm_engines::{LoadStop, load_engine, load_text_engine};
 use dbm_file::Database;
 use dbm_lines::TextForm;
-use dbm_load::{LoadStop, load_engine, load_text_engine};
 use dbm_progress::Progress;
 use page_io::PageStore;
 use std::alloc::Global;

@@ -1,9 +1,11 @@
-//! A table that is built beside the one of its name, and takes its place whole.
+//! A table that is built beside the one of its name, and takes its place whole. For that the pairs
+//! of one database are stored in another one.
 #![tactic(auto)]
 
 mod aside;
 mod backing;
 mod building;
+mod copying;
 mod filling;
 mod looking;
 mod naming;
@@ -12,6 +14,7 @@ mod stop;
 mod verified;
 
 pub use backing::backup;
+pub use copying::copy_engine;
 pub use filling::fill;
 pub use looking::look_through;
 pub use replacing::{replace, resize};

@@ -3,11 +3,11 @@ ghost use Rattle.std.specs.Prelude.{◌≡◌, ◌≤◌, OnOk, IfErr, IfSome, S
 ghost use Rattle.dbm_aside.specs.Stops.{IsOfDatabase, IsOfLoad};
 
 use crate::building::build;
+use crate::copying::copy_engine;
 use crate::filling::fill;
 use crate::stop::Stop;
-use dbm_copy::copy_engine;
+use dbm_engines::{LoadStop, as_engine};
 use dbm_lines::TextForm;
-use dbm_load::{LoadStop, as_engine};
 use dbm_progress::Progress;
 use std::alloc::Global;
 use std::fs::File;

@@ -1,1 +1,4 @@
 pub mod Building
+pub mod Naming
+pub mod Reading
+pub mod Refusing

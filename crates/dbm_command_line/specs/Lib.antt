@@ -1,2 +1,5 @@
+pub mod Asking
 pub mod Building
 pub mod CommandLine
+pub mod Seconds
+pub mod Sorting

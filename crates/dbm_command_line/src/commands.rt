@@ -7,13 +7,13 @@ use crate::arguments::{
     for_reading, group, hexadecimal, number, replace, stops, text_form, verbose, version, wait,
     word,
 };
+use crate::help_text::fault_table;
 use crate::names::{
     BACKUP, CONTENT, CREATE, DELETE, DUMP, FAULTS, FETCH, FILE, INSERT, KEY, LIMIT, LIST, LOAD,
     MEMORY, REHEARSE, RESIZE, SALVAGE, SCRIPT, STAT, STORE, TO, UPGRADE, VERIFY,
 };
 use crate::texts::{about_text, load_examples, rehearse_steps, script_lines};
 use clap::Command;
-use dbm_plan::fault_table;
 use std::alloc::{AllocError, Global};
 
 const NAME: &str = "dbmtool";

@@ -2,10 +2,10 @@
 use Rattle.std.specs.Prelude.{◌≡◌, ◌⊎◌, ℕ, List, ◌∷◌, ◌++◌, Option, Result, Ok, Err, codes}
 use Rattle.std.specs.Fmt.{decimal}
 use Rattle.std.specs.Io.KnownBytes.{Appends}
-use Rattle.dbm_text.specs.Lines.{with_line_feed}
-use Rattle.dbm_text.specs.Words.{word_of}
-use Rattle.dbm_plan.specs.declared.plan.Spelling.{Spelling}
-use Rattle.dbm_plan.specs.declared.plan.Spelling.TheVariants.{Text, Hexadecimal}
+use Rattle.dbm_lines.specs.Lines.{with_line_feed}
+use Rattle.dbm_lines.specs.Words.{word_of}
+use Rattle.dbm_command_line.specs.declared.plan.Spelling.{Spelling}
+use Rattle.dbm_command_line.specs.declared.plan.Spelling.TheVariants.{Text, Hexadecimal}
 use Rattle.page_model.specs.Valid.{meta_buckets}
 use Rattle.page_io.specs.declared.store.PageStore.{Ghosts}
 use Rattle.dbm_fault.specs.declared.engine_fault.EngineFault.TheVariants.{Write}

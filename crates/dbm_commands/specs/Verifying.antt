@@ -3,7 +3,7 @@ use Rattle.std.specs.Prelude.{ℕ, List, [], ◌∷◌, Option}
 use Rattle.std.specs.Fmt.{decimal}
 use Rattle.std.specs.Io.KnownBytes.{Appends}
 use Rattle.page_io.specs.Store.{Pages}
-use Rattle.dbm_text.specs.Lines.{with_line_feed}
+use Rattle.dbm_lines.specs.Lines.{with_line_feed}
 use Rattle.dbm_fault.specs.declared.engine_fault.EngineFault.TheVariants.{Memory, Write, Db}
 use Rattle.dbm_fault.specs.declared.fault.Fault.TheVariants.{Broken, Device, Damaged}
 use Rattle.dbm_file.specs.Verifying.{IsFileOf}

@@ -9,9 +9,9 @@ ghost use Rattle.dbm_commands.specs.Printing.{IsFetched};
 use crate::outcomes::unwritten;
 use crate::printing::print_content;
 use crate::{Failure, Outcome};
+use dbm_command_line::Spelling;
 use dbm_fault::{EngineFault, Fault};
 use dbm_file::{Database, DeleteReply, StoreMode, StoreReply};
-use dbm_plan::Spelling;
 use page_io::PageStore;
 use std::io::Write;
 

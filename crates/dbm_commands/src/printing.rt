@@ -8,10 +8,10 @@ ghost use Rattle.dbm_commands.specs.Printing.{content_line, number_line, stat_of
 
 use crate::outcomes::unwritten;
 use crate::{Failure, Outcome};
+use dbm_command_line::Spelling;
 use dbm_fault::EngineFault;
 use dbm_file::{Database, Stat};
 use dbm_lines::write_bytes;
-use dbm_plan::Spelling;
 use page_io::PageStore;
 use std::io::{self, Write};
 

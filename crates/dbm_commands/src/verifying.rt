@@ -2,7 +2,7 @@
 ghost use Rattle.std.specs.Prelude.{◌≡◌, ◌≢◌, ℕ, Ok, Err, IfOk, IsSome, OnOk, length};
 ghost use Rattle.std.specs.Fmt.{decimal};
 ghost use Rattle.std.specs.Io.KnownBytes.{Appends};
-ghost use Rattle.dbm_text.specs.Lines.{with_line_feed};
+ghost use Rattle.dbm_lines.specs.Lines.{with_line_feed};
 ghost use Rattle.dbm_fault.specs.Among.{IsErrAmong};
 ghost use Rattle.dbm_file.specs.Database.{store_of, page_state};
 ghost use Rattle.dbm_file.specs.Verifying.{IsFileOf};

@@ -4,9 +4,9 @@ ghost use Rattle.dbm_fault.specs.Among.{IsErrAmong};
 ghost use Rattle.dbm_commands.specs.Words.{spelled};
 
 use crate::Failure;
+use dbm_command_line::Spelling;
 use dbm_fault::EngineFault;
 use dbm_lines::decode_word;
-use dbm_plan::Spelling;
 use std::alloc::Global;
 
 /// The bytes of a word: its own, or those that its digits spell. `Memory` may come before the

@@ -5,9 +5,9 @@ use Rattle.std.proofs.lemmas.List.{take_all, length-take-le}
 use Rattle.std.proofs.lemmas.Bool.Decides.{leb_tells}
 use Rattle.std.specs.Option.{option_map}
 use Rattle.dbm_model.specs.Pairs.{Pair}
-use Rattle.dbm_text.specs.Escapes.{longest_text_line, fields_in, pair_of_fields, unescaped}
-use Rattle.dbm_text.specs.Lines.{longest_line, words_in}
-use Rattle.dbm_text.specs.Words.{word_bytes}
+use Rattle.dbm_lines.specs.Escapes.{longest_text_line, fields_in, pair_of_fields, unescaped}
+use Rattle.dbm_lines.specs.Lines.{longest_line, words_in}
+use Rattle.dbm_lines.specs.Words.{word_bytes}
 use Rattle.dbm_lines.specs.BadLines.{HasPart, IsBadBy, IsBadPart, parts_in}
 use Rattle.dbm_lines.specs.Bounds.{longest_in}
 use Rattle.dbm_lines.specs.Forms.{pair_in}

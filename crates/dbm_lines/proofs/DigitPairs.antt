@@ -8,7 +8,7 @@ use Rattle.std.specs.Result.{result_ok}
 use Rattle.hex.specs.Hex.{decode_of, decode_pairs, digit_or_error, hex_digit_value, ◌>>=◌}
 use Rattle.hex.specs.declared.error.FromHexError.{FromHexError}
 use Rattle.hex.proofs.HexLemmas.{decode_of-even}
-use Rattle.dbm_text.specs.Escapes.{joined}
+use Rattle.dbm_lines.specs.Escapes.{joined}
 use Rattle.dbm_lines.specs.Digits.{value_of_digit}
 use Rattle.dbm_lines.proofs.FieldBytes.{nothing_before}
 use Rattle.dbm_lines.proofs.DigitLanes.{block_paired, lanes_of, paired}

@@ -8,7 +8,7 @@ use Rattle.std.specs.Simd.Lanes.{chunk, put_chunk}
 use Rattle.hex.specs.Hex.{decode_of, decode_pairs, encode_lower, lower_digits}
 use Rattle.hex.proofs.HexLemmas.{decode_of-even, decode_of-ok, length-encode_with}
 use Rattle.hex.specs.declared.error.FromHexError.{FromHexError}
-use Rattle.dbm_text.specs.Escapes.{joined}
+use Rattle.dbm_lines.specs.Escapes.{joined}
 use Rattle.dbm_lines.proofs.FieldBytes.{behind_both}
 use Rattle.dbm_lines.proofs.DigitPairs.{in_two, pairs}
 use Rattle.dbm_lines.proofs.WordRuns.{encode-append}

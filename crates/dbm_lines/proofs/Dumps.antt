@@ -9,9 +9,9 @@ use Rattle.hex.proofs.HexLemmas.{length-encode_with}
 use Rattle.page_model.specs.PairLists.{HasBytes}
 use Rattle.dbm_model.specs.Bounds.{V2}
 use Rattle.dbm_model.specs.Pairs.{Pair, IsAllowed}
-use Rattle.dbm_text.specs.Escapes.{escape_of, escaped, key_field, marked, longest_text_line, pair_of_text_line}
-use Rattle.dbm_text.specs.Lines.{lines_of, with_line_feed, longest_line}
-use Rattle.dbm_text.specs.Words.{word_of}
+use Rattle.dbm_lines.specs.Escapes.{escape_of, escaped, key_field, marked, longest_text_line, pair_of_text_line}
+use Rattle.dbm_lines.specs.Lines.{lines_of, with_line_feed, longest_line}
+use Rattle.dbm_lines.specs.Words.{word_of}
 use Rattle.dbm_lines.specs.LineLaws.{DumpsReadBack}
 use Rattle.dbm_lines.specs.PairLines.{pair_of_line, Say}
 use Rattle.dbm_lines.specs.declared.forms.TextForm.TheVariants.{Hexadecimal, Escaped}

@@ -4,7 +4,7 @@ use Rattle.std.specs.Io.KnownBytes.{Appends}
 use Rattle.std.specs.Result.{result_ok}
 use Rattle.std.proofs.lemmas.List.{take_more, flat_map_more, get_or-drop}
 use Rattle.hex.specs.declared.error.FromHexError.{FromHexError}
-use Rattle.dbm_text.specs.Escapes.{escape_of, escaped, joined, fields_in, pair_of_fields}
+use Rattle.dbm_lines.specs.Escapes.{escape_of, escaped, joined, fields_in, pair_of_fields}
 use Rattle.dbm_lines.proofs.Requests.{first_part}
 
 -- ---- reading

@@ -3,7 +3,7 @@ use Rattle.std.proofs.Common.{◌≡◌, ◌==◌, ℕ, zero, suc, ◌+◌, ◌-
 use Rattle.std.proofs.lemmas.List.Quantifiers.{position-Some}
 use Rattle.std.proofs.lemmas.List.{length-take-le, take_all}
 use Rattle.std.specs.List.{position, position_or_len}
-use Rattle.dbm_text.specs.Escapes.{behind_backslash, joined, unescaped}
+use Rattle.dbm_lines.specs.Escapes.{behind_backslash, joined, unescaped}
 use Rattle.dbm_lines.proofs.FieldBytes.{behind_both, nothing_before}
 use Rattle.dbm_lines.proofs.Splits.{past_all}
 

@@ -8,15 +8,15 @@ use Rattle.std.proofs.lemmas.List.Elements.{All-append, All-cons, All-head, All-
 use Rattle.std.proofs.lemmas.List.Splits.{slice_split_at, slice_split_none}
 use Rattle.hex.specs.Hex.{encode_lower, is_hex_digit}
 use Rattle.hex.proofs.HexLemmas.{decode_of-ok, decode_of-encode_lower}
-use Rattle.dbm_text.specs.Escapes.{escaped, key_field, unescaped, fields_in, pair_of_fields, longest_text_line, pair_of_text_line}
-use Rattle.dbm_text.specs.Lines.{lines_of, onto_line, words_in, with_line_feed, longest_line}
+use Rattle.dbm_lines.specs.Escapes.{escaped, key_field, unescaped, fields_in, pair_of_fields, longest_text_line, pair_of_text_line}
+use Rattle.dbm_lines.specs.Lines.{lines_of, onto_line, words_in, with_line_feed, longest_line}
 use Rattle.page_model.specs.PairLists.{AreBytes, HasBytes}
 use Rattle.dbm_model.specs.Pairs.{Pair}
-use Rattle.dbm_text.specs.Words.{word_of, word_bytes}
-use Rattle.dbm_text.specs.EscapeTexts.{IsPrintable}
-use Rattle.dbm_text.proofs.EscapeLemmas.{escapes_back, printable}
-use Rattle.dbm_text.proofs.KeyFields.{is_read, key_back, key_printable}
-use Rattle.dbm_text.proofs.WordLemmas.{reads_back}
+use Rattle.dbm_lines.specs.Words.{word_of, word_bytes}
+use Rattle.dbm_lines.specs.EscapeTexts.{IsPrintable}
+use Rattle.dbm_lines.proofs.EscapeLemmas.{escapes_back, printable}
+use Rattle.dbm_lines.proofs.KeyFields.{is_read, key_back, key_printable}
+use Rattle.dbm_lines.proofs.WordLemmas.{reads_back}
 use Rattle.dbm_lines.specs.Forms.{pair_in, is_passed_in, line_in, lines_said}
 use Rattle.dbm_lines.specs.declared.forms.TextForm.{TextForm}
 use Rattle.dbm_lines.specs.declared.forms.TextForm.TheVariants.{Hexadecimal, Escaped}

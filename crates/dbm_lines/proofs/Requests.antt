@@ -6,9 +6,9 @@ use Rattle.std.specs.Prelude.{option_and_then}
 use Rattle.std.proofs.lemmas.Bool.{lt-leb}
 use Rattle.dbm_model.specs.Calls.{Call}
 use Rattle.dbm_model.specs.Pairs.{Pair}
-use Rattle.dbm_text.specs.Escapes.{longest_text_line, unescaped}
-use Rattle.dbm_text.specs.Lines.{longest_line, words_in, bare_call, call_of_parts, key_call, pair_call}
-use Rattle.dbm_text.specs.Words.{word_bytes}
+use Rattle.dbm_lines.specs.Escapes.{longest_text_line, unescaped}
+use Rattle.dbm_lines.specs.Lines.{longest_line, words_in, bare_call, call_of_parts, key_call, pair_call}
+use Rattle.dbm_lines.specs.Words.{word_bytes}
 use Rattle.dbm_lines.specs.BadLines.{parts_in}
 use Rattle.dbm_lines.specs.Bounds.{longest_in}
 use Rattle.dbm_lines.specs.Forms.{call_in}

@@ -2,9 +2,9 @@
 use Rattle.std.proofs.Common.{◌≡◌, inl, inr, ℕ, suc, ◌+◌, ◌<◌, ◌≤◌, ◌==◌, nat_lt, true, false, cond, List, [], ◌∷◌, length, take, Option, Some, None, IfSome, refl, ap, arith}
 use Rattle.std.proofs.lemmas.List.{take_all, length-take-le}
 use Rattle.std.proofs.lemmas.Bool.Decides.{leb_tells}
-use Rattle.dbm_text.specs.Escapes.{longest_text_line, fields_in, pair_of_fields}
-use Rattle.dbm_text.specs.Lines.{longest_line, lines_of, onto_line, words_in, call_of_words}
-use Rattle.dbm_text.specs.TextScripts.{call_of_fields}
+use Rattle.dbm_lines.specs.Escapes.{longest_text_line, fields_in, pair_of_fields}
+use Rattle.dbm_lines.specs.Lines.{longest_line, lines_of, onto_line, words_in, call_of_words}
+use Rattle.dbm_lines.specs.TextScripts.{call_of_fields}
 use Rattle.dbm_lines.specs.Bounds.{longest_in}
 use Rattle.dbm_lines.specs.Forms.{call_in, pair_in, is_passed_in}
 use Rattle.dbm_lines.specs.PairLines.{pair_of_words}

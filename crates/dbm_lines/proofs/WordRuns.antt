@@ -2,7 +2,7 @@
 use Rattle.std.proofs.Common.{◌≡◌, ℕ, ◌<◌, List, [], ◌∷◌, ◌++◌, length, Option, Some, None, refl, sym, ap, subst, ◌∙◌, arith, append-nil, append_assoc}
 use Rattle.std.specs.Io.KnownBytes.{Appends}
 use Rattle.hex.specs.Hex.{encode_with, encode_lower}
-use Rattle.dbm_text.specs.Words.{word_of}
+use Rattle.dbm_lines.specs.Words.{word_of}
 use Rattle.dbm_lines.proofs.FieldBytes.{appends_on}
 
 pub encode-append : (digits xs ys : List ℕ)

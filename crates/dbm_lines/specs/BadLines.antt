@@ -1,8 +1,8 @@
 -- Why a line says no pair.
 use Rattle.std.specs.Prelude.{◌≡◌, ◌≢◌, ◌≤◌, ◌<◌, ◌⊎◌, ◌%◌, ℕ, List, [], ◌∷◌, length, None, codes}
-use Rattle.dbm_text.specs.Escapes.{fields_in, unescaped}
-use Rattle.dbm_text.specs.Lines.{words_in}
-use Rattle.dbm_text.specs.Words.{word_bytes}
+use Rattle.dbm_lines.specs.Escapes.{fields_in, unescaped}
+use Rattle.dbm_lines.specs.Lines.{words_in}
+use Rattle.dbm_lines.specs.Words.{word_bytes}
 use Rattle.dbm_lines.specs.Bounds.{longest_in}
 use Rattle.dbm_lines.specs.declared.forms.TextForm.{TextForm}
 use Rattle.dbm_lines.specs.declared.forms.TextForm.TheVariants.{Hexadecimal, Escaped}

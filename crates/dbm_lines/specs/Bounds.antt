@@ -1,7 +1,7 @@
 -- How many bytes a line may have, without its line feed.
 use Rattle.std.specs.Prelude.{ℕ, ◌/◌}
-use Rattle.dbm_text.specs.Escapes.{longest_text_line}
-use Rattle.dbm_text.specs.Lines.{longest_line}
+use Rattle.dbm_lines.specs.Escapes.{longest_text_line}
+use Rattle.dbm_lines.specs.Lines.{longest_line}
 use Rattle.dbm_lines.specs.declared.forms.TextForm.{TextForm}
 use Rattle.dbm_lines.specs.declared.forms.TextForm.TheVariants.{Hexadecimal, Escaped}
 

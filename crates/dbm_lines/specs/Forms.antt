@@ -3,12 +3,12 @@ use Rattle.std.specs.Prelude.{ℕ, Bool, false, List, [], ◌∷◌, Option, fla
 use Rattle.std.specs.FinMap.{entries, keys}
 use Rattle.dbm_model.specs.Calls.{Call, Reply}
 use Rattle.dbm_model.specs.Pairs.{Key, Pair, Contents}
-use Rattle.dbm_text.specs.Dumps.{dump_line, text_line}
-use Rattle.dbm_text.specs.Escapes.{escaped, is_passed_over, pair_of_text_line}
-use Rattle.dbm_text.specs.Lines.{call_in_line, lines_of, reply_by, with_line_feed}
-use Rattle.dbm_text.specs.Scripts.{answer_by}
-use Rattle.dbm_text.specs.TextScripts.{call_in_text_line, reply_field}
-use Rattle.dbm_text.specs.Words.{word_of}
+use Rattle.dbm_lines.specs.Dumps.{dump_line, text_line}
+use Rattle.dbm_lines.specs.Escapes.{escaped, is_passed_over, pair_of_text_line}
+use Rattle.dbm_lines.specs.Lines.{call_in_line, lines_of, reply_by, with_line_feed}
+use Rattle.dbm_lines.specs.Scripts.{answer_by}
+use Rattle.dbm_lines.specs.TextScripts.{call_in_text_line, reply_field}
+use Rattle.dbm_lines.specs.Words.{word_of}
 use Rattle.dbm_lines.specs.PairLines.{pair_of_line}
 use Rattle.dbm_lines.specs.declared.forms.TextForm.{TextForm}
 use Rattle.dbm_lines.specs.declared.forms.TextForm.TheVariants.{Hexadecimal, Escaped}

@@ -4,7 +4,7 @@ use Rattle.std.specs.List.{All}
 use Rattle.dbm_model.specs.Bounds.{V2}
 use Rattle.dbm_model.specs.Pairs.{Pair, IsAllowed}
 use Rattle.page_model.specs.PairLists.{HasBytes}
-use Rattle.dbm_text.specs.Lines.{lines_of}
+use Rattle.dbm_lines.specs.Lines.{lines_of}
 use Rattle.dbm_lines.specs.Forms.{pair_in, line_in, lines_said}
 use Rattle.dbm_lines.specs.PairLines.{Say}
 use Rattle.dbm_lines.specs.declared.forms.TextForm.{TextForm}

@@ -1,9 +1,9 @@
 -- The pair that a line says.
 use Rattle.std.specs.Prelude.{◌≡◌, ℕ, nat_lt, List, [], ◌∷◌, length, map, Option, Some, None, option_and_then, if◌then◌else◌}
 use Rattle.std.specs.Option.{option_map}
-use Rattle.dbm_text.specs.Lines.{longest_line, words_in}
+use Rattle.dbm_lines.specs.Lines.{longest_line, words_in}
 use Rattle.dbm_model.specs.Pairs.{Pair}
-use Rattle.dbm_text.specs.Words.{word_bytes}
+use Rattle.dbm_lines.specs.Words.{word_bytes}
 
 -- `key content`
 abbrev pub pair_of_words : List (List ℕ) → Option Pair

@@ -3,9 +3,9 @@ use Rattle.std.specs.Prelude.{◌≡◌, ℕ, List, Option, Some, None, codes}
 use Rattle.dbm_model.specs.Calls.{Call}
 use Rattle.dbm_model.specs.Calls as model
 use Rattle.dbm_model.specs.Pairs.{Pair}
-use Rattle.dbm_text.specs.Escapes.{pair_of_fields, unescaped}
-use Rattle.dbm_text.specs.Lines.{key_call, pair_call}
-use Rattle.dbm_text.specs.Words.{word_bytes}
+use Rattle.dbm_lines.specs.Escapes.{pair_of_fields, unescaped}
+use Rattle.dbm_lines.specs.Lines.{key_call, pair_call}
+use Rattle.dbm_lines.specs.Words.{word_bytes}
 use Rattle.dbm_lines.specs.PairLines.{pair_of_words}
 use Rattle.dbm_lines.specs.declared.forms.TextForm.{TextForm}
 use Rattle.dbm_lines.specs.declared.forms.TextForm.TheVariants.{Hexadecimal, Escaped}

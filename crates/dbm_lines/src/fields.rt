@@ -3,8 +3,8 @@ ghost use Rattle.std.specs.Prelude.{◌≡◌, ◌≤◌, ◌<◌, ◌∷◌, �
 ghost use Rattle.std.specs.Option.{option_map};
 ghost use Rattle.std.specs.Io.KnownBytes.{Appends};
 ghost use Rattle.hex.specs.Hex.{encode_lower};
-ghost use Rattle.dbm_text.specs.Words.{decoded};
-ghost use Rattle.dbm_text.specs.Escapes.{escape_of, escaped, key_field, marked, unescaped, behind_backslash, behind_x, joined, fields_in, pair_of_fields, longest_text_line, pair_of_text_line};
+ghost use Rattle.dbm_lines.specs.Words.{decoded};
+ghost use Rattle.dbm_lines.specs.Escapes.{escape_of, escaped, key_field, marked, unescaped, behind_backslash, behind_x, joined, fields_in, pair_of_fields, longest_text_line, pair_of_text_line};
 
 use crate::bounds::LONGEST_TEXT_LINE;
 use crate::splitting::{first_separator, split_at};

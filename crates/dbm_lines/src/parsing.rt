@@ -1,7 +1,7 @@
 // Lines as requests and as pairs.
 ghost use Rattle.std.specs.Prelude.{◌≡◌, ◌≤◌, ◌*◌, ◌∷◌, [], IfSome, IfNone, length, codes, Some, None, vec_capacity, if◌then◌else◌};
-ghost use Rattle.dbm_text.specs.Words.{word_bytes};
-ghost use Rattle.dbm_text.specs.Lines.{longest_line, words_in, call_of_parts, bare_call};
+ghost use Rattle.dbm_lines.specs.Words.{word_bytes};
+ghost use Rattle.dbm_lines.specs.Lines.{longest_line, words_in, call_of_parts, bare_call};
 ghost use Rattle.dbm_model.specs.Calls.{Fetch, Delete};
 ghost use Rattle.dbm_lines.specs.BadLines.{parts_in};
 ghost use Rattle.dbm_lines.specs.Bounds.{longest_in, longest_part};

@@ -2,9 +2,9 @@
 ghost use Rattle.std.specs.Prelude.{◌≡◌, ℕ, pos, OnOk};
 ghost use Rattle.std.specs.Io.KnownBytes.{Appends};
 ghost use Rattle.dbm_model.specs.Calls.{Fault, Stored, Kept, Deleted, Absent, Bytes, NoRecord, End, Number, Refused, number_of};
-ghost use Rattle.dbm_text.specs.Lines.{reply_line, bad_line};
-ghost use Rattle.dbm_text.specs.TextScripts.{is_like_reply, reply_field};
-ghost use Rattle.dbm_text.specs.Words.{word_of};
+ghost use Rattle.dbm_lines.specs.Lines.{reply_line, bad_line};
+ghost use Rattle.dbm_lines.specs.TextScripts.{is_like_reply, reply_field};
+ghost use Rattle.dbm_lines.specs.Words.{word_of};
 ghost use Rattle.dbm_lines.specs.Forms.{reply_line_in};
 
 use crate::digits::encode;

@@ -3,8 +3,8 @@ use Rattle.std.proofs.Common.{◌≡◌, ◌+◌, ℕ, true, List, [], ◌∷◌
 use Rattle.std.specs.Io.KnownBytes.{Appends}
 use Rattle.std.proofs.KnownBytes.{Appends-nil, Appends-trans}
 use Rattle.dbm_model.specs.Calls.{Call}
-use Rattle.dbm_text.specs.Lines.{call_in_line, bad_line}
-use Rattle.dbm_text.specs.Scripts.{script_of, calls_in}
+use Rattle.dbm_lines.specs.Lines.{call_in_line, bad_line}
+use Rattle.dbm_lines.specs.Scripts.{script_of, calls_in}
 use Rattle.dbm_lines.proofs.TextLines.{first_line, call_in-kept}
 use Rattle.dbm_lines.specs.Bounds.{longest_in}
 use Rattle.dbm_lines.specs.declared.forms.TextForm.TheVariants.{Hexadecimal}

@@ -1,7 +1,7 @@
 -- What a rehearsal counts, and how it is told.
 use Rattle.std.specs.Prelude.{◌≤◌, ◌<◌, ◌↔◌, ℕ, min, List, ◌∷◌, ◌++◌, Option, Some, None, IsSome, codes}
 use Rattle.std.specs.Fmt.{decimal}
-use Rattle.dbm_text.specs.Lines.{with_line_feed}
+use Rattle.dbm_lines.specs.Lines.{with_line_feed}
 use Rattle.dbm_rehearse.specs.declared.report.Rehearsed.{Rehearsed}
 
 -- `name count`

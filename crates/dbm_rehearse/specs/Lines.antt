@@ -2,7 +2,7 @@
 use Rattle.std.specs.Prelude.{◌≡◌, ℕ, List, [], ◌∷◌, ◌++◌, Option, Some, None}
 use Rattle.std.specs.Io.KnownBytes.{Appends}
 use Rattle.dbm_model.specs.Calls.{Call}
-use Rattle.dbm_text.specs.Lines.{bad_line}
+use Rattle.dbm_lines.specs.Lines.{bad_line}
 
 -- the line that answers each bad line
 abbrev pub bad_lines : List (Option Call) → List ℕ

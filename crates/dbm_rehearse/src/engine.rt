@@ -2,7 +2,7 @@
 ghost use Rattle.std.specs.Prelude.{◌≡◌, ◌≤◌, ◌<◌, ◌↔◌, ◌++◌, [], OnOk, IfOk, IfSome, IsSome, Some, length};
 ghost use Rattle.std.specs.Io.KnownBytes.{Appends};
 ghost use Rattle.dbm_fault.specs.Among.{IsErrAmong};
-ghost use Rattle.dbm_text.specs.Scripts.{script_of, calls_in};
+ghost use Rattle.dbm_lines.specs.Scripts.{script_of, calls_in};
 ghost use Rattle.dbm_rehearse.specs.Counts.{counts_text, stops_of, AreCounted};
 ghost use Rattle.dbm_rehearse.specs.Lines.{bad_lines};
 ghost use Rattle.dbm_rehearse.specs.Faults.{database_faults, rehearsal_faults};

@@ -5,7 +5,7 @@ use Rattle.std.specs.List.{HoldsAt}
 use Rattle.std.specs.Io.KnownBytes.{Appends}
 use Rattle.sect_dev.specs.Device.{Image}
 use Rattle.dbm_model.specs.Pairs.{Pair}
-use Rattle.dbm_text.specs.Dumps.{dump_line}
+use Rattle.dbm_lines.specs.Dumps.{dump_line}
 use Rattle.page_model.specs.Bytes.{u32_at}
 use Rattle.page_model.specs.Meaning.{records_on, said_by}
 use Rattle.page_model.specs.Pages.{Body, Record}

@@ -5,7 +5,7 @@ ghost use Rattle.std.specs.List.{HoldsAt};
 ghost use Rattle.std.specs.Option.{is_none};
 ghost use Rattle.std.specs.Io.KnownBytes.{Appends};
 ghost use Rattle.sect_dev.specs.Device.{MoreFaults};
-ghost use Rattle.dbm_text.specs.Dumps.{dump_line};
+ghost use Rattle.dbm_lines.specs.Dumps.{dump_line};
 ghost use Rattle.page_model.specs.Meaning.{records_on};
 ghost use Rattle.page_model.specs.Reading.{body_of};
 ghost use Rattle.page_io.specs.Page.{page_at};

@@ -6,7 +6,7 @@ use Rattle.redo_area.specs.declared.pager.Pager.{Pager}
 use Rattle.page_cache.specs.declared.cached_pages.CachedPages.{CachedPages}
 use Rattle.dbm_commands.specs.declared.outcomes.Outcome.{Outcome}
 use Rattle.dbm_commands.specs.declared.outcomes.Failure.{Failure}
-use Rattle.dbm_plan.specs.declared.plan.Plan.{Plan}
+use Rattle.dbm_command_line.specs.declared.plan.Plan.{Plan}
 use Rattle.dbm_tool.specs.Plans.{CarriesOut}
 
 -- what is said of a plan is said of the one that it is

@@ -8,7 +8,7 @@ use Rattle.redo_area.specs.declared.pager.Pager.{Pager}
 use Rattle.page_cache.specs.declared.cached_pages.CachedPages.{CachedPages}
 use Rattle.file_opening.specs.Opening.{writes}
 use Rattle.file_opening.specs.declared.open_how.OpenHow.{OpenHow}
-use Rattle.dbm_dump.specs.Dumping.{IsPairChance, Reads}
+use Rattle.dbm_engines.specs.Dumping.{IsPairChance, Reads}
 use Rattle.dbm_file.specs.Database.{AtEachHandle}
 use Rattle.dbm_file.specs.Named.{OpensFile}
 use Rattle.dbm_file.specs.Opened.{IsNewlyOpened}
@@ -23,9 +23,9 @@ use Rattle.dbm_commands.specs.declared.outcomes.Outcome.TheVariants.{Done}
 use Rattle.dbm_commands.specs.declared.outcomes.Failure.{Failure}
 use Rattle.dbm_commands.specs.declared.outcomes.Failure.TheVariants.{NotHex, Fault}
 use Rattle.dbm_model.specs.Pairs.{Contents}
-use Rattle.dbm_plan.specs.declared.plan.Spelling.{Spelling}
-use Rattle.dbm_script.specs.Scripts.{AnswersScript, MakesFirst}
-use Rattle.dbm_script.specs.Tellings.{TellsScript}
+use Rattle.dbm_command_line.specs.declared.plan.Spelling.{Spelling}
+use Rattle.dbm_engines.specs.Scripts.{AnswersScript, MakesFirst}
+use Rattle.dbm_engines.specs.Tellings.{TellsScript}
 use Rattle.dbm_lines.specs.Forms.{script_in}
 use Rattle.dbm_lines.specs.declared.forms.TextForm.{TextForm}
 use Rattle.dbm_tool.specs.Commands.{IsFlushed, Prints, RunsScript}

@@ -1,8 +1,8 @@
 -- What a status tells.
 use Rattle.std.proofs.Common.{◌≡◌, ◌⊎◌, inl, inr, refl, ◌∙◌, sym, ap, subst, append-nil, ℕ, List, [], ◌++◌, Bool, Option, None, Result, Ok, Err, IfErr, true, false, ◌||◌}
 use Rattle.std.specs.Io.KnownBytes.{Appends}
-use Rattle.dbm_words.specs.Asking.{AreVerbose, IsPlan}
-use Rattle.dbm_plan.specs.declared.plan.Plan.{Plan}
+use Rattle.dbm_command_line.specs.Asking.{AreVerbose, IsPlan}
+use Rattle.dbm_command_line.specs.declared.plan.Plan.{Plan}
 use Rattle.dbm_commands.specs.declared.outcomes.Outcome.{Outcome}
 use Rattle.dbm_commands.specs.declared.outcomes.Outcome.TheVariants.{Done, Nothing}
 use Rattle.dbm_commands.specs.declared.outcomes.Failure.{Failure}

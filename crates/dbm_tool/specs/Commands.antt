@@ -9,7 +9,7 @@ use Rattle.dbm_commands.specs.declared.outcomes.Outcome.{Outcome}
 use Rattle.dbm_commands.specs.declared.outcomes.Outcome.TheVariants.{Done}
 use Rattle.dbm_commands.specs.declared.outcomes.Failure.{Failure}
 use Rattle.dbm_commands.specs.declared.outcomes.Failure.TheVariants.{NotHex, Fault}
-use Rattle.dbm_dump.specs.Dumping.{IsPairChance, Reads}
+use Rattle.dbm_engines.specs.Dumping.{IsPairChance, Reads}
 use Rattle.dbm_fault.specs.Among.{IsErrAmong}
 use Rattle.dbm_fault.specs.declared.engine_fault.EngineFault.{EngineFault}
 use Rattle.dbm_fault.specs.declared.engine_fault.EngineFault.TheVariants.{Memory, Read, Write, Line, Db}
@@ -21,15 +21,15 @@ use Rattle.dbm_lines.specs.Forms.{script_in}
 use Rattle.dbm_lines.specs.declared.forms.TextForm.{TextForm}
 use Rattle.dbm_lines.specs.declared.forms.TextForm.TheVariants.{Hexadecimal, Escaped}
 use Rattle.dbm_lines.specs.declared.bad_lines.BadLine.{BadLine}
-use Rattle.dbm_load.specs.Loading.{Loads}
-use Rattle.dbm_load.specs.Refusals.{stop_fault}
-use Rattle.dbm_load.specs.declared.load_stop.LoadStop.{LoadStop}
-use Rattle.dbm_load.specs.declared.load_stop.LoadStop.TheVariants.{Bad, Refused}
+use Rattle.dbm_engines.specs.Loading.{Loads}
+use Rattle.dbm_engines.specs.Refusals.{stop_fault}
+use Rattle.dbm_engines.specs.declared.load_stop.LoadStop.{LoadStop}
+use Rattle.dbm_engines.specs.declared.load_stop.LoadStop.TheVariants.{Bad, Refused}
 use Rattle.dbm_model.specs.Pairs.{Contents}
-use Rattle.dbm_plan.specs.declared.plan.Spelling.{Spelling}
-use Rattle.dbm_plan.specs.declared.plan.Spelling.TheVariants as spelling
-use Rattle.dbm_script.specs.Scripts.{AnswersScript, MakesFirst}
-use Rattle.dbm_script.specs.Tellings.{TellsScript}
+use Rattle.dbm_command_line.specs.declared.plan.Spelling.{Spelling}
+use Rattle.dbm_command_line.specs.declared.plan.Spelling.TheVariants as spelling
+use Rattle.dbm_engines.specs.Scripts.{AnswersScript, MakesFirst}
+use Rattle.dbm_engines.specs.Tellings.{TellsScript}
 
 -- the form of a text that is spelled so
 abbrev pub form_of : Spelling → TextForm

@@ -1,9 +1,9 @@
 -- How a plan may end.
 use Rattle.std.specs.Prelude.{◌≡◌, ◌⊎◌, ℕ, Bool, true, false, Option, None, Result, Ok, Err}
-use Rattle.dbm_plan.specs.declared.plan.Plan.{Plan}
-use Rattle.dbm_plan.specs.declared.plan.Plan.TheVariants.{Store, Insert, Fetch, Delete, List as ListKeys, Dump, Load, Replace, Salvage, Stat, Verify, Script, ReadScript, Rehearse, Faults}
-use Rattle.dbm_plan.specs.declared.plan.Source.{Source}
-use Rattle.dbm_plan.specs.declared.plan.Source.TheVariants.{Memory as InMemory}
+use Rattle.dbm_command_line.specs.declared.plan.Plan.{Plan}
+use Rattle.dbm_command_line.specs.declared.plan.Plan.TheVariants.{Store, Insert, Fetch, Delete, List as ListKeys, Dump, Load, Replace, Salvage, Stat, Verify, Script, ReadScript, Rehearse, Faults}
+use Rattle.dbm_command_line.specs.declared.plan.Source.{Source}
+use Rattle.dbm_command_line.specs.declared.plan.Source.TheVariants.{Memory as InMemory}
 use Rattle.dbm_commands.specs.Words.{spelled}
 use Rattle.dbm_commands.specs.declared.outcomes.Outcome.{Outcome}
 use Rattle.dbm_commands.specs.declared.outcomes.Outcome.TheVariants.{Done, Nothing}

@@ -2,7 +2,7 @@
 use Rattle.std.specs.Prelude.{ℕ, List, ◌++◌, codes}
 use Rattle.std.specs.Fmt.{decimal}
 use Rattle.dbm_model.specs.Calls.{number_of}
-use Rattle.dbm_text.specs.Lines.{with_line_feed}
+use Rattle.dbm_lines.specs.Lines.{with_line_feed}
 use Rattle.dbm_fault.specs.Faults.{fault_of}
 use Rattle.dbm_commands.specs.declared.outcomes.Failure.{Failure}
 use Rattle.dbm_commands.specs.declared.outcomes.Failure.TheVariants as failure

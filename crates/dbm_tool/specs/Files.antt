@@ -21,8 +21,8 @@ use Rattle.dbm_fault.specs.declared.engine_fault.EngineFault.TheVariants.{Db}
 use Rattle.dbm_commands.specs.declared.outcomes.Outcome.{Outcome}
 use Rattle.dbm_commands.specs.declared.outcomes.Failure.{Failure}
 use Rattle.dbm_commands.specs.declared.outcomes.Failure.TheVariants.{Fault}
-use Rattle.dbm_plan.specs.declared.plan.Version.{Version}
-use Rattle.dbm_plan.specs.declared.plan.Version.TheVariants.{V1, V2}
+use Rattle.dbm_command_line.specs.declared.plan.Version.{Version}
+use Rattle.dbm_command_line.specs.declared.plan.Version.TheVariants.{V1, V2}
 
 -- the version of the format that the words ask for, as the file has it
 abbrev pub version_of : Version → FileVersion

@@ -4,7 +4,7 @@ use Rattle.std.specs.Fmt.{decimal}
 use Rattle.file_check.specs.declared.flaws.Flaw.{Flaw}
 use Rattle.file_check.specs.declared.flaws.Rule.{Rule}
 use Rattle.file_check.specs.declared.flaws.Rule.TheVariants as rule
-use Rattle.dbm_plan.specs.declared.help_text.TheConstants.{DAMAGED_WORDS}
+use Rattle.dbm_command_line.specs.declared.help_text.TheConstants.{DAMAGED_WORDS}
 
 -- what is wrong with a page that breaks the rule
 abbrev pub rule_words : Rule → List ℕ

@@ -1,4 +1,4 @@
-pub use Rattle.dbm_script.specs.Scripts
+pub use Rattle.dbm_engines.specs.Scripts
 pub mod Causes
 pub mod Commands
 pub mod Endings

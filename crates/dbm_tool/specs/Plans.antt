@@ -9,12 +9,12 @@ use Rattle.file_opening.specs.declared.open_how.Access.TheVariants.{ReadOnly, Re
 use Rattle.dbm_file.specs.declared.calls.Call.TheVariants as call
 use Rattle.dbm_file.specs.declared.calls.StoreMode.TheVariants as mode
 use Rattle.dbm_lines.specs.Forms.{dump_in, listing_in}
-use Rattle.dbm_plan.specs.declared.help_text.TheConstants.{FAULT_TABLE}
-use Rattle.dbm_plan.specs.declared.plan.Plan.{Plan}
-use Rattle.dbm_plan.specs.declared.plan.Plan.TheVariants.{Create, Store, Insert, Fetch, Delete, List as ListKeys, Dump, Load, Stat, Verify, Upgrade, Script, ReadScript, Rehearse, Faults}
-use Rattle.dbm_plan.specs.declared.plan.Source.TheVariants.{File, Memory}
-use Rattle.dbm_plan.specs.declared.plan.Version.{Version}
-use Rattle.dbm_plan.specs.declared.plan.Version.TheVariants.{V1, V2}
+use Rattle.dbm_command_line.specs.declared.help_text.TheConstants.{FAULT_TABLE}
+use Rattle.dbm_command_line.specs.declared.plan.Plan.{Plan}
+use Rattle.dbm_command_line.specs.declared.plan.Plan.TheVariants.{Create, Store, Insert, Fetch, Delete, List as ListKeys, Dump, Load, Stat, Verify, Upgrade, Script, ReadScript, Rehearse, Faults}
+use Rattle.dbm_command_line.specs.declared.plan.Source.TheVariants.{File, Memory}
+use Rattle.dbm_command_line.specs.declared.plan.Version.{Version}
+use Rattle.dbm_command_line.specs.declared.plan.Version.TheVariants.{V1, V2}
 use Rattle.dbm_model.specs.Bounds as bounds
 use Rattle.dbm_commands.specs.Outcomes.{IsTold, MakesCall}
 use Rattle.dbm_commands.specs.Printing.{IsFetched}
@@ -27,8 +27,8 @@ use Rattle.dbm_tool.specs.Files.{Opens, made_new, there}
 use Rattle.dbm_rehearse.specs.Counts.{AreCounted, counts_text, stops_of}
 use Rattle.dbm_rehearse.specs.Lines.{bad_lines}
 use Rattle.dbm_rehearse.specs.declared.report.Rehearsed.{Rehearsed}
-use Rattle.dbm_script.specs.Scripts.{AnswersInMemory}
-use Rattle.dbm_text.specs.Scripts.{calls_in, script_of}
+use Rattle.dbm_engines.specs.Scripts.{AnswersInMemory}
+use Rattle.dbm_lines.specs.Scripts.{calls_in, script_of}
 
 -- a script was rehearsed, and this was the first stop that lost a change: its bad lines were told,
 -- and then the counts

@@ -4,15 +4,15 @@ use Rattle.std.specs.Io.KnownBytes.{Appends}
 use Rattle.std.specs.IoError.{error_kind}
 use Rattle.std.specs.declared.io.Error.{Error}
 use Rattle.std.specs.declared.io.ErrorKind.TheVariants.{BrokenPipe}
-use Rattle.dbm_words.specs.Asking.{AreTaken, AreVerbose, IsPlan, IsWithoutFile, IsWithoutMemory, IsWithoutReplace, IsWithoutSource}
-use Rattle.dbm_plan.specs.declared.plan.Plan.{Plan}
+use Rattle.dbm_command_line.specs.Asking.{AreTaken, AreVerbose, IsPlan, IsWithoutFile, IsWithoutMemory, IsWithoutReplace, IsWithoutSource}
+use Rattle.dbm_command_line.specs.declared.plan.Plan.{Plan}
 use Rattle.dbm_commands.specs.declared.outcomes.Outcome.{Outcome}
 use Rattle.dbm_commands.specs.declared.outcomes.Outcome.TheVariants.{Done, Nothing}
 use Rattle.dbm_commands.specs.declared.outcomes.Failure.{Failure}
 use Rattle.dbm_commands.specs.declared.outcomes.Failure.TheVariants.{NotHex, NotText, Fault, NotKept}
 use Rattle.dbm_fault.specs.declared.engine_fault.EngineFault.{EngineFault}
 use Rattle.dbm_fault.specs.declared.engine_fault.EngineFault.TheVariants.{Memory, Write}
-use Rattle.dbm_text.specs.Lines.{with_line_feed}
+use Rattle.dbm_lines.specs.Lines.{with_line_feed}
 use Rattle.dbm_tool.specs.Causes.{IsCauseLine, file_of, is_fault}
 use Rattle.dbm_tool.specs.Endings.{CanMeet, LacksDigits, has_lines, looks_at_stops}
 use Rattle.dbm_tool.specs.Faults.{failure_line}

@@ -6,16 +6,16 @@ ghost use Rattle.dbm_tool.specs.Causes.{AreBadLineWords, AreRefusalWords, AreStr
 
 use crate::EngineFault;
 use crate::flaws::write_damage;
-use dbm_commands::Failure;
-use dbm_file::{Fault, Flaw};
-use dbm_load::BadLine;
-use dbm_plan::Spelling;
-use dbm_plan::help_text::{
+use dbm_command_line::Spelling;
+use dbm_command_line::help_text::{
     BAD_LIMIT_WORDS, BROKEN_WORDS, DAMAGED_WORDS, DEVICE_WORDS, EXISTS_WORDS, FULL_WORDS,
     LOST_WORDS, MEMORY_WORDS, MISSING_WORDS, NO_PASS_WORDS, NO_ROOM_WORDS, NOT_A_DATABASE_WORDS,
     READ_ONLY_WORDS, READ_WORDS, STOPPED_WORDS, TOO_LONG_WORDS, TOO_SMALL_WORDS, VERSION_WORDS,
     WRITE_WORDS,
 };
+use dbm_commands::Failure;
+use dbm_engines::BadLine;
+use dbm_file::{Fault, Flaw};
 use std::alloc::Global;
 use std::io::{self, Write};
 

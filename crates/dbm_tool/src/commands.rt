@@ -1,7 +1,7 @@
 // What each plan does.
 ghost use Rattle.std.specs.Prelude.{◌≡◌, ◌⊎◌, false, Ok, Err, OnOk, IfSome};
 ghost use Rattle.std.specs.Io.KnownBytes.{Appends};
-ghost use Rattle.dbm_script.specs.Scripts.{AnswersInMemory};
+ghost use Rattle.dbm_engines.specs.Scripts.{AnswersInMemory};
 ghost use Rattle.dbm_tool.specs.Commands.{form_of};
 ghost use Rattle.dbm_tool.specs.Endings.{EndsAs, prints, reads};
 ghost use Rattle.dbm_tool.specs.Plans.{CarriesOut, asked_bounds};
@@ -14,12 +14,12 @@ use crate::replacements::{copy_table, replace_table, resize_table};
 use crate::salvages::salvage;
 use crate::texts::{dump, form_of, list, load, script};
 use crate::versions::file_version;
+use dbm_command_line::{FAULT_TABLE, Plan, Source, Spelling, Version};
 use dbm_commands::{Failure, Outcome};
+use dbm_engines::script_in_memory;
 use dbm_file::Access;
-use dbm_plan::{FAULT_TABLE, Plan, Source, Spelling, Version};
 use dbm_progress::Progress;
 use dbm_salvage::Troubles;
-use dbm_script::script_in_memory;
 use page_io::PageStore;
 use std::alloc::Global;
 use std::fs::File;

@@ -3,8 +3,8 @@ ghost use Rattle.std.specs.Prelude.{◌≡◌, OnOk};
 ghost use Rattle.std.specs.Io.KnownBytes.{Appends};
 ghost use Rattle.dbm_tool.specs.Flaws.{damage_words, rule_words};
 
+use dbm_command_line::help_text::DAMAGED_WORDS;
 use dbm_file::{Flaw, Rule};
-use dbm_plan::help_text::DAMAGED_WORDS;
 use std::io::{self, Write};
 
 /// Writes the page and the rule that it breaks, where they are known, and else that the file is

@@ -7,10 +7,10 @@ ghost use Rattle.dbm_tool.specs.Files.{IsClosed, IsOpening, RefusesOpening, ther
 
 use crate::EngineFault;
 use crate::waiting::opened;
+use dbm_command_line::Spelling;
 use dbm_commands::{Failure, Outcome, closed};
+use dbm_engines::BadLine;
 use dbm_file::{Access, Db, Fault, Flaw, OpenHow, Refusal, Version, open_named};
-use dbm_load::BadLine;
-use dbm_plan::Spelling;
 use page_cache::CachedPages;
 use redo_area::Pager;
 use sect_dev::{FileDev, SectorDev};

@@ -17,11 +17,12 @@ mod texts;
 mod versions;
 mod waiting;
 
-pub use dbm_dump::{dump_engine, dump_text_engine, list_engine, list_text_engine};
+pub use dbm_command_line::seconds_in;
+pub use dbm_engines::{
+    dump_engine, dump_text_engine, list_engine, list_text_engine, load_engine, load_text_engine,
+    script_engine,
+};
 pub use dbm_fault::EngineFault;
-pub use dbm_load::{load_engine, load_text_engine};
-pub use dbm_script::script_engine;
-pub use dbm_words::seconds_in;
 pub use program::{Environment, Exit, bad_wait, not_text, out_of_memory, tool};
 pub use salvages::Told;
 pub use streams::{Failing, Noting};

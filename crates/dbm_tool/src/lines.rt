@@ -2,8 +2,8 @@
 ghost use Rattle.std.specs.Prelude.{◌≡◌};
 ghost use Rattle.dbm_tool.specs.Commands.{bad_line_at, refused_line_at};
 
-use dbm_load::{BadLine, LoadStop};
-use dbm_plan::Spelling;
+use dbm_command_line::Spelling;
+use dbm_engines::{BadLine, LoadStop};
 
 /// The first line of a load that was not stored, where the database refused to store it.
 pub fn refused_line(stop: Option<LoadStop>) -> Option<u64>

@@ -1,11 +1,11 @@
 // The commands that read or print a text.
 ghost use Rattle.std.specs.Prelude.{◌≡◌, ◌⊎◌, true, None, OnOk, IfErr};
 ghost use Rattle.std.specs.Io.KnownBytes.{Appends};
-ghost use Rattle.dbm_dump.specs.Dumping.{IsPairChance, Reads};
+ghost use Rattle.dbm_engines.specs.Dumping.{IsPairChance, Reads};
 ghost use Rattle.dbm_file.specs.Database.{AtEachHandle};
 ghost use Rattle.dbm_lines.specs.Forms.{dump_in, listing_in};
-ghost use Rattle.dbm_load.specs.Loading.{Loads};
-ghost use Rattle.dbm_load.specs.Refusals.{StopsByFault};
+ghost use Rattle.dbm_engines.specs.Loading.{Loads};
+ghost use Rattle.dbm_engines.specs.Refusals.{StopsByFault};
 ghost use Rattle.dbm_tool.specs.Commands.{IsOfPrinting, RunsScript, form_of, told};
 ghost use Rattle.dbm_tool.specs.Endings.{EndsAs};
 ghost use Rattle.dbm_tool.specs.Files.{Opens, there};
@@ -17,11 +17,11 @@ use crate::{
     EngineFault, dump_engine, dump_text_engine, list_engine, list_text_engine, load_engine,
     load_text_engine, script_engine,
 };
+use dbm_command_line::{Plan, Source, Spelling};
 use dbm_commands::{Failure, Outcome, flushed};
+use dbm_engines::LoadStop;
 use dbm_file::{Access, Database};
 use dbm_lines::TextForm;
-use dbm_load::LoadStop;
-use dbm_plan::{Plan, Source, Spelling};
 use dbm_progress::Progress;
 use page_io::PageStore;
 use std::alloc::Global;

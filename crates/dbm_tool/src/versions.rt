@@ -7,12 +7,12 @@ ghost use Rattle.dbm_tool.specs.Plans.{asked_version};
 use dbm_file::Version;
 
 /// The version that the words ask for.
-pub fn file_version(asked: dbm_plan::Version) -> Version
+pub fn file_version(asked: dbm_command_line::Version) -> Version
     ensures model { model_version result ≡ asked_version asked }
     ensures file { result ≡ version_of asked }
 {
     match asked {
-        dbm_plan::Version::V1 => Version::V1,
-        dbm_plan::Version::V2 => Version::V2,
+        dbm_command_line::Version::V1 => Version::V1,
+        dbm_command_line::Version::V2 => Version::V2,
     }
 }

@@ -1,10 +1,9 @@
 //! The engines without their contracts, which no test needs and which would stand in each of its
 //! goals.
 
-use dbm_dump::{dump_engine, list_engine};
+use dbm_engines::{as_engine, dump_engine, list_engine, load_engine};
 use dbm_fault::EngineFault;
 use dbm_file::{Db, Fault};
-use dbm_load::{as_engine, load_engine};
 use dbm_progress::Progress;
 use sect_dev::MemDev;
 use std::alloc::Global;

@@ -1,7 +1,7 @@
 use Rattle.std.proofs.Common.{OnOk, subst, sym}
 use Rattle.dbm_lines.specs.Forms.{dump_in}
 use Rattle.dbm_lines.specs.declared.forms.TextForm.{TextForm}
-use Rattle.dbm_load.specs.Loading.{LoadsDump}
+use Rattle.dbm_engines.specs.Loading.{LoadsDump}
 use Rattle.dbm_aside.proofs.filling.fill.Goals as goal
 
 pub returns-in-Hexadecimal-clause-dump : goal.returns-in-Hexadecimal-clause-dump

@@ -1,5 +1,5 @@
 use Rattle.std.proofs.Common.{◌≡◌, ◌*◌, Some, take, drop}
-use Rattle.dbm_text.specs.Escapes.{joined}
+use Rattle.dbm_lines.specs.Escapes.{joined}
 use Rattle.dbm_lines.proofs.DigitPairs.{pairs}
 use Rattle.dbm_lines.proofs.digits.decode.Given as goal
 

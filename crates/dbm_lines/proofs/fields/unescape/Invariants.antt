@@ -1,5 +1,5 @@
 use Rattle.std.proofs.Common.{◌≡◌, ◌+◌, ◌≤◌, length, Some, vec_len, vec_capacity}
-use Rattle.dbm_text.specs.Escapes.{unescaped, joined}
+use Rattle.dbm_lines.specs.Escapes.{unescaped, joined}
 use Rattle.dbm_lines.proofs.fields.unescape.Given as goal
 
 abbrev pub invariant-loop-plain : goal.invariant-loop-plain

@@ -1,5 +1,5 @@
 use Rattle.std.proofs.Common.{◌≡◌, ◌+◌, ◌∷◌, [], get_or, refl, arith, rules}
-use Rattle.dbm_text.specs.Escapes.{escape_of}
+use Rattle.dbm_lines.specs.Escapes.{escape_of}
 use Rattle.dbm_lines.proofs.FieldBytes.{run_on, run_written, run_begins}
 use Rattle.dbm_lines.proofs.fields.write_escaped.Goals as goal
 use Rattle.dbm_lines.proofs.fields.write_escaped.Goals.{then-not-is_plain+in_ok-write_all+in_ok-write_escape, else-not-is_plain}

@@ -1,6 +1,6 @@
 use Rattle.std.proofs.Common.{◌≡◌, ◌-◌, ◌≤◌, ◌++◌, take, drop}
 use Rattle.std.specs.Io.KnownBytes.{Appends}
-use Rattle.dbm_text.specs.Escapes.{escaped}
+use Rattle.dbm_lines.specs.Escapes.{escaped}
 use Rattle.dbm_lines.proofs.fields.write_escaped.Given as goal
 
 abbrev pub invariant-loop-at : goal.invariant-loop-at

@@ -1,5 +1,5 @@
 use Rattle.std.proofs.Common.{◌≡◌, ◌∙◌, None, arith, rules}
-use Rattle.dbm_text.specs.Lines.{bare_call}
+use Rattle.dbm_lines.specs.Lines.{bare_call}
 use Rattle.dbm_lines.proofs.Requests.{call_of_line}
 use Rattle.dbm_lines.proofs.parsing.request_of.Goals as goal
 

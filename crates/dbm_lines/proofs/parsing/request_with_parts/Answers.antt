@@ -1,5 +1,5 @@
 use Rattle.std.proofs.Common.{◌≡◌, ◌∷◌, ◌∙◌, None, ap, codes, refl, rules, sym}
-use Rattle.dbm_text.specs.Lines.{call_of_parts}
+use Rattle.dbm_lines.specs.Lines.{call_of_parts}
 use Rattle.dbm_lines.specs.BadLines.{parts_in}
 use Rattle.dbm_lines.specs.Requests.{bytes_in, pair_of_parts}
 use Rattle.dbm_lines.proofs.Requests.{no_name, no_pair_call}

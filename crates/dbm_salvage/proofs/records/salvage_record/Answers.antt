@@ -1,6 +1,6 @@
 use Rattle.std.proofs.Common.{ℕ, List, Some, refl, subst}
 use Rattle.std.specs.Io.KnownBytes.{Appends}
-use Rattle.dbm_text.specs.Dumps.{dump_line}
+use Rattle.dbm_lines.specs.Dumps.{dump_line}
 use Rattle.dbm_salvage.proofs.records.salvage_record.Goals as goal
 
 pub returns-in_ok-write_pair-in-Ok-clause-pair : goal.returns-in_ok-write_pair-in-Ok-clause-pair

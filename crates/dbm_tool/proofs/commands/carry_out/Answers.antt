@@ -1,7 +1,7 @@
 use Rattle.std.proofs.Common.{rules, ap, ◌∙◌}
-use Rattle.dbm_plan.specs.declared.plan.Plan.TheVariants.{Script, ReadScript}
-use Rattle.dbm_plan.specs.declared.plan.Source.{Source}
-use Rattle.dbm_plan.specs.declared.plan.Source.TheVariants.{File}
+use Rattle.dbm_command_line.specs.declared.plan.Plan.TheVariants.{Script, ReadScript}
+use Rattle.dbm_command_line.specs.declared.plan.Source.{Source}
+use Rattle.dbm_command_line.specs.declared.plan.Source.TheVariants.{File}
 use Rattle.dbm_tool.proofs.CarriedPlans.{carried_as}
 use Rattle.dbm_tool.proofs.commands.carry_out.Goals as goal
 

@@ -1,6 +1,6 @@
 use Rattle.std.proofs.Common.{ℕ, List, IfSome, subst, rules}
 use Rattle.dbm_model.specs.Bounds.{Version}
-use Rattle.dbm_script.specs.Scripts.{AnswersInMemory}
+use Rattle.dbm_engines.specs.Scripts.{AnswersInMemory}
 use Rattle.dbm_tool.specs.Commands.{form_of}
 use Rattle.dbm_tool.proofs.commands.new_script.Goals as goal
 

@@ -1,0 +1,20 @@
+use Rattle.std.proofs.Common.{◌≡◌, Some, codes, false, true}
+use Rattle.clap.specs.Words.{found_of, one_of, rows_of}
+use Rattle.dbm_command_line.specs.Asking.{flag_text}
+use Rattle.dbm_command_line.proofs.Naming.{flag_read, if_none}
+use Rattle.dbm_command_line.proofs.options.spelling.Goals as goal
+
+pub returns-then-branch : goal.returns-then-branch
+returns-then-branch c = flag_read (found_of c.args.options.now) (codes "hexadecimal")
+    c.in_ok-get_one.field-0 true c.if-branch.true c.in_ok-get_one.ensures.none
+    c.in_ok-get_one.ensures.value
+
+pub returns-else-branch : goal.returns-else-branch
+returns-else-branch c = flag_read (found_of c.args.options.now) (codes "hexadecimal")
+    c.in_ok-get_one.field-0 false c.if-branch.false c.in_ok-get_one.ensures.none
+    c.in_ok-get_one.ensures.value
+
+pub returns-in_err-get_one : goal.returns-in_err-get_one
+returns-in_err-get_one c = if_none c.from_residual.result
+    (λ spelled. one_of (codes "hexadecimal") (rows_of (found_of c.args.options.now))
+    ≡ Some (flag_text spelled)) c.from_residual.ensures

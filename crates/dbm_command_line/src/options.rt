@@ -1,0 +1,365 @@
+// The plan that a parse entered.
+ghost use Rattle.std.specs.Prelude.{◌≡◌, ◌⊎◌, IfErr, IfOk, IfSome, MatchOption, None, Some, codes};
+ghost use Rattle.clap.specs.Words.{first_of, found_of, one_of, rows_of, subcommand_rows_of};
+ghost use Rattle.dbm_command_line.specs.Asking.{Asks, IsForReading, IsForm, IsGroup, IsNumberText, IsOptional, IsReplacing, IsSource, IsText, IsVerbose, IsVersion, IsWait, LacksFile, LacksMemory, LacksReplace, LacksSource, Names, NamesNoFile, NamesNoMemory, NamesNoReplace, NamesNoSource, flag_text};
+ghost use Rattle.dbm_command_line.specs.Sorting.{IsOfChoice};
+
+use crate::WordsError;
+use crate::names::{
+    BACKUP, CONTENT, CREATE, DELETE, DUMP, FAULTS, FETCH, FILE, GROUP, HEXADECIMAL, INSERT, KEY,
+    LIMIT, LIST, LOAD, LONGEST_WAIT, MEMORY, MOST_LINES, READ, REHEARSE, REPLACE, RESIZE, SALVAGE,
+    SCRIPT, STAT, STOPS, STORE, TEXT, TO, UPGRADE, V2, VERBOSE, VERIFY, WAIT,
+};
+use crate::plan::{Plan, Request, Source, Spelling, Version};
+use clap::ArgMatches;
+
+/// What the words ask for.
+pub fn requested<'a>(matches: &ArgMatches<'a>) -> Result<Request<'a>, WordsError>
+    ensures plan { IfOk result (λ r. Names (subcommand_rows_of matches.now) r.plan) }
+    ensures verbose { IfOk result (λ r. IsVerbose (rows_of (found_of matches.now)) r.verbose) }
+    ensures wait { IfOk result (λ r. IsWait (rows_of (found_of matches.now)) r.wait) }
+    ensures source { IfErr result (λ e. e ≡ WordsError.ScriptSource
+        → NamesNoSource (codes "script") (subcommand_rows_of matches.now)) }
+    ensures device { IfErr result (λ e. e ≡ WordsError.RehearsalSource
+        → NamesNoSource (codes "rehearse") (subcommand_rows_of matches.now)) }
+    ensures version { IfErr result (λ e. e ≡ WordsError.VersionSource
+        → NamesNoMemory (subcommand_rows_of matches.now)) }
+    ensures read { IfErr result (λ e. e ≡ WordsError.ReadSource
+        → NamesNoFile (subcommand_rows_of matches.now)) }
+    ensures limit { IfErr result (λ e. e ≡ WordsError.LoadLimit
+        → NamesNoReplace (subcommand_rows_of matches.now)) }
+    ensures others { IfErr result IsOfChoice }
+{
+    let plan = chosen(matches)?;
+    let verbose = verbose(matches).ok_or(WordsError::NoPlan)?;
+    let wait = wait(matches).ok_or(WordsError::NoPlan)?;
+    Ok(Request {
+        plan,
+        verbose,
+        wait,
+    })
+}
+
+/// How many seconds to wait for a file, if that was given. None where it is no number of up to
+/// `LONGEST_WAIT`, as the parser has refused before.
+fn wait(options: &ArgMatches<'_>) -> Option<Option<u32>>
+    ensures { IfSome result (IsWait (rows_of (found_of options.now))) }
+{
+    if text(options, WAIT).is_none() {
+        return Some(None);
+    }
+    let seconds = number(options, WAIT)?;
+    if LONGEST_WAIT < seconds {
+        return None;
+    }
+    Some(Some(seconds))
+}
+
+/// Whether a fault is to be told in words.
+fn verbose(options: &ArgMatches<'_>) -> Option<bool>
+    ensures { IfSome result (IsVerbose (rows_of (found_of options.now))) }
+{
+    if options.get_one::<bool>(VERBOSE)? {
+        Some(true)
+    } else {
+        Some(false)
+    }
+}
+
+/// The plan that the words name.
+fn chosen<'a>(matches: &ArgMatches<'a>) -> Result<Plan<'a>, WordsError>
+    ensures plan { IfOk result (Names (subcommand_rows_of matches.now)) }
+    ensures source { IfErr result (λ e. e ≡ WordsError.ScriptSource
+        → NamesNoSource (codes "script") (subcommand_rows_of matches.now)) }
+    ensures device { IfErr result (λ e. e ≡ WordsError.RehearsalSource
+        → NamesNoSource (codes "rehearse") (subcommand_rows_of matches.now)) }
+    ensures version { IfErr result (λ e. e ≡ WordsError.VersionSource
+        → NamesNoMemory (subcommand_rows_of matches.now)) }
+    ensures read { IfErr result (λ e. e ≡ WordsError.ReadSource
+        → NamesNoFile (subcommand_rows_of matches.now)) }
+    ensures limit { IfErr result (λ e. e ≡ WordsError.LoadLimit
+        → NamesNoReplace (subcommand_rows_of matches.now)) }
+    ensures others { IfErr result IsOfChoice }
+{
+    let Some((name, options)) = matches.subcommand() else {
+        return Err(WordsError::NoPlan);
+    };
+    if name == SCRIPT {
+        return script(options);
+    }
+    if name == FAULTS {
+        return Ok(Plan::Faults);
+    }
+    if name == REHEARSE {
+        return rehearsal(options);
+    }
+    if name == LOAD {
+        return load(options);
+    }
+    of_file(name, options).ok_or(WordsError::NoPlan)
+}
+
+/// The load, or the replacement by what is loaded.
+fn load<'a>(options: &ArgMatches<'a>) -> Result<Plan<'a>, WordsError>
+    ensures plan { IfOk result (Asks (codes "load") (rows_of (found_of options.now))) }
+    ensures lacks { IfErr result (λ e.
+        e ≡ WordsError.LoadLimit → LacksReplace (rows_of (found_of options.now))) }
+    ensures others { IfErr result (λ e. (e ≡ WordsError.NoPlan) ⊎ (e ≡ WordsError.LoadLimit)) }
+{
+    let file = text(options, FILE).ok_or(WordsError::NoPlan)?;
+    let spelling = form(options).ok_or(WordsError::NoPlan)?;
+    let replacing = replacing(options).ok_or(WordsError::NoPlan)?;
+    match (replacing, text(options, LIMIT)) {
+        (true, _) => {
+            let limit = optional(options, LIMIT).ok_or(WordsError::NoPlan)?;
+            Ok(Plan::Replace {
+                file,
+                spelling,
+                limit,
+            })
+        }
+        (false, None) => {
+            let group = group(options).ok_or(WordsError::NoPlan)?;
+            Ok(Plan::Load {
+                file,
+                spelling,
+                group,
+            })
+        }
+        (false, Some(_)) => Err(WordsError::LoadLimit),
+    }
+}
+
+/// Whether a load is to replace the pairs that are there.
+fn replacing(options: &ArgMatches<'_>) -> Option<bool>
+    ensures { IfSome result (IsReplacing (rows_of (found_of options.now))) }
+{
+    if options.get_one::<bool>(REPLACE)? {
+        Some(true)
+    } else {
+        Some(false)
+    }
+}
+
+/// The script that is to be run.
+fn script<'a>(options: &ArgMatches<'a>) -> Result<Plan<'a>, WordsError>
+    ensures plan { IfOk result (Asks (codes "script") (rows_of (found_of options.now))) }
+    ensures lacks { IfErr result (λ e.
+        e ≡ WordsError.ScriptSource → LacksSource (rows_of (found_of options.now))) }
+    ensures version { IfErr result (λ e.
+        e ≡ WordsError.VersionSource → LacksMemory (rows_of (found_of options.now))) }
+    ensures read { IfErr result (λ e.
+        e ≡ WordsError.ReadSource → LacksFile (rows_of (found_of options.now))) }
+    ensures others { IfErr result (λ e. (e ≡ WordsError.NoPlan) ⊎ ((e ≡ WordsError.ScriptSource)
+        ⊎ ((e ≡ WordsError.VersionSource) ⊎ (e ≡ WordsError.ReadSource)))) }
+{
+    match source(options) {
+        Ok(source) => {
+            let reading = for_reading(options).ok_or(WordsError::NoPlan)?;
+            let spelling = form(options).ok_or(WordsError::NoPlan)?;
+            match (source, reading) {
+                (source, false) => Ok(Plan::Script { source, spelling }),
+                (Source::File(file), true) => Ok(Plan::ReadScript { file, spelling }),
+                (Source::Memory { .. }, true) => Err(WordsError::ReadSource),
+            }
+        }
+        Err(WordsError::ScriptSource) => Err(WordsError::ScriptSource),
+        Err(WordsError::VersionSource) => Err(WordsError::VersionSource),
+        Err(_) => Err(WordsError::NoPlan),
+    }
+}
+
+/// Whether the database of a script is to be opened for reading.
+fn for_reading(options: &ArgMatches<'_>) -> Option<bool>
+    ensures { IfSome result (IsForReading (rows_of (found_of options.now))) }
+{
+    if options.get_one::<bool>(READ)? {
+        Some(true)
+    } else {
+        Some(false)
+    }
+}
+
+/// What is to be rehearsed.
+fn rehearsal<'a>(options: &ArgMatches<'a>) -> Result<Plan<'a>, WordsError>
+    ensures plan { IfOk result (Asks (codes "rehearse") (rows_of (found_of options.now))) }
+    ensures lacks { IfErr result (λ e.
+        e ≡ WordsError.RehearsalSource → LacksSource (rows_of (found_of options.now))) }
+    ensures version { IfErr result (λ e.
+        e ≡ WordsError.VersionSource → LacksMemory (rows_of (found_of options.now))) }
+    ensures others { IfErr result (λ e. (e ≡ WordsError.NoPlan)
+        ⊎ ((e ≡ WordsError.RehearsalSource) ⊎ (e ≡ WordsError.VersionSource))) }
+{
+    match source(options) {
+        Ok(source) => {
+            let stops = optional(options, STOPS).ok_or(WordsError::NoPlan)?;
+            Ok(Plan::Rehearse { source, stops })
+        }
+        Err(WordsError::ScriptSource) => Err(WordsError::RehearsalSource),
+        Err(WordsError::VersionSource) => Err(WordsError::VersionSource),
+        Err(_) => Err(WordsError::NoPlan),
+    }
+}
+
+/// The number that was given under `id`, if one was. None where it is no number.
+fn optional(options: &ArgMatches<'_>, id: &str) -> Option<Option<u32>>
+    ensures { IfSome result (IsOptional (rows_of (found_of options.now)) id.now) }
+{
+    if text(options, id).is_none() {
+        return Some(None);
+    }
+    Some(Some(number(options, id)?))
+}
+
+/// The database that a script is to run on.
+fn source<'a>(options: &ArgMatches<'a>) -> Result<Source<'a>, WordsError>
+    ensures source { IfOk result (IsSource (rows_of (found_of options.now))) }
+    ensures lacks { IfErr result (λ e.
+        e ≡ WordsError.ScriptSource → LacksSource (rows_of (found_of options.now))) }
+    ensures version { IfErr result (λ e.
+        e ≡ WordsError.VersionSource → LacksMemory (rows_of (found_of options.now))) }
+    ensures others { IfErr result (λ e. (e ≡ WordsError.NoPlan)
+        ⊎ ((e ≡ WordsError.ScriptSource) ⊎ (e ≡ WordsError.VersionSource))) }
+{
+    let version = version(options).ok_or(WordsError::NoPlan)?;
+    match (text(options, FILE), text(options, MEMORY)) {
+        (Some(file), None) => match version {
+            Version::V1 => Ok(Source::File(file)),
+            Version::V2 => Err(WordsError::VersionSource),
+        },
+        (None, Some(_)) => match number(options, MEMORY) {
+            Some(limit) => Ok(Source::Memory { limit, version }),
+            None => Err(WordsError::NoPlan),
+        },
+        (Some(_), Some(_)) | (None, None) => Err(WordsError::ScriptSource),
+    }
+}
+
+/// The version of the format that a new database is to have.
+fn version(options: &ArgMatches<'_>) -> Option<Version>
+    ensures { IfSome result (IsVersion (rows_of (found_of options.now))) }
+{
+    if options.get_one::<bool>(V2)? {
+        Some(Version::V2)
+    } else {
+        Some(Version::V1)
+    }
+}
+
+/// The plan of a command on a file.
+fn of_file<'a>(name: &str, options: &ArgMatches<'a>) -> Option<Plan<'a>>
+    ensures { IfSome result (Asks name.now (rows_of (found_of options.now))) }
+{
+    let file = text(options, FILE)?;
+    match name {
+        CREATE => Some(Plan::Create {
+            file,
+            limit: number(options, LIMIT)?,
+            version: version(options)?,
+        }),
+        LIST => Some(Plan::List {
+            file,
+            spelling: form(options)?,
+        }),
+        DUMP => Some(Plan::Dump {
+            file,
+            spelling: form(options)?,
+        }),
+        STAT => Some(Plan::Stat { file }),
+        VERIFY => Some(Plan::Verify { file }),
+        UPGRADE => Some(Plan::Upgrade { file }),
+        RESIZE => Some(Plan::Resize {
+            file,
+            limit: optional(options, LIMIT)?,
+        }),
+        BACKUP => Some(Plan::Backup {
+            file,
+            to: text(options, TO)?,
+        }),
+        SALVAGE => Some(Plan::Salvage { file }),
+        _ => of_key(name, options),
+    }
+}
+
+/// How many lines of a load may share a commit. None where it is no number from 1 to `MOST_LINES`,
+/// as the parser has refused before.
+fn group(options: &ArgMatches<'_>) -> Option<u32>
+    ensures { IfSome result (IsGroup (rows_of (found_of options.now))) }
+{
+    let lines = number(options, GROUP)?;
+    if lines == 0 || MOST_LINES < lines {
+        return None;
+    }
+    Some(lines)
+}
+
+/// The plan of a command on a key in a file.
+fn of_key<'a>(name: &str, options: &ArgMatches<'a>) -> Option<Plan<'a>>
+    ensures { IfSome result (Asks name.now (rows_of (found_of options.now))) }
+{
+    let file = text(options, FILE)?;
+    let key = text(options, KEY)?;
+    let spelling = spelling(options)?;
+    match name {
+        STORE => Some(Plan::Store {
+            file,
+            key,
+            content: text(options, CONTENT)?,
+            spelling,
+        }),
+        INSERT => Some(Plan::Insert {
+            file,
+            key,
+            content: text(options, CONTENT)?,
+            spelling,
+        }),
+        FETCH => Some(Plan::Fetch {
+            file,
+            key,
+            spelling,
+        }),
+        DELETE => Some(Plan::Delete {
+            file,
+            key,
+            spelling,
+        }),
+        _ => None,
+    }
+}
+
+/// The word that was given under `id`.
+fn text<'a>(options: &ArgMatches<'a>, id: &str) -> Option<&'a str>
+    ensures { MatchOption result (first_of id.now (rows_of (found_of options.now)) ≡ None)
+        (λ word. IsText (rows_of (found_of options.now)) id.now word.now) }
+{
+    options.get_str(id)
+}
+
+/// The number that was given under `id`, or that stands for it.
+fn number(options: &ArgMatches<'_>, id: &str) -> Option<u32>
+    ensures { IfSome result (IsNumberText (rows_of (found_of options.now)) id.now) }
+{
+    options.get_one(id)
+}
+
+/// How the key and the content are spelled.
+fn spelling(options: &ArgMatches<'_>) -> Option<Spelling>
+    ensures { IfSome result (λ spelled. one_of (codes "hexadecimal") (rows_of (found_of options.now)) ≡ Some (flag_text spelled)) }
+{
+    if options.get_one::<bool>(HEXADECIMAL)? {
+        Some(Spelling::Hexadecimal)
+    } else {
+        Some(Spelling::Text)
+    }
+}
+
+/// How the lines of all pairs, of all keys, or of a script are spelled.
+fn form(options: &ArgMatches<'_>) -> Option<Spelling>
+    ensures { IfSome result (IsForm (rows_of (found_of options.now))) }
+{
+    if options.get_one::<bool>(TEXT)? {
+        Some(Spelling::Text)
+    } else {
+        Some(Spelling::Hexadecimal)
+    }
+}

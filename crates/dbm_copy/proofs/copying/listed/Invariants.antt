@@ -1,6 +1,0 @@
-use Rattle.std.proofs.Common.{◌≡◌, map}
-use Rattle.dbm_load.specs.Storing.{pair_of}
-use Rattle.dbm_copy.proofs.copying.listed.Given as goal
-
-abbrev pub invariant-loop-key : goal.invariant-loop-key
-invariant-loop-key l = map pair_of l.listed.items ≡ map (λ pair. (pair.0.items, pair.1.items)) l.yielded

@@ -1,7 +1,0 @@
-pub mod Dumping
-pub mod DumpingKeys
-pub mod DumpingPairs
-pub mod Exits
-pub mod KeySets
-pub mod PassSets
-pub mod Writing

@@ -1,0 +1,28 @@
+use Rattle.std.proofs.Common.{sym, refl, OnOk}
+use Rattle.std.specs.Io.KnownBytes.{Appends}
+use Rattle.dbm_model.specs.Calls as model
+use Rattle.dbm_file.specs.Calls.{lent_reply}
+use Rattle.dbm_file.specs.Replies.{told_of_bytes}
+use Rattle.dbm_file.specs.declared.calls.Call.TheVariants as call
+use Rattle.dbm_file.specs.declared.calls.Reply.TheVariants as code
+use Rattle.dbm_file.proofs.Answered.{first_answered, bytes_are_told}
+use Rattle.dbm_engines.proofs.Telling.{told_line}
+use Rattle.dbm_engines.proofs.script.answer_first.Goals as goal
+
+pub returns-clause-line : goal.returns-clause-line
+returns-clause-line g c honest h at = (
+  lent_reply model.End c.firstkey.result,
+  c.firstkey.follows.holds-at-none.step honest h at,
+  c.write_passed.ensures,
+)
+
+-- on any device
+pub returns-clause-tells : goal.returns-clause-tells
+returns-clause-tells g c =
+    let ended = c.firstkey.follows.holds-at-none in
+    told_line c.args.form c.args.db.now c.firstkey.follows.lender-at-none call.First
+    (told_of_bytes code.End c.firstkey.result) (lent_reply model.End c.firstkey.result)
+    (λ text. OnOk c.write_passed.result
+    (Appends (g.W.Write.contents c.args.writer.now) (g.W.Write.contents c.write_passed.new.writer) text))
+    (first_answered c.firstkey.result _ refl c.firstkey.ensures.passed c.firstkey.ensures.only ended.keeps)
+    (sym (bytes_are_told code.End c.firstkey.result _ refl)) c.write_passed.ensures

@@ -1,0 +1,10 @@
+pub use Rattle.dbm_lines.specs.PairLines
+pub mod Batches
+pub mod Dumping
+pub mod Endings
+pub mod Faults
+pub mod Loading
+pub mod Refusals
+pub mod Scripts
+pub mod Storing
+pub mod Tellings

@@ -1,4 +1,0 @@
-pub mod Answering
-pub mod Flushing
-pub mod Rooms
-pub mod Telling

@@ -1,5 +1,0 @@
-use Rattle.dbm_text.proofs.EscapeLemmas.{printable}
-use Rattle.dbm_text.proofs.text_laws.fields_are_printable.Goals as goal
-
-pub returns : goal.returns
-returns c = printable

@@ -1,5 +1,0 @@
-use Rattle.dbm_text.proofs.TextScriptLemmas.{reply_fields}
-use Rattle.dbm_text.proofs.text_laws.replies_read_back.Goals as goal
-
-pub returns : goal.returns
-returns c = reply_fields

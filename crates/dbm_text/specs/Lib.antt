@@ -1,9 +1,0 @@
-pub mod Dumps
-pub mod EscapeTexts
-pub mod Escapes
-pub mod Lines
-pub mod Scripts
-pub mod TextScriptExamples
-pub mod TextScripts
-pub mod Texts
-pub mod Words

@@ -1,5 +1,0 @@
-use Rattle.std.proofs.Common.{rules}
-use Rattle.dbm_words.proofs.options.group.Goals as goal
-
-pub returns : goal.returns
-returns c = search rules
