@@ -1,5 +1,6 @@
 // Pages in memory by their numbers, of which the least recently used one goes.
-ghost use Rattle.std.specs.Prelude.{◌≡◌, ◌⊎◌, ℕ, [], Contains, IfOk, IfSome, is_some, nat_eq};
+ghost use Rattle.std.specs.Prelude.{◌≡◌, ◌⊎◌, ℕ, [], None, Contains, IfSome, is_some, nat_eq};
+ghost use Rattle.std.specs.Map.{lookup};
 ghost use Rattle.std.specs.Global.{Box};
 ghost use Rattle.std.specs.NonZero.{non_zero_usize_get};
 ghost use Rattle.lru.specs.LruCache.{promoted};
@@ -11,7 +12,7 @@ ghost use Rattle.page_cache.specs.declared.page_copy.PageCopy.{PageCopy as OneCo
 use crate::page_copy::PageCopy;
 use lru::LruCache;
 use page_io::{Page, Version};
-use std::alloc::{AllocError, Global};
+use std::alloc::Global;
 use std::num::NonZeroUsize;
 
 /// How many pages are kept where nobody asks for another number.
@@ -39,25 +40,23 @@ fn take_out(pages: &mut LruCache<u32, Box<PageCopy>>, n: u32) -> Option<Box<Page
     pages.pop(&n)
 }
 
-// A copy in a box: in the one that is given, or in a new one.
-fn boxed(
+// Adds a copy of page n, which has none, where its room isn't refused.
+fn add(
     alloc: Global,
-    old: Option<Box<PageCopy>>,
+    pages: &mut LruCache<u32, Box<PageCopy>>,
+    n: u32,
     page: &Page,
     known: Option<Version>,
-) -> Result<Box<PageCopy>, AllocError>
-    requires { IfSome known (λ version. IsPageOf (model_version version) page.now.bytes) }
-    ensures { IfOk result (λ copy. copy.value.page ≡ page.now) }
+)
+    requires known { IfSome known (λ version. IsPageOf (model_version version) page.now.bytes) }
+    requires none { lookup (nat_eq n) pages.old.entries ≡ None }
+    ensures added { (k : ℕ) (one : Box OneCopy) → Contains pages.new.entries (k, one)
+        → (Contains pages.old.entries (k, one) × (k ≡ n → ⊥))
+        ⊎ ((k ≡ n) × (one.value.page ≡ page.now)) }
+    ensures room { pages.new.cap ≡ pages.old.cap }
 {
-    match old {
-        Some(mut old) => {
-            // Nothing is known of the copy while its page changes.
-            old.known = None;
-            old.page = *page;
-            old.known = known;
-            Ok(old)
-        }
-        None => Ok(Box::new(alloc, PageCopy { page: *page, known })?),
+    if let Ok(copy) = Box::new(alloc, PageCopy { page: *page, known }) {
+        let _ = pages.put(n, copy);
     }
 }
 
@@ -112,7 +111,7 @@ impl PageCopies {
         }
     }
 
-    /// Keeps a copy of page n where its room isn't refused. An older one goes.
+    /// Keeps a copy of page n where its room isn't refused, in the place of an older one.
     pub fn keep(&mut self, n: u32, page: &Page, known: Option<Version>)
         requires { IfSome known (λ version. IsPageOf (model_version version) page.now.bytes) }
         ensures { (k : ℕ) (one : Box OneCopy) → Contains (copies_of self.new) (k, one)
@@ -122,9 +121,11 @@ impl PageCopies {
         let Some(pages) = &mut self.pages else {
             return;
         };
-        let old = take_out(pages, n);
-        if let Ok(copy) = boxed(self.alloc, old, page, known) {
-            let _ = pages.put(n, copy);
+        // A proof learns here that no page has two copies.
+        let _ = pages.len();
+        match pages.get_mut(&n) {
+            Some(copy) => **copy = PageCopy { page: *page, known },
+            None => add(self.alloc, pages, n, page, known),
         }
     }
 
