@@ -122,10 +122,14 @@ print(sum(f"/{part}/" in file for file in files for part in built.kit.PARTS))'
 }
 text=crates/dbm_command_line/src/lib.rt
 note=crates/dbmtool/out/noted
+# (three times, since the clock may be set back meanwhile)
 rests() {
-  sleep 3.2
-  tools/built.py is-built || wrong "the program isn't taken for built $1"
-  [ "$(texts_read)" = 0 ] || wrong "texts are read that haven't changed $1"
+  for _ in 1 2 3; do
+    sleep 3.2
+    tools/built.py is-built || wrong "the program isn't taken for built $1"
+    [ "$(texts_read)" = 0 ] && return
+  done
+  wrong "texts are read that haven't changed $1"
 }
 seen() { tools/built.py is-built && wrong "$1 goes unseen"; }
 rests "at first"
@@ -136,9 +140,14 @@ touch -r "$work/before" "$text"
 cmp -s "$text" "$work/before" && wrong "nothing was changed"
 [ "$(stat -c '%s %y' "$text")" = "$(stat -c '%s %y' "$work/before")" ] || wrong "the change has another size or time"
 seen "a change that leaves the size and the time"
-cp -p "$work/before" "$text"
-tools/built.py is-built || wrong "the program isn't taken for built once the change is taken back"
-[ "$(texts_read)" -gt 1000 ] || wrong "what changed just now is noted"
+# (three times, since the two calls may take longer than it takes to be noted)
+for _ in 1 2 3; do
+  cp -p "$work/before" "$text"
+  tools/built.py is-built || wrong "the program isn't taken for built once the change is taken back"
+  read=$(texts_read)
+  [ "$read" -gt 1000 ] && break
+done
+[ "$read" -gt 1000 ] || wrong "what changed just now is noted"
 rests "behind a change that was taken back"
 # and so is a text that comes, goes or takes another's place
 mkdir crates/dbm_progress/src/more
