@@ -3,7 +3,7 @@ use Rattle.std.proofs.Common.{inl, inr, Result, Ok, Err, IfErr, OnOk, sym, subst
 use Rattle.dbm_fault.specs.Among.{IsAmong}
 use Rattle.dbm_fault.specs.declared.engine_fault.EngineFault.{EngineFault}
 use Rattle.dbm_fault.specs.declared.engine_fault.EngineFault.TheVariants.{Memory, Read, Write, Line, Db}
-use Rattle.dbm_engines.specs.Refusals.{MayStopLoad, StopsByFault, as_engine, stop_fault}
+use Rattle.dbm_engines.specs.LoadRefusals.{MayStopLoad, StopsByFault, as_engine, stop_fault}
 use Rattle.dbm_engines.specs.declared.load_stop.LoadStop.{LoadStop}
 use Rattle.dbm_engines.specs.declared.load_stop.LoadStop.TheVariants as load
 use Rattle.dbm_aside.specs.Copying.{copy_faults}

@@ -2,8 +2,8 @@
 ghost use Rattle.std.specs.Prelude.{◌≡◌, ◌≤◌, OnOk, IfSome, Some, [], length};
 ghost use Rattle.dbm_file.specs.Answers.{IsSameDatabase};
 ghost use Rattle.dbm_lines.specs.Forms.{dump_in};
-ghost use Rattle.dbm_engines.specs.Endings.{TellsWhy};
-ghost use Rattle.dbm_engines.specs.Refusals.{StopsByFault};
+ghost use Rattle.dbm_engines.specs.LoadEndings.{TellsWhy};
+ghost use Rattle.dbm_engines.specs.LoadRefusals.{StopsByFault};
 ghost use Rattle.dbm_engines.specs.Loading.{Loads, LoadsDump};
 
 use dbm_engines::{LoadStop, load_engine, load_text_engine};

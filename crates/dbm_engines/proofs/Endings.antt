@@ -13,7 +13,7 @@ use Rattle.dbm_lines.specs.declared.forms.TextForm.{TextForm}
 use Rattle.dbm_lines.proofs.BadLines.{bad-kept}
 use Rattle.dbm_lines.proofs.TextLines.{first_line}
 use Rattle.dbm_engines.specs.Batches.{GroupsLine, Numbered, StoresBatch}
-use Rattle.dbm_engines.specs.Endings.{IsBadFor, TellsWhy}
+use Rattle.dbm_engines.specs.LoadEndings.{IsBadFor, TellsWhy}
 use Rattle.dbm_engines.specs.Loading.{LoadsLine}
 use Rattle.dbm_engines.specs.declared.load_stop.LoadStop.{LoadStop}
 use Rattle.dbm_engines.specs.declared.load_stop.LoadStop.TheVariants.{Memory, Read, Bad, Refused}

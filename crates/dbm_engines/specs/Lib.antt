@@ -1,10 +1,10 @@
 pub use Rattle.dbm_lines.specs.PairLines
 pub mod Batches
 pub mod Dumping
-pub mod Endings
-pub mod Faults
+pub mod LoadEndings
+pub mod LoadRefusals
 pub mod Loading
-pub mod Refusals
+pub mod MemoryFaults
 pub mod Scripts
 pub mod Storing
 pub mod Tellings

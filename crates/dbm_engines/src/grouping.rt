@@ -3,8 +3,8 @@ ghost use Rattle.std.specs.Prelude.{◌≡◌, ◌≤◌, Err, OnOk, IfSome, Som
 ghost use Rattle.dbm_file.specs.Answers.{IsSameDatabase};
 ghost use Rattle.dbm_lines.specs.Forms.{pair_in, is_passed_in};
 ghost use Rattle.dbm_engines.specs.Batches.{held_in, GroupsPair, GroupsLine};
-ghost use Rattle.dbm_engines.specs.Endings.{IsBadFor, TellsWhy};
-ghost use Rattle.dbm_engines.specs.Refusals.{StopsByFault};
+ghost use Rattle.dbm_engines.specs.LoadEndings.{IsBadFor, TellsWhy};
+ghost use Rattle.dbm_engines.specs.LoadRefusals.{StopsByFault};
 ghost use Rattle.dbm_engines.specs.Loading.{Loads};
 
 use crate::batch::Batch;

@@ -3,7 +3,7 @@ ghost use Rattle.std.specs.Prelude.{◌≡◌, OnOk, IfOk, IfErr, IfSome, true, 
 ghost use Rattle.std.specs.FinMap.{empty};
 ghost use Rattle.dbm_model.specs.Sizes.{is_limit};
 ghost use Rattle.dbm_file.specs.Opened.{HasRoom, IsOpenedAt};
-ghost use Rattle.dbm_engines.specs.Faults.{CanMeetInMemory, told_in_memory};
+ghost use Rattle.dbm_engines.specs.MemoryFaults.{CanMeetInMemory, told_in_memory};
 ghost use Rattle.dbm_engines.specs.Scripts.{AnswersInMemory, asked};
 
 use crate::script_engine;

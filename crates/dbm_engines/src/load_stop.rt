@@ -1,6 +1,6 @@
 //! Why a load stopped.
 ghost use Rattle.std.specs.Prelude.{◌≡◌};
-ghost use Rattle.dbm_engines.specs.Refusals.{as_engine, stop_fault};
+ghost use Rattle.dbm_engines.specs.LoadRefusals.{as_engine, stop_fault};
 
 use dbm_fault::EngineFault;
 use dbm_file::Fault;

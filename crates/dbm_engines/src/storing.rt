@@ -3,7 +3,7 @@ ghost use Rattle.std.specs.Prelude.{◌≡◌, ◌≤◌, ◌<◌, OnOk, IfErr, 
 ghost use Rattle.dbm_fault.specs.Among.{IsAmong, IsErrAmong};
 ghost use Rattle.dbm_file.specs.Answers.{IsSameDatabase};
 ghost use Rattle.dbm_file.specs.Replies.{store_faults};
-ghost use Rattle.dbm_engines.specs.Refusals.{StopsByFault};
+ghost use Rattle.dbm_engines.specs.LoadRefusals.{StopsByFault};
 ghost use Rattle.dbm_engines.specs.Batches.{held_in, StoresBatch};
 ghost use Rattle.dbm_engines.specs.Storing.{pair_of, StoresPair, StoresAlone, StoresSome, StoresEach};
 

@@ -22,7 +22,7 @@ use Rattle.dbm_lines.specs.declared.forms.TextForm.{TextForm}
 use Rattle.dbm_lines.specs.declared.forms.TextForm.TheVariants.{Hexadecimal, Escaped}
 use Rattle.dbm_lines.specs.declared.bad_lines.BadLine.{BadLine}
 use Rattle.dbm_engines.specs.Loading.{Loads}
-use Rattle.dbm_engines.specs.Refusals.{stop_fault}
+use Rattle.dbm_engines.specs.LoadRefusals.{stop_fault}
 use Rattle.dbm_engines.specs.declared.load_stop.LoadStop.{LoadStop}
 use Rattle.dbm_engines.specs.declared.load_stop.LoadStop.TheVariants.{Bad, Refused}
 use Rattle.dbm_model.specs.Pairs.{Contents}

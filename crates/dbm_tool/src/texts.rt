@@ -5,7 +5,7 @@ ghost use Rattle.dbm_engines.specs.Dumping.{IsPairChance, Reads};
 ghost use Rattle.dbm_file.specs.Database.{AtEachHandle};
 ghost use Rattle.dbm_lines.specs.Forms.{dump_in, listing_in};
 ghost use Rattle.dbm_engines.specs.Loading.{Loads};
-ghost use Rattle.dbm_engines.specs.Refusals.{StopsByFault};
+ghost use Rattle.dbm_engines.specs.LoadRefusals.{StopsByFault};
 ghost use Rattle.dbm_tool.specs.Commands.{IsOfPrinting, RunsScript, form_of, told};
 ghost use Rattle.dbm_tool.specs.Endings.{EndsAs};
 ghost use Rattle.dbm_tool.specs.Files.{Opens, there};

@@ -1,7 +1,7 @@
 use Rattle.std.proofs.Common.{Result, subst, sym}
 use Rattle.dbm_fault.specs.declared.engine_fault.EngineFault.{EngineFault}
 use Rattle.dbm_aside.specs.Stops.{Ends}
-use Rattle.dbm_engines.specs.Refusals.{as_engine}
+use Rattle.dbm_engines.specs.LoadRefusals.{as_engine}
 use Rattle.dbm_aside.proofs.Endings.{load_ended, loaded_well, done_well}
 use Rattle.dbm_aside.proofs.replacing.replace.Goals as goal
 

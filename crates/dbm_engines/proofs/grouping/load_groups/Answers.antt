@@ -7,7 +7,7 @@ use Rattle.dbm_lines.specs.Reading.{ReadsLine, IsCounted}
 use Rattle.dbm_lines.specs.declared.forms.TextForm.{TextForm}
 use Rattle.dbm_lines.proofs.TextLines.{counted_first, counted_on}
 use Rattle.dbm_engines.specs.Batches.{held_in, GroupsLine}
-use Rattle.dbm_engines.specs.Endings.{IsBadFor}
+use Rattle.dbm_engines.specs.LoadEndings.{IsBadFor}
 use Rattle.dbm_engines.proofs.Endings.{batch_why, grouped_why}
 use Rattle.dbm_engines.proofs.Loading.{read_in}
 use Rattle.dbm_engines.proofs.Gathering.{none_held, batch_refused, unread, ended, line_went, line_stopped}

@@ -7,7 +7,7 @@ use Rattle.dbm_lines.specs.Reading.{ReadsLine, IsCounted}
 use Rattle.dbm_lines.specs.declared.forms.TextForm.{TextForm}
 use Rattle.dbm_engines.specs.declared.load_stop.LoadStop.TheVariants.{Read}
 use Rattle.dbm_lines.proofs.TextLines.{counted_first, counted_on}
-use Rattle.dbm_engines.specs.Endings.{IsBadFor}
+use Rattle.dbm_engines.specs.LoadEndings.{IsBadFor}
 use Rattle.dbm_engines.specs.Loading.{LoadsLine}
 use Rattle.dbm_engines.proofs.Endings.{alone_why}
 use Rattle.dbm_engines.proofs.Loading.{at_start, read_in, go_on, stopped, not_read}
