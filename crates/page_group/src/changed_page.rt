@@ -1,4 +1,4 @@
-// A page that commits of a group put in memory, and what is known of it.
+// A page of a group, and what is known of it.
 ghost use Rattle.std.specs.Prelude.{◌≡◌, IfSome};
 ghost use Rattle.page_io.specs.BucketPages.{IsPageOf};
 ghost use Rattle.page_io.specs.Versions.{model_version};
@@ -7,8 +7,7 @@ ghost use Rattle.page_io.proofs.BucketPages.{IsPageOf-prop};
 
 use page_io::{Page, Version};
 
-/// A changed page, with the version of which it is known to be a bucket page, if it is known of
-/// one.
+/// A page with the version of which it is known to be a bucket page, if it is known of one.
 #[derive(Clone, Copy)]
 pub struct ChangedPage {
     pub page: Page,
@@ -19,6 +18,21 @@ pub struct ChangedPage {
 
 impl ChangedPage {
     ghost use Rattle.std.specs.Prelude.{Some};
+
+    /// A blank page, of which nothing is known.
+    pub fn unknown() -> ChangedPage {
+        ChangedPage {
+            page: Page::blank(),
+            known: None,
+        }
+    }
+
+    /// What is known of a page, which is this one or another.
+    pub fn known_of(&self, page: &Page) -> Option<Version>
+        ensures { IfSome result (λ version. IsPageOf (model_version version) page.now.bytes) }
+    {
+        if *page == self.page { self.known } else { None }
+    }
 
     /// Keeps that this page, if it is the changed one, is a bucket page of the version.
     pub fn note(&mut self, page: &Page, version: Version)

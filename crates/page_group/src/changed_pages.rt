@@ -1,7 +1,9 @@
 // Pages in memory by their own numbers.
-ghost use Rattle.std.specs.Prelude.{◌≡◌, ◌<◌, ◌≤◌, ◌^◌, ℕ, true, [], length, None, OnOk, IfOk};
+ghost use Rattle.std.specs.Prelude.{◌≡◌, ◌<◌, ◌≤◌, ◌^◌, ℕ, true, [], length, OnOk, IfOk, IfSome};
+ghost use Rattle.page_io.specs.BucketPages.{IsPageOf};
 ghost use Rattle.page_io.specs.Page.{own_number};
 ghost use Rattle.page_io.specs.Store.{bytes_of, overlaid, put_page, has_page, are_in_order};
+ghost use Rattle.page_io.specs.Versions.{model_version};
 ghost use Rattle.page_group.specs.Numbered.{pages_in, AreNumbered};
 
 use crate::changed_page::ChangedPage;
@@ -21,28 +23,23 @@ pub struct ChangedPages {
     ghost order: { are_in_order 1 (2 ^ 32) (pages_in pages.entries) ≡ true },
 }
 
-// A page in a box, of which nothing is known: in the spare box, if there is one.
+// A page in a box, with what is known of it: in the spare box, if there is one.
 fn boxed(
     alloc: Global,
     spare: Option<Box<ChangedPage>>,
     page: &Page,
+    known: Option<Version>,
 ) -> Result<Box<ChangedPage>, AllocError>
-    ensures page { IfOk result (λ changed. changed.value.page ≡ page.now) }
-    ensures unknown { IfOk result (λ changed. changed.value.known ≡ None) }
+    requires { IfSome known (λ version. IsPageOf (model_version version) page.now.bytes) }
+    ensures { IfOk result (λ changed. changed.value.page ≡ page.now) }
 {
+    let changed = ChangedPage { page: *page, known };
     match spare {
         Some(mut spare) => {
-            spare.known = None;
-            spare.page = *page;
+            *spare = changed;
             Ok(spare)
         }
-        None => Ok(Box::new(
-            alloc,
-            ChangedPage {
-                page: *page,
-                known: None,
-            },
-        )?),
+        None => Ok(Box::new(alloc, changed)?),
     }
 }
 
@@ -112,26 +109,28 @@ impl ChangedPages {
         }
     }
 
-    // Puts a page in the place of its own number.
-    fn put(&mut self, page: &Page) -> Result<(), AllocError>
-        requires { 1 ≤ own_number page.now.bytes }
+    // Puts a page in the place of its own number, with what is known of it.
+    fn put(&mut self, page: &Page, known: Option<Version>) -> Result<(), AllocError>
+        requires some { 1 ≤ own_number page.now.bytes }
+        requires known { IfSome known (λ version. IsPageOf (model_version version) page.now.bytes) }
         ensures { OnOk result (changed_pages self.new
             ≡ put_page (changed_pages self.old) page.now.bytes) }
     {
-        let one = boxed(self.alloc, self.spare.take(), page)?;
+        let one = boxed(self.alloc, self.spare.take(), page, known)?;
         let replaced = self.pages.insert(page.own(), one)?;
         self.spare = replaced;
         Ok(())
     }
 
-    /// Puts pages in the places of their own numbers. At `Err` some of them may have been put.
-    pub fn put_all(&mut self, pages: &[Page]) -> Result<(), AllocError>
+    /// Puts pages in the places of their own numbers, with what is known of them where one of them is
+    /// the page that was noted. At `Err` some of them may have been put.
+    pub fn put_all(&mut self, pages: &[Page], noted: &ChangedPage) -> Result<(), AllocError>
         requires { are_in_order 1 (2 ^ 32) (bytes_of pages.now) ≡ true }
         ensures { OnOk result (changed_pages self.new
             ≡ put_all (changed_pages self.old) (bytes_of pages.now)) }
     {
         for page in pages {
-            self.put(page)?;
+            self.put(page, noted.known_of(page))?;
         }
         Ok(())
     }

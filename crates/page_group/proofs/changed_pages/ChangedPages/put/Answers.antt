@@ -10,19 +10,19 @@ use Rattle.page_group.proofs.changed_pages.ChangedPages.put.Goals as goal
 pub invariant_of-self-2 : goal.invariant_of-self-2
 invariant_of-self-2 c =
     let old = c.args.self.now in
-    let own = ap (λ (page : Page). own_number page.bytes) c.in_ok-one.ensures.page
+    let own = ap (λ (page : Page). own_number page.bytes) c.in_ok-one.ensures
     ∙ sym c.own.ensures.number in
     let after = after_put c.insert.result old.pages.entries c.insert.new.self.entries c.own.result
     4294967296 c.in_ok-one.one old.numbered old.order own
-    (omega (arith, c.requires, c.own.ensures.number)) c.own.type_inv
+    (omega (arith, c.requires.some, c.own.ensures.number)) c.own.type_inv
     c.insert.ensures.entries c.insert.ensures.err in
     record { numbered = after.0; order = after.1 }
 
 pub returns : goal.returns
 returns c =
     let old = c.args.self.now in
-    let own = ap (λ (page : Page). own_number page.bytes) c.in_ok-one.ensures.page
+    let own = ap (λ (page : Page). own_number page.bytes) c.in_ok-one.ensures
     ∙ sym c.own.ensures.number in
     ap pages_in c.in_ok-replaced.ensures.entries
     ∙ put_entry old.pages.entries c.own.result c.in_ok-one.one old.numbered own
-    ∙ ap (λ (page : Page). put_page (changed_pages old) page.bytes) c.in_ok-one.ensures.page
+    ∙ ap (λ (page : Page). put_page (changed_pages old) page.bytes) c.in_ok-one.ensures
